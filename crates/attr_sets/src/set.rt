@@ -1,0 +1,121 @@
+ghost use Rattle.std.specs.Prelude.{◌≡◌, ℕ, ◌+◌, ◌<◌, ◌≤◌, ◌↔◌, false, IsTrue, IsNone, IfSome};
+ghost use Rattle.attr_sets.specs.Places.{below, only, none, union, meet, minus, Within, Same, IsEmpty, IsLeastFrom, count_below};
+ghost use Rattle.attr_sets.specs.Sets.{places, is_within};
+
+/// How many places a set has: the most attributes of a universe.
+pub const PLACES: u8 = 128;
+
+/// A set of attributes, each a place below `PLACES`. Bit `i` of the number stands for place `i`, and
+/// sets are ordered by this number, so the greatest place in which two sets differ decides.
+#[derive(Clone, Copy, Debug, PartialEq, Eq, PartialOrd, Ord, Hash)]
+pub struct AttrSet(pub u128);
+
+impl AttrSet {
+    /// The empty set.
+    pub fn empty() -> AttrSet
+        ensures members { Same (places result) none }
+    {
+        AttrSet(0)
+    }
+
+    /// The places below `n`.
+    pub fn full(n: u8) -> AttrSet
+        requires { n ≤ PLACES }
+        ensures members { Same (places result) (below n) }
+    {
+        if n == 0 {
+            AttrSet(0)
+        } else {
+            AttrSet(u128::MAX >> (PLACES - n))
+        }
+    }
+
+    /// The set of place `i` alone.
+    pub fn single(i: u8) -> AttrSet
+        requires { i < PLACES }
+        ensures members { Same (places result) (only i) }
+    {
+        AttrSet(1 << i)
+    }
+
+    /// Whether place `i` is a member.
+    pub fn has(self, i: u8) -> bool
+        requires { i < PLACES }
+        ensures member { result ≡ places self i }
+    {
+        self.0 >> i & 1 == 1
+    }
+
+    /// The set with place `i` added.
+    pub fn with(self, i: u8) -> AttrSet
+        requires { i < PLACES }
+        ensures members { Same (places result) (union (places self) (only i)) }
+    {
+        AttrSet(self.0 | 1 << i)
+    }
+
+    /// The set with place `i` left out.
+    pub fn without(self, i: u8) -> AttrSet
+        requires { i < PLACES }
+        ensures members { Same (places result) (minus (places self) (only i)) }
+    {
+        AttrSet(self.0 & !(1 << i))
+    }
+
+    /// The members of either set.
+    pub fn union(self, other: AttrSet) -> AttrSet
+        ensures members { Same (places result) (union (places self) (places other)) }
+    {
+        AttrSet(self.0 | other.0)
+    }
+
+    /// The members of both sets.
+    pub fn meet(self, other: AttrSet) -> AttrSet
+        ensures members { Same (places result) (meet (places self) (places other)) }
+    {
+        AttrSet(self.0 & other.0)
+    }
+
+    /// The members of this set that are not in the other.
+    pub fn minus(self, other: AttrSet) -> AttrSet
+        ensures members { Same (places result) (minus (places self) (places other)) }
+    {
+        AttrSet(self.0 & !other.0)
+    }
+
+    /// Whether every member is in the other set.
+    pub fn within(self, other: AttrSet) -> bool
+        ensures within { IsTrue result ↔ Within (places self) (places other) }
+        ensures test { result ≡ is_within (places self) (places other) }
+    {
+        self.0 & !other.0 == 0
+    }
+
+    /// How many members the set has.
+    pub fn len(self) -> u8
+        ensures members { result ≡ count_below (places self) PLACES }
+    {
+        self.0.count_ones() as u8
+    }
+
+    /// The least member.
+    pub fn least(self) -> Option<u8>
+        ensures none { IsNone result ↔ IsEmpty (places self) }
+        ensures least { IfSome result (IsLeastFrom (places self) 0) }
+    {
+        if self.0 == 0 {
+            None
+        } else {
+            Some(self.0.trailing_zeros() as u8)
+        }
+    }
+
+    /// The least member above place `i`.
+    pub fn after(self, i: u8) -> Option<u8>
+        requires { i < PLACES }
+        ensures none { IsNone result ↔ ((k : ℕ) → i < k → places self k ≡ false) }
+        ensures least { IfSome result (IsLeastFrom (places self) (i + 1)) }
+    {
+        AttrSet(self.0 >> i >> 1 << 1 << i).least()
+    }
+}
