@@ -1,4 +1,4 @@
-use Rattle.std.specs.Prelude.{◌≡◌, ℕ, ◌+◌, ◌<◌, ◌≤◌, ◌==◌, Bool, true, false, zero, suc, not, ◌&&◌, ◌||◌, nat_lt, cond, if◌then◌else◌}
+use Rattle.std.specs.Prelude.{◌≡◌, ℕ, ◌+◌, ◌<◌, ◌≤◌, ◌==◌, Bool, true, false, zero, suc, not, ◌&&◌, ◌||◌, nat_lt, if◌then◌else◌}
 
 -- a set of places, as its test
 abbrev pub Places : Type 0

@@ -116,6 +116,6 @@ impl AttrSet {
         ensures none { IsNone result ↔ ((k : ℕ) → i < k → places self k ≡ false) }
         ensures least { IfSome result (IsLeastFrom (places self) (i + 1)) }
     {
-        AttrSet(self.0 >> i >> 1 << 1 << i).least()
+        self.minus(AttrSet::full(i + 1)).least()
     }
 }

@@ -1,0 +1,320 @@
+-- What the crates above cite about sets of places: equality, the tests `is_within`, `is_same` and `is_apart` as facts, and how many members lie below n.
+use Rattle.std.proofs.Common.{◌≡◌, ℕ, zero, suc, ◌+◌, ◌^◌, ◌<◌, ◌≤◌, ◌≢◌, true, false, not, ◌&&◌, ◌||◌, add-one, refl, sym, ap, ◌∙◌, ◌⊎◌, inl, inr, ⊎_elim, arith}
+use mathlib.Core.Path.{fun_ext}
+use Rattle.std.specs.Bool.{Decides}
+use Rattle.std.proofs.lemmas.Bool.{ltb-true, cases_eq, cases_lt, cases_Bool, true≢false, and_parts, and_from, and_cases, false_from_ne_true, true_from_ne_false, not-true, not-false}
+use Rattle.std.proofs.lemmas.Bool.Decides.{nat_tests}
+use Rattle.attr_sets.specs.declared.set.AttrSet.{AttrSet}
+use Rattle.attr_sets.specs.declared.set.TheConstants.{PLACES}
+use Rattle.attr_sets.specs.Places.{Places, below, only, none, union, meet, minus, Within, Same, IsEmpty, Apart, Meets, IsLeastFrom, count_below, all_below}
+use Rattle.attr_sets.specs.Sets.{has_bit, places, is_within, is_same, is_apart}
+use Rattle.attr_sets.proofs.BitLemmas.{has_bit-below, same_from_has_bit}
+
+-- ---- sets of attributes
+
+pub places_below : (s : AttrSet) → Within (places s) (below PLACES)
+unfolding places
+places_below s k = has_bit-below PLACES s.0 k
+
+pub places-at_number : (a b : AttrSet) → a.0 ≡ b.0 → Same (places a) (places b)
+unfolding places
+places-at_number a b same k = ap (λ n. has_bit PLACES n k) same
+
+-- two sets with the same members have the same number
+pub same_number : (a b : AttrSet) → a.0 < 2 ^ 128 → b.0 < 2 ^ 128 → Same (places a) (places b) → a.0 ≡ b.0
+unfolding places
+same_number a b a_fits b_fits same = same_from_has_bit PLACES a.0 b.0 a_fits b_fits same
+
+pub same_set : (a b : AttrSet) → a.0 < 2 ^ 128 → b.0 < 2 ^ 128 → Same (places a) (places b) → a ≡ b
+same_set a b a_fits b_fits same = let from_number : ℕ → AttrSet = λ n. record { 0 = n } in ap from_number (same_number a b a_fits b_fits same)
+
+-- ---- equality
+
+pub Same-path : (x y : Places) → Same x y → x ≡ y
+Same-path x y same = fun_ext same
+
+pub Same-refl : (x : Places) → Same x x
+Same-refl x k = refl
+
+pub Same-sym : (x y : Places) → Same x y → Same y x
+Same-sym x y same k = sym (same k)
+
+pub Same-trans : (x y z : Places) → Same x y → Same y z → Same x z
+Same-trans x y z first second k = first k ∙ second k
+
+-- each within the other
+pub Same-within : (x y : Places) → Within x y → Within y x → Same x y
+Same-within x y there back k = grind (arith, there k, back k)
+
+pub Within-same : (x y : Places) → Same x y → Within x y
+Within-same x y same k member = sym (same k) ∙ member
+
+-- ---- a test at every place below n
+
+pub all_below-true : (n : ℕ) (x : Places) → all_below n x ≡ true → (k : ℕ) → k < n → x k ≡ true
+unfolding all_below
+all_below-true zero x passes k lt = absurd (omega arith)
+all_below-true (suc n) x passes k lt =
+    let both = and_parts (all_below n x) (x n) passes in
+    ⊎_elim (λ (last : k ≡ n). ap x last ∙ both.1) (λ (other : k ≡ n → ⊥). all_below-true n x both.0 k (omega arith)) (cases_eq k n)
+
+pub all_below-from : (n : ℕ) (x : Places) → ((k : ℕ) → k < n → x k ≡ true) → all_below n x ≡ true
+unfolding all_below
+all_below-from zero x each = refl
+all_below-from (suc n) x each = and_from (all_below n x) (x n) (all_below-from n x (λ k lt. each k (omega arith))) (each n (omega arith))
+
+-- a test that fails does so at some place
+pub all_below-false : (n : ℕ) (x : Places) → all_below n x ≡ false → (k : ℕ) × (k < n) × (x k ≡ false)
+unfolding all_below
+all_below-false zero x fails = absurd (true≢false fails)
+all_below-false (suc n) x fails =
+    ⊎_elim (λ earlier. let found = all_below-false n x earlier in (found.0, omega (arith, found.1), found.2)) (λ last. (n, omega arith, last)) (and_cases (all_below n x) (x n) fails)
+
+-- some member lies below n, or none does
+pub tell_some : (n : ℕ) (x : Places) → ((k : ℕ) × (k < n) × (x k ≡ true)) ⊎ ((k : ℕ) → k < n → x k ≡ false)
+tell_some n x =
+    ⊎_elim
+    (λ none. inr (λ k lt. not-true (x k) (all_below-true n (λ j. not (x j)) none k lt)))
+    (λ some. let found = all_below-false n (λ j. not (x j)) some in inl (found.0, found.1, not-false (x found.0) found.2))
+    (cases_Bool (all_below n (λ j. not (x j))))
+
+-- ---- a set with no place from n on is tried at each place below n
+
+-- x has a member, or is empty
+pub tell_empty : (n : ℕ) (x : Places) → Within x (below n) → ((k : ℕ) × (k < n) × (x k ≡ true)) ⊎ IsEmpty x
+tell_empty n x low =
+    ⊎_elim inl (λ none. inr (λ k. false_from_ne_true (x k) (λ member. true≢false (sym member ∙ none k (ltb-true k n (low k member)))))) (tell_some n x)
+
+-- some member of x is not in y, or all are
+pub tell_within : (n : ℕ) (x y : Places) → Within x (below n) → ((k : ℕ) × (k < n) × (x k ≡ true) × (y k ≡ false)) ⊎ Within x y
+tell_within n x y low =
+    ⊎_elim
+    (λ found. let k = found.0 in inl (k, found.1, grind (arith, found.2), grind (arith, found.2)))
+    (λ none. inr (λ k member. grind (arith, none k, member)))
+    (tell_empty n (minus x y) (λ k member. low k (grind (arith, member))))
+
+-- x and y have a common member, or none
+pub tell_apart : (n : ℕ) (x y : Places) → Within x (below n) → Meets x y ⊎ Apart x y
+tell_apart n x y low =
+    ⊎_elim
+    (λ found. inl (found.0, grind (arith, found.2), grind (arith, found.2)))
+    (λ none. inr (λ k member. grind (arith, none k, member)))
+    (tell_empty n (meet x y) (λ k member. low k (grind (arith, member))))
+
+-- one of x and y has a member that the other has not, or they have the same
+pub tell_same : (n : ℕ) (x y : Places) → Within x (below n) → Within y (below n) → ((k : ℕ) × (k < n) × (x k ≢ y k)) ⊎ Same x y
+tell_same n x y x_low y_low =
+    ⊎_elim
+    (λ found. inl (found.0, found.1, λ same. true≢false (sym found.2 ∙ same ∙ found.3)))
+    (λ there. ⊎_elim
+    (λ found. inl (found.0, found.1, λ same. true≢false (sym found.2 ∙ sym same ∙ found.3)))
+    (λ back. inr (Same-within x y there back))
+    (tell_within n y x y_low))
+    (tell_within n x y x_low)
+
+least_below : (n : ℕ) (x : Places) (from : ℕ) → ((i : ℕ) × (i < n) × IsLeastFrom x from i) ⊎ ((k : ℕ) → from ≤ k → k < n → x k ≡ false)
+least_below zero x from = inr (λ k on lt. absurd (omega arith))
+least_below (suc n) x from = ⊎_elim (λ found. inl (found.0, omega (arith, found.1), found.2)) next (least_below n x from)
+  where
+    next : ((k : ℕ) → from ≤ k → k < n → x k ≡ false) → ((i : ℕ) × (i < suc n) × IsLeastFrom x from i) ⊎ ((k : ℕ) → from ≤ k → k < suc n → x k ≡ false)
+    next none =
+        ⊎_elim
+        (λ (before : n < from). inr (λ k on lt. absurd (omega arith)))
+        (λ (on : from ≤ n). ⊎_elim
+        (λ (member : x n ≡ true). inl (n, omega arith, record { from_on = on; member = member; least = none }))
+        (λ (outside : x n ≡ false). inr (λ k from_on lt. ⊎_elim (λ (last : k ≡ n). ap x last ∙ outside) (λ (other : k ≡ n → ⊥). none k from_on (omega arith)) (cases_eq k n)))
+        (cases_Bool (x n)))
+        (cases_lt n from)
+
+-- x has a least member from a place on, or none
+pub tell_least : (n : ℕ) (x : Places) (from : ℕ) → Within x (below n) → ((i : ℕ) × (i < n) × IsLeastFrom x from i) ⊎ ((k : ℕ) → from ≤ k → x k ≡ false)
+tell_least n x from low =
+    ⊎_elim inl (λ none. inr (λ k on. false_from_ne_true (x k) (λ member. true≢false (sym member ∙ none k on (ltb-true k n (low k member)))))) (least_below n x from)
+
+-- ---- the tests of sets as facts, and back: `places_below` shows that a set lies below the width
+
+pub is_within-true : (x y : Places) → Within x (below PLACES) → is_within x y ≡ true → Within x y
+is_within-true x y low passes k member =
+    let at = all_below-true PLACES (λ j. not (x j) || y j) passes k (ltb-true k PLACES (low k member)) in
+    grind (arith, at, member)
+
+pub is_within-from : (x y : Places) → Within x y → is_within x y ≡ true
+is_within-from x y within = all_below-from PLACES (λ j. not (x j) || y j) (λ k lt. grind (arith, within k))
+
+pub is_within-false : (x y : Places) → is_within x y ≡ false → (k : ℕ) × (k < PLACES) × (x k ≡ true) × (y k ≡ false)
+is_within-false x y fails =
+    let found = all_below-false PLACES (λ j. not (x j) || y j) fails in
+    (found.0, found.1, grind (arith, found.2), grind (arith, found.2))
+
+pub is_within-not : (x y : Places) → Within x (below PLACES) → (Within x y → ⊥) → is_within x y ≡ false
+is_within-not x y low not_within = false_from_ne_true (is_within x y) (λ passes. not_within (is_within-true x y low passes))
+
+pub is_within-decides : (x y : Places) → Within x (below PLACES) → Decides (is_within x y) (Within x y)
+is_within-decides x y low = (is_within-true x y low, is_within-from x y)
+
+pub is_same-true : (x y : Places) → Within x (below PLACES) → Within y (below PLACES) → is_same x y ≡ true → Same x y
+is_same-true x y x_low y_low passes =
+    let both = and_parts (is_within x y) (is_within y x) passes in
+    Same-within x y (is_within-true x y x_low both.0) (is_within-true y x y_low both.1)
+
+pub is_same-from : (x y : Places) → Same x y → is_same x y ≡ true
+is_same-from x y same =
+    and_from (is_within x y) (is_within y x) (is_within-from x y (Within-same x y same)) (is_within-from y x (Within-same y x (Same-sym x y same)))
+
+pub is_same-false : (x y : Places) → is_same x y ≡ false → (Same x y → ⊥)
+is_same-false x y fails same = true≢false (sym (is_same-from x y same) ∙ fails)
+
+pub is_same-not : (x y : Places) → Within x (below PLACES) → Within y (below PLACES) → (Same x y → ⊥) → is_same x y ≡ false
+is_same-not x y x_low y_low differ = false_from_ne_true (is_same x y) (λ passes. differ (is_same-true x y x_low y_low passes))
+
+pub is_same-decides : (x y : Places) → Within x (below PLACES) → Within y (below PLACES) → Decides (is_same x y) (Same x y)
+is_same-decides x y x_low y_low = (is_same-true x y x_low y_low, is_same-from x y)
+
+pub is_apart-true : (x y : Places) → Within x (below PLACES) → is_apart x y ≡ true → Apart x y
+is_apart-true x y low passes k member =
+    let at = all_below-true PLACES (λ j. not (x j && y j)) passes k (ltb-true k PLACES (low k member)) in
+    grind (arith, at, member)
+
+pub is_apart-from : (x y : Places) → Apart x y → is_apart x y ≡ true
+is_apart-from x y apart = all_below-from PLACES (λ j. not (x j && y j)) (λ k lt. grind (arith, apart k))
+
+pub is_apart-false : (x y : Places) → is_apart x y ≡ false → Meets x y
+is_apart-false x y fails =
+    let found = all_below-false PLACES (λ j. not (x j && y j)) fails in
+    (found.0, grind (arith, found.2), grind (arith, found.2))
+
+pub is_apart-not : (x y : Places) → Within x (below PLACES) → Meets x y → is_apart x y ≡ false
+is_apart-not x y low common =
+    false_from_ne_true (is_apart x y) (λ passes. true≢false (sym common.2 ∙ is_apart-true x y low passes common.0 common.1))
+
+pub is_apart-decides : (x y : Places) → Within x (below PLACES) → Decides (is_apart x y) (Apart x y)
+is_apart-decides x y low = (is_apart-true x y low, is_apart-from x y)
+
+-- ---- how many members lie below n
+
+pub count_below-le : (n : ℕ) (x : Places) → count_below x n ≤ n
+unfolding count_below
+count_below-le zero x = omega arith
+count_below-le (suc n) x = grind (arith, count_below-le n x)
+
+-- one place more
+pub count_below-member : (n : ℕ) (x : Places) → x n ≡ true → count_below x (n + 1) ≡ count_below x n + 1
+unfolding count_below
+count_below-member n x member = rw add-one (grind (arith, member))
+
+pub count_below-outside : (n : ℕ) (x : Places) → x n ≡ false → count_below x (n + 1) ≡ count_below x n
+unfolding count_below
+count_below-outside n x outside = rw add-one (grind (arith, outside))
+
+-- only places below n count
+pub count_below-equal : (n : ℕ) (x y : Places) → ((k : ℕ) → k < n → x k ≡ y k) → count_below x n ≡ count_below y n
+unfolding count_below
+count_below-equal zero x y same = refl
+count_below-equal (suc n) x y same = grind (arith, count_below-equal n x y (λ k lt. same k (omega arith)), same n (omega arith))
+
+pub count_below-same : (n : ℕ) (x y : Places) → Same x y → count_below x n ≡ count_below y n
+count_below-same n x y same = count_below-equal n x y (λ k lt. same k)
+
+-- fewer members, and a smaller count
+pub count_below-within : (n : ℕ) (x y : Places) → Within x y → count_below x n ≤ count_below y n
+unfolding count_below
+count_below-within zero x y within = omega arith
+count_below-within (suc n) x y within = grind (arith, count_below-within n x y within, within n)
+
+-- y has a member more
+pub count_below-lt : (n : ℕ) (x y : Places) (k : ℕ) → Within x y → k < n → x k ≡ false → y k ≡ true → count_below x n < count_below y n
+unfolding count_below
+count_below-lt zero x y k within lt outside member = absurd (omega arith)
+count_below-lt (suc n) x y k within lt outside member =
+    ⊎_elim
+    (λ (last : k ≡ n). grind (arith, count_below-within n x y within, within n, ap x last, ap y last, outside, member))
+    (λ (other : k ≡ n → ⊥). let h = count_below-lt n x y k within (omega arith) outside member in grind (arith, h, within n))
+    (cases_eq k n)
+
+-- x and y apart from their union and meet
+pub count_below-union : (n : ℕ) (x y : Places) → count_below (union x y) n + count_below (meet x y) n ≡ count_below x n + count_below y n
+unfolding count_below
+count_below-union zero x y = refl
+count_below-union (suc n) x y = grind (arith, count_below-union n x y)
+
+pub count_below-minus : (n : ℕ) (x y : Places) → count_below (minus x y) n + count_below (meet x y) n ≡ count_below x n
+unfolding count_below
+count_below-minus zero x y = refl
+count_below-minus (suc n) x y = grind (arith, count_below-minus n x y)
+
+-- no member below n
+pub count_below-none : (n : ℕ) (x : Places) → ((k : ℕ) → k < n → x k ≡ false) → count_below x n ≡ 0
+unfolding count_below
+count_below-none zero x none = refl
+count_below-none (suc n) x none = grind (arith, count_below-none n x (λ k lt. none k (omega arith)), none n (omega arith))
+
+pub count_below-pos : (n : ℕ) (x : Places) (k : ℕ) → k < n → x k ≡ true → 0 < count_below x n
+unfolding count_below
+count_below-pos zero x k lt member = absurd (omega arith)
+count_below-pos (suc n) x k lt member =
+    ⊎_elim (λ (last : k ≡ n). grind (arith, ap x last, member)) (λ (other : k ≡ n → ⊥). grind (arith, count_below-pos n x k (omega arith) member)) (cases_eq k n)
+
+pub count_below-zero : (n : ℕ) (x : Places) → count_below x n ≡ 0 → (k : ℕ) → k < n → x k ≡ false
+count_below-zero n x zero_count k lt = false_from_ne_true (x k) (λ member. omega (arith, count_below-pos n x k lt member))
+
+-- the places below m, of which all are below n
+pub count_below-below : (n m : ℕ) → m ≤ n → count_below (below m) n ≡ m
+unfolding count_below
+count_below-below zero m few = omega arith
+count_below-below (suc n) m few =
+    ⊎_elim
+    (λ (all : n < m). let others : count_below (below m) n ≡ n = count_below-equal n (below m) (below n) (λ k lt. grind (arith, nat_tests)) ∙ count_below-below n n (omega arith) in grind (arith, nat_tests, others))
+    (λ (low : m ≤ n). grind (arith, nat_tests, count_below-below n m low))
+    (cases_lt n m)
+
+pub count_below-only : (n i : ℕ) → i < n → count_below (only i) n ≡ 1
+unfolding count_below
+count_below-only zero i lt = absurd (omega arith)
+count_below-only (suc n) i lt =
+    ⊎_elim
+    (λ (last : i ≡ n). let before : count_below (only i) n ≡ 0 = count_below-none n (only i) (λ k below. grind (arith, nat_tests, last)) in grind (arith, nat_tests, before, last))
+    (λ (other : i ≡ n → ⊥). let before = count_below-only n i (omega arith) in grind (arith, nat_tests, before, other))
+    (cases_eq i n)
+
+-- a loop's step: one member added, or taken away
+pub count_below-union_only : (n : ℕ) (x : Places) (i : ℕ) → i < n → x i ≡ false → count_below (union x (only i)) n ≡ count_below x n + 1
+count_below-union_only n x i lt outside =
+    let apart : count_below (meet x (only i)) n ≡ 0 = count_below-none n (meet x (only i)) (λ k below. grind (arith, nat_tests, ap x, outside)) in
+    omega (arith, count_below-union n x (only i), count_below-only n i lt, apart)
+
+pub count_below-minus_only : (n : ℕ) (x : Places) (i : ℕ) → i < n → x i ≡ true → count_below (minus x (only i)) n + 1 ≡ count_below x n
+count_below-minus_only n x i lt member =
+    let common : count_below (meet x (only i)) n ≡ 1 = count_below-equal n (meet x (only i)) (only i) (λ k below. grind (arith, nat_tests, ap x, member)) ∙ count_below-only n i lt in
+    omega (arith, count_below-minus n x (only i), common)
+
+-- every place below n is a member
+pub count_below-full : (n : ℕ) (x : Places) → count_below x n ≡ n → (k : ℕ) → k < n → x k ≡ true
+count_below-full n x full k lt = true_from_ne_false (x k) (λ outside. omega (arith, count_below-union_only n x k lt outside, count_below-le n (union x (only k))))
+
+-- further places only add
+pub count_below-mono : (n m : ℕ) (x : Places) → m ≤ n → count_below x m ≤ count_below x n
+unfolding count_below
+count_below-mono zero m x few = let e : m ≡ 0 = omega arith in omega (arith, ap (count_below x) e)
+count_below-mono (suc n) m x few =
+    ⊎_elim
+    (λ (all : m ≡ suc n). omega (arith, ap (count_below x) all))
+    (λ (other : m ≡ suc n → ⊥). let before = count_below-mono n m x (omega arith) in grind (arith, before))
+    (cases_eq m (suc n))
+
+-- where a member stands among those of x
+pub count_below-place : (n m : ℕ) (x : Places) → m < n → x m ≡ true → count_below x m < count_below x n
+count_below-place n m x lt member = omega (arith, count_below-member m x member, count_below-mono n (m + 1) x (omega arith))
+
+-- no member from m on counts
+pub count_below-low : (n m : ℕ) (x : Places) → Within x (below m) → m ≤ n → count_below x n ≡ count_below x m
+unfolding count_below
+count_below-low zero m x low few = let e : m ≡ 0 = omega arith in ap (count_below x) (sym e)
+count_below-low (suc n) m x low few =
+    ⊎_elim
+    (λ (all : m ≡ suc n). ap (count_below x) (sym all))
+    (λ (other : m ≡ suc n → ⊥). let before = count_below-low n m x low (omega arith) in grind (arith, nat_tests, before, low n))
+    (cases_eq m (suc n))
+
+-- a set of places below m has at most m members
+pub count_below-few : (n m : ℕ) (x : Places) → Within x (below m) → m ≤ n → count_below x n ≤ m
+count_below-few n m x low few = omega (arith, count_below-low n m x low few, count_below-le m x)

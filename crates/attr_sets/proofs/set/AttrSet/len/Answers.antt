@@ -1,0 +1,9 @@
+use Rattle.std.proofs.Common.{arith}
+use Rattle.attr_sets.specs.Sets.{places}
+use Rattle.attr_sets.specs.declared.set.TheConstants.{PLACES}
+use Rattle.attr_sets.proofs.BitLemmas.{count_ones-count_below}
+use Rattle.attr_sets.proofs.set.AttrSet.len.Goals as goal
+
+pub returns : goal.returns
+unfolding places
+returns c = record { members = count_ones-count_below PLACES c.args.self.0 (omega arith) }

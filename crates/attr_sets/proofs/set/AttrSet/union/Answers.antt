@@ -1,0 +1,8 @@
+use Rattle.attr_sets.specs.Sets.{places}
+use Rattle.attr_sets.specs.declared.set.TheConstants.{PLACES}
+use Rattle.attr_sets.proofs.BitLemmas.{has_bit-or}
+use Rattle.attr_sets.proofs.set.AttrSet.union.Goals as goal
+
+pub returns : goal.returns
+unfolding places
+returns c = record { members = has_bit-or PLACES c.args.self.0 c.args.other.0 }
