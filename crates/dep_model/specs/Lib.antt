@@ -1,0 +1,16 @@
+pub mod Tuples
+pub mod Dependencies
+pub mod Implication
+pub mod Projections
+pub mod OnSchemes
+pub mod Keys
+pub mod Forms
+pub mod Splits
+pub mod TwoTuples
+pub mod Names
+pub mod HeldNames
+pub mod Integers
+pub mod Deps
+pub mod Columns
+pub mod Validity
+pub mod Schemas

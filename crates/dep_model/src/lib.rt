@@ -1,6 +1,27 @@
-//! The model of a schema, and the theory of dependencies that every other crate cites.
+//! Names, rows, dependencies and schemas, and the theory of dependencies that every crate cites.
+//!
+//! A `Schema` is valid as long as it stands: its names differ, its dependencies lie within its
+//! universe. `agree` and `two_rows_obey` look at two rows as the theory does. The definitions of the
+//! theory (relations, obedience, implication, projection and join, keys, normal forms) are in
+//! `specs/`; `laws` has the theorems by which they were tried.
 #![tactic(auto)]
 
+mod column;
+mod dep;
+mod integer;
 mod memory;
+mod name;
+mod row;
+mod schema;
+mod two_rows;
+mod value;
 
+pub use column::Column;
+pub use dep::Dep;
+pub use integer::integer_text;
 pub use memory::WantMemory;
+pub use name::{MOST_NAME_BYTES, Name};
+pub use row::Row;
+pub use schema::{MOST_DEPENDENCIES, Schema};
+pub use two_rows::{agree, two_rows_obey};
+pub use value::Value;

@@ -1,0 +1,26 @@
+-- The value of a numeral and of its front.
+use Rattle.std.proofs.Common.{◌≡◌, ℕ, ◌+◌, ◌*◌, ◌-◌, ◌<◌, ◌≤◌, true, get_or, List, ◌++◌, length, map, take, drop, refl, ap, sym, subst, ◌∙◌, arith}
+use Rattle.std.specs.Char.{digit_value, is_ascii_digit}
+use Rattle.std.specs.Int.Digits.{number_from_digits, number_from_digits_after}
+use Rattle.std.specs.Str.Parse.{digits_value}
+use Rattle.std.proofs.lemmas.Int.Digits.{digits_value_is, digits_value_more, number_after_append, number_after_ge}
+use Rattle.std.proofs.lemmas.Bool.Decides.{nat_tests}
+use Rattle.std.proofs.lemmas.List.{take-append-drop, map-append}
+
+-- more digits give no smaller value
+pub digits_value-append : (front rest : List ℕ) → digits_value 10 front ≤ digits_value 10 (front ++ rest)
+digits_value-append front rest =
+    rw (digits_value_is 10 front, digits_value_is 10 (front ++ rest), map-append digit_value front rest, number_after_append 10 0 (map digit_value front) (map digit_value rest))
+    (number_after_ge 10 (number_from_digits_after 10 0 (map digit_value front)) (map digit_value rest) (omega arith))
+
+pub digits_value-take : (bytes : List ℕ) (n : ℕ) → digits_value 10 (take n bytes) ≤ digits_value 10 bytes
+digits_value-take bytes n = subst (λ (all : List ℕ). digits_value 10 (take n bytes) ≤ digits_value 10 all) (take-append-drop n bytes) (digits_value-append (take n bytes) (drop n bytes))
+
+digit_value-digit : (c : ℕ) → is_ascii_digit c ≡ true → digit_value c ≡ c - 48
+digit_value-digit c h = grind (arith, nat_tests)
+
+-- one digit more
+pub digits_value-next : (bytes : List ℕ) (i : ℕ) → i < length bytes → is_ascii_digit (get_or bytes i 0) ≡ true
+    → digits_value 10 (take (i + 1) bytes) ≡ digits_value 10 (take i bytes) * 10 + (get_or bytes i 0 - 48)
+digits_value-next bytes i short digit =
+    digits_value_more 10 bytes i short ∙ ap (λ (d : ℕ). digits_value 10 (take i bytes) * 10 + d) (digit_value-digit (get_or bytes i 0) digit)

@@ -1,0 +1,24 @@
+use Rattle.std.specs.Prelude.{ℕ, Bool, ◌&&◌, ◌||◌, ◌==◌, nat_lt, nat_le, List, length, slice_index, codes}
+use Rattle.std.specs.List.{list_all}
+use Rattle.std.specs.Char.{is_ascii_alphabetic, is_ascii_alphanumeric}
+use Rattle.std.specs.Str.{str_eq_ignore_ascii_case}
+
+-- a letter, a digit or `_`
+abbrev pub is_name_byte : ℕ → Bool
+is_name_byte b = is_ascii_alphanumeric b || (b == 95)
+
+-- a letter, followed by letters, digits and `_`
+abbrev pub is_word : List ℕ → Bool
+is_word bytes = nat_lt 0 (length bytes) && is_ascii_alphabetic (slice_index bytes 0) && list_all is_name_byte bytes
+
+-- a word of at most 31 bytes
+abbrev pub is_name : List ℕ → Bool
+is_name bytes = is_word bytes && nat_le (length bytes) 31
+
+-- the bytes are equal where ASCII letters of either case count as one
+abbrev pub same_name : List ℕ → List ℕ → Bool
+same_name a b = str_eq_ignore_ascii_case a b
+
+-- the name of a type of column: `integer` or `text`, in any case
+abbrev pub is_type_name : List ℕ → Bool
+is_type_name bytes = same_name bytes (codes "integer") || same_name bytes (codes "text")

@@ -1,0 +1,56 @@
+use Rattle.std.specs.Prelude.{ℕ, Option, List, length, position}
+use Rattle.attr_sets.specs.Places.{Places, below}
+use Rattle.attr_sets.specs.Sets.{places}
+use Rattle.dep_model.specs.declared.dep.Dep.{Dep}
+use Rattle.dep_model.specs.declared.column.Column.{Column}
+use Rattle.dep_model.specs.declared.schema.Schema.{Schema}
+use Rattle.dep_model.specs.Tuples.{Relation}
+use Rattle.dep_model.specs.Dependencies.{Dependency}
+use Rattle.dep_model.specs.Implication.{IsLegal, Implies}
+use Rattle.dep_model.specs.Names.{same_name}
+use Rattle.dep_model.specs.Deps.{dependencies_of}
+use Rattle.dep_model.specs.Columns.{columns_on, IsTyped}
+
+-- the names of the attributes, in the order of declaration
+abbrev pub names_of : Schema → List (List ℕ)
+names_of s = s.names.items
+
+-- how many attributes there are
+abbrev pub width_of : Schema → ℕ
+width_of s = length (names_of s)
+
+-- the types of the columns
+abbrev pub columns_of : Schema → List Column
+columns_of s = columns_on (width_of s) (places s.integers)
+
+-- the dependencies, in the order of the file
+abbrev pub deps_of : Schema → List Dep
+deps_of s = s.deps.items
+
+-- the line of each dependency
+abbrev pub lines_of : Schema → List ℕ
+lines_of s = s.lines.items
+
+-- all attributes
+abbrev pub universe_of : Schema → Places
+universe_of s = below (width_of s)
+
+-- the dependencies, between sets of places
+abbrev pub theory_of : Schema → List Dependency
+theory_of s = dependencies_of (deps_of s)
+
+-- the attribute whose name is this, ASCII case aside
+abbrev pub place_named : List (List ℕ) → List ℕ → Option ℕ
+place_named names bytes = position (λ name. same_name name bytes) names
+
+-- a relation is legal for a schema
+abbrev pub LegalFor : Schema → Relation → Type 0
+LegalFor s r = IsLegal (width_of s) (theory_of s) r
+
+-- a schema implies a dependency
+abbrev pub ImpliedBy : Schema → Dependency → Type 0
+ImpliedBy s d = Implies (width_of s) (theory_of s) d
+
+-- the rows fit the types of a schema's columns
+abbrev pub TypedFor : Schema → Relation → Type 0
+TypedFor s r = IsTyped (columns_of s) r

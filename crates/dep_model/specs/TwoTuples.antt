@@ -1,0 +1,23 @@
+use Rattle.std.specs.Prelude.{ℕ, if◌then◌else◌, List, [], ◌∷◌, map, replicate}
+use Rattle.std.specs.List.{range_with_len}
+use Rattle.attr_sets.specs.Places.{Places}
+use Rattle.dep_model.specs.Tuples.{Tuple, Relation}
+
+-- the texts `0` and `1`
+abbrev pub zero_text : List ℕ
+zero_text = 48 ∷ []
+
+abbrev pub one_text : List ℕ
+one_text = 49 ∷ []
+
+-- the tuple of n times `0`
+unfoldable pub all_zeros : ℕ → Tuple
+all_zeros n = replicate n zero_text
+
+-- the tuple over n places with `0` on a set and `1` elsewhere
+unfoldable pub zeros_on : ℕ → Places → Tuple
+zeros_on n x = map (λ k. if x k then zero_text else one_text) (range_with_len 0 n)
+
+-- the relation of two tuples over n places that agree exactly on a set
+unfoldable pub two_tuples : ℕ → Places → Relation
+two_tuples n x = all_zeros n ∷ zeros_on n x ∷ []

@@ -1,0 +1,23 @@
+use Rattle.std.specs.Prelude.{◌≡◌, ℕ, ◌<◌, ◌≤◌, false, List, length, All, AllPairs, Contains}
+use Rattle.attr_sets.specs.Places.{below}
+use Rattle.attr_sets.specs.declared.set.TheConstants.{PLACES}
+use Rattle.dep_model.specs.declared.dep.Dep.{Dep}
+use Rattle.dep_model.specs.declared.column.Column.{Column}
+use Rattle.dep_model.specs.declared.column.Column.TheVariants.{Integer}
+use Rattle.dep_model.specs.declared.schema.TheConstants.{MOST_DEPENDENCIES}
+use Rattle.dep_model.specs.Names.{same_name, is_type_name}
+use Rattle.dep_model.specs.Deps.{IsDepWithin}
+
+-- names, dependencies and their lines form a schema
+pub record IsSchema (names : List (List ℕ)) (deps : List Dep) (lines : List ℕ) : Type 0 where
+  pub some_names : 0 < length names
+  pub few_names : length names ≤ PLACES
+  pub names_differ : AllPairs (λ a b. same_name a b ≡ false) names
+  pub few_deps : length deps ≤ MOST_DEPENDENCIES
+  pub deps_within : All (IsDepWithin (below (length names))) deps
+  pub one_line_each : length lines ≡ length deps
+
+-- types fit names: one each, and beside an integer column no name is the name of a type
+pub record AreColumns (names : List (List ℕ)) (columns : List Column) : Type 0 where
+  pub one_each : length columns ≡ length names
+  pub no_type_name : Contains columns Integer → All (λ name. is_type_name name ≡ false) names
