@@ -9,6 +9,7 @@
 mod column;
 mod dep;
 mod integer;
+pub mod laws;
 mod memory;
 mod name;
 mod row;

@@ -1,0 +1,61 @@
+-- The dependencies of a list, one by one, and legality by them.
+use Rattle.std.proofs.Common.{◌≡◌, ℕ, ◌<◌, List, [], ◌∷◌, length, map, get_or, refl, arith}
+use Rattle.std.specs.Prelude.{All}
+use Rattle.std.proofs.lemmas.List.Elements.{All-nil, All-cons, All-head, All-tail, All-map, All-filter}
+use Rattle.attr_sets.specs.Places.{Places}
+use Rattle.attr_sets.specs.Sets.{places}
+use Rattle.dep_model.specs.declared.dep.Dep.{Dep}
+use Rattle.dep_model.specs.declared.dep.Dep.TheVariants.{Fd, Mvd}
+use Rattle.dep_model.specs.Tuples.{Relation, IsOver}
+use Rattle.dep_model.specs.Dependencies.{Dependency, fd, mvd, Obeys, ObeysFd, is_fd, functional_part}
+use Rattle.dep_model.specs.Implication.{IsLegal}
+use Rattle.dep_model.specs.Deps.{dependency_of, dependencies_of}
+
+-- ---- a fact of each dependency, as sets of attributes and as sets of places
+pub dependencies_all-to : (P : Dependency → Type 0) (ds : List Dep) → All P (dependencies_of ds) → All (λ d. P (dependency_of d)) ds
+dependencies_all-to P [] h = All-nil (λ d. P (dependency_of d))
+dependencies_all-to P (d ∷ ds) h =
+    All-cons (λ (e : Dep). P (dependency_of e)) d ds (All-head P (dependency_of d) (dependencies_of ds) h)
+      (dependencies_all-to P ds (All-tail P (dependency_of d) (dependencies_of ds) h))
+
+pub dependencies_all-from : (P : Dependency → Type 0) (ds : List Dep) → All (λ d. P (dependency_of d)) ds → All P (dependencies_of ds)
+dependencies_all-from P ds h = All-map P dependency_of ds h
+
+-- ---- a fact of each functional dependency
+-- a fact of the sides of a functional dependency; nothing of a multivalued one
+abbrev pub IfFd : (Places → Places → Type 0) → Dep → Type 0
+IfFd P (Fd lhs rhs) = P (places lhs) (places rhs)
+IfFd P (Mvd lhs rhs) = Unit {0}
+
+pub functional_all-to : (P : Dependency → Type 0) (ds : List Dep) → All P (functional_part (dependencies_of ds)) → All (IfFd (λ x y. P (fd x y))) ds
+functional_all-to P [] h = All-nil (IfFd (λ x y. P (fd x y)))
+functional_all-to P (Fd lhs rhs ∷ ds) h =
+    All-cons (IfFd (λ x y. P (fd x y))) (Fd lhs rhs) ds (All-head P (fd (places lhs) (places rhs)) (functional_part (dependencies_of ds)) h)
+      (functional_all-to P ds (All-tail P (fd (places lhs) (places rhs)) (functional_part (dependencies_of ds)) h))
+functional_all-to P (Mvd lhs rhs ∷ ds) h = All-cons (IfFd (λ x y. P (fd x y))) (Mvd lhs rhs) ds tt (functional_all-to P ds h)
+
+pub functional_all-from : (P : Dependency → Type 0) (ds : List Dep) → All (IfFd (λ x y. P (fd x y))) ds → All P (functional_part (dependencies_of ds))
+functional_all-from P [] h = All-nil P
+functional_all-from P (Fd lhs rhs ∷ ds) h =
+    All-cons P (fd (places lhs) (places rhs)) (functional_part (dependencies_of ds)) (All-head (IfFd (λ x y. P (fd x y))) (Fd lhs rhs) ds h)
+      (functional_all-from P ds (All-tail (IfFd (λ x y. P (fd x y))) (Fd lhs rhs) ds h))
+functional_all-from P (Mvd lhs rhs ∷ ds) h = functional_all-from P ds (All-tail (IfFd (λ x y. P (fd x y))) (Mvd lhs rhs) ds h)
+
+-- ---- legality
+-- a relation is legal for a list where it obeys each dependency of it
+pub legal-to : (n : ℕ) (ds : List Dep) (r : Relation) → IsLegal n (dependencies_of ds) r → All (λ d. Obeys n (dependency_of d) r) ds
+legal-to n ds r legal = dependencies_all-to (λ (d : Dependency). Obeys n d r) ds legal.obeys
+
+pub legal-from : (n : ℕ) (ds : List Dep) (r : Relation) → IsOver n r → All (λ d. Obeys n (dependency_of d) r) ds → IsLegal n (dependencies_of ds) r
+legal-from n ds r over h = record { over = over; obeys = dependencies_all-from (λ (d : Dependency). Obeys n d r) ds h }
+
+-- and for its functional part where it obeys each functional one
+pub functional_legal-to : (n : ℕ) (ds : List Dep) (r : Relation) → IsLegal n (functional_part (dependencies_of ds)) r → All (IfFd (λ x y. ObeysFd x y r)) ds
+functional_legal-to n ds r legal = functional_all-to (λ (d : Dependency). Obeys n d r) ds legal.obeys
+
+pub functional_legal-from : (n : ℕ) (ds : List Dep) (r : Relation) → IsOver n r → All (IfFd (λ x y. ObeysFd x y r)) ds → IsLegal n (functional_part (dependencies_of ds)) r
+functional_legal-from n ds r over h = record { over = over; obeys = functional_all-from (λ (d : Dependency). Obeys n d r) ds h }
+
+-- what is legal for a list is legal for its functional part
+pub functional_legal-weaker : (n : ℕ) (ds : List Dependency) (r : Relation) → IsLegal n ds r → IsLegal n (functional_part ds) r
+functional_legal-weaker n ds r legal = record { over = legal.over; obeys = All-filter is_fd (λ (d : Dependency). Obeys n d r) ds legal.obeys }

@@ -1,0 +1,80 @@
+-- Superkeys, and the key that is left where attributes are tried from the last to the first.
+use Rattle.std.proofs.Common.{◌≡◌, ℕ, ◌+◌, ◌<◌, ◌≤◌, zero, suc, Bool, true, false, cond, List, refl, sym, ap, subst, ◌∙◌, inl, inr, arith}
+use Rattle.std.proofs.lemmas.Bool.{cases_Bool, cases_eq, true≢false}
+use Rattle.std.proofs.lemmas.Bool.Decides.{nat_tests}
+use Rattle.std.specs.Prelude.{nat_lt}
+use Rattle.attr_sets.specs.Places.{Places, below, union, Within, Same}
+use Rattle.dep_model.specs.Tuples.{Relation}
+use Rattle.dep_model.specs.Dependencies.{Dependency, fd, ObeysFd}
+use Rattle.dep_model.specs.Implication.{IsLegal, Implies}
+use Rattle.dep_model.specs.OnSchemes.{ImpliedOn}
+use Rattle.dep_model.specs.Keys.{IsSuperkey, IsKey, IsSettledKey, left_beside}
+use Rattle.dep_model.proofs.RuleLemmas.{reflexivity_obeyed, fd_weaker_obeyed}
+use Rattle.dep_model.proofs.SchemeLemmas.{fd_in-to, fd_in-from}
+
+-- ---- a functional dependency is implied on a scheme exactly where it lies within it and is implied
+pub fd_on-to : (n : ℕ) (ds : List Dependency) (scheme x y : Places) → ImpliedOn n ds scheme (fd x y) → Implies n ds (fd x y)
+fd_on-to n ds scheme x y on r legal = fd_in-to scheme x y r on.within.0 on.within.1 (on.obeyed r legal)
+
+pub fd_on-from : (n : ℕ) (ds : List Dependency) (scheme x y : Places) → Within x scheme → Within y scheme → Implies n ds (fd x y) → ImpliedOn n ds scheme (fd x y)
+fd_on-from n ds scheme x y x_in y_in implied = record {
+  within = (x_in, y_in);
+  obeyed = λ r legal. fd_in-from scheme x y r x_in y_in (implied r legal);
+}
+
+-- ---- superkeys
+pub superkey-from : (n : ℕ) (ds : List Dependency) (scheme k : Places) → Within k scheme → Implies n ds (fd k scheme) → IsSuperkey n ds scheme k
+superkey-from n ds scheme k inside implied = fd_on-from n ds scheme k scheme inside (λ (j : ℕ) m. m) implied
+
+-- a scheme is a superkey of itself
+pub scheme_superkey : (n : ℕ) (ds : List Dependency) (scheme : Places) → IsSuperkey n ds scheme scheme
+scheme_superkey n ds scheme = superkey-from n ds scheme scheme (λ (j : ℕ) m. m) (λ r legal. reflexivity_obeyed scheme scheme r (λ (j : ℕ) m. m))
+
+-- what holds a superkey is one
+pub superkey_more : (n : ℕ) (ds : List Dependency) (scheme j k : Places) → Within j k → Within k scheme → IsSuperkey n ds scheme j → IsSuperkey n ds scheme k
+superkey_more n ds scheme j k inside within superkey =
+    superkey-from n ds scheme k within (λ r legal. fd_weaker_obeyed j scheme k scheme r inside (λ (i : ℕ) m. m) (fd_on-to n ds scheme j scheme superkey r legal))
+
+-- ---- the settled key
+-- what stands where the attributes from m on have been tried
+abbrev tried_from : Places → Places → ℕ → Places
+tried_from scheme kept m k = cond (nat_lt k m) (scheme k) (kept k)
+
+tried_kept : (scheme k : Places) (m : ℕ) → k m ≡ true → Within (tried_from scheme k (m + 1)) (tried_from scheme k m)
+tried_kept scheme k m kept j h = elim (cases_eq j m) [
+    inl same ↦ let e : k j ≡ true = ap k same ∙ kept in grind (arith, nat_tests, e)
+    | inr other ↦ grind (arith, nat_tests) ]
+
+tried_outside : (scheme k : Places) (m : ℕ) → scheme m ≡ false → Within (tried_from scheme k (m + 1)) (tried_from scheme k m)
+tried_outside scheme k m outside j h = elim (cases_eq j m) [
+    inl same ↦ let e : scheme j ≡ false = ap scheme same ∙ outside in grind (arith, nat_tests, e)
+    | inr other ↦ grind (arith, nat_tests) ]
+
+-- it is a superkey at each step, down to the key itself
+tried_superkey : (n : ℕ) (ds : List Dependency) (scheme k : Places) → IsSettledKey n ds scheme k → Within scheme (below n) → (m left : ℕ) → m + left ≡ n → IsSuperkey n ds scheme (tried_from scheme k m)
+tried_superkey n ds scheme k settled low m zero e =
+    superkey_more n ds scheme scheme (tried_from scheme k m) (λ (j : ℕ) h. grind (arith, nat_tests, low j h)) (λ (j : ℕ) h. grind (arith, nat_tests, settled.within j)) (scheme_superkey n ds scheme)
+tried_superkey n ds scheme k settled low m (suc left) e =
+    let later = tried_superkey n ds scheme k settled low (m + 1) left (omega arith) in
+    let within : Within (tried_from scheme k m) scheme = λ (j : ℕ) h. grind (arith, nat_tests, settled.within j) in
+    elim (cases_Bool (k m)) [
+        inl kept ↦ superkey_more n ds scheme (tried_from scheme k (m + 1)) (tried_from scheme k m) (tried_kept scheme k m kept) within later
+        | inr left_out ↦ elim (cases_Bool (scheme m)) [
+            inl member ↦ superkey_more n ds scheme (left_beside scheme k m) (tried_from scheme k m) (λ (j : ℕ) h. grind (arith, nat_tests)) within ((settled.left_out m member).0 left_out)
+            | inr outside ↦ superkey_more n ds scheme (tried_from scheme k (m + 1)) (tried_from scheme k m) (tried_outside scheme k m outside) within later
+        ]
+    ]
+
+pub settled_is_key : (n : ℕ) (ds : List Dependency) (scheme k : Places) → Within scheme (below n) → IsSettledKey n ds scheme k → IsKey n ds scheme k
+settled_is_key n ds scheme k low settled = record {
+  superkey = superkey_more n ds scheme (tried_from scheme k 0) k (λ (j : ℕ) h. grind (arith, nat_tests)) settled.within (tried_superkey n ds scheme k settled low 0 n (omega arith));
+  minimal = λ j inside superkey a in_k. elim (cases_Bool (j a)) [
+      inl in_j ↦ in_j
+      | inr out ↦
+        let beside : Within j (left_beside scheme k a) = λ (i : ℕ) m. elim (cases_eq i a) [
+          inl same ↦ absurd (true≢false (sym m ∙ ap j same ∙ out))
+          | inr other ↦ grind (arith, nat_tests, inside i m, settled.within i (inside i m)) ] in
+        let more = superkey_more n ds scheme j (left_beside scheme k a) beside (λ (i : ℕ) h. grind (arith, nat_tests, settled.within i)) superkey in
+        absurd (true≢false (sym in_k ∙ (settled.left_out a (settled.within a in_k)).1 more))
+    ];
+}

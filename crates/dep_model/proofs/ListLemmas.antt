@@ -1,0 +1,25 @@
+-- Membership in the list of a function's values.
+use Rattle.std.proofs.Common.{◌≡◌, ℕ, ◌<◌, ◌+◌, zero, suc, List, [], ◌∷◌, length, map, get_or, refl, ap, ◌∙◌, arith}
+use Rattle.std.proofs.Math.ListN.{get_or-map}
+use Rattle.std.proofs.lemmas.List.{length-map}
+use Rattle.std.specs.Prelude.{Contains}
+
+pub Contains-map : {X Y : Type 0} (f : X → Y) (xs : List X) (x : X) → Contains xs x → Contains (map f xs) (f x)
+Contains-map f xs x h =
+    let short : h.0 < length (map f xs) = omega (arith, h.1, length-map xs f) in
+    (h.0, short, get_or-map f xs h.0 x ∙ ap f h.2)
+
+Contains-later : {X : Type 0} (x : X) (xs : List X) (y : X) → Contains xs y → Contains (x ∷ xs) y
+Contains-later x xs y h = (suc h.0, omega (arith, h.1), h.2)
+
+map-member_at : {X Y : Type 0} (f : X → Y) (xs : List X) (y : Y) (k : ℕ) → k < length (map f xs) → get_or (map f xs) k y ≡ y → (x : X) × Contains xs x × (f x ≡ y)
+map-member_at f [] y k l e = absurd (omega arith)
+map-member_at f (x ∷ xs) y zero l e = (x, (0, omega arith, refl), e)
+map-member_at f (x ∷ xs) y (suc k) l e =
+    let below : k < length (map f xs) = omega arith in
+    let w = map-member_at f xs y k below e in
+    (w.0, Contains-later x xs w.0 w.1, w.2)
+
+-- a value of the function stands for some member
+pub map-member : {X Y : Type 0} (f : X → Y) (xs : List X) (y : Y) → Contains (map f xs) y → (x : X) × Contains xs x × (f x ≡ y)
+map-member f xs y h = map-member_at f xs y h.0 h.1 h.2

@@ -1,0 +1,70 @@
+-- The two tuples that agree exactly on a set.
+use Rattle.std.proofs.Common.{◌≡◌, ℕ, ◌+◌, ◌<◌, ◌⊎◌, Bool, true, false, cond, List, [], ◌∷◌, length, map, get_or, refl, sym, ap, subst, ◌∙◌, inl, inr, arith}
+use Rattle.std.proofs.Math.ListN.{replicate}
+use Rattle.std.proofs.lemmas.Bool.{cases_Bool, true≢false}
+use Rattle.std.proofs.lemmas.List.{length-replicate, get_or-replicate}
+use Rattle.std.proofs.lemmas.List.FromFn.{length-map-range_with_len, get_or-map-range_with_len}
+use Rattle.std.specs.List.{range_with_len}
+use Rattle.std.proofs.lemmas.List.Elements.{All-nil, All-cons}
+use Rattle.attr_sets.specs.Places.{Places, below, union, minus, Within}
+use Rattle.dep_model.specs.Tuples.{Tuple, Relation, value_at, AgreeExactly, IsOver}
+use Rattle.dep_model.specs.Dependencies.{ObeysFd, ObeysMvd}
+use Rattle.dep_model.proofs.TwoRowLemmas.{fd_two-to, fd_two-from, mvd_two-to, mvd_two-from}
+use Rattle.dep_model.specs.TwoTuples.{zero_text, one_text, all_zeros, zeros_on, two_tuples}
+
+pub zero≢one : zero_text ≡ one_text → ⊥
+zero≢one e = absurd (omega (arith, ap (λ (bytes : List ℕ). get_or bytes 0 0) e))
+
+pub length-all_zeros : (n : ℕ) → length (all_zeros n) ≡ n
+unfolding all_zeros
+length-all_zeros n = length-replicate n zero_text
+
+pub length-zeros_on : (n : ℕ) (x : Places) → length (zeros_on n x) ≡ n
+unfolding zeros_on
+length-zeros_on n x = length-map-range_with_len (λ (k : ℕ). cond (x k) zero_text one_text) 0 n
+
+pub value_at-all_zeros : (n k : ℕ) → k < n → value_at (all_zeros n) k ≡ zero_text
+unfolding all_zeros
+value_at-all_zeros n k h = get_or-replicate n k zero_text [] h
+
+pub value_at-zeros_on : (n : ℕ) (x : Places) (k : ℕ) → k < n → value_at (zeros_on n x) k ≡ cond (x k) zero_text one_text
+unfolding zeros_on
+value_at-zeros_on n x k h = get_or-map-range_with_len (λ (j : ℕ). cond (x j) zero_text one_text) 0 n k k [] h (omega arith)
+
+-- they agree exactly on the set
+pub two_tuples-agree : (n : ℕ) (x : Places) → AgreeExactly n x (all_zeros n) (zeros_on n x)
+two_tuples-agree n x = record {
+  first = length-all_zeros n;
+  second = length-zeros_on n x;
+  equal = λ k h. elim (cases_Bool (x k)) [
+      inl in_x ↦ ((λ m. value_at-all_zeros n k h ∙ sym (value_at-zeros_on n x k h ∙ ap (λ (b : Bool). cond b zero_text one_text) in_x)), (λ e. in_x))
+      | inr out ↦ ((λ m. absurd (true≢false (sym m ∙ out))), (λ e. absurd (zero≢one (sym (value_at-all_zeros n k h) ∙ e ∙ value_at-zeros_on n x k h ∙ ap (λ (b : Bool). cond b zero_text one_text) out))))
+    ];
+}
+
+-- the relation that they form
+pub two_tuples-is : (n : ℕ) (x : Places) → two_tuples n x ≡ all_zeros n ∷ zeros_on n x ∷ []
+unfolding two_tuples
+two_tuples-is n x = refl
+
+pub two_tuples-over : (n : ℕ) (x : Places) → IsOver n (two_tuples n x)
+two_tuples-over n x = rw (two_tuples-is n x)
+    (All-cons (λ (t : Tuple). length t ≡ n) (all_zeros n) (zeros_on n x ∷ []) (length-all_zeros n)
+      (All-cons (λ (t : Tuple). length t ≡ n) (zeros_on n x) [] (length-zeros_on n x) (All-nil (λ (t : Tuple). length t ≡ n))))
+
+-- ---- what they obey
+pub two_tuples_fd-to : (n : ℕ) (a x y : Places) → Within x (below n) → Within y (below n) → ObeysFd x y (two_tuples n a) → Within x a → Within y a
+two_tuples_fd-to n a x y x_in y_in obeys =
+    fd_two-to n a x y (all_zeros n) (zeros_on n a) (two_tuples-agree n a) x_in y_in (subst (λ (r : Relation). ObeysFd x y r) (two_tuples-is n a) obeys)
+
+pub two_tuples_fd-from : (n : ℕ) (a x y : Places) → Within x (below n) → Within y (below n) → (Within x a → Within y a) → ObeysFd x y (two_tuples n a)
+two_tuples_fd-from n a x y x_in y_in gives =
+    rw (two_tuples-is n a) (fd_two-from n a x y (all_zeros n) (zeros_on n a) (two_tuples-agree n a) x_in y_in gives)
+
+pub two_tuples_mvd-to : (n : ℕ) (a x y : Places) → Within x (below n) → Within y (below n) → ObeysMvd (below n) x y (two_tuples n a) → Within x a → Within y a ⊎ Within (minus (below n) (union x y)) a
+two_tuples_mvd-to n a x y x_in y_in obeys =
+    mvd_two-to n a x y (all_zeros n) (zeros_on n a) (two_tuples-agree n a) x_in y_in (subst (λ (r : Relation). ObeysMvd (below n) x y r) (two_tuples-is n a) obeys)
+
+pub two_tuples_mvd-from : (n : ℕ) (a x y : Places) → Within x (below n) → Within y (below n) → (Within x a → Within y a ⊎ Within (minus (below n) (union x y)) a) → ObeysMvd (below n) x y (two_tuples n a)
+two_tuples_mvd-from n a x y x_in y_in gives =
+    rw (two_tuples-is n a) (mvd_two-from n a x y (all_zeros n) (zeros_on n a) (two_tuples-agree n a) x_in y_in gives)
