@@ -1,6 +1,8 @@
 -- The order of sets by their numbers is the order by the greatest place in which they differ.
 use Rattle.std.proofs.Common.{◌≡◌, ℕ, zero, suc, ◌/◌, ◌^◌, ◌<◌, ◌≤◌, Bool, true, false, pow-suc, refl, sym, ap, ◌∙◌, ◌⊎◌, inl, inr, ⊎_elim, arith}
+use Rattle.std.specs.Bool.{Decides}
 use Rattle.std.specs.Int.{bit_at}
+use Rattle.std.specs.Ordering.{is_lt, nat_cmp}
 use Rattle.std.proofs.lemmas.Bool.{cases_lt, cases_eq, cases_order, true≢false}
 use Rattle.std.proofs.lemmas.Bool.Decides.{nat_tests}
 use Rattle.std.proofs.lemmas.Nat.Bits.{bit_at_lowest, bit_at-suc, bit_at-lt, bit_at_above, same_from_bits}
@@ -67,6 +69,13 @@ before_from_lt a b b_fits less =
           (cases_lt k PLACES),
       λ j more. grind (arith, nat_tests, h.3 j more),
     )
+
+-- what `a < b` tells of two sets
+pub lt-decides : (a b : AttrSet) → a.0 < 2 ^ PLACES → b.0 < 2 ^ PLACES → Decides (is_lt (nat_cmp a.0 b.0)) (IsBefore (places a) (places b))
+lt-decides a b a_fits b_fits = (
+  λ less. before_from_lt a b b_fits (grind (arith, nat_tests, less)),
+  λ before. let less = lt_from_before a b a_fits b_fits before in grind (arith, nat_tests, less),
+)
 
 pub IsBefore-irrefl : (x : Places) → IsBefore x x → ⊥
 IsBefore-irrefl x before = true≢false (sym before.2 ∙ before.1)
