@@ -2,7 +2,11 @@
 use Rattle.std.proofs.Common.{◌≡◌, ℕ, zero, suc, ◌/◌, ◌^◌, ◌<◌, ◌≤◌, Bool, true, false, pow-suc, refl, sym, ap, ◌∙◌, ◌⊎◌, inl, inr, ⊎_elim, arith}
 use Rattle.std.specs.Bool.{Decides}
 use Rattle.std.specs.Int.{bit_at}
-use Rattle.std.specs.Ordering.{is_lt, nat_cmp}
+use Rattle.std.specs.Ordering.{is_lt, nat_cmp, MatchOrdering}
+use Rattle.std.specs.Cmp.{ranks}
+use Rattle.std.specs.declared.cmp.Ordering.{Ordering}
+use Rattle.std.specs.declared.cmp.Ordering.TheVariants.{Less, Equal, Greater}
+use Rattle.attr_sets.proofs.PlacesLemmas.{places-at_number}
 use Rattle.std.proofs.lemmas.Bool.{cases_lt, cases_eq, cases_order, true≢false}
 use Rattle.std.proofs.lemmas.Bool.Decides.{nat_tests}
 use Rattle.std.proofs.lemmas.Nat.Bits.{bit_at_lowest, bit_at-suc, bit_at-lt, bit_at_above, same_from_bits}
@@ -76,6 +80,17 @@ lt-decides a b a_fits b_fits = (
   λ less. before_from_lt a b b_fits (grind (arith, nat_tests, less)),
   λ before. let less = lt_from_before a b a_fits b_fits before in grind (arith, nat_tests, less),
 )
+
+in_each_order : {P Q R P' Q' R' : Type 0} (o : Ordering) → (P → P') → (Q → Q') → (R → R') → MatchOrdering o P Q R → MatchOrdering o P' Q' R'
+in_each_order Less less equal greater h = less h
+in_each_order Equal less equal greater h = equal h
+in_each_order Greater less equal greater h = greater h
+
+-- what `a.cmp(b)` tells of two sets
+pub cmp-order : (a b : AttrSet) → a.0 < 2 ^ PLACES → b.0 < 2 ^ PLACES
+    → MatchOrdering (nat_cmp a.0 b.0) (IsBefore (places a) (places b)) (Same (places a) (places b)) (IsBefore (places b) (places a))
+cmp-order a b a_fits b_fits =
+    in_each_order (nat_cmp a.0 b.0) (before_from_lt a b b_fits) (places-at_number a b) (before_from_lt b a a_fits) (ranks a.0 b.0)
 
 pub IsBefore-irrefl : (x : Places) → IsBefore x x → ⊥
 IsBefore-irrefl x before = true≢false (sym before.2 ∙ before.1)

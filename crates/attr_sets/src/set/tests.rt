@@ -42,6 +42,7 @@ fn looks_into_sets(rt: HostRuntime) {
 fn orders_sets_by_their_greatest_places(rt: HostRuntime) {
     assert!(rt; AttrSet::full(127) < AttrSet::single(127));
     assert!(rt; AttrSet(4) > AttrSet(3));
+    assert_eq!(rt; AttrSet(4).cmp(&AttrSet(3)), Ordering::Greater);
     assert!(rt; AttrSet(5) == AttrSet(1).with(2));
     assert!(rt; AttrSet(5) != AttrSet(4));
 }
