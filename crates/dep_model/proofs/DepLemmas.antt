@@ -1,5 +1,5 @@
 -- The dependencies of a list, one by one, and legality by them.
-use Rattle.std.proofs.Common.{◌≡◌, ℕ, ◌<◌, List, [], ◌∷◌, length, map, get_or, refl, arith}
+use Rattle.std.proofs.Common.{ℕ, List, [], ◌∷◌}
 use Rattle.std.specs.Prelude.{All}
 use Rattle.std.proofs.lemmas.List.Elements.{All-nil, All-cons, All-head, All-tail, All-map, All-filter}
 use Rattle.attr_sets.specs.Places.{Places}
@@ -7,7 +7,7 @@ use Rattle.attr_sets.specs.Sets.{places}
 use Rattle.dep_model.specs.declared.dep.Dep.{Dep}
 use Rattle.dep_model.specs.declared.dep.Dep.TheVariants.{Fd, Mvd}
 use Rattle.dep_model.specs.Tuples.{Relation, IsOver}
-use Rattle.dep_model.specs.Dependencies.{Dependency, fd, mvd, Obeys, ObeysFd, is_fd, functional_part}
+use Rattle.dep_model.specs.Dependencies.{Dependency, fd, Obeys, ObeysFd, is_fd, functional_part}
 use Rattle.dep_model.specs.Implication.{IsLegal}
 use Rattle.dep_model.specs.Deps.{dependency_of, dependencies_of}
 

@@ -1,12 +1,11 @@
 -- Superkeys, and the key that is left where attributes are tried from the last to the first.
-use Rattle.std.proofs.Common.{◌≡◌, ℕ, ◌+◌, ◌<◌, ◌≤◌, zero, suc, Bool, true, false, cond, List, refl, sym, ap, subst, ◌∙◌, inl, inr, arith}
+use Rattle.std.proofs.Common.{◌≡◌, ℕ, ◌+◌, zero, suc, true, false, cond, List, sym, ap, ◌∙◌, inl, inr, arith}
 use Rattle.std.proofs.lemmas.Bool.{cases_Bool, cases_eq, true≢false}
 use Rattle.std.proofs.lemmas.Bool.Decides.{nat_tests}
 use Rattle.std.specs.Prelude.{nat_lt}
-use Rattle.attr_sets.specs.Places.{Places, below, union, Within, Same}
-use Rattle.dep_model.specs.Tuples.{Relation}
-use Rattle.dep_model.specs.Dependencies.{Dependency, fd, ObeysFd}
-use Rattle.dep_model.specs.Implication.{IsLegal, Implies}
+use Rattle.attr_sets.specs.Places.{Places, below, Within}
+use Rattle.dep_model.specs.Dependencies.{Dependency, fd}
+use Rattle.dep_model.specs.Implication.{Implies}
 use Rattle.dep_model.specs.OnSchemes.{ImpliedOn}
 use Rattle.dep_model.specs.Keys.{IsSuperkey, IsKey, IsSettledKey, left_beside}
 use Rattle.dep_model.proofs.RuleLemmas.{reflexivity_obeyed, fd_weaker_obeyed}

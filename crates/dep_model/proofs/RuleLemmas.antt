@@ -1,12 +1,10 @@
 -- The rules of inference, each over every relation: Armstrong's for functional dependencies, and those
 -- of Beeri, Fagin and Howard (1977) for multivalued and mixed ones. Where a rule speaks of the
 -- universe, it is any scheme that holds the sets named.
-use Rattle.std.proofs.Common.{◌≡◌, ℕ, true, false, not, ◌&&◌, ◌||◌, List, [], ◌∷◌, refl, sym, ◌∙◌, inl, inr, ⊎_elim, arith}
+use Rattle.std.proofs.Common.{◌≡◌, ℕ, true, refl, sym, ◌∙◌, inl, inr, arith}
 use Rattle.std.proofs.lemmas.Bool.{or_cases, cases_Bool}
-use Rattle.std.proofs.lemmas.Bool.Decides.{nat_tests}
-use Rattle.std.specs.Prelude.{Contains}
 use Rattle.attr_sets.specs.Places.{Places, union, meet, minus, Within, Apart}
-use Rattle.dep_model.specs.Tuples.{Tuple, Relation, value_at, AgreeOn}
+use Rattle.dep_model.specs.Tuples.{Relation, AgreeOn}
 use Rattle.dep_model.specs.Dependencies.{ObeysFd, ObeysMvd}
 
 -- ---- functional dependencies

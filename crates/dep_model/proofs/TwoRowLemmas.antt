@@ -1,10 +1,10 @@
 -- What two tuples that agree exactly on a set obey.
-use Rattle.std.proofs.Common.{◌≡◌, ℕ, ◌<◌, zero, suc, ◌⊎◌, true, false, [], ◌∷◌, refl, sym, subst, inl, inr, ⊎_elim, arith, ◌∙◌}
+use Rattle.std.proofs.Common.{◌≡◌, ℕ, ◌<◌, zero, suc, ◌⊎◌, [], ◌∷◌, refl, sym, inl, inr, ⊎_elim, arith, ◌∙◌}
 use Rattle.std.specs.Prelude.{Contains, slice_index_or}
 use Rattle.std.proofs.lemmas.Bool.Decides.{nat_tests}
 use Rattle.std.proofs.lemmas.Bool.{or_cases}
 use Rattle.attr_sets.specs.Places.{Places, below, union, minus, Within}
-use Rattle.dep_model.specs.Tuples.{Tuple, Relation, value_at, AgreeOn, AgreeExactly}
+use Rattle.dep_model.specs.Tuples.{Tuple, Relation, AgreeOn, AgreeExactly}
 use Rattle.dep_model.specs.Dependencies.{ObeysFd, ObeysMvd}
 
 -- ---- membership in a relation of two tuples

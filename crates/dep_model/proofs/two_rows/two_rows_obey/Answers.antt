@@ -1,7 +1,6 @@
-use Rattle.std.proofs.Common.{◌≡◌, true, inl, inr, refl, ⊎_elim, arith}
+use Rattle.std.proofs.Common.{inr, refl, ⊎_elim, arith}
 use Rattle.std.proofs.lemmas.Bool.{false≢true}
-use Rattle.std.proofs.lemmas.Bool.Decides.{nat_tests}
-use Rattle.attr_sets.specs.Places.{Places, below, minus, union, Within}
+use Rattle.attr_sets.specs.Places.{below, minus, union, Within}
 use Rattle.attr_sets.specs.Sets.{places}
 use Rattle.dep_model.specs.Dependencies.{IsWithin, mvd}
 use Rattle.dep_model.proofs.TwoRowLemmas.{mvd_two-to, mvd_two-from}

@@ -1,4 +1,4 @@
-use Rattle.std.proofs.Common.{◌≡◌, ◌∙◌, ap, true, false, cond, Some, sym}
+use Rattle.std.proofs.Common.{◌∙◌, ap, cond, Some, sym}
 use Rattle.attr_sets.specs.Sets.{places}
 use Rattle.dep_model.specs.Schemas.{width_of}
 use Rattle.dep_model.specs.declared.column.Column.TheVariants.{Text, Integer}
