@@ -15,7 +15,8 @@ use dep_model::Dep;
 /// The attributes that `from` determines by the functional dependencies of a list (Maier 1983).
 /// Multivalued ones are passed over.
 pub fn closure(deps: &[Dep], from: AttrSet) -> AttrSet
-    ensures closure { (n : ℕ) → All (IsDepWithin (below n)) deps.now → Within (places from) (below n)
+    ensures closure { (n : ℕ) → All (IsDepWithin (below n)) deps.now
+        → Within (places from) (below n)
         → (a : ℕ) → (places result a ≡ true)
         ↔ InClosure n (functional_part (dependencies_of deps.now)) (places from) a }
 {
@@ -31,7 +32,8 @@ pub fn closure(deps: &[Dep], from: AttrSet) -> AttrSet
 
 /// Whether `lhs -> rhs` is implied by the functional dependencies of a list.
 pub fn follows(deps: &[Dep], lhs: AttrSet, rhs: AttrSet) -> bool
-    ensures implied { (n : ℕ) → All (IsDepWithin (below n)) deps.now → Within (places lhs) (below n) → Within (places rhs) (below n)
+    ensures implied { (n : ℕ) → All (IsDepWithin (below n)) deps.now
+        → Within (places lhs) (below n) → Within (places rhs) (below n)
         → IsTrue result
         ↔ Implies n (functional_part (dependencies_of deps.now)) (fd (places lhs) (places rhs)) }
 {
@@ -42,8 +44,10 @@ pub fn follows(deps: &[Dep], lhs: AttrSet, rhs: AttrSet) -> bool
 // each is tried once.
 fn with_right_sides(deps: &[Dep], closed: AttrSet) -> AttrSet
     ensures grows { Within (places closed) (places result) }
-    ensures within { (universe : Places) → All (IsDepWithin universe) deps.now → Within (places closed) universe → Within (places result) universe }
-    ensures implied { (n : ℕ) → Implies n (functional_part (dependencies_of deps.now)) (fd (places closed) (places result)) }
+    ensures within { (universe : Places) → All (IsDepWithin universe) deps.now
+        → Within (places closed) universe → Within (places result) universe }
+    ensures implied { (n : ℕ)
+        → Implies n (functional_part (dependencies_of deps.now)) (fd (places closed) (places result)) }
     ensures settled { Within (places result) (places closed)
         → IsSettled (functional_part (dependencies_of deps.now)) (places closed) }
 {
@@ -57,8 +61,10 @@ fn with_right_sides(deps: &[Dep], closed: AttrSet) -> AttrSet
 // The set with the right side of a functional dependency whose left side it holds.
 fn with_right_side(dep: Dep, closed: AttrSet) -> AttrSet
     ensures grows { Within (places closed) (places result) }
-    ensures within { (universe : Places) → IsDepWithin universe dep → Within (places closed) universe → Within (places result) universe }
-    ensures implied { (r : Relation) → IfFd (λ x y. ObeysFd x y r) dep → ObeysFd (places closed) (places result) r }
+    ensures within { (universe : Places) → IsDepWithin universe dep
+        → Within (places closed) universe → Within (places result) universe }
+    ensures implied { (r : Relation) → IfFd (λ x y. ObeysFd x y r) dep
+        → ObeysFd (places closed) (places result) r }
     ensures settled { IfFd (λ x y. Within x (places closed) → Within y (places result)) dep }
 {
     match dep {
