@@ -1,0 +1,7 @@
+use Rattle.std.proofs.Common.{◌≡◌, ◌<◌, ◌^◌, take}
+use Rattle.lexer.specs.Bytes.{number_of}
+use Rattle.lexer.proofs.Digits.{SoFar}
+use Rattle.lexer.proofs.bytes.number_of.Given as goal
+
+abbrev pub invariant-loop-digit : goal.invariant-loop-digit
+invariant-loop-digit l = SoFar l.run l.digit-index l.value
