@@ -12,7 +12,8 @@ use Rattle.lexer.specs.declared.token.Flaw.TheVariants as flaw
 use Rattle.lexer.specs.declared.token.Mode.{Mode}
 use Rattle.lexer.specs.declared.token.TokenKind.{TokenKind}
 use Rattle.lexer.specs.declared.token.TokenKind.TheVariants as token
-use Rattle.lexer.specs.Bytes.{is_gap, is_run, is_word, is_number, number_of, run_length}
+use Rattle.dep_model.specs.Names.{is_name, is_name_byte}
+use Rattle.lexer.specs.Bytes.{is_gap, is_number, number_of, run_length}
 use Rattle.lexer.specs.Pieces.{front, run_piece, takes_numbers, takes_comments}
 use Rattle.lexer.specs.Tokens.{lexed, led_by, led_by_mark, Lexed, Leads, IsBehind}
 
@@ -31,7 +32,7 @@ pub record LiesIn (text : List ℕ) (n : ℕ) : Type 0 where
 abbrev pub FitsPiece : List ℕ → Piece → Type 0
 FitsPiece text piece.Gap = Unit {0}
 FitsPiece text piece.Comment = Unit {0}
-FitsPiece text (piece.Token k n) = LiesIn text n × (k ≡ token.Word → is_word (take n text) ≡ true)
+FitsPiece text (piece.Token k n) = LiesIn text n × (k ≡ token.Word → is_name (take n text) ≡ true)
 FitsPiece text (piece.Flaw why n) = LiesIn text n
 
 either : (text : List ℕ) (b : Bool) (x y : Piece) → (b ≡ true → FitsPiece text x) → (b ≡ false → FitsPiece text y) → FitsPiece text (cond b x y)
@@ -40,8 +41,8 @@ either text false x y here there = there refl
 
 run_lies : (text : List ℕ) → 0 < run_length text → LiesIn text (length (take (run_length text) text))
 run_lies text h =
-    let same : length (take (run_length text) text) ≡ run_length text = length-prefix_len is_run text in
-    let within = prefix_len-le-length is_run text in record { some = omega arith; within = omega arith }
+    let same : length (take (run_length text) text) ≡ run_length text = length-prefix_len is_name_byte text in
+    let within = prefix_len-le-length is_name_byte text in record { some = omega arith; within = omega arith }
 
 abbrev number_piece : List ℕ → Piece
 number_piece text = piece.Token (token.Number (number_of (take (run_length text) text))) (length (take (run_length text) text))
@@ -53,8 +54,8 @@ run_fits : (m : Mode) (text : List ℕ) → 0 < run_length text → FitsPiece te
 unfolding run_piece
 run_fits m text h =
     let lies = run_lies text h in
-    let same : length (take (run_length text) text) ≡ run_length text = length-prefix_len is_run text in
-    either text (is_word (take (run_length text) text)) _ _
+    let same : length (take (run_length text) text) ≡ run_length text = length-prefix_len is_name_byte text in
+    either text (is_name (take (run_length text) text)) _ _
     (λ word. (lies, λ _. rw same word))
     (λ _. either text (takes_numbers m && is_number (take (run_length text) text)) (number_piece text) _ (λ _. number_fits text lies) (λ _. lies))
 
@@ -78,7 +79,7 @@ front_fits m [] h = absurd (omega arith)
 front_fits m (b ∷ bs) h =
     either (b ∷ bs) (is_gap b) _ _ (λ _. tt)
     (λ _. either (b ∷ bs) (b == 35 && takes_comments m) _ _ (λ _. tt)
-    (λ _. either (b ∷ bs) (is_run b) _ _ (λ run. run_fits m (b ∷ bs) (rw run (omega arith)))
+    (λ _. either (b ∷ bs) (is_name_byte b) _ _ (λ run. run_fits m (b ∷ bs) (rw run (omega arith)))
     (λ _. either (b ∷ bs) (starts_with nat_eq (b ∷ bs) (45 ∷ 62 ∷ 62 ∷ [])) _ _ (λ starts. arrow_fits (b ∷ bs) (45 ∷ 62 ∷ 62 ∷ []) token.DoubleArrow starts (lit< tt) (λ word. cc))
     (λ _. either (b ∷ bs) (starts_with nat_eq (b ∷ bs) (45 ∷ 62 ∷ [])) _ _ (λ starts. arrow_fits (b ∷ bs) (45 ∷ 62 ∷ []) token.Arrow starts (lit< tt) (λ word. cc))
     (λ _. either (b ∷ bs) (starts_with nat_eq (b ∷ bs) (40 ∷ 41 ∷ [])) _ _ (λ starts. arrow_fits (b ∷ bs) (40 ∷ 41 ∷ []) token.Empty starts (lit< tt) (λ word. cc))
@@ -138,7 +139,7 @@ pub lies_in : (m : Mode) (text : List ℕ) (k : TokenKind) (n : ℕ) → 0 < len
 lies_in m text k n h e =
     let fits : FitsPiece text (piece.Token k n) = subst (FitsPiece text) (sym e) (front_fits m text h) in fits.0
 
-pub is_a_word : (m : Mode) (text : List ℕ) (k : TokenKind) (n : ℕ) → 0 < length text → piece.Token k n ≡ front m text → k ≡ token.Word → is_word (take n text) ≡ true
+pub is_a_word : (m : Mode) (text : List ℕ) (k : TokenKind) (n : ℕ) → 0 < length text → piece.Token k n ≡ front m text → k ≡ token.Word → is_name (take n text) ≡ true
 is_a_word m text k n h e =
     let fits : FitsPiece text (piece.Token k n) = subst (FitsPiece text) (sym e) (front_fits m text h) in fits.1
 

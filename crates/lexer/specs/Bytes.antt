@@ -1,24 +1,15 @@
 use Rattle.std.specs.Prelude.{ℕ, ◌+◌, ◌*◌, ◌-◌, ◌==◌, Bool, false, ◌&&◌, ◌||◌, List, [], ◌∷◌, length, nat_lt, fold, take}
-use Rattle.std.specs.Char.{is_ascii_digit, is_ascii_alphabetic, is_ascii_alphanumeric}
+use Rattle.std.specs.Char.{is_ascii_digit}
 use Rattle.std.specs.List.{list_all, prefix_len}
+use Rattle.dep_model.specs.Names.{is_name_byte}
 
 -- a blank, a tab or a comma
 abbrev pub is_gap : ℕ → Bool
 is_gap b = (b == 32 || b == 9) || b == 44
 
--- a letter, a digit or `_`
-abbrev pub is_run : ℕ → Bool
-is_run b = is_ascii_alphanumeric b || b == 95
-
 -- how many letters, digits and `_` stand at the front
 abbrev pub run_length : List ℕ → ℕ
-run_length text = prefix_len is_run text
-
--- a letter, then letters, digits and `_`, at most 31 bytes in all
-unfoldable pub is_word : List ℕ → Bool
-is_word [] = false
-is_word (first ∷ others) =
-    (is_ascii_alphabetic first && nat_lt (length others) 31) && list_all is_run others
+run_length text = prefix_len is_name_byte text
 
 -- 1 to 9 digits
 unfoldable pub is_number : List ℕ → Bool

@@ -6,7 +6,8 @@ use Rattle.lexer.specs.declared.token.Flaw.TheVariants as flaw
 use Rattle.lexer.specs.declared.token.Mode.{Mode}
 use Rattle.lexer.specs.declared.token.Mode.TheVariants as mode
 use Rattle.lexer.specs.declared.token.TokenKind.TheVariants as token
-use Rattle.lexer.specs.Bytes.{is_gap, is_run, run_length, is_word, is_number, number_of}
+use Rattle.dep_model.specs.Names.{is_name, is_name_byte}
+use Rattle.lexer.specs.Bytes.{is_gap, run_length, is_number, number_of}
 
 -- whether numbers and `:` are tokens
 abbrev pub takes_numbers : Mode → Bool
@@ -23,7 +24,7 @@ takes_comments mode.Numbered = true
 -- what a run of letters, digits and `_` is
 unfoldable pub run_piece : Mode → List ℕ → Piece
 run_piece m run =
-    if is_word run then piece.Token token.Word (length run)
+    if is_name run then piece.Token token.Word (length run)
     else if takes_numbers m && is_number run then piece.Token (token.Number (number_of run)) (length run)
     else piece.Flaw flaw.BadName (length run)
 
@@ -34,7 +35,7 @@ front m [] = piece.Comment
 front m (b ∷ bs) =
     if is_gap b then piece.Gap
     else if (b == 35) && takes_comments m then piece.Comment
-    else if is_run b then run_piece m (take (run_length (b ∷ bs)) (b ∷ bs))
+    else if is_name_byte b then run_piece m (take (run_length (b ∷ bs)) (b ∷ bs))
     else if starts_with nat_eq (b ∷ bs) (45 ∷ 62 ∷ 62 ∷ []) then piece.Token token.DoubleArrow 3
     else if starts_with nat_eq (b ∷ bs) (45 ∷ 62 ∷ []) then piece.Token token.Arrow 2
     else if starts_with nat_eq (b ∷ bs) (40 ∷ 41 ∷ []) then piece.Token token.Empty 2

@@ -8,7 +8,7 @@ use Rattle.lexer.specs.declared.token.Stop.{Stop}
 use Rattle.lexer.specs.declared.token.Token.{Token}
 use Rattle.lexer.specs.declared.token.TokenKind.{TokenKind}
 use Rattle.lexer.specs.declared.token.TokenKind.TheVariants as token
-use Rattle.lexer.specs.Bytes.{is_word}
+use Rattle.dep_model.specs.Names.{is_name}
 use Rattle.lexer.specs.Pieces.{front}
 
 -- a token with its bytes
@@ -54,7 +54,7 @@ token_of m = record { kind = m.kind; column = m.column; length = length m.word }
 pub record Leads (m : Mode) (t : Token) (word rest : List ℕ) (all : Lexed) : Type 0 where
   pub all_tokens : all ≡ led_by_mark (record { kind = t.kind; column = t.column; word = word }) (lexed m 0 (t.column + t.length) rest)
   pub same_length : t.length ≡ length word
-  pub is_a_word : t.kind ≡ token.Word → is_word word ≡ true
+  pub is_a_word : t.kind ≡ token.Word → is_name word ≡ true
 
 -- what comes next is the first of these tokens, or why there is none
 abbrev pub GoesOn : Mode → Next → Lexed → Type 0

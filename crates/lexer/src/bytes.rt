@@ -1,7 +1,8 @@
 ghost use Rattle.std.specs.Prelude.{◌≡◌, IsTrue};
 ghost use Rattle.std.specs.Char.{is_ascii_digit};
 ghost use Rattle.std.specs.List.{list_all};
-ghost use Rattle.lexer.specs.Bytes.{is_gap, is_run, is_word, is_number, number_of, run_length};
+ghost use Rattle.dep_model.specs.Names.{is_name_byte};
+ghost use Rattle.lexer.specs.Bytes.{is_gap, is_number, number_of, run_length};
 
 /// Whether a byte only separates tokens: a blank, a tab or a comma.
 pub fn is_gap(byte: u8) -> bool
@@ -10,9 +11,9 @@ pub fn is_gap(byte: u8) -> bool
     matches!(byte, b' ' | b'\t' | b',')
 }
 
-/// Whether a byte may stand in a word: a letter, a digit or `_`, all ASCII.
+/// Whether a byte may stand in a name: a letter, a digit or `_`, all ASCII.
 pub fn is_run(byte: u8) -> bool
-    ensures run { result ≡ is_run byte }
+    ensures run { result ≡ is_name_byte byte }
 {
     byte.is_ascii_alphanumeric() || byte == b'_'
 }
@@ -22,25 +23,6 @@ pub fn run_length(text: &[u8]) -> usize
     ensures length { result ≡ run_length text.now }
 {
     text.iter().take_while(|byte| is_run(**byte)).count()
-}
-
-/// Whether a run is a word: a letter, then letters, digits and `_`, at most 31 bytes in all.
-#[tactic(auto, unfolding(crate::specs::Bytes::is_word))]
-pub fn is_word(run: &[u8]) -> bool
-    ensures word { result ≡ is_word run.now }
-{
-    match run.split_first() {
-        None => false,
-        Some((first, others)) => {
-            first.is_ascii_alphabetic() && others.len() < 31 && are_run(others)
-        }
-    }
-}
-
-fn are_run(bytes: &[u8]) -> bool
-    ensures run { result ≡ list_all is_run bytes.now }
-{
-    bytes.iter().all(|byte| is_run(*byte))
 }
 
 /// Whether a run is a number: 1 to 9 digits.

@@ -1,7 +1,9 @@
 ghost use Rattle.std.specs.Prelude.{◌≡◌, ◌<◌, ◌≤◌, length};
 ghost use Rattle.lexer.specs.Pieces.{front, run_piece};
 
-use crate::bytes::{is_gap, is_number, is_run, is_word, number_of, run_length};
+use dep_model::Name;
+
+use crate::bytes::{is_gap, is_number, is_run, number_of, run_length};
 use crate::token::{Flaw, Mode, TokenKind};
 
 /// What stands at the front of a text.
@@ -48,7 +50,7 @@ pub fn front(mode: Mode, text: &[u8]) -> Piece
 fn run_piece(mode: Mode, run: &[u8]) -> Piece
     ensures exact { result ≡ run_piece mode run.now }
 {
-    if is_word(run) {
+    if Name::make(run).is_some() {
         Piece::Token(TokenKind::Word, run.len())
     } else if mode.takes_numbers() && is_number(run) {
         Piece::Token(TokenKind::Number(number_of(run)), run.len())
