@@ -1,0 +1,14 @@
+//! Schema texts and goals, read by their grammar and printed in one form.
+//!
+//! `read_schema` and `read_goal` give the value that a text means, or refuse it at the first place
+//! where it goes wrong, and there for the reason of the least number.
+#![tactic(auto)]
+
+mod goal;
+mod refusal;
+mod stage;
+mod words;
+
+pub use goal::read_goal;
+pub use lexer::{Token, TokenKind};
+pub use refusal::{SchemaRefusal, SchemaRefusalKind, Span, What};
