@@ -1,3 +1,4 @@
 pub mod Grammar
+pub mod Reading
 pub mod Refusals
 pub mod Words

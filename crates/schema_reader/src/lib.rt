@@ -9,6 +9,6 @@ mod refusal;
 mod stage;
 mod words;
 
-pub use goal::read_goal;
+pub use goal::{MOST_GOAL_BYTES, read_goal};
 pub use lexer::{Token, TokenKind};
 pub use refusal::{SchemaRefusal, SchemaRefusalKind, Span, What};

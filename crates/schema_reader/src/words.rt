@@ -70,6 +70,7 @@ pub fn place_among(names: &[Name], word: &[u8]) -> Option<usize>
 pub fn look_up(names: &Names<'_>, format: Format, word: &[u8]) -> Result<u8, SchemaRefusalKind>
     requires { length (names_in names.now) ≤ PLACES }
     ensures exact { result ≡ looked_up format (names_in names.now) word.now }
+    ensures declared { IfOk result (λ place. place < length (names_in names.now)) }
 {
     if is_reserved(format, word) {
         return Err(SchemaRefusalKind::ReservedName);
