@@ -8,7 +8,7 @@ use Rattle.schema_reader.specs.declared.refusal.SchemaRefusal.{SchemaRefusal}
 use Rattle.schema_reader.specs.declared.refusal.SchemaRefusalKind.{SchemaRefusalKind}
 use Rattle.schema_reader.specs.declared.words.Format.{Format}
 use Rattle.schema_reader.specs.Grammar.{Reading, finished}
-use Rattle.schema_reader.specs.Refusals.{refused_by, refusal, at, expecting, then}
+use Rattle.schema_reader.specs.Refusals.{refused_by, refusal, at, expecting, and_then}
 use Rattle.schema_reader.specs.Reading.{follow, follow_lexed, step}
 
 -- to follow what is left of a line is to follow the whole

@@ -1,1 +1,5 @@
+pub mod DependencyLemmas
 pub mod FollowLemmas
+pub mod ListLemmas
+pub mod RefusalLemmas
+pub mod WithinLemmas

@@ -1,3 +1,4 @@
+pub mod Declarations
 pub mod Grammar
 pub mod Reading
 pub mod Refusals

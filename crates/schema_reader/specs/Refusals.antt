@@ -20,13 +20,10 @@ kind_of_flaw flaw.BadName = kind.BadName
 abbrev pub refused_by : ℕ → Stop → SchemaRefusal
 refused_by line stop = refusal line stop.column stop.length (kind_of_flaw stop.flaw)
 
-abbrev pub memory_refusal : SchemaRefusal
-memory_refusal = refusal 0 0 0 kind.Memory
-
 -- what follows a value, and nothing after an error
-abbrev pub then : {X Y E : Type 0} → Result X E → (X → Result Y E) → Result Y E
-then (Ok x) next = next x
-then (Err e) next = Err e
+abbrev pub and_then : {X Y E : Type 0} → Result X E → (X → Result Y E) → Result Y E
+and_then (Ok x) next = next x
+and_then (Err e) next = Err e
 
 -- an error gets its place
 abbrev pub at : {X : Type 0} → ℕ → ℕ → ℕ → Result X SchemaRefusalKind → Result X SchemaRefusal

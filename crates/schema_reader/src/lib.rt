@@ -4,6 +4,7 @@
 //! where it goes wrong, and there for the reason of the least number.
 #![tactic(auto)]
 
+mod draft;
 mod goal;
 mod refusal;
 mod stage;

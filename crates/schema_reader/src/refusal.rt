@@ -1,5 +1,5 @@
 ghost use Rattle.std.specs.Prelude.{◌≡◌};
-ghost use Rattle.schema_reader.specs.Refusals.{refusal, refused_by, memory_refusal};
+ghost use Rattle.schema_reader.specs.Refusals.{refusal, refused_by};
 
 use std::alloc::{AllocError, AllocFailed};
 
@@ -87,30 +87,24 @@ impl SchemaRefusal {
         };
         SchemaRefusal::at(line, stop.column, stop.length, kind)
     }
-
-    fn memory() -> SchemaRefusal
-        ensures refusal { result ≡ memory_refusal }
-    {
-        SchemaRefusal::at(0, 0, 0, SchemaRefusalKind::Memory)
-    }
 }
 
-impl From<AllocError> for SchemaRefusal {
-    ghost use Rattle.schema_reader.specs.Refusals.{memory_refusal};
+impl From<AllocError> for SchemaRefusalKind {
+    ghost use Rattle.schema_reader.specs.declared.refusal.SchemaRefusalKind.TheVariants.{Memory};
 
-    ghost from_gives = { λ _ e. e ≡ memory_refusal };
+    ghost from_gives = { λ _ e. e ≡ Memory };
 
     fn from(_error: AllocError) -> Self {
-        SchemaRefusal::memory()
+        SchemaRefusalKind::Memory
     }
 }
 
-impl<T: Drop> From<AllocFailed<T>> for SchemaRefusal {
-    ghost use Rattle.schema_reader.specs.Refusals.{memory_refusal};
+impl<T: Drop> From<AllocFailed<T>> for SchemaRefusalKind {
+    ghost use Rattle.schema_reader.specs.declared.refusal.SchemaRefusalKind.TheVariants.{Memory};
 
-    ghost from_gives = { λ _ e. e ≡ memory_refusal };
+    ghost from_gives = { λ _ e. e ≡ Memory };
 
     fn from(_error: AllocFailed<T>) -> Self {
-        SchemaRefusal::memory()
+        SchemaRefusalKind::Memory
     }
 }

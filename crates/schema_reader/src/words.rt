@@ -1,9 +1,10 @@
 ghost use Rattle.std.specs.Prelude.{◌≡◌, ◌<◌, ◌≤◌, length, IfOk};
 ghost use Rattle.dep_model.specs.Schemas.{place_named};
-ghost use Rattle.schema_reader.specs.Words.{is_reserved, names_in, looked_up};
+ghost use Rattle.schema_reader.specs.Words.{is_reserved, names_in, looked_up, declares, declaring};
 
 use attr_sets::PLACES;
-use dep_model::{Name, Schema};
+use dep_model::{Column, Name, Schema};
+use lexer::TokenKind;
 
 use crate::refusal::SchemaRefusalKind;
 
@@ -78,5 +79,37 @@ pub fn look_up(names: &Names<'_>, format: Format, word: &[u8]) -> Result<u8, Sch
     match place_of(names, word) {
         Some(place) => Ok(place),
         None => Err(SchemaRefusalKind::UnknownName),
+    }
+}
+
+/// The type of the columns that a line declares, where its first token is a declaring word.
+#[tactic(auto, unfolding(crate::specs::Words::declares))]
+pub fn declares(format: Format, kind: TokenKind, word: &[u8]) -> Option<Column>
+    ensures exact { result ≡ declares format kind word.now }
+{
+    match kind {
+        TokenKind::Word => declaring(format, word),
+        _ => None,
+    }
+}
+
+#[tactic(auto, unfolding(crate::specs::Words::declaring))]
+fn declaring(format: Format, word: &[u8]) -> Option<Column>
+    ensures exact { result ≡ declaring format word.now }
+{
+    if word == b"attributes".as_slice() {
+        return Some(Column::Text);
+    }
+    match format {
+        Format::Plain => None,
+        Format::Typed => {
+            if word == b"text".as_slice() {
+                Some(Column::Text)
+            } else if word == b"integer".as_slice() {
+                Some(Column::Integer)
+            } else {
+                None
+            }
+        }
     }
 }
