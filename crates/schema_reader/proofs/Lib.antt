@@ -2,4 +2,6 @@ pub mod DependencyLemmas
 pub mod FollowLemmas
 pub mod ListLemmas
 pub mod RefusalLemmas
+pub mod SoundLemmas
+pub mod TextLemmas
 pub mod WithinLemmas

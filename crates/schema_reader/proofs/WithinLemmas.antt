@@ -93,10 +93,10 @@ finished_within u (behind s x) h = tt
 finished_within u (right s x y) h = stated_within u s x y h.0 h.1
 finished_within u (right_empty s x) h = stated_within u s x none h (none_within u)
 
-pub then_ok : {X Y E : Type 0} (P : X → Type 0) (Q : Y → Type 0) (r : Result X E) (f : X → Result Y E)
+pub and_then_ok : {X Y E : Type 0} (P : X → Type 0) (Q : Y → Type 0) (r : Result X E) (f : X → Result Y E)
     → IfOk r P → ((x : X) → P x → IfOk (f x) Q) → IfOk (and_then r f) Q
-then_ok P Q (Ok x) f h g = g x h
-then_ok P Q (Err e) f h g = tt
+and_then_ok P Q (Ok x) f h g = g x h
+and_then_ok P Q (Err e) f h g = tt
 
 pub at_ok : {X : Type 0} (P : X → Type 0) (line column size : ℕ) (r : Result X SchemaRefusalKind) → IfOk r P → IfOk (at line column size r) P
 at_ok P line column size (Ok x) h = h
@@ -122,12 +122,12 @@ looked_up_within f declared word = both (is_reserved f word) (place_named declar
     both false None h = tt
     both false (Some a) h = h
 
-step_within : (f : Format) (declared : List (List ℕ)) (reading : Reading) (k : TokenKind) (word : List ℕ)
+pub step_within : (f : Format) (declared : List (List ℕ)) (reading : Reading) (k : TokenKind) (word : List ℕ)
     → IsReadingWithin (below (length declared)) reading → IfOk (step f declared reading k word) (IsReadingWithin (below (length declared)))
 unfolding step
 step_within f declared reading token.Word word h =
-    then_ok (IsSymbolWithin (below (length declared))) (IsReadingWithin (below (length declared))) _ _
-    (then_ok (λ a. a < length declared) (IsSymbolWithin (below (length declared))) (looked_up f declared word) _ (looked_up_within f declared word) (λ a h. lt-ltb a (length declared) h))
+    and_then_ok (IsSymbolWithin (below (length declared))) (IsReadingWithin (below (length declared))) _ _
+    (and_then_ok (λ a. a < length declared) (IsSymbolWithin (below (length declared))) (looked_up f declared word) _ (looked_up_within f declared word) (λ a h. lt-ltb a (length declared) h))
     (λ s inside. expecting_ok (IsReadingWithin (below (length declared))) _ (turn_within (below (length declared)) reading s h inside))
 step_within f declared reading token.Arrow word h = expecting_ok (IsReadingWithin (below (length declared))) _ (turn_within (below (length declared)) reading (symbol.Arrow sign.Functional) h tt)
 step_within f declared reading token.DoubleArrow word h = expecting_ok (IsReadingWithin (below (length declared))) _ (turn_within (below (length declared)) reading (symbol.Arrow sign.Multivalued) h tt)
@@ -142,6 +142,6 @@ unfolding follow
 follow_within f declared line reading column [] None h = at_ok (IsWithin (below (length declared))) line column 0 _ (expecting_ok (IsWithin (below (length declared))) _ (finished_within (below (length declared)) reading h))
 follow_within f declared line reading column [] (Some stop) h = tt
 follow_within f declared line reading column (m ∷ ms) stop h =
-    then_ok (IsReadingWithin (below (length declared))) (IsWithin (below (length declared))) _ _
+    and_then_ok (IsReadingWithin (below (length declared))) (IsWithin (below (length declared))) _ _
     (at_ok (IsReadingWithin (below (length declared))) line m.column (length m.word) _ (step_within f declared reading m.kind m.word h))
     (λ next inside. follow_within f declared line next (m.column + length m.word) ms stop inside)

@@ -2,4 +2,5 @@ pub mod Declarations
 pub mod Grammar
 pub mod Reading
 pub mod Refusals
+pub mod Texts
 pub mod Words

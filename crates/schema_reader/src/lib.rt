@@ -8,8 +8,10 @@ mod draft;
 mod goal;
 mod refusal;
 mod stage;
+mod text;
 mod words;
 
 pub use goal::{MOST_GOAL_BYTES, read_goal};
 pub use lexer::{Token, TokenKind};
+pub use text::{MOST_TEXT_BYTES, read_schema};
 pub use refusal::{SchemaRefusal, SchemaRefusalKind, Span, What};
