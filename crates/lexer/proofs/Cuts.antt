@@ -1,9 +1,9 @@
-use Rattle.std.proofs.Common.{◌≡◌, ◌<◌, ◌≤◌, ◌+◌, ◌-◌, ◌==◌, ℕ, Bool, true, false, not, cond, List, [], ◌∷◌, length, take, drop, get_or, arith, ap, sym, ◌∙◌, refl, nat_eq, length-drop}
+use Rattle.std.proofs.Common.{◌≡◌, ◌<◌, ◌≤◌, ◌+◌, ◌-◌, ℕ, Bool, true, false, not, cond, List, [], ◌∷◌, length, take, drop, get_or, arith, ap, sym, ◌∙◌, refl, nat_eq, length-drop}
 use Rattle.std.proofs.lemmas.List.Elements.{All-from_get_or}
-use Rattle.std.proofs.lemmas.List.Sums.{prefix_len_passes, prefix_len-le-length}
+use Rattle.std.proofs.lemmas.List.Sums.{prefix_len_passes}
 use Rattle.std.proofs.lemmas.List.Splits.{slice_split_none, slice_split_first}
 use Rattle.std.proofs.lemmas.List.{drop-drop, length-take, length-take-le}
-use Rattle.std.specs.List.{slice_split, ends_with, prefix_len, position_or_len, before_first, after_first, onto_first}
+use Rattle.std.specs.List.{slice_split, ends_with, position_or_len, before_first, after_first, onto_first}
 use Rattle.lexer.specs.Lines.{is_line_feed, line_texts, without_return, without_returns, CutsAt, IsLastLine}
 
 pub record IsCons (xs : List (List ℕ)) : Type 0 where

@@ -1,4 +1,4 @@
-use Rattle.std.proofs.Common.{◌≡◌, ◌<◌, ◌≤◌, ◌+◌, ◌-◌, ◌^◌, ℕ, zero, suc, Bool, true, false, cond, Option, None, Some, List, [], ◌∷◌, length, take, drop, nat_eq, arith, add-zero, add-one, sym, ◌∙◌, ap, subst, refl, length-drop, length-append, lit<, not, ◌==◌, ◌&&◌}
+use Rattle.std.proofs.Common.{◌≡◌, ◌<◌, ◌≤◌, ◌+◌, ◌-◌, ℕ, zero, suc, Bool, true, false, cond, None, Some, List, [], ◌∷◌, length, take, drop, nat_eq, arith, add-zero, sym, ◌∙◌, ap, subst, refl, length-append, lit<, ◌==◌, ◌&&◌}
 use Rattle.std.proofs.lemmas.Bool.Decides.{Decides-eqb, nat_tests}
 use Rattle.std.proofs.lemmas.List.Folds.{length-prefix_len}
 use Rattle.std.proofs.lemmas.List.Sums.{prefix_len-le-length}
@@ -8,14 +8,13 @@ use Rattle.std.specs.List.{starts_with}
 use Rattle.lexer.specs.declared.piece.Piece.{Piece}
 use Rattle.lexer.specs.declared.piece.Piece.TheVariants as piece
 use Rattle.lexer.specs.declared.token.Flaw.{Flaw}
-use Rattle.lexer.specs.declared.token.Flaw.TheVariants as flaw
 use Rattle.lexer.specs.declared.token.Mode.{Mode}
 use Rattle.lexer.specs.declared.token.TokenKind.{TokenKind}
 use Rattle.lexer.specs.declared.token.TokenKind.TheVariants as token
 use Rattle.dep_model.specs.Names.{is_name, is_name_byte}
 use Rattle.lexer.specs.Bytes.{is_gap, is_number, number_of, run_length}
 use Rattle.lexer.specs.Pieces.{front, run_piece, takes_numbers, takes_comments}
-use Rattle.lexer.specs.Tokens.{lexed, led_by, led_by_mark, Lexed, Leads, IsBehind}
+use Rattle.lexer.specs.Tokens.{lexed, led_by_mark, Leads, IsBehind}
 
 -- only gaps stand before what is left of the text
 pub record IsReached (m : Mode) (start : ℕ) (text : List ℕ) (column : ℕ) (rest : List ℕ) : Type 0 where

@@ -1,4 +1,4 @@
-use Rattle.std.specs.Prelude.{◌≡◌, ◌<◌, ◌≤◌, ℕ, ◌-◌, ◌==◌, Bool, Option, None, Some, List, [], ◌∷◌, length, take, drop, nat_eq, cond, if◌then◌else◌}
+use Rattle.std.specs.Prelude.{◌≡◌, ◌<◌, ◌≤◌, ℕ, ◌-◌, ◌==◌, Bool, Option, None, Some, List, [], ◌∷◌, length, take, drop, nat_eq, if◌then◌else◌}
 use Rattle.std.specs.List.{starts_with, ends_with, slice_split}
 use denote.Ref.{Bor}
 

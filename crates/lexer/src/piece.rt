@@ -1,10 +1,9 @@
 ghost use Rattle.std.specs.Prelude.{◌≡◌, ◌<◌, ◌≤◌, length};
 ghost use Rattle.lexer.specs.Pieces.{front, run_piece};
 
-use dep_model::Name;
-
 use crate::bytes::{is_gap, is_number, is_run, number_of, run_length};
 use crate::token::{Flaw, Mode, TokenKind};
+use dep_model::Name;
 
 /// What stands at the front of a text.
 #[derive(Clone, Copy)]

@@ -105,10 +105,22 @@ pub fn next_token(mode: Mode, column: u32, text: &[u8]) -> Next<'_>
             Piece::Comment => return Next::End,
             Piece::Token(kind, length) => {
                 let (word, behind) = rest.split_at(length);
-                return Next::Token(Token { kind, column, length: length as u32 }, word, behind);
+                return Next::Token(
+                    Token {
+                        kind,
+                        column,
+                        length: length as u32,
+                    },
+                    word,
+                    behind,
+                );
             }
             Piece::Flaw(flaw, length) => {
-                return Next::Stop(Stop { flaw, column, length: length as u32 });
+                return Next::Stop(Stop {
+                    flaw,
+                    column,
+                    length: length as u32,
+                });
             }
         }
     }

@@ -1,4 +1,4 @@
-use Rattle.std.proofs.Common.{◌≡◌, ◌+◌, ℕ, List, length, Ok, Err, Result, refl, sym, ◌∙◌, ap}
+use Rattle.std.proofs.Common.{◌≡◌, ◌+◌, ℕ, List, length, Ok, Err, refl, sym}
 use Rattle.dep_model.specs.Dependencies.{Dependency}
 use Rattle.lexer.specs.declared.token.Token.{Token}
 use Rattle.lexer.specs.Tokens.{Lexed}
@@ -8,7 +8,7 @@ use Rattle.schema_reader.specs.declared.words.Format.{Format}
 use Rattle.schema_reader.specs.Grammar.{Reading}
 use Rattle.schema_reader.specs.Declarations.{Declarations, dependency_line, dependency_lexed, begin, add_dependency, marked}
 use Rattle.schema_reader.specs.Reading.{follow_lexed}
-use Rattle.schema_reader.specs.Refusals.{refusal, at, and_then}
+use Rattle.schema_reader.specs.Refusals.{refusal}
 
 pub begin_refused : (f : Format) (line : ℕ) (d : Declarations) (t : Token) (word : List ℕ) (l : Lexed) (why : SchemaRefusalKind)
     → t.length ≡ length word → begin f d t.kind word ≡ Err why

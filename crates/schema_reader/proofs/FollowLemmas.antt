@@ -1,14 +1,12 @@
-use Rattle.std.proofs.Common.{◌≡◌, ◌<◌, ◌≤◌, ◌+◌, ◌^◌, ℕ, List, [], ◌∷◌, length, Option, Some, None, Ok, Err, Result, refl, sym, ◌∙◌, ap}
-use Rattle.dep_model.specs.Dependencies.{Dependency}
+use Rattle.std.proofs.Common.{◌≡◌, ◌<◌, ◌+◌, ◌^◌, ℕ, List, [], length, Some, None, Ok, Err, refl, sym}
 use Rattle.lexer.specs.declared.token.Mode.{Mode}
 use Rattle.lexer.specs.declared.token.Stop.{Stop}
 use Rattle.lexer.specs.declared.token.Token.{Token}
-use Rattle.lexer.specs.Tokens.{Lexed, lexed, led_by_mark, Leads}
-use Rattle.schema_reader.specs.declared.refusal.SchemaRefusal.{SchemaRefusal}
+use Rattle.lexer.specs.Tokens.{Lexed, lexed, Leads}
 use Rattle.schema_reader.specs.declared.refusal.SchemaRefusalKind.{SchemaRefusalKind}
 use Rattle.schema_reader.specs.declared.words.Format.{Format}
 use Rattle.schema_reader.specs.Grammar.{Reading, finished}
-use Rattle.schema_reader.specs.Refusals.{refused_by, refusal, at, expecting, and_then}
+use Rattle.schema_reader.specs.Refusals.{refused_by, refusal, at, expecting}
 use Rattle.schema_reader.specs.Reading.{follow, follow_lexed, step}
 
 -- to follow what is left of a line is to follow the whole

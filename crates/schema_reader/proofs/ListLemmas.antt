@@ -1,16 +1,15 @@
-use Rattle.std.proofs.Common.{◌≡◌, ◌<◌, ◌≤◌, ◌+◌, ◌^◌, ℕ, Bool, true, false, List, [], ◌∷◌, length, Option, Some, None, Ok, Err, Result, refl, sym, ◌∙◌, ap}
+use Rattle.std.proofs.Common.{◌≡◌, ◌<◌, ◌+◌, ◌^◌, ℕ, Bool, true, false, List, [], length, Some, None, Ok, Err, refl, sym}
 use Rattle.dep_model.specs.declared.column.Column.{Column}
 use Rattle.lexer.specs.declared.token.Mode.TheVariants as mode
 use Rattle.lexer.specs.declared.token.Stop.{Stop}
 use Rattle.lexer.specs.declared.token.Token.{Token}
-use Rattle.lexer.specs.Tokens.{Lexed, lexed, led_by_mark, Leads}
-use Rattle.schema_reader.specs.declared.refusal.SchemaRefusal.{SchemaRefusal}
+use Rattle.lexer.specs.Tokens.{Lexed, lexed, Leads}
 use Rattle.schema_reader.specs.declared.refusal.SchemaRefusalKind.{SchemaRefusalKind}
 use Rattle.schema_reader.specs.declared.refusal.SchemaRefusalKind.TheVariants as kind
 use Rattle.schema_reader.specs.declared.refusal.What.TheVariants as what
 use Rattle.schema_reader.specs.declared.words.Format.{Format}
 use Rattle.schema_reader.specs.Declarations.{Declarations, list_names, list_names_lexed, name_step}
-use Rattle.schema_reader.specs.Refusals.{refused_by, refusal, at, and_then}
+use Rattle.schema_reader.specs.Refusals.{refused_by, refusal}
 
 -- to read what is left of a declaring line is to read the whole
 pub record Lists (f : Format) (column : Column) (line : ℕ) (first : Declarations) (start : ℕ) (text : List ℕ) (d : Declarations) (some : Bool) (behind : ℕ) (rest : List ℕ) : Type 0 where

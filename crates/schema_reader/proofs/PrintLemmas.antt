@@ -1,12 +1,11 @@
-use Rattle.std.proofs.Common.{◌≡◌, ◌<◌, ◌≤◌, ◌+◌, ℕ, zero, suc, Bool, true, false, cond, List, [], ◌∷◌, ◌++◌, length, take, drop, refl, sym, ◌∙◌, ap, subst, arith, append_assoc, add-one, drop-cons, get_or, Option, Some, None}
-use Rattle.std.specs.List.{slice_get, flat_map, list_any}
+use Rattle.std.proofs.Common.{◌≡◌, ◌<◌, ◌≤◌, ◌+◌, ℕ, zero, suc, Bool, true, false, cond, List, [], ◌∷◌, ◌++◌, length, take, drop, refl, sym, ◌∙◌, ap, subst, arith, append_assoc, add-one, drop-cons, get_or, Some}
+use Rattle.std.specs.List.{slice_get, list_any}
 use Rattle.std.proofs.lemmas.List.Folds.{list_any_at, list_any_more}
 use Rattle.std.proofs.lemmas.Option.{slice_get_within}
 use Rattle.std.proofs.lemmas.List.{append-nil}
 use Rattle.std.specs.Prelude.{map, codes}
 use Rattle.attr_sets.specs.Places.{Places}
 use Rattle.dep_model.specs.declared.column.Column.{Column}
-use Rattle.dep_model.specs.declared.column.Column.TheVariants.{Text, Integer}
 use Rattle.schema_reader.specs.Printing.{words_text, members_from, side_text, set_text, runs_of, in_front, run_line, lines_text, type_word, same_column, is_integer, Run}
 
 -- what is still to print of a set, where a name stood before or not
@@ -52,7 +51,7 @@ pub set_outside : (names : List (List ℕ)) (x : Places) (before text next : Lis
     → PrintsSet names x before text some k → k < length names → false ≡ x k → next ≡ text → more ≡ some → PrintsSet names x before next more (k + 1)
 set_outside names x before text next some more k prints h out same_text same_some = record {
   same = let rest : drop k names ≡ get_or names k [] ∷ drop (k + 1) names = rw (add-one, drop-cons names k []) refl in
-    let outside : x k ≡ false = sym out in let old = prints.same in rw (same_text, same_some) (rw (rest, outside) at old);
+      let outside : x k ≡ false = sym out in let old = prints.same in rw (same_text, same_some) (rw (rest, outside) at old);
 }
 
 pub set_inside : (names : List (List ℕ)) (x : Places) (before text next : List ℕ) (some more : Bool) (k : ℕ) (name : List ℕ)
@@ -95,8 +94,8 @@ joined c d name rest runs led = rw led.whole (split (same_column c d) refl)
       others = record { column = d; names = led.names } ∷ led.others;
       whole = refl;
       text =
-        let inner : ((type_word d ++ words_text led.names) ++ 10 ∷ []) ++ lines_text (map run_line led.others) ≡ type_word d ++ (words_text led.names ++ 10 ∷ lines_text (map run_line led.others)) = simp append_assoc in
-        rw (append-nil name) (rw (inner, led.text) refl);
+          let inner : ((type_word d ++ words_text led.names) ++ 10 ∷ []) ++ lines_text (map run_line led.others) ≡ type_word d ++ (words_text led.names ++ 10 ∷ lines_text (map run_line led.others)) = simp append_assoc in
+          rw (append-nil name) (rw (inner, led.text) refl);
     }
 
 cond_append : (b : Bool) (x y z : List ℕ) → cond b x y ++ z ≡ cond b (x ++ z) (y ++ z)
@@ -132,7 +131,7 @@ pub runs_more : (columns : List Column) (names : List (List ℕ)) (before text n
     → next ≡ text ++ cond (same_column last c) (32 ∷ name) (10 ∷ (type_word c ++ 32 ∷ name)) → PrintsRuns columns names before next c (k + 1)
 runs_more columns names before text next last c k name prints its_type its_name added = record {
   same = let types = at_place columns k c its_type in let rest = at_place names k name its_name in let old = prints.same in
-    rw added (rw append_assoc (rw (types, rest) at old));
+      rw added (rw append_assoc (rw (types, rest) at old));
 }
 
 pub names_more : (names : List (List ℕ)) (text next whole : List ℕ) (k : ℕ) (name : List ℕ) → text ++ words_text (drop k names) ≡ whole

@@ -3,7 +3,6 @@ use Rattle.std.specs.Result.{IfOk, IfErr, OnOk}
 use Rattle.schema_reader.specs.declared.refusal.SchemaRefusal.{SchemaRefusal}
 use Rattle.schema_reader.specs.declared.refusal.SchemaRefusalKind.{SchemaRefusalKind}
 use Rattle.schema_reader.specs.declared.refusal.SchemaRefusalKind.TheVariants as kind
-use Rattle.schema_reader.specs.declared.refusal.What.{What}
 use Rattle.schema_reader.specs.Refusals.{refusal, Refuses, RefusesAs}
 
 pub RefusesAs-from : (k : SchemaRefusalKind) (P : Type 0) → P → RefusesAs k P

@@ -17,7 +17,7 @@ use Rattle.dep_model.specs.declared.column.Column.TheVariants.{Text, Integer}
 use Rattle.dep_model.specs.declared.dep.Dep.{Dep}
 use Rattle.dep_model.specs.declared.schema.TheConstants.{MOST_DEPENDENCIES}
 use Rattle.dep_model.specs.Dependencies.{Dependency, IsWithin, left_of, right_of}
-use Rattle.dep_model.specs.Deps.{dependency_of, dependencies_of, IsDepWithin}
+use Rattle.dep_model.specs.Deps.{dependency_of, dependencies_of}
 use Rattle.dep_model.specs.Names.{same_name, is_type_name}
 use Rattle.dep_model.specs.Schemas.{place_named}
 use Rattle.dep_model.specs.Validity.{IsSchema, AreColumns}
@@ -32,9 +32,8 @@ use Rattle.schema_reader.specs.declared.words.Format.{Format}
 use Rattle.schema_reader.specs.declared.words.Format.TheVariants as format
 use Rattle.schema_reader.specs.Declarations.{Declarations, no_declaration, declare, add_name, add_dependency, name_step, list_names, begin, dependency_line, line_from, line_of_marks, read_line}
 use Rattle.schema_reader.specs.Grammar.{Reading, start}
-use Rattle.schema_reader.specs.Refusals.{at, and_then, refusal}
-use Rattle.schema_reader.specs.Reading.{follow}
-use Rattle.schema_reader.specs.Texts.{finish, read_lines, read_opening, read_text, read_typed, opened, end_version, version_number, read_version, is_version, number_in}
+use Rattle.schema_reader.specs.Refusals.{refusal}
+use Rattle.schema_reader.specs.Texts.{finish, read_lines, read_opening, read_typed, opened, end_version, version_number, read_version, is_version, number_in}
 use Rattle.schema_reader.specs.declared.text.TheConstants.{VERSION}
 use Rattle.schema_reader.specs.Words.{is_reserved, is_common_word, declares, declaring}
 use Rattle.schema_reader.proofs.WithinLemmas.{IsReadingWithin, and_then_ok, at_ok, step_within, follow_within}
@@ -130,7 +129,7 @@ name_sound f column d word h sound free new few =
       names_differ = AllPairs-more (λ a b. same_name a b ≡ false) d.names word sound.names_differ (no_name d.names word new);
       few_deps = sound.few_deps;
       deps_within = λ k e below_k. let inside = sound.deps_within k e below_k in
-        (wider (length d.names) (length (d.names ++ word ∷ [])) (left_of (get_or d.deps k e)) (omega arith) inside.0, wider (length d.names) (length (d.names ++ word ∷ [])) (right_of (get_or d.deps k e)) (omega arith) inside.1);
+          (wider (length d.names) (length (d.names ++ word ∷ [])) (left_of (get_or d.deps k e)) (omega arith) inside.0, wider (length d.names) (length (d.names ++ word ∷ [])) (right_of (get_or d.deps k e)) (omega arith) inside.1);
       one_line_each = sound.one_line_each;
       one_column_each = let same = sound.one_column_each in omega arith;
       fits = name_fits f column d word h free sound.fits;
@@ -277,9 +276,10 @@ opened_whole : (number : ℕ) (line : List ℕ) (lines : List (List ℕ)) (later
 opened_whole number line lines later [] None h = h
 opened_whole number line lines later [] (Some stop) h = lines_whole format.Plain number no_declaration (line ∷ lines) (nothing_sound format.Plain)
 opened_whole number line lines later (m ∷ ms) stop h =
-    elim (is_version m.kind m.word) as (λ b. IfOk (if b then read_typed number lines (m.column + length m.word) (record { marks = ms; stop = stop }) else read_lines format.Plain number no_declaration (line ∷ lines)) IsWhole)
-    [ true ↦ typed_whole number lines (m.column + length m.word) (record { marks = ms; stop = stop })
-    | false ↦ lines_whole format.Plain number no_declaration (line ∷ lines) (nothing_sound format.Plain) ]
+    elim (is_version m.kind m.word) as (λ b. IfOk (if b then read_typed number lines (m.column + length m.word) (record { marks = ms; stop = stop }) else read_lines format.Plain number no_declaration (line ∷ lines)) IsWhole) [
+      | true ↦ typed_whole number lines (m.column + length m.word) (record { marks = ms; stop = stop })
+      | false ↦ lines_whole format.Plain number no_declaration (line ∷ lines) (nothing_sound format.Plain)
+    ]
 
 pub opening_whole : (number : ℕ) (lines : List (List ℕ)) → IfOk (read_opening number lines) IsWhole
 unfolding read_opening

@@ -1,4 +1,4 @@
-use Rattle.std.proofs.Common.{◌≡◌, ◌<◌, ◌≤◌, ◌+◌, ◌-◌, ◌^◌, ℕ, Bool, true, false, List, [], ◌∷◌, length, Option, Some, None, Ok, Err, Result, refl, sym, ◌∙◌, ap, arith, subst, ◌≢◌, ◌==◌}
+use Rattle.std.proofs.Common.{◌≡◌, ◌<◌, ◌≤◌, ◌+◌, ◌-◌, ◌^◌, ℕ, true, false, List, [], ◌∷◌, length, Option, Some, None, Ok, Err, refl, sym, ◌∙◌, ap, arith, subst, ◌≢◌, ◌==◌}
 use Rattle.attr_sets.specs.declared.set.TheConstants.{PLACES}
 use Rattle.lexer.specs.declared.token.Mode.TheVariants as mode
 use Rattle.lexer.specs.declared.token.Stop.{Stop}
@@ -13,7 +13,7 @@ use Rattle.schema_reader.specs.declared.text.TheConstants.{MOST_TEXT_BYTES, VERS
 use Rattle.schema_reader.specs.declared.words.Format.{Format}
 use Rattle.schema_reader.specs.declared.words.Format.TheVariants as format
 use Rattle.schema_reader.specs.Declarations.{Declarations, no_declaration, read_line}
-use Rattle.schema_reader.specs.Refusals.{and_then, refusal, refused_by}
+use Rattle.schema_reader.specs.Refusals.{refusal, refused_by}
 use Rattle.std.proofs.lemmas.Bool.Decides.{nat_tests}
 use Rattle.dep_model.specs.declared.dep.Dep.{Dep}
 use Rattle.dep_model.specs.declared.schema.Schema.{Schema}
@@ -21,7 +21,7 @@ use Rattle.dep_model.specs.Deps.{dependencies_of}
 use Rattle.dep_model.specs.Schemas.{names_of, columns_of, deps_of, lines_of, theory_of}
 use Rattle.schema_reader.specs.declared.refusal.SchemaRefusalKind.TheVariants as kind
 use Rattle.schema_reader.specs.declared.refusal.What.TheVariants as what
-use Rattle.schema_reader.specs.Texts.{read_lines, read_opening, read_typed, finish, opened, is_version, read_version, read_version_lexed, end_version_lexed, number_in, lines_after, declarations_of}
+use Rattle.schema_reader.specs.Texts.{read_lines, read_opening, read_typed, finish, is_version, read_version, read_version_lexed, end_version_lexed, number_in, lines_after, declarations_of}
 
 -- to read the lines that are left is to read all of them
 pub record Reads (f : Format) (first : ℕ) (text : List ℕ) (d : Declarations) (number : ℕ) (rest : List ℕ) : Type 0 where

@@ -1,4 +1,4 @@
-use Rattle.std.proofs.Common.{◌≡◌, ◌<◌, ◌≤◌, ◌+◌, ℕ, Bool, true, false, cond, List, [], ◌∷◌, length, Option, Some, None, Ok, Err, Result, refl, sym, ◌∙◌, ap, arith, ◌||◌, ◌==◌, lt-ltb}
+use Rattle.std.proofs.Common.{◌≡◌, ◌<◌, ◌+◌, ℕ, Bool, true, false, cond, List, [], ◌∷◌, length, Option, Some, None, Ok, Err, Result, refl, ◌∙◌, ap, ◌||◌, ◌==◌, lt-ltb}
 use Rattle.std.specs.Result.{IfOk}
 use Rattle.std.specs.Option.{IfSome}
 use Rattle.std.proofs.lemmas.Bool.{eqb-true}
@@ -6,13 +6,12 @@ use Rattle.std.proofs.lemmas.List.Quantifiers.{position-Some}
 use Rattle.dep_model.specs.Names.{same_name}
 use Rattle.schema_reader.specs.declared.refusal.SchemaRefusalKind.TheVariants as kind
 use Rattle.attr_sets.specs.Places.{Places, Within, below, only, none, union}
-use Rattle.dep_model.specs.Dependencies.{Dependency, IsWithin}
+use Rattle.dep_model.specs.Dependencies.{IsWithin}
 use Rattle.dep_model.specs.Schemas.{place_named}
 use Rattle.lexer.specs.declared.token.Stop.{Stop}
 use Rattle.lexer.specs.declared.token.TokenKind.{TokenKind}
 use Rattle.lexer.specs.declared.token.TokenKind.TheVariants as token
 use Rattle.lexer.specs.Tokens.{Mark}
-use Rattle.schema_reader.specs.declared.refusal.SchemaRefusal.{SchemaRefusal}
 use Rattle.schema_reader.specs.declared.refusal.SchemaRefusalKind.{SchemaRefusalKind}
 use Rattle.schema_reader.specs.declared.refusal.What.{What}
 use Rattle.schema_reader.specs.declared.stage.Sign.{Sign}
@@ -22,7 +21,7 @@ use Rattle.schema_reader.specs.declared.stage.Symbol.TheVariants as symbol
 use Rattle.schema_reader.specs.declared.words.Format.{Format}
 use Rattle.schema_reader.specs.Grammar.{Reading, start, left, left_empty, behind, right, right_empty, turn, finished, stated}
 use Rattle.schema_reader.specs.Refusals.{at, expecting, and_then}
-use Rattle.schema_reader.specs.Reading.{follow, step, symbol_of}
+use Rattle.schema_reader.specs.Reading.{follow, step}
 use Rattle.schema_reader.specs.Words.{is_reserved, looked_up, known}
 
 -- the sets that are read lie within a set

@@ -5,16 +5,14 @@ ghost use Rattle.lexer.specs.Tokens.{lexed};
 ghost use Rattle.schema_reader.specs.Grammar.{reading_of};
 ghost use Rattle.schema_reader.specs.Refusals.{Refuses, RefusesAs};
 
-use std::alloc::Global;
-
-use attr_sets::PLACES;
-use dep_model::{Column, Dep, MOST_DEPENDENCIES, Name};
-use lexer::{Mode, Next, Token, TokenKind, next_token};
-
 use crate::goal::{follow, step};
 use crate::refusal::{SchemaRefusal, SchemaRefusalKind, What};
 use crate::stage::Stage;
 use crate::words::{Format, Names, declares, is_reserved, place_among};
+use attr_sets::PLACES;
+use dep_model::{Column, Dep, MOST_DEPENDENCIES, Name};
+use lexer::{Mode, Next, Token, TokenKind, next_token};
+use std::alloc::Global;
 
 /// What a schema text declares, as far as it is read.
 #[derive(Drop)]
@@ -82,7 +80,12 @@ impl Draft {
                     return if some {
                         Ok(())
                     } else {
-                        Err(SchemaRefusal::at(line, behind, 0, SchemaRefusalKind::Expected(What::Name)))
+                        Err(SchemaRefusal::at(
+                            line,
+                            behind,
+                            0,
+                            SchemaRefusalKind::Expected(What::Name),
+                        ))
                     };
                 }
                 Next::Stop(stop) => return Err(SchemaRefusal::by(line, stop)),
@@ -117,17 +120,18 @@ impl Draft {
     {
         match kind {
             TokenKind::Word => self.declare(format, column, word),
-            _ => Err(SchemaRefusalKind::Expected(if some {
-                What::LineEnd
-            } else {
-                What::Name
-            })),
+            _ => Err(SchemaRefusalKind::Expected(if some { What::LineEnd } else { What::Name })),
         }
     }
 
     /// Declares a name.
     #[tactic(auto, unfolding(crate::specs::Declarations::declare))]
-    fn declare(&mut self, format: Format, column: Column, word: &[u8]) -> Result<(), SchemaRefusalKind>
+    fn declare(
+        &mut self,
+        format: Format,
+        column: Column,
+        word: &[u8],
+    ) -> Result<(), SchemaRefusalKind>
         requires { is_name word.now ≡ true }
         ensures ok { OnOk result (declare format column (drafted self.old) word.now ≡ Ok (drafted self.new)) }
         ensures err { IfErr result (λ why. RefusesAs why (declare format column (drafted self.old) word.now ≡ Err why)) }
@@ -187,12 +191,23 @@ impl Draft {
     /// Where the first token of a dependency line leads. A token that the line can't begin with is
     /// refused before one dependency too many.
     #[tactic(auto, unfolding(crate::specs::Declarations::begin))]
-    fn begin(&self, format: Format, kind: TokenKind, word: &[u8]) -> Result<Stage, SchemaRefusalKind>
+    fn begin(
+        &self,
+        format: Format,
+        kind: TokenKind,
+        word: &[u8],
+    ) -> Result<Stage, SchemaRefusalKind>
         requires { length (drafted self.now).names ≤ PLACES }
         ensures ok { IfOk result (λ stage. begin format (drafted self.now) kind word.now ≡ Ok (reading_of stage)) }
         ensures err { IfErr result (λ why. begin format (drafted self.now) kind word.now ≡ Err why) }
     {
-        let stage = step(&Names::Listed(&self.names), format, Stage::Start, kind, word)?;
+        let stage = step(
+            &Names::Listed(&self.names),
+            format,
+            Stage::Start,
+            kind,
+            word,
+        )?;
         if self.deps.len() >= MOST_DEPENDENCIES {
             return Err(SchemaRefusalKind::TooManyDependencies);
         }

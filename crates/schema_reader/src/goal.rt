@@ -8,13 +8,12 @@ ghost use Rattle.schema_reader.specs.Reading.{symbol_of, step, follow_lexed, rea
 ghost use Rattle.schema_reader.specs.Refusals.{at, expecting};
 ghost use Rattle.schema_reader.specs.Words.{names_in};
 
-use attr_sets::PLACES;
-use dep_model::{Dep, Schema};
-use lexer::{Mode, Next, TokenKind, next_token};
-
 use crate::refusal::{SchemaRefusal, SchemaRefusalKind};
 use crate::stage::{Sign, Stage, Symbol, finish, turn};
 use crate::words::{Format, Names, look_up};
+use attr_sets::PLACES;
+use dep_model::{Dep, Schema};
+use lexer::{Mode, Next, TokenKind, next_token};
 
 /// The most bytes of a goal.
 pub const MOST_GOAL_BYTES: usize = 16_384;
@@ -28,7 +27,15 @@ pub fn read_goal(schema: &Schema, text: &[u8]) -> Result<Dep, SchemaRefusal>
     ensures ok { IfOk result (λ dep. read_goal (names_of schema.now) text.now ≡ Ok (dependency_of dep)) }
     ensures err { IfErr result (λ refusal. read_goal (names_of schema.now) text.now ≡ Err refusal) }
 {
-    follow(&Names::Of(schema), Format::Plain, Mode::Goal, 1, Stage::Start, 1, text)
+    follow(
+        &Names::Of(schema),
+        Format::Plain,
+        Mode::Goal,
+        1,
+        Stage::Start,
+        1,
+        text,
+    )
 }
 
 /// The dependency that the tokens of a line from here on state.
@@ -55,7 +62,12 @@ pub fn follow(
             Next::Stop(stop) => return Err(SchemaRefusal::by(line, stop)),
             Next::Token(token, word, behind) => {
                 match step(names, format, stage, token.kind, word) {
-                    Err(kind) => return Err(SchemaRefusal::at(line, token.column, token.length, kind)),
+                    Err(kind) => return Err(SchemaRefusal::at(
+                        line,
+                        token.column,
+                        token.length,
+                        kind,
+                    )),
                     Ok(next) => {
                         stage = next;
                         column = token.column + token.length;

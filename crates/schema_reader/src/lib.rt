@@ -14,6 +14,6 @@ mod words;
 
 pub use goal::{MOST_GOAL_BYTES, read_goal};
 pub use lexer::{Token, TokenKind};
-pub use text::{MOST_TEXT_BYTES, read_schema};
 pub use print::{print_dep, print_deps, print_schema, print_set};
 pub use refusal::{SchemaRefusal, SchemaRefusalKind, Span, What};
+pub use text::{MOST_TEXT_BYTES, read_schema};

@@ -6,10 +6,9 @@ ghost use Rattle.dep_model.specs.Deps.{dependency_of, dependencies_of, IsDepWith
 ghost use Rattle.dep_model.specs.Schemas.{names_of, columns_of, theory_of, universe_of};
 ghost use Rattle.schema_reader.specs.Printing.{set_text, dependency_text, declared_text, declaring_lines, lines_text, words_text, run_line, runs_of, type_word, same_column, is_integer};
 
-use std::alloc::Global;
-
 use attr_sets::AttrSet;
 use dep_model::{Column, Dep, Schema, WantMemory};
+use std::alloc::Global;
 
 /// The schema in the one form: the lines that declare its attributes, and a line for each dependency.
 /// Where no name is reserved and the text is short enough to be read, it means the same schema.
@@ -95,11 +94,7 @@ fn add_set(text: &mut Vec<u8>, schema: &Schema, set: AttrSet) -> Result<(), Want
             some = true;
         }
     }
-    if some {
-        Ok(())
-    } else {
-        add(text, b"()")
-    }
+    if some { Ok(()) } else { add(text, b"()") }
 }
 
 /// A name; behind a blank where another one stands before it.
@@ -173,7 +168,12 @@ fn add_runs(text: &mut Vec<u8>, schema: &Schema) -> Result<(), WantMemory>
 }
 
 /// An attribute behind one with a column of type `last`: in the same line where it has the same type.
-fn add_behind(text: &mut Vec<u8>, last: Column, column: Column, name: &[u8]) -> Result<(), WantMemory>
+fn add_behind(
+    text: &mut Vec<u8>,
+    last: Column,
+    column: Column,
+    name: &[u8],
+) -> Result<(), WantMemory>
     ensures added { OnOk result (text.new.items ≡ text.old.items ++ (if same_column last column then 32 ∷ name.now else 10 ∷ (type_word column ++ 32 ∷ name.now))) }
 {
     if is_integer(column) == is_integer(last) {

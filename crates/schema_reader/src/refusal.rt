@@ -1,9 +1,8 @@
 ghost use Rattle.std.specs.Prelude.{◌≡◌};
 ghost use Rattle.schema_reader.specs.Refusals.{refusal, refused_by};
 
-use std::alloc::{AllocError, AllocFailed};
-
 use lexer::{Flaw, Stop};
+use std::alloc::{AllocError, AllocFailed};
 
 /// A place in a text: its line and column, from 1, and how many bytes it has. Columns count bytes.
 #[derive(Clone, Copy, Debug, PartialEq, Eq, Hash)]

@@ -4,10 +4,9 @@ ghost use Rattle.attr_sets.specs.Sets.{places};
 ghost use Rattle.dep_model.specs.Deps.{dependency_of};
 ghost use Rattle.schema_reader.specs.Grammar.{turn, finished, stated, reading_of, IsPlaced};
 
+use crate::refusal::What;
 use attr_sets::{AttrSet, PLACES};
 use dep_model::Dep;
-
-use crate::refusal::What;
 
 /// Which arrow a dependency has.
 #[derive(Clone, Copy, Debug, PartialEq, Eq)]

@@ -5,14 +5,12 @@ ghost use Rattle.schema_reader.specs.Declarations.{drafted, no_declaration};
 ghost use Rattle.schema_reader.specs.Refusals.{Refuses};
 ghost use Rattle.schema_reader.specs.Texts.{finish, is_version, number_in, end_version_lexed, read_lines, read_version_lexed, read_typed, read_opening, read_text, declarations_of, lines_after, AreFew};
 
-use std::alloc::Global;
-
-use dep_model::Schema;
-use lexer::{Mode, Next, TokenKind, cut_line, next_token, without_mark};
-
 use crate::draft::Draft;
 use crate::refusal::{SchemaRefusal, SchemaRefusalKind, What};
 use crate::words::Format;
+use dep_model::Schema;
+use lexer::{Mode, Next, TokenKind, cut_line, next_token, without_mark};
+use std::alloc::Global;
 
 /// The most bytes of a schema text.
 pub const MOST_TEXT_BYTES: usize = 1_048_576;
@@ -160,7 +158,12 @@ fn is_version(kind: TokenKind, word: &[u8]) -> bool
 }
 
 /// Reads lines, of which the first has this number, into nothing that is declared before.
-fn read_lines(alloc: Global, format: Format, number: u32, text: &[u8]) -> Result<Draft, SchemaRefusal>
+fn read_lines(
+    alloc: Global,
+    format: Format,
+    number: u32,
+    text: &[u8],
+) -> Result<Draft, SchemaRefusal>
     requires { number + length text.now < 2 ^ 31 }
     ensures ok { IfOk result (λ draft. read_lines format number no_declaration (line_texts text.now) ≡ Ok (drafted draft)) }
     ensures err { IfErr result (λ refusal. Refuses refusal (read_lines format number no_declaration (line_texts text.now))) }

@@ -2,11 +2,10 @@ ghost use Rattle.std.specs.Prelude.{◌≡◌, ◌<◌, ◌≤◌, length, IfOk}
 ghost use Rattle.dep_model.specs.Schemas.{place_named};
 ghost use Rattle.schema_reader.specs.Words.{is_reserved, names_in, looked_up, declares, declaring};
 
+use crate::refusal::SchemaRefusalKind;
 use attr_sets::PLACES;
 use dep_model::{Column, Name, Schema};
 use lexer::TokenKind;
-
-use crate::refusal::SchemaRefusalKind;
 
 /// How a schema text is read: as one without a version line, or as one with it. Goals are read as
 /// lines of a text without one.
@@ -27,9 +26,7 @@ pub fn is_reserved(format: Format, word: &[u8]) -> bool
     match format {
         Format::Plain => is_common,
         Format::Typed => {
-            is_common
-                || word.eq_ignore_ascii_case(b"integer")
-                || word.eq_ignore_ascii_case(b"text")
+            is_common || word.eq_ignore_ascii_case(b"integer") || word.eq_ignore_ascii_case(b"text")
         }
     }
 }

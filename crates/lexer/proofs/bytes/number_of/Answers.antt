@@ -1,5 +1,5 @@
-use Rattle.std.proofs.Common.{arith, sym, refl}
-use Rattle.lexer.proofs.Digits.{IsDigit, digit_at, few, more, bounded}
+use Rattle.std.proofs.Common.{arith}
+use Rattle.lexer.proofs.Digits.{digit_at, few, more, bounded}
 use Rattle.lexer.proofs.bytes.number_of.Goals as goal
 
 pub overflow_sub-digit : goal.overflow_sub-digit

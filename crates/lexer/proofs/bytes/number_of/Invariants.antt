@@ -1,5 +1,3 @@
-use Rattle.std.proofs.Common.{◌≡◌, ◌<◌, ◌^◌, take}
-use Rattle.lexer.specs.Bytes.{number_of}
 use Rattle.lexer.proofs.Digits.{SoFar}
 use Rattle.lexer.proofs.bytes.number_of.Given as goal
 

@@ -1,6 +1,6 @@
-use Rattle.std.proofs.Common.{◌≡◌, ◌<◌, length, arith, sym, ◌∙◌, ap, refl, drop, ◌+◌}
-use Rattle.lexer.specs.Tokens.{IsBehind, lexed}
-use Rattle.lexer.proofs.Steps.{IsReached, is_some, is_none, after_gap, at_comment, at_end, at_flaw, at_token, lies_in, is_a_word, flaw_lies_in, token_leads, token_behind}
+use Rattle.std.proofs.Common.{arith, sym, ◌∙◌, ap, ◌+◌}
+use Rattle.lexer.specs.Tokens.{lexed}
+use Rattle.lexer.proofs.Steps.{is_some, is_none, after_gap, at_comment, at_end, at_flaw, lies_in, flaw_lies_in, token_leads, token_behind}
 use Rattle.lexer.proofs.token.next_token.Goals as goal
 
 pub pieces-preserved : goal.pieces-preserved

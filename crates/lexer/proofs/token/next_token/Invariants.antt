@@ -1,5 +1,4 @@
-use Rattle.std.proofs.Common.{◌≡◌, ◌≤◌, ◌+◌, length}
-use Rattle.lexer.specs.Tokens.{lexed}
+use Rattle.std.proofs.Common.{length}
 use Rattle.lexer.proofs.Steps.{IsReached}
 use Rattle.lexer.proofs.token.next_token.Given as goal
 

@@ -3,7 +3,7 @@ use Rattle.std.specs.Result.{IfOk, IfErr}
 use Rattle.dep_model.specs.Dependencies.{Dependency}
 use Rattle.dep_model.specs.Deps.{dependency_of}
 use Rattle.schema_reader.specs.declared.refusal.SchemaRefusal.{SchemaRefusal}
-use Rattle.schema_reader.proofs.FollowLemmas.{GoesOn, at_end, at_stop, at_refused, at_token}
+use Rattle.schema_reader.proofs.FollowLemmas.{at_end, at_stop, at_refused, at_token}
 use Rattle.schema_reader.proofs.goal.follow.Goals as goal
 
 pub returns-in-End-clause-ok : goal.returns-in-End-clause-ok

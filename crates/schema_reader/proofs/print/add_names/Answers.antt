@@ -1,4 +1,4 @@
-use Rattle.std.proofs.Common.{◌≡◌, sym, ◌∙◌, ap, Some, arith, append_assoc, ◌++◌, ◌∷◌, []}
+use Rattle.std.proofs.Common.{sym, ◌∙◌, ap, Some, append_assoc, ◌++◌, ◌∷◌, []}
 use Rattle.dep_model.specs.Schemas.{names_of}
 use Rattle.schema_reader.proofs.PrintLemmas.{names_more}
 use Rattle.schema_reader.proofs.print.add_names.Goals as goal

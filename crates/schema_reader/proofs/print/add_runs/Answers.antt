@@ -1,6 +1,6 @@
-use Rattle.std.proofs.Common.{◌≡◌, sym, ◌∙◌, ap, Some, arith}
+use Rattle.std.proofs.Common.{sym, ◌∙◌, ap, Some}
 use Rattle.dep_model.specs.Schemas.{names_of, columns_of}
-use Rattle.schema_reader.proofs.PrintLemmas.{runs_begin, runs_more, runs_end}
+use Rattle.schema_reader.proofs.PrintLemmas.{runs_begin, runs_more}
 use Rattle.schema_reader.proofs.print.add_runs.Goals as goal
 
 pub loop-place-init : goal.loop-place-init

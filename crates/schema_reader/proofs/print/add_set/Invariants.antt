@@ -1,4 +1,3 @@
-use Rattle.std.proofs.Common.{length}
 use Rattle.attr_sets.specs.Sets.{places}
 use Rattle.dep_model.specs.Schemas.{names_of}
 use Rattle.schema_reader.proofs.PrintLemmas.{PrintsSet}

@@ -1,4 +1,3 @@
-use Rattle.std.proofs.Common.{◌≡◌}
 use Rattle.dep_model.specs.Schemas.{columns_of}
 use Rattle.schema_reader.proofs.PrintLemmas.{any_at, none_more}
 use Rattle.schema_reader.proofs.print.has_integers.Goals as goal

@@ -1,7 +1,7 @@
-use Rattle.std.proofs.Common.{◌≡◌, ◌∙◌, sym, ap, Err, Ok}
+use Rattle.std.proofs.Common.{◌∙◌}
 use Rattle.schema_reader.specs.Declarations.{drafted}
 use Rattle.schema_reader.proofs.RefusalLemmas.{ok_whole, err_refuses, Refuses-whole}
-use Rattle.schema_reader.proofs.TextLemmas.{Reads, cut_any, cut_last, cut_more, line_refused, last_read, reads_more}
+use Rattle.schema_reader.proofs.TextLemmas.{cut_any, cut_last, cut_more, line_refused, last_read, reads_more}
 use Rattle.schema_reader.proofs.text.read_lines.Goals as goal
 
 pub returns-in-Err-clause-err : goal.returns-in-Err-clause-err

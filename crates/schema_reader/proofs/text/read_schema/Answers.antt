@@ -1,4 +1,4 @@
-use Rattle.std.proofs.Common.{◌≡◌, ◌∙◌, sym, ap, refl, Err, Ok}
+use Rattle.std.proofs.Common.{◌∙◌, sym, ap, refl, Ok}
 use Rattle.lexer.specs.Lines.{line_texts}
 use Rattle.schema_reader.specs.Declarations.{drafted}
 use Rattle.schema_reader.specs.Texts.{read_text, read_opening}

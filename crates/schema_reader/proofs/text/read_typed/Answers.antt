@@ -1,4 +1,4 @@
-use Rattle.std.proofs.Common.{◌≡◌, ◌∙◌, sym, ap, Err, Ok}
+use Rattle.std.proofs.Common.{◌∙◌, sym, ap}
 use Rattle.lexer.specs.declared.token.Mode.TheVariants as mode
 use Rattle.lexer.specs.Tokens.{lexed}
 use Rattle.schema_reader.specs.Declarations.{drafted}

@@ -1,9 +1,8 @@
-use Rattle.std.proofs.Common.{◌≡◌, ◌∙◌, sym, ap, Err, Ok, false, true, arith}
+use Rattle.std.proofs.Common.{◌∙◌, ap, arith}
 use Rattle.lexer.specs.declared.token.Mode.TheVariants as mode
 use Rattle.lexer.specs.Tokens.{lexed}
 use Rattle.schema_reader.specs.Declarations.{list_names_lexed, drafted}
-use Rattle.schema_reader.specs.Refusals.{refused_by}
-use Rattle.schema_reader.proofs.ListLemmas.{Lists, names_end, names_missing, names_stop, names_refused, names_more}
+use Rattle.schema_reader.proofs.ListLemmas.{names_end, names_missing, names_stop, names_refused, names_more}
 use Rattle.schema_reader.proofs.RefusalLemmas.{Refuses-at, Refuses-here}
 use Rattle.schema_reader.proofs.draft.Draft.list_names.Goals as goal
 

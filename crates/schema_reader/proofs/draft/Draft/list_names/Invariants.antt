@@ -1,7 +1,5 @@
-use Rattle.std.proofs.Common.{◌≡◌, ◌≤◌, ◌<◌, ◌+◌, ◌^◌, length, false}
-use Rattle.lexer.specs.declared.token.Mode.TheVariants as mode
-use Rattle.lexer.specs.Tokens.{lexed}
-use Rattle.schema_reader.specs.Declarations.{list_names_lexed, drafted}
+use Rattle.std.proofs.Common.{length}
+use Rattle.schema_reader.specs.Declarations.{drafted}
 use Rattle.schema_reader.proofs.ListLemmas.{Lists}
 use Rattle.schema_reader.proofs.draft.Draft.list_names.Given as goal
 
