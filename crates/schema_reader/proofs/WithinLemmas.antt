@@ -1,4 +1,4 @@
-use Rattle.std.proofs.Common.{◌≡◌, ◌<◌, ◌+◌, ℕ, Bool, true, false, cond, List, [], ◌∷◌, length, Option, Some, None, Ok, Err, Result, refl, ◌∙◌, ap, ◌||◌, ◌==◌, lt-ltb}
+use Rattle.std.proofs.Common.{subst, ◌≡◌, ◌<◌, ◌+◌, ℕ, Bool, true, false, cond, List, [], ◌∷◌, length, Option, Some, None, Ok, Err, Result, refl, ◌∙◌, ap, ◌||◌, ◌==◌, lt-ltb}
 use Rattle.std.specs.Result.{IfOk}
 use Rattle.std.specs.Option.{IfSome}
 use Rattle.std.proofs.lemmas.Bool.{eqb-true}
@@ -144,3 +144,9 @@ follow_within f declared line reading column (m ∷ ms) stop h =
     and_then_ok (IsReadingWithin (below (length declared))) (IsWithin (below (length declared))) _ _
     (at_ok (IsReadingWithin (below (length declared))) line m.column (length m.word) _ (step_within f declared reading m.kind m.word h))
     (λ next inside. follow_within f declared line next (m.column + length m.word) ms stop inside)
+
+-- what a call read lies within what the reading allows
+pub within_read : {X Y E F : Type 0} (P : Y → Type 0) (g : X → Y) (r : Result X E) (reading : Result Y F) → IfOk r (λ x. reading ≡ Ok (g x)) → IfOk reading P
+    → IfOk r (λ x. P (g x))
+within_read {Y = Y} {F = F} P g (Ok x) reading same inside = let at : Result Y F → Type 0 = λ s. IfOk s P in subst at same inside
+within_read P g (Err e) reading same inside = tt

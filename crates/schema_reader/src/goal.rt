@@ -26,6 +26,7 @@ pub fn read_goal(schema: &Schema, text: &[u8]) -> Result<Dep, SchemaRefusal>
     requires { length text.now ≤ MOST_GOAL_BYTES }
     ensures ok { IfOk result (λ dep. read_goal (names_of schema.now) text.now ≡ Ok (dependency_of dep)) }
     ensures err { IfErr result (λ refusal. read_goal (names_of schema.now) text.now ≡ Err refusal) }
+    ensures within { IfOk result (IsDepWithin (universe_of schema.now)) }
 {
     follow(
         &Names::Of(schema),
