@@ -6,7 +6,6 @@ use Rattle.dep_model.specs.Dependencies.{Dependency}
 use Rattle.derivation.specs.declared.fault.Fault.{Fault}
 use Rattle.derivation.specs.declared.fault.FaultKind.{FaultKind}
 use Rattle.derivation.proofs.RuleTableLemmas.{the_ok}
-use Rattle.derivation.proofs.TreeLemmas.{nodes-pos}
 use Rattle.derivation.specs.Trees.{Tree, leaf, step, pair, nodes}
 use Rattle.derivation.specs.Table.{leaf_conclusion, step_conclusion, pair_conclusion}
 use Rattle.derivation.specs.Conclusions.{Proves, concluded, at_node, ◌>>=◌}

@@ -1,23 +1,21 @@
 -- What a tree proves is implied. What a relation over n places obeys depends on the places below n alone,
 -- so each rule is taken on sets that are cut to these.
-use Rattle.std.proofs.Common.{◌≡◌, ℕ, ◌<◌, ◌≤◌, true, false, not, ◌&&◌, ◌||◌, ⊎_elim, sym, ◌∙◌, ap, arith, List, [], refl, subst}
-use Rattle.std.specs.Prelude.{Contains, Ok, Err, Some, ok_or, slice_get, Option, None, Result, length, cond, Bool}
+use Rattle.std.proofs.Common.{◌≡◌, ℕ, ◌<◌, ◌≤◌, true, not, ◌&&◌, ◌||◌, ⊎_elim, sym, ◌∙◌, ap, arith, [], refl, subst}
+use Rattle.std.specs.Prelude.{Contains, Ok, slice_get, length}
 use Rattle.std.proofs.lemmas.List.{get_or_past}
 use Rattle.std.proofs.lemmas.Option.{slice_get_within, get_or_from_slice_get}
 use Rattle.std.proofs.lemmas.List.Elements.{All-contains}
-use Rattle.std.proofs.lemmas.Bool.{cases_lt, and_parts, cases_Bool}
+use Rattle.std.proofs.lemmas.Bool.{cases_lt, and_parts}
 use Rattle.std.proofs.lemmas.Bool.Decides.{nat_tests}
 use Rattle.attr_sets.specs.declared.set.TheConstants.{PLACES}
-use Rattle.attr_sets.specs.Places.{Places, below, union, meet, minus, Within, Same, Apart}
+use Rattle.attr_sets.specs.Places.{Places, below, union, meet, minus, Within, Apart}
 use Rattle.attr_sets.specs.Sets.{is_within, is_same, is_apart}
 use Rattle.attr_sets.proofs.PlacesLemmas.{all_below-true}
 use Rattle.dep_model.specs.declared.schema.Schema.{Schema}
-use Rattle.dep_model.specs.Tuples.{Tuple, Relation, IsOver, AgreeOn, value_at}
+use Rattle.dep_model.specs.Tuples.{Tuple, Relation, IsOver, AgreeOn}
 use Rattle.dep_model.specs.Dependencies.{Dependency, fd, mvd, Obeys, ObeysFd, ObeysMvd}
-use Rattle.dep_model.specs.Implication.{IsLegal}
 use Rattle.dep_model.specs.Schemas.{width_of, theory_of, universe_of, LegalFor, ImpliedBy}
 use Rattle.dep_model.proofs.RuleLemmas.{reflexivity_obeyed, augmentation_obeyed, transitivity_obeyed, complementation_obeyed, mreflexivity_obeyed, maugmentation_obeyed, replication_obeyed, mtransitivity_obeyed, coalescence_obeyed}
-use Rattle.derivation.specs.declared.fault.FaultKind.{FaultKind}
 use Rattle.derivation.specs.declared.fault.FaultKind.TheVariants.{NoSuchGiven, NotWithin, MiddleDiffers, NotDisjoint}
 use Rattle.derivation.specs.Trees.{Leaf, given, reflexivity, mreflexivity, Step, augmentation, complementation, maugmentation, replication, Pair, transitivity, mtransitivity, coalescence, Tree, leaf, step, pair}
 use Rattle.derivation.specs.Table.{leaf_conclusion, step_conclusion, pair_conclusion}

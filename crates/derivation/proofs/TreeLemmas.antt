@@ -1,5 +1,5 @@
 -- The size of a tree: it has a node, and no path is longer than there are nodes.
-use Rattle.std.proofs.Common.{ℕ, ◌<◌, ◌≤◌, arith}
+use Rattle.std.proofs.Common.{◌<◌, ◌≤◌, arith}
 use Rattle.derivation.specs.Trees.{Tree, leaf, step, pair, nodes, depth}
 
 pub nodes-pos : (t : Tree) → 0 < nodes t

@@ -1,19 +1,17 @@
 -- What a tree of sets of attributes concludes lies within the universe.
-use Rattle.std.proofs.Common.{◌≡◌, ℕ, true, false, not, ◌&&◌, ◌||◌, arith, List, refl, subst}
+use Rattle.std.proofs.Common.{◌≡◌, ◌&&◌, arith, subst}
 use Rattle.std.specs.Prelude.{Ok, slice_get}
 use Rattle.std.proofs.lemmas.Option.{slice_get_within, get_or_from_slice_get}
 use Rattle.std.proofs.lemmas.List.Elements.{All-contains}
 use Rattle.std.proofs.lemmas.Bool.{and_parts}
-use Rattle.std.proofs.lemmas.Bool.Decides.{nat_tests}
 use Rattle.attr_sets.specs.declared.set.TheConstants.{PLACES}
-use Rattle.attr_sets.specs.Places.{Places, below, union, meet, minus, Within}
-use Rattle.attr_sets.specs.Sets.{places, is_within, is_same, is_apart}
+use Rattle.attr_sets.specs.Places.{Places, below, union, minus, Within}
+use Rattle.attr_sets.specs.Sets.{is_within, is_same, is_apart}
 use Rattle.attr_sets.proofs.PlacesLemmas.{places_below, is_within-true}
 use Rattle.dep_model.specs.declared.schema.Schema.{Schema}
 use Rattle.dep_model.specs.Dependencies.{Dependency, fd, mvd, IsWithin}
 use Rattle.dep_model.specs.Schemas.{deps_of, theory_of, universe_of}
 use Rattle.dep_model.proofs.DepLemmas.{dependencies_all-from}
-use Rattle.derivation.specs.declared.fault.FaultKind.{FaultKind}
 use Rattle.derivation.specs.declared.fault.FaultKind.TheVariants.{NoSuchGiven, NotWithin, MiddleDiffers, NotDisjoint}
 use Rattle.derivation.specs.declared.deriv.Deriv as deriv
 use Rattle.derivation.specs.Trees.{Leaf, given, reflexivity, mreflexivity, Step, augmentation, complementation, maugmentation, replication, Pair, transitivity, mtransitivity, coalescence, Tree, leaf, step, pair}

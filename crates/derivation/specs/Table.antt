@@ -1,4 +1,4 @@
-use Rattle.std.specs.Prelude.{ℕ, Bool, ◌&&◌, if◌then◌else◌, Result, Ok, Err, ok_or, slice_get}
+use Rattle.std.specs.Prelude.{Bool, ◌&&◌, if◌then◌else◌, Result, Ok, Err, ok_or, slice_get}
 use Rattle.attr_sets.specs.Places.{Places, union, minus}
 use Rattle.attr_sets.specs.Sets.{is_within, is_same, is_apart}
 use Rattle.dep_model.specs.declared.schema.Schema.{Schema}

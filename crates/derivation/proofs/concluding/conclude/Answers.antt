@@ -1,9 +1,9 @@
 use Rattle.std.proofs.Common.{◌≡◌, sym, ◌∙◌}
-use Rattle.std.specs.Prelude.{Result, Ok, Err, IfOk, ⊤}
+use Rattle.std.specs.Prelude.{Result, Ok, Err, IfOk}
 use Rattle.dep_model.specs.declared.dep.Dep.{Dep}
 use Rattle.dep_model.specs.declared.schema.Schema.{Schema}
 use Rattle.dep_model.specs.Dependencies.{Dependency, IsWithin}
-use Rattle.dep_model.specs.Deps.{dependency_of, IsDepWithin}
+use Rattle.dep_model.specs.Deps.{dependency_of}
 use Rattle.dep_model.specs.Schemas.{universe_of, ImpliedBy}
 use Rattle.derivation.specs.declared.fault.Fault.{Fault}
 use Rattle.derivation.specs.Trees.{Tree}

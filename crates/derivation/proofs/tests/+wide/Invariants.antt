@@ -1,6 +1,3 @@
-use Rattle.std.proofs.Common.{◌≡◌, ℕ, ◌+◌, ◌*◌, ◌<◌, ◌≤◌, ◌^◌, IfOk, ◌-◌, length}
-use Rattle.derivation.specs.Trees.{nodes}
-use Rattle.derivation.specs.Derivs.{tree_of}
 use Rattle.derivation.proofs.tests.+wide.Given as goal
 
 -- proposed from what the function passes where it calls itself
