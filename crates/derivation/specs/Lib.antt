@@ -1,0 +1,4 @@
+pub mod Trees
+pub mod Table
+pub mod Conclusions
+pub mod Derivs

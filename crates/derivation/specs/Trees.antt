@@ -1,0 +1,38 @@
+use Rattle.std.specs.Prelude.{ℕ, ◌+◌, max}
+use Rattle.attr_sets.specs.Places.{Places}
+
+-- the rules without premises: a dependency of the schema, and two that state both sides
+pub data Leaf : Type 0 where
+  given : ℕ → Leaf
+  reflexivity : Places → Places → Leaf
+  mreflexivity : Places → Places → Leaf
+
+-- the rules with one premise: by a set, by a wide set and a narrow one, and without sets
+pub data Step : Type 0 where
+  augmentation : Places → Step
+  complementation : Step
+  maugmentation : Places → Places → Step
+  replication : Step
+
+-- the rules with two premises
+pub data Pair : Type 0 where
+  transitivity : Pair
+  mtransitivity : Pair
+  coalescence : Pair
+
+-- a derivation, as a tree: a rule at each node, behind its premises
+pub data Tree : Type 0 where
+  leaf : Leaf → Tree
+  step : Step → Tree → Tree
+  pair : Pair → Tree → Tree → Tree
+
+abbrev pub nodes : Tree → ℕ
+nodes (leaf rule) = 1
+nodes (step rule t) = nodes t + 1
+nodes (pair rule t u) = nodes t + nodes u + 1
+
+-- a leaf has depth 1
+abbrev pub depth : Tree → ℕ
+depth (leaf rule) = 1
+depth (step rule t) = depth t + 1
+depth (pair rule t u) = max (depth t) (depth u) + 1

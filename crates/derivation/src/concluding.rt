@@ -1,0 +1,55 @@
+ghost use Rattle.std.specs.Prelude.{◌≡◌, ℕ, ◌+◌, ◌<◌, ◌^◌, IfOk, OnOk, IsOkAnd};
+ghost use Rattle.dep_model.specs.Dependencies.{Dependency};
+ghost use Rattle.dep_model.specs.Deps.{dependency_of, IsDepWithin};
+ghost use Rattle.dep_model.specs.Schemas.{universe_of, ImpliedBy};
+ghost use Rattle.derivation.specs.Trees.{nodes};
+ghost use Rattle.derivation.specs.Derivs.{tree_of, outcome_of};
+ghost use Rattle.derivation.specs.Conclusions.{concluded, Proves};
+
+use crate::table::{leaf_conclusion, pair_conclusion, step_conclusion};
+use crate::{Deriv, Fault, Node};
+use dep_model::{Dep, Schema};
+
+/// What a derivation concludes from the dependencies of a schema, or its first fault.
+pub fn conclude(schema: &Schema, deriv: &Deriv) -> Result<Dep, Fault>
+    requires few { nodes (tree_of deriv.now) < 2 ^ 32 }
+    // It concludes what it proves, and nothing else.
+    ensures proves { IfOk result (λ d. Proves schema.now (tree_of deriv.now) (dependency_of d)) }
+    ensures only { (d : Dependency) → Proves schema.now (tree_of deriv.now) d → outcome_of result ≡ Ok d }
+    // Whoever made the derivation.
+    ensures sound { IfOk result (λ d. ImpliedBy schema.now (dependency_of d)) }
+    ensures within { IfOk result (IsDepWithin (universe_of schema.now)) }
+    // The first fault in post-order.
+    ensures exact { outcome_of result ≡ concluded schema.now 0 (tree_of deriv.now) }
+{
+    let mut passed = 0;
+    conclude_behind(schema, deriv, &mut passed)
+}
+
+// What a derivation concludes, whose nodes are numbered behind those that were passed.
+fn conclude_behind(schema: &Schema, deriv: &Deriv, passed: &mut u32) -> Result<Dep, Fault>
+    requires room { passed.old + nodes (tree_of deriv.now) < 2 ^ 32 }
+    ensures exact { outcome_of result ≡ concluded schema.now passed.old (tree_of deriv.now) }
+    ensures passed { OnOk result (passed.new ≡ passed.old + nodes (tree_of deriv.now)) }
+{
+    let outcome = match deriv.root() {
+        Node::Leaf(rule) => leaf_conclusion(schema, rule),
+        Node::Step(rule, premise) => {
+            let dep = conclude_behind(schema, premise, passed)?;
+            step_conclusion(schema, rule, dep)
+        }
+        Node::Pair(rule, first, second) => {
+            let left = conclude_behind(schema, first, passed)?;
+            let right = conclude_behind(schema, second, passed)?;
+            pair_conclusion(rule, left, right)
+        }
+    };
+    *passed += 1;
+    match outcome {
+        Ok(dep) => Ok(dep),
+        Err(kind) => Err(Fault {
+            node: *passed,
+            kind,
+        }),
+    }
+}

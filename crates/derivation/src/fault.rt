@@ -1,0 +1,22 @@
+/// Why the rule of a node gives no conclusion from those of its premises.
+#[derive(Clone, Copy, Debug, PartialEq, Eq, Hash)]
+pub enum FaultKind {
+    /// The schema has no dependency of this number.
+    NoSuchGiven = 1,
+    /// A set is not within the universe, or the rule's inclusion fails.
+    NotWithin = 2,
+    /// A premise is functional where the rule wants a multivalued dependency, or the other way round.
+    WrongKind = 3,
+    /// The right side of the first premise is not the left side of the second.
+    MiddleDiffers = 4,
+    /// The left side of the second premise of a coalescence meets the right side of the first.
+    NotDisjoint = 5,
+}
+
+/// The first node of a derivation at which a rule gives no conclusion.
+#[derive(Clone, Copy, Debug, PartialEq, Eq, Hash)]
+pub struct Fault {
+    /// The node's number in post-order, from 1: the nodes of the first premise, those of the second, the node.
+    pub node: u32,
+    pub kind: FaultKind,
+}

@@ -1,0 +1,23 @@
+//! Derivations of dependencies, as trees of the textbook's rules.
+//!
+//! A `Deriv` is a proof that anybody can check: `conclude` looks at each node by the rule table of
+//! `specs/Table.antt`, and what a derivation concludes is implied by the schema's dependencies, whoever
+//! made it. The rules for functional dependencies are Armstrong's, and those for multivalued ones are
+//! of Beeri, Fagin and Howard (1977).
+#![tactic(auto)]
+
+mod concluding;
+mod deriv;
+mod fault;
+pub mod laws;
+mod measures;
+mod rule;
+mod table;
+#[cfg(test)]
+mod tests;
+
+pub use concluding::conclude;
+pub use deriv::Deriv;
+pub use fault::{Fault, FaultKind};
+pub use measures::{depth, nodes};
+pub use rule::{LeafRule, Node, PairRule, StepRule};

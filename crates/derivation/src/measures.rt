@@ -1,0 +1,29 @@
+ghost use Rattle.std.specs.Prelude.{◌≡◌, ℕ, ◌<◌, ◌^◌};
+ghost use Rattle.derivation.specs.Trees.{nodes, depth};
+ghost use Rattle.derivation.specs.Derivs.{tree_of};
+
+use crate::{Deriv, Node};
+
+/// How many nodes a derivation has.
+pub fn nodes(deriv: &Deriv) -> u32
+    requires few { nodes (tree_of deriv.now) < 2 ^ 32 }
+    ensures count { result ≡ nodes (tree_of deriv.now) }
+{
+    match deriv.root() {
+        Node::Leaf(_) => 1,
+        Node::Step(_, premise) => nodes(premise) + 1,
+        Node::Pair(_, first, second) => nodes(first) + nodes(second) + 1,
+    }
+}
+
+/// How many nodes the longest path of a derivation has, from the root to a leaf.
+pub fn depth(deriv: &Deriv) -> u32
+    requires few { nodes (tree_of deriv.now) < 2 ^ 32 }
+    ensures levels { result ≡ depth (tree_of deriv.now) }
+{
+    match deriv.root() {
+        Node::Leaf(_) => 1,
+        Node::Step(_, premise) => depth(premise) + 1,
+        Node::Pair(_, first, second) => depth(first).max(depth(second)) + 1,
+    }
+}
