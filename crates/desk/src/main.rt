@@ -2,13 +2,12 @@
 //! ends with the number of the status, or with 6 where no memory was found.
 #![tactic(auto)]
 
-use std::env;
-use std::process::ExitCode;
-use std::rt::Runtime;
-
 use dep_model::WantMemory;
 use desk_cli::{Status, desk};
 use desk_outside::{FileShelf, StdoutSink, Word};
+use std::env;
+use std::process::ExitCode;
+use std::rt::Runtime;
 
 fn main(rt: HostRuntime) -> ExitCode {
     match run(rt) {

@@ -1,5 +1,5 @@
 -- Where nothing fails, what a shelf shows is what its files say.
-use Rattle.std.proofs.Common.{◌≡◌, ℕ, ◌≤◌, ◌⊎◌, List, Option, Some, None, Ok, Err, Result, refl, subst, inl, inr}
+use Rattle.std.proofs.Common.{◌≡◌, ℕ, ◌≤◌, ◌⊎◌, List, Option, Some, None, Ok, Result, refl, subst, inl, inr}
 use Rattle.std.specs.Io.KnownBytes.{append_known}
 use Rattle.dep_model.specs.declared.memory.WantMemory.{WantMemory}
 use Rattle.desk_cli.specs.declared.reply.Stop.{Stop}

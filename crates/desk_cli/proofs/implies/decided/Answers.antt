@@ -1,10 +1,10 @@
-use Rattle.std.proofs.Common.{◌≡◌, Bool, true, false, sym}
+use Rattle.std.proofs.Common.{◌≡◌, Bool, false, sym}
 use Rattle.std.specs.Prelude.{IfOk}
 use Rattle.std.specs.Bool.{MatchBool}
-use Rattle.std.proofs.Common.{subst, ◌∙◌}
+use Rattle.std.proofs.Common.{subst}
 use Rattle.attr_sets.specs.Sets.{places}
 use Rattle.dep_model.specs.declared.dep.Dep.{Dep}
-use Rattle.dep_model.specs.Dependencies.{fd, is_fd}
+use Rattle.dep_model.specs.Dependencies.{fd}
 use Rattle.dep_model.specs.Deps.{dependency_of}
 use Rattle.desk_cli.specs.declared.reply.Reply.{Reply}
 use Rattle.desk_cli.specs.declared.status.Status.TheVariants.{Refused}

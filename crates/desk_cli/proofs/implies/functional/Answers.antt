@@ -1,4 +1,4 @@
-use Rattle.std.proofs.Common.{◌≡◌, ◌++◌, List, ℕ, length, refl, inl, inr}
+use Rattle.std.proofs.Common.{◌≡◌, refl, inl, inr}
 use Rattle.std.specs.Prelude.{All}
 use Rattle.std.proofs.lemmas.Bool.{false≢true}
 use Rattle.attr_sets.specs.Places.{below, Within}

@@ -1,4 +1,4 @@
-use Rattle.std.proofs.Common.{◌≡◌, ◌∙◌}
+use Rattle.std.proofs.Common.{◌∙◌}
 use Rattle.attr_sets.specs.Sets.{places}
 use Rattle.dep_model.proofs.TwoTupleLemmas.{two_tuples-is}
 use Rattle.desk_cli.proofs.DigitLemmas.{zeros_all}
