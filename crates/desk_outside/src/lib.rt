@@ -16,6 +16,8 @@ mod planned;
 mod real;
 mod shelf;
 mod sink;
+#[cfg(test)]
+mod tests;
 mod transfer;
 mod word;
 
