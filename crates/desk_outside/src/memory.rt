@@ -1,4 +1,4 @@
-ghost use Rattle.std.specs.Prelude.{◌≡◌, ◌+◌, ◌-◌, ◌^◌, ◌<◌, ◌≤◌, ◌↔◌, ◌⊎◌, ◌&&◌, [], ◌++◌, min, length, take, drop, is_err, is_some, unwrap_or, None, Some, IsSome, IsOk, IsErr, IfNone, IfSome, IfOk, IfErr, OnOk, OnErr, IsOkUnless, slice_get, refl, if◌then◌else◌};
+ghost use Rattle.std.specs.Prelude.{◌≡◌, ◌+◌, ◌^◌, ◌<◌, ◌↔◌, ◌⊎◌, ◌&&◌, [], ◌++◌, min, length, take, drop, is_err, is_some, unwrap_or, None, Some, IsSome, IsOk, IsErr, IfNone, IfSome, IfOk, OnErr, IsOkUnless, refl, if◌then◌else◌};
 ghost use Rattle.desk_outside.specs.Causes.{count_on, last_count, HasCause, HasBeginCause};
 ghost use Rattle.desk_outside.specs.Files.{held, files_of};
 ghost use Rattle.desk_outside.specs.Memory.{new_shelf, new_sink, room, bytes_at, IsBegun};
@@ -30,7 +30,13 @@ impl Model for MemoryShelf {
 
     ghost Value = { ShelfInMemory };
 
-    ghost view = { λ s. record { files = files_of s.files.items; left = drop s.taken (bytes_at s.files.items s.begun); taken = s.taken; step = s.step; planned = s.planned } };
+    ghost view = { λ s. record {
+      files = files_of s.files.items;
+      left = drop s.taken (bytes_at s.files.items s.begun);
+      taken = s.taken;
+      step = s.step;
+      planned = s.planned;
+    } };
 
     ghost invariant = { λ s. (0 < s.step) × IsBegun s.files.items s.begun s.taken };
 }
@@ -62,7 +68,8 @@ impl MemoryShelf {
 // The place of the first file of this name.
 fn place_of(files: &[HeldFile], name: &[u8]) -> Option<usize>
     ensures found { IfSome result (λ place. place < length files.now) }
-    ensures bytes { IfSome result (λ place. held (files_of files.now) name.now ≡ Some (bytes_at files.now (Some place))) }
+    ensures bytes { IfSome result (λ place.
+        held (files_of files.now) name.now ≡ Some (bytes_at files.now (Some place))) }
     ensures missing { IfNone result (held (files_of files.now) name.now ≡ None) }
 {
     for (place, file) in files.iter().enumerate() {
@@ -101,11 +108,17 @@ impl Shelf for MemoryShelf {
 
         // It fails exactly where its number is planned or the file is not held, and never otherwise.
         ensures only { IsOkUnless result OutsideFault.Failed }
-        ensures failed { IsErr result ↔ (FailsNext self.old.planned ⊎ (held self.old.files name.now ≡ None)) }
+        ensures failed { IsErr result ↔
+            (FailsNext self.old.planned ⊎ (held self.old.files name.now ≡ None)) }
         ensures sound { NeverFails self.old.planned → IsSome (held self.old.files name.now) → IsOk result }
-        ensures left { self.new.left ≡ (if is_err result then [] else unwrap_or (held self.old.files name.now) []) }
-        ensures counts { CountsCall self.old.planned self.new.planned (is_err result && is_some (held self.old.files name.now)) }
-        ensures cause { HasBeginCause (Some self.old.files) name.now self.old.planned.faults self.new.planned.faults result }
+        ensures left { self.new.left ≡
+            (if is_err result then [] else unwrap_or (held self.old.files name.now) []) }
+
+        // A file that is not held is no fault.
+        ensures counts { CountsCall self.old.planned self.new.planned
+            (is_err result && is_some (held self.old.files name.now)) }
+        ensures cause { HasBeginCause (Some self.old.files) name.now
+            self.old.planned.faults self.new.planned.faults result }
     {
         let fails = self.planned.next_fails();
         self.taken = 0;
@@ -168,9 +181,16 @@ impl Model for MemorySink {
 
     ghost Value = { SinkInMemory };
 
-    ghost view = { λ s. record { contents = s.contents.items; capacity = s.capacity; step = s.step; planned = s.planned } };
+    ghost view = { λ s. record {
+      contents = s.contents.items;
+      capacity = s.capacity;
+      step = s.step;
+      planned = s.planned;
+    } };
 
-    ghost invariant = { λ s. (0 < s.step) × (length s.contents.items ≤ s.capacity) × (s.capacity ≤ vec_capacity s.contents) };
+    ghost invariant = { λ s. (0 < s.step)
+        × (length s.contents.items ≤ s.capacity)
+        × (s.capacity ≤ vec_capacity s.contents) };
 }
 
 impl MemorySink {

@@ -32,7 +32,8 @@ pub trait Shelf {
         ensures begun { OnOk result (left self.new ≡ all_left (files self.old) name.now) }
         ensures closed { OnErr result (left self.new ≡ none_left (files self.old)) }
         ensures taken { taken self.new ≡ 0 }
-        ensures cause { HasBeginCause (files self.old) name.now (faults self.old) (faults self.new) result };
+        ensures cause { HasBeginCause (files self.old) name.now
+            (faults self.old) (faults self.new) result };
 
     /// Takes the next bytes that are left into the front of the buffer, and answers how many.
     ///
@@ -40,7 +41,8 @@ pub trait Shelf {
     fn read(&mut self, buf: &mut [u8]) -> Result<usize, Failed>
         ensures files { files self.new ≡ files self.old }
         ensures bound { ReadsAtMost result buf.new }
-        ensures bytes { IfOk result (λ n. left self.old ≡ prepend_known (take n buf.new) (left self.new)) }
+        ensures bytes { IfOk result (λ n.
+            left self.old ≡ prepend_known (take n buf.new) (left self.new)) }
         ensures end { IfOk result (λ n. n ≡ 0 → 0 < length buf.new → IsAtEnd (left self.new)) }
         ensures closed { OnErr result (left self.new ≡ none_left (files self.old)) }
         ensures taken { IfOk result (λ n. taken self.new ≡ count_on (taken self.old) n) }

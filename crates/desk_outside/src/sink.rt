@@ -18,7 +18,8 @@ pub trait Sink {
         requires { 0 < length piece.now }
         ensures some { IfOk result (λ n. 0 < n) }
         ensures bound { IfOk result (λ n. n ≤ length piece.now) }
-        ensures bytes { IfOk result (λ n. contents self.new ≡ append_known (contents self.old) (take n piece.now)) }
+        ensures bytes { IfOk result (λ n.
+            contents self.new ≡ append_known (contents self.old) (take n piece.now)) }
         ensures err { OnErr result (contents self.new ≡ contents self.old) }
         ensures cause { HasCause (faults self.old) (faults self.new) result };
 }

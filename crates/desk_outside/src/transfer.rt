@@ -30,13 +30,15 @@ pub fn load<F: Shelf>(
 
     // A file is too long exactly where one byte more than the limit was taken.
     ensures too_long { IsErrOf result LoadRefusal.TooLong ↔ (F.taken shelf.new ≡ limit + 1) }
-    ensures longer { IsErrOf result LoadRefusal.TooLong → IsLonger (F.files shelf.old) name.now limit }
+    ensures longer { IsErrOf result LoadRefusal.TooLong →
+        IsLonger (F.files shelf.old) name.now limit }
     ensures at_most { F.taken shelf.new ≤ limit + 1 }
 
     // Only a fault that was counted, or a missing file.
     ensures cannot_read { IsErrOf result LoadRefusal.CannotRead →
         Rose (F.faults shelf.old) (F.faults shelf.new) ⊎ IsMissing (F.files shelf.old) name.now }
-    ensures closed { IsErrOf result LoadRefusal.CannotRead → F.left shelf.new ≡ none_left (F.files shelf.old) }
+    ensures closed { IsErrOf result LoadRefusal.CannotRead →
+        F.left shelf.new ≡ none_left (F.files shelf.old) }
 
     // A missing file is told by `CannotRead` alone, and raises no count.
     ensures missing { IsMissing (F.files shelf.old) name.now →
