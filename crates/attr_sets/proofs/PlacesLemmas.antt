@@ -1,8 +1,8 @@
 -- What the crates above cite about sets of places: equality, the tests `is_within`, `is_same` and `is_apart` as facts, and how many members lie below n.
-use Rattle.std.proofs.Common.{◌≡◌, ℕ, zero, suc, ◌+◌, ◌^◌, ◌<◌, ◌≤◌, ◌≢◌, true, false, not, ◌&&◌, ◌||◌, add-one, refl, sym, ap, ◌∙◌, ◌⊎◌, inl, inr, ⊎_elim, arith}
+use Rattle.std.proofs.Common.{◌≡◌, ℕ, zero, suc, ◌+◌, ◌^◌, ◌<◌, ◌≤◌, ◌≢◌, true, false, not, ◌&&◌, ◌||◌, ◌==◌, refl, sym, ap, ◌∙◌, ◌⊎◌, inl, inr, ⊎_elim, arith}
 use mathlib.Core.Path.{fun_ext}
 use Rattle.std.specs.Bool.{Decides}
-use Rattle.std.proofs.lemmas.Bool.{ltb-true, cases_eq, cases_lt, cases_Bool, true≢false, and_parts, and_from, and_cases, false_from_ne_true, true_from_ne_false, not-true, not-false}
+use Rattle.std.proofs.lemmas.Bool.{ltb-true, eqb-true, eq-eqb, cases_eq, cases_lt, cases_Bool, true≢false, and_parts, and_from, and_cases, false_from_ne_true, true_from_ne_false, not-true, not-false}
 use Rattle.std.proofs.lemmas.Bool.Decides.{nat_tests}
 use Rattle.attr_sets.specs.declared.set.AttrSet.{AttrSet}
 use Rattle.attr_sets.specs.declared.set.TheConstants.{PLACES}
@@ -21,12 +21,19 @@ unfolding places
 places-at_number a b same k = ap (λ n. has_bit PLACES n k) same
 
 -- two sets with the same members have the same number
-pub same_number : (a b : AttrSet) → a.0 < 2 ^ 128 → b.0 < 2 ^ 128 → Same (places a) (places b) → a.0 ≡ b.0
+pub same_number : (a b : AttrSet) → a.0 < 2 ^ PLACES → b.0 < 2 ^ PLACES → Same (places a) (places b) → a.0 ≡ b.0
 unfolding places
 same_number a b a_fits b_fits same = same_from_has_bit PLACES a.0 b.0 a_fits b_fits same
 
-pub same_set : (a b : AttrSet) → a.0 < 2 ^ 128 → b.0 < 2 ^ 128 → Same (places a) (places b) → a ≡ b
+pub same_set : (a b : AttrSet) → a.0 < 2 ^ PLACES → b.0 < 2 ^ PLACES → Same (places a) (places b) → a ≡ b
 same_set a b a_fits b_fits same = let from_number : ℕ → AttrSet = λ n. record { 0 = n } in ap from_number (same_number a b a_fits b_fits same)
+
+-- the test whether two sets have the same number tells whether they have the same members
+pub same_number-decides : (a b : AttrSet) → a.0 < 2 ^ PLACES → b.0 < 2 ^ PLACES → Decides (a.0 == b.0) (Same (places a) (places b))
+same_number-decides a b a_fits b_fits = (
+  λ equal. places-at_number a b (eqb-true a.0 b.0 equal),
+  λ same. eq-eqb a.0 b.0 (same_number a b a_fits b_fits same),
+)
 
 -- ---- equality
 
@@ -69,6 +76,9 @@ unfolding all_below
 all_below-false zero x fails = absurd (true≢false fails)
 all_below-false (suc n) x fails =
     ⊎_elim (λ earlier. let found = all_below-false n x earlier in (found.0, omega (arith, found.1), found.2)) (λ last. (n, omega arith, last)) (and_cases (all_below n x) (x n) fails)
+
+pub tell_member : (x : Places) (k : ℕ) → (x k ≡ true) ⊎ (x k ≡ false)
+tell_member x k = cases_Bool (x k)
 
 -- some member lies below n, or none does
 pub tell_some : (n : ℕ) (x : Places) → ((k : ℕ) × (k < n) × (x k ≡ true)) ⊎ ((k : ℕ) → k < n → x k ≡ false)
@@ -200,11 +210,11 @@ count_below-le (suc n) x = grind (arith, count_below-le n x)
 -- one place more
 pub count_below-member : (n : ℕ) (x : Places) → x n ≡ true → count_below x (n + 1) ≡ count_below x n + 1
 unfolding count_below
-count_below-member n x member = rw add-one (grind (arith, member))
+count_below-member n x member = let next : n + 1 ≡ suc n = omega arith in ap (count_below x) next ∙ grind (arith, member)
 
 pub count_below-outside : (n : ℕ) (x : Places) → x n ≡ false → count_below x (n + 1) ≡ count_below x n
 unfolding count_below
-count_below-outside n x outside = rw add-one (grind (arith, outside))
+count_below-outside n x outside = let next : n + 1 ≡ suc n = omega arith in ap (count_below x) next ∙ grind (arith, outside)
 
 -- only places below n count
 pub count_below-equal : (n : ℕ) (x y : Places) → ((k : ℕ) → k < n → x k ≡ y k) → count_below x n ≡ count_below y n

@@ -45,6 +45,10 @@ Apart x y = (k : ℕ) → x k ≡ true → y k ≡ false
 abbrev pub Meets : Places → Places → Type 0
 Meets x y = (k : ℕ) × (x k ≡ true) × (y k ≡ true)
 
+-- x comes before y: they differ, and y has the greatest place in which they do
+abbrev pub IsBefore : Places → Places → Type 0
+IsBefore x y = (k : ℕ) × (x k ≡ false) × (y k ≡ true) × ((j : ℕ) → k < j → x j ≡ y j)
+
 -- i is the least member of x from a place on
 pub record IsLeastFrom (x : Places) (from i : ℕ) : Type 0 where
   pub from_on : from ≤ i

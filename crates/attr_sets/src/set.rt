@@ -1,13 +1,15 @@
-ghost use Rattle.std.specs.Prelude.{◌≡◌, ℕ, ◌+◌, ◌<◌, ◌≤◌, ◌↔◌, false, IsTrue, IsNone, IfSome};
-ghost use Rattle.attr_sets.specs.Places.{below, only, none, union, meet, minus, Within, Same, IsEmpty, IsLeastFrom, count_below};
-ghost use Rattle.attr_sets.specs.Sets.{places, is_within};
+ghost use Rattle.std.specs.Prelude.{◌≡◌, ℕ, ◌+◌, ◌<◌, ◌≤◌, ◌↔◌, ◌==◌, false, IsTrue, IsNone, IfSome, refl};
+ghost use Rattle.attr_sets.specs.Places.{below, only, none, union, meet, minus, Within, Same, IsEmpty, IsBefore, IsLeastFrom, count_below};
+ghost use Rattle.attr_sets.specs.Sets.{places, is_within, is_same};
+
+use std::cmp::Ordering;
 
 /// How many places a set has: the most attributes of a universe.
 pub const PLACES: u8 = 128;
 
 /// A set of attributes, each a place below `PLACES`. Bit `i` of the number stands for place `i`, and
 /// sets are ordered by this number, so the greatest place in which two sets differ decides.
-#[derive(Clone, Copy, Debug, PartialEq, Eq, PartialOrd, Ord, Hash)]
+#[derive(Clone, Copy, Debug, Eq, PartialOrd, Hash)]
 pub struct AttrSet(pub u128);
 
 impl AttrSet {
@@ -94,6 +96,7 @@ impl AttrSet {
     /// How many members the set has.
     pub fn len(self) -> u8
         ensures members { result ≡ count_below (places self) PLACES }
+        ensures few { result ≤ PLACES }
     {
         self.0.count_ones() as u8
     }
@@ -102,6 +105,7 @@ impl AttrSet {
     pub fn least(self) -> Option<u8>
         ensures none { IsNone result ↔ IsEmpty (places self) }
         ensures least { IfSome result (IsLeastFrom (places self) 0) }
+        ensures place { IfSome result (λ i. i < PLACES) }
     {
         if self.0 == 0 {
             None
@@ -115,7 +119,54 @@ impl AttrSet {
         requires { i < PLACES }
         ensures none { IsNone result ↔ ((k : ℕ) → i < k → places self k ≡ false) }
         ensures least { IfSome result (IsLeastFrom (places self) (i + 1)) }
+        ensures place { IfSome result (λ j. j < PLACES) }
     {
         self.minus(AttrSet::full(i + 1)).least()
     }
 }
+
+impl PartialEq for AttrSet {
+    ghost use Rattle.std.specs.Cmp.{on_per, partial_equiv_from_equiv, nat_eq_equiv};
+    ghost use Rattle.std.specs.Ordering.{on};
+
+    ghost eq = { on (λ s. s.0) ◌==◌ };
+
+    ghost laws = { on_per (λ s. s.0) (partial_equiv_from_equiv nat_eq_equiv) };
+
+    /// Whether the sets have the same members.
+    fn eq(&self, other: &AttrSet) -> bool
+        ensures number { result ≡ (self.now.0 == other.now.0) }
+        ensures same { IsTrue result ↔ Same (places self.now) (places other.now) }
+        ensures test { result ≡ is_same (places self.now) (places other.now) }
+    {
+        self.0 == other.0
+    }
+}
+
+impl Ord for AttrSet {
+    ghost use Rattle.std.specs.Cmp.{on_total, nat_cmp_total, unsigned_ties};
+    ghost use Rattle.std.specs.Ordering.{on, MatchOrdering, nat_cmp};
+
+    ghost cmp = { on (λ s. s.0) nat_cmp };
+
+    ghost total = { on_total (λ s. s.0) nat_cmp_total };
+
+    ghost matches_partial_cmp = { λ a b. refl };
+
+    ghost matches_eq = { λ a b. unsigned_ties a.0 b.0 };
+
+    /// Which set comes first.
+    fn cmp(&self, other: &AttrSet) -> Ordering
+        ensures number { result ≡ nat_cmp self.now.0 other.now.0 }
+        ensures order { MatchOrdering result
+            (IsBefore (places self.now) (places other.now))
+            (Same (places self.now) (places other.now))
+            (IsBefore (places other.now) (places self.now)) }
+    {
+        let (x, y) = (self.0, other.0);
+        x.cmp(&y)
+    }
+}
+
+#[cfg(test)]
+mod tests;

@@ -1,6 +1,6 @@
 -- The types of the columns, as a list and as the set of the integer ones.
-use Rattle.std.proofs.Common.{◌≡◌, ℕ, ◌+◌, ◌<◌, zero, suc, Bool, false, cond, List, [], ◌∷◌, Option, Some, length, map, refl, ap, sym, subst, ◌∙◌, arith, rules}
-use Rattle.std.specs.List.{slice_get, range_with_len, Contains, All}
+use Rattle.std.proofs.Common.{◌≡◌, ℕ, ◌+◌, ◌<◌, zero, suc, Bool, cond, List, [], ◌∷◌, Some, length, map, refl, ap, sym, ◌∙◌, arith}
+use Rattle.std.specs.List.{slice_get, range_with_len, Contains}
 use Rattle.std.proofs.lemmas.List.FromFn.{length-map-range_with_len}
 use Rattle.std.proofs.lemmas.Option.{slice_get_read}
 use Rattle.attr_sets.specs.Places.{Places, IsEmpty}

@@ -1,5 +1,5 @@
 -- The dependencies of a list, one by one, and legality by them.
-use Rattle.std.proofs.Common.{◌≡◌, ℕ, ◌<◌, List, [], ◌∷◌, length, map, get_or, refl, arith}
+use Rattle.std.proofs.Common.{ℕ, List, [], ◌∷◌}
 use Rattle.std.specs.Prelude.{All}
 use Rattle.std.proofs.lemmas.List.Elements.{All-nil, All-cons, All-head, All-tail, All-map, All-filter}
 use Rattle.attr_sets.specs.Places.{Places}
@@ -7,7 +7,7 @@ use Rattle.attr_sets.specs.Sets.{places}
 use Rattle.dep_model.specs.declared.dep.Dep.{Dep}
 use Rattle.dep_model.specs.declared.dep.Dep.TheVariants.{Fd, Mvd}
 use Rattle.dep_model.specs.Tuples.{Relation, IsOver}
-use Rattle.dep_model.specs.Dependencies.{Dependency, fd, mvd, Obeys, ObeysFd, is_fd, functional_part}
+use Rattle.dep_model.specs.Dependencies.{Dependency, fd, Obeys, ObeysFd, is_fd, functional_part}
 use Rattle.dep_model.specs.Implication.{IsLegal}
 use Rattle.dep_model.specs.Deps.{dependency_of, dependencies_of}
 
@@ -16,7 +16,7 @@ pub dependencies_all-to : (P : Dependency → Type 0) (ds : List Dep) → All P 
 dependencies_all-to P [] h = All-nil (λ d. P (dependency_of d))
 dependencies_all-to P (d ∷ ds) h =
     All-cons (λ (e : Dep). P (dependency_of e)) d ds (All-head P (dependency_of d) (dependencies_of ds) h)
-      (dependencies_all-to P ds (All-tail P (dependency_of d) (dependencies_of ds) h))
+    (dependencies_all-to P ds (All-tail P (dependency_of d) (dependencies_of ds) h))
 
 pub dependencies_all-from : (P : Dependency → Type 0) (ds : List Dep) → All (λ d. P (dependency_of d)) ds → All P (dependencies_of ds)
 dependencies_all-from P ds h = All-map P dependency_of ds h
@@ -31,14 +31,14 @@ pub functional_all-to : (P : Dependency → Type 0) (ds : List Dep) → All P (f
 functional_all-to P [] h = All-nil (IfFd (λ x y. P (fd x y)))
 functional_all-to P (Fd lhs rhs ∷ ds) h =
     All-cons (IfFd (λ x y. P (fd x y))) (Fd lhs rhs) ds (All-head P (fd (places lhs) (places rhs)) (functional_part (dependencies_of ds)) h)
-      (functional_all-to P ds (All-tail P (fd (places lhs) (places rhs)) (functional_part (dependencies_of ds)) h))
+    (functional_all-to P ds (All-tail P (fd (places lhs) (places rhs)) (functional_part (dependencies_of ds)) h))
 functional_all-to P (Mvd lhs rhs ∷ ds) h = All-cons (IfFd (λ x y. P (fd x y))) (Mvd lhs rhs) ds tt (functional_all-to P ds h)
 
 pub functional_all-from : (P : Dependency → Type 0) (ds : List Dep) → All (IfFd (λ x y. P (fd x y))) ds → All P (functional_part (dependencies_of ds))
 functional_all-from P [] h = All-nil P
 functional_all-from P (Fd lhs rhs ∷ ds) h =
     All-cons P (fd (places lhs) (places rhs)) (functional_part (dependencies_of ds)) (All-head (IfFd (λ x y. P (fd x y))) (Fd lhs rhs) ds h)
-      (functional_all-from P ds (All-tail (IfFd (λ x y. P (fd x y))) (Fd lhs rhs) ds h))
+    (functional_all-from P ds (All-tail (IfFd (λ x y. P (fd x y))) (Fd lhs rhs) ds h))
 functional_all-from P (Mvd lhs rhs ∷ ds) h = functional_all-from P ds (All-tail (IfFd (λ x y. P (fd x y))) (Mvd lhs rhs) ds h)
 
 -- ---- legality

@@ -1,12 +1,11 @@
 -- Superkeys, and the key that is left where attributes are tried from the last to the first.
-use Rattle.std.proofs.Common.{◌≡◌, ℕ, ◌+◌, ◌<◌, ◌≤◌, zero, suc, Bool, true, false, cond, List, refl, sym, ap, subst, ◌∙◌, inl, inr, arith}
+use Rattle.std.proofs.Common.{◌≡◌, ℕ, ◌+◌, zero, suc, true, false, cond, List, sym, ap, ◌∙◌, inl, inr, arith}
 use Rattle.std.proofs.lemmas.Bool.{cases_Bool, cases_eq, true≢false}
 use Rattle.std.proofs.lemmas.Bool.Decides.{nat_tests}
 use Rattle.std.specs.Prelude.{nat_lt}
-use Rattle.attr_sets.specs.Places.{Places, below, union, Within, Same}
-use Rattle.dep_model.specs.Tuples.{Relation}
-use Rattle.dep_model.specs.Dependencies.{Dependency, fd, ObeysFd}
-use Rattle.dep_model.specs.Implication.{IsLegal, Implies}
+use Rattle.attr_sets.specs.Places.{Places, below, Within}
+use Rattle.dep_model.specs.Dependencies.{Dependency, fd}
+use Rattle.dep_model.specs.Implication.{Implies}
 use Rattle.dep_model.specs.OnSchemes.{ImpliedOn}
 use Rattle.dep_model.specs.Keys.{IsSuperkey, IsKey, IsSettledKey, left_beside}
 use Rattle.dep_model.proofs.RuleLemmas.{reflexivity_obeyed, fd_weaker_obeyed}
@@ -42,13 +41,15 @@ tried_from scheme kept m k = cond (nat_lt k m) (scheme k) (kept k)
 
 tried_kept : (scheme k : Places) (m : ℕ) → k m ≡ true → Within (tried_from scheme k (m + 1)) (tried_from scheme k m)
 tried_kept scheme k m kept j h = elim (cases_eq j m) [
-    inl same ↦ let e : k j ≡ true = ap k same ∙ kept in grind (arith, nat_tests, e)
-    | inr other ↦ grind (arith, nat_tests) ]
+  | inl same ↦ let e : k j ≡ true = ap k same ∙ kept in grind (arith, nat_tests, e)
+  | inr other ↦ grind (arith, nat_tests)
+]
 
 tried_outside : (scheme k : Places) (m : ℕ) → scheme m ≡ false → Within (tried_from scheme k (m + 1)) (tried_from scheme k m)
 tried_outside scheme k m outside j h = elim (cases_eq j m) [
-    inl same ↦ let e : scheme j ≡ false = ap scheme same ∙ outside in grind (arith, nat_tests, e)
-    | inr other ↦ grind (arith, nat_tests) ]
+  | inl same ↦ let e : scheme j ≡ false = ap scheme same ∙ outside in grind (arith, nat_tests, e)
+  | inr other ↦ grind (arith, nat_tests)
+]
 
 -- it is a superkey at each step, down to the key itself
 tried_superkey : (n : ℕ) (ds : List Dependency) (scheme k : Places) → IsSettledKey n ds scheme k → Within scheme (below n) → (m left : ℕ) → m + left ≡ n → IsSuperkey n ds scheme (tried_from scheme k m)
@@ -58,23 +59,24 @@ tried_superkey n ds scheme k settled low m (suc left) e =
     let later = tried_superkey n ds scheme k settled low (m + 1) left (omega arith) in
     let within : Within (tried_from scheme k m) scheme = λ (j : ℕ) h. grind (arith, nat_tests, settled.within j) in
     elim (cases_Bool (k m)) [
-        inl kept ↦ superkey_more n ds scheme (tried_from scheme k (m + 1)) (tried_from scheme k m) (tried_kept scheme k m kept) within later
-        | inr left_out ↦ elim (cases_Bool (scheme m)) [
-            inl member ↦ superkey_more n ds scheme (left_beside scheme k m) (tried_from scheme k m) (λ (j : ℕ) h. grind (arith, nat_tests)) within ((settled.left_out m member).0 left_out)
-            | inr outside ↦ superkey_more n ds scheme (tried_from scheme k (m + 1)) (tried_from scheme k m) (tried_outside scheme k m outside) within later
-        ]
+      | inl kept ↦ superkey_more n ds scheme (tried_from scheme k (m + 1)) (tried_from scheme k m) (tried_kept scheme k m kept) within later
+      | inr left_out ↦ elim (cases_Bool (scheme m)) [
+        | inl member ↦ superkey_more n ds scheme (left_beside scheme k m) (tried_from scheme k m) (λ (j : ℕ) h. grind (arith, nat_tests)) within ((settled.left_out m member).0 left_out)
+        | inr outside ↦ superkey_more n ds scheme (tried_from scheme k (m + 1)) (tried_from scheme k m) (tried_outside scheme k m outside) within later
+      ]
     ]
 
 pub settled_is_key : (n : ℕ) (ds : List Dependency) (scheme k : Places) → Within scheme (below n) → IsSettledKey n ds scheme k → IsKey n ds scheme k
 settled_is_key n ds scheme k low settled = record {
   superkey = superkey_more n ds scheme (tried_from scheme k 0) k (λ (j : ℕ) h. grind (arith, nat_tests)) settled.within (tried_superkey n ds scheme k settled low 0 n (omega arith));
   minimal = λ j inside superkey a in_k. elim (cases_Bool (j a)) [
-      inl in_j ↦ in_j
-      | inr out ↦
+    | inl in_j ↦ in_j
+    | inr out ↦
         let beside : Within j (left_beside scheme k a) = λ (i : ℕ) m. elim (cases_eq i a) [
-          inl same ↦ absurd (true≢false (sym m ∙ ap j same ∙ out))
-          | inr other ↦ grind (arith, nat_tests, inside i m, settled.within i (inside i m)) ] in
+          | inl same ↦ absurd (true≢false (sym m ∙ ap j same ∙ out))
+          | inr other ↦ grind (arith, nat_tests, inside i m, settled.within i (inside i m))
+        ] in
         let more = superkey_more n ds scheme j (left_beside scheme k a) beside (λ (i : ℕ) h. grind (arith, nat_tests, settled.within i)) superkey in
         absurd (true≢false (sym in_k ∙ (settled.left_out a (settled.within a in_k)).1 more))
-    ];
+  ];
 }

@@ -1,8 +1,8 @@
 -- What relations of no tuple and of one tuple obey.
-use Rattle.std.proofs.Common.{◌≡◌, ℕ, ◌<◌, zero, suc, List, [], ◌∷◌, refl, sym, ap, ◌∙◌, arith}
+use Rattle.std.proofs.Common.{◌≡◌, ℕ, ◌<◌, zero, suc, [], ◌∷◌, sym, ap, ◌∙◌, arith}
 use Rattle.std.specs.Prelude.{Contains, slice_index_or}
-use Rattle.attr_sets.specs.Places.{Places, below, union, minus}
-use Rattle.dep_model.specs.Tuples.{Tuple, Relation, value_at, AgreeOn}
+use Rattle.attr_sets.specs.Places.{Places, below}
+use Rattle.dep_model.specs.Tuples.{Tuple, value_at}
 use Rattle.dep_model.specs.Dependencies.{Dependency, fd, mvd, Obeys, ObeysFd}
 use Rattle.dep_model.proofs.RuleLemmas.{replication_obeyed}
 

@@ -1,12 +1,10 @@
 -- The rules of inference, each over every relation: Armstrong's for functional dependencies, and those
 -- of Beeri, Fagin and Howard (1977) for multivalued and mixed ones. Where a rule speaks of the
 -- universe, it is any scheme that holds the sets named.
-use Rattle.std.proofs.Common.{◌≡◌, ℕ, true, false, not, ◌&&◌, ◌||◌, List, [], ◌∷◌, refl, sym, ◌∙◌, inl, inr, ⊎_elim, arith}
+use Rattle.std.proofs.Common.{◌≡◌, ℕ, true, refl, sym, ◌∙◌, inl, inr, arith}
 use Rattle.std.proofs.lemmas.Bool.{or_cases, cases_Bool}
-use Rattle.std.proofs.lemmas.Bool.Decides.{nat_tests}
-use Rattle.std.specs.Prelude.{Contains}
 use Rattle.attr_sets.specs.Places.{Places, union, meet, minus, Within, Apart}
-use Rattle.dep_model.specs.Tuples.{Tuple, Relation, value_at, AgreeOn}
+use Rattle.dep_model.specs.Tuples.{Relation, AgreeOn}
 use Rattle.dep_model.specs.Dependencies.{ObeysFd, ObeysMvd}
 
 -- ---- functional dependencies
@@ -18,8 +16,8 @@ reflexivity_obeyed x y r inside t u t_in u_in agree k m = agree k (inside k m)
 pub augmentation_obeyed : (x y z : Places) (r : Relation) → ObeysFd x y r → ObeysFd (union x z) (union y z) r
 augmentation_obeyed x y z r obeys t u t_in u_in agree k m =
     elim (or_cases (y k) (z k) m) [
-        inl in_y ↦ obeys t u t_in u_in (λ (j : ℕ) (h : x j ≡ true). agree j (grind (arith, h))) k in_y
-        | inr in_z ↦ agree k (grind (arith, in_z))
+      | inl in_y ↦ obeys t u t_in u_in (λ (j : ℕ) (h : x j ≡ true). agree j (grind (arith, h))) k in_y
+      | inr in_z ↦ agree k (grind (arith, in_z))
     ]
 
 -- x -> y and y -> z give x -> z
@@ -40,12 +38,15 @@ fd_weaker_obeyed x y v w r x_in w_in obeys t u t_in u_in agree k m =
 -- x ->> y gives x ->> the rest
 pub complementation_obeyed : (scheme x y : Places) (r : Relation) → ObeysMvd scheme x y r → ObeysMvd scheme x (minus scheme (union x y)) r
 complementation_obeyed scheme x y r obeys t u t_in u_in agree =
-    let w = obeys u t u_in t_in (λ (k : ℕ) m. sym (agree k m)) in
-    (w.0, w.1,
+    let w = obeys u t u_in t_in (λ (k : ℕ) m. sym (agree k m)) in (
+      w.0,
+      w.1,
       (λ (k : ℕ) m. elim (or_cases (x k) (minus scheme (union x y) k) m) [
-          inl in_x ↦ w.2 k (grind (arith, in_x)) ∙ sym (agree k in_x)
-          | inr in_rest ↦ w.3 k in_rest ]),
-      (λ (k : ℕ) m. w.2 k (grind (arith, m))))
+        | inl in_x ↦ w.2 k (grind (arith, in_x)) ∙ sym (agree k in_x)
+        | inr in_rest ↦ w.3 k in_rest
+      ]),
+      (λ (k : ℕ) m. w.2 k (grind (arith, m))),
+    )
 
 -- y within x gives x ->> y
 pub mreflexivity_obeyed : (scheme x y : Places) (r : Relation) → Within y x → ObeysMvd scheme x y r
@@ -55,14 +56,17 @@ mreflexivity_obeyed scheme x y r inside t u t_in u_in agree =
 -- x ->> y gives xw ->> yz for z within w
 pub maugmentation_obeyed : (scheme x y w z : Places) (r : Relation) → Within z w → Within w scheme → ObeysMvd scheme x y r → ObeysMvd scheme (union x w) (union y z) r
 maugmentation_obeyed scheme x y w z r inside within obeys t u t_in u_in agree =
-    let v = obeys t u t_in u_in (λ (k : ℕ) (h : x k ≡ true). agree k (grind (arith, h))) in
-    (v.0, v.1,
+    let v = obeys t u t_in u_in (λ (k : ℕ) (h : x k ≡ true). agree k (grind (arith, h))) in (
+      v.0,
+      v.1,
       (λ (k : ℕ) m. elim (cases_Bool (union x y k)) [
-          inl in_xy ↦ v.2 k in_xy
-          | inr out ↦
+        | inl in_xy ↦ v.2 k in_xy
+        | inr out ↦
             let in_w : w k ≡ true = grind (arith, m, out, inside k) in
-            v.3 k (grind (arith, out, within k in_w)) ∙ sym (agree k (grind (arith, in_w))) ]),
-      (λ (k : ℕ) m. v.3 k (grind (arith, m))))
+            v.3 k (grind (arith, out, within k in_w)) ∙ sym (agree k (grind (arith, in_w)))
+      ]),
+      (λ (k : ℕ) m. v.3 k (grind (arith, m))),
+    )
 
 -- x -> y gives x ->> y
 pub replication_obeyed : (scheme x y : Places) (r : Relation) → ObeysFd x y r → ObeysMvd scheme x y r
@@ -73,24 +77,30 @@ replication_obeyed scheme x y r obeys t u t_in u_in agree =
 pub mtransitivity_obeyed : (scheme x y z : Places) (r : Relation) → Within x scheme → Within z scheme → ObeysMvd scheme x y r → ObeysMvd scheme y z r → ObeysMvd scheme x (minus z y) r
 mtransitivity_obeyed scheme x y z r x_in z_in first second t u t_in u_in agree =
     let v = first u t u_in t_in (λ (k : ℕ) m. sym (agree k m)) in
-    let w = second v.0 u v.1 u_in (λ (k : ℕ) m. v.2 k (grind (arith, m))) in
-    (w.0, w.1,
+    let w = second v.0 u v.1 u_in (λ (k : ℕ) m. v.2 k (grind (arith, m))) in (
+      w.0,
+      w.1,
       (λ (k : ℕ) m. elim (cases_Bool (x k)) [
-          inl in_x ↦ elim (cases_Bool (union y z k)) [
-              inl in_yz ↦ w.2 k in_yz ∙ v.2 k (grind (arith, in_x)) ∙ sym (agree k in_x)
-              | inr out ↦ w.3 k (grind (arith, out, x_in k in_x)) ∙ sym (agree k in_x) ]
-          | inr out ↦ w.2 k (grind (arith, m, out)) ∙ v.3 k (grind (arith, m, out, z_in k)) ]),
+        | inl in_x ↦ elim (cases_Bool (union y z k)) [
+          | inl in_yz ↦ w.2 k in_yz ∙ v.2 k (grind (arith, in_x)) ∙ sym (agree k in_x)
+          | inr out ↦ w.3 k (grind (arith, out, x_in k in_x)) ∙ sym (agree k in_x)
+        ]
+        | inr out ↦ w.2 k (grind (arith, m, out)) ∙ v.3 k (grind (arith, m, out, z_in k))
+      ]),
       (λ (k : ℕ) m. elim (cases_Bool (y k)) [
-          inl in_y ↦ w.2 k (grind (arith, in_y)) ∙ v.2 k (grind (arith, in_y))
-          | inr out ↦ w.3 k (grind (arith, m, out)) ]))
+        | inl in_y ↦ w.2 k (grind (arith, in_y)) ∙ v.2 k (grind (arith, in_y))
+        | inr out ↦ w.3 k (grind (arith, m, out))
+      ]),
+    )
 
 -- x ->> y and z -> w give x -> w for w within y and z apart from y
 pub coalescence_obeyed : (scheme x y z w : Places) (r : Relation) → Within z scheme → Within w y → Apart z y → ObeysMvd scheme x y r → ObeysFd z w r → ObeysFd x w r
 coalescence_obeyed scheme x y z w r z_in w_in apart obeys gives t u t_in u_in agree k m =
     let v = obeys t u t_in u_in agree in
     let on_z : AgreeOn z v.0 u = λ (j : ℕ) h. elim (cases_Bool (x j)) [
-        inl in_x ↦ v.2 j (grind (arith, in_x)) ∙ agree j in_x
-        | inr out ↦ v.3 j (grind (arith, out, z_in j h, apart j h)) ] in
+      | inl in_x ↦ v.2 j (grind (arith, in_x)) ∙ agree j in_x
+      | inr out ↦ v.3 j (grind (arith, out, z_in j h, apart j h))
+    ] in
     sym (v.2 k (grind (arith, w_in k m))) ∙ gives v.0 u v.1 u_in on_z k m
 
 -- ---- what follows from several multivalued dependencies with one left side
@@ -98,37 +108,47 @@ coalescence_obeyed scheme x y z w r z_in w_in apart obeys gives t u t_in u_in ag
 pub mvd_union_obeyed : (scheme x y z : Places) (r : Relation) → Within y scheme → ObeysMvd scheme x y r → ObeysMvd scheme x z r → ObeysMvd scheme x (union y z) r
 mvd_union_obeyed scheme x y z r y_in first second t u t_in u_in agree =
     let v = first t u t_in u_in agree in
-    let w = second t v.0 t_in v.1 (λ (k : ℕ) m. sym (v.2 k (grind (arith, m)))) in
-    (w.0, w.1,
+    let w = second t v.0 t_in v.1 (λ (k : ℕ) m. sym (v.2 k (grind (arith, m)))) in (
+      w.0,
+      w.1,
       (λ (k : ℕ) m. elim (cases_Bool (union x z k)) [
-          inl in_xz ↦ w.2 k in_xz
-          | inr out ↦
+        | inl in_xz ↦ w.2 k in_xz
+        | inr out ↦
             let in_y : y k ≡ true = grind (arith, m, out) in
-            w.3 k (grind (arith, out, y_in k in_y)) ∙ v.2 k (grind (arith, in_y)) ]),
-      (λ (k : ℕ) m. w.3 k (grind (arith, m)) ∙ v.3 k (grind (arith, m))))
+            w.3 k (grind (arith, out, y_in k in_y)) ∙ v.2 k (grind (arith, in_y))
+      ]),
+      (λ (k : ℕ) m. w.3 k (grind (arith, m)) ∙ v.3 k (grind (arith, m))),
+    )
 
 -- x ->> y and x ->> z give x ->> what y and z share
 pub mvd_meet_obeyed : (scheme x y z : Places) (r : Relation) → ObeysMvd scheme x y r → ObeysMvd scheme x z r → ObeysMvd scheme x (meet y z) r
 mvd_meet_obeyed scheme x y z r first second t u t_in u_in agree =
     let v = first t u t_in u_in agree in
-    let w = second v.0 u v.1 u_in (λ (k : ℕ) m. v.2 k (grind (arith, m)) ∙ agree k m) in
-    (w.0, w.1,
+    let w = second v.0 u v.1 u_in (λ (k : ℕ) m. v.2 k (grind (arith, m)) ∙ agree k m) in (
+      w.0,
+      w.1,
       (λ (k : ℕ) m. w.2 k (grind (arith, m)) ∙ v.2 k (grind (arith, m))),
       (λ (k : ℕ) m. elim (cases_Bool (z k)) [
-          inl in_z ↦ w.2 k (grind (arith, in_z)) ∙ v.3 k (grind (arith, m, in_z))
-          | inr out ↦ w.3 k (grind (arith, m, out)) ]))
+        | inl in_z ↦ w.2 k (grind (arith, in_z)) ∙ v.3 k (grind (arith, m, in_z))
+        | inr out ↦ w.3 k (grind (arith, m, out))
+      ]),
+    )
 
 -- x ->> y and x ->> z give x ->> what y has beyond z
 pub mvd_minus_obeyed : (scheme x y z : Places) (r : Relation) → Within y scheme → ObeysMvd scheme x y r → ObeysMvd scheme x z r → ObeysMvd scheme x (minus y z) r
 mvd_minus_obeyed scheme x y z r y_in first second t u t_in u_in agree =
     let v = first t u t_in u_in agree in
-    let w = second u v.0 u_in v.1 (λ (k : ℕ) m. sym (v.2 k (grind (arith, m)) ∙ agree k m)) in
-    (w.0, w.1,
+    let w = second u v.0 u_in v.1 (λ (k : ℕ) m. sym (v.2 k (grind (arith, m)) ∙ agree k m)) in (
+      w.0,
+      w.1,
       (λ (k : ℕ) m. elim (cases_Bool (x k)) [
-          inl in_x ↦ w.2 k (grind (arith, in_x)) ∙ sym (agree k in_x)
-          | inr out ↦
+        | inl in_x ↦ w.2 k (grind (arith, in_x)) ∙ sym (agree k in_x)
+        | inr out ↦
             let in_y : y k ≡ true = grind (arith, m, out) in
-            w.3 k (grind (arith, m, out, y_in k in_y)) ∙ v.2 k (grind (arith, in_y)) ]),
+            w.3 k (grind (arith, m, out, y_in k in_y)) ∙ v.2 k (grind (arith, in_y))
+      ]),
       (λ (k : ℕ) m. elim (cases_Bool (z k)) [
-          inl in_z ↦ w.2 k (grind (arith, in_z))
-          | inr out ↦ w.3 k (grind (arith, m, out)) ∙ v.3 k (grind (arith, m, out)) ]))
+        | inl in_z ↦ w.2 k (grind (arith, in_z))
+        | inr out ↦ w.3 k (grind (arith, m, out)) ∙ v.3 k (grind (arith, m, out))
+      ]),
+    )

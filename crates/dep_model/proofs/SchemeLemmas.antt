@@ -1,5 +1,5 @@
 -- Projections on a scheme, place by place, and what they obey.
-use Rattle.std.proofs.Common.{◌≡◌, ℕ, ◌+◌, ◌<◌, ◌≤◌, zero, suc, Bool, true, false, cond, List, [], ◌∷◌, ◌++◌, length, map, get_or, refl, sym, ap, subst, ◌∙◌, inl, inr, arith, length-append, append-nil}
+use Rattle.std.proofs.Common.{◌≡◌, ℕ, ◌+◌, ◌<◌, zero, suc, true, false, List, [], ◌∷◌, ◌++◌, length, get_or, refl, sym, ap, subst, ◌∙◌, inl, inr, arith, length-append, append-nil}
 use Rattle.std.proofs.lemmas.Bool.{cases_Bool, cases_lt}
 use Rattle.std.proofs.lemmas.Bool.Decides.{nat_tests}
 use Rattle.std.proofs.lemmas.List.{get_or_past, get_or-map, get_or_append_left, length-map, same_lists, get_or_default}
@@ -43,8 +43,8 @@ pub length-members_below : (n : ℕ) (x : Places) → length (members_below n x)
 length-members_below zero x = rw (members_below-none x, count_below-start x) refl
 length-members_below (suc n) x =
     elim (cases_Bool (x n)) [
-        inl h ↦ rw (members_below-member n x h) (omega (arith, length-append (members_below n x) (n ∷ []), length-members_below n x, count_below-one_more n x h))
-        | inr h ↦ rw (members_below-outside n x h) (omega (arith, length-members_below n x, count_below-no_more n x h))
+      | inl h ↦ rw (members_below-member n x h) (omega (arith, length-append (members_below n x) (n ∷ []), length-members_below n x, count_below-one_more n x h))
+      | inr h ↦ rw (members_below-outside n x h) (omega (arith, length-members_below n x, count_below-no_more n x h))
     ]
 
 -- a member stands after those before it
@@ -52,12 +52,13 @@ pub members_below-at : (n : ℕ) (x : Places) (k d : ℕ) → k < n → x k ≡ 
 members_below-at zero x k d l h = absurd (omega arith)
 members_below-at (suc n) x k d l h =
     elim (cases_lt k n) [
-        inl before ↦
+      | inl before ↦
           let short : count_below x k < length (members_below n x) = omega (arith, length-members_below n x, count_below-place n k x before h) in
           elim (cases_Bool (x n)) [
-              inl m ↦ rw (members_below-member n x m) (get_or_append_left (members_below n x) (n ∷ []) d (count_below x k) short ∙ members_below-at n x k d before h)
-              | inr m ↦ rw (members_below-outside n x m) (members_below-at n x k d before h) ]
-        | inr from_n ↦
+            | inl m ↦ rw (members_below-member n x m) (get_or_append_left (members_below n x) (n ∷ []) d (count_below x k) short ∙ members_below-at n x k d before h)
+            | inr m ↦ rw (members_below-outside n x m) (members_below-at n x k d before h)
+          ]
+      | inr from_n ↦
           let same : n ≡ k = omega arith in
           let m : x n ≡ true = ap x same ∙ h in
           let at_end : count_below x k ≡ length (members_below n x) = ap (λ (j : ℕ). count_below x j) (sym same) ∙ sym (length-members_below n x) in
@@ -71,11 +72,11 @@ length-project_tuple scheme t = length-map (members_below (length t) scheme) (λ
 pub value_in-project_tuple : (scheme : Places) (t : Tuple) (k : ℕ) → scheme k ≡ true → value_in scheme (project_tuple scheme t) k ≡ value_at t k
 value_in-project_tuple scheme t k h =
     elim (cases_lt k (length t)) [
-        inl before ↦
+      | inl before ↦
           let short : count_below scheme k < length (members_below (length t) scheme) = omega (arith, length-members_below (length t) scheme, count_below-place (length t) k scheme before h) in
           get_or-map (λ (j : ℕ). value_at t j) (members_below (length t) scheme) (count_below scheme k) 0 [] short
           ∙ ap (λ (j : ℕ). value_at t j) (members_below-at (length t) scheme k 0 before h)
-        | inr past ↦
+      | inr past ↦
           get_or_past (project_tuple scheme t) (count_below scheme k) [] (omega (arith, length-project_tuple scheme t, count_below-mono k (length t) scheme past))
           ∙ sym (get_or_past t k [] past)
     ]
@@ -96,7 +97,7 @@ Within-union x y scheme x_in y_in k m = grind (arith, m, x_in k, y_in k)
 pub fd_in-to : (scheme x y : Places) (r : Relation) → Within x scheme → Within y scheme → ObeysIn scheme (fd x y) (projection scheme r) → ObeysFd x y r
 fd_in-to scheme x y r x_in y_in obeys t u t_in u_in agree =
     AgreeIn-to scheme y t u y_in
-      (obeys (project_tuple scheme t) (project_tuple scheme u) (Contains-map (project_tuple scheme) r t t_in) (Contains-map (project_tuple scheme) r u u_in) (AgreeIn-from scheme x t u x_in agree))
+    (obeys (project_tuple scheme t) (project_tuple scheme u) (Contains-map (project_tuple scheme) r t t_in) (Contains-map (project_tuple scheme) r u u_in) (AgreeIn-from scheme x t u x_in agree))
 
 pub fd_in-from : (scheme x y : Places) (r : Relation) → Within x scheme → Within y scheme → ObeysFd x y r → ObeysIn scheme (fd x y) (projection scheme r)
 fd_in-from scheme x y r x_in y_in obeys p q p_in q_in agree =
@@ -108,22 +109,26 @@ fd_in-from scheme x y r x_in y_in obeys p q p_in q_in agree =
 pub mvd_in-to : (scheme x y : Places) (r : Relation) → Within x scheme → Within y scheme → ObeysIn scheme (mvd x y) (projection scheme r) → ObeysMvd scheme x y r
 mvd_in-to scheme x y r x_in y_in obeys t u t_in u_in agree =
     let w = obeys (project_tuple scheme t) (project_tuple scheme u) (Contains-map (project_tuple scheme) r t t_in) (Contains-map (project_tuple scheme) r u u_in) (AgreeIn-from scheme x t u x_in agree) in
-    let v = map-member (project_tuple scheme) r w.0 w.1 in
-    (v.0, v.1,
+    let v = map-member (project_tuple scheme) r w.0 w.1 in (
+      v.0,
+      v.1,
       AgreeIn-to scheme (union x y) v.0 t (Within-union x y scheme x_in y_in) (rw v.2 w.2),
-      AgreeIn-to scheme (minus scheme (union x y)) v.0 u (λ (k : ℕ) m. grind (arith, m)) (rw v.2 w.3))
+      AgreeIn-to scheme (minus scheme (union x y)) v.0 u (λ (k : ℕ) m. grind (arith, m)) (rw v.2 w.3),
+    )
 
 pub mvd_in-from : (scheme x y : Places) (r : Relation) → Within x scheme → Within y scheme → ObeysMvd scheme x y r → ObeysIn scheme (mvd x y) (projection scheme r)
 mvd_in-from scheme x y r x_in y_in obeys p q p_in q_in agree =
     let t = map-member (project_tuple scheme) r p p_in in
     let u = map-member (project_tuple scheme) r q q_in in
     let on_x : AgreeOn x t.0 u.0 = AgreeIn-to scheme x t.0 u.0 x_in (rw (t.2, u.2) agree) in
-    let v = obeys t.0 u.0 t.1 u.1 on_x in
-    (project_tuple scheme v.0, Contains-map (project_tuple scheme) r v.0 v.1,
+    let v = obeys t.0 u.0 t.1 u.1 on_x in (
+      project_tuple scheme v.0,
+      Contains-map (project_tuple scheme) r v.0 v.1,
       subst (λ (s : Tuple). AgreeIn scheme (union x y) (project_tuple scheme v.0) s) t.2
-        (AgreeIn-from scheme (union x y) v.0 t.0 (Within-union x y scheme x_in y_in) v.2),
+          (AgreeIn-from scheme (union x y) v.0 t.0 (Within-union x y scheme x_in y_in) v.2),
       subst (λ (s : Tuple). AgreeIn scheme (minus scheme (union x y)) (project_tuple scheme v.0) s) u.2
-        (AgreeIn-from scheme (minus scheme (union x y)) v.0 u.0 (λ (k : ℕ) m. grind (arith, m)) v.3))
+          (AgreeIn-from scheme (minus scheme (union x y)) v.0 u.0 (λ (k : ℕ) m. grind (arith, m)) v.3),
+    )
 
 -- ---- the whole of a tuple
 count_below-all : (n : ℕ) (x : Places) → ((k : ℕ) → k < n → x k ≡ true) → count_below x n ≡ n
@@ -134,14 +139,14 @@ pub project_tuple-whole : (scheme : Places) (t : Tuple) → ((k : ℕ) → k < l
 project_tuple-whole scheme t all =
     let count : count_below scheme (length t) ≡ length t = count_below-all (length t) scheme all in
     same_lists (project_tuple scheme t) t (length-project_tuple scheme t ∙ count) (λ (k : ℕ) (d : List ℕ) l.
-      let before : k < length t = omega (arith, length-project_tuple scheme t, count) in
-      let short : k < length (members_below (length t) scheme) = omega (arith, length-members_below (length t) scheme, count) in
-      let place : count_below scheme k ≡ k = count_below-all k scheme (λ (j : ℕ) m. all j (omega arith)) in
-      let at_place : get_or (members_below (length t) scheme) k 0 ≡ k =
-        ap (λ (j : ℕ). get_or (members_below (length t) scheme) j 0) (sym place) ∙ members_below-at (length t) scheme k 0 before (all k before) in
-      get_or-map (λ (j : ℕ). value_at t j) (members_below (length t) scheme) k 0 d short
-      ∙ ap (λ (j : ℕ). value_at t j) at_place
-      ∙ get_or_default t k [] d before)
+    let before : k < length t = omega (arith, length-project_tuple scheme t, count) in
+    let short : k < length (members_below (length t) scheme) = omega (arith, length-members_below (length t) scheme, count) in
+    let place : count_below scheme k ≡ k = count_below-all k scheme (λ (j : ℕ) m. all j (omega arith)) in
+    let at_place : get_or (members_below (length t) scheme) k 0 ≡ k =
+    ap (λ (j : ℕ). get_or (members_below (length t) scheme) j 0) (sym place) ∙ members_below-at (length t) scheme k 0 before (all k before) in
+    get_or-map (λ (j : ℕ). value_at t j) (members_below (length t) scheme) k 0 d short
+    ∙ ap (λ (j : ℕ). value_at t j) at_place
+    ∙ get_or_default t k [] d before)
 
 -- ---- the universe alone
 -- a plan of one scheme that holds every place loses nothing
@@ -149,8 +154,8 @@ pub whole_lossless : (n : ℕ) (ds : List Dependency) → IsLossless n ds (below
 whole_lossless n ds = record {
   covers = λ k l. (0, below n, omega arith, refl, grind (arith, nat_tests));
   gains_none = λ r legal t joined.
-    let whole = λ (u : Tuple) (over : length u ≡ n). project_tuple-whole (below n) u (λ (k : ℕ) l. grind (arith, nat_tests)) in
-    let found = map-member (project_tuple (below n)) r (project_tuple (below n) t) joined.in_each.0 in
-    let same : found.0 ≡ t = sym (whole found.0 (All-contains (λ (u : Tuple). length u ≡ n) r found.0 legal.over found.1)) ∙ found.2 ∙ whole t joined.over in
-    subst (λ (u : Tuple). Contains r u) same found.1;
+      let whole = λ (u : Tuple) (over : length u ≡ n). project_tuple-whole (below n) u (λ (k : ℕ) l. grind (arith, nat_tests)) in
+      let found = map-member (project_tuple (below n)) r (project_tuple (below n) t) joined.in_each.0 in
+      let same : found.0 ≡ t = sym (whole found.0 (All-contains (λ (u : Tuple). length u ≡ n) r found.0 legal.over found.1)) ∙ found.2 ∙ whole t joined.over in
+      subst (λ (u : Tuple). Contains r u) same found.1;
 }

@@ -1,10 +1,10 @@
 -- What two tuples that agree exactly on a set obey.
-use Rattle.std.proofs.Common.{◌≡◌, ℕ, ◌<◌, zero, suc, ◌⊎◌, true, false, [], ◌∷◌, refl, sym, subst, inl, inr, ⊎_elim, arith, ◌∙◌}
+use Rattle.std.proofs.Common.{◌≡◌, ℕ, ◌<◌, zero, suc, ◌⊎◌, [], ◌∷◌, refl, sym, inl, inr, ⊎_elim, arith, ◌∙◌}
 use Rattle.std.specs.Prelude.{Contains, slice_index_or}
 use Rattle.std.proofs.lemmas.Bool.Decides.{nat_tests}
 use Rattle.std.proofs.lemmas.Bool.{or_cases}
 use Rattle.attr_sets.specs.Places.{Places, below, union, minus, Within}
-use Rattle.dep_model.specs.Tuples.{Tuple, Relation, value_at, AgreeOn, AgreeExactly}
+use Rattle.dep_model.specs.Tuples.{Tuple, Relation, AgreeOn, AgreeExactly}
 use Rattle.dep_model.specs.Dependencies.{ObeysFd, ObeysMvd}
 
 -- ---- membership in a relation of two tuples
@@ -59,14 +59,14 @@ pub fd_two-from : (n : ℕ) (a x y : Places) (t u : Tuple) → AgreeExactly n a 
     → (Within x a → Within y a) → ObeysFd x y (t ∷ u ∷ [])
 fd_two-from n a x y t u e x_in y_in gives v w v_in w_in agree =
     elim (two_cases t u v v_in) [
-        inl vt ↦ elim (two_cases t u w w_in) [
-            inl wt ↦ rw (vt, wt) (AgreeOn-refl y t)
-            | inr wu ↦ rw (vt, wu) (agree-from n a y t u e y_in (gives (agree-to n a x t u e x_in (rw (← vt, ← wu) agree))))
-        ]
-        | inr vu ↦ elim (two_cases t u w w_in) [
-            inl wt ↦ rw (vu, wt) (AgreeOn-sym y t u (agree-from n a y t u e y_in (gives (agree-to n a x t u e x_in (AgreeOn-sym x u t (rw (← vu, ← wt) agree))))))
-            | inr wu ↦ rw (vu, wu) (AgreeOn-refl y u)
-        ]
+      | inl vt ↦ elim (two_cases t u w w_in) [
+        | inl wt ↦ rw (vt, wt) (AgreeOn-refl y t)
+        | inr wu ↦ rw (vt, wu) (agree-from n a y t u e y_in (gives (agree-to n a x t u e x_in (rw (← vt, ← wu) agree))))
+      ]
+      | inr vu ↦ elim (two_cases t u w w_in) [
+        | inl wt ↦ rw (vu, wt) (AgreeOn-sym y t u (agree-from n a y t u e y_in (gives (agree-to n a x t u e x_in (AgreeOn-sym x u t (rw (← vu, ← wt) agree))))))
+        | inr wu ↦ rw (vu, wu) (AgreeOn-refl y u)
+      ]
     ]
 
 -- ---- x ->> y
@@ -75,8 +75,8 @@ pub mvd_two-to : (n : ℕ) (a x y : Places) (t u : Tuple) → AgreeExactly n a t
 mvd_two-to n a x y t u e x_in y_in obeys x_a =
     let w = obeys t u (two_first t u) (two_second t u) (agree-from n a x t u e x_in x_a) in
     elim (two_cases t u w.0 w.1) [
-        inl vt ↦ inr (agree-to n a (minus (below n) (union x y)) t u e (λ (k : ℕ) m. grind (arith, nat_tests, m)) (rw (← vt) w.3))
-        | inr vu ↦ inl (agree-to n a y t u e y_in (λ (k : ℕ) m. sym (let both : AgreeOn (union x y) u t = rw (← vu) w.2 in both k (grind (arith, m)))))
+      | inl vt ↦ inr (agree-to n a (minus (below n) (union x y)) t u e (λ (k : ℕ) m. grind (arith, nat_tests, m)) (rw (← vt) w.3))
+      | inr vu ↦ inl (agree-to n a y t u e y_in (λ (k : ℕ) m. sym (let both : AgreeOn (union x y) u t = rw (← vu) w.2 in both k (grind (arith, m)))))
     ]
 
 mvd_agree : (n : ℕ) (a x y : Places) (t u : Tuple) → AgreeExactly n a t u → Within x (below n) → Within y (below n)
@@ -84,8 +84,8 @@ mvd_agree : (n : ℕ) (a x y : Places) (t u : Tuple) → AgreeExactly n a t u �
     → AgreeOn y t u ⊎ AgreeOn (minus (below n) (union x y)) t u
 mvd_agree n a x y t u e x_in y_in gives agree =
     elim (gives (agree-to n a x t u e x_in agree)) [
-        inl on_y ↦ inl (agree-from n a y t u e y_in on_y)
-        | inr on_rest ↦ inr (agree-from n a (minus (below n) (union x y)) t u e (λ (k : ℕ) m. grind (arith, nat_tests, m)) on_rest)
+      | inl on_y ↦ inl (agree-from n a y t u e y_in on_y)
+      | inr on_rest ↦ inr (agree-from n a (minus (below n) (union x y)) t u e (λ (k : ℕ) m. grind (arith, nat_tests, m)) on_rest)
     ]
 
 -- which of two tuples is found for them: the second where they agree on y, the first where they agree on the rest
@@ -100,12 +100,12 @@ pub mvd_two-from : (n : ℕ) (a x y : Places) (t u : Tuple) → AgreeExactly n a
     → (Within x a → Within y a ⊎ Within (minus (below n) (union x y)) a) → ObeysMvd (below n) x y (t ∷ u ∷ [])
 mvd_two-from n a x y t u e x_in y_in gives v w v_in w_in agree =
     mvd_found (below n) x y (t ∷ u ∷ []) v w v_in w_in agree (elim (two_cases t u v v_in) [
-        inl vt ↦ elim (two_cases t u w w_in) [
-            inl wt ↦ inl (rw (vt, wt) (AgreeOn-refl y t))
-            | inr wu ↦ rw (vt, wu) (mvd_agree n a x y t u e x_in y_in gives (rw (← vt, ← wu) agree))
-        ]
-        | inr vu ↦ elim (two_cases t u w w_in) [
-            inl wt ↦ rw (vu, wt) (⊎_elim (λ h. inl (AgreeOn-sym y t u h)) (λ h. inr (AgreeOn-sym (minus (below n) (union x y)) t u h)) (mvd_agree n a x y t u e x_in y_in gives (AgreeOn-sym x u t (rw (← vu, ← wt) agree))))
-            | inr wu ↦ inl (rw (vu, wu) (AgreeOn-refl y u))
-        ]
+      | inl vt ↦ elim (two_cases t u w w_in) [
+        | inl wt ↦ inl (rw (vt, wt) (AgreeOn-refl y t))
+        | inr wu ↦ rw (vt, wu) (mvd_agree n a x y t u e x_in y_in gives (rw (← vt, ← wu) agree))
+      ]
+      | inr vu ↦ elim (two_cases t u w w_in) [
+        | inl wt ↦ rw (vu, wt) (⊎_elim (λ h. inl (AgreeOn-sym y t u h)) (λ h. inr (AgreeOn-sym (minus (below n) (union x y)) t u h)) (mvd_agree n a x y t u e x_in y_in gives (AgreeOn-sym x u t (rw (← vu, ← wt) agree))))
+        | inr wu ↦ inl (rw (vu, wu) (AgreeOn-refl y u))
+      ]
     ])

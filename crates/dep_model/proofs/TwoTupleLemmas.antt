@@ -1,10 +1,8 @@
 -- The two tuples that agree exactly on a set.
-use Rattle.std.proofs.Common.{◌≡◌, ℕ, ◌+◌, ◌<◌, ◌⊎◌, Bool, true, false, cond, List, [], ◌∷◌, length, map, get_or, refl, sym, ap, subst, ◌∙◌, inl, inr, arith}
-use Rattle.std.proofs.Math.ListN.{replicate}
+use Rattle.std.proofs.Common.{◌≡◌, ℕ, ◌<◌, ◌⊎◌, Bool, cond, List, [], ◌∷◌, length, get_or, refl, sym, ap, subst, ◌∙◌, inl, inr, arith}
 use Rattle.std.proofs.lemmas.Bool.{cases_Bool, true≢false}
 use Rattle.std.proofs.lemmas.List.{length-replicate, get_or-replicate}
 use Rattle.std.proofs.lemmas.List.FromFn.{length-map-range_with_len, get_or-map-range_with_len}
-use Rattle.std.specs.List.{range_with_len}
 use Rattle.std.proofs.lemmas.List.Elements.{All-nil, All-cons}
 use Rattle.attr_sets.specs.Places.{Places, below, union, minus, Within}
 use Rattle.dep_model.specs.Tuples.{Tuple, Relation, value_at, AgreeExactly, IsOver}
@@ -37,9 +35,9 @@ two_tuples-agree n x = record {
   first = length-all_zeros n;
   second = length-zeros_on n x;
   equal = λ k h. elim (cases_Bool (x k)) [
-      inl in_x ↦ ((λ m. value_at-all_zeros n k h ∙ sym (value_at-zeros_on n x k h ∙ ap (λ (b : Bool). cond b zero_text one_text) in_x)), (λ e. in_x))
-      | inr out ↦ ((λ m. absurd (true≢false (sym m ∙ out))), (λ e. absurd (zero≢one (sym (value_at-all_zeros n k h) ∙ e ∙ value_at-zeros_on n x k h ∙ ap (λ (b : Bool). cond b zero_text one_text) out))))
-    ];
+    | inl in_x ↦ ((λ m. value_at-all_zeros n k h ∙ sym (value_at-zeros_on n x k h ∙ ap (λ (b : Bool). cond b zero_text one_text) in_x)), (λ e. in_x))
+    | inr out ↦ ((λ m. absurd (true≢false (sym m ∙ out))), (λ e. absurd (zero≢one (sym (value_at-all_zeros n k h) ∙ e ∙ value_at-zeros_on n x k h ∙ ap (λ (b : Bool). cond b zero_text one_text) out))))
+  ];
 }
 
 -- the relation that they form
@@ -50,7 +48,7 @@ two_tuples-is n x = refl
 pub two_tuples-over : (n : ℕ) (x : Places) → IsOver n (two_tuples n x)
 two_tuples-over n x = rw (two_tuples-is n x)
     (All-cons (λ (t : Tuple). length t ≡ n) (all_zeros n) (zeros_on n x ∷ []) (length-all_zeros n)
-      (All-cons (λ (t : Tuple). length t ≡ n) (zeros_on n x) [] (length-zeros_on n x) (All-nil (λ (t : Tuple). length t ≡ n))))
+    (All-cons (λ (t : Tuple). length t ≡ n) (zeros_on n x) [] (length-zeros_on n x) (All-nil (λ (t : Tuple). length t ≡ n))))
 
 -- ---- what they obey
 pub two_tuples_fd-to : (n : ℕ) (a x y : Places) → Within x (below n) → Within y (below n) → ObeysFd x y (two_tuples n a) → Within x a → Within y a

@@ -1,4 +1,4 @@
-use Rattle.std.specs.Prelude.{◌≡◌, ℕ, Bool, true, false, List, Contains, filter}
+use Rattle.std.specs.Prelude.{ℕ, Bool, true, false, List, Contains, filter}
 use Rattle.attr_sets.specs.Places.{Places, below, union, minus, Within}
 use Rattle.dep_model.specs.Tuples.{Tuple, Relation, AgreeOn}
 

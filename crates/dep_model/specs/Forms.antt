@@ -1,8 +1,6 @@
-use Rattle.std.specs.Prelude.{◌≡◌, ℕ, ◌⊎◌, false, List, Any}
+use Rattle.std.specs.Prelude.{◌≡◌, ℕ, ◌⊎◌, false, List}
 use Rattle.attr_sets.specs.Places.{Places, only, union, Within, Same}
-use Rattle.dep_model.specs.Tuples.{Relation, IsOver}
-use Rattle.dep_model.specs.Dependencies.{Dependency, fd, mvd, ObeysFd, functional_part}
-use Rattle.dep_model.specs.Implication.{IsLegal, Implies}
+use Rattle.dep_model.specs.Dependencies.{Dependency, fd, mvd, functional_part}
 use Rattle.dep_model.specs.OnSchemes.{ImpliedOn}
 use Rattle.dep_model.specs.Keys.{IsSuperkey, IsPrime}
 

@@ -1,4 +1,4 @@
-use Rattle.std.specs.Prelude.{◌≡◌, ℕ, ◌<◌, zero, suc, Bool, true, cond, if◌then◌else◌, List, [], ◌∷◌, ◌++◌, length, map, Any, Contains}
+use Rattle.std.specs.Prelude.{◌≡◌, ℕ, ◌<◌, zero, suc, true, if◌then◌else◌, List, [], ◌∷◌, ◌++◌, length, map, Any, Contains}
 use Rattle.std.specs.List.{AllZip}
 use Rattle.attr_sets.specs.Places.{Places}
 use Rattle.dep_model.specs.Tuples.{Tuple, Relation, value_at, distinct}

@@ -14,6 +14,8 @@ mod memory;
 mod name;
 mod row;
 mod schema;
+#[cfg(test)]
+mod tests;
 mod two_rows;
 mod value;
 

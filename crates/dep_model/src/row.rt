@@ -1,10 +1,9 @@
 ghost use Rattle.std.specs.Prelude.{◌≡◌, ℕ, ◌<◌, List, ◌==◌, length, IfOk};
 ghost use Rattle.dep_model.specs.Tuples.{value_at};
 
+use crate::{Value, WantMemory};
 use std::alloc::Global;
 use std::marker::Model;
-
-use crate::{Value, WantMemory};
 
 /// A tuple: one value for each attribute, in the order of declaration.
 #[derive(Debug, Drop)]

@@ -1,13 +1,11 @@
 ghost use Rattle.std.specs.Prelude.{◌≡◌, ℕ, ◌<◌, ◌≤◌, length, slice_get, Some, position};
-
 ghost use Rattle.attr_sets.specs.Sets.{places};
 ghost use Rattle.dep_model.specs.Names.{same_name};
 ghost use Rattle.dep_model.specs.Columns.{columns_on};
 ghost use Rattle.dep_model.specs.Validity.{IsSchema, AreColumns};
 
-use attr_sets::{AttrSet, PLACES};
-
 use crate::{Column, Dep, Name};
+use attr_sets::{AttrSet, PLACES};
 
 /// The most dependencies of a schema.
 pub const MOST_DEPENDENCIES: usize = 256;
@@ -45,7 +43,12 @@ impl Schema {
     }
 
     /// A schema whose columns have these types.
-    pub fn make_typed(names: Vec<Name>, columns: Vec<Column>, deps: Vec<Dep>, lines: Vec<u32>) -> Schema
+    pub fn make_typed(
+        names: Vec<Name>,
+        columns: Vec<Column>,
+        deps: Vec<Dep>,
+        lines: Vec<u32>,
+    ) -> Schema
         requires schema { IsSchema names.items deps.items lines.items }
         requires columns { AreColumns names.items columns.items }
         ensures names { names_of result ≡ names.items }

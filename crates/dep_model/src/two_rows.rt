@@ -5,9 +5,8 @@ ghost use Rattle.dep_model.specs.Tuples.{Tuple, AgreeExactly};
 ghost use Rattle.dep_model.specs.Dependencies.{Obeys};
 ghost use Rattle.dep_model.specs.Deps.{dependency_of, IsDepWithin};
 
-use attr_sets::{AttrSet, PLACES};
-
 use crate::{Dep, Row};
+use attr_sets::{AttrSet, PLACES};
 
 /// The places at which two rows of one length are equal.
 pub fn agree(t: &Row, u: &Row) -> AttrSet
@@ -39,9 +38,7 @@ pub fn two_rows_obey(agreement: AttrSet, width: u8, dep: Dep) -> bool
             if !lhs.within(agreement) || rhs.within(agreement) {
                 return true;
             }
-            AttrSet::full(width)
-                .minus(lhs.union(rhs))
-                .within(agreement)
+            AttrSet::full(width).minus(lhs.union(rhs)).within(agreement)
         }
     }
 }

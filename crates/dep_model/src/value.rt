@@ -1,9 +1,8 @@
 ghost use Rattle.std.specs.Prelude.{◌≡◌, ℕ, List, IfOk};
 
+use crate::WantMemory;
 use std::alloc::Global;
 use std::marker::Model;
-
-use crate::WantMemory;
 
 /// A value of a tuple: any bytes. Two values are equal where all their bytes are.
 #[derive(Debug, Drop)]

@@ -1,8 +1,7 @@
-use Rattle.std.proofs.Common.{◌≡◌, ◌+◌, ◌*◌, ◌-◌, ◌≤◌, ◌∙◌, ap, sym, get_or, take, arith, refl}
+use Rattle.std.proofs.Common.{◌+◌, ◌∙◌, sym, arith, refl}
 use Rattle.std.proofs.lemmas.Bool.{false≢true}
 use Rattle.dep_model.specs.Integers.{IsNumeral}
 use Rattle.std.specs.Char.{is_ascii_digit}
-use Rattle.std.specs.Str.Parse.{digits_value}
 use Rattle.std.proofs.lemmas.List.Folds.{list_all_more}
 use Rattle.dep_model.proofs.NumeralLemmas.{digits_value-take, digits_value-next}
 use Rattle.dep_model.proofs.integer.is_numeral.Goals as goal

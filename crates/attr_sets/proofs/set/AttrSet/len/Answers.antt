@@ -4,6 +4,6 @@ use Rattle.attr_sets.specs.declared.set.TheConstants.{PLACES}
 use Rattle.attr_sets.proofs.BitLemmas.{count_ones-count_below}
 use Rattle.attr_sets.proofs.set.AttrSet.len.Goals as goal
 
-pub returns : goal.returns
+pub returns-clause-members : goal.returns-clause-members
 unfolding places
-returns c = record { members = count_ones-count_below PLACES c.args.self.0 (omega arith) }
+returns-clause-members c = count_ones-count_below PLACES c.args.self.0 (omega arith)

@@ -1,6 +1,5 @@
-use Rattle.std.proofs.Common.{◌≡◌, ◌∙◌, ap, true, false, cond, Some, sym, length}
+use Rattle.std.proofs.Common.{◌∙◌, ap, cond, Some, length}
 use Rattle.attr_sets.specs.Sets.{places}
-use Rattle.dep_model.specs.Schemas.{width_of}
 use Rattle.dep_model.specs.declared.column.Column.TheVariants.{Text, Integer}
 use Rattle.dep_model.proofs.ColumnLemmas.{AreColumns-text, slice_get-columns_on}
 use Rattle.dep_model.proofs.schema.Schema.make.Goals as goal

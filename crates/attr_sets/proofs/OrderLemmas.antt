@@ -1,0 +1,125 @@
+-- The order of sets by their numbers is the order by the greatest place in which they differ.
+use Rattle.std.proofs.Common.{◌≡◌, ℕ, zero, suc, ◌/◌, ◌^◌, ◌<◌, ◌≤◌, Bool, true, false, pow-suc, refl, sym, ap, ◌∙◌, ◌⊎◌, inl, inr, ⊎_elim, arith}
+use Rattle.std.specs.Bool.{Decides}
+use Rattle.std.specs.Int.{bit_at}
+use Rattle.std.specs.Ordering.{is_lt, nat_cmp, MatchOrdering}
+use Rattle.std.specs.Cmp.{ranks}
+use Rattle.std.specs.declared.cmp.Ordering.{Ordering}
+use Rattle.std.specs.declared.cmp.Ordering.TheVariants.{Less, Equal, Greater}
+use Rattle.attr_sets.proofs.PlacesLemmas.{places-at_number}
+use Rattle.std.proofs.lemmas.Bool.{cases_lt, cases_eq, cases_order, true≢false}
+use Rattle.std.proofs.lemmas.Bool.Decides.{nat_tests}
+use Rattle.std.proofs.lemmas.Nat.Bits.{bit_at_lowest, bit_at-suc, bit_at-lt, bit_at_above, same_from_bits}
+use Rattle.attr_sets.specs.declared.set.AttrSet.{AttrSet}
+use Rattle.attr_sets.specs.declared.set.TheConstants.{PLACES}
+use Rattle.attr_sets.specs.Places.{Places, below, Within, Same, IsBefore}
+use Rattle.attr_sets.specs.Sets.{has_bit, places}
+
+-- b has the greatest bit in which it differs from a
+abbrev pub HasHigherBit : ℕ → ℕ → Type 0
+HasHigherBit a b = (k : ℕ) × (bit_at a k ≡ 0) × (bit_at b k ≡ 1) × ((j : ℕ) → k < j → bit_at a j ≡ bit_at b j)
+
+lt_from_bit : (k a b : ℕ) → bit_at a k ≡ 0 → bit_at b k ≡ 1 → ((j : ℕ) → k < j → bit_at a j ≡ bit_at b j) → a < b
+lt_from_bit zero a b clear set above =
+    let high : a / 2 ≡ b / 2 = same_from_bits (a / 2) (b / 2) (λ j. sym (bit_at-suc a j) ∙ above (suc j) (omega arith) ∙ bit_at-suc b j) in
+    omega (arith, bit_at_lowest a, bit_at_lowest b)
+lt_from_bit (suc k) a b clear set above =
+    let half : a / 2 < b / 2 = lt_from_bit k (a / 2) (b / 2) (sym (bit_at-suc a k) ∙ clear) (sym (bit_at-suc b k) ∙ set) (λ j more. sym (bit_at-suc a j) ∙ above (suc j) (omega arith) ∙ bit_at-suc b j) in
+    omega arith
+
+-- bits above the lowest are those of the half
+same_above-suc : (a b k : ℕ) → ((j : ℕ) → k < j → bit_at (a / 2) j ≡ bit_at (b / 2) j) → (j : ℕ) → suc k < j → bit_at a j ≡ bit_at b j
+same_above-suc a b k same zero more = absurd (omega arith)
+same_above-suc a b k same (suc j) more = bit_at-suc a j ∙ same j (omega arith) ∙ sym (bit_at-suc b j)
+
+same_above-zero : (a b : ℕ) → a / 2 ≡ b / 2 → (j : ℕ) → 0 < j → bit_at a j ≡ bit_at b j
+same_above-zero a b half zero more = absurd (omega arith)
+same_above-zero a b half (suc j) more = bit_at-suc a j ∙ ap (λ n. bit_at n j) half ∙ sym (bit_at-suc b j)
+
+higher_bit : (w a b : ℕ) → b < 2 ^ w → a < b → HasHigherBit a b
+higher_bit zero a b fits less = absurd (omega arith)
+higher_bit (suc w) a b fits less =
+    ⊎_elim
+    (λ (less_half : a / 2 < b / 2).
+    let h = higher_bit w (a / 2) (b / 2) (omega (arith, pow-suc 2 w)) less_half in
+    (suc h.0, bit_at-suc a h.0 ∙ h.1, bit_at-suc b h.0 ∙ h.2, same_above-suc a b h.0 h.3))
+    (λ (not_less : b / 2 ≤ a / 2).
+    let half : a / 2 ≡ b / 2 = omega arith in
+    (0, omega (arith, bit_at_lowest a), omega (arith, bit_at_lowest b), same_above-zero a b half))
+    (cases_lt (a / 2) (b / 2))
+
+pub lt_from_before : (a b : AttrSet) → a.0 < 2 ^ PLACES → b.0 < 2 ^ PLACES → IsBefore (places a) (places b) → a.0 < b.0
+unfolding places has_bit
+lt_from_before a b a_fits b_fits before =
+    let k = before.0 in
+    lt_from_bit k a.0 b.0
+    (grind (arith, nat_tests, before.1, before.2, bit_at-lt a.0 k))
+    (grind (arith, nat_tests, before.2))
+    (λ j more. ⊎_elim
+    (λ (low : j < PLACES). grind (arith, nat_tests, before.3 j more, bit_at-lt a.0 j, bit_at-lt b.0 j))
+    (λ (high : PLACES ≤ j). bit_at_above a.0 PLACES j a_fits high ∙ sym (bit_at_above b.0 PLACES j b_fits high))
+    (cases_lt j PLACES))
+
+pub before_from_lt : (a b : AttrSet) → b.0 < 2 ^ PLACES → a.0 < b.0 → IsBefore (places a) (places b)
+unfolding places has_bit
+before_from_lt a b b_fits less =
+    let h = higher_bit PLACES a.0 b.0 b_fits less in
+    let k = h.0 in (
+      k,
+      grind (arith, nat_tests, h.1),
+      ⊎_elim
+          (λ (low : k < PLACES). grind (arith, nat_tests, h.2))
+          (λ (high : PLACES ≤ k). absurd (omega (arith, h.2, bit_at_above b.0 PLACES k b_fits high)))
+          (cases_lt k PLACES),
+      λ j more. grind (arith, nat_tests, h.3 j more),
+    )
+
+-- what `a < b` tells of two sets
+pub lt-decides : (a b : AttrSet) → a.0 < 2 ^ PLACES → b.0 < 2 ^ PLACES → Decides (is_lt (nat_cmp a.0 b.0)) (IsBefore (places a) (places b))
+lt-decides a b a_fits b_fits = (
+  λ less. before_from_lt a b b_fits (grind (arith, nat_tests, less)),
+  λ before. let less = lt_from_before a b a_fits b_fits before in grind (arith, nat_tests, less),
+)
+
+in_each_order : {P Q R P' Q' R' : Type 0} (o : Ordering) → (P → P') → (Q → Q') → (R → R') → MatchOrdering o P Q R → MatchOrdering o P' Q' R'
+in_each_order Less less equal greater h = less h
+in_each_order Equal less equal greater h = equal h
+in_each_order Greater less equal greater h = greater h
+
+-- what `a.cmp(b)` tells of two sets
+pub cmp-order : (a b : AttrSet) → a.0 < 2 ^ PLACES → b.0 < 2 ^ PLACES
+    → MatchOrdering (nat_cmp a.0 b.0) (IsBefore (places a) (places b)) (Same (places a) (places b)) (IsBefore (places b) (places a))
+cmp-order a b a_fits b_fits =
+    in_each_order (nat_cmp a.0 b.0) (before_from_lt a b b_fits) (places-at_number a b) (before_from_lt b a a_fits) (ranks a.0 b.0)
+
+pub IsBefore-irrefl : (x : Places) → IsBefore x x → ⊥
+IsBefore-irrefl x before = true≢false (sym before.2 ∙ before.1)
+
+pub IsBefore-trans : (x y z : Places) → IsBefore x y → IsBefore y z → IsBefore x z
+IsBefore-trans x y z first second =
+    ⊎_elim
+    (λ (same : first.0 ≡ second.0). absurd (true≢false (sym first.2 ∙ ap y same ∙ second.1)))
+    (⊎_elim
+    (λ (higher : first.0 < second.0). (second.0, first.3 second.0 higher ∙ second.1, second.2, λ j more. first.3 j (omega arith) ∙ second.3 j more))
+    (λ (lower : second.0 < first.0). (first.0, first.1, sym (second.3 first.0 lower) ∙ first.2, λ j more. first.3 j more ∙ second.3 j (omega arith))))
+    (cases_order first.0 second.0)
+
+tell_equal : (a b : Bool) → (a ≡ b) ⊎ (((a ≡ false) × (b ≡ true)) ⊎ ((b ≡ false) × (a ≡ true)))
+tell_equal true true = inl refl
+tell_equal false false = inl refl
+tell_equal false true = inr (inl (refl, refl))
+tell_equal true false = inr (inr (refl, refl))
+
+before_below : (n : ℕ) (x y : Places) → ((j : ℕ) → n ≤ j → x j ≡ y j) → Same x y ⊎ (IsBefore x y ⊎ IsBefore y x)
+before_below zero x y same = inl (λ j. same j (omega arith))
+before_below (suc n) x y same =
+    ⊎_elim
+    (λ (here : x n ≡ y n). before_below n x y (λ j on. ⊎_elim (λ (first : j ≡ n). ap x first ∙ here ∙ sym (ap y first)) (λ (later : j ≡ n → ⊥). same j (omega arith)) (cases_eq j n)))
+    (⊎_elim
+    (λ (up : (x n ≡ false) × (y n ≡ true)). inr (inl (n, up.0, up.1, same)))
+    (λ (down : (y n ≡ false) × (x n ≡ true)). inr (inr (n, down.0, down.1, λ j more. sym (same j more)))))
+    (tell_equal (x n) (y n))
+
+-- of two sets of places below n that are not the same, one comes before the other
+pub tell_before : (n : ℕ) (x y : Places) → Within x (below n) → Within y (below n) → Same x y ⊎ (IsBefore x y ⊎ IsBefore y x)
+tell_before n x y x_low y_low = before_below n x y (λ j on. grind (arith, nat_tests, x_low j, y_low j))

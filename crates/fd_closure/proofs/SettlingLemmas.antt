@@ -1,0 +1,72 @@
+-- The loop that leaves the settled key: attributes are tried from the last to the first.
+use Rattle.std.proofs.Common.{◌≡◌, ℕ, ◌+◌, ◌<◌, ◌≤◌, ◌↔◌, true, false, List, sym, ◌∙◌, subst, ap, inl, inr, refl, arith}
+use Rattle.std.proofs.lemmas.Bool.{cases_eq, true≢false}
+use Rattle.std.proofs.lemmas.Bool.Decides.{nat_tests}
+use Rattle.attr_sets.specs.Places.{Places, only, minus, Within, Same}
+use Rattle.attr_sets.proofs.PlacesLemmas.{Same-path}
+use Rattle.dep_model.specs.Dependencies.{Dependency, fd}
+use Rattle.dep_model.specs.Implication.{Implies}
+use Rattle.dep_model.specs.Keys.{IsSuperkey, IsSettledKey, left_beside}
+use Rattle.dep_model.proofs.KeyLemmas.{superkey-from, fd_on-to}
+
+-- what is left of a scheme once its attributes from i on were tried
+pub record IsTriedFrom (n : ℕ) (ds : List Dependency) (scheme : Places) (i : ℕ) (key : Places) : Type 0 where
+  pub within : Within key scheme
+  pub untried : (k : ℕ) → k < i → key k ≡ scheme k
+  pub tried : (a : ℕ) → i ≤ a → scheme a ≡ true → (key a ≡ false) ↔ IsSuperkey n ds scheme (left_beside scheme key a)
+
+-- what stands beside an attribute depends on the later ones alone
+left_beside-later : (scheme key other : Places) (a : ℕ) → ((k : ℕ) → a < k → key k ≡ other k) → left_beside scheme key a ≡ left_beside scheme other a
+left_beside-later scheme key other a same = Same-path (left_beside scheme key a) (left_beside scheme other a) (λ (k : ℕ). grind (arith, nat_tests, same k))
+
+-- before i is tried, it is all but i
+left_beside-untried : (scheme key rest : Places) (i : ℕ) → ((k : ℕ) → k < i + 1 → key k ≡ scheme k) → Same rest (minus key (only i)) → rest ≡ left_beside scheme key i
+left_beside-untried scheme key rest i untried is = Same-path rest (left_beside scheme key i) (λ (k : ℕ). grind (arith, nat_tests, untried k, is k))
+
+module _ (n : ℕ) (ds : List Dependency) (scheme : Places) where
+  -- no place of the scheme from i on: nothing was tried
+  pub tried_none : (i : ℕ) → ((a : ℕ) → scheme a ≡ true → a < i) → IsTriedFrom n ds scheme i scheme
+  tried_none i low = record {
+    within = λ k m. m;
+    untried = λ k l. refl;
+    tried = λ a from member. absurd (omega (arith, low a member));
+  }
+
+  -- the rest determines the scheme: i is left out
+  pub tried_left_out : (i j : ℕ) (key rest : Places) → j ≡ i + 1 → IsTriedFrom n ds scheme j key → Same rest (minus key (only i)) → Implies n ds (fd rest scheme) → IsTriedFrom n ds scheme i rest
+  tried_left_out i j key rest e before is implied = record {
+    within = inside;
+    untried = λ k l. grind (arith, nat_tests, is k, before.untried k);
+    tried = λ a from member. elim (cases_eq a i) [
+      | inl same ↦
+          let beside : rest ≡ left_beside scheme rest a = left_beside-untried scheme key rest i (λ (k : ℕ) l. before.untried k (omega arith)) is ∙ left_beside-later scheme key rest i (λ (k : ℕ) l. grind (arith, nat_tests, is k)) ∙ ap (λ (b : ℕ). left_beside scheme rest b) (sym same) in
+          ((λ _. subst (λ (x : Places). IsSuperkey n ds scheme x) beside (superkey-from n ds scheme rest inside implied)), (λ _. grind (arith, nat_tests, is a, same)))
+      | inr other ↦
+          let old = before.tried a (omega arith) member in
+          let beside : left_beside scheme key a ≡ left_beside scheme rest a = left_beside-later scheme key rest a (λ (k : ℕ) l. grind (arith, nat_tests, is k)) in
+          let stays : rest a ≡ key a = grind (arith, nat_tests, is a) in
+          ((λ out. subst (λ (x : Places). IsSuperkey n ds scheme x) beside (old.0 (sym stays ∙ out))), (λ superkey. stays ∙ old.1 (rw beside superkey)))
+    ];
+  }
+    where
+      inside : Within rest scheme
+      inside k m = before.within k (grind (arith, is k, m))
+
+  -- it does not: i is kept
+  pub tried_kept : (i j : ℕ) (key rest : Places) → j ≡ i + 1 → IsTriedFrom n ds scheme j key → Same rest (minus key (only i)) → (Implies n ds (fd rest scheme) → ⊥) → IsTriedFrom n ds scheme i key
+  tried_kept i j key rest e before is fails = record {
+    within = before.within;
+    untried = λ k l. before.untried k (omega arith);
+    tried = λ a from member. elim (cases_eq a i) [
+      | inl same ↦
+          let beside : rest ≡ left_beside scheme key a = left_beside-untried scheme key rest i (λ (k : ℕ) l. before.untried k (omega arith)) is ∙ ap (λ (b : ℕ). left_beside scheme key b) (sym same) in (
+            (λ out. absurd (true≢false (sym member ∙ sym (before.untried a (omega arith)) ∙ out))),
+            (λ superkey. absurd (fails (rw beside (fd_on-to n ds scheme (left_beside scheme key a) scheme superkey)))),
+          )
+      | inr other ↦ before.tried a (omega arith) member
+    ];
+  }
+
+  -- all were tried
+  pub tried_settled : (key : Places) → IsTriedFrom n ds scheme 0 key → IsSettledKey n ds scheme key
+  tried_settled key all = record { within = all.within; left_out = λ a member. all.tried a (omega arith) member }

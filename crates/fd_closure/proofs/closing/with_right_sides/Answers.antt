@@ -1,0 +1,46 @@
+use Rattle.std.proofs.Common.{◌<◌, length, get_or, arith, take, take_all}
+use Rattle.std.proofs.lemmas.List.Elements.{All-more}
+use Rattle.attr_sets.specs.Places.{Within}
+use Rattle.attr_sets.specs.Sets.{places}
+use Rattle.dep_model.specs.declared.dep.Dep.{Dep}
+use Rattle.dep_model.specs.declared.dep.Dep.TheVariants.{Fd}
+use Rattle.dep_model.specs.Dependencies.{Dependency, left_of, right_of}
+use Rattle.dep_model.proofs.DepLemmas.{IfFd, functional_all-from, functional_legal-to}
+use Rattle.dep_model.proofs.RuleLemmas.{transitivity_obeyed, reflexivity_obeyed}
+use Rattle.fd_closure.proofs.ClosureLemmas.{IfFd-kept, all_IfFd-kept}
+use Rattle.fd_closure.proofs.closing.with_right_sides.Goals as goal
+
+pub loop-dep-init : goal.loop-dep-init
+loop-dep-init c = record {
+  grows = λ k m. m;
+  within = λ universe d_in now_in. now_in;
+  implied = λ n r legal. reflexivity_obeyed (places c.args.closed) (places c.args.closed) r (λ k m. m);
+  settled = λ k d l. absurd (omega arith);
+}
+
+pub loop-dep-preserved : goal.loop-dep-preserved
+loop-dep-preserved c =
+    let i = c.loop-dep.dep-index in
+    let before = c.loop-dep.invariant in
+    let more = c.with_right_side-more in
+    let first : Dep = Fd (record { 0 = 0 }) (record { 0 = 0 }) in
+    let lt : i < length c.args.deps.now = c.loop-dep-test.true in
+    record {
+      grows = λ k m. more.ensures.grows k (before.grows k m);
+      within = λ universe d_in now_in. more.ensures.within universe (d_in i _ lt) (before.within universe d_in now_in);
+      implied = λ n r legal. transitivity_obeyed (places c.args.closed) (places c.loop-dep.more) (places more.result) r (before.implied n r legal)
+          (more.ensures.implied r (functional_legal-to n c.args.deps.now r legal i _ lt));
+      settled = All-more (IfFd (λ x y. Within x (places c.args.closed) → Within y (places more.result))) c.args.deps.now i first lt
+          (all_IfFd-kept (places c.args.closed) (places c.args.closed) (places c.loop-dep.more) (places more.result) (take i c.args.deps.now) (λ k m. m) more.ensures.grows before.settled)
+          (IfFd-kept (places c.args.closed) (places c.loop-dep.more) (places more.result) (places more.result) (get_or c.args.deps.now i first) before.grows (λ k m. m) more.ensures.settled);
+    }
+
+pub returns : goal.returns
+returns c = record {
+  grows = c.loop-dep.invariant.grows;
+  within = c.loop-dep.invariant.within;
+  implied = c.loop-dep.invariant.implied;
+  settled = λ same. functional_all-from (λ (d : Dependency). Within (left_of d) (places c.args.closed) → Within (right_of d) (places c.args.closed)) c.args.deps.now
+      (all_IfFd-kept (places c.args.closed) (places c.args.closed) (places c.loop-dep.more) (places c.args.closed) c.args.deps.now (λ k m. m) same
+      (rw (take_all c.loop-dep.dep-index c.args.deps.now c.loop-dep-test.false) at c.loop-dep.invariant.settled));
+}

@@ -1,0 +1,46 @@
+use Rattle.std.proofs.Common.{◌≡◌, ℕ, ◌-◌, refl, arith}
+use Rattle.std.proofs.lemmas.Bool.{ltb-true, false≢true}
+use Rattle.attr_sets.specs.Places.{Places, below, only, minus, Within, Same}
+use Rattle.attr_sets.specs.Sets.{places}
+use Rattle.attr_sets.specs.declared.set.TheConstants.{PLACES}
+use Rattle.attr_sets.proofs.PlacesLemmas.{places_below}
+use Rattle.dep_model.specs.Dependencies.{functional_part}
+use Rattle.dep_model.specs.Deps.{dependencies_of}
+use Rattle.fd_closure.proofs.SettlingLemmas.{IsTriedFrom, tried_none, tried_left_out, tried_kept, tried_settled}
+use Rattle.fd_closure.proofs.settling.functional_key.Goals as goal
+
+pub loop-i-init : goal.loop-i-init
+loop-i-init c n within scheme_in =
+    tried_none n (functional_part (dependencies_of c.args.deps.now)) (places c.args.scheme) PLACES
+    (λ a m. ltb-true a PLACES (places_below c.args.scheme a m))
+
+-- the rest lies within the scheme, and so below n
+rest_low : (n : ℕ) (scheme key rest : Places) (i : ℕ) → Within scheme (below n) → Within key scheme → Same rest (minus key (only i)) → Within rest (below n)
+rest_low n scheme key rest i scheme_in key_in is k m = scheme_in k (key_in k (grind (arith, is k, m)))
+
+pub loop-i-preserved-then-follows : goal.loop-i-preserved-then-follows
+loop-i-preserved-then-follows c n within scheme_in =
+    let ds = functional_part (dependencies_of c.args.deps.now) in
+    let i = c.loop-i.i - 1 in
+    let before = c.loop-i.invariant n within scheme_in in
+    let rest_in = rest_low n (places c.args.scheme) (places c.loop-i.key) (places c.without-rest.result) i scheme_in before.within c.without-rest.ensures.members in
+    tried_left_out n ds (places c.args.scheme) i c.loop-i.i (places c.loop-i.key) (places c.without-rest.result) (omega arith) before c.without-rest.ensures.members
+    ((c.if-follows.ensures.implied n within rest_in scheme_in).0 refl)
+
+pub loop-i-preserved : goal.loop-i-preserved
+loop-i-preserved c n within scheme_in =
+    let ds = functional_part (dependencies_of c.args.deps.now) in
+    let i = c.loop-i.i - 1 in
+    let before = c.loop-i.invariant n within scheme_in in
+    let rest_in = rest_low n (places c.args.scheme) (places c.loop-i.key) (places c.without-rest.result) i scheme_in before.within c.without-rest.ensures.members in
+    tried_kept n ds (places c.args.scheme) i c.loop-i.i (places c.loop-i.key) (places c.without-rest.result) (omega arith) before c.without-rest.ensures.members
+    (λ implied. false≢true ((c.if-follows.ensures.implied n within rest_in scheme_in).1 implied))
+
+pub returns : goal.returns
+returns c = record {
+  settled = λ n within scheme_in.
+      let ds = functional_part (dependencies_of c.args.deps.now) in
+      let first : c.loop-i.i ≡ 0 = omega arith in
+      let all : IsTriedFrom n ds (places c.args.scheme) c.loop-i.i (places c.loop-i.key) = c.loop-i.invariant n within scheme_in in
+      tried_settled n ds (places c.args.scheme) (places c.loop-i.key) (rw first at all);
+}

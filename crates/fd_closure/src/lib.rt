@@ -1,0 +1,16 @@
+//! Closures: the attributes that a set of attributes determines by the functional dependencies of a
+//! list.
+//!
+//! `closure` and `follows` are exact: their clauses speak of all relations that obey the functional
+//! dependencies, over any number of attributes that holds the sets named. Multivalued dependencies in
+//! the list are passed over. No call takes memory.
+#![tactic(auto)]
+
+mod closing;
+mod settling;
+
+pub use closing::{closure, follows};
+pub use settling::functional_key;
+
+#[cfg(test)]
+mod tests;

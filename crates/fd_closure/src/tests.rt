@@ -1,0 +1,67 @@
+use super::*;
+use attr_sets::AttrSet;
+use dep_model::Dep;
+
+fn fd(lhs: u128, rhs: u128) -> Dep {
+    Dep::Fd {
+        lhs: AttrSet(lhs),
+        rhs: AttrSet(rhs),
+    }
+}
+
+fn mvd(lhs: u128, rhs: u128) -> Dep {
+    Dep::Mvd {
+        lhs: AttrSet(lhs),
+        rhs: AttrSet(rhs),
+    }
+}
+
+#[test]
+fn closes_a_chain_in_any_order(rt: HostRuntime) {
+    // A -> B, B -> C, C -> D, and the same the other way round.
+    let chain = [fd(1, 2), fd(2, 4), fd(4, 8)];
+    let reversed = [fd(4, 8), fd(2, 4), fd(1, 2)];
+    for deps in [&chain, &reversed] {
+        assert_eq!(rt; closure(deps, AttrSet(1)).0, 15);
+        assert_eq!(rt; closure(deps, AttrSet(4)).0, 12);
+        assert_eq!(rt; closure(deps, AttrSet(8)).0, 8);
+        assert_eq!(rt; closure(deps, AttrSet(0)).0, 0);
+        assert!(rt; follows(deps, AttrSet(1), AttrSet(10)));
+        assert!(rt; !follows(deps, AttrSet(2), AttrSet(9)));
+    }
+}
+
+#[test]
+fn passes_over_multivalued_dependencies(rt: HostRuntime) {
+    // A ->> B, C -> B: the closure of A is A, though A -> B is implied by both together.
+    let deps = [mvd(1, 2), fd(4, 2)];
+    assert_eq!(rt; closure(&deps, AttrSet(1)).0, 1);
+    assert_eq!(rt; closure(&deps, AttrSet(4)).0, 6);
+    assert_eq!(rt; functional_key(&deps, AttrSet(7)).0, 5);
+}
+
+#[test]
+fn takes_empty_left_sides(rt: HostRuntime) {
+    let deps = [fd(2, 4), fd(0, 2)];
+    assert_eq!(rt; closure(&deps, AttrSet(0)).0, 6);
+    assert_eq!(rt; functional_key(&deps, AttrSet(6)).0, 0);
+}
+
+#[test]
+fn finds_keys_from_the_last_attribute_on(rt: HostRuntime) {
+    // CITY STREET -> ZIP, ZIP -> CITY: both CITY STREET and STREET ZIP are keys.
+    let address = [fd(3, 4), fd(4, 1)];
+    assert_eq!(rt; functional_key(&address, AttrSet(7)).0, 3);
+    assert_eq!(rt; functional_key(&address, AttrSet(5)).0, 4);
+    // COURSE TEACHER HOUR ROOM STUDENT GRADE, with the key HOUR STUDENT alone.
+    let timetable = [
+        fd(1, 2),
+        fd(12, 1),
+        fd(6, 8),
+        fd(17, 32),
+        fd(20, 8),
+        mvd(1, 12),
+    ];
+    assert_eq!(rt; functional_key(&timetable, AttrSet(63)).0, 20);
+    assert_eq!(rt; functional_key(&[], AttrSet(u128::MAX)).0, u128::MAX);
+}
