@@ -25,8 +25,8 @@ united_fd_proves s t u x y z a c a_is c_is x_in z_in first second =
     fd_restated s (pair transitivity low high) (union x a) (union y c) x (union y z)
     (λ k. grind (arith, a_is k)) (λ k. grind (arith, c_is k))
     (transitivity_proves s low high (union x a) (union z a) (union x c) (union y c) (λ k. grind (arith, a_is k, c_is k))
-      (augmentation_proves s u x z a (λ k m. x_in k (grind (arith, a_is k, m))) second)
-      (augmentation_proves s t x y c (λ k m. z_in k (grind (arith, c_is k, m))) first))
+    (augmentation_proves s u x z a (λ k m. x_in k (grind (arith, a_is k, m))) second)
+    (augmentation_proves s t x y c (λ k m. z_in k (grind (arith, c_is k, m))) first))
 
 -- x ->> xy, xy ->> z, xy ->> u - xyz, x ->> u - xyz, x ->> yz - x, and x ->> yz
 pub united_mvd_proves : (s : Schema) (t u : Tree) (x y z a b e m : Places) → Same a x → Same b y → Same e none → Same m (meet x (union y z))
@@ -84,4 +84,4 @@ split_outside_proves s t u x w v p a o e a_is o_is e_is first_in second_in from_
     let tree = pair mtransitivity (step (maugmentation a a) (step complementation t)) (step (maugmentation o e) (step complementation u)) in
     mvd_restated s tree x (meet w other) x (minus w p) (λ k. refl) (λ k. grind (arith, first_in.1 k, from_v k))
     (split_inside_proves s t (step complementation u) x w v other a o e a_is o_is e_is first_in (second_in.0, (λ k h. grind (arith, h))) from_x from_v first
-      (complementation_proves s u v p second))
+    (complementation_proves s u v p second))
