@@ -1,0 +1,74 @@
+use Rattle.std.specs.Prelude.{◌≡◌, ℕ, ◌+◌, ◌-◌, ◌<◌, ◌≤◌, zero, suc, true, Option, None, Some, List, [], ◌∷◌, length, take}
+use Rattle.lexer.specs.declared.piece.Piece.{Piece}
+use Rattle.lexer.specs.declared.piece.Piece.TheVariants as piece
+use Rattle.lexer.specs.declared.token.Mode.{Mode}
+use Rattle.lexer.specs.declared.token.Next.{Next}
+use Rattle.lexer.specs.declared.token.Next.TheVariants as next
+use Rattle.lexer.specs.declared.token.Stop.{Stop}
+use Rattle.lexer.specs.declared.token.Token.{Token}
+use Rattle.lexer.specs.declared.token.TokenKind.{TokenKind}
+use Rattle.lexer.specs.declared.token.TokenKind.TheVariants as token
+use Rattle.dep_model.specs.Names.{is_name}
+use Rattle.lexer.specs.Pieces.{front}
+
+-- a token with its bytes
+pub record Mark : Type 0 where
+  pub kind : TokenKind
+  pub column : ℕ
+  pub word : List ℕ
+
+-- the tokens of a line up to the first bytes that are none, and these bytes if there are any
+pub record Lexed : Type 0 where
+  pub marks : List Mark
+  pub stop : Option Stop
+
+abbrev pub led_by_mark : Mark → Lexed → Lexed
+led_by_mark m l = record { marks = m ∷ l.marks; stop = l.stop }
+
+-- the tokens of a text at whose front this piece stands; the tokens of what is left behind some
+-- bytes more come from `behind`
+abbrev pub led_by : Piece → ℕ → List ℕ → (ℕ → Lexed) → Lexed
+led_by piece.Gap column text behind = behind 0
+led_by piece.Comment column text behind = record { marks = []; stop = None }
+led_by (piece.Token kind n) column text behind =
+    led_by_mark (record { kind = kind; column = column; word = take n text }) (behind (n - 1))
+led_by (piece.Flaw why n) column text behind =
+    record { marks = []; stop = Some (record { flaw = why; column = column; length = n }) }
+
+-- the tokens of a text that begins in a column, behind so many bytes that belong to the piece before
+unfoldable pub lexed : Mode → ℕ → ℕ → List ℕ → Lexed
+lexed m skip column [] = record { marks = []; stop = None }
+lexed m zero column (b ∷ bs) =
+    led_by (front m (b ∷ bs)) column (b ∷ bs) (λ skip. lexed m skip (column + 1) bs)
+lexed m (suc n) column (b ∷ bs) = lexed m n (column + 1) bs
+
+-- the tokens of a line
+abbrev pub lex : Mode → List ℕ → Lexed
+lex m line = lexed m 0 1 line
+
+-- a token, as code has it
+abbrev pub token_of : Mark → Token
+token_of m = record { kind = m.kind; column = m.column; length = length m.word }
+
+-- the token stands in front of the others; where it is a word, its bytes form one
+pub record Leads (m : Mode) (t : Token) (word rest : List ℕ) (all : Lexed) : Type 0 where
+  pub all_tokens : all ≡ led_by_mark (record { kind = t.kind; column = t.column; word = word }) (lexed m 0 (t.column + t.length) rest)
+  pub same_length : t.length ≡ length word
+  pub is_a_word : t.kind ≡ token.Word → is_name word ≡ true
+
+-- what comes next is the first of these tokens, or why there is none
+abbrev pub GoesOn : Mode → Next → Lexed → Type 0
+GoesOn m next.End all = all ≡ record { marks = []; stop = None }
+GoesOn m (next.Token t word rest) all = Leads m t word.now rest.now all
+GoesOn m (next.Stop s) all = all ≡ record { marks = []; stop = Some s }
+
+-- a token stands behind the column, and takes at least one byte of the text
+pub record IsBehind (column : ℕ) (text : List ℕ) (t : Token) (rest : List ℕ) : Type 0 where
+  pub from_on : column ≤ t.column
+  pub fits : (t.column + t.length) + length rest ≡ column + length text
+  pub shorter : length rest < length text
+
+abbrev pub Advances : ℕ → List ℕ → Next → Type 0
+Advances column text next.End = Unit {0}
+Advances column text (next.Token t word rest) = IsBehind column text t rest.now
+Advances column text (next.Stop s) = Unit {0}

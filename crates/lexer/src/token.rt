@@ -1,0 +1,128 @@
+ghost use Rattle.std.specs.Prelude.{◌≡◌, ◌+◌, ◌^◌, ◌<◌, length};
+ghost use Rattle.lexer.specs.Pieces.{takes_numbers, takes_comments};
+ghost use Rattle.lexer.specs.Tokens.{lexed, GoesOn, Advances};
+
+use crate::piece::{Piece, front};
+
+/// Which tokens a line may have.
+#[derive(Clone, Copy, Debug, PartialEq, Eq)]
+pub enum Mode {
+    /// Words, arrows and `()`, and comments: lines of schemas and plans.
+    Plain,
+    /// The same without comments: goals.
+    Goal,
+    /// Numbers and `:` too, and comments: certificates and version lines.
+    Numbered,
+}
+
+impl Mode {
+    pub(crate) fn takes_numbers(self) -> bool
+        ensures numbers { result ≡ takes_numbers self }
+    {
+        match self {
+            Mode::Plain | Mode::Goal => false,
+            Mode::Numbered => true,
+        }
+    }
+
+    pub(crate) fn takes_comments(self) -> bool
+        ensures comments { result ≡ takes_comments self }
+    {
+        match self {
+            Mode::Plain | Mode::Numbered => true,
+            Mode::Goal => false,
+        }
+    }
+}
+
+/// What a token is.
+#[derive(Clone, Copy, Debug, PartialEq, Eq)]
+pub enum TokenKind {
+    /// A letter, then letters, digits and `_`; 1 to 31 bytes.
+    Word,
+    /// 1 to 9 digits, and their value.
+    Number(u32),
+    /// `->`
+    Arrow,
+    /// `->>`
+    DoubleArrow,
+    /// `()`
+    Empty,
+    /// `:`
+    Colon,
+}
+
+/// A token of a line: what it is, the column of its first byte, from 1, and how many bytes it has.
+#[derive(Clone, Copy, Debug, PartialEq, Eq)]
+pub struct Token {
+    pub kind: TokenKind,
+    pub column: u32,
+    pub length: u32,
+}
+
+/// Why bytes are no token.
+#[derive(Clone, Copy, Debug, PartialEq, Eq)]
+pub enum Flaw {
+    /// A byte that begins no token.
+    StrangeByte,
+    /// A run of letters, digits and `_` that is no word, nor a number where numbers are taken.
+    BadName,
+}
+
+/// Where the tokens of a line stop before its end, and why.
+#[derive(Clone, Copy, Debug, PartialEq, Eq)]
+pub struct Stop {
+    pub flaw: Flaw,
+    pub column: u32,
+    pub length: u32,
+}
+
+/// What comes next in a line.
+#[derive(Clone, Copy, Debug)]
+pub enum Next<'a> {
+    /// No token: the line ends, but for blanks and a comment.
+    End,
+    /// A token, its bytes, and what stands behind it.
+    Token(Token, &'a [u8], &'a [u8]),
+    /// Bytes that are no token.
+    Stop(Stop),
+}
+
+/// The next token of a line of which `text` is what is left, from `column` on.
+pub fn next_token(mode: Mode, column: u32, text: &[u8]) -> Next<'_>
+    requires { column + length text.now < 2 ^ 32 }
+    ensures exact { GoesOn mode result (lexed mode 0 column text.now) }
+    ensures advances { Advances column text.now result }
+{
+    let mut column = column;
+    let mut rest = text;
+    'pieces: while !rest.is_empty() {
+        match front(mode, rest) {
+            Piece::Gap => {
+                rest = rest.split_at(1).1;
+                column += 1;
+            }
+            Piece::Comment => return Next::End,
+            Piece::Token(kind, length) => {
+                let (word, behind) = rest.split_at(length);
+                return Next::Token(
+                    Token {
+                        kind,
+                        column,
+                        length: length as u32,
+                    },
+                    word,
+                    behind,
+                );
+            }
+            Piece::Flaw(flaw, length) => {
+                return Next::Stop(Stop {
+                    flaw,
+                    column,
+                    length: length as u32,
+                });
+            }
+        }
+    }
+    Next::End
+}

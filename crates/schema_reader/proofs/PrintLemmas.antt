@@ -1,0 +1,153 @@
+use Rattle.std.proofs.Common.{◌≡◌, ◌<◌, ◌≤◌, ◌+◌, ℕ, zero, suc, Bool, true, false, cond, List, [], ◌∷◌, ◌++◌, length, take, drop, refl, sym, ◌∙◌, ap, subst, arith, append_assoc, add-one, drop-cons, get_or, Some}
+use Rattle.std.specs.List.{slice_get, list_any}
+use Rattle.std.proofs.lemmas.List.Folds.{list_any_at, list_any_more}
+use Rattle.std.proofs.lemmas.Option.{slice_get_within}
+use Rattle.std.proofs.lemmas.List.{append-nil}
+use Rattle.std.specs.Prelude.{map, codes}
+use Rattle.attr_sets.specs.Places.{Places}
+use Rattle.dep_model.specs.declared.column.Column.{Column}
+use Rattle.schema_reader.specs.Printing.{words_text, members_from, side_text, set_text, runs_of, in_front, run_line, lines_text, type_word, same_column, is_integer, Run}
+
+-- what is still to print of a set, where a name stood before or not
+abbrev pub rest_text : Bool → List (List ℕ) → List ℕ
+rest_text true words = words_text words
+rest_text false words = side_text words
+
+pub record PrintsSet (names : List (List ℕ)) (x : Places) (before text : List ℕ) (some : Bool) (place : ℕ) : Type 0 where
+  pub same : text ++ rest_text some (members_from x place (drop place names)) ≡ before ++ set_text names x
+
+-- what stands behind a name of this type
+abbrev pub behind_text : Column → List Column → List (List ℕ) → List ℕ
+behind_text c [] names = 10 ∷ []
+behind_text c (d ∷ ds) [] = 10 ∷ []
+behind_text c (d ∷ ds) (name ∷ names) =
+    cond (same_column c d) (32 ∷ name) (10 ∷ (type_word d ++ 32 ∷ name)) ++ behind_text d ds names
+
+pub record PrintsRuns (columns : List Column) (names : List (List ℕ)) (before text : List ℕ) (last : Column) (place : ℕ) : Type 0 where
+  pub same : text ++ behind_text last (drop place columns) (drop place names) ≡ before ++ lines_text (map run_line (runs_of columns names))
+
+pub get_at : {X : Type 0} (xs : List X) (i : ℕ) (x : X) → slice_get xs i ≡ Some x → get_or xs i x ≡ x
+get_at [] i x e = cc
+get_at (y ∷ ys) zero x e = cc
+get_at (y ∷ ys) (suc i) x e = get_at ys i x e
+
+-- an element, and what stands from it on
+pub at_place : {X : Type 0} (xs : List X) (i : ℕ) (x : X) → slice_get xs i ≡ Some x → drop i xs ≡ x ∷ drop (i + 1) xs
+at_place xs i x e =
+    let inside : i < length xs = slice_get_within xs i x e in
+    rw (add-one, drop-cons xs i x) (let same : get_or xs i x ≡ x = get_at xs i x e in rw same refl)
+
+pub past_end : {X : Type 0} (xs : List X) (i : ℕ) → length xs ≤ i → drop i xs ≡ []
+past_end [] zero h = refl
+past_end [] (suc i) h = refl
+past_end (x ∷ xs) zero h = absurd (omega arith)
+past_end (x ∷ xs) (suc i) h = past_end xs i (omega arith)
+
+pub set_begins : (names : List (List ℕ)) (x : Places) (before : List ℕ) → PrintsSet names x before before false 0
+unfolding set_text
+set_begins names x before = record { same = refl }
+
+pub set_outside : (names : List (List ℕ)) (x : Places) (before text next : List ℕ) (some more : Bool) (k : ℕ)
+    → PrintsSet names x before text some k → k < length names → false ≡ x k → next ≡ text → more ≡ some → PrintsSet names x before next more (k + 1)
+set_outside names x before text next some more k prints h out same_text same_some = record {
+  same = let rest : drop k names ≡ get_or names k [] ∷ drop (k + 1) names = rw (add-one, drop-cons names k []) refl in
+      let outside : x k ≡ false = sym out in let old = prints.same in rw (same_text, same_some) (rw (rest, outside) at old);
+}
+
+pub set_inside : (names : List (List ℕ)) (x : Places) (before text next : List ℕ) (some more : Bool) (k : ℕ) (name : List ℕ)
+    → PrintsSet names x before text some k → slice_get names k ≡ Some name → true ≡ x k
+    → next ≡ text ++ cond some (32 ∷ name) name → more ≡ true → PrintsSet names x before next more (k + 1)
+set_inside names x before text next true more k name prints here within added is_more = record {
+  same = let rest = at_place names k name here in let inside : x k ≡ true = sym within in let old = prints.same in rw (added, is_more) (rw append_assoc (rw (rest, inside) at old));
+}
+set_inside names x before text next false more k name prints here within added is_more = record {
+  same = let rest = at_place names k name here in let inside : x k ≡ true = sym within in let old = prints.same in rw (added, is_more) (rw append_assoc (rw (rest, inside) at old));
+}
+
+pub set_ends_some : (names : List (List ℕ)) (x : Places) (before text : List ℕ) (k : ℕ) → PrintsSet names x before text true k → length names ≤ k
+    → text ≡ before ++ set_text names x
+set_ends_some names x before text k prints h = let rest = past_end names k h in let old = prints.same in sym (append-nil text) ∙ (rw rest at old)
+
+pub set_ends_none : (names : List (List ℕ)) (x : Places) (before text next : List ℕ) (k : ℕ) → PrintsSet names x before text false k → length names ≤ k
+    → next ≡ text ++ codes "()" → next ≡ before ++ set_text names x
+set_ends_none names x before text next k prints h added = let rest = past_end names k h in let old = prints.same in added ∙ (rw rest at old)
+
+-- runs whose first one has this type, and what stands behind its word in the text
+record IsLed (c : Column) (rest : List ℕ) (runs : List Run) : Type 0 where
+  names : List (List ℕ)
+  others : List Run
+  whole : runs ≡ record { column = c; names = names } ∷ others
+  text : words_text names ++ 10 ∷ lines_text (map run_line others) ≡ rest
+
+alone : (c : Column) (name : List ℕ) → IsLed c ((32 ∷ name) ++ 10 ∷ []) (record { column = c; names = name ∷ [] } ∷ [])
+alone c name = record { names = name ∷ []; others = []; whole = refl; text = rw (append-nil name) refl }
+
+joined : (c d : Column) (name rest : List ℕ) (runs : List Run) → IsLed d rest runs
+    → IsLed c ((32 ∷ name) ++ cond (same_column c d) rest (10 ∷ (type_word d ++ rest))) (in_front c name runs)
+joined c d name rest runs led = rw led.whole (split (same_column c d) refl)
+  where
+    split : (b : Bool) → same_column c d ≡ b
+        → IsLed c ((32 ∷ name) ++ cond b rest (10 ∷ (type_word d ++ rest))) (cond b (record { column = c; names = name ∷ led.names } ∷ led.others) (record { column = c; names = name ∷ [] } ∷ record { column = d; names = led.names } ∷ led.others))
+    split true e = record { names = name ∷ led.names; others = led.others; whole = refl; text = rw append_assoc (rw led.text refl) }
+    split false e = record {
+      names = name ∷ [];
+      others = record { column = d; names = led.names } ∷ led.others;
+      whole = refl;
+      text =
+          let inner : ((type_word d ++ words_text led.names) ++ 10 ∷ []) ++ lines_text (map run_line led.others) ≡ type_word d ++ (words_text led.names ++ 10 ∷ lines_text (map run_line led.others)) = simp append_assoc in
+          rw (append-nil name) (rw (inner, led.text) refl);
+    }
+
+cond_append : (b : Bool) (x y z : List ℕ) → cond b x y ++ z ≡ cond b (x ++ z) (y ++ z)
+cond_append true x y z = refl
+cond_append false x y z = refl
+
+runs_led : (c : Column) (name : List ℕ) (columns : List Column) (names : List (List ℕ))
+    → IsLed c ((32 ∷ name) ++ behind_text c columns names) (in_front c name (runs_of columns names))
+runs_led c name [] names = alone c name
+runs_led c name (d ∷ columns) [] = alone c name
+runs_led c name (d ∷ columns) (next ∷ names) =
+    let led = joined c d name ((32 ∷ next) ++ behind_text d columns names) (runs_of (d ∷ columns) (next ∷ names)) (runs_led d next columns names) in
+    let same = cond_append (same_column c d) (32 ∷ next) (10 ∷ (type_word d ++ 32 ∷ next)) (behind_text d columns names) in
+    let far : (10 ∷ (type_word d ++ 32 ∷ next)) ++ behind_text d columns names ≡ 10 ∷ (type_word d ++ ((32 ∷ next) ++ behind_text d columns names)) = simp append_assoc in
+    let of : List ℕ → Type 0 = λ rest. IsLed c ((32 ∷ name) ++ rest) (in_front c name (runs_of (d ∷ columns) (next ∷ names))) in
+    subst of (ap (λ t. cond (same_column c d) ((32 ∷ next) ++ behind_text d columns names) t) (sym far) ∙ sym same) led
+
+led_text : (c : Column) (rest : List ℕ) (runs : List Run) → IsLed c rest runs → lines_text (map run_line runs) ≡ type_word c ++ rest
+led_text c rest runs led = rw led.whole (simp (append_assoc, led.text))
+
+pub runs_begin : (columns : List Column) (names : List (List ℕ)) (before text : List ℕ) (c : Column) (name : List ℕ)
+    → slice_get columns 0 ≡ Some c → slice_get names 0 ≡ Some name → text ≡ before ++ (type_word c ++ 32 ∷ name) → PrintsRuns columns names before text c 1
+runs_begin [] names before text c name first_type first_name added = cc
+runs_begin (d ∷ columns) [] before text c name first_type first_name added = cc
+runs_begin (d ∷ columns) (first ∷ names) before text c name first_type first_name added =
+    let type_is : d ≡ c = cc in
+    let name_is : first ≡ name = cc in
+    let whole = led_text d ((32 ∷ first) ++ behind_text d columns names) (runs_of (d ∷ columns) (first ∷ names)) (runs_led d first columns names) in
+    record { same = rw (whole, added, type_is, name_is) (simp append_assoc) }
+
+pub runs_more : (columns : List Column) (names : List (List ℕ)) (before text next : List ℕ) (last c : Column) (k : ℕ) (name : List ℕ)
+    → PrintsRuns columns names before text last k → slice_get columns k ≡ Some c → slice_get names k ≡ Some name
+    → next ≡ text ++ cond (same_column last c) (32 ∷ name) (10 ∷ (type_word c ++ 32 ∷ name)) → PrintsRuns columns names before next c (k + 1)
+runs_more columns names before text next last c k name prints its_type its_name added = record {
+  same = let types = at_place columns k c its_type in let rest = at_place names k name its_name in let old = prints.same in
+      rw added (rw append_assoc (rw (types, rest) at old));
+}
+
+pub names_more : (names : List (List ℕ)) (text next whole : List ℕ) (k : ℕ) (name : List ℕ) → text ++ words_text (drop k names) ≡ whole
+    → slice_get names k ≡ Some name → next ≡ text ++ 32 ∷ name → next ++ words_text (drop (k + 1) names) ≡ whole
+names_more names text next whole k name old here added =
+    let rest = at_place names k name here in rw added (rw append_assoc (rw rest at old))
+
+pub runs_end : (columns : List Column) (names : List (List ℕ)) (before text next : List ℕ) (last : Column) (k : ℕ)
+    → PrintsRuns columns names before text last k → length columns ≤ k → next ≡ text ++ 10 ∷ []
+    → next ≡ before ++ lines_text (map run_line (runs_of columns names))
+runs_end columns names before text next last k prints h added = let rest = past_end columns k h in let old = prints.same in added ∙ (rw rest at old)
+
+pub any_at : (columns : List Column) (k : ℕ) (c : Column) → slice_get columns k ≡ Some c → true ≡ is_integer c → true ≡ list_any is_integer columns
+any_at columns k c here e = sym (list_any_at is_integer columns k c (slice_get_within columns k c here) (ap is_integer (get_at columns k c here) ∙ sym e))
+
+pub none_more : (columns : List Column) (k : ℕ) (c : Column) → list_any is_integer (take k columns) ≡ false → slice_get columns k ≡ Some c → false ≡ is_integer c
+    → list_any is_integer (take (k + 1) columns) ≡ false
+none_more columns k c none here e =
+    list_any_more is_integer columns k c (slice_get_within columns k c here) ∙ (rw (none, get_at columns k c here) (sym e))

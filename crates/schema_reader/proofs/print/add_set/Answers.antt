@@ -1,0 +1,21 @@
+use Rattle.std.proofs.Common.{sym, ◌∙◌, ap, Some, arith}
+use Rattle.attr_sets.specs.Sets.{places}
+use Rattle.dep_model.specs.Schemas.{names_of}
+use Rattle.schema_reader.proofs.PrintLemmas.{set_begins, set_outside, set_inside}
+use Rattle.schema_reader.proofs.print.add_set.Goals as goal
+use Rattle.schema_reader.proofs.print.add_set.Goals.{then-has+in_ok-add_member, else-has}
+
+pub loop-place-init : goal.loop-place-init
+loop-place-init c = set_begins _ _ _
+
+pub loop-place-preserved : goal.loop-place-preserved
+loop-place-preserved c = elim c.if-has.branch [
+  | then-has+in_ok-add_member w ↦
+      set_inside (names_of c.args.schema.now) (places c.args.set) _ _ _ _ _ c.loop-place.place _ c.loop-place.invariant
+      (w.name.ensures.name ∙ ap Some (sym w.bytes.ensures.value)) w.if-has.ensures.member
+      (ap (λ t. t.items) w.text-is ∙ w.in_ok-add_member.ensures.added) w.some-is
+  | else-has w ↦
+      set_outside (names_of c.args.schema.now) (places c.args.set) _ _ _ _ _ c.loop-place.place c.loop-place.invariant
+      (omega (arith, c.loop-place-test.true, c.width-place-end.ensures.count)) w.if-has.ensures.member
+      (ap (λ t. t.items) w.text-is) w.some-is
+]

@@ -1,0 +1,29 @@
+use Rattle.std.proofs.Common.{◌∙◌, sym, ap, refl, Ok}
+use Rattle.lexer.specs.Lines.{line_texts}
+use Rattle.schema_reader.specs.Declarations.{drafted}
+use Rattle.schema_reader.specs.Texts.{read_text, read_opening}
+use Rattle.schema_reader.proofs.RefusalLemmas.{ok_at, Refuses-whole}
+use Rattle.schema_reader.proofs.SoundLemmas.{IsWhole, opening_whole, forms_schema, forms_columns}
+use Rattle.schema_reader.proofs.TextLemmas.{declared_as}
+use Rattle.schema_reader.proofs.text.read_schema.Goals as goal
+
+pub returns-in-Err-clause-err : goal.returns-in-Err-clause-err
+unfolding read_text
+returns-in-Err-clause-err c =
+    let here = ap (λ text. read_opening 1 (line_texts text)) (sym c.without_mark.ensures.text) in
+    Refuses-whole _ _ _ (λ refused. here ∙ refused) c.in-Err.ensures.err
+
+pub make_typed-requires-clause-schema : goal.make_typed-requires-clause-schema
+make_typed-requires-clause-schema c =
+    forms_schema (drafted c.in-Ok.draft) _ (ok_at IsWhole _ _ c.in-Ok.ensures.ok (opening_whole _ _)) refl
+
+pub make_typed-requires-clause-columns : goal.make_typed-requires-clause-columns
+make_typed-requires-clause-columns c =
+    forms_columns (drafted c.in-Ok.draft) (ok_at IsWhole _ _ c.in-Ok.ensures.ok (opening_whole _ _))
+
+pub returns-clause-ok : goal.returns-clause-ok
+unfolding read_text
+returns-clause-ok c =
+    let here = ap (λ text. read_opening 1 (line_texts text)) (sym c.without_mark.ensures.text) in
+    let made = declared_as c.make_typed.result (drafted c.in-Ok.draft) _ c.make_typed.ensures.names c.make_typed.ensures.columns c.make_typed.ensures.deps c.make_typed.ensures.lines refl in
+    here ∙ c.in-Ok.ensures.ok ∙ ap Ok (sym made)

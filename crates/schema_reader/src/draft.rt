@@ -1,0 +1,233 @@
+ghost use Rattle.std.specs.Prelude.{◌≡◌, ◌+◌, ◌<◌, ◌≤◌, ◌^◌, true, false, length, OnOk, IfOk, IfErr};
+ghost use Rattle.dep_model.specs.Deps.{dependency_of};
+ghost use Rattle.dep_model.specs.Names.{is_name};
+ghost use Rattle.lexer.specs.Tokens.{lexed};
+ghost use Rattle.schema_reader.specs.Grammar.{reading_of};
+ghost use Rattle.schema_reader.specs.Refusals.{Refuses, RefusesAs};
+
+use crate::goal::{follow, step};
+use crate::refusal::{SchemaRefusal, SchemaRefusalKind, What};
+use crate::stage::Stage;
+use crate::words::{Format, Names, declares, is_reserved, place_among};
+use attr_sets::PLACES;
+use dep_model::{Column, Dep, MOST_DEPENDENCIES, Name};
+use lexer::{Mode, Next, Token, TokenKind, next_token};
+use std::alloc::Global;
+
+/// What a schema text declares, as far as it is read.
+#[derive(Drop)]
+pub struct Draft {
+    pub names: Vec<Name>,
+    pub columns: Vec<Column>,
+    pub deps: Vec<Dep>,
+    pub lines: Vec<u32>,
+}
+
+impl Draft {
+    ghost use Rattle.schema_reader.specs.Declarations.{no_declaration, declare, name_step, list_names_lexed, add_name, add_dependency, begin, dependency_lexed, marked, read_line, drafted};
+
+    pub fn new(alloc: Global) -> Draft
+        ensures empty { drafted result ≡ no_declaration }
+    {
+        Draft {
+            names: Vec::new(alloc),
+            columns: Vec::new(alloc),
+            deps: Vec::new(alloc),
+            lines: Vec::new(alloc),
+        }
+    }
+
+    /// Reads one line more.
+    #[tactic(auto, unfolding(crate::specs::Declarations::read_line))]
+    pub fn read_line(&mut self, format: Format, line: u32, text: &[u8]) -> Result<(), SchemaRefusal>
+        requires few { length (drafted self.old).names ≤ PLACES }
+        requires room { 1 + length text.now < 2 ^ 32 }
+        ensures ok { OnOk result (read_line format line (drafted self.old) text.now ≡ Ok (drafted self.new)) }
+        ensures err { IfErr result (λ refusal. Refuses refusal (read_line format line (drafted self.old) text.now)) }
+    {
+        match next_token(Mode::Plain, 1, text) {
+            Next::End => Ok(()),
+            Next::Stop(stop) => Err(SchemaRefusal::by(line, stop)),
+            Next::Token(token, word, rest) => {
+                let behind = token.column + token.length;
+                match declares(format, token.kind, word) {
+                    Some(column) => self.list_names(format, column, line, behind, rest),
+                    None => self.read_dependency(format, line, token, word, rest),
+                }
+            }
+        }
+    }
+
+    /// Reads the names behind a declaring word.
+    fn list_names(
+        &mut self,
+        format: Format,
+        column: Column,
+        line: u32,
+        behind: u32,
+        text: &[u8],
+    ) -> Result<(), SchemaRefusal>
+        requires room { behind + length text.now < 2 ^ 32 }
+        ensures ok { OnOk result (list_names_lexed format column line (drafted self.old) false behind (lexed Mode.Plain 0 behind text.now) ≡ Ok (drafted self.new)) }
+        ensures err { IfErr result (λ refusal. Refuses refusal (list_names_lexed format column line (drafted self.old) false behind (lexed Mode.Plain 0 behind text.now))) }
+    {
+        let mut some = false;
+        let mut behind = behind;
+        let mut rest = text;
+        'names: loop {
+            match next_token(Mode::Plain, behind, rest) {
+                Next::End => {
+                    return if some {
+                        Ok(())
+                    } else {
+                        Err(SchemaRefusal::at(
+                            line,
+                            behind,
+                            0,
+                            SchemaRefusalKind::Expected(What::Name),
+                        ))
+                    };
+                }
+                Next::Stop(stop) => return Err(SchemaRefusal::by(line, stop)),
+                Next::Token(token, word, others) => {
+                    match self.name_step(format, column, some, token.kind, word) {
+                        Err(kind) => {
+                            return Err(SchemaRefusal::at(line, token.column, token.length, kind));
+                        }
+                        Ok(()) => {
+                            some = true;
+                            behind = token.column + token.length;
+                            rest = others;
+                        }
+                    }
+                }
+            }
+        }
+    }
+
+    /// Takes one token behind a declaring word; `some` is whether a name stood before.
+    fn name_step(
+        &mut self,
+        format: Format,
+        column: Column,
+        some: bool,
+        kind: TokenKind,
+        word: &[u8],
+    ) -> Result<(), SchemaRefusalKind>
+        requires { kind ≡ TokenKind.Word → is_name word.now ≡ true }
+        ensures ok { OnOk result (name_step format column (drafted self.old) some kind word.now ≡ Ok (drafted self.new)) }
+        ensures err { IfErr result (λ why. RefusesAs why (name_step format column (drafted self.old) some kind word.now ≡ Err why)) }
+    {
+        match kind {
+            TokenKind::Word => self.declare(format, column, word),
+            _ => Err(SchemaRefusalKind::Expected(if some { What::LineEnd } else { What::Name })),
+        }
+    }
+
+    /// Declares a name.
+    #[tactic(auto, unfolding(crate::specs::Declarations::declare))]
+    fn declare(
+        &mut self,
+        format: Format,
+        column: Column,
+        word: &[u8],
+    ) -> Result<(), SchemaRefusalKind>
+        requires { is_name word.now ≡ true }
+        ensures ok { OnOk result (declare format column (drafted self.old) word.now ≡ Ok (drafted self.new)) }
+        ensures err { IfErr result (λ why. RefusesAs why (declare format column (drafted self.old) word.now ≡ Err why)) }
+    {
+        if is_reserved(format, word) {
+            return Err(SchemaRefusalKind::ReservedName);
+        }
+        if place_among(&self.names, word).is_some() {
+            return Err(SchemaRefusalKind::DoubleName);
+        }
+        if self.names.len() >= PLACES as usize {
+            return Err(SchemaRefusalKind::TooManyAttributes);
+        }
+        self.add_name(named(word), column)
+    }
+
+    fn add_name(&mut self, name: Name, column: Column) -> Result<(), SchemaRefusalKind>
+        ensures ok { OnOk result (drafted self.new ≡ add_name (drafted self.old) name column) }
+        ensures err { IfErr result (λ why. why ≡ SchemaRefusalKind.Memory) }
+    {
+        self.names.push(name)?;
+        self.columns.push(column)?;
+        Ok(())
+    }
+
+    /// Reads a dependency line of which the first token is taken.
+    fn read_dependency(
+        &mut self,
+        format: Format,
+        line: u32,
+        token: Token,
+        word: &[u8],
+        rest: &[u8],
+    ) -> Result<(), SchemaRefusal>
+        requires few { length (drafted self.old).names ≤ PLACES }
+        requires room { token.column + token.length + length rest.now < 2 ^ 32 }
+        requires word { token.length ≡ length word.now }
+        ensures ok { OnOk result (dependency_lexed format line (drafted self.old) (marked token word.now) (lexed Mode.Plain 0 (token.column + token.length) rest.now) ≡ Ok (drafted self.new)) }
+        ensures err { IfErr result (λ refusal. Refuses refusal (dependency_lexed format line (drafted self.old) (marked token word.now) (lexed Mode.Plain 0 (token.column + token.length) rest.now))) }
+    {
+        let stage = match self.begin(format, token.kind, word) {
+            Ok(stage) => stage,
+            Err(kind) => return Err(SchemaRefusal::at(line, token.column, token.length, kind)),
+        };
+        let behind = token.column + token.length;
+        let names = Names::Listed(&self.names);
+        let dep = match follow(&names, format, Mode::Plain, line, stage, behind, rest) {
+            Ok(dep) => dep,
+            Err(refusal) => return Err(refusal),
+        };
+        match self.add_dependency(dep, line) {
+            Ok(()) => Ok(()),
+            Err(kind) => Err(SchemaRefusal::at(line, behind, 0, kind)),
+        }
+    }
+
+    /// Where the first token of a dependency line leads. A token that the line can't begin with is
+    /// refused before one dependency too many.
+    #[tactic(auto, unfolding(crate::specs::Declarations::begin))]
+    fn begin(
+        &self,
+        format: Format,
+        kind: TokenKind,
+        word: &[u8],
+    ) -> Result<Stage, SchemaRefusalKind>
+        requires { length (drafted self.now).names ≤ PLACES }
+        ensures ok { IfOk result (λ stage. begin format (drafted self.now) kind word.now ≡ Ok (reading_of stage)) }
+        ensures err { IfErr result (λ why. begin format (drafted self.now) kind word.now ≡ Err why) }
+    {
+        let stage = step(
+            &Names::Listed(&self.names),
+            format,
+            Stage::Start,
+            kind,
+            word,
+        )?;
+        if self.deps.len() >= MOST_DEPENDENCIES {
+            return Err(SchemaRefusalKind::TooManyDependencies);
+        }
+        Ok(stage)
+    }
+
+    fn add_dependency(&mut self, dep: Dep, line: u32) -> Result<(), SchemaRefusalKind>
+        ensures ok { OnOk result (drafted self.new ≡ add_dependency (drafted self.old) (dependency_of dep) line) }
+        ensures err { IfErr result (λ why. why ≡ SchemaRefusalKind.Memory) }
+    {
+        self.deps.push(dep)?;
+        self.lines.push(line)?;
+        Ok(())
+    }
+}
+
+/// The name that a word is.
+fn named(word: &[u8]) -> Name
+    requires { is_name word.now ≡ true }
+    ensures name { result ≡ word.now }
+{
+    Name::make(word).unwrap()
+}

@@ -1,0 +1,132 @@
+ghost use Rattle.std.specs.Prelude.{◌≡◌, ◌+◌, ◌<◌, ◌≤◌, ◌^◌, length, IfOk, IfErr, Ok, Err};
+ghost use Rattle.attr_sets.specs.Places.{below};
+ghost use Rattle.dep_model.specs.Deps.{dependency_of, IsDepWithin};
+ghost use Rattle.dep_model.specs.Schemas.{names_of, universe_of};
+ghost use Rattle.lexer.specs.Tokens.{lexed};
+ghost use Rattle.schema_reader.specs.Grammar.{reading_of, finished, IsPlaced};
+ghost use Rattle.schema_reader.specs.Reading.{symbol_of, step, follow_lexed, read_goal};
+ghost use Rattle.schema_reader.specs.Refusals.{at, expecting};
+ghost use Rattle.schema_reader.specs.Words.{names_in};
+
+use crate::refusal::{SchemaRefusal, SchemaRefusalKind};
+use crate::stage::{Sign, Stage, Symbol, finish, turn};
+use crate::words::{Format, Names, look_up};
+use attr_sets::PLACES;
+use dep_model::{Dep, Schema};
+use lexer::{Mode, Next, TokenKind, next_token};
+
+/// The most bytes of a goal.
+pub const MOST_GOAL_BYTES: usize = 16_384;
+
+/// The dependency over the schema's names that a goal states. The goal is one line; `#`, line ends
+/// and a byte-order mark are strange bytes in it. It takes no memory.
+///
+/// The refusals are those of the first place, and there that of the least number.
+pub fn read_goal(schema: &Schema, text: &[u8]) -> Result<Dep, SchemaRefusal>
+    requires { length text.now ≤ MOST_GOAL_BYTES }
+    ensures ok { IfOk result (λ dep. read_goal (names_of schema.now) text.now ≡ Ok (dependency_of dep)) }
+    ensures err { IfErr result (λ refusal. read_goal (names_of schema.now) text.now ≡ Err refusal) }
+    ensures within { IfOk result (IsDepWithin (universe_of schema.now)) }
+{
+    follow(
+        &Names::Of(schema),
+        Format::Plain,
+        Mode::Goal,
+        1,
+        Stage::Start,
+        1,
+        text,
+    )
+}
+
+/// The dependency that the tokens of a line from here on state.
+pub fn follow(
+    names: &Names<'_>,
+    format: Format,
+    mode: Mode,
+    line: u32,
+    stage: Stage,
+    column: u32,
+    text: &[u8],
+) -> Result<Dep, SchemaRefusal>
+    requires few { length (names_in names.now) ≤ PLACES }
+    requires room { column + length text.now < 2 ^ 32 }
+    ensures ok { IfOk result (λ dep. follow_lexed format (names_in names.now) line (reading_of stage) column (lexed mode 0 column text.now) ≡ Ok (dependency_of dep)) }
+    ensures err { IfErr result (λ refusal. follow_lexed format (names_in names.now) line (reading_of stage) column (lexed mode 0 column text.now) ≡ Err refusal) }
+{
+    let mut stage = stage;
+    let mut column = column;
+    let mut rest = text;
+    'tokens: loop {
+        match next_token(mode, column, rest) {
+            Next::End => return end_line(line, stage, column),
+            Next::Stop(stop) => return Err(SchemaRefusal::by(line, stop)),
+            Next::Token(token, word, behind) => {
+                match step(names, format, stage, token.kind, word) {
+                    Err(kind) => return Err(SchemaRefusal::at(
+                        line,
+                        token.column,
+                        token.length,
+                        kind,
+                    )),
+                    Ok(next) => {
+                        stage = next;
+                        column = token.column + token.length;
+                        rest = behind;
+                    }
+                }
+            }
+        }
+    }
+}
+
+/// The dependency that is read where the line ends.
+fn end_line(line: u32, stage: Stage, column: u32) -> Result<Dep, SchemaRefusal>
+    ensures ok { IfOk result (λ dep. at line column 0 (expecting (finished (reading_of stage))) ≡ Ok (dependency_of dep)) }
+    ensures err { IfErr result (λ refusal. at line column 0 (expecting (finished (reading_of stage))) ≡ Err refusal) }
+{
+    match finish(stage) {
+        Ok(dep) => Ok(dep),
+        Err(what) => Err(SchemaRefusal::at(line, column, 0, SchemaRefusalKind::Expected(what))),
+    }
+}
+
+/// One token more.
+#[tactic(auto, unfolding(crate::specs::Reading::step))]
+pub fn step(
+    names: &Names<'_>,
+    format: Format,
+    stage: Stage,
+    kind: TokenKind,
+    word: &[u8],
+) -> Result<Stage, SchemaRefusalKind>
+    requires { length (names_in names.now) ≤ PLACES }
+    ensures ok { IfOk result (λ next. step format (names_in names.now) (reading_of stage) kind word.now ≡ Ok (reading_of next)) }
+    ensures err { IfErr result (λ why. step format (names_in names.now) (reading_of stage) kind word.now ≡ Err why) }
+{
+    let symbol = symbol_of(names, format, kind, word)?;
+    match turn(stage, symbol) {
+        Ok(next) => Ok(next),
+        Err(what) => Err(SchemaRefusalKind::Expected(what)),
+    }
+}
+
+/// What a token of a dependency stands for.
+fn symbol_of(
+    names: &Names<'_>,
+    format: Format,
+    kind: TokenKind,
+    word: &[u8],
+) -> Result<Symbol, SchemaRefusalKind>
+    requires { length (names_in names.now) ≤ PLACES }
+    ensures exact { result ≡ symbol_of format (names_in names.now) kind word.now }
+    ensures placed { IfOk result IsPlaced }
+{
+    match kind {
+        TokenKind::Word => Ok(Symbol::Attribute(look_up(names, format, word)?)),
+        TokenKind::Arrow => Ok(Symbol::Arrow(Sign::Functional)),
+        TokenKind::DoubleArrow => Ok(Symbol::Arrow(Sign::Multivalued)),
+        TokenKind::Empty => Ok(Symbol::Empty),
+        TokenKind::Number(_) | TokenKind::Colon => Ok(Symbol::Other),
+    }
+}

@@ -1,0 +1,19 @@
+//! Schema texts and goals, read by their grammar and printed in one form.
+//!
+//! `read_schema` and `read_goal` give the value that a text means, or refuse it at the first place
+//! where it goes wrong, and there for the reason of the least number.
+#![tactic(auto)]
+
+mod draft;
+mod goal;
+mod print;
+mod refusal;
+mod stage;
+mod text;
+mod words;
+
+pub use goal::{MOST_GOAL_BYTES, read_goal};
+pub use lexer::{Token, TokenKind};
+pub use print::{print_dep, print_deps, print_schema, print_set};
+pub use refusal::{SchemaRefusal, SchemaRefusalKind, Span, What};
+pub use text::{MOST_TEXT_BYTES, read_schema};

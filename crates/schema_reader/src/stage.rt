@@ -1,0 +1,117 @@
+ghost use Rattle.std.specs.Prelude.{◌≡◌, ◌<◌, IfOk, IfErr, Ok, Err};
+ghost use Rattle.attr_sets.specs.Places.{only, union, none};
+ghost use Rattle.attr_sets.specs.Sets.{places};
+ghost use Rattle.dep_model.specs.Deps.{dependency_of};
+ghost use Rattle.schema_reader.specs.Grammar.{turn, finished, stated, reading_of, IsPlaced};
+
+use crate::refusal::What;
+use attr_sets::{AttrSet, PLACES};
+use dep_model::Dep;
+
+/// Which arrow a dependency has.
+#[derive(Clone, Copy, Debug, PartialEq, Eq)]
+pub enum Sign {
+    /// `->`
+    Functional,
+    /// `->>`
+    Multivalued,
+}
+
+/// What a token of a dependency line stands for.
+#[derive(Clone, Copy, Debug, PartialEq, Eq)]
+pub enum Symbol {
+    Attribute(u8),
+    Arrow(Sign),
+    /// `()`
+    Empty,
+    /// What no dependency has.
+    Other,
+}
+
+/// How far a dependency is read, and its sets so far.
+#[derive(Clone, Copy)]
+pub enum Stage {
+    Start,
+    /// Behind words of the left side.
+    Left(AttrSet),
+    /// Behind a left `()`.
+    LeftEmpty,
+    /// Behind the arrow.
+    Behind(Sign, AttrSet),
+    /// Behind words of the right side.
+    Right(Sign, AttrSet, AttrSet),
+    /// Behind a right `()`.
+    RightEmpty(Sign, AttrSet),
+}
+
+/// Where a token leads.
+#[tactic(auto, unfolding(crate::specs::Grammar::turn))]
+pub fn turn(stage: Stage, symbol: Symbol) -> Result<Stage, What>
+    requires { IsPlaced symbol }
+    ensures ok { IfOk result (λ next. turn (reading_of stage) symbol ≡ Ok (reading_of next)) }
+    ensures err { IfErr result (λ what. turn (reading_of stage) symbol ≡ Err what) }
+{
+    match (stage, symbol) {
+        (Stage::Start, Symbol::Attribute(place)) => Ok(Stage::Left(single(place))),
+        (Stage::Start, Symbol::Empty) => Ok(Stage::LeftEmpty),
+        (Stage::Start, _) => Err(What::Side),
+        (Stage::Left(lhs), Symbol::Attribute(place)) => Ok(Stage::Left(added(lhs, place))),
+        (Stage::Left(lhs), Symbol::Arrow(sign)) => Ok(Stage::Behind(sign, lhs)),
+        (Stage::Left(_), _) => Err(What::Arrow),
+        (Stage::LeftEmpty, Symbol::Arrow(sign)) => Ok(Stage::Behind(sign, no_place())),
+        (Stage::LeftEmpty, _) => Err(What::Arrow),
+        (Stage::Behind(sign, lhs), Symbol::Attribute(place)) => {
+            Ok(Stage::Right(sign, lhs, single(place)))
+        }
+        (Stage::Behind(sign, lhs), Symbol::Empty) => Ok(Stage::RightEmpty(sign, lhs)),
+        (Stage::Behind(_, _), _) => Err(What::Side),
+        (Stage::Right(sign, lhs, rhs), Symbol::Attribute(place)) => {
+            Ok(Stage::Right(sign, lhs, added(rhs, place)))
+        }
+        (Stage::Right(_, _, _), _) => Err(What::LineEnd),
+        (Stage::RightEmpty(_, _), _) => Err(What::LineEnd),
+    }
+}
+
+/// The dependency that is read where the line ends, or what it still wants.
+#[tactic(auto, unfolding(crate::specs::Grammar::finished))]
+pub fn finish(stage: Stage) -> Result<Dep, What>
+    ensures ok { IfOk result (λ dep. finished (reading_of stage) ≡ Ok (dependency_of dep)) }
+    ensures err { IfErr result (λ what. finished (reading_of stage) ≡ Err what) }
+{
+    match stage {
+        Stage::Start | Stage::Behind(_, _) => Err(What::Side),
+        Stage::Left(_) | Stage::LeftEmpty => Err(What::Arrow),
+        Stage::Right(sign, lhs, rhs) => Ok(dependency(sign, lhs, rhs)),
+        Stage::RightEmpty(sign, lhs) => Ok(dependency(sign, lhs, no_place())),
+    }
+}
+
+fn dependency(sign: Sign, lhs: AttrSet, rhs: AttrSet) -> Dep
+    ensures dependency { dependency_of result ≡ stated sign (places lhs) (places rhs) }
+{
+    match sign {
+        Sign::Functional => Dep::Fd { lhs, rhs },
+        Sign::Multivalued => Dep::Mvd { lhs, rhs },
+    }
+}
+
+fn no_place() -> AttrSet
+    ensures members { places result ≡ none }
+{
+    AttrSet::empty()
+}
+
+fn single(place: u8) -> AttrSet
+    requires { place < PLACES }
+    ensures members { places result ≡ only place }
+{
+    AttrSet::single(place)
+}
+
+fn added(set: AttrSet, place: u8) -> AttrSet
+    requires { place < PLACES }
+    ensures members { places result ≡ union (places set) (only place) }
+{
+    set.with(place)
+}

@@ -1,0 +1,200 @@
+ghost use Rattle.std.specs.Prelude.{◌≡◌, ◌+◌, ◌<◌, ◌≤◌, ◌^◌, length, OnOk, IfOk, IfErr, Ok, Err};
+ghost use Rattle.lexer.specs.Lines.{line_texts};
+ghost use Rattle.lexer.specs.Tokens.{lexed};
+ghost use Rattle.schema_reader.specs.Declarations.{drafted, no_declaration};
+ghost use Rattle.schema_reader.specs.Refusals.{Refuses};
+ghost use Rattle.schema_reader.specs.Texts.{finish, is_version, number_in, end_version_lexed, read_lines, read_version_lexed, read_typed, read_opening, read_text, declarations_of, lines_after, AreFew};
+
+use crate::draft::Draft;
+use crate::refusal::{SchemaRefusal, SchemaRefusalKind, What};
+use crate::words::Format;
+use dep_model::Schema;
+use lexer::{Mode, Next, TokenKind, cut_line, next_token, without_mark};
+use std::alloc::Global;
+
+/// The most bytes of a schema text.
+pub const MOST_TEXT_BYTES: usize = 1_048_576;
+
+/// The version of the texts that begin with a version line.
+pub const VERSION: u32 = 2;
+
+/// The schema that a text declares. A byte-order mark at its very start is skipped.
+///
+/// The refusals are those of the first place, and there that of the least number.
+pub fn read_schema(alloc: Global, text: &[u8]) -> Result<Schema, SchemaRefusal>
+    requires { length text.now ≤ MOST_TEXT_BYTES }
+    ensures ok { IfOk result (λ schema. read_text text.now ≡ Ok (declarations_of schema)) }
+    ensures err { IfErr result (λ refusal. Refuses refusal (read_text text.now)) }
+{
+    let draft = match read_opening(alloc, without_mark(text)) {
+        Ok(draft) => draft,
+        Err(refusal) => return Err(refusal),
+    };
+    let Draft {
+        names,
+        columns,
+        deps,
+        lines,
+    } = draft;
+    Ok(Schema::make_typed(names, columns, deps, lines))
+}
+
+/// Reads a text from its beginning: lines without tokens, and then a version line or any other.
+fn read_opening(alloc: Global, text: &[u8]) -> Result<Draft, SchemaRefusal>
+    requires { length text.now ≤ MOST_TEXT_BYTES }
+    ensures ok { IfOk result (λ draft. read_opening 1 (line_texts text.now) ≡ Ok (drafted draft)) }
+    ensures err { IfErr result (λ refusal. Refuses refusal (read_opening 1 (line_texts text.now))) }
+{
+    let mut number = 1;
+    let mut rest = text;
+    'lines: loop {
+        let (line, after) = cut_line(rest);
+        match next_token(Mode::Numbered, 1, line) {
+            Next::Stop(_) => return read_lines(alloc, Format::Plain, number, rest),
+            Next::Token(token, word, others) => {
+                return if is_version(token.kind, word) {
+                    read_typed(alloc, number, token.column + token.length, others, after)
+                } else {
+                    read_lines(alloc, Format::Plain, number, rest)
+                };
+            }
+            Next::End => match after {
+                None => return finish(number, Draft::new(alloc)),
+                Some(lines) => {
+                    rest = lines;
+                    number += 1;
+                }
+            },
+        }
+    }
+}
+
+/// Reads a text from behind the word `version`.
+fn read_typed(
+    alloc: Global,
+    number: u32,
+    behind: u32,
+    others: &[u8],
+    after: Option<&[u8]>,
+) -> Result<Draft, SchemaRefusal>
+    requires room { behind + length others.now < 2 ^ 32 }
+    requires lines { AreFew number after }
+    ensures ok { IfOk result (λ draft. read_typed number (lines_after after.entry) behind (lexed Mode.Numbered 0 behind others.now) ≡ Ok (drafted draft)) }
+    ensures err { IfErr result (λ refusal. Refuses refusal (read_typed number (lines_after after.entry) behind (lexed Mode.Numbered 0 behind others.now))) }
+{
+    match read_version(number, behind, others) {
+        Err(refusal) => Err(refusal),
+        Ok(()) => match after {
+            None => finish(number, Draft::new(alloc)),
+            Some(lines) => read_lines(alloc, Format::Typed, number + 1, lines),
+        },
+    }
+}
+
+/// Reads a line from behind the word `version`: the number 2, and nothing more.
+fn read_version(line: u32, behind: u32, text: &[u8]) -> Result<(), SchemaRefusal>
+    requires { behind + length text.now < 2 ^ 32 }
+    ensures ok { OnOk result (read_version_lexed line behind (lexed Mode.Numbered 0 behind text.now) ≡ Ok no_declaration) }
+    ensures err { IfErr result (λ refusal. read_version_lexed line behind (lexed Mode.Numbered 0 behind text.now) ≡ Err refusal) }
+{
+    match next_token(Mode::Numbered, behind, text) {
+        Next::End => {
+            let kind = SchemaRefusalKind::Expected(What::Number);
+            Err(SchemaRefusal::at(line, behind, 0, kind))
+        }
+        Next::Stop(stop) => Err(SchemaRefusal::by(line, stop)),
+        Next::Token(token, _, rest) => match number_in(token.kind) {
+            None => {
+                let kind = SchemaRefusalKind::Expected(What::Number);
+                Err(SchemaRefusal::at(line, token.column, token.length, kind))
+            }
+            Some(version) => {
+                if version == VERSION {
+                    end_version(line, token.column + token.length, rest)
+                } else {
+                    let kind = SchemaRefusalKind::UnknownVersion;
+                    Err(SchemaRefusal::at(line, token.column, token.length, kind))
+                }
+            }
+        },
+    }
+}
+
+/// The value of a number.
+fn number_in(kind: TokenKind) -> Option<u32>
+    ensures exact { result ≡ number_in kind }
+{
+    match kind {
+        TokenKind::Number(value) => Some(value),
+        _ => None,
+    }
+}
+
+/// Reads the rest of a version line, in which no token may stand.
+fn end_version(line: u32, behind: u32, text: &[u8]) -> Result<(), SchemaRefusal>
+    requires { behind + length text.now < 2 ^ 32 }
+    ensures ok { OnOk result (end_version_lexed line (lexed Mode.Numbered 0 behind text.now) ≡ Ok no_declaration) }
+    ensures err { IfErr result (λ refusal. end_version_lexed line (lexed Mode.Numbered 0 behind text.now) ≡ Err refusal) }
+{
+    match next_token(Mode::Numbered, behind, text) {
+        Next::End => Ok(()),
+        Next::Stop(stop) => Err(SchemaRefusal::by(line, stop)),
+        Next::Token(token, _, _) => {
+            let kind = SchemaRefusalKind::Expected(What::LineEnd);
+            Err(SchemaRefusal::at(line, token.column, token.length, kind))
+        }
+    }
+}
+
+/// Whether the first token of a text makes its line a version line.
+#[tactic(auto, unfolding(crate::specs::Texts::is_version))]
+fn is_version(kind: TokenKind, word: &[u8]) -> bool
+    ensures exact { result ≡ is_version kind word.now }
+{
+    match kind {
+        TokenKind::Word => word == b"version".as_slice(),
+        _ => false,
+    }
+}
+
+/// Reads lines, of which the first has this number, into nothing that is declared before.
+fn read_lines(
+    alloc: Global,
+    format: Format,
+    number: u32,
+    text: &[u8],
+) -> Result<Draft, SchemaRefusal>
+    requires { number + length text.now < 2 ^ 31 }
+    ensures ok { IfOk result (λ draft. read_lines format number no_declaration (line_texts text.now) ≡ Ok (drafted draft)) }
+    ensures err { IfErr result (λ refusal. Refuses refusal (read_lines format number no_declaration (line_texts text.now))) }
+{
+    let mut draft = Draft::new(alloc);
+    let mut number = number;
+    let mut rest = text;
+    'lines: loop {
+        let (line, after) = cut_line(rest);
+        match draft.read_line(format, number, line) {
+            Err(refusal) => return Err(refusal),
+            Ok(()) => match after {
+                None => return finish(number, draft),
+                Some(lines) => {
+                    rest = lines;
+                    number += 1;
+                }
+            },
+        }
+    }
+}
+
+/// A text ends with this line; it declares an attribute.
+#[tactic(auto, unfolding(crate::specs::Texts::finish))]
+fn finish(last: u32, draft: Draft) -> Result<Draft, SchemaRefusal>
+    ensures ok { IfOk result (λ whole. finish last (drafted draft) ≡ Ok (drafted whole)) }
+    ensures err { IfErr result (λ refusal. finish last (drafted draft) ≡ Err refusal) }
+{
+    if draft.names.is_empty() {
+        Err(SchemaRefusal::at(last, 1, 0, SchemaRefusalKind::NoAttributes))
+    } else {
+        Ok(draft)
+    }
+}
