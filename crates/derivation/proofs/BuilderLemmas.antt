@@ -1,6 +1,5 @@
 -- What the trees of the builders prove. The sets that a builder computes are given by their members.
-use Rattle.std.proofs.Common.{◌≡◌, ℕ, true, false, not, ◌&&◌, ◌||◌, ap, arith, refl}
-use Rattle.std.proofs.lemmas.Bool.Decides.{nat_tests}
+use Rattle.std.proofs.Common.{ap, arith, refl}
 use Rattle.attr_sets.specs.Places.{Places, none, union, meet, minus, Within, Same, Apart}
 use Rattle.dep_model.specs.declared.schema.Schema.{Schema}
 use Rattle.dep_model.specs.Dependencies.{Dependency, fd, mvd, left_of, right_of, IsWithin}

@@ -1,15 +1,10 @@
 -- What a tree of one node more proves.
-use Rattle.std.proofs.Common.{◌≡◌, ℕ, true, ◌&&◌, refl, subst, ap, ◌∙◌, sym}
-use Rattle.std.specs.Prelude.{Ok, Err, cond, Result}
-use Rattle.std.proofs.lemmas.Bool.{and_from}
-use Rattle.attr_sets.specs.Places.{Places, union, meet, minus, Within, Same, Apart}
-use Rattle.attr_sets.specs.Sets.{is_within, is_same, is_apart}
+use Rattle.std.proofs.Common.{◌≡◌, refl, subst, ap, ◌∙◌}
+use Rattle.attr_sets.specs.Places.{Places, union, minus, Within, Same, Apart}
 use Rattle.attr_sets.proofs.PlacesLemmas.{Same-path, is_within-from, is_same-from, is_apart-from}
 use Rattle.dep_model.specs.declared.schema.Schema.{Schema}
-use Rattle.dep_model.specs.Dependencies.{Dependency, fd, mvd}
+use Rattle.dep_model.specs.Dependencies.{fd, mvd}
 use Rattle.dep_model.specs.Schemas.{universe_of}
-use Rattle.derivation.specs.declared.fault.FaultKind.{FaultKind}
-use Rattle.derivation.specs.declared.fault.FaultKind.TheVariants.{NotWithin, MiddleDiffers, NotDisjoint}
 use Rattle.derivation.specs.Trees.{reflexivity, mreflexivity, augmentation, complementation, maugmentation, replication, transitivity, mtransitivity, coalescence, Tree, leaf, step, pair}
 use Rattle.derivation.specs.Conclusions.{Proves}
 

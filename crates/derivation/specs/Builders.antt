@@ -1,4 +1,4 @@
-use Rattle.std.specs.Prelude.{ℕ, ◌+◌, ◌≤◌, max}
+use Rattle.std.specs.Prelude.{◌+◌, ◌≤◌, max}
 use Rattle.attr_sets.specs.Places.{Places, Apart}
 use Rattle.dep_model.specs.declared.schema.Schema.{Schema}
 use Rattle.dep_model.specs.Dependencies.{fd, mvd}

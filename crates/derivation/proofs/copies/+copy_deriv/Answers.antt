@@ -1,4 +1,4 @@
-use Rattle.std.proofs.Common.{◌≡◌, ℕ, ◌+◌, ap, arith}
+use Rattle.std.proofs.Common.{◌≡◌, ◌+◌, ap, arith}
 use Rattle.derivation.specs.Trees.{nodes}
 use Rattle.derivation.specs.Derivs.{tree_of}
 use Rattle.derivation.proofs.TreeLemmas.{nodes-pos}

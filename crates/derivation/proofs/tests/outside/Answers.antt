@@ -19,5 +19,5 @@ returns-clause-proves c =
     let empty = c.empty-none.ensures.members in
     subst P (sym c.in_ok-new.ensures.ok)
     (mvd_restated s (step complementation from) x (minus (universe_of s) (union x x)) none (universe_of s)
-      empty (λ k. grind (arith, empty k))
-      (complementation_proves s from x x c.in_ok-from.ensures.proves))
+    empty (λ k. grind (arith, empty k))
+    (complementation_proves s from x x c.in_ok-from.ensures.proves))
