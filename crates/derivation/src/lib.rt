@@ -25,3 +25,4 @@ pub use deriv::Deriv;
 pub use fault::{Fault, FaultKind};
 pub use measures::{depth, nodes};
 pub use rule::{LeafRule, Node, PairRule, StepRule};
+pub use table::{leaf_conclusion, pair_conclusion, step_conclusion};
