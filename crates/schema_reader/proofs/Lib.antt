@@ -5,4 +5,5 @@ pub mod PrintLemmas
 pub mod RefusalLemmas
 pub mod SoundLemmas
 pub mod TextLemmas
+pub mod TokenLemmas
 pub mod WithinLemmas

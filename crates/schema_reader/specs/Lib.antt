@@ -4,4 +4,5 @@ pub mod Printing
 pub mod Reading
 pub mod Refusals
 pub mod Texts
+pub mod TokenLists
 pub mod Words
