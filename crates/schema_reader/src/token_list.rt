@@ -2,11 +2,9 @@ ghost use Rattle.std.specs.Prelude.{◌≡◌, ◌+◌, ◌<◌, ◌^◌, length
 ghost use Rattle.schema_reader.specs.Refusals.{Refuses};
 ghost use Rattle.schema_reader.specs.TokenLists.{tokens_of, mode_of};
 
-use std::alloc::Global;
-
-use lexer::{Mode, Next, Token, next_token};
-
 use crate::refusal::{SchemaRefusal, SchemaRefusalKind};
+use lexer::{Mode, Next, Token, next_token};
+use std::alloc::Global;
 
 /// The tokens of one line, which is given without its end; with `proof` numbers and `:` are tokens
 /// too. It is refused at the first bytes that begin none, in line 1.
