@@ -1,5 +1,6 @@
 pub mod DependencyLemmas
 pub mod FollowLemmas
+pub mod GoalLaws
 pub mod ListLemmas
 pub mod PrintLemmas
 pub mod RefusalLemmas

@@ -1,5 +1,6 @@
 pub mod Declarations
 pub mod Grammar
+pub mod Meanings
 pub mod Printing
 pub mod Reading
 pub mod Refusals

@@ -1,0 +1,12 @@
+//! The grammar, tied to the readers. Each is a function that does nothing, whose clause is the law; so
+//! the gate asks for its proof.
+
+ghost use Rattle.std.specs.Prelude.{◌≡◌, ◌↔◌, ℕ, List, Ok};
+ghost use Rattle.dep_model.specs.Dependencies.{Dependency};
+ghost use Rattle.schema_reader.specs.Meanings.{MeansGoal};
+ghost use Rattle.schema_reader.specs.Reading.{read_goal};
+
+/// A goal is read as a dependency exactly where it means that dependency; so it means one at most.
+pub fn goal_meaning()
+    ensures law { (declared : List (List ℕ)) (text : List ℕ) (d : Dependency) → (read_goal declared text ≡ Ok d) ↔ MeansGoal declared text d }
+{}
