@@ -349,11 +349,11 @@ dependency-law f declared line from ms d = (marks_make f declared line from star
     back : IsDependency f declared ms d → follow f declared line start from ms None ≡ Ok d
     back is = rw (is.whole, is.states) (sides_read f declared line is.sign is.x is.y from is.lhs is.arrow is.rhs is.left_side is.is_arrow is.right_side)
 
-any_ok : {X E : Type 0} (r : Result X E) → IfOk r (λ _. Unit {0})
+pub any_ok : {X E : Type 0} (r : Result X E) → IfOk r (λ _. Unit {0})
 any_ok (Ok x) = tt
 any_ok (Err e) = tt
 
-stopped : (f : Format) (declared : List (List ℕ)) (line : ℕ) (r : Reading) (from : ℕ) (ms : List Mark) (stop : Stop)
+pub stopped : (f : Format) (declared : List (List ℕ)) (line : ℕ) (r : Reading) (from : ℕ) (ms : List Mark) (stop : Stop)
     → IfOk (follow f declared line r from ms (Some stop)) (λ _. ⊥)
 unfolding follow
 stopped f declared line r from [] stop = tt

@@ -1,9 +1,11 @@
+pub mod BlankLemmas
 pub mod DependencyLemmas
 pub mod FollowLemmas
 pub mod GoalLaws
 pub mod ListLemmas
 pub mod PrintLemmas
 pub mod RefusalLemmas
+pub mod SchemaLaws
 pub mod SoundLemmas
 pub mod TextLemmas
 pub mod TokenLemmas

@@ -4,6 +4,7 @@ pub mod Meanings
 pub mod Printing
 pub mod Reading
 pub mod Refusals
+pub mod Schemas
 pub mod Texts
 pub mod TokenLists
 pub mod Words
