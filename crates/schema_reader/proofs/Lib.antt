@@ -1,4 +1,5 @@
 pub mod BlankLemmas
+pub mod ComplaintLaws
 pub mod DependencyLemmas
 pub mod FollowLemmas
 pub mod GoalLaws
@@ -6,6 +7,7 @@ pub mod ListLemmas
 pub mod PrintLemmas
 pub mod RefusalLemmas
 pub mod SchemaLaws
+pub mod ShapeLemmas
 pub mod SoundLemmas
 pub mod TextLemmas
 pub mod TokenLemmas

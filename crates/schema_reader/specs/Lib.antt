@@ -1,3 +1,4 @@
+pub mod Complaints
 pub mod Declarations
 pub mod Grammar
 pub mod Meanings
