@@ -93,11 +93,11 @@ judge_later pre f declared line behind m ms stop (Err e) fine rest = record {
     least zero n complaint = absurd (fine n complaint)
     least (suc p) n complaint = shift p n (rest.least p n (complaint_later pre f declared m ms stop p n complaint))
 
-flaw_numbered : (why : Flaw) → number_of (kind_of_flaw why) ≡ flaw_number why
+pub flaw_numbered : (why : Flaw) → number_of (kind_of_flaw why) ≡ flaw_number why
 flaw_numbered flaw.StrangeByte = refl
 flaw_numbered flaw.BadName = refl
 
-no_mark : (m : Mark) (p : ℕ) → slice_get [] p ≡ Some m → ⊥
+pub no_mark : (m : Mark) (p : ℕ) → slice_get [] p ≡ Some m → ⊥
 no_mark m p e = cc
 
 abbrev no_stop : Option Stop
@@ -172,7 +172,7 @@ runs-one pre s k reached = runs-append at_start pre (k ∷ []) ∙ ap (λ o. bin
     last None = refl
     last (Some t) = refl
 
-same_mark : (m : Mark) (ms : List Mark) (k : Mark) → slice_get (m ∷ ms) 0 ≡ Some k → m ≡ k
+pub same_mark : (m : Mark) (ms : List Mark) (k : Mark) → slice_get (m ∷ ms) 0 ≡ Some k → m ≡ k
 same_mark m ms k e = cc
 
 -- nothing is wrong with a token by which the reading goes on

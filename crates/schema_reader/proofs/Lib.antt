@@ -4,6 +4,7 @@ pub mod DependencyLemmas
 pub mod FollowLemmas
 pub mod GoalLaws
 pub mod ListLemmas
+pub mod NameLaws
 pub mod PrintLemmas
 pub mod RefusalLemmas
 pub mod SchemaLaws

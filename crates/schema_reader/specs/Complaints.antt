@@ -1,4 +1,5 @@
-use Rattle.std.specs.Prelude.{◌≡◌, ◌<◌, ◌≤◌, ◌⊎◌, ℕ, zero, suc, ◌+◌, true, List, [], ◌∷◌, ◌++◌, length, take, map, Option, Some, None, Result, Ok, Err, slice_get}
+use Rattle.std.specs.Prelude.{◌≡◌, ◌<◌, ◌≤◌, ◌⊎◌, ℕ, zero, suc, ◌+◌, true, List, [], ◌∷◌, ◌++◌, length, take, map, Option, Some, None, Result, Ok, Err, slice_get, is_some, All}
+use Rattle.attr_sets.specs.declared.set.TheConstants.{PLACES}
 use Rattle.dep_model.specs.Dependencies.{Dependency}
 use Rattle.dep_model.specs.Schemas.{place_named}
 use Rattle.lexer.specs.declared.token.Flaw.{Flaw}
@@ -14,6 +15,7 @@ use Rattle.schema_reader.specs.declared.refusal.SchemaRefusalKind.TheVariants as
 use Rattle.schema_reader.specs.declared.refusal.Span.{Span}
 use Rattle.schema_reader.specs.declared.words.Format.{Format}
 use Rattle.schema_reader.specs.declared.words.Format.TheVariants as format
+use Rattle.schema_reader.specs.Declarations.{Declarations}
 use Rattle.schema_reader.specs.Meanings.{IsDependency}
 use Rattle.schema_reader.specs.Words.{is_reserved}
 
@@ -97,3 +99,25 @@ GoalComplaint declared text place number =
 abbrev pub FitsGoal : List (List ℕ) → List ℕ → Result Dependency SchemaRefusal → Type 0
 FitsGoal declared text reading =
     FitsLine format.Plain declared 1 (lex mode.Goal text).marks (lex mode.Goal text).stop reading
+
+-- what is wrong with the words behind a declaring word, before the last of which so many stand
+abbrev pub NameComplaint : Format → Declarations → List Mark → ℕ → Mark → ℕ → Type 0
+NameComplaint f d words place m number =
+    ((m.kind ≡ token.Word)
+    × ((((number ≡ 3) × (is_reserved f m.word ≡ true))
+    ⊎ ((number ≡ 4) × (is_some (place_named (d.names ++ map (λ w. w.word) (take place words)) m.word) ≡ true)))
+    ⊎ ((number ≡ 7) × (PLACES ≤ length d.names + place))))
+    ⊎ ((number ≡ 6) × (m.kind ≡ token.Word → ⊥))
+
+-- what is wrong with a declaring line behind its declaring word: at a token before which words stand,
+-- at the line's end where no word stands, or at bytes that are no token
+abbrev pub NamesComplaint : Format → Declarations → List Mark → Option Stop → ℕ → ℕ → Type 0
+NamesComplaint f d words stop place number =
+    (((m : Mark) × (slice_get words place ≡ Some m) × All (λ w. w.kind ≡ token.Word) (take place words) × NameComplaint f d words place m number)
+    ⊎ ((number ≡ 6) × (place ≡ 0) × (words ≡ []) × (stop ≡ None)))
+    ⊎ ((s : Stop) × (stop ≡ Some s) × (place ≡ length words) × (number ≡ flaw_number s.flaw))
+
+-- the words behind a declaring word are refused by the first complaint, and read where there is none
+abbrev pub FitsNames : Format → Declarations → ℕ → ℕ → List Mark → Option Stop → Result Declarations SchemaRefusal → Type 0
+FitsNames f d line behind words stop (Ok whole) = (place number : ℕ) → NamesComplaint f d words stop place number → ⊥
+FitsNames f d line behind words stop (Err e) = IsFirst (NamesComplaint f d words stop) (span_at line behind words stop) e
