@@ -257,3 +257,31 @@ line-law f declared line ms stop = fits (follow f declared line start 1 ms stop)
 
 pub goal-complaint-law : (declared : List (List ℕ)) (text : List ℕ) → FitsGoal declared text (read_goal declared text)
 goal-complaint-law declared text = line-law format.Plain declared 1 (lex mode.Goal text).marks (lex mode.Goal text).stop
+
+-- a token by which the reading ends is the first place, of a number up to 6
+pub record EndsAt (f : Format) (declared : List (List ℕ)) (line : ℕ) (m : Mark) (ms : List Mark) (stop : Option Stop) (why : SchemaRefusalKind) : Type 0 where
+  pub first : IsFirst (LineComplaint f declared (m ∷ ms) stop) (span_at line 1 (m ∷ ms) stop) (refusal line m.column (length m.word) why)
+  pub here : first.place ≡ 0
+  pub small : number_of why ≤ 6
+
+pub first_token : (f : Format) (declared : List (List ℕ)) (line : ℕ) (m : Mark) (ms : List Mark) (stop : Option Stop) (why : SchemaRefusalKind)
+    → StepTells f declared start m (Err why) → EndsAt f declared line m ms stop why
+unfolding judge_token
+first_token f declared line m ms stop why (inl (stands, less, small)) =
+    let first = judge_token [] f declared line 1 start m ms stop why refl (inl (stands, less, small)) in
+    record {
+      first = record { place = first.place; stands = to_line f declared (m ∷ ms) stop first.place (number_of why) first.stands; there = first.there; least = λ p n complaint. first.least p n (from_line f declared (m ∷ ms) stop p n complaint) };
+      here = refl; small = small;
+    }
+first_token f declared line m ms stop why (inr (six, cannot, word)) =
+    let first = judge_token [] f declared line 1 start m ms stop why refl (inr (six, cannot, word)) in
+    record {
+      first = record { place = first.place; stands = to_line f declared (m ∷ ms) stop first.place (number_of why) first.stands; there = first.there; least = λ p n complaint. first.least p n (from_line f declared (m ∷ ms) stop p n complaint) };
+      here = refl; small = omega arith;
+    }
+
+-- nothing is wrong with a first token by which the reading goes on
+pub fine_first : (f : Format) (declared : List (List ℕ)) (m : Mark) (ms : List Mark) (stop : Option Stop) (next : Reading)
+    → StepTells f declared start m (Ok next) → (n : ℕ) → LineComplaint f declared (m ∷ ms) stop 0 n → ⊥
+fine_first f declared m ms stop next tells n complaint =
+    fine_token [] f declared (shape_of next) m ms stop (runs-one [] at_start m.kind refl ∙ tells.0) tells.1 n (from_line f declared (m ∷ ms) stop 0 n complaint)

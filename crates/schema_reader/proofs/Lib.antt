@@ -3,6 +3,7 @@ pub mod ComplaintLaws
 pub mod DependencyLemmas
 pub mod FollowLemmas
 pub mod GoalLaws
+pub mod LineLaws
 pub mod ListLemmas
 pub mod NameLaws
 pub mod PrintLemmas

@@ -1,5 +1,7 @@
 use Rattle.std.specs.Prelude.{◌≡◌, ◌<◌, ◌≤◌, ◌⊎◌, ℕ, zero, suc, ◌+◌, true, List, [], ◌∷◌, ◌++◌, length, take, map, Option, Some, None, Result, Ok, Err, slice_get, is_some, All}
 use Rattle.attr_sets.specs.declared.set.TheConstants.{PLACES}
+use Rattle.dep_model.specs.declared.column.Column.{Column}
+use Rattle.dep_model.specs.declared.schema.TheConstants.{MOST_DEPENDENCIES}
 use Rattle.dep_model.specs.Dependencies.{Dependency}
 use Rattle.dep_model.specs.Schemas.{place_named}
 use Rattle.lexer.specs.declared.token.Flaw.{Flaw}
@@ -17,7 +19,7 @@ use Rattle.schema_reader.specs.declared.words.Format.{Format}
 use Rattle.schema_reader.specs.declared.words.Format.TheVariants as format
 use Rattle.schema_reader.specs.Declarations.{Declarations}
 use Rattle.schema_reader.specs.Meanings.{IsDependency}
-use Rattle.schema_reader.specs.Words.{is_reserved}
+use Rattle.schema_reader.specs.Words.{is_reserved, declares}
 
 -- the number of a refusal; want of memory has none
 abbrev pub number_of : SchemaRefusalKind → ℕ
@@ -121,3 +123,21 @@ NamesComplaint f d words stop place number =
 abbrev pub FitsNames : Format → Declarations → ℕ → ℕ → List Mark → Option Stop → Result Declarations SchemaRefusal → Type 0
 FitsNames f d line behind words stop (Ok whole) = (place number : ℕ) → NamesComplaint f d words stop place number → ⊥
 FitsNames f d line behind words stop (Err e) = IsFirst (NamesComplaint f d words stop) (span_at line behind words stop) e
+
+-- what is wrong with a line of a schema text that this token begins, behind what is declared
+abbrev pub HeadComplaint : Format → Declarations → Mark → List Mark → Option Stop → Option Column → ℕ → ℕ → Type 0
+HeadComplaint f d m ms stop (Some column) place number =
+    (later : ℕ) × (place ≡ suc later) × NamesComplaint f d ms stop later number
+HeadComplaint f d m ms stop None place number =
+    LineComplaint f d.names (m ∷ ms) stop place number
+    ⊎ ((number ≡ 8) × (place ≡ 0) × (MOST_DEPENDENCIES ≤ length d.deps))
+
+-- what is wrong with a line of a schema text, behind what is declared
+abbrev pub TextLineComplaint : Format → Declarations → List Mark → Option Stop → ℕ → ℕ → Type 0
+TextLineComplaint f d [] stop place number = (s : Stop) × (stop ≡ Some s) × (place ≡ 0) × (number ≡ flaw_number s.flaw)
+TextLineComplaint f d (m ∷ ms) stop place number = HeadComplaint f d m ms stop (declares f m.kind m.word) place number
+
+-- a line is refused by the first complaint, and read where there is none
+abbrev pub FitsTextLine : Format → Declarations → ℕ → List Mark → Option Stop → Result Declarations SchemaRefusal → Type 0
+FitsTextLine f d line ms stop (Ok whole) = (place number : ℕ) → TextLineComplaint f d ms stop place number → ⊥
+FitsTextLine f d line ms stop (Err e) = IsFirst (TextLineComplaint f d ms stop) (span_at line 1 ms stop) e
