@@ -4,6 +4,7 @@ pub mod DependencyLemmas
 pub mod FollowLemmas
 pub mod GoalLaws
 pub mod LineLaws
+pub mod LinesLaws
 pub mod ListLemmas
 pub mod NameLaws
 pub mod PrintLemmas
@@ -12,5 +13,6 @@ pub mod SchemaLaws
 pub mod ShapeLemmas
 pub mod SoundLemmas
 pub mod TextLemmas
+pub mod TextLaws
 pub mod TokenLemmas
 pub mod WithinLemmas

@@ -170,11 +170,11 @@ dependency_back f line d m ms dep e h =
     let read = two.second in
     rw first (rw room (rw read refl))
 
-has_tokens : (l : Lexed) (ms : List Mark) → l.marks ≡ ms → l.stop ≡ None → HasTokens l ms
+pub has_tokens : (l : Lexed) (ms : List Mark) → l.marks ≡ ms → l.stop ≡ None → HasTokens l ms
 has_tokens l ms marks stop i = record { marks = marks i; stop = stop i }
 
 -- a line is read exactly where it means what is declared behind it
-line_there : (f : Format) (number : ℕ) (d : Declarations) (line : List ℕ) (whole : Declarations) → read_line f number d line ≡ Ok whole → MeansLine f number d line whole
+pub line_there : (f : Format) (number : ℕ) (d : Declarations) (line : List ℕ) (whole : Declarations) → read_line f number d line ≡ Ok whole → MeansLine f number d line whole
 unfolding read_line
 line_there f number d line whole e = told (lex mode.Plain line).marks (lex mode.Plain line).stop refl refl e
   where
@@ -203,7 +203,7 @@ line_there f number d line whole e = told (lex mode.Plain line).marks (lex mode.
     told [] (Some s) marks stop e = cc
     told (m ∷ ms) stop marks same e = from m ms stop (declares f m.kind m.word) marks same refl e
 
-line_back : (f : Format) (number : ℕ) (d : Declarations) (line : List ℕ) (whole : Declarations) → MeansLine f number d line whole → read_line f number d line ≡ Ok whole
+pub line_back : (f : Format) (number : ℕ) (d : Declarations) (line : List ℕ) (whole : Declarations) → MeansLine f number d line whole → read_line f number d line ≡ Ok whole
 unfolding read_line
 line_back f number d line whole (inl (inl blank)) = rw (blank.tokens, blank.same) refl
 line_back f number d line whole (inl (inr is)) =
@@ -224,7 +224,7 @@ finish_back : (last : ℕ) (d : Declarations) → 0 < length d.names → finish 
 unfolding finish
 finish_back last d some = let is : (length d.names == 0) ≡ false = grind (arith, nat_tests) in rw is refl
 
-lines_there : (f : Format) (number : ℕ) (d whole : Declarations) (lines : List (List ℕ)) → read_lines f number d lines ≡ Ok whole
+pub lines_there : (f : Format) (number : ℕ) (d whole : Declarations) (lines : List (List ℕ)) → read_lines f number d lines ≡ Ok whole
     → MeansLines f number d lines whole × (0 < length whole.names)
 unfolding read_lines
 lines_there f number d whole [] e =
@@ -234,7 +234,7 @@ lines_there f number d whole (line ∷ lines) e =
     let more = lines_there f (number + 1) two.x whole lines two.second in
     ((two.x, line_there f number d line two.x two.first, more.0), more.1)
 
-lines_back : (f : Format) (number : ℕ) (d whole : Declarations) (lines : List (List ℕ)) → MeansLines f number d lines whole → 0 < length whole.names
+pub lines_back : (f : Format) (number : ℕ) (d whole : Declarations) (lines : List (List ℕ)) → MeansLines f number d lines whole → 0 < length whole.names
     → read_lines f number d lines ≡ Ok whole
 unfolding read_lines
 lines_back f number d whole [] e some = rw (← e) (finish_back (number - 1) whole some)
@@ -242,14 +242,14 @@ lines_back f number d whole (line ∷ lines) (next, first, rest) some =
     rw (line_back f number d line next first) (lines_back f (number + 1) next whole lines rest some)
 
 -- behind the word `version` stands the number 2, and nothing more
-record Numbers (ms : List Mark) (stop : Option Stop) (d : Declarations) : Type 0 where
-  number : Mark
-  only : ms ≡ number ∷ []
-  ends : stop ≡ None
-  is_number : number.kind ≡ token.Number VERSION
-  nothing : d ≡ no_declaration
+pub record Numbers (ms : List Mark) (stop : Option Stop) (d : Declarations) : Type 0 where
+  pub number : Mark
+  pub only : ms ≡ number ∷ []
+  pub ends : stop ≡ None
+  pub is_number : number.kind ≡ token.Number VERSION
+  pub nothing : d ≡ no_declaration
 
-version_there : (line behind : ℕ) (ms : List Mark) (stop : Option Stop) (d : Declarations) → read_version line behind ms stop ≡ Ok d → Numbers ms stop d
+pub version_there : (line behind : ℕ) (ms : List Mark) (stop : Option Stop) (d : Declarations) → read_version line behind ms stop ≡ Ok d → Numbers ms stop d
 unfolding read_version
 version_there line behind [] None d e = cc
 version_there line behind [] (Some s) d e = cc
