@@ -1,12 +1,10 @@
-use Rattle.std.proofs.Common.{◌≡◌, ℕ, ◌+◌, zero, suc, Bool, true, false, cond, ◌==◌, ◌&&◌, List, [], ◌∷◌, length, take, nat_eq, Option, None, Some, refl, sym, ◌∙◌, ap, arith}
+use Rattle.std.proofs.Common.{◌≡◌, ℕ, ◌+◌, zero, suc, Bool, true, false, cond, ◌==◌, ◌&&◌, List, [], ◌∷◌, take, nat_eq, None, Some, refl, sym, ◌∙◌, ap, arith}
 use Rattle.std.specs.List.{starts_with}
 use Rattle.dep_model.specs.Names.{is_name, is_name_byte}
 use Rattle.lexer.specs.declared.piece.Piece.{Piece}
 use Rattle.lexer.specs.declared.piece.Piece.TheVariants as piece
-use Rattle.lexer.specs.declared.token.Flaw.{Flaw}
 use Rattle.lexer.specs.declared.token.Mode.{Mode}
 use Rattle.lexer.specs.declared.token.Mode.TheVariants as mode
-use Rattle.lexer.specs.declared.token.TokenKind.{TokenKind}
 use Rattle.lexer.specs.Bytes.{is_gap, is_number, run_length}
 use Rattle.lexer.specs.Pieces.{front, run_piece, takes_numbers, takes_comments}
 use Rattle.lexer.specs.Tokens.{Mark, Lexed, lexed, led_by}

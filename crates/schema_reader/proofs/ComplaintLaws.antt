@@ -1,7 +1,6 @@
-use Rattle.std.proofs.Common.{◌≡◌, ◌<◌, ◌≤◌, ◌+◌, ◌⊎◌, inl, inr, ℕ, zero, suc, Bool, true, false, List, [], ◌∷◌, ◌++◌, length, take, Option, Some, None, Ok, Err, Result, refl, sym, ◌∙◌, ap, subst, arith, append_assoc, lit<, lit≤}
-use Rattle.std.specs.Prelude.{map}
+use Rattle.std.proofs.Common.{◌≡◌, ◌<◌, ◌≤◌, ◌+◌, ◌⊎◌, inl, inr, ℕ, zero, suc, true, false, List, [], ◌∷◌, ◌++◌, length, take, Option, Some, None, Ok, Err, Result, refl, sym, ◌∙◌, ap, subst, arith, append_assoc}
 use Rattle.std.specs.List.{slice_get}
-use Rattle.std.proofs.lemmas.List.{append-nil, length-map}
+use Rattle.std.proofs.lemmas.List.{append-nil}
 use Rattle.dep_model.specs.Dependencies.{Dependency}
 use Rattle.lexer.specs.declared.token.Flaw.{Flaw}
 use Rattle.lexer.specs.declared.token.Flaw.TheVariants as flaw
@@ -11,16 +10,14 @@ use Rattle.lexer.specs.declared.token.TokenKind.{TokenKind}
 use Rattle.lexer.specs.Tokens.{Mark, lex}
 use Rattle.schema_reader.specs.declared.refusal.SchemaRefusal.{SchemaRefusal}
 use Rattle.schema_reader.specs.declared.refusal.SchemaRefusalKind.{SchemaRefusalKind}
-use Rattle.schema_reader.specs.declared.refusal.SchemaRefusalKind.TheVariants as kind
-use Rattle.schema_reader.specs.declared.refusal.Span.{Span}
 use Rattle.schema_reader.specs.declared.refusal.What.{What}
 use Rattle.schema_reader.specs.declared.words.Format.{Format}
 use Rattle.schema_reader.specs.declared.words.Format.TheVariants as format
-use Rattle.schema_reader.specs.Complaints.{IsLine, BeginsLine, IsStuck, ComplainsOfWord, LineComplaint, kinds, number_of, flaw_number, span_at, IsFirst, FitsLine, GoalComplaint, FitsGoal}
+use Rattle.schema_reader.specs.Complaints.{IsLine, BeginsLine, ComplainsOfWord, LineComplaint, kinds, number_of, flaw_number, span_at, IsFirst, FitsLine, FitsGoal}
 use Rattle.schema_reader.specs.Grammar.{Reading, start, finished}
 use Rattle.schema_reader.specs.Reading.{step, follow, read_goal}
 use Rattle.schema_reader.specs.Refusals.{at, and_then, expecting, refused_by, refusal, kind_of_flaw}
-use Rattle.schema_reader.proofs.ShapeLemmas.{Shape, at_start, shape_of, turn_shape, is_final, bind, runs, StepTells, step_tells, EndTells, end_tells, Ends, final_line, line_ends, runs-append, begins_from, begins_to, Leads}
+use Rattle.schema_reader.proofs.ShapeLemmas.{Shape, at_start, shape_of, turn_shape, is_final, bind, runs, StepTells, step_tells, EndTells, end_tells, final_line, line_ends, runs-append, begins_from, begins_to}
 
 -- the grammar can't go on, behind tokens of these kinds
 record IsStuckFrom (pre ks : List TokenKind) (stop : Option Stop) (place : ℕ) : Type 0 where
@@ -89,6 +86,7 @@ judge_later pre f declared line behind m ms stop (Err e) fine rest = record {
     shift : (p n : ℕ) → (rest.place < p) ⊎ ((rest.place ≡ p) × (number_of e.kind ≤ n)) → (suc rest.place < suc p) ⊎ ((suc rest.place ≡ suc p) × (number_of e.kind ≤ n))
     shift p n (inl less) = inl (omega arith)
     shift p n (inr (same, less)) = inr ((omega arith), less)
+
     least : (p n : ℕ) → ComplaintFrom pre f declared (m ∷ ms) stop p n → (suc rest.place < p) ⊎ ((suc rest.place ≡ p) × (number_of e.kind ≤ n))
     least zero n complaint = absurd (fine n complaint)
     least (suc p) n complaint = shift p n (rest.least p n (complaint_later pre f declared m ms stop p n complaint))
@@ -132,6 +130,7 @@ judge_end pre f declared line behind r (Ok d) final reached = λ p n complaint. 
   where
     ends : IsLine (pre ++ [])
     ends = subst IsLine (sym (append-nil pre)) (final_line pre (shape_of r) reached final)
+
     none : (p n : ℕ) → ComplaintFrom pre f declared [] None p n → ⊥
     none p n (inl (inl (m, is, word))) = no_mark m p is
     none p n (inl (inr (six, stuck))) = told stuck.here
@@ -155,6 +154,7 @@ judge_end pre f declared line behind r (Err what) open_end reached = record {
       where
         inside : {s t : Shape} → Some s ≡ Some t → s ≡ t
         inside eq = cc
+
     least : (p n : ℕ) → ComplaintFrom pre f declared [] None p n → (0 < p) ⊎ ((0 ≡ p) × (6 ≤ n))
     least p n (inl (inl (m, is, word))) = absurd (no_mark m p is)
     least p n (inl (inr (six, stuck))) = told stuck.here
@@ -191,7 +191,10 @@ fine_token pre f declared s m ms stop reached word n (inr (t, is, same, number))
 judge_token : (pre : List TokenKind) (f : Format) (declared : List (List ℕ)) (line behind : ℕ) (r : Reading) (m : Mark) (ms : List Mark) (stop : Option Stop) (why : SchemaRefusalKind)
     → runs at_start pre ≡ Some (shape_of r) → StepTells f declared r m (Err why) → Judged pre f declared line behind (m ∷ ms) stop (Err (refusal line m.column (length m.word) why))
 judge_token pre f declared line behind r m ms stop why reached (inl (stands, less, small)) = record {
-  place = 0; stands = inl (inl (m, refl, stands)); there = refl; least = least;
+  place = 0;
+  stands = inl (inl (m, refl, stands));
+  there = refl;
+  least = least;
 }
   where
     least : (p n : ℕ) → ComplaintFrom pre f declared (m ∷ ms) stop p n → (0 < p) ⊎ ((0 ≡ p) × (number_of why ≤ n))
@@ -211,6 +214,7 @@ judge_token pre f declared line behind r m ms stop why reached (inr (six, cannot
     stuck begins =
         let leads = begins_to (pre ++ m.kind ∷ []) begins in
         let wrong : None ≡ Some leads.shape = sym cannot ∙ sym (runs-one pre (shape_of r) m.kind reached) ∙ leads.leads in cc
+
     least : (p n : ℕ) → ComplaintFrom pre f declared (m ∷ ms) stop p n → (0 < p) ⊎ ((0 ≡ p) × (number_of why ≤ n))
     least zero n (inl (inl (k, is, complaint))) =
         let of : Mark → Type 0 = λ x. ComplainsOfWord f declared x n in absurd (word n (subst of (sym (same_mark m ms k is)) complaint))
@@ -251,7 +255,9 @@ line-law f declared line ms stop = fits (follow f declared line start 1 ms stop)
     fits : (res : Result Dependency SchemaRefusal) → Judged [] f declared line 1 ms stop res → FitsLine f declared line ms stop res
     fits (Ok d) none = λ p n complaint. none p n (from_line f declared ms stop p n complaint)
     fits (Err e) first = record {
-      place = first.place; stands = to_line f declared ms stop first.place (number_of e.kind) first.stands; there = first.there;
+      place = first.place;
+      stands = to_line f declared ms stop first.place (number_of e.kind) first.stands;
+      there = first.there;
       least = λ p n complaint. first.least p n (from_line f declared ms stop p n complaint);
     }
 
@@ -271,13 +277,15 @@ first_token f declared line m ms stop why (inl (stands, less, small)) =
     let first = judge_token [] f declared line 1 start m ms stop why refl (inl (stands, less, small)) in
     record {
       first = record { place = first.place; stands = to_line f declared (m ∷ ms) stop first.place (number_of why) first.stands; there = first.there; least = λ p n complaint. first.least p n (from_line f declared (m ∷ ms) stop p n complaint) };
-      here = refl; small = small;
+      here = refl;
+      small = small;
     }
 first_token f declared line m ms stop why (inr (six, cannot, word)) =
     let first = judge_token [] f declared line 1 start m ms stop why refl (inr (six, cannot, word)) in
     record {
       first = record { place = first.place; stands = to_line f declared (m ∷ ms) stop first.place (number_of why) first.stands; there = first.there; least = λ p n complaint. first.least p n (from_line f declared (m ∷ ms) stop p n complaint) };
-      here = refl; small = omega arith;
+      here = refl;
+      small = omega arith;
     }
 
 -- nothing is wrong with a first token by which the reading goes on

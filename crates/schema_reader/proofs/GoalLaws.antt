@@ -1,10 +1,9 @@
-use Rattle.std.proofs.Common.{◌≡◌, ◌<◌, ◌≤◌, ◌+◌, ◌⊎◌, inl, inr, ℕ, zero, suc, Bool, true, false, cond, List, [], ◌∷◌, ◌++◌, length, Option, Some, None, Ok, Err, Result, refl, sym, ◌∙◌, ap, subst, arith, ◌||◌, ◌==◌, get_or}
-use Rattle.std.specs.List.{All, list_any}
-use Rattle.std.specs.Option.{IsSome}
+use Rattle.std.proofs.Common.{◌≡◌, ◌<◌, ◌+◌, inl, inr, ℕ, Bool, true, false, cond, List, [], ◌∷◌, ◌++◌, length, Option, Some, None, Ok, Err, Result, refl, sym, ◌∙◌, ap, arith, ◌||◌, ◌==◌}
+use Rattle.std.specs.List.{All}
 use Rattle.std.specs.Result.{IfOk}
 use Rattle.std.proofs.lemmas.List.Elements.{All-cons, All-nil, All-head, All-tail}
 use Rattle.schema_reader.proofs.RefusalLemmas.{ok_at}
-use Rattle.schema_reader.proofs.WithinLemmas.{and_then_ok, at_ok}
+use Rattle.schema_reader.proofs.WithinLemmas.{and_then_ok}
 use Rattle.std.specs.Prelude.{◌↔◌}
 use Rattle.attr_sets.proofs.PlacesLemmas.{Same-path}
 use Rattle.attr_sets.specs.Places.{Places, only, none, union}
@@ -20,13 +19,12 @@ use Rattle.schema_reader.specs.declared.refusal.SchemaRefusalKind.{SchemaRefusal
 use Rattle.schema_reader.specs.declared.refusal.SchemaRefusalKind.TheVariants as kind
 use Rattle.schema_reader.specs.declared.stage.Sign.{Sign}
 use Rattle.schema_reader.specs.declared.stage.Sign.TheVariants as sign
-use Rattle.schema_reader.specs.declared.stage.Symbol.{Symbol}
 use Rattle.schema_reader.specs.declared.stage.Symbol.TheVariants as symbol
 use Rattle.schema_reader.specs.declared.words.Format.{Format}
 use Rattle.schema_reader.specs.declared.words.Format.TheVariants as format
 use Rattle.schema_reader.specs.Grammar.{Reading, start, left, left_empty, behind, right, right_empty, turn, finished, stated}
-use Rattle.schema_reader.specs.Meanings.{HasTokens, is_at, named, IsAttribute, IsEmptySide, IsNamedSide, IsSide, IsArrow, IsDependency, MeansGoal}
-use Rattle.schema_reader.specs.Reading.{symbol_of, step, follow, follow_lexed, read_goal}
+use Rattle.schema_reader.specs.Meanings.{HasTokens, is_at, named, IsAttribute, IsSide, IsArrow, IsDependency, MeansGoal}
+use Rattle.schema_reader.specs.Reading.{step, follow, follow_lexed, read_goal}
 use Rattle.schema_reader.specs.Refusals.{at, and_then, expecting}
 use Rattle.schema_reader.specs.Words.{is_reserved, looked_up, known}
 
@@ -165,20 +163,32 @@ token_makes f declared line from start token.Word column word ms d rest e =
     let reads = reads_word f declared line start from column word ms d e in
     let more : LeftRest f declared (only reads.a) ms d = rest (left (only reads.a)) reads.goes_on in
     record {
-      lhs = mark token.Word column word ∷ more.words; arrow = more.arrow; rhs = more.rhs;
-      x = named declared (mark token.Word column word ∷ more.words); y = more.y; sign = more.sign;
+      lhs = mark token.Word column word ∷ more.words;
+      arrow = more.arrow;
+      rhs = more.rhs;
+      x = named declared (mark token.Word column word ∷ more.words);
+      y = more.y;
+      sign = more.sign;
       whole = ap (λ t. mark token.Word column word ∷ t) more.whole;
       left_side = inr (record { some = omega arith; each = All-cons (IsAttribute f declared) _ _ (attribute f declared column word reads.a reads.names) more.each; members = refl });
-      is_arrow = more.is_arrow; right_side = more.right_side;
+      is_arrow = more.is_arrow;
+      right_side = more.right_side;
       states = more.states ∙ ap (λ z. stated more.sign z more.y) (sym (named-cons declared (mark token.Word column word) more.words reads.a reads.names.place));
     }
 token_makes f declared line from start token.Empty column word ms d rest e =
     let more : ArrowRest f declared ms d = rest left_empty e in
     record {
-      lhs = mark token.Empty column word ∷ []; arrow = more.arrow; rhs = more.rhs; x = none; y = more.y; sign = more.sign;
+      lhs = mark token.Empty column word ∷ [];
+      arrow = more.arrow;
+      rhs = more.rhs;
+      x = none;
+      y = more.y;
+      sign = more.sign;
       whole = ap (λ t. mark token.Empty column word ∷ t) more.whole;
       left_side = inl (record { column = column; bytes = word; alone = refl; nothing = refl });
-      is_arrow = more.is_arrow; right_side = more.right_side; states = more.states;
+      is_arrow = more.is_arrow;
+      right_side = more.right_side;
+      states = more.states;
     }
 token_makes f declared line from start (token.Number n) column word ms d rest e = absurd (no_value _ d e)
 token_makes f declared line from start token.Arrow column word ms d rest e = absurd (no_value _ d e)
@@ -188,25 +198,44 @@ token_makes f declared line from (left x) token.Word column word ms d rest e =
     let reads = reads_word f declared line (left x) from column word ms d e in
     let more : LeftRest f declared (union x (only reads.a)) ms d = rest (left (union x (only reads.a))) reads.goes_on in
     record {
-      words = mark token.Word column word ∷ more.words; arrow = more.arrow; rhs = more.rhs; y = more.y; sign = more.sign;
+      words = mark token.Word column word ∷ more.words;
+      arrow = more.arrow;
+      rhs = more.rhs;
+      y = more.y;
+      sign = more.sign;
       whole = ap (λ t. mark token.Word column word ∷ t) more.whole;
       each = All-cons (IsAttribute f declared) _ _ (attribute f declared column word reads.a reads.names) more.each;
-      is_arrow = more.is_arrow; right_side = more.right_side;
+      is_arrow = more.is_arrow;
+      right_side = more.right_side;
       states = more.states ∙ ap (λ z. stated more.sign z more.y) (union-only x (named declared more.words) reads.a
-        ∙ ap (union x) (sym (named-cons declared (mark token.Word column word) more.words reads.a reads.names.place)));
+          ∙ ap (union x) (sym (named-cons declared (mark token.Word column word) more.words reads.a reads.names.place)));
     }
 token_makes f declared line from (left x) token.Arrow column word ms d rest e =
     let more : BehindRest f declared sign.Functional x ms d = rest (behind sign.Functional x) e in
     record {
-      words = []; arrow = mark token.Arrow column word; rhs = ms; y = more.y; sign = sign.Functional; whole = refl;
-      each = All-nil (IsAttribute f declared); is_arrow = refl; right_side = more.right_side;
+      words = [];
+      arrow = mark token.Arrow column word;
+      rhs = ms;
+      y = more.y;
+      sign = sign.Functional;
+      whole = refl;
+      each = All-nil (IsAttribute f declared);
+      is_arrow = refl;
+      right_side = more.right_side;
       states = more.states ∙ ap (λ z. stated sign.Functional z more.y) (sym (union-none x (named declared []) refl));
     }
 token_makes f declared line from (left x) token.DoubleArrow column word ms d rest e =
     let more : BehindRest f declared sign.Multivalued x ms d = rest (behind sign.Multivalued x) e in
     record {
-      words = []; arrow = mark token.DoubleArrow column word; rhs = ms; y = more.y; sign = sign.Multivalued; whole = refl;
-      each = All-nil (IsAttribute f declared); is_arrow = refl; right_side = more.right_side;
+      words = [];
+      arrow = mark token.DoubleArrow column word;
+      rhs = ms;
+      y = more.y;
+      sign = sign.Multivalued;
+      whole = refl;
+      each = All-nil (IsAttribute f declared);
+      is_arrow = refl;
+      right_side = more.right_side;
       states = more.states ∙ ap (λ z. stated sign.Multivalued z more.y) (sym (union-none x (named declared []) refl));
     }
 token_makes f declared line from (left x) token.Empty column word ms d rest e = absurd (no_value _ d e)
@@ -244,7 +273,7 @@ token_makes f declared line from (right s x y) token.Word column word ms d rest 
     record {
       each = All-cons (IsAttribute f declared) _ _ (attribute f declared column word reads.a reads.names) more.each;
       states = more.states ∙ ap (stated s x) (union-only y (named declared ms) reads.a
-        ∙ ap (union y) (sym (named-cons declared (mark token.Word column word) ms reads.a reads.names.place)));
+          ∙ ap (union y) (sym (named-cons declared (mark token.Word column word) ms reads.a reads.names.place)));
     }
 token_makes f declared line from (right s x y) token.Empty column word ms d rest e = absurd (no_value _ d e)
 token_makes f declared line from (right s x y) token.Arrow column word ms d rest e = absurd (no_value _ d e)
@@ -380,5 +409,6 @@ goal-law declared text d = (there, back)
         let whole = no_stop format.Plain declared 1 start 1 (lex mode.Goal text) d e in
         let here : follow_lexed format.Plain declared 1 start 1 (record { marks = (lex mode.Goal text).marks; stop = None }) ≡ Ok d = ap (follow_lexed format.Plain declared 1 start 1) (sym whole) ∙ e in
         record { marks = (lex mode.Goal text).marks; tokens = whole; dependency = (dependency-law format.Plain declared 1 1 _ d).0 here }
+
     back : MeansGoal declared text d → read_goal declared text ≡ Ok d
     back means = ap (follow_lexed format.Plain declared 1 start 1) means.tokens ∙ (dependency-law format.Plain declared 1 1 means.marks d).1 means.dependency

@@ -1,4 +1,4 @@
-use Rattle.std.proofs.Common.{◌≡◌, ◌<◌, ◌≤◌, ◌+◌, ◌⊎◌, inl, inr, ℕ, zero, suc, Bool, true, false, cond, List, [], ◌∷◌, length, Option, Some, None, Ok, Err, Result, refl, sym, ◌∙◌, ap, subst, arith, lit≤}
+use Rattle.std.proofs.Common.{◌≡◌, ◌<◌, ◌≤◌, ◌+◌, ◌⊎◌, inl, inr, ℕ, zero, suc, Bool, true, false, cond, List, [], ◌∷◌, length, Option, Some, None, Ok, Err, Result, refl, sym, ap, arith}
 use Rattle.std.specs.Prelude.{nat_le}
 use Rattle.std.proofs.lemmas.Bool.{leb-true, leb-false}
 use Rattle.dep_model.specs.declared.column.Column.{Column}
@@ -10,11 +10,11 @@ use Rattle.schema_reader.specs.declared.refusal.SchemaRefusal.{SchemaRefusal}
 use Rattle.schema_reader.specs.declared.refusal.SchemaRefusalKind.{SchemaRefusalKind}
 use Rattle.schema_reader.specs.declared.refusal.SchemaRefusalKind.TheVariants as kind
 use Rattle.schema_reader.specs.declared.words.Format.{Format}
-use Rattle.schema_reader.specs.Complaints.{LineComplaint, NamesComplaint, HeadComplaint, TextLineComplaint, FitsTextLine, FitsLine, FitsNames, number_of, flaw_number, span_at, IsFirst}
+use Rattle.schema_reader.specs.Complaints.{HeadComplaint, TextLineComplaint, FitsTextLine, FitsLine, FitsNames, number_of, flaw_number, span_at, IsFirst}
 use Rattle.schema_reader.specs.Declarations.{Declarations, add_dependency, list_names, begin, dependency_line, line_from, line_of_marks}
 use Rattle.schema_reader.specs.Grammar.{Reading, start}
 use Rattle.schema_reader.specs.Reading.{step, follow}
-use Rattle.schema_reader.specs.Refusals.{at, and_then, refused_by, refusal, kind_of_flaw}
+use Rattle.schema_reader.specs.Refusals.{at, and_then, refused_by, kind_of_flaw}
 use Rattle.schema_reader.specs.Words.{declares}
 use Rattle.schema_reader.proofs.ComplaintLaws.{flaw_numbered, line-law, EndsAt, first_token, fine_first}
 use Rattle.schema_reader.proofs.NameLaws.{names-law}
@@ -28,12 +28,16 @@ declaring_fits : (f : Format) (d : Declarations) (line : ℕ) (m : Mark) (ms : L
     → FitsNames f d line (m.column + length m.word) ms stop res → FitsHead f d line m ms stop (Some column) res
 declaring_fits f d line m ms stop column (Ok whole) none = λ p n (later, is, complaint). none later n complaint
 declaring_fits f d line m ms stop column (Err e) first = record {
-  place = suc first.place; stands = (first.place, refl, first.stands); there = first.there; least = least;
+  place = suc first.place;
+  stands = (first.place, refl, first.stands);
+  there = first.there;
+  least = least;
 }
   where
     shift : (p later n : ℕ) → p ≡ suc later → (first.place < later) ⊎ ((first.place ≡ later) × (number_of e.kind ≤ n)) → (suc first.place < p) ⊎ ((suc first.place ≡ p) × (number_of e.kind ≤ n))
     shift p later n is (inl less) = inl (omega arith)
     shift p later n is (inr (same, less)) = inr ((omega arith), less)
+
     least : (p n : ℕ) → HeadComplaint f d m ms stop (Some column) p n → (suc first.place < p) ⊎ ((suc first.place ≡ p) × (number_of e.kind ≤ n))
     least p n (later, is, complaint) = shift p later n is (first.least later n complaint)
 
@@ -55,8 +59,8 @@ begun_fits : (f : Format) (d : Declarations) (line : ℕ) (m : Mark) (ms : List 
     → nat_le MOST_DEPENDENCIES (length d.deps) ≡ b → StepTells f d.names start m o
     → FitsLine f d.names line (m ∷ ms) stop (and_then (at line m.column (length m.word) o) (λ next. follow f d.names line next (m.column + length m.word) ms stop))
     → FitsHead f d line m ms stop None
-      (and_then (at line m.column (length m.word) (and_then o (λ next. cond b (Err kind.TooManyDependencies) (Ok next))))
-      (λ next. and_then (follow f d.names line next (m.column + length m.word) ms stop) (λ dep. Ok (add_dependency d dep line))))
+    (and_then (at line m.column (length m.word) (and_then o (λ next. cond b (Err kind.TooManyDependencies) (Ok next))))
+    (λ next. and_then (follow f d.names line next (m.column + length m.word) ms stop) (λ dep. Ok (add_dependency d dep line))))
 begun_fits f d line m ms stop (Err why) b full tells fits =
     let ends = first_token f d.names line m ms stop why tells in
     record { place = ends.first.place; stands = inl ends.first.stands; there = ends.first.there; least = least ends }
@@ -92,6 +96,7 @@ stop_fits f d line s = record { place = 0; stands = (s, refl, refl, flaw_numbere
   where
     inside : (t : Stop) → Some s ≡ Some t → s ≡ t
     inside t eq = cc
+
     least : (p n : ℕ) → TextLineComplaint f d [] (Some s) p n → (0 < p) ⊎ ((0 ≡ p) × (number_of (kind_of_flaw s.flaw) ≤ n))
     least p n (t, is, place, number) =
         let flaws : s.flaw ≡ t.flaw = ap (λ x. x.flaw) (inside t is) in

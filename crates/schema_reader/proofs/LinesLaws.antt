@@ -1,14 +1,14 @@
-use Rattle.std.proofs.Common.{◌≡◌, ◌<◌, ◌≤◌, ◌+◌, ◌-◌, ◌⊎◌, inl, inr, ℕ, zero, suc, Bool, true, false, cond, List, [], ◌∷◌, ◌++◌, length, Option, Some, None, Ok, Err, Result, refl, sym, ◌∙◌, ap, subst, arith, ◌==◌}
+use Rattle.std.proofs.Common.{◌≡◌, ◌<◌, ◌≤◌, ◌+◌, ◌-◌, ◌⊎◌, inl, inr, ℕ, zero, suc, Bool, true, false, cond, List, [], ◌∷◌, ◌++◌, length, Some, None, Ok, Err, Result, refl, sym, ◌∙◌, ap, subst, arith, ◌==◌}
 use Rattle.std.proofs.lemmas.Bool.Decides.{nat_tests}
 use Rattle.lexer.specs.declared.token.Mode.TheVariants as mode
 use Rattle.lexer.specs.Tokens.{Mark, lex}
 use Rattle.schema_reader.specs.declared.refusal.SchemaRefusal.{SchemaRefusal}
 use Rattle.schema_reader.specs.declared.refusal.SchemaRefusalKind.TheVariants as kind
 use Rattle.schema_reader.specs.declared.words.Format.{Format}
-use Rattle.schema_reader.specs.Complaints.{TextLineComplaint, FitsTextLine, number_of, span_at, IsFirst}
+use Rattle.schema_reader.specs.Complaints.{TextLineComplaint, FitsTextLine, number_of, span_at}
 use Rattle.schema_reader.specs.Declarations.{Declarations, read_line}
 use Rattle.schema_reader.specs.Refusals.{and_then, refusal}
-use Rattle.schema_reader.specs.Schemas.{MeansLine, MeansLines, LinesComplaint, IsFirstOfLines, DeclaresNothing, FitsLines}
+use Rattle.schema_reader.specs.Schemas.{MeansLine, MeansLines, LinesComplaint, IsFirstOfLines, FitsLines}
 use Rattle.schema_reader.specs.Texts.{finish, read_lines}
 use Rattle.schema_reader.proofs.LineLaws.{text-line-law}
 use Rattle.schema_reader.proofs.SchemaLaws.{line_there, line_back}
@@ -51,16 +51,27 @@ complaint_behind f first d next line lines l p n read none complaint = told comp
         let equal : middle ≡ next = ok_value middle next (read_line f first d line) again read in
         let of_d : Declarations → Type 0 = λ t. MeansLines f (first + 1) t before complaint.declared in
         record {
-          before = before; line = complaint.line; after = complaint.after; declared = complaint.declared; cut = same.1;
-          means = subst of_d equal rest; stands_on = omega arith; complaint = complaint.complaint;
+          before = before;
+          line = complaint.line;
+          after = complaint.after;
+          declared = complaint.declared;
+          cut = same.1;
+          means = subst of_d equal rest;
+          stands_on = omega arith;
+          complaint = complaint.complaint;
         }
 
 complaint_before : (f : Format) (first : ℕ) (d next : Declarations) (line : List ℕ) (lines : List (List ℕ)) (l p n : ℕ) → read_line f first d line ≡ Ok next
     → LinesComplaint f (first + 1) next lines l p n → LinesComplaint f first d (line ∷ lines) l p n
 complaint_before f first d next line lines l p n read complaint = record {
-  before = line ∷ complaint.before; line = complaint.line; after = complaint.after; declared = complaint.declared;
-  cut = ap (λ t. line ∷ t) complaint.cut; means = (next, line_there f first d line next read, complaint.means);
-  stands_on = let on = complaint.stands_on in omega arith; complaint = complaint.complaint;
+  before = line ∷ complaint.before;
+  line = complaint.line;
+  after = complaint.after;
+  declared = complaint.declared;
+  cut = ap (λ t. line ∷ t) complaint.cut;
+  means = (next, line_there f first d line next read, complaint.means);
+  stands_on = let on = complaint.stands_on in omega arith;
+  complaint = complaint.complaint;
 }
 
 pub lines_behind : (f : Format) (first : ℕ) (d next : Declarations) (line : List ℕ) (lines : List (List ℕ)) (res : Result Declarations SchemaRefusal) → read_line f first d line ≡ Ok next
@@ -75,7 +86,9 @@ lines_behind f first d next line lines (Err e) read none (inl found) = inl (reco
   least = λ l p n complaint. found.least l p n (complaint_behind f first d next line lines l p n read none complaint);
 })
 lines_behind f first d next line lines (Err e) read none (inr empty) = inr (record {
-  whole = empty.whole; means = (next, line_there f first d line next read, empty.means); nothing = empty.nothing;
+  whole = empty.whole;
+  means = (next, line_there f first d line next read, empty.means);
+  nothing = empty.nothing;
   at_the_end = let last : (first + 1) + length lines - 1 ≡ first + suc (length lines) - 1 = omega arith in empty.at_the_end ∙ ap (λ k. refusal k 1 0 kind.NoAttributes) last;
 })
 
@@ -87,8 +100,14 @@ line_here f first d line lines e read found =
     record {
       place = found.place;
       stands = record {
-        before = []; line = line; after = lines; declared = d; cut = refl; means = refl;
-        stands_on = omega arith; complaint = found.stands;
+        before = [];
+        line = line;
+        after = lines;
+        declared = d;
+        cut = refl;
+        means = refl;
+        stands_on = omega arith;
+        complaint = found.stands;
       };
       there = found.there ∙ ap (λ k. span_at k 1 (lex mode.Plain line).marks (lex mode.Plain line).stop found.place) (sym on);
       least = λ l p n complaint. told on l p n complaint complaint.before complaint.cut complaint.means complaint.stands_on;
@@ -107,7 +126,9 @@ line_here f first d line lines e read found =
 finish_fits : (f : Format) (first : ℕ) (d : Declarations) (b : Bool) → (length d.names == 0) ≡ b
     → FitsLines f first d [] (cond b (Err (refusal (first - 1) 1 0 kind.NoAttributes)) (Ok d))
 finish_fits f first d true e = inr (record {
-  whole = d; means = refl; nothing = grind (arith, nat_tests, e);
+  whole = d;
+  means = refl;
+  nothing = grind (arith, nat_tests, e);
   at_the_end = let last : first - 1 ≡ first + 0 - 1 = omega arith in ap (λ k. refusal k 1 0 kind.NoAttributes) last;
 })
 finish_fits f first d false e = λ l p n complaint. none complaint.before complaint.line complaint.after complaint.cut

@@ -1,10 +1,10 @@
-use Rattle.std.proofs.Common.{◌≡◌, ◌<◌, ◌≤◌, ◌+◌, ◌⊎◌, inl, inr, ℕ, zero, suc, Bool, true, false, cond, List, [], ◌∷◌, ◌++◌, length, take, Option, Some, None, Ok, Err, Result, refl, sym, ◌∙◌, ap, subst, arith, append_assoc, lit<, lit≤, length-append}
+use Rattle.std.proofs.Common.{◌≡◌, ◌<◌, ◌≤◌, ◌+◌, ◌⊎◌, inl, inr, ℕ, zero, suc, Bool, true, false, cond, List, [], ◌∷◌, ◌++◌, length, take, Option, Some, None, Ok, Err, Result, refl, sym, ◌∙◌, ap, subst, arith, append_assoc, length-append}
 use Rattle.std.specs.Prelude.{map, nat_le}
 use Rattle.std.specs.List.{slice_get, All}
 use Rattle.std.specs.Option.{is_some}
 use Rattle.std.proofs.lemmas.Bool.{leb-true, leb-false}
 use Rattle.std.proofs.lemmas.List.{append-nil}
-use Rattle.std.proofs.lemmas.List.Elements.{All-cons, All-nil, All-head, All-tail}
+use Rattle.std.proofs.lemmas.List.Elements.{All-cons, All-nil, All-tail}
 use Rattle.attr_sets.specs.declared.set.TheConstants.{PLACES}
 use Rattle.dep_model.specs.declared.column.Column.{Column}
 use Rattle.dep_model.specs.Schemas.{place_named}
@@ -173,6 +173,7 @@ names_later some f column d line behind w words stop (Err e) word fine rest = re
     shift : (p n : ℕ) → (rest.place < p) ⊎ ((rest.place ≡ p) × (number_of e.kind ≤ n)) → (suc rest.place < suc p) ⊎ ((suc rest.place ≡ suc p) × (number_of e.kind ≤ n))
     shift p n (inl less) = inl (omega arith)
     shift p n (inr (same, less)) = inr ((omega arith), less)
+
     least : (p n : ℕ) → NamesFrom some f d (w ∷ words) stop p n → (suc rest.place < p) ⊎ ((suc rest.place ≡ p) × (number_of e.kind ≤ n))
     least zero n (inl (inl (m, is, before, complaint))) = absurd (fine n (name_first f d w words m n (same_mark w words m is) complaint))
     least zero n (inl (inr (six, place, nothing, stop_none, none_before))) = cc
@@ -199,6 +200,7 @@ names_stop some f d line behind s = record { place = 0; stands = inr (s, refl, r
   where
     inside : (t : Stop) → Some s ≡ Some t → s ≡ t
     inside t eq = cc
+
     least : (p n : ℕ) → NamesFrom some f d [] (Some s) p n → (0 < p) ⊎ ((0 ≡ p) × (number_of (kind_of_flaw s.flaw) ≤ n))
     least p n (inl (inl (m, is, before, complaint))) = absurd (no_mark m p is)
     least p n (inl (inr (six, place, nothing, stop_none, none_before))) = cc
@@ -251,10 +253,12 @@ names-law f column d line behind words stop = fits (list_names f column line d f
     to p n (inl (inl word)) = inl (inl word)
     to p n (inl (inr (six, place, nothing, stop_none, none_before))) = inl (inr (six, place, nothing, stop_none))
     to p n (inr flaw) = inr flaw
+
     from : (p n : ℕ) → NamesComplaint f d words stop p n → NamesFrom false f d words stop p n
     from p n (inl (inl word)) = inl (inl word)
     from p n (inl (inr (six, place, nothing, stop_none))) = inl (inr (six, place, nothing, stop_none, refl))
     from p n (inr flaw) = inr flaw
+
     fits : (res : Result Declarations SchemaRefusal) → JudgedNames false f d line behind words stop res → FitsNames f d line behind words stop res
     fits (Ok whole) none = λ p n complaint. none p n (from p n complaint)
     fits (Err e) first = record { place = first.place; stands = to first.place (number_of e.kind) first.stands; there = first.there; least = λ p n complaint. first.least p n (from p n complaint) }

@@ -1,4 +1,4 @@
-use Rattle.std.proofs.Common.{◌≡◌, ◌<◌, ◌≤◌, ◌+◌, ◌-◌, ◌⊎◌, inl, inr, ℕ, zero, suc, Bool, true, false, cond, List, [], ◌∷◌, ◌++◌, length, Option, Some, None, Ok, Err, Result, refl, sym, ◌∙◌, ap, subst, arith, ◌==◌, add_comm}
+use Rattle.std.proofs.Common.{◌≡◌, ◌<◌, ◌+◌, ◌-◌, ◌⊎◌, inl, inr, ℕ, suc, Bool, true, false, cond, List, [], ◌∷◌, ◌++◌, length, Option, Some, None, Ok, Err, Result, refl, sym, ◌∙◌, ap, subst, arith, ◌==◌}
 use Rattle.std.specs.List.{All}
 use Rattle.std.specs.Option.{is_some}
 use Rattle.std.specs.Result.{IfOk}
@@ -17,24 +17,23 @@ use Rattle.lexer.specs.declared.token.TokenKind.{TokenKind}
 use Rattle.lexer.specs.declared.token.TokenKind.TheVariants as token
 use Rattle.lexer.specs.Lines.{line_texts, without_mark}
 use Rattle.lexer.specs.Tokens.{Mark, Lexed, lex}
-use Rattle.schema_reader.specs.declared.refusal.SchemaRefusal.{SchemaRefusal}
 use Rattle.schema_reader.specs.declared.refusal.SchemaRefusalKind.{SchemaRefusalKind}
 use Rattle.schema_reader.specs.declared.refusal.SchemaRefusalKind.TheVariants as kind
 use Rattle.schema_reader.specs.declared.text.TheConstants.{VERSION}
 use Rattle.schema_reader.specs.declared.words.Format.{Format}
 use Rattle.schema_reader.specs.declared.words.Format.TheVariants as format
-use Rattle.schema_reader.specs.Declarations.{Declarations, no_declaration, add_name, add_dependency, declare, name_step, wanted, list_names, begin, dependency_line, line_from, line_of_marks, read_line}
-use Rattle.schema_reader.specs.Grammar.{Reading, start}
-use Rattle.schema_reader.specs.Meanings.{HasTokens, IsDependency}
+use Rattle.schema_reader.specs.Declarations.{Declarations, no_declaration, add_name, add_dependency, declare, name_step, list_names, begin, dependency_line, line_from, line_of_marks, read_line}
+use Rattle.schema_reader.specs.Grammar.{start}
+use Rattle.schema_reader.specs.Meanings.{HasTokens}
 use Rattle.schema_reader.specs.Reading.{step, follow}
-use Rattle.schema_reader.specs.Refusals.{at, and_then, refused_by, refusal}
-use Rattle.schema_reader.specs.Schemas.{IsNewName, DeclareNames, IsDeclaring, IsStating, IsBlank, MeansLine, MeansLines, has_version_line, begins_version, IsPlainText, IsVersionLine, IsTypedText, MeansSchema}
+use Rattle.schema_reader.specs.Refusals.{at, and_then, refusal}
+use Rattle.schema_reader.specs.Schemas.{IsNewName, DeclareNames, IsDeclaring, IsStating, MeansLine, MeansLines, has_version_line, begins_version, IsPlainText, IsVersionLine, IsTypedText, MeansSchema}
 use Rattle.schema_reader.specs.Texts.{finish, read_lines, read_version, read_typed, read_opening, read_text, is_version, opened, end_version, version_number, number_in}
 use Rattle.schema_reader.specs.Words.{is_reserved, declares}
 use Rattle.schema_reader.proofs.BlankLemmas.{blank_plain}
 use Rattle.schema_reader.proofs.GoalLaws.{dependency-law, any_ok, stopped}
 use Rattle.schema_reader.proofs.RefusalLemmas.{ok_at}
-use Rattle.schema_reader.proofs.WithinLemmas.{and_then_ok, at_ok}
+use Rattle.schema_reader.proofs.WithinLemmas.{and_then_ok}
 
 -- a value behind two steps comes from one behind the first
 record Steps {X Y E : Type 0} (r : Result X E) (next : X → Result Y E) (y : Y) : Type 0 where
@@ -72,6 +71,7 @@ declares_name f column d whole some m e = told m.kind refl e
         let new = unless_ok (is_some (place_named d.names m.word)) kind.DoubleName _ whole free.1 in
         let room = unless_ok (nat_le PLACES (length d.names)) kind.TooManyAttributes (Ok (add_name d m.word column)) whole new.1 in
         (record { word = is; free = free.0; new = is_none _ new.0; room = leb-false _ _ room.0 }, (let same : Ok whole ≡ Ok (add_name d m.word column) = sym room.1 in cc))
+
     told : (k : TokenKind) → m.kind ≡ k → name_step f column d some k m.word ≡ Ok whole → IsNewName f d m × (whole ≡ add_name d m.word column)
     told token.Word is e = word is e
     told (token.Number n) is e = cc
@@ -94,7 +94,7 @@ names_there f column line d whole behind (m ∷ ms) e =
     let two = steps (at line m.column (length m.word) (name_step f column d true m.kind m.word)) _ whole e in
     let first = declares_name f column d two.x true m (placed line m.column (length m.word) _ two.x two.first) in
     let rest : list_names f column line (add_name d m.word column) true (m.column + length m.word) ms None ≡ Ok whole
-            = ap (λ n. list_names f column line n true (m.column + length m.word) ms None) (sym first.1) ∙ two.second in
+    = ap (λ n. list_names f column line n true (m.column + length m.word) ms None) (sym first.1) ∙ two.second in
     (first.0, names_there f column line (add_name d m.word column) whole (m.column + length m.word) ms rest)
 
 names_back : (f : Format) (column : Column) (line : ℕ) (d whole : Declarations) (behind : ℕ) (ms : List Mark)
@@ -113,7 +113,7 @@ first_there f column line d whole behind (m ∷ ms) e =
     let two = steps (at line m.column (length m.word) (name_step f column d false m.kind m.word)) _ whole e in
     let first = declares_name f column d two.x false m (placed line m.column (length m.word) _ two.x two.first) in
     let rest : list_names f column line (add_name d m.word column) true (m.column + length m.word) ms None ≡ Ok whole
-            = ap (λ n. list_names f column line n true (m.column + length m.word) ms None) (sym first.1) ∙ two.second in
+    = ap (λ n. list_names f column line n true (m.column + length m.word) ms None) (sym first.1) ∙ two.second in
     (omega arith, (first.0, names_there f column line (add_name d m.word column) whole (m.column + length m.word) ms rest))
 
 first_back : (f : Format) (column : Column) (line : ℕ) (d whole : Declarations) (behind : ℕ) (ms : List Mark)
@@ -180,6 +180,7 @@ line_there f number d line whole e = told (lex mode.Plain line).marks (lex mode.
   where
     l : Lexed
     l = lex mode.Plain line
+
     declaring : (m : Mark) (ms : List Mark) (column : Column) (stop : Option Stop) → l.marks ≡ m ∷ ms → l.stop ≡ stop → declares f m.kind m.word ≡ Some column
         → list_names f column number d false (m.column + length m.word) ms stop ≡ Ok whole → IsDeclaring f d line whole
     declaring m ms column None marks stop is e =
@@ -187,17 +188,26 @@ line_there f number d line whole e = told (lex mode.Plain line).marks (lex mode.
         record { head = m; words = ms; column = column; tokens = has_tokens l (m ∷ ms) marks stop; declaring = is; some = both.0; names = both.1 }
     declaring m ms column (Some s) marks stop is e =
         absurd (ok_at (λ _. ⊥) _ whole e (names_stopped f column number d false (m.column + length m.word) ms s))
+
     stating : (m : Mark) (ms : List Mark) (stop : Option Stop) → l.marks ≡ m ∷ ms → l.stop ≡ stop → declares f m.kind m.word ≡ None
         → Begun f number d m ms stop whole → IsStating f number d line whole
     stating m ms None marks stop is begun = record {
-      head = m; others = ms; dep = begun.dep; tokens = has_tokens l (m ∷ ms) marks stop; stating = is;
-      dependency = (dependency-law f d.names number 1 (m ∷ ms) begun.dep).0 begun.read; room = begun.room; adds = begun.adds;
+      head = m;
+      others = ms;
+      dep = begun.dep;
+      tokens = has_tokens l (m ∷ ms) marks stop;
+      stating = is;
+      dependency = (dependency-law f d.names number 1 (m ∷ ms) begun.dep).0 begun.read;
+      room = begun.room;
+      adds = begun.adds;
     }
     stating m ms (Some s) marks stop is begun = absurd (ok_at (λ _. ⊥) _ begun.dep begun.read (stopped f d.names number start 1 (m ∷ ms) s))
+
     from : (m : Mark) (ms : List Mark) (stop : Option Stop) (o : Option Column) → l.marks ≡ m ∷ ms → l.stop ≡ stop → declares f m.kind m.word ≡ o
         → line_from f number d m ms stop o ≡ Ok whole → MeansLine f number d line whole
     from m ms stop (Some column) marks same is e = inl (inr (declaring m ms column stop marks same is e))
     from m ms stop None marks same is e = inr (stating m ms stop marks same is (dependency_there f number d whole m ms stop e))
+
     told : (ms : List Mark) (stop : Option Stop) → l.marks ≡ ms → l.stop ≡ stop → line_of_marks f number d ms stop ≡ Ok whole → MeansLine f number d line whole
     told [] None marks stop e = inl (inl (record { tokens = has_tokens l [] marks stop; same = cc }))
     told [] (Some s) marks stop e = cc
@@ -259,10 +269,12 @@ version_there line behind (m ∷ ms) stop d e = told m.kind refl e
     ends [] None none same is e = record { number = m; only = ap (λ t. m ∷ t) none; ends = same; is_number = is; nothing = cc }
     ends [] (Some s) none same is e = cc
     ends (k ∷ ks) o none same is e = cc
+
     two : (b : Bool) (n : ℕ) → (n == VERSION) ≡ b → m.kind ≡ token.Number n
         → cond b (end_version line ms stop) (Err (refusal line m.column (length m.word) kind.UnknownVersion)) ≡ Ok d → Numbers (m ∷ ms) stop d
     two true n equal is e = let same : n ≡ VERSION = eqb-true n VERSION equal in ends ms stop refl refl (is ∙ ap token.Number same) e
     two false n equal is e = cc
+
     told : (k : TokenKind) → m.kind ≡ k → version_number line m ms stop (number_in k) ≡ Ok d → Numbers (m ∷ ms) stop d
     told (token.Number n) is e = two (n == VERSION) n refl is e
     told token.Word is e = cc
@@ -296,12 +308,14 @@ blank_before number line lines whole blank (inl plain) = inl (record {
   declared = (no_declaration, inl (inl (record { tokens = blank_plain line blank; same = refl })), plain.declared);
 })
 blank_before number line lines whole blank (inr typed) = inr (record {
-  before = line ∷ typed.before; version = typed.version; later = typed.later;
+  before = line ∷ typed.before;
+  version = typed.version;
+  later = typed.later;
   cut = ap (λ t. line ∷ t) typed.cut;
   blank = All-cons (λ line. HasTokens (lex mode.Numbered line) []) line typed.before blank typed.blank;
   versioned = typed.versioned;
   declared = let same : length typed.before + (number + 1) + 1 ≡ suc (length typed.before) + number + 1 = omega arith in
-    let of : ℕ → Type 0 = λ n. MeansLines format.Typed n no_declaration typed.later whole in subst of same typed.declared;
+      let of : ℕ → Type 0 = λ n. MeansLines format.Typed n no_declaration typed.later whole in subst of same typed.declared;
 })
 
 text_there : (number : ℕ) (lines : List (List ℕ)) (whole : Declarations) → read_opening number lines ≡ Ok whole
@@ -314,25 +328,35 @@ text_there number (line ∷ lines) whole e = told (text_there (number + 1) lines
   where
     l : Lexed
     l = lex mode.Numbered line
+
     plain : has_version_line (line ∷ lines) ≡ false → read_lines format.Plain number no_declaration (line ∷ lines) ≡ Ok whole
         → TextFrom number (line ∷ lines) whole × (0 < length whole.names)
     plain none_yet e = let both = lines_there format.Plain number no_declaration whole (line ∷ lines) e in (inl (record { no_version = none_yet; declared = both.0 }), both.1)
+
     typed : (m : Mark) (ms : List Mark) (stop : Option Stop) → l.marks ≡ m ∷ ms → l.stop ≡ stop → is_version m.kind m.word ≡ true
         → read_typed number lines (m.column + length m.word) (record { marks = ms; stop = stop }) ≡ Ok whole → TextFrom number (line ∷ lines) whole × (0 < length whole.names)
     typed m ms stop marks same is e =
         let two = steps (read_version number (m.column + length m.word) ms stop) (λ d. read_lines format.Typed (number + 1) d lines) whole e in
         let numbers = version_there number (m.column + length m.word) ms stop two.x two.first in
-        let more = lines_there format.Typed (number + 1) no_declaration whole lines (ap (λ d. read_lines format.Typed (number + 1) d lines) (sym numbers.nothing) ∙ two.second) in
-        (inr (record {
-          before = []; version = line; later = lines; cut = refl; blank = All-nil (λ line. HasTokens (lex mode.Numbered line) []);
-          versioned = record { head = m; number = numbers.number; tokens = has_tokens l _ (marks ∙ ap (λ t. m ∷ t) numbers.only) (same ∙ numbers.ends); is_word = is; is_number = numbers.is_number };
-          declared = let same : number + 1 ≡ 0 + number + 1 = omega arith in let of : ℕ → Type 0 = λ n. MeansLines format.Typed n no_declaration lines whole in subst of same more.0;
-        }), more.1)
+        let more = lines_there format.Typed (number + 1) no_declaration whole lines (ap (λ d. read_lines format.Typed (number + 1) d lines) (sym numbers.nothing) ∙ two.second) in (
+          inr (record {
+            before = [];
+            version = line;
+            later = lines;
+            cut = refl;
+            blank = All-nil (λ line. HasTokens (lex mode.Numbered line) []);
+            versioned = record { head = m; number = numbers.number; tokens = has_tokens l _ (marks ∙ ap (λ t. m ∷ t) numbers.only) (same ∙ numbers.ends); is_word = is; is_number = numbers.is_number };
+            declared = let same : number + 1 ≡ 0 + number + 1 = omega arith in let of : ℕ → Type 0 = λ n. MeansLines format.Typed n no_declaration lines whole in subst of same more.0;
+          }),
+          more.1,
+        )
+
     first : (b : Bool) (m : Mark) (ms : List Mark) (stop : Option Stop) → l.marks ≡ m ∷ ms → l.stop ≡ stop → is_version m.kind m.word ≡ b
         → cond b (read_typed number lines (m.column + length m.word) (record { marks = ms; stop = stop })) (read_lines format.Plain number no_declaration (line ∷ lines)) ≡ Ok whole
         → TextFrom number (line ∷ lines) whole × (0 < length whole.names)
     first true m ms stop marks same is e = typed m ms stop marks same is e
     first false m ms stop marks same is e = plain (ap (λ t. begins_version t l.stop (has_version_line lines)) marks ∙ is) e
+
     told : (read_opening (number + 1) lines ≡ Ok whole → TextFrom (number + 1) lines whole × (0 < length whole.names))
         → (ms : List Mark) (stop : Option Stop) → l.marks ≡ ms → l.stop ≡ stop → opened number line lines (read_opening (number + 1) lines) ms stop ≡ Ok whole
         → TextFrom number (line ∷ lines) whole × (0 < length whole.names)
@@ -355,8 +379,10 @@ plain_back number (line ∷ lines) whole some none_yet means = told (plain_back 
   where
     l : Lexed
     l = lex mode.Numbered line
+
     whole_read : read_lines format.Plain number no_declaration (line ∷ lines) ≡ Ok whole
     whole_read = lines_back format.Plain number no_declaration whole (line ∷ lines) means some
+
     told : (has_version_line lines ≡ false → MeansLines format.Plain (number + 1) no_declaration lines whole → read_opening (number + 1) lines ≡ Ok whole)
         → (ms : List Mark) (stop : Option Stop) → l.marks ≡ ms → l.stop ≡ stop → begins_version ms stop (has_version_line lines) ≡ false
         → opened number line lines (read_opening (number + 1) lines) ms stop ≡ Ok whole
@@ -393,15 +419,22 @@ schema-law text whole = (there, back)
   where
     two : (n : ℕ) → n + 1 + 1 ≡ n + 2
     two n = omega arith
+
     there : read_text text ≡ Ok whole → MeansSchema text whole
     there e = let both = text_there 1 (line_texts (without_mark text)) whole e in record { some = both.1; lines = split both.0 }
       where
         split : TextFrom 1 (line_texts (without_mark text)) whole → IsPlainText (line_texts (without_mark text)) whole ⊎ IsTypedText (line_texts (without_mark text)) whole
         split (inl plain) = inl (record { no_version = plain.no_version; declared = plain.declared })
         split (inr typed) = inr (record {
-          before = typed.before; version = typed.version; later = typed.later; cut = typed.cut; blank = typed.blank; versioned = typed.versioned;
+          before = typed.before;
+          version = typed.version;
+          later = typed.later;
+          cut = typed.cut;
+          blank = typed.blank;
+          versioned = typed.versioned;
           declared = let of : ℕ → Type 0 = λ n. MeansLines format.Typed n no_declaration typed.later whole in subst of (two (length typed.before)) typed.declared;
         })
+
     back : MeansSchema text whole → read_text text ≡ Ok whole
     back means = join means.lines
       where

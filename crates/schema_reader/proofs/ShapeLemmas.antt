@@ -1,28 +1,21 @@
-use Rattle.std.proofs.Common.{◌≡◌, ◌<◌, ◌≤◌, ◌+◌, ◌⊎◌, inl, inr, ℕ, zero, suc, Bool, true, false, cond, List, [], ◌∷◌, ◌++◌, length, take, Option, Some, None, Ok, Err, Result, refl, sym, ◌∙◌, ap, subst, arith, append_assoc, lit≤}
+use Rattle.std.proofs.Common.{◌≡◌, ◌≤◌, ◌+◌, ◌⊎◌, inl, inr, ℕ, Bool, true, false, cond, List, [], ◌∷◌, ◌++◌, length, Option, Some, None, Ok, Err, Result, refl, sym, ◌∙◌, ap, subst, arith, lit≤}
 use Rattle.std.specs.Prelude.{map}
-use Rattle.std.specs.List.{slice_get}
-use Rattle.std.proofs.lemmas.List.{append-nil}
 use Rattle.dep_model.specs.Dependencies.{Dependency}
 use Rattle.dep_model.specs.Schemas.{place_named}
-use Rattle.lexer.specs.declared.token.Mode.TheVariants as mode
-use Rattle.lexer.specs.declared.token.Stop.{Stop}
 use Rattle.lexer.specs.declared.token.TokenKind.{TokenKind}
 use Rattle.lexer.specs.declared.token.TokenKind.TheVariants as token
-use Rattle.lexer.specs.Tokens.{Mark, lex}
-use Rattle.schema_reader.specs.declared.refusal.SchemaRefusal.{SchemaRefusal}
+use Rattle.lexer.specs.Tokens.{Mark}
 use Rattle.schema_reader.specs.declared.refusal.SchemaRefusalKind.{SchemaRefusalKind}
 use Rattle.schema_reader.specs.declared.refusal.SchemaRefusalKind.TheVariants as kind
 use Rattle.schema_reader.specs.declared.stage.Sign.TheVariants as sign
-use Rattle.schema_reader.specs.declared.stage.Symbol.{Symbol}
 use Rattle.schema_reader.specs.declared.stage.Symbol.TheVariants as symbol
 use Rattle.schema_reader.specs.declared.words.Format.{Format}
 use Rattle.schema_reader.specs.declared.words.Format.TheVariants as format
 use Rattle.schema_reader.specs.declared.refusal.What.{What}
-use Rattle.schema_reader.specs.Complaints.{IsLine, BeginsLine, IsStuck, ComplainsOfWord, LineComplaint, kinds, number_of, flaw_number, span_at, IsFirst, GoalComplaint, FitsGoal}
-use Rattle.schema_reader.specs.Grammar.{Reading, start, left, left_empty, behind, right, right_empty, turn, finished, stated}
-use Rattle.schema_reader.specs.Meanings.{IsDependency}
-use Rattle.schema_reader.specs.Reading.{symbol_of, step, follow, read_goal}
-use Rattle.schema_reader.specs.Refusals.{at, and_then, expecting, refused_by, refusal, kind_of_flaw}
+use Rattle.schema_reader.specs.Complaints.{IsLine, BeginsLine, ComplainsOfWord, kinds, number_of}
+use Rattle.schema_reader.specs.Grammar.{Reading, start, left, left_empty, behind, right, right_empty, turn, finished}
+use Rattle.schema_reader.specs.Reading.{step, follow}
+use Rattle.schema_reader.specs.Refusals.{at, and_then, expecting}
 use Rattle.schema_reader.specs.Words.{is_reserved, looked_up, known}
 use Rattle.schema_reader.proofs.GoalLaws.{dependency-law}
 
@@ -156,7 +149,6 @@ turned-Colon left_empty = refl
 turned-Colon (behind s x) = refl
 turned-Colon (right s x y) = refl
 turned-Colon (right_empty s x) = refl
-
 
 -- what a step tells: where it leads, or the complaint
 abbrev pub StepTells : Format → List (List ℕ) → Reading → Mark → Result Reading SchemaRefusalKind → Type 0

@@ -1,20 +1,15 @@
-use Rattle.std.proofs.Common.{◌≡◌, ◌<◌, ◌≤◌, ◌+◌, ◌-◌, ◌⊎◌, inl, inr, ℕ, zero, suc, Bool, true, false, cond, List, [], ◌∷◌, ◌++◌, length, Option, Some, None, Ok, Err, Result, refl, sym, ◌∙◌, ap, subst, arith, ◌==◌}
-use Rattle.std.specs.List.{All, slice_get}
-use Rattle.std.proofs.lemmas.Bool.{eqb-true}
+use Rattle.std.proofs.Common.{◌≡◌, ◌<◌, ◌≤◌, ◌+◌, ◌⊎◌, inl, inr, ℕ, suc, Bool, true, false, cond, List, [], ◌∷◌, length, Option, Some, None, Ok, Err, Result, refl, sym, ◌∙◌, ap, subst, arith, ◌==◌}
 use Rattle.std.proofs.lemmas.List.Elements.{All-cons, All-nil}
 use Rattle.lexer.specs.declared.token.Mode.TheVariants as mode
 use Rattle.lexer.specs.declared.token.Stop.{Stop}
-use Rattle.lexer.specs.declared.token.TokenKind.{TokenKind}
-use Rattle.lexer.specs.declared.token.TokenKind.TheVariants as token
 use Rattle.lexer.specs.Lines.{line_texts, without_mark}
 use Rattle.lexer.specs.Tokens.{Mark, Lexed, lex}
 use Rattle.schema_reader.specs.declared.refusal.SchemaRefusal.{SchemaRefusal}
-use Rattle.schema_reader.specs.declared.refusal.SchemaRefusalKind.{SchemaRefusalKind}
 use Rattle.schema_reader.specs.declared.refusal.SchemaRefusalKind.TheVariants as kind
 use Rattle.schema_reader.specs.declared.refusal.What.TheVariants as what
 use Rattle.schema_reader.specs.declared.text.TheConstants.{VERSION}
 use Rattle.schema_reader.specs.declared.words.Format.TheVariants as format
-use Rattle.schema_reader.specs.Complaints.{FitsTextLine, number_of, flaw_number, span_at, IsFirst}
+use Rattle.schema_reader.specs.Complaints.{FitsTextLine, number_of, flaw_number}
 use Rattle.schema_reader.specs.Declarations.{Declarations, no_declaration, read_line}
 use Rattle.schema_reader.specs.Meanings.{HasTokens}
 use Rattle.schema_reader.specs.Refusals.{and_then, refusal, refused_by, kind_of_flaw}
@@ -23,7 +18,7 @@ use Rattle.schema_reader.specs.Texts.{read_lines, read_version, read_typed, read
 use Rattle.schema_reader.proofs.BlankLemmas.{blank_plain}
 use Rattle.schema_reader.proofs.ComplaintLaws.{flaw_numbered, no_mark, same_mark}
 use Rattle.schema_reader.proofs.LinesLaws.{line-law, lines-law, lines_behind}
-use Rattle.schema_reader.proofs.SchemaLaws.{has_tokens, line_back, version_there, Numbers}
+use Rattle.schema_reader.proofs.SchemaLaws.{has_tokens, line_back, version_there}
 
 abbrev TextFits : ℕ → List (List ℕ) → Result Declarations SchemaRefusal → Type 0
 TextFits number lines reading = ((has_version_line lines ≡ false) × FitsLines format.Plain number no_declaration lines reading) ⊎ FitsTyped number lines reading
@@ -89,6 +84,7 @@ unknown_fits line behind m ms stop i some other = record { place = 0; stands = i
   where
     none : (k : Mark) → m ∷ ms ≡ [] → ⊥
     none k e = cc
+
     least : (p n : ℕ) → VersionComplaint (m ∷ ms) stop p n → (0 < p) ⊎ ((0 ≡ p) × (13 ≤ n))
     least p n (inl (inl (inl (k, is, none_here, place, six)))) = absurd (no_number m k i (same_mark m ms k is) some none_here)
     least p n (inl (inl (inr (nothing, stop_none, place, six)))) = absurd (none m nothing)
@@ -110,6 +106,7 @@ two_fits line behind m [] (Some s) i some two = record { place = 1; stands = inr
   where
     none : m ∷ [] ≡ [] → ⊥
     none e = cc
+
     least : (p n : ℕ) → VersionComplaint (m ∷ []) (Some s) p n → (1 < p) ⊎ ((1 ≡ p) × (number_of (kind_of_flaw s.flaw) ≤ n))
     least p n (inl (inl (inl (k, is, none_here, place, six)))) = absurd (no_number m k i (same_mark m [] k is) some none_here)
     least p n (inl (inl (inr (nothing, stop_none, place, six)))) = absurd (none nothing)
@@ -120,6 +117,7 @@ two_fits line behind m (k ∷ ks) stop i some two = record { place = 1; stands =
   where
     none : m ∷ k ∷ ks ≡ [] → ⊥
     none e = cc
+
     least : (p n : ℕ) → VersionComplaint (m ∷ k ∷ ks) stop p n → (1 < p) ⊎ ((1 ≡ p) × (6 ≤ n))
     least p n (inl (inl (inl (x, is, none_here, place, six)))) = absurd (no_number m x i (same_mark m (k ∷ ks) x is) some none_here)
     least p n (inl (inl (inr (nothing, stop_none, place, six)))) = absurd (none nothing)
@@ -137,6 +135,7 @@ version_fits line behind (m ∷ ms) stop = told (number_in m.kind) refl
         → FitsVersion line behind (m ∷ ms) stop (cond b (end_version line ms stop) (Err (refusal line m.column (length m.word) kind.UnknownVersion)))
     two i true some is = two_fits line behind m ms stop i some is
     two i false some is = unknown_fits line behind m ms stop i some is
+
     told : (o : Option ℕ) → number_in m.kind ≡ o → FitsVersion line behind (m ∷ ms) stop (version_number line m ms stop o)
     told None is = word_fits line behind m ms stop is
     told (Some i) is = two i (i == VERSION) is refl
@@ -149,19 +148,25 @@ blank_fits number line lines reading blank (inl (none_yet, fits)) =
     let of : Result Declarations SchemaRefusal → Type 0 = λ o. FitsTextLine format.Plain no_declaration number (lex mode.Plain line).marks (lex mode.Plain line).stop o in
     inl ((rw blank none_yet), lines_behind format.Plain number no_declaration no_declaration line lines reading read (subst of read (line-law format.Plain number no_declaration line)) fits)
 blank_fits number line lines reading blank (inr typed) = inr (record {
-  before = line ∷ typed.before; version = typed.version; later = typed.later;
+  before = line ∷ typed.before;
+  version = typed.version;
+  later = typed.later;
   cut = ap (λ t. line ∷ t) typed.cut;
   blank = All-cons (λ l. HasTokens (lex mode.Numbered l) []) line typed.before blank typed.blank;
-  head = typed.head; others = typed.others; starts = typed.starts; is_word = typed.is_word;
+  head = typed.head;
+  others = typed.others;
+  starts = typed.starts;
+  is_word = typed.is_word;
   fits = shift typed.fits;
 })
   where
     same : length typed.before + (number + 1) ≡ suc (length typed.before) + number
     same = omega arith
+
     shift : ((e : SchemaRefusal) × (reading ≡ Err e) × FitsVersion (length typed.before + (number + 1)) (typed.head.column + length typed.head.word) typed.others (lex mode.Numbered typed.version).stop (Err e))
-            ⊎ (IsVersionLine typed.version × FitsLines format.Typed (length typed.before + (number + 1) + 1) no_declaration typed.later reading)
+        ⊎ (IsVersionLine typed.version × FitsLines format.Typed (length typed.before + (number + 1) + 1) no_declaration typed.later reading)
         → ((e : SchemaRefusal) × (reading ≡ Err e) × FitsVersion (suc (length typed.before) + number) (typed.head.column + length typed.head.word) typed.others (lex mode.Numbered typed.version).stop (Err e))
-            ⊎ (IsVersionLine typed.version × FitsLines format.Typed (suc (length typed.before) + number + 1) no_declaration typed.later reading)
+        ⊎ (IsVersionLine typed.version × FitsLines format.Typed (suc (length typed.before) + number + 1) no_declaration typed.later reading)
     shift (inl (e, is, first)) =
         let of : ℕ → Type 0 = λ n. FitsVersion n (typed.head.column + length typed.head.word) typed.others (lex mode.Numbered typed.version).stop (Err e) in inl (e, is, subst of same first)
     shift (inr (is, fits)) =
@@ -174,14 +179,24 @@ typed_fits number line lines m ms stop marks same is =
   where
     here : 0 + number ≡ number
     here = omega arith
+
     first : (reading : Result Declarations SchemaRefusal)
         → ((e : SchemaRefusal) × (reading ≡ Err e) × FitsVersion (0 + number) (m.column + length m.word) ms (lex mode.Numbered line).stop (Err e))
-          ⊎ (IsVersionLine line × FitsLines format.Typed (0 + number + 1) no_declaration lines reading)
+        ⊎ (IsVersionLine line × FitsLines format.Typed (0 + number + 1) no_declaration lines reading)
         → FitsTyped number (line ∷ lines) reading
     first reading fits = record {
-      before = []; version = line; later = lines; cut = refl; blank = All-nil (λ l. HasTokens (lex mode.Numbered l) []);
-      head = m; others = ms; starts = marks; is_word = is; fits = fits;
+      before = [];
+      version = line;
+      later = lines;
+      cut = refl;
+      blank = All-nil (λ l. HasTokens (lex mode.Numbered l) []);
+      head = m;
+      others = ms;
+      starts = marks;
+      is_word = is;
+      fits = fits;
     }
+
     told : (o : Result Declarations SchemaRefusal) → read_version number (m.column + length m.word) ms stop ≡ o → FitsVersion number (m.column + length m.word) ms stop o
         → FitsTyped number (line ∷ lines) (and_then o (λ d. read_lines format.Typed (number + 1) d lines))
     told (Ok d) read fits =
@@ -189,8 +204,10 @@ typed_fits number line lines m ms stop marks same is =
         let of : Declarations → Type 0 = λ x. FitsLines format.Typed (0 + number + 1) no_declaration lines (read_lines format.Typed (number + 1) x lines) in
         let of_n : ℕ → Type 0 = λ n. FitsLines format.Typed (n + 1) no_declaration lines (read_lines format.Typed (number + 1) no_declaration lines) in
         first (read_lines format.Typed (number + 1) d lines)
-        (inr (record { head = m; number = numbers.number; tokens = has_tokens (lex mode.Numbered line) _ (marks ∙ ap (λ t. m ∷ t) numbers.only) (same ∙ numbers.ends); is_word = is; is_number = numbers.is_number },
-        subst of (sym numbers.nothing) (subst of_n (sym here) (lines-law format.Typed (number + 1) no_declaration lines))))
+        (inr (
+          record { head = m; number = numbers.number; tokens = has_tokens (lex mode.Numbered line) _ (marks ∙ ap (λ t. m ∷ t) numbers.only) (same ∙ numbers.ends); is_word = is; is_number = numbers.is_number },
+          subst of (sym numbers.nothing) (subst of_n (sym here) (lines-law format.Typed (number + 1) no_declaration lines)),
+        ))
     told (Err e) read fits =
         let of : Option Stop → Type 0 = λ o. FitsVersion (0 + number) (m.column + length m.word) ms o (Err e) in
         let of_n : ℕ → Type 0 = λ n. FitsVersion n (m.column + length m.word) ms stop (Err e) in
@@ -203,12 +220,15 @@ text_fits number (line ∷ lines) = told (text_fits (number + 1) lines) (lex mod
   where
     l : Lexed
     l = lex mode.Numbered line
+
     plain : has_version_line (line ∷ lines) ≡ false → TextFits number (line ∷ lines) (read_lines format.Plain number no_declaration (line ∷ lines))
     plain none_yet = inl (none_yet, lines-law format.Plain number no_declaration (line ∷ lines))
+
     first : (b : Bool) (m : Mark) (ms : List Mark) (stop : Option Stop) → l.marks ≡ m ∷ ms → l.stop ≡ stop → is_version m.kind m.word ≡ b
         → TextFits number (line ∷ lines) (cond b (read_typed number lines (m.column + length m.word) (record { marks = ms; stop = stop })) (read_lines format.Plain number no_declaration (line ∷ lines)))
     first true m ms stop marks same is = inr (typed_fits number line lines m ms stop marks same is)
     first false m ms stop marks same is = plain (ap (λ t. begins_version t l.stop (has_version_line lines)) marks ∙ is)
+
     told : TextFits (number + 1) lines (read_opening (number + 1) lines) → (ms : List Mark) (stop : Option Stop) → l.marks ≡ ms → l.stop ≡ stop
         → TextFits number (line ∷ lines) (opened number line lines (read_opening (number + 1) lines) ms stop)
     told later [] None marks stop = blank_fits number line lines (read_opening (number + 1) lines) (has_tokens l [] marks stop) later

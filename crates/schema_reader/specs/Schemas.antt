@@ -127,7 +127,7 @@ pub record IsFirstOfLines (f : Format) (first : ℕ) (d : Declarations) (lines :
   pub stands : LinesComplaint f first d lines e.span.line place (number_of e.kind)
   pub there : e.span ≡ span_at e.span.line 1 (lex mode.Plain stands.line).marks (lex mode.Plain stands.line).stop place
   pub least : (l p n : ℕ) → LinesComplaint f first d lines l p n
-    → (e.span.line < l) ⊎ ((e.span.line ≡ l) × ((place < p) ⊎ ((place ≡ p) × (number_of e.kind ≤ n))))
+      → (e.span.line < l) ⊎ ((e.span.line ≡ l) × ((place < p) ⊎ ((place ≡ p) × (number_of e.kind ≤ n))))
 
 -- nothing is wrong with the lines, but that they declare nothing; refused at the last of them
 pub record DeclaresNothing (f : Format) (first : ℕ) (d : Declarations) (lines : List (List ℕ)) (e : SchemaRefusal) : Type 0 where
@@ -168,8 +168,8 @@ pub record FitsTyped (number : ℕ) (lines : List (List ℕ)) (reading : Result 
   pub starts : (lex mode.Numbered version).marks ≡ head ∷ others
   pub is_word : is_version head.kind head.word ≡ true
   pub fits :
-    ((e : SchemaRefusal) × (reading ≡ Err e) × FitsVersion (length before + number) (head.column + length head.word) others (lex mode.Numbered version).stop (Err e))
-    ⊎ (IsVersionLine version × FitsLines format.Typed (length before + number + 1) no_declaration later reading)
+      ((e : SchemaRefusal) × (reading ≡ Err e) × FitsVersion (length before + number) (head.column + length head.word) others (lex mode.Numbered version).stop (Err e))
+      ⊎ (IsVersionLine version × FitsLines format.Typed (length before + number + 1) no_declaration later reading)
 
 -- a text is refused by the first complaint, or as declaring nothing, and read where there is neither
 abbrev pub FitsSchema : List ℕ → Result Declarations SchemaRefusal → Type 0

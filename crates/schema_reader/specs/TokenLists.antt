@@ -3,7 +3,7 @@ use Rattle.lexer.specs.declared.token.Mode.{Mode}
 use Rattle.lexer.specs.declared.token.Mode.TheVariants as mode
 use Rattle.lexer.specs.declared.token.Stop.{Stop}
 use Rattle.lexer.specs.declared.token.Token.{Token}
-use Rattle.lexer.specs.Tokens.{Mark, Lexed, lex, token_of}
+use Rattle.lexer.specs.Tokens.{Lexed, lex, token_of}
 use Rattle.schema_reader.specs.declared.refusal.SchemaRefusal.{SchemaRefusal}
 use Rattle.schema_reader.specs.Refusals.{refused_by}
 

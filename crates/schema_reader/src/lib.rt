@@ -15,7 +15,9 @@ mod token_list;
 mod words;
 
 pub use goal::{MOST_GOAL_BYTES, read_goal};
-pub use laws::{goal_complaint, goal_meaning, line_complaint, lines_complaint, schema_complaint, schema_meaning};
+pub use laws::{
+    goal_complaint, goal_meaning, line_complaint, lines_complaint, schema_complaint, schema_meaning,
+};
 pub use lexer::{Token, TokenKind};
 pub use print::{print_dep, print_deps, print_schema, print_set};
 pub use refusal::{SchemaRefusal, SchemaRefusalKind, Span, What};

@@ -1,4 +1,4 @@
-use Rattle.std.proofs.Common.{◌≡◌, ◌∙◌, sym, ap, Err, Ok, cond, ◌++◌, ◌∷◌, []}
+use Rattle.std.proofs.Common.{◌∙◌, sym, ap, cond, ◌++◌, ◌∷◌, []}
 use Rattle.lexer.specs.Tokens.{lex}
 use Rattle.schema_reader.specs.TokenLists.{tokens_lexed}
 use Rattle.schema_reader.proofs.RefusalLemmas.{Refuses-here}
