@@ -19,3 +19,6 @@ pub use blocks::{Blocks, MOST_BLOCKS};
 pub use deciding::decide;
 pub use decision::Decision;
 pub use witnessing::witness;
+
+#[cfg(test)]
+mod tests;
