@@ -11,6 +11,7 @@ mod blocks;
 mod deciding;
 mod decision;
 mod gathering;
+mod meeting;
 mod refining;
 mod witnessing;
 

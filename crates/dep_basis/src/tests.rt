@@ -4,13 +4,11 @@ ghost use Rattle.dep_model.specs.Names.{same_name};
 ghost use Rattle.dep_model.specs.Deps.{IsDepWithin};
 ghost use Rattle.dep_model.specs.Schemas.{width_of};
 
-use std::alloc::Global;
-use std::test::Fail;
-
+use crate::{Decision, basis, decide, trace_basis, witness};
 use attr_sets::AttrSet;
 use dep_model::{Dep, Name, Schema, WantMemory};
-
-use crate::{Decision, basis, decide, trace_basis, witness};
+use std::alloc::Global;
+use std::test::Fail;
 
 fn fd(lhs: u128, rhs: u128) -> Dep {
     Dep::Fd {
