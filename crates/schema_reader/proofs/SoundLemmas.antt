@@ -47,6 +47,7 @@ FitsFormat format.Typed d = All (λ name. is_type_name name ≡ false) d.names
 pub record IsSound (f : Format) (d : Declarations) : Type 0 where
   pub few_names : length d.names ≤ PLACES
   pub names_differ : AllPairs (λ a b. same_name a b ≡ false) d.names
+  pub free : All (λ name. is_reserved f name ≡ false) d.names
   pub few_deps : length d.deps ≤ MOST_DEPENDENCIES
   pub deps_within : All (IsWithin (below (length d.names))) d.deps
   pub one_line_each : length d.lines ≡ length d.deps
@@ -61,6 +62,7 @@ pub nothing_sound : (f : Format) → IsSound f no_declaration
 nothing_sound f = record {
   few_names = omega arith;
   names_differ = λ i j d h g. absurd (omega arith);
+  free = λ k d h. absurd (omega arith);
   few_deps = omega arith;
   deps_within = λ k d h. absurd (omega arith);
   one_line_each = refl;
@@ -127,6 +129,7 @@ name_sound f column d word h sound free new few =
     record {
       few_names = omega arith;
       names_differ = AllPairs-more (λ a b. same_name a b ≡ false) d.names word sound.names_differ (no_name d.names word new);
+      free = All-push (λ name. is_reserved f name ≡ false) d.names word sound.free free;
       few_deps = sound.few_deps;
       deps_within = λ k e below_k. let inside = sound.deps_within k e below_k in
           (wider (length d.names) (length (d.names ++ word ∷ [])) (left_of (get_or d.deps k e)) (omega arith) inside.0, wider (length d.names) (length (d.names ++ word ∷ [])) (right_of (get_or d.deps k e)) (omega arith) inside.1);
@@ -189,6 +192,7 @@ dependency_sound f d dep line sound room inside =
     record {
       few_names = sound.few_names;
       names_differ = sound.names_differ;
+      free = sound.free;
       few_deps = omega arith;
       deps_within = All-push (IsWithin (below (length d.names))) d.deps dep sound.deps_within inside;
       one_line_each = let same = sound.one_line_each in omega arith;
@@ -308,3 +312,16 @@ free_names format.Typed d fits has = fits
 
 pub forms_columns : (d : Declarations) → IsWhole d → AreColumns d.names d.columns
 forms_columns d whole = record { one_each = whole.sound.one_column_each; no_type_name = free_names whole.format d whole.sound.fits }
+
+not_common : (f : Format) (word : List ℕ) → is_reserved f word ≡ false → is_reserved format.Plain word ≡ false
+unfolding is_reserved
+not_common format.Plain word e = e
+not_common format.Typed word e = first (is_common_word word) (is_type_name word) e
+  where
+    first : (a b : Bool) → (a || b) ≡ false → a ≡ false
+    first true b e = cc
+    first false b e = refl
+
+-- no name of a text that is read is reserved
+pub whole_free : (d : Declarations) → IsWhole d → All (λ name. is_reserved format.Plain name ≡ false) d.names
+whole_free d whole k e h = not_common whole.format (get_or d.names k e) (whole.sound.free k e h)

@@ -1,4 +1,6 @@
-ghost use Rattle.std.specs.Prelude.{◌≡◌, ◌+◌, ◌<◌, ◌≤◌, ◌^◌, length, OnOk, IfOk, IfErr, Ok, Err};
+ghost use Rattle.std.specs.Prelude.{All, false, ◌≡◌, ◌+◌, ◌<◌, ◌≤◌, ◌^◌, length, OnOk, IfOk, IfErr, Ok, Err};
+ghost use Rattle.dep_model.specs.Schemas.{names_of};
+ghost use Rattle.schema_reader.specs.Words.{is_reserved};
 ghost use Rattle.lexer.specs.Lines.{line_texts};
 ghost use Rattle.lexer.specs.Tokens.{lexed};
 ghost use Rattle.schema_reader.specs.Declarations.{drafted, no_declaration};
@@ -25,6 +27,7 @@ pub fn read_schema(alloc: Global, text: &[u8]) -> Result<Schema, SchemaRefusal>
     requires { length text.now ≤ MOST_TEXT_BYTES }
     ensures ok { IfOk result (λ schema. read_text text.now ≡ Ok (declarations_of schema)) }
     ensures err { IfErr result (λ refusal. Refuses refusal (read_text text.now)) }
+    ensures free { IfOk result (λ schema. All (λ name. is_reserved Format.Plain name ≡ false) (names_of schema)) }
 {
     let draft = match read_opening(alloc, without_mark(text)) {
         Ok(draft) => draft,

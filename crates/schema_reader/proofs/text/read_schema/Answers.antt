@@ -1,9 +1,12 @@
-use Rattle.std.proofs.Common.{◌∙◌, sym, ap, refl, Ok}
+use Rattle.std.specs.List.{All}
+use Rattle.schema_reader.specs.Words.{is_reserved}
+use Rattle.schema_reader.specs.declared.words.Format.TheVariants as format
+use Rattle.std.proofs.Common.{◌≡◌, ◌∙◌, ℕ, List, subst, false, sym, ap, refl, Ok}
 use Rattle.lexer.specs.Lines.{line_texts}
 use Rattle.schema_reader.specs.Declarations.{drafted}
 use Rattle.schema_reader.specs.Texts.{read_text, read_opening}
 use Rattle.schema_reader.proofs.RefusalLemmas.{ok_at, Refuses-whole}
-use Rattle.schema_reader.proofs.SoundLemmas.{IsWhole, opening_whole, forms_schema, forms_columns}
+use Rattle.schema_reader.proofs.SoundLemmas.{IsWhole, opening_whole, forms_schema, forms_columns, whole_free}
 use Rattle.schema_reader.proofs.TextLemmas.{declared_as}
 use Rattle.schema_reader.proofs.text.read_schema.Goals as goal
 
@@ -27,3 +30,8 @@ returns-clause-ok c =
     let here = ap (λ text. read_opening 1 (line_texts text)) (sym c.without_mark.ensures.text) in
     let made = declared_as c.make_typed.result (drafted c.in-Ok.draft) _ c.make_typed.ensures.names c.make_typed.ensures.columns c.make_typed.ensures.deps c.make_typed.ensures.lines refl in
     here ∙ c.in-Ok.ensures.ok ∙ ap Ok (sym made)
+
+pub returns-clause-free : goal.returns-clause-free
+returns-clause-free c =
+    let of : List (List ℕ) → Type 0 = λ names. All (λ name. is_reserved format.Plain name ≡ false) names in
+    subst of (sym c.make_typed.ensures.names) (whole_free (drafted c.in-Ok.draft) (ok_at IsWhole _ _ c.in-Ok.ensures.ok (opening_whole _ _)))
