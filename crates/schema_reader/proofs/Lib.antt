@@ -9,6 +9,7 @@ pub mod ListLemmas
 pub mod NameLaws
 pub mod PrintLemmas
 pub mod RefusalLemmas
+pub mod RiseLemmas
 pub mod SchemaLaws
 pub mod ShapeLemmas
 pub mod SoundLemmas

@@ -1,10 +1,11 @@
 //! The grammar, tied to the readers. Each is a function that does nothing, whose clause is the law; so
 //! the gate asks for its proof.
 
-ghost use Rattle.std.specs.Prelude.{◌≡◌, ◌↔◌, ℕ, List, Ok};
+ghost use Rattle.lexer.specs.declared.token.Mode.{Mode};
+ghost use Rattle.std.specs.Prelude.{◌<◌, ◌≤◌, length, ◌≡◌, ◌↔◌, ℕ, List, Ok};
 ghost use Rattle.dep_model.specs.Dependencies.{Dependency};
 ghost use Rattle.schema_reader.specs.Meanings.{MeansGoal};
-ghost use Rattle.schema_reader.specs.Complaints.{FitsGoal, FitsTextLine};
+ghost use Rattle.schema_reader.specs.Complaints.{FitsGoal, FitsTextLine, span_at};
 ghost use Rattle.schema_reader.specs.Declarations.{Declarations, read_line};
 ghost use Rattle.schema_reader.specs.Reading.{read_goal};
 ghost use Rattle.schema_reader.specs.Schemas.{FitsLines, FitsSchema, MeansSchema};
@@ -47,4 +48,10 @@ pub fn lines_complaint()
 /// one without a version line by the first complaint of its lines. Where it is read it has no complaint.
 pub fn schema_complaint()
     ensures law { (text : List ℕ) → FitsSchema text (read_text text) }
+{}
+
+/// A later place of a line stands in a greater column. So the order of places, by the tokens that stand
+/// before them, is that of their columns.
+pub fn places_rise()
+    ensures law { (mode : Mode) (line : ℕ) (text : List ℕ) (p q : ℕ) → p < q → q ≤ length (lex mode text).marks → (span_at line 1 (lex mode text).marks (lex mode text).stop p).column < (span_at line 1 (lex mode text).marks (lex mode text).stop q).column }
 {}

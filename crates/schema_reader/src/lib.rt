@@ -16,7 +16,8 @@ mod words;
 
 pub use goal::{MOST_GOAL_BYTES, read_goal};
 pub use laws::{
-    goal_complaint, goal_meaning, line_complaint, lines_complaint, schema_complaint, schema_meaning,
+    goal_complaint, goal_meaning, line_complaint, lines_complaint, places_rise, schema_complaint,
+    schema_meaning,
 };
 pub use lexer::{Token, TokenKind};
 pub use print::{print_dep, print_deps, print_schema, print_set};
