@@ -3,3 +3,5 @@ pub mod RuleTableLemmas
 pub mod ConclusionLemmas
 pub mod SoundnessLemmas
 pub mod WithinLemmas
+pub mod ProvesLemmas
+pub mod BuilderLemmas

@@ -2,3 +2,4 @@ pub mod Trees
 pub mod Table
 pub mod Conclusions
 pub mod Derivs
+pub mod Builders

@@ -6,7 +6,9 @@
 //! of Beeri, Fagin and Howard (1977).
 #![tactic(auto)]
 
+mod builders;
 mod concluding;
+mod copies;
 mod deriv;
 mod fault;
 pub mod laws;
@@ -16,8 +18,11 @@ mod table;
 #[cfg(test)]
 mod tests;
 
+pub use builders::{Returned, split_inside, split_outside, unite_fd, unite_mvd};
 pub use concluding::conclude;
+pub use copies::copy_deriv;
 pub use deriv::Deriv;
 pub use fault::{Fault, FaultKind};
 pub use measures::{depth, nodes};
 pub use rule::{LeafRule, Node, PairRule, StepRule};
+pub use table::{leaf_conclusion, pair_conclusion, step_conclusion};

@@ -29,6 +29,7 @@ fn is_apart(a: AttrSet, b: AttrSet) -> bool
     a.meet(b).least().is_none()
 }
 
+/// What a rule without premises concludes.
 pub fn leaf_conclusion(schema: &Schema, rule: LeafRule) -> Result<Dep, FaultKind>
     ensures exact { outcome_of result ≡ leaf_conclusion schema.now (leaf_of rule) }
 {
@@ -54,6 +55,7 @@ pub fn leaf_conclusion(schema: &Schema, rule: LeafRule) -> Result<Dep, FaultKind
     }
 }
 
+/// What a rule concludes from one premise.
 pub fn step_conclusion(schema: &Schema, rule: StepRule, premise: Dep) -> Result<Dep, FaultKind>
     ensures exact { outcome_of result ≡ step_conclusion schema.now (step_of rule) (dependency_of premise) }
 {
@@ -87,6 +89,7 @@ pub fn step_conclusion(schema: &Schema, rule: StepRule, premise: Dep) -> Result<
     }
 }
 
+/// What a rule concludes from two premises.
 pub fn pair_conclusion(rule: PairRule, first: Dep, second: Dep) -> Result<Dep, FaultKind>
     ensures exact { outcome_of result ≡ pair_conclusion (pair_of rule) (dependency_of first) (dependency_of second) }
 {
