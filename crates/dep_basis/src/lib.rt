@@ -11,8 +11,10 @@ mod blocks;
 mod deciding;
 mod decision;
 mod gathering;
+mod makers;
 mod meeting;
 mod refining;
+mod shown;
 mod witnessing;
 
 pub use bases::{basis, trace_basis};
