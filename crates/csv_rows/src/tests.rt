@@ -1,0 +1,89 @@
+ghost use Rattle.std.specs.Prelude.{◌≡◌, false, IfOk, length};
+ghost use Rattle.dep_model.specs.Names.{same_name};
+ghost use Rattle.dep_model.specs.Schemas.{width_of};
+
+use crate::print_rows;
+use dep_model::{Name, Row, Schema, Value, WantMemory};
+use std::alloc::Global;
+use std::test::Fail;
+
+// A schema of two attributes.
+fn two_attributes(alloc: Global, first: Name, second: Name) -> Result<Schema, WantMemory>
+    requires { same_name first second ≡ false }
+    ensures { IfOk result (λ s. width_of s ≡ 2) }
+{
+    let names = Vec::from_slice(alloc, &[first, second])?;
+    Ok(Schema::make(names, Vec::new(alloc), Vec::new(alloc)))
+}
+
+fn one_attribute(alloc: Global, name: Name) -> Result<Schema, WantMemory>
+    ensures { IfOk result (λ s. width_of s ≡ 1) }
+{
+    let names = Vec::from_slice(alloc, &[name])?;
+    Ok(Schema::make(names, Vec::new(alloc), Vec::new(alloc)))
+}
+
+fn pair(alloc: Global, first: &[u8], second: &[u8]) -> Result<Row, WantMemory>
+    ensures { IfOk result (λ row. length row ≡ 2) }
+{
+    let mut values = Vec::new(alloc);
+    values.push(Value::make(alloc, first)?)?;
+    values.push(Value::make(alloc, second)?)?;
+    Ok(Row::make(values))
+}
+
+fn single(alloc: Global, value: &[u8]) -> Result<Row, WantMemory>
+    ensures { IfOk result (λ row. length row ≡ 1) }
+{
+    let mut values = Vec::new(alloc);
+    values.push(Value::make(alloc, value)?)?;
+    Ok(Row::make(values))
+}
+
+#[test]
+fn quotes_where_they_are_needed(rt: HostRuntime) -> Result<(), Fail> {
+    let alloc = rt.alloc();
+    let first = Name::make(b"Zip").expect(&rt, "a name");
+    let second = Name::make(b"City").expect(&rt, "a name");
+    assert!(rt; !first.same(&second));
+    let schema = two_attributes(alloc, first, second)?;
+    let cases = [
+        ("53111", "Bonn", "Zip,City\n53111,Bonn\n"),
+        ("53111", "Bonn, West", "Zip,City\n53111,\"Bonn, West\"\n"),
+        (
+            "the \"old\" one",
+            "",
+            "Zip,City\n\"the \"\"old\"\" one\",\n",
+        ),
+        ("two\nlines", "\r", "Zip,City\n\"two\nlines\",\"\r\"\n"),
+        ("", "", "Zip,City\n,\n"),
+        (" a ", "#b'", "Zip,City\n a ,#b'\n"),
+    ];
+    for (one, other, want) in cases {
+        let row = pair(alloc, one.as_bytes(), other.as_bytes())?;
+        let text = print_rows(alloc, &schema, &[row])?;
+        assert_eq!(rt; text.as_slice(), want.as_bytes());
+    }
+    Ok(())
+}
+
+#[test]
+fn an_empty_value_alone_has_quotes(rt: HostRuntime) -> Result<(), Fail> {
+    let alloc = rt.alloc();
+    let schema = one_attribute(alloc, Name::make(b"A").expect(&rt, "a name"))?;
+    let text = print_rows(alloc, &schema, &[single(alloc, b"")?])?;
+    assert_eq!(rt; text.as_slice(), b"A\n\"\"\n".as_slice());
+    Ok(())
+}
+
+#[test]
+fn rows_stand_in_their_order(rt: HostRuntime) -> Result<(), Fail> {
+    let alloc = rt.alloc();
+    let schema = one_attribute(alloc, Name::make(b"A").expect(&rt, "a name"))?;
+    let text = print_rows(alloc, &schema, &[])?;
+    assert_eq!(rt; text.as_slice(), b"A\n".as_slice());
+    let rows = [single(alloc, b"2")?, single(alloc, b"1")?];
+    let text = print_rows(alloc, &schema, &rows)?;
+    assert_eq!(rt; text.as_slice(), b"A\n2\n1\n".as_slice());
+    Ok(())
+}
