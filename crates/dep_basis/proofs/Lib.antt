@@ -1,0 +1,6 @@
+pub mod RefiningLemmas
+pub mod BlockLemmas
+pub mod GatheringLemmas
+pub mod BasisLemmas
+pub mod DecidingLemmas
+pub mod WitnessLemmas

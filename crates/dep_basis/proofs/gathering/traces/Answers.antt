@@ -1,0 +1,84 @@
+use Rattle.std.proofs.Common.{◌≡◌, ℕ, ◌+◌, ◌<◌, ◌≤◌, length, take, drop, set, List, true, false, refl, sym, ◌∙◌, arith}
+use Rattle.std.proofs.lemmas.Bool.{false≢true, ltb-true}
+use Rattle.std.proofs.lemmas.Bool.Decides.{nat_tests}
+use Rattle.std.proofs.lemmas.List.{take_more_set, drop-set-lt, drop-drop, length-set}
+use Rattle.std.proofs.lemmas.List.Elements.{All-replicate, All-drop}
+use Rattle.std.specs.Prelude.{All}
+use Rattle.attr_sets.specs.Places.{Places, only, minus, Within, Same, IsEmpty, count_below}
+use Rattle.attr_sets.specs.declared.set.AttrSet.{AttrSet}
+use Rattle.attr_sets.specs.Sets.{places}
+use Rattle.attr_sets.specs.declared.set.TheConstants.{PLACES}
+use Rattle.attr_sets.proofs.PlacesLemmas.{count_below-le, count_below-pos, count_below-within, count_below-lt}
+use Rattle.dep_model.specs.Deps.{dependencies_of}
+use Rattle.dep_model.specs.Keys.{InClosure}
+use Rattle.dep_basis.proofs.GatheringLemmas.{found_first, found_closed, found_block, found_all}
+use Rattle.dep_basis.proofs.gathering.traces.Goals as goal
+
+pub loop-first-init : goal.loop-first-init
+loop-first-init c = record {
+  found = found_first c.args.width (dependencies_of c.args.deps.now) (places c.args.scheme) (places c.args.lhs) (places c.empty-closed.result) c.empty-closed.ensures.members;
+  room = omega (arith, count_below-le PLACES (places c.args.scheme));
+  size = refl;
+  rest = All-replicate (λ (q : AttrSet). IsEmpty (places q)) 128 c.empty-blocks.result c.empty-blocks.ensures.members;
+}
+
+pub loop-first-smaller-then-eq : goal.loop-first-smaller-then-eq
+loop-first-smaller-then-eq c =
+    count_below-lt PLACES (places c.without-left.result) (places c.loop-first.left) c.in-Some.first (λ k m. grind (arith, c.without-left.ensures.members k, m))
+      c.in-Some.ensures.place (grind (arith, nat_tests, c.without-left.ensures.members c.in-Some.first)) c.in-Some.ensures.least.member
+
+pub loop-first-preserved-then-eq : goal.loop-first-preserved-then-eq
+loop-first-preserved-then-eq c =
+    let before = c.loop-first.invariant in
+    let none : IsEmpty (places c.block_of-block.result) = λ k. c.if-eq.ensures.same.0 refl k ∙ c.empty.ensures.members k in
+    let is_closed : InClosure c.args.width (dependencies_of c.args.deps.now) (places c.args.lhs) c.in-Some.first = (ltb-true c.in-Some.first c.args.width (c.requires.scheme c.in-Some.first (before.found.left_in c.in-Some.first c.in-Some.ensures.least.member)), c.block_of-block.ensures.closed.0 none) in
+    record {
+      found = found_closed c.args.width (dependencies_of c.args.deps.now) (places c.args.scheme) (places c.args.lhs) (places c.loop-first.left) (places c.loop-first.closed) (take c.loop-first.count c.loop-first.blocks)
+          before.found (places c.without-left.result) (places c.with-closed.result) c.in-Some.first c.in-Some.ensures.least.member is_closed c.without-left.ensures.members c.with-closed.ensures.members;
+      room = omega (arith, before.room, count_below-within PLACES (places c.without-left.result) (places c.loop-first.left) (λ k m. grind (arith, c.without-left.ensures.members k, m)));
+      size = before.size;
+      rest = before.rest;
+    }
+
+-- fewer attributes are left than before
+falls : (left rest block : Places) (i : ℕ) → i < PLACES → left i ≡ true → block i ≡ true → Same rest (minus left block) → count_below rest PLACES < count_below left PLACES
+falls left rest block i low in_left in_block is =
+    count_below-lt PLACES rest left i (λ (k : ℕ) m. grind (arith, is k, m)) low (grind (arith, is i, in_block)) in_left
+
+-- a set that does not equal the empty one
+not_empty : (block empty : Places) → IsEmpty empty → (Same block empty → ⊥) → IsEmpty block → ⊥
+not_empty block empty nothing differ none = differ (λ (k : ℕ). none k ∙ sym (nothing k))
+
+pub bounds-blocks-count : goal.bounds-blocks-count
+bounds-blocks-count c = omega (arith, c.loop-first.invariant.room, count_below-pos PLACES (places c.loop-first.left) c.in-Some.first c.in-Some.ensures.place c.in-Some.ensures.least.member)
+
+pub loop-first-smaller : goal.loop-first-smaller
+loop-first-smaller c = falls (places c.loop-first.left) (places c.minus-left.result) (places c.block_of-block.result) c.in-Some.first c.in-Some.ensures.place c.in-Some.ensures.least.member
+    (c.block_of-block.ensures.member (not_empty (places c.block_of-block.result) (places c.empty.result) c.empty.ensures.members (λ same. false≢true (c.if-eq.ensures.same.1 same)))) c.minus-left.ensures.members
+
+pub loop-first-preserved : goal.loop-first-preserved
+loop-first-preserved c =
+    let before = c.loop-first.invariant in
+    let found = before.found in
+    let n = c.args.width in
+    let ds = dependencies_of c.args.deps.now in
+    let block = c.block_of-block in
+    let some = not_empty (places block.result) (places c.empty.result) c.empty.ensures.members (λ same. false≢true (c.if-eq.ensures.same.1 same)) in
+    let count = c.loop-first.count in
+    let blocks = c.loop-first.blocks in
+    let fewer = falls (places c.loop-first.left) (places c.minus-left.result) (places block.result) c.in-Some.first c.in-Some.ensures.place c.in-Some.ensures.least.member (block.ensures.member some) c.minus-left.ensures.members in
+    let short : count < length blocks = omega (arith, before.size, before.room, fewer) in
+    record {
+      found = rw (take_more_set blocks count c.meet.result short)
+          (found_block n ds (places c.args.scheme) (places c.args.lhs) (places c.loop-first.left) (places c.loop-first.closed) (take count blocks) found
+            (places block.result) (places c.minus-left.result) c.meet.result c.in-Some.first c.in-Some.ensures.least (block.ensures.block some) (block.ensures.member some) c.meet.ensures.members c.minus-left.ensures.members);
+      room = omega (arith, before.room, fewer);
+      size = length-set blocks count c.meet.result ∙ before.size;
+      rest = rw (drop-set-lt (count + 1) blocks count c.meet.result (omega arith), ← drop-drop 1 count blocks)
+          (All-drop (λ (q : AttrSet). IsEmpty (places q)) 1 (drop count blocks) before.rest);
+    }
+
+pub returns : goal.returns
+returns c = record { traces =
+    found_all c.args.width (dependencies_of c.args.deps.now) (places c.args.scheme) (places c.args.lhs) (places c.loop-first.left) (record { closed = c.loop-first.closed; blocks = c.loop-first.blocks; count = c.loop-first.count })
+      c.loop-first.invariant.found (c.in_default.ensures.none.0 refl) (omega (arith, c.loop-first.invariant.room)) c.loop-first.invariant.rest }

@@ -1,0 +1,63 @@
+use Rattle.std.proofs.Common.{◌≡◌, ℕ, ◌<◌, true, false, refl, sym, ◌∙◌, ⊎_elim, inl, inr, arith}
+use Rattle.std.proofs.lemmas.Bool.{false≢true, true≢false, cases_Bool, lt-ltb}
+use Rattle.std.proofs.lemmas.Bool.Decides.{nat_tests}
+use Rattle.attr_sets.specs.Places.{Places, below, only, minus, Within, Same, IsEmpty, count_below}
+use Rattle.attr_sets.specs.Sets.{places}
+use Rattle.attr_sets.specs.declared.set.TheConstants.{PLACES}
+use Rattle.attr_sets.proofs.PlacesLemmas.{places_below, tell_within, Same-within, Within-same, count_below-lt}
+use Rattle.dep_model.specs.Deps.{dependencies_of}
+use Rattle.dep_model.specs.Implication.{Implies}
+use Rattle.dep_model.specs.Dependencies.{fd}
+use Rattle.dep_model.specs.Keys.{IsBlock}
+use Rattle.dep_model.proofs.RuleLemmas.{reflexivity_obeyed}
+use Rattle.dep_basis.specs.Refining.{IsCandidate}
+use Rattle.dep_basis.proofs.RefiningLemmas.{candidate_first}
+use Rattle.dep_basis.proofs.BlockLemmas.{whole_legal, candidate_block}
+use Rattle.dep_basis.proofs.refining.block_of.Goals as goal
+
+pub returns-then-has : goal.returns-then-has
+returns-then-has c = record {
+  closed = ((λ _ r legal. reflexivity_obeyed (places c.args.lhs) (only c.args.attribute) r (λ k m. grind (arith, nat_tests, m, c.has.ensures.member, c.if-has.true))), (λ _. c.empty.ensures.members));
+  block = λ some. absurd (some c.empty.ensures.members);
+  member = λ some. absurd (some c.empty.ensures.members);
+}
+
+pub loop-rest-init : goal.loop-rest-init
+loop-rest-init c = candidate_first c.args.width (dependencies_of c.args.deps.now) (places c.args.lhs) (places c.minus-part.result) c.args.attribute c.requires.attribute
+    (sym c.has.ensures.member ∙ c.if-has.false) (λ k. grind (arith, c.minus-part.ensures.members k, c.full.ensures.members k))
+
+pub loop-rest-preserved : goal.loop-rest-preserved
+loop-rest-preserved c = c.cut_by_all-rest.ensures.candidate c.args.width (places c.args.lhs) c.requires.deps c.requires.lhs c.loop-rest.invariant
+
+pub loop-rest-smaller : goal.loop-rest-smaller
+loop-rest-smaller c =
+    let part = places c.loop-rest.part in
+    let rest = c.cut_by_all-rest in
+    ⊎_elim
+    (λ gone. count_below-lt PLACES (places rest.result) part gone.0 rest.ensures.smaller gone.1 gone.3 gone.2)
+    (λ same. absurd (false≢true (c.if-eq.ensures.same.1 (Same-within (places rest.result) part rest.ensures.smaller same))))
+    (tell_within PLACES part (places rest.result) (places_below c.loop-rest.part))
+
+pub returns-then-eq : goal.returns-then-eq
+returns-then-eq c =
+    let n = c.args.width in
+    let ds = dependencies_of c.args.deps.now in
+    let x = places c.args.lhs in
+    let part = places c.loop-rest.part in
+    let a = c.args.attribute in
+    let candidate : IsCandidate n ds x a part = c.loop-rest.invariant in
+    let back : Within part (places c.cut_by_all-rest.result) = λ k m. grind (arith, c.if-eq.ensures.same.0 refl k, m) in
+    let legal = whole_legal n c.args.deps.now part c.requires.deps (c.cut_by_all-rest.ensures.whole back) in
+    let block : part a ≡ true → IsBlock n ds x part = λ member. candidate_block n ds x part a c.requires.lhs legal candidate member in
+    elim (cases_Bool (part a)) [
+        inl member ↦ record {
+          closed = ((λ none. absurd (true≢false (sym member ∙ none a))), (λ implied. absurd ((block member).outside a member (c.requires.attribute, implied))));
+          block = λ _. block member;
+          member = λ _. member;
+        }
+        | inr out ↦ record {
+          closed = ((λ _. candidate.closed out), (λ _. candidate.nothing out));
+          block = λ some. absurd (some (candidate.nothing out));
+          member = λ some. absurd (some (candidate.nothing out));
+        }
+    ]

@@ -1,0 +1,23 @@
+use Rattle.std.specs.Prelude.{ℕ, List}
+use Rattle.attr_sets.specs.Places.{Places, below, minus, Same}
+use Rattle.attr_sets.specs.Sets.{places}
+use Rattle.dep_model.specs.Dependencies.{Dependency, Obeys}
+use Rattle.dep_model.specs.Implication.{IsLegal, Implies}
+use Rattle.dep_model.specs.TwoTuples.{two_tuples}
+use Rattle.dep_basis.specs.declared.decision.Decision.{Decision}
+use Rattle.dep_basis.specs.declared.decision.Decision.TheVariants.{Implied, Broken}
+use Rattle.dep_basis.specs.Breaking.{IsBreakingBlock}
+
+-- two rows that agree exactly on a set are legal and break a dependency; the set is all outside the
+-- block that shows it
+pub record IsBrokenBy (n : ℕ) (ds : List Dependency) (d : Dependency) (agreement : Places) : Type 0 where
+  pub block : Places
+  pub is_breaking : IsBreakingBlock n ds d block
+  pub outside : Same agreement (minus (below n) block)
+  pub legal : IsLegal n ds (two_tuples n agreement)
+  pub breaks : Obeys n d (two_tuples n agreement) → ⊥
+
+-- a decision is right: the dependency is implied, or two rows show that it is not
+abbrev pub IsDecided : ℕ → List Dependency → Dependency → Decision → Type 0
+IsDecided n ds d Implied = Implies n ds d
+IsDecided n ds d (Broken agreement) = IsBrokenBy n ds d (places agreement)

@@ -1,0 +1,6 @@
+pub mod Refining
+pub mod Traces
+pub mod Bases
+pub mod Firsts
+pub mod Breaking
+pub mod Decisions

@@ -1,0 +1,21 @@
+//! Dependency bases: the closed set and the blocks of a left side, by which implication by functional
+//! and multivalued dependencies is decided (Beeri 1980).
+//!
+//! `basis` gives exactly the closed set and the blocks, `trace_basis` what a scheme has of them.
+//! `decide` says whether a schema implies a dependency, and where it does not, names two rows that obey
+//! the schema and break it; `witness` makes these rows. `witness` alone takes memory.
+#![tactic(auto)]
+
+mod bases;
+mod blocks;
+mod deciding;
+mod decision;
+mod gathering;
+mod refining;
+mod witnessing;
+
+pub use bases::{basis, trace_basis};
+pub use blocks::{Blocks, MOST_BLOCKS};
+pub use deciding::decide;
+pub use decision::Decision;
+pub use witnessing::witness;
