@@ -34,22 +34,28 @@ use Rattle.dep_basis.proofs.BlockLemmas.{outside_of, block_legal, block_apart, b
 -- x -> c, with x within c: what c multidetermines, x does, and the other way round
 mvd_wider_obeyed : (scheme x c y : Places) (r : Relation) → Within x c → ObeysFd x c r → ObeysMvd scheme x y r → ObeysMvd scheme c y r
 mvd_wider_obeyed scheme x c y r inside closed obeys t u t_in u_in agree =
-    let v = obeys t u t_in u_in (λ (k : ℕ) m. agree k (inside k m)) in
-    (v.0, v.1,
+    let v = obeys t u t_in u_in (λ (k : ℕ) m. agree k (inside k m)) in (
+      v.0,
+      v.1,
       (λ (k : ℕ) m. elim (or_cases (c k) (y k) m) [
-          inl in_c ↦ closed v.0 t v.1 t_in (λ (j : ℕ) h. v.2 j (grind (arith, h))) k in_c
-          | inr in_y ↦ v.2 k (grind (arith, in_y)) ]),
-      (λ (k : ℕ) m. v.3 k (grind (arith, m, inside k))))
+        | inl in_c ↦ closed v.0 t v.1 t_in (λ (j : ℕ) h. v.2 j (grind (arith, h))) k in_c
+        | inr in_y ↦ v.2 k (grind (arith, in_y))
+      ]),
+      (λ (k : ℕ) m. v.3 k (grind (arith, m, inside k))),
+    )
 
 mvd_narrower_obeyed : (scheme x c y : Places) (r : Relation) → Within x c → ObeysFd x c r → ObeysMvd scheme c y r → ObeysMvd scheme x y r
 mvd_narrower_obeyed scheme x c y r inside closed obeys t u t_in u_in agree =
     let on_c : AgreeOn c t u = closed t u t_in u_in agree in
-    let v = obeys t u t_in u_in on_c in
-    (v.0, v.1,
+    let v = obeys t u t_in u_in on_c in (
+      v.0,
+      v.1,
       (λ (k : ℕ) m. v.2 k (grind (arith, m, inside k))),
       (λ (k : ℕ) m. elim (cases_Bool (c k)) [
-          inl in_c ↦ v.2 k (grind (arith, in_c)) ∙ on_c k in_c
-          | inr out ↦ v.3 k (grind (arith, m, out)) ]))
+        | inl in_c ↦ v.2 k (grind (arith, in_c)) ∙ on_c k in_c
+        | inr out ↦ v.3 k (grind (arith, m, out))
+      ]),
+    )
 
 -- ---- a left side and a set between it and its closure
 module _ (n : ℕ) (ds : List Dependency) (x c : Places) (inside : Within x c) (closed : Implies n ds (fd x c)) where
@@ -84,7 +90,8 @@ module _ (n : ℕ) (ds : List Dependency) (x c : Places) (inside : Within x c) (
   traces_wider scheme found old = record {
     closed = λ a. (
       (λ m. let h = (old.closed a).0 m in (h.0, closure_wider a h.1)),
-      (λ h. (old.closed a).1 (h.0, closure_narrower a h.1)));
+      (λ h. (old.closed a).1 (h.0, closure_narrower a h.1)),
+    );
     each = All-weaker (λ (q : AttrSet). IsTrace n ds scheme c (places q)) (λ (q : AttrSet). IsTrace n ds scheme x (places q)) (trace_wider scheme) (blocks_of found) old.each;
     parts = old.parts;
     listed = old.listed;
@@ -94,10 +101,10 @@ module _ (n : ℕ) (ds : List Dependency) (x c : Places) (inside : Within x c) (
 pub closure_between : (n : ℕ) (ds : List Dependency) (x c : Places) → Within x (below n) → ((a : ℕ) → (c a ≡ true) ↔ InClosure n (functional_part ds) x a)
     → Within x c × Within c (below n) × Implies n ds (fd x c)
 closure_between n ds x c x_in closure = (
-    (λ a m. (closure a).1 (ltb-true a n (x_in a m), λ r legal. reflexivity_obeyed x (only a) r (λ (k : ℕ) h. grind (arith, nat_tests, h, m)))),
-    (λ a m. lt-ltb a n ((closure a).0 m).0),
-    (λ r legal. fd_each-from n (functional_part ds) x c (λ (a : ℕ) m. ((closure a).0 m).1) r (functional_legal-weaker n ds r legal)),
-  )
+  (λ a m. (closure a).1 (ltb-true a n (x_in a m), λ r legal. reflexivity_obeyed x (only a) r (λ (k : ℕ) h. grind (arith, nat_tests, h, m)))),
+  (λ a m. lt-ltb a n ((closure a).0 m).0),
+  (λ r legal. fd_each-from n (functional_part ds) x c (λ (a : ℕ) m. ((closure a).0 m).1) r (functional_legal-weaker n ds r legal)),
+)
 
 -- ---- a multivalued dependency on a scheme
 AgreeExactly-sym : (n : ℕ) (a : Places) (t u : Tuple) → AgreeExactly n a t u → AgreeExactly n a u t
@@ -118,15 +125,15 @@ split_broken n scheme x y p scheme_in x_in y_in apart split obeys =
     let both : ObeysMvd scheme x y (t ∷ u ∷ []) = subst (λ (r : Relation). ObeysMvd scheme x y r) (two_tuples-is n a) obeys in
     let found = both t u (two_first t u) (two_second t u) (agree-from n a x t u exact low (λ (k : ℕ) m. grind (arith, m, low k m, apart k))) in
     ⊎_elim
-      (λ first.
-        let rest = agree-to n a (minus scheme (union x y)) t u exact (λ (k : ℕ) m. scheme_in k (grind (arith, m))) (subst (λ (s : Tuple). AgreeOn (minus scheme (union x y)) s u) first found.3) in
-        let k = split.1.0 in
-        true≢false (sym (rest k (grind (arith, split.1.1, split.1.2, apart k))) ∙ grind (arith, split.1.1)))
-      (λ second.
-        let on_y = agree-to n a y u t (AgreeExactly-sym n a t u exact) (λ (k : ℕ) m. scheme_in k (y_in k m)) (λ (k : ℕ) m. subst (λ (s : Tuple). AgreeOn (union x y) s t) second found.2 k (grind (arith, m))) in
-        let k = split.0.0 in
-        true≢false (sym (on_y k split.0.2) ∙ grind (arith, split.0.1)))
-      (two_cases t u found.0 found.1)
+    (λ first.
+    let rest = agree-to n a (minus scheme (union x y)) t u exact (λ (k : ℕ) m. scheme_in k (grind (arith, m))) (subst (λ (s : Tuple). AgreeOn (minus scheme (union x y)) s u) first found.3) in
+    let k = split.1.0 in
+    true≢false (sym (rest k (grind (arith, split.1.1, split.1.2, apart k))) ∙ grind (arith, split.1.1)))
+    (λ second.
+    let on_y = agree-to n a y u t (AgreeExactly-sym n a t u exact) (λ (k : ℕ) m. scheme_in k (y_in k m)) (λ (k : ℕ) m. subst (λ (s : Tuple). AgreeOn (union x y) s t) second found.2 k (grind (arith, m))) in
+    let k = split.0.0 in
+    true≢false (sym (on_y k split.0.2) ∙ grind (arith, split.0.1)))
+    (two_cases t u found.0 found.1)
 
 -- ---- the union of the blocks whose traces meet a set
 Any-here : {X : Type 0} (P : X → Type 0) (x : X) (xs : List X) → P x → Any P (x ∷ xs)
@@ -142,36 +149,46 @@ record IsGathered (n : ℕ) (ds : List Dependency) (scheme x y : Places) (qs : L
   holds : All (λ q. Meets (places q) y → Within (places q) z) qs
 
 gathered : (n : ℕ) (ds : List Dependency) (scheme x y : Places) (qs : List AttrSet) → All (λ q. IsTrace n ds scheme x (places q)) qs → (z : Places) × IsGathered n ds scheme x y qs z
-gathered n ds scheme x y [] each = (none, record {
-  universe = λ k m. absurd (true≢false (sym m));
-  implied = λ r legal. mreflexivity_obeyed (below n) x none r (λ (k : ℕ) m. absurd (true≢false (sym m)));
-  member = λ k m s. absurd (true≢false (sym m));
-  holds = λ k d l. absurd (omega arith);
-})
+gathered n ds scheme x y [] each = (
+  none,
+  record {
+    universe = λ k m. absurd (true≢false (sym m));
+    implied = λ r legal. mreflexivity_obeyed (below n) x none r (λ (k : ℕ) m. absurd (true≢false (sym m)));
+    member = λ k m s. absurd (true≢false (sym m));
+    holds = λ k d l. absurd (omega arith);
+  },
+)
 gathered n ds scheme x y (q ∷ qs) each =
     let rest = gathered n ds scheme x y qs (All-tail (λ (s : AttrSet). IsTrace n ds scheme x (places s)) q qs each) in
     let trace = All-head (λ (s : AttrSet). IsTrace n ds scheme x (places s)) q qs each in
     let meets : AttrSet → ℕ → Type 0 = λ (s : AttrSet) (k : ℕ). Meets (places s) y × (places s k ≡ true) in
     ⊎_elim
-      (λ common. (union trace.block rest.0, record {
+    (λ common. (
+      union trace.block rest.0,
+      record {
         universe = λ k m. grind (arith, m, trace.is_block.universe k, rest.1.universe k);
         implied = λ r legal. mvd_union_obeyed (below n) x trace.block rest.0 r trace.is_block.universe (trace.is_block.implied r legal) (rest.1.implied r legal);
         member = λ k m s. elim (or_cases (trace.block k) (rest.0 k) m) [
-            inl inside ↦ Any-here (λ (p : AttrSet). meets p k) q qs (common, grind (arith, trace.trace k, inside, s))
-            | inr later ↦ Any-later (λ (p : AttrSet). meets p k) q qs (rest.1.member k later s) ];
+          | inl inside ↦ Any-here (λ (p : AttrSet). meets p k) q qs (common, grind (arith, trace.trace k, inside, s))
+          | inr later ↦ Any-later (λ (p : AttrSet). meets p k) q qs (rest.1.member k later s)
+        ];
         holds = All-cons (λ (p : AttrSet). Meets (places p) y → Within (places p) (union trace.block rest.0)) q qs
             (λ _ k m. grind (arith, trace.trace k, m))
             (All-weaker (λ (p : AttrSet). Meets (places p) y → Within (places p) rest.0) (λ (p : AttrSet). Meets (places p) y → Within (places p) (union trace.block rest.0))
-              (λ (p : AttrSet) h both k m. grind (arith, h both k m)) qs rest.1.holds);
-      }))
-      (λ apart. (rest.0, record {
+            (λ (p : AttrSet) h both k m. grind (arith, h both k m)) qs rest.1.holds);
+      },
+    ))
+    (λ apart. (
+      rest.0,
+      record {
         universe = rest.1.universe;
         implied = rest.1.implied;
         member = λ k m s. Any-later (λ (p : AttrSet). meets p k) q qs (rest.1.member k m s);
         holds = All-cons (λ (p : AttrSet). Meets (places p) y → Within (places p) rest.0) q qs
             (λ both. absurd (true≢false (sym both.2 ∙ apart both.0 both.1))) rest.1.holds;
-      }))
-      (tell_apart PLACES (places q) y (places_below q))
+      },
+    ))
+    (tell_apart PLACES (places q) y (places_below q))
 
 -- ---- what the traces decide
 module _ (n : ℕ) (ds : List Dep) (scheme x : Places) (found : Blocks) (within : All (IsDepWithin (below n)) ds) (scheme_in : Within scheme (below n)) (x_in : Within x scheme)
@@ -181,8 +198,8 @@ module _ (n : ℕ) (ds : List Dep) (scheme x : Places) (found : Blocks) (within 
       let trace = traces.each k d l in
       let same : places (get_or (blocks_of found) k d) ≡ meet trace.block scheme = Same-path (places (get_or (blocks_of found) k d)) (meet trace.block scheme) trace.trace in
       split_broken n scheme x y trace.block scheme_in x_in y_in (block_apart n (dependencies_of ds) x trace.block trace.is_block)
-        (subst (λ (p : Places). IsSplitBy scheme y p) same split)
-        (obeyed (two_tuples n (outside_of n trace.block)) (block_legal n ds x trace.block within (λ (j : ℕ) m. scheme_in j (x_in j m)) trace.is_block))
+      (subst (λ (p : Places). IsSplitBy scheme y p) same split)
+      (obeyed (two_tuples n (outside_of n trace.block)) (block_legal n ds x trace.block within (λ (j : ℕ) m. scheme_in j (x_in j m)) trace.is_block))
 
   traces_whole : (y : Places) → Within y scheme → SplitsNone scheme y (blocks_of found) → (r : Relation) → IsLegal n (dependencies_of ds) r → ObeysMvd scheme x y r
   traces_whole y y_in splits r legal t u t_in u_in agree =
@@ -190,34 +207,40 @@ module _ (n : ℕ) (ds : List Dep) (scheme x : Places) (found : Blocks) (within 
       let v = z.1.implied r legal t u t_in u_in agree in
       let with_u : AgreeOn x v.0 u = λ (k : ℕ) m. v.2 k (grind (arith, m)) ∙ agree k m in
       let closed_at : (k : ℕ) (s : Tuple) → Contains r s → AgreeOn x v.0 s → places found.closed k ≡ true → value_at v.0 k ≡ value_at s k
-        = λ (k : ℕ) (s : Tuple) s_in on_x m. ((traces.closed k).0 m).1.1 r legal v.0 s v.1 s_in on_x k (grind (arith, nat_tests)) in
-      (v.0, v.1,
+      = λ (k : ℕ) (s : Tuple) s_in on_x m. ((traces.closed k).0 m).1.1 r legal v.0 s v.1 s_in on_x k (grind (arith, nat_tests)) in (
+        v.0,
+        v.1,
         (λ (k : ℕ) m. elim (cases_Bool (x k)) [
-            inl in_x ↦ v.2 k (grind (arith, in_x))
-            | inr out ↦
+          | inl in_x ↦ v.2 k (grind (arith, in_x))
+          | inr out ↦
               let in_y : y k ≡ true = grind (arith, m, out) in
               ⊎_elim
-                (λ closed. closed_at k t t_in (λ (j : ℕ) h. v.2 j (grind (arith, h))) closed)
-                (λ (j, q, lt, is, in_q). v.2 k (grind (arith, All-contains (λ (s : AttrSet). Meets (places s) y → Within (places s) z.0) (blocks_of found) q z.1.holds (j, lt, is) (k, in_q, in_y) k in_q)))
-                (traces.parts k (y_in k in_y)) ]),
+              (λ closed. closed_at k t t_in (λ (j : ℕ) h. v.2 j (grind (arith, h))) closed)
+              (λ (j, q, lt, is, in_q). v.2 k (grind (arith, All-contains (λ (s : AttrSet). Meets (places s) y → Within (places s) z.0) (blocks_of found) q z.1.holds (j, lt, is) (k, in_q, in_y) k in_q)))
+              (traces.parts k (y_in k in_y))
+        ]),
         (λ (k : ℕ) m. ⊎_elim
-          (λ closed. closed_at k u u_in with_u closed)
-          (λ _. elim (cases_Bool (z.0 k)) [
-            inl in_z ↦
-              let one = z.1.member k in_z (grind (arith, m)) in
-              absurd (All-contains (λ (s : AttrSet). IsSplitBy scheme y (places s) → ⊥) (blocks_of found) one.1 splits (one.0, one.2, one.3) (one.4.0, (k, one.4.1, grind (arith, m))))
-            | inr out ↦ v.3 k (grind (arith, m, out, scheme_in k)) ])
-          (traces.parts k (grind (arith, m)))))
+            (λ closed. closed_at k u u_in with_u closed)
+            (λ _. elim (cases_Bool (z.0 k)) [
+              | inl in_z ↦
+                  let one = z.1.member k in_z (grind (arith, m)) in
+                  absurd (All-contains (λ (s : AttrSet). IsSplitBy scheme y (places s) → ⊥) (blocks_of found) one.1 splits (one.0, one.2, one.3) (one.4.0, (k, one.4.1, grind (arith, m))))
+              | inr out ↦ v.3 k (grind (arith, m, out, scheme_in k))
+            ])
+            (traces.parts k (grind (arith, m)))),
+      )
 
   pub trace_basis-from : IsTraceBasis n (dependencies_of ds) scheme x found
   trace_basis-from = record {
     traces = traces;
     functional = λ a. (
       (λ m. let h = (traces.closed a).0 m in fd_on-from n (dependencies_of ds) scheme x (only a) x_in (λ (k : ℕ) e. grind (arith, nat_tests, e, h.0)) h.1.1),
-      (λ on. (traces.closed a).1 (on.within.1 a (grind (arith, nat_tests)), (ltb-true a n (scheme_in a (on.within.1 a (grind (arith, nat_tests)))), fd_on-to n (dependencies_of ds) scheme x (only a) on))));
+      (λ on. (traces.closed a).1 (on.within.1 a (grind (arith, nat_tests)), (ltb-true a n (scheme_in a (on.within.1 a (grind (arith, nat_tests)))), fd_on-to n (dependencies_of ds) scheme x (only a) on))),
+    );
     multivalued = λ y y_in. (
       (λ on. traces_split y y_in (λ r legal. mvd_in-to scheme x y r x_in y_in (on.obeyed r legal))),
-      (λ splits. record { within = (x_in, y_in); obeyed = λ r legal. mvd_in-from scheme x y r x_in y_in (traces_whole y y_in splits r legal) }));
+      (λ splits. record { within = (x_in, y_in); obeyed = λ r legal. mvd_in-from scheme x y r x_in y_in (traces_whole y y_in splits r legal) }),
+    );
   }
 
 -- ---- on the universe, the traces are the blocks
@@ -231,11 +254,16 @@ module _ (n : ℕ) (ds : List Dep) (x : Places) (found : Blocks) (within : All (
   blocks_listed : (p : Places) → IsBlock n (dependencies_of ds) x p → Any (λ q. Same (places q) p) (blocks_of found)
   blocks_listed p block = ⊎_elim
       (λ some. ⊎_elim
-        (λ closed. absurd (block.outside some.0 some.2 ((traces.closed some.0).0 closed).1))
-        (λ one. (one.0, one.1, one.2, one.3,
-          let listed = trace_block one.1 (All-contains (λ (q : AttrSet). IsTrace n (dependencies_of ds) (below n) x (places q)) (blocks_of found) one.1 traces.each (one.0, one.2, one.3)) in
-          blocks_same n (dependencies_of ds) x (places one.1) p listed block (some.0, one.4, some.2)))
-        (traces.parts some.0 (block.universe some.0 some.2)))
+      (λ closed. absurd (block.outside some.0 some.2 ((traces.closed some.0).0 closed).1))
+      (λ one. (
+        one.0,
+        one.1,
+        one.2,
+        one.3,
+        let listed = trace_block one.1 (All-contains (λ (q : AttrSet). IsTrace n (dependencies_of ds) (below n) x (places q)) (blocks_of found) one.1 traces.each (one.0, one.2, one.3)) in
+            blocks_same n (dependencies_of ds) x (places one.1) p listed block (some.0, one.4, some.2),
+      ))
+      (traces.parts some.0 (block.universe some.0 some.2)))
       (λ none. absurd (block.some none))
       (tell_empty n p block.universe)
 

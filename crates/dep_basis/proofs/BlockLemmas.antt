@@ -30,13 +30,13 @@ outside_of n w = minus (below n) w
 whole_obeyed : (n : ℕ) (w : Places) (d : Dep) → IsDepWithin (below n) d → LeavesWhole w w (dependency_of d) → Obeys n (dependency_of d) (two_tuples n (outside_of n w))
 whole_obeyed n w (Fd lhs rhs) within whole =
     two_tuples_fd-from n (outside_of n w) (places lhs) (places rhs) within.0 within.1
-      (λ low k m. grind (arith, m, within.1 k m, whole (λ (j : ℕ) h. grind (arith, low j h)) k))
+    (λ low k m. grind (arith, m, within.1 k m, whole (λ (j : ℕ) h. grind (arith, low j h)) k))
 whole_obeyed n w (Mvd lhs rhs) within whole =
     two_tuples_mvd-from n (outside_of n w) (places lhs) (places rhs) within.0 within.1
-      (λ low. ⊎_elim
-        (λ out. inl (λ (k : ℕ) m. grind (arith, m, within.1 k m, out k)))
-        (λ inside. inr (λ (k : ℕ) m. grind (arith, m, inside k)))
-        (whole (λ (j : ℕ) h. grind (arith, low j h))))
+    (λ low. ⊎_elim
+    (λ out. inl (λ (k : ℕ) m. grind (arith, m, within.1 k m, out k)))
+    (λ inside. inr (λ (k : ℕ) m. grind (arith, m, inside k)))
+    (whole (λ (j : ℕ) h. grind (arith, low j h))))
 
 pub whole_legal : (n : ℕ) (ds : List Dep) (w : Places) → All (IsDepWithin (below n)) ds → All (LeavesWhole w w) (dependencies_of ds) → IsLegal n (dependencies_of ds) (two_tuples n (outside_of n w))
 whole_legal n ds w within whole =
@@ -46,21 +46,22 @@ whole_legal n ds w within whole =
 -- no dependency cuts a block
 block_whole : (n : ℕ) (ds : List Dependency) (x p : Places) (d : Dependency) → Within x (below n) → IsWithin (below n) d → Implies n ds d → IsBlock n ds x p → LeavesWhole p p d
 block_whole n ds x p (fd v t) x_in within given block = λ apart a in_p. elim (cases_Bool (t a)) [
-    inr out ↦ out
-    | inl in_t ↦ absurd (block.outside a in_p (ltb-true a n (block.universe a in_p), moves n ds x p v t x_in block.universe within.0 a apart in_p in_t block.implied given)) ]
+  | inr out ↦ out
+  | inl in_t ↦ absurd (block.outside a in_p (ltb-true a n (block.universe a in_p), moves n ds x p v t x_in block.universe within.0 a apart in_p in_t block.implied given))
+]
 block_whole n ds x p (mvd v t) x_in within given block = λ apart.
     let inside = split_inside n ds x p v t x_in block.universe within.0 apart block.implied given in
     ⊎_elim
-      (λ some. inr (λ (k : ℕ) m. grind (arith, block.minimal (meet p t) (λ (j : ℕ) h. grind (arith, h)) (λ none. absurd (true≢false (sym some.2 ∙ none some.0))) inside k m)))
-      (λ none. inl (λ (k : ℕ) m. grind (arith, m, none k)))
-      (tell_empty n (meet p t) (λ (k : ℕ) m. block.universe k (grind (arith, m))))
+    (λ some. inr (λ (k : ℕ) m. grind (arith, block.minimal (meet p t) (λ (j : ℕ) h. grind (arith, h)) (λ none. absurd (true≢false (sym some.2 ∙ none some.0))) inside k m)))
+    (λ none. inl (λ (k : ℕ) m. grind (arith, m, none k)))
+    (tell_empty n (meet p t) (λ (k : ℕ) m. block.universe k (grind (arith, m))))
 
 -- the two tuples that agree outside a block are legal
 pub block_legal : (n : ℕ) (ds : List Dep) (x p : Places) → All (IsDepWithin (below n)) ds → Within x (below n) → IsBlock n (dependencies_of ds) x p → IsLegal n (dependencies_of ds) (two_tuples n (outside_of n p))
 block_legal n ds x p within x_in block =
     legal-from n ds (two_tuples n (outside_of n p)) (two_tuples-over n (outside_of n p))
-      (λ (k : ℕ) (d : Dep) l. whole_obeyed n p (get_or ds k d) (within k d l)
-        (block_whole n (dependencies_of ds) x p (dependency_of (get_or ds k d)) x_in (within k d l) (λ r legal. legal-to n ds r legal k d l) block))
+    (λ (k : ℕ) (d : Dep) l. whole_obeyed n p (get_or ds k d) (within k d l)
+    (block_whole n (dependencies_of ds) x p (dependency_of (get_or ds k d)) x_in (within k d l) (λ r legal. legal-to n ds r legal k d l) block))
 
 -- ---- what they break
 -- an attribute of the set does not follow from outside
@@ -73,9 +74,9 @@ outside_fd n ds x y w legal x_in y_in apart common implied =
 pub outside_mvd : (n : ℕ) (ds : List Dependency) (x y w : Places) → IsLegal n ds (two_tuples n (outside_of n w)) → Within x (below n) → Within y (below n) → Within w (below n) → Apart w x → Meets y w → Implies n ds (mvd x y) → Within w y
 outside_mvd n ds x y w legal x_in y_in w_in apart common implied k in_w =
     ⊎_elim
-      (λ low. absurd (true≢false (sym common.2 ∙ grind (arith, low common.0 common.1))))
-      (λ rest. true_from_ne_false (y k) (λ out. true≢false (sym in_w ∙ grind (arith, rest k (grind (arith, w_in k in_w, apart k in_w, out))))))
-      (two_tuples_mvd-to n (outside_of n w) x y x_in y_in (implied (two_tuples n (outside_of n w)) legal) (λ k m. grind (arith, m, x_in k m, apart k)))
+    (λ low. absurd (true≢false (sym common.2 ∙ grind (arith, low common.0 common.1))))
+    (λ rest. true_from_ne_false (y k) (λ out. true≢false (sym in_w ∙ grind (arith, rest k (grind (arith, w_in k in_w, apart k in_w, out))))))
+    (two_tuples_mvd-to n (outside_of n w) x y x_in y_in (implied (two_tuples n (outside_of n w)) legal) (λ k m. grind (arith, m, x_in k m, apart k)))
 
 -- ---- a candidate that no dependency cuts
 pub candidate_block : (n : ℕ) (ds : List Dependency) (x w : Places) (a : ℕ) → Within x (below n) → IsLegal n ds (two_tuples n (outside_of n w)) → IsCandidate n ds x a w → w a ≡ true → IsBlock n ds x w
@@ -86,21 +87,22 @@ candidate_block n ds x w a x_in legal candidate member = record {
   implied = candidate.implied;
   minimal = λ q inside some implied.
       ⊎_elim
-        (λ found. outside_mvd n ds x q w legal x_in (λ (k : ℕ) m. candidate.universe k (inside k m)) candidate.universe candidate.outside (found.0, found.2, inside found.0 found.2) implied)
-        (λ none. absurd (some none))
-        (tell_empty n q (λ (k : ℕ) m. candidate.universe k (inside k m)));
+      (λ found. outside_mvd n ds x q w legal x_in (λ (k : ℕ) m. candidate.universe k (inside k m)) candidate.universe candidate.outside (found.0, found.2, inside found.0 found.2) implied)
+      (λ none. absurd (some none))
+      (tell_empty n q (λ (k : ℕ) m. candidate.universe k (inside k m)));
 }
 
 -- ---- blocks with a common member are the same
 pub block_apart : (n : ℕ) (ds : List Dependency) (x p : Places) → IsBlock n ds x p → Apart p x
 block_apart n ds x p block a in_p = elim (cases_Bool (x a)) [
-    inr out ↦ out
-    | inl in_x ↦ absurd (block.outside a in_p (ltb-true a n (block.universe a in_p), λ r legal. reflexivity_obeyed x (only a) r (λ (k : ℕ) m. grind (arith, nat_tests, m, in_x)))) ]
+  | inr out ↦ out
+  | inl in_x ↦ absurd (block.outside a in_p (ltb-true a n (block.universe a in_p), λ r legal. reflexivity_obeyed x (only a) r (λ (k : ℕ) m. grind (arith, nat_tests, m, in_x))))
+]
 
 pub blocks_same : (n : ℕ) (ds : List Dependency) (x p q : Places) → IsBlock n ds x p → IsBlock n ds x q → Meets p q → Same p q
 blocks_same n ds x p q first second common =
     let shared : Implies n ds (mvd x (meet p q)) = λ r legal. mvd_meet_obeyed (below n) x p q r (first.implied r legal) (second.implied r legal) in
     let some : IsEmpty (meet p q) → ⊥ = λ none. true≢false (sym (grind (arith, common.1, common.2)) ∙ none common.0) in
     Same-within p q
-      (λ (k : ℕ) m. grind (arith, first.minimal (meet p q) (λ (j : ℕ) h. grind (arith, h)) some shared k m))
-      (λ (k : ℕ) m. grind (arith, second.minimal (meet p q) (λ (j : ℕ) h. grind (arith, h)) some shared k m))
+    (λ (k : ℕ) m. grind (arith, first.minimal (meet p q) (λ (j : ℕ) h. grind (arith, h)) some shared k m))
+    (λ (k : ℕ) m. grind (arith, second.minimal (meet p q) (λ (j : ℕ) h. grind (arith, h)) some shared k m))

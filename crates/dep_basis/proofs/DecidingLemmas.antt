@@ -37,7 +37,7 @@ breaks_mvd : (n : ℕ) (ds : List Dependency) (x y p : Places) → IsWithin (bel
 breaks_mvd n ds x y p within (block, split, first) =
     let same : Same p (meet p (below n)) = λ (k : ℕ). grind (arith, block.universe k) in
     split_broken n (below n) x y p (λ (k : ℕ) m. m) within.0 within.1 (block_apart n ds x p block)
-      (subst (λ (q : Places). IsSplitBy (below n) y q) (Same-path p (meet p (below n)) same) split)
+    (subst (λ (q : Places). IsSplitBy (below n) y q) (Same-path p (meet p (below n)) same) split)
 
 pub breaking_broken : (n : ℕ) (ds : List Dep) (d : Dependency) (agreement p : Places) → All (IsDepWithin (below n)) ds → IsWithin (below n) d
     → IsBreakingBlock n (dependencies_of ds) d p → Same agreement (minus (below n) p) → IsBrokenBy n (dependencies_of ds) d agreement
@@ -59,10 +59,12 @@ breaking_broken n ds (mvd x y) agreement p each within breaking outside = record
 -- ---- the block that a basis shows
 least_same : (p : Places) (i j : ℕ) → IsLeastFrom p 0 i → IsLeastFrom p 0 j → i ≡ j
 least_same p i j first second = elim (cases_lt i j) [
-    inl lt ↦ absurd (true≢false (sym first.member ∙ second.least i (omega arith) lt))
-    | inr le ↦ elim (cases_eq i j) [
-        inl same ↦ same
-        | inr differ ↦ absurd (true≢false (sym second.member ∙ first.least j (omega arith) (omega arith))) ] ]
+  | inl lt ↦ absurd (true≢false (sym first.member ∙ second.least i (omega arith) lt))
+  | inr le ↦ elim (cases_eq i j) [
+    | inl same ↦ same
+    | inr differ ↦ absurd (true≢false (sym second.member ∙ first.least j (omega arith) (omega arith)))
+  ]
+]
 
 module _ (n : ℕ) (ds : List Dependency) (x y : Places) (found : Blocks) (basis : IsBasis n ds x found) (y_in : Within y (below n)) where
   -- all of y is closed
@@ -79,39 +81,45 @@ module _ (n : ℕ) (ds : List Dependency) (x y : Places) (found : Blocks) (basis
   pub beyond_listed : (a : ℕ) → IsLeastFrom (minus y (places found.closed)) 0 a → All (λ p. Meets (places p) (only a) × Meets (places p) (only a) → ⊥) (blocks_of found) → ⊥
   beyond_listed a least none =
       ⊎_elim
-        (λ closed. true≢false (sym least.member ∙ grind (arith, closed)))
-        (λ one.
-          let common : Meets (places one.1) (only a) = (a, one.4, grind (arith, nat_tests)) in
-          All-contains (λ (p : AttrSet). Meets (places p) (only a) × Meets (places p) (only a) → ⊥) (blocks_of found) one.1 none (one.0, one.2, one.3) (common, common))
-        (basis.parts a (ltb-true a n (y_in a (grind (arith, least.member)))))
+      (λ closed. true≢false (sym least.member ∙ grind (arith, closed)))
+      (λ one.
+      let common : Meets (places one.1) (only a) = (a, one.4, grind (arith, nat_tests)) in
+      All-contains (λ (p : AttrSet). Meets (places p) (only a) × Meets (places p) (only a) → ⊥) (blocks_of found) one.1 none (one.0, one.2, one.3) (common, common))
+      (basis.parts a (ltb-true a n (y_in a (grind (arith, least.member)))))
 
   pub beyond_block : (a : ℕ) (p : AttrSet) → IsLeastFrom (minus y (places found.closed)) 0 a
       → IsFirstWith (λ q. Meets (places q) (only a) × Meets (places q) (only a)) (blocks_of found) p → IsBreakingBlock n ds (fd x y) (places p)
   beyond_block a p least first = (
-      All-contains (λ (q : AttrSet). IsBlock n ds x (places q)) (blocks_of found) p basis.each (first.place, first.short, first.is),
-      (a,
-        (let k = first.holds.0.0 in let same : k ≡ a = grind (arith, nat_tests, first.holds.0.2) in sym (ap (places p) same) ∙ first.holds.0.1),
-        grind (arith, least.member),
-        (λ b lt in_y. (basis.closed b).0 (grind (arith, in_y, least.least b (omega arith) lt)))))
+    All-contains (λ (q : AttrSet). IsBlock n ds x (places q)) (blocks_of found) p basis.each (first.place, first.short, first.is),
+    (
+      a,
+      (let k = first.holds.0.0 in let same : k ≡ a = grind (arith, nat_tests, first.holds.0.2) in sym (ap (places p) same) ∙ first.holds.0.1),
+      grind (arith, least.member),
+      (λ b lt in_y. (basis.closed b).0 (grind (arith, in_y, least.least b (omega arith) lt))),
+    ),
+  )
 
   -- the first listed block that y splits is the first of all
   pub split_block : (p : AttrSet) → IsFirstWith (λ q. IsSplitBy (below n) y (places q)) (blocks_of found) p → IsBreakingBlock n ds (mvd x y) (places p)
   split_block p first = (
-      All-contains (λ (q : AttrSet). IsBlock n ds x (places q)) (blocks_of found) p basis.each (first.place, first.short, first.is),
-      first.holds,
-      (λ q i j block split least_p least_q.
+    All-contains (λ (q : AttrSet). IsBlock n ds x (places q)) (blocks_of found) p basis.each (first.place, first.short, first.is),
+    first.holds,
+    (λ q i j block split least_p least_q.
         let one = basis.all q block in
         let same : q ≡ places one.1 = sym (Same-path (places one.1) q one.4) in
         let listed : IsSplitBy (below n) y (places (get_or (blocks_of found) one.0 one.1)) = rw (one.3, ← same) split in
         elim (cases_lt one.0 first.place) [
-            inl before ↦ absurd (first.first one.0 one.1 before listed)
-            | inr from ↦ elim (cases_eq first.place one.0) [
-                inl at ↦
-                  let is_p : p ≡ one.1 = sym first.is ∙ get_or_default (blocks_of found) first.place p one.1 first.short ∙ ap (λ (k : ℕ). get_or (blocks_of found) k one.1) at ∙ one.3 in
-                  let same_p : q ≡ places p = same ∙ ap places (sym is_p) in
-                  omega (arith, least_same (places p) i j least_p (subst (λ (w : Places). IsLeastFrom w 0 j) same_p least_q))
-                | inr later ↦
-                  let is_q : places (get_or (blocks_of found) one.0 p) ≡ q = ap places (get_or_default (blocks_of found) one.0 p one.1 one.2 ∙ one.3) ∙ sym same in
-                  let order = basis.listed.in_order first.place one.0 p (omega arith) one.2 in
-                  let lt : i < j = order i j (rw first.is least_p) (rw is_q least_q) in
-                  omega arith ] ]))
+          | inl before ↦ absurd (first.first one.0 one.1 before listed)
+          | inr from ↦ elim (cases_eq first.place one.0) [
+            | inl at ↦
+                let is_p : p ≡ one.1 = sym first.is ∙ get_or_default (blocks_of found) first.place p one.1 first.short ∙ ap (λ (k : ℕ). get_or (blocks_of found) k one.1) at ∙ one.3 in
+                let same_p : q ≡ places p = same ∙ ap places (sym is_p) in
+                omega (arith, least_same (places p) i j least_p (subst (λ (w : Places). IsLeastFrom w 0 j) same_p least_q))
+            | inr later ↦
+                let is_q : places (get_or (blocks_of found) one.0 p) ≡ q = ap places (get_or_default (blocks_of found) one.0 p one.1 one.2 ∙ one.3) ∙ sym same in
+                let order = basis.listed.in_order first.place one.0 p (omega arith) one.2 in
+                let lt : i < j = order i j (rw first.is least_p) (rw is_q least_q) in
+                omega arith
+          ]
+        ]),
+  )

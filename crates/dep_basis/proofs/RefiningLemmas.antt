@@ -19,36 +19,46 @@ pub split_inside_obeyed : (scheme x w v t : Places) (r : Relation) → Within x 
 split_inside_obeyed scheme x w v t r x_in v_in apart first second a b a_in b_in agree =
     let m = first a b a_in b_in agree in
     let on_v : AgreeOn v m.0 b = λ (k : ℕ) h. elim (cases_Bool (x k)) [
-        inl in_x ↦ m.2 k (grind (arith, in_x)) ∙ agree k in_x
-        | inr out ↦ m.3 k (grind (arith, out, v_in k h, apart k h)) ] in
-    let s = second m.0 b m.1 b_in on_v in
-    (s.0, s.1,
+      | inl in_x ↦ m.2 k (grind (arith, in_x)) ∙ agree k in_x
+      | inr out ↦ m.3 k (grind (arith, out, v_in k h, apart k h))
+    ] in
+    let s = second m.0 b m.1 b_in on_v in (
+      s.0,
+      s.1,
       (λ (k : ℕ) h. elim (cases_Bool (union v t k)) [
-          inl in_vt ↦ s.2 k in_vt ∙ m.2 k (grind (arith, h))
-          | inr out ↦
+        | inl in_vt ↦ s.2 k in_vt ∙ m.2 k (grind (arith, h))
+        | inr out ↦
             let in_x : x k ≡ true = grind (arith, h, out) in
-            s.3 k (grind (arith, out, x_in k in_x)) ∙ sym (agree k in_x) ]),
+            s.3 k (grind (arith, out, x_in k in_x)) ∙ sym (agree k in_x)
+      ]),
       (λ (k : ℕ) h. elim (cases_Bool (union v t k)) [
-          inl in_vt ↦ s.2 k in_vt ∙ m.3 k (grind (arith, h, in_vt, apart k))
-          | inr out ↦ s.3 k (grind (arith, h, out)) ]))
+        | inl in_vt ↦ s.2 k in_vt ∙ m.3 k (grind (arith, h, in_vt, apart k))
+        | inr out ↦ s.3 k (grind (arith, h, out))
+      ]),
+    )
 
 -- and x ->> what w has beyond t
 pub split_outside_obeyed : (scheme x w v t : Places) (r : Relation) → Within x scheme → Within w scheme → Within v scheme → Apart v w → ObeysMvd scheme x w r → ObeysMvd scheme v t r → ObeysMvd scheme x (minus w t) r
 split_outside_obeyed scheme x w v t r x_in w_in v_in apart first second a b a_in b_in agree =
     let m = first a b a_in b_in agree in
     let on_v : AgreeOn v b m.0 = λ (k : ℕ) h. elim (cases_Bool (x k)) [
-        inl in_x ↦ sym (m.2 k (grind (arith, in_x)) ∙ agree k in_x)
-        | inr out ↦ sym (m.3 k (grind (arith, out, v_in k h, apart k h))) ] in
-    let s = second b m.0 b_in m.1 on_v in
-    (s.0, s.1,
+      | inl in_x ↦ sym (m.2 k (grind (arith, in_x)) ∙ agree k in_x)
+      | inr out ↦ sym (m.3 k (grind (arith, out, v_in k h, apart k h)))
+    ] in
+    let s = second b m.0 b_in m.1 on_v in (
+      s.0,
+      s.1,
       (λ (k : ℕ) h. elim (cases_Bool (union v t k)) [
-          inl in_vt ↦
+        | inl in_vt ↦
             let in_x : x k ≡ true = grind (arith, h, in_vt, apart k) in
             s.2 k in_vt ∙ sym (agree k in_x)
-          | inr out ↦ s.3 k (grind (arith, h, out, x_in k, w_in k)) ∙ m.2 k (grind (arith, h)) ]),
+        | inr out ↦ s.3 k (grind (arith, h, out, x_in k, w_in k)) ∙ m.2 k (grind (arith, h))
+      ]),
       (λ (k : ℕ) h. elim (cases_Bool (union v t k)) [
-          inl in_vt ↦ s.2 k in_vt
-          | inr out ↦ s.3 k (grind (arith, h, out)) ∙ m.3 k (grind (arith, h, out)) ]))
+        | inl in_vt ↦ s.2 k in_vt
+        | inr out ↦ s.3 k (grind (arith, h, out)) ∙ m.3 k (grind (arith, h, out))
+      ]),
+    )
 
 -- ---- implication
 pub replicated : (n : ℕ) (ds : List Dependency) (x y : Places) → Implies n ds (fd x y) → Implies n ds (mvd x y)
@@ -65,7 +75,7 @@ module _ (n : ℕ) (ds : List Dependency) (x w v t : Places) (x_in : Within x (b
   pub moves : (a : ℕ) → Apart v w → w a ≡ true → t a ≡ true → Implies n ds (mvd x w) → Implies n ds (fd v t) → Implies n ds (fd x (only a))
   moves a apart in_w in_t first second r legal =
       coalescence_obeyed (below n) x w v (only a) r v_in (λ (k : ℕ) m. grind (arith, nat_tests, m, in_w)) apart (first r legal)
-        (fd_weaker_obeyed v t v (only a) r (λ (k : ℕ) m. m) (λ (k : ℕ) m. grind (arith, nat_tests, m, in_t)) (second r legal))
+      (fd_weaker_obeyed v t v (only a) r (λ (k : ℕ) m. m) (λ (k : ℕ) m. grind (arith, nat_tests, m, in_t)) (second r legal))
 
 -- ---- candidates
 -- the attributes outside the left side
@@ -105,8 +115,9 @@ candidate_nothing n ds x w v t rest a v_in in_t apart x_in given is before = rec
   implied = λ r legal. mreflexivity_obeyed (below n) x rest r (λ (k : ℕ) m. absurd (true≢false (sym m ∙ is k)));
   nothing = λ gone. is;
   closed = λ gone. elim (cases_Bool (w a)) [
-      inl in_w ↦ moves n ds x w v t x_in before.universe v_in a apart in_w in_t before.implied given
-      | inr out ↦ before.closed out ];
+    | inl in_w ↦ moves n ds x w v t x_in before.universe v_in a apart in_w in_t before.implied given
+    | inr out ↦ before.closed out
+  ];
 }
 
 -- ---- what cuts nothing off
@@ -115,7 +126,7 @@ pub LeavesWhole-kept : (p more q less : Places) (d : Dependency) → Within p mo
 LeavesWhole-kept p more q less (fd v t) grows falls whole = λ apart k m. whole (λ (j : ℕ) h. grind (arith, apart j h, grows j)) k (falls k m)
 LeavesWhole-kept p more q less (mvd v t) grows falls whole = λ apart.
     ⊎_elim (λ out. inl (λ (k : ℕ) m. out k (falls k m))) (λ inside. inr (λ (k : ℕ) m. inside k (falls k m)))
-      (whole (λ (j : ℕ) h. grind (arith, apart j h, grows j)))
+    (whole (λ (j : ℕ) h. grind (arith, apart j h, grows j)))
 
 pub all_LeavesWhole-kept : (p more q less : Places) (ds : List Dep) → Within p more → Within less q → All (λ d. LeavesWhole p q (dependency_of d)) ds → All (λ d. LeavesWhole more less (dependency_of d)) ds
 all_LeavesWhole-kept p more q less ds grows falls whole k d l = LeavesWhole-kept p more q less (dependency_of (get_or ds k d)) grows falls (whole k d l)

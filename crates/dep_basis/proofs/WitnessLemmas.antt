@@ -53,7 +53,7 @@ low n integers k e = omega (arith, slice_get_within (columns_on n integers) k In
 pub two_tuples-typed : (n : ℕ) (integers x : Places) → IsTyped (columns_on n integers) (two_tuples n x)
 two_tuples-typed n integers x = rw (two_tuples-is n x)
     (All-cons (FitsTypes n integers) (all_zeros n) (zeros_on n x ∷ [])
-      (λ (k : ℕ) e. rw (value_at-all_zeros n k (low n integers k e)) zero_integer)
-      (All-cons (FitsTypes n integers) (zeros_on n x) []
-        (λ (k : ℕ) e. rw (value_at-zeros_on n x k (low n integers k e)) (digit_integer (x k)))
-        (All-nil (FitsTypes n integers))))
+    (λ (k : ℕ) e. rw (value_at-all_zeros n k (low n integers k e)) zero_integer)
+    (All-cons (FitsTypes n integers) (zeros_on n x) []
+    (λ (k : ℕ) e. rw (value_at-zeros_on n x k (low n integers k e)) (digit_integer (x k)))
+    (All-nil (FitsTypes n integers))))

@@ -4,3 +4,4 @@ pub mod Bases
 pub mod Firsts
 pub mod Breaking
 pub mod Decisions
+pub mod Leads

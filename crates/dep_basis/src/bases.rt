@@ -4,12 +4,11 @@ ghost use Rattle.dep_model.specs.Schemas.{width_of, universe_of, theory_of};
 ghost use Rattle.dep_basis.specs.Traces.{AreTraces};
 ghost use Rattle.dep_basis.specs.Bases.{IsBasis, IsTraceBasis};
 
+use crate::blocks::Blocks;
+use crate::gathering::traces;
 use attr_sets::AttrSet;
 use dep_model::Schema;
 use fd_closure::closure;
-
-use crate::blocks::Blocks;
-use crate::gathering::traces;
 
 /// The dependency basis of a left side: the attributes that it determines, and the blocks, the least
 /// sets of other attributes that it multidetermines (Beeri 1980). A set is multidetermined exactly

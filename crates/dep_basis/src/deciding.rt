@@ -8,11 +8,10 @@ ghost use Rattle.dep_basis.specs.Firsts.{IsFirstWith};
 ghost use Rattle.dep_basis.specs.Breaking.{IsBreakingBlock};
 ghost use Rattle.dep_basis.specs.Decisions.{IsDecided};
 
-use attr_sets::AttrSet;
-use dep_model::{Dep, Schema};
-
 use crate::bases::basis;
 use crate::decision::Decision;
+use attr_sets::AttrSet;
+use dep_model::{Dep, Schema};
 
 /// Decides whether a schema implies a dependency. Where it does not, the two rows agree outside one
 /// block of the left side: for a functional dependency that of the least attribute of the right side

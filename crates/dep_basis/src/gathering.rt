@@ -5,11 +5,10 @@ ghost use Rattle.attr_sets.specs.declared.set.TheConstants.{PLACES};
 ghost use Rattle.dep_model.specs.Deps.{dependencies_of, IsDepWithin};
 ghost use Rattle.dep_basis.specs.Traces.{AreTraces};
 
-use attr_sets::AttrSet;
-use dep_model::Dep;
-
 use crate::blocks::{Blocks, MOST_BLOCKS};
 use crate::refining::block_of;
+use attr_sets::AttrSet;
+use dep_model::Dep;
 
 // The closed set of a left side and its blocks, as a scheme has them. The least attribute that is left
 // of the scheme is closed, or it begins the next trace.

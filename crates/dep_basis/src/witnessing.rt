@@ -5,10 +5,9 @@ ghost use Rattle.attr_sets.specs.declared.set.TheConstants.{PLACES};
 ghost use Rattle.dep_model.specs.TwoTuples.{zero_text, one_text, zeros_on, two_tuples};
 ghost use Rattle.dep_model.specs.Schemas.{width_of, universe_of, TypedFor};
 
-use std::alloc::Global;
-
 use attr_sets::AttrSet;
 use dep_model::{Row, Schema, Value, WantMemory};
+use std::alloc::Global;
 
 /// Two rows that agree exactly on a set of attributes: all `0`, and `0` on the set and `1` elsewhere
 /// (Sagiv, Delobel, Parker and Fagin 1981). They fit columns of either type.

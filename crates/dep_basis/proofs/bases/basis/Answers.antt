@@ -11,5 +11,7 @@ pub returns : goal.returns
 returns c =
     let n = width_of c.args.schema.now in
     let whole : places c.full.result ≡ below n = Same-path (places c.full.result) (below n) (λ k. c.full.ensures.members k ∙ ap (λ (m : ℕ). below m k) c.width.ensures.count) in
-    record { basis = basis-from n (deps_of c.args.schema.now) (places c.args.lhs) c.traces_of.result c.args.schema.now.valid.deps_within c.requires.within
-        (subst (λ (scheme : Places). AreTraces n (theory_of c.args.schema.now) scheme (places c.args.lhs) c.traces_of.result) whole c.traces_of.ensures.traces) }
+    record {
+      basis = basis-from n (deps_of c.args.schema.now) (places c.args.lhs) c.traces_of.result c.args.schema.now.valid.deps_within c.requires.within
+          (subst (λ (scheme : Places). AreTraces n (theory_of c.args.schema.now) scheme (places c.args.lhs) c.traces_of.result) whole c.traces_of.ensures.traces);
+    }

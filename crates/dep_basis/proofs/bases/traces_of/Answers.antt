@@ -18,7 +18,7 @@ closed_between c =
     let n = width_of c.args.schema.now in
     let within : All (IsDepWithin (below n)) c.deps-deps.result.now = rw c.deps-deps.ensures.deps c.args.schema.now.valid.deps_within in
     closure_between n (theory_of c.args.schema.now) (places c.args.lhs) (places c.closure.result) c.requires.lhs
-      (rw c.deps-deps.ensures.deps at (c.closure.ensures.closure n within c.requires.lhs))
+    (rw c.deps-deps.ensures.deps at (c.closure.ensures.closure n within c.requires.lhs))
 
 pub traces-requires-clause-deps : goal.traces-requires-clause-deps
 traces-requires-clause-deps c = rw (c.deps-deps.ensures.deps, c.width.ensures.count) c.args.schema.now.valid.deps_within
@@ -29,5 +29,7 @@ traces-requires-clause-lhs c = rw c.width.ensures.count (closed_between c).1
 pub returns : goal.returns
 returns c =
     let between = closed_between ((goal.at.returns c).After-closure) in
-    record { traces = traces_wider (width_of c.args.schema.now) (theory_of c.args.schema.now) (places c.args.lhs) (places c.closure.result) between.0 between.2 (places c.args.scheme) c.traces.result
-        (rw (c.deps-deps.ensures.deps, c.width.ensures.count) at c.traces.ensures.traces) }
+    record {
+      traces = traces_wider (width_of c.args.schema.now) (theory_of c.args.schema.now) (places c.args.lhs) (places c.closure.result) between.0 between.2 (places c.args.scheme) c.traces.result
+          (rw (c.deps-deps.ensures.deps, c.width.ensures.count) at c.traces.ensures.traces);
+    }

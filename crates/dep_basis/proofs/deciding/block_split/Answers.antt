@@ -23,9 +23,10 @@ returns-clause-none c =
     let y = places c.args.rhs in
     let decides = c.basis-found.ensures.basis.multivalued y c.requires.rhs in
     let blocks = blocks_of c.basis-found.result in
-    let rest = rest_is ((goal.at.returns-clause-none c).After-minus) in
-    ((λ none. decides.1 (subst (λ (x : Places). All (λ (p : AttrSet). Meets (places p) y × Meets (places p) x → ⊥) blocks) rest (c.first_meeting.ensures.none.0 none))),
-     (λ implied. c.first_meeting.ensures.none.1 (rw rest (decides.0 implied))))
+    let rest = rest_is ((goal.at.returns-clause-none c).After-minus) in (
+      (λ none. decides.1 (subst (λ (x : Places). All (λ (p : AttrSet). Meets (places p) y × Meets (places p) x → ⊥) blocks) rest (c.first_meeting.ensures.none.0 none))),
+      (λ implied. c.first_meeting.ensures.none.1 (rw rest (decides.0 implied))),
+    )
 
 pub returns-clause-block : goal.returns-clause-block
 returns-clause-block c =
@@ -33,5 +34,5 @@ returns-clause-block c =
     let y = places c.args.rhs in
     let rest = rest_is ((goal.at.returns-clause-block c).After-minus) in
     IfSome_then c.first_meeting.result c.first_meeting.ensures.first (λ (p : AttrSet) first.
-      split_block n (theory_of c.args.schema.now) (places c.args.lhs) y c.basis-found.result c.basis-found.ensures.basis c.requires.rhs p
-        (subst (λ (x : Places). IsFirstWith (λ (q : AttrSet). Meets (places q) y × Meets (places q) x) (blocks_of c.basis-found.result) p) rest first))
+    split_block n (theory_of c.args.schema.now) (places c.args.lhs) y c.basis-found.result c.basis-found.ensures.basis c.requires.rhs p
+    (subst (λ (x : Places). IsFirstWith (λ (q : AttrSet). Meets (places q) y × Meets (places q) x) (blocks_of c.basis-found.result) p) rest first))

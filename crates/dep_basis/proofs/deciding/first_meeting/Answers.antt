@@ -17,17 +17,19 @@ none_more : (blocks : List AttrSet) (one other zero : AttrSet) (i : ℕ) → i <
     → (MeetsBoth one other (get_or blocks i zero) → ⊥)
     → (j : ℕ) (d : AttrSet) → j < i + 1 → MeetsBoth one other (get_or blocks j d) → ⊥
 none_more blocks one other zero i short before next j d lt both = elim (cases_eq j i) [
-    inl same ↦
+  | inl same ↦
       let at_i : get_or blocks j d ≡ get_or blocks i zero = ap (λ (k : ℕ). get_or blocks k d) same ∙ get_or_default blocks i d zero short in
       next (subst (MeetsBoth one other) at_i both)
-    | inr differ ↦ before j d (omega arith) both ]
+  | inr differ ↦ before j d (omega arith) both
+]
 
 pub loop-block-preserved : goal.loop-block-preserved
 loop-block-preserved c =
     none_more c.args.blocks.now c.args.one c.args.other (record { 0 = 0 }) c.loop-block.block-index c.loop-block-test.true c.loop-block.invariant
-      (λ both. elim c.else-meets.branch [
-          else-meets-via-then-meets+else-meets-2 w ↦ false≢true (sym w.if-meets-2.false ∙ w.meets-then-meets.ensures.meets.1 both.1)
-          | else-meets-via-else-meets w ↦ false≢true (sym w.if-meets.false ∙ c.meets.ensures.meets.1 both.0) ])
+    (λ both. elim c.else-meets.branch [
+      | else-meets-via-then-meets+else-meets-2 w ↦ false≢true (sym w.if-meets-2.false ∙ w.meets-then-meets.ensures.meets.1 both.1)
+      | else-meets-via-else-meets w ↦ false≢true (sym w.if-meets.false ∙ c.meets.ensures.meets.1 both.0)
+    ])
 
 pub returns-then-meets-2 : goal.returns-then-meets-2
 returns-then-meets-2 c =

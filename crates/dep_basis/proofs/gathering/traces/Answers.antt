@@ -25,7 +25,7 @@ loop-first-init c = record {
 pub loop-first-smaller-then-eq : goal.loop-first-smaller-then-eq
 loop-first-smaller-then-eq c =
     count_below-lt PLACES (places c.without-left.result) (places c.loop-first.left) c.in-Some.first (λ k m. grind (arith, c.without-left.ensures.members k, m))
-      c.in-Some.ensures.place (grind (arith, nat_tests, c.without-left.ensures.members c.in-Some.first)) c.in-Some.ensures.least.member
+    c.in-Some.ensures.place (grind (arith, nat_tests, c.without-left.ensures.members c.in-Some.first)) c.in-Some.ensures.least.member
 
 pub loop-first-preserved-then-eq : goal.loop-first-preserved-then-eq
 loop-first-preserved-then-eq c =
@@ -71,7 +71,7 @@ loop-first-preserved c =
     record {
       found = rw (take_more_set blocks count c.meet.result short)
           (found_block n ds (places c.args.scheme) (places c.args.lhs) (places c.loop-first.left) (places c.loop-first.closed) (take count blocks) found
-            (places block.result) (places c.minus-left.result) c.meet.result c.in-Some.first c.in-Some.ensures.least (block.ensures.block some) (block.ensures.member some) c.meet.ensures.members c.minus-left.ensures.members);
+          (places block.result) (places c.minus-left.result) c.meet.result c.in-Some.first c.in-Some.ensures.least (block.ensures.block some) (block.ensures.member some) c.meet.ensures.members c.minus-left.ensures.members);
       room = omega (arith, before.room, fewer);
       size = length-set blocks count c.meet.result ∙ before.size;
       rest = rw (drop-set-lt (count + 1) blocks count c.meet.result (omega arith), ← drop-drop 1 count blocks)
@@ -79,6 +79,8 @@ loop-first-preserved c =
     }
 
 pub returns : goal.returns
-returns c = record { traces =
-    found_all c.args.width (dependencies_of c.args.deps.now) (places c.args.scheme) (places c.args.lhs) (places c.loop-first.left) (record { closed = c.loop-first.closed; blocks = c.loop-first.blocks; count = c.loop-first.count })
-      c.loop-first.invariant.found (c.in_default.ensures.none.0 refl) (omega (arith, c.loop-first.invariant.room)) c.loop-first.invariant.rest }
+returns c = record {
+  traces =
+      found_all c.args.width (dependencies_of c.args.deps.now) (places c.args.scheme) (places c.args.lhs) (places c.loop-first.left) (record { closed = c.loop-first.closed; blocks = c.loop-first.blocks; count = c.loop-first.count })
+      c.loop-first.invariant.found (c.in_default.ensures.none.0 refl) (omega (arith, c.loop-first.invariant.room)) c.loop-first.invariant.rest;
+}

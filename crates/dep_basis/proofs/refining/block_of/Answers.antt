@@ -50,14 +50,14 @@ returns-then-eq c =
     let legal = whole_legal n c.args.deps.now part c.requires.deps (c.cut_by_all-rest.ensures.whole back) in
     let block : part a ≡ true → IsBlock n ds x part = λ member. candidate_block n ds x part a c.requires.lhs legal candidate member in
     elim (cases_Bool (part a)) [
-        inl member ↦ record {
-          closed = ((λ none. absurd (true≢false (sym member ∙ none a))), (λ implied. absurd ((block member).outside a member (c.requires.attribute, implied))));
-          block = λ _. block member;
-          member = λ _. member;
-        }
-        | inr out ↦ record {
-          closed = ((λ _. candidate.closed out), (λ _. candidate.nothing out));
-          block = λ some. absurd (some (candidate.nothing out));
-          member = λ some. absurd (some (candidate.nothing out));
-        }
+      | inl member ↦ record {
+        closed = ((λ none. absurd (true≢false (sym member ∙ none a))), (λ implied. absurd ((block member).outside a member (c.requires.attribute, implied))));
+        block = λ _. block member;
+        member = λ _. member;
+      }
+      | inr out ↦ record {
+        closed = ((λ _. candidate.closed out), (λ _. candidate.nothing out));
+        block = λ some. absurd (some (candidate.nothing out));
+        member = λ some. absurd (some (candidate.nothing out));
+      }
     ]

@@ -43,5 +43,5 @@ returns c =
       candidate = c.loop-dep.invariant.candidate;
       whole = λ same. dependencies_all-from (LeavesWhole part part) deps
           (all_LeavesWhole-kept part part (places c.loop-dep.rest) part deps (λ k m. m) same
-            (rw (take_all c.loop-dep.dep-index deps c.loop-dep-test.false) at c.loop-dep.invariant.whole));
+          (rw (take_all c.loop-dep.dep-index deps c.loop-dep-test.false) at c.loop-dep.invariant.whole));
     }

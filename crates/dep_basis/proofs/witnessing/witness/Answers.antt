@@ -16,12 +16,12 @@ returns c =
     let first_is : first ≡ zeros_on c.width-width.result (places c.full.result) = c.in_ok-first.ensures.row in
     let second_is : second ≡ zeros_on c.width-width.result (places c.args.agreement) = c.in_ok-second.ensures.row in
     let whole : first ≡ all_zeros n =
-      first_is
-      ∙ zeros_on-all c.width-width.result (places c.full.result) (λ (k : ℕ) l. c.full.ensures.members k ∙ lt-ltb k c.width-width.result l)
-      ∙ ap all_zeros c.width-width.ensures.count in
+    first_is
+    ∙ zeros_on-all c.width-width.result (places c.full.result) (λ (k : ℕ) l. c.full.ensures.members k ∙ lt-ltb k c.width-width.result l)
+    ∙ ap all_zeros c.width-width.ensures.count in
     let rest : second ≡ zeros_on n (places c.args.agreement) = second_is ∙ ap (λ (m : ℕ). zeros_on m (places c.args.agreement)) c.width-width.ensures.count in
     let rows : ◌≡◌ {A = Relation} (first ∷ second ∷ []) (two_tuples n (places c.args.agreement)) =
-      ap (λ (t : Tuple). t ∷ second ∷ []) whole ∙ ap (λ (t : Tuple). all_zeros n ∷ t ∷ []) rest ∙ sym (two_tuples-is n (places c.args.agreement)) in
+    ap (λ (t : Tuple). t ∷ second ∷ []) whole ∙ ap (λ (t : Tuple). all_zeros n ∷ t ∷ []) rest ∙ sym (two_tuples-is n (places c.args.agreement)) in
     record {
       rows = rows;
       typed = subst (λ (r : Relation). TypedFor c.args.schema.now r) (sym rows) (two_tuples-typed n (places c.args.schema.now.integers) (places c.args.agreement));
