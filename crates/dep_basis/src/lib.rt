@@ -8,6 +8,7 @@
 
 mod bases;
 mod blocks;
+mod chains;
 mod deciding;
 mod decision;
 mod gathering;
@@ -19,6 +20,7 @@ mod witnessing;
 
 pub use bases::{basis, trace_basis};
 pub use blocks::{Blocks, MOST_BLOCKS};
+pub use chains::functional_chain;
 pub use deciding::decide;
 pub use decision::Decision;
 pub use witnessing::witness;

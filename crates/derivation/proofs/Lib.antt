@@ -5,3 +5,4 @@ pub mod SoundnessLemmas
 pub mod WithinLemmas
 pub mod ProvesLemmas
 pub mod BuilderLemmas
+pub mod ChainLemmas

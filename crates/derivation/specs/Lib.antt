@@ -3,3 +3,4 @@ pub mod Table
 pub mod Conclusions
 pub mod Derivs
 pub mod Builders
+pub mod Chains

@@ -7,6 +7,7 @@
 #![tactic(auto)]
 
 mod builders;
+pub mod chain_laws;
 mod concluding;
 mod copies;
 mod deriv;

@@ -1,0 +1,8 @@
+use Rattle.derivation.proofs.ChainLemmas.{chain_small}
+use Rattle.derivation.proofs.chain_laws.chain_is_small.Goals as goal
+
+pub returns : goal.returns
+returns c = record {
+  nodes = λ s x y t chain. (chain_small s x y t chain).0;
+  levels = λ s x y t chain. (chain_small s x y t chain).1;
+}
