@@ -4,8 +4,10 @@
 //! first line that goes wrong; what it gives concludes a dependency by the rules alone.
 #![tactic(auto)]
 
+mod book;
 mod cursor;
 mod line;
+mod node;
 mod refusal;
 mod words;
 
