@@ -5,3 +5,4 @@ pub mod Lines
 pub mod Complaints
 pub mod Nodes
 pub mod Books
+pub mod Texts

@@ -1,10 +1,10 @@
-ghost use Rattle.std.specs.Prelude.{◌≡◌, ℕ, ◌+◌, ◌-◌, ◌==◌, ◌<◌, ◌≤◌, ◌^◌, [], length, IfOk, IfErr, OnOk, Ok, Err, option_map, is_some, position, max};
+ghost use Rattle.std.specs.Prelude.{◌≡◌, ℕ, ◌+◌, ◌-◌, ◌==◌, ◌<◌, ◌≤◌, ◌^◌, [], length, IfOk, IfErr, OnOk, Ok, Err, option_map, is_some, position, take, max};
 ghost use Rattle.attr_sets.specs.Sets.{places};
 ghost use Rattle.dep_model.specs.Dependencies.{left_of, right_of};
 ghost use Rattle.dep_model.specs.Deps.{dependency_of};
 ghost use Rattle.derivation.specs.Derivs.{step_of, pair_of};
 ghost use Rattle.derivation.specs.Derivs.{tree_of};
-ghost use Rattle.proof_text.specs.Books.{opened_all, settled};
+ghost use Rattle.proof_text.specs.Books.{opened_of, opened_all, root, settled};
 ghost use Rattle.proof_text.specs.Complaints.{Refuses, RefusesAt};
 ghost use Rattle.proof_text.specs.Lines.{line_of, body_of};
 ghost use Rattle.proof_text.specs.Nodes.{seen};
@@ -36,7 +36,7 @@ pub struct Node {
 }
 
 impl Book {
-    ghost use Rattle.proof_text.specs.Books.{opened_of, prepared_of, ledger_of, is_earlier, open_at, closed, prepared, step_of_line, pair_of_line, entered, add_line, finished};
+    ghost use Rattle.proof_text.specs.Books.{prepared_of, ledger_of, is_earlier, open_at, closed, prepared, step_of_line, pair_of_line, entered, add_line, finished};
 
     pub fn new(alloc: Global) -> Book
         ensures empty { ledger_of result ≡ record { lines = []; unused = [] } }
@@ -191,25 +191,44 @@ impl Book {
         ensures err { IfErr result (λ e. RefusesAt e (finished last (ledger_of self))) }
     {
         let Book { lines, mut unused } = self;
-        let root = unused.pop();
-        if let Some(i) = first_unused(&unused) {
-            let line = lines.get(i).copied().unwrap_or(0);
-            let kind = ProofRefusalKind::NeverUsed;
-            return Err(ProofRefusal { line, kind });
-        }
-        match root {
-            Some(Some(last)) => Ok(last.deriv),
-            _ => {
-                let kind = ProofRefusalKind::EmptyProof;
-                Err(ProofRefusal { line: last, kind })
+        let root = take_last(&mut unused);
+        match first_unused(&unused) {
+            Some(i) => {
+                let line = lines.get(i).copied().unwrap_or(0);
+                let kind = ProofRefusalKind::NeverUsed;
+                Err(ProofRefusal { line, kind })
             }
+            None => match root {
+                Some(open) => Ok(open.deriv),
+                None => {
+                    let kind = ProofRefusalKind::EmptyProof;
+                    Err(ProofRefusal { line: last, kind })
+                }
+            },
         }
+    }
+}
+
+/// Takes the last line.
+fn take_last(unused: &mut Vec<Option<Open>>) -> Option<Open>
+    ensures root { option_map opened_of result ≡ root (opened_all unused.old.items) }
+    ensures rest { opened_all unused.new.items ≡ take (length (opened_all unused.old.items) - 1) (opened_all unused.old.items) }
+{
+    match unused.pop() {
+        Some(last) => last,
+        None => None,
     }
 }
 
 /// The first line that no line used.
 fn first_unused(unused: &[Option<Open>]) -> Option<usize>
     ensures first { result ≡ position is_some (opened_all unused.now) }
+{
+    first_open(unused)
+}
+
+fn first_open(unused: &[Option<Open>]) -> Option<usize>
+    ensures first { result ≡ position (λ line. is_some line) unused.now }
 {
     unused.iter().position(|line| line.is_some())
 }

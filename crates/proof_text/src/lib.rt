@@ -9,6 +9,10 @@ mod cursor;
 mod line;
 mod node;
 mod refusal;
+mod text;
 mod words;
 
+pub use book::MOST_LINES;
+pub use node::MOST_LEVELS;
 pub use refusal::{ProofRefusal, ProofRefusalKind};
+pub use text::{MOST_PROOF_BYTES, read_proof};
