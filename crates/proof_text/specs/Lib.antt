@@ -6,3 +6,4 @@ pub mod Complaints
 pub mod Nodes
 pub mod Books
 pub mod Texts
+pub mod Checked

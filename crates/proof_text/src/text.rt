@@ -2,6 +2,7 @@ ghost use Rattle.std.specs.Prelude.{◌≡◌, ◌+◌, ◌<◌, ◌≤◌, ◌^
 ghost use Rattle.lexer.specs.Tokens.{lexed, lex};
 ghost use Rattle.derivation.specs.Derivs.{tree_of};
 ghost use Rattle.proof_text.specs.Books.{ledger_of};
+ghost use Rattle.proof_text.specs.Checked.{IsChecked};
 ghost use Rattle.proof_text.specs.Complaints.{Refuses, RefusesAt};
 ghost use Rattle.proof_text.specs.Texts.{is_yes, is_blank, line_kind, read_one, read_proof};
 
@@ -34,6 +35,8 @@ pub enum LineKind {
 pub fn read_proof(alloc: Global, schema: &Schema, text: &[u8]) -> Result<Box<Deriv>, ProofRefusal>
     requires { length text.now ≤ MOST_PROOF_BYTES }
     ensures ok { IfOk result (λ deriv. read_proof schema.now text.now ≡ Ok (tree_of deriv.value)) }
+    // It proves a dependency, within the limits of a certificate.
+    ensures checked { IfOk result (λ deriv. IsChecked schema.now (tree_of deriv.value)) }
     ensures err { IfErr result (λ refusal. RefusesAt refusal (read_proof schema.now text.now)) }
 {
     let mut book = Book::new(alloc);
