@@ -1,0 +1,4 @@
+pub mod WordLemmas
+pub mod BookLemmas
+pub mod TextLemmas
+pub mod CheckedLemmas

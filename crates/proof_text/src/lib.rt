@@ -1,0 +1,18 @@
+//! Certificates: derivations as numbered lines of text, which anybody can write and check.
+//!
+//! `read_proof` takes a text from any hand. It gives the derivation that the lines spell, or refuses the
+//! first line that goes wrong; what it gives concludes a dependency by the rules alone.
+#![tactic(auto)]
+
+mod book;
+mod cursor;
+mod line;
+mod node;
+mod refusal;
+mod text;
+mod words;
+
+pub use book::MOST_LINES;
+pub use node::MOST_LEVELS;
+pub use refusal::{ProofRefusal, ProofRefusalKind};
+pub use text::{MOST_PROOF_BYTES, read_proof};
