@@ -1,0 +1,30 @@
+use Rattle.std.proofs.Common.{◌≡◌, ◌+◌, ◌∙◌, sym, ap, Result, Ok, arith}
+use Rattle.attr_sets.specs.Places.{Places}
+use Rattle.dep_model.specs.Schemas.{names_of}
+use Rattle.lexer.specs.declared.token.Mode.TheVariants as mode
+use Rattle.lexer.specs.Tokens.{lexed}
+use Rattle.proof_text.specs.Readers.{words, rest_from}
+use Rattle.proof_text.proofs.WordLemmas.{words_end, words_stop, words_other, words_refused, words_more}
+use Rattle.proof_text.proofs.cursor.Cursor.words.Goals as goal
+
+pub returns-in-End-clause-ok : goal.returns-in-End-clause-ok
+returns-in-End-clause-ok c = c.words.invariant.same ∙ words_end _ _ _ _ _ c.in-End.ensures.exact
+
+pub returns-in-Stop-clause-ok : goal.returns-in-Stop-clause-ok
+returns-in-Stop-clause-ok c = c.words.invariant.same ∙ words_stop _ _ _ _ _ _ c.in-Stop.ensures.exact
+
+pub returns-then-not-is_word-clause-ok : goal.returns-then-not-is_word-clause-ok
+returns-then-not-is_word-clause-ok c =
+    c.words.invariant.same ∙ words_other _ _ _ _ _ _ _ _ c.in-Token.ensures.exact (sym c.if-not-is_word.ensures.exact)
+
+pub returns-in-Err-clause-err : goal.returns-in-Err-clause-err
+returns-in-Err-clause-err c =
+    c.words.invariant.same ∙ words_refused _ _ _ _ _ _ _ _ _ c.in-Token.ensures.exact (sym c.is_word.ensures.exact ∙ c.if-not-is_word.false) c.in-Err.ensures.err
+
+pub words-preserved : goal.words-preserved
+words-preserved c = record {
+  same = c.words.invariant.same
+    ∙ words_more _ _ _ _ _ _ _ _ _ c.in-Token.ensures.exact (sym c.is_word.ensures.exact ∙ c.if-not-is_word.false) c.in-Ok.ensures.ok
+    ∙ ap (λ (x : Places). words (names_of c.args.schema.now) x (rest_from c.args.self.line (c.in-Token.token.column + c.in-Token.token.length) (lexed mode.Numbered 0 (c.in-Token.token.column + c.in-Token.token.length) c.in-Token.behind.now))) (sym c.added-set.ensures.members);
+  room = omega (arith, c.words.invariant.room, c.in-Token.ensures.advances.fits);
+}

@@ -1,0 +1,4 @@
+pub mod Marks
+pub mod Tokens
+pub mod Readers
+pub mod Lines

@@ -1,0 +1,110 @@
+use Rattle.std.specs.Prelude.{ℕ, ◌+◌, Bool, if◌then◌else◌, List, [], ◌∷◌, length, Option, Some, None, Result, Ok, Err, ok_or}
+use Rattle.attr_sets.specs.Places.{Places, only, none, union}
+use Rattle.lexer.specs.declared.token.Mode.TheVariants as mode
+use Rattle.lexer.specs.declared.token.Stop.{Stop}
+use Rattle.lexer.specs.declared.token.Token.{Token}
+use Rattle.lexer.specs.declared.token.TokenKind.{TokenKind}
+use Rattle.lexer.specs.declared.token.TokenKind.TheVariants as token
+use Rattle.lexer.specs.Tokens.{Mark, Lexed, lexed}
+use Rattle.schema_reader.specs.declared.refusal.SchemaRefusal.{SchemaRefusal}
+use Rattle.schema_reader.specs.declared.refusal.SchemaRefusalKind.TheVariants as kind
+use Rattle.schema_reader.specs.declared.refusal.What.{What}
+use Rattle.schema_reader.specs.declared.refusal.What.TheVariants as what
+use Rattle.schema_reader.specs.declared.words.Format.TheVariants as format
+use Rattle.schema_reader.specs.Refusals.{refusal, refused_by, at}
+use Rattle.schema_reader.specs.Texts.{number_in}
+use Rattle.schema_reader.specs.Words.{looked_up}
+use Rattle.proof_text.specs.declared.words.Arrow.{Arrow}
+use Rattle.proof_text.specs.declared.words.RuleName.{RuleName}
+use Rattle.proof_text.specs.declared.cursor.Cursor.{Cursor}
+use Rattle.proof_text.specs.Marks.{place}
+use Rattle.proof_text.specs.Tokens.{is_word, is_colon, arrow_in, is_with, rule_named}
+
+-- what is left of a line behind a column: its tokens, and where they stop
+pub record Rest : Type 0 where
+  pub line : ℕ
+  pub behind : ℕ
+  pub marks : List Mark
+  pub stop : Option Stop
+
+abbrev pub rest_from : ℕ → ℕ → Lexed → Rest
+rest_from line behind l = record { line = line; behind = behind; marks = l.marks; stop = l.stop }
+
+abbrev pub rest_of : Cursor → Rest
+rest_of c = rest_from c.line c.column (lexed mode.Numbered 0 c.column c.text.now)
+
+infixl 10 ◌>>=◌
+abbrev pub ◌>>=◌ : {A B E : Type 0} → Result A E → (A → Result B E) → Result B E
+(Ok x) >>= f = f x
+(Err e) >>= f = Err e
+
+-- the next token, and the rest behind it
+abbrev pub taken : What → ℕ → ℕ → List Mark → Option Stop → Result (Mark × Rest) SchemaRefusal
+taken want line behind [] None = Err (refusal line behind 0 (kind.Expected want))
+taken want line behind [] (Some stop) = Err (refused_by line stop)
+taken want line behind (m ∷ ms) stop = Ok (m, record { line = line; behind = m.column + length m.word; marks = ms; stop = stop })
+
+unfoldable pub take : What → Rest → Result (Mark × Rest) SchemaRefusal
+take want r = taken want r.line r.behind r.marks r.stop
+
+-- the refusal of a token where something else is wanted
+abbrev pub expected : What → Mark → Rest → SchemaRefusal
+expected want m r = refusal r.line m.column (length m.word) (kind.Expected want)
+
+unfoldable pub number : Rest → Result (ℕ × Rest) SchemaRefusal
+number r = do
+  t ← take what.Number r
+  n ← ok_or (number_in t.0.kind) (expected what.Number t.0 t.1)
+  Ok (n, t.1)
+
+unfoldable pub colon : Rest → Result Rest SchemaRefusal
+colon r = do
+  t ← take what.Colon r
+  if is_colon t.0.kind then Ok t.1 else Err (expected what.Colon t.0 t.1)
+
+unfoldable pub arrow : Rest → Result (Arrow × Rest) SchemaRefusal
+arrow r = do
+  t ← take what.Arrow r
+  a ← ok_or (arrow_in t.0.kind) (expected what.Arrow t.0 t.1)
+  Ok (a, t.1)
+
+unfoldable pub with_word : Rest → Result Rest SchemaRefusal
+with_word r = do
+  t ← take what.With r
+  if is_with t.0.kind t.0.word then Ok t.1 else Err (expected what.With t.0 t.1)
+
+unfoldable pub rule_name : Rest → Result (RuleName × Rest) SchemaRefusal
+rule_name r = do
+  t ← take what.Rule r
+  n ← ok_or (rule_named t.0.kind t.0.word) (expected what.Rule t.0 t.1)
+  Ok (n, t.1)
+
+-- what stands where the line is to end
+abbrev pub ended_from : ℕ → List Mark → Option Stop → Option SchemaRefusal
+ended_from line [] None = None
+ended_from line [] (Some stop) = Some (refused_by line stop)
+ended_from line (m ∷ ms) stop = Some (refusal line m.column (length m.word) (kind.Expected what.LineEnd))
+
+unfoldable pub ended : Rest → Option SchemaRefusal
+ended r = ended_from r.line r.marks r.stop
+
+-- words that stand here, added to a set
+unfoldable pub words_from : List (List ℕ) → ℕ → Places → ℕ → List Mark → Option Stop → Result (Places × Rest) SchemaRefusal
+words_from names line x behind [] stop = Ok (x, record { line = line; behind = behind; marks = []; stop = stop })
+words_from names line x behind (m ∷ ms) stop =
+    if is_word m.kind
+    then (place names line m >>= λ a. words_from names line (union x (only a)) (m.column + length m.word) ms stop)
+    else Ok (x, record { line = line; behind = behind; marks = m ∷ ms; stop = stop })
+
+abbrev pub words : List (List ℕ) → Places → Rest → Result (Places × Rest) SchemaRefusal
+words names x r = words_from names r.line x r.behind r.marks r.stop
+
+-- a side that begins with this token
+abbrev pub side_from : List (List ℕ) → Mark → Rest → TokenKind → Result (Places × Rest) SchemaRefusal
+side_from names m r token.Word = place names r.line m >>= λ a. words names (only a) r
+side_from names m r token.Empty = Ok (none, r)
+side_from names m r _ = Err (expected what.Side m r)
+
+-- words, or `()`
+unfoldable pub side : List (List ℕ) → Rest → Result (Places × Rest) SchemaRefusal
+side names r = take what.Side r >>= λ t. side_from names t.0 t.1 t.0.kind
