@@ -6,7 +6,9 @@
 
 mod cursor;
 mod line;
+mod printing;
 mod refusal;
 mod words;
 
+pub use printing::print_proof;
 pub use refusal::{ProofRefusal, ProofRefusalKind};

@@ -24,7 +24,7 @@ returns-in-Err-clause-err c =
 pub words-preserved : goal.words-preserved
 words-preserved c = record {
   same = c.words.invariant.same
-    ∙ words_more _ _ _ _ _ _ _ _ _ c.in-Token.ensures.exact (sym c.is_word.ensures.exact ∙ c.if-not-is_word.false) c.in-Ok.ensures.ok
-    ∙ ap (λ (x : Places). words (names_of c.args.schema.now) x (rest_from c.args.self.line (c.in-Token.token.column + c.in-Token.token.length) (lexed mode.Numbered 0 (c.in-Token.token.column + c.in-Token.token.length) c.in-Token.behind.now))) (sym c.added-set.ensures.members);
+      ∙ words_more _ _ _ _ _ _ _ _ _ c.in-Token.ensures.exact (sym c.is_word.ensures.exact ∙ c.if-not-is_word.false) c.in-Ok.ensures.ok
+      ∙ ap (λ (x : Places). words (names_of c.args.schema.now) x (rest_from c.args.self.line (c.in-Token.token.column + c.in-Token.token.length) (lexed mode.Numbered 0 (c.in-Token.token.column + c.in-Token.token.length) c.in-Token.behind.now))) (sym c.added-set.ensures.members);
   room = omega (arith, c.words.invariant.room, c.in-Token.ensures.advances.fits);
 }
