@@ -7,3 +7,4 @@ pub mod Nodes
 pub mod Books
 pub mod Texts
 pub mod Checked
+pub mod Printing

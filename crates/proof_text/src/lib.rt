@@ -8,11 +8,13 @@ mod book;
 mod cursor;
 mod line;
 mod node;
+mod printing;
 mod refusal;
 mod text;
 mod words;
 
 pub use book::MOST_LINES;
 pub use node::MOST_LEVELS;
+pub use printing::print_proof;
 pub use refusal::{ProofRefusal, ProofRefusalKind};
 pub use text::{MOST_PROOF_BYTES, read_proof};

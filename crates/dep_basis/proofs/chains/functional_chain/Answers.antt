@@ -29,10 +29,11 @@ returns-in_default-clause-some c =
     let closed = places c.loop-closed.closed in
     let stage : Stage = record { closed = closed; tree = tree_of c.loop-closed.chain.value } in
     let grows = reached_grows s x y c.loop-closed.invariant.0 stage c.loop-closed.invariant.1 in
-    let settled = c.in_default.ensures.none refl in
-    ((λ none. absurd (false≢true none)),
-     (λ implied. absurd (false≢true (c.loop-closed-test.ensures.within.1
-        (settled_holds (width_of s) (deps_of s) x y closed s.valid.deps_within c.requires.lhs c.requires.rhs settled grows implied)))))
+    let settled = c.in_default.ensures.none refl in (
+      (λ none. absurd (false≢true none)),
+      (λ implied. absurd (false≢true (c.loop-closed-test.ensures.within.1
+          (settled_holds (width_of s) (deps_of s) x y closed s.valid.deps_within c.requires.lhs c.requires.rhs settled grows implied)))),
+    )
 
 pub loop-closed-smaller : goal.loop-closed-smaller
 loop-closed-smaller c =
@@ -53,9 +54,9 @@ loop-closed-preserved c =
     let before : Stage = record { closed = closed; tree = tree } in
     let outside : Within (places c.args.rhs) closed → ⊥ = λ inside. false≢true (c.loop-closed-test.ensures.within.1 inside) in
     let grown : tree_of c.in_ok-chain-2.chain.value ≡ pair transitivity tree (step (augmentation closed) (leaf (given k))) =
-        ap tree_of c.in_ok-chain-2.ensures.ok
-        ∙ ap (λ (d : Deriv). pair transitivity tree (tree_of d)) c.in_ok-lifted.ensures.ok
-        ∙ ap (λ (d : Deriv). pair transitivity tree (step (augmentation closed) (tree_of d))) c.in_ok-given.ensures.ok in
+    ap tree_of c.in_ok-chain-2.ensures.ok
+    ∙ ap (λ (d : Deriv). pair transitivity tree (tree_of d)) c.in_ok-lifted.ensures.ok
+    ∙ ap (λ (d : Deriv). pair transitivity tree (step (augmentation closed) (tree_of d))) c.in_ok-given.ensures.ok in
     let wider : places c.union-closed.result ≡ union closed t = Same-path (places c.union-closed.result) (union closed t) c.union-closed.ensures.members in
     let with_set : Places → Stage = λ x. record { closed = x; tree = tree_of c.in_ok-chain-2.chain.value } in
     let with_tree : Tree → Stage = λ u. record { closed = union closed t; tree = u } in

@@ -1,0 +1,265 @@
+ghost use Rattle.std.specs.Prelude.{◌≡◌, ℕ, ◌+◌, ◌<◌, ◌≤◌, ◌^◌, ◌++◌, Ok, IfOk, OnOk, decimal};
+ghost use Rattle.attr_sets.specs.Places.{Within};
+ghost use Rattle.attr_sets.specs.Sets.{places};
+ghost use Rattle.dep_model.specs.Dependencies.{Dependency};
+ghost use Rattle.dep_model.specs.Deps.{dependency_of, IsDepWithin};
+ghost use Rattle.dep_model.specs.Schemas.{names_of, universe_of};
+ghost use Rattle.derivation.specs.Trees.{nodes, depth};
+ghost use Rattle.derivation.specs.Derivs.{tree_of, leaf_of, step_of, pair_of};
+ghost use Rattle.derivation.specs.Table.{leaf_conclusion, step_conclusion, pair_conclusion};
+ghost use Rattle.derivation.specs.Conclusions.{Proves};
+ghost use Rattle.schema_reader.specs.Printing.{set_text, dependency_text};
+ghost use Rattle.proof_text.specs.Lines.{body_of, line_of};
+ghost use Rattle.proof_text.specs.Printing.{step_word, sides_text, pair_word, body_text, line_text, leaf_body, numbered_line, lines_behind, lines_text, canonical_certificate, IsProof, IsStepWithin, IsBodyWithin};
+
+use crate::line::{Body, Line};
+use attr_sets::AttrSet;
+use dep_model::{Dep, Schema, WantMemory};
+use derivation::{
+    Deriv, LeafRule, Node, PairRule, StepRule, leaf_conclusion, pair_conclusion, step_conclusion,
+};
+use schema_reader::{print_dep, print_set};
+use std::alloc::Global;
+
+/// A derivation as a certificate: a line for each node, in post-order and numbered from 1. Each line
+/// states what its node concludes, and names the rule and the lines of the premises.
+pub fn print_proof(alloc: Global, schema: &Schema, deriv: &Deriv) -> Result<Vec<u8>, WantMemory>
+    requires proof { IsProof schema.now (tree_of deriv.now) }
+    requires few_nodes { nodes (tree_of deriv.now) ≤ 262144 }
+    requires few_levels { depth (tree_of deriv.now) ≤ 2048 }
+    ensures text { IfOk result (λ text. text.items ≡ canonical_certificate schema.now (tree_of deriv.now)) }
+{
+    let mut text = Vec::new(alloc);
+    let mut printed = 0;
+    add_lines(&mut text, alloc, schema, deriv, &mut printed)?;
+    Ok(text)
+}
+
+// Adds the lines of a derivation, whose nodes are numbered behind those that are printed, and gives
+// what it concludes.
+fn add_lines(
+    text: &mut Vec<u8>,
+    alloc: Global,
+    schema: &Schema,
+    deriv: &Deriv,
+    printed: &mut u32,
+) -> Result<Dep, WantMemory>
+    requires proof { IsProof schema.now (tree_of deriv.now) }
+    requires room { printed.old + nodes (tree_of deriv.now) < 2 ^ 32 }
+    ensures added { OnOk result (text.new.items ≡ text.old.items ++ lines_text (names_of schema.now) (lines_behind schema.now printed.old (tree_of deriv.now))) }
+    ensures printed { OnOk result (printed.new ≡ printed.old + nodes (tree_of deriv.now)) }
+    ensures proves { IfOk result (λ d. Proves schema.now (tree_of deriv.now) (dependency_of d)) }
+{
+    match deriv.root() {
+        Node::Leaf(rule) => {
+            let stated = stated_by_leaf(schema, rule);
+            add_node(text, alloc, schema, stated, body_of_leaf(rule), printed)
+        }
+        Node::Step(rule, premise) => {
+            let from = add_lines(text, alloc, schema, premise, printed)?;
+            let p = *printed;
+            let stated = stated_by_step(schema, rule, from);
+            add_node(text, alloc, schema, stated, Body::Step(rule, p), printed)
+        }
+        Node::Pair(rule, first, second) => {
+            let left = add_lines(text, alloc, schema, first, printed)?;
+            let p = *printed;
+            let right = add_lines(text, alloc, schema, second, printed)?;
+            let q = *printed;
+            let stated = stated_by_pair(rule, left, right);
+            add_node(text, alloc, schema, stated, Body::Pair(rule, p, q), printed)
+        }
+    }
+}
+
+// Adds the line of a node behind those that are printed, and gives what it states.
+fn add_node(
+    text: &mut Vec<u8>,
+    alloc: Global,
+    schema: &Schema,
+    stated: Dep,
+    body: Body,
+    printed: &mut u32,
+) -> Result<Dep, WantMemory>
+    requires stated { IsDepWithin (universe_of schema.now) stated }
+    requires body { IsBodyWithin (universe_of schema.now) (body_of body) }
+    requires room { printed.old + 1 < 2 ^ 32 }
+    ensures added { OnOk result (text.new.items ≡ text.old.items ++ line_text (names_of schema.now) (numbered_line (printed.old + 1) (dependency_of stated) (body_of body))) }
+    ensures printed { OnOk result (printed.new ≡ printed.old + 1) }
+    ensures stated { IfOk result (λ d. d ≡ stated) }
+{
+    *printed += 1;
+    let line = Line {
+        number: *printed,
+        stated,
+        body,
+    };
+    add_line(text, alloc, schema, &line)?;
+    Ok(stated)
+}
+
+// What a node without premises states.
+fn stated_by_leaf(schema: &Schema, rule: LeafRule) -> Dep
+    requires some { (d : Dependency) × (leaf_conclusion schema.now (leaf_of rule) ≡ Ok d) }
+    ensures stated { leaf_conclusion schema.now (leaf_of rule) ≡ Ok (dependency_of result) }
+{
+    match leaf_conclusion(schema, rule) {
+        Ok(stated) => stated,
+        Err(_) => unreachable!(),
+    }
+}
+
+// What a node with one premise states.
+fn stated_by_step(schema: &Schema, rule: StepRule, from: Dep) -> Dep
+    requires some { (d : Dependency) × (step_conclusion schema.now (step_of rule) (dependency_of from) ≡ Ok d) }
+    ensures stated { step_conclusion schema.now (step_of rule) (dependency_of from) ≡ Ok (dependency_of result) }
+{
+    match step_conclusion(schema, rule, from) {
+        Ok(stated) => stated,
+        Err(_) => unreachable!(),
+    }
+}
+
+// What a node with two premises states.
+fn stated_by_pair(rule: PairRule, first: Dep, second: Dep) -> Dep
+    requires some { (d : Dependency) × (pair_conclusion (pair_of rule) (dependency_of first) (dependency_of second) ≡ Ok d) }
+    ensures stated { pair_conclusion (pair_of rule) (dependency_of first) (dependency_of second) ≡ Ok (dependency_of result) }
+{
+    match pair_conclusion(rule, first, second) {
+        Ok(stated) => stated,
+        Err(_) => unreachable!(),
+    }
+}
+
+fn body_of_leaf(rule: LeafRule) -> Body
+    ensures body { body_of result ≡ leaf_body (leaf_of rule) }
+{
+    match rule {
+        LeafRule::Given(k) => Body::Given(k as u32 + 1),
+        LeafRule::Reflexivity { .. } => Body::Reflexivity,
+        LeafRule::MReflexivity { .. } => Body::MReflexivity,
+    }
+}
+
+#[tactic(auto, unfolding(crate::specs::Printing::line_text))]
+fn add_line(
+    text: &mut Vec<u8>,
+    alloc: Global,
+    schema: &Schema,
+    line: &Line,
+) -> Result<(), WantMemory>
+    requires stated { IsDepWithin (universe_of schema.now) line.now.stated }
+    requires body { IsBodyWithin (universe_of schema.now) (body_of line.now.body) }
+    ensures added { OnOk result (text.new.items ≡ text.old.items ++ line_text (names_of schema.now) (line_of line.now)) }
+{
+    add_number(text, alloc, line.number)?;
+    add(text, b": ")?;
+    add(text, &print_dep(alloc, schema, line.stated)?)?;
+    add(text, b" : ")?;
+    add_body(text, alloc, schema, line.body)?;
+    add(text, b"\n")
+}
+
+#[tactic(auto, unfolding(crate::specs::Printing::body_text))]
+fn add_body(
+    text: &mut Vec<u8>,
+    alloc: Global,
+    schema: &Schema,
+    body: Body,
+) -> Result<(), WantMemory>
+    requires body { IsBodyWithin (universe_of schema.now) (body_of body) }
+    ensures added { OnOk result (text.new.items ≡ text.old.items ++ body_text (names_of schema.now) (body_of body)) }
+{
+    match body {
+        Body::Given(k) => {
+            add(text, b"given ")?;
+            add_number(text, alloc, k)
+        }
+        Body::Reflexivity => add(text, b"reflexivity"),
+        Body::MReflexivity => add(text, b"mreflexivity"),
+        Body::Step(rule, p) => {
+            add_step_word(text, rule)?;
+            add_number(text, alloc, p)?;
+            add_sides(text, alloc, schema, rule)
+        }
+        Body::Pair(rule, p, q) => {
+            add_pair_word(text, rule)?;
+            add_number(text, alloc, p)?;
+            add(text, b" ")?;
+            add_number(text, alloc, q)
+        }
+    }
+}
+
+#[tactic(auto, unfolding(crate::specs::Printing::step_word))]
+fn add_step_word(text: &mut Vec<u8>, rule: StepRule) -> Result<(), WantMemory>
+    ensures added { OnOk result (text.new.items ≡ text.old.items ++ step_word (step_of rule)) }
+{
+    match rule {
+        StepRule::Augmentation { .. } => add(text, b"augmentation "),
+        StepRule::Complementation => add(text, b"complementation "),
+        StepRule::MAugmentation { .. } => add(text, b"maugmentation "),
+        StepRule::Replication => add(text, b"replication "),
+    }
+}
+
+fn add_sides(
+    text: &mut Vec<u8>,
+    alloc: Global,
+    schema: &Schema,
+    rule: StepRule,
+) -> Result<(), WantMemory>
+    requires rule { IsStepWithin (universe_of schema.now) (step_of rule) }
+    ensures added { OnOk result (text.new.items ≡ text.old.items ++ sides_text (names_of schema.now) (step_of rule)) }
+{
+    match rule {
+        StepRule::Augmentation { by } => {
+            add(text, b" with ")?;
+            add_set(text, alloc, schema, by)
+        }
+        StepRule::MAugmentation { wide, narrow } => {
+            add(text, b" with ")?;
+            add_set(text, alloc, schema, wide)?;
+            add(text, b" : ")?;
+            add_set(text, alloc, schema, narrow)
+        }
+        StepRule::Complementation | StepRule::Replication => Ok(()),
+    }
+}
+
+#[tactic(auto, unfolding(crate::specs::Printing::pair_word))]
+fn add_pair_word(text: &mut Vec<u8>, rule: PairRule) -> Result<(), WantMemory>
+    ensures added { OnOk result (text.new.items ≡ text.old.items ++ pair_word (pair_of rule)) }
+{
+    match rule {
+        PairRule::Transitivity => add(text, b"transitivity "),
+        PairRule::MTransitivity => add(text, b"mtransitivity "),
+        PairRule::Coalescence => add(text, b"coalescence "),
+    }
+}
+
+fn add_set(
+    text: &mut Vec<u8>,
+    alloc: Global,
+    schema: &Schema,
+    set: AttrSet,
+) -> Result<(), WantMemory>
+    requires set { Within (places set) (universe_of schema.now) }
+    ensures added { OnOk result (text.new.items ≡ text.old.items ++ set_text (names_of schema.now) (places set)) }
+{
+    add(text, &print_set(alloc, schema, set)?)
+}
+
+fn add_number(text: &mut Vec<u8>, alloc: Global, number: u32) -> Result<(), WantMemory>
+    ensures added { OnOk result (text.new.items ≡ text.old.items ++ decimal number) }
+{
+    let digits = format!(in alloc; "{number}")?;
+    add(text, digits.as_bytes())
+}
+
+fn add(text: &mut Vec<u8>, bytes: &[u8]) -> Result<(), WantMemory>
+    ensures added { OnOk result (text.new.items ≡ text.old.items ++ bytes.now) }
+{
+    text.extend_from_slice(bytes)?;
+    Ok(())
+}
