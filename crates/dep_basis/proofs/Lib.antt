@@ -4,3 +4,4 @@ pub mod GatheringLemmas
 pub mod BasisLemmas
 pub mod DecidingLemmas
 pub mod WitnessLemmas
+pub mod ShowingLemmas

@@ -8,12 +8,14 @@
 
 mod bases;
 mod blocks;
+mod cutting;
 mod deciding;
 mod decision;
 mod gathering;
 mod makers;
 mod meeting;
 mod refining;
+mod showing;
 mod shown;
 mod witnessing;
 
