@@ -5,3 +5,4 @@ pub mod BasisLemmas
 pub mod DecidingLemmas
 pub mod WitnessLemmas
 pub mod ShowingLemmas
+pub mod JoiningLemmas

@@ -5,3 +5,4 @@ pub mod Firsts
 pub mod Breaking
 pub mod Decisions
 pub mod Shown
+pub mod Joined
