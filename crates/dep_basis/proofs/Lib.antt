@@ -6,3 +6,4 @@ pub mod DecidingLemmas
 pub mod WitnessLemmas
 pub mod ShowingLemmas
 pub mod JoiningLemmas
+pub mod ChainLemmas

@@ -6,3 +6,5 @@ pub mod Breaking
 pub mod Decisions
 pub mod Shown
 pub mod Joined
+pub mod Chains
+pub mod Proofs

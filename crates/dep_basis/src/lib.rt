@@ -8,6 +8,7 @@
 
 mod bases;
 mod blocks;
+mod chaining;
 mod cutting;
 mod deciding;
 mod decision;
