@@ -17,6 +17,7 @@ mod joining;
 mod makers;
 mod meeting;
 mod proof;
+mod proving;
 mod refining;
 mod showing;
 mod shown;
@@ -26,6 +27,8 @@ pub use bases::{basis, trace_basis};
 pub use blocks::{Blocks, MOST_BLOCKS};
 pub use deciding::decide;
 pub use decision::Decision;
+pub use proof::{MOST_LEVELS, MOST_NODES, Proof};
+pub use proving::prove;
 pub use witnessing::witness;
 
 #[cfg(test)]
