@@ -6,3 +6,5 @@ pub mod Breaking
 pub mod Decisions
 pub mod Shown
 pub mod Leads
+pub mod Joined
+pub mod Proofs

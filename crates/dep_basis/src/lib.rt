@@ -9,12 +9,17 @@
 mod bases;
 mod blocks;
 mod chains;
+mod cutting;
 mod deciding;
 mod decision;
 mod gathering;
+mod joining;
 mod makers;
 mod meeting;
+mod proof;
+mod proving;
 mod refining;
+mod showing;
 mod shown;
 mod witnessing;
 
@@ -23,6 +28,8 @@ pub use blocks::{Blocks, MOST_BLOCKS};
 pub use chains::functional_chain;
 pub use deciding::decide;
 pub use decision::Decision;
+pub use proof::{MOST_LEVELS, MOST_NODES, Proof};
+pub use proving::prove;
 pub use witnessing::witness;
 
 #[cfg(test)]

@@ -4,6 +4,7 @@ ghost use Rattle.attr_sets.specs.Sets.{places};
 ghost use Rattle.dep_model.specs.Dependencies.{fd, mvd, left_of, right_of};
 ghost use Rattle.dep_model.specs.Deps.{dependency_of};
 ghost use Rattle.dep_model.specs.Schemas.{width_of, universe_of, deps_of};
+ghost use Rattle.derivation.specs.Trees.{leaf, reflexivity};
 ghost use Rattle.derivation.specs.Derivs.{tree_of};
 ghost use Rattle.derivation.specs.Conclusions.{Proves};
 ghost use Rattle.dep_basis.specs.Shown.{HasSize};
@@ -18,6 +19,7 @@ use derivation::Deriv;
 pub fn reflexivity(alloc: Global, schema: &Schema, lhs: AttrSet, rhs: AttrSet) -> Result<Box<Deriv>, WantMemory>
     requires lhs { Within (places lhs) (universe_of schema.now) }
     requires rhs { Within (places rhs) (places lhs) }
+    ensures tree { IfOk result (λ b. tree_of b.value ≡ leaf (reflexivity (places lhs) (places rhs))) }
     ensures proves { IfOk result (λ b. Proves schema.now (tree_of b.value) (fd (places lhs) (places rhs))) }
     ensures size { IfOk result (λ b. HasSize (tree_of b.value) 1 1) }
 {

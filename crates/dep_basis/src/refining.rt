@@ -80,7 +80,7 @@ fn cut_by(dep: Dep, part: AttrSet, attribute: u8) -> AttrSet
 }
 
 // The sides of a dependency.
-fn sides(dep: Dep) -> (AttrSet, AttrSet)
+pub fn sides(dep: Dep) -> (AttrSet, AttrSet)
     ensures left { places result.0 ≡ left_of (dependency_of dep) }
     ensures right { places result.1 ≡ right_of (dependency_of dep) }
 {
