@@ -21,3 +21,6 @@ pub use chains::functional_chain;
 pub use deciding::decide;
 pub use decision::Decision;
 pub use witnessing::witness;
+
+#[cfg(test)]
+mod chain_tests;

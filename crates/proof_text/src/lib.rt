@@ -7,6 +7,8 @@
 mod cursor;
 mod line;
 mod printing;
+#[cfg(test)]
+mod printing_tests;
 mod refusal;
 mod words;
 
