@@ -1,19 +1,18 @@
 -- Blocks: a candidate that no dependency cuts is one, the two tuples that agree outside a block are
 -- legal, and blocks with a common member are the same.
-use Rattle.std.proofs.Common.{◌≡◌, ℕ, ◌<◌, ◌⊎◌, true, false, List, get_or, sym, ◌∙◌, inl, inr, ⊎_elim, arith}
+use Rattle.std.proofs.Common.{◌≡◌, ℕ, true, List, get_or, sym, ◌∙◌, inl, inr, ⊎_elim, arith}
 use Rattle.std.proofs.lemmas.Bool.{true≢false, cases_Bool, true_from_ne_false, ltb-true}
 use Rattle.std.proofs.lemmas.Bool.Decides.{nat_tests}
 use Rattle.std.specs.Prelude.{All}
-use Rattle.attr_sets.specs.Places.{Places, below, only, union, meet, minus, Within, Same, IsEmpty, Apart, Meets}
+use Rattle.attr_sets.specs.Places.{Places, below, only, meet, minus, Within, Same, IsEmpty, Apart, Meets}
 use Rattle.attr_sets.specs.Sets.{places}
-use Rattle.attr_sets.proofs.PlacesLemmas.{Same-path, Same-within, tell_empty}
+use Rattle.attr_sets.proofs.PlacesLemmas.{Same-within, tell_empty}
 use Rattle.dep_model.specs.declared.dep.Dep.{Dep}
 use Rattle.dep_model.specs.declared.dep.Dep.TheVariants.{Fd, Mvd}
-use Rattle.dep_model.specs.Tuples.{Relation}
-use Rattle.dep_model.specs.Dependencies.{Dependency, fd, mvd, Obeys, ObeysFd, ObeysMvd, IsWithin}
+use Rattle.dep_model.specs.Dependencies.{Dependency, fd, mvd, Obeys, IsWithin}
 use Rattle.dep_model.specs.Deps.{dependency_of, dependencies_of, IsDepWithin}
 use Rattle.dep_model.specs.Implication.{IsLegal, Implies}
-use Rattle.dep_model.specs.Keys.{InClosure, IsBlock}
+use Rattle.dep_model.specs.Keys.{IsBlock}
 use Rattle.dep_model.specs.TwoTuples.{two_tuples}
 use Rattle.dep_model.proofs.RuleLemmas.{reflexivity_obeyed, mvd_meet_obeyed}
 use Rattle.dep_model.proofs.DepLemmas.{legal-from, legal-to, dependencies_all-to}

@@ -1,25 +1,24 @@
 -- Which block shows that a dependency is not implied, and that its two tuples do.
-use Rattle.std.proofs.Common.{◌≡◌, ℕ, ◌<◌, ◌≤◌, ◌↔◌, ◌⊎◌, true, false, List, length, get_or, refl, sym, ap, subst, ◌∙◌, inl, inr, ⊎_elim, arith}
-use Rattle.std.proofs.lemmas.Bool.{true≢false, cases_Bool, cases_lt, cases_eq, ltb-true, lt-ltb}
+use Rattle.std.proofs.Common.{◌≡◌, ℕ, ◌<◌, true, List, get_or, sym, ap, subst, ◌∙◌, inl, inr, ⊎_elim, arith}
+use Rattle.std.proofs.lemmas.Bool.{true≢false, cases_lt, cases_eq, ltb-true}
 use Rattle.std.proofs.lemmas.Bool.Decides.{nat_tests}
 use Rattle.std.proofs.lemmas.List.{get_or_default}
 use Rattle.std.proofs.lemmas.List.Elements.{All-contains}
-use Rattle.std.specs.Prelude.{All, Any}
-use Rattle.attr_sets.specs.Places.{Places, below, only, meet, minus, Within, Same, IsEmpty, Apart, Meets, IsLeastFrom}
+use Rattle.std.specs.Prelude.{All}
+use Rattle.attr_sets.specs.Places.{Places, below, only, meet, minus, Within, Same, IsEmpty, Meets, IsLeastFrom}
 use Rattle.attr_sets.specs.declared.set.AttrSet.{AttrSet}
 use Rattle.attr_sets.specs.Sets.{places}
 use Rattle.attr_sets.proofs.PlacesLemmas.{Same-path}
 use Rattle.dep_model.specs.declared.dep.Dep.{Dep}
-use Rattle.dep_model.specs.Tuples.{Relation}
-use Rattle.dep_model.specs.Dependencies.{Dependency, fd, mvd, Obeys, ObeysFd, ObeysMvd, IsWithin}
-use Rattle.dep_model.specs.Implication.{IsLegal, Implies}
+use Rattle.dep_model.specs.Dependencies.{Dependency, fd, mvd, ObeysFd, ObeysMvd, IsWithin}
+use Rattle.dep_model.specs.Implication.{Implies}
 use Rattle.dep_model.specs.Deps.{dependencies_of, IsDepWithin}
-use Rattle.dep_model.specs.Keys.{InClosure, IsBlock}
+use Rattle.dep_model.specs.Keys.{IsBlock}
 use Rattle.dep_model.specs.TwoTuples.{two_tuples}
 use Rattle.dep_model.proofs.TwoTupleLemmas.{two_tuples_fd-to}
 use Rattle.fd_closure.proofs.ClosureLemmas.{fd_each-from, fd_each-to}
 use Rattle.dep_basis.specs.declared.blocks.Blocks.{Blocks}
-use Rattle.dep_basis.specs.Traces.{blocks_of, BeginsBefore}
+use Rattle.dep_basis.specs.Traces.{blocks_of}
 use Rattle.dep_basis.specs.Bases.{IsSplitBy, IsBasis}
 use Rattle.dep_basis.specs.Firsts.{IsFirstWith}
 use Rattle.dep_basis.specs.Breaking.{IsBreakingBlock}

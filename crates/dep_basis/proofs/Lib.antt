@@ -5,3 +5,5 @@ pub mod BasisLemmas
 pub mod DecidingLemmas
 pub mod WitnessLemmas
 pub mod LeadLemmas
+pub mod ShowingLemmas
+pub mod JoiningLemmas

@@ -1,15 +1,15 @@
 -- What a cut leaves: each step keeps a candidate.
-use Rattle.std.proofs.Common.{◌≡◌, ℕ, ◌<◌, ◌⊎◌, true, false, List, get_or, sym, ◌∙◌, inl, inr, ⊎_elim, arith}
-use Rattle.std.proofs.lemmas.Bool.{true≢false, cases_Bool, or_cases}
+use Rattle.std.proofs.Common.{◌≡◌, ℕ, ◌<◌, true, false, List, get_or, sym, ◌∙◌, inl, inr, ⊎_elim, arith}
+use Rattle.std.proofs.lemmas.Bool.{true≢false, cases_Bool}
 use Rattle.std.proofs.lemmas.Bool.Decides.{nat_tests}
 use Rattle.std.specs.Prelude.{All}
-use Rattle.attr_sets.specs.Places.{Places, below, only, none, union, meet, minus, Within, Same, IsEmpty, Apart}
+use Rattle.attr_sets.specs.Places.{Places, below, only, none, union, meet, minus, Within, Same, IsEmpty, Apart, Meets}
 use Rattle.attr_sets.proofs.PlacesLemmas.{Same-path}
 use Rattle.dep_model.specs.declared.dep.Dep.{Dep}
 use Rattle.dep_model.specs.Deps.{dependency_of}
 use Rattle.dep_model.specs.Tuples.{Relation, AgreeOn}
-use Rattle.dep_model.specs.Dependencies.{Dependency, fd, mvd, ObeysFd, ObeysMvd}
-use Rattle.dep_model.specs.Implication.{IsLegal, Implies}
+use Rattle.dep_model.specs.Dependencies.{Dependency, fd, mvd, ObeysMvd, left_of, right_of}
+use Rattle.dep_model.specs.Implication.{Implies}
 use Rattle.dep_model.proofs.RuleLemmas.{complementation_obeyed, mreflexivity_obeyed, replication_obeyed, coalescence_obeyed, fd_weaker_obeyed}
 use Rattle.dep_basis.specs.Refining.{IsCandidate, LeavesWhole}
 
@@ -120,7 +120,23 @@ candidate_nothing n ds x w v t rest a v_in in_t apart x_in given is before = rec
   ];
 }
 
+-- ---- a dependency by its sides
+-- a dependency of either kind is implied as a multivalued one
+pub as_mvd : (n : ℕ) (ds : List Dependency) (d : Dependency) → Implies n ds d → Implies n ds (mvd (left_of d) (right_of d))
+as_mvd n ds (fd v t) given = replicated n ds v t given
+as_mvd n ds (mvd v t) given = given
+
 -- ---- what cuts nothing off
+-- a left side that is not apart
+pub LeavesWhole-meets : (p q : Places) (d : Dependency) → Meets (left_of d) p → LeavesWhole p q d
+LeavesWhole-meets p q (fd v t) common = λ apart. absurd (true≢false (sym common.2 ∙ apart common.0 common.1))
+LeavesWhole-meets p q (mvd v t) common = λ apart. absurd (true≢false (sym common.2 ∙ apart common.0 common.1))
+
+-- a right side that is apart
+pub LeavesWhole-apart : (p q : Places) (d : Dependency) → Apart q (right_of d) → LeavesWhole p q d
+LeavesWhole-apart p q (fd v t) out = λ _. out
+LeavesWhole-apart p q (mvd v t) out = λ _. inl out
+
 -- a larger set on the left, a smaller one on the right
 pub LeavesWhole-kept : (p more q less : Places) (d : Dependency) → Within p more → Within less q → LeavesWhole p q d → LeavesWhole more less d
 LeavesWhole-kept p more q less (fd v t) grows falls whole = λ apart k m. whole (λ (j : ℕ) h. grind (arith, apart j h, grows j)) k (falls k m)

@@ -7,7 +7,7 @@ use Rattle.dep_model.specs.Implication.{Implies}
 use Rattle.dep_model.specs.OnSchemes.{ImpliedOn}
 use Rattle.dep_model.specs.Keys.{InClosure, IsBlock}
 use Rattle.dep_basis.specs.declared.blocks.Blocks.{Blocks}
-use Rattle.dep_basis.specs.Traces.{IsTrace, blocks_of, AreListed, AreTraces}
+use Rattle.dep_basis.specs.Traces.{blocks_of, AreListed, AreTraces}
 
 -- a set meets both y and what a scheme has beyond y
 abbrev pub IsSplitBy : Places → Places → Places → Type 0
@@ -22,12 +22,15 @@ pub record IsBasis (n : ℕ) (ds : List Dependency) (x : Places) (found : Blocks
   pub closed : (a : ℕ) → (places found.closed a ≡ true) ↔ InClosure n ds x a
   pub each : All (λ p. IsBlock n ds x (places p)) (blocks_of found)
   pub all : (p : Places) → IsBlock n ds x p → Any (λ q. Same (places q) p) (blocks_of found)
-  pub parts : (a : ℕ) → a < n → (places found.closed a ≡ true) ⊎ Any (λ p. places p a ≡ true) (blocks_of found)
+  pub parts : (a : ℕ) → a < n
+      → (places found.closed a ≡ true) ⊎ Any (λ p. places p a ≡ true) (blocks_of found)
   pub listed : AreListed found
-  pub multivalued : (y : Places) → Within y (below n) → Implies n ds (mvd x y) ↔ SplitsNone (below n) y (blocks_of found)
+  pub multivalued : (y : Places) → Within y (below n)
+      → Implies n ds (mvd x y) ↔ SplitsNone (below n) y (blocks_of found)
 
 -- the closed set of x and the traces of its blocks on a scheme, which decide what is implied there
 pub record IsTraceBasis (n : ℕ) (ds : List Dependency) (scheme x : Places) (found : Blocks) : Type 0 where
   pub traces : AreTraces n ds scheme x found
   pub functional : (a : ℕ) → (places found.closed a ≡ true) ↔ ImpliedOn n ds scheme (fd x (only a))
-  pub multivalued : (y : Places) → Within y scheme → ImpliedOn n ds scheme (mvd x y) ↔ SplitsNone scheme y (blocks_of found)
+  pub multivalued : (y : Places) → Within y scheme
+      → ImpliedOn n ds scheme (mvd x y) ↔ SplitsNone scheme y (blocks_of found)

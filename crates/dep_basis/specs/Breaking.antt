@@ -12,4 +12,5 @@ IsBreakingBlock n ds (fd x y) p =
     × ((a : ℕ) × (p a ≡ true) × (y a ≡ true) × ((b : ℕ) → b < a → y b ≡ true → InClosure n ds x b))
 IsBreakingBlock n ds (mvd x y) p =
     IsBlock n ds x p × IsSplitBy (below n) y p
-    × ((q : Places) (i j : ℕ) → IsBlock n ds x q → IsSplitBy (below n) y q → IsLeastFrom p 0 i → IsLeastFrom q 0 j → i ≤ j)
+    × ((q : Places) (i j : ℕ) → IsBlock n ds x q → IsSplitBy (below n) y q
+    → IsLeastFrom p 0 i → IsLeastFrom q 0 j → i ≤ j)

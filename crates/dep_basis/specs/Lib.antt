@@ -5,3 +5,5 @@ pub mod Firsts
 pub mod Breaking
 pub mod Decisions
 pub mod Leads
+pub mod Shown
+pub mod Joined

@@ -1,5 +1,5 @@
 use Rattle.std.specs.Prelude.{◌≡◌, ℕ, ◌<◌, ◌≤◌, ◌↔◌, ◌⊎◌, true, List, All, AllPairs, Any, take, drop}
-use Rattle.attr_sets.specs.Places.{Places, meet, minus, Within, Same, IsEmpty, Apart, Meets, IsLeastFrom}
+use Rattle.attr_sets.specs.Places.{Places, meet, Same, IsEmpty, Apart, IsLeastFrom}
 use Rattle.attr_sets.specs.declared.set.AttrSet.{AttrSet}
 use Rattle.attr_sets.specs.Sets.{places}
 use Rattle.dep_model.specs.Dependencies.{Dependency}
@@ -22,7 +22,7 @@ BeginsBefore p q = (i j : ℕ) → IsLeastFrom p 0 i → IsLeastFrom q 0 j → i
 abbrev pub blocks_of : Blocks → List AttrSet
 blocks_of found = take found.count found.blocks
 
--- a set of non-empty sets that are apart, in the order of their least members, and nothing after them
+-- the blocks that count are apart and in the order of their least members, and nothing stands after them
 pub record AreListed (found : Blocks) : Type 0 where
   pub few : found.count ≤ MOST_BLOCKS
   pub apart : AllPairs (λ p q. Apart (places p) (places q)) (blocks_of found)
@@ -33,5 +33,6 @@ pub record AreListed (found : Blocks) : Type 0 where
 pub record AreTraces (n : ℕ) (ds : List Dependency) (scheme x : Places) (found : Blocks) : Type 0 where
   pub closed : (a : ℕ) → (places found.closed a ≡ true) ↔ (scheme a ≡ true) × InClosure n ds x a
   pub each : All (λ q. IsTrace n ds scheme x (places q)) (blocks_of found)
-  pub parts : (a : ℕ) → scheme a ≡ true → (places found.closed a ≡ true) ⊎ Any (λ q. places q a ≡ true) (blocks_of found)
+  pub parts : (a : ℕ) → scheme a ≡ true
+      → (places found.closed a ≡ true) ⊎ Any (λ q. places q a ≡ true) (blocks_of found)
   pub listed : AreListed found

@@ -3,8 +3,9 @@ ghost use Rattle.derivation.specs.Trees.{nodes};
 ghost use Rattle.derivation.specs.Derivs.{tree_of};
 
 use crate::functional_chain;
+use crate::tests::schema_of;
 use attr_sets::AttrSet;
-use dep_model::{Dep, Name, Schema, WantMemory};
+use dep_model::{Dep, Schema, WantMemory};
 use derivation::{Deriv, LeafRule, Node, PairRule, StepRule, depth, nodes};
 use std::alloc::Global;
 use std::test::Fail;
@@ -20,15 +21,10 @@ fn fd(lhs: AttrSet, rhs: AttrSet) -> Dep {
     Dep::Fd { lhs, rhs }
 }
 
-// `A -> B` and `B -> C`.
+// `A -> B` and `B -> C`, behind `A ->> B`.
 fn two_steps(alloc: Global) -> Result<Schema, WantMemory> {
-    let (Some(a), Some(b), Some(c)) = (Name::make(b"A"), Name::make(b"B"), Name::make(b"C")) else {
-        return Err(WantMemory);
-    };
-    let names = Vec::from_slice(alloc, &[a, b, c])?;
-    let deps = Vec::from_slice(alloc, &[fd(A, B), fd(B, C)])?;
-    let lines = Vec::from_slice(alloc, &[2, 3])?;
-    Ok(Schema::make(names, deps, lines))
+    let jump = Dep::Mvd { lhs: A, rhs: B };
+    schema_of(alloc, 3, &[jump, fd(A, B), fd(B, C)])
 }
 
 fn chain_of(
@@ -89,11 +85,11 @@ fn chains_two_dependencies(rt: HostRuntime) -> Result<(), Fail> {
     let Some((grown, lifted)) = joined(grown) else {
         return Err(Fail::new("another derivation"));
     };
-    assert!(rt; is_lifted(lifted, A.union(B), 1));
+    assert!(rt; is_lifted(lifted, A.union(B), 2));
     let Some((start, lifted)) = joined(grown) else {
         return Err(Fail::new("another derivation"));
     };
-    assert!(rt; is_lifted(lifted, A, 0));
+    assert!(rt; is_lifted(lifted, A, 1));
     assert!(rt; is_reflexivity(start, A, A));
     Ok(())
 }

@@ -1,4 +1,4 @@
-ghost use Rattle.std.specs.Prelude.{◌≡◌, ◌↔◌, true, IsTrue, IsNone, IfSome, All};
+ghost use Rattle.std.specs.Prelude.{◌≡◌, ◌↔◌, true, IsNone, IfSome, All};
 ghost use Rattle.attr_sets.specs.Places.{Within, Meets};
 ghost use Rattle.attr_sets.specs.Sets.{places};
 ghost use Rattle.dep_model.specs.Dependencies.{fd, mvd};
@@ -10,6 +10,10 @@ ghost use Rattle.dep_basis.specs.Decisions.{IsDecided};
 
 use crate::bases::basis;
 use crate::decision::Decision;
+<<<<<<< HEAD
+=======
+use crate::meeting::meets;
+>>>>>>> f6646118c4501bd0128a90ae1a343852f5c34f88
 use attr_sets::AttrSet;
 use dep_model::{Dep, Schema};
 
@@ -34,7 +38,8 @@ pub fn decide(schema: &Schema, dep: Dep) -> Decision
 fn breaking_block(schema: &Schema, dep: Dep) -> Option<AttrSet>
     requires within { IsDepWithin (universe_of schema.now) dep }
     ensures none { IsNone result ↔ ImpliedBy schema.now (dependency_of dep) }
-    ensures block { IfSome result (λ p. IsBreakingBlock (width_of schema.now) (theory_of schema.now) (dependency_of dep) (places p)) }
+    ensures block { IfSome result (λ p.
+        IsBreakingBlock (width_of schema.now) (theory_of schema.now) (dependency_of dep) (places p)) }
 {
     match dep {
         Dep::Fd { lhs, rhs } => block_beyond(schema, lhs, rhs),
@@ -47,7 +52,8 @@ fn block_beyond(schema: &Schema, lhs: AttrSet, rhs: AttrSet) -> Option<AttrSet>
     requires lhs { Within (places lhs) (universe_of schema.now) }
     requires rhs { Within (places rhs) (universe_of schema.now) }
     ensures none { IsNone result ↔ ImpliedBy schema.now (fd (places lhs) (places rhs)) }
-    ensures block { IfSome result (λ p. IsBreakingBlock (width_of schema.now) (theory_of schema.now) (fd (places lhs) (places rhs)) (places p)) }
+    ensures block { IfSome result (λ p.
+        IsBreakingBlock (width_of schema.now) (theory_of schema.now) (fd (places lhs) (places rhs)) (places p)) }
 {
     let found = basis(schema, lhs);
     let beyond = rhs.minus(found.closed);
@@ -65,7 +71,8 @@ fn block_split(schema: &Schema, lhs: AttrSet, rhs: AttrSet) -> Option<AttrSet>
     requires lhs { Within (places lhs) (universe_of schema.now) }
     requires rhs { Within (places rhs) (universe_of schema.now) }
     ensures none { IsNone result ↔ ImpliedBy schema.now (mvd (places lhs) (places rhs)) }
-    ensures block { IfSome result (λ p. IsBreakingBlock (width_of schema.now) (theory_of schema.now) (mvd (places lhs) (places rhs)) (places p)) }
+    ensures block { IfSome result (λ p.
+        IsBreakingBlock (width_of schema.now) (theory_of schema.now) (mvd (places lhs) (places rhs)) (places p)) }
 {
     let found = basis(schema, lhs);
     first_meeting(
@@ -77,8 +84,10 @@ fn block_split(schema: &Schema, lhs: AttrSet, rhs: AttrSet) -> Option<AttrSet>
 
 // The first block that meets two sets.
 fn first_meeting(blocks: &[AttrSet], one: AttrSet, other: AttrSet) -> Option<AttrSet>
-    ensures none { IsNone result ↔ All (λ p. Meets (places p) (places one) × Meets (places p) (places other) → ⊥) blocks.now }
-    ensures first { IfSome result (IsFirstWith (λ p. Meets (places p) (places one) × Meets (places p) (places other)) blocks.now) }
+    ensures none { IsNone result
+        ↔ All (λ p. Meets (places p) (places one) × Meets (places p) (places other) → ⊥) blocks.now }
+    ensures first { IfSome result
+        (IsFirstWith (λ p. Meets (places p) (places one) × Meets (places p) (places other)) blocks.now) }
 {
     for block in blocks {
         if meets(*block, one) && meets(*block, other) {
@@ -86,11 +95,4 @@ fn first_meeting(blocks: &[AttrSet], one: AttrSet, other: AttrSet) -> Option<Att
         }
     }
     None
-}
-
-// Whether two sets have a common member.
-fn meets(one: AttrSet, other: AttrSet) -> bool
-    ensures meets { IsTrue result ↔ Meets (places one) (places other) }
-{
-    !(one.meet(other) == AttrSet::empty())
 }

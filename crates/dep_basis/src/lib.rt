@@ -9,10 +9,17 @@
 mod bases;
 mod blocks;
 mod chains;
+mod cutting;
 mod deciding;
 mod decision;
 mod gathering;
+mod joining;
+mod makers;
+mod meeting;
+mod proof;
 mod refining;
+mod showing;
+mod shown;
 mod witnessing;
 
 pub use bases::{basis, trace_basis};
@@ -24,3 +31,5 @@ pub use witnessing::witness;
 
 #[cfg(test)]
 mod chain_tests;
+#[cfg(test)]
+mod tests;

@@ -2,12 +2,13 @@ ghost use Rattle.std.specs.Prelude.{◌≡◌, ℕ, ◌<◌, ◌≤◌, ◌↔�
 ghost use Rattle.attr_sets.specs.Places.{Places, below, only, Within, IsEmpty};
 ghost use Rattle.attr_sets.specs.Sets.{places};
 ghost use Rattle.attr_sets.specs.declared.set.TheConstants.{PLACES};
-ghost use Rattle.dep_model.specs.Dependencies.{Dependency, fd};
+ghost use Rattle.dep_model.specs.Dependencies.{Dependency, fd, left_of, right_of};
 ghost use Rattle.dep_model.specs.Deps.{dependency_of, dependencies_of, IsDepWithin};
 ghost use Rattle.dep_model.specs.Implication.{Implies};
 ghost use Rattle.dep_model.specs.Keys.{IsBlock};
 ghost use Rattle.dep_basis.specs.Refining.{IsCandidate, LeavesWhole};
 
+use crate::meeting::meets;
 use attr_sets::AttrSet;
 use dep_model::Dep;
 
@@ -19,8 +20,10 @@ pub fn block_of(deps: &[Dep], width: u8, lhs: AttrSet, attribute: u8) -> AttrSet
     requires deps { All (IsDepWithin (below width)) deps.now }
     requires lhs { Within (places lhs) (below width) }
     requires attribute { attribute < width }
-    ensures closed { IsEmpty (places result) ↔ Implies width (dependencies_of deps.now) (fd (places lhs) (only attribute)) }
-    ensures block { (IsEmpty (places result) → ⊥) → IsBlock width (dependencies_of deps.now) (places lhs) (places result) }
+    ensures closed { IsEmpty (places result)
+        ↔ Implies width (dependencies_of deps.now) (fd (places lhs) (only attribute)) }
+    ensures block { (IsEmpty (places result) → ⊥)
+        → IsBlock width (dependencies_of deps.now) (places lhs) (places result) }
     ensures member { (IsEmpty (places result) → ⊥) → places result attribute ≡ true }
 {
     if lhs.has(attribute) {
@@ -58,33 +61,31 @@ fn cut_by_all(deps: &[Dep], part: AttrSet, attribute: u8) -> AttrSet
 fn cut_by(dep: Dep, part: AttrSet, attribute: u8) -> AttrSet
     requires attribute { attribute < PLACES }
     ensures smaller { Within (places result) (places part) }
-    ensures candidate { (n : ℕ) (ds : List Dependency) (x : Places) → IsDepWithin (below n) dep → Within x (below n)
-        → Implies n ds (dependency_of dep)
+    ensures candidate { (n : ℕ) (ds : List Dependency) (x : Places)
+        → IsDepWithin (below n) dep → Within x (below n) → Implies n ds (dependency_of dep)
         → IsCandidate n ds x attribute (places part) → IsCandidate n ds x attribute (places result) }
     ensures whole { LeavesWhole (places part) (places result) (dependency_of dep) }
 {
+    let (lhs, rhs) = sides(dep);
+    if meets(lhs, part) {
+        return part;
+    }
+    if !rhs.has(attribute) {
+        return part.minus(rhs);
+    }
     match dep {
-        Dep::Fd { lhs, rhs } => {
-            if lhs.meet(part) == AttrSet::empty() {
-                if rhs.has(attribute) {
-                    AttrSet::empty()
-                } else {
-                    part.minus(rhs)
-                }
-            } else {
-                part
-            }
-        }
-        Dep::Mvd { lhs, rhs } => {
-            if lhs.meet(part) == AttrSet::empty() {
-                if rhs.has(attribute) {
-                    part.meet(rhs)
-                } else {
-                    part.minus(rhs)
-                }
-            } else {
-                part
-            }
-        }
+        Dep::Fd { .. } => AttrSet::empty(),
+        Dep::Mvd { .. } => part.meet(rhs),
+    }
+}
+
+// The sides of a dependency.
+pub fn sides(dep: Dep) -> (AttrSet, AttrSet)
+    ensures left { places result.0 ≡ left_of (dependency_of dep) }
+    ensures right { places result.1 ≡ right_of (dependency_of dep) }
+{
+    match dep {
+        Dep::Fd { lhs, rhs } => (lhs, rhs),
+        Dep::Mvd { lhs, rhs } => (lhs, rhs),
     }
 }

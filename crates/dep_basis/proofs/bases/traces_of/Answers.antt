@@ -1,12 +1,10 @@
-use Rattle.std.proofs.Common.{◌≡◌, ℕ, ◌↔◌, true}
 use Rattle.std.specs.Prelude.{All}
 use Rattle.dep_model.specs.Deps.{IsDepWithin}
-use Rattle.attr_sets.specs.Places.{Places, below, Within}
+use Rattle.attr_sets.specs.Places.{below, Within}
 use Rattle.attr_sets.specs.Sets.{places}
-use Rattle.dep_model.specs.Dependencies.{functional_part, fd}
+use Rattle.dep_model.specs.Dependencies.{fd}
 use Rattle.dep_model.specs.Implication.{Implies}
-use Rattle.dep_model.specs.Keys.{InClosure}
-use Rattle.dep_model.specs.Schemas.{width_of, deps_of, theory_of}
+use Rattle.dep_model.specs.Schemas.{width_of, theory_of}
 use Rattle.dep_basis.proofs.BasisLemmas.{traces_wider, closure_between}
 use Rattle.dep_basis.proofs.bases.traces_of.Goals as goal
 use Rattle.dep_basis.proofs.bases.traces_of.Goals.{After-closure}

@@ -1,15 +1,13 @@
-use Rattle.std.proofs.Common.{◌≡◌, ℕ, refl, sym, ◌∙◌, ap, subst}
+use Rattle.std.proofs.Common.{refl, sym, ◌∙◌, subst}
 use Rattle.std.proofs.lemmas.Option.{IfSome_then}
 use Rattle.std.specs.Prelude.{All}
 use Rattle.attr_sets.specs.Places.{Places, only, minus, Meets, IsLeastFrom}
 use Rattle.attr_sets.specs.declared.set.AttrSet.{AttrSet}
 use Rattle.attr_sets.specs.Sets.{places}
 use Rattle.attr_sets.proofs.PlacesLemmas.{Same-path}
-use Rattle.dep_model.specs.Dependencies.{fd}
 use Rattle.dep_model.specs.Schemas.{width_of, theory_of}
 use Rattle.dep_basis.specs.Traces.{blocks_of}
 use Rattle.dep_basis.specs.Firsts.{IsFirstWith}
-use Rattle.dep_basis.specs.Breaking.{IsBreakingBlock}
 use Rattle.dep_basis.proofs.DecidingLemmas.{beyond_none, beyond_some, beyond_listed, beyond_block}
 use Rattle.dep_basis.proofs.deciding.block_beyond.Goals as goal
 use Rattle.dep_basis.proofs.deciding.block_beyond.Goals.{After-first_meeting}

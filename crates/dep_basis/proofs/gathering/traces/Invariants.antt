@@ -1,4 +1,4 @@
-use Rattle.std.proofs.Common.{◌≡◌, ℕ, ◌+◌, ◌≤◌, length, take, drop}
+use Rattle.std.proofs.Common.{◌≡◌, ◌+◌, ◌≤◌, length, take, drop}
 use Rattle.std.specs.Prelude.{All}
 use Rattle.attr_sets.specs.Places.{IsEmpty, count_below}
 use Rattle.attr_sets.specs.Sets.{places}

@@ -1,13 +1,11 @@
-use Rattle.std.proofs.Common.{◌≡◌, ℕ, ◌<◌, true, false, refl, sym, ◌∙◌, ⊎_elim, inl, inr, arith}
-use Rattle.std.proofs.lemmas.Bool.{false≢true, true≢false, cases_Bool, lt-ltb}
+use Rattle.std.proofs.Common.{◌≡◌, true, refl, sym, ◌∙◌, ⊎_elim, inl, inr, arith}
+use Rattle.std.proofs.lemmas.Bool.{false≢true, true≢false, cases_Bool}
 use Rattle.std.proofs.lemmas.Bool.Decides.{nat_tests}
-use Rattle.attr_sets.specs.Places.{Places, below, only, minus, Within, Same, IsEmpty, count_below}
+use Rattle.attr_sets.specs.Places.{only, Within}
 use Rattle.attr_sets.specs.Sets.{places}
 use Rattle.attr_sets.specs.declared.set.TheConstants.{PLACES}
-use Rattle.attr_sets.proofs.PlacesLemmas.{places_below, tell_within, Same-within, Within-same, count_below-lt}
+use Rattle.attr_sets.proofs.PlacesLemmas.{places_below, tell_within, Same-within, count_below-lt}
 use Rattle.dep_model.specs.Deps.{dependencies_of}
-use Rattle.dep_model.specs.Implication.{Implies}
-use Rattle.dep_model.specs.Dependencies.{fd}
 use Rattle.dep_model.specs.Keys.{IsBlock}
 use Rattle.dep_model.proofs.RuleLemmas.{reflexivity_obeyed}
 use Rattle.dep_basis.specs.Refining.{IsCandidate}

@@ -1,43 +1,44 @@
-use Rattle.std.proofs.Common.{◌≡◌, ℕ, refl, sym, ◌∙◌, arith}
-use Rattle.attr_sets.specs.Places.{Places, below, Apart}
+use Rattle.std.proofs.Common.{◌≡◌, sym, ap, subst, ◌∙◌}
+use Rattle.std.proofs.lemmas.Bool.{true≢false, false_from_ne_true}
+use Rattle.attr_sets.specs.Places.{Places, meet, minus, Same, Apart, Meets}
 use Rattle.attr_sets.specs.Sets.{places}
-use Rattle.dep_model.specs.Dependencies.{fd, mvd, IsWithin}
+use Rattle.dep_model.specs.declared.dep.Dep.{Dep}
+use Rattle.dep_model.specs.Dependencies.{fd, left_of, right_of}
+use Rattle.dep_model.specs.Deps.{dependency_of}
 use Rattle.dep_model.specs.Implication.{Implies}
-use Rattle.dep_basis.proofs.RefiningLemmas.{candidate_inside, candidate_outside, replicated, candidate_nothing}
+use Rattle.dep_basis.proofs.RefiningLemmas.{as_mvd, candidate_inside, candidate_outside, candidate_nothing}
 use Rattle.dep_basis.proofs.refining.cut_by.Goals as goal
+use Rattle.dep_basis.proofs.refining.cut_by.Goals.{Else-meets, After-has}
 
-pub returns-then-has-clause-candidate : goal.returns-then-has-clause-candidate
-returns-then-has-clause-candidate c n ds x d_in x_in given before =
-    let v = places c.in-Fd.lhs in
-    let t = places c.in-Fd.rhs in
-    let within : IsWithin (below n) (fd v t) = rw c.in-Fd.is at d_in in
-    let implied : Implies n ds (fd v t) = rw c.in-Fd.is at given in
-    let apart : Apart v (places c.args.part) = λ k m. grind (arith, m, c.meet.ensures.members k, c.if-eq.ensures.same.0 refl k, c.empty.ensures.members k) in
-    candidate_nothing n ds x (places c.args.part) v t (places c.empty-then-has.result) c.args.attribute within.0 (sym c.has.ensures.member ∙ c.if-has.true) apart x_in implied c.empty-then-has.ensures.members before
+apart_from : (v lhs part : Places) → lhs ≡ v → (Meets lhs part → ⊥) → Apart v part
+apart_from v lhs part same none k m = false_from_ne_true (part k) (λ in_part. none (k, ap (λ (x : Places). x k) same ∙ m, in_part))
 
-pub returns-else-has-clause-candidate : goal.returns-else-has-clause-candidate
-returns-else-has-clause-candidate c n ds x d_in x_in given before =
-    let v = places c.in-Fd.lhs in
-    let t = places c.in-Fd.rhs in
-    let within : IsWithin (below n) (fd v t) = rw c.in-Fd.is at d_in in
-    let implied : Implies n ds (fd v t) = rw c.in-Fd.is at given in
-    let apart : Apart v (places c.args.part) = λ k m. grind (arith, m, c.meet.ensures.members k, c.if-eq.ensures.same.0 refl k, c.empty.ensures.members k) in
-    candidate_outside n ds x (places c.args.part) v t (places c.minus.result) c.args.attribute x_in within.0 (sym c.has.ensures.member ∙ c.if-has.false) apart (replicated n ds v t implied) c.minus.ensures.members before
+-- the left side is apart from the part
+sides_apart : (c : After-has) → Apart (left_of (dependency_of c.args.dep)) (places c.args.part)
+sides_apart c = apart_from (left_of (dependency_of c.args.dep)) (places c.sides.result.0) (places c.args.part) c.sides.ensures.left
+    (λ common. true≢false (sym (c.meets.ensures.meets.1 common) ∙ c.if-meets.false))
 
-pub returns-then-has-2-clause-candidate : goal.returns-then-has-2-clause-candidate
-returns-then-has-2-clause-candidate c n ds x d_in x_in given before =
-    let v = places c.in-Mvd.lhs in
-    let t = places c.in-Mvd.rhs in
-    let within : IsWithin (below n) (mvd v t) = rw c.in-Mvd.is at d_in in
-    let implied : Implies n ds (mvd v t) = rw c.in-Mvd.is at given in
-    let apart : Apart v (places c.args.part) = λ k m. grind (arith, m, c.meet-in-Mvd.ensures.members k, c.if-eq-2.ensures.same.0 refl k, c.empty-in-Mvd.ensures.members k) in
-    candidate_inside n ds x (places c.args.part) v t (places c.meet-then-has-2.result) c.args.attribute x_in within.0 (sym c.has-then-eq-2.ensures.member ∙ c.if-has-2.true) apart implied c.meet-then-has-2.ensures.members before
+right_at : (c : After-has) → right_of (dependency_of c.args.dep) c.args.attribute ≡ c.has.result
+right_at c = sym (c.has.ensures.member ∙ ap (λ (x : Places). x c.args.attribute) c.sides.ensures.right)
 
-pub returns-else-has-2-clause-candidate : goal.returns-else-has-2-clause-candidate
-returns-else-has-2-clause-candidate c n ds x d_in x_in given before =
-    let v = places c.in-Mvd.lhs in
-    let t = places c.in-Mvd.rhs in
-    let within : IsWithin (below n) (mvd v t) = rw c.in-Mvd.is at d_in in
-    let implied : Implies n ds (mvd v t) = rw c.in-Mvd.is at given in
-    let apart : Apart v (places c.args.part) = λ k m. grind (arith, m, c.meet-in-Mvd.ensures.members k, c.if-eq-2.ensures.same.0 refl k, c.empty-in-Mvd.ensures.members k) in
-    candidate_outside n ds x (places c.args.part) v t (places c.minus-else-has-2.result) c.args.attribute x_in within.0 (sym c.has-then-eq-2.ensures.member ∙ c.if-has-2.false) apart implied c.minus-else-has-2.ensures.members before
+pub returns-then-not-has-clause-candidate : goal.returns-then-not-has-clause-candidate
+returns-then-not-has-clause-candidate c n ds x d_in x_in given before =
+    let d = dependency_of c.args.dep in
+    let at = (goal.at.returns-then-not-has-clause-candidate c).After-has in
+    let is : Same (places c.minus.result) (minus (places c.args.part) (right_of d)) = subst (λ (t : Places). Same (places c.minus.result) (minus (places c.args.part) t)) c.sides.ensures.right c.minus.ensures.members in
+    candidate_outside n ds x (places c.args.part) (left_of d) (right_of d) (places c.minus.result) c.args.attribute x_in d_in.0 (right_at at ∙ c.if-not-has.true) (sides_apart at) (as_mvd n ds d given) is before
+
+pub returns-in-Fd-clause-candidate : goal.returns-in-Fd-clause-candidate
+returns-in-Fd-clause-candidate c n ds x d_in x_in given before =
+    let d = dependency_of c.args.dep in
+    let at = (goal.at.returns-in-Fd-clause-candidate c).After-has in
+    let as_fd : Dep → Type 0 = λ (e : Dep). Implies n ds (dependency_of e) → Implies n ds (fd (left_of (dependency_of e)) (right_of (dependency_of e))) in
+    let implied : Implies n ds (fd (left_of d) (right_of d)) = subst as_fd (sym c.in-Fd.is) (λ h. h) given in
+    candidate_nothing n ds x (places c.args.part) (left_of d) (right_of d) (places c.empty.result) c.args.attribute d_in.0 (right_at at ∙ c.if-not-has.false) (sides_apart at) x_in implied c.empty.ensures.members before
+
+pub returns-in-Mvd-clause-candidate : goal.returns-in-Mvd-clause-candidate
+returns-in-Mvd-clause-candidate c n ds x d_in x_in given before =
+    let d = dependency_of c.args.dep in
+    let at = (goal.at.returns-in-Mvd-clause-candidate c).After-has in
+    let is : Same (places c.meet.result) (meet (places c.args.part) (right_of d)) = subst (λ (t : Places). Same (places c.meet.result) (meet (places c.args.part) t)) c.sides.ensures.right c.meet.ensures.members in
+    candidate_inside n ds x (places c.args.part) (left_of d) (right_of d) (places c.meet.result) c.args.attribute x_in d_in.0 (right_at at ∙ c.if-not-has.false) (sides_apart at) (as_mvd n ds d given) is before

@@ -1,4 +1,4 @@
-use Rattle.std.proofs.Common.{◌≡◌, ℕ, ◌<◌, length, get_or, arith, take, take_all}
+use Rattle.std.proofs.Common.{◌<◌, length, get_or, arith, take, take_all}
 use Rattle.std.proofs.lemmas.List.Elements.{All-more}
 use Rattle.attr_sets.specs.Sets.{places}
 use Rattle.dep_model.specs.declared.dep.Dep.{Dep}

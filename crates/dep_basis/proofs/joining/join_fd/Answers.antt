@@ -1,0 +1,55 @@
+use Rattle.std.proofs.Common.{◌≡◌, ℕ, ◌+◌, ◌*◌, true, refl, sym, ◌∙◌, ap, arith}
+use Rattle.std.proofs.lemmas.Bool.Decides.{nat_tests}
+use Rattle.attr_sets.specs.Places.{Places, only, union, meet, minus, Within, Same}
+use Rattle.attr_sets.specs.Sets.{places}
+use Rattle.attr_sets.specs.declared.set.TheConstants.{PLACES}
+use Rattle.attr_sets.proofs.PlacesLemmas.{Same-path}
+use Rattle.dep_model.specs.Schemas.{width_of, theory_of}
+use Rattle.derivation.specs.Derivs.{tree_of}
+use Rattle.derivation.proofs.ProvesLemmas.{fd_restated}
+use Rattle.fd_closure.proofs.ClosureLemmas.{fd_each-to}
+use Rattle.dep_basis.proofs.ShowingLemmas.{size_grows}
+use Rattle.dep_basis.proofs.JoiningLemmas.{left_first, right_first, right_next, left_fewer, left_next}
+use Rattle.dep_basis.proofs.joining.join_fd.Goals as goal
+
+pub loop-first-init : goal.loop-first-init
+loop-first-init c =
+    let x = places c.args.lhs in
+    let y = places c.args.rhs in
+    let left = places c.minus-left.result in
+    let t = tree_of c.in_ok-joined.joined.value in
+    record {
+      left = left_first x y left t c.minus-left.ensures.members c.in_ok-joined.ensures.size;
+      proves = fd_restated c.args.schema.now t x (places c.meet.result) x (minus y left) (λ k. refl)
+          (right_first x y left (places c.meet.result) c.minus-left.ensures.members c.meet.ensures.members) c.in_ok-joined.ensures.proves;
+    }
+
+pub show_closed-requires-clause-implied : goal.show_closed-requires-clause-implied
+show_closed-requires-clause-implied c =
+    fd_each-to (width_of c.args.schema.now) (theory_of c.args.schema.now) (places c.args.lhs) (places c.args.rhs) c.requires.implied c.in-Some.first
+      (c.loop-first.invariant.left.within c.in-Some.first c.in-Some.ensures.least.member)
+
+pub loop-first-smaller : goal.loop-first-smaller
+loop-first-smaller c =
+    left_fewer (places c.loop-first.left) (places c.without-left.result) (only c.in-Some.first) c.in-Some.first c.in-Some.ensures.place c.in-Some.ensures.least.member (grind (arith, nat_tests)) c.without-left.ensures.members
+
+pub loop-first-preserved : goal.loop-first-preserved
+loop-first-preserved c =
+    let s = c.args.schema.now in
+    let x = places c.args.lhs in
+    let y = places c.args.rhs in
+    let a = c.in-Some.first in
+    let left = places c.loop-first.left in
+    let rest = places c.without-left.result in
+    let before = c.loop-first.invariant in
+    let g = tree_of c.in_ok-next.next.value in
+    let u = tree_of c.in-Ok.more.value in
+    let shown = c.in_ok-next.ensures.shown in
+    let in_left : left a ≡ true = c.in-Some.ensures.least.member in
+    record {
+      left = left_next x y left rest (only a) a (tree_of c.loop-first.joined.value) g u before.left c.in-Some.ensures.place in_left (grind (arith, nat_tests)) c.without-left.ensures.members
+          (size_grows g (8 * PLACES + 6) (5 * PLACES + 6) (8 * PLACES + 8) (5 * PLACES + 8) (omega arith) (omega arith) shown.size) c.in-Ok.ensures.little_more;
+      proves = fd_restated s u x (union (minus y left) (only a)) x (minus y rest) (λ k. refl)
+          (right_next y left rest (only a) before.left.within (λ k m. grind (arith, nat_tests, m, before.left.within a in_left)) c.without-left.ensures.members)
+          (c.in-Ok.ensures.concludes x (minus y left) (only a) before.proves shown.proves);
+    }

@@ -1,0 +1,45 @@
+use Rattle.std.proofs.Common.{◌≡◌, ℕ, true, refl, sym, ◌∙◌, ap, arith}
+use Rattle.attr_sets.specs.Places.{Places, union, meet, minus, Within, Same}
+use Rattle.attr_sets.specs.Sets.{places}
+use Rattle.derivation.specs.Derivs.{tree_of}
+use Rattle.derivation.proofs.ProvesLemmas.{mvd_restated}
+use Rattle.dep_basis.proofs.JoiningLemmas.{left_first, right_first, right_next, left_fewer, left_next}
+use Rattle.dep_basis.proofs.joining.join_mvd.Goals as goal
+
+pub loop-first-init : goal.loop-first-init
+loop-first-init c =
+    let x = places c.args.lhs in
+    let y = places c.args.rhs in
+    let left = places c.minus-left.result in
+    let t = tree_of c.in_ok-joined.joined.value in
+    record {
+      left = left_first x y left t c.minus-left.ensures.members c.in_ok-joined.ensures.size;
+      proves = mvd_restated c.args.schema.now t x (places c.meet.result) x (minus y left) (λ k. refl)
+          (right_first x y left (places c.meet.result) c.minus-left.ensures.members c.meet.ensures.members) c.in_ok-joined.ensures.proves;
+    }
+
+pub loop-first-smaller : goal.loop-first-smaller
+loop-first-smaller c =
+    left_fewer (places c.loop-first.left) (places c.minus-left-in-Some.result) (places c.in_ok-next.next.part) c.in-Some.first c.in-Some.ensures.place c.in-Some.ensures.least.member
+      c.in_ok-next.ensures.shown.member c.minus-left-in-Some.ensures.members
+
+pub loop-first-preserved : goal.loop-first-preserved
+loop-first-preserved c =
+    let s = c.args.schema.now in
+    let x = places c.args.lhs in
+    let y = places c.args.rhs in
+    let a = c.in-Some.first in
+    let left = places c.loop-first.left in
+    let rest = places c.minus-left-in-Some.result in
+    let before = c.loop-first.invariant in
+    let next = c.in_ok-next.next in
+    let u = tree_of c.in-Ok.more.value in
+    let shown = c.in_ok-next.ensures.shown in
+    let in_left : left a ≡ true = c.in-Some.ensures.least.member in
+    record {
+      left = left_next x y left rest (places next.part) a (tree_of c.loop-first.joined.value) (tree_of next.deriv.value) u before.left c.in-Some.ensures.place in_left shown.member c.minus-left-in-Some.ensures.members
+          shown.size c.in-Ok.ensures.little_more;
+      proves = mvd_restated s u x (union (minus y left) (places next.part)) x (minus y rest) (λ k. refl)
+          (right_next y left rest (places next.part) before.left.within (shown.within y c.requires.implied (before.left.within a in_left)) c.minus-left-in-Some.ensures.members)
+          (c.in-Ok.ensures.concludes x (minus y left) (places next.part) before.proves shown.proves);
+    }

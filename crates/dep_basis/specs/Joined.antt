@@ -1,0 +1,32 @@
+use Rattle.std.specs.Prelude.{◌≡◌, ℕ, ◌+◌, ◌*◌, ◌≤◌, true}
+use Rattle.attr_sets.specs.Places.{Places, minus, Within, Apart, count_below}
+use Rattle.attr_sets.specs.Sets.{places}
+use Rattle.attr_sets.specs.declared.set.TheConstants.{PLACES}
+use Rattle.dep_model.specs.declared.schema.Schema.{Schema}
+use Rattle.dep_model.specs.Dependencies.{Dependency, fd, mvd}
+use Rattle.dep_model.specs.Schemas.{universe_of, ImpliedBy}
+use Rattle.derivation.specs.Trees.{Tree, nodes, depth}
+use Rattle.derivation.specs.Derivs.{tree_of}
+use Rattle.derivation.specs.Conclusions.{Proves}
+use Rattle.dep_basis.specs.declared.proof.TheConstants.{MOST_NODES, MOST_LEVELS}
+use Rattle.dep_basis.specs.declared.shown.PartProof.{PartProof}
+use Rattle.dep_basis.specs.Shown.{HasSize}
+
+-- a tree proves a dependency, within the limits of a certificate
+pub record IsProofOf (s : Schema) (d : Dependency) (t : Tree) : Type 0 where
+  pub proves : Proves s t d
+  pub size : HasSize t MOST_NODES MOST_LEVELS
+
+-- a derivation for a set with attribute a in it, which lies within each implied right side with a in it
+pub record IsSetProof (s : Schema) (x : Places) (a : ℕ) (w : PartProof) : Type 0 where
+  pub member : places w.part a ≡ true
+  pub proves : Proves s (tree_of w.deriv.value) (mvd x (places w.part))
+  pub size : HasSize (tree_of w.deriv.value) (8 * PLACES + 8) (5 * PLACES + 8)
+  pub within : (y : Places) → ImpliedBy s (mvd x y) → y a ≡ true → Within (places w.part) y
+
+-- what is left of a right side, and a small tree for the rest of it
+pub record IsLeft (x y left : Places) (t : Tree) : Type 0 where
+  pub within : Within left y
+  pub apart : Apart left x
+  pub few_nodes : nodes t + (8 * PLACES + 14) * count_below left PLACES ≤ (8 * PLACES + 14) * PLACES + 1
+  pub few_levels : depth t + 5 * count_below left PLACES ≤ 10 * PLACES + 8

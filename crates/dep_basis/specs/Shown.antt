@@ -1,0 +1,68 @@
+use Rattle.std.specs.Prelude.{◌≡◌, ℕ, ◌+◌, ◌*◌, ◌<◌, ◌≤◌, true, false, ◌⊎◌, Some, slice_get}
+use Rattle.attr_sets.specs.Places.{Places, only, Within, Apart, Meets, count_below}
+use Rattle.attr_sets.specs.Sets.{places}
+use Rattle.attr_sets.specs.declared.set.AttrSet.{AttrSet}
+use Rattle.attr_sets.specs.declared.set.TheConstants.{PLACES}
+use Rattle.dep_model.specs.declared.schema.Schema.{Schema}
+use Rattle.dep_model.specs.Dependencies.{Dependency, fd, mvd, left_of, right_of, is_fd}
+use Rattle.dep_model.specs.declared.dep.Dep.{Dep}
+use Rattle.dep_model.specs.Deps.{dependency_of}
+use Rattle.dep_model.specs.Schemas.{width_of, universe_of, deps_of, theory_of}
+use Rattle.dep_model.specs.Keys.{IsBlock}
+use Rattle.derivation.specs.Trees.{Tree, nodes, depth}
+use Rattle.derivation.specs.Derivs.{tree_of}
+use Rattle.derivation.specs.Conclusions.{Proves}
+use Rattle.dep_basis.specs.declared.shown.PartProof.{PartProof}
+use Rattle.dep_basis.specs.declared.shown.Shown.{Shown}
+use Rattle.dep_basis.specs.declared.shown.Shown.TheVariants.{Closed, Part}
+use Rattle.dep_basis.specs.Refining.{IsCandidate}
+
+-- a dependency cuts a part: its left side is apart from it, and its right side shares some of it, and
+-- not all unless the dependency is a functional one
+pub record IsCutting (p : Places) (d : Dependency) : Type 0 where
+  pub apart : Apart (left_of d) p
+  pub shares : Meets p (right_of d)
+  pub leaves : (is_fd d ≡ true) ⊎ ((k : ℕ) × (p k ≡ true) × (right_of d k ≡ false))
+
+-- a tree has at most this many nodes and levels
+pub record HasSize (t : Tree) (most_nodes most_levels : ℕ) : Type 0 where
+  pub few_nodes : nodes t ≤ most_nodes
+  pub few_levels : depth t ≤ most_levels
+
+-- a tree proves that x multidetermines a part with attribute a in it, and is small beside what was
+-- cut off: eight nodes and five levels for each attribute
+pub record IsPartProof (s : Schema) (x : Places) (a : ℕ) (w : Places) (t : Tree) : Type 0 where
+  pub candidate : IsCandidate (width_of s) (theory_of s) x a w
+  pub member : w a ≡ true
+  pub proves : Proves s t (mvd x w)
+  pub few_nodes : nodes t + 8 * count_below w PLACES ≤ 8 * PLACES + 2
+  pub few_levels : depth t + 5 * count_below w PLACES ≤ 5 * PLACES + 2
+
+-- a tree proves that x determines attribute a
+pub record IsClosedProof (s : Schema) (x : Places) (a : ℕ) (t : Tree) : Type 0 where
+  pub proves : Proves s t (fd x (only a))
+  pub size : HasSize t (8 * PLACES + 6) (5 * PLACES + 6)
+
+-- a given dependency cuts the part of a derivation
+pub record CanCut (s : Schema) (a k : ℕ) (dep : Dep) (from : PartProof) : Type 0 where
+  pub given : slice_get (deps_of s) k ≡ Some dep
+  pub cutting : IsCutting (places from.part) (dependency_of dep)
+  pub lhs : Within (places from.lhs) (universe_of s)
+  pub attribute : a < PLACES
+  pub shown : IsPartProof s (places from.lhs) a (places from.part) (tree_of from.deriv.value)
+
+-- a derivation for a smaller part
+pub record IsNextPart (s : Schema) (a : ℕ) (from w : PartProof) : Type 0 where
+  pub same_lhs : w.lhs ≡ from.lhs
+  pub shown : IsPartProof s (places from.lhs) a (places w.part) (tree_of w.deriv.value)
+  pub smaller : count_below (places w.part) PLACES < count_below (places from.part) PLACES
+
+-- what is left of a part with attribute a in it, where one dependency cuts it
+abbrev pub IsCutShown : Schema → ℕ → PartProof → Shown → Type 0
+IsCutShown s a from (Closed b) = IsClosedProof s (places from.lhs) a (tree_of b.value)
+IsCutShown s a from (Part w) = IsNextPart s a from w
+
+-- what is shown of attribute a at last: that it is determined, or that its block is multidetermined
+abbrev pub IsShown : Schema → Places → ℕ → Shown → Type 0
+IsShown s x a (Closed b) = IsClosedProof s x a (tree_of b.value)
+IsShown s x a (Part w) = IsPartProof s x a (places w.part) (tree_of w.deriv.value) × IsBlock (width_of s) (theory_of s) x (places w.part)

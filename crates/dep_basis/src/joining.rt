@@ -1,0 +1,91 @@
+ghost use Rattle.std.specs.Prelude.{◌≡◌, ◌<◌, false, IfOk};
+ghost use Rattle.attr_sets.specs.Places.{only, Within};
+ghost use Rattle.attr_sets.specs.Sets.{places};
+ghost use Rattle.dep_model.specs.Dependencies.{fd, mvd};
+ghost use Rattle.dep_model.specs.Schemas.{width_of, universe_of, ImpliedBy};
+ghost use Rattle.derivation.specs.Derivs.{tree_of};
+ghost use Rattle.dep_basis.specs.Shown.{IsClosedProof};
+ghost use Rattle.dep_basis.specs.Joined.{IsProofOf, IsSetProof};
+
+use std::alloc::Global;
+
+use attr_sets::AttrSet;
+use dep_model::{Schema, WantMemory};
+use derivation::{Deriv, unite_fd, unite_mvd};
+
+use crate::makers::{mreflexivity, reflexivity};
+use crate::showing::show_attribute;
+use crate::shown::{PartProof, Shown};
+
+// A derivation of an implied functional dependency, which joins the attributes of its right side one
+// by one.
+pub fn join_fd(alloc: Global, schema: &Schema, lhs: AttrSet, rhs: AttrSet) -> Result<Box<Deriv>, WantMemory>
+    requires lhs { Within (places lhs) (universe_of schema.now) }
+    requires rhs { Within (places rhs) (universe_of schema.now) }
+    requires implied { ImpliedBy schema.now (fd (places lhs) (places rhs)) }
+    ensures proof { IfOk result (λ b. IsProofOf schema.now (fd (places lhs) (places rhs)) (tree_of b.value)) }
+{
+    let mut joined = reflexivity(alloc, schema, lhs, lhs.meet(rhs))?;
+    let mut left = rhs.minus(lhs);
+    while let Some(first) = left.least() {
+        let next = show_closed(alloc, schema, lhs, first)?;
+        let Ok(more) = unite_fd(alloc, schema, joined, next) else {
+            return Err(WantMemory);
+        };
+        joined = more;
+        left = left.without(first);
+    }
+    Ok(joined)
+}
+
+// A derivation of an implied multivalued dependency, which joins the parts of its right side.
+pub fn join_mvd(alloc: Global, schema: &Schema, lhs: AttrSet, rhs: AttrSet) -> Result<Box<Deriv>, WantMemory>
+    requires lhs { Within (places lhs) (universe_of schema.now) }
+    requires rhs { Within (places rhs) (universe_of schema.now) }
+    requires implied { ImpliedBy schema.now (mvd (places lhs) (places rhs)) }
+    ensures proof { IfOk result (λ b. IsProofOf schema.now (mvd (places lhs) (places rhs)) (tree_of b.value)) }
+{
+    let mut joined = mreflexivity(alloc, schema, lhs, lhs.meet(rhs))?;
+    let mut left = rhs.minus(lhs);
+    while let Some(first) = left.least() {
+        let next = show_set(alloc, schema, lhs, first)?;
+        let Ok(more) = unite_mvd(alloc, schema, joined, next.deriv) else {
+            return Err(WantMemory);
+        };
+        joined = more;
+        left = left.minus(next.part);
+    }
+    Ok(joined)
+}
+
+// That the left side determines an attribute, where it is implied.
+fn show_closed(alloc: Global, schema: &Schema, lhs: AttrSet, attribute: u8) -> Result<Box<Deriv>, WantMemory>
+    requires lhs { Within (places lhs) (universe_of schema.now) }
+    requires attribute { attribute < width_of schema.now }
+    requires outside { places lhs attribute ≡ false }
+    requires implied { ImpliedBy schema.now (fd (places lhs) (only attribute)) }
+    ensures shown { IfOk result (λ b. IsClosedProof schema.now (places lhs) attribute (tree_of b.value)) }
+{
+    match show_attribute(alloc, schema, lhs, attribute)? {
+        Shown::Closed(deriv) => Ok(deriv),
+        Shown::Part(_) => unreachable!(),
+    }
+}
+
+// The block of an attribute, or the attribute alone where it is determined, and that the left side
+// multidetermines it.
+fn show_set(alloc: Global, schema: &Schema, lhs: AttrSet, attribute: u8) -> Result<PartProof, WantMemory>
+    requires lhs { Within (places lhs) (universe_of schema.now) }
+    requires attribute { attribute < width_of schema.now }
+    requires outside { places lhs attribute ≡ false }
+    ensures shown { IfOk result (IsSetProof schema.now (places lhs) attribute) }
+{
+    match show_attribute(alloc, schema, lhs, attribute)? {
+        Shown::Closed(deriv) => Ok(PartProof {
+            lhs,
+            part: AttrSet::single(attribute),
+            deriv: Box::new(alloc, Deriv::Repl(deriv))?,
+        }),
+        Shown::Part(block) => Ok(block),
+    }
+}

@@ -1,0 +1,85 @@
+ghost use Rattle.std.specs.Prelude.{◌≡◌, ℕ, ◌+◌, ◌<◌, true, Some, slice_get, IfOk};
+ghost use Rattle.attr_sets.specs.Places.{Places, only, minus, Within, Apart};
+ghost use Rattle.attr_sets.specs.Sets.{places};
+ghost use Rattle.dep_model.specs.Dependencies.{fd, mvd, left_of, right_of};
+ghost use Rattle.dep_model.specs.Deps.{dependency_of};
+ghost use Rattle.dep_model.specs.Schemas.{width_of, universe_of, deps_of};
+ghost use Rattle.derivation.specs.Derivs.{tree_of};
+ghost use Rattle.derivation.specs.Conclusions.{Proves};
+ghost use Rattle.dep_basis.specs.Shown.{HasSize};
+
+use std::alloc::Global;
+
+use attr_sets::AttrSet;
+use dep_model::{Dep, Schema, WantMemory};
+use derivation::Deriv;
+
+// `lhs -> rhs`, by reflexivity.
+pub fn reflexivity(alloc: Global, schema: &Schema, lhs: AttrSet, rhs: AttrSet) -> Result<Box<Deriv>, WantMemory>
+    requires lhs { Within (places lhs) (universe_of schema.now) }
+    requires rhs { Within (places rhs) (places lhs) }
+    ensures proves { IfOk result (λ b. Proves schema.now (tree_of b.value) (fd (places lhs) (places rhs))) }
+    ensures size { IfOk result (λ b. HasSize (tree_of b.value) 1 1) }
+{
+    Ok(Box::new(alloc, Deriv::Reflex { lhs, rhs })?)
+}
+
+// `lhs ->> rhs`, by reflexivity.
+pub fn mreflexivity(alloc: Global, schema: &Schema, lhs: AttrSet, rhs: AttrSet) -> Result<Box<Deriv>, WantMemory>
+    requires lhs { Within (places lhs) (universe_of schema.now) }
+    requires rhs { Within (places rhs) (places lhs) }
+    ensures proves { IfOk result (λ b. Proves schema.now (tree_of b.value) (mvd (places lhs) (places rhs))) }
+    ensures size { IfOk result (λ b. HasSize (tree_of b.value) 1 1) }
+{
+    Ok(Box::new(alloc, Deriv::MReflex { lhs, rhs })?)
+}
+
+// `lhs ->>` all attributes outside it.
+pub fn outside(alloc: Global, schema: &Schema, lhs: AttrSet) -> Result<Box<Deriv>, WantMemory>
+    requires lhs { Within (places lhs) (universe_of schema.now) }
+    ensures proves { IfOk result (λ b. Proves schema.now (tree_of b.value) (mvd (places lhs) (minus (universe_of schema.now) (places lhs)))) }
+    ensures size { IfOk result (λ b. HasSize (tree_of b.value) 2 2) }
+{
+    let from = mreflexivity(alloc, schema, lhs, lhs)?;
+    Ok(Box::new(alloc, Deriv::Compl(from))?)
+}
+
+// A given functional dependency.
+pub fn given_fd(alloc: Global, schema: &Schema, k: u16, lhs: AttrSet, rhs: AttrSet) -> Result<Box<Deriv>, WantMemory>
+    requires given { slice_get (deps_of schema.now) k ≡ Some (Dep.Fd lhs rhs) }
+    ensures proves { IfOk result (λ b. Proves schema.now (tree_of b.value) (fd (places lhs) (places rhs))) }
+    ensures size { IfOk result (λ b. HasSize (tree_of b.value) 1 1) }
+{
+    Ok(Box::new(alloc, Deriv::Given(k))?)
+}
+
+// A given dependency of either kind, as a multivalued one.
+pub fn given_mvd(alloc: Global, schema: &Schema, k: u16, dep: Dep) -> Result<Box<Deriv>, WantMemory>
+    requires given { slice_get (deps_of schema.now) k ≡ Some dep }
+    ensures proves { IfOk result (λ b. Proves schema.now (tree_of b.value) (mvd (left_of (dependency_of dep)) (right_of (dependency_of dep)))) }
+    ensures size { IfOk result (λ b. HasSize (tree_of b.value) 2 2) }
+{
+    match dep {
+        Dep::Fd { lhs, rhs } => {
+            let from = given_fd(alloc, schema, k, lhs, rhs)?;
+            Ok(Box::new(alloc, Deriv::Repl(from))?)
+        }
+        Dep::Mvd { .. } => Ok(Box::new(alloc, Deriv::Given(k))?),
+    }
+}
+
+// From `X ->> W` and a given `V -> T`, where `V` is apart from `W` and `a` is in `W` and in `T`: `X -> a`.
+pub fn moved(alloc: Global, schema: &Schema, part: Box<Deriv>, given: Box<Deriv>, rhs: AttrSet, attribute: u8) -> Result<Box<Deriv>, WantMemory>
+    requires attribute { attribute < 128 }
+    requires rhs { Within (places rhs) (universe_of schema.now) }
+    requires member { places rhs attribute ≡ true }
+    ensures proves { (x w v : Places) → Apart v w → w attribute ≡ true
+        → Proves schema.now (tree_of part.value) (mvd x w) → Proves schema.now (tree_of given.value) (fd v (places rhs))
+        → IfOk result (λ b. Proves schema.now (tree_of b.value) (fd x (only attribute))) }
+    ensures size { (n m : ℕ) → HasSize (tree_of part.value) n m → HasSize (tree_of given.value) 1 1
+        → IfOk result (λ b. HasSize (tree_of b.value) (n + 4) (m + 3)) }
+{
+    let only = reflexivity(alloc, schema, rhs, AttrSet::single(attribute))?;
+    let gives = Box::new(alloc, Deriv::Trans(given, only))?;
+    Ok(Box::new(alloc, Deriv::Coalesce(part, gives))?)
+}

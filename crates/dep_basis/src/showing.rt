@@ -1,0 +1,97 @@
+ghost use Rattle.std.specs.Prelude.{◌≡◌, ◌<◌, true, false, IfOk};
+ghost use Rattle.attr_sets.specs.Places.{Within};
+ghost use Rattle.attr_sets.specs.Sets.{places};
+ghost use Rattle.dep_model.specs.Dependencies.{is_fd, right_of};
+ghost use Rattle.dep_model.specs.Deps.{dependency_of};
+ghost use Rattle.dep_model.specs.Schemas.{width_of, universe_of};
+ghost use Rattle.derivation.specs.Derivs.{tree_of};
+ghost use Rattle.dep_basis.specs.Shown.{CanCut, IsNextPart, IsClosedProof, IsCutShown, IsShown};
+
+use std::alloc::Global;
+
+use attr_sets::AttrSet;
+use dep_model::{Dep, Schema, WantMemory};
+use derivation::{Deriv, split_inside, split_outside};
+
+use crate::cutting::next_cut;
+use crate::makers::{given_fd, given_mvd, moved, outside};
+use crate::refining::sides;
+use crate::shown::{PartProof, Shown};
+
+// What is left of a part with an attribute, where a given dependency cuts it.
+fn cut_shown(alloc: Global, schema: &Schema, k: u16, dep: Dep, from: PartProof, attribute: u8) -> Result<Shown, WantMemory>
+    requires cut { CanCut schema.now attribute k dep from }
+    ensures shown { IfOk result (IsCutShown schema.now attribute from) }
+{
+    let (_, rhs) = sides(dep);
+    if !rhs.has(attribute) {
+        return Ok(Shown::Part(cut_outside(alloc, schema, k, dep, from, attribute)?));
+    }
+    match dep {
+        Dep::Fd { lhs, rhs } => Ok(Shown::Closed(cut_closed(alloc, schema, k, lhs, rhs, from, attribute)?)),
+        Dep::Mvd { .. } => Ok(Shown::Part(cut_inside(alloc, schema, k, dep, from, attribute)?)),
+    }
+}
+
+// The part without the right side.
+fn cut_outside(alloc: Global, schema: &Schema, k: u16, dep: Dep, from: PartProof, attribute: u8) -> Result<PartProof, WantMemory>
+    requires cut { CanCut schema.now attribute k dep from }
+    requires without { right_of (dependency_of dep) attribute ≡ false }
+    ensures shown { IfOk result (IsNextPart schema.now attribute from) }
+{
+    let (_, rhs) = sides(dep);
+    let PartProof { lhs, part, deriv } = from;
+    let given = given_mvd(alloc, schema, k, dep)?;
+    match split_outside(alloc, schema, deriv, given) {
+        Ok(deriv) => Ok(PartProof { lhs, part: part.minus(rhs), deriv }),
+        Err(_) => Err(WantMemory),
+    }
+}
+
+// What the part shares with the right side.
+fn cut_inside(alloc: Global, schema: &Schema, k: u16, dep: Dep, from: PartProof, attribute: u8) -> Result<PartProof, WantMemory>
+    requires cut { CanCut schema.now attribute k dep from }
+    requires with { right_of (dependency_of dep) attribute ≡ true }
+    requires multivalued { is_fd (dependency_of dep) ≡ false }
+    ensures shown { IfOk result (IsNextPart schema.now attribute from) }
+{
+    let (_, rhs) = sides(dep);
+    let PartProof { lhs, part, deriv } = from;
+    let given = given_mvd(alloc, schema, k, dep)?;
+    match split_inside(alloc, schema, deriv, given) {
+        Ok(deriv) => Ok(PartProof { lhs, part: part.meet(rhs), deriv }),
+        Err(_) => Err(WantMemory),
+    }
+}
+
+// That the left side determines the attribute.
+fn cut_closed(alloc: Global, schema: &Schema, k: u16, lhs: AttrSet, rhs: AttrSet, from: PartProof, attribute: u8) -> Result<Box<Deriv>, WantMemory>
+    requires cut { CanCut schema.now attribute k (Dep.Fd lhs rhs) from }
+    requires with { places rhs attribute ≡ true }
+    ensures shown { IfOk result (λ b. IsClosedProof schema.now (places from.lhs) attribute (tree_of b.value)) }
+{
+    let given = given_fd(alloc, schema, k, lhs, rhs)?;
+    moved(alloc, schema, from.deriv, given, rhs, attribute)
+}
+
+// What is shown of an attribute outside the left side.
+pub fn show_attribute(alloc: Global, schema: &Schema, lhs: AttrSet, attribute: u8) -> Result<Shown, WantMemory>
+    requires lhs { Within (places lhs) (universe_of schema.now) }
+    requires attribute { attribute < width_of schema.now }
+    requires outside { places lhs attribute ≡ false }
+    ensures shown { IfOk result (IsShown schema.now (places lhs) attribute) }
+{
+    let deps = schema.deps();
+    let mut from = PartProof {
+        lhs,
+        part: AttrSet::full(schema.width()).minus(lhs),
+        deriv: outside(alloc, schema, lhs)?,
+    };
+    while let Some(k) = next_cut(deps, from.part) {
+        match cut_shown(alloc, schema, k as u16, deps[k], from, attribute)? {
+            Shown::Closed(deriv) => return Ok(Shown::Closed(deriv)),
+            Shown::Part(rest) => from = rest,
+        }
+    }
+    Ok(Shown::Part(from))
+}

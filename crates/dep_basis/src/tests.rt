@@ -1,0 +1,219 @@
+ghost use Rattle.std.specs.Prelude.{◌≡◌, ◌≤◌, ◌<◌, false, length, IsTrue, IfOk, All, AllPairs};
+ghost use Rattle.attr_sets.specs.Sets.{places};
+ghost use Rattle.dep_model.specs.Names.{same_name};
+ghost use Rattle.dep_model.specs.Deps.{IsDepWithin};
+ghost use Rattle.dep_model.specs.Schemas.{width_of};
+
+use crate::{Decision, basis, decide, trace_basis, witness};
+use attr_sets::AttrSet;
+use dep_model::{Dep, Name, Schema, WantMemory};
+use std::alloc::Global;
+use std::test::Fail;
+
+fn fd(lhs: u128, rhs: u128) -> Dep {
+    Dep::Fd {
+        lhs: AttrSet(lhs),
+        rhs: AttrSet(rhs),
+    }
+}
+
+fn mvd(lhs: u128, rhs: u128) -> Dep {
+    Dep::Mvd {
+        lhs: AttrSet(lhs),
+        rhs: AttrSet(rhs),
+    }
+}
+
+fn is_within(dep: Dep, universe: AttrSet) -> bool
+    ensures within { IsTrue result → IsDepWithin (places universe) dep }
+{
+    match dep {
+        Dep::Fd { lhs, rhs } | Dep::Mvd { lhs, rhs } => {
+            lhs.within(universe) && rhs.within(universe)
+        }
+    }
+}
+
+fn are_within(deps: &[Dep], universe: AttrSet) -> bool
+    ensures within { IsTrue result → All (IsDepWithin (places universe)) deps.now }
+{
+    for dep in deps {
+        if !is_within(*dep, universe) {
+            return false;
+        }
+    }
+    true
+}
+
+fn differs_from_all(names: &[Name], name: &Name) -> bool
+    ensures differs { IsTrue result → All (λ other. same_name other name.now ≡ false) names.now }
+{
+    for other in names {
+        if other.same(name) {
+            return false;
+        }
+    }
+    true
+}
+
+// The names `Aa`, `Ab` and so on.
+fn names_of(alloc: Global, width: u8) -> Result<Vec<Name>, WantMemory>
+    requires few { width ≤ 128 }
+    ensures count { IfOk result (λ names. length names.items ≡ width) }
+    ensures differ { IfOk result (λ names. AllPairs (λ a b. same_name a b ≡ false) names.items) }
+{
+    let mut names = Vec::new(alloc);
+    for i in 0..width {
+        let Some(name) = Name::make(&[b'A' + i / 16, b'a' + i % 16]) else {
+            return Err(WantMemory);
+        };
+        if !differs_from_all(&names, &name) {
+            return Err(WantMemory);
+        }
+        names.push(name)?;
+    }
+    Ok(names)
+}
+
+pub fn schema_of(alloc: Global, width: u8, deps: &[Dep]) -> Result<Schema, WantMemory>
+    ensures width { IfOk result (λ schema. width_of schema ≡ width) }
+{
+    if width == 0 || width > 128 || deps.len() > 256 || !are_within(deps, AttrSet::full(width)) {
+        return Err(WantMemory);
+    }
+    let names = names_of(alloc, width)?;
+    let lines = vec![in alloc; 1u32; deps.len()]?;
+    Ok(Schema::make(names, Vec::from_slice(alloc, deps)?, lines))
+}
+
+// What is decided of a dependency within the universe; of any other nothing.
+fn decided(schema: &Schema, dep: Dep) -> Option<Decision> {
+    if is_within(dep, AttrSet::full(schema.width())) {
+        Some(decide(schema, dep))
+    } else {
+        None
+    }
+}
+
+fn broken(agreement: u128) -> Option<Decision> {
+    Some(Decision::Broken {
+        agreement: AttrSet(agreement),
+    })
+}
+
+#[test]
+fn decides_by_functional_dependencies(rt: HostRuntime) -> Result<(), Fail> {
+    // A -> B, B -> C.
+    let chain = schema_of(rt.alloc(), 3, &[fd(1, 2), fd(2, 4)])?;
+    assert_eq!(rt; decided(&chain, fd(1, 4)), Some(Decision::Implied));
+    assert_eq!(rt; decided(&chain, fd(1, 1)), Some(Decision::Implied));
+    assert_eq!(rt; decided(&chain, mvd(1, 4)), Some(Decision::Implied));
+    assert_eq!(rt; decided(&chain, fd(4, 1)), broken(4));
+    assert_eq!(rt; decided(&chain, fd(8, 1)), None);
+    Ok(())
+}
+
+#[test]
+fn decides_by_coalescence(rt: HostRuntime) -> Result<(), Fail> {
+    // A ->> B, C -> B: A -> B is implied, though A alone is its closure by C -> B.
+    let schema = schema_of(rt.alloc(), 3, &[mvd(1, 2), fd(4, 2)])?;
+    assert_eq!(rt; decided(&schema, fd(1, 2)), Some(Decision::Implied));
+    assert_eq!(rt; decided(&schema, fd(1, 4)), broken(3));
+    assert_eq!(rt; decided(&schema, fd(1, 6)), broken(3));
+    assert_eq!(rt; decided(&schema, fd(2, 1)), broken(2));
+    Ok(())
+}
+
+#[test]
+fn decides_multivalued_dependencies(rt: HostRuntime) -> Result<(), Fail> {
+    // A ->> B C.
+    let schema = schema_of(rt.alloc(), 4, &[mvd(1, 6)])?;
+    assert_eq!(rt; decided(&schema, mvd(1, 2)), broken(9));
+    assert_eq!(rt; decided(&schema, mvd(1, 8)), Some(Decision::Implied));
+    assert_eq!(rt; decided(&schema, mvd(1, 14)), Some(Decision::Implied));
+    assert_eq!(rt; decided(&schema, mvd(1, 9)), Some(Decision::Implied));
+    assert_eq!(rt; decided(&schema, mvd(2, 5)), broken(2));
+    Ok(())
+}
+
+#[test]
+fn decides_over_one_attribute(rt: HostRuntime) -> Result<(), Fail> {
+    let schema = schema_of(rt.alloc(), 1, &[])?;
+    assert_eq!(rt; decided(&schema, fd(0, 1)), broken(0));
+    assert_eq!(rt; decided(&schema, mvd(0, 1)), Some(Decision::Implied));
+    assert_eq!(rt; decided(&schema, fd(1, 0)), Some(Decision::Implied));
+    Ok(())
+}
+
+#[test]
+fn finds_the_basis_of_a_timetable(rt: HostRuntime) -> Result<(), Fail> {
+    // COURSE TEACHER HOUR ROOM STUDENT GRADE, and the basis of COURSE.
+    let deps = [
+        fd(1, 2),
+        fd(12, 1),
+        fd(6, 8),
+        fd(17, 32),
+        fd(20, 8),
+        mvd(1, 12),
+    ];
+    let schema = schema_of(rt.alloc(), 6, &deps)?;
+    assert_eq!(rt; decided(&schema, mvd(1, 48)), Some(Decision::Implied));
+    assert_eq!(rt; decided(&schema, fd(1, 8)), broken(51));
+    assert_eq!(rt; schema.width(), 6);
+    let course = basis(&schema, AttrSet::single(0));
+    assert_eq!(rt; course.closed, AttrSet(3));
+    assert_eq!(rt; course.count, 2);
+    assert_eq!(rt; course.blocks[0], AttrSet(12));
+    assert_eq!(rt; course.blocks[1], AttrSet(48));
+    assert_eq!(rt; course.blocks[2], AttrSet(0));
+    Ok(())
+}
+
+#[test]
+fn orders_traces_by_their_own_attributes(rt: HostRuntime) -> Result<(), Fail> {
+    // () ->> A D: the blocks of () are A D and B C, and on C D their traces are D and C.
+    let schema = schema_of(rt.alloc(), 4, &[mvd(0, 9)])?;
+    assert_eq!(rt; schema.width(), 4);
+    let none = AttrSet::empty();
+    let whole = basis(&schema, none);
+    assert_eq!(rt; whole.blocks[0], AttrSet(9));
+    assert_eq!(rt; whole.blocks[1], AttrSet(6));
+    let scheme = AttrSet::single(2).with(3);
+    let part = trace_basis(&schema, scheme, none);
+    assert_eq!(rt; part.closed, none);
+    assert_eq!(rt; part.count, 2);
+    assert_eq!(rt; part.blocks[0], AttrSet(4));
+    assert_eq!(rt; part.blocks[1], AttrSet(8));
+    Ok(())
+}
+
+#[test]
+fn decides_over_many_attributes(rt: HostRuntime) -> Result<(), Fail> {
+    for width in [64u8, 128] {
+        let mut deps = Vec::with_capacity(rt.alloc(), 256)?;
+        for k in 0..256u16 {
+            deps.push(mvd(1, 1 << (1 + k % (width as u16 - 1))))?;
+        }
+        let schema = schema_of(rt.alloc(), width, &deps)?;
+        let last = 1 << (width - 1);
+        assert_eq!(rt; decided(&schema, mvd(1, 2 | last)), Some(Decision::Implied));
+        assert_eq!(rt; decided(&schema, fd(1, last)), broken(last - 1));
+    }
+    Ok(())
+}
+
+#[test]
+fn makes_two_rows(rt: HostRuntime) -> Result<(), Fail> {
+    let schema = schema_of(rt.alloc(), 3, &[])?;
+    assert_eq!(rt; schema.width(), 3);
+    let rows = witness(rt.alloc(), &schema, AttrSet::single(1))?;
+    let (first, second) = (&rows[0], &rows[1]);
+    assert!(rt; first.len() == 3 && second.len() == 3);
+    for i in 0..3 {
+        assert_eq!(rt; first.value(i).bytes(), b"0".as_slice());
+    }
+    assert_eq!(rt; second.value(0).bytes(), b"1".as_slice());
+    assert_eq!(rt; second.value(1).bytes(), b"0".as_slice());
+    assert_eq!(rt; second.value(2).bytes(), b"1".as_slice());
+    Ok(())
+}

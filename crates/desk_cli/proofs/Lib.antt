@@ -1,0 +1,3 @@
+mod AnswerLemmas
+pub mod CompleteLemmas
+mod DigitLemmas

@@ -1,0 +1,101 @@
+-- Which status and text answer a command.
+use Rattle.std.specs.Prelude.{◌≡◌, ◌⊎◌, ◌↔◌, ℕ, ◌<◌, ◌≤◌, Bool, true, not, List, ◌∷◌, length, codes, Ok, Err, MatchOption}
+use Rattle.std.specs.Bool.{MatchBool}
+use Rattle.std.specs.List.{list_any}
+use Rattle.attr_sets.specs.Places.{Places}
+use Rattle.dep_model.specs.Dependencies.{Dependency, Obeys, left_of, is_fd}
+use Rattle.dep_model.specs.Keys.{InClosure}
+use Rattle.dep_model.specs.Schemas.{names_of, width_of, theory_of, LegalFor, ImpliedBy}
+use Rattle.dep_model.specs.declared.schema.Schema.{Schema}
+use Rattle.dep_model.specs.TwoTuples.{two_tuples}
+use Rattle.schema_reader.specs.declared.goal.TheConstants.{MOST_GOAL_BYTES}
+use Rattle.schema_reader.specs.declared.text.TheConstants.{MOST_TEXT_BYTES}
+use Rattle.schema_reader.specs.declared.refusal.SchemaRefusal.{SchemaRefusal}
+use Rattle.schema_reader.specs.Reading.{read_goal}
+use Rattle.schema_reader.specs.Texts.{read_text, declarations_of}
+use Rattle.desk_cli.specs.declared.status.Status.{Status}
+use Rattle.desk_cli.specs.declared.status.Status.TheVariants.{Yes, No, Refused, CannotRead}
+use Rattle.desk_cli.specs.Forms.{Form, implies, form_of}
+use Rattle.desk_cli.specs.Readings.{Reading}
+use Rattle.desk_cli.specs.Texts.{words_text, cannot_read_text, too_long_text, goal_too_long_text, not_built_text, refusal_text, goal_refusal_text, yes_text, no_text}
+
+-- which status may be answered with which text
+abbrev pub Allowed : Type 1
+Allowed = Status → List ℕ → Type 0
+
+-- just this status with this text
+abbrev pub Says : Status → List ℕ → Allowed
+Says s t status text = (status ≡ s) × (text ≡ t)
+
+-- ---- reading
+-- how the reading of a file of at most so many bytes ends a command
+abbrev pub FileStops : Reading → List ℕ → ℕ → Allowed
+FileStops r name limit status text =
+    (r.cannot_read name × Says CannotRead (cannot_read_text name) status text)
+    ⊎ (r.too_long name limit × Says Refused (too_long_text name) status text)
+
+-- a file of at most so many bytes has these
+abbrev pub IsContent : Reading → List ℕ → ℕ → List ℕ → Type 0
+IsContent r name limit bytes = r.has name bytes × (length bytes ≤ limit)
+
+-- how the reading of a schema file ends a command
+abbrev pub SchemaStops : Reading → List ℕ → Allowed
+SchemaStops r name status text =
+    FileStops r name MOST_TEXT_BYTES status text
+    ⊎ ((bytes : List ℕ) × (refusal : SchemaRefusal) × IsContent r name MOST_TEXT_BYTES bytes × (read_text bytes ≡ Err refusal)
+    × Says Refused (refusal_text (codes "schema") name refusal) status text)
+
+-- a file declares this schema
+abbrev pub IsSchemaFile : Reading → List ℕ → Schema → Type 0
+IsSchemaFile r name schema = (bytes : List ℕ) × IsContent r name MOST_TEXT_BYTES bytes × (read_text bytes ≡ Ok (declarations_of schema))
+
+-- a schema file is read, and then the rest follows
+abbrev pub WithSchema : Reading → List ℕ → (Schema → Allowed) → Allowed
+WithSchema r name rest status text =
+    SchemaStops r name status text ⊎ ((schema : Schema) × IsSchemaFile r name schema × rest schema status text)
+
+-- how the reading of a goal ends a command
+abbrev pub GoalStops : Schema → List ℕ → Allowed
+GoalStops schema goal status text =
+    ((MOST_GOAL_BYTES < length goal) × Says Refused goal_too_long_text status text)
+    ⊎ ((refusal : SchemaRefusal) × (length goal ≤ MOST_GOAL_BYTES) × (read_goal (names_of schema) goal ≡ Err refusal)
+    × Says Refused (goal_refusal_text refusal) status text)
+
+-- a goal is read, and then the rest follows
+abbrev pub WithGoal : Schema → List ℕ → (Dependency → Allowed) → Allowed
+WithGoal schema goal rest status text =
+    GoalStops schema goal status text
+    ⊎ ((dep : Dependency) × (length goal ≤ MOST_GOAL_BYTES) × (read_goal (names_of schema) goal ≡ Ok dep) × rest dep status text)
+
+-- ---- implication
+-- a relation that obeys the schema's dependencies and breaks the goal: the two tuples that agree just
+-- on the closure of the goal's left side
+pub record Refutes (schema : Schema) (goal : Dependency) (agreement : Places) : Type 0 where
+  pub closure : (k : ℕ) → (agreement k ≡ true) ↔ InClosure (width_of schema) (theory_of schema) (left_of goal) k
+  pub legal : LegalFor schema (two_tuples (width_of schema) agreement)
+  pub breaks : Obeys (width_of schema) goal (two_tuples (width_of schema) agreement) → ⊥
+
+-- yes exactly where the goal is implied; else no, with two tuples that show it
+abbrev pub Decided : Schema → Dependency → Allowed
+Decided schema goal status text =
+    (ImpliedBy schema goal × Says Yes yes_text status text)
+    ⊎ ((ImpliedBy schema goal → ⊥)
+    × ((agreement : Places) × Refutes schema goal agreement × Says No (no_text (names_of schema) (two_tuples (width_of schema) agreement)) status text))
+
+-- whether the schema or the goal has a multivalued dependency
+abbrev pub is_mixed : Schema → Dependency → Bool
+is_mixed schema goal = list_any (λ d. not (is_fd d)) (goal ∷ theory_of schema)
+
+abbrev pub ImpliesAnswer : Schema → Dependency → Allowed
+ImpliesAnswer schema goal status text =
+    MatchBool (is_mixed schema goal) (Says Refused not_built_text status text) (Decided schema goal status text)
+
+-- ---- commands
+-- which status and text a command gives
+unfoldable pub Performs : Reading → Form → Allowed
+Performs r (implies file goal) = WithSchema r file (λ schema. WithGoal schema goal (λ dep. ImpliesAnswer schema dep))
+
+-- which status and text answer the words
+abbrev pub Answers : Reading → List (List ℕ) → Allowed
+Answers r words status text =
+    MatchOption (form_of words) (Says Refused words_text status text) (λ form. Performs r form status text)

@@ -1,0 +1,12 @@
+use Rattle.std.specs.Prelude.{ℕ, Option, Some, None, List, [], ◌∷◌, if◌then◌else◌, codes}
+use Rattle.std.specs.Str.{bytes_eq}
+
+-- a command, with the words that follow its own
+pub data Form : Type 0 where
+  -- a schema file and a goal
+  implies : List ℕ → List ℕ → Form
+
+-- the command that the words form, if they form one
+abbrev pub form_of : List (List ℕ) → Option Form
+form_of (verb ∷ schema ∷ goal ∷ []) = if bytes_eq verb (codes "implies") then Some (implies schema goal) else None
+form_of _ = None

@@ -1,0 +1,7 @@
+pub mod Forms
+pub mod Commands
+pub mod Texts
+pub mod Readings
+pub mod Answers
+pub mod Replies
+pub mod Desk

@@ -1,0 +1,86 @@
+-- The texts that are printed.
+use Rattle.std.specs.Prelude.{ℕ, List, [], ◌∷◌, ◌++◌, codes}
+use Rattle.std.specs.Fmt.{decimal}
+use Rattle.schema_reader.specs.declared.refusal.What.{What}
+use Rattle.schema_reader.specs.declared.refusal.What.TheVariants as what
+use Rattle.schema_reader.specs.declared.refusal.SchemaRefusalKind.{SchemaRefusalKind}
+use Rattle.schema_reader.specs.declared.refusal.SchemaRefusalKind.TheVariants as kind
+use Rattle.schema_reader.specs.declared.refusal.SchemaRefusal.{SchemaRefusal}
+use Rattle.csv_rows.specs.RowsText.{rows_text}
+use Rattle.dep_model.specs.Tuples.{Relation}
+
+-- a line of a text
+abbrev pub line : List ℕ → List ℕ
+line text = text ++ 10 ∷ []
+
+abbrev pub words_text : List ℕ
+words_text = line (codes "refused: the words form no command")
+
+abbrev pub cannot_read_text : List ℕ → List ℕ
+cannot_read_text name = line (codes "cannot read " ++ name)
+
+abbrev pub too_long_text : List ℕ → List ℕ
+too_long_text name = line (codes "refused: " ++ name ++ codes " is too long")
+
+abbrev pub goal_too_long_text : List ℕ
+goal_too_long_text = line (codes "refused: goal is too long")
+
+abbrev pub not_built_text : List ℕ
+not_built_text = line (codes "refused: not built yet")
+
+-- what the grammar wants
+abbrev pub what_text : What → List ℕ
+what_text what.Name = codes "expected a name"
+what_text what.Side = codes "expected names or ()"
+what_text what.Arrow = codes "expected -> or ->>"
+what_text what.LineEnd = codes "expected the line's end"
+what_text what.Number = codes "expected a number"
+what_text what.Colon = codes "expected :"
+what_text what.Rule = codes "expected a rule"
+what_text what.With = codes "expected with"
+what_text what.Scheme = codes "expected scheme"
+
+-- the reason of a refusal in words; want of memory has none
+abbrev pub kind_text : SchemaRefusalKind → List ℕ
+kind_text kind.StrangeByte = codes "strange byte"
+kind_text kind.BadName = codes "bad name"
+kind_text kind.ReservedName = codes "reserved name"
+kind_text kind.DoubleName = codes "name declared twice"
+kind_text kind.UnknownName = codes "unknown name"
+kind_text (kind.Expected w) = what_text w
+kind_text kind.TooManyAttributes = codes "too many attributes"
+kind_text kind.TooManyDependencies = codes "too many dependencies"
+kind_text kind.NoAttributes = codes "no attributes"
+kind_text kind.UnknownVersion = codes "unknown version"
+kind_text kind.Memory = []
+
+-- its number
+abbrev pub kind_number : SchemaRefusalKind → ℕ
+kind_number kind.StrangeByte = 1
+kind_number kind.BadName = 2
+kind_number kind.ReservedName = 3
+kind_number kind.DoubleName = 4
+kind_number kind.UnknownName = 5
+kind_number (kind.Expected w) = 6
+kind_number kind.TooManyAttributes = 7
+kind_number kind.TooManyDependencies = 8
+kind_number kind.NoAttributes = 9
+kind_number kind.UnknownVersion = 13
+kind_number kind.Memory = 0
+
+-- a refusal of a text at its place: the kind of text, its name, the line and the column
+abbrev pub refusal_text : List ℕ → List ℕ → SchemaRefusal → List ℕ
+refusal_text group name refusal =
+    line (codes "refused: " ++ group ++ codes " " ++ decimal (kind_number refusal.kind) ++ codes " at " ++ name
+    ++ codes ":" ++ decimal refusal.span.line ++ codes ":" ++ decimal refusal.span.column ++ codes " " ++ kind_text refusal.kind)
+
+-- a goal is named `goal`
+abbrev pub goal_refusal_text : SchemaRefusal → List ℕ
+goal_refusal_text refusal = refusal_text (codes "goal") (codes "goal") refusal
+
+abbrev pub yes_text : List ℕ
+yes_text = line (codes "yes")
+
+-- `no` and a relation that shows it
+abbrev pub no_text : List (List ℕ) → Relation → List ℕ
+no_text names rows = line (codes "no") ++ rows_text names rows

@@ -1,0 +1,20 @@
+//! The top call: the words of a command, the files of a shelf, a text for a sink and a status.
+//!
+//! `desk` promises, in one record of clauses, that its answer is one that the words and the files
+//! allow, that the sink took just that answer's text, that each fault has its cause, and that where
+//! nothing fails the answer is the one that the theory fixes.
+#![tactic(auto)]
+
+mod command;
+mod implies;
+mod read;
+mod refusals;
+mod reply;
+mod status;
+#[cfg(test)]
+mod tests;
+mod text;
+mod top;
+
+pub use status::Status;
+pub use top::desk;

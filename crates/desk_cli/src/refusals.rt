@@ -1,0 +1,88 @@
+ghost use Rattle.std.specs.Prelude.{◌≡◌, IfOk};
+ghost use Rattle.desk_cli.specs.Texts.{what_text, kind_text, kind_number, refusal_text};
+
+use crate::text::{put, put_number};
+use dep_model::WantMemory;
+use schema_reader::{SchemaRefusal, SchemaRefusalKind, What};
+use std::alloc::Global;
+
+/// The line that tells a refusal of a text: the kind of text, its name, the place and the reason.
+pub fn refusal_line(
+    alloc: Global,
+    group: &[u8],
+    name: &[u8],
+    refusal: SchemaRefusal,
+) -> Result<Vec<u8>, WantMemory>
+    ensures text { IfOk result (λ text. text.items ≡ refusal_text group.now name.now refusal) }
+{
+    let mut text = Vec::new(alloc);
+    put(&mut text, b"refused: ")?;
+    put(&mut text, group)?;
+    put(&mut text, b" ")?;
+    put_number(alloc, &mut text, number_of(refusal.kind))?;
+    put(&mut text, b" at ")?;
+    put(&mut text, name)?;
+    put(&mut text, b":")?;
+    put_number(alloc, &mut text, refusal.span.line)?;
+    put(&mut text, b":")?;
+    put_number(alloc, &mut text, refusal.span.column)?;
+    put(&mut text, b" ")?;
+    put(&mut text, reason_of(refusal.kind))?;
+    put(&mut text, b"\n")?;
+    Ok(text)
+}
+
+/// The number of a reason.
+fn number_of(kind: SchemaRefusalKind) -> u32
+    ensures number { result ≡ kind_number kind }
+{
+    match kind {
+        SchemaRefusalKind::StrangeByte => 1,
+        SchemaRefusalKind::BadName => 2,
+        SchemaRefusalKind::ReservedName => 3,
+        SchemaRefusalKind::DoubleName => 4,
+        SchemaRefusalKind::UnknownName => 5,
+        SchemaRefusalKind::Expected(_) => 6,
+        SchemaRefusalKind::TooManyAttributes => 7,
+        SchemaRefusalKind::TooManyDependencies => 8,
+        SchemaRefusalKind::NoAttributes => 9,
+        SchemaRefusalKind::UnknownVersion => 13,
+        SchemaRefusalKind::Memory => 0,
+    }
+}
+
+/// A reason in words.
+fn reason_of(kind: SchemaRefusalKind) -> &'static [u8]
+    ensures text { result.now ≡ kind_text kind }
+{
+    match kind {
+        SchemaRefusalKind::StrangeByte => b"strange byte",
+        SchemaRefusalKind::BadName => b"bad name",
+        SchemaRefusalKind::ReservedName => b"reserved name",
+        SchemaRefusalKind::DoubleName => b"name declared twice",
+        SchemaRefusalKind::UnknownName => b"unknown name",
+        SchemaRefusalKind::Expected(what) => wanted(what),
+        SchemaRefusalKind::TooManyAttributes => b"too many attributes",
+        SchemaRefusalKind::TooManyDependencies => b"too many dependencies",
+        SchemaRefusalKind::NoAttributes => b"no attributes",
+        SchemaRefusalKind::UnknownVersion => b"unknown version",
+        SchemaRefusalKind::Memory => b"",
+    }
+}
+
+/// What the grammar wants, in words.
+fn wanted(what: What) -> &'static [u8]
+    ensures text { result.now ≡ what_text what }
+{
+    match what {
+        What::Name => b"expected a name",
+        What::Side => b"expected names or ()",
+        What::Arrow => b"expected -> or ->>",
+        What::LineEnd => b"expected the line's end",
+        What::Number => b"expected a number",
+        What::Colon => b"expected :",
+        What::Rule => b"expected a rule",
+        What::With => b"expected with",
+        What::Scheme => b"expected scheme",
+    }
+}

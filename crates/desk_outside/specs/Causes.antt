@@ -1,0 +1,41 @@
+-- Each fault that is answered was one: what a call does to its object's count of faults.
+use Rattle.std.specs.Prelude.{◌≡◌, ◌⊎◌, ℕ, ◌+◌, ◌-◌, ◌^◌, ◌<◌, ◌≤◌, min, List, length, take, Option, Result, OnErr, Err}
+use Rattle.std.specs.Io.KnownBytes.{append_known}
+use Rattle.desk_outside.specs.declared.failure.OutsideFault.{OutsideFault}
+use Rattle.desk_outside.specs.declared.failure.OutsideFault.TheVariants.{Failed, Memory}
+use Rattle.desk_outside.specs.declared.failure.LoadRefusal.{LoadRefusal}
+use Rattle.desk_outside.specs.declared.failure.LoadRefusal.TheVariants as refusal
+use Rattle.desk_outside.specs.Files.{Files, IsMissing}
+
+-- the last value of a counter, where it stands still
+abbrev pub last_count : ℕ
+last_count = 2 ^ 64 - 1
+
+-- a counter after n more
+abbrev pub count_on : ℕ → ℕ → ℕ
+count_on count n = min (count + n) last_count
+
+-- the count is greater than before, or stands at the last value of a counter
+abbrev pub Rose : ℕ → ℕ → Type 0
+Rose before now = count_on before 1 ≤ now
+
+-- a call's faults: the count has not fallen, and at an error it rose
+pub record HasCause {T E : Type 0} (before now : ℕ) (result : Result T E) : Type 0 where
+  pub later : before ≤ now
+  pub failed : OnErr result (Rose before now)
+
+-- The faults of a call that begins a file: the count has not fallen, and at `Failed` it rose or the
+-- shelf lacks the file. A file that is lacking is told by `Failed`, and raises no count.
+pub record HasBeginCause (files : Option Files) (name : List ℕ) (before now : ℕ) (result : Result (Unit {0}) OutsideFault) : Type 0 where
+  pub later : before ≤ now
+  pub failed : result ≡ Err Failed → Rose before now ⊎ IsMissing files name
+  pub missing : IsMissing files name → (result ≡ Err Failed) × (now ≡ before)
+
+-- after the known bytes stand these, but not all of them: a part from their front
+abbrev pub TookPart : Option (List ℕ) → List ℕ → Option (List ℕ) → Type 0
+TookPart old bytes new = (n : ℕ) × (n < length bytes) × (new ≡ append_known old (take n bytes))
+
+-- how a fault of the beginning ends a loading
+abbrev pub refusal_of : OutsideFault → LoadRefusal
+refusal_of Failed = refusal.CannotRead
+refusal_of Memory = refusal.Memory

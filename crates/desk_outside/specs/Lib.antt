@@ -1,0 +1,4 @@
+pub mod Causes
+pub mod Files
+pub mod Planned
+pub mod Memory

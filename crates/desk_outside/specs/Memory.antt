@@ -1,0 +1,45 @@
+-- The objects in memory, as contracts see them.
+use Rattle.std.specs.Prelude.{ℕ, ◌-◌, ◌<◌, ◌≤◌, List, [], length, Option, Some, None, slice_get}
+use Rattle.std.specs.Option.{option_map_or}
+use Rattle.desk_outside.specs.declared.word.HeldFile.{HeldFile}
+use Rattle.desk_outside.specs.Files.{Files}
+use Rattle.desk_outside.specs.Planned.{FaultPlan, new_plan}
+
+-- a shelf: its files, what is left of the begun one, how many bytes were taken since it was begun,
+-- how many bytes one read gives at most, and its planned faults
+pub record ShelfInMemory : Type 0 where
+  pub files : Files
+  pub left : List ℕ
+  pub taken : ℕ
+  pub step : ℕ
+  pub planned : FaultPlan
+
+-- nothing is begun or taken, and no call was made
+abbrev pub new_shelf : Files → List ℕ → ℕ → ShelfInMemory
+new_shelf files fails step = record { files = files; left = []; taken = 0; step = step; planned = new_plan fails }
+
+-- a sink: the bytes taken, how many it has room for in all, how many one write takes at most, and
+-- its planned faults
+pub record SinkInMemory : Type 0 where
+  pub contents : List ℕ
+  pub capacity : ℕ
+  pub step : ℕ
+  pub planned : FaultPlan
+
+-- nothing is taken, and no call was made
+abbrev pub new_sink : ℕ → List ℕ → ℕ → SinkInMemory
+new_sink capacity fails step = record { contents = []; capacity = capacity; step = step; planned = new_plan fails }
+
+-- how many bytes a sink has room for
+abbrev pub room : SinkInMemory → ℕ
+room sink = sink.capacity - length sink.contents
+
+-- the bytes of the file at this place, where there is one
+abbrev pub bytes_at : List HeldFile → Option ℕ → List ℕ
+bytes_at files None = []
+bytes_at files (Some place) = option_map_or (λ (file : HeldFile). file.bytes.items) (slice_get files place) []
+
+-- a begun file is one of the files, and no more of it was taken than it has
+abbrev pub IsBegun : List HeldFile → Option ℕ → ℕ → Type 0
+IsBegun files None taken = Unit {0}
+IsBegun files (Some place) taken = (place < length files) × (taken ≤ length (bytes_at files (Some place)))

@@ -1,0 +1,31 @@
+//! The outside of the desk: files to read, a place for the printed text, and what the desk may
+//! believe of them.
+//!
+//! Any call of the outside may fail. What an object holds is told by its meanings, and each fault
+//! that is answered was one: the object's count of faults rose in that call.
+//!
+//! - [`Shelf`] and [`Sink`] are the files to read and the printed text.
+//! - [`load`] reads a whole file, up to a limit; [`send`] writes all of a text.
+//! - [`MemoryShelf`] and [`MemorySink`] tell all that they hold, and fail at chosen calls alone.
+//! - [`FileShelf`] and [`StdoutSink`] are the system's. They tell nothing of content.
+#![tactic(auto)]
+
+mod failure;
+mod memory;
+mod planned;
+mod real;
+mod shelf;
+mod sink;
+#[cfg(test)]
+mod tests;
+mod transfer;
+mod word;
+
+pub use failure::{CannotWrite, Failed, LoadRefusal, OutsideFault};
+pub use memory::{MemoryShelf, MemorySink};
+pub use planned::PlannedFaults;
+pub use real::{FileShelf, StdoutSink};
+pub use shelf::Shelf;
+pub use sink::Sink;
+pub use transfer::{load, send};
+pub use word::{HeldFile, Word};

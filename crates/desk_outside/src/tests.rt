@@ -1,0 +1,204 @@
+ghost use Rattle.std.specs.Prelude.{◌<◌};
+
+use super::*;
+use std::alloc::Global;
+use std::fmt::Display;
+use std::test::Fail;
+use std::{fs, io};
+
+// A schema text of 31 bytes.
+const TEXT: &[u8] = b"attributes A B C\nA -> B\nB -> C\n";
+
+// A printed text.
+const PRINTED: &[u8] = b"no\nA,B,C\n0,0,0\n1,1,0\n";
+
+fn held(alloc: Global, name: &[u8], bytes: &[u8]) -> Result<HeldFile, Fail> {
+    Ok(HeldFile {
+        name: Word::make(alloc, name)?,
+        bytes: Vec::from_slice(alloc, bytes)?,
+    })
+}
+
+// A shelf with an empty file and two files of one name, which fails at these calls.
+fn shelf_of(alloc: Global, fails: &[u64], step: usize) -> Result<MemoryShelf, Fail>
+    requires { 0 < step }
+{
+    let mut files = Vec::new(alloc);
+    files.push(held(alloc, b"empty", b"")?)?;
+    files.push(held(alloc, b"text", TEXT)?)?;
+    files.push(held(alloc, b"text", b"the second of this name")?)?;
+    let fails = Vec::from_slice(alloc, fails)?;
+    Ok(MemoryShelf::with_step(files, fails, step))
+}
+
+#[test]
+fn a_file_is_loaded_whole_or_refused(rt: HostRuntime) -> Result<(), Fail> {
+    let mut shelf = shelf_of(rt.alloc(), &[], 7)?;
+    for (name, limit, want) in [
+        (b"text".as_slice(), 1000, Ok(TEXT)),
+        (b"text", 31, Ok(TEXT)),
+        (b"text", 30, Err(LoadRefusal::TooLong)),
+        (b"text", 0, Err(LoadRefusal::TooLong)),
+        (b"empty", 0, Ok(b"".as_slice())),
+        (b"tex", 1000, Err(LoadRefusal::CannotRead)),
+    ] {
+        match load(rt.alloc(), &mut shelf, name, limit) {
+            Ok(bytes) => assert_eq!(rt; Ok(bytes.as_slice()), want),
+            Err(refusal) => assert_eq!(rt; Err(refusal), want),
+        }
+    }
+    Ok(())
+}
+
+// Reads of more bytes than one asks for, from a shelf without a step.
+#[test]
+fn a_long_file_is_loaded_in_pieces(rt: HostRuntime) -> Result<(), Fail> {
+    let mut long = Vec::new(rt.alloc());
+    for i in 0..10_000u16 {
+        long.push((i % 251) as u8)?;
+    }
+    let mut files = Vec::new(rt.alloc());
+    files.push(held(rt.alloc(), b"long", &long)?)?;
+    let mut shelf = MemoryShelf::make(files, Vec::new(rt.alloc()));
+    let bytes = load(rt.alloc(), &mut shelf, b"long", 10_000)?;
+    assert!(rt; bytes.as_slice() == long.as_slice());
+    let refused = load(rt.alloc(), &mut shelf, b"long", 9_999);
+    assert!(rt; matches!(&refused, Err(LoadRefusal::TooLong)));
+    Ok(())
+}
+
+// At one byte a read the calls are one begin, 31 reads of a byte, and one that finds the end.
+#[test]
+fn each_call_of_a_loading_may_fail(rt: HostRuntime) -> Result<(), Fail> {
+    for call in 1..=33u64 {
+        let mut shelf = shelf_of(rt.alloc(), &[call], 1)?;
+        let loaded = load(rt.alloc(), &mut shelf, b"text", 1000);
+        assert!(rt;
+            matches!(&loaded, Err(LoadRefusal::CannotRead)),
+            "at {call}"
+        );
+    }
+    let mut shelf = shelf_of(rt.alloc(), &[34], 1)?;
+    let bytes = load(rt.alloc(), &mut shelf, b"text", 1000)?;
+    assert_eq!(rt; bytes.as_slice(), TEXT);
+    Ok(())
+}
+
+#[test]
+fn after_a_fault_no_file_is_begun(rt: HostRuntime) -> Result<(), Fail> {
+    let mut shelf = shelf_of(rt.alloc(), &[2, 5], 4)?;
+    let mut buf = [0u8; 6];
+    assert_eq!(rt; shelf.begin(b"text"), Ok(()));
+    assert_eq!(rt; shelf.read(&mut buf), Err(Failed));
+    assert_eq!(rt; shelf.read(&mut buf), Ok(0));
+    assert_eq!(rt; shelf.begin(b"text"), Ok(()));
+    assert_eq!(rt; shelf.begin(b"text"), Err(OutsideFault::Failed));
+    assert_eq!(rt; shelf.read(&mut buf), Ok(0));
+    assert_eq!(rt; shelf.begin(b"text"), Ok(()));
+    assert_eq!(rt; shelf.read(&mut buf), Ok(4));
+    assert_eq!(rt; buf.as_slice(), b"attr\0\0".as_slice());
+    Ok(())
+}
+
+#[test]
+fn a_full_sink_holds_just_the_front(rt: HostRuntime) -> Result<(), Fail> {
+    for step in [1, 3, usize::MAX] {
+        for capacity in 0..=PRINTED.len() {
+            let fails = Vec::new(rt.alloc());
+            let mut sink = MemorySink::with_step(rt.alloc(), capacity, fails, step)?;
+            let sent = send(&mut sink, PRINTED);
+            assert_eq!(rt; sent.is_ok(), capacity == PRINTED.len(), "of {capacity}");
+            assert!(rt; sink.taken() == &PRINTED[..capacity], "of {capacity}");
+        }
+    }
+    Ok(())
+}
+
+#[test]
+fn each_call_of_a_sending_may_fail(rt: HostRuntime) -> Result<(), Fail> {
+    for taken in 0..PRINTED.len() {
+        let fails = vec![in rt.alloc(); taken as u64 + 1]?;
+        let mut sink = MemorySink::with_step(rt.alloc(), 100, fails, 1)?;
+        assert_eq!(rt; send(&mut sink, PRINTED), Err(CannotWrite));
+        assert!(rt; sink.taken() == &PRINTED[..taken], "after {taken}");
+    }
+    let mut sink = MemorySink::make(rt.alloc(), 100, Vec::new(rt.alloc()))?;
+    assert_eq!(rt; send(&mut sink, b"no\n"), Ok(()));
+    assert_eq!(rt; send(&mut sink, b""), Ok(()));
+    assert_eq!(rt; send(&mut sink, b"A,B,C\n"), Ok(()));
+    assert_eq!(rt; sink.taken(), b"no\nA,B,C\n".as_slice());
+    Ok(())
+}
+
+#[test]
+fn the_system_has_files(rt: HostRuntime) -> Result<(), Fail> {
+    fs::write(&rt, "desk_outside_text", TEXT)?;
+    let alloc = rt.alloc();
+    let mut shelf = FileShelf::make(&rt);
+    let bytes = load(alloc, &mut shelf, b"desk_outside_text", 31);
+    let long = load(alloc, &mut shelf, b"desk_outside_text", 30);
+    let missing = load(alloc, &mut shelf, b"desk_outside_missing", 1000);
+    let not_text = load(alloc, &mut shelf, b"desk_outside_\xff", 1000);
+    let again = load(alloc, &mut shelf, b"desk_outside_text", 1000);
+    fs::remove_file(&rt, "desk_outside_text")?;
+    assert_eq!(rt; bytes?.as_slice(), TEXT);
+    assert!(rt; matches!(&long, Err(LoadRefusal::TooLong)));
+    assert!(rt; matches!(&missing, Err(LoadRefusal::CannotRead)));
+    assert!(rt; matches!(&not_text, Err(LoadRefusal::CannotRead)));
+    assert_eq!(rt; again?.as_slice(), TEXT);
+    Ok(())
+}
+
+#[test]
+fn the_system_takes_a_text(rt: HostRuntime) -> Result<(), Fail> {
+    let mut sink = StdoutSink::make(&rt);
+    assert_eq!(rt;
+        send(&mut sink, b"a text for the standard output\n"),
+        Ok(())
+    );
+    Ok(())
+}
+
+// An output that takes nothing.
+#[derive(Drop)]
+struct Closed;
+
+impl Print for Closed {
+    fn print<D: Display + Drop>(&self, _value: D) -> io::Result<()> {
+        Ok(())
+    }
+
+    fn println<D: Display + Drop>(&self, _value: D) -> io::Result<()> {
+        Ok(())
+    }
+
+    fn write_all(&self, _bytes: &[u8]) -> io::Result<()> {
+        Ok(())
+    }
+
+    fn write_some(&self, _bytes: &[u8]) -> io::Result<usize> {
+        Ok(0)
+    }
+}
+
+#[test]
+fn an_output_that_takes_nothing_failed(rt: HostRuntime) {
+    let mut sink = StdoutSink::make(Closed);
+    assert_eq!(rt; send(&mut sink, b"a text"), Err(CannotWrite));
+}
+
+#[test]
+fn the_errors_have_texts(rt: HostRuntime) -> Result<(), Fail> {
+    let text = format!(in rt.alloc();
+        "{}, {}, {}, {}",
+        Failed,
+        OutsideFault::Memory,
+        LoadRefusal::TooLong,
+        CannotWrite
+    )?;
+    assert_eq!(rt;
+        text.as_str(),
+        "a call failed, out of memory, the file is too long, the text cannot be written"
+    );
+    Ok(())
+}

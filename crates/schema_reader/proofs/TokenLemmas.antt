@@ -1,0 +1,33 @@
+use Rattle.std.proofs.Common.{◌≡◌, ◌<◌, ◌+◌, ◌^◌, ℕ, List, [], ◌∷◌, ◌++◌, length, Some, None, Ok, Err, refl, ◌∙◌, arith, append_assoc}
+use Rattle.std.specs.Prelude.{map}
+use Rattle.std.proofs.lemmas.List.{append-nil}
+use Rattle.lexer.specs.declared.token.Mode.{Mode}
+use Rattle.lexer.specs.declared.token.Stop.{Stop}
+use Rattle.lexer.specs.declared.token.Token.{Token}
+use Rattle.lexer.specs.Tokens.{lexed, lex, Leads, IsBehind, token_of}
+use Rattle.schema_reader.specs.Refusals.{refused_by}
+use Rattle.schema_reader.specs.TokenLists.{tokens_lexed, all_or_stop}
+
+-- the tokens of a line are those that are taken, and those of what is left
+pub record Collects (m : Mode) (line : List ℕ) (taken : List Token) (column : ℕ) (rest : List ℕ) : Type 0 where
+  pub same : tokens_lexed (lex m line) ≡ all_or_stop (taken ++ map token_of (lexed m 0 column rest).marks) (lexed m 0 column rest).stop
+  pub room : column + length rest < 2 ^ 32
+
+pub begins : (m : Mode) (line : List ℕ) → 1 + length line < 2 ^ 32 → Collects m line [] 1 line
+begins m line room = record { same = refl; room = room }
+
+pub at_end : (m : Mode) (line : List ℕ) (taken : List Token) (column : ℕ) (rest : List ℕ) → Collects m line taken column rest
+    → lexed m 0 column rest ≡ record { marks = []; stop = None } → tokens_lexed (lex m line) ≡ Ok taken
+at_end m line taken column rest collects e = collects.same ∙ (rw e (rw (append-nil taken) refl))
+
+pub at_stop : (m : Mode) (line : List ℕ) (taken : List Token) (column : ℕ) (rest : List ℕ) (stop : Stop) → Collects m line taken column rest
+    → lexed m 0 column rest ≡ record { marks = []; stop = Some stop } → tokens_lexed (lex m line) ≡ Err (refused_by 1 stop)
+at_stop m line taken column rest stop collects e = collects.same ∙ (rw e refl)
+
+pub one_more : (m : Mode) (line : List ℕ) (taken next : List Token) (column : ℕ) (rest : List ℕ) (t : Token) (word behind : List ℕ)
+    → Collects m line taken column rest → Leads m t word behind (lexed m 0 column rest) → IsBehind column rest t behind → next ≡ taken ++ t ∷ []
+    → Collects m line next (t.column + t.length) behind
+one_more m line taken next column rest t word behind collects leads after added = record {
+  same = collects.same ∙ (rw (leads.all_tokens, added, ← leads.same_length) (rw append_assoc refl));
+  room = omega (arith, collects.room, after.fits);
+}
