@@ -10,10 +10,7 @@ ghost use Rattle.dep_basis.specs.Decisions.{IsDecided};
 
 use crate::bases::basis;
 use crate::decision::Decision;
-<<<<<<< HEAD
-=======
 use crate::meeting::meets;
->>>>>>> f6646118c4501bd0128a90ae1a343852f5c34f88
 use attr_sets::AttrSet;
 use dep_model::{Dep, Schema};
 

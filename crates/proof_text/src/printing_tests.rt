@@ -1,4 +1,4 @@
-ghost use Rattle.std.specs.Prelude.{◌<◌, ◌^◌};
+ghost use Rattle.std.specs.Prelude.{◌≡◌, ◌+◌, ◌<◌, ◌^◌, IfOk};
 ghost use Rattle.derivation.specs.Trees.{nodes};
 ghost use Rattle.derivation.specs.Derivs.{tree_of};
 
@@ -24,7 +24,9 @@ fn schema_of(alloc: Global) -> Result<Schema, WantMemory> {
     }
 }
 
-fn grown(alloc: Global, node: Deriv) -> Result<Box<Deriv>, WantMemory> {
+fn grown(alloc: Global, node: Deriv) -> Result<Box<Deriv>, WantMemory>
+    ensures tree { IfOk result (λ b. tree_of b.value ≡ tree_of node) }
+{
     Ok(Box::new(alloc, node)?)
 }
 
@@ -34,7 +36,9 @@ fn further(
     chain: Box<Deriv>,
     by: AttrSet,
     number: u16,
-) -> Result<Box<Deriv>, WantMemory> {
+) -> Result<Box<Deriv>, WantMemory>
+    ensures nodes { IfOk result (λ b. nodes (tree_of b.value) ≡ nodes (tree_of chain.value) + 3) }
+{
     let from = grown(alloc, Deriv::Given(number))?;
     let lifted = grown(alloc, Deriv::Augment { by, from })?;
     grown(alloc, Deriv::Trans(chain, lifted))
