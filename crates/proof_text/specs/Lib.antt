@@ -3,3 +3,8 @@ pub mod Tokens
 pub mod Readers
 pub mod Lines
 pub mod Printing
+pub mod Complaints
+pub mod Nodes
+pub mod Books
+pub mod Texts
+pub mod Checked

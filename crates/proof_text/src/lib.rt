@@ -4,13 +4,19 @@
 //! first line that goes wrong; what it gives concludes a dependency by the rules alone.
 #![tactic(auto)]
 
+mod book;
 mod cursor;
 mod line;
+mod node;
 mod printing;
 #[cfg(test)]
 mod printing_tests;
 mod refusal;
+mod text;
 mod words;
 
+pub use book::MOST_LINES;
+pub use node::MOST_LEVELS;
 pub use printing::print_proof;
 pub use refusal::{ProofRefusal, ProofRefusalKind};
+pub use text::{MOST_PROOF_BYTES, read_proof};

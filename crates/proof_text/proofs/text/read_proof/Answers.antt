@@ -1,0 +1,58 @@
+use Rattle.std.proofs.Common.{◌≡◌, ◌≤◌, ◌+◌, ◌∙◌, ℕ, sym, ap, subst, List, length, Result, Ok, Err, true, arith}
+use Rattle.std.specs.Prelude.{IfOk, IfErr}
+use Rattle.derivation.specs.Trees.{Tree}
+use Rattle.derivation.specs.Derivs.{tree_of}
+use Rattle.lexer.specs.Lines.{line_texts, without_mark}
+use Rattle.schema_reader.proofs.TextLemmas.{cut_any, cut_last, cut_more}
+use Rattle.proof_text.specs.Books.{Ledger, ledger_of}
+use Rattle.proof_text.specs.Complaints.{LineComplaint, RefusesAt}
+use Rattle.proof_text.specs.Texts.{read_lines, read_proof}
+use Rattle.std.proofs.lemmas.Result.{IfOk-weaker}
+use Rattle.proof_text.specs.Checked.{IsChecked}
+use Rattle.proof_text.proofs.CheckedLemmas.{read_proof_checked}
+use Rattle.proof_text.proofs.TextLemmas.{without_mark-shorter, line_within, line_refused, last_read, reads_more, refuses_whole}
+use Rattle.proof_text.proofs.text.read_proof.Goals as goal
+
+pub lines-init : goal.lines-init
+unfolding read_proof
+lines-init c = record {
+  same = ap (λ book. read_lines c.args.schema.now true 1 book (line_texts (without_mark c.args.text.now))) (sym c.new-book.ensures.empty)
+      ∙ ap (λ text. read_lines c.args.schema.now true 1 (ledger_of c.new-book.result) (line_texts text)) (sym c.without_mark-rest.ensures.text);
+  room =
+      let short : length c.without_mark-rest.result.now ≤ length c.args.text.now = subst (λ (t : List ℕ). length t ≤ length c.args.text.now) (sym c.without_mark-rest.ensures.text) (without_mark-shorter c.args.text.now) in
+      omega arith;
+}
+
+pub read_one-requires : goal.read_one-requires
+read_one-requires c = omega (arith, c.lines.invariant.room, line_within _ _ _ c.cut_line.ensures.cut)
+
+pub returns-in-Err-clause-err : goal.returns-in-Err-clause-err
+returns-in-Err-clause-err c =
+    refuses_whole c.in-Err.kind c.lines.number _ _
+    (λ why refused. c.lines.invariant.same ∙ line_refused _ _ _ _ _ _ _ why (cut_any _ _ _ c.cut_line.ensures.cut) refused) c.in-Err.ensures.err
+
+pub returns-in-None-clause-ok : goal.returns-in-None-clause-ok
+returns-in-None-clause-ok c =
+    let whole = c.lines.invariant.same ∙ last_read _ _ _ _ _ _ _ _ (cut_last _ _ _ c.in-None.is c.cut_line.ensures.cut).lines c.in-Ok.ensures.ok in
+    subst (λ (found : Result Tree LineComplaint). IfOk c.finish.result (λ b. found ≡ Ok (tree_of b.value))) (sym whole) c.finish.ensures.ok
+
+pub returns-in-None-clause-checked : goal.returns-in-None-clause-checked
+returns-in-None-clause-checked c =
+    let s = c.args.schema.now in
+    let text = c.args.text.now in
+    IfOk-weaker c.finish.result (λ b. read_proof s text ≡ Ok (tree_of b.value)) (λ b. IsChecked s (tree_of b.value))
+    (λ b given. read_proof_checked s text (tree_of b.value) given) (returns-in-None-clause-ok c)
+
+pub returns-in-None-clause-err : goal.returns-in-None-clause-err
+returns-in-None-clause-err c =
+    let whole = c.lines.invariant.same ∙ last_read _ _ _ _ _ _ _ _ (cut_last _ _ _ c.in-None.is c.cut_line.ensures.cut).lines c.in-Ok.ensures.ok in
+    subst (λ (found : Result Tree LineComplaint). IfErr c.finish.result (λ e. RefusesAt e found)) (sym whole) c.finish.ensures.err
+
+pub overflow_add-number : goal.overflow_add-number
+overflow_add-number c = omega (arith, c.lines.invariant.room)
+
+pub lines-smaller : goal.lines-smaller
+lines-smaller c = let cut = cut_more _ _ _ _ c.in-Some.is c.cut_line.ensures.cut in omega (arith, cut.shorter)
+
+pub lines-preserved : goal.lines-preserved
+lines-preserved c = reads_more _ _ _ _ _ _ _ _ _ _ c.lines.invariant (cut_more _ _ _ _ c.in-Some.is c.cut_line.ensures.cut) c.in-Ok.ensures.ok

@@ -1,0 +1,274 @@
+ghost use Rattle.std.specs.Prelude.{◌≡◌, ℕ, ◌+◌, ◌-◌, ◌==◌, ◌<◌, ◌≤◌, ◌^◌, [], length, IfOk, IfErr, OnOk, Ok, Err, option_map, is_some, position, take, max};
+ghost use Rattle.attr_sets.specs.Sets.{places};
+ghost use Rattle.dep_model.specs.Dependencies.{left_of, right_of};
+ghost use Rattle.dep_model.specs.Deps.{dependency_of};
+ghost use Rattle.derivation.specs.Derivs.{step_of, pair_of};
+ghost use Rattle.derivation.specs.Derivs.{tree_of};
+ghost use Rattle.proof_text.specs.Books.{opened_of, opened_all, root, settled};
+ghost use Rattle.proof_text.specs.Complaints.{Refuses, RefusesAt};
+ghost use Rattle.proof_text.specs.Lines.{line_of, body_of};
+ghost use Rattle.proof_text.specs.Nodes.{seen};
+
+use crate::line::{Body, Line};
+use crate::node::{MOST_LEVELS, Open, given, leaf, pair, same_dependency, step};
+use crate::refusal::{ProofRefusal, ProofRefusalKind};
+use attr_sets::AttrSet;
+use dep_model::{Dep, Schema};
+use derivation::{Deriv, Fault, FaultKind, LeafRule, PairRule, StepRule};
+use std::alloc::Global;
+
+/// The most lines of a certificate.
+pub const MOST_LINES: usize = 262_144;
+
+/// The certificate lines that are read: in which line of the text each stands, and its derivation until
+/// a later line uses it.
+#[derive(Drop)]
+pub struct Book {
+    pub lines: Vec<u32>,
+    pub unused: Vec<Option<Open>>,
+}
+
+/// The node of a line: how many levels it has, and what its rule concludes.
+#[derive(Drop)]
+pub struct Node {
+    levels: u32,
+    outcome: Result<(Deriv, Dep), FaultKind>,
+}
+
+impl Book {
+    ghost use Rattle.proof_text.specs.Books.{prepared_of, ledger_of, is_earlier, open_at, closed, prepared, step_of_line, pair_of_line, entered, add_line, finished};
+
+    pub fn new(alloc: Global) -> Book
+        ensures empty { ledger_of result ≡ record { lines = []; unused = [] } }
+    {
+        Book {
+            lines: Vec::new(alloc),
+            unused: Vec::new(alloc),
+        }
+    }
+
+    /// Whether a line has this number.
+    fn is_earlier(&self, p: u32) -> bool
+        ensures earlier { result ≡ is_earlier (opened_all self.now.unused.items) p }
+    {
+        0 < p && p as usize <= self.unused.len()
+    }
+
+    /// Takes what is not used of the line of this number.
+    fn take(&mut self, p: u32) -> Option<Open>
+        requires positive { 0 < p }
+        requires earlier { p ≤ length self.old.unused.items }
+        ensures taken { option_map opened_of result ≡ open_at (opened_all self.old.unused.items) p }
+        ensures closed { opened_all self.new.unused.items ≡ closed (opened_all self.old.unused.items) p }
+        ensures lines { self.new.lines.items ≡ self.old.lines.items }
+        ensures length { length self.new.unused.items ≡ length self.old.unused.items }
+    {
+        self.unused[p as usize - 1].take()
+    }
+
+    /// The node of a line. Its premises are taken.
+    #[tactic(auto, unfolding(crate::specs::Books::prepared))]
+    fn prepare(&mut self, schema: &Schema, line: &Line) -> Result<Node, ProofRefusalKind>
+        ensures ok { IfOk result (λ node. prepared schema.now (opened_all self.old.unused.items) (dependency_of line.now.stated) (body_of line.now.body) ≡ Ok (prepared_of node (opened_all self.new.unused.items))) }
+        ensures err { IfErr result (λ why. Refuses why (prepared schema.now (opened_all self.old.unused.items) (dependency_of line.now.stated) (body_of line.now.body))) }
+        ensures lines { self.new.lines.items ≡ self.old.lines.items }
+        ensures length { length self.new.unused.items ≡ length self.old.unused.items }
+    {
+        match line.body {
+            Body::Given(k) => Ok(Node {
+                levels: 1,
+                outcome: given(schema, k),
+            }),
+            Body::Reflexivity => {
+                let (lhs, rhs) = sides(line.stated);
+                Ok(Node {
+                    levels: 1,
+                    outcome: leaf(schema, LeafRule::Reflexivity { lhs, rhs }),
+                })
+            }
+            Body::MReflexivity => {
+                let (lhs, rhs) = sides(line.stated);
+                Ok(Node {
+                    levels: 1,
+                    outcome: leaf(schema, LeafRule::MReflexivity { lhs, rhs }),
+                })
+            }
+            Body::Step(rule, p) => self.prepare_step(schema, rule, p),
+            Body::Pair(rule, p, q) => self.prepare_pair(rule, p, q),
+        }
+    }
+
+    /// The node of a rule with one premise.
+    fn prepare_step(
+        &mut self,
+        schema: &Schema,
+        rule: StepRule,
+        p: u32,
+    ) -> Result<Node, ProofRefusalKind>
+        ensures ok { IfOk result (λ node. step_of_line schema.now (step_of rule) (opened_all self.old.unused.items) p ≡ Ok (prepared_of node (opened_all self.new.unused.items))) }
+        ensures err { IfErr result (λ why. Refuses why (step_of_line schema.now (step_of rule) (opened_all self.old.unused.items) p)) }
+        ensures lines { self.new.lines.items ≡ self.old.lines.items }
+        ensures length { length self.new.unused.items ≡ length self.old.unused.items }
+    {
+        if !self.is_earlier(p) {
+            return Err(ProofRefusalKind::NoSuchLine);
+        }
+        match self.take(p) {
+            None => Err(ProofRefusalKind::UsedTwice),
+            Some(premise) => Ok(Node {
+                levels: premise.levels + 1,
+                outcome: step(schema, rule, premise),
+            }),
+        }
+    }
+
+    /// The node of a rule with two premises.
+    fn prepare_pair(&mut self, rule: PairRule, p: u32, q: u32) -> Result<Node, ProofRefusalKind>
+        ensures ok { IfOk result (λ node. pair_of_line (pair_of rule) (opened_all self.old.unused.items) p q ≡ Ok (prepared_of node (opened_all self.new.unused.items))) }
+        ensures err { IfErr result (λ why. Refuses why (pair_of_line (pair_of rule) (opened_all self.old.unused.items) p q)) }
+        ensures lines { self.new.lines.items ≡ self.old.lines.items }
+        ensures length { length self.new.unused.items ≡ length self.old.unused.items }
+    {
+        if !self.is_earlier(p) || !self.is_earlier(q) {
+            return Err(ProofRefusalKind::NoSuchLine);
+        }
+        let first = self.take(p);
+        let second = self.take(q);
+        match (first, second) {
+            (Some(first), Some(second)) => Ok(Node {
+                levels: first.levels.max(second.levels) + 1,
+                outcome: pair(rule, first, second),
+            }),
+            _ => Err(ProofRefusalKind::UsedTwice),
+        }
+    }
+
+    /// Enters a certificate line, which stands in line `at` of the text.
+    #[tactic(auto, unfolding(crate::specs::Books::entered))]
+    pub fn enter(
+        &mut self,
+        alloc: Global,
+        schema: &Schema,
+        at: u32,
+        line: &Line,
+    ) -> Result<(), ProofRefusalKind>
+        ensures ok { OnOk result (entered schema.now at (ledger_of self.old) (line_of line.now) ≡ Ok (ledger_of self.new)) }
+        ensures err { IfErr result (λ why. Refuses why (entered schema.now at (ledger_of self.old) (line_of line.now))) }
+    {
+        let before = self.unused.len();
+        if line.number as usize != before + 1 {
+            return Err(ProofRefusalKind::WrongNumber);
+        }
+        let node = self.prepare(schema, line)?;
+        let levels = node.levels;
+        let (deriv, dep) = settle(before, line, node)?;
+        self.add(alloc, at, deriv, levels, dep)
+    }
+
+    /// Adds a line.
+    fn add(
+        &mut self,
+        alloc: Global,
+        at: u32,
+        deriv: Deriv,
+        levels: u32,
+        dep: Dep,
+    ) -> Result<(), ProofRefusalKind>
+        requires { levels ≤ MOST_LEVELS }
+        ensures ok { OnOk result (ledger_of self.new ≡ add_line at self.old.lines.items (opened_all self.old.unused.items) (record { tree = tree_of deriv; levels = levels; conclusion = dependency_of dep })) }
+        ensures err { IfErr result (λ why. why ≡ ProofRefusalKind.Memory) }
+    {
+        let deriv = Box::new(alloc, deriv)?;
+        self.unused.push(Some(Open { deriv, levels, dep }))?;
+        self.lines.push(at)?;
+        Ok(())
+    }
+
+    /// The derivation of the last line, where each other one was used. The text ends with line `last`.
+    #[tactic(auto, unfolding(crate::specs::Books::finished))]
+    pub fn finish(self, last: u32) -> Result<Box<Deriv>, ProofRefusal>
+        ensures ok { IfOk result (λ b. finished last (ledger_of self) ≡ Ok (tree_of b.value)) }
+        ensures err { IfErr result (λ e. RefusesAt e (finished last (ledger_of self))) }
+    {
+        let Book { lines, mut unused } = self;
+        let root = take_last(&mut unused);
+        match first_unused(&unused) {
+            Some(i) => {
+                let line = lines.get(i).copied().unwrap_or(0);
+                let kind = ProofRefusalKind::NeverUsed;
+                Err(ProofRefusal { line, kind })
+            }
+            None => match root {
+                Some(open) => Ok(open.deriv),
+                None => {
+                    let kind = ProofRefusalKind::EmptyProof;
+                    Err(ProofRefusal { line: last, kind })
+                }
+            },
+        }
+    }
+}
+
+/// Takes the last line.
+fn take_last(unused: &mut Vec<Option<Open>>) -> Option<Open>
+    ensures root { option_map opened_of result ≡ root (opened_all unused.old.items) }
+    ensures rest { opened_all unused.new.items ≡ take (length (opened_all unused.old.items) - 1) (opened_all unused.old.items) }
+{
+    match unused.pop() {
+        Some(last) => last,
+        None => None,
+    }
+}
+
+/// The first line that no line used.
+fn first_unused(unused: &[Option<Open>]) -> Option<usize>
+    ensures first { result ≡ position is_some (opened_all unused.now) }
+{
+    first_open(unused)
+}
+
+fn first_open(unused: &[Option<Open>]) -> Option<usize>
+    ensures first { result ≡ position (λ line. is_some line) unused.now }
+{
+    unused.iter().position(|line| line.is_some())
+}
+
+/// What a line concludes, within the limits; `before` lines stand before it.
+#[tactic(auto, unfolding(crate::specs::Books::settled))]
+fn settle(before: usize, line: &Line, node: Node) -> Result<(Deriv, Dep), ProofRefusalKind>
+    ensures ok { IfOk result (λ x. settled before (line_of line.now) node.levels (seen node.outcome) ≡ Ok (record { tree = tree_of x.0; levels = node.levels; conclusion = dependency_of x.1 })) }
+    ensures shallow { OnOk result (node.levels ≤ MOST_LEVELS) }
+    ensures err { IfErr result (λ why. Refuses why (settled before (line_of line.now) node.levels (seen node.outcome))) }
+{
+    if before >= MOST_LINES {
+        return Err(ProofRefusalKind::TooManyLines);
+    }
+    if node.levels > MOST_LEVELS {
+        return Err(ProofRefusalKind::TooDeep);
+    }
+    match node.outcome {
+        Err(kind) => {
+            let node = line.number;
+            Err(ProofRefusalKind::Unsound(Fault { node, kind }))
+        }
+        Ok((deriv, concluded)) => {
+            let stated = line.stated;
+            if same_dependency(stated, concluded) {
+                Ok((deriv, concluded))
+            } else {
+                Err(ProofRefusalKind::StatesOther { stated, concluded })
+            }
+        }
+    }
+}
+
+/// Both sides of a dependency.
+fn sides(dep: Dep) -> (AttrSet, AttrSet)
+    ensures left { places result.0 ≡ left_of (dependency_of dep) }
+    ensures right { places result.1 ≡ right_of (dependency_of dep) }
+{
+    match dep {
+        Dep::Fd { lhs, rhs } => (lhs, rhs),
+        Dep::Mvd { lhs, rhs } => (lhs, rhs),
+    }
+}

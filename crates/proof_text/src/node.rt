@@ -1,0 +1,100 @@
+ghost use Rattle.std.specs.Prelude.{◌≡◌, ◌+◌, ◌-◌, ◌<◌, ◌≤◌, ◌^◌, length, IfOk, IfErr, OnOk, Ok, Err, option_map, is_some, position, slice_set, None};
+ghost use Rattle.dep_model.specs.Deps.{dependency_of};
+ghost use Rattle.derivation.specs.Derivs.{tree_of, leaf_of, step_of, pair_of};
+ghost use Rattle.derivation.specs.Table.{leaf_conclusion, step_conclusion, pair_conclusion};
+ghost use Rattle.proof_text.specs.declared.node.TheConstants.{MOST_LEVELS};
+ghost use Rattle.proof_text.specs.Complaints.{Refuses};
+ghost use Rattle.attr_sets.specs.Sets.{places, is_same};
+ghost use Rattle.derivation.specs.Trees.{leaf, step, pair};
+ghost use Rattle.proof_text.specs.Nodes.{with_tree, seen, given_outcome, same_dependency};
+
+use crate::line::{Body, Line};
+use crate::refusal::{ProofRefusal, ProofRefusalKind};
+use attr_sets::AttrSet;
+use dep_model::{Dep, Schema};
+use derivation::{
+    Deriv, Fault, FaultKind, LeafRule, PairRule, StepRule, leaf_conclusion, pair_conclusion,
+    step_conclusion,
+};
+use std::alloc::Global;
+
+/// The most levels of a certificate's derivation.
+pub const MOST_LEVELS: u32 = 2_048;
+
+/// A line's derivation that no later line used.
+#[derive(Drop)]
+pub struct Open {
+    pub deriv: Box<Deriv>,
+    pub levels: u32,
+    pub dep: Dep,
+    pub ghost shallow: { levels ≤ MOST_LEVELS },
+}
+
+fn is_same(a: AttrSet, b: AttrSet) -> bool
+    ensures same { result ≡ is_same (places a) (places b) }
+{
+    a.within(b) && b.within(a)
+}
+
+/// Whether two dependencies are one.
+pub fn same_dependency(a: Dep, b: Dep) -> bool
+    ensures same { result ≡ same_dependency (dependency_of a) (dependency_of b) }
+{
+    match (a, b) {
+        (
+            Dep::Fd { lhs, rhs },
+            Dep::Fd {
+                lhs: left,
+                rhs: right,
+            },
+        ) => is_same(lhs, left) && is_same(rhs, right),
+        (
+            Dep::Mvd { lhs, rhs },
+            Dep::Mvd {
+                lhs: left,
+                rhs: right,
+            },
+        ) => is_same(lhs, left) && is_same(rhs, right),
+        _ => false,
+    }
+}
+
+/// A leaf, where its rule applies.
+pub fn leaf(schema: &Schema, rule: LeafRule) -> Result<(Deriv, Dep), FaultKind>
+    ensures exact { seen result ≡ with_tree (leaf (leaf_of rule)) (leaf_conclusion schema.now (leaf_of rule)) }
+{
+    match leaf_conclusion(schema, rule) {
+        Ok(dep) => Ok((rule.deriv(), dep)),
+        Err(kind) => Err(kind),
+    }
+}
+
+/// The dependency of this number, from 1.
+pub fn given(schema: &Schema, k: u32) -> Result<(Deriv, Dep), FaultKind>
+    ensures exact { seen result ≡ given_outcome schema.now k }
+{
+    if k == 0 || k as usize > schema.deps().len() {
+        return Err(FaultKind::NoSuchGiven);
+    }
+    leaf(schema, LeafRule::Given((k - 1) as u16))
+}
+
+/// What a rule concludes from an open line.
+pub fn step(schema: &Schema, rule: StepRule, premise: Open) -> Result<(Deriv, Dep), FaultKind>
+    ensures exact { seen result ≡ with_tree (step (step_of rule) (tree_of premise.deriv.value)) (step_conclusion schema.now (step_of rule) (dependency_of premise.dep)) }
+{
+    match step_conclusion(schema, rule, premise.dep) {
+        Ok(dep) => Ok((rule.over(premise.deriv), dep)),
+        Err(kind) => Err(kind),
+    }
+}
+
+/// What a rule concludes from two open lines.
+pub fn pair(rule: PairRule, first: Open, second: Open) -> Result<(Deriv, Dep), FaultKind>
+    ensures exact { seen result ≡ with_tree (pair (pair_of rule) (tree_of first.deriv.value) (tree_of second.deriv.value)) (pair_conclusion (pair_of rule) (dependency_of first.dep) (dependency_of second.dep)) }
+{
+    match pair_conclusion(rule, first.dep, second.dep) {
+        Ok(dep) => Ok((rule.over(first.deriv, second.deriv), dep)),
+        Err(kind) => Err(kind),
+    }
+}

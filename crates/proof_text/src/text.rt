@@ -1,0 +1,137 @@
+ghost use Rattle.std.specs.Prelude.{◌≡◌, ◌+◌, ◌<◌, ◌≤◌, ◌^◌, length, IfOk, IfErr, Ok, Err};
+ghost use Rattle.lexer.specs.Tokens.{lexed, lex};
+ghost use Rattle.derivation.specs.Derivs.{tree_of};
+ghost use Rattle.proof_text.specs.Books.{ledger_of};
+ghost use Rattle.proof_text.specs.Checked.{IsChecked};
+ghost use Rattle.proof_text.specs.Complaints.{Refuses, RefusesAt};
+ghost use Rattle.proof_text.specs.Texts.{is_yes, is_blank, line_kind, read_one, read_proof};
+
+use crate::book::Book;
+use crate::cursor::Cursor;
+use crate::line::read_line;
+use crate::refusal::{ProofRefusal, ProofRefusalKind};
+use dep_model::Schema;
+use derivation::Deriv;
+use lexer::{Mode, Next, TokenKind, cut_line, next_token, without_mark};
+use std::alloc::Global;
+
+/// The most bytes of a certificate.
+pub const MOST_PROOF_BYTES: usize = 268_435_456;
+
+/// What a line of the text is.
+#[derive(Clone, Copy, Debug, PartialEq, Eq)]
+pub enum LineKind {
+    /// Without tokens.
+    Blank,
+    /// The one word `yes`, before any certificate line.
+    Opening,
+    Certificate,
+}
+
+/// The derivation that a certificate spells.
+///
+/// The first line that goes wrong is refused, and there the first of the reasons in the order of
+/// `ProofRefusalKind`, but that an unused line is told at the text's end.
+pub fn read_proof(alloc: Global, schema: &Schema, text: &[u8]) -> Result<Box<Deriv>, ProofRefusal>
+    requires { length text.now ≤ MOST_PROOF_BYTES }
+    ensures ok { IfOk result (λ deriv. read_proof schema.now text.now ≡ Ok (tree_of deriv.value)) }
+    // It proves a dependency, within the limits of a certificate.
+    ensures checked { IfOk result (λ deriv. IsChecked schema.now (tree_of deriv.value)) }
+    ensures err { IfErr result (λ refusal. RefusesAt refusal (read_proof schema.now text.now)) }
+{
+    let mut book = Book::new(alloc);
+    let mut fresh = true;
+    let mut number = 1;
+    let mut rest = without_mark(text);
+    'lines: loop {
+        let (line, after) = cut_line(rest);
+        match read_one(alloc, schema, &mut book, fresh, number, line) {
+            Err(kind) => return Err(ProofRefusal { line: number, kind }),
+            Ok(still_fresh) => match after {
+                None => return book.finish(number),
+                Some(lines) => {
+                    fresh = still_fresh;
+                    rest = lines;
+                    number += 1;
+                }
+            },
+        }
+    }
+}
+
+/// Reads one line of the text. Whether a `yes` may still come is told and answered.
+#[tactic(auto, unfolding(crate::specs::Texts::read_one))]
+fn read_one(
+    alloc: Global,
+    schema: &Schema,
+    book: &mut Book,
+    fresh: bool,
+    number: u32,
+    text: &[u8],
+) -> Result<bool, ProofRefusalKind>
+    requires { 1 + length text.now < 2 ^ 32 }
+    ensures ok { IfOk result (λ still. read_one schema.now fresh number (ledger_of book.old) text.now ≡ Ok (still, ledger_of book.new)) }
+    ensures err { IfErr result (λ why. Refuses why (read_one schema.now fresh number (ledger_of book.old) text.now)) }
+{
+    match line_kind(fresh, text) {
+        LineKind::Blank => Ok(fresh),
+        LineKind::Opening => Ok(false),
+        LineKind::Certificate => {
+            let start = Cursor {
+                line: number,
+                column: 1,
+                text,
+            };
+            match read_line(schema, start) {
+                Err(refusal) => Err(ProofRefusalKind::BadLine(refusal)),
+                Ok(line) => {
+                    book.enter(alloc, schema, number, &line)?;
+                    Ok(false)
+                }
+            }
+        }
+    }
+}
+
+/// What a line is.
+#[tactic(auto, unfolding(crate::specs::Texts::line_kind))]
+fn line_kind(fresh: bool, text: &[u8]) -> LineKind
+    requires { 1 + length text.now < 2 ^ 32 }
+    ensures exact { result ≡ line_kind fresh (lex Mode.Numbered text.now) }
+{
+    match next_token(Mode::Numbered, 1, text) {
+        Next::End => LineKind::Blank,
+        Next::Stop(_) => LineKind::Certificate,
+        Next::Token(token, word, rest) => {
+            let behind = token.column + token.length;
+            if fresh && is_yes(token.kind, word) && is_blank(behind, rest) {
+                LineKind::Opening
+            } else {
+                LineKind::Certificate
+            }
+        }
+    }
+}
+
+/// Whether no token stands in the rest of a line.
+fn is_blank(column: u32, text: &[u8]) -> bool
+    requires { column + length text.now < 2 ^ 32 }
+    ensures exact { result ≡ is_blank (lexed Mode.Numbered 0 column text.now) }
+{
+    match next_token(Mode::Numbered, column, text) {
+        Next::End => true,
+        Next::Stop(_) => false,
+        Next::Token(_, _, _) => false,
+    }
+}
+
+/// Whether a token is the word `yes`, in lower case.
+#[tactic(auto, unfolding(crate::specs::Texts::is_yes))]
+fn is_yes(kind: TokenKind, word: &[u8]) -> bool
+    ensures exact { result ≡ is_yes kind word.now }
+{
+    match kind {
+        TokenKind::Word => word == b"yes".as_slice(),
+        _ => false,
+    }
+}
