@@ -33,4 +33,6 @@ pub use proving::prove;
 pub use witnessing::witness;
 
 #[cfg(test)]
+mod chain_tests;
+#[cfg(test)]
 mod tests;

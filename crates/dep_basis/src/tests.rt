@@ -75,7 +75,7 @@ fn names_of(alloc: Global, width: u8) -> Result<Vec<Name>, WantMemory>
     Ok(names)
 }
 
-fn schema_of(alloc: Global, width: u8, deps: &[Dep]) -> Result<Schema, WantMemory>
+pub fn schema_of(alloc: Global, width: u8, deps: &[Dep]) -> Result<Schema, WantMemory>
     ensures width { IfOk result (λ schema. width_of schema ≡ width) }
 {
     if width == 0 || width > 128 || deps.len() > 256 || !are_within(deps, AttrSet::full(width)) {

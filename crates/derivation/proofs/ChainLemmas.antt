@@ -30,8 +30,8 @@ pub first_out-one : (s : Schema) (c : Places) (j k : ℕ) (t w : Places) → IsF
 first_out-one s c j k t w one other = elim (cases_eq j k) [
   | inl same ↦ (same, one_right one.lhs t other.lhs w (sym one.given ∙ ap (slice_get (theory_of s)) same ∙ other.given))
   | inr differ ↦ elim (cases_lt j k) [
-      | inl before ↦ absurd (one.beyond (other.earlier j one.lhs t before one.given one.inside))
-      | inr behind ↦ absurd (other.beyond (one.earlier k other.lhs w (omega arith) other.given other.inside))
+    | inl before ↦ absurd (one.beyond (other.earlier j one.lhs t before one.given one.inside))
+    | inr behind ↦ absurd (other.beyond (one.earlier k other.lhs w (omega arith) other.given other.inside))
   ]
 ]
 
@@ -66,8 +66,8 @@ chain_one s x y t u one other = elim (cases_eq one.steps other.steps) [
       let stage : one.last ≡ other.last = Reaches-one s x y other.steps one.last other.last (subst P same one.reached) other.reached in
       one.whole ∙ ap (λ (e : Stage). pair transitivity e.tree (leaf (reflexivity e.closed y))) stage ∙ sym other.whole
   | inr differ ↦ elim (cases_lt one.steps other.steps) [
-      | inl fewer ↦ absurd (not_later s x y one.steps other.steps one.last other.last one.reached one.holds other.reached fewer)
-      | inr more ↦ absurd (not_later s x y other.steps one.steps other.last one.last other.reached other.holds one.reached (omega arith))
+    | inl fewer ↦ absurd (not_later s x y one.steps other.steps one.last other.last one.reached one.holds other.reached fewer)
+    | inr more ↦ absurd (not_later s x y other.steps one.steps other.last one.last other.reached other.holds one.reached (omega arith))
   ]
 ]
 

@@ -126,8 +126,8 @@ step_cases s rule os q p true (Some o) e all h =
     let stands = open_stands s os q o all e in
     subst (IsPrepared s os) (the_ok {A = Prepared} {E = Complaint} _ p h)
     (known_node s os (closed os q) (o.levels + 1) (step rule o.tree) (step_conclusion s rule o.conclusion)
-      (AllStand-close s os (q - 1) all) (length-close os (q - 1)) (λ d given_d. (o.conclusion, stands.proves, given_d))
-      (omega (arith, stands.levels)) (omega (arith, closed_count os q o e)))
+    (AllStand-close s os (q - 1) all) (length-close os (q - 1)) (λ d given_d. (o.conclusion, stands.proves, given_d))
+    (omega (arith, stands.levels)) (omega (arith, closed_count os q o e)))
 
 pair_cases : (s : Schema) (rule : Pair) (os : List (Option Opened)) (q r : ℕ) (p : Prepared) (b : Bool) (o u : Option Opened) → open_at os q ≡ o → open_at (closed os q) r ≡ u → AllStand s os
     → cond b (pair_node rule o u (closed (closed os q) r)) (Err no_such_line) ≡ Ok p → IsPrepared s os p
@@ -140,9 +140,9 @@ pair_cases s rule os q r p true (Some o) (Some u) e f all h =
     let second = open_stands s (closed os q) r u rest f in
     subst (IsPrepared s os) (the_ok {A = Prepared} {E = Complaint} _ p h)
     (known_node s os (closed (closed os q) r) (max o.levels u.levels + 1) (pair rule o.tree u.tree) (pair_conclusion rule o.conclusion u.conclusion)
-      (AllStand-close s (closed os q) (r - 1) rest) (length-close (closed os q) (r - 1) ∙ length-close os (q - 1))
-      (λ d given_d. (o.conclusion, u.conclusion, first.proves, second.proves, given_d))
-      (omega (arith, first.levels, second.levels)) (omega (arith, closed_count os q o e, closed_count (closed os q) r u f)))
+    (AllStand-close s (closed os q) (r - 1) rest) (length-close (closed os q) (r - 1) ∙ length-close os (q - 1))
+    (λ d given_d. (o.conclusion, u.conclusion, first.proves, second.proves, given_d))
+    (omega (arith, first.levels, second.levels)) (omega (arith, closed_count os q o e, closed_count (closed os q) r u f)))
 
 prepared_is : (s : Schema) (os : List (Option Opened)) (stated : Dependency) (b : Body) (p : Prepared) → AllStand s os → prepared s os stated b ≡ Ok p → IsPrepared s os p
 unfolding prepared

@@ -1,5 +1,5 @@
 pub mod WordLemmas
+pub mod PrintingLemmas
 pub mod BookLemmas
 pub mod TextLemmas
 pub mod CheckedLemmas
-pub mod PrintingLemmas

@@ -108,7 +108,7 @@ pair_lines s t rule u v d n e proves =
     let first = lines_behind s n u in
     let second = lines_behind s (n + nodes u) v in
     let whole : lines_text names ((first ++ second) ++ last ∷ []) ≡ (lines_text names first ++ lines_text names second) ++ line_text names last =
-        line_more names (first ++ second) last ∙ ap (λ w. w ++ line_text names last) (lines_text-append names first second) in
+    line_more names (first ++ second) last ∙ ap (λ w. w ++ line_text names last) (lines_text-append names first second) in
     rw (e, concludes) whole
 
 -- ---- what is added to a text

@@ -9,6 +9,8 @@ mod cursor;
 mod line;
 mod node;
 mod printing;
+#[cfg(test)]
+mod printing_tests;
 mod refusal;
 mod text;
 mod words;

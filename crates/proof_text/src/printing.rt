@@ -12,7 +12,9 @@ ghost use Rattle.schema_reader.specs.Printing.{set_text, dependency_text};
 ghost use Rattle.proof_text.specs.Lines.{body_of, line_of};
 ghost use Rattle.proof_text.specs.Printing.{step_word, sides_text, pair_word, body_text, line_text, leaf_body, numbered_line, lines_behind, lines_text, canonical_certificate, IsProof, IsStepWithin, IsBodyWithin};
 
+use crate::book::MOST_LINES;
 use crate::line::{Body, Line};
+use crate::node::MOST_LEVELS;
 use attr_sets::AttrSet;
 use dep_model::{Dep, Schema, WantMemory};
 use derivation::{
@@ -25,8 +27,8 @@ use std::alloc::Global;
 /// states what its node concludes, and names the rule and the lines of the premises.
 pub fn print_proof(alloc: Global, schema: &Schema, deriv: &Deriv) -> Result<Vec<u8>, WantMemory>
     requires proof { IsProof schema.now (tree_of deriv.now) }
-    requires few_nodes { nodes (tree_of deriv.now) ≤ 262144 }
-    requires few_levels { depth (tree_of deriv.now) ≤ 2048 }
+    requires few_nodes { nodes (tree_of deriv.now) ≤ MOST_LINES }
+    requires few_levels { depth (tree_of deriv.now) ≤ MOST_LEVELS }
     ensures text { IfOk result (λ text. text.items ≡ canonical_certificate schema.now (tree_of deriv.now)) }
 {
     let mut text = Vec::new(alloc);

@@ -64,7 +64,7 @@ returns-in_ok-from-in-Step-clause-added t c =
     let proves = step_proves s tree rule premise (dependency_of c.in_ok-from-in-Step.from) d c.in-Step.ensures.root from.proves c.stated_by_step-stated.ensures.stated in
     on_ok_weaker c.add_node-in-Step.result
     (λ added. step_added s tree rule premise d c.args.printed.now c.add_lines.new.printed c.args.text.now.items c.add_lines.new.text.items c.add_node-in-Step.new.text.items
-      c.in-Step.ensures.root proves from.printed from.added added) c.add_node-in-Step.ensures.added
+    c.in-Step.ensures.root proves from.printed from.added added) c.add_node-in-Step.ensures.added
 
 pub returns-in_ok-right-in-Pair-clause-added : goal.returns-in_ok-right-in-Pair-clause-added
 returns-in_ok-right-in-Pair-clause-added t c =
@@ -79,4 +79,4 @@ returns-in_ok-right-in-Pair-clause-added t c =
     let proves = pair_proves s tree rule first second (dependency_of c.in_ok-left-in-Pair.left) (dependency_of c.in_ok-right-in-Pair.right) d c.in-Pair.ensures.root left.proves right.proves c.stated_by_pair-stated.ensures.stated in
     on_ok_weaker c.add_node-in-Pair.result
     (λ added. pair_added s tree rule first second d c.args.printed.now c.add_lines-in-Pair.new.printed c.add_lines-in-Pair-2.new.printed c.args.text.now.items c.add_lines-in-Pair.new.text.items c.add_lines-in-Pair-2.new.text.items c.add_node-in-Pair.new.text.items
-      c.in-Pair.ensures.root proves left.printed right.printed left.added right.added added) c.add_node-in-Pair.ensures.added
+    c.in-Pair.ensures.root proves left.printed right.printed left.added right.added added) c.add_node-in-Pair.ensures.added

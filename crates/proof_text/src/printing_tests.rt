@@ -1,0 +1,97 @@
+ghost use Rattle.std.specs.Prelude.{◌≡◌, ◌+◌, ◌<◌, ◌^◌, IfOk};
+ghost use Rattle.derivation.specs.Trees.{nodes};
+ghost use Rattle.derivation.specs.Derivs.{tree_of};
+
+use crate::print_proof;
+use attr_sets::AttrSet;
+use dep_model::{Schema, WantMemory};
+use derivation::{Deriv, conclude, depth, nodes};
+use schema_reader::read_schema;
+use std::alloc::Global;
+use std::test::Fail;
+
+// The attributes A, B and C.
+const A: AttrSet = AttrSet(1);
+
+const B: AttrSet = AttrSet(2);
+
+const C: AttrSet = AttrSet(4);
+
+fn schema_of(alloc: Global) -> Result<Schema, WantMemory> {
+    match read_schema(alloc, b"attributes A B C\nA -> B\nB -> C\nA ->> B\n") {
+        Ok(schema) => Ok(schema),
+        Err(_) => Err(WantMemory),
+    }
+}
+
+fn grown(alloc: Global, node: Deriv) -> Result<Box<Deriv>, WantMemory>
+    ensures tree { IfOk result (λ b. tree_of b.value ≡ tree_of node) }
+{
+    Ok(Box::new(alloc, node)?)
+}
+
+// From a chain: one step more.
+fn further(
+    alloc: Global,
+    chain: Box<Deriv>,
+    by: AttrSet,
+    number: u16,
+) -> Result<Box<Deriv>, WantMemory>
+    ensures nodes { IfOk result (λ b. nodes (tree_of b.value) ≡ nodes (tree_of chain.value) + 3) }
+{
+    let from = grown(alloc, Deriv::Given(number))?;
+    let lifted = grown(alloc, Deriv::Augment { by, from })?;
+    grown(alloc, Deriv::Trans(chain, lifted))
+}
+
+// The certificate of a derivation that concludes something, else the empty text.
+fn printed(alloc: Global, schema: &Schema, deriv: &Deriv) -> Result<Vec<u8>, WantMemory>
+    requires few { nodes (tree_of deriv.now) < 2 ^ 32 }
+{
+    if nodes(deriv) <= 262_144 && depth(deriv) <= 2048 && conclude(schema, deriv).is_ok() {
+        print_proof(alloc, schema, deriv)
+    } else {
+        Ok(Vec::new(alloc))
+    }
+}
+
+#[test]
+fn prints_a_functional_chain(rt: HostRuntime) -> Result<(), Fail> {
+    let schema = schema_of(rt.alloc())?;
+    let start = grown(rt.alloc(), Deriv::Reflex { lhs: A, rhs: A })?;
+    let chain = further(rt.alloc(), start, A, 0)?;
+    let chain = further(rt.alloc(), chain, A.union(B), 1)?;
+    let abc = A.union(B).union(C);
+    let last = grown(rt.alloc(), Deriv::Reflex { lhs: abc, rhs: C })?;
+    let whole = grown(rt.alloc(), Deriv::Trans(chain, last))?;
+    let lines = b"1: A -> A : reflexivity\n\
+        2: A -> B : given 1\n\
+        3: A -> A B : augmentation 2 with A\n\
+        4: A -> A B : transitivity 1 3\n\
+        5: B -> C : given 2\n\
+        6: A B -> A B C : augmentation 5 with A B\n\
+        7: A -> A B C : transitivity 4 6\n\
+        8: A B C -> C : reflexivity\n\
+        9: A -> C : transitivity 7 8\n";
+    assert_eq!(rt;
+        printed(rt.alloc(), &schema, &whole)?.as_slice(),
+        lines.as_slice()
+    );
+    Ok(())
+}
+
+#[test]
+fn prints_the_sets_of_a_rule(rt: HostRuntime) -> Result<(), Fail> {
+    let schema = schema_of(rt.alloc())?;
+    let from = grown(rt.alloc(), Deriv::Given(2))?;
+    let wide = AttrSet(5);
+    let narrow = AttrSet(0);
+    let whole = grown(rt.alloc(), Deriv::MAugment { wide, narrow, from })?;
+    let lines = b"1: A ->> B : given 3\n\
+        2: A C ->> B : maugmentation 1 with A C : ()\n";
+    assert_eq!(rt;
+        printed(rt.alloc(), &schema, &whole)?.as_slice(),
+        lines.as_slice()
+    );
+    Ok(())
+}
