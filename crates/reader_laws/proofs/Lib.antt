@@ -1,0 +1,5 @@
+pub mod PrintedLexing
+pub mod PrintedDependencies
+pub mod PrintedSchemas
+pub mod PrintedSides
+pub mod PrintedTexts
