@@ -12,7 +12,7 @@ use Rattle.desk_outside.specs.Files.{Files, held, IsMissing}
 use Rattle.desk_cli.specs.declared.status.Status.{Status}
 use Rattle.desk_cli.specs.Forms.{Form, implies, form_of}
 use Rattle.desk_cli.specs.Readings.{seen, told}
-use Rattle.desk_cli.specs.Answers.{Allowed, Says, FileStops, SchemaStops, WithSchema, WithGoal, ImpliesAnswer, Performs, Answers}
+use Rattle.desk_cli.specs.Answers.{Allowed, Says, FileStops, SchemaStops, WithSchema, WithGoal, Decided, Performs, Answers}
 use Rattle.desk_cli.specs.Texts.{words_text}
 use Rattle.desk_cli.specs.declared.status.Status.TheVariants.{Refused}
 use Rattle.schema_reader.specs.declared.text.TheConstants.{MOST_TEXT_BYTES}
@@ -46,7 +46,7 @@ performs : (files : Files) (before after taken : ℕ) (form : Form) (status : St
     → Performs (seen (Some files) before after taken) form status text → Performs (told files) form status text
 unfolding Performs
 performs files before after taken (implies file goal) status text calm done =
-    with_schema files before after taken file (λ schema. WithGoal schema goal (λ dep. ImpliesAnswer schema dep)) status text calm done
+    with_schema files before after taken file (λ schema. WithGoal schema goal (λ dep. Decided schema dep)) status text calm done
 
 answers_at : (files : Files) (before after taken : ℕ) (form : Option Form) (status : Status) (text : List ℕ) → (Rose before after → ⊥)
     → MatchOption form (Says Refused words_text status text) (λ f. Performs (seen (Some files) before after taken) f status text)

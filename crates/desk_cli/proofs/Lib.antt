@@ -1,3 +1,1 @@
-mod AnswerLemmas
 pub mod CompleteLemmas
-mod DigitLemmas

@@ -1,23 +1,25 @@
 -- Which status and text answer a command.
-use Rattle.std.specs.Prelude.{◌≡◌, ◌⊎◌, ◌↔◌, ℕ, ◌<◌, ◌≤◌, Bool, true, not, List, ◌∷◌, length, codes, Ok, Err, MatchOption}
-use Rattle.std.specs.Bool.{MatchBool}
-use Rattle.std.specs.List.{list_any}
+use Rattle.std.specs.Prelude.{◌≡◌, ◌⊎◌, ℕ, ◌<◌, ◌≤◌, List, ◌++◌, length, codes, Ok, Err, MatchOption}
 use Rattle.attr_sets.specs.Places.{Places}
-use Rattle.dep_model.specs.Dependencies.{Dependency, Obeys, left_of, is_fd}
-use Rattle.dep_model.specs.Keys.{InClosure}
-use Rattle.dep_model.specs.Schemas.{names_of, width_of, theory_of, LegalFor, ImpliedBy}
+use Rattle.dep_model.specs.Dependencies.{Dependency}
+use Rattle.dep_model.specs.Schemas.{names_of, width_of, theory_of, ImpliedBy}
 use Rattle.dep_model.specs.declared.schema.Schema.{Schema}
 use Rattle.dep_model.specs.TwoTuples.{two_tuples}
+use Rattle.derivation.specs.Trees.{Tree}
+use Rattle.dep_basis.specs.Decisions.{IsBrokenBy}
+use Rattle.dep_basis.specs.Joined.{IsProofOf}
+use Rattle.dep_basis.specs.Proofs.{IsChainIfFunctional}
 use Rattle.schema_reader.specs.declared.goal.TheConstants.{MOST_GOAL_BYTES}
 use Rattle.schema_reader.specs.declared.text.TheConstants.{MOST_TEXT_BYTES}
 use Rattle.schema_reader.specs.declared.refusal.SchemaRefusal.{SchemaRefusal}
 use Rattle.schema_reader.specs.Reading.{read_goal}
 use Rattle.schema_reader.specs.Texts.{read_text, declarations_of}
+use Rattle.proof_text.specs.Printing.{canonical_certificate}
 use Rattle.desk_cli.specs.declared.status.Status.{Status}
 use Rattle.desk_cli.specs.declared.status.Status.TheVariants.{Yes, No, Refused, CannotRead}
 use Rattle.desk_cli.specs.Forms.{Form, implies, form_of}
 use Rattle.desk_cli.specs.Readings.{Reading}
-use Rattle.desk_cli.specs.Texts.{words_text, cannot_read_text, too_long_text, goal_too_long_text, not_built_text, refusal_text, goal_refusal_text, yes_text, no_text}
+use Rattle.desk_cli.specs.Texts.{words_text, cannot_read_text, too_long_text, goal_too_long_text, refusal_text, goal_refusal_text, yes_text, no_text}
 
 -- which status may be answered with which text
 abbrev pub Allowed : Type 1
@@ -68,32 +70,21 @@ WithGoal schema goal rest status text =
     ⊎ ((dep : Dependency) × (length goal ≤ MOST_GOAL_BYTES) × (read_goal (names_of schema) goal ≡ Ok dep) × rest dep status text)
 
 -- ---- implication
--- a relation that obeys the schema's dependencies and breaks the goal: the two tuples that agree just
--- on the closure of the goal's left side
-pub record Refutes (schema : Schema) (goal : Dependency) (agreement : Places) : Type 0 where
-  pub closure : (k : ℕ) → (agreement k ≡ true) ↔ InClosure (width_of schema) (theory_of schema) (left_of goal) k
-  pub legal : LegalFor schema (two_tuples (width_of schema) agreement)
-  pub breaks : Obeys (width_of schema) goal (two_tuples (width_of schema) agreement) → ⊥
-
--- yes exactly where the goal is implied; else no, with two tuples that show it
+-- Yes exactly where every relation that obeys the schema's dependencies obeys the goal, with a derivation
+-- of the goal, which is the functional chain where the functional part alone implies it; else no, with
+-- two tuples that obey the dependencies and break the goal.
 abbrev pub Decided : Schema → Dependency → Allowed
 Decided schema goal status text =
-    (ImpliedBy schema goal × Says Yes yes_text status text)
+    (ImpliedBy schema goal
+        × ((tree : Tree) × IsProofOf schema goal tree × IsChainIfFunctional schema goal tree × Says Yes (yes_text ++ canonical_certificate schema tree) status text))
     ⊎ ((ImpliedBy schema goal → ⊥)
-    × ((agreement : Places) × Refutes schema goal agreement × Says No (no_text (names_of schema) (two_tuples (width_of schema) agreement)) status text))
-
--- whether the schema or the goal has a multivalued dependency
-abbrev pub is_mixed : Schema → Dependency → Bool
-is_mixed schema goal = list_any (λ d. not (is_fd d)) (goal ∷ theory_of schema)
-
-abbrev pub ImpliesAnswer : Schema → Dependency → Allowed
-ImpliesAnswer schema goal status text =
-    MatchBool (is_mixed schema goal) (Says Refused not_built_text status text) (Decided schema goal status text)
+        × ((agreement : Places) × IsBrokenBy (width_of schema) (theory_of schema) goal agreement
+        × Says No (no_text (names_of schema) (two_tuples (width_of schema) agreement)) status text))
 
 -- ---- commands
 -- which status and text a command gives
 unfoldable pub Performs : Reading → Form → Allowed
-Performs r (implies file goal) = WithSchema r file (λ schema. WithGoal schema goal (λ dep. ImpliesAnswer schema dep))
+Performs r (implies file goal) = WithSchema r file (λ schema. WithGoal schema goal (λ dep. Decided schema dep))
 
 -- which status and text answer the words
 abbrev pub Answers : Reading → List (List ℕ) → Allowed

@@ -25,9 +25,6 @@ too_long_text name = line (codes "refused: " ++ name ++ codes " is too long")
 abbrev pub goal_too_long_text : List ℕ
 goal_too_long_text = line (codes "refused: goal is too long")
 
-abbrev pub not_built_text : List ℕ
-not_built_text = line (codes "refused: not built yet")
-
 -- what the grammar wants
 abbrev pub what_text : What → List ℕ
 what_text what.Name = codes "expected a name"

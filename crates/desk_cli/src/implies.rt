@@ -1,29 +1,32 @@
-ghost use Rattle.std.specs.Prelude.{◌≡◌, ◌≤◌, if◌then◌else◌, false, IfOk, IfErr, OnOk, Ok, length, not};
-ghost use Rattle.std.specs.List.{list_any};
+ghost use Rattle.std.specs.Prelude.{◌≡◌, ◌≤◌, ◌++◌, IfOk};
 ghost use Rattle.attr_sets.specs.Places.{Within};
 ghost use Rattle.attr_sets.specs.Sets.{places};
-ghost use Rattle.dep_model.specs.Dependencies.{fd, is_fd};
 ghost use Rattle.dep_model.specs.Deps.{dependency_of, IsDepWithin};
-ghost use Rattle.dep_model.specs.Schemas.{names_of, universe_of, theory_of};
-ghost use Rattle.dep_model.specs.TwoTuples.{zero_text, one_text, zeros_on, two_tuples};
-ghost use Rattle.schema_reader.specs.Reading.{read_goal};
+ghost use Rattle.dep_model.specs.Schemas.{names_of, width_of, universe_of};
+ghost use Rattle.dep_model.specs.TwoTuples.{two_tuples};
+ghost use Rattle.derivation.specs.Trees.{nodes, depth};
+ghost use Rattle.derivation.specs.Derivs.{tree_of};
+ghost use Rattle.proof_text.specs.Printing.{canonical_certificate, IsProof};
 ghost use Rattle.desk_cli.specs.Forms.{implies};
 ghost use Rattle.desk_cli.specs.Readings.{seen};
-ghost use Rattle.desk_cli.specs.Replies.{StopsAs, RepliesAs};
-ghost use Rattle.desk_cli.specs.Answers.{Says, Performs, GoalStops, ImpliesAnswer, Decided};
-ghost use Rattle.desk_cli.specs.Texts.{not_built_text};
+ghost use Rattle.desk_cli.specs.Replies.{RepliesAs};
+ghost use Rattle.desk_cli.specs.Answers.{Says, Performs, Decided};
+ghost use Rattle.desk_cli.specs.Texts.{yes_text, no_text};
+
+use attr_sets::AttrSet;
+use csv_rows::print_rows;
+use dep_basis::{Proof, prove, witness};
+use dep_model::{Dep, Schema, WantMemory};
+use derivation::Deriv;
+use desk_outside::{Shelf, Word};
+use proof_text::{MOST_LEVELS, MOST_LINES, print_proof};
+use std::alloc::Global;
 
 use crate::Status;
-use crate::read::{open_schema, refused};
+use crate::goal::goal_of;
+use crate::read::open_schema;
 use crate::reply::{Reply, Stop};
 use crate::text::{line_of, put};
-use attr_sets::{AttrSet, PLACES};
-use csv_rows::print_rows;
-use dep_model::{Dep, Row, Schema, Value, WantMemory};
-use desk_outside::{Shelf, Word};
-use fd_closure::closure;
-use schema_reader::{MOST_GOAL_BYTES, read_goal};
-use std::alloc::Global;
 
 /// Whether the schema of a file implies a goal: `yes`, or `no` with two tuples that obey the schema
 /// and break the goal.
@@ -46,123 +49,42 @@ pub fn implies<F: Shelf>(
     Ok(decided(alloc, &schema, dep)?)
 }
 
-/// The dependency that a goal states.
-fn goal_of(alloc: Global, schema: &Schema, goal: &Word) -> Result<Dep, Stop>
-    ensures few { OnOk result (length goal.now ≤ MOST_GOAL_BYTES) }
-    ensures ok { IfOk result (λ dep. read_goal (names_of schema.now) goal.now ≡ Ok (dependency_of dep)) }
-    ensures within { IfOk result (IsDepWithin (universe_of schema.now)) }
-    ensures stop { IfErr result (StopsAs (GoalStops schema.now goal.now)) }
-{
-    let text = goal.bytes();
-    if text.len() > MOST_GOAL_BYTES {
-        let text = line_of(alloc, b"refused: goal is too long", b"", b"")?;
-        return Err(Stop::Answered(Reply {
-            status: Status::Refused,
-            text,
-        }));
-    }
-    match read_goal(schema, text) {
-        Ok(dep) => Ok(dep),
-        Err(refusal) => Err(refused(alloc, b"goal", b"goal", refusal)),
-    }
-}
-
 /// The answer to a goal.
 fn decided(alloc: Global, schema: &Schema, dep: Dep) -> Result<Reply, WantMemory>
     requires { IsDepWithin (universe_of schema.now) dep }
-    ensures answer { IfOk result (λ reply. ImpliesAnswer schema.now (dependency_of dep) reply.status reply.text.items) }
+    ensures answer { IfOk result (λ reply. Decided schema.now (dependency_of dep) reply.status reply.text.items) }
 {
-    if has_mvd(schema.deps()) {
-        return not_built(alloc);
-    }
-    match dep {
-        Dep::Mvd { .. } => not_built(alloc),
-        Dep::Fd { lhs, rhs } => functional(alloc, schema, lhs, rhs),
+    match prove(alloc, schema, dep)? {
+        Proof::Yes(deriv) => certified(alloc, schema, &deriv),
+        Proof::No { agreement } => refuted(alloc, schema, agreement),
     }
 }
 
-/// The answer where a multivalued dependency stands.
-fn not_built(alloc: Global) -> Result<Reply, WantMemory>
-    ensures reply { IfOk result (λ reply. Says Status.Refused not_built_text reply.status reply.text.items) }
+/// `yes`, and the certificate of a derivation.
+fn certified(alloc: Global, schema: &Schema, deriv: &Deriv) -> Result<Reply, WantMemory>
+    requires proof { IsProof schema.now (tree_of deriv.now) }
+    requires few_lines { nodes (tree_of deriv.now) ≤ MOST_LINES }
+    requires few_levels { depth (tree_of deriv.now) ≤ MOST_LEVELS }
+    ensures reply { IfOk result (λ reply. Says Status.Yes (yes_text ++ canonical_certificate schema.now (tree_of deriv.now)) reply.status reply.text.items) }
 {
+    let mut text = line_of(alloc, b"yes", b"", b"")?;
+    put(&mut text, &print_proof(alloc, schema, deriv)?)?;
     Ok(Reply {
-        status: Status::Refused,
-        text: line_of(alloc, b"refused: not built yet", b"", b"")?,
+        status: Status::Yes,
+        text,
     })
 }
 
-/// Whether a list has a multivalued dependency.
-fn has_mvd(deps: &[Dep]) -> bool
-    ensures any { result ≡ list_any (λ d. not (is_fd (dependency_of d))) deps.now }
+/// `no`, and the two tuples that agree just on a set.
+fn refuted(alloc: Global, schema: &Schema, agreement: AttrSet) -> Result<Reply, WantMemory>
+    requires within { Within (places agreement) (universe_of schema.now) }
+    ensures reply { IfOk result (λ reply. Says Status.No (no_text (names_of schema.now) (two_tuples (width_of schema.now) (places agreement))) reply.status reply.text.items) }
 {
-    deps.iter().any(|dep| is_mvd(*dep))
-}
-
-/// Whether a dependency is multivalued.
-fn is_mvd(dep: Dep) -> bool
-    ensures multivalued { result ≡ not (is_fd (dependency_of dep)) }
-{
-    match dep {
-        Dep::Fd { .. } => false,
-        Dep::Mvd { .. } => true,
-    }
-}
-
-/// The answer to a functional goal over functional dependencies.
-fn functional(
-    alloc: Global,
-    schema: &Schema,
-    lhs: AttrSet,
-    rhs: AttrSet,
-) -> Result<Reply, WantMemory>
-    requires functional { list_any (λ d. not (is_fd d)) (theory_of schema.now) ≡ false }
-    requires lhs { Within (places lhs) (universe_of schema.now) }
-    requires rhs { Within (places rhs) (universe_of schema.now) }
-    ensures answer { IfOk result (λ reply. Decided schema.now (fd (places lhs) (places rhs)) reply.status reply.text.items) }
-{
-    let closed = closure(schema.deps(), lhs);
-    if rhs.within(closed) {
-        return Ok(Reply {
-            status: Status::Yes,
-            text: line_of(alloc, b"yes", b"", b"")?,
-        });
-    }
-    let rows = two_rows(alloc, schema.width(), closed)?;
+    let rows = witness(alloc, schema, agreement)?;
     let mut text = line_of(alloc, b"no", b"", b"")?;
     put(&mut text, &print_rows(alloc, schema, &rows)?)?;
     Ok(Reply {
         status: Status::No,
         text,
     })
-}
-
-/// The two rows that agree just on a set: zeros, and zeros on the set with ones elsewhere.
-fn two_rows(alloc: Global, width: u8, agreement: AttrSet) -> Result<[Row; 2], WantMemory>
-    requires { width ≤ PLACES }
-    ensures rows { IfOk result (λ rows. rows ≡ two_tuples width (places agreement)) }
-{
-    let first = zeros_and_ones(alloc, width, AttrSet::full(width))?;
-    let second = zeros_and_ones(alloc, width, agreement)?;
-    Ok([first, second])
-}
-
-/// The row of zeros on a set, and ones elsewhere.
-#[tactic(auto, using(crate::proofs::DigitLemmas::zeros_none, crate::proofs::DigitLemmas::zeros_more))]
-fn zeros_and_ones(alloc: Global, width: u8, zeros: AttrSet) -> Result<Row, WantMemory>
-    requires { width ≤ PLACES }
-    ensures row { IfOk result (λ row. row ≡ zeros_on width (places zeros)) }
-{
-    let mut values = Vec::new(alloc);
-    for k in 0..width {
-        let value = Value::make(alloc, digit(zeros.has(k)))?;
-        values.push(value)?;
-    }
-    Ok(Row::make(values))
-}
-
-/// `0` or `1`.
-fn digit(is_zero: bool) -> &'static [u8]
-    ensures digit { result.now ≡ (if is_zero then zero_text else one_text) }
-{
-    if is_zero { b"0" } else { b"1" }
 }

@@ -6,6 +6,7 @@
 #![tactic(auto)]
 
 mod command;
+mod goal;
 mod implies;
 mod read;
 mod refusals;

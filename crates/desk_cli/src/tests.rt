@@ -6,6 +6,20 @@ use std::test::Fail;
 
 const CHAIN: &[u8] = b"attributes A B C\nA -> B\nB -> C\n";
 
+const YES: &[u8] = b"yes
+1: A -> A : reflexivity
+2: A -> B : given 1
+3: A -> A B : augmentation 2 with A
+4: A -> A B : transitivity 1 3
+5: B -> C : given 2
+6: A B -> A B C : augmentation 5 with A B
+7: A -> A B C : transitivity 4 6
+8: A B C -> C : reflexivity
+9: A -> C : transitivity 7 8
+";
+
+const MULTIVALUED: &[u8] = b"no\nA,B,C\n0,0,0\n1,1,1\n";
+
 const NO: &[u8] = b"no\nA,B,C\n0,0,0\n1,1,0\n";
 
 fn words_of(alloc: Global, words: &[&[u8]]) -> Result<Vec<Word>, WantMemory> {
@@ -28,12 +42,12 @@ fn shelf_of(alloc: Global, fails: &[u64]) -> Result<MemoryShelf, WantMemory> {
 #[test]
 fn answers_over_objects_in_memory(rt: HostRuntime) -> Result<(), Fail> {
     let cases: [(&[&[u8]], Status, &[u8]); 5] = [
-        (&[b"implies", b"s", b"A -> C"], Status::Yes, b"yes\n"),
+        (&[b"implies", b"s", b"A -> C"], Status::Yes, YES),
         (&[b"implies", b"s", b"C -> A"], Status::No, NO),
         (
-            &[b"implies", b"s", b"A ->> C"],
-            Status::Refused,
-            b"refused: not built yet\n",
+            &[b"implies", b"s", b"() ->> A"],
+            Status::No,
+            MULTIVALUED,
         ),
         (
             &[b"implies", b"t", b"A -> C"],
