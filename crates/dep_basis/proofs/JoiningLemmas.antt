@@ -1,16 +1,16 @@
 -- Derivations that are joined: what is left of the right side, and how large they grow.
-use Rattle.std.proofs.Common.{◌≡◌, ℕ, ◌+◌, ◌*◌, ◌<◌, ◌≤◌, true, false, refl, sym, ◌∙◌, arith}
-use Rattle.std.proofs.lemmas.Bool.{true≢false, ltb-true}
-use Rattle.attr_sets.specs.Places.{Places, below, only, union, meet, minus, Within, Same, IsEmpty, Apart, count_below}
+use Rattle.std.proofs.Common.{◌≡◌, ℕ, ◌+◌, ◌*◌, ◌<◌, true, sym, ◌∙◌, arith}
+use Rattle.std.proofs.lemmas.Bool.{true≢false}
+use Rattle.attr_sets.specs.Places.{Places, union, meet, minus, Within, Same, count_below}
 use Rattle.attr_sets.specs.Sets.{places}
 use Rattle.attr_sets.specs.declared.set.TheConstants.{PLACES}
 use Rattle.attr_sets.proofs.PlacesLemmas.{count_below-lt, count_below-le}
 use Rattle.dep_model.specs.declared.schema.Schema.{Schema}
-use Rattle.dep_model.specs.Dependencies.{fd, mvd}
+use Rattle.dep_model.specs.Dependencies.{mvd}
 use Rattle.dep_model.specs.Schemas.{width_of, universe_of, theory_of, ImpliedBy}
 use Rattle.dep_model.specs.Keys.{IsBlock}
 use Rattle.dep_model.proofs.RuleLemmas.{mvd_meet_obeyed}
-use Rattle.derivation.specs.Trees.{Tree, nodes, depth}
+use Rattle.derivation.specs.Trees.{Tree}
 use Rattle.derivation.specs.Derivs.{tree_of}
 use Rattle.derivation.specs.Builders.{IsLittleMore}
 use Rattle.dep_basis.specs.declared.shown.PartProof.{PartProof}
@@ -51,7 +51,7 @@ left_next x y left rest part a t g u before low in_left in_part is size more =
 pub block_within : (s : Schema) (x p y : Places) (a : ℕ) → IsBlock (width_of s) (theory_of s) x p → ImpliedBy s (mvd x y) → p a ≡ true → y a ≡ true → Within p y
 block_within s x p y a block implied in_p in_y k m =
     let shared = block.minimal (meet p y) (λ j h. grind (arith, h)) (λ none. true≢false (sym (grind (arith, in_p, in_y)) ∙ none a))
-      (λ r legal. mvd_meet_obeyed (universe_of s) x p y r (block.implied r legal) (implied r legal)) k m in
+    (λ r legal. mvd_meet_obeyed (universe_of s) x p y r (block.implied r legal) (implied r legal)) k m in
     grind (arith, shared)
 
 pub part_set : (s : Schema) (x : Places) (a : ℕ) (w : PartProof) → IsPartProof s x a (places w.part) (tree_of w.deriv.value) × IsBlock (width_of s) (theory_of s) x (places w.part) → IsSetProof s x a w

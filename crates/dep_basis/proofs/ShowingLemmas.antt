@@ -1,20 +1,20 @@
 -- Derivations for parts: a cut keeps them small beside what was cut off.
-use Rattle.std.proofs.Common.{◌≡◌, ℕ, ◌+◌, ◌*◌, ◌<◌, ◌≤◌, true, false, Option, Some, Result, Ok, Err, List, length, get_or, refl, sym, ap, subst, ◌∙◌, inl, inr, ⊎_elim, arith}
+use Rattle.std.proofs.Common.{◌≡◌, ℕ, ◌+◌, ◌*◌, ◌<◌, ◌≤◌, true, false, Option, Some, Result, Ok, Err, List, length, get_or, refl, sym, subst, ◌∙◌, ⊎_elim, arith}
 use Rattle.std.proofs.lemmas.Bool.{true≢false, cases_Bool, ltb-true}
 use Rattle.std.proofs.lemmas.Option.{slice_get-get_or, slice_get_within}
 use Rattle.std.proofs.lemmas.Bool.Decides.{nat_tests}
 use Rattle.std.specs.Prelude.{All, slice_get, IfOk}
-use Rattle.attr_sets.specs.Places.{Places, below, only, meet, minus, Within, Same, Apart, Meets, count_below}
+use Rattle.attr_sets.specs.Places.{Places, below, meet, minus, Within, Same, count_below}
 use Rattle.attr_sets.specs.Sets.{places}
 use Rattle.attr_sets.specs.declared.set.TheConstants.{PLACES}
 use Rattle.attr_sets.proofs.PlacesLemmas.{places_below, count_below-lt, count_below-le}
 use Rattle.dep_model.specs.declared.dep.Dep.{Dep}
 use Rattle.dep_model.specs.declared.schema.Schema.{Schema}
-use Rattle.dep_model.specs.Dependencies.{Dependency, fd, mvd, left_of, right_of, is_fd, Obeys, IsWithin}
+use Rattle.dep_model.specs.Dependencies.{Dependency, mvd, left_of, right_of, is_fd, Obeys, IsWithin}
 use Rattle.dep_model.specs.Implication.{Implies}
 use Rattle.dep_model.specs.Deps.{dependency_of, IsDepWithin}
 use Rattle.dep_model.specs.Schemas.{width_of, universe_of, deps_of, theory_of}
-use Rattle.derivation.specs.Trees.{Tree, nodes, depth}
+use Rattle.derivation.specs.Trees.{Tree, depth}
 use Rattle.derivation.specs.Derivs.{tree_of}
 use Rattle.derivation.specs.Conclusions.{Proves}
 use Rattle.derivation.specs.Builders.{ProveSplit, IsLittleMore}
@@ -52,28 +52,32 @@ module _ (s : Schema) (x : Places) (a : ℕ) (w rest : Places) (d : Dependency) 
 
   pub next_outside : right_of d a ≡ false → Same rest (minus w (right_of d)) → Proves s u (mvd x (minus w (right_of d))) → IsPartProof s x a rest u × (count_below rest PLACES < count_below w PLACES)
   next_outside without is proves =
-      let fewer = falls w rest cutting.shares.0 low (λ k m. grind (arith, is k, m)) cutting.shares.1 (grind (arith, is cutting.shares.0, cutting.shares.2)) in
-      (record {
-        candidate = candidate_outside (width_of s) (theory_of s) x w (left_of d) (right_of d) rest a x_in within.0 without cutting.apart (as_mvd (width_of s) (theory_of s) d given) is part.candidate;
-        member = grind (arith, is a, part.member, without);
-        proves = mvd_restated s u x (minus w (right_of d)) x rest (λ k. refl) (λ k. sym (is k)) proves;
-        few_nodes = omega (arith, fewer, more.few_nodes, size.few_nodes, part.few_nodes);
-        few_levels = few_levels fewer;
-      }, fewer)
+      let fewer = falls w rest cutting.shares.0 low (λ k m. grind (arith, is k, m)) cutting.shares.1 (grind (arith, is cutting.shares.0, cutting.shares.2)) in (
+        record {
+          candidate = candidate_outside (width_of s) (theory_of s) x w (left_of d) (right_of d) rest a x_in within.0 without cutting.apart (as_mvd (width_of s) (theory_of s) d given) is part.candidate;
+          member = grind (arith, is a, part.member, without);
+          proves = mvd_restated s u x (minus w (right_of d)) x rest (λ k. refl) (λ k. sym (is k)) proves;
+          few_nodes = omega (arith, fewer, more.few_nodes, size.few_nodes, part.few_nodes);
+          few_levels = few_levels fewer;
+        },
+        fewer,
+      )
 
   pub next_inside : right_of d a ≡ true → is_fd d ≡ false → Same rest (meet w (right_of d)) → Proves s u (mvd x (meet w (right_of d))) → IsPartProof s x a rest u × (count_below rest PLACES < count_below w PLACES)
   next_inside with multivalued is proves =
       let fewer = ⊎_elim
-        (λ functional. absurd (true≢false (sym functional ∙ multivalued)))
-        (λ beyond. falls w rest beyond.0 low (λ k m. grind (arith, is k, m)) beyond.1 (grind (arith, is beyond.0, beyond.2)))
-        cutting.leaves in
-      (record {
-        candidate = candidate_inside (width_of s) (theory_of s) x w (left_of d) (right_of d) rest a x_in within.0 with cutting.apart (as_mvd (width_of s) (theory_of s) d given) is part.candidate;
-        member = grind (arith, is a, part.member, with);
-        proves = mvd_restated s u x (meet w (right_of d)) x rest (λ k. refl) (λ k. sym (is k)) proves;
-        few_nodes = omega (arith, fewer, more.few_nodes, size.few_nodes, part.few_nodes);
-        few_levels = few_levels fewer;
-      }, fewer)
+      (λ functional. absurd (true≢false (sym functional ∙ multivalued)))
+      (λ beyond. falls w rest beyond.0 low (λ k m. grind (arith, is k, m)) beyond.1 (grind (arith, is beyond.0, beyond.2)))
+      cutting.leaves in (
+        record {
+          candidate = candidate_inside (width_of s) (theory_of s) x w (left_of d) (right_of d) rest a x_in within.0 with cutting.apart (as_mvd (width_of s) (theory_of s) d given) is part.candidate;
+          member = grind (arith, is a, part.member, with);
+          proves = mvd_restated s u x (meet w (right_of d)) x rest (λ k. refl) (λ k. sym (is k)) proves;
+          few_nodes = omega (arith, fewer, more.few_nodes, size.few_nodes, part.few_nodes);
+          few_levels = few_levels fewer;
+        },
+        fewer,
+      )
 
 -- ---- a given dependency
 same_some : {A : Type 0} (x y : A) → ◌≡◌ {A = Option A} (Some x) (Some y) → x ≡ y
@@ -105,8 +109,8 @@ pub next_part_outside : (s : Schema) (a k : ℕ) (dep : Dep) (from w : PartProof
     → Proves s (tree_of w.deriv.value) (mvd (places from.lhs) (minus (places from.part) (right_of (dependency_of dep)))) → IsNextPart s a from w
 next_part_outside s a k dep from w g cut same size more without is proves =
     next_part s a from w same
-      (next_outside s (places from.lhs) a (places from.part) (places w.part) (dependency_of dep) (tree_of from.deriv.value) g (tree_of w.deriv.value)
-        cut.shown cut.cutting (places_below from.part) cut.lhs (given_within s k dep cut.given) (given_implied s k dep cut.given) size more without is proves)
+    (next_outside s (places from.lhs) a (places from.part) (places w.part) (dependency_of dep) (tree_of from.deriv.value) g (tree_of w.deriv.value)
+    cut.shown cut.cutting (places_below from.part) cut.lhs (given_within s k dep cut.given) (given_implied s k dep cut.given) size more without is proves)
 
 pub next_part_inside : (s : Schema) (a k : ℕ) (dep : Dep) (from w : PartProof) (g : Tree) → CanCut s a k dep from → w.lhs ≡ from.lhs → HasSize g 2 2
     → IsLittleMore (tree_of from.deriv.value) g (tree_of w.deriv.value) → right_of (dependency_of dep) a ≡ true → is_fd (dependency_of dep) ≡ false
@@ -114,8 +118,8 @@ pub next_part_inside : (s : Schema) (a k : ℕ) (dep : Dep) (from w : PartProof)
     → Proves s (tree_of w.deriv.value) (mvd (places from.lhs) (meet (places from.part) (right_of (dependency_of dep)))) → IsNextPart s a from w
 next_part_inside s a k dep from w g cut same size more with multivalued is proves =
     next_part s a from w same
-      (next_inside s (places from.lhs) a (places from.part) (places w.part) (dependency_of dep) (tree_of from.deriv.value) g (tree_of w.deriv.value)
-        cut.shown cut.cutting (places_below from.part) cut.lhs (given_within s k dep cut.given) (given_implied s k dep cut.given) size more with multivalued is proves)
+    (next_inside s (places from.lhs) a (places from.part) (places w.part) (dependency_of dep) (tree_of from.deriv.value) g (tree_of w.deriv.value)
+    cut.shown cut.cutting (places_below from.part) cut.lhs (given_within s k dep cut.given) (given_implied s k dep cut.given) size more with multivalued is proves)
 
 -- ---- sizes
 pub size_grows : (t : Tree) (n m p q : ℕ) → n ≤ p → m ≤ q → HasSize t n m → HasSize t p q

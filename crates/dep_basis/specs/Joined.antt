@@ -1,10 +1,10 @@
 use Rattle.std.specs.Prelude.{◌≡◌, ℕ, ◌+◌, ◌*◌, ◌≤◌, true}
-use Rattle.attr_sets.specs.Places.{Places, minus, Within, Apart, count_below}
+use Rattle.attr_sets.specs.Places.{Places, Within, Apart, count_below}
 use Rattle.attr_sets.specs.Sets.{places}
 use Rattle.attr_sets.specs.declared.set.TheConstants.{PLACES}
 use Rattle.dep_model.specs.declared.schema.Schema.{Schema}
-use Rattle.dep_model.specs.Dependencies.{Dependency, fd, mvd}
-use Rattle.dep_model.specs.Schemas.{universe_of, ImpliedBy}
+use Rattle.dep_model.specs.Dependencies.{Dependency, mvd}
+use Rattle.dep_model.specs.Schemas.{ImpliedBy}
 use Rattle.derivation.specs.Trees.{Tree, nodes, depth}
 use Rattle.derivation.specs.Derivs.{tree_of}
 use Rattle.derivation.specs.Conclusions.{Proves}

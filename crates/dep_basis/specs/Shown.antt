@@ -1,7 +1,6 @@
 use Rattle.std.specs.Prelude.{◌≡◌, ℕ, ◌+◌, ◌*◌, ◌<◌, ◌≤◌, true, false, ◌⊎◌, Some, slice_get}
 use Rattle.attr_sets.specs.Places.{Places, only, Within, Apart, Meets, count_below}
 use Rattle.attr_sets.specs.Sets.{places}
-use Rattle.attr_sets.specs.declared.set.AttrSet.{AttrSet}
 use Rattle.attr_sets.specs.declared.set.TheConstants.{PLACES}
 use Rattle.dep_model.specs.declared.schema.Schema.{Schema}
 use Rattle.dep_model.specs.Dependencies.{Dependency, fd, mvd, left_of, right_of, is_fd}

@@ -5,11 +5,10 @@ ghost use Rattle.dep_basis.specs.Refining.{LeavesWhole};
 ghost use Rattle.dep_model.specs.declared.dep.Dep.{Dep};
 ghost use Rattle.dep_basis.specs.Shown.{IsCutting};
 
-use attr_sets::AttrSet;
-use dep_model::Dep;
-
 use crate::meeting::meets;
 use crate::refining::sides;
+use attr_sets::AttrSet;
+use dep_model::Dep;
 
 // The first dependency that cuts a part.
 pub fn next_cut(deps: &[Dep], part: AttrSet) -> Option<usize>

@@ -7,19 +7,22 @@ ghost use Rattle.derivation.specs.Derivs.{tree_of};
 ghost use Rattle.dep_basis.specs.Shown.{IsClosedProof};
 ghost use Rattle.dep_basis.specs.Joined.{IsProofOf, IsSetProof};
 
-use std::alloc::Global;
-
-use attr_sets::AttrSet;
-use dep_model::{Schema, WantMemory};
-use derivation::{Deriv, unite_fd, unite_mvd};
-
 use crate::makers::{mreflexivity, reflexivity};
 use crate::showing::show_attribute;
 use crate::shown::{PartProof, Shown};
+use attr_sets::AttrSet;
+use dep_model::{Schema, WantMemory};
+use derivation::{Deriv, unite_fd, unite_mvd};
+use std::alloc::Global;
 
 // A derivation of an implied functional dependency, which joins the attributes of its right side one
 // by one.
-pub fn join_fd(alloc: Global, schema: &Schema, lhs: AttrSet, rhs: AttrSet) -> Result<Box<Deriv>, WantMemory>
+pub fn join_fd(
+    alloc: Global,
+    schema: &Schema,
+    lhs: AttrSet,
+    rhs: AttrSet,
+) -> Result<Box<Deriv>, WantMemory>
     requires lhs { Within (places lhs) (universe_of schema.now) }
     requires rhs { Within (places rhs) (universe_of schema.now) }
     requires implied { ImpliedBy schema.now (fd (places lhs) (places rhs)) }
@@ -39,7 +42,12 @@ pub fn join_fd(alloc: Global, schema: &Schema, lhs: AttrSet, rhs: AttrSet) -> Re
 }
 
 // A derivation of an implied multivalued dependency, which joins the parts of its right side.
-pub fn join_mvd(alloc: Global, schema: &Schema, lhs: AttrSet, rhs: AttrSet) -> Result<Box<Deriv>, WantMemory>
+pub fn join_mvd(
+    alloc: Global,
+    schema: &Schema,
+    lhs: AttrSet,
+    rhs: AttrSet,
+) -> Result<Box<Deriv>, WantMemory>
     requires lhs { Within (places lhs) (universe_of schema.now) }
     requires rhs { Within (places rhs) (universe_of schema.now) }
     requires implied { ImpliedBy schema.now (mvd (places lhs) (places rhs)) }
@@ -59,7 +67,12 @@ pub fn join_mvd(alloc: Global, schema: &Schema, lhs: AttrSet, rhs: AttrSet) -> R
 }
 
 // That the left side determines an attribute, where it is implied.
-fn show_closed(alloc: Global, schema: &Schema, lhs: AttrSet, attribute: u8) -> Result<Box<Deriv>, WantMemory>
+fn show_closed(
+    alloc: Global,
+    schema: &Schema,
+    lhs: AttrSet,
+    attribute: u8,
+) -> Result<Box<Deriv>, WantMemory>
     requires lhs { Within (places lhs) (universe_of schema.now) }
     requires attribute { attribute < width_of schema.now }
     requires outside { places lhs attribute ≡ false }
@@ -74,7 +87,12 @@ fn show_closed(alloc: Global, schema: &Schema, lhs: AttrSet, attribute: u8) -> R
 
 // The block of an attribute, or the attribute alone where it is determined, and that the left side
 // multidetermines it.
-fn show_set(alloc: Global, schema: &Schema, lhs: AttrSet, attribute: u8) -> Result<PartProof, WantMemory>
+fn show_set(
+    alloc: Global,
+    schema: &Schema,
+    lhs: AttrSet,
+    attribute: u8,
+) -> Result<PartProof, WantMemory>
     requires lhs { Within (places lhs) (universe_of schema.now) }
     requires attribute { attribute < width_of schema.now }
     requires outside { places lhs attribute ≡ false }

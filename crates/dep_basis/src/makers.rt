@@ -9,14 +9,18 @@ ghost use Rattle.derivation.specs.Derivs.{tree_of};
 ghost use Rattle.derivation.specs.Conclusions.{Proves};
 ghost use Rattle.dep_basis.specs.Shown.{HasSize};
 
-use std::alloc::Global;
-
 use attr_sets::AttrSet;
 use dep_model::{Dep, Schema, WantMemory};
 use derivation::Deriv;
+use std::alloc::Global;
 
 // `lhs -> rhs`, by reflexivity.
-pub fn reflexivity(alloc: Global, schema: &Schema, lhs: AttrSet, rhs: AttrSet) -> Result<Box<Deriv>, WantMemory>
+pub fn reflexivity(
+    alloc: Global,
+    schema: &Schema,
+    lhs: AttrSet,
+    rhs: AttrSet,
+) -> Result<Box<Deriv>, WantMemory>
     requires lhs { Within (places lhs) (universe_of schema.now) }
     requires rhs { Within (places rhs) (places lhs) }
     ensures tree { IfOk result (λ b. tree_of b.value ≡ leaf (reflexivity (places lhs) (places rhs))) }
@@ -27,7 +31,12 @@ pub fn reflexivity(alloc: Global, schema: &Schema, lhs: AttrSet, rhs: AttrSet) -
 }
 
 // `lhs ->> rhs`, by reflexivity.
-pub fn mreflexivity(alloc: Global, schema: &Schema, lhs: AttrSet, rhs: AttrSet) -> Result<Box<Deriv>, WantMemory>
+pub fn mreflexivity(
+    alloc: Global,
+    schema: &Schema,
+    lhs: AttrSet,
+    rhs: AttrSet,
+) -> Result<Box<Deriv>, WantMemory>
     requires lhs { Within (places lhs) (universe_of schema.now) }
     requires rhs { Within (places rhs) (places lhs) }
     ensures proves { IfOk result (λ b. Proves schema.now (tree_of b.value) (mvd (places lhs) (places rhs))) }
@@ -47,7 +56,13 @@ pub fn outside(alloc: Global, schema: &Schema, lhs: AttrSet) -> Result<Box<Deriv
 }
 
 // A given functional dependency.
-pub fn given_fd(alloc: Global, schema: &Schema, k: u16, lhs: AttrSet, rhs: AttrSet) -> Result<Box<Deriv>, WantMemory>
+pub fn given_fd(
+    alloc: Global,
+    schema: &Schema,
+    k: u16,
+    lhs: AttrSet,
+    rhs: AttrSet,
+) -> Result<Box<Deriv>, WantMemory>
     requires given { slice_get (deps_of schema.now) k ≡ Some (Dep.Fd lhs rhs) }
     ensures proves { IfOk result (λ b. Proves schema.now (tree_of b.value) (fd (places lhs) (places rhs))) }
     ensures size { IfOk result (λ b. HasSize (tree_of b.value) 1 1) }
@@ -71,7 +86,14 @@ pub fn given_mvd(alloc: Global, schema: &Schema, k: u16, dep: Dep) -> Result<Box
 }
 
 // From `X ->> W` and a given `V -> T`, where `V` is apart from `W` and `a` is in `W` and in `T`: `X -> a`.
-pub fn moved(alloc: Global, schema: &Schema, part: Box<Deriv>, given: Box<Deriv>, rhs: AttrSet, attribute: u8) -> Result<Box<Deriv>, WantMemory>
+pub fn moved(
+    alloc: Global,
+    schema: &Schema,
+    part: Box<Deriv>,
+    given: Box<Deriv>,
+    rhs: AttrSet,
+    attribute: u8,
+) -> Result<Box<Deriv>, WantMemory>
     requires attribute { attribute < 128 }
     requires rhs { Within (places rhs) (universe_of schema.now) }
     requires member { places rhs attribute ≡ true }

@@ -8,17 +8,15 @@ ghost use Rattle.derivation.specs.Derivs.{tree_of};
 ghost use Rattle.dep_basis.specs.Joined.{IsProofOf};
 ghost use Rattle.dep_basis.specs.Proofs.{IsAnswer, IsChainIfFunctional, IsYes};
 
-use std::alloc::Global;
-
-use attr_sets::AttrSet;
-use dep_model::{Dep, Schema, WantMemory};
-use derivation::Deriv;
-
 use crate::chains::functional_chain;
 use crate::deciding::decide;
 use crate::decision::Decision;
 use crate::joining::{join_fd, join_mvd};
 use crate::proof::Proof;
+use attr_sets::AttrSet;
+use dep_model::{Dep, Schema, WantMemory};
+use derivation::Deriv;
+use std::alloc::Global;
 
 /// A derivation of a dependency where the schema implies it, and where it does not, two rows that show
 /// it, as `decide` does. A derivation has at most `MOST_NODES` nodes and `MOST_LEVELS` levels. That of
@@ -49,7 +47,12 @@ fn derivation_of(alloc: Global, schema: &Schema, dep: Dep) -> Result<Box<Deriv>,
 }
 
 // A derivation of an implied functional dependency: the functional chain, if there is one.
-fn derivation_of_fd(alloc: Global, schema: &Schema, lhs: AttrSet, rhs: AttrSet) -> Result<Box<Deriv>, WantMemory>
+fn derivation_of_fd(
+    alloc: Global,
+    schema: &Schema,
+    lhs: AttrSet,
+    rhs: AttrSet,
+) -> Result<Box<Deriv>, WantMemory>
     requires lhs { Within (places lhs) (universe_of schema.now) }
     requires rhs { Within (places rhs) (universe_of schema.now) }
     requires implied { ImpliedBy schema.now (fd (places lhs) (places rhs)) }

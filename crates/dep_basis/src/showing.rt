@@ -7,19 +7,24 @@ ghost use Rattle.dep_model.specs.Schemas.{width_of, universe_of};
 ghost use Rattle.derivation.specs.Derivs.{tree_of};
 ghost use Rattle.dep_basis.specs.Shown.{CanCut, IsNextPart, IsClosedProof, IsCutShown, IsShown};
 
-use std::alloc::Global;
-
-use attr_sets::AttrSet;
-use dep_model::{Dep, Schema, WantMemory};
-use derivation::{Deriv, split_inside, split_outside};
-
 use crate::cutting::next_cut;
 use crate::makers::{given_fd, given_mvd, moved, outside};
 use crate::refining::sides;
 use crate::shown::{PartProof, Shown};
+use attr_sets::AttrSet;
+use dep_model::{Dep, Schema, WantMemory};
+use derivation::{Deriv, split_inside, split_outside};
+use std::alloc::Global;
 
 // What is left of a part with an attribute, where a given dependency cuts it.
-fn cut_shown(alloc: Global, schema: &Schema, k: u16, dep: Dep, from: PartProof, attribute: u8) -> Result<Shown, WantMemory>
+fn cut_shown(
+    alloc: Global,
+    schema: &Schema,
+    k: u16,
+    dep: Dep,
+    from: PartProof,
+    attribute: u8,
+) -> Result<Shown, WantMemory>
     requires cut { CanCut schema.now attribute k dep from }
     ensures shown { IfOk result (IsCutShown schema.now attribute from) }
 {
@@ -28,13 +33,22 @@ fn cut_shown(alloc: Global, schema: &Schema, k: u16, dep: Dep, from: PartProof, 
         return Ok(Shown::Part(cut_outside(alloc, schema, k, dep, from, attribute)?));
     }
     match dep {
-        Dep::Fd { lhs, rhs } => Ok(Shown::Closed(cut_closed(alloc, schema, k, lhs, rhs, from, attribute)?)),
+        Dep::Fd { lhs, rhs } => Ok(Shown::Closed(cut_closed(
+            alloc, schema, k, lhs, rhs, from, attribute,
+        )?)),
         Dep::Mvd { .. } => Ok(Shown::Part(cut_inside(alloc, schema, k, dep, from, attribute)?)),
     }
 }
 
 // The part without the right side.
-fn cut_outside(alloc: Global, schema: &Schema, k: u16, dep: Dep, from: PartProof, attribute: u8) -> Result<PartProof, WantMemory>
+fn cut_outside(
+    alloc: Global,
+    schema: &Schema,
+    k: u16,
+    dep: Dep,
+    from: PartProof,
+    attribute: u8,
+) -> Result<PartProof, WantMemory>
     requires cut { CanCut schema.now attribute k dep from }
     requires without { right_of (dependency_of dep) attribute ≡ false }
     ensures shown { IfOk result (IsNextPart schema.now attribute from) }
@@ -43,13 +57,24 @@ fn cut_outside(alloc: Global, schema: &Schema, k: u16, dep: Dep, from: PartProof
     let PartProof { lhs, part, deriv } = from;
     let given = given_mvd(alloc, schema, k, dep)?;
     match split_outside(alloc, schema, deriv, given) {
-        Ok(deriv) => Ok(PartProof { lhs, part: part.minus(rhs), deriv }),
+        Ok(deriv) => Ok(PartProof {
+            lhs,
+            part: part.minus(rhs),
+            deriv,
+        }),
         Err(_) => Err(WantMemory),
     }
 }
 
 // What the part shares with the right side.
-fn cut_inside(alloc: Global, schema: &Schema, k: u16, dep: Dep, from: PartProof, attribute: u8) -> Result<PartProof, WantMemory>
+fn cut_inside(
+    alloc: Global,
+    schema: &Schema,
+    k: u16,
+    dep: Dep,
+    from: PartProof,
+    attribute: u8,
+) -> Result<PartProof, WantMemory>
     requires cut { CanCut schema.now attribute k dep from }
     requires with { right_of (dependency_of dep) attribute ≡ true }
     requires multivalued { is_fd (dependency_of dep) ≡ false }
@@ -59,13 +84,25 @@ fn cut_inside(alloc: Global, schema: &Schema, k: u16, dep: Dep, from: PartProof,
     let PartProof { lhs, part, deriv } = from;
     let given = given_mvd(alloc, schema, k, dep)?;
     match split_inside(alloc, schema, deriv, given) {
-        Ok(deriv) => Ok(PartProof { lhs, part: part.meet(rhs), deriv }),
+        Ok(deriv) => Ok(PartProof {
+            lhs,
+            part: part.meet(rhs),
+            deriv,
+        }),
         Err(_) => Err(WantMemory),
     }
 }
 
 // That the left side determines the attribute.
-fn cut_closed(alloc: Global, schema: &Schema, k: u16, lhs: AttrSet, rhs: AttrSet, from: PartProof, attribute: u8) -> Result<Box<Deriv>, WantMemory>
+fn cut_closed(
+    alloc: Global,
+    schema: &Schema,
+    k: u16,
+    lhs: AttrSet,
+    rhs: AttrSet,
+    from: PartProof,
+    attribute: u8,
+) -> Result<Box<Deriv>, WantMemory>
     requires cut { CanCut schema.now attribute k (Dep.Fd lhs rhs) from }
     requires with { places rhs attribute ≡ true }
     ensures shown { IfOk result (λ b. IsClosedProof schema.now (places from.lhs) attribute (tree_of b.value)) }
@@ -75,7 +112,12 @@ fn cut_closed(alloc: Global, schema: &Schema, k: u16, lhs: AttrSet, rhs: AttrSet
 }
 
 // What is shown of an attribute outside the left side.
-pub fn show_attribute(alloc: Global, schema: &Schema, lhs: AttrSet, attribute: u8) -> Result<Shown, WantMemory>
+pub fn show_attribute(
+    alloc: Global,
+    schema: &Schema,
+    lhs: AttrSet,
+    attribute: u8,
+) -> Result<Shown, WantMemory>
     requires lhs { Within (places lhs) (universe_of schema.now) }
     requires attribute { attribute < width_of schema.now }
     requires outside { places lhs attribute ≡ false }

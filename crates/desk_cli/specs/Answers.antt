@@ -76,10 +76,10 @@ WithGoal schema goal rest status text =
 abbrev pub Decided : Schema → Dependency → Allowed
 Decided schema goal status text =
     (ImpliedBy schema goal
-        × ((tree : Tree) × IsProofOf schema goal tree × IsChainIfFunctional schema goal tree × Says Yes (yes_text ++ canonical_certificate schema tree) status text))
+    × ((tree : Tree) × IsProofOf schema goal tree × IsChainIfFunctional schema goal tree × Says Yes (yes_text ++ canonical_certificate schema tree) status text))
     ⊎ ((ImpliedBy schema goal → ⊥)
-        × ((agreement : Places) × IsBrokenBy (width_of schema) (theory_of schema) goal agreement
-        × Says No (no_text (names_of schema) (two_tuples (width_of schema) agreement)) status text))
+    × ((agreement : Places) × IsBrokenBy (width_of schema) (theory_of schema) goal agreement
+    × Says No (no_text (names_of schema) (two_tuples (width_of schema) agreement)) status text))
 
 -- ---- commands
 -- which status and text a command gives

@@ -5,15 +5,14 @@ ghost use Rattle.schema_reader.specs.Reading.{read_goal};
 ghost use Rattle.desk_cli.specs.Replies.{StopsAs};
 ghost use Rattle.desk_cli.specs.Answers.{GoalStops};
 
-use dep_model::{Dep, Schema};
-use desk_outside::Word;
-use schema_reader::{MOST_GOAL_BYTES, read_goal};
-use std::alloc::Global;
-
 use crate::Status;
 use crate::read::refused;
 use crate::reply::{Reply, Stop};
 use crate::text::line_of;
+use dep_model::{Dep, Schema};
+use desk_outside::Word;
+use schema_reader::{MOST_GOAL_BYTES, read_goal};
+use std::alloc::Global;
 
 /// The dependency that a goal states.
 pub fn goal_of(alloc: Global, schema: &Schema, goal: &Word) -> Result<Dep, Stop>

@@ -13,6 +13,11 @@ ghost use Rattle.desk_cli.specs.Replies.{RepliesAs};
 ghost use Rattle.desk_cli.specs.Answers.{Says, Performs, Decided};
 ghost use Rattle.desk_cli.specs.Texts.{yes_text, no_text};
 
+use crate::Status;
+use crate::goal::goal_of;
+use crate::read::open_schema;
+use crate::reply::{Reply, Stop};
+use crate::text::{line_of, put};
 use attr_sets::AttrSet;
 use csv_rows::print_rows;
 use dep_basis::{Proof, prove, witness};
@@ -21,12 +26,6 @@ use derivation::Deriv;
 use desk_outside::{Shelf, Word};
 use proof_text::{MOST_LEVELS, MOST_LINES, print_proof};
 use std::alloc::Global;
-
-use crate::Status;
-use crate::goal::goal_of;
-use crate::read::open_schema;
-use crate::reply::{Reply, Stop};
-use crate::text::{line_of, put};
 
 /// Whether the schema of a file implies a goal: `yes`, or `no` with two tuples that obey the schema
 /// and break the goal.

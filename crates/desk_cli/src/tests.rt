@@ -44,11 +44,7 @@ fn answers_over_objects_in_memory(rt: HostRuntime) -> Result<(), Fail> {
     let cases: [(&[&[u8]], Status, &[u8]); 5] = [
         (&[b"implies", b"s", b"A -> C"], Status::Yes, YES),
         (&[b"implies", b"s", b"C -> A"], Status::No, NO),
-        (
-            &[b"implies", b"s", b"() ->> A"],
-            Status::No,
-            MULTIVALUED,
-        ),
+        (&[b"implies", b"s", b"() ->> A"], Status::No, MULTIVALUED),
         (
             &[b"implies", b"t", b"A -> C"],
             Status::CannotRead,

@@ -1,11 +1,11 @@
 -- Lists of open lines, as the code has them and as the definitions do.
-use Rattle.std.proofs.Common.{◌≡◌, ◌-◌, ◌+◌, ◌<◌, ℕ, zero, suc, Bool, true, false, List, [], ◌∷◌, length, map, take, Some, None, refl, sym, ap, ◌∙◌, arith}
-use Rattle.std.specs.Prelude.{Option, option_map, is_some, position, slice_get, slice_index_or, cond, nat_lt, not}
-use Rattle.std.specs.List.{prefix_len, position_or_len}
+use Rattle.std.proofs.Common.{◌≡◌, ◌-◌, ◌<◌, List, [], ◌∷◌, length, take, Some, None, refl, sym, ap, arith}
+use Rattle.std.specs.Prelude.{Option, option_map, is_some, position, slice_get, slice_index_or, not}
+use Rattle.std.specs.List.{prefix_len}
 use Rattle.std.proofs.lemmas.List.{length-map, take-map}
 use Rattle.std.proofs.lemmas.Option.{slice_get-map, slice_get-get_or}
 use Rattle.proof_text.specs.declared.node.Open.{Open}
-use Rattle.proof_text.specs.Books.{Opened, opened_of, opened_all, joined, root}
+use Rattle.proof_text.specs.Books.{opened_of, opened_all, joined, root}
 
 first_len : (xs : List (Option Open)) → prefix_len (λ o. not (is_some o)) (opened_all xs) ≡ prefix_len (λ o. not (is_some o)) xs
 first_len [] = refl

@@ -1,6 +1,6 @@
 -- What is read proves: each open line of a ledger has a tree that proves its conclusion, and no node stands in two of them.
 use Rattle.std.proofs.Common.{◌≡◌, ◌<◌, ◌≤◌, ◌+◌, ◌-◌, ◌==◌, ℕ, zero, suc, Bool, true, false, List, [], ◌∷◌, ◌++◌, length, Option, Some, None, Result, Ok, Err, refl, sym, ◌∙◌, ap, subst, cond, max, arith, nat_lt, nat_le, length-append}
-use Rattle.std.specs.Prelude.{slice_get, slice_set, ◌&&◌, if◌then◌else◌}
+use Rattle.std.specs.Prelude.{slice_get, slice_set, ◌&&◌}
 use Rattle.std.proofs.lemmas.Bool.Decides.{nat_tests}
 use Rattle.dep_model.specs.declared.schema.Schema.{Schema}
 use Rattle.dep_model.specs.Dependencies.{Dependency, left_of, right_of}
@@ -15,8 +15,8 @@ use Rattle.proof_text.specs.declared.node.TheConstants.{MOST_LEVELS}
 use Rattle.proof_text.specs.Complaints.{Complaint, LineComplaint, no_such_line, wrong_number, too_many_lines, too_deep, states_other}
 use Rattle.proof_text.specs.Lines.{Body, by_given, by_reflexivity, by_mreflexivity, by_step, by_pair, Line, line}
 use Rattle.proof_text.specs.Readers.{◌>>=◌, rest_from}
-use Rattle.proof_text.specs.Nodes.{with_tree, given_outcome, same_dependency}
-use Rattle.proof_text.specs.Books.{Opened, Ledger, Prepared, joined, is_earlier, open_at, closed, leaf_node, step_node, pair_node, step_of_line, pair_of_line, prepared, concluded_as, settled, add_line, entered, first_unused, root, finished_at, finished}
+use Rattle.proof_text.specs.Nodes.{with_tree, same_dependency}
+use Rattle.proof_text.specs.Books.{Opened, Ledger, Prepared, joined, is_earlier, open_at, closed, step_node, pair_node, prepared, concluded_as, settled, add_line, entered, first_unused, root, finished_at, finished}
 use Rattle.proof_text.specs.declared.text.LineKind.{LineKind}
 use Rattle.proof_text.specs.declared.text.LineKind.TheVariants.{Blank, Opening, Certificate}
 use Rattle.lexer.specs.declared.token.Mode.TheVariants as mode

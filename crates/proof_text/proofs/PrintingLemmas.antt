@@ -1,10 +1,9 @@
 -- How the lines of a tree are those of its premises and one more, and what lets them be printed.
-use Rattle.std.proofs.Common.{◌≡◌, ℕ, ◌+◌, ◌&&◌, List, [], ◌∷◌, ◌++◌, refl, sym, ◌∙◌, ap, subst, arith, append_assoc}
+use Rattle.std.proofs.Common.{◌≡◌, ℕ, ◌+◌, ◌&&◌, List, [], ◌∷◌, ◌++◌, refl, sym, ◌∙◌, ap, subst, append_assoc}
 use Rattle.std.specs.Prelude.{Ok}
-use Rattle.std.specs.List.{flat_map}
 use Rattle.std.proofs.lemmas.List.{append-nil}
 use Rattle.std.proofs.lemmas.Bool.{and_parts}
-use Rattle.attr_sets.specs.Places.{Places, union, Within}
+use Rattle.attr_sets.specs.Places.{union}
 use Rattle.attr_sets.specs.Sets.{places, is_within}
 use Rattle.attr_sets.proofs.PlacesLemmas.{places_below, is_within-true}
 use Rattle.dep_model.specs.declared.schema.Schema.{Schema}

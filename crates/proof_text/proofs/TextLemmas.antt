@@ -1,11 +1,10 @@
 -- Reading a certificate line by line.
-use Rattle.std.proofs.Common.{◌≡◌, ◌<◌, ◌≤◌, ◌+◌, ◌-◌, ℕ, Bool, true, false, List, [], ◌∷◌, length, drop, Option, Some, None, Result, Ok, Err, refl, sym, ◌∙◌, subst, cond, arith, length-drop}
+use Rattle.std.proofs.Common.{◌≡◌, ◌≤◌, ◌+◌, ◌-◌, ℕ, Bool, true, false, List, [], ◌∷◌, length, drop, Option, Some, None, Result, Ok, Err, refl, ◌∙◌, cond, arith, length-drop}
 use Rattle.std.specs.Prelude.{MatchOption, nat_eq}
 use Rattle.std.specs.List.{starts_with}
 use denote.Ref.{Bor}
 use Rattle.dep_model.specs.declared.schema.Schema.{Schema}
-use Rattle.derivation.specs.Trees.{Tree}
-use Rattle.lexer.specs.Lines.{line_texts, without_mark, CutsAt, CutsLine, IsLastLine}
+use Rattle.lexer.specs.Lines.{line_texts, without_mark, CutsAt, CutsLine}
 use Rattle.proof_text.specs.declared.refusal.ProofRefusalKind.{ProofRefusalKind}
 use Rattle.proof_text.specs.declared.text.TheConstants.{MOST_PROOF_BYTES}
 use Rattle.proof_text.specs.Books.{Ledger, finished, complaint_at}

@@ -1,5 +1,5 @@
 -- Reading the words of a side, token by token.
-use Rattle.std.proofs.Common.{◌≡◌, ◌<◌, ◌+◌, ◌^◌, ℕ, true, false, List, [], ◌∷◌, length, Some, None, Result, Ok, Err, refl, sym}
+use Rattle.std.proofs.Common.{◌≡◌, ◌<◌, ◌+◌, ◌^◌, ℕ, true, false, List, [], length, Some, None, Ok, Err, refl, sym}
 use Rattle.attr_sets.specs.Places.{Places, only, union}
 use Rattle.lexer.specs.declared.token.Mode.TheVariants as mode
 use Rattle.lexer.specs.declared.token.Stop.{Stop}
@@ -8,7 +8,7 @@ use Rattle.lexer.specs.Tokens.{Lexed, lexed, Leads}
 use Rattle.schema_reader.specs.declared.refusal.SchemaRefusal.{SchemaRefusal}
 use Rattle.proof_text.specs.Tokens.{is_word}
 use Rattle.proof_text.specs.Marks.{marked, place}
-use Rattle.proof_text.specs.Readers.{Rest, rest_from, words, words_from, ◌>>=◌}
+use Rattle.proof_text.specs.Readers.{rest_from, words, words_from}
 
 -- to read what is left is to read the whole
 pub record GoesOn (names : List (List ℕ)) (line : ℕ) (first : Places) (start : ℕ) (whole : List ℕ) (x : Places) (column : ℕ) (text : List ℕ) : Type 0 where

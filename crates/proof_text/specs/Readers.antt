@@ -1,8 +1,7 @@
-use Rattle.std.specs.Prelude.{ℕ, ◌+◌, Bool, if◌then◌else◌, List, [], ◌∷◌, length, Option, Some, None, Result, Ok, Err, ok_or}
+use Rattle.std.specs.Prelude.{ℕ, ◌+◌, if◌then◌else◌, List, [], ◌∷◌, length, Option, Some, None, Result, Ok, Err, ok_or}
 use Rattle.attr_sets.specs.Places.{Places, only, none, union}
 use Rattle.lexer.specs.declared.token.Mode.TheVariants as mode
 use Rattle.lexer.specs.declared.token.Stop.{Stop}
-use Rattle.lexer.specs.declared.token.Token.{Token}
 use Rattle.lexer.specs.declared.token.TokenKind.{TokenKind}
 use Rattle.lexer.specs.declared.token.TokenKind.TheVariants as token
 use Rattle.lexer.specs.Tokens.{Mark, Lexed, lexed}
@@ -10,10 +9,8 @@ use Rattle.schema_reader.specs.declared.refusal.SchemaRefusal.{SchemaRefusal}
 use Rattle.schema_reader.specs.declared.refusal.SchemaRefusalKind.TheVariants as kind
 use Rattle.schema_reader.specs.declared.refusal.What.{What}
 use Rattle.schema_reader.specs.declared.refusal.What.TheVariants as what
-use Rattle.schema_reader.specs.declared.words.Format.TheVariants as format
-use Rattle.schema_reader.specs.Refusals.{refusal, refused_by, at}
+use Rattle.schema_reader.specs.Refusals.{refusal, refused_by}
 use Rattle.schema_reader.specs.Texts.{number_in}
-use Rattle.schema_reader.specs.Words.{looked_up}
 use Rattle.proof_text.specs.declared.words.Arrow.{Arrow}
 use Rattle.proof_text.specs.declared.words.RuleName.{RuleName}
 use Rattle.proof_text.specs.declared.cursor.Cursor.{Cursor}

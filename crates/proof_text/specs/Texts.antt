@@ -1,4 +1,4 @@
-use Rattle.std.specs.Prelude.{ℕ, ◌+◌, ◌-◌, Bool, true, false, ◌&&◌, if◌then◌else◌, List, [], ◌∷◌, length, Option, None, Some, Result, Ok, Err, codes}
+use Rattle.std.specs.Prelude.{ℕ, ◌+◌, ◌-◌, Bool, true, false, ◌&&◌, if◌then◌else◌, List, [], ◌∷◌, Option, None, Some, Result, Ok, Err, codes}
 use Rattle.std.specs.Str.{bytes_eq}
 use Rattle.dep_model.specs.declared.schema.Schema.{Schema}
 use Rattle.dep_model.specs.Schemas.{names_of}
@@ -14,7 +14,7 @@ use Rattle.proof_text.specs.declared.text.LineKind.{LineKind}
 use Rattle.proof_text.specs.declared.text.LineKind.TheVariants.{Blank, Opening, Certificate}
 use Rattle.proof_text.specs.Books.{Ledger, entered, finished, complaint_at}
 use Rattle.proof_text.specs.Complaints.{Complaint, LineComplaint, bad_line}
-use Rattle.proof_text.specs.Lines.{Line, line}
+use Rattle.proof_text.specs.Lines.{line}
 use Rattle.proof_text.specs.Readers.{rest_from, ◌>>=◌}
 
 -- the word `yes`

@@ -1,4 +1,4 @@
-use Rattle.std.proofs.Common.{◌≡◌, ◌<◌, ◌≤◌, List, get_or, length, take, take_all, subst, refl}
+use Rattle.std.proofs.Common.{◌<◌, ◌≤◌, List, get_or, length, take_all, subst, refl}
 use Rattle.std.specs.Prelude.{All}
 use Rattle.std.proofs.lemmas.List.Elements.{All-more}
 use Rattle.attr_sets.specs.Places.{Within}

@@ -1,18 +1,15 @@
-use Rattle.std.proofs.Common.{◌≡◌, ◌<◌, ◌≤◌, ◌+◌, suc, refl, sym, ◌∙◌, ap, subst, inl, inr, arith, Some}
-use Rattle.std.proofs.lemmas.Bool.{ltb-true, false≢true, true≢false}
-use Rattle.std.proofs.lemmas.Bool.Decides.{nat_tests}
+use Rattle.std.proofs.Common.{◌≡◌, suc, refl, ◌∙◌, ap, inl, inr, arith}
+use Rattle.std.proofs.lemmas.Bool.{false≢true}
 use Rattle.attr_sets.specs.declared.set.TheConstants.{PLACES}
-use Rattle.attr_sets.specs.Places.{Places, below, union, Within, count_below}
+use Rattle.attr_sets.specs.Places.{Places, union, Within}
 use Rattle.attr_sets.specs.Sets.{places}
 use Rattle.attr_sets.proofs.PlacesLemmas.{Same-path, places_below, tell_within, count_below-lt, count_below-le}
-use Rattle.dep_model.specs.Dependencies.{fd}
 use Rattle.dep_model.specs.Schemas.{width_of, deps_of}
 use Rattle.fd_closure.proofs.ClosureLemmas.{settled_holds}
 use Rattle.derivation.specs.declared.deriv.Deriv.{Deriv}
-use Rattle.derivation.specs.Trees.{Tree, leaf, step, pair, given, augmentation, reflexivity, transitivity, nodes, depth}
+use Rattle.derivation.specs.Trees.{Tree, leaf, step, pair, given, augmentation, transitivity}
 use Rattle.derivation.specs.Derivs.{tree_of}
-use Rattle.derivation.specs.Conclusions.{Proves}
-use Rattle.derivation.specs.Chains.{Stage, Reaches, first_stage, next_stage, IsFirstOut, IsFunctionalChain}
+use Rattle.derivation.specs.Chains.{Stage, IsFunctionalChain}
 use Rattle.derivation.proofs.ChainLemmas.{reached_grows, chain_obeyed, chain_proves, chain_small}
 use Rattle.dep_basis.proofs.chains.functional_chain.Goals as goal
 

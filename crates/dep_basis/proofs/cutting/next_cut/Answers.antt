@@ -7,4 +7,4 @@ use Rattle.dep_basis.proofs.cutting.next_cut.Goals as goal
 pub returns-clause-none : goal.returns-clause-none
 returns-clause-none c _ =
     dependencies_all-from (LeavesWhole (places c.args.part) (places c.args.part)) c.args.deps.now
-      (rw (take_all c.loop-k.k c.args.deps.now c.loop-k-test.false) at c.loop-k.invariant)
+    (rw (take_all c.loop-k.k c.args.deps.now c.loop-k-test.false) at c.loop-k.invariant)

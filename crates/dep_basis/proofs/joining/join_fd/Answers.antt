@@ -1,9 +1,8 @@
-use Rattle.std.proofs.Common.{◌≡◌, ℕ, ◌+◌, ◌*◌, true, refl, sym, ◌∙◌, ap, arith}
+use Rattle.std.proofs.Common.{◌≡◌, ◌+◌, ◌*◌, true, refl, arith}
 use Rattle.std.proofs.lemmas.Bool.Decides.{nat_tests}
-use Rattle.attr_sets.specs.Places.{Places, only, union, meet, minus, Within, Same}
+use Rattle.attr_sets.specs.Places.{only, union, minus}
 use Rattle.attr_sets.specs.Sets.{places}
 use Rattle.attr_sets.specs.declared.set.TheConstants.{PLACES}
-use Rattle.attr_sets.proofs.PlacesLemmas.{Same-path}
 use Rattle.dep_model.specs.Schemas.{width_of, theory_of}
 use Rattle.derivation.specs.Derivs.{tree_of}
 use Rattle.derivation.proofs.ProvesLemmas.{fd_restated}
@@ -27,7 +26,7 @@ loop-first-init c =
 pub show_closed-requires-clause-implied : goal.show_closed-requires-clause-implied
 show_closed-requires-clause-implied c =
     fd_each-to (width_of c.args.schema.now) (theory_of c.args.schema.now) (places c.args.lhs) (places c.args.rhs) c.requires.implied c.in-Some.first
-      (c.loop-first.invariant.left.within c.in-Some.first c.in-Some.ensures.least.member)
+    (c.loop-first.invariant.left.within c.in-Some.first c.in-Some.ensures.least.member)
 
 pub loop-first-smaller : goal.loop-first-smaller
 loop-first-smaller c =

@@ -1,5 +1,5 @@
-use Rattle.std.proofs.Common.{◌≡◌, ℕ, true, refl, sym, ◌∙◌, ap, arith}
-use Rattle.attr_sets.specs.Places.{Places, union, meet, minus, Within, Same}
+use Rattle.std.proofs.Common.{◌≡◌, true, refl}
+use Rattle.attr_sets.specs.Places.{union, minus}
 use Rattle.attr_sets.specs.Sets.{places}
 use Rattle.derivation.specs.Derivs.{tree_of}
 use Rattle.derivation.proofs.ProvesLemmas.{mvd_restated}
@@ -21,7 +21,7 @@ loop-first-init c =
 pub loop-first-smaller : goal.loop-first-smaller
 loop-first-smaller c =
     left_fewer (places c.loop-first.left) (places c.minus-left-in-Some.result) (places c.in_ok-next.next.part) c.in-Some.first c.in-Some.ensures.place c.in-Some.ensures.least.member
-      c.in_ok-next.ensures.shown.member c.minus-left-in-Some.ensures.members
+    c.in_ok-next.ensures.shown.member c.minus-left-in-Some.ensures.members
 
 pub loop-first-preserved : goal.loop-first-preserved
 loop-first-preserved c =

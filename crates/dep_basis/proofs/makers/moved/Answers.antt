@@ -1,10 +1,10 @@
 use Rattle.std.proofs.Common.{subst, sym, refl, arith}
 use Rattle.std.proofs.lemmas.Bool.Decides.{nat_tests}
-use Rattle.attr_sets.specs.Places.{Places, only, Within}
+use Rattle.attr_sets.specs.Places.{only}
 use Rattle.attr_sets.specs.Sets.{places}
 use Rattle.dep_model.specs.Dependencies.{fd}
 use Rattle.derivation.specs.declared.deriv.Deriv.{Deriv}
-use Rattle.derivation.specs.Trees.{coalescence, transitivity, pair}
+use Rattle.derivation.specs.Trees.{coalescence, pair}
 use Rattle.derivation.specs.Derivs.{tree_of}
 use Rattle.derivation.specs.Conclusions.{Proves}
 use Rattle.derivation.proofs.ProvesLemmas.{fd_restated, transitivity_proves, coalescence_proves}
@@ -22,7 +22,7 @@ returns-clause-proves c x w v apart member first second =
     let alone = places c.single.result in
     let Q : Deriv → Type 0 = λ d. Proves s (tree_of d) (fd v alone) in
     let gives_proves : Proves s (tree_of gives.value) (fd v alone) =
-      subst Q (sym c.in_ok-gives.ensures.ok) (transitivity_proves s given only_tree v t t alone (λ k. refl) second c.in_ok-only.ensures.proves) in
+    subst Q (sym c.in_ok-gives.ensures.ok) (transitivity_proves s given only_tree v t t alone (λ k. refl) second c.in_ok-only.ensures.proves) in
     let P : Deriv → Type 0 = λ d. Proves s (tree_of d) (fd x (only a)) in
     subst P (sym c.in_ok-new.ensures.ok)
     (fd_restated s (pair coalescence part (tree_of gives.value)) x alone x (only a) (λ k. refl) c.single.ensures.members

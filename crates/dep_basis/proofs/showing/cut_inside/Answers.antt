@@ -12,7 +12,9 @@ returns-in-Ok c =
     let from = c.args.from in
     let d = dependency_of c.args.dep in
     let is : Same (places c.meet.result) (meet (places from.part) (right_of d)) =
-      subst (λ (t : Places). Same (places c.meet.result) (meet (places from.part) t)) c.sides.ensures.right c.meet.ensures.members in
-    record { shown = next_part_inside c.args.schema.now c.args.attribute c.args.k c.args.dep from (record { lhs = from.lhs; part = c.meet.result; deriv = c.in-Ok.deriv })
-        (tree_of c.in_ok-given.given.value) c.requires.cut refl c.in_ok-given.ensures.size c.in-Ok.ensures.little_more c.requires.with c.requires.multivalued is
-        (c.in-Ok.ensures.concludes (places from.lhs) (places from.part) (left_of d) (right_of d) c.requires.cut.shown.proves c.in_ok-given.ensures.proves) }
+    subst (λ (t : Places). Same (places c.meet.result) (meet (places from.part) t)) c.sides.ensures.right c.meet.ensures.members in
+    record {
+      shown = next_part_inside c.args.schema.now c.args.attribute c.args.k c.args.dep from (record { lhs = from.lhs; part = c.meet.result; deriv = c.in-Ok.deriv })
+          (tree_of c.in_ok-given.given.value) c.requires.cut refl c.in_ok-given.ensures.size c.in-Ok.ensures.little_more c.requires.with c.requires.multivalued is
+          (c.in-Ok.ensures.concludes (places from.lhs) (places from.part) (left_of d) (right_of d) c.requires.cut.shown.proves c.in_ok-given.ensures.proves);
+    }

@@ -1,7 +1,7 @@
-use Rattle.std.proofs.Common.{◌≡◌, ◌≤◌, ◌<◌, ℕ, Some, List, get_or, refl, sym, ap, subst, ◌∙◌, arith}
+use Rattle.std.proofs.Common.{◌≡◌, ◌≤◌, ℕ, Some, List, get_or, refl, sym, ap, subst, ◌∙◌, arith}
 use Rattle.std.proofs.lemmas.Option.{slice_get-get_or}
 use Rattle.std.specs.Prelude.{slice_get, All}
-use Rattle.attr_sets.specs.Places.{Places, below, minus, Within, Same}
+use Rattle.attr_sets.specs.Places.{below, minus, Within, Same}
 use Rattle.attr_sets.specs.declared.set.AttrSet.{AttrSet}
 use Rattle.attr_sets.specs.Sets.{places}
 use Rattle.dep_model.specs.declared.dep.Dep.{Dep}
@@ -19,8 +19,8 @@ loop-k-init c =
     let s = c.args.schema.now in
     let x = places c.args.lhs in
     let is : Same (places c.minus.result) (minus (universe_of s) x) = λ k.
-      let whole : places c.full.result k ≡ below (width_of s) k = c.full.ensures.members k ∙ ap (λ (m : ℕ). below m k) c.width.ensures.count in
-      grind (arith, c.minus.ensures.members k, whole) in
+    let whole : places c.full.result k ≡ below (width_of s) k = c.full.ensures.members k ∙ ap (λ (m : ℕ). below m k) c.width.ensures.count in
+    grind (arith, c.minus.ensures.members k, whole) in
     record {
       same_lhs = refl;
       shown = part_first s x c.args.attribute (places c.minus.result) (tree_of c.in_ok-outside.field-0.value) c.requires.attribute c.requires.outside is c.in_ok-outside.ensures.proves c.in_ok-outside.ensures.size;
@@ -33,13 +33,15 @@ cut_shown-requires c =
     let zero : Dep = Fd (record { 0 = 0 }) (record { 0 = 0 }) in
     let now = c.loop-k.invariant in
     let few : width_of s ≤ 128 = s.valid.few_names in
-    record { cut = record {
-      given = subst (λ (ds : List Dep). slice_get ds k ≡ Some (get_or c.deps-deps.result.now k zero)) c.deps-deps.ensures.deps (slice_get-get_or c.deps-deps.result.now k zero c.in-Some.ensures.place);
-      cutting = c.in-Some.ensures.cuts zero;
-      lhs = subst (λ (l : AttrSet). Within (places l) (universe_of s)) (sym now.same_lhs) c.requires.lhs;
-      attribute = omega (arith, c.requires.attribute);
-      shown = subst (λ (l : AttrSet). IsPartProof s (places l) c.args.attribute (places c.loop-k.from.part) (tree_of c.loop-k.from.deriv.value)) (sym now.same_lhs) now.shown;
-    } }
+    record {
+      cut = record {
+        given = subst (λ (ds : List Dep). slice_get ds k ≡ Some (get_or c.deps-deps.result.now k zero)) c.deps-deps.ensures.deps (slice_get-get_or c.deps-deps.result.now k zero c.in-Some.ensures.place);
+        cutting = c.in-Some.ensures.cuts zero;
+        lhs = subst (λ (l : AttrSet). Within (places l) (universe_of s)) (sym now.same_lhs) c.requires.lhs;
+        attribute = omega (arith, c.requires.attribute);
+        shown = subst (λ (l : AttrSet). IsPartProof s (places l) c.args.attribute (places c.loop-k.from.part) (tree_of c.loop-k.from.deriv.value)) (sym now.same_lhs) now.shown;
+      };
+    }
 
 pub returns : goal.returns
 returns c =

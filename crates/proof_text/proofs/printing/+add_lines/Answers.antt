@@ -1,10 +1,8 @@
-use Rattle.std.proofs.Common.{◌≡◌, ◌+◌, ap, arith, subst, sym}
+use Rattle.std.proofs.Common.{◌≡◌, ◌+◌, ap, arith}
 use Rattle.std.proofs.lemmas.Result.{on_ok_weaker}
 use Rattle.dep_model.specs.Deps.{dependency_of}
 use Rattle.derivation.specs.Trees.{nodes}
 use Rattle.derivation.specs.Derivs.{tree_of, leaf_of, step_of, pair_of}
-use Rattle.derivation.specs.Conclusions.{Proves}
-use Rattle.proof_text.specs.Printing.{IsProof}
 use Rattle.proof_text.proofs.PrintingLemmas.{leaf_proves, step_premise, step_states, step_proves, pair_first, pair_second, pair_states, pair_proves, stated_within, rule_within, step_added, pair_added}
 use Rattle.proof_text.proofs.printing.+add_lines.Goals as goal
 

@@ -1,10 +1,10 @@
-use Rattle.std.proofs.Common.{◌≡◌, ◌≤◌, ◌+◌, ◌∙◌, ℕ, sym, ap, subst, List, length, Result, Ok, Err, true, arith}
+use Rattle.std.proofs.Common.{◌≡◌, ◌≤◌, ◌∙◌, ℕ, sym, ap, subst, List, length, Result, Ok, true, arith}
 use Rattle.std.specs.Prelude.{IfOk, IfErr}
 use Rattle.derivation.specs.Trees.{Tree}
 use Rattle.derivation.specs.Derivs.{tree_of}
 use Rattle.lexer.specs.Lines.{line_texts, without_mark}
 use Rattle.schema_reader.proofs.TextLemmas.{cut_any, cut_last, cut_more}
-use Rattle.proof_text.specs.Books.{Ledger, ledger_of}
+use Rattle.proof_text.specs.Books.{ledger_of}
 use Rattle.proof_text.specs.Complaints.{LineComplaint, RefusesAt}
 use Rattle.proof_text.specs.Texts.{read_lines, read_proof}
 use Rattle.std.proofs.lemmas.Result.{IfOk-weaker}

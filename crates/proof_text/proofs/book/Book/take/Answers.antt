@@ -1,4 +1,4 @@
-use Rattle.std.proofs.Common.{◌-◌, ◌∙◌, ap, None}
+use Rattle.std.proofs.Common.{◌-◌, ◌∙◌, ap}
 use Rattle.std.specs.Prelude.{Option, option_map, slice_set}
 use Rattle.std.proofs.lemmas.List.{map-set}
 use Rattle.proof_text.specs.declared.node.Open.{Open}

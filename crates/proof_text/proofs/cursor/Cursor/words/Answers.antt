@@ -1,4 +1,4 @@
-use Rattle.std.proofs.Common.{◌≡◌, ◌+◌, ◌∙◌, sym, ap, Result, Ok, arith}
+use Rattle.std.proofs.Common.{◌+◌, ◌∙◌, sym, ap, arith}
 use Rattle.attr_sets.specs.Places.{Places}
 use Rattle.dep_model.specs.Schemas.{names_of}
 use Rattle.lexer.specs.declared.token.Mode.TheVariants as mode

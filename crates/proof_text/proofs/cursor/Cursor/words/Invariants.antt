@@ -1,9 +1,6 @@
-use Rattle.std.proofs.Common.{◌≡◌, ◌+◌, ◌<◌, ◌^◌, ℕ, List, length}
-use Rattle.attr_sets.specs.Places.{Places}
+use Rattle.std.proofs.Common.{length}
 use Rattle.attr_sets.specs.Sets.{places}
 use Rattle.dep_model.specs.Schemas.{names_of}
-use Rattle.lexer.specs.declared.token.Mode.TheVariants as mode
-use Rattle.lexer.specs.Tokens.{lexed}
 use Rattle.proof_text.proofs.WordLemmas.{GoesOn}
 use Rattle.proof_text.proofs.cursor.Cursor.words.Given as goal
 
