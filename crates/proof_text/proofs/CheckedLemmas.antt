@@ -25,29 +25,7 @@ use Rattle.lexer.specs.Tokens.{lex}
 use Rattle.dep_model.specs.Schemas.{names_of}
 use Rattle.proof_text.specs.Texts.{in_line, read_as, line_kind, read_one, at_line, read_lines, read_proof}
 use Rattle.proof_text.specs.Checked.{IsChecked}
-
--- an open line proves its conclusion
-pub record Stands (s : Schema) (o : Opened) : Type 0 where
-  pub proves : Proves s o.tree o.conclusion
-  pub levels : depth o.tree ≡ o.levels
-  pub few : o.levels ≤ MOST_LEVELS
-
-abbrev pub IfOpen : Schema → Option Opened → Type 0
-IfOpen s None = Unit {0}
-IfOpen s (Some o) = Stands s o
-
-abbrev pub AllStand : Schema → List (Option Opened) → Type 0
-AllStand s [] = Unit {0}
-AllStand s (o ∷ os) = IfOpen s o × AllStand s os
-
--- how many nodes the open lines have
-abbrev pub open_nodes : Option Opened → ℕ
-open_nodes None = 0
-open_nodes (Some o) = nodes o.tree
-
-abbrev pub all_nodes : List (Option Opened) → ℕ
-all_nodes [] = 0
-all_nodes (o ∷ os) = open_nodes o + all_nodes os
+use Rattle.proof_text.specs.Ledgers.{Stands, IfOpen, AllStand, open_nodes, all_nodes, IsLedger}
 
 AllStand-get : (s : Schema) (os : List (Option Opened)) (i : ℕ) → AllStand s os → IfOpen s (joined (slice_get os i))
 AllStand-get s [] i all = tt {0}
@@ -144,7 +122,7 @@ pair_cases s rule os q r p true (Some o) (Some u) e f all h =
     (λ d given_d. (o.conclusion, u.conclusion, first.proves, second.proves, given_d))
     (omega (arith, first.levels, second.levels)) (omega (arith, closed_count os q o e, closed_count (closed os q) r u f)))
 
-prepared_is : (s : Schema) (os : List (Option Opened)) (stated : Dependency) (b : Body) (p : Prepared) → AllStand s os → prepared s os stated b ≡ Ok p → IsPrepared s os p
+pub prepared_is : (s : Schema) (os : List (Option Opened)) (stated : Dependency) (b : Body) (p : Prepared) → AllStand s os → prepared s os stated b ≡ Ok p → IsPrepared s os p
 unfolding prepared
 prepared_is s os stated (by_given k) p all h = subst (IsPrepared s os) (the_ok {A = Prepared} {E = Complaint} _ p h) (given_prepared s os k (k == 0) all)
 prepared_is s os stated by_reflexivity p all h = subst (IsPrepared s os) (the_ok {A = Prepared} {E = Complaint} _ p h) (leaf_prepared s os (reflexivity (left_of stated) (right_of stated)) all)
@@ -152,13 +130,7 @@ prepared_is s os stated by_mreflexivity p all h = subst (IsPrepared s os) (the_o
 prepared_is s os stated (by_step rule q) p all h = step_cases s rule os q p (is_earlier os q) (open_at os q) refl all h
 prepared_is s os stated (by_pair rule q r) p all h = pair_cases s rule os q r p (is_earlier os q && is_earlier os r) (open_at os q) (open_at (closed os q) r) refl refl all h
 
--- ---- a ledger
-pub record IsLedger (s : Schema) (book : Ledger) : Type 0 where
-  pub stand : AllStand s book.unused
-  pub count : all_nodes book.unused ≡ length book.unused
-  pub few : length book.unused ≤ MOST_LINES
-
-bind_ok : {A B E : Type 0} (r : Result A E) (f : A → Result B E) (y : B) → (r >>= f) ≡ Ok y → (x : A) × (r ≡ Ok x) × (f x ≡ Ok y)
+pub bind_ok : {A B E : Type 0} (r : Result A E) (f : A → Result B E) (y : B) → (r >>= f) ≡ Ok y → (x : A) × (r ≡ Ok x) × (f x ≡ Ok y)
 bind_ok (Ok x) f y h = (x, refl, h)
 bind_ok (Err e) f y h = cc
 
@@ -225,7 +197,7 @@ read_as_keeps Certificate s fresh number book text next is h =
     subst (λ (x : Bool × Ledger). IsLedger s x.1) (the_ok {A = Bool × Ledger} {E = Complaint} (false, second.0) next second.2)
     (entered_keeps s number book second.0 first.0 is second.1)
 
-read_one_keeps : (s : Schema) (fresh : Bool) (number : ℕ) (book : Ledger) (text : List ℕ) (next : Bool × Ledger) → IsLedger s book → read_one s fresh number book text ≡ Ok next → IsLedger s next.1
+pub read_one_keeps : (s : Schema) (fresh : Bool) (number : ℕ) (book : Ledger) (text : List ℕ) (next : Bool × Ledger) → IsLedger s book → read_one s fresh number book text ≡ Ok next → IsLedger s next.1
 unfolding read_one
 read_one_keeps s fresh number book text next is h = read_as_keeps (line_kind fresh (lex mode.Numbered text)) s fresh number book text next is h
 

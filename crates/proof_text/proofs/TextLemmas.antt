@@ -9,12 +9,15 @@ use Rattle.proof_text.specs.declared.refusal.ProofRefusalKind.{ProofRefusalKind}
 use Rattle.proof_text.specs.declared.text.TheConstants.{MOST_PROOF_BYTES}
 use Rattle.proof_text.specs.Books.{Ledger, finished, complaint_at}
 use Rattle.proof_text.specs.Complaints.{Complaint, LineComplaint, complaint_of, Refuses, RefusesAt}
+use Rattle.proof_text.specs.Ledgers.{IsLedger}
+use Rattle.proof_text.proofs.CheckedLemmas.{read_one_keeps}
 use Rattle.proof_text.specs.Texts.{read_one, read_lines, read_proof}
 
 -- to read the lines that are left is to read the whole
 pub record Reads (s : Schema) (text : List ℕ) (fresh : Bool) (number : ℕ) (book : Ledger) (rest : List ℕ) : Type 0 where
   pub same : read_proof s text ≡ read_lines s fresh number book (line_texts rest)
   pub room : number + length rest ≤ MOST_PROOF_BYTES + 1
+  pub ledger : IsLedger s book
 
 shorter : (b : Bool) (text : List ℕ) → length (cond b (drop 3 text) text) ≤ length text
 shorter true text = omega (arith, length-drop 3 text)
@@ -47,6 +50,7 @@ pub reads_more : (s : Schema) (text : List ℕ) (fresh still : Bool) (number : �
 reads_more s text fresh still number book next rest line behind reads cut read = record {
   same = reads.same ∙ line_read s fresh still number book next line (line_texts behind) (line_texts rest) cut.lines read;
   room = omega (arith, reads.room, cut.shorter);
+  ledger = read_one_keeps s fresh number book line (still, next) reads.ledger read;
 }
 
 -- a refusal within a part is one of the whole

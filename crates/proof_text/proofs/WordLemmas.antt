@@ -1,6 +1,6 @@
 -- Reading the words of a side, token by token.
 use Rattle.std.proofs.Common.{◌≡◌, ◌<◌, ◌+◌, ◌^◌, ℕ, true, false, List, [], length, Some, None, Ok, Err, refl, sym}
-use Rattle.attr_sets.specs.Places.{Places, only, union}
+use Rattle.attr_sets.specs.Places.{Places, only, union, below, Within}
 use Rattle.lexer.specs.declared.token.Mode.TheVariants as mode
 use Rattle.lexer.specs.declared.token.Stop.{Stop}
 use Rattle.lexer.specs.declared.token.Token.{Token}
@@ -14,6 +14,7 @@ use Rattle.proof_text.specs.Readers.{rest_from, words, words_from}
 pub record GoesOn (names : List (List ℕ)) (line : ℕ) (first : Places) (start : ℕ) (whole : List ℕ) (x : Places) (column : ℕ) (text : List ℕ) : Type 0 where
   pub same : words names first (rest_from line start (lexed mode.Numbered 0 start whole)) ≡ words names x (rest_from line column (lexed mode.Numbered 0 column text))
   pub room : column + length text < 2 ^ 32
+  pub within : Within x (below (length names))
 
 pub words_end : (names : List (List ℕ)) (line column : ℕ) (x : Places) (l : Lexed) → l ≡ record { marks = []; stop = None }
     → words names x (rest_from line column l) ≡ Ok (x, rest_from line column l)

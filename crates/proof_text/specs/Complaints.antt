@@ -1,6 +1,7 @@
-use Rattle.std.specs.Prelude.{◌≡◌, ℕ, Option, None, Some, Result, Err, MatchOption}
+use Rattle.std.specs.Prelude.{◌≡◌, ℕ, Option, None, Some, Result, Err, MatchOption, ⊤}
+use Rattle.attr_sets.specs.Places.{Places}
 use Rattle.dep_model.specs.Dependencies.{Dependency}
-use Rattle.dep_model.specs.Deps.{dependency_of}
+use Rattle.dep_model.specs.Deps.{dependency_of, IsDepWithin}
 use Rattle.derivation.specs.declared.fault.Fault.{Fault}
 use Rattle.schema_reader.specs.declared.refusal.SchemaRefusal.{SchemaRefusal}
 use Rattle.proof_text.specs.declared.refusal.ProofRefusalKind.{ProofRefusalKind}
@@ -38,6 +39,11 @@ complaint_of (kind.Unsound fault) = Some (unsound fault)
 complaint_of (kind.StatesOther stated concluded) = Some (states_other (dependency_of stated) (dependency_of concluded))
 complaint_of kind.EmptyProof = Some empty_proof
 complaint_of kind.Memory = None
+
+-- the dependencies that a refusal names lie within a set
+abbrev pub IsRefusalWithin : Places → ProofRefusalKind → Type 0
+IsRefusalWithin u (kind.StatesOther stated concluded) = IsDepWithin u stated × IsDepWithin u concluded
+IsRefusalWithin u _ = ⊤
 
 -- the refusal is what is found, or want of memory
 abbrev pub Refuses : {X : Type 0} → ProofRefusalKind → Result X Complaint → Type 0

@@ -8,3 +8,4 @@ pub mod Books
 pub mod Texts
 pub mod Checked
 pub mod Printing
+pub mod Ledgers

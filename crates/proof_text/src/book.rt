@@ -1,11 +1,13 @@
 ghost use Rattle.std.specs.Prelude.{◌≡◌, ℕ, ◌+◌, ◌-◌, ◌==◌, ◌<◌, ◌≤◌, ◌^◌, [], length, IfOk, IfErr, OnOk, Ok, Err, option_map, is_some, position, take, max};
 ghost use Rattle.attr_sets.specs.Sets.{places};
 ghost use Rattle.dep_model.specs.Dependencies.{left_of, right_of};
-ghost use Rattle.dep_model.specs.Deps.{dependency_of};
+ghost use Rattle.dep_model.specs.Deps.{dependency_of, IsDepWithin};
 ghost use Rattle.derivation.specs.Derivs.{step_of, pair_of};
 ghost use Rattle.derivation.specs.Derivs.{tree_of};
 ghost use Rattle.proof_text.specs.Books.{opened_of, opened_all, root, settled};
-ghost use Rattle.proof_text.specs.Complaints.{Refuses, RefusesAt};
+ghost use Rattle.attr_sets.specs.Places.{Places};
+ghost use Rattle.dep_model.specs.Schemas.{universe_of};
+ghost use Rattle.proof_text.specs.Complaints.{Refuses, RefusesAt, IsRefusalWithin};
 ghost use Rattle.proof_text.specs.Lines.{line_of, body_of};
 ghost use Rattle.proof_text.specs.Nodes.{seen};
 
@@ -36,6 +38,7 @@ pub struct Node {
 }
 
 impl Book {
+    ghost use Rattle.proof_text.specs.Ledgers.{IsLedger};
     ghost use Rattle.proof_text.specs.Books.{prepared_of, ledger_of, is_earlier, open_at, closed, prepared, step_of_line, pair_of_line, entered, add_line, finished};
 
     pub fn new(alloc: Global) -> Book
@@ -71,6 +74,7 @@ impl Book {
     fn prepare(&mut self, schema: &Schema, line: &Line) -> Result<Node, ProofRefusalKind>
         ensures ok { IfOk result (λ node. prepared schema.now (opened_all self.old.unused.items) (dependency_of line.now.stated) (body_of line.now.body) ≡ Ok (prepared_of node (opened_all self.new.unused.items))) }
         ensures err { IfErr result (λ why. Refuses why (prepared schema.now (opened_all self.old.unused.items) (dependency_of line.now.stated) (body_of line.now.body))) }
+        ensures within { (u : Places) → IfErr result (IsRefusalWithin u) }
         ensures lines { self.new.lines.items ≡ self.old.lines.items }
         ensures length { length self.new.unused.items ≡ length self.old.unused.items }
     {
@@ -107,6 +111,7 @@ impl Book {
     ) -> Result<Node, ProofRefusalKind>
         ensures ok { IfOk result (λ node. step_of_line schema.now (step_of rule) (opened_all self.old.unused.items) p ≡ Ok (prepared_of node (opened_all self.new.unused.items))) }
         ensures err { IfErr result (λ why. Refuses why (step_of_line schema.now (step_of rule) (opened_all self.old.unused.items) p)) }
+        ensures within { (u : Places) → IfErr result (IsRefusalWithin u) }
         ensures lines { self.new.lines.items ≡ self.old.lines.items }
         ensures length { length self.new.unused.items ≡ length self.old.unused.items }
     {
@@ -126,6 +131,7 @@ impl Book {
     fn prepare_pair(&mut self, rule: PairRule, p: u32, q: u32) -> Result<Node, ProofRefusalKind>
         ensures ok { IfOk result (λ node. pair_of_line (pair_of rule) (opened_all self.old.unused.items) p q ≡ Ok (prepared_of node (opened_all self.new.unused.items))) }
         ensures err { IfErr result (λ why. Refuses why (pair_of_line (pair_of rule) (opened_all self.old.unused.items) p q)) }
+        ensures within { (u : Places) → IfErr result (IsRefusalWithin u) }
         ensures lines { self.new.lines.items ≡ self.old.lines.items }
         ensures length { length self.new.unused.items ≡ length self.old.unused.items }
     {
@@ -152,8 +158,11 @@ impl Book {
         at: u32,
         line: &Line,
     ) -> Result<(), ProofRefusalKind>
+        requires ledger { IsLedger schema.now (ledger_of self.old) }
+        requires within { IsDepWithin (universe_of schema.now) line.now.stated }
         ensures ok { OnOk result (entered schema.now at (ledger_of self.old) (line_of line.now) ≡ Ok (ledger_of self.new)) }
         ensures err { IfErr result (λ why. Refuses why (entered schema.now at (ledger_of self.old) (line_of line.now))) }
+        ensures within { IfErr result (IsRefusalWithin (universe_of schema.now)) }
     {
         let before = self.unused.len();
         if line.number as usize != before + 1 {
@@ -177,6 +186,7 @@ impl Book {
         requires { levels ≤ MOST_LEVELS }
         ensures ok { OnOk result (ledger_of self.new ≡ add_line at self.old.lines.items (opened_all self.old.unused.items) (record { tree = tree_of deriv; levels = levels; conclusion = dependency_of dep })) }
         ensures err { IfErr result (λ why. why ≡ ProofRefusalKind.Memory) }
+        ensures within { (u : Places) → IfErr result (IsRefusalWithin u) }
     {
         let deriv = Box::new(alloc, deriv)?;
         self.unused.push(Some(Open { deriv, levels, dep }))?;
@@ -189,6 +199,7 @@ impl Book {
     pub fn finish(self, last: u32) -> Result<Box<Deriv>, ProofRefusal>
         ensures ok { IfOk result (λ b. finished last (ledger_of self) ≡ Ok (tree_of b.value)) }
         ensures err { IfErr result (λ e. RefusesAt e (finished last (ledger_of self))) }
+        ensures within { (u : Places) → IfErr result (λ e. IsRefusalWithin u e.kind) }
     {
         let Book { lines, mut unused } = self;
         let root = take_last(&mut unused);
@@ -239,6 +250,7 @@ fn settle(before: usize, line: &Line, node: Node) -> Result<(Deriv, Dep), ProofR
     ensures ok { IfOk result (λ x. settled before (line_of line.now) node.levels (seen node.outcome) ≡ Ok (record { tree = tree_of x.0; levels = node.levels; conclusion = dependency_of x.1 })) }
     ensures shallow { OnOk result (node.levels ≤ MOST_LEVELS) }
     ensures err { IfErr result (λ why. Refuses why (settled before (line_of line.now) node.levels (seen node.outcome))) }
+    ensures within { (u : Places) → IsDepWithin u line.now.stated → IfOk node.outcome (λ x. IsDepWithin u x.1) → IfErr result (IsRefusalWithin u) }
 {
     if before >= MOST_LINES {
         return Err(ProofRefusalKind::TooManyLines);

@@ -1,7 +1,7 @@
 ghost use Rattle.std.specs.Prelude.{◌≡◌, ◌+◌, ◌<◌, ◌≤◌, ◌^◌, length, OnOk, IfOk, IfErr, Ok, Err, Some, None};
-ghost use Rattle.attr_sets.specs.Places.{only, none, union};
+ghost use Rattle.attr_sets.specs.Places.{only, none, union, Within};
 ghost use Rattle.attr_sets.specs.Sets.{places};
-ghost use Rattle.dep_model.specs.Schemas.{names_of};
+ghost use Rattle.dep_model.specs.Schemas.{names_of, width_of, universe_of};
 ghost use Rattle.schema_reader.specs.Refusals.{refusal};
 ghost use Rattle.proof_text.specs.Marks.{place, marked};
 
@@ -159,6 +159,7 @@ impl<'a> Cursor<'a> {
     #[tactic(auto, unfolding(crate::specs::Readers::side))]
     pub fn side(self, schema: &Schema) -> Result<(AttrSet, Cursor<'a>), SchemaRefusal>
         ensures ok { IfOk result (λ x. side (names_of schema.now) (rest_of self.entry) ≡ Ok (places x.0, rest_of x.1)) }
+        ensures within { IfOk result (λ x. Within (places x.0) (universe_of schema.now)) }
         ensures err { IfErr result (λ e. side (names_of schema.now) (rest_of self.entry) ≡ Err e) }
     {
         let (token, word, rest) = self.take(What::Side)?;
@@ -174,7 +175,9 @@ impl<'a> Cursor<'a> {
 
     /// The words that stand here, added to a set.
     fn words(self, schema: &Schema, set: AttrSet) -> Result<(AttrSet, Cursor<'a>), SchemaRefusal>
+        requires within { Within (places set) (universe_of schema.now) }
         ensures ok { IfOk result (λ x. words (names_of schema.now) (places set) (rest_of self.entry) ≡ Ok (places x.0, rest_of x.1)) }
+        ensures within { IfOk result (λ x. Within (places x.0) (universe_of schema.now)) }
         ensures err { IfErr result (λ e. words (names_of schema.now) (places set) (rest_of self.entry) ≡ Err e) }
     {
         let line = self.line;
@@ -208,6 +211,7 @@ fn place(schema: &Schema, line: u32, token: Token, word: &[u8]) -> Result<u8, Sc
     requires { token.length ≡ length word.now }
     ensures ok { IfOk result (λ x. place (names_of schema.now) line (marked token word.now) ≡ Ok x) }
     ensures declared { IfOk result (λ x. x < PLACES) }
+    ensures inside { IfOk result (λ x. x < width_of schema.now) }
     ensures err { IfErr result (λ e. place (names_of schema.now) line (marked token word.now) ≡ Err e) }
 {
     match look_up(schema, word) {

@@ -1,6 +1,6 @@
 ghost use Rattle.std.specs.Prelude.{◌≡◌, ◌+◌, ◌<◌, ◌^◌, length, IfOk, IfErr, Ok, Err};
-ghost use Rattle.dep_model.specs.Deps.{dependency_of};
-ghost use Rattle.dep_model.specs.Schemas.{names_of};
+ghost use Rattle.dep_model.specs.Deps.{dependency_of, IsDepWithin};
+ghost use Rattle.dep_model.specs.Schemas.{names_of, universe_of};
 ghost use Rattle.derivation.specs.Derivs.{step_of, pair_of};
 ghost use Rattle.proof_text.specs.Readers.{rest_of};
 ghost use Rattle.proof_text.specs.Lines.{body, body_of, line, line_of, stated, one, two, augmented, maugmented};
@@ -35,6 +35,7 @@ pub struct Line {
 #[tactic(auto, unfolding(crate::specs::Lines::line))]
 pub fn read_line(schema: &Schema, start: Cursor<'_>) -> Result<Line, SchemaRefusal>
     ensures ok { IfOk result (λ x. line (names_of schema.now) (rest_of start.entry) ≡ Ok (line_of x)) }
+    ensures within { IfOk result (λ x. IsDepWithin (universe_of schema.now) x.stated) }
     ensures err { IfErr result (λ e. line (names_of schema.now) (rest_of start.entry) ≡ Err e) }
 {
     let (number, rest) = start.number()?;
@@ -53,6 +54,7 @@ pub fn read_line(schema: &Schema, start: Cursor<'_>) -> Result<Line, SchemaRefus
 #[tactic(auto, unfolding(crate::specs::Lines::stated))]
 fn stated<'a>(schema: &Schema, start: Cursor<'a>) -> Result<(Dep, Cursor<'a>), SchemaRefusal>
     ensures ok { IfOk result (λ x. stated (names_of schema.now) (rest_of start.entry) ≡ Ok (dependency_of x.0, rest_of x.1)) }
+    ensures within { IfOk result (λ x. IsDepWithin (universe_of schema.now) x.0) }
     ensures err { IfErr result (λ e. stated (names_of schema.now) (rest_of start.entry) ≡ Err e) }
 {
     let (lhs, rest) = start.side(schema)?;

@@ -1,9 +1,11 @@
 ghost use Rattle.std.specs.Prelude.{◌≡◌, ◌+◌, ◌<◌, ◌≤◌, ◌^◌, length, IfOk, IfErr, Ok, Err};
 ghost use Rattle.lexer.specs.Tokens.{lexed, lex};
 ghost use Rattle.derivation.specs.Derivs.{tree_of};
+ghost use Rattle.dep_model.specs.Schemas.{universe_of};
+ghost use Rattle.proof_text.specs.Ledgers.{IsLedger};
 ghost use Rattle.proof_text.specs.Books.{ledger_of};
 ghost use Rattle.proof_text.specs.Checked.{IsChecked};
-ghost use Rattle.proof_text.specs.Complaints.{Refuses, RefusesAt};
+ghost use Rattle.proof_text.specs.Complaints.{Refuses, RefusesAt, IsRefusalWithin};
 ghost use Rattle.proof_text.specs.Texts.{is_yes, is_blank, line_kind, read_one, read_proof};
 
 use crate::book::Book;
@@ -38,6 +40,8 @@ pub fn read_proof(alloc: Global, schema: &Schema, text: &[u8]) -> Result<Box<Der
     // It proves a dependency, within the limits of a certificate.
     ensures checked { IfOk result (λ deriv. IsChecked schema.now (tree_of deriv.value)) }
     ensures err { IfErr result (λ refusal. RefusesAt refusal (read_proof schema.now text.now)) }
+    // The dependencies that it names can be printed.
+    ensures within { IfErr result (λ refusal. IsRefusalWithin (universe_of schema.now) refusal.kind) }
 {
     let mut book = Book::new(alloc);
     let mut fresh = true;
@@ -69,9 +73,11 @@ fn read_one(
     number: u32,
     text: &[u8],
 ) -> Result<bool, ProofRefusalKind>
-    requires { 1 + length text.now < 2 ^ 32 }
+    requires room { 1 + length text.now < 2 ^ 32 }
+    requires ledger { IsLedger schema.now (ledger_of book.old) }
     ensures ok { IfOk result (λ still. read_one schema.now fresh number (ledger_of book.old) text.now ≡ Ok (still, ledger_of book.new)) }
     ensures err { IfErr result (λ why. Refuses why (read_one schema.now fresh number (ledger_of book.old) text.now)) }
+    ensures within { IfErr result (IsRefusalWithin (universe_of schema.now)) }
 {
     match line_kind(fresh, text) {
         LineKind::Blank => Ok(fresh),

@@ -1,4 +1,4 @@
-use Rattle.std.proofs.Common.{◌≡◌, ◌≤◌, ◌∙◌, ℕ, sym, ap, subst, List, length, Result, Ok, true, arith}
+use Rattle.std.proofs.Common.{◌≡◌, ◌≤◌, ◌∙◌, ℕ, sym, ap, subst, List, length, Result, Ok, true, arith, refl}
 use Rattle.std.specs.Prelude.{IfOk, IfErr}
 use Rattle.derivation.specs.Trees.{Tree}
 use Rattle.derivation.specs.Derivs.{tree_of}
@@ -8,6 +8,7 @@ use Rattle.proof_text.specs.Books.{ledger_of}
 use Rattle.proof_text.specs.Complaints.{LineComplaint, RefusesAt}
 use Rattle.proof_text.specs.Texts.{read_lines, read_proof}
 use Rattle.std.proofs.lemmas.Result.{IfOk-weaker}
+use Rattle.proof_text.specs.Ledgers.{IsLedger}
 use Rattle.proof_text.specs.Checked.{IsChecked}
 use Rattle.proof_text.proofs.CheckedLemmas.{read_proof_checked}
 use Rattle.proof_text.proofs.TextLemmas.{without_mark-shorter, line_within, line_refused, last_read, reads_more, refuses_whole}
@@ -21,10 +22,11 @@ lines-init c = record {
   room =
       let short : length c.without_mark-rest.result.now ≤ length c.args.text.now = subst (λ (t : List ℕ). length t ≤ length c.args.text.now) (sym c.without_mark-rest.ensures.text) (without_mark-shorter c.args.text.now) in
       omega arith;
+  ledger = subst (IsLedger c.args.schema.now) (sym c.new-book.ensures.empty) (record { stand = tt {0}; count = refl; few = omega arith });
 }
 
-pub read_one-requires : goal.read_one-requires
-read_one-requires c = omega (arith, c.lines.invariant.room, line_within _ _ _ c.cut_line.ensures.cut)
+pub read_one-requires-clause-room : goal.read_one-requires-clause-room
+read_one-requires-clause-room c = omega (arith, c.lines.invariant.room, line_within _ _ _ c.cut_line.ensures.cut)
 
 pub returns-in-Err-clause-err : goal.returns-in-Err-clause-err
 returns-in-Err-clause-err c =

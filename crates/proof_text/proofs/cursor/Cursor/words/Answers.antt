@@ -1,4 +1,5 @@
 use Rattle.std.proofs.Common.{◌+◌, ◌∙◌, sym, ap, arith}
+use Rattle.std.proofs.lemmas.Bool.Decides.{nat_tests}
 use Rattle.attr_sets.specs.Places.{Places}
 use Rattle.dep_model.specs.Schemas.{names_of}
 use Rattle.lexer.specs.declared.token.Mode.TheVariants as mode
@@ -27,4 +28,5 @@ words-preserved c = record {
       ∙ words_more _ _ _ _ _ _ _ _ _ c.in-Token.ensures.exact (sym c.is_word.ensures.exact ∙ c.if-not-is_word.false) c.in-Ok.ensures.ok
       ∙ ap (λ (x : Places). words (names_of c.args.schema.now) x (rest_from c.args.self.line (c.in-Token.token.column + c.in-Token.token.length) (lexed mode.Numbered 0 (c.in-Token.token.column + c.in-Token.token.length) c.in-Token.behind.now))) (sym c.added-set.ensures.members);
   room = omega (arith, c.words.invariant.room, c.in-Token.ensures.advances.fits);
+  within = λ k m. grind (arith, nat_tests, c.words.invariant.within k, ap (λ (x : Places). x k) c.added-set.ensures.members, m, c.in-Ok.ensures.inside);
 }

@@ -1,0 +1,36 @@
+use Rattle.std.proofs.Common.{◌≡◌, Result, Ok, Err, refl, List}
+use Rattle.std.specs.Prelude.{IfOk, IfErr, ⊤}
+use Rattle.std.proofs.lemmas.Result.{err_from_is_err_and}
+use Rattle.dep_model.specs.declared.dep.Dep.{Dep}
+use Rattle.dep_model.specs.declared.schema.Schema.{Schema}
+use Rattle.dep_model.specs.Dependencies.{Dependency}
+use Rattle.dep_model.specs.Deps.{dependency_of, IsDepWithin}
+use Rattle.dep_model.specs.Schemas.{universe_of}
+use Rattle.derivation.specs.declared.deriv.Deriv.{Deriv}
+use Rattle.derivation.specs.declared.fault.FaultKind.{FaultKind}
+use Rattle.derivation.specs.Trees.{Tree}
+use Rattle.derivation.specs.Derivs.{tree_of}
+use Rattle.derivation.specs.Conclusions.{Proves}
+use Rattle.derivation.proofs.WithinLemmas.{tree_of-attributes, conclusion_within}
+use Rattle.proof_text.specs.Lines.{body_of}
+use Rattle.proof_text.specs.Nodes.{seen}
+use Rattle.proof_text.specs.Books.{opened_all, prepared_of}
+use Rattle.proof_text.proofs.CheckedLemmas.{prepared_is}
+use Rattle.proof_text.proofs.book.Book.enter.Goals as goal
+
+-- what a node concludes lies within the universe
+outcome_within : (s : Schema) (outcome : Result (Deriv × Dep) FaultKind) → ((t : Tree) (d : Dependency) → seen outcome ≡ Ok (t, d) → Proves s t d) → IfOk outcome (λ x. IsDepWithin (universe_of s) x.1)
+outcome_within s (Ok x) proves = conclusion_within s (tree_of x.0) (dependency_of x.1) (tree_of-attributes x.0) (proves (tree_of x.0) (dependency_of x.1) refl)
+outcome_within s (Err why) proves = tt {0}
+
+pub returns-in_err-node-clause-within : goal.returns-in_err-node-clause-within
+returns-in_err-node-clause-within c =
+    let p = err_from_is_err_and c.from_residual.result c.from_residual.ensures.1 in
+    rw (p.1, p.2) (c.in_err-node.ensures.within (universe_of c.args.schema.now))
+
+pub returns-in_err-deriv-clause-within : goal.returns-in_err-deriv-clause-within
+returns-in_err-deriv-clause-within c =
+    let s = c.args.schema.now in
+    let is = prepared_is s (opened_all c.args.self.now.unused.items) (dependency_of c.args.line.now.stated) (body_of c.args.line.now.body) _ c.requires.ledger.stand c.in_ok-node.ensures.ok in
+    let p = err_from_is_err_and c.from_residual-in_err-deriv.result c.from_residual-in_err-deriv.ensures.1 in
+    rw (p.1, p.2) (c.in_err-deriv.ensures.within (universe_of s) c.requires.within (outcome_within s c.in_ok-node.node.outcome is.proves))
