@@ -6,6 +6,7 @@ use Rattle.dep_model.specs.Schemas.{names_of, width_of, theory_of, ImpliedBy}
 use Rattle.dep_model.specs.declared.schema.Schema.{Schema}
 use Rattle.dep_model.specs.TwoTuples.{two_tuples}
 use Rattle.derivation.specs.Trees.{Tree}
+use Rattle.derivation.specs.Conclusions.{Proves}
 use Rattle.dep_basis.specs.Decisions.{IsBrokenBy}
 use Rattle.dep_basis.specs.Joined.{IsProofOf}
 use Rattle.dep_basis.specs.Proofs.{IsChainIfFunctional}
@@ -14,10 +15,14 @@ use Rattle.schema_reader.specs.declared.text.TheConstants.{MOST_TEXT_BYTES}
 use Rattle.schema_reader.specs.declared.refusal.SchemaRefusal.{SchemaRefusal}
 use Rattle.schema_reader.specs.Reading.{read_goal}
 use Rattle.schema_reader.specs.Texts.{read_text, declarations_of}
+use Rattle.proof_text.specs.declared.text.TheConstants.{MOST_PROOF_BYTES}
+use Rattle.proof_text.specs.Complaints.{LineComplaint}
 use Rattle.proof_text.specs.Printing.{canonical_certificate}
+use Rattle.proof_text.specs.Texts.{read_proof}
 use Rattle.desk_cli.specs.declared.status.Status.{Status}
 use Rattle.desk_cli.specs.declared.status.Status.TheVariants.{Yes, No, Refused, CannotRead}
-use Rattle.desk_cli.specs.Forms.{Form, implies, form_of}
+use Rattle.desk_cli.specs.Forms.{Form, implies, check_proof, form_of}
+use Rattle.desk_cli.specs.ProofTexts.{proof_refusal_text, checked_text, concludes_text}
 use Rattle.desk_cli.specs.Readings.{Reading}
 use Rattle.desk_cli.specs.Texts.{words_text, cannot_read_text, too_long_text, goal_too_long_text, refusal_text, goal_refusal_text, yes_text, no_text}
 
@@ -71,8 +76,7 @@ WithGoal schema goal rest status text =
 
 -- ---- implication
 -- Yes exactly where every relation that obeys the schema's dependencies obeys the goal, with a derivation
--- of the goal, which is the functional chain where the functional part alone implies it; else no, with
--- two tuples that obey the dependencies and break the goal.
+-- of the goal, which is the functional chain where the functional part alone implies it; else no, with two tuples that obey the dependencies and break the goal.
 abbrev pub Decided : Schema → Dependency → Allowed
 Decided schema goal status text =
     (ImpliedBy schema goal
@@ -81,10 +85,36 @@ Decided schema goal status text =
     × ((agreement : Places) × IsBrokenBy (width_of schema) (theory_of schema) goal agreement
     × Says No (no_text (names_of schema) (two_tuples (width_of schema) agreement)) status text))
 
+-- ---- certificates
+-- how the reading of a certificate file ends a command
+abbrev pub ProofStops : Reading → Schema → List ℕ → Allowed
+ProofStops r schema name status text =
+    FileStops r name MOST_PROOF_BYTES status text
+    ⊎ ((bytes : List ℕ) × (refusal : LineComplaint) × IsContent r name MOST_PROOF_BYTES bytes × (read_proof schema bytes ≡ Err refusal)
+    × Says Refused (proof_refusal_text (names_of schema) name refusal) status text)
+
+-- a file has a certificate that spells this tree
+abbrev pub IsProofFile : Reading → Schema → List ℕ → Tree → Type 0
+IsProofFile r schema name tree = (bytes : List ℕ) × IsContent r name MOST_PROOF_BYTES bytes × (read_proof schema bytes ≡ Ok tree)
+
+-- a certificate file is read, and then the rest follows
+abbrev pub WithProof : Reading → Schema → List ℕ → (Tree → Allowed) → Allowed
+WithProof r schema name rest status text =
+    ProofStops r schema name status text ⊎ ((tree : Tree) × IsProofFile r schema name tree × rest tree status text)
+
+-- yes exactly where the certificate concludes the goal; else no, with both
+abbrev pub Checked : Schema → Tree → Dependency → Allowed
+Checked schema tree goal status text =
+    (Proves schema tree goal × Says Yes (checked_text (names_of schema) goal) status text)
+    ⊎ ((Proves schema tree goal → ⊥)
+    × ((concluded : Dependency) × Proves schema tree concluded × Says No (concludes_text (names_of schema) concluded goal) status text))
+
 -- ---- commands
 -- which status and text a command gives
 unfoldable pub Performs : Reading → Form → Allowed
 Performs r (implies file goal) = WithSchema r file (λ schema. WithGoal schema goal (λ dep. Decided schema dep))
+Performs r (check_proof file proof goal) =
+    WithSchema r file (λ schema. WithProof r schema proof (λ tree. WithGoal schema goal (λ dep. Checked schema tree dep)))
 
 -- which status and text answer the words
 abbrev pub Answers : Reading → List (List ℕ) → Allowed

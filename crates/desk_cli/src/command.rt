@@ -9,7 +9,16 @@ use desk_outside::Word;
 #[derive(Clone, Copy, Debug)]
 pub enum Command<'a> {
     /// Whether the schema of a file implies a goal.
-    Implies { schema: &'a Word, goal: &'a Word },
+    Implies {
+        schema: &'a Word,
+        goal: &'a Word,
+    },
+    /// Whether a certificate proves a goal.
+    CheckProof {
+        schema: &'a Word,
+        file: &'a Word,
+        goal: &'a Word,
+    },
 }
 
 /// The command that the words form, if they form one.
@@ -18,6 +27,7 @@ pub fn parse(words: &[Word]) -> Option<Command<'_>>
 {
     match words {
         [verb, schema, goal] => of_two(verb, schema, goal),
+        [verb, what, schema, file, goal] => of_three(verb, what, schema, file, goal),
         _ => None,
     }
 }
@@ -28,6 +38,22 @@ fn of_two<'a>(verb: &Word, schema: &'a Word, goal: &'a Word) -> Option<Command<'
 {
     if verb.bytes() == b"implies".as_slice() {
         return Some(Command::Implies { schema, goal });
+    }
+    None
+}
+
+/// A command of two words, with three words more.
+fn of_three<'a>(
+    verb: &Word,
+    what: &Word,
+    schema: &'a Word,
+    file: &'a Word,
+    goal: &'a Word,
+) -> Option<Command<'a>>
+    ensures form { option_map command_form result ≡ form_of (verb.now ∷ what.now ∷ schema.now ∷ file.now ∷ goal.now ∷ []) }
+{
+    if verb.bytes() == b"check".as_slice() && what.bytes() == b"proof".as_slice() {
+        return Some(Command::CheckProof { schema, file, goal });
     }
     None
 }

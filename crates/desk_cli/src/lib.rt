@@ -5,9 +5,11 @@
 //! nothing fails the answer is the one that the theory fixes.
 #![tactic(auto)]
 
+mod check_proof;
 mod command;
 mod goal;
 mod implies;
+mod proof_refusals;
 mod read;
 mod refusals;
 mod reply;

@@ -1,14 +1,21 @@
 ghost use Rattle.std.specs.Prelude.{◌≡◌, ◌^◌, ◌<◌, ◌≤◌, IfOk, IfErr};
+ghost use Rattle.dep_model.specs.Schemas.{names_of, universe_of};
+ghost use Rattle.derivation.specs.Derivs.{tree_of};
+ghost use Rattle.proof_text.specs.Complaints.{IsRefusalWithin};
+ghost use Rattle.proof_text.specs.Checked.{IsChecked};
 ghost use Rattle.desk_cli.specs.Readings.{seen};
-ghost use Rattle.desk_cli.specs.Replies.{StopsAs, TellsRefusal};
-ghost use Rattle.desk_cli.specs.Answers.{FileStops, SchemaStops, IsContent, IsSchemaFile};
+ghost use Rattle.desk_cli.specs.Replies.{StopsAs, TellsRefusal, TellsProof};
+ghost use Rattle.desk_cli.specs.Answers.{FileStops, SchemaStops, ProofStops, IsContent, IsSchemaFile, IsProofFile};
 
 use crate::Status;
+use crate::proof_refusals::proof_refusal_line;
 use crate::refusals::refusal_line;
 use crate::reply::{Reply, Stop};
 use crate::text::line_of;
 use dep_model::{Schema, WantMemory};
+use derivation::Deriv;
 use desk_outside::{LoadRefusal, Shelf, Word, load};
+use proof_text::{MOST_PROOF_BYTES, ProofRefusal, ProofRefusalKind, read_proof};
 use schema_reader::{MOST_TEXT_BYTES, SchemaRefusal, SchemaRefusalKind, read_schema};
 use std::alloc::Global;
 
@@ -61,6 +68,43 @@ pub fn refused(alloc: Global, group: &[u8], name: &[u8], refusal: SchemaRefusal)
         return Stop::Memory;
     }
     match refusal_line(alloc, group, name, refusal) {
+        Ok(text) => Stop::Answered(Reply {
+            status: Status::Refused,
+            text,
+        }),
+        Err(WantMemory) => Stop::Memory,
+    }
+}
+
+/// The derivation of a certificate file.
+pub fn open_proof<F: Shelf>(
+    alloc: Global,
+    shelf: &mut F,
+    schema: &Schema,
+    name: &Word,
+) -> Result<Box<Deriv>, Stop>
+    ensures files { F.files shelf.new ≡ F.files shelf.old }
+    ensures later { F.faults shelf.old ≤ F.faults shelf.new }
+    ensures ok { IfOk result (λ deriv. IsProofFile (seen (F.files shelf.old) (F.faults shelf.old) (F.faults shelf.new) (F.taken shelf.new)) schema.now name.now (tree_of deriv.value)) }
+    ensures checked { IfOk result (λ deriv. IsChecked schema.now (tree_of deriv.value)) }
+    ensures stop { IfErr result (StopsAs (ProofStops (seen (F.files shelf.old) (F.faults shelf.old) (F.faults shelf.new) (F.taken shelf.new)) schema.now name.now)) }
+{
+    let bytes = open_file(alloc, shelf, name, MOST_PROOF_BYTES)?;
+    match read_proof(alloc, schema, &bytes) {
+        Ok(deriv) => Ok(deriv),
+        Err(refusal) => Err(proof_refused(alloc, schema, name.bytes(), refusal)),
+    }
+}
+
+/// A command that ends with the refusal of a certificate, or for want of memory.
+fn proof_refused(alloc: Global, schema: &Schema, name: &[u8], refusal: ProofRefusal) -> Stop
+    requires within { IsRefusalWithin (universe_of schema.now) refusal.kind }
+    ensures refused { TellsProof (names_of schema.now) name.now refusal result }
+{
+    if let ProofRefusalKind::Memory = refusal.kind {
+        return Stop::Memory;
+    }
+    match proof_refusal_line(alloc, schema, name, refusal) {
         Ok(text) => Stop::Answered(Reply {
             status: Status::Refused,
             text,

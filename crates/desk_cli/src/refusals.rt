@@ -52,7 +52,7 @@ fn number_of(kind: SchemaRefusalKind) -> u32
 }
 
 /// A reason in words.
-fn reason_of(kind: SchemaRefusalKind) -> &'static [u8]
+pub fn reason_of(kind: SchemaRefusalKind) -> &'static [u8]
     ensures text { result.now ≡ kind_text kind }
 {
     match kind {

@@ -36,15 +36,24 @@ fn shelf_of(alloc: Global, fails: &[u64]) -> Result<MemoryShelf, WantMemory> {
         name: Word::make(alloc, b"s")?,
         bytes: Vec::from_slice(alloc, CHAIN)?,
     })?;
+    files.push(HeldFile {
+        name: Word::make(alloc, b"p")?,
+        bytes: Vec::from_slice(alloc, YES)?,
+    })?;
     Ok(MemoryShelf::make(files, Vec::from_slice(alloc, fails)?))
 }
 
 #[test]
 fn answers_over_objects_in_memory(rt: HostRuntime) -> Result<(), Fail> {
-    let cases: [(&[&[u8]], Status, &[u8]); 5] = [
+    let cases: [(&[&[u8]], Status, &[u8]); 6] = [
         (&[b"implies", b"s", b"A -> C"], Status::Yes, YES),
         (&[b"implies", b"s", b"C -> A"], Status::No, NO),
         (&[b"implies", b"s", b"() ->> A"], Status::No, MULTIVALUED),
+        (
+            &[b"check", b"proof", b"s", b"p", b"A -> C"],
+            Status::Yes,
+            b"checked A -> C\n",
+        ),
         (
             &[b"implies", b"t", b"A -> C"],
             Status::CannotRead,

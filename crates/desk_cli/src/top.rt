@@ -6,6 +6,7 @@ ghost use Rattle.desk_cli.specs.Replies.{RepliesAs};
 ghost use Rattle.desk_cli.specs.Desk.{Desk, shelf_in_call, sink_in_call};
 
 use crate::Status;
+use crate::check_proof::check_proof;
 use crate::command::{Command, parse};
 use crate::implies::implies;
 use crate::reply::{Reply, Stop};
@@ -65,5 +66,6 @@ fn perform<F: Shelf>(alloc: Global, command: Command<'_>, shelf: &mut F) -> Resu
 {
     match command {
         Command::Implies { schema, goal } => implies(alloc, shelf, schema, goal),
+        Command::CheckProof { schema, file, goal } => check_proof(alloc, shelf, schema, file, goal),
     }
 }

@@ -1,5 +1,5 @@
-use Rattle.std.proofs.Common.{◌≡◌, Result, Ok, Err, refl, List}
-use Rattle.std.specs.Prelude.{IfOk, IfErr, ⊤}
+use Rattle.std.proofs.Common.{◌≡◌, Result, Ok, Err, refl}
+use Rattle.std.specs.Prelude.{IfOk}
 use Rattle.std.proofs.lemmas.Result.{err_from_is_err_and}
 use Rattle.dep_model.specs.declared.dep.Dep.{Dep}
 use Rattle.dep_model.specs.declared.schema.Schema.{Schema}
@@ -14,7 +14,7 @@ use Rattle.derivation.specs.Conclusions.{Proves}
 use Rattle.derivation.proofs.WithinLemmas.{tree_of-attributes, conclusion_within}
 use Rattle.proof_text.specs.Lines.{body_of}
 use Rattle.proof_text.specs.Nodes.{seen}
-use Rattle.proof_text.specs.Books.{opened_all, prepared_of}
+use Rattle.proof_text.specs.Books.{opened_all}
 use Rattle.proof_text.proofs.CheckedLemmas.{prepared_is}
 use Rattle.proof_text.proofs.book.Book.enter.Goals as goal
 

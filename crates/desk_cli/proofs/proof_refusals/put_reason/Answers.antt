@@ -1,0 +1,7 @@
+use Rattle.desk_cli.proofs.proof_refusals.put_reason.Goals as goal
+
+pub returns-in-Unsound : goal.returns-in-Unsound
+returns-in-Unsound c = record { more = rw (c.in-Unsound.is, ← c.fault_of.ensures.text) c.put_pair.ensures.more }
+
+pub returns-in-EmptyProof : goal.returns-in-EmptyProof
+returns-in-EmptyProof c = record { more = rw c.in-EmptyProof.is c.put-in-EmptyProof.ensures.more }
