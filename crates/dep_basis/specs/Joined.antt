@@ -8,7 +8,7 @@ use Rattle.dep_model.specs.Schemas.{ImpliedBy}
 use Rattle.derivation.specs.Trees.{Tree, nodes, depth}
 use Rattle.derivation.specs.Derivs.{tree_of}
 use Rattle.derivation.specs.Conclusions.{Proves}
-use Rattle.dep_basis.specs.declared.proof.TheConstants.{MOST_NODES, MOST_LEVELS}
+use Rattle.derivation.specs.declared.measures.TheConstants.{MOST_NODES, MOST_LEVELS}
 use Rattle.dep_basis.specs.declared.shown.PartProof.{PartProof}
 use Rattle.dep_basis.specs.Shown.{HasSize}
 

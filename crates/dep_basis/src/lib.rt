@@ -3,7 +3,9 @@
 //!
 //! `basis` gives exactly the closed set and the blocks, `trace_basis` what a scheme has of them.
 //! `decide` says whether a schema implies a dependency, and where it does not, names two rows that obey
-//! the schema and break it; `witness` makes these rows. `witness` alone takes memory.
+//! the schema and break it; `witness` makes these rows. `prove` gives a derivation of each dependency
+//! that is implied, and `functional_chain` the one of those that the functional dependencies alone
+//! imply. `witness`, `prove` and `functional_chain` take memory, and no other call does.
 #![tactic(auto)]
 
 mod bases;
@@ -28,7 +30,7 @@ pub use blocks::{Blocks, MOST_BLOCKS};
 pub use chains::functional_chain;
 pub use deciding::decide;
 pub use decision::Decision;
-pub use proof::{MOST_LEVELS, MOST_NODES, Proof};
+pub use proof::Proof;
 pub use proving::prove;
 pub use witnessing::witness;
 

@@ -4,6 +4,12 @@ ghost use Rattle.derivation.specs.Derivs.{tree_of};
 
 use crate::{Deriv, Node};
 
+/// The most nodes of a derivation that is given for a proof, and the most lines of a certificate.
+pub const MOST_NODES: u32 = 262_144;
+
+/// The most levels of such a derivation.
+pub const MOST_LEVELS: u32 = 2_048;
+
 /// How many nodes a derivation has.
 pub fn nodes(deriv: &Deriv) -> u32
     requires few { nodes (tree_of deriv.now) < 2 ^ 32 }

@@ -22,9 +22,9 @@ use attr_sets::AttrSet;
 use csv_rows::print_rows;
 use dep_basis::{Proof, prove, witness};
 use dep_model::{Dep, Schema, WantMemory};
-use derivation::Deriv;
+use derivation::{Deriv, MOST_LEVELS, MOST_NODES};
 use desk_outside::{Shelf, Word};
-use proof_text::{MOST_LEVELS, MOST_LINES, print_proof};
+use proof_text::print_proof;
 use std::alloc::Global;
 
 /// Whether the schema of a file implies a goal: `yes`, or `no` with two tuples that obey the schema
@@ -62,7 +62,7 @@ fn decided(alloc: Global, schema: &Schema, dep: Dep) -> Result<Reply, WantMemory
 /// `yes`, and the certificate of a derivation.
 fn certified(alloc: Global, schema: &Schema, deriv: &Deriv) -> Result<Reply, WantMemory>
     requires proof { IsProof schema.now (tree_of deriv.now) }
-    requires few_lines { nodes (tree_of deriv.now) ≤ MOST_LINES }
+    requires few_lines { nodes (tree_of deriv.now) ≤ MOST_NODES }
     requires few_levels { depth (tree_of deriv.now) ≤ MOST_LEVELS }
     ensures reply { IfOk result (λ reply. Says Status.Yes (yes_text ++ canonical_certificate schema.now (tree_of deriv.now)) reply.status reply.text.items) }
 {

@@ -10,8 +10,7 @@ use Rattle.derivation.proofs.RuleTableLemmas.{the_ok, chosen}
 use Rattle.derivation.specs.Trees.{Tree, leaf, step, pair, Leaf, Step, Pair, given, reflexivity, mreflexivity, nodes, depth}
 use Rattle.derivation.specs.Table.{leaf_conclusion, step_conclusion, pair_conclusion}
 use Rattle.derivation.specs.Conclusions.{Proves}
-use Rattle.proof_text.specs.declared.book.TheConstants.{MOST_LINES}
-use Rattle.proof_text.specs.declared.node.TheConstants.{MOST_LEVELS}
+use Rattle.derivation.specs.declared.measures.TheConstants.{MOST_NODES, MOST_LEVELS}
 use Rattle.proof_text.specs.Complaints.{Complaint, LineComplaint, no_such_line, wrong_number, too_many_lines, too_deep, states_other}
 use Rattle.proof_text.specs.Lines.{Body, by_given, by_reflexivity, by_mreflexivity, by_step, by_pair, Line, line}
 use Rattle.proof_text.specs.Readers.{◌>>=◌, rest_from}
@@ -140,7 +139,7 @@ kept false r e y h = cc
 
 -- what is settled is within the limits, and concludes what was prepared
 record IsSettled (before levels : ℕ) (outcome : Result (Tree × Dependency) FaultKind) (o : Opened) : Type 0 where
-  few_lines : before < MOST_LINES
+  few_lines : before < MOST_NODES
   few_levels : levels ≤ MOST_LEVELS
   same_levels : o.levels ≡ levels
   prepared_so : outcome ≡ Ok (o.tree, o.conclusion)
@@ -160,7 +159,7 @@ settled_cases false false e f r o h = (refl, refl, h)
 settled_ok : (before : ℕ) (l : Line) (levels : ℕ) (outcome : Result (Tree × Dependency) FaultKind) (o : Opened) → settled before l levels outcome ≡ Ok o → IsSettled before levels outcome o
 unfolding settled
 settled_ok before l levels outcome o h =
-    let w = settled_cases (nat_le MOST_LINES before) (nat_lt MOST_LEVELS levels) too_many_lines too_deep (concluded_as l.number l.stated levels outcome) o h in
+    let w = settled_cases (nat_le MOST_NODES before) (nat_lt MOST_LEVELS levels) too_many_lines too_deep (concluded_as l.number l.stated levels outcome) o h in
     let ok = concluded_ok l.number levels l.stated outcome o w.2 in
     record { few_lines = grind (arith, nat_tests, w.0); few_levels = grind (arith, nat_tests, w.1); same_levels = ok.1; prepared_so = ok.0 }
 

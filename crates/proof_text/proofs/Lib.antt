@@ -1,4 +1,5 @@
 pub mod WordLemmas
+pub mod NameLemmas
 pub mod PrintingLemmas
 pub mod BookLemmas
 pub mod TextLemmas

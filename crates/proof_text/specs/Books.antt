@@ -8,9 +8,8 @@ use Rattle.derivation.specs.Derivs.{tree_of}
 use Rattle.derivation.specs.Table.{leaf_conclusion, step_conclusion, pair_conclusion}
 use Rattle.proof_text.specs.declared.book.Book as books
 use Rattle.proof_text.specs.declared.book.Node as nodes
-use Rattle.proof_text.specs.declared.book.TheConstants.{MOST_LINES}
+use Rattle.derivation.specs.declared.measures.TheConstants.{MOST_NODES, MOST_LEVELS}
 use Rattle.proof_text.specs.declared.node.Open as opens
-use Rattle.proof_text.specs.declared.node.TheConstants.{MOST_LEVELS}
 use Rattle.proof_text.specs.Complaints.{Complaint, LineComplaint, wrong_number, no_such_line, used_twice, never_used, too_many_lines, too_deep, unsound, states_other, empty_proof}
 use Rattle.proof_text.specs.Lines.{Body, by_given, by_reflexivity, by_mreflexivity, by_step, by_pair, Line}
 use Rattle.proof_text.specs.Nodes.{with_tree, seen, given_outcome, same_dependency}
@@ -104,7 +103,7 @@ concluded_as n stated levels (Err why) = Err (unsound (record { node = n; kind =
 -- a node within the limits that concludes what its line states; so many lines stand before
 unfoldable pub settled : ℕ → Line → ℕ → Result (Tree × Dependency) FaultKind → Result Opened Complaint
 settled before l levels outcome =
-    if nat_le MOST_LINES before then Err too_many_lines
+    if nat_le MOST_NODES before then Err too_many_lines
     else if nat_lt MOST_LEVELS levels then Err too_deep
     else concluded_as l.number l.stated levels outcome
 

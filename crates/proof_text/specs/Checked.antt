@@ -3,12 +3,11 @@ use Rattle.dep_model.specs.declared.schema.Schema.{Schema}
 use Rattle.dep_model.specs.Dependencies.{Dependency}
 use Rattle.derivation.specs.Trees.{Tree, nodes, depth}
 use Rattle.derivation.specs.Conclusions.{Proves}
-use Rattle.proof_text.specs.declared.book.TheConstants.{MOST_LINES}
-use Rattle.proof_text.specs.declared.node.TheConstants.{MOST_LEVELS}
+use Rattle.derivation.specs.declared.measures.TheConstants.{MOST_NODES, MOST_LEVELS}
 
 -- a tree within the limits of a certificate proves a dependency
 pub record IsChecked (s : Schema) (t : Tree) : Type 0 where
   pub conclusion : Dependency
   pub proves : Proves s t conclusion
-  pub few_nodes : nodes t ≤ MOST_LINES
+  pub few_nodes : nodes t ≤ MOST_NODES
   pub few_levels : depth t ≤ MOST_LEVELS

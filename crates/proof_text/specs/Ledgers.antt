@@ -2,8 +2,7 @@ use Rattle.std.specs.Prelude.{◌≡◌, ◌≤◌, ◌+◌, ℕ, List, [], ◌�
 use Rattle.dep_model.specs.declared.schema.Schema.{Schema}
 use Rattle.derivation.specs.Trees.{nodes, depth}
 use Rattle.derivation.specs.Conclusions.{Proves}
-use Rattle.proof_text.specs.declared.book.TheConstants.{MOST_LINES}
-use Rattle.proof_text.specs.declared.node.TheConstants.{MOST_LEVELS}
+use Rattle.derivation.specs.declared.measures.TheConstants.{MOST_NODES, MOST_LEVELS}
 use Rattle.proof_text.specs.Books.{Opened, Ledger}
 
 -- an open line proves its conclusion
@@ -33,4 +32,4 @@ all_nodes (o ∷ os) = open_nodes o + all_nodes os
 pub record IsLedger (s : Schema) (book : Ledger) : Type 0 where
   pub stand : AllStand s book.unused
   pub count : all_nodes book.unused ≡ length book.unused
-  pub few : length book.unused ≤ MOST_LINES
+  pub few : length book.unused ≤ MOST_NODES

@@ -12,15 +12,12 @@ ghost use Rattle.proof_text.specs.Lines.{line_of, body_of};
 ghost use Rattle.proof_text.specs.Nodes.{seen};
 
 use crate::line::{Body, Line};
-use crate::node::{MOST_LEVELS, Open, given, leaf, pair, same_dependency, step};
+use crate::node::{Open, given, leaf, pair, same_dependency, step};
 use crate::refusal::{ProofRefusal, ProofRefusalKind};
 use attr_sets::AttrSet;
 use dep_model::{Dep, Schema};
-use derivation::{Deriv, Fault, FaultKind, LeafRule, PairRule, StepRule};
+use derivation::{Deriv, Fault, FaultKind, LeafRule, MOST_LEVELS, MOST_NODES, PairRule, StepRule};
 use std::alloc::Global;
-
-/// The most lines of a certificate.
-pub const MOST_LINES: usize = 262_144;
 
 /// The certificate lines that are read: in which line of the text each stands, and its derivation until
 /// a later line uses it.
@@ -252,7 +249,7 @@ fn settle(before: usize, line: &Line, node: Node) -> Result<(Deriv, Dep), ProofR
     ensures err { IfErr result (λ why. Refuses why (settled before (line_of line.now) node.levels (seen node.outcome))) }
     ensures within { (u : Places) → IsDepWithin u line.now.stated → IfOk node.outcome (λ x. IsDepWithin u x.1) → IfErr result (IsRefusalWithin u) }
 {
-    if before >= MOST_LINES {
+    if before >= MOST_NODES as usize {
         return Err(ProofRefusalKind::TooManyLines);
     }
     if node.levels > MOST_LEVELS {

@@ -165,16 +165,21 @@ impl<'a> Cursor<'a> {
         let (token, word, rest) = self.take(What::Side)?;
         match token.kind {
             TokenKind::Word => {
-                let first = place(schema, rest.line, token, word)?;
-                rest.words(schema, single(first))
+                let first = place(schema, rest.line, token, word, 0)?;
+                rest.words(schema, single(first), first)
             }
             TokenKind::Empty => Ok((no_place(), rest)),
             _ => Err(rest.expected(token, What::Side)),
         }
     }
 
-    /// The words that stand here, added to a set.
-    fn words(self, schema: &Schema, set: AttrSet) -> Result<(AttrSet, Cursor<'a>), SchemaRefusal>
+    /// The words that stand here, added to a set; each is looked for from the one before on.
+    fn words(
+        self,
+        schema: &Schema,
+        set: AttrSet,
+        before: u8,
+    ) -> Result<(AttrSet, Cursor<'a>), SchemaRefusal>
         requires within { Within (places set) (universe_of schema.now) }
         ensures ok { IfOk result (λ x. words (names_of schema.now) (places set) (rest_of self.entry) ≡ Ok (places x.0, rest_of x.1)) }
         ensures within { IfOk result (λ x. Within (places x.0) (universe_of schema.now)) }
@@ -182,6 +187,7 @@ impl<'a> Cursor<'a> {
     {
         let line = self.line;
         let mut set = set;
+        let mut before = before;
         let mut column = self.column;
         let mut text = self.text;
         'words: loop {
@@ -192,10 +198,11 @@ impl<'a> Cursor<'a> {
                     if !is_word(token.kind) {
                         return Ok((set, Cursor { line, column, text }));
                     }
-                    match place(schema, line, token, word) {
+                    match place(schema, line, token, word, before) {
                         Err(refusal) => return Err(refusal),
                         Ok(place) => {
                             set = added(set, place);
+                            before = place;
                             column = token.column + token.length;
                             text = behind;
                         }
@@ -207,14 +214,20 @@ impl<'a> Cursor<'a> {
 }
 
 /// The attribute that a word of a side stands for.
-fn place(schema: &Schema, line: u32, token: Token, word: &[u8]) -> Result<u8, SchemaRefusal>
+fn place(
+    schema: &Schema,
+    line: u32,
+    token: Token,
+    word: &[u8],
+    from: u8,
+) -> Result<u8, SchemaRefusal>
     requires { token.length ≡ length word.now }
     ensures ok { IfOk result (λ x. place (names_of schema.now) line (marked token word.now) ≡ Ok x) }
     ensures declared { IfOk result (λ x. x < PLACES) }
     ensures inside { IfOk result (λ x. x < width_of schema.now) }
     ensures err { IfErr result (λ e. place (names_of schema.now) line (marked token word.now) ≡ Err e) }
 {
-    match look_up(schema, word) {
+    match look_up(schema, word, from) {
         Ok(place) => Ok(place),
         Err(kind) => Err(refused(line, token.column, token.length, kind)),
     }

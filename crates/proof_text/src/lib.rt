@@ -1,7 +1,8 @@
 //! Certificates: derivations as numbered lines of text, which anybody can write and check.
 //!
-//! `read_proof` takes a text from any hand. It gives the derivation that the lines spell, or refuses the
-//! first line that goes wrong; what it gives concludes a dependency by the rules alone.
+//! `read_proof` takes a text from any hand. It gives the derivation whose nodes the lines are, or refuses
+//! the first line that goes wrong; what it gives concludes a dependency by the rules alone. `print_proof`
+//! writes the one text of a derivation, a line for each node in post-order.
 #![tactic(auto)]
 
 mod book;
@@ -15,8 +16,6 @@ mod refusal;
 mod text;
 mod words;
 
-pub use book::MOST_LINES;
-pub use node::MOST_LEVELS;
 pub use printing::print_proof;
 pub use refusal::{ProofRefusal, ProofRefusalKind};
 pub use text::{MOST_PROOF_BYTES, read_proof};

@@ -2,7 +2,7 @@ ghost use Rattle.std.specs.Prelude.{◌≡◌, ◌+◌, ◌-◌, ◌<◌, ◌≤
 ghost use Rattle.dep_model.specs.Deps.{dependency_of};
 ghost use Rattle.derivation.specs.Derivs.{tree_of, leaf_of, step_of, pair_of};
 ghost use Rattle.derivation.specs.Table.{leaf_conclusion, step_conclusion, pair_conclusion};
-ghost use Rattle.proof_text.specs.declared.node.TheConstants.{MOST_LEVELS};
+ghost use Rattle.derivation.specs.declared.measures.TheConstants.{MOST_LEVELS};
 ghost use Rattle.proof_text.specs.Complaints.{Refuses};
 ghost use Rattle.attr_sets.specs.Sets.{places, is_same};
 ghost use Rattle.derivation.specs.Trees.{leaf, step, pair};
@@ -17,9 +17,6 @@ use derivation::{
     step_conclusion,
 };
 use std::alloc::Global;
-
-/// The most levels of a certificate's derivation.
-pub const MOST_LEVELS: u32 = 2_048;
 
 /// A line's derivation that no later line used.
 #[derive(Drop)]

@@ -12,13 +12,12 @@ ghost use Rattle.schema_reader.specs.Printing.{set_text, dependency_text};
 ghost use Rattle.proof_text.specs.Lines.{body_of, line_of};
 ghost use Rattle.proof_text.specs.Printing.{step_word, sides_text, pair_word, body_text, line_text, leaf_body, numbered_line, lines_behind, lines_text, canonical_certificate, IsProof, IsStepWithin, IsBodyWithin};
 
-use crate::book::MOST_LINES;
 use crate::line::{Body, Line};
-use crate::node::MOST_LEVELS;
 use attr_sets::AttrSet;
 use dep_model::{Dep, Schema, WantMemory};
 use derivation::{
-    Deriv, LeafRule, Node, PairRule, StepRule, leaf_conclusion, pair_conclusion, step_conclusion,
+    Deriv, LeafRule, MOST_LEVELS, MOST_NODES, Node, PairRule, StepRule, leaf_conclusion,
+    pair_conclusion, step_conclusion,
 };
 use schema_reader::{print_dep, print_set};
 use std::alloc::Global;
@@ -27,7 +26,7 @@ use std::alloc::Global;
 /// states what its node concludes, and names the rule and the lines of the premises.
 pub fn print_proof(alloc: Global, schema: &Schema, deriv: &Deriv) -> Result<Vec<u8>, WantMemory>
     requires proof { IsProof schema.now (tree_of deriv.now) }
-    requires few_nodes { nodes (tree_of deriv.now) ≤ MOST_LINES }
+    requires few_nodes { nodes (tree_of deriv.now) ≤ MOST_NODES }
     requires few_levels { depth (tree_of deriv.now) ≤ MOST_LEVELS }
     ensures text { IfOk result (λ text. text.items ≡ canonical_certificate schema.now (tree_of deriv.now)) }
 {

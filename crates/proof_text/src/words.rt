@@ -1,5 +1,5 @@
 ghost use Rattle.std.specs.Prelude.{◌≡◌, ◌<◌, IfOk};
-ghost use Rattle.dep_model.specs.Schemas.{names_of, width_of};
+ghost use Rattle.dep_model.specs.Schemas.{names_of, width_of, place_named};
 ghost use Rattle.schema_reader.specs.Texts.{number_in};
 ghost use Rattle.schema_reader.specs.Words.{is_common_word, looked_up};
 ghost use Rattle.schema_reader.specs.declared.words.Format.TheVariants.{Plain};
@@ -119,19 +119,32 @@ fn named(word: &[u8]) -> Option<RuleName>
     }
 }
 
-/// The attribute that a word of a side stands for.
+/// The attribute that a word of a side stands for. The search begins with attribute `from`: the words
+/// of a side mostly ascend, and then a whole side costs one pass over the names.
 #[tactic(auto, unfolding(schema_reader::specs::Words::looked_up, schema_reader::specs::Words::is_reserved))]
-pub fn look_up(schema: &Schema, word: &[u8]) -> Result<u8, SchemaRefusalKind>
+pub fn look_up(schema: &Schema, word: &[u8], from: u8) -> Result<u8, SchemaRefusalKind>
     ensures exact { result ≡ looked_up Plain (names_of schema.now) word.now }
     ensures declared { IfOk result (λ place. place < width_of schema.now) }
 {
     if is_reserved(word) {
         return Err(SchemaRefusalKind::ReservedName);
     }
-    match schema.place_of(word) {
+    match place_of(schema, word, from) {
         Some(place) => Ok(place),
         None => Err(SchemaRefusalKind::UnknownName),
     }
+}
+
+// The attribute of this name.
+fn place_of(schema: &Schema, word: &[u8], from: u8) -> Option<u8>
+    ensures place { result ≡ place_named (names_of schema.now) word.now }
+{
+    for place in from..schema.width() {
+        if schema.name(place).bytes().eq_ignore_ascii_case(word) {
+            return Some(place);
+        }
+    }
+    schema.place_of(word)
 }
 
 /// Whether a word is reserved, ASCII case aside.

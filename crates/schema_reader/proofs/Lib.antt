@@ -1,5 +1,6 @@
 pub mod BlankLemmas
 pub mod ComplaintLaws
+pub mod DeclaringLaws
 pub mod DependencyLemmas
 pub mod FollowLemmas
 pub mod GoalLaws

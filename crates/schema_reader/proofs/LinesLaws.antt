@@ -11,7 +11,7 @@ use Rattle.schema_reader.specs.Refusals.{and_then, refusal}
 use Rattle.schema_reader.specs.Schemas.{MeansLine, MeansLines, LinesComplaint, IsFirstOfLines, FitsLines}
 use Rattle.schema_reader.specs.Texts.{finish, read_lines}
 use Rattle.schema_reader.proofs.LineLaws.{text-line-law}
-use Rattle.schema_reader.proofs.SchemaLaws.{line_there, line_back}
+use Rattle.schema_reader.proofs.DeclaringLaws.{line_there, line_back}
 
 pub line-law : (f : Format) (number : ℕ) (d : Declarations) (text : List ℕ)
     → FitsTextLine f d number (lex mode.Plain text).marks (lex mode.Plain text).stop (read_line f number d text)

@@ -18,7 +18,8 @@ use Rattle.schema_reader.specs.Texts.{read_lines, read_version, read_typed, read
 use Rattle.schema_reader.proofs.BlankLemmas.{blank_plain}
 use Rattle.schema_reader.proofs.ComplaintLaws.{flaw_numbered, no_mark, same_mark}
 use Rattle.schema_reader.proofs.LinesLaws.{line-law, lines-law, lines_behind}
-use Rattle.schema_reader.proofs.SchemaLaws.{has_tokens, line_back, version_there}
+use Rattle.schema_reader.proofs.DeclaringLaws.{has_tokens, line_back}
+use Rattle.schema_reader.proofs.SchemaLaws.{version_there}
 
 abbrev TextFits : ℕ → List (List ℕ) → Result Declarations SchemaRefusal → Type 0
 TextFits number lines reading = ((has_version_line lines ≡ false) × FitsLines format.Plain number no_declaration lines reading) ⊎ FitsTyped number lines reading

@@ -97,8 +97,8 @@ fn schemas_are_printed_in_one_form(rt: HostRuntime) -> Result<(), Fail> {
 }
 
 #[test]
-fn plain_schemas_are_refused_at_their_place(rt: HostRuntime) {
-    let table: [(&[u8], SchemaRefusal); 38] = [
+fn bytes_and_names_that_are_none_are_refused_at_their_place(rt: HostRuntime) {
+    let table: [(&[u8], SchemaRefusal); 9] = [
         (b"$", refusal(1, 1, 1, StrangeByte)),
         (b"attributes A\n\n A - B", refusal(3, 4, 1, StrangeByte)),
         (b"attributes A\rB", refusal(1, 13, 1, StrangeByte)),
@@ -111,6 +111,15 @@ fn plain_schemas_are_refused_at_their_place(rt: HostRuntime) {
             b"attributes a2345678901234567890123456789012",
             refusal(1, 12, 32, BadName),
         ),
+    ];
+    for (text, want) in table {
+        check_refused(&rt, text, want);
+    }
+}
+
+#[test]
+fn reserved_double_and_unknown_names_are_refused_at_their_place(rt: HostRuntime) {
+    let table: [(&[u8], SchemaRefusal); 12] = [
         (b"scheme A", refusal(1, 1, 6, ReservedName)),
         (b"Attributes A", refusal(1, 1, 10, ReservedName)),
         (b"attributes A VERSION", refusal(1, 14, 7, ReservedName)),
@@ -132,6 +141,15 @@ fn plain_schemas_are_refused_at_their_place(rt: HostRuntime) {
             refusal(2, 6, 1, UnknownName),
         ),
         (b"attributes A\n() Z -> A", refusal(2, 4, 1, UnknownName)),
+    ];
+    for (text, want) in table {
+        check_refused(&rt, text, want);
+    }
+}
+
+#[test]
+fn lines_that_go_wrong_are_refused_at_their_place(rt: HostRuntime) {
+    let table: [(&[u8], SchemaRefusal); 17] = [
         (
             b"attributes A\n() A -> A",
             refusal(2, 4, 1, Expected(What::Arrow)),

@@ -1,0 +1,29 @@
+-- A name that a word is, is the one that the word names.
+use Rattle.std.proofs.Common.{◌≡◌, ◌<◌, ℕ, zero, suc, Bool, true, false, List, [], ◌∷◌, length, get_or, slice_get, Some, refl, sym, ◌∙◌, ap, arith}
+use Rattle.std.specs.Prelude.{not, nat_lt, AllPairs}
+use Rattle.std.specs.List.{prefix_len}
+use Rattle.std.specs.Str.{bytes_eq, str_to_ascii_lowercase}
+use Rattle.std.proofs.lemmas.Bool.{lt-ltb}
+use Rattle.std.proofs.lemmas.Option.{get_or_from_slice_get}
+use Rattle.std.proofs.lemmas.Slice.Eq.{bytes_eq-Decides}
+use Rattle.dep_model.specs.Names.{same_name}
+use Rattle.dep_model.specs.Schemas.{place_named}
+
+first_at : (p : List ℕ → Bool) (xs : List (List ℕ)) (k : ℕ) (d : List ℕ) → k < length xs → p (get_or xs k d) ≡ true → ((j : ℕ) → j < k → p (get_or xs j d) ≡ false)
+    → prefix_len (λ x. not (p x)) xs ≡ k
+first_at p [] k d inside here none = omega (arith, inside)
+first_at p (x ∷ xs) zero d inside here none = rw here refl
+first_at p (x ∷ xs) (suc k) d inside here none =
+    let first : p x ≡ false = none 0 (omega arith) in
+    let more : prefix_len (λ y. not (p y)) xs ≡ k = first_at p xs k d (omega (arith, inside)) here (λ j h. none (suc j) (omega (arith, h))) in
+    rw (first, more) (omega arith)
+
+pub named_here : (names : List (List ℕ)) (name word : List ℕ) (k : ℕ) → AllPairs (λ a b. same_name a b ≡ false) names → k < length names → slice_get names k ≡ Some name
+    → str_to_ascii_lowercase name ≡ str_to_ascii_lowercase word → place_named names word ≡ Some k
+named_here names name word k differ inside here lower =
+    let at : get_or names k [] ≡ name = get_or_from_slice_get names k name [] here in
+    let passes : same_name (get_or names k []) word ≡ true = ap (λ n. same_name n word) at ∙ (bytes_eq-Decides _ _).1 lower in
+    let none : (j : ℕ) → j < k → same_name (get_or names j []) word ≡ false = λ j h. ap (bytes_eq (str_to_ascii_lowercase (get_or names j []))) (sym lower ∙ ap str_to_ascii_lowercase (sym at)) ∙ differ j k [] h inside in
+    let first : prefix_len (λ n. not (same_name n word)) names ≡ k = first_at (λ n. same_name n word) names k [] inside passes none in
+    let within : nat_lt k (length names) ≡ true = lt-ltb _ _ inside in
+    rw (first, within) refl
