@@ -8,4 +8,6 @@ pub mod Books
 pub mod Texts
 pub mod Checked
 pub mod Printing
+pub mod Meanings
+pub mod Spelling
 pub mod Ledgers
