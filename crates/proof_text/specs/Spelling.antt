@@ -1,10 +1,11 @@
 -- What a certificate spells: its lines are the nodes of a tree.
-use Rattle.std.specs.Prelude.{◌≡◌, ◌<◌, ℕ, ◌+◌, List, [], ◌∷◌, ◌++◌, length, filter, nat_eq, slice_get, Some}
+use Rattle.std.specs.Prelude.{◌≡◌, ◌<◌, ◌≤◌, ℕ, ◌+◌, List, [], ◌∷◌, ◌++◌, length, filter, nat_eq, slice_get, Some}
 use Rattle.std.specs.List.{flat_map}
 use Rattle.dep_model.specs.declared.schema.Schema.{Schema}
 use Rattle.dep_model.specs.Dependencies.{left_of, right_of}
 use Rattle.dep_model.specs.Schemas.{names_of}
-use Rattle.derivation.specs.Trees.{Tree, leaf, step, pair, given, reflexivity, mreflexivity, Step, Pair}
+use Rattle.derivation.specs.declared.measures.TheConstants.{MOST_NODES, MOST_LEVELS}
+use Rattle.derivation.specs.Trees.{Tree, depth, leaf, step, pair, given, reflexivity, mreflexivity, Step, Pair}
 use Rattle.derivation.specs.Conclusions.{Proves}
 use Rattle.proof_text.specs.Lines.{Body, by_given, by_reflexivity, by_mreflexivity, by_step, by_pair, Line}
 use Rattle.proof_text.specs.Meanings.{certificate_lines, MeanLines}
@@ -79,3 +80,9 @@ pub record Spells (s : Schema) (text : List ℕ) (t : Tree) : Type 0 where
   pub lines : List Line
   pub mean : MeanLines (names_of s) (certificate_lines text) lines
   pub nodes : AreNodesOf s lines t
+
+-- the same within the limits of a certificate
+pub record SpellsWithin (s : Schema) (text : List ℕ) (t : Tree) : Type 0 where
+  pub spells : Spells s text t
+  pub few_lines : length spells.lines ≤ MOST_NODES
+  pub few_levels : depth t ≤ MOST_LEVELS

@@ -1,0 +1,4 @@
+//! What the reader of certificates reads, in the textbook's sense: a tree whose nodes the lines are.
+//!
+//! Each law is a function that does nothing, whose clause is the law; so the gate asks for its proof.
+#![tactic(auto)]
