@@ -19,7 +19,6 @@ use Rattle.schema_reader.specs.Refusals.{refusal}
 use Rattle.schema_reader.specs.Schemas.{MeansLine, MeansLines, has_version_line, begins_version, IsPlainText, IsVersionLine, IsTypedText, MeansSchema}
 use Rattle.schema_reader.specs.Texts.{read_lines, read_version, read_typed, read_opening, read_text, is_version, opened, end_version, version_number, number_in}
 use Rattle.schema_reader.proofs.BlankLemmas.{blank_plain}
-
 use Rattle.schema_reader.proofs.DeclaringLaws.{steps, has_tokens, finish_there, lines_there, lines_back}
 
 -- behind the word `version` stands the number 2, and nothing more
