@@ -1,3 +1,4 @@
 pub mod SlotLemmas
 pub mod PremiseLemmas
 pub mod PreparedLaws
+pub mod EnteredLaws
