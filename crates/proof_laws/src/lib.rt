@@ -2,3 +2,7 @@
 //!
 //! Each law is a function that does nothing, whose clause is the law; so the gate asks for its proof.
 #![tactic(auto)]
+
+pub mod line_meaning;
+pub mod printed_line;
+pub mod printed_nodes;
