@@ -157,8 +157,9 @@ entered_there s at used ts book next l follows own h =
     let within = conclusion_within s o.tree o.conclusion made.0.attributes made.1 in
     let same = same_there l.stated o.conclusion own.left own.right (universe_low s (left_of o.conclusion) within.0) (universe_low s (right_of o.conclusion) within.1) at_end.same in
     let deep : o.levels ≡ depth o.tree = at_end.same_levels ∙ made.0.levels in
-    let added : add p o ≡ next = the_ok {A = Ledger} {E = Complaint} (add p o) next second.2 in
-    (o.tree, record {
+    let added : add p o ≡ next = the_ok {A = Ledger} {E = Complaint} (add p o) next second.2 in (
+      o.tree,
+      record {
         node = record {
           number = grind (arith, nat_tests, whole.0, size);
           tree = made.0.tree;
@@ -168,7 +169,8 @@ entered_there s at used ts book next l follows own h =
         few_levels = omega (arith, at_end.few_levels, made.0.levels);
         follows = pushed s used ts p.unused l o.tree o next follows.fresh made.0.tree made.0.slots
             (record { tree = refl; levels = deep; proves = made.1; attributes = made.0.attributes }) (ap (λ (b : Ledger). b.unused) (sym added));
-      })
+      },
+    )
   where
     counted : (b : Bool) (r : Result Ledger Complaint) → cond b r (Err wrong_number) ≡ Ok next → (b ≡ true) × (r ≡ Ok next)
     counted true r g = (refl, g)
@@ -185,11 +187,14 @@ entered_back s at used ts book l t follows own node few_lines few_levels once =
     let o : Opened = record { tree = t; levels = p.levels; conclusion = l.stated } in
     let settles = settled_back (length os) l p.levels p.outcome t (omega (arith, size, few_lines)) (omega (arith, found.is.levels, few_levels)) (found.is.gives l.stated node.states) in
     let number : (l.number == length os + 1) ≡ true = grind (arith, nat_tests, node.number, size) in
-    let next : Ledger = add_line at book.lines p.unused o in
-    (next, rw (number, found.same) (rw settles refl), record {
+    let next : Ledger = add_line at book.lines p.unused o in (
+      next,
+      rw (number, found.same) (rw settles refl),
+      record {
         node = node;
         few_lines = few_lines;
         few_levels = few_levels;
         follows = pushed s used ts p.unused l t o next follows.fresh node.tree found.is.slots
             (record { tree = refl; levels = found.is.levels; proves = node.states; attributes = found.is.attributes }) refl;
-      })
+      },
+    )

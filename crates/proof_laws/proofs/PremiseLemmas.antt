@@ -46,14 +46,16 @@ premise_there s used ts os p o slots earlier here =
     let held : found.slot ≡ Some o = ap joined (sym found.here) ∙ here in
     let of : Option Opened → Type 0 = λ x. IsSlot s (used (0 + (p - 1) + 1)) tree.0 x in
     let both : IsSlot s (used (0 + (p - 1) + 1)) tree.0 (Some o) = subst of held found.is in
-    let same : 0 + (p - 1) + 1 ≡ p = omega (arith, number) in
-    (tree.0, record {
+    let same : 0 + (p - 1) + 1 ≡ p = omega (arith, number) in (
+      tree.0,
+      record {
         at = record { before = p - 1; number = number; tree = tree.1 };
         earlier = earlier;
         here = here;
         unused = omega (arith, ap used same, both.0);
         is_open = both.1;
-      })
+      },
+    )
 
 pub premise_back : (s : Schema) (used : ℕ → ℕ) (ts : List Tree) (os : List (Option Opened)) (p : ℕ) (t : Tree) → AreSlots s used 0 ts os → IsTreeAt ts p t → used p ≡ 0
     → (o : Opened) × IsPremise s used ts os p o t
@@ -69,14 +71,16 @@ premise_back s used ts os p t slots at unused = told found.slot found.here found
     told None here is = let none : ⊥ = omega (arith, unused, ap used same, is) in absurd none
     told (Some o) here is =
         let inside = slice_get_within os at.before (Some o) here in
-        let back : p - 1 ≡ at.before = omega (arith, at.number) in
-        (o, record {
+        let back : p - 1 ≡ at.before = omega (arith, at.number) in (
+          o,
+          record {
             at = at;
             earlier = grind (arith, nat_tests, inside, at.number);
             here = ap (λ i. joined (slice_get os i)) back ∙ ap joined here;
             unused = unused;
             is_open = is.1;
-          })
+          },
+        )
 
 -- a premise that is taken is used
 pub premise_taken : (s : Schema) (used : ℕ → ℕ) (ts : List Tree) (os : List (Option Opened)) (p : ℕ) (o : Opened) (t : Tree) → AreSlots s used 0 ts os → IsPremise s used ts os p o t

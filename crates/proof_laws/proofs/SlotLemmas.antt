@@ -96,6 +96,7 @@ slots_close s used other n (t ∷ ts) (o ∷ os) zero (here, rest) one others =
     (first, slots_same s used other (n + 1) ts os (λ m h. sym (others m (grind (arith, nat_tests, h)))) rest)
 slots_close s used other n (t ∷ ts) (o ∷ os) (suc i) (here, rest) one others =
     let of : ℕ → Type 0 = λ u. IsSlot s u t o in
-    let same : n + suc i + 1 ≡ n + 1 + i + 1 = omega arith in
-    (subst of (sym (others (n + 1) (grind (arith, nat_tests)))) here,
-      slots_close s used other (n + 1) ts os i rest (ap other (sym same) ∙ one) (λ m h. others m (ap (λ k. m == k) same ∙ h)))
+    let same : n + suc i + 1 ≡ n + 1 + i + 1 = omega arith in (
+      subst of (sym (others (n + 1) (grind (arith, nat_tests)))) here,
+      slots_close s used other (n + 1) ts os i rest (ap other (sym same) ∙ one) (λ m h. others m (ap (λ k. m == k) same ∙ h)),
+    )
