@@ -116,7 +116,7 @@ premise_early ts p n t at late =
     let inside = slice_get_within ts at.before t at.tree in times_other n p (grind (arith, nat_tests, inside, at.number, late))
 
 -- a line uses none but earlier lines
-premises_early : (ts : List Tree) (l : Line) (b : Body) (t : Tree) (n : ℕ) → IsTreeOf ts l b t → length ts < n → times n (premises_of b) ≡ 0
+pub premises_early : (ts : List Tree) (l : Line) (b : Body) (t : Tree) (n : ℕ) → IsTreeOf ts l b t → length ts < n → times n (premises_of b) ≡ 0
 premises_early ts l (by_given k) t n tree late = refl
 premises_early ts l by_reflexivity t n tree late = refl
 premises_early ts l by_mreflexivity t n tree late = refl

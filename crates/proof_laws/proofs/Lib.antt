@@ -1,3 +1,4 @@
+pub mod CertificateLaws
 pub mod CountedLines
 pub mod DepthLemmas
 pub mod EnteredLaws
