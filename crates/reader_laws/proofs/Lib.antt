@@ -1,3 +1,4 @@
+pub mod DeclaredNames
 pub mod PrintedLexing
 pub mod PrintedDependencies
 pub mod PrintedSchemas
