@@ -10,6 +10,7 @@ pub mod PreparedLaws
 pub mod PrintedCertificates
 pub mod PrintedLines
 pub mod PrintedNodes
+pub mod PrintedSpells
 pub mod PrintedTokens
 pub mod PrintedWithin
 pub mod RuleLaws

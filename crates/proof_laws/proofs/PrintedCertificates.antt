@@ -1,5 +1,5 @@
 -- What is printed of lines means the lines.
-use Rattle.std.proofs.Common.{◌≡◌, ◌<◌, ◌^◌, ℕ, true, false, ◌==◌, not, List, [], ◌∷◌, ◌++◌, length, refl, sym, ◌∙◌, ap, subst, arith}
+use Rattle.std.proofs.Common.{◌≡◌, ◌<◌, ◌^◌, ℕ, true, false, ◌==◌, not, List, [], ◌∷◌, ◌++◌, length, None, refl, sym, ◌∙◌, ap, subst, arith}
 use Rattle.std.specs.Prelude.{codes, decimal, map, filter}
 use Rattle.std.specs.List.{list_all}
 use Rattle.std.specs.Char.{is_ascii_digit}
@@ -8,14 +8,15 @@ use Rattle.std.proofs.lemmas.Bool.Decides.{nat_tests}
 use Rattle.attr_sets.specs.Places.{Places}
 use Rattle.derivation.specs.Trees.{Step, augmentation, complementation, maugmentation, replication, Pair, transitivity, mtransitivity, coalescence}
 use Rattle.lexer.specs.declared.token.Mode.TheVariants as mode
+use Rattle.lexer.specs.declared.token.TokenKind.TheVariants as token
 use Rattle.lexer.specs.Lines.{without_mark, line_texts}
-use Rattle.lexer.specs.Tokens.{lex}
+use Rattle.lexer.specs.Tokens.{lex, led_by_mark}
 use Rattle.schema_reader.specs.declared.words.Format.TheVariants as format
 use Rattle.schema_reader.specs.Printing.{members_from, set_text, dependency_text}
 use Rattle.schema_reader.specs.Printing as texts
 use Rattle.reader_laws.specs.Printed.{AreNames}
 use Rattle.reader_laws.proofs.PrintedDependencies.{nothing_left}
-use Rattle.reader_laws.proofs.PrintedLexing.{AllNames}
+use Rattle.reader_laws.proofs.PrintedLexing.{AllNames, name_lexed}
 use Rattle.reader_laws.proofs.PrintedSides.{printed_names}
 use Rattle.reader_laws.proofs.PrintedTexts.{Bytes, bytes_both, words_bytes, EachBytes, lines_cut, each_dependency, is_line_byte}
 use Rattle.proof_text.specs.Lines.{Body, by_given, by_reflexivity, by_mreflexivity, by_step, by_pair, Line}
@@ -164,3 +165,33 @@ pub printed_lines_mean : (names : List (List ℕ)) (ls : List Line) → AreNames
     → MeanLines names (certificate_lines (lines_text names ls)) ls
 printed_lines_mean names ls are all =
     let of : List (List ℕ) → Type 0 = λ ts. MeanLines names ts ls in subst of (sym (printed_lines names ls are all)) (each_means names ls are all)
+
+-- ---- a `yes` in a line of its own before them
+yes_lexed : lex mode.Numbered (codes "yes") ≡ record { marks = record { kind = token.Word; column = 1; word = codes "yes" } ∷ []; stop = None }
+yes_lexed = name_lexed mode.Numbered 1 (codes "yes") [] refl tt ∙ ap (led_by_mark (record { kind = token.Word; column = 1; word = codes "yes" })) (nothing_left mode.Numbered 4)
+
+yes_not_blank : is_blank (lex mode.Numbered (codes "yes")) ≡ false
+yes_not_blank = ap is_blank yes_lexed
+
+yes_alone : is_yes_alone (lex mode.Numbered (codes "yes")) ≡ true
+unfolding is_yes
+yes_alone = ap is_yes_alone yes_lexed
+
+-- a line `yes` before lines none of which is blank is passed over
+yes_passed : (names : List (List ℕ)) (ts : List (List ℕ)) (ls : List Line) → MeanLines names ts ls
+    → without_yes (filter (λ line. not (is_blank (lex mode.Numbered line))) (codes "yes" ∷ (ts ++ [] ∷ []))) ≡ ts
+yes_passed names ts ls mean = rw (yes_not_blank, none_blank names ts ls mean, yes_alone) refl
+
+answered_lines : (names : List (List ℕ)) (ls : List Line) → AreNames format.Plain names → ArePrintableLines names ls
+    → certificate_lines (codes "yes\n" ++ lines_text names ls) ≡ map (printed names) ls
+answered_lines names ls are all =
+    let ts = map (printed names) ls in
+    let cut : line_texts (codes "yes\n" ++ lines_text names ls) ≡ codes "yes" ∷ (ts ++ [] ∷ []) =
+    ap (λ t. line_texts (codes "yes\n" ++ t)) (lines_are names ls) ∙ lines_cut (codes "yes" ∷ ts) (refl, each_line names ls are all) in
+    ap (λ lines. without_yes (filter (λ line. not (is_blank (lex mode.Numbered line))) lines)) cut ∙ yes_passed names ts ls (each_means names ls are all)
+
+-- they mean the same behind the answer
+pub answered_lines_mean : (names : List (List ℕ)) (ls : List Line) → AreNames format.Plain names → ArePrintableLines names ls
+    → MeanLines names (certificate_lines (codes "yes\n" ++ lines_text names ls)) ls
+answered_lines_mean names ls are all =
+    let of : List (List ℕ) → Type 0 = λ ts. MeanLines names ts ls in subst of (sym (answered_lines names ls are all)) (each_means names ls are all)

@@ -4,5 +4,6 @@
 #![tactic(auto)]
 
 pub mod line_meaning;
+pub mod printed_certificate;
 pub mod printed_line;
 pub mod printed_nodes;
