@@ -1,5 +1,5 @@
 -- A text is read as a tree exactly where it spells the tree within the limits.
-use Rattle.std.proofs.Common.{◌≡◌, ◌<◌, ◌≤◌, ◌+◌, ◌-◌, ℕ, zero, suc, Bool, true, false, List, [], ◌∷◌, ◌++◌, length, slice_get, Some, Result, Ok, Err, refl, sym, ◌∙◌, ap, subst, arith, length-append, append_assoc}
+use Rattle.std.proofs.Common.{◌≡◌, ◌<◌, ◌≤◌, ◌+◌, ◌-◌, ℕ, suc, Bool, true, false, List, [], ◌∷◌, ◌++◌, length, slice_get, Some, Result, Ok, Err, refl, sym, ◌∙◌, ap, subst, arith, length-append, append_assoc}
 use Rattle.std.specs.Prelude.{nat_lt}
 use Rattle.std.proofs.lemmas.Bool.Decides.{nat_tests}
 use Rattle.std.proofs.lemmas.List.{append-nil}
@@ -14,20 +14,19 @@ use Rattle.schema_reader.specs.declared.refusal.SchemaRefusal.{SchemaRefusal}
 use Rattle.proof_text.specs.declared.text.LineKind.{LineKind}
 use Rattle.proof_text.specs.declared.text.LineKind.TheVariants.{Blank, Opening, Certificate}
 use Rattle.proof_text.specs.Books.{Ledger, entered, finished}
-use Rattle.proof_text.specs.Complaints.{Complaint, LineComplaint}
+use Rattle.proof_text.specs.Complaints.{Complaint}
 use Rattle.proof_text.specs.Lines.{Line, line}
-use Rattle.proof_text.specs.Meanings.{MeanLines, MeansLine, certificate_lines}
+use Rattle.proof_text.specs.Meanings.{MeanLines, MeansLine}
 use Rattle.proof_text.specs.Readers.{◌>>=◌, rest_from}
-use Rattle.proof_text.specs.Spelling.{AreNodes, AreNodesOf, Spells, SpellsWithin, premises_of, uses}
+use Rattle.proof_text.specs.Spelling.{AreNodes, Spells, SpellsWithin, uses}
 use Rattle.proof_text.specs.Texts.{in_line, read_as, line_kind, read_one, at_line, read_lines, read_proof}
 use Rattle.proof_text.proofs.CheckedLemmas.{bind_ok, read_proof_checked}
 use Rattle.derivation.proofs.RuleTableLemmas.{the_ok}
 use Rattle.proof_laws.proofs.CountedLines.{counted, Counts, kind_counts, line_of_attributes}
 use Rattle.proof_laws.proofs.DepthLemmas.{uses_first, nodes_size, no_deeper}
 use Rattle.proof_laws.proofs.EnteredLaws.{Follows, IsEntered, used_behind, premises_early, entered_there, entered_back}
-use Rattle.proof_laws.proofs.FinishedLaws.{AreUsed, IsFinished, finished_there, finished_back}
+use Rattle.proof_laws.proofs.FinishedLaws.{IsFinished, finished_there, finished_back}
 use Rattle.proof_laws.proofs.LineLaws.{line_there, line_back}
-use Rattle.proof_laws.proofs.SlotLemmas.{times}
 
 -- the lines that are left go on to a tree
 record GoesOn (s : Schema) (used : ℕ → ℕ) (ts : List Tree) (texts : List (List ℕ)) (t : Tree) : Type 0 where

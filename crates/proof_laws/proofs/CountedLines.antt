@@ -1,27 +1,26 @@
 -- Which lines of a text count, line by line; and the sets of a line are of attributes.
-use Rattle.std.proofs.Common.{◌≡◌, ◌<◌, ◌≤◌, ◌+◌, ◌==◌, ◌⊎◌, inl, inr, ℕ, Bool, true, false, cond, ◌&&◌, ◌||◌, not, List, [], ◌∷◌, length, Option, Some, None, refl, sym, ◌∙◌, ap, subst, arith}
+use Rattle.std.proofs.Common.{◌≡◌, ◌<◌, ◌==◌, inl, inr, ℕ, Bool, true, false, cond, ◌&&◌, ◌||◌, not, List, [], ◌∷◌, length, Option, Some, None, refl, sym, ◌∙◌, ap, subst, arith}
 use Rattle.std.specs.Prelude.{filter, IfSome}
 use Rattle.std.proofs.lemmas.Bool.Decides.{nat_tests}
-use Rattle.attr_sets.specs.declared.set.TheConstants.{PLACES}
-use Rattle.attr_sets.specs.Places.{Places, Within, below, none}
+use Rattle.attr_sets.specs.Places.{Places, Within, below}
 use Rattle.dep_model.specs.declared.schema.Schema.{Schema}
-use Rattle.dep_model.specs.Dependencies.{Dependency, left_of, right_of, fd, mvd}
+use Rattle.dep_model.specs.Dependencies.{Dependency, left_of, right_of}
 use Rattle.dep_model.specs.Schemas.{names_of, place_named}
 use Rattle.derivation.specs.Trees.{Step, augmentation, complementation, maugmentation, replication}
 use Rattle.derivation.proofs.WithinLemmas.{OfAttributes, StepOfAttributes}
 use Rattle.lexer.specs.declared.token.Mode.TheVariants as mode
 use Rattle.lexer.specs.declared.token.Stop.{Stop}
-use Rattle.lexer.specs.Tokens.{Mark, Lexed, lex}
+use Rattle.lexer.specs.Tokens.{Mark, lex}
 use Rattle.schema_reader.specs.declared.stage.Sign.{Sign}
 use Rattle.schema_reader.specs.declared.stage.Sign.TheVariants as sign
 use Rattle.schema_reader.specs.declared.words.Format.TheVariants as format
 use Rattle.schema_reader.specs.Grammar.{stated}
-use Rattle.schema_reader.specs.Meanings.{IsSide, IsAttribute, IsDependency, named, is_at}
+use Rattle.schema_reader.specs.Meanings.{IsSide, named, is_at}
 use Rattle.schema_reader.proofs.WithinLemmas.{place_named_within}
 use Rattle.proof_text.specs.declared.text.LineKind.{LineKind}
 use Rattle.proof_text.specs.declared.text.LineKind.TheVariants.{Blank, Opening, Certificate}
 use Rattle.proof_text.specs.Lines.{Body, by_given, by_reflexivity, by_mreflexivity, by_step, by_pair, Line}
-use Rattle.proof_text.specs.Meanings.{is_yes_from, is_yes_alone, without_yes, HasSets, IsRule, MeansLine}
+use Rattle.proof_text.specs.Meanings.{is_yes_alone, without_yes, HasSets, IsRule, MeansLine}
 use Rattle.proof_text.specs.Texts.{is_yes, is_blank, is_blank_from, kind_from, line_kind}
 use Rattle.proof_laws.proofs.PreparedLaws.{BodyOfAttributes, IsLineOfAttributes}
 

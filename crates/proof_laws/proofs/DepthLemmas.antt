@@ -1,14 +1,15 @@
 -- No tree of a line has more levels than the root.
-use Rattle.std.proofs.Common.{◌≡◌, ◌<◌, ◌≤◌, ◌+◌, ◌-◌, ◌==◌, ℕ, zero, suc, Bool, true, false, List, [], ◌∷◌, ◌++◌, length, slice_get, Some, refl, sym, ◌∙◌, ap, subst, arith, length-append, append_assoc}
+use Rattle.std.proofs.Common.{◌≡◌, ◌<◌, ◌≤◌, ◌+◌, ◌==◌, ℕ, zero, suc, Bool, true, false, List, [], ◌∷◌, ◌++◌, length, slice_get, Some, refl, sym, ◌∙◌, ap, subst, arith, length-append, append_assoc}
 use Rattle.std.specs.Prelude.{filter, nat_eq, max}
 use Rattle.std.specs.List.{flat_map}
 use Rattle.std.proofs.lemmas.Bool.Decides.{nat_tests}
 use Rattle.std.proofs.lemmas.List.Elements.{filter-append}
 use Rattle.std.proofs.lemmas.Option.{slice_get_within}
 use Rattle.dep_model.specs.declared.schema.Schema.{Schema}
-use Rattle.derivation.specs.Trees.{Tree, depth, step, pair}
+use Rattle.derivation.specs.Trees.{Tree, depth}
 use Rattle.proof_text.specs.Lines.{Body, by_given, by_reflexivity, by_mreflexivity, by_step, by_pair, Line}
 use Rattle.proof_text.specs.Spelling.{IsTreeAt, IsTreeOf, AreNodes, AreNodesOf, premises_of, uses}
+use Rattle.proof_laws.proofs.NodeLemmas.{seam}
 use Rattle.proof_laws.proofs.SlotLemmas.{times}
 use Rattle.proof_laws.proofs.PremiseLemmas.{times_other, times_two}
 
@@ -95,10 +96,6 @@ user s prior (l ∷ ls) (t ∷ ts) n (here, rest) some = told (user s (prior ++ 
         record { at = 0; tree = t; here = refl; below = below_more prior (t ∷ ts) n t below; later = omega (arith, inside, below.at.number) }
 
 -- ---- up to the root
-seam : (xs : List Tree) (x : Tree) → slice_get (xs ++ x ∷ []) (length xs) ≡ Some x
-seam [] x = refl
-seam (y ∷ xs) x = seam xs x
-
 some_one : (x y : Tree) → Some x ≡ Some y → x ≡ y
 some_one x y e = cc
 
@@ -109,7 +106,7 @@ climb s lines t are zero i u far here =
     let size : length all ≡ length are.before + 1 = length-append are.before (t ∷ []) in
     let count = nodes_size s [] lines all are.nodes in
     let last : i ≡ length are.before = omega (arith, far, inside, size, count) in
-    let same : u ≡ t = some_one u t (sym here ∙ ap (slice_get all) last ∙ seam are.before t) in
+    let same : u ≡ t = some_one u t (sym here ∙ ap (slice_get all) last ∙ seam are.before t []) in
     omega (arith, ap depth same)
 climb s lines t are (suc k) i u far here = told (climb s lines t are k) (i + 1 == length lines) refl
   where

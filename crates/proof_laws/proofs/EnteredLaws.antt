@@ -1,22 +1,21 @@
 -- A line is entered exactly where it is a node within the limits, and its premises are unused.
-use Rattle.std.proofs.Common.{◌≡◌, ◌<◌, ◌≤◌, ◌+◌, ◌-◌, ◌==◌, ℕ, zero, suc, Bool, true, false, cond, ◌&&◌, List, [], ◌∷◌, ◌++◌, length, Option, Some, None, Result, Ok, Err, refl, sym, ◌∙◌, ap, subst, arith, length-append}
+use Rattle.std.proofs.Common.{◌≡◌, ◌<◌, ◌≤◌, ◌+◌, ◌==◌, ℕ, Bool, true, false, cond, List, [], ◌∷◌, ◌++◌, length, Option, Some, Result, Ok, Err, refl, sym, ◌∙◌, ap, subst, arith, length-append}
 use Rattle.std.specs.Prelude.{nat_lt, nat_le}
 use Rattle.std.proofs.lemmas.Bool.{and_parts}
 use Rattle.std.proofs.lemmas.Bool.Decides.{nat_tests}
 use Rattle.std.proofs.lemmas.Option.{slice_get_within}
-use Rattle.attr_sets.specs.declared.set.TheConstants.{PLACES}
 use Rattle.attr_sets.specs.Places.{Places, Within, below}
 use Rattle.attr_sets.specs.Sets.{is_within, is_same}
 use Rattle.attr_sets.proofs.PlacesLemmas.{Same-path, is_within-true, is_within-from}
 use Rattle.dep_model.specs.declared.schema.Schema.{Schema}
-use Rattle.dep_model.specs.Dependencies.{Dependency, fd, mvd, left_of, right_of, IsWithin}
+use Rattle.dep_model.specs.Dependencies.{Dependency, fd, mvd, left_of, right_of}
 use Rattle.dep_model.specs.Schemas.{universe_of, width_of}
 use Rattle.derivation.specs.declared.fault.FaultKind.{FaultKind}
 use Rattle.derivation.specs.declared.measures.TheConstants.{MOST_NODES, MOST_LEVELS}
 use Rattle.derivation.specs.Trees.{Tree, depth}
 use Rattle.derivation.specs.Conclusions.{Proves}
 use Rattle.derivation.proofs.RuleTableLemmas.{the_ok, chosen}
-use Rattle.derivation.proofs.WithinLemmas.{OfAttributes, TreeOfAttributes, conclusion_within}
+use Rattle.derivation.proofs.WithinLemmas.{OfAttributes, conclusion_within}
 use Rattle.proof_text.specs.Books.{Opened, Ledger, Prepared, prepared, settled, concluded_as, add_line, entered}
 use Rattle.proof_text.specs.Complaints.{Complaint, too_many_lines, too_deep, states_other, wrong_number}
 use Rattle.proof_text.specs.Lines.{Body, by_given, by_reflexivity, by_mreflexivity, by_step, by_pair, Line}
@@ -26,7 +25,7 @@ use Rattle.proof_text.specs.Spelling.{IsTreeAt, IsTreeOf, IsNode, premises_of}
 use Rattle.proof_text.proofs.CheckedLemmas.{bind_ok}
 use Rattle.proof_laws.proofs.SlotLemmas.{IsOpen, AreSlots, times, slots_size, slots_push}
 use Rattle.proof_laws.proofs.PremiseLemmas.{times_other, times_two}
-use Rattle.proof_laws.proofs.PreparedLaws.{IsLineOfAttributes, IsMade, prepared_there, prepared_back}
+use Rattle.proof_laws.proofs.PreparedLaws.{IsLineOfAttributes, prepared_there, prepared_back}
 
 -- ---- whether two dependencies are one
 both_ways : (x y : Places) → OfAttributes x → OfAttributes y → is_same x y ≡ true → x ≡ y

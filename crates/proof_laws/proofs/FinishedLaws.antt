@@ -1,16 +1,16 @@
 -- A certificate is finished exactly where each line but the last is used.
-use Rattle.std.proofs.Common.{◌≡◌, ◌<◌, ◌≤◌, ◌+◌, ◌-◌, ◌==◌, ℕ, zero, suc, Bool, true, false, cond, List, [], ◌∷◌, ◌++◌, length, take, slice_get, Option, Some, None, Result, Ok, Err, refl, sym, ◌∙◌, ap, subst, arith, length-append}
+use Rattle.std.proofs.Common.{◌≡◌, ◌<◌, ◌≤◌, ◌+◌, ◌-◌, ◌==◌, ℕ, suc, Bool, true, false, cond, List, [], ◌∷◌, ◌++◌, length, take, slice_get, Option, Some, None, Ok, refl, sym, ◌∙◌, ap, subst, arith, length-append}
 use Rattle.std.specs.Prelude.{not, nat_lt, position, is_some}
 use Rattle.std.specs.List.{prefix_len}
 use Rattle.std.proofs.Math.Seq.{take-append_seam}
-use Rattle.std.proofs.lemmas.Bool.{lt-ltb}
 use Rattle.std.proofs.lemmas.Bool.Decides.{nat_tests}
 use Rattle.dep_model.specs.declared.schema.Schema.{Schema}
 use Rattle.derivation.specs.Trees.{Tree}
 use Rattle.derivation.proofs.RuleTableLemmas.{the_ok}
-use Rattle.proof_text.specs.Books.{Opened, Ledger, joined, first_unused, root, finished_at, finished}
+use Rattle.proof_text.specs.Books.{Opened, Ledger, finished_at, finished}
 use Rattle.proof_text.specs.Complaints.{LineComplaint}
-use Rattle.proof_laws.proofs.SlotLemmas.{IsOpen, IsSlot, AreSlots, slots_size}
+use Rattle.proof_laws.proofs.NodeLemmas.{seam}
+use Rattle.proof_laws.proofs.SlotLemmas.{IsSlot, AreSlots}
 use Rattle.proof_laws.proofs.EnteredLaws.{Follows}
 
 -- lines behind so many others are used once
@@ -90,12 +90,8 @@ unfolding finished
 ends last lines os front slot e =
     let size : length (front ++ slot ∷ []) - 1 ≡ length front = omega (arith, length-append front (slot ∷ [])) in
     let cut : take (length (front ++ slot ∷ []) - 1) (front ++ slot ∷ []) ≡ front = ap (λ n. take n (front ++ slot ∷ [])) size ∙ take-append_seam front (slot ∷ []) in
-    let at : slice_get (front ++ slot ∷ []) (length (front ++ slot ∷ []) - 1) ≡ Some slot = ap (slice_get (front ++ slot ∷ [])) size ∙ seam front slot in
+    let at : slice_get (front ++ slot ∷ []) (length (front ++ slot ∷ []) - 1) ≡ Some slot = ap (slice_get (front ++ slot ∷ [])) size ∙ seam front slot [] in
     rw (e, cut, at) refl
-  where
-    seam : (xs : List (Option Opened)) (x : Option Opened) → slice_get (xs ++ x ∷ []) (length xs) ≡ Some x
-    seam [] x = refl
-    seam (y ∷ xs) x = seam xs x
 
 -- the last tree, where each other is used
 pub record IsFinished (used : ℕ → ℕ) (ts : List Tree) (t : Tree) : Type 0 where

@@ -5,6 +5,7 @@ pub mod EnteredLaws
 pub mod FinishedLaws
 pub mod LineLaws
 pub mod NodeLemmas
+pub mod OneTree
 pub mod PremiseLemmas
 pub mod PreparedLaws
 pub mod PrintedCertificates

@@ -24,13 +24,13 @@ AreNodes-append s before (x ∷ xs) (t ∷ ts) ys us first second =
     let moved : AreNodes s ((before ++ t ∷ []) ++ ts) ys us = subst (λ (w : List Tree). AreNodes s w ys us) (sym (append_assoc before (t ∷ []) ts)) second in
     (first.0, AreNodes-append s (before ++ t ∷ []) xs ts ys us first.1 moved)
 
-slice_get-seam : (ts : List Tree) (t : Tree) (us : List Tree) → slice_get (ts ++ t ∷ us) (length ts) ≡ Some t
-slice_get-seam [] t us = refl
-slice_get-seam (v ∷ ts) t us = slice_get-seam ts t us
+pub seam : {X : Type 0} (xs : List X) (x : X) (ys : List X) → slice_get (xs ++ x ∷ ys) (length xs) ≡ Some x
+seam [] x ys = refl
+seam (v ∷ xs) x ys = seam xs x ys
 
 -- the tree behind others is at their number and 1
 pub IsTreeAt-seam : (all ts : List Tree) (t : Tree) (us : List Tree) (p : ℕ) → all ≡ ts ++ t ∷ us → p ≡ length ts + 1 → IsTreeAt all p t
-IsTreeAt-seam all ts t us p e count = record { before = length ts; number = count; tree = rw e (slice_get-seam ts t us) }
+IsTreeAt-seam all ts t us p e count = record { before = length ts; number = count; tree = rw e (seam ts t us) }
 
 -- ---- uses
 pub uses-append : (k : ℕ) (xs ys : List Line) → uses k (xs ++ ys) ≡ uses k xs + uses k ys

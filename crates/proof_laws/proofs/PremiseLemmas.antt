@@ -1,13 +1,13 @@
 -- A premise is an earlier line that no line used; to take it is to use its line.
-use Rattle.std.proofs.Common.{◌≡◌, ◌<◌, ◌≤◌, ◌+◌, ◌-◌, ◌==◌, ℕ, zero, suc, Bool, true, false, cond, ◌&&◌, List, [], ◌∷◌, ◌++◌, length, slice_get, Option, Some, None, refl, sym, ◌∙◌, ap, subst, arith}
-use Rattle.std.specs.Prelude.{nat_eq, nat_lt, nat_le}
+use Rattle.std.proofs.Common.{◌≡◌, ◌<◌, ◌+◌, ◌-◌, ◌==◌, ℕ, Bool, true, false, cond, List, [], ◌∷◌, length, slice_get, Option, Some, None, refl, sym, ◌∙◌, ap, subst, arith}
+use Rattle.std.specs.Prelude.{nat_eq}
 use Rattle.std.proofs.lemmas.Bool.Decides.{nat_tests}
 use Rattle.std.proofs.lemmas.Option.{slice_get_within}
 use Rattle.dep_model.specs.declared.schema.Schema.{Schema}
 use Rattle.derivation.specs.Trees.{Tree}
 use Rattle.proof_text.specs.Books.{Opened, joined, is_earlier, open_at, closed}
 use Rattle.proof_text.specs.Spelling.{IsTreeAt}
-use Rattle.proof_laws.proofs.SlotLemmas.{IsOpen, IsSlot, AreSlots, times, slots_size, slots_same, slots_close, SlotAt, slot_of_tree, tree_of_slot}
+use Rattle.proof_laws.proofs.SlotLemmas.{IsOpen, IsSlot, AreSlots, times, slots_close, SlotAt, slot_of_tree, tree_of_slot}
 
 times_one : (p q : ℕ) (b : Bool) → nat_eq p q ≡ b → times p (q ∷ []) ≡ cond b 1 0
 times_one p q true e = rw e refl

@@ -1,6 +1,6 @@
 -- A line's node is prepared exactly where its rule makes a tree of the trees of earlier lines.
-use Rattle.std.proofs.Common.{◌≡◌, ◌<◌, ◌≤◌, ◌+◌, ◌-◌, ◌==◌, ℕ, zero, suc, Bool, true, false, cond, ◌&&◌, List, [], ◌∷◌, ◌++◌, length, slice_get, slice_set, Option, Some, None, Result, Ok, Err, refl, sym, ◌∙◌, ap, subst, arith}
-use Rattle.std.specs.Prelude.{nat_eq, nat_lt, nat_le, max}
+use Rattle.std.proofs.Common.{◌≡◌, ◌<◌, ◌≤◌, ◌+◌, ◌-◌, ◌==◌, ℕ, zero, suc, Bool, true, false, cond, ◌&&◌, List, [], ◌∷◌, length, slice_set, Option, Some, None, Result, Ok, Err, refl, sym, ◌∙◌, ap, subst, arith}
+use Rattle.std.specs.Prelude.{nat_lt, nat_le, max}
 use Rattle.std.proofs.lemmas.Bool.{and_parts}
 use Rattle.std.proofs.lemmas.Bool.Decides.{nat_tests}
 use Rattle.dep_model.specs.declared.schema.Schema.{Schema}
@@ -17,9 +17,9 @@ use Rattle.proof_text.specs.Books.{Opened, Prepared, is_earlier, open_at, closed
 use Rattle.proof_text.specs.Complaints.{Complaint, no_such_line}
 use Rattle.proof_text.specs.Lines.{Body, by_given, by_reflexivity, by_mreflexivity, by_step, by_pair, Line}
 use Rattle.proof_text.specs.Nodes.{with_tree}
-use Rattle.proof_text.specs.Spelling.{IsTreeAt, IsGivenTree, IsStepTree, IsPairTree, IsTreeOf, premises_of}
-use Rattle.proof_laws.proofs.SlotLemmas.{IsOpen, AreSlots, times, slots_same}
-use Rattle.proof_laws.proofs.PremiseLemmas.{IsPremise, premise_there, premise_back, premise_taken, times_self, times_other, times_two}
+use Rattle.proof_text.specs.Spelling.{IsTreeOf, premises_of}
+use Rattle.proof_laws.proofs.SlotLemmas.{AreSlots, times, slots_same}
+use Rattle.proof_laws.proofs.PremiseLemmas.{IsPremise, premise_there, premise_back, premise_taken, times_self, times_two}
 
 abbrev pub BodyOfAttributes : Body → Type 0
 BodyOfAttributes (by_step rule p) = StepOfAttributes rule

@@ -7,3 +7,4 @@ pub mod line_meaning;
 pub mod printed_certificate;
 pub mod printed_line;
 pub mod printed_nodes;
+pub mod spelling;

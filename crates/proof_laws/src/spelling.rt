@@ -1,0 +1,15 @@
+ghost use Rattle.std.specs.Prelude.{◌≡◌, ◌↔◌, ℕ, List, Ok};
+ghost use Rattle.dep_model.specs.declared.schema.Schema.{Schema};
+ghost use Rattle.derivation.specs.Trees.{Tree};
+ghost use Rattle.proof_text.specs.Spelling.{Spells, SpellsWithin};
+ghost use Rattle.proof_text.specs.Texts.{read_proof};
+
+/// A text is read as a tree exactly where it spells the tree within the limits on lines and levels.
+pub fn spelled_is_read()
+    ensures law { (s : Schema) (text : List ℕ) (t : Tree) → (read_proof s text ≡ Ok t) ↔ SpellsWithin s text t }
+{}
+
+/// A text spells one tree at most, whatever the limits.
+pub fn one_tree()
+    ensures law { (s : Schema) (text : List ℕ) (t u : Tree) → Spells s text t → Spells s text u → t ≡ u }
+{}
