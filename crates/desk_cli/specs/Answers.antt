@@ -1,10 +1,12 @@
 -- Which status and text answer a command.
-use Rattle.std.specs.Prelude.{◌≡◌, ◌⊎◌, ℕ, ◌<◌, ◌≤◌, List, ◌++◌, length, codes, Ok, Err, MatchOption}
+use Rattle.std.specs.Prelude.{◌≡◌, ◌⊎◌, ℕ, ◌<◌, ◌≤◌, List, ◌++◌, length, codes, Err, MatchOption}
 use Rattle.attr_sets.specs.Places.{Places}
 use Rattle.dep_model.specs.Dependencies.{Dependency}
 use Rattle.dep_model.specs.Schemas.{names_of, width_of, theory_of, ImpliedBy}
 use Rattle.dep_model.specs.declared.schema.Schema.{Schema}
 use Rattle.dep_model.specs.TwoTuples.{two_tuples}
+use Rattle.derivation.specs.declared.deriv.Deriv.{Deriv}
+use Rattle.derivation.specs.Derivs.{tree_of}
 use Rattle.derivation.specs.Trees.{Tree}
 use Rattle.derivation.specs.Conclusions.{Proves}
 use Rattle.dep_basis.specs.Decisions.{IsBrokenBy}
@@ -13,11 +15,14 @@ use Rattle.dep_basis.specs.Proofs.{IsChainIfFunctional}
 use Rattle.schema_reader.specs.declared.goal.TheConstants.{MOST_GOAL_BYTES}
 use Rattle.schema_reader.specs.declared.text.TheConstants.{MOST_TEXT_BYTES}
 use Rattle.schema_reader.specs.declared.refusal.SchemaRefusal.{SchemaRefusal}
+use Rattle.schema_reader.specs.Meanings.{MeansGoal}
 use Rattle.schema_reader.specs.Reading.{read_goal}
+use Rattle.schema_reader.specs.Schemas.{MeansSchema}
 use Rattle.schema_reader.specs.Texts.{read_text, declarations_of}
 use Rattle.proof_text.specs.declared.text.TheConstants.{MOST_PROOF_BYTES}
 use Rattle.proof_text.specs.Complaints.{LineComplaint}
 use Rattle.proof_text.specs.Printing.{canonical_certificate}
+use Rattle.proof_text.specs.Spelling.{SpellsWithin}
 use Rattle.proof_text.specs.Texts.{read_proof}
 use Rattle.desk_cli.specs.declared.status.Status.{Status}
 use Rattle.desk_cli.specs.declared.status.Status.TheVariants.{Yes, No, Refused, CannotRead}
@@ -52,9 +57,9 @@ SchemaStops r name status text =
     ⊎ ((bytes : List ℕ) × (refusal : SchemaRefusal) × IsContent r name MOST_TEXT_BYTES bytes × (read_text bytes ≡ Err refusal)
     × Says Refused (refusal_text (codes "schema") name refusal) status text)
 
--- a file declares this schema
+-- the text of a file means this schema
 abbrev pub IsSchemaFile : Reading → List ℕ → Schema → Type 0
-IsSchemaFile r name schema = (bytes : List ℕ) × IsContent r name MOST_TEXT_BYTES bytes × (read_text bytes ≡ Ok (declarations_of schema))
+IsSchemaFile r name schema = (bytes : List ℕ) × IsContent r name MOST_TEXT_BYTES bytes × MeansSchema bytes (declarations_of schema)
 
 -- a schema file is read, and then the rest follows
 abbrev pub WithSchema : Reading → List ℕ → (Schema → Allowed) → Allowed
@@ -72,15 +77,17 @@ GoalStops schema goal status text =
 abbrev pub WithGoal : Schema → List ℕ → (Dependency → Allowed) → Allowed
 WithGoal schema goal rest status text =
     GoalStops schema goal status text
-    ⊎ ((dep : Dependency) × (length goal ≤ MOST_GOAL_BYTES) × (read_goal (names_of schema) goal ≡ Ok dep) × rest dep status text)
+    ⊎ ((dep : Dependency) × (length goal ≤ MOST_GOAL_BYTES) × MeansGoal (names_of schema) goal dep × rest dep status text)
 
 -- ---- implication
--- Yes exactly where every relation that obeys the schema's dependencies obeys the goal, with a derivation
--- of the goal, which is the functional chain where the functional part alone implies it; else no, with two tuples that obey the dependencies and break the goal.
+-- yes exactly where every relation that obeys the schema's dependencies obeys the goal, with a derivation
+-- of the goal, which is the functional chain where the functional part alone implies it; else no, with two
+-- tuples that obey the dependencies and break the goal
 abbrev pub Decided : Schema → Dependency → Allowed
 Decided schema goal status text =
     (ImpliedBy schema goal
-    × ((tree : Tree) × IsProofOf schema goal tree × IsChainIfFunctional schema goal tree × Says Yes (yes_text ++ canonical_certificate schema tree) status text))
+    × ((proof : Deriv) × IsProofOf schema goal (tree_of proof) × IsChainIfFunctional schema goal (tree_of proof)
+    × Says Yes (yes_text ++ canonical_certificate schema (tree_of proof)) status text))
     ⊎ ((ImpliedBy schema goal → ⊥)
     × ((agreement : Places) × IsBrokenBy (width_of schema) (theory_of schema) goal agreement
     × Says No (no_text (names_of schema) (two_tuples (width_of schema) agreement)) status text))
@@ -93,9 +100,9 @@ ProofStops r schema name status text =
     ⊎ ((bytes : List ℕ) × (refusal : LineComplaint) × IsContent r name MOST_PROOF_BYTES bytes × (read_proof schema bytes ≡ Err refusal)
     × Says Refused (proof_refusal_text (names_of schema) name refusal) status text)
 
--- a file has a certificate that spells this tree
+-- the text of a file spells this tree, within the limits of a certificate
 abbrev pub IsProofFile : Reading → Schema → List ℕ → Tree → Type 0
-IsProofFile r schema name tree = (bytes : List ℕ) × IsContent r name MOST_PROOF_BYTES bytes × (read_proof schema bytes ≡ Ok tree)
+IsProofFile r schema name tree = (bytes : List ℕ) × IsContent r name MOST_PROOF_BYTES bytes × SpellsWithin schema bytes tree
 
 -- a certificate file is read, and then the rest follows
 abbrev pub WithProof : Reading → Schema → List ℕ → (Tree → Allowed) → Allowed

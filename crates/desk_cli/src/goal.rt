@@ -1,7 +1,7 @@
 ghost use Rattle.std.specs.Prelude.{◌≡◌, ◌≤◌, IfOk, IfErr, OnOk, Ok, length};
 ghost use Rattle.dep_model.specs.Deps.{dependency_of, IsDepWithin};
 ghost use Rattle.dep_model.specs.Schemas.{names_of, universe_of};
-ghost use Rattle.schema_reader.specs.Reading.{read_goal};
+ghost use Rattle.schema_reader.specs.Meanings.{MeansGoal};
 ghost use Rattle.desk_cli.specs.Replies.{StopsAs};
 ghost use Rattle.desk_cli.specs.Answers.{GoalStops};
 
@@ -15,9 +15,10 @@ use schema_reader::{MOST_GOAL_BYTES, read_goal};
 use std::alloc::Global;
 
 /// The dependency that a goal states.
+#[tactic(auto, using(crate::proofs::MeaningLemmas::goal_means))]
 pub fn goal_of(alloc: Global, schema: &Schema, goal: &Word) -> Result<Dep, Stop>
     ensures few { OnOk result (length goal.now ≤ MOST_GOAL_BYTES) }
-    ensures ok { IfOk result (λ dep. read_goal (names_of schema.now) goal.now ≡ Ok (dependency_of dep)) }
+    ensures ok { IfOk result (λ dep. MeansGoal (names_of schema.now) goal.now (dependency_of dep)) }
     ensures within { IfOk result (IsDepWithin (universe_of schema.now)) }
     ensures stop { IfErr result (StopsAs (GoalStops schema.now goal.now)) }
 {

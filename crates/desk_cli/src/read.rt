@@ -47,6 +47,7 @@ pub fn open_file<F: Shelf>(
 }
 
 /// The schema of a file.
+#[tactic(auto, using(crate::proofs::MeaningLemmas::schema_means))]
 pub fn open_schema<F: Shelf>(alloc: Global, shelf: &mut F, name: &Word) -> Result<Schema, Stop>
     ensures files { F.files shelf.new ≡ F.files shelf.old }
     ensures later { F.faults shelf.old ≤ F.faults shelf.new }
@@ -77,6 +78,7 @@ pub fn refused(alloc: Global, group: &[u8], name: &[u8], refusal: SchemaRefusal)
 }
 
 /// The derivation of a certificate file.
+#[tactic(auto, using(crate::proofs::MeaningLemmas::proof_spells))]
 pub fn open_proof<F: Shelf>(
     alloc: Global,
     shelf: &mut F,
