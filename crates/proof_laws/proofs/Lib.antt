@@ -1,4 +1,5 @@
 pub mod CertificateLaws
+pub mod CountLaws
 pub mod CountedLines
 pub mod DepthLemmas
 pub mod EnteredLaws
@@ -14,6 +15,7 @@ pub mod PrintedNodes
 pub mod PrintedSpells
 pub mod PrintedTokens
 pub mod PrintedWithin
+pub mod ReadBack
 pub mod RuleLaws
 pub mod SideLaws
 pub mod SlotLemmas

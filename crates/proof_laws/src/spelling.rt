@@ -1,6 +1,6 @@
-ghost use Rattle.std.specs.Prelude.{◌≡◌, ◌↔◌, ℕ, List, Ok};
+ghost use Rattle.std.specs.Prelude.{◌≡◌, ◌↔◌, ℕ, List, length, Ok};
 ghost use Rattle.dep_model.specs.declared.schema.Schema.{Schema};
-ghost use Rattle.derivation.specs.Trees.{Tree};
+ghost use Rattle.derivation.specs.Trees.{Tree, nodes};
 ghost use Rattle.proof_text.specs.Spelling.{Spells, SpellsWithin};
 ghost use Rattle.proof_text.specs.Texts.{read_proof};
 
@@ -12,4 +12,9 @@ pub fn spelled_is_read()
 /// A text spells one tree at most, whatever the limits.
 pub fn one_tree()
     ensures law { (s : Schema) (text : List ℕ) (t u : Tree) → Spells s text t → Spells s text u → t ≡ u }
+{}
+
+/// The lines of a certificate are as many as the nodes of the tree that they spell.
+pub fn lines_are_nodes()
+    ensures law { (s : Schema) (text : List ℕ) (t : Tree) (w : Spells s text t) → length w.lines ≡ nodes t }
 {}
