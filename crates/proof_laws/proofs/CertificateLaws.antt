@@ -183,7 +183,7 @@ lines_back s number (text ∷ texts) t fresh used ts book more us follows mean c
 
 -- ---- the whole text
 -- no line uses itself or a later one
-late_unused : (s : Schema) (prior : List Tree) (ls : List Line) (ts : List Tree) (n : ℕ) → AreNodes s prior ls ts → length prior + length ls ≤ n → uses n ls ≡ 0
+pub late_unused : (s : Schema) (prior : List Tree) (ls : List Line) (ts : List Tree) (n : ℕ) → AreNodes s prior ls ts → length prior + length ls ≤ n → uses n ls ≡ 0
 late_unused s prior [] [] n are late = refl
 late_unused s prior [] (t ∷ ts) n are late = absurd are
 late_unused s prior (l ∷ ls) [] n are late = absurd are

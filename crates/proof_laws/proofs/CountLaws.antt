@@ -7,6 +7,7 @@ use Rattle.proof_text.specs.Lines.{Body, by_given, by_reflexivity, by_mreflexivi
 use Rattle.proof_text.specs.Spelling.{IsTreeAt, IsTreeOf, AreNodes, AreNodesOf, premises_of, uses, Spells}
 use Rattle.proof_laws.proofs.SlotLemmas.{times}
 use Rattle.proof_laws.proofs.PremiseLemmas.{times_self, times_other, times_two}
+use Rattle.proof_laws.proofs.CertificateLaws.{late_unused}
 use Rattle.proof_laws.proofs.DepthLemmas.{uses_first, nodes_size}
 use Rattle.proof_laws.proofs.EnteredLaws.{premises_early}
 
@@ -98,15 +99,6 @@ lines_total s prior (l ∷ ls) (t ∷ ts) (here, rest) =
     let late = used_none own (0 + length prior) (t ∷ ts) (λ m h. premises_early prior l l.body t m here.tree (omega (arith, h))) in
     omega (arith, more, both, ap (used_nodes next 0) same, line_nodes prior l l.body t here.tree, used_more own 0 prior (t ∷ ts), late)
 
--- no line uses itself or a later one
-last_unused : (s : Schema) (prior : List Tree) (ls : List Line) (ts : List Tree) (n : ℕ) → AreNodes s prior ls ts → length prior + length ls ≤ n → uses n ls ≡ 0
-last_unused s prior [] [] n are late = refl
-last_unused s prior [] (t ∷ ts) n are late = absurd are
-last_unused s prior (l ∷ ls) [] n are late = absurd are
-last_unused s prior (l ∷ ls) (t ∷ ts) n (here, rest) late =
-    let more = last_unused s (prior ++ t ∷ []) ls ts n rest (omega (arith, late, length-append prior (t ∷ []))) in
-    omega (arith, uses_first n l ls, premises_early prior l l.body t n here.tree (omega (arith, late)), more)
-
 pub lines_count : (s : Schema) (lines : List Line) (t : Tree) → AreNodesOf s lines t → length lines ≡ nodes t
 lines_count s lines t are =
     let all = are.before ++ t ∷ [] in
@@ -114,7 +106,7 @@ lines_count s lines t are =
     let count = nodes_size s [] lines all are.nodes in
     let size : length all ≡ length are.before + 1 = length-append are.before (t ∷ []) in
     let others = used_once used 0 are.before (λ m low high. are.used m low (omega (arith, high, count, size))) in
-    let last = used_none used (0 + length are.before) (t ∷ []) (λ m h. last_unused s [] lines all m are.nodes (omega (arith, h, count, size))) in
+    let last = used_none used (0 + length are.before) (t ∷ []) (λ m h. late_unused s [] lines all m are.nodes (omega (arith, h, count, size))) in
     omega (arith, lines_total s [] lines all are.nodes, total_more are.before (t ∷ []), used_more used 0 are.before (t ∷ []), others, last)
 
 pub spelled_count : (s : Schema) (text : List ℕ) (t : Tree) (w : Spells s text t) → length w.lines ≡ nodes t
