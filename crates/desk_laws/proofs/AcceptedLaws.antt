@@ -1,0 +1,149 @@
+-- What is printed after yes is accepted as a certificate.
+use Rattle.std.proofs.Common.{◌≡◌, ◌≤◌, ℕ, List, [], ◌∷◌, ◌++◌, length, Some, inl, inr, sym, ◌∙◌, ap, subst, arith}
+use Rattle.std.specs.Prelude.{codes}
+use Rattle.dep_model.specs.declared.schema.Schema.{Schema}
+use Rattle.dep_model.specs.Dependencies.{Dependency}
+use Rattle.dep_model.specs.Schemas.{names_of}
+use Rattle.derivation.specs.declared.deriv.Deriv.{Deriv}
+use Rattle.derivation.specs.Conclusions.{Proves}
+use Rattle.derivation.specs.Derivs.{tree_of}
+use Rattle.derivation.specs.Trees.{Tree}
+use Rattle.derivation.proofs.RuleTableLemmas.{the_ok}
+use Rattle.dep_basis.specs.Joined.{IsProofOf}
+use Rattle.desk_outside.specs.Files.{Files, held}
+use Rattle.reader_laws.proofs.DeclaredNames.{declared_are_names}
+use Rattle.schema_reader.specs.declared.goal.TheConstants.{MOST_GOAL_BYTES}
+use Rattle.schema_reader.specs.declared.text.TheConstants.{MOST_TEXT_BYTES}
+use Rattle.schema_reader.specs.declared.refusal.SchemaRefusal.{SchemaRefusal}
+use Rattle.schema_reader.specs.Declarations.{Declarations}
+use Rattle.schema_reader.specs.Meanings.{MeansGoal}
+use Rattle.schema_reader.specs.Schemas.{MeansSchema}
+use Rattle.schema_reader.specs.Texts.{declarations_of}
+use Rattle.schema_reader.proofs.GoalLaws.{goal-law}
+use Rattle.schema_reader.proofs.SchemaLaws.{schema-law}
+use Rattle.proof_text.specs.declared.text.TheConstants.{MOST_PROOF_BYTES}
+use Rattle.proof_text.specs.Printing.{canonical_certificate}
+use Rattle.proof_text.specs.Spelling.{SpellsWithin}
+use Rattle.proof_laws.proofs.OneTree.{one_tree}
+use Rattle.proof_laws.proofs.PrintedSpells.{answered_spells}
+use Rattle.desk_cli.specs.declared.status.Status.{Status}
+use Rattle.desk_cli.specs.declared.status.Status.TheVariants.{Yes}
+use Rattle.desk_cli.specs.Answers.{Answers, Performs, Decided, Checked, WithSchema, WithProof, WithGoal}
+use Rattle.desk_cli.specs.Readings.{told}
+use Rattle.desk_cli.specs.Texts.{yes_text}
+use Rattle.desk_laws.proofs.SchemaLemmas.{AreAlike, proves_alike, spells_alike}
+use Rattle.desk_laws.proofs.StopLemmas.{schema_says, goal_says, one_content, schema_goes, proof_goes, goal_goes}
+
+-- ---- the first answer
+-- what stands behind an answer yes to whether a schema implies a goal
+record SaidYes (files : Files) (schema goal text : List ℕ) : Type 0 where
+  of : Schema
+  bytes : List ℕ
+  has : held files schema ≡ Some bytes
+  few_bytes : length bytes ≤ MOST_TEXT_BYTES
+  means : MeansSchema bytes (declarations_of of)
+  dep : Dependency
+  few_goal : length goal ≤ MOST_GOAL_BYTES
+  means_goal : MeansGoal (names_of of) goal dep
+  proof : Deriv
+  is_proof : IsProofOf of dep (tree_of proof)
+  printed : text ≡ yes_text ++ canonical_certificate of (tree_of proof)
+
+yes_there : (files : Files) (schema goal text : List ℕ) → Answers (told files) (codes "implies" ∷ schema ∷ goal ∷ []) Yes text → SaidYes files schema goal text
+unfolding Performs
+yes_there files schema goal text (inl stop) = absurd (schema_says (told files) schema text stop)
+yes_there files schema goal text (inr (of, (bytes, (has, few), means), answer)) = behind_goal answer
+  where
+    decided : (dep : Dependency) → length goal ≤ MOST_GOAL_BYTES → MeansGoal (names_of of) goal dep → Decided of dep Yes text → SaidYes files schema goal text
+    decided dep few_goal means_goal (inl (implied, found)) = record {
+      of = of;
+      bytes = bytes;
+      has = has;
+      few_bytes = few;
+      means = means;
+      dep = dep;
+      few_goal = few_goal;
+      means_goal = means_goal;
+      proof = found.0;
+      is_proof = found.1;
+      printed = found.3.1;
+    }
+    decided dep few_goal means_goal (inr (broken, found)) = let wrong = found.2.0 in absurd cc
+
+    behind_goal : WithGoal of goal (λ dep. Decided of dep) Yes text → SaidYes files schema goal text
+    behind_goal (inl stop) = absurd (goal_says of goal text stop)
+    behind_goal (inr (dep, few_goal, means_goal, answer)) = decided dep few_goal means_goal answer
+
+-- ---- the second answer
+-- two schemas that one text means are alike
+one_schema : (text : List ℕ) (s r : Schema) → MeansSchema text (declarations_of s) → MeansSchema text (declarations_of r) → AreAlike s r
+one_schema text s r first second = record { names = ap (λ (d : Declarations). d.names) same; theory = ap (λ (d : Declarations). d.deps) same }
+  where
+    same : declarations_of s ≡ declarations_of r
+    same = the_ok {A = Declarations} {E = SchemaRefusal} (declarations_of s) (declarations_of r) (sym ((schema-law text (declarations_of s)).1 first) ∙ (schema-law text (declarations_of r)).1 second)
+
+-- a goal means one dependency at most
+one_goal : (names : List (List ℕ)) (goal : List ℕ) (d e : Dependency) → MeansGoal names goal d → MeansGoal names goal e → d ≡ e
+one_goal names goal d e first second =
+    the_ok {A = Dependency} {E = SchemaRefusal} d e (sym ((goal-law names goal d).1 first) ∙ (goal-law names goal e).1 second)
+
+-- what was printed after yes spells the tree that was found, for a schema alike
+printed_within : (files : Files) (schema goal text : List ℕ) (r : Schema) → (said : SaidYes files schema goal text) → AreAlike said.of r → SpellsWithin r text (tree_of said.proof)
+printed_within files schema goal text r said alike =
+    let t = tree_of said.proof in
+    let printed = answered_spells said.of said.proof said.dep (declared_are_names said.bytes (declarations_of said.of) said.means) said.is_proof.proves said.is_proof.size.few_nodes in
+    let moved = spells_alike said.of r (yes_text ++ canonical_certificate said.of t) t alike printed.0 in
+    let within : SpellsWithin r (yes_text ++ canonical_certificate said.of t) t = record {
+      spells = moved.0;
+      few_lines = omega (arith, moved.1, printed.1, said.is_proof.size.few_nodes);
+      few_levels = said.is_proof.size.few_levels;
+    } in
+    subst (λ (bytes : List ℕ). SpellsWithin r bytes t) (sym said.printed) within
+
+checked_yes : (s : Schema) (t : Tree) (d : Dependency) (status : Status) (out : List ℕ) → Proves s t d → Checked s t d status out → status ≡ Yes
+checked_yes s t d status out proves (inl (proved, says)) = says.0
+checked_yes s t d status out proves (inr (unproved, found)) = absurd (unproved proves)
+
+-- the same goal is read, and the tree concludes it
+goal_yes : (files : Files) (schema goal text : List ℕ) (r : Schema) (status : Status) (out : List ℕ) → (said : SaidYes files schema goal text) → AreAlike said.of r
+    → WithGoal r goal (λ dep. Checked r (tree_of said.proof) dep) status out → status ≡ Yes
+goal_yes files schema goal text r status out said alike go = behind go
+  where
+    means : MeansGoal (names_of r) goal said.dep
+    means = subst (λ (names : List (List ℕ)). MeansGoal names goal said.dep) alike.names said.means_goal
+
+    proves : (d : Dependency) → MeansGoal (names_of r) goal d → Proves r (tree_of said.proof) d
+    proves d other = subst (Proves r (tree_of said.proof)) (one_goal (names_of r) goal said.dep d means other) (proves_alike said.of r (tree_of said.proof) said.dep alike said.is_proof.proves)
+
+    behind : WithGoal r goal (λ dep. Checked r (tree_of said.proof) dep) status out → status ≡ Yes
+    behind (inl stop) = absurd (goal_goes r goal said.dep status out said.few_goal means stop)
+    behind (inr (d, few, other, answer)) = checked_yes r (tree_of said.proof) d status out (proves d other) answer
+
+-- what was printed is read from a file, as the tree that was found
+proof_yes : (files after : Files) (schema goal file text : List ℕ) (r : Schema) (status : Status) (out : List ℕ) → (said : SaidYes files schema goal text) → AreAlike said.of r
+    → held after file ≡ Some text → length text ≤ MOST_PROOF_BYTES
+    → WithProof (told after) r file (λ t. WithGoal r goal (λ dep. Checked r t dep)) status out → status ≡ Yes
+proof_yes files after schema goal file text r status out said alike kept few (inl stop) =
+    absurd (proof_goes after r file text (tree_of said.proof) status out kept few (printed_within files schema goal text r said alike) stop)
+proof_yes files after schema goal file text r status out said alike kept few (inr (t, (bytes, (has, short), spells), go)) =
+    let spelled : SpellsWithin r text t = subst (λ (b : List ℕ). SpellsWithin r b t) (one_content after file bytes text has kept) spells in
+    let same : t ≡ tree_of said.proof = one_tree r text t (tree_of said.proof) spelled.spells (printed_within files schema goal text r said alike).spells in
+    goal_yes files schema goal text r status out said alike (subst (λ (u : Tree). WithGoal r goal (λ dep. Checked r u dep) status out) same go)
+
+schema_yes : (files after : Files) (schema goal file text : List ℕ) (status : Status) (out : List ℕ) → (said : SaidYes files schema goal text)
+    → held after schema ≡ Some said.bytes → held after file ≡ Some text → length text ≤ MOST_PROOF_BYTES
+    → WithSchema (told after) schema (λ r. WithProof (told after) r file (λ t. WithGoal r goal (λ dep. Checked r t dep))) status out → status ≡ Yes
+schema_yes files after schema goal file text status out said same kept few (inl stop) =
+    absurd (schema_goes after schema said.bytes (declarations_of said.of) status out same said.few_bytes said.means stop)
+schema_yes files after schema goal file text status out said same kept few (inr (r, (bytes, (has, short), means), go)) =
+    let moved : MeansSchema said.bytes (declarations_of r) = subst (λ (b : List ℕ). MeansSchema b (declarations_of r)) (one_content after schema bytes said.bytes has same) means in
+    proof_yes files after schema goal file text r status out said (one_schema said.bytes said.of r said.means moved) kept few go
+
+-- what is printed after yes and kept in a file is accepted for the same schema and goal
+pub printed_accepted : (before after : Files) (schema goal file text : List ℕ) → Answers (told before) (codes "implies" ∷ schema ∷ goal ∷ []) Yes text
+    → held after schema ≡ held before schema → held after file ≡ Some text → length text ≤ MOST_PROOF_BYTES
+    → (status : Status) (out : List ℕ) → Answers (told after) (codes "check" ∷ codes "proof" ∷ schema ∷ file ∷ goal ∷ []) status out → status ≡ Yes
+unfolding Performs
+printed_accepted before after schema goal file text answered same kept few status out again =
+    let said = yes_there before schema goal text answered in
+    schema_yes before after schema goal file text status out said (same ∙ said.has) kept few again

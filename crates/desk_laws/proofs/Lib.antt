@@ -1,0 +1,3 @@
+pub mod AcceptedLaws
+pub mod SchemaLemmas
+pub mod StopLemmas

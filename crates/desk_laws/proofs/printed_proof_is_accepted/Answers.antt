@@ -1,0 +1,5 @@
+use Rattle.desk_laws.proofs.AcceptedLaws.{printed_accepted}
+use Rattle.desk_laws.proofs.printed_proof_is_accepted.Goals as goal
+
+pub returns : goal.returns
+returns c = record { law = printed_accepted }

@@ -1,0 +1,18 @@
+//! What `desk` answers in one call, beside what it answers in another.
+//!
+//! Each law is a function that does nothing, whose clause is the law; so the gate asks for its proof.
+#![tactic(auto)]
+
+ghost use Rattle.std.specs.Prelude.{◌≡◌, ◌≤◌, ℕ, List, [], ◌∷◌, length, Some, codes};
+ghost use Rattle.desk_cli.specs.declared.status.Status.{Status};
+ghost use Rattle.desk_cli.specs.declared.status.Status.TheVariants.{Yes};
+ghost use Rattle.desk_cli.specs.Answers.{Answers};
+ghost use Rattle.desk_cli.specs.Readings.{told};
+ghost use Rattle.desk_outside.specs.Files.{Files, held};
+ghost use Rattle.proof_text.specs.declared.text.TheConstants.{MOST_PROOF_BYTES};
+
+/// What `implies` prints after yes, kept in a file, is accepted by `check proof` for the same schema and
+/// goal, where the text is within the limit of certificate files.
+pub fn printed_proof_is_accepted()
+    ensures law { (before after : Files) (schema goal file text : List ℕ) → Answers (told before) (codes "implies" ∷ schema ∷ goal ∷ []) Yes text → held after schema ≡ held before schema → held after file ≡ Some text → length text ≤ MOST_PROOF_BYTES → (status : Status) (out : List ℕ) → Answers (told after) (codes "check" ∷ codes "proof" ∷ schema ∷ file ∷ goal ∷ []) status out → status ≡ Yes }
+{}
