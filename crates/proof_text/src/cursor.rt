@@ -5,6 +5,7 @@ ghost use Rattle.dep_model.specs.Schemas.{names_of, width_of, universe_of};
 ghost use Rattle.schema_reader.specs.Refusals.{refusal};
 ghost use Rattle.proof_text.specs.Marks.{place, marked};
 
+use crate::guide::Guide;
 use crate::words::{
     Arrow, RuleName, arrow_in, is_colon, is_with, is_word, look_up, number_in, rule_named,
 };
@@ -19,6 +20,7 @@ pub struct Cursor<'a> {
     pub line: u32,
     pub column: u32,
     pub text: &'a [u8],
+    pub guide: &'a Guide,
     pub ghost room: { column + length text.now < 2 ^ 32 },
 }
 
@@ -58,9 +60,17 @@ impl<'a> Cursor<'a> {
                 Err(refused(self.line, stop.column, stop.length, kind))
             }
             Next::Token(token, word, text) => {
-                let line = self.line;
                 let column = token.column + token.length;
-                Ok((token, word, Cursor { line, column, text }))
+                Ok((
+                    token,
+                    word,
+                    Cursor {
+                        line: self.line,
+                        column,
+                        text,
+                        guide: self.guide,
+                    },
+                ))
             }
         }
     }
@@ -165,44 +175,62 @@ impl<'a> Cursor<'a> {
         let (token, word, rest) = self.take(What::Side)?;
         match token.kind {
             TokenKind::Word => {
-                let first = place(schema, rest.line, token, word, 0)?;
-                rest.words(schema, single(first), first)
+                let first = place(schema, rest.line, token, word, rest.guide)?;
+                rest.words(schema, single(first))
             }
             TokenKind::Empty => Ok((no_place(), rest)),
             _ => Err(rest.expected(token, What::Side)),
         }
     }
 
-    /// The words that stand here, added to a set; each is looked for from the one before on.
-    fn words(
-        self,
-        schema: &Schema,
-        set: AttrSet,
-        before: u8,
-    ) -> Result<(AttrSet, Cursor<'a>), SchemaRefusal>
+    /// The words that stand here, added to a set.
+    fn words(self, schema: &Schema, set: AttrSet) -> Result<(AttrSet, Cursor<'a>), SchemaRefusal>
         requires within { Within (places set) (universe_of schema.now) }
         ensures ok { IfOk result (λ x. words (names_of schema.now) (places set) (rest_of self.entry) ≡ Ok (places x.0, rest_of x.1)) }
         ensures within { IfOk result (λ x. Within (places x.0) (universe_of schema.now)) }
         ensures err { IfErr result (λ e. words (names_of schema.now) (places set) (rest_of self.entry) ≡ Err e) }
     {
         let line = self.line;
+        let guide = self.guide;
         let mut set = set;
-        let mut before = before;
         let mut column = self.column;
         let mut text = self.text;
         'words: loop {
             match next_token(Mode::Numbered, column, text) {
-                Next::End => return Ok((set, Cursor { line, column, text })),
-                Next::Stop(_) => return Ok((set, Cursor { line, column, text })),
+                Next::End => return Ok((
+                    set,
+                    Cursor {
+                        line,
+                        column,
+                        text,
+                        guide,
+                    },
+                )),
+                Next::Stop(_) => return Ok((
+                    set,
+                    Cursor {
+                        line,
+                        column,
+                        text,
+                        guide,
+                    },
+                )),
                 Next::Token(token, word, behind) => {
                     if !is_word(token.kind) {
-                        return Ok((set, Cursor { line, column, text }));
+                        return Ok((
+                            set,
+                            Cursor {
+                                line,
+                                column,
+                                text,
+                                guide,
+                            },
+                        ));
                     }
-                    match place(schema, line, token, word, before) {
+                    match place(schema, line, token, word, guide) {
                         Err(refusal) => return Err(refusal),
                         Ok(place) => {
                             set = added(set, place);
-                            before = place;
                             column = token.column + token.length;
                             text = behind;
                         }
@@ -219,7 +247,7 @@ fn place(
     line: u32,
     token: Token,
     word: &[u8],
-    from: u8,
+    guide: &Guide,
 ) -> Result<u8, SchemaRefusal>
     requires { token.length ≡ length word.now }
     ensures ok { IfOk result (λ x. place (names_of schema.now) line (marked token word.now) ≡ Ok x) }
@@ -227,7 +255,7 @@ fn place(
     ensures inside { IfOk result (λ x. x < width_of schema.now) }
     ensures err { IfErr result (λ e. place (names_of schema.now) line (marked token word.now) ≡ Err e) }
 {
-    match look_up(schema, word, from) {
+    match look_up(schema, word, guide.guess(word)) {
         Ok(place) => Ok(place),
         Err(kind) => Err(refused(line, token.column, token.length, kind)),
     }

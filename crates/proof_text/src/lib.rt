@@ -7,6 +7,7 @@
 
 mod book;
 mod cursor;
+mod guide;
 mod line;
 mod node;
 mod printing;

@@ -10,6 +10,7 @@ ghost use Rattle.proof_text.specs.Texts.{is_yes, is_blank, line_kind, read_one, 
 
 use crate::book::Book;
 use crate::cursor::Cursor;
+use crate::guide::Guide;
 use crate::line::read_line;
 use crate::refusal::{ProofRefusal, ProofRefusalKind};
 use dep_model::Schema;
@@ -43,13 +44,14 @@ pub fn read_proof(alloc: Global, schema: &Schema, text: &[u8]) -> Result<Box<Der
     // The dependencies that it names can be printed.
     ensures within { IfErr result (λ refusal. IsRefusalWithin (universe_of schema.now) refusal.kind) }
 {
+    let guide = Guide::of(schema);
     let mut book = Book::new(alloc);
     let mut fresh = true;
     let mut number = 1;
     let mut rest = without_mark(text);
     'lines: loop {
         let (line, after) = cut_line(rest);
-        match read_one(alloc, schema, &mut book, fresh, number, line) {
+        match read_one(alloc, schema, &guide, &mut book, fresh, number, line) {
             Err(kind) => return Err(ProofRefusal { line: number, kind }),
             Ok(still_fresh) => match after {
                 None => return book.finish(number),
@@ -68,6 +70,7 @@ pub fn read_proof(alloc: Global, schema: &Schema, text: &[u8]) -> Result<Box<Der
 fn read_one(
     alloc: Global,
     schema: &Schema,
+    guide: &Guide,
     book: &mut Book,
     fresh: bool,
     number: u32,
@@ -87,6 +90,7 @@ fn read_one(
                 line: number,
                 column: 1,
                 text,
+                guide,
             };
             match read_line(schema, start) {
                 Err(refusal) => Err(ProofRefusalKind::BadLine(refusal)),

@@ -119,30 +119,27 @@ fn named(word: &[u8]) -> Option<RuleName>
     }
 }
 
-/// The attribute that a word of a side stands for. The search begins with attribute `from`: the words
-/// of a side mostly ascend, and then a whole side costs one pass over the names.
+/// The attribute that a word of a side stands for; the place `guess` is tried first.
 #[tactic(auto, unfolding(schema_reader::specs::Words::looked_up, schema_reader::specs::Words::is_reserved))]
-pub fn look_up(schema: &Schema, word: &[u8], from: u8) -> Result<u8, SchemaRefusalKind>
+pub fn look_up(schema: &Schema, word: &[u8], guess: u8) -> Result<u8, SchemaRefusalKind>
     ensures exact { result ≡ looked_up Plain (names_of schema.now) word.now }
     ensures declared { IfOk result (λ place. place < width_of schema.now) }
 {
     if is_reserved(word) {
         return Err(SchemaRefusalKind::ReservedName);
     }
-    match place_of(schema, word, from) {
+    match place_of(schema, word, guess) {
         Some(place) => Ok(place),
         None => Err(SchemaRefusalKind::UnknownName),
     }
 }
 
 // The attribute of this name.
-fn place_of(schema: &Schema, word: &[u8], from: u8) -> Option<u8>
+fn place_of(schema: &Schema, word: &[u8], guess: u8) -> Option<u8>
     ensures place { result ≡ place_named (names_of schema.now) word.now }
 {
-    for place in from..schema.width() {
-        if schema.name(place).bytes().eq_ignore_ascii_case(word) {
-            return Some(place);
-        }
+    if guess < schema.width() && schema.name(guess).bytes().eq_ignore_ascii_case(word) {
+        return Some(guess);
     }
     schema.place_of(word)
 }

@@ -6,7 +6,7 @@ use Rattle.proof_text.proofs.words.place_of.Goals as goal
 
 pub returns-then-eq_ignore_ascii_case : goal.returns-then-eq_ignore_ascii_case
 returns-then-eq_ignore_ascii_case c = record {
-  place = let inside : c.loop-place.place < length (names_of c.args.schema.now) = omega (arith, c.loop-place-test.true, c.width-place-end.ensures.count) in
+  place = let inside : c.args.guess < length (names_of c.args.schema.now) = omega (arith, c.if-guess-width.true, c.width.ensures.count) in
       let lower : str_to_ascii_lowercase c.name.result.now ≡ str_to_ascii_lowercase c.args.word.now = sym (ap str_to_ascii_lowercase c.bytes.ensures.value) ∙ c.eq_ignore_ascii_case.ensures.test.0 c.if-eq_ignore_ascii_case.true in
-      sym (named_here (names_of c.args.schema.now) c.name.result.now c.args.word.now c.loop-place.place c.args.schema.now.valid.names_differ inside c.name.ensures.name lower);
+      sym (named_here (names_of c.args.schema.now) c.name.result.now c.args.word.now c.args.guess c.args.schema.now.valid.names_differ inside c.name.ensures.name lower);
 }

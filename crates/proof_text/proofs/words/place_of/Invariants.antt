@@ -1,4 +1,0 @@
-use Rattle.proof_text.proofs.words.place_of.Given as goal
-
-abbrev pub invariant-loop-place : goal.invariant-loop-place
-invariant-loop-place l = Unit {0}

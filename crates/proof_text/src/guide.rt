@@ -1,0 +1,40 @@
+ghost use Rattle.std.specs.Prelude.{◌<◌};
+
+use dep_model::Schema;
+
+const SLOTS: usize = 1_024;
+
+/// Where the names of a schema are likely to be found: for each slot a place, that of the last name
+/// whose bytes lead there. It is a guess, which whoever takes it has to try.
+#[derive(Clone, Copy)]
+pub struct Guide {
+    places: [u8; SLOTS],
+}
+
+impl Guide {
+    pub fn of(schema: &Schema) -> Guide {
+        let mut places = [0; SLOTS];
+        for place in 0..schema.width() {
+            places[slot(schema.name(place).bytes())] = place;
+        }
+        Guide { places }
+    }
+
+    /// A place at which a word may stand.
+    pub fn guess(&self, word: &[u8]) -> u8 {
+        self.places[slot(word)]
+    }
+}
+
+// The slot of a word, ASCII case aside.
+fn slot(word: &[u8]) -> usize
+    ensures inside { result < SLOTS }
+{
+    let mut hash: u32 = 0;
+    for byte in word {
+        hash = hash
+            .wrapping_mul(33)
+            .wrapping_add(u32::from(byte.to_ascii_lowercase()));
+    }
+    hash as usize % SLOTS
+}
