@@ -1,6 +1,4 @@
-ghost use Rattle.std.specs.Prelude.{◌≡◌, ◌≤◌, ◌↔◌, IsTrue, IfOk};
-ghost use Rattle.attr_sets.specs.Places.{Same};
-ghost use Rattle.attr_sets.specs.Sets.{places};
+ghost use Rattle.std.specs.Prelude.{◌≡◌, ◌≤◌, IfOk};
 ghost use Rattle.dep_model.specs.Deps.{dependency_of, IsDepWithin};
 ghost use Rattle.dep_model.specs.Schemas.{universe_of};
 ghost use Rattle.derivation.specs.Derivs.{tree_of};
@@ -15,10 +13,10 @@ use crate::goal::goal_of;
 use crate::read::{open_proof, open_schema};
 use crate::reply::{Reply, Stop};
 use crate::text::{line_of, put};
-use attr_sets::AttrSet;
 use dep_model::{Dep, Schema, WantMemory};
 use derivation::{Deriv, conclude};
 use desk_outside::{Shelf, Word};
+use proof_text::same_dependency;
 use schema_reader::print_dep;
 use std::alloc::Global;
 
@@ -57,7 +55,7 @@ fn checked(alloc: Global, schema: &Schema, deriv: &Deriv, dep: Dep) -> Result<Re
         Ok(concluded) => concluded,
         Err(_) => unreachable!(),
     };
-    if is_same(concluded, dep) {
+    if same_dependency(concluded, dep) {
         return Ok(Reply {
             status: Status::Yes,
             text: line_of(alloc, b"checked ", &print_dep(alloc, schema, dep)?, b"")?,
@@ -75,33 +73,4 @@ fn checked(alloc: Global, schema: &Schema, deriv: &Deriv, dep: Dep) -> Result<Re
         status: Status::No,
         text,
     })
-}
-
-/// Whether two dependencies are one.
-fn is_same(a: Dep, b: Dep) -> bool
-    ensures same { IsTrue result ↔ (dependency_of a ≡ dependency_of b) }
-{
-    match a {
-        Dep::Fd { lhs, rhs } => match b {
-            Dep::Fd {
-                lhs: left,
-                rhs: right,
-            } => are_same(lhs, left, rhs, right),
-            Dep::Mvd { .. } => false,
-        },
-        Dep::Mvd { lhs, rhs } => match b {
-            Dep::Fd { .. } => false,
-            Dep::Mvd {
-                lhs: left,
-                rhs: right,
-            } => are_same(lhs, left, rhs, right),
-        },
-    }
-}
-
-/// Whether the sets of each of two pairs are one.
-fn are_same(a: AttrSet, b: AttrSet, c: AttrSet, d: AttrSet) -> bool
-    ensures same { IsTrue result ↔ (Same (places a) (places b) × Same (places c) (places d)) }
-{
-    a == b && c == d
 }

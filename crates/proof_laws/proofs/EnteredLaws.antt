@@ -1,14 +1,11 @@
 -- A line is entered exactly where it is a node within the limits, and its premises are unused.
 use Rattle.std.proofs.Common.{◌≡◌, ◌<◌, ◌≤◌, ◌+◌, ◌==◌, ℕ, Bool, true, false, cond, List, [], ◌∷◌, ◌++◌, length, Option, Some, Result, Ok, Err, refl, sym, ◌∙◌, ap, subst, arith, length-append}
 use Rattle.std.specs.Prelude.{nat_lt, nat_le}
-use Rattle.std.proofs.lemmas.Bool.{and_parts}
 use Rattle.std.proofs.lemmas.Bool.Decides.{nat_tests}
 use Rattle.std.proofs.lemmas.Option.{slice_get_within}
 use Rattle.attr_sets.specs.Places.{Places, Within, below}
-use Rattle.attr_sets.specs.Sets.{is_within, is_same}
-use Rattle.attr_sets.proofs.PlacesLemmas.{Same-path, is_within-true, is_within-from}
 use Rattle.dep_model.specs.declared.schema.Schema.{Schema}
-use Rattle.dep_model.specs.Dependencies.{Dependency, fd, mvd, left_of, right_of}
+use Rattle.dep_model.specs.Dependencies.{Dependency, left_of, right_of}
 use Rattle.dep_model.specs.Schemas.{universe_of, width_of}
 use Rattle.derivation.specs.declared.fault.FaultKind.{FaultKind}
 use Rattle.derivation.specs.declared.measures.TheConstants.{MOST_NODES, MOST_LEVELS}
@@ -22,38 +19,11 @@ use Rattle.proof_text.specs.Lines.{Body, by_given, by_reflexivity, by_mreflexivi
 use Rattle.proof_text.specs.Nodes.{same_dependency}
 use Rattle.proof_text.specs.Readers.{◌>>=◌}
 use Rattle.proof_text.specs.Spelling.{IsTreeAt, IsTreeOf, IsNode, premises_of}
+use Rattle.proof_text.proofs.SameLemmas.{same_there, same_self}
 use Rattle.proof_text.proofs.CheckedLemmas.{bind_ok}
 use Rattle.proof_laws.proofs.SlotLemmas.{IsOpen, AreSlots, times, slots_size, slots_push}
 use Rattle.proof_laws.proofs.PremiseLemmas.{times_other, times_two}
 use Rattle.proof_laws.proofs.PreparedLaws.{IsLineOfAttributes, prepared_there, prepared_back}
-
--- ---- whether two dependencies are one
-both_ways : (x y : Places) → OfAttributes x → OfAttributes y → is_same x y ≡ true → x ≡ y
-both_ways x y low high e =
-    let parts = and_parts (is_within x y) (is_within y x) e in
-    let there = is_within-true x y low parts.0 in
-    let back = is_within-true y x high parts.1 in
-    Same-path x y (λ k. told (x k) (y k) (there k) (back k))
-  where
-    told : (a b : Bool) → (a ≡ true → b ≡ true) → (b ≡ true → a ≡ true) → a ≡ b
-    told true b there back = sym (there refl)
-    told false true there back = back refl
-    told false false there back = refl
-
-pub same_there : (d e : Dependency) → OfAttributes (left_of d) → OfAttributes (right_of d) → OfAttributes (left_of e) → OfAttributes (right_of e) → same_dependency d e ≡ true → d ≡ e
-same_there (fd x y) (fd v w) left right first second h =
-    let parts = and_parts (is_same x v) (is_same y w) h in (λ i. fd (both_ways x v left first parts.0 i) (both_ways y w right second parts.1 i))
-same_there (fd x y) (mvd v w) left right first second h = cc
-same_there (mvd x y) (fd v w) left right first second h = cc
-same_there (mvd x y) (mvd v w) left right first second h =
-    let parts = and_parts (is_same x v) (is_same y w) h in (λ i. mvd (both_ways x v left first parts.0 i) (both_ways y w right second parts.1 i))
-
-self_within : (x : Places) → is_within x x ≡ true
-self_within x = is_within-from x x (λ k h. h)
-
-pub same_self : (d : Dependency) → same_dependency d d ≡ true
-same_self (fd x y) = rw (self_within x, self_within y) refl
-same_self (mvd x y) = rw (self_within x, self_within y) refl
 
 -- ---- what is settled
 record IsSettled (before : ℕ) (l : Line) (levels : ℕ) (outcome : Result (Tree × Dependency) FaultKind) (o : Opened) : Type 0 where

@@ -1,9 +1,8 @@
 -- A side of a line is read exactly where the grammar has one.
-use Rattle.std.proofs.Common.{◌≡◌, ◌<◌, ◌+◌, inl, inr, ℕ, Bool, true, false, cond, List, [], ◌∷◌, ◌++◌, length, Option, Some, None, Ok, Err, Result, refl, sym, ◌∙◌, ap, arith, ◌||◌, ◌==◌}
+use Rattle.std.proofs.Common.{◌≡◌, ◌<◌, ◌+◌, inl, inr, ℕ, Bool, true, false, cond, List, [], ◌∷◌, ◌++◌, length, Option, Some, None, Ok, Err, Result, refl, sym, ◌∙◌, ap, arith}
 use Rattle.std.specs.List.{All}
 use Rattle.std.proofs.lemmas.List.Elements.{All-cons, All-nil, All-head, All-tail}
-use Rattle.attr_sets.proofs.PlacesLemmas.{Same-path}
-use Rattle.attr_sets.specs.Places.{Places, only, none, union}
+use Rattle.attr_sets.specs.Places.{Places, only, union}
 use Rattle.dep_model.specs.Schemas.{place_named}
 use Rattle.lexer.specs.declared.token.Stop.{Stop}
 use Rattle.lexer.specs.declared.token.TokenKind.{TokenKind}
@@ -14,9 +13,10 @@ use Rattle.schema_reader.specs.declared.refusal.SchemaRefusalKind.TheVariants as
 use Rattle.schema_reader.specs.declared.refusal.What.{What}
 use Rattle.schema_reader.specs.declared.refusal.What.TheVariants as what
 use Rattle.schema_reader.specs.declared.words.Format.TheVariants as format
-use Rattle.schema_reader.specs.Meanings.{is_at, named, IsAttribute, IsSide}
+use Rattle.schema_reader.specs.Meanings.{named, IsAttribute, IsSide}
 use Rattle.schema_reader.specs.Refusals.{at}
 use Rattle.schema_reader.specs.Words.{is_reserved, looked_up, known}
+use Rattle.schema_reader.proofs.SideLemmas.{union-only, union-none, named-cons, Names}
 use Rattle.proof_text.specs.Marks.{place}
 use Rattle.proof_text.specs.Readers.{Rest, ◌>>=◌, take, taken, words_from, side, side_from}
 use Rattle.proof_text.specs.Tokens.{is_word}
@@ -55,34 +55,12 @@ take_there want r t e = told r.marks r.stop refl refl e
         }
 
 -- ---- words
-union-only : (x y : Places) (a : ℕ) → union (union x (only a)) y ≡ union x (union (only a) y)
-union-only x y a = Same-path _ _ (λ k. both (x k) (k == a) (y k))
-  where
-    both : (b c d : Bool) → ((b || c) || d) ≡ (b || (c || d))
-    both true c d = refl
-    both false c d = refl
-
-union-none : (x y : Places) → y ≡ none → union x y ≡ x
-union-none x y e = rw e (Same-path _ _ (λ k. one (x k)))
-  where
-    one : (b : Bool) → (b || false) ≡ b
-    one true = refl
-    one false = refl
-
-named-cons : (names : List (List ℕ)) (m : Mark) (ms : List Mark) (a : ℕ) → place_named names m.word ≡ Some a → named names (m ∷ ms) ≡ union (only a) (named names ms)
-named-cons names m ms a e = Same-path _ _ (λ k. ap (λ o. is_at o k || named names ms k) e)
-
--- what a word stands for
-record Names (names : List (List ℕ)) (word : List ℕ) (a : ℕ) : Type 0 where
-  free : is_reserved format.Plain word ≡ false
-  place : place_named names word ≡ Some a
-
-place_there : (names : List (List ℕ)) (line : ℕ) (m : Mark) (a : ℕ) → place names line m ≡ Ok a → Names names m.word a
+place_there : (names : List (List ℕ)) (line : ℕ) (m : Mark) (a : ℕ) → place names line m ≡ Ok a → Names format.Plain names m.word a
 unfolding looked_up
 place_there names line m a e = told (is_reserved format.Plain m.word) (place_named names m.word) refl refl e
   where
     told : (b : Bool) (o : Option ℕ) → is_reserved format.Plain m.word ≡ b → place_named names m.word ≡ o
-        → at line m.column (length m.word) (cond b (Err kind.ReservedName) (known o)) ≡ Ok a → Names names m.word a
+        → at line m.column (length m.word) (cond b (Err kind.ReservedName) (known o)) ≡ Ok a → Names format.Plain names m.word a
     told true o free place e = cc
     told false None free place e = cc
     told false (Some c) free place e = record { free = free; place = let same : c ≡ a = cc in place ∙ ap Some same }

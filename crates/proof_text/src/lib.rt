@@ -17,6 +17,7 @@ mod refusal;
 mod text;
 mod words;
 
+pub use node::same_dependency;
 pub use printing::print_proof;
 pub use refusal::{ProofRefusal, ProofRefusalKind};
 pub use text::{MOST_PROOF_BYTES, read_proof};

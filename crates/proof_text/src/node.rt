@@ -1,4 +1,4 @@
-ghost use Rattle.std.specs.Prelude.{◌≡◌, ◌+◌, ◌-◌, ◌<◌, ◌≤◌, ◌^◌, length, IfOk, IfErr, OnOk, Ok, Err, option_map, is_some, position, slice_set, None};
+ghost use Rattle.std.specs.Prelude.{◌≡◌, ◌↔◌, IsTrue, ◌+◌, ◌-◌, ◌<◌, ◌≤◌, ◌^◌, length, IfOk, IfErr, OnOk, Ok, Err, option_map, is_some, position, slice_set, None};
 ghost use Rattle.dep_model.specs.Deps.{dependency_of};
 ghost use Rattle.derivation.specs.Derivs.{tree_of, leaf_of, step_of, pair_of};
 ghost use Rattle.derivation.specs.Table.{leaf_conclusion, step_conclusion, pair_conclusion};
@@ -35,6 +35,14 @@ fn is_same(a: AttrSet, b: AttrSet) -> bool
 
 /// Whether two dependencies are one.
 pub fn same_dependency(a: Dep, b: Dep) -> bool
+    ensures same { result ≡ same_dependency (dependency_of a) (dependency_of b) }
+    ensures decides { IsTrue result ↔ (dependency_of a ≡ dependency_of b) }
+{
+    same_sides(a, b)
+}
+
+// Whether two dependencies have one arrow and the same sides.
+fn same_sides(a: Dep, b: Dep) -> bool
     ensures same { result ≡ same_dependency (dependency_of a) (dependency_of b) }
 {
     match (a, b) {

@@ -1,66 +1,30 @@
-use Rattle.std.proofs.Common.{◌≡◌, ◌<◌, ◌+◌, inl, inr, ℕ, Bool, true, false, cond, List, [], ◌∷◌, ◌++◌, length, Option, Some, None, Ok, Err, Result, refl, sym, ◌∙◌, ap, arith, ◌||◌, ◌==◌}
+use Rattle.std.proofs.Common.{◌≡◌, ◌<◌, ◌+◌, inl, inr, ℕ, List, [], ◌∷◌, ◌++◌, length, Option, Some, None, Ok, Err, Result, refl, sym, ◌∙◌, ap, arith}
 use Rattle.std.specs.List.{All}
 use Rattle.std.specs.Result.{IfOk}
 use Rattle.std.proofs.lemmas.List.Elements.{All-cons, All-nil, All-head, All-tail}
 use Rattle.schema_reader.proofs.RefusalLemmas.{ok_at}
 use Rattle.schema_reader.proofs.WithinLemmas.{and_then_ok}
 use Rattle.std.specs.Prelude.{◌↔◌}
-use Rattle.attr_sets.proofs.PlacesLemmas.{Same-path}
 use Rattle.attr_sets.specs.Places.{Places, only, none, union}
 use Rattle.dep_model.specs.Dependencies.{Dependency}
-use Rattle.dep_model.specs.Schemas.{place_named}
 use Rattle.lexer.specs.declared.token.Mode.TheVariants as mode
 use Rattle.lexer.specs.declared.token.Stop.{Stop}
 use Rattle.lexer.specs.declared.token.TokenKind.{TokenKind}
 use Rattle.lexer.specs.declared.token.TokenKind.TheVariants as token
 use Rattle.lexer.specs.Tokens.{Mark, Lexed, lex}
+use Rattle.schema_reader.proofs.SideLemmas.{union-only, union-none, named-cons, Names, looked_up-names}
 use Rattle.schema_reader.specs.declared.refusal.SchemaRefusal.{SchemaRefusal}
 use Rattle.schema_reader.specs.declared.refusal.SchemaRefusalKind.{SchemaRefusalKind}
-use Rattle.schema_reader.specs.declared.refusal.SchemaRefusalKind.TheVariants as kind
 use Rattle.schema_reader.specs.declared.stage.Sign.{Sign}
 use Rattle.schema_reader.specs.declared.stage.Sign.TheVariants as sign
 use Rattle.schema_reader.specs.declared.stage.Symbol.TheVariants as symbol
 use Rattle.schema_reader.specs.declared.words.Format.{Format}
 use Rattle.schema_reader.specs.declared.words.Format.TheVariants as format
 use Rattle.schema_reader.specs.Grammar.{Reading, start, left, left_empty, behind, right, right_empty, turn, finished, stated}
-use Rattle.schema_reader.specs.Meanings.{HasTokens, is_at, named, IsAttribute, IsSide, IsArrow, IsDependency, MeansGoal}
+use Rattle.schema_reader.specs.Meanings.{HasTokens, named, IsAttribute, IsSide, IsArrow, IsDependency, MeansGoal}
 use Rattle.schema_reader.specs.Reading.{step, follow, follow_lexed, read_goal}
 use Rattle.schema_reader.specs.Refusals.{at, and_then, expecting}
-use Rattle.schema_reader.specs.Words.{is_reserved, looked_up, known}
-
--- more attributes behind a set
-union-only : (x y : Places) (a : ℕ) → union (union x (only a)) y ≡ union x (union (only a) y)
-union-only x y a = Same-path _ _ (λ k. both (x k) (k == a) (y k))
-  where
-    both : (b c d : Bool) → ((b || c) || d) ≡ (b || (c || d))
-    both true c d = refl
-    both false c d = refl
-
-union-none : (x : Places) (y : Places) → y ≡ none → union x y ≡ x
-union-none x y e = rw e (Same-path _ _ (λ k. one (x k)))
-  where
-    one : (b : Bool) → (b || false) ≡ b
-    one true = refl
-    one false = refl
-
-named-cons : (declared : List (List ℕ)) (m : Mark) (ms : List Mark) (a : ℕ) → place_named declared m.word ≡ Some a → named declared (m ∷ ms) ≡ union (only a) (named declared ms)
-named-cons declared m ms a e = Same-path _ _ (λ k. ap (λ o. is_at o k || named declared ms k) e)
-
--- what a word stands for
-record Names (f : Format) (declared : List (List ℕ)) (word : List ℕ) (a : ℕ) : Type 0 where
-  free : is_reserved f word ≡ false
-  place : place_named declared word ≡ Some a
-
--- a word is looked up exactly where it names an attribute
-looked_up-names : (f : Format) (declared : List (List ℕ)) (word : List ℕ) (a : ℕ) → looked_up f declared word ≡ Ok a → Names f declared word a
-unfolding looked_up
-looked_up-names f declared word a e = told (is_reserved f word) (place_named declared word) refl refl e
-  where
-    told : (b : Bool) (o : Option ℕ) → is_reserved f word ≡ b → place_named declared word ≡ o
-        → cond b (Err kind.ReservedName) (known o) ≡ Ok a → Names f declared word a
-    told true o free place e = cc
-    told false None free place e = cc
-    told false (Some c) free place e = record { free = free; place = let same : c ≡ a = cc in place ∙ ap Some same }
+use Rattle.schema_reader.specs.Words.{looked_up}
 
 names-looked_up : (f : Format) (declared : List (List ℕ)) (word : List ℕ) (a : ℕ) → Names f declared word a → looked_up f declared word ≡ Ok a
 unfolding looked_up

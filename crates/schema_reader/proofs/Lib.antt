@@ -13,6 +13,7 @@ pub mod RefusalLemmas
 pub mod RiseLemmas
 pub mod SchemaLaws
 pub mod ShapeLemmas
+pub mod SideLemmas
 pub mod SoundLemmas
 pub mod TextLemmas
 pub mod TextLaws
