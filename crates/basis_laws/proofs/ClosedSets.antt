@@ -1,0 +1,143 @@
+-- The closure of a set by functional dependencies, as a set: right sides are added until none leads out.
+use Rattle.std.proofs.Common.{◌≡◌, ℕ, ◌+◌, ◌<◌, ◌≤◌, ◌↔◌, ◌⊎◌, zero, suc, true, false, List, [], ◌∷◌, refl, sym, subst, ◌∙◌, inl, inr, ⊎_elim, arith}
+use Rattle.std.proofs.lemmas.Bool.{true≢false, ltb-true}
+use Rattle.std.proofs.lemmas.Bool.Decides.{nat_tests}
+use Rattle.std.proofs.lemmas.List.Elements.{All-nil, All-cons, All-head, All-tail, All-contains, filter_passes}
+use Rattle.std.specs.Prelude.{All, Contains}
+use Rattle.attr_sets.specs.Places.{Places, below, only, union, Within, count_below}
+use Rattle.attr_sets.proofs.PlacesLemmas.{tell_within, count_below-le, count_below-lt}
+use Rattle.dep_model.specs.Tuples.{Relation}
+use Rattle.dep_model.specs.Dependencies.{Dependency, fd, mvd, Obeys, ObeysFd, is_fd, functional_part, left_of, right_of, IsWithin}
+use Rattle.dep_model.specs.Implication.{IsLegal, Implies}
+use Rattle.dep_model.specs.Keys.{InClosure}
+use Rattle.dep_model.specs.TwoTuples.{two_tuples}
+use Rattle.dep_model.proofs.RuleLemmas.{reflexivity_obeyed, transitivity_obeyed}
+use Rattle.dep_model.proofs.TwoTupleLemmas.{two_tuples-over, two_tuples_fd-to, two_tuples_fd-from}
+use Rattle.fd_closure.specs.Settled.{IsSettled}
+use Rattle.fd_closure.proofs.ClosureLemmas.{fd_each-to, fd_added}
+
+-- ---- functional dependencies
+all_functional : (ds : List Dependency) → functional_part ds ≡ ds → All (λ d. is_fd d ≡ true) ds
+all_functional ds same = subst (λ (es : List Dependency). All (λ d. is_fd d ≡ true) es) same (filter_passes is_fd ds)
+
+functional_obeys : (n : ℕ) (d : Dependency) (r : Relation) → is_fd d ≡ true → Obeys n d r → ObeysFd (left_of d) (right_of d) r
+functional_obeys n (fd x y) r is obeys = obeys
+functional_obeys n (mvd x y) r is obeys = absurd (true≢false (sym is))
+
+-- ---- whether a dependency leads out of a set
+-- the left side lies within, and the right side has a place beyond
+record LeadsOut (c : Places) (d : Dependency) : Type 0 where
+  inside : Within (left_of d) c
+  place : ℕ
+  member : right_of d place ≡ true
+  beyond : c place ≡ false
+
+tell_lead : (n : ℕ) (c : Places) (d : Dependency) → IsWithin (below n) d → LeadsOut c d ⊎ (Within (left_of d) c → Within (right_of d) c)
+tell_lead n c d within =
+    ⊎_elim
+    (λ out. inr (λ inside. absurd (true≢false (sym (inside out.0 out.2) ∙ out.3))))
+    (λ inside. ⊎_elim
+    (λ out. inl (record { inside = inside; place = out.0; member = out.2; beyond = out.3 }))
+    (λ all. inr (λ _. all))
+    (tell_within n (right_of d) c within.1))
+    (tell_within n (left_of d) c within.0)
+
+Contains-head : (d : Dependency) (ds : List Dependency) → Contains (d ∷ ds) d
+Contains-head d ds = (0, omega arith, refl)
+
+Contains-later : (e d : Dependency) (ds : List Dependency) → Contains ds d → Contains (e ∷ ds) d
+Contains-later e d ds h = (suc h.0, omega (arith, h.1), h.2)
+
+-- some dependency of a list leads out, or none does
+tell_settled : (n : ℕ) (c : Places) (ds : List Dependency) → All (IsWithin (below n)) ds → ((d : Dependency) × Contains ds d × LeadsOut c d) ⊎ IsSettled ds c
+tell_settled n c [] within = inr (All-nil (λ (d : Dependency). Within (left_of d) c → Within (right_of d) c))
+tell_settled n c (d ∷ ds) within =
+    ⊎_elim
+    (λ out. inl (d, Contains-head d ds, out))
+    (λ stays. ⊎_elim
+    (λ found. inl (found.0, Contains-later d found.0 ds found.1, found.2))
+    (λ settled. inr (All-cons (λ (e : Dependency). Within (left_of e) c → Within (right_of e) c) d ds stays settled))
+    (tell_settled n c ds (All-tail (IsWithin (below n)) d ds within)))
+    (tell_lead n c d (All-head (IsWithin (below n)) d ds within))
+
+-- ---- sets between x and its closure
+record IsBetween (n : ℕ) (ds : List Dependency) (x c : Places) : Type 0 where
+  universe : Within c (below n)
+  holds : Within x c
+  implied : Implies n ds (fd x c)
+
+between_itself : (n : ℕ) (ds : List Dependency) (x : Places) → Within x (below n) → IsBetween n ds x x
+between_itself n ds x x_in = record {
+  universe = x_in;
+  holds = λ k m. m;
+  implied = λ r legal. reflexivity_obeyed x x r (λ k m. m);
+}
+
+-- the right side of a dependency that leads out is added
+between_added : (n : ℕ) (ds : List Dependency) (x c : Places) (d : Dependency) → IsWithin (below n) d → is_fd d ≡ true → Contains ds d → LeadsOut c d → IsBetween n ds x c → IsBetween n ds x (union c (right_of d))
+between_added n ds x c d within is given out before = record {
+  universe = λ k m. grind (arith, m, before.universe k, within.1 k);
+  holds = λ k m. grind (arith, before.holds k m);
+  implied = λ r legal.
+      let obeys = functional_obeys n d r is (All-contains (λ (e : Dependency). Obeys n e r) ds d legal.obeys given) in
+      transitivity_obeyed x c (union c (right_of d)) r (before.implied r legal) (fd_added (left_of d) (right_of d) c r out.inside obeys);
+}
+
+-- it had one place less
+count_added : (n : ℕ) (c : Places) (d : Dependency) → IsWithin (below n) d → LeadsOut c d → count_below c n < count_below (union c (right_of d)) n
+count_added n c d within out =
+    count_below-lt n c (union c (right_of d)) out.place (λ (k : ℕ) m. grind (arith, m)) (ltb-true out.place n (within.1 out.place out.member)) out.beyond (grind (arith, out.member))
+
+-- after n steps at most no dependency leads out
+settled_from : (n : ℕ) (ds : List Dependency) (x : Places) → All (IsWithin (below n)) ds → All (λ d. is_fd d ≡ true) ds → (left : ℕ) (c : Places) → n ≤ count_below c n + left → IsBetween n ds x c
+    → (e : Places) × IsBetween n ds x e × IsSettled ds e
+settled_from n ds x within functional zero c most between =
+    ⊎_elim
+    (λ found. absurd (omega (arith, most, count_added n c found.0 (All-contains (IsWithin (below n)) ds found.0 within found.1) found.2, count_below-le n (union c (right_of found.0)))))
+    (λ settled. (c, between, settled))
+    (tell_settled n c ds within)
+settled_from n ds x within functional (suc left) c most between =
+    ⊎_elim
+    (λ found.
+    let inside = All-contains (IsWithin (below n)) ds found.0 within found.1 in
+    let is = All-contains (λ (d : Dependency). is_fd d ≡ true) ds found.0 functional found.1 in
+    settled_from n ds x within functional left (union c (right_of found.0))
+    (omega (arith, most, count_added n c found.0 inside found.2))
+    (between_added n ds x c found.0 inside is found.1 found.2 between))
+    (λ settled. (c, between, settled))
+    (tell_settled n c ds within)
+
+-- ---- the two tuples of a settled set are legal
+settled_obeyed : (n : ℕ) (c : Places) (d : Dependency) → is_fd d ≡ true → IsWithin (below n) d → (Within (left_of d) c → Within (right_of d) c) → Obeys n d (two_tuples n c)
+settled_obeyed n c (fd x y) is within stays = two_tuples_fd-from n c x y within.0 within.1 stays
+settled_obeyed n c (mvd x y) is within stays = absurd (true≢false (sym is))
+
+settled_two_legal : (n : ℕ) (ds : List Dependency) (c : Places) → All (IsWithin (below n)) ds → All (λ d. is_fd d ≡ true) ds → IsSettled ds c → IsLegal n ds (two_tuples n c)
+settled_two_legal n ds c within functional settled = record {
+  over = two_tuples-over n c;
+  obeys = λ k d l. settled_obeyed n c _ (functional k d l) (within k d l) (settled k d l);
+}
+
+-- ---- the closure
+-- c is the closure of x, which holds x, and the two tuples that agree exactly on it are legal
+pub record IsClosure (n : ℕ) (ds : List Dependency) (x c : Places) : Type 0 where
+  pub holds : Within x c
+  pub exact : (a : ℕ) → (c a ≡ true) ↔ InClosure n ds x a
+  pub legal : IsLegal n ds (two_tuples n c)
+
+settled_closure : (n : ℕ) (ds : List Dependency) (x c : Places) → Within x (below n) → IsBetween n ds x c → IsLegal n ds (two_tuples n c) → IsClosure n ds x c
+settled_closure n ds x c x_in between legal = record {
+  holds = between.holds;
+  exact = λ a. (
+    (λ m. (ltb-true a n (between.universe a m), fd_each-to n ds x c between.implied a m)),
+    (λ h. two_tuples_fd-to n c x (only a) x_in (λ (k : ℕ) e. grind (arith, nat_tests, e, h.0)) (h.1 (two_tuples n c) legal) between.holds a (grind (arith, nat_tests))),
+  );
+  legal = legal;
+}
+
+-- each set has one
+pub closure_set : (n : ℕ) (ds : List Dependency) (x : Places) → All (IsWithin (below n)) ds → functional_part ds ≡ ds → Within x (below n) → (c : Places) × IsClosure n ds x c
+closure_set n ds x within same x_in =
+    let functional = all_functional ds same in
+    let found = settled_from n ds x within functional n x (omega arith) (between_itself n ds x x_in) in
+    (found.0, settled_closure n ds x found.0 x_in found.1 (settled_two_legal n ds found.0 within functional found.2))

@@ -1,0 +1,2 @@
+pub mod ClosedSets
+pub mod OneBlock
