@@ -1,0 +1,93 @@
+-- What is wrong with a line is one thing of a kind, and what comes first among several.
+use Rattle.std.proofs.Common.{◌≡◌, ◌<◌, ◌≤◌, ◌⊎◌, inl, inr, ◌+◌, ℕ, Bool, true, false, List, length, slice_get, Some, Result, Ok, Err, refl, sym, ◌∙◌, ap, subst, arith}
+use Rattle.std.specs.Prelude.{nat_lt}
+use Rattle.std.proofs.lemmas.Bool.Decides.{nat_tests}
+use Rattle.dep_model.specs.declared.schema.Schema.{Schema}
+use Rattle.dep_model.specs.Dependencies.{Dependency}
+use Rattle.derivation.specs.declared.fault.FaultKind.{FaultKind}
+use Rattle.derivation.specs.declared.measures.TheConstants.{MOST_NODES}
+use Rattle.derivation.specs.Trees.{Tree, leaf, step, pair, given}
+use Rattle.derivation.specs.Table.{leaf_conclusion, step_conclusion, pair_conclusion}
+use Rattle.derivation.specs.Conclusions.{Proves}
+use Rattle.derivation.proofs.ConclusionLemmas.{Proves-one}
+use Rattle.proof_text.specs.Complaints.{Complaint, bad_line, wrong_number, no_such_line, used_twice, never_used, too_many_lines, too_deep, unsound, states_other, empty_proof}
+use Rattle.proof_text.specs.Lines.{Body, by_given, by_reflexivity, by_mreflexivity, by_step, by_pair, Line}
+use Rattle.proof_text.specs.Spelling.{IsTreeAt, IsTreeOf}
+use Rattle.refusal_laws.specs.Wrongs.{NamesNoLine, UsesTwice, StepFault, PairFault, GivenFault, NodeFault, IsTooDeep, StatesOther, Wrong, rank}
+
+-- ---- a line has one tree at most
+pub same_tree : (trees : List Tree) (p : ℕ) (t u : Tree) → IsTreeAt trees p t → IsTreeAt trees p u → t ≡ u
+same_tree trees p t u first second =
+    let same : first.before ≡ second.before = omega (arith, first.number, second.number) in
+    let both : Some t ≡ Some u = sym first.tree ∙ ap (slice_get trees) same ∙ second.tree in cc
+
+pub tree_of_line : (trees : List Tree) (l : Line) (b : Body) (t u : Tree) → IsTreeOf trees l b t → IsTreeOf trees l b u → t ≡ u
+tree_of_line trees l (by_given k) t u first second =
+    let same : first.before ≡ second.before = omega (arith, first.number, second.number) in first.tree ∙ ap (λ n. leaf (given n)) same ∙ sym second.tree
+tree_of_line trees l by_reflexivity t u first second = first ∙ sym second
+tree_of_line trees l by_mreflexivity t u first second = first ∙ sym second
+tree_of_line trees l (by_step rule p) t u first second =
+    first.tree ∙ ap (step rule) (same_tree trees p first.premise second.premise first.earlier second.earlier) ∙ sym second.tree
+tree_of_line trees l (by_pair rule p q) t u first second =
+    first.tree
+    ∙ (λ i. pair rule (same_tree trees p first.first second.first first.first_earlier second.first_earlier i) (same_tree trees q first.second second.second first.second_earlier second.second_earlier i))
+    ∙ sym second.tree
+
+-- ---- what comes first
+bound : (j k : ℕ) → (j < k → ⊥) → k ≤ j
+bound j k none = told (nat_lt j k) refl
+  where
+    told : (b : Bool) → nat_lt j k ≡ b → k ≤ j
+    told true e = absurd (none (grind (arith, nat_tests, e)))
+    told false e = grind (arith, nat_tests, e)
+
+-- no complaint of a smaller rank holds
+pub record IsBehind (s : Schema) (lines : List Line) (trees : List Tree) (l : Line) (k : ℕ) : Type 0 where
+  pub low : 1 < k
+  pub high : k < 9
+  pub number : 2 < k → l.number ≡ length trees + 1
+  pub named : 3 < k → NamesNoLine trees l → ⊥
+  pub twice : 4 < k → UsesTwice lines l → ⊥
+  pub few_lines : 5 < k → length trees < MOST_NODES
+  pub few_levels : 6 < k → IsTooDeep trees l → ⊥
+  pub sound : 7 < k → (why : FaultKind) → NodeFault s trees l l.body why → ⊥
+
+pub first_of : (s : Schema) (lines : List Line) (trees : List Tree) (l : Line) (k : ℕ) → IsBehind s lines trees l k → (other : Complaint) → Wrong s lines trees l other → k ≤ rank other
+first_of s lines trees l k behind (bad_line e) wrong = absurd wrong
+first_of s lines trees l k behind wrong_number wrong = bound 2 k (λ h. wrong (behind.number h))
+first_of s lines trees l k behind no_such_line wrong = bound 3 k (λ h. behind.named h wrong)
+first_of s lines trees l k behind used_twice wrong = bound 4 k (λ h. behind.twice h wrong)
+first_of s lines trees l k behind too_many_lines wrong = bound 5 k (λ h. omega (arith, wrong, behind.few_lines h))
+first_of s lines trees l k behind too_deep wrong = bound 6 k (λ h. behind.few_levels h wrong)
+first_of s lines trees l k behind (unsound fault) wrong = bound 7 k (λ h. behind.sound h fault.kind wrong.1)
+first_of s lines trees l k behind (states_other stated concluded) wrong = omega (arith, behind.high)
+first_of s lines trees l k behind never_used wrong = absurd wrong
+first_of s lines trees l k behind empty_proof wrong = absurd wrong
+
+-- ---- the rule table gives one answer
+one_answer : (r : Result Dependency FaultKind) (d : Dependency) (why : FaultKind) → r ≡ Ok d → r ≡ Err why → ⊥
+one_answer r d why first second = cc
+
+pub no_fault : (s : Schema) (trees : List Tree) (l : Line) (b : Body) (t : Tree) (d : Dependency) (why : FaultKind) → IsTreeOf trees l b t → Proves s t d → NodeFault s trees l b why → ⊥
+no_fault s trees l (by_given k) t d why tree proves (inl fault) = omega (arith, tree.number, fault.0)
+no_fault s trees l (by_given k) t d why tree proves (inr fault) =
+    let same : fault.0 ≡ tree.before = omega (arith, tree.number, fault.1) in
+    let concludes : leaf_conclusion s (given tree.before) ≡ Ok d = subst (λ (v : Tree). Proves s v d) tree.tree proves in
+    one_answer (leaf_conclusion s (given fault.0)) d why (ap (λ i. leaf_conclusion s (given i)) same ∙ concludes) fault.2
+no_fault s trees l by_reflexivity t d why tree proves fault = one_answer _ d why (subst (λ (v : Tree). Proves s v d) tree proves) fault
+no_fault s trees l by_mreflexivity t d why tree proves fault = one_answer _ d why (subst (λ (v : Tree). Proves s v d) tree proves) fault
+no_fault s trees l (by_step rule p) t d why tree proves fault =
+    let concludes : Proves s (step rule tree.premise) d = subst (λ (v : Tree). Proves s v d) tree.tree proves in
+    let below : Proves s fault.premise concludes.0 =
+    subst (λ (v : Tree). Proves s v concludes.0) (same_tree trees p tree.premise fault.premise tree.earlier fault.at) concludes.1 in
+    let same = Proves-one s fault.premise fault.conclusion concludes.0 fault.proves below in
+    one_answer (step_conclusion s rule fault.conclusion) d why (ap (step_conclusion s rule) same ∙ concludes.2) fault.refused
+no_fault s trees l (by_pair rule p q) t d why tree proves fault =
+    let concludes : Proves s (pair rule tree.first tree.second) d = subst (λ (v : Tree). Proves s v d) tree.tree proves in
+    let first : Proves s fault.first concludes.0 =
+    subst (λ (v : Tree). Proves s v concludes.0) (same_tree trees p tree.first fault.first tree.first_earlier fault.first_at) concludes.2 in
+    let second : Proves s fault.second concludes.1 =
+    subst (λ (v : Tree). Proves s v concludes.1) (same_tree trees q tree.second fault.second tree.second_earlier fault.second_at) concludes.3 in
+    let left = Proves-one s fault.first fault.left concludes.0 fault.first_proves first in
+    let right = Proves-one s fault.second fault.right concludes.1 fault.second_proves second in
+    one_answer (pair_conclusion rule fault.left fault.right) d why ((λ i. pair_conclusion rule (left i) (right i)) ∙ concludes.4) fault.refused
