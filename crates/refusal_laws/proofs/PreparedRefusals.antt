@@ -151,3 +151,125 @@ outcome_of s ts l levels w t r unused same tree deep attributes gives fails = re
       let both = with_tree_ok w u r d h in
       subst (λ (v : Tree). IsTreeOf ts l l.body v × Proves s v d × TreeOfAttributes v) (sym same ∙ both.0) (tree, gives d both.1, attributes);
 }
+
+-- ---- a rule with one premise
+step_prepares : (s : Schema) (used : ℕ → ℕ) (ts : List Tree) (os : List (Option Opened)) (n : ℕ) (stated : Dependency) (rule : Step) (q : ℕ) (b : Bool) (o : Option Opened)
+    → AreSlots s used 0 ts os → StepOfAttributes rule → is_earlier os q ≡ b → open_at os q ≡ o
+    → Prepares s used ts (record { number = n; stated = stated; body = by_step rule q }) (cond b (step_node s rule o (closed os q)) (Err no_such_line))
+step_prepares s used ts os n stated rule q false o slots own earlier here =
+    let size = slots_size s used 0 ts os slots in
+    record { premise = q; named = omega (arith, times_self q); missing = late_missing ts os q size earlier }
+step_prepares s used ts os n stated rule q true None slots own earlier here =
+    let size = slots_size s used 0 ts os slots in
+    (one_earlier ts q (earlier_within ts os q size earlier), record { premise = q; named = omega (arith, times_self q); twice = omega (arith, times_self q, closed_used s used ts os q slots earlier here) })
+step_prepares s used ts os n stated rule q true (Some o) slots own earlier here =
+    let size = slots_size s used 0 ts os slots in
+    let premise = premise_there s used ts os q o slots earlier here in
+    let u = premise.0 in
+    let is = premise.1 in
+    let l : Line = record { number = n; stated = stated; body = by_step rule q } in (
+      one_earlier ts q (earlier_within ts os q size earlier),
+      one_once used q is.unused,
+      outcome_of s ts l (o.levels + 1) (step rule o.tree) (step rule u) (step_conclusion s rule o.conclusion) (closed os q) (ap (step rule) is.is_open.tree)
+      (record { premise = u; earlier = is.at; tree = refl }) (ap (λ k. k + 1) is.is_open.levels) (own, is.is_open.attributes) (λ d h. (o.conclusion, is.is_open.proves, h))
+      (λ why h. record { premise = u; conclusion = o.conclusion; at = is.at; proves = is.is_open.proves; refused = h }),
+    )
+
+-- ---- a rule with two premises
+pair_prepares : (s : Schema) (used : ℕ → ℕ) (ts : List Tree) (os : List (Option Opened)) (n : ℕ) (stated : Dependency) (rule : Pair) (q r : ℕ) (a b : Bool) (o w : Option Opened)
+    → AreSlots s used 0 ts os → is_earlier os q ≡ a → is_earlier os r ≡ b → open_at os q ≡ o → open_at (closed os q) r ≡ w
+    → Prepares s used ts (record { number = n; stated = stated; body = by_pair rule q r }) (cond (a && b) (pair_node rule o w (closed (closed os q) r)) (Err no_such_line))
+pair_prepares s used ts os n stated rule q r false b o w slots first second here there =
+    let size = slots_size s used 0 ts os slots in
+    record { premise = q; named = omega (arith, times_two q q r, times_self q); missing = late_missing ts os q size first }
+pair_prepares s used ts os n stated rule q r true false o w slots first second here there =
+    let size = slots_size s used 0 ts os slots in
+    record { premise = r; named = omega (arith, times_two r q r, times_self r); missing = late_missing ts os r size second }
+pair_prepares s used ts os n stated rule q r true true None w slots first second here there =
+    let size = slots_size s used 0 ts os slots in (
+      two_earlier ts q r (earlier_within ts os q size first) (earlier_within ts os r size second),
+      record {
+        premise = q;
+        named = omega (arith, times_two q q r, times_self q);
+        twice = omega (arith, times_two q q r, times_self q, closed_used s used ts os q slots first here);
+      },
+    )
+pair_prepares s used ts os n stated rule q r true true (Some o) None slots first second here there =
+    let size = slots_size s used 0 ts os slots in
+    let left = premise_there s used ts os q o slots first here in
+    let later = premise_taken s used ts os q o left.0 slots left.1 in
+    let used_then = closed_used s (λ n. used n + times n (q ∷ [])) ts (closed os q) r later (closed_earlier os q r second) there in (
+      two_earlier ts q r (earlier_within ts os q size first) (earlier_within ts os r size second),
+      record { premise = r; named = omega (arith, times_two r q r, times_self r); twice = omega (arith, times_two r q r, times_self r, used_then) },
+    )
+pair_prepares s used ts os n stated rule q r true true (Some o) (Some w) slots first second here there =
+    let size = slots_size s used 0 ts os slots in
+    let next : ℕ → ℕ = λ n. used n + times n (q ∷ []) in
+    let left = premise_there s used ts os q o slots first here in
+    let later = premise_taken s used ts os q o left.0 slots left.1 in
+    let right = premise_there s next ts (closed os q) r w later (closed_earlier os q r second) there in
+    let u = left.0 in
+    let v = right.0 in
+    let one = left.1 in
+    let two = right.1 in
+    let l : Line = record { number = n; stated = stated; body = by_pair rule q r } in (
+      two_earlier ts q r (earlier_within ts os q size first) (earlier_within ts os r size second),
+      two_once used q r one.unused two.unused,
+      outcome_of s ts l (max o.levels w.levels + 1) (pair rule o.tree w.tree) (pair rule u v) (pair_conclusion rule o.conclusion w.conclusion) (closed (closed os q) r)
+      (λ i. pair rule (one.is_open.tree i) (two.is_open.tree i)) (record { first = u; second = v; first_earlier = one.at; second_earlier = two.at; tree = refl })
+      (λ i. max (one.is_open.levels i) (two.is_open.levels i) + 1) (one.is_open.attributes, two.is_open.attributes)
+      (λ d h. (o.conclusion, w.conclusion, one.is_open.proves, two.is_open.proves, h))
+      (λ why h. record {
+        first = u; second = v; left = o.conclusion; right = w.conclusion; first_at = one.at; second_at = two.at;
+        first_proves = one.is_open.proves; second_proves = two.is_open.proves; refused = h;
+      }),
+    )
+
+-- ---- a rule with none
+none_named : {A : Type 0} (n : ℕ) → 0 < times n [] → A
+none_named n some = let none : ⊥ = omega (arith, some) in absurd none
+
+leaf_prepares : (s : Schema) (used : ℕ → ℕ) (ts : List Tree) (os : List (Option Opened)) (l : Line) (rule : Leaf) → premises_of l.body ≡ [] → IsTreeOf ts l l.body (leaf rule)
+    → TreeOfAttributes (leaf rule) → ((why : FaultKind) → leaf_conclusion s rule ≡ Err why → NodeFault s ts l l.body why)
+    → Prepares s used ts l (Ok (record { levels = 1; outcome = with_tree (leaf rule) (leaf_conclusion s rule); unused = os }))
+leaf_prepares s used ts os l rule none tree attributes fails = (
+  subst (AllEarlier ts) (sym none) (λ n some. none_named n some),
+  subst (AllOnce used) (sym none) (λ n some. none_named n some),
+  outcome_of s ts l 1 (leaf rule) (leaf rule) (leaf_conclusion s rule) os refl tree refl attributes (λ d h. h) fails,
+)
+
+given_prepares : (s : Schema) (used : ℕ → ℕ) (ts : List Tree) (os : List (Option Opened)) (n : ℕ) (stated : Dependency) (k : ℕ) (b : Bool) → (k == 0) ≡ b
+    → Prepares s used ts (record { number = n; stated = stated; body = by_given k })
+    (Ok (record { levels = 1; outcome = cond b (Err NoSuchGiven) (with_tree (leaf (given (k - 1))) (leaf_conclusion s (given (k - 1)))); unused = os }))
+given_prepares s used ts os n stated k true is = (
+  λ n some. none_named n some,
+  λ n some. none_named n some,
+  record {
+    levels = λ t tree. let none : ⊥ = grind (arith, nat_tests, is, tree.number) in absurd none;
+    deep = λ h. let none : ⊥ = omega (arith, h) in absurd none;
+    fails = λ why h. let same : NoSuchGiven ≡ why = cc in inl (grind (arith, nat_tests, is), sym same);
+    gives = λ u d h. cc;
+  },
+)
+given_prepares s used ts os n stated k false is =
+    let number : k ≡ k - 1 + 1 = grind (arith, nat_tests, is) in
+    leaf_prepares s used ts os (record { number = n; stated = stated; body = by_given k }) (given (k - 1)) refl (record { before = k - 1; number = number; tree = refl }) tt
+    (λ why h. inr (k - 1, number, h))
+
+-- ---- any line
+body_prepares : (s : Schema) (used : ℕ → ℕ) (ts : List Tree) (os : List (Option Opened)) (n : ℕ) (stated : Dependency) (b : Body) → AreSlots s used 0 ts os
+    → IsLineOfAttributes (record { number = n; stated = stated; body = b }) → Prepares s used ts (record { number = n; stated = stated; body = b }) (prepared s os stated b)
+unfolding prepared
+body_prepares s used ts os n stated (by_given k) slots own = given_prepares s used ts os n stated k (k == 0) refl
+body_prepares s used ts os n stated by_reflexivity slots own =
+    leaf_prepares s used ts os (record { number = n; stated = stated; body = by_reflexivity }) (reflexivity (left_of stated) (right_of stated)) refl refl (own.left, own.right) (λ why h. h)
+body_prepares s used ts os n stated by_mreflexivity slots own =
+    leaf_prepares s used ts os (record { number = n; stated = stated; body = by_mreflexivity }) (mreflexivity (left_of stated) (right_of stated)) refl refl (own.left, own.right) (λ why h. h)
+body_prepares s used ts os n stated (by_step rule q) slots own = step_prepares s used ts os n stated rule q (is_earlier os q) (open_at os q) slots own.body refl refl
+body_prepares s used ts os n stated (by_pair rule q r) slots own =
+    pair_prepares s used ts os n stated rule q r (is_earlier os q) (is_earlier os r) (open_at os q) (open_at (closed os q) r) slots refl refl refl refl
+
+-- what is prepared of a line, or why nothing is
+pub prepares : (s : Schema) (used : ℕ → ℕ) (ts : List Tree) (os : List (Option Opened)) (l : Line) → AreSlots s used 0 ts os → IsLineOfAttributes l
+    → Prepares s used ts l (prepared s os l.stated l.body)
+prepares s used ts os l slots own = body_prepares s used ts os l.number l.stated l.body slots own
