@@ -88,10 +88,10 @@ late_missing ts os p size e = told (p == 0) refl
     told true is = inl (grind (arith, nat_tests, is))
     told false other = inr (grind (arith, nat_tests, e, size, other))
 
-one_earlier : (ts : List Tree) (p : ℕ) → (0 < p) × (p ≤ length ts) → AllEarlier ts (p ∷ [])
+pub one_earlier : (ts : List Tree) (p : ℕ) → (0 < p) × (p ≤ length ts) → AllEarlier ts (p ∷ [])
 one_earlier ts p within n some = subst (λ m. (0 < m) × (m ≤ length ts)) (sym (only_one n p some)) within
 
-two_earlier : (ts : List Tree) (p q : ℕ) → (0 < p) × (p ≤ length ts) → (0 < q) × (q ≤ length ts) → AllEarlier ts (p ∷ q ∷ [])
+pub two_earlier : (ts : List Tree) (p q : ℕ) → (0 < p) × (p ≤ length ts) → (0 < q) × (q ≤ length ts) → AllEarlier ts (p ∷ q ∷ [])
 two_earlier ts p q first second n some =
     let of : ℕ → Type 0 = λ m. (0 < m) × (m ≤ length ts) in
     ⊎_elim (λ e. subst of (sym e) first) (λ e. subst of (sym e) second) (one_of_two n p q some)
