@@ -1,2 +1,3 @@
 pub mod WrongLemmas
 pub mod PreparedRefusals
+pub mod EnteredRefusals
