@@ -19,7 +19,7 @@ use Rattle.proof_text.specs.Spelling.{IsTreeAt, IsTreeOf, premises_of, uses}
 use Rattle.proof_text.proofs.SameLemmas.{same_self}
 use Rattle.proof_laws.proofs.DepthLemmas.{uses_first}
 use Rattle.proof_laws.proofs.NodeLemmas.{uses-append}
-use Rattle.proof_laws.proofs.SlotLemmas.{IsSlot, AreSlots, times, slots_size, slot_of_tree, tree_of_slot}
+use Rattle.proof_laws.proofs.SlotLemmas.{IsSlot, AreSlots, SlotAt, times, slots_size, slot_of_tree, tree_of_slot}
 use Rattle.proof_laws.proofs.PreparedLaws.{IsLineOfAttributes}
 use Rattle.proof_laws.proofs.EnteredLaws.{Follows, IsEntered, used_behind, entered_there}
 use Rattle.refusal_laws.specs.Wrongs.{NamesNoLine, UsesTwice, NodeFault, Wrong, rank, IsFirstWrong}
@@ -182,3 +182,71 @@ outcome_refused s at lines ts book l follows own = told (l.number == length book
 pub entered_refused : (s : Schema) (at : ℕ) (lines : List Line) (ts : List Tree) (book : Ledger) (l : Line) (c : Complaint) → Follows s (λ n. uses n lines) ts book → IsLineOfAttributes l
     → entered s at book l ≡ Err c → IsFirstWrong s lines ts l c
 entered_refused s at lines ts book l c follows own e = subst (Refused s lines ts l) e (outcome_refused s at lines ts book l follows own)
+
+-- ---- a line with a complaint is refused
+premise_within : (ts : List Tree) (p : ℕ) (t : Tree) → IsTreeAt ts p t → (0 < p) × (p ≤ length ts)
+premise_within ts p t at = let inside = slice_get_within ts at.before t at.tree in (omega (arith, at.number), omega (arith, at.number, inside))
+
+tree_earlier : (ts : List Tree) (l : Line) (b : Body) (t : Tree) → IsTreeOf ts l b t → AllEarlier ts (premises_of b)
+tree_earlier ts l (by_given k) t tree n some = let none : ⊥ = omega (arith, some) in absurd none
+tree_earlier ts l by_reflexivity t tree n some = let none : ⊥ = omega (arith, some) in absurd none
+tree_earlier ts l by_mreflexivity t tree n some = let none : ⊥ = omega (arith, some) in absurd none
+tree_earlier ts l (by_step rule p) t tree n some = one_earlier ts p (premise_within ts p tree.premise tree.earlier) n some
+tree_earlier ts l (by_pair rule p q) t tree n some =
+    two_earlier ts p q (premise_within ts p tree.first tree.first_earlier) (premise_within ts q tree.second tree.second_earlier) n some
+
+-- a line that has a slot is used once at most
+slot_once : (s : Schema) (used : ℕ → ℕ) (ts : List Tree) (os : List (Option Opened)) (n : ℕ) → AreSlots s used 0 ts os → 0 < n → n ≤ length ts → used n ≤ 1
+slot_once s used ts os n slots some within = told found.slot found.is
+  where
+    inside : n - 1 < length os
+    inside = omega (arith, slots_size s used 0 ts os slots, some, within)
+
+    tree : (t : Tree) × (slice_get ts (n - 1) ≡ Some t)
+    tree = tree_of_slot s used 0 ts os (n - 1) slots inside
+
+    found : SlotAt s (used (0 + (n - 1) + 1)) tree.0 os (n - 1)
+    found = slot_of_tree s used 0 ts os (n - 1) tree.0 slots tree.1
+
+    same : 0 + (n - 1) + 1 ≡ n
+    same = omega (arith, some)
+
+    told : (o : Option Opened) → IsSlot s (used (0 + (n - 1) + 1)) tree.0 o → used n ≤ 1
+    told None is = omega (arith, ap used same, is)
+    told (Some o) is = omega (arith, ap used same, is.0)
+
+entered_once : (s : Schema) (used : ℕ → ℕ) (ts : List Tree) (l : Line) (next : Ledger) (t : Tree) → IsEntered s used ts l next t → AllOnce used (premises_of l.body)
+entered_once s used ts l next t is n some =
+    let within = tree_earlier ts l l.body t is.node.tree n some in
+    slot_once s (used_behind used l) (ts ++ t ∷ []) next.unused n is.follows.slots within.0 (omega (arith, within.1, length-append ts (t ∷ [])))
+
+-- nothing is wrong with a line that is entered
+nothing_wrong : (s : Schema) (lines : List Line) (ts : List Tree) (l : Line) (next : Ledger) (t : Tree) (c : Complaint) → IsEntered s (λ n. uses n lines) ts l next t → Wrong s lines ts l c → ⊥
+nothing_wrong s lines ts l next t (bad_line e) is wrong = wrong
+nothing_wrong s lines ts l next t wrong_number is wrong = wrong is.node.number
+nothing_wrong s lines ts l next t no_such_line is wrong = no_names ts l (tree_earlier ts l l.body t is.node.tree) wrong
+nothing_wrong s lines ts l next t used_twice is wrong = not_twice lines l (entered_once s (λ n. uses n lines) ts l next t is) wrong
+nothing_wrong s lines ts l next t never_used is wrong = wrong
+nothing_wrong s lines ts l next t too_many_lines is wrong = omega (arith, wrong, is.few_lines)
+nothing_wrong s lines ts l next t too_deep is wrong =
+    omega (arith, wrong.deep, is.few_levels, ap depth (tree_of_line ts l l.body wrong.tree t wrong.is is.node.tree))
+nothing_wrong s lines ts l next t (unsound fault) is wrong = no_fault s ts l l.body t l.stated fault.kind is.node.tree is.node.states wrong.1
+nothing_wrong s lines ts l next t (states_other stated concluded) is wrong =
+    let same = tree_of_line ts l l.body wrong.1.tree t wrong.1.is is.node.tree in
+    wrong.1.other (Proves-one s t l.stated concluded is.node.states (subst (λ (u : Tree). Proves s u concluded) same wrong.1.proves))
+nothing_wrong s lines ts l next t empty_proof is wrong = wrong
+
+-- there is one first complaint
+pub one_first : (s : Schema) (lines : List Line) (ts : List Tree) (l : Line) (c d : Complaint) → IsFirstWrong s lines ts l c → IsFirstWrong s lines ts l d → c ≡ d
+one_first s lines ts l c d one other =
+    one_of_rank s lines ts l c d (omega (arith, one.first d other.wrong, other.first c one.wrong)) one.wrong other.wrong
+
+-- a line is refused for its first complaint
+pub refused_entered : (s : Schema) (at : ℕ) (lines : List Line) (ts : List Tree) (book : Ledger) (l : Line) (c : Complaint) → Follows s (λ n. uses n lines) ts book → IsLineOfAttributes l
+    → IsFirstWrong s lines ts l c → entered s at book l ≡ Err c
+refused_entered s at lines ts book l c follows own first = told (entered s at book l) refl
+  where
+    told : (r : Result Ledger Complaint) → entered s at book l ≡ r → r ≡ Err c
+    told (Ok next) e =
+        let there = entered_there s at (λ n. uses n lines) ts book next l follows own e in absurd (nothing_wrong s lines ts l next there.0 c there.1 first.wrong)
+    told (Err d) e = ap Err (one_first s lines ts l d c (entered_refused s at lines ts book l d follows own e) first)
