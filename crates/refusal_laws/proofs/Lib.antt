@@ -1,3 +1,3 @@
-pub mod WrongLemmas
-pub mod PreparedRefusals
 pub mod EnteredRefusals
+pub mod PreparedRefusals
+pub mod WrongLemmas

@@ -1,7 +1,6 @@
 -- Why no node of a line is prepared, and what is known of one that is.
-use Rattle.std.proofs.Common.{◌≡◌, ◌<◌, ◌≤◌, ◌⊎◌, inl, inr, ⊎_elim, ◌+◌, ◌-◌, ◌==◌, ℕ, zero, suc, Bool, true, false, cond, ◌&&◌, List, [], ◌∷◌, length, slice_set, Option, Some, None, Result, Ok, Err, refl, sym, ◌∙◌, ap, subst, arith}
+use Rattle.std.proofs.Common.{◌≡◌, ◌<◌, ◌≤◌, ◌⊎◌, inl, inr, ⊎_elim, ◌+◌, ◌-◌, ◌==◌, ℕ, zero, suc, Bool, true, false, cond, ◌&&◌, List, [], ◌∷◌, length, slice_get, slice_set, Option, Some, None, Result, Ok, Err, refl, sym, ◌∙◌, ap, subst, arith}
 use Rattle.std.specs.Prelude.{nat_lt, nat_le, max}
-use Rattle.std.proofs.lemmas.Bool.{and_parts}
 use Rattle.std.proofs.lemmas.Bool.Decides.{nat_tests}
 use Rattle.dep_model.specs.declared.schema.Schema.{Schema}
 use Rattle.dep_model.specs.Dependencies.{Dependency, left_of, right_of}
@@ -17,9 +16,9 @@ use Rattle.proof_text.specs.Books.{Opened, Prepared, joined, is_earlier, open_at
 use Rattle.proof_text.specs.Complaints.{Complaint, no_such_line, used_twice}
 use Rattle.proof_text.specs.Lines.{Body, by_given, by_reflexivity, by_mreflexivity, by_step, by_pair, Line}
 use Rattle.proof_text.specs.Nodes.{with_tree}
-use Rattle.proof_text.specs.Spelling.{IsTreeAt, IsTreeOf, premises_of}
-use Rattle.proof_laws.proofs.SlotLemmas.{AreSlots, IsSlot, times, slots_size, slot_of_tree, tree_of_slot}
-use Rattle.proof_laws.proofs.PremiseLemmas.{IsPremise, premise_there, premise_taken, times_self, times_other, times_two}
+use Rattle.proof_text.specs.Spelling.{IsTreeOf, premises_of}
+use Rattle.proof_laws.proofs.SlotLemmas.{AreSlots, IsSlot, SlotAt, times, slots_size, slot_of_tree, tree_of_slot}
+use Rattle.proof_laws.proofs.PremiseLemmas.{premise_there, premise_taken, times_self, times_other, times_two}
 use Rattle.proof_laws.proofs.PreparedLaws.{IsLineOfAttributes}
 use Rattle.refusal_laws.specs.Wrongs.{NodeFault}
 use Rattle.refusal_laws.proofs.WrongLemmas.{tree_of_line}
@@ -110,16 +109,20 @@ two_once used p q first second n some =
 
 -- a line whose slot is closed is used
 closed_used : (s : Schema) (used : ℕ → ℕ) (ts : List Tree) (os : List (Option Opened)) (p : ℕ) → AreSlots s used 0 ts os → is_earlier os p ≡ true → open_at os p ≡ None → used p ≡ 1
-closed_used s used ts os p slots earlier here =
-    let inside : p - 1 < length os = grind (arith, nat_tests, earlier) in
-    let number : p ≡ p - 1 + 1 = grind (arith, nat_tests, earlier) in
-    let tree = tree_of_slot s used 0 ts os (p - 1) slots inside in
-    let found = slot_of_tree s used 0 ts os (p - 1) tree.0 slots tree.1 in
-    let held : found.slot ≡ None = ap joined (sym found.here) ∙ here in
-    let of : Option Opened → Type 0 = λ x. IsSlot s (used (0 + (p - 1) + 1)) tree.0 x in
-    let used_here : used (0 + (p - 1) + 1) ≡ 1 = subst of held found.is in
-    let same : 0 + (p - 1) + 1 ≡ p = omega (arith, number) in
-    sym (ap used same) ∙ used_here
+closed_used s used ts os p slots earlier here = told found.slot found.here found.is
+  where
+    tree : (t : Tree) × (slice_get ts (p - 1) ≡ Some t)
+    tree = tree_of_slot s used 0 ts os (p - 1) slots (grind (arith, nat_tests, earlier))
+
+    found : SlotAt s (used (0 + (p - 1) + 1)) tree.0 os (p - 1)
+    found = slot_of_tree s used 0 ts os (p - 1) tree.0 slots tree.1
+
+    same : 0 + (p - 1) + 1 ≡ p
+    same = grind (arith, nat_tests, earlier)
+
+    told : (o : Option Opened) → slice_get os (p - 1) ≡ Some o → IsSlot s (used (0 + (p - 1) + 1)) tree.0 o → used p ≡ 1
+    told None at is = omega (arith, ap used same, is)
+    told (Some o) at is = let both : Some o ≡ None = sym (ap joined at) ∙ here in cc
 
 closed_size : (xs : List (Option Opened)) (i : ℕ) → length (slice_set xs i None) ≡ length xs
 closed_size [] i = refl
@@ -171,8 +174,8 @@ step_prepares s used ts os n stated rule q true (Some o) slots own earlier here 
       one_earlier ts q (earlier_within ts os q size earlier),
       one_once used q is.unused,
       outcome_of s ts l (o.levels + 1) (step rule o.tree) (step rule u) (step_conclusion s rule o.conclusion) (closed os q) (ap (step rule) is.is_open.tree)
-      (record { premise = u; earlier = is.at; tree = refl }) (ap (λ k. k + 1) is.is_open.levels) (own, is.is_open.attributes) (λ d h. (o.conclusion, is.is_open.proves, h))
-      (λ why h. record { premise = u; conclusion = o.conclusion; at = is.at; proves = is.is_open.proves; refused = h }),
+          (record { premise = u; earlier = is.at; tree = refl }) (ap (λ k. k + 1) is.is_open.levels) (own, is.is_open.attributes) (λ d h. (o.conclusion, is.is_open.proves, h))
+          (λ why h. record { premise = u; conclusion = o.conclusion; at = is.at; proves = is.is_open.proves; refused = h }),
     )
 
 -- ---- a rule with two premises
@@ -216,13 +219,20 @@ pair_prepares s used ts os n stated rule q r true true (Some o) (Some w) slots f
       two_earlier ts q r (earlier_within ts os q size first) (earlier_within ts os r size second),
       two_once used q r one.unused two.unused,
       outcome_of s ts l (max o.levels w.levels + 1) (pair rule o.tree w.tree) (pair rule u v) (pair_conclusion rule o.conclusion w.conclusion) (closed (closed os q) r)
-      (λ i. pair rule (one.is_open.tree i) (two.is_open.tree i)) (record { first = u; second = v; first_earlier = one.at; second_earlier = two.at; tree = refl })
-      (λ i. max (one.is_open.levels i) (two.is_open.levels i) + 1) (one.is_open.attributes, two.is_open.attributes)
-      (λ d h. (o.conclusion, w.conclusion, one.is_open.proves, two.is_open.proves, h))
-      (λ why h. record {
-        first = u; second = v; left = o.conclusion; right = w.conclusion; first_at = one.at; second_at = two.at;
-        first_proves = one.is_open.proves; second_proves = two.is_open.proves; refused = h;
-      }),
+          (λ i. pair rule (one.is_open.tree i) (two.is_open.tree i)) (record { first = u; second = v; first_earlier = one.at; second_earlier = two.at; tree = refl })
+          (λ i. max (one.is_open.levels i) (two.is_open.levels i) + 1) (one.is_open.attributes, two.is_open.attributes)
+          (λ d h. (o.conclusion, w.conclusion, one.is_open.proves, two.is_open.proves, h))
+          (λ why h. record {
+            first = u;
+            second = v;
+            left = o.conclusion;
+            right = w.conclusion;
+            first_at = one.at;
+            second_at = two.at;
+            first_proves = one.is_open.proves;
+            second_proves = two.is_open.proves;
+            refused = h;
+          }),
     )
 
 -- ---- a rule with none

@@ -1,5 +1,5 @@
 -- What is wrong with a line is one thing of a kind, and what comes first among several.
-use Rattle.std.proofs.Common.{◌≡◌, ◌<◌, ◌≤◌, ◌⊎◌, inl, inr, ◌+◌, ℕ, Bool, true, false, List, length, slice_get, Some, Result, Ok, Err, refl, sym, ◌∙◌, ap, subst, arith}
+use Rattle.std.proofs.Common.{◌≡◌, ◌<◌, ◌≤◌, inl, inr, ◌+◌, ℕ, Bool, true, false, List, length, slice_get, Some, Result, Ok, Err, refl, sym, ◌∙◌, ap, subst, arith}
 use Rattle.std.specs.Prelude.{nat_lt, ◌==◌, if◌then◌else◌}
 use Rattle.std.proofs.lemmas.Bool.Decides.{nat_tests}
 use Rattle.dep_model.specs.declared.schema.Schema.{Schema}
@@ -15,7 +15,7 @@ use Rattle.derivation.proofs.ConclusionLemmas.{Proves-one}
 use Rattle.proof_text.specs.Complaints.{Complaint, bad_line, wrong_number, no_such_line, used_twice, never_used, too_many_lines, too_deep, unsound, states_other, empty_proof}
 use Rattle.proof_text.specs.Lines.{Body, by_given, by_reflexivity, by_mreflexivity, by_step, by_pair, Line}
 use Rattle.proof_text.specs.Spelling.{IsTreeAt, IsTreeOf}
-use Rattle.refusal_laws.specs.Wrongs.{NamesNoLine, UsesTwice, StepFault, PairFault, GivenFault, NodeFault, IsTooDeep, StatesOther, Wrong, rank}
+use Rattle.refusal_laws.specs.Wrongs.{NamesNoLine, UsesTwice, NodeFault, IsTooDeep, Wrong, rank}
 
 -- ---- a line has one tree at most
 pub same_tree : (trees : List Tree) (p : ℕ) (t u : Tree) → IsTreeAt trees p t → IsTreeAt trees p u → t ≡ u
