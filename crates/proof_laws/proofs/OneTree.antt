@@ -25,12 +25,12 @@ one_list names (text ∷ texts) (l ∷ ls) [] first second = absurd second
 one_list names (text ∷ texts) (l ∷ ls) (m ∷ ms) (here, rest) (there, others) = (λ i. one_line names text l m here there i ∷ one_list names texts ls ms rest others i)
 
 -- lines are nodes of one list of trees at most
-same_tree : (trees : List Tree) (p : ℕ) (t u : Tree) → IsTreeAt trees p t → IsTreeAt trees p u → t ≡ u
+pub same_tree : (trees : List Tree) (p : ℕ) (t u : Tree) → IsTreeAt trees p t → IsTreeAt trees p u → t ≡ u
 same_tree trees p t u first second =
     let same : first.before ≡ second.before = omega (arith, first.number, second.number) in
     let both : Some t ≡ Some u = sym first.tree ∙ ap (slice_get trees) same ∙ second.tree in cc
 
-tree_of_line : (trees : List Tree) (l : Line) (b : Body) (t u : Tree) → IsTreeOf trees l b t → IsTreeOf trees l b u → t ≡ u
+pub tree_of_line : (trees : List Tree) (l : Line) (b : Body) (t u : Tree) → IsTreeOf trees l b t → IsTreeOf trees l b u → t ≡ u
 tree_of_line trees l (by_given k) t u first second =
     let same : first.before ≡ second.before = omega (arith, first.number, second.number) in first.tree ∙ ap (λ n. leaf (given n)) same ∙ sym second.tree
 tree_of_line trees l by_reflexivity t u first second = first ∙ sym second

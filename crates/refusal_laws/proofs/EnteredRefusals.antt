@@ -23,7 +23,8 @@ use Rattle.proof_laws.proofs.SlotLemmas.{IsSlot, AreSlots, SlotAt, times, slots_
 use Rattle.proof_laws.proofs.PreparedLaws.{IsLineOfAttributes}
 use Rattle.proof_laws.proofs.EnteredLaws.{Follows, IsEntered, used_behind, entered_there}
 use Rattle.refusal_laws.specs.Wrongs.{NamesNoLine, UsesTwice, NodeFault, Wrong, rank, IsFirstWrong}
-use Rattle.refusal_laws.proofs.WrongLemmas.{tree_of_line, IsBehind, first_of, no_fault, one_of_rank}
+use Rattle.proof_laws.proofs.OneTree.{tree_of_line}
+use Rattle.refusal_laws.proofs.WrongLemmas.{IsBehind, first_of, no_fault, one_of_rank}
 use Rattle.refusal_laws.proofs.PreparedRefusals.{NamesNone, IsTwice, AllEarlier, AllOnce, one_earlier, two_earlier, IsOutcome, Prepares, prepares}
 
 -- ---- the premises of a line, as its uses

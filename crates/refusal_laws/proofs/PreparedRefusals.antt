@@ -21,7 +21,7 @@ use Rattle.proof_laws.proofs.SlotLemmas.{AreSlots, IsSlot, SlotAt, times, slots_
 use Rattle.proof_laws.proofs.PremiseLemmas.{premise_there, premise_taken, times_self, times_other, times_two}
 use Rattle.proof_laws.proofs.PreparedLaws.{IsLineOfAttributes}
 use Rattle.refusal_laws.specs.Wrongs.{NodeFault}
-use Rattle.refusal_laws.proofs.WrongLemmas.{tree_of_line}
+use Rattle.proof_laws.proofs.OneTree.{tree_of_line}
 
 -- ---- the premises of a line
 pub record NamesNone (ts : List Tree) (ps : List ℕ) : Type 0 where

@@ -1,5 +1,5 @@
 -- What is wrong with a line is one thing of a kind, and what comes first among several.
-use Rattle.std.proofs.Common.{◌≡◌, ◌<◌, ◌≤◌, inl, inr, ◌+◌, ℕ, Bool, true, false, List, length, slice_get, Some, Result, Ok, Err, refl, sym, ◌∙◌, ap, subst, arith}
+use Rattle.std.proofs.Common.{◌≡◌, ◌<◌, ◌≤◌, inl, inr, ◌+◌, ℕ, Bool, true, false, List, length, Result, Ok, Err, refl, sym, ◌∙◌, ap, subst, arith}
 use Rattle.std.specs.Prelude.{nat_lt, ◌==◌, if◌then◌else◌}
 use Rattle.std.proofs.lemmas.Bool.Decides.{nat_tests}
 use Rattle.dep_model.specs.declared.schema.Schema.{Schema}
@@ -8,32 +8,15 @@ use Rattle.derivation.specs.declared.fault.Fault.{Fault}
 use Rattle.derivation.specs.declared.fault.FaultKind.{FaultKind}
 use Rattle.derivation.specs.declared.fault.FaultKind.TheVariants.{NoSuchGiven}
 use Rattle.derivation.specs.declared.measures.TheConstants.{MOST_NODES}
-use Rattle.derivation.specs.Trees.{Tree, leaf, step, pair, given}
+use Rattle.derivation.specs.Trees.{Tree, step, pair, given}
 use Rattle.derivation.specs.Table.{leaf_conclusion, step_conclusion, pair_conclusion}
 use Rattle.derivation.specs.Conclusions.{Proves}
 use Rattle.derivation.proofs.ConclusionLemmas.{Proves-one}
+use Rattle.proof_laws.proofs.OneTree.{same_tree, tree_of_line}
 use Rattle.proof_text.specs.Complaints.{Complaint, bad_line, wrong_number, no_such_line, used_twice, never_used, too_many_lines, too_deep, unsound, states_other, empty_proof}
 use Rattle.proof_text.specs.Lines.{Body, by_given, by_reflexivity, by_mreflexivity, by_step, by_pair, Line}
-use Rattle.proof_text.specs.Spelling.{IsTreeAt, IsTreeOf}
+use Rattle.proof_text.specs.Spelling.{IsTreeOf}
 use Rattle.refusal_laws.specs.Wrongs.{NamesNoLine, UsesTwice, NodeFault, IsTooDeep, Wrong, rank}
-
--- ---- a line has one tree at most
-pub same_tree : (trees : List Tree) (p : ℕ) (t u : Tree) → IsTreeAt trees p t → IsTreeAt trees p u → t ≡ u
-same_tree trees p t u first second =
-    let same : first.before ≡ second.before = omega (arith, first.number, second.number) in
-    let both : Some t ≡ Some u = sym first.tree ∙ ap (slice_get trees) same ∙ second.tree in cc
-
-pub tree_of_line : (trees : List Tree) (l : Line) (b : Body) (t u : Tree) → IsTreeOf trees l b t → IsTreeOf trees l b u → t ≡ u
-tree_of_line trees l (by_given k) t u first second =
-    let same : first.before ≡ second.before = omega (arith, first.number, second.number) in first.tree ∙ ap (λ n. leaf (given n)) same ∙ sym second.tree
-tree_of_line trees l by_reflexivity t u first second = first ∙ sym second
-tree_of_line trees l by_mreflexivity t u first second = first ∙ sym second
-tree_of_line trees l (by_step rule p) t u first second =
-    first.tree ∙ ap (step rule) (same_tree trees p first.premise second.premise first.earlier second.earlier) ∙ sym second.tree
-tree_of_line trees l (by_pair rule p q) t u first second =
-    first.tree
-    ∙ (λ i. pair rule (same_tree trees p first.first second.first first.first_earlier second.first_earlier i) (same_tree trees q first.second second.second first.second_earlier second.second_earlier i))
-    ∙ sym second.tree
 
 -- ---- what comes first
 bound : (j k : ℕ) → (j < k → ⊥) → k ≤ j
