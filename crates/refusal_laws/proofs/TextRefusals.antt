@@ -1,0 +1,158 @@
+-- What is refused of a text, read line by line.
+use Rattle.std.proofs.Common.{◌≡◌, ⊎_elim, ◌+◌, ◌-◌, inl, inr, ℕ, Bool, true, false, List, [], ◌∷◌, ◌++◌, length, Result, Ok, Err, refl, sym, ◌∙◌, ap, subst, arith, length-append, append_assoc}
+use Rattle.std.proofs.lemmas.List.{append-nil}
+use Rattle.dep_model.specs.declared.schema.Schema.{Schema}
+use Rattle.dep_model.specs.Schemas.{names_of}
+use Rattle.derivation.specs.Trees.{Tree}
+use Rattle.lexer.specs.declared.token.Mode.TheVariants as mode
+use Rattle.lexer.specs.Lines.{line_texts, without_mark}
+use Rattle.lexer.specs.Tokens.{lex}
+use Rattle.schema_reader.specs.declared.refusal.SchemaRefusal.{SchemaRefusal}
+use Rattle.proof_text.specs.declared.text.LineKind.{LineKind}
+use Rattle.proof_text.specs.declared.text.LineKind.TheVariants.{Blank, Opening, Certificate}
+use Rattle.proof_text.specs.Books.{Ledger, complaint_at, entered, finished}
+use Rattle.proof_text.specs.Complaints.{Complaint, LineComplaint}
+use Rattle.proof_text.specs.Lines.{Line, line}
+use Rattle.proof_text.specs.Meanings.{MeansLine, MeanLines}
+use Rattle.proof_text.specs.Readers.{◌>>=◌, rest_from}
+use Rattle.proof_text.specs.Spelling.{AreNodes, uses}
+use Rattle.proof_text.specs.Texts.{in_line, read_as, line_kind, read_one, at_line, read_lines, read_proof}
+use Rattle.proof_laws.proofs.CountedLines.{Counts, kind_counts, line_of_attributes}
+use Rattle.proof_laws.proofs.DepthLemmas.{nodes_size}
+use Rattle.proof_laws.proofs.EnteredLaws.{entered_there}
+use Rattle.proof_laws.proofs.LineLaws.{line_there}
+use Rattle.proof_laws.proofs.PreparedLaws.{IsLineOfAttributes}
+use Rattle.refusal_laws.specs.Refusals.{certificate_lines_of, StandsAt, IsEmptyProof, IsNeverUsed, IsRefused}
+use Rattle.refusal_laws.proofs.EnteredRefusals.{entered_refused}
+use Rattle.refusal_laws.proofs.FinishedRefusals.{IsFirstUnused, finished_refused}
+use Rattle.refusal_laws.proofs.ReadLines.{IsBehind, at_start, passed, counts_here, one_more}
+
+the_err : {A E : Type 0} (x y : E) → ◌≡◌ {A = Result A E} (Err x) (Err y) → x ≡ y
+the_err x y h = cc
+
+-- ---- at the end
+no_lines : (s : Schema) (lines : List Line) (trees : List Tree) → AreNodes s [] lines trees → trees ≡ [] → lines ≡ []
+no_lines s [] trees nodes none = refl
+no_lines s (l ∷ ls) [] nodes none = absurd nodes
+no_lines s (l ∷ ls) (t ∷ ts) nodes none = cc
+
+never_there : (s : Schema) (text : List ℕ) (before : List (List ℕ)) (fresh : Bool) (lines : List Line) (trees : List Tree) (book : Ledger) (e : LineComplaint)
+    → IsBehind s text before fresh lines trees book → IsFirstUnused (λ n. uses n lines) (length trees) book.lines e → IsNeverUsed text lines e
+never_there s text before fresh lines trees book e behind first =
+    let count = nodes_size s [] lines trees behind.read.nodes in
+    let place = behind.places first.at (omega (arith, first.inside, behind.size)) in
+    record {
+      number = first.at + 1;
+      some = omega arith;
+      not_last = omega (arith, first.inside, count);
+      unused = first.unused;
+      first = λ n low high. first.earlier n low (omega (arith, high));
+      before = place.before;
+      here = place.here;
+      stands = subst (StandsAt text place.before place.here) (ap (λ (c : LineComplaint). c.line) (sym first.is)) place.stands;
+      is_number = omega (arith, place.count);
+      is = ap (λ (c : LineComplaint). c.complaint) first.is;
+    }
+
+end_there : (s : Schema) (text : List ℕ) (before : List (List ℕ)) (fresh : Bool) (lines : List Line) (trees : List Tree) (book : Ledger) (number : ℕ) (e : LineComplaint)
+    → line_texts (without_mark text) ≡ before → number ≡ length before + 1 → IsBehind s text before fresh lines trees book → finished (number - 1) book ≡ Err e → IsRefused s text e
+end_there s text before fresh lines trees book number e cut count behind h = inr (record {
+  lines = lines;
+  trees = trees;
+  mean = subst (λ (ls : List (List ℕ)). MeanLines (names_of s) (certificate_lines_of ls) lines) (sym cut) behind.mean;
+  read = behind.read;
+  why = ⊎_elim
+      (λ none. inl (record {
+        none = no_lines s lines trees behind.read.nodes none.0;
+        at = ap (λ (c : LineComplaint). c.line) none.1 ∙ omega (arith, count, ap length cut);
+        is = ap (λ (c : LineComplaint). c.complaint) none.1;
+      }))
+      (λ first. inr (never_there s text before fresh lines trees book e behind first))
+      (finished_refused s (λ n. uses n lines) trees book (number - 1) e behind.follows h);
+})
+
+-- ---- line by line
+-- the ledger behind a certificate line, behind which no `yes` may come
+abbrev marked : Result Ledger Complaint → Result (Bool × Ledger) Complaint
+marked r = r >>= λ next. Ok (false, next)
+
+-- what is read of a line, and behind it
+abbrev read_from : Schema → ℕ → List (List ℕ) → Result (Bool × Ledger) Complaint → Result Tree LineComplaint
+read_from s number texts r = at_line number r >>= λ next. read_lines s next.0 (number + 1) next.1 texts
+
+-- what is refused of the lines behind some others
+abbrev RefusesOn : Schema → List ℕ → LineComplaint → ℕ → List (List ℕ) → Type 0
+RefusesOn s text e number texts =
+    (before : List (List ℕ)) (fresh : Bool) (lines : List Line) (trees : List Tree) (book : Ledger) → line_texts (without_mark text) ≡ before ++ texts → number ≡ length before + 1
+    → IsBehind s text before fresh lines trees book → read_lines s fresh number book texts ≡ Err e → IsRefused s text e
+
+line_refused : (k : LineKind) (s : Schema) (text : List ℕ) (e : LineComplaint) (number : ℕ) (here : List ℕ) (texts before : List (List ℕ)) (fresh : Bool) (lines : List Line) (trees : List Tree)
+    (book : Ledger) → line_texts (without_mark text) ≡ before ++ here ∷ texts → number ≡ length before + 1 → IsBehind s text before fresh lines trees book → Counts k fresh here
+    → RefusesOn s text e (number + 1) texts
+    → read_from s number texts (read_as k s fresh number book here) ≡ Err e → IsRefused s text e
+line_refused Blank s text e number here texts before fresh lines trees book cut count behind counts on h =
+    on (before ++ here ∷ []) fresh lines trees book (cut ∙ sym (append_assoc before (here ∷ []) texts)) (omega (arith, count, length-append before (here ∷ [])))
+    (passed s text before fresh fresh lines trees book here behind counts) h
+line_refused Opening s text e number here texts before fresh lines trees book cut count behind counts on h =
+    on (before ++ here ∷ []) false lines trees book (cut ∙ sym (append_assoc before (here ∷ []) texts)) (omega (arith, count, length-append before (here ∷ [])))
+    (passed s text before fresh false lines trees book here behind counts) h
+line_refused Certificate s text e number here texts before fresh lines trees book cut count behind counts on h =
+    told (line (names_of s) (rest_from number 1 (lex mode.Numbered here))) refl h
+  where
+    stands : StandsAt text before here number
+    stands = record { after = texts; cut = cut; number = count; counts = counts_here s text before fresh lines trees book here behind counts }
+
+    told : (r : Result Line SchemaRefusal) → line (names_of s) (rest_from number 1 (lex mode.Numbered here)) ≡ r
+        → read_from s number texts (in_line r >>= λ l. marked (entered s number book l)) ≡ Err e → IsRefused s text e
+    told (Err refusal) grammar g =
+        subst (IsRefused s text) (the_err {A = Tree} {E = LineComplaint} _ e g)
+        (inl (record {
+          before = before;
+          here = here;
+          stands = stands;
+          lines = lines;
+          trees = trees;
+          mean = behind.mean;
+          read = behind.read;
+          why = inl (record { refusal = refusal; grammar = grammar; is = refl });
+        }))
+    told (Ok l) grammar g = by_line (entered s number book l) refl g
+      where
+        means : MeansLine (names_of s) here l
+        means = line_there (names_of s) number here l grammar
+
+        own : IsLineOfAttributes l
+        own = line_of_attributes s here l means
+
+        by_line : (r : Result Ledger Complaint) → entered s number book l ≡ r
+            → read_from s number texts (marked r) ≡ Err e → IsRefused s text e
+        by_line (Err c) enter f =
+            subst (IsRefused s text) (the_err {A = Tree} {E = LineComplaint} _ e f)
+            (inl (record {
+              before = before;
+              here = here;
+              stands = stands;
+              lines = lines;
+              trees = trees;
+              mean = behind.mean;
+              read = behind.read;
+              why = inr (record { line = l; means = means; wrong = entered_refused s number lines trees book l c behind.follows own enter });
+            }))
+        by_line (Ok next) enter f =
+            let enters = entered_there s number (λ n. uses n lines) trees book next l behind.follows own enter in
+            on (before ++ here ∷ []) false (lines ++ l ∷ []) (trees ++ enters.0 ∷ []) next (cut ∙ sym (append_assoc before (here ∷ []) texts))
+            (omega (arith, count, length-append before (here ∷ [])))
+            (one_more s text before fresh lines trees book here number l enters.0 next behind counts stands means enter enters.1) f
+
+lines_refused : (s : Schema) (text : List ℕ) (e : LineComplaint) (number : ℕ) (texts : List (List ℕ)) → RefusesOn s text e number texts
+unfolding read_lines read_one
+lines_refused s text e number [] before fresh lines trees book cut count behind h =
+    end_there s text before fresh lines trees book number e (cut ∙ append-nil before) count behind h
+lines_refused s text e number (here ∷ texts) before fresh lines trees book cut count behind h =
+    line_refused (line_kind fresh (lex mode.Numbered here)) s text e number here texts before fresh lines trees book cut count behind (kind_counts fresh here _ refl)
+    (lines_refused s text e (number + 1) texts) h
+
+-- what is refused goes wrong so
+pub refused_there : (s : Schema) (text : List ℕ) (e : LineComplaint) → read_proof s text ≡ Err e → IsRefused s text e
+unfolding read_proof
+refused_there s text e h = lines_refused s text e 1 (line_texts (without_mark text)) [] true [] [] (record { lines = []; unused = [] }) refl refl (at_start s text) h
