@@ -14,11 +14,12 @@ use Rattle.lexer.specs.Lines.{line_texts, without_mark}
 use Rattle.proof_text.specs.declared.text.LineKind.{LineKind}
 use Rattle.proof_text.specs.declared.text.LineKind.TheVariants.{Blank, Opening, Certificate}
 use Rattle.proof_text.specs.Books.{Opened, Ledger, Prepared, prepared, settled, add_line, entered}
-use Rattle.proof_text.specs.Complaints.{Complaint, wrong_number}
+use Rattle.proof_text.specs.Complaints.{Complaint, LineComplaint, wrong_number}
 use Rattle.proof_text.specs.Lines.{Line}
 use Rattle.proof_text.specs.Meanings.{MeansLine, MeanLines}
 use Rattle.proof_text.specs.Readers.{◌>>=◌}
 use Rattle.proof_text.specs.Spelling.{premises_of, uses}
+use Rattle.proof_text.specs.Texts.{at_line, read_lines}
 use Rattle.proof_text.proofs.CheckedLemmas.{bind_ok}
 use Rattle.proof_laws.proofs.CountedLines.{counted, Counts}
 use Rattle.proof_laws.proofs.DepthLemmas.{uses_first, nodes_size}
@@ -27,6 +28,15 @@ use Rattle.proof_laws.proofs.NodeLemmas.{AreNodes-append, uses-append}
 use Rattle.proof_laws.proofs.SlotLemmas.{IsSlot, slots_same, slots_size, slot_of_tree, tree_of_slot}
 use Rattle.refusal_laws.specs.Refusals.{certificate_lines_of, StandsAt}
 use Rattle.refusal_laws.specs.Wrongs.{AreRead}
+
+-- ---- what is read of a line
+-- the ledger behind a certificate line, behind which no `yes` may come
+abbrev pub marked : Result Ledger Complaint → Result (Bool × Ledger) Complaint
+marked r = r >>= λ next. Ok (false, next)
+
+-- what is read of a line, and behind it
+abbrev pub read_from : Schema → ℕ → List (List ℕ) → Result (Bool × Ledger) Complaint → Result Tree LineComplaint
+read_from s number texts r = at_line number r >>= λ next. read_lines s next.0 (number + 1) next.1 texts
 
 -- ---- what follows lines
 pub follows_same : (s : Schema) (used other : ℕ → ℕ) (ts : List Tree) (book : Ledger) → ((n : ℕ) → used n ≡ other n) → Follows s used ts book → Follows s other ts book

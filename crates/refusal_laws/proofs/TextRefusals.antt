@@ -25,7 +25,7 @@ use Rattle.proof_laws.proofs.PreparedLaws.{IsLineOfAttributes}
 use Rattle.refusal_laws.specs.Refusals.{certificate_lines_of, StandsAt, IsEmptyProof, IsNeverUsed, IsRefused}
 use Rattle.refusal_laws.proofs.EnteredRefusals.{entered_refused}
 use Rattle.refusal_laws.proofs.FinishedRefusals.{IsFirstUnused, finished_refused}
-use Rattle.refusal_laws.proofs.ReadLines.{IsBehind, at_start, passed, counts_here, one_more}
+use Rattle.refusal_laws.proofs.ReadLines.{marked, read_from, IsBehind, at_start, passed, counts_here, one_more}
 
 the_err : {A E : Type 0} (x y : E) → ◌≡◌ {A = Result A E} (Err x) (Err y) → x ≡ y
 the_err x y h = cc
@@ -72,14 +72,6 @@ end_there s text before fresh lines trees book number e cut count behind h = inr
 })
 
 -- ---- line by line
--- the ledger behind a certificate line, behind which no `yes` may come
-abbrev marked : Result Ledger Complaint → Result (Bool × Ledger) Complaint
-marked r = r >>= λ next. Ok (false, next)
-
--- what is read of a line, and behind it
-abbrev read_from : Schema → ℕ → List (List ℕ) → Result (Bool × Ledger) Complaint → Result Tree LineComplaint
-read_from s number texts r = at_line number r >>= λ next. read_lines s next.0 (number + 1) next.1 texts
-
 -- what is refused of the lines behind some others
 abbrev RefusesOn : Schema → List ℕ → LineComplaint → ℕ → List (List ℕ) → Type 0
 RefusesOn s text e number texts =
