@@ -1,5 +1,6 @@
--- What is refused of a text, read line by line.
-use Rattle.std.proofs.Common.{◌≡◌, ⊎_elim, ◌+◌, ◌-◌, inl, inr, ℕ, Bool, true, false, List, [], ◌∷◌, ◌++◌, length, Result, Ok, Err, refl, sym, ◌∙◌, ap, subst, arith, length-append, append_assoc}
+-- A certificate is refused exactly as it goes wrong.
+use Rattle.std.proofs.Common.{◌≡◌, ◌⊎◌, ⊎_elim, ◌+◌, ◌-◌, inl, inr, ℕ, Bool, true, false, List, [], ◌∷◌, ◌++◌, length, Result, Ok, Err, refl, sym, ◌∙◌, ap, subst, arith, length-append, append_assoc}
+use Rattle.std.specs.Prelude.{slice_index}
 use Rattle.std.proofs.lemmas.List.{append-nil}
 use Rattle.dep_model.specs.declared.schema.Schema.{Schema}
 use Rattle.dep_model.specs.Schemas.{names_of}
@@ -17,15 +18,18 @@ use Rattle.proof_text.specs.Meanings.{MeansLine, MeanLines}
 use Rattle.proof_text.specs.Readers.{◌>>=◌, rest_from}
 use Rattle.proof_text.specs.Spelling.{AreNodes, uses}
 use Rattle.proof_text.specs.Texts.{in_line, read_as, line_kind, read_one, at_line, read_lines, read_proof}
-use Rattle.proof_laws.proofs.CountedLines.{Counts, kind_counts, line_of_attributes}
+use Rattle.proof_laws.proofs.CountedLines.{counted, Counts, kind_counts, line_of_attributes}
 use Rattle.proof_laws.proofs.DepthLemmas.{nodes_size}
 use Rattle.proof_laws.proofs.EnteredLaws.{entered_there}
-use Rattle.proof_laws.proofs.LineLaws.{line_there}
+use Rattle.proof_laws.proofs.LineLaws.{line_there, line_back}
 use Rattle.proof_laws.proofs.PreparedLaws.{IsLineOfAttributes}
-use Rattle.refusal_laws.specs.Refusals.{certificate_lines_of, StandsAt, IsEmptyProof, IsNeverUsed, IsRefused}
-use Rattle.refusal_laws.proofs.EnteredRefusals.{entered_refused}
-use Rattle.refusal_laws.proofs.FinishedRefusals.{IsFirstUnused, finished_refused}
-use Rattle.refusal_laws.proofs.ReadLines.{marked, read_from, IsBehind, at_start, passed, counts_here, one_more}
+use Rattle.proof_laws.proofs.SlotLemmas.{AreSlots}
+use Rattle.refusal_laws.specs.Refusals.{certificate_lines_of, StandsAt, IsBadLine, IsWrongLine, IsRefusedAt, IsEmptyProof, IsNeverUsed, IsUnfinished, IsRefused}
+use Rattle.refusal_laws.proofs.EnteredRefusals.{entered_refused, refused_entered}
+use Rattle.refusal_laws.proofs.FinishedRefusals.{none_finished, IsFirstUnused, finished_refused, refused_finished}
+use Rattle.refusal_laws.proofs.PlaceLemmas.{same_place}
+use Rattle.refusal_laws.proofs.ReadLines.{marked, read_from, nothing_counts, IsBehind, at_start, passed, counts_here, one_more}
+use Rattle.refusal_laws.proofs.WalkedLines.{walked}
 
 the_err : {A E : Type 0} (x y : E) → ◌≡◌ {A = Result A E} (Err x) (Err y) → x ≡ y
 the_err x y h = cc
@@ -148,3 +152,87 @@ lines_refused s text e number (here ∷ texts) before fresh lines trees book cut
 pub refused_there : (s : Schema) (text : List ℕ) (e : LineComplaint) → read_proof s text ≡ Err e → IsRefused s text e
 unfolding read_proof
 refused_there s text e h = lines_refused s text e 1 (line_texts (without_mark text)) [] true [] [] (record { lines = []; unused = [] }) refl refl (at_start s text) h
+
+-- ---- from what goes wrong
+-- a line that stands in a text counts
+not_passed : (s : Schema) (text : List ℕ) (before : List (List ℕ)) (here : List ℕ) (at : ℕ) (fresh : Bool) (lines : List Line) (trees : List Tree) (book : Ledger)
+    → IsBehind s text before fresh lines trees book → StandsAt text before here at → counted fresh (here ∷ []) ≡ [] → ⊥
+not_passed s text before here at fresh lines trees book behind stands none =
+    omega (
+      arith,
+      ap length (sym stands.counts ∙ behind.counts (here ∷ [])),
+      length-append (certificate_lines_of before) (here ∷ []),
+      length-append (certificate_lines_of before) (counted fresh (here ∷ [])),
+      ap length none,
+    )
+
+line_refuses : (k : LineKind) (s : Schema) (text : List ℕ) (e : LineComplaint) (before after : List (List ℕ)) (here : List ℕ) (fresh : Bool) (lines : List Line) (trees : List Tree)
+    (book : Ledger) → IsBehind s text before fresh lines trees book → StandsAt text before here e.line → Counts k fresh here
+    → IsBadLine (names_of s) here e.line e.complaint ⊎ IsWrongLine s lines trees here e.complaint → read_from s e.line after (read_as k s fresh e.line book here) ≡ Err e
+line_refuses Blank s text e before after here fresh lines trees book behind stands counts why =
+    absurd (not_passed s text before here e.line fresh lines trees book behind stands (counts [] ∙ nothing_counts fresh))
+line_refuses Opening s text e before after here fresh lines trees book behind stands counts why =
+    absurd (not_passed s text before here e.line fresh lines trees book behind stands (counts []))
+line_refuses Certificate s text e before after here fresh lines trees book behind stands counts (inl bad) =
+    rw bad.grammar (ap (λ c. Err (complaint_at e.line c)) (sym bad.is))
+line_refuses Certificate s text e before after here fresh lines trees book behind stands counts (inr wrong) =
+    let own = line_of_attributes s here wrong.line wrong.means in
+    let reads = line_back (names_of s) e.line here wrong.line wrong.means in
+    let refuses = refused_entered s e.line lines trees book wrong.line e.complaint behind.follows own wrong.wrong in
+    rw (reads, refuses) refl
+
+at_back : (s : Schema) (text : List ℕ) (e : LineComplaint) → IsRefusedAt s text e → read_proof s text ≡ Err e
+unfolding read_proof read_lines read_one
+at_back s text e refused =
+    let stands = refused.stands in
+    let here = refused.here in
+    let behind_it = here ∷ stands.after in
+    let walk = walked s text refused.before behind_it refused.lines refused.trees stands.cut refused.mean refused.read in
+    ap (read_lines s true 1 (record { lines = []; unused = [] })) stands.cut
+    ∙ walk.same
+    ∙ ap (λ n. read_lines s walk.fresh n walk.book behind_it) (sym stands.number)
+    ∙ line_refuses (line_kind walk.fresh (lex mode.Numbered here)) s text e refused.before stands.after here walk.fresh refused.lines refused.trees walk.book walk.behind stands
+    (kind_counts walk.fresh here _ refl) refused.why
+
+no_trees : (s : Schema) (lines : List Line) (trees : List Tree) → AreNodes s [] lines trees → lines ≡ [] → trees ≡ []
+no_trees s lines [] nodes none = refl
+no_trees s [] (t ∷ ts) nodes none = absurd nodes
+no_trees s (l ∷ ls) (t ∷ ts) nodes none = cc
+
+end_refuses : (s : Schema) (text : List ℕ) (e : LineComplaint) (whole : List (List ℕ)) (fresh : Bool) (lines : List Line) (trees : List Tree) (book : Ledger)
+    → line_texts (without_mark text) ≡ whole → IsBehind s text whole fresh lines trees book → IsEmptyProof text lines e ⊎ IsNeverUsed text lines e → finished (length whole + 1 - 1) book ≡ Err e
+end_refuses s text e whole fresh lines trees book cut behind (inl empty) =
+    let none = no_trees s lines trees behind.read.nodes empty.none in
+    let slots = subst (λ (ts : List Tree). AreSlots s (λ n. uses n lines) 0 ts book.unused) none behind.follows.slots in
+    let at : length whole + 1 - 1 ≡ e.line = omega (arith, empty.at, ap length cut) in
+    none_finished s (λ n. uses n lines) (length whole + 1 - 1) book.lines book.unused slots ∙ (λ i. Err (complaint_at (at i) (sym empty.is i)))
+end_refuses s text e whole fresh lines trees book cut behind (inr never) =
+    let count = nodes_size s [] lines trees behind.read.nodes in
+    let i = never.number - 1 in
+    let number : i + 1 ≡ never.number = omega (arith, never.some) in
+    let place = behind.places i (omega (arith, never.not_last, never.some, count, behind.size)) in
+    let at : slice_index book.lines i ≡ e.line =
+    same_place text place.before never.before place.here never.here (slice_index book.lines i) e.line place.stands never.stands (omega (arith, place.count, never.is_number)) in
+    refused_finished s (λ n. uses n lines) trees book (length whole + 1 - 1) e behind.follows
+    (record {
+      at = i;
+      inside = omega (arith, never.not_last, number, count);
+      unused = ap (λ n. uses n lines) number ∙ never.unused;
+      earlier = λ k low high. never.first k low (omega (arith, high, number));
+      is = λ j. complaint_at (sym at j) (never.is j);
+    })
+
+end_back : (s : Schema) (text : List ℕ) (e : LineComplaint) → IsUnfinished s text e → read_proof s text ≡ Err e
+unfolding read_proof read_lines
+end_back s text e refused =
+    let whole = line_texts (without_mark text) in
+    let cut : whole ≡ whole ++ [] = sym (append-nil whole) in
+    let walk = walked s text whole [] refused.lines refused.trees cut refused.mean refused.read in
+    ap (read_lines s true 1 (record { lines = []; unused = [] })) cut
+    ∙ walk.same
+    ∙ end_refuses s text e whole walk.fresh refused.lines refused.trees walk.book refl walk.behind refused.why
+
+-- what goes wrong so is refused
+pub refused_back : (s : Schema) (text : List ℕ) (e : LineComplaint) → IsRefused s text e → read_proof s text ≡ Err e
+refused_back s text e (inl at_one) = at_back s text e at_one
+refused_back s text e (inr unfinished) = end_back s text e unfinished
