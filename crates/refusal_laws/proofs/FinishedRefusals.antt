@@ -1,5 +1,5 @@
 -- A certificate is refused at its end exactly where it has no line, or a line but the last is not used.
-use Rattle.std.proofs.Common.{◌≡◌, ◌⊎◌, ◌<◌, ◌≤◌, ◌+◌, ◌-◌, inl, inr, ℕ, zero, suc, Bool, true, false, cond, List, [], ◌∷◌, ◌++◌, length, take, slice_get, Option, Some, None, Result, Ok, Err, refl, sym, ◌∙◌, ap, subst, arith, length-append}
+use Rattle.std.proofs.Common.{◌≡◌, ◌⊎◌, ◌<◌, ◌≤◌, ◌+◌, ◌-◌, inl, inr, ℕ, zero, suc, Bool, true, false, cond, List, [], ◌∷◌, ◌++◌, length, take, slice_get, Option, Some, None, Result, Err, refl, sym, ◌∙◌, ap, subst, arith, length-append}
 use Rattle.std.specs.Prelude.{not, nat_lt, position, is_some, slice_index}
 use Rattle.std.specs.List.{prefix_len}
 use Rattle.std.proofs.Math.Seq.{take-append_seam}
@@ -57,7 +57,7 @@ open_back s used n (t ∷ ts) (None ∷ os) (suc i) (here, rest) is =
     omega (
       arith,
       open_back s used (n + 1) ts os i rest
-      (record { inside = omega (arith, is.inside); unused = ap used same ∙ is.unused; earlier = λ k low high. is.earlier k (omega (arith, low)) (omega (arith, high)) }),
+          (record { inside = omega (arith, is.inside); unused = ap used same ∙ is.unused; earlier = λ k low high. is.earlier k (omega (arith, low)) (omega (arith, high)) }),
     )
 
 position_there : (xs : List (Option Opened)) (i : ℕ) → position is_some xs ≡ Some i → (prefix xs < length xs) × (prefix xs ≡ i)
@@ -178,7 +178,7 @@ refused_finished s used (u ∷ us) book last e follows first =
     let same : 0 + first.at + 1 ≡ first.at + 1 = omega arith in
     let inside : first.at < length whole.before = omega (arith, first.inside, size) in
     let place = open_back s used 0 whole.before found.front first.at found.are
-        (record { inside = inside; unused = ap used same ∙ first.unused; earlier = λ k low high. first.earlier k low (omega (arith, high)) }) in
+    (record { inside = inside; unused = ap used same ∙ first.unused; earlier = λ k low high. first.earlier k low (omega (arith, high)) }) in
     let here = position_back found.front (omega (arith, inside, place, slots_size s used 0 whole.before found.front found.are)) ∙ ap Some place in
     ends last book.lines book.unused found.front found.slot found.slots
     ∙ ap (λ i. finished_at last book.lines i found.slot) here

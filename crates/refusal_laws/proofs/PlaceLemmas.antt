@@ -1,10 +1,9 @@
 -- A certificate line behind so many others stands in one line of a text.
-use Rattle.std.proofs.Common.{◌≡◌, ◌<◌, ◌≤◌, ◌+◌, ⊎_elim, ℕ, suc, Bool, true, false, cond, not, List, [], ◌∷◌, ◌++◌, length, refl, sym, ◌∙◌, ap, arith, length-append, append_assoc}
+use Rattle.std.proofs.Common.{◌≡◌, ◌<◌, ◌≤◌, ◌+◌, ⊎_elim, ℕ, Bool, true, false, not, List, [], ◌∷◌, ◌++◌, length, refl, sym, ◌∙◌, ap, arith, length-append, append_assoc}
 use Rattle.std.specs.Prelude.{filter}
 use Rattle.std.proofs.lemmas.Bool.{cases_order}
 use Rattle.std.proofs.lemmas.List.Elements.{filter-append}
 use Rattle.lexer.specs.declared.token.Mode.TheVariants as mode
-use Rattle.lexer.specs.Lines.{line_texts, without_mark}
 use Rattle.lexer.specs.Tokens.{lex}
 use Rattle.proof_text.specs.Meanings.{is_yes_alone, without_yes}
 use Rattle.proof_text.specs.Texts.{is_blank}

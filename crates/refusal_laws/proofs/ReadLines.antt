@@ -7,18 +7,16 @@ use Rattle.std.proofs.lemmas.List.{append-nil, get_or_append_left}
 use Rattle.std.proofs.lemmas.List.Elements.{All-append}
 use Rattle.dep_model.specs.declared.schema.Schema.{Schema}
 use Rattle.dep_model.specs.Schemas.{names_of}
-use Rattle.derivation.specs.declared.measures.TheConstants.{MOST_NODES, MOST_LEVELS}
+use Rattle.derivation.specs.declared.measures.TheConstants.{MOST_LEVELS}
 use Rattle.derivation.specs.Trees.{Tree, depth}
 use Rattle.derivation.proofs.RuleTableLemmas.{the_ok}
-use Rattle.lexer.specs.Lines.{line_texts, without_mark}
-use Rattle.proof_text.specs.declared.text.LineKind.{LineKind}
-use Rattle.proof_text.specs.declared.text.LineKind.TheVariants.{Blank, Opening, Certificate}
+use Rattle.proof_text.specs.declared.text.LineKind.TheVariants.{Certificate}
 use Rattle.proof_text.specs.Books.{Opened, Ledger, Prepared, prepared, settled, add_line, entered}
 use Rattle.proof_text.specs.Complaints.{Complaint, LineComplaint, wrong_number}
 use Rattle.proof_text.specs.Lines.{Line}
 use Rattle.proof_text.specs.Meanings.{MeansLine, MeanLines}
 use Rattle.proof_text.specs.Readers.{◌>>=◌}
-use Rattle.proof_text.specs.Spelling.{premises_of, uses}
+use Rattle.proof_text.specs.Spelling.{uses}
 use Rattle.proof_text.specs.Texts.{at_line, read_lines}
 use Rattle.proof_text.proofs.CheckedLemmas.{bind_ok}
 use Rattle.proof_laws.proofs.CountedLines.{counted, Counts}

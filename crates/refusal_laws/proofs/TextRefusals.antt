@@ -17,7 +17,7 @@ use Rattle.proof_text.specs.Lines.{Line, line}
 use Rattle.proof_text.specs.Meanings.{MeansLine, MeanLines}
 use Rattle.proof_text.specs.Readers.{◌>>=◌, rest_from}
 use Rattle.proof_text.specs.Spelling.{AreNodes, uses}
-use Rattle.proof_text.specs.Texts.{in_line, read_as, line_kind, read_one, at_line, read_lines, read_proof}
+use Rattle.proof_text.specs.Texts.{in_line, read_as, line_kind, read_one, read_lines, read_proof}
 use Rattle.proof_laws.proofs.CountedLines.{counted, Counts, kind_counts, line_of_attributes}
 use Rattle.proof_laws.proofs.DepthLemmas.{nodes_size}
 use Rattle.proof_laws.proofs.EnteredLaws.{entered_there}

@@ -1,5 +1,5 @@
 -- Lines that are read lead to a ledger that follows them.
-use Rattle.std.proofs.Common.{◌≡◌, ◌<◌, ◌≤◌, ◌+◌, ℕ, Bool, true, false, List, [], ◌∷◌, ◌++◌, length, get_or, Result, Ok, Err, refl, sym, ◌∙◌, ap, subst, arith, length-append, append_assoc}
+use Rattle.std.proofs.Common.{◌≡◌, ◌<◌, ◌≤◌, ◌+◌, ℕ, Bool, true, false, List, [], ◌∷◌, ◌++◌, length, get_or, Result, refl, sym, ◌∙◌, ap, subst, arith, length-append, append_assoc}
 use Rattle.std.proofs.Math.Seq.{get_or-append_seam}
 use Rattle.std.proofs.lemmas.List.{append-nil}
 use Rattle.dep_model.specs.declared.schema.Schema.{Schema}
@@ -15,11 +15,11 @@ use Rattle.proof_text.specs.Books.{Ledger}
 use Rattle.proof_text.specs.Complaints.{LineComplaint}
 use Rattle.proof_text.specs.Lines.{Line}
 use Rattle.proof_text.specs.Meanings.{MeanLines}
-use Rattle.proof_text.specs.Spelling.{AreNodes, premises_of, uses}
+use Rattle.proof_text.specs.Spelling.{AreNodes, uses}
 use Rattle.proof_text.specs.Texts.{read_as, line_kind, read_one, read_lines}
 use Rattle.proof_laws.proofs.CountedLines.{counted, Counts, kind_counts, line_of_attributes}
 use Rattle.proof_laws.proofs.DepthLemmas.{uses_first, nodes_size}
-use Rattle.proof_laws.proofs.EnteredLaws.{Follows, used_behind, entered_back}
+use Rattle.proof_laws.proofs.EnteredLaws.{used_behind, entered_back}
 use Rattle.proof_laws.proofs.LineLaws.{line_back}
 use Rattle.proof_laws.proofs.NodeLemmas.{uses-append}
 use Rattle.refusal_laws.specs.Refusals.{certificate_lines_of, StandsAt}
