@@ -23,7 +23,7 @@ use Rattle.proof_text.specs.declared.text.TheConstants.{MOST_PROOF_BYTES}
 use Rattle.proof_text.specs.Complaints.{LineComplaint}
 use Rattle.proof_text.specs.Printing.{canonical_certificate}
 use Rattle.proof_text.specs.Spelling.{SpellsWithin}
-use Rattle.proof_text.specs.Texts.{read_proof}
+use Rattle.refusal_laws.specs.Refusals.{IsRefused}
 use Rattle.desk_cli.specs.declared.status.Status.{Status}
 use Rattle.desk_cli.specs.declared.status.Status.TheVariants.{Yes, No, Refused, CannotRead}
 use Rattle.desk_cli.specs.Forms.{Form, implies, check_proof, form_of}
@@ -97,7 +97,7 @@ Decided schema goal status text =
 abbrev pub ProofStops : Reading → Schema → List ℕ → Allowed
 ProofStops r schema name status text =
     FileStops r name MOST_PROOF_BYTES status text
-    ⊎ ((bytes : List ℕ) × (refusal : LineComplaint) × IsContent r name MOST_PROOF_BYTES bytes × (read_proof schema bytes ≡ Err refusal)
+    ⊎ ((bytes : List ℕ) × (refusal : LineComplaint) × IsContent r name MOST_PROOF_BYTES bytes × IsRefused schema bytes refusal
     × Says Refused (proof_refusal_text (names_of schema) name refusal) status text)
 
 -- the text of a file spells this tree, within the limits of a certificate

@@ -1,5 +1,5 @@
 -- No way to stop says yes, and where a text has its meaning nothing stops.
-use Rattle.std.proofs.Common.{◌≡◌, ◌≤◌, ℕ, List, length, Some, Ok, inl, inr, sym, ◌∙◌, subst, arith, Option}
+use Rattle.std.proofs.Common.{◌≡◌, ◌≤◌, ℕ, List, length, Some, Ok, inl, inr, sym, ◌∙◌, subst, arith, Option, Err}
 use Rattle.std.specs.Prelude.{IsSomeAnd, ◌<◌}
 use Rattle.dep_model.specs.declared.schema.Schema.{Schema}
 use Rattle.dep_model.specs.Dependencies.{Dependency}
@@ -18,6 +18,7 @@ use Rattle.schema_reader.proofs.SchemaLaws.{schema-law}
 use Rattle.proof_text.specs.declared.text.TheConstants.{MOST_PROOF_BYTES}
 use Rattle.proof_text.specs.Spelling.{SpellsWithin}
 use Rattle.proof_text.specs.Texts.{read_proof}
+use Rattle.refusal_laws.proofs.TextRefusals.{refused_back}
 use Rattle.proof_laws.proofs.CertificateLaws.{spelled_back}
 use Rattle.desk_cli.specs.declared.status.Status.{Status}
 use Rattle.desk_cli.specs.declared.status.Status.TheVariants.{Yes}
@@ -61,7 +62,7 @@ pub proof_goes : (files : Files) (s : Schema) (name bytes : List ℕ) (t : Tree)
 proof_goes files s name bytes t status text has few spells (inl stop) = file_goes files name bytes MOST_PROOF_BYTES status text has few stop
 proof_goes files s name bytes t status text has few spells (inr stop) =
     let read : read_proof s stop.0 ≡ Ok t = spelled_back s stop.0 t (subst (λ (b : List ℕ). SpellsWithin s b t) (one_content files name bytes stop.0 has stop.2.0) spells) in
-    let refused = stop.3 in cc
+    let refused : read_proof s stop.0 ≡ Err stop.1 = refused_back s stop.0 stop.1 stop.3 in cc
 
 pub goal_goes : (s : Schema) (goal : List ℕ) (d : Dependency) (status : Status) (text : List ℕ) → length goal ≤ MOST_GOAL_BYTES → MeansGoal (names_of s) goal d → GoalStops s goal status text → ⊥
 goal_goes s goal d status text few means (inl stop) = let long = stop.0 in omega (arith, few, long)
