@@ -25,9 +25,13 @@ abbrev pub without_yes : List (List ℕ) → List (List ℕ)
 without_yes [] = []
 without_yes (line ∷ lines) = if is_yes_alone (lex mode.Numbered line) then lines else line ∷ lines
 
--- the lines of a text that are not blank, but for a first `yes`
+-- the lines that are not blank, but for a first `yes`
+abbrev pub certificate_lines_of : List (List ℕ) → List (List ℕ)
+certificate_lines_of lines = without_yes (filter (λ line. not (is_blank (lex mode.Numbered line))) lines)
+
+-- those of a text
 abbrev pub certificate_lines : List ℕ → List (List ℕ)
-certificate_lines text = without_yes (filter (λ line. not (is_blank (lex mode.Numbered line))) (line_texts (without_mark text)))
+certificate_lines text = certificate_lines_of (line_texts (without_mark text))
 
 -- ---- the grammar of a line
 abbrev pub IsColon : Mark → Type 0

@@ -5,9 +5,9 @@ use Rattle.std.proofs.lemmas.Bool.{cases_order}
 use Rattle.std.proofs.lemmas.List.Elements.{filter-append}
 use Rattle.lexer.specs.declared.token.Mode.TheVariants as mode
 use Rattle.lexer.specs.Tokens.{lex}
-use Rattle.proof_text.specs.Meanings.{is_yes_alone, without_yes}
+use Rattle.proof_text.specs.Meanings.{certificate_lines_of, is_yes_alone, without_yes}
 use Rattle.proof_text.specs.Texts.{is_blank}
-use Rattle.refusal_laws.specs.Refusals.{certificate_lines_of, StandsAt}
+use Rattle.refusal_laws.specs.Refusals.{StandsAt}
 
 -- ---- more lines have no fewer certificate lines
 without_yes_grows : (xs ys : List (List ℕ)) → length (without_yes xs) ≤ length (without_yes (xs ++ ys))

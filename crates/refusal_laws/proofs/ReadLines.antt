@@ -14,7 +14,7 @@ use Rattle.proof_text.specs.declared.text.LineKind.TheVariants.{Certificate}
 use Rattle.proof_text.specs.Books.{Opened, Ledger, Prepared, prepared, settled, add_line, entered}
 use Rattle.proof_text.specs.Complaints.{Complaint, LineComplaint, wrong_number}
 use Rattle.proof_text.specs.Lines.{Line}
-use Rattle.proof_text.specs.Meanings.{MeansLine, MeanLines}
+use Rattle.proof_text.specs.Meanings.{certificate_lines_of, MeansLine, MeanLines}
 use Rattle.proof_text.specs.Readers.{◌>>=◌}
 use Rattle.proof_text.specs.Spelling.{uses}
 use Rattle.proof_text.specs.Texts.{at_line, read_lines}
@@ -24,7 +24,7 @@ use Rattle.proof_laws.proofs.DepthLemmas.{uses_first, nodes_size}
 use Rattle.proof_laws.proofs.EnteredLaws.{Follows, IsEntered, used_behind}
 use Rattle.proof_laws.proofs.NodeLemmas.{AreNodes-append, uses-append}
 use Rattle.proof_laws.proofs.SlotLemmas.{IsSlot, slots_same, slots_size, slot_of_tree, tree_of_slot}
-use Rattle.refusal_laws.specs.Refusals.{certificate_lines_of, StandsAt}
+use Rattle.refusal_laws.specs.Refusals.{StandsAt}
 use Rattle.refusal_laws.specs.Wrongs.{AreRead}
 
 -- ---- what is read of a line

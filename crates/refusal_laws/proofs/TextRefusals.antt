@@ -14,7 +14,7 @@ use Rattle.proof_text.specs.declared.text.LineKind.TheVariants.{Blank, Opening, 
 use Rattle.proof_text.specs.Books.{Ledger, complaint_at, entered, finished}
 use Rattle.proof_text.specs.Complaints.{Complaint, LineComplaint}
 use Rattle.proof_text.specs.Lines.{Line, line}
-use Rattle.proof_text.specs.Meanings.{MeansLine, MeanLines}
+use Rattle.proof_text.specs.Meanings.{certificate_lines_of, MeansLine, MeanLines}
 use Rattle.proof_text.specs.Readers.{◌>>=◌, rest_from}
 use Rattle.proof_text.specs.Spelling.{AreNodes, uses}
 use Rattle.proof_text.specs.Texts.{in_line, read_as, line_kind, read_one, read_lines, read_proof}
@@ -24,7 +24,7 @@ use Rattle.proof_laws.proofs.EnteredLaws.{entered_there}
 use Rattle.proof_laws.proofs.LineLaws.{line_there, line_back}
 use Rattle.proof_laws.proofs.PreparedLaws.{IsLineOfAttributes}
 use Rattle.proof_laws.proofs.SlotLemmas.{AreSlots}
-use Rattle.refusal_laws.specs.Refusals.{certificate_lines_of, StandsAt, IsBadLine, IsWrongLine, IsRefusedAt, IsEmptyProof, IsNeverUsed, IsUnfinished, IsRefused}
+use Rattle.refusal_laws.specs.Refusals.{StandsAt, IsBadLine, IsWrongLine, IsRefusedAt, IsEmptyProof, IsNeverUsed, IsUnfinished, IsRefused}
 use Rattle.refusal_laws.proofs.EnteredRefusals.{entered_refused, refused_entered}
 use Rattle.refusal_laws.proofs.FinishedRefusals.{none_finished, IsFirstUnused, finished_refused, refused_finished}
 use Rattle.refusal_laws.proofs.PlaceLemmas.{same_place}

@@ -14,7 +14,7 @@ use Rattle.proof_text.specs.declared.text.LineKind.TheVariants.{Blank, Opening, 
 use Rattle.proof_text.specs.Books.{Ledger}
 use Rattle.proof_text.specs.Complaints.{LineComplaint}
 use Rattle.proof_text.specs.Lines.{Line}
-use Rattle.proof_text.specs.Meanings.{MeanLines}
+use Rattle.proof_text.specs.Meanings.{certificate_lines_of, MeanLines}
 use Rattle.proof_text.specs.Spelling.{AreNodes, uses}
 use Rattle.proof_text.specs.Texts.{read_as, line_kind, read_one, read_lines}
 use Rattle.proof_laws.proofs.CountedLines.{counted, Counts, kind_counts, line_of_attributes}
@@ -22,7 +22,7 @@ use Rattle.proof_laws.proofs.DepthLemmas.{uses_first, nodes_size}
 use Rattle.proof_laws.proofs.EnteredLaws.{used_behind, entered_back}
 use Rattle.proof_laws.proofs.LineLaws.{line_back}
 use Rattle.proof_laws.proofs.NodeLemmas.{uses-append}
-use Rattle.refusal_laws.specs.Refusals.{certificate_lines_of, StandsAt}
+use Rattle.refusal_laws.specs.Refusals.{StandsAt}
 use Rattle.refusal_laws.specs.Wrongs.{AreRead}
 use Rattle.refusal_laws.proofs.ReadLines.{read_from, nothing_counts, IsBehind, at_start, passed, counts_here, one_more}
 

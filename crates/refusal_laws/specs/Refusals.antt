@@ -1,5 +1,5 @@
 -- Why a certificate is refused, and at which line of the text.
-use Rattle.std.specs.Prelude.{◌≡◌, ◌⊎◌, ◌<◌, ℕ, ◌+◌, not, List, [], ◌∷◌, ◌++◌, length, filter, Err}
+use Rattle.std.specs.Prelude.{◌≡◌, ◌⊎◌, ◌<◌, ℕ, ◌+◌, List, [], ◌∷◌, ◌++◌, length, Err}
 use Rattle.dep_model.specs.declared.schema.Schema.{Schema}
 use Rattle.dep_model.specs.Schemas.{names_of}
 use Rattle.derivation.specs.Trees.{Tree}
@@ -9,15 +9,10 @@ use Rattle.lexer.specs.Tokens.{lex}
 use Rattle.schema_reader.specs.declared.refusal.SchemaRefusal.{SchemaRefusal}
 use Rattle.proof_text.specs.Complaints.{Complaint, LineComplaint, bad_line, never_used, empty_proof}
 use Rattle.proof_text.specs.Lines.{Line, line}
-use Rattle.proof_text.specs.Meanings.{without_yes, certificate_lines, MeansLine, MeanLines}
+use Rattle.proof_text.specs.Meanings.{certificate_lines_of, certificate_lines, MeansLine, MeanLines}
 use Rattle.proof_text.specs.Readers.{rest_from}
 use Rattle.proof_text.specs.Spelling.{uses}
-use Rattle.proof_text.specs.Texts.{is_blank}
 use Rattle.refusal_laws.specs.Wrongs.{AreRead, IsFirstWrong}
-
--- the certificate lines among lines of a text
-abbrev pub certificate_lines_of : List (List ℕ) → List (List ℕ)
-certificate_lines_of texts = without_yes (filter (λ text. not (is_blank (lex mode.Numbered text))) texts)
 
 -- a certificate line stands in this line of a text, behind those of the lines before
 pub record StandsAt (text : List ℕ) (before : List (List ℕ)) (here : List ℕ) (at : ℕ) : Type 0 where
