@@ -20,7 +20,7 @@ use Rattle.proof_text.specs.Meanings.{MeanLines, MeansLine}
 use Rattle.proof_text.specs.Readers.{◌>>=◌, rest_from}
 use Rattle.proof_text.specs.Spelling.{AreNodes, Spells, SpellsWithin, uses}
 use Rattle.proof_text.specs.Texts.{in_line, read_as, line_kind, read_one, at_line, read_lines, read_proof}
-use Rattle.proof_text.proofs.CheckedLemmas.{bind_ok, read_proof_checked}
+use Rattle.proof_text.proofs.CheckedLemmas.{bind_ok, at_line-ok, read_proof_checked}
 use Rattle.derivation.proofs.RuleTableLemmas.{the_ok}
 use Rattle.proof_laws.proofs.CountedLines.{counted, Counts, kind_counts, line_of_attributes}
 use Rattle.proof_laws.proofs.DepthLemmas.{uses_first, nodes_size, no_deeper}
@@ -68,10 +68,6 @@ in_line_ok : {A : Type 0} (r : Result A SchemaRefusal) (x : A) → in_line r ≡
 in_line_ok (Ok y) x h = cc
 in_line_ok (Err e) x h = cc
 
-at_line_ok : {A : Type 0} (n : ℕ) (r : Result A Complaint) (x : A) → at_line n r ≡ Ok x → r ≡ Ok x
-at_line_ok n (Ok y) x h = cc
-at_line_ok n (Err why) x h = cc
-
 -- what is read of the lines behind this one
 abbrev ReadsOn : Schema → ℕ → List (List ℕ) → Tree → Type 0
 ReadsOn s number texts t =
@@ -114,7 +110,7 @@ lines_there s number (text ∷ texts) t fresh used ts book follows few h =
     let k = line_kind fresh (lex mode.Numbered text) in
     let first = bind_ok (at_line number (read_as k s fresh number book text)) (λ next. read_lines s next.0 (number + 1) next.1 texts) t h in
     line_there_more k s fresh number used ts book text texts t first.0 follows few (kind_counts fresh text k refl)
-    (at_line_ok number (read_as k s fresh number book text) first.0 first.1) first.2 (lines_there s (number + 1) texts t)
+    (at_line-ok number (read_as k s fresh number book text) first.0 first.1) first.2 (lines_there s (number + 1) texts t)
 
 -- ---- from what a text spells
 -- the trees of lines that are left, within the limits

@@ -20,7 +20,7 @@ use Rattle.schema_reader.proofs.WithinLemmas.{place_named_within}
 use Rattle.proof_text.specs.declared.text.LineKind.{LineKind}
 use Rattle.proof_text.specs.declared.text.LineKind.TheVariants.{Blank, Opening, Certificate}
 use Rattle.proof_text.specs.Lines.{Body, by_given, by_reflexivity, by_mreflexivity, by_step, by_pair, Line}
-use Rattle.proof_text.specs.Meanings.{is_yes_alone, without_yes, HasSets, IsRule, MeansLine}
+use Rattle.proof_text.specs.Meanings.{is_yes_alone, certificate_lines_of, HasSets, IsRule, MeansLine}
 use Rattle.proof_text.specs.Texts.{is_yes, is_blank, is_blank_from, kind_from, line_kind}
 use Rattle.proof_laws.proofs.PreparedLaws.{BodyOfAttributes, IsLineOfAttributes}
 
@@ -29,7 +29,7 @@ abbrev pub spoken : List (List ℕ) → List (List ℕ)
 spoken texts = filter (λ line. not (is_blank (lex mode.Numbered line))) texts
 
 abbrev pub counted : Bool → List (List ℕ) → List (List ℕ)
-counted true texts = without_yes (spoken texts)
+counted true texts = certificate_lines_of texts
 counted false texts = spoken texts
 
 -- how a line changes them

@@ -18,7 +18,7 @@ abbrev pub AreUsed : (ℕ → ℕ) → ℕ → ℕ → Type 0
 AreUsed used n m = (k : ℕ) → n < k → k ≤ n + m → used k ≡ 1
 
 -- ---- no slot is open
-abbrev prefix : List (Option Opened) → ℕ
+abbrev pub prefix : List (Option Opened) → ℕ
 prefix os = prefix_len (λ o. not (is_some o)) os
 
 used_there : (s : Schema) (used : ℕ → ℕ) (n : ℕ) (ts : List Tree) (os : List (Option Opened)) → AreSlots s used n ts os → length os ≤ prefix os → AreUsed used n (length ts)
@@ -52,14 +52,14 @@ position_none : (xs : List (Option Opened)) → prefix xs ≡ length xs → posi
 position_none xs e = let past : nat_lt (prefix xs) (length xs) ≡ false = grind (arith, nat_tests, e) in rw past refl
 
 -- ---- the last slot
-record IsLast (s : Schema) (used : ℕ → ℕ) (n : ℕ) (before : List Tree) (t : Tree) (os : List (Option Opened)) : Type 0 where
-  front : List (Option Opened)
-  slot : Option Opened
-  slots : os ≡ front ++ slot ∷ []
-  are : AreSlots s used n before front
-  is : IsSlot s (used (n + length before + 1)) t slot
+pub record IsLast (s : Schema) (used : ℕ → ℕ) (n : ℕ) (before : List Tree) (t : Tree) (os : List (Option Opened)) : Type 0 where
+  pub front : List (Option Opened)
+  pub slot : Option Opened
+  pub slots : os ≡ front ++ slot ∷ []
+  pub are : AreSlots s used n before front
+  pub is : IsSlot s (used (n + length before + 1)) t slot
 
-last_slot : (s : Schema) (used : ℕ → ℕ) (n : ℕ) (before : List Tree) (t : Tree) (os : List (Option Opened)) → AreSlots s used n (before ++ t ∷ []) os → IsLast s used n before t os
+pub last_slot : (s : Schema) (used : ℕ → ℕ) (n : ℕ) (before : List Tree) (t : Tree) (os : List (Option Opened)) → AreSlots s used n (before ++ t ∷ []) os → IsLast s used n before t os
 last_slot s used n [] t [] slots = absurd slots
 last_slot s used n [] t (o ∷ []) (here, rest) =
     let of : ℕ → Type 0 = λ m. IsSlot s (used m) t o in
@@ -74,17 +74,17 @@ last_slot s used n (u ∷ before) t (o ∷ os) (here, rest) =
     record { front = o ∷ last.front; slot = last.slot; slots = ap (λ ps. o ∷ ps) last.slots; are = (here, last.are); is = subst of same last.is }
 
 -- some trees have a last one
-record HasLast (ts : List Tree) : Type 0 where
-  before : List Tree
-  tree : Tree
-  whole : ts ≡ before ++ tree ∷ []
+pub record HasLast (ts : List Tree) : Type 0 where
+  pub before : List Tree
+  pub tree : Tree
+  pub whole : ts ≡ before ++ tree ∷ []
 
-last_tree : (t : Tree) (ts : List Tree) → HasLast (t ∷ ts)
+pub last_tree : (t : Tree) (ts : List Tree) → HasLast (t ∷ ts)
 last_tree t [] = record { before = []; tree = t; whole = refl }
 last_tree t (u ∷ ts) = let last = last_tree u ts in record { before = t ∷ last.before; tree = last.tree; whole = ap (λ us. t ∷ us) last.whole }
 
 -- what is finished behind a last slot
-ends : (last : ℕ) (lines : List ℕ) (os front : List (Option Opened)) (slot : Option Opened) → os ≡ front ++ slot ∷ []
+pub ends : (last : ℕ) (lines : List ℕ) (os front : List (Option Opened)) (slot : Option Opened) → os ≡ front ++ slot ∷ []
     → finished last (record { lines = lines; unused = os }) ≡ finished_at last lines (position is_some front) slot
 unfolding finished
 ends last lines os front slot e =

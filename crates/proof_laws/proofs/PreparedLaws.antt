@@ -1,5 +1,6 @@
 -- A line's node is prepared exactly where its rule makes a tree of the trees of earlier lines.
 use Rattle.std.proofs.Common.{◌≡◌, ◌<◌, ◌≤◌, ◌+◌, ◌-◌, ◌==◌, ℕ, zero, suc, Bool, true, false, cond, ◌&&◌, List, [], ◌∷◌, length, slice_set, Option, Some, None, Result, Ok, Err, refl, sym, ◌∙◌, ap, subst, arith}
+use Rattle.proof_text.proofs.CheckedLemmas.{with_tree-ok}
 use Rattle.std.specs.Prelude.{nat_lt, nat_le, max}
 use Rattle.std.proofs.lemmas.Bool.{and_parts}
 use Rattle.std.proofs.lemmas.Bool.Decides.{nat_tests}
@@ -40,12 +41,6 @@ pub record IsMade (s : Schema) (used : ℕ → ℕ) (ts : List Tree) (l : Line) 
   pub only : (u : Tree) (d : Dependency) → p.outcome ≡ Ok (u, d) → (u ≡ t) × Proves s t d
   pub slots : AreSlots s (λ n. used n + times n (premises_of l.body)) 0 ts p.unused
 
-with_tree_ok : (t u : Tree) (r : Result Dependency FaultKind) (d : Dependency) → with_tree t r ≡ Ok (u, d) → (t ≡ u) × (r ≡ Ok d)
-with_tree_ok t u (Ok e) d h =
-    let same : (t, e) ≡ (u, d) = the_ok {A = Tree × Dependency} {E = FaultKind} (t, e) (u, d) h in
-    (ap (λ (x : Tree × Dependency). x.0) same, ap (λ (x : Tree × Dependency). Ok x.1) same)
-with_tree_ok t u (Err why) d h = cc
-
 -- a node whose tree and rule are known
 made : (s : Schema) (used : ℕ → ℕ) (ts : List Tree) (l : Line) (levels : ℕ) (w t : Tree) (r : Result Dependency FaultKind) (unused : List (Option Opened)) → w ≡ t → IsTreeOf ts l l.body t
     → levels ≡ depth t → TreeOfAttributes t → ((d : Dependency) → Proves s t d → r ≡ Ok d) → ((d : Dependency) → r ≡ Ok d → Proves s t d)
@@ -55,7 +50,7 @@ made s used ts l levels w t r unused same tree deep attributes gives only slots 
   levels = deep;
   attributes = attributes;
   gives = λ d proves. rw (gives d proves) (ap (λ v. Ok (v, d)) same);
-  only = λ u d h. let both = with_tree_ok w u r d h in (sym both.0 ∙ same, only d both.1);
+  only = λ u d h. let both = with_tree-ok w u r d h in (sym both.0 ∙ same, only d both.1);
   slots = slots;
 }
 
@@ -105,12 +100,12 @@ step_there s used ts os n stated rule q p true (Some o) slots attributes earlier
     subst (HasMade s used ts l) (the_ok {A = Prepared} {E = Complaint} _ p h)
     (record { made_tree = step rule premise.0; is = step_made s used ts os n stated rule q o premise.0 slots attributes premise.1 })
 
-closed_size : (xs : List (Option Opened)) (i : ℕ) → length (slice_set xs i None) ≡ length xs
+pub closed_size : (xs : List (Option Opened)) (i : ℕ) → length (slice_set xs i None) ≡ length xs
 closed_size [] i = refl
 closed_size (x ∷ xs) zero = refl
 closed_size (x ∷ xs) (suc i) = ap suc (closed_size xs i)
 
-closed_earlier : (os : List (Option Opened)) (p q : ℕ) → is_earlier os q ≡ true → is_earlier (closed os p) q ≡ true
+pub closed_earlier : (os : List (Option Opened)) (p q : ℕ) → is_earlier os q ≡ true → is_earlier (closed os p) q ≡ true
 closed_earlier os p q e = ap (λ m. nat_lt 0 q && nat_le q m) (closed_size os (p - 1)) ∙ e
 
 pair_there : (s : Schema) (used : ℕ → ℕ) (ts : List Tree) (os : List (Option Opened)) (n : ℕ) (stated : Dependency) (rule : Pair) (q r : ℕ) (p : Prepared) (b : Bool) (o w : Option Opened)

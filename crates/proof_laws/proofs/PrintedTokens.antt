@@ -1,5 +1,6 @@
 -- How the pieces of a printed line are lexed: decimals, colons, words, sets and dependencies.
-use Rattle.std.proofs.Common.{◌≡◌, ◌<◌, ◌≤◌, ◌+◌, ◌-◌, ◌*◌, ◌^◌, ℕ, suc, Bool, true, false, ◌==◌, ◌&&◌, List, [], ◌∷◌, ◌++◌, length, take, drop, refl, sym, ◌∙◌, ap, arith, append_assoc, length-append, rules}
+use Rattle.std.proofs.Common.{◌≡◌, ◌<◌, ◌≤◌, ◌+◌, ◌-◌, ◌*◌, ◌^◌, ℕ, suc, Bool, true, false, ◌==◌, ◌&&◌, List, [], ◌∷◌, ◌++◌, length, refl, sym, ◌∙◌, ap, arith, append_assoc, length-append, rules}
+use Rattle.reader_laws.proofs.PrintedLexing.{take_front, drop_front}
 use Rattle.std.specs.Prelude.{codes, decimal, nat_lt, nat_le, fold}
 use Rattle.std.specs.List.{list_all}
 use Rattle.std.specs.Char.{is_ascii_alphabetic, is_ascii_digit}
@@ -59,16 +60,6 @@ run_is (b ∷ bs) rest e apart =
     let parts = and_parts (is_ascii_digit b) (list_all is_ascii_digit bs) e in
     let more : run_length (bs ++ rest) ≡ length bs = run_is bs rest parts.1 apart in
     rw (digit_byte b parts.0, more) (omega arith)
-
-take_front : (word rest : List ℕ) → take (length word) (word ++ rest) ≡ word
-take_front [] [] = refl
-take_front [] (b ∷ bs) = refl
-take_front (b ∷ bs) rest = ap (λ t. b ∷ t) (take_front bs rest)
-
-drop_front : (word rest : List ℕ) → drop (length word) (word ++ rest) ≡ rest
-drop_front [] [] = refl
-drop_front [] (b ∷ bs) = refl
-drop_front (b ∷ bs) rest = drop_front bs rest
 
 digits_number : (word : List ℕ) → list_all is_ascii_digit word ≡ true → 0 < length word → length word ≤ 9 → is_number word ≡ true
 unfolding is_number

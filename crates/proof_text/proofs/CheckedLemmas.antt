@@ -62,7 +62,7 @@ pub record IsPrepared (s : Schema) (before : List (Option Opened)) (p : Prepared
   pub levels : (t : Tree) (d : Dependency) → p.outcome ≡ Ok (t, d) → depth t ≡ p.levels
   pub counted : (t : Tree) (d : Dependency) → p.outcome ≡ Ok (t, d) → nodes t + all_nodes p.unused ≡ all_nodes before + 1
 
-with_tree-ok : (t u : Tree) (r : Result Dependency FaultKind) (d : Dependency) → with_tree t r ≡ Ok (u, d) → (t ≡ u) × (r ≡ Ok d)
+pub with_tree-ok : (t u : Tree) (r : Result Dependency FaultKind) (d : Dependency) → with_tree t r ≡ Ok (u, d) → (t ≡ u) × (r ≡ Ok d)
 with_tree-ok t u (Ok e) d h =
     let same : (t, e) ≡ (u, d) = the_ok {A = Tree × Dependency} {E = FaultKind} (t, e) (u, d) h in
     (ap (λ (x : Tree × Dependency). x.0) same, ap (λ (x : Tree × Dependency). Ok x.1) same)
@@ -217,7 +217,7 @@ finished_checked s last book t is h =
     subst (IsChecked s) found.2
     (record { conclusion = u.conclusion; proves = stands.proves; few_nodes = omega (arith, counted, is.count, is.few); few_levels = omega (arith, stands.levels, stands.few) })
 
-at_line-ok : {A : Type 0} (n : ℕ) (r : Result A Complaint) (x : A) → at_line n r ≡ Ok x → r ≡ Ok x
+pub at_line-ok : {A : Type 0} (n : ℕ) (r : Result A Complaint) (x : A) → at_line n r ≡ Ok x → r ≡ Ok x
 at_line-ok n (Ok y) x h = cc
 at_line-ok n (Err why) x h = cc
 

@@ -42,12 +42,12 @@ run_is (b ∷ bs) rest e apart =
     let more : run_length (bs ++ rest) ≡ length bs = run_is bs rest parts.1 apart in
     rw (parts.0, more) (omega arith)
 
-take_front : (word rest : List ℕ) → take (length word) (word ++ rest) ≡ word
+pub take_front : (word rest : List ℕ) → take (length word) (word ++ rest) ≡ word
 take_front [] [] = refl
 take_front [] (b ∷ bs) = refl
 take_front (b ∷ bs) rest = ap (λ t. b ∷ t) (take_front bs rest)
 
-drop_front : (word rest : List ℕ) → drop (length word) (word ++ rest) ≡ rest
+pub drop_front : (word rest : List ℕ) → drop (length word) (word ++ rest) ≡ rest
 drop_front [] [] = refl
 drop_front [] (b ∷ bs) = refl
 drop_front (b ∷ bs) rest = drop_front bs rest

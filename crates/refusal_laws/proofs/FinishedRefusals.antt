@@ -1,21 +1,16 @@
 -- A certificate is refused at its end exactly where it has no line, or a line but the last is not used.
-use Rattle.std.proofs.Common.{◌≡◌, ◌⊎◌, ◌<◌, ◌≤◌, ◌+◌, ◌-◌, inl, inr, ℕ, zero, suc, Bool, true, false, cond, List, [], ◌∷◌, ◌++◌, length, take, slice_get, Option, Some, None, Result, Err, refl, sym, ◌∙◌, ap, subst, arith, length-append}
-use Rattle.std.specs.Prelude.{not, nat_lt, position, is_some, slice_index}
-use Rattle.std.specs.List.{prefix_len}
-use Rattle.std.proofs.Math.Seq.{take-append_seam}
+use Rattle.std.proofs.Common.{◌≡◌, ◌⊎◌, ◌<◌, ◌≤◌, ◌+◌, inl, inr, ℕ, zero, suc, Bool, true, false, cond, List, [], ◌∷◌, ◌++◌, length, Option, Some, None, Result, Err, refl, sym, ◌∙◌, ap, subst, arith, length-append}
+use Rattle.proof_laws.proofs.FinishedLaws.{prefix, IsLast, last_slot, last_tree, ends}
+use Rattle.std.specs.Prelude.{nat_lt, position, is_some, slice_index}
 use Rattle.std.proofs.lemmas.Bool.Decides.{nat_tests}
 use Rattle.dep_model.specs.declared.schema.Schema.{Schema}
 use Rattle.derivation.specs.Trees.{Tree}
 use Rattle.proof_text.specs.Books.{Opened, Ledger, complaint_at, finished_at, finished}
 use Rattle.proof_text.specs.Complaints.{LineComplaint, never_used, empty_proof}
-use Rattle.proof_laws.proofs.NodeLemmas.{seam}
 use Rattle.proof_laws.proofs.SlotLemmas.{IsSlot, AreSlots, slots_size}
 use Rattle.proof_laws.proofs.EnteredLaws.{Follows}
 
 -- ---- the first open slot
-abbrev prefix : List (Option Opened) → ℕ
-prefix os = prefix_len (λ o. not (is_some o)) os
-
 -- among slots behind so many others; those before it are used once
 pub record IsFirstOpen (used : ℕ → ℕ) (n i size : ℕ) : Type 0 where
   pub inside : i < size
@@ -70,48 +65,6 @@ position_there xs i e = told (nat_lt (prefix xs) (length xs)) refl e
 position_back : (xs : List (Option Opened)) → prefix xs < length xs → position is_some xs ≡ Some (prefix xs)
 position_back xs h = let inside : nat_lt (prefix xs) (length xs) ≡ true = grind (arith, nat_tests, h) in rw inside refl
 
--- ---- the last slot
-record IsLast (s : Schema) (used : ℕ → ℕ) (n : ℕ) (before : List Tree) (t : Tree) (os : List (Option Opened)) : Type 0 where
-  front : List (Option Opened)
-  slot : Option Opened
-  slots : os ≡ front ++ slot ∷ []
-  are : AreSlots s used n before front
-  is : IsSlot s (used (n + length before + 1)) t slot
-
-last_slot : (s : Schema) (used : ℕ → ℕ) (n : ℕ) (before : List Tree) (t : Tree) (os : List (Option Opened)) → AreSlots s used n (before ++ t ∷ []) os → IsLast s used n before t os
-last_slot s used n [] t [] slots = absurd slots
-last_slot s used n [] t (o ∷ []) (here, rest) =
-    let of : ℕ → Type 0 = λ m. IsSlot s (used m) t o in
-    let same : n + 1 ≡ n + 0 + 1 = omega arith in
-    record { front = []; slot = o; slots = refl; are = tt; is = subst of same here }
-last_slot s used n [] t (o ∷ p ∷ os) (here, rest) = absurd rest
-last_slot s used n (u ∷ before) t [] slots = absurd slots
-last_slot s used n (u ∷ before) t (o ∷ os) (here, rest) =
-    let last = last_slot s used (n + 1) before t os rest in
-    let of : ℕ → Type 0 = λ m. IsSlot s (used m) t last.slot in
-    let same : n + 1 + length before + 1 ≡ n + suc (length before) + 1 = omega arith in
-    record { front = o ∷ last.front; slot = last.slot; slots = ap (λ ps. o ∷ ps) last.slots; are = (here, last.are); is = subst of same last.is }
-
--- some trees have a last one
-record HasLast (ts : List Tree) : Type 0 where
-  before : List Tree
-  tree : Tree
-  whole : ts ≡ before ++ tree ∷ []
-
-last_tree : (t : Tree) (ts : List Tree) → HasLast (t ∷ ts)
-last_tree t [] = record { before = []; tree = t; whole = refl }
-last_tree t (u ∷ ts) = let last = last_tree u ts in record { before = t ∷ last.before; tree = last.tree; whole = ap (λ us. t ∷ us) last.whole }
-
--- what is finished behind a last slot
-ends : (last : ℕ) (lines : List ℕ) (os front : List (Option Opened)) (slot : Option Opened) → os ≡ front ++ slot ∷ []
-    → finished last (record { lines = lines; unused = os }) ≡ finished_at last lines (position is_some front) slot
-unfolding finished
-ends last lines os front slot e =
-    let size : length (front ++ slot ∷ []) - 1 ≡ length front = omega (arith, length-append front (slot ∷ [])) in
-    let cut : take (length (front ++ slot ∷ []) - 1) (front ++ slot ∷ []) ≡ front = ap (λ n. take n (front ++ slot ∷ [])) size ∙ take-append_seam front (slot ∷ []) in
-    let at : slice_get (front ++ slot ∷ []) (length (front ++ slot ∷ []) - 1) ≡ Some slot = ap (slice_get (front ++ slot ∷ [])) size ∙ seam front slot [] in
-    rw (e, cut, at) refl
-
 -- ---- no line
 pub none_finished : (s : Schema) (used : ℕ → ℕ) (last : ℕ) (lines : List ℕ) (os : List (Option Opened)) → AreSlots s used 0 [] os
     → finished last (record { lines = lines; unused = os }) ≡ Err (complaint_at last empty_proof)
@@ -128,7 +81,7 @@ pub record IsFirstUnused (used : ℕ → ℕ) (size : ℕ) (lines : List ℕ) (e
   pub earlier : (k : ℕ) → 0 < k → k ≤ at → used k ≡ 1
   pub is : e ≡ complaint_at (slice_index lines at) never_used
 
-the_err : {A E : Type 0} (x y : E) → ◌≡◌ {A = Result A E} (Err x) (Err y) → x ≡ y
+pub the_err : {A E : Type 0} (x y : E) → ◌≡◌ {A = Result A E} (Err x) (Err y) → x ≡ y
 the_err x y h = cc
 
 -- the slot of the last line is open

@@ -1,6 +1,7 @@
 -- Why no node of a line is prepared, and what is known of one that is.
-use Rattle.std.proofs.Common.{◌≡◌, ◌<◌, ◌≤◌, ◌⊎◌, inl, inr, ⊎_elim, ◌+◌, ◌-◌, ◌==◌, ℕ, zero, suc, Bool, true, false, cond, ◌&&◌, List, [], ◌∷◌, length, slice_get, slice_set, Option, Some, None, Result, Ok, Err, refl, sym, ◌∙◌, ap, subst, arith}
-use Rattle.std.specs.Prelude.{nat_lt, nat_le, max}
+use Rattle.std.proofs.Common.{◌≡◌, ◌<◌, ◌≤◌, ◌⊎◌, inl, inr, ⊎_elim, ◌+◌, ◌-◌, ◌==◌, ℕ, Bool, true, false, cond, ◌&&◌, List, [], ◌∷◌, length, slice_get, Option, Some, None, Result, Ok, Err, refl, sym, ◌∙◌, ap, subst, arith}
+use Rattle.proof_text.proofs.CheckedLemmas.{with_tree-ok}
+use Rattle.std.specs.Prelude.{max}
 use Rattle.std.proofs.lemmas.Bool.Decides.{nat_tests}
 use Rattle.dep_model.specs.declared.schema.Schema.{Schema}
 use Rattle.dep_model.specs.Dependencies.{Dependency, left_of, right_of}
@@ -10,7 +11,6 @@ use Rattle.derivation.specs.declared.measures.TheConstants.{MOST_LEVELS}
 use Rattle.derivation.specs.Trees.{Tree, Leaf, Step, Pair, leaf, step, pair, given, reflexivity, mreflexivity, depth}
 use Rattle.derivation.specs.Table.{leaf_conclusion, step_conclusion, pair_conclusion}
 use Rattle.derivation.specs.Conclusions.{Proves}
-use Rattle.derivation.proofs.RuleTableLemmas.{the_ok}
 use Rattle.derivation.proofs.WithinLemmas.{TreeOfAttributes, StepOfAttributes}
 use Rattle.proof_text.specs.Books.{Opened, Prepared, joined, is_earlier, open_at, closed, step_node, pair_node, prepared}
 use Rattle.proof_text.specs.Complaints.{Complaint, no_such_line, used_twice}
@@ -19,7 +19,7 @@ use Rattle.proof_text.specs.Nodes.{with_tree}
 use Rattle.proof_text.specs.Spelling.{IsTreeOf, premises_of}
 use Rattle.proof_laws.proofs.SlotLemmas.{AreSlots, IsSlot, SlotAt, times, slots_size, slot_of_tree, tree_of_slot}
 use Rattle.proof_laws.proofs.PremiseLemmas.{premise_there, premise_taken, times_self, times_other, times_two}
-use Rattle.proof_laws.proofs.PreparedLaws.{IsLineOfAttributes}
+use Rattle.proof_laws.proofs.PreparedLaws.{IsLineOfAttributes, closed_earlier}
 use Rattle.refusal_laws.specs.Wrongs.{NodeFault}
 use Rattle.proof_laws.proofs.OneTree.{tree_of_line}
 
@@ -124,21 +124,7 @@ closed_used s used ts os p slots earlier here = told found.slot found.here found
     told None at is = omega (arith, ap used same, is)
     told (Some o) at is = let both : Some o ≡ None = sym (ap joined at) ∙ here in cc
 
-closed_size : (xs : List (Option Opened)) (i : ℕ) → length (slice_set xs i None) ≡ length xs
-closed_size [] i = refl
-closed_size (x ∷ xs) zero = refl
-closed_size (x ∷ xs) (suc i) = ap suc (closed_size xs i)
-
-closed_earlier : (os : List (Option Opened)) (p q : ℕ) → is_earlier os q ≡ true → is_earlier (closed os p) q ≡ true
-closed_earlier os p q e = ap (λ m. nat_lt 0 q && nat_le q m) (closed_size os (p - 1)) ∙ e
-
 -- ---- a node whose tree is known
-with_tree_ok : (t u : Tree) (r : Result Dependency FaultKind) (d : Dependency) → with_tree t r ≡ Ok (u, d) → (t ≡ u) × (r ≡ Ok d)
-with_tree_ok t u (Ok e) d h =
-    let same : (t, e) ≡ (u, d) = the_ok {A = Tree × Dependency} {E = FaultKind} (t, e) (u, d) h in
-    (ap (λ (x : Tree × Dependency). x.0) same, ap (λ (x : Tree × Dependency). Ok x.1) same)
-with_tree_ok t u (Err why) d h = cc
-
 with_tree_err : (t : Tree) (r : Result Dependency FaultKind) (why : FaultKind) → with_tree t r ≡ Err why → r ≡ Err why
 with_tree_err t (Ok e) why h = cc
 with_tree_err t (Err other) why h = let same : other ≡ why = cc in ap Err same
@@ -151,7 +137,7 @@ outcome_of s ts l levels w t r unused same tree deep attributes gives fails = re
   deep = λ h. (t, tree);
   fails = λ why h. fails why (with_tree_err w r why h);
   gives = λ u d h.
-      let both = with_tree_ok w u r d h in
+      let both = with_tree-ok w u r d h in
       subst (λ (v : Tree). IsTreeOf ts l l.body v × Proves s v d × TreeOfAttributes v) (sym same ∙ both.0) (tree, gives d both.1, attributes);
 }
 

@@ -1,5 +1,6 @@
 -- A certificate is refused exactly as it goes wrong.
 use Rattle.std.proofs.Common.{◌≡◌, ◌⊎◌, ⊎_elim, ◌+◌, ◌-◌, inl, inr, ℕ, Bool, true, false, List, [], ◌∷◌, ◌++◌, length, Result, Ok, Err, refl, sym, ◌∙◌, ap, subst, arith, length-append, append_assoc}
+use Rattle.refusal_laws.proofs.FinishedRefusals.{the_err}
 use Rattle.std.specs.Prelude.{slice_index}
 use Rattle.std.proofs.lemmas.List.{append-nil}
 use Rattle.dep_model.specs.declared.schema.Schema.{Schema}
@@ -30,9 +31,6 @@ use Rattle.refusal_laws.proofs.FinishedRefusals.{none_finished, IsFirstUnused, f
 use Rattle.refusal_laws.proofs.PlaceLemmas.{same_place}
 use Rattle.refusal_laws.proofs.ReadLines.{marked, read_from, nothing_counts, IsBehind, at_start, passed, counts_here, one_more}
 use Rattle.refusal_laws.proofs.WalkedLines.{walked}
-
-the_err : {A E : Type 0} (x y : E) → ◌≡◌ {A = Result A E} (Err x) (Err y) → x ≡ y
-the_err x y h = cc
 
 -- ---- at the end
 no_lines : (s : Schema) (lines : List Line) (trees : List Tree) → AreNodes s [] lines trees → trees ≡ [] → lines ≡ []
