@@ -1,0 +1,64 @@
+"""Large inputs of the black-box cases, each from few numbers."""
+
+
+def attributes(count, first="a"):
+    """The declaring line of so many attributes, a1, a2 and so on."""
+    return "attributes " + names(count, first) + "\n"
+
+
+def names(count, first="a", begin=1, between=" "):
+    """Their names from a number on."""
+    return between.join(f"{first}{i}" for i in range(begin, count + 1))
+
+
+def row(values):
+    """A row of a CSV file whose values need no quotes."""
+    return ",".join(map(str, values)) + "\n"
+
+
+def lines(texts):
+    """Each with a line feed."""
+    return "".join(text + "\n" for text in texts)
+
+
+def filled(front, size):
+    """A text of this size that begins so; where that ends with `#`, the rest is a comment."""
+    return front + "x" * (size - len(front))
+
+
+def write_with_zero_bytes(name, front, size):
+    """A file of this size that begins so and goes on with zero bytes, which take no room on the disk."""
+    with open(name, "wb") as file:
+        file.write(front.encode())
+        file.truncate(size)
+
+
+def chain_certificate(order):
+    """What `implies` prints for a1 -> an, where dependency order[i - 1] of the schema is ai -> a(i+1)."""
+    side, text = "a1", ["yes", "1: a1 -> a1 : reflexivity"]
+    for i, given in enumerate(order, 1):
+        n, wider = len(text), f"{side} a{i + 1}"
+        text.append(f"{n}: a{i} -> a{i + 1} : given {given}")
+        text.append(f"{n + 1}: {side} -> {wider} : augmentation {n} with {side}")
+        text.append(f"{n + 2}: a1 -> {wider} : transitivity {n - 1} {n + 1}")
+        side = wider
+    n, last = len(text), f"a{len(order) + 1}"
+    text += [f"{n}: {side} -> {last} : reflexivity", f"{n + 1}: a1 -> {last} : transitivity {n - 1} {n}"]
+    return lines(text)
+
+
+def unused_lines(count):
+    """Certificate lines that stand on no other."""
+    return lines(f"{n}: A -> A : given 1" for n in range(1, count + 1))
+
+
+def deep_lines(count):
+    """Certificate lines of which each stands on the one before."""
+    return "1: A -> A : given 1\n" + lines(f"{n}: A -> A : augmentation {n - 1} with A" for n in range(2, count + 1))
+
+
+def joined_lines(leaves):
+    """Certificate lines joined two by two, and one line more; leaves is a power of 2."""
+    text = unused_lines(leaves)
+    text += lines(f"{leaves + i}: A -> A : transitivity {2 * i - 1} {2 * i}" for i in range(1, leaves))
+    return text + f"{2 * leaves}: A -> A : augmentation {2 * leaves - 1} with A\n"
