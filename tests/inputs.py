@@ -11,6 +11,41 @@ def names(count, first="a", begin=1, between=" "):
     return between.join(f"{first}{i}" for i in range(begin, count + 1))
 
 
+def narrow_pairs(count):
+    """A schema of attributes A1 B1 A2 B2 and so on, each pair equivalent, so that it has 2 to the power count keys."""
+    pairs = " ".join(f"A{i} B{i}" for i in range(1, count + 1))
+    return f"attributes {pairs}\n" + lines(f"A{i} -> B{i}\nB{i} -> A{i}" for i in range(1, count + 1))
+
+
+def keys_of_pairs(count):
+    """Its keys, ascending."""
+    return lines(
+        " ".join(f"{'AB'[k >> i & 1]}{i + 1}" for i in range(count)) for k in range(1 << count))
+
+
+def doubling(count):
+    """A schema of pairs a1 b1, a2 b2 and so on, whose splits double the list of schemes at each step."""
+    pairs = [f"a{i} b{i}" for i in range(1, count + 1)]
+    text = "attributes " + " ".join(pairs) + "\n"
+    return text + lines(f"{' '.join(pairs[i:]) or '()'} -> a{i}" for i in range(1, count + 1))
+
+
+def ring(count):
+    """A schema in which each two neighbours determine the next attribute, around a ring."""
+    at = [f"a{i}" for i in range(1, count + 1)] * 2
+    return attributes(count) + lines(f"{at[i]} {at[i + 1]} -> {at[i + 2]}" for i in range(count))
+
+
+def one_choice(count):
+    """A schema whose plan of single attributes has a second tableau of count times count rows."""
+    return attributes(count) + f"() ->> a1\na1 -> {names(count, begin=2)}\n"
+
+
+def singles(count):
+    """The plan of schemes of one attribute each."""
+    return lines(f"scheme a{i}" for i in range(1, count + 1))
+
+
 def row(values):
     """A row of a CSV file whose values need no quotes."""
     return ",".join(map(str, values)) + "\n"
