@@ -5,7 +5,8 @@ pub mod Projections
 pub mod OnSchemes
 pub mod Keys
 pub mod Forms
-pub mod Splits
+pub mod Plans
+pub mod Preservation
 pub mod TwoTuples
 pub mod Names
 pub mod HeldNames

@@ -20,7 +20,7 @@ mod two_rows;
 mod value;
 
 pub use column::Column;
-pub use dep::Dep;
+pub use dep::{Dep, sides};
 pub use integer::integer_text;
 pub use memory::WantMemory;
 pub use name::{MOST_NAME_BYTES, Name};

@@ -3,10 +3,9 @@ ghost use Rattle.attr_sets.specs.Places.{Places, below, Within};
 ghost use Rattle.attr_sets.specs.Sets.{places};
 ghost use Rattle.dep_model.specs.Tuples.{Relation};
 ghost use Rattle.dep_model.specs.Dependencies.{fd, ObeysFd, functional_part};
-ghost use Rattle.dep_model.specs.Deps.{dependencies_of, IsDepWithin};
+ghost use Rattle.dep_model.specs.Deps.{IfFd, dependencies_of, IsDepWithin};
 ghost use Rattle.dep_model.specs.Implication.{Implies};
 ghost use Rattle.dep_model.specs.Keys.{InClosure};
-ghost use Rattle.dep_model.proofs.DepLemmas.{IfFd};
 ghost use Rattle.fd_closure.specs.Settled.{IsSettled};
 
 use attr_sets::AttrSet;
