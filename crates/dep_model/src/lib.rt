@@ -10,6 +10,8 @@ mod column;
 mod dep;
 mod integer;
 pub mod laws;
+pub mod laws_of_joins;
+pub mod laws_of_keys;
 mod memory;
 mod name;
 mod row;

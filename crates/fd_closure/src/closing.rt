@@ -58,7 +58,7 @@ fn with_right_sides(deps: &[Dep], closed: AttrSet) -> AttrSet
 }
 
 // The set with the right side of a functional dependency whose left side it holds.
-fn with_right_side(dep: Dep, closed: AttrSet) -> AttrSet
+pub fn with_right_side(dep: Dep, closed: AttrSet) -> AttrSet
     ensures grows { Within (places closed) (places result) }
     ensures within { (universe : Places) → IsDepWithin universe dep
         → Within (places closed) universe → Within (places result) universe }

@@ -7,9 +7,11 @@
 #![tactic(auto)]
 
 mod closing;
+mod counting;
 mod settling;
 
 pub use closing::{closure, follows};
+pub use counting::{Counters, closure_with, follows_with};
 pub use settling::functional_key;
 
 #[cfg(test)]
