@@ -1,10 +1,10 @@
 -- Each distinct tuple once: the same relation, without repetition.
-use Rattle.std.proofs.Common.{◌≡◌, ℕ, ◌<◌, ◌↔◌, ◌⊎◌, zero, suc, Bool, true, false, not, List, [], ◌∷◌, length, get_or, filter, cond, refl, sym, ap, ◌∙◌, subst, inl, inr, ⊎_elim, arith}
+use Rattle.std.proofs.Common.{◌≡◌, ℕ, zero, suc, Bool, true, not, List, [], ◌∷◌, get_or, filter, cond, sym, ap, ◌∙◌, subst, inl, inr, ⊎_elim, arith}
 use Rattle.std.proofs.lemmas.Bool.{cases_Bool, true≢false, eqb-true, eq-eqb, not-true, not_from_false}
 use Rattle.std.specs.Bool.{Decides}
-use Rattle.std.specs.Cmp.Lexicographic.{pointwise, pointwise_decides}
-use Rattle.std.specs.Prelude.{All, AllPairs, Contains, nat_eq}
-use Rattle.std.proofs.lemmas.List.Elements.{All-contains, Contains-get_or, filter_passes}
+use Rattle.std.specs.Cmp.Lexicographic.{pointwise_decides}
+use Rattle.std.specs.Prelude.{AllPairs, Contains}
+use Rattle.std.proofs.lemmas.List.Elements.{Contains-get_or}
 use Rattle.attr_sets.specs.Places.{Places}
 use Rattle.dep_model.specs.Tuples.{Tuple, Relation, SameRelation, same_tuple, distinct}
 use Rattle.dep_model.specs.Projections.{projection, ordered_projection}
@@ -79,9 +79,9 @@ filter-pairs p (t ∷ r) h =
       | inl passes ↦ rw passes (all_pairs_cons Differ t (filter p r) (λ u u_in same. first_apart u (filter-member p r u u_in).0 same) rest)
       | inr fails ↦ rw fails rest
     ]
-      where
-        first_apart : (u : Tuple) → Contains r u → t ≡ u → ⊥
-        first_apart u u_in same = h 0 (suc u_in.0) u (omega arith) (omega (arith, u_in.1)) (same ∙ sym u_in.2)
+  where
+    first_apart : (u : Tuple) → Contains r u → t ≡ u → ⊥
+    first_apart u u_in same = h 0 (suc u_in.0) u (omega arith) (omega (arith, u_in.1)) (same ∙ sym u_in.2)
 
 pub distinct-differ : (r : Relation) → AllPairs Differ (distinct r)
 distinct-differ [] = λ i j d lt l. absurd (omega (arith, l))

@@ -1,12 +1,10 @@
 -- The normal forms, of which each gives the next weaker one.
-use Rattle.std.proofs.Common.{◌≡◌, ℕ, true, false, List, sym, ap, ◌∙◌, subst, inl, inr, ⊎_elim, arith}
-use Rattle.std.proofs.lemmas.Bool.{cases_eq, true≢false, ltb-true}
+use Rattle.std.proofs.Common.{◌≡◌, ℕ, List, sym, ◌∙◌, subst, inl, ⊎_elim, arith}
+use Rattle.std.proofs.lemmas.Bool.{true≢false}
 use Rattle.std.proofs.lemmas.Bool.Decides.{nat_tests}
-use Rattle.attr_sets.specs.Places.{Places, below, only, union, Within, Same}
+use Rattle.attr_sets.specs.Places.{Places, below, only, union, Within}
 use Rattle.attr_sets.proofs.PlacesLemmas.{tell_within}
-use Rattle.dep_model.specs.Tuples.{Relation}
 use Rattle.dep_model.specs.Dependencies.{Dependency, fd, mvd, functional_part}
-use Rattle.dep_model.specs.Implication.{Implies}
 use Rattle.dep_model.specs.OnSchemes.{ImpliedOn}
 use Rattle.dep_model.specs.Keys.{IsSuperkey}
 use Rattle.dep_model.specs.Forms.{IsThird, IsBcnf, IsFourth}

@@ -1,18 +1,18 @@
 -- Joins of projections: what is in them, and plans that lose nothing where another does.
-use Rattle.std.proofs.Common.{◌≡◌, ℕ, ◌<◌, ◌⊎◌, zero, suc, true, false, List, [], ◌∷◌, ◌++◌, length, map, refl, sym, ap, ◌∙◌, subst, inl, inr, ⊎_elim, arith}
-use Rattle.std.proofs.lemmas.Bool.{cases_Bool, or_cases}
+use Rattle.std.proofs.Common.{◌≡◌, ℕ, ◌⊎◌, zero, suc, true, List, [], ◌∷◌, ◌++◌, length, map, refl, sym, ap, ◌∙◌, subst, inl, inr, ⊎_elim, arith}
+use Rattle.std.proofs.lemmas.Bool.{cases_Bool}
 use Rattle.std.proofs.lemmas.List.{map-append}
 use Rattle.std.proofs.lemmas.List.Elements.{All-contains, Contains-append_left, Contains-append_right, Contains-append_cases}
 use Rattle.std.specs.Prelude.{Contains, Any}
 use Rattle.std.specs.List.{AllZip}
-use Rattle.attr_sets.specs.Places.{Places, below, union, minus, Within, Apart}
+use Rattle.attr_sets.specs.Places.{Places, union, minus, Within, Apart}
 use Rattle.dep_model.specs.Tuples.{Tuple, Relation, value_at, AgreeOn, IsOver}
 use Rattle.dep_model.specs.Dependencies.{Dependency, mvd, ObeysMvd}
 use Rattle.dep_model.specs.Implication.{IsLegal}
 use Rattle.dep_model.specs.Projections.{members_below, project_tuple, projection, projections, InJoin, Covers, IsLossless}
 use Rattle.dep_model.specs.OnSchemes.{value_in, ImpliedOn}
 use Rattle.dep_model.proofs.ListLemmas.{Contains-map, map-member, Contains-head, Contains-later, Contains-cases, Any-from}
-use Rattle.dep_model.proofs.SchemeLemmas.{members_below-member, members_below-outside, members_below-none, value_in-project_tuple, AgreeIn-to, mvd_in-to}
+use Rattle.dep_model.proofs.SchemeLemmas.{members_below-member, members_below-outside, members_below-none, value_in-project_tuple, mvd_in-to}
 
 -- ---- equal projections and agreement
 -- functions that agree on a set have the same values at its members
@@ -111,6 +111,7 @@ contained_dropped n ds before after scheme other there inside lossless =
         (λ later. each s (Contains-append_right before after s later))
         (Contains-cases scheme after s here))
         place
+
     cover : (k : ℕ) → Any (λ (s : Places). s k ≡ true) (before ++ scheme ∷ after) → Any (λ (s : Places). s k ≡ true) (before ++ after)
     cover k has = ⊎_elim
         (λ earlier. Any-from (λ (s : Places). s k ≡ true) (before ++ after) has.1 (Contains-append_left before after has.1 earlier) has.4)
@@ -143,12 +144,16 @@ split_lossless n ds before after scheme x y on apart lossless =
   where
     halves : List Places
     halves = union x y ∷ minus scheme y ∷ after
+
     one_in : Contains (before ++ halves) (union x y)
     one_in = Contains-append_right before halves (union x y) (Contains-head (union x y) (minus scheme y ∷ after))
+
     rest_in : Contains (before ++ halves) (minus scheme y)
     rest_in = Contains-append_right before halves (minus scheme y) (Contains-later (union x y) (minus scheme y ∷ after) (minus scheme y) (Contains-head (minus scheme y) after))
+
     later_in : (s : Places) → Contains after s → Contains (before ++ halves) s
     later_in s h = Contains-append_right before halves s (Contains-later (union x y) (minus scheme y ∷ after) s (Contains-later (minus scheme y) after s h))
+
     found : (r : Relation) → IsLegal n ds r → (t : Tuple) → length t ≡ n → ((s : Places) → Contains (before ++ halves) s → IsProjected r t s) → (s : Places)
         → Contains before s ⊎ Contains (scheme ∷ after) s → IsProjected r t s
     found r legal t long each s place = ⊎_elim
@@ -161,11 +166,13 @@ split_lossless n ds before after scheme x y on apart lossless =
         (λ later. each s (later_in s later))
         (Contains-cases scheme after s here))
         place
+
     of_scheme : (k : ℕ) → scheme k ≡ true → Any (λ (s : Places). s k ≡ true) (before ++ halves)
     of_scheme k m = elim (cases_Bool (y k)) [
       | inl in_y ↦ Any-from (λ (s : Places). s k ≡ true) (before ++ halves) (union x y) one_in (grind (arith, in_y))
       | inr out ↦ Any-from (λ (s : Places). s k ≡ true) (before ++ halves) (minus scheme y) rest_in (grind (arith, m, out))
     ]
+
     cover : (k : ℕ) → Any (λ (s : Places). s k ≡ true) (before ++ scheme ∷ after) → Any (λ (s : Places). s k ≡ true) (before ++ halves)
     cover k has = ⊎_elim
         (λ earlier. Any-from (λ (s : Places). s k ≡ true) (before ++ halves) has.1 (Contains-append_left before halves has.1 earlier) has.4)

@@ -1,11 +1,10 @@
 -- What is implied on a part of a scheme, and the parts of a left side.
-use Rattle.std.proofs.Common.{◌≡◌, ℕ, ◌↔◌, true, false, List, sym, ap, ◌∙◌, inl, inr, arith}
+use Rattle.std.proofs.Common.{ℕ, ◌↔◌, List, sym, ◌∙◌, arith}
 use Rattle.std.proofs.lemmas.Bool.{true≢false}
-use Rattle.attr_sets.specs.Places.{Places, union, meet, minus, Within, Same, IsEmpty, Meets}
+use Rattle.attr_sets.specs.Places.{Places, meet, Within, Same, Meets}
 use Rattle.attr_sets.proofs.PlacesLemmas.{Same-within}
 use Rattle.dep_model.specs.Tuples.{Relation}
 use Rattle.dep_model.specs.Dependencies.{Dependency, fd, mvd, ObeysMvd}
-use Rattle.dep_model.specs.Implication.{IsLegal}
 use Rattle.dep_model.specs.OnSchemes.{ImpliedOn}
 use Rattle.dep_model.specs.Keys.{IsPart}
 use Rattle.dep_model.proofs.RuleLemmas.{mvd_meet_obeyed}

@@ -6,7 +6,6 @@ use Rattle.std.specs.Prelude.{All, Any}
 use Rattle.attr_sets.specs.Places.{Places, union, Within}
 use Rattle.dep_model.specs.Tuples.{Relation}
 use Rattle.dep_model.specs.Dependencies.{Dependency, fd, mvd, Obeys, ObeysFd, is_fd, functional_part, left_of, right_of}
-use Rattle.dep_model.specs.Implication.{Implies}
 use Rattle.dep_model.specs.Preservation.{KeepsDependencies}
 
 -- a functional dependency as its sides

@@ -78,10 +78,18 @@ pub fn closure_with(counters: &mut Counters, deps: &[Dep], from: AttrSet) -> Att
         → Within (places from) (below n)
         → (a : ℕ) → (places result a ≡ true)
         ↔ InClosure n (functional_part (dependencies_of (members_on (switches_of counters.old) deps.now)))
-            (places from) a }
+        (places from) a }
     ensures switches { switches_of counters.new ≡ switches_of counters.old }
 {
-    close(counters, deps, from, AttrSet::full(PLACES))
+    let all = AttrSet::full(PLACES);
+    close(
+        &counters.index,
+        &mut counters.counts,
+        &counters.on,
+        deps,
+        from,
+        all,
+    )
 }
 
 /// Whether `lhs -> rhs` is implied by those functional dependencies of a list that are on. The search
@@ -92,36 +100,42 @@ pub fn follows_with(counters: &mut Counters, deps: &[Dep], lhs: AttrSet, rhs: At
         → Within (places lhs) (below n) → Within (places rhs) (below n)
         → IsTrue result
         ↔ Implies n (functional_part (dependencies_of (members_on (switches_of counters.old) deps.now)))
-            (fd (places lhs) (places rhs)) }
+        (fd (places lhs) (places rhs)) }
     ensures switches { switches_of counters.new ≡ switches_of counters.old }
 {
-    rhs.within(close(counters, deps, lhs, rhs))
+    let found = close(
+        &counters.index,
+        &mut counters.counts,
+        &counters.on,
+        deps,
+        lhs,
+        rhs,
+    );
+    rhs.within(found)
 }
 
 // What follows from a set: all of it, unless what is wanted is found before.
-fn close(counters: &mut Counters, deps: &[Dep], from: AttrSet, wanted: AttrSet) -> AttrSet
-    requires members { length (switches_of counters.old) ≡ length deps.now }
-    ensures grows { Grows (members_on (switches_of counters.old) deps.now) (places from) (places result) }
+fn close(
+    index: &Index,
+    counts: &mut [Count],
+    on: &[bool],
+    deps: &[Dep],
+    from: AttrSet,
+    wanted: AttrSet,
+) -> AttrSet
+    requires members { length on.now ≡ length deps.now }
+    ensures grows { Grows (members_on on.now deps.now) (places from) (places result) }
     ensures found { Within (places wanted) (places result)
-        ⊎ IsSettled (functional_part (dependencies_of (members_on (switches_of counters.old) deps.now)))
-            (places result) }
-    ensures switches { switches_of counters.new ≡ switches_of counters.old }
+        ⊎ IsSettled (functional_part (dependencies_of (members_on on.now deps.now))) (places result) }
 {
     let mut closed = from;
     loop {
-        let near = spread(
-            &counters.index,
-            &mut counters.counts,
-            &counters.on,
-            deps,
-            closed,
-            wanted,
-        );
+        let near = spread(index, counts, on, deps, closed, wanted);
         if wanted.within(near) {
             return near;
         }
         // what no count told: members with an empty left side, and in the end none
-        let more = with_right_sides_on(&counters.on, deps, near);
+        let more = with_right_sides_on(on, deps, near);
         if more == near {
             return near;
         }
@@ -142,9 +156,7 @@ fn spread(
     requires members { length on.now ≡ length deps.now }
     ensures grows { Grows (members_on on.now deps.now) (places from) (places result) }
 {
-    for count in counts.iter_mut() {
-        count.missing = count.all;
-    }
+    miss_all(counts);
     let mut closed = from;
     let mut untold = from;
     for _ in 0..PLACES {
@@ -159,6 +171,13 @@ fn spread(
         closed = more;
     }
     closed
+}
+
+// Counts from the start: every attribute is missing.
+fn miss_all(counts: &mut [Count]) {
+    for count in counts.iter_mut() {
+        count.missing = count.all;
+    }
 }
 
 // The set with the right sides of those of some members, each of which has found one more attribute,

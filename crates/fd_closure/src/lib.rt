@@ -8,6 +8,7 @@
 
 mod closing;
 mod counting;
+pub mod laws;
 mod settling;
 
 pub use closing::{closure, follows};
