@@ -1,3 +1,4 @@
+mod AddressLemmas
 pub mod ColumnLemmas
 pub mod DepLemmas
 pub mod DistinctLemmas

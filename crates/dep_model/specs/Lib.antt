@@ -15,3 +15,4 @@ pub mod Deps
 pub mod Columns
 pub mod Validity
 pub mod Schemas
+pub mod Address

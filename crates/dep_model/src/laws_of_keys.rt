@@ -6,6 +6,7 @@ ghost use Rattle.dep_model.specs.Dependencies.{Dependency, fd, mvd, functional_p
 ghost use Rattle.dep_model.specs.OnSchemes.{ImpliedOn};
 ghost use Rattle.dep_model.specs.Keys.{IsSuperkey, IsKey, IsPrime, IsPart};
 ghost use Rattle.dep_model.specs.Forms.{IsThird, IsBcnf, IsFourth};
+ghost use Rattle.dep_model.specs.Address.{address};
 
 /// A key of a superkey of a scheme is a key of the scheme.
 pub fn key_of_a_superkey()
@@ -45,4 +46,10 @@ pub fn fourth_gives_bcnf()
 /// Without multivalued dependencies Boyce-Codd form gives third normal form.
 pub fn bcnf_gives_third()
     ensures law { (n : ℕ) (ds : List Dependency) (scheme : Places) → functional_part ds ≡ ds → IsBcnf n ds scheme → IsThird n ds scheme }
+{}
+
+/// City, street and zip are in third normal form and not in Boyce-Codd form.
+pub fn address_is_third_only()
+    ensures third { IsThird 3 address (below 3) }
+    ensures not_bcnf { IsBcnf 3 address (below 3) → ⊥ }
 {}
