@@ -1,5 +1,5 @@
 -- What each operation on numbers does to the test of a bit, at any width.
-use Rattle.std.proofs.Common.{◌≡◌, ℕ, zero, suc, ◌+◌, ◌-◌, ◌*◌, ◌/◌, ◌%◌, ◌^◌, ◌<◌, ◌≤◌, true, false, not, ◌&&◌, ◌||◌, nat_lt, nat_eq, ◌==◌, bit_and, bit_or, count_ones, sym, ap, ◌∙◌, ⊎_elim, arith}
+use Rattle.std.proofs.Common.{◌≡◌, ℕ, Bool, cond, pow-suc, zero, suc, ◌+◌, ◌-◌, ◌*◌, ◌/◌, ◌%◌, ◌^◌, ◌<◌, ◌≤◌, true, false, not, ◌&&◌, ◌||◌, nat_lt, nat_eq, ◌==◌, bit_and, bit_or, count_ones, sym, ap, ◌∙◌, ⊎_elim, arith}
 use Rattle.std.specs.Int.{Width, bit_at, bit_not, trailing_zeros}
 use mir.Val.{bits}
 use Rattle.std.specs.Bool.{Decides}
@@ -7,7 +7,7 @@ use Rattle.std.proofs.lemmas.Bool.{cases_eq, cases_lt, eqb-true, eq-eqb}
 use Rattle.std.proofs.lemmas.Bool.Decides.{nat_tests}
 use Rattle.std.proofs.lemmas.Nat.{one_shl, ones_cat, mod-pow-add, pow_pos, and_le_l, ones_le_self, zero_from_ones}
 use Rattle.std.proofs.Math.Nat.{mod-eq_of_lt}
-use Rattle.std.proofs.lemmas.Nat.Bits.{bit_at_and, bit_at_or, bit_at_not, bit_at-zero, bit_at-pow_same, bit_at-pow_other, bit_at_ones, bit_at_ones_above, ones_shr, bit_at-lt, bit_at-trailing_zeros, same_from_bits_below, shr_and_one}
+use Rattle.std.proofs.lemmas.Nat.Bits.{bit_at_and, bit_at_or, bit_at_not, bit_at-zero, bit_at-pow_same, bit_at-pow_other, bit_at_ones, bit_at_ones_above, ones_shr, bit_at-lt, bit_at-trailing_zeros, same_from_bits_below, shr_and_one, bit_at_lowest, bit_at-suc}
 use Rattle.attr_sets.specs.Places.{IsLeastFrom, Within, count_below}
 use Rattle.attr_sets.specs.Sets.{has_bit}
 
@@ -106,6 +106,34 @@ trailing_zeros-least w n some fits =
       member = grind (arith, nat_tests, within, lowest.1);
       least = λ k from below. grind (arith, nat_tests, lowest.2 k below);
     }
+
+-- ---- the number whose bits are the members of a set
+
+bits_of : (n : ℕ) (x : ℕ → Bool) → (m : ℕ) × (m < 2 ^ n) × ((k : ℕ) → k < n → bit_at m k ≡ cond (x k) 1 0)
+bits_of zero x = (0, omega arith, λ k lt. absurd (omega arith))
+bits_of (suc n) x =
+    let high = bits_of n (λ k. x (suc k)) in
+    let low : ℕ = cond (x 0) 1 0 in
+    let few : low < 2 = grind arith in
+    let m : ℕ = 2 * high.0 + low in
+    let half : m / 2 ≡ high.0 = omega arith in
+    (m, omega (arith, high.1, pow-suc 2 n), λ k lt. elim_bit n x m half (omega (arith, bit_at_lowest m)) high.2 k lt)
+  where
+    elim_bit : (n : ℕ) (x : ℕ → Bool) (m : ℕ) {h : ℕ} → m / 2 ≡ h → bit_at m 0 ≡ cond (x 0) 1 0 → ((k : ℕ) → k < n → bit_at h k ≡ cond (x (suc k)) 1 0) → (k : ℕ) → k < suc n → bit_at m k ≡ cond (x k) 1 0
+    elim_bit n x m half lowest later zero lt = lowest
+    elim_bit n x m half lowest later (suc k) lt = bit_at-suc m k ∙ ap (λ j. bit_at j k) half ∙ later k (omega arith)
+
+pub number_with_bits : (width : ℕ) (x : ℕ → Bool) → ((k : ℕ) → x k ≡ true → nat_lt k width ≡ true) → (n : ℕ) × (n < 2 ^ width) × ((k : ℕ) → has_bit width n k ≡ x k)
+unfolding has_bit
+number_with_bits width x low =
+    let found = bits_of width x in (
+      found.0,
+      found.1,
+      λ k. ⊎_elim
+          (λ (within : k < width). grind (arith, nat_tests, found.2 k within))
+          (λ (above : width ≤ k). grind (arith, nat_tests, low k))
+          (cases_lt k width),
+    )
 
 -- ---- how many bits are set
 

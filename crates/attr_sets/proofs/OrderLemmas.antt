@@ -12,7 +12,7 @@ use Rattle.std.proofs.lemmas.Bool.Decides.{nat_tests}
 use Rattle.std.proofs.lemmas.Nat.Bits.{bit_at_lowest, bit_at-suc, bit_at-lt, bit_at_above, same_from_bits}
 use Rattle.attr_sets.specs.declared.set.AttrSet.{AttrSet}
 use Rattle.attr_sets.specs.declared.set.TheConstants.{PLACES}
-use Rattle.attr_sets.specs.Places.{Places, below, Within, Same, IsBefore}
+use Rattle.attr_sets.specs.Places.{Places, below, only, none, union, minus, Within, Same, IsBefore, IsNextSubset, IsLeastFrom}
 use Rattle.attr_sets.specs.Sets.{has_bit, places}
 
 -- b has the greatest bit in which it differs from a
@@ -123,3 +123,59 @@ before_below (suc n) x y same =
 -- of two sets of places below n that are not the same, one comes before the other
 pub tell_before : (n : ℕ) (x y : Places) → Within x (below n) → Within y (below n) → Same x y ⊎ (IsBefore x y ⊎ IsBefore y x)
 tell_before n x y x_low y_low = before_below n x y (λ j on. grind (arith, nat_tests, x_low j, y_low j))
+
+-- ---- the subsets of a set, one after the other
+
+-- the least member of the set that x has not is added, and all below it is left out
+pub next_subset-is : (whole x y : Places) (i : ℕ) → Within x whole → IsLeastFrom (minus whole x) 0 i → Same y (union (minus x (below i)) (only i)) → IsNextSubset whole x y
+next_subset-is whole x y i inside least is = record {
+  within = λ k m. elim (cases_eq k i) [
+    | inl same ↦ grind (arith, ap whole same, least.member)
+    | inr other ↦ grind (arith, nat_tests, is k, inside k)
+  ];
+  after = (
+    i,
+    grind (arith, least.member),
+    grind (arith, nat_tests, is i),
+    λ j more. grind (arith, nat_tests, is j),
+  );
+  first = λ z z_in before after. none_between z z_in before after;
+}
+  where
+    same_above : (j : ℕ) → i < j → y j ≡ x j
+    same_above j more = grind (arith, nat_tests, is j)
+
+    -- a place of z that x has not is i or a later one
+    from_i : (z : Places) (k : ℕ) → Within z whole → x k ≡ false → z k ≡ true → i ≤ k
+    from_i z k z_in out member = ⊎_elim
+        (λ (low : k < i). absurd (true≢false (sym (grind (arith, z_in k member, out)) ∙ least.least k (omega arith) low)))
+        (λ (on : i ≤ k). on)
+        (cases_lt k i)
+
+    none_between : (z : Places) → Within z whole → IsBefore x z → IsBefore z y → ⊥
+    none_between z z_in before after =
+        let on : i ≤ before.0 = from_i z before.0 z_in before.1 before.2 in
+        ⊎_elim
+        (λ (same : before.0 ≡ after.0). true≢false (sym before.2 ∙ ap z same ∙ after.1))
+        (⊎_elim
+        (λ (later : before.0 < after.0). true≢false (sym after.2 ∙ same_above after.0 (omega arith) ∙ before.3 after.0 later ∙ after.1))
+        (λ (earlier : after.0 < before.0). ⊎_elim
+        (λ (at_i : before.0 ≡ i). true≢false (sym after.2 ∙ grind (arith, nat_tests, is after.0)))
+        (λ (above_i : before.0 ≡ i → ⊥). true≢false (sym before.2 ∙ after.3 before.0 earlier ∙ same_above before.0 (omega arith) ∙ before.1))
+        (cases_eq before.0 i)))
+        (cases_order before.0 after.0)
+
+-- a subset that comes before the next one is the last or comes before it
+pub next_subset-before : (n : ℕ) (whole x y z : Places) → Within whole (below n) → Within x whole → IsNextSubset whole x y → Within z whole → IsBefore z y → Same z x ⊎ IsBefore z x
+next_subset-before n whole x y z low x_in next z_in before =
+    ⊎_elim inl
+    (⊎_elim inr (λ later. absurd (next.first z z_in later before)))
+    (tell_before n z x (λ k m. low k (z_in k m)) (λ k m. low k (x_in k m)))
+
+-- the empty set is the first
+pub none-first : (z : Places) → IsBefore z none → ⊥
+none-first z before = absurd (true≢false (sym before.2))
+
+-- and the whole set the last
+pub whole-last : (whole z : Places) → Within z whole → IsBefore whole z → ⊥
+whole-last whole z z_in before = true≢false (sym (z_in before.0 before.2) ∙ before.1)

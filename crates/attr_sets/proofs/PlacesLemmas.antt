@@ -8,7 +8,7 @@ use Rattle.attr_sets.specs.declared.set.AttrSet.{AttrSet}
 use Rattle.attr_sets.specs.declared.set.TheConstants.{PLACES}
 use Rattle.attr_sets.specs.Places.{Places, below, only, none, union, meet, minus, Within, Same, IsEmpty, Apart, Meets, IsLeastFrom, count_below, all_below}
 use Rattle.attr_sets.specs.Sets.{has_bit, places, is_within, is_same, is_apart}
-use Rattle.attr_sets.proofs.BitLemmas.{has_bit-below, same_from_has_bit}
+use Rattle.attr_sets.proofs.BitLemmas.{has_bit-below, same_from_has_bit, number_with_bits}
 
 -- ---- sets of attributes
 
@@ -27,6 +27,13 @@ same_number a b a_fits b_fits same = same_from_has_bit PLACES a.0 b.0 a_fits b_f
 
 pub same_set : (a b : AttrSet) → a.0 < 2 ^ PLACES → b.0 < 2 ^ PLACES → Same (places a) (places b) → a ≡ b
 same_set a b a_fits b_fits same = let from_number : ℕ → AttrSet = λ n. record { 0 = n } in ap from_number (same_number a b a_fits b_fits same)
+
+-- each set of places below the width is that of some set of attributes
+pub set_of_places : (x : Places) → Within x (below PLACES) → (s : AttrSet) × (s.0 < 2 ^ PLACES) × (places s ≡ x)
+unfolding places
+set_of_places x low =
+    let found = number_with_bits PLACES x low in
+    (record { 0 = found.0 }, found.1, fun_ext found.2)
 
 -- the test whether two sets have the same number tells whether they have the same members
 pub same_number-decides : (a b : AttrSet) → a.0 < 2 ^ PLACES → b.0 < 2 ^ PLACES → Decides (a.0 == b.0) (Same (places a) (places b))

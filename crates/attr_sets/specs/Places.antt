@@ -49,6 +49,12 @@ Meets x y = (k : ℕ) × (x k ≡ true) × (y k ≡ true)
 abbrev pub IsBefore : Places → Places → Type 0
 IsBefore x y = (k : ℕ) × (x k ≡ false) × (y k ≡ true) × ((j : ℕ) → k < j → x j ≡ y j)
 
+-- of the subsets of a set, y is the first after x
+pub record IsNextSubset (whole x y : Places) : Type 0 where
+  pub within : Within y whole
+  pub after : IsBefore x y
+  pub first : (z : Places) → Within z whole → IsBefore x z → IsBefore z y → ⊥
+
 -- i is the least member of x from a place on
 pub record IsLeastFrom (x : Places) (from i : ℕ) : Type 0 where
   pub from_on : from ≤ i

@@ -1,6 +1,6 @@
-ghost use Rattle.std.specs.Prelude.{◌≡◌, ℕ, ◌+◌, ◌<◌, ◌≤◌, ◌↔◌, ◌==◌, false, IsTrue, IsNone, IfSome, refl};
-ghost use Rattle.attr_sets.specs.Places.{below, only, none, union, meet, minus, Within, Same, IsEmpty, IsBefore, IsLeastFrom, count_below};
-ghost use Rattle.attr_sets.specs.Sets.{places, is_within, is_same};
+ghost use Rattle.std.specs.Prelude.{◌≡◌, ℕ, ◌+◌, ◌<◌, ◌≤◌, ◌↔◌, ◌==◌, false, not, IsTrue, IsNone, IfSome, refl};
+ghost use Rattle.attr_sets.specs.Places.{below, only, none, union, meet, minus, Within, Same, IsEmpty, Meets, IsBefore, IsLeastFrom, IsNextSubset, count_below};
+ghost use Rattle.attr_sets.specs.Sets.{places, is_within, is_same, is_apart};
 
 use std::cmp::Ordering;
 
@@ -93,6 +93,21 @@ impl AttrSet {
         self.0 & !other.0 == 0
     }
 
+    /// Whether the two sets have a common member.
+    pub fn meets(self, other: AttrSet) -> bool
+        ensures meets { IsTrue result ↔ Meets (places self) (places other) }
+        ensures test { result ≡ not (is_apart (places self) (places other)) }
+    {
+        !self.meet(other).is_empty()
+    }
+
+    /// Whether the set has no member.
+    pub fn is_empty(self) -> bool
+        ensures empty { IsTrue result ↔ IsEmpty (places self) }
+    {
+        self.0 == 0
+    }
+
     /// How many members the set has.
     pub fn len(self) -> u8
         ensures members { result ≡ count_below (places self) PLACES }
@@ -122,6 +137,20 @@ impl AttrSet {
         ensures place { IfSome result (λ j. j < PLACES) }
     {
         self.minus(AttrSet::full(i + 1)).least()
+    }
+
+    /// The least subset of `whole` after this one, in the order of sets; none after `whole` itself. So
+    /// the subsets of a set are gone through from the empty one on, each once.
+    pub fn next_subset(self, whole: AttrSet) -> Option<AttrSet>
+        requires within { Within (places self) (places whole) }
+        ensures none { IsNone result ↔ Same (places self) (places whole) }
+        ensures next { IfSome result (λ next. IsNextSubset (places whole) (places self) (places next)) }
+        ensures number { IfSome result (λ next. self.0 < next.0) }
+    {
+        match whole.minus(self).least() {
+            Some(i) => Some(self.minus(AttrSet::full(i)).with(i)),
+            None => None,
+        }
     }
 }
 

@@ -1,2 +1,1 @@
-pub mod ClosedSets
 pub mod OneBlock

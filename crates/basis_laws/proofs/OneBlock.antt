@@ -10,7 +10,7 @@ use Rattle.dep_model.specs.TwoTuples.{two_tuples}
 use Rattle.dep_model.proofs.TwoTupleLemmas.{two_tuples_mvd-to}
 use Rattle.dep_basis.specs.Breaking.{IsBreakingBlock}
 use Rattle.dep_basis.specs.Decisions.{IsBrokenBy}
-use Rattle.basis_laws.proofs.ClosedSets.{IsClosure, closure_set}
+use Rattle.fd_closure.proofs.ClosedSets.{IsClosure, closure_set}
 
 -- ---- a block beside the closure c
 module _ (n : ℕ) (ds : List Dependency) (x p c : Places) (x_in : Within x (below n)) (closure : IsClosure n ds x c) (block : IsBlock n ds x p) where

@@ -2,7 +2,6 @@
 use Rattle.std.proofs.Common.{ℕ, List, [], ◌∷◌}
 use Rattle.std.specs.Prelude.{All}
 use Rattle.std.proofs.lemmas.List.Elements.{All-nil, All-cons, All-head, All-tail, All-map, All-filter}
-use Rattle.attr_sets.specs.Places.{Places}
 use Rattle.attr_sets.specs.Sets.{places}
 use Rattle.dep_model.specs.declared.dep.Dep.{Dep}
 use Rattle.dep_model.specs.declared.dep.Dep.TheVariants.{Fd, Mvd}
@@ -10,6 +9,7 @@ use Rattle.dep_model.specs.Tuples.{Relation, IsOver}
 use Rattle.dep_model.specs.Dependencies.{Dependency, fd, Obeys, ObeysFd, is_fd, functional_part}
 use Rattle.dep_model.specs.Implication.{IsLegal}
 use Rattle.dep_model.specs.Deps.{dependency_of, dependencies_of}
+pub use Rattle.dep_model.specs.Deps.{IfFd}
 
 -- ---- a fact of each dependency, as sets of attributes and as sets of places
 pub dependencies_all-to : (P : Dependency → Type 0) (ds : List Dep) → All P (dependencies_of ds) → All (λ d. P (dependency_of d)) ds
@@ -22,11 +22,6 @@ pub dependencies_all-from : (P : Dependency → Type 0) (ds : List Dep) → All 
 dependencies_all-from P ds h = All-map P dependency_of ds h
 
 -- ---- a fact of each functional dependency
--- a fact of the sides of a functional dependency; nothing of a multivalued one
-abbrev pub IfFd : (Places → Places → Type 0) → Dep → Type 0
-IfFd P (Fd lhs rhs) = P (places lhs) (places rhs)
-IfFd P (Mvd lhs rhs) = Unit {0}
-
 pub functional_all-to : (P : Dependency → Type 0) (ds : List Dep) → All P (functional_part (dependencies_of ds)) → All (IfFd (λ x y. P (fd x y))) ds
 functional_all-to P [] h = All-nil (IfFd (λ x y. P (fd x y)))
 functional_all-to P (Fd lhs rhs ∷ ds) h =

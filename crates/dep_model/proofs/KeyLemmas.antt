@@ -1,14 +1,14 @@
 -- Superkeys, and the key that is left where attributes are tried from the last to the first.
 use Rattle.std.proofs.Common.{◌≡◌, ℕ, ◌+◌, zero, suc, true, false, cond, List, sym, ap, ◌∙◌, inl, inr, arith}
-use Rattle.std.proofs.lemmas.Bool.{cases_Bool, cases_eq, true≢false}
+use Rattle.std.proofs.lemmas.Bool.{cases_Bool, cases_eq, true≢false, true_from_ne_false}
 use Rattle.std.proofs.lemmas.Bool.Decides.{nat_tests}
 use Rattle.std.specs.Prelude.{nat_lt}
-use Rattle.attr_sets.specs.Places.{Places, below, Within}
+use Rattle.attr_sets.specs.Places.{Places, below, only, union, minus, Within}
 use Rattle.dep_model.specs.Dependencies.{Dependency, fd}
 use Rattle.dep_model.specs.Implication.{Implies}
 use Rattle.dep_model.specs.OnSchemes.{ImpliedOn}
-use Rattle.dep_model.specs.Keys.{IsSuperkey, IsKey, IsSettledKey, left_beside}
-use Rattle.dep_model.proofs.RuleLemmas.{reflexivity_obeyed, fd_weaker_obeyed}
+use Rattle.dep_model.specs.Keys.{IsSuperkey, IsKey, IsPrime, IsSettledKey, left_beside}
+use Rattle.dep_model.proofs.RuleLemmas.{reflexivity_obeyed, transitivity_obeyed, fd_weaker_obeyed}
 use Rattle.dep_model.proofs.SchemeLemmas.{fd_in-to, fd_in-from}
 
 -- ---- a functional dependency is implied on a scheme exactly where it lies within it and is implied
@@ -80,3 +80,39 @@ settled_is_key n ds scheme k low settled = record {
         absurd (true≢false (sym in_k ∙ (settled.left_out a (settled.within a in_k)).1 more))
   ];
 }
+
+-- ---- keys of a superkey, and the attributes of keys
+-- what a superkey of a scheme has for a key is a key of the scheme
+pub key_of_superkey : (n : ℕ) (ds : List Dependency) (scheme s k : Places) → IsSuperkey n ds scheme s → IsKey n ds s k → IsKey n ds scheme k
+key_of_superkey n ds scheme s k superkey key = record {
+  superkey = superkey-from n ds scheme k (λ (j : ℕ) m. superkey.within.0 j (key.superkey.within.0 j m))
+      (λ r legal. transitivity_obeyed k s scheme r (fd_on-to n ds s k s key.superkey r legal) (fd_on-to n ds scheme s scheme superkey r legal));
+  minimal = λ j inside least.
+      key.minimal j inside
+      (superkey-from n ds s j (λ (i : ℕ) m. key.superkey.within.0 i (inside i m))
+      (λ r legal. fd_weaker_obeyed j scheme j s r (λ (i : ℕ) m. m) superkey.within.0 (fd_on-to n ds scheme j scheme least r legal)));
+}
+
+-- an attribute that turns a set into one with a key, where it was no superkey, is in that key
+pub prime-from : (n : ℕ) (ds : List Dependency) (scheme x k : Places) (a : ℕ) → Within x scheme → (IsSuperkey n ds scheme x → ⊥) → IsKey n ds scheme k → Within k (union x (only a))
+    → IsPrime n ds scheme a
+prime-from n ds scheme x k a x_in none key inside = (k, key, true_from_ne_false (k a) (λ out. none (superkey_more n ds scheme k x (without_a out) x_in key.superkey)))
+  where
+    without_a : k a ≡ false → Within k x
+    without_a out j m = elim (cases_eq j a) [
+      | inl same ↦ absurd (true≢false (sym m ∙ ap k same ∙ out))
+      | inr other ↦ grind (arith, nat_tests, inside j m)
+    ]
+
+-- and each attribute of a key does so to the rest of it
+pub prime-to : (n : ℕ) (ds : List Dependency) (scheme : Places) (a : ℕ) → IsPrime n ds scheme a
+    → (x : Places) × (k : Places) × Within x scheme × (IsSuperkey n ds scheme x → ⊥) × IsKey n ds scheme k × Within k (union x (only a))
+prime-to n ds scheme a prime =
+    let k = prime.0 in (
+      minus k (only a),
+      k,
+      (λ (j : ℕ) m. prime.1.superkey.within.0 j (grind (arith, m))),
+      (λ superkey. true≢false (sym (prime.1.minimal (minus k (only a)) (λ (j : ℕ) m. grind (arith, m)) superkey a prime.2) ∙ grind (arith, nat_tests))),
+      prime.1,
+      (λ (j : ℕ) m. grind (arith, nat_tests, m)),
+    )

@@ -1,9 +1,16 @@
+mod AddressLemmas
 pub mod ColumnLemmas
 pub mod DepLemmas
+pub mod DistinctLemmas
+pub mod FormLemmas
+pub mod ImplicationLemmas
+pub mod JoinLemmas
 pub mod KeyLemmas
 mod LawLemmas
 pub mod ListLemmas
 pub mod NumeralLemmas
+pub mod PartLemmas
+pub mod PreservationLemmas
 pub mod RuleLemmas
 pub mod SchemeLemmas
 pub mod TwoRowLemmas

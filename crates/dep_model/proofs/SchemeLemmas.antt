@@ -16,15 +16,15 @@ use Rattle.dep_model.proofs.ListLemmas.{Contains-map, map-member}
 
 -- ---- the members of a set, ascending
 -- one place more
-members_below-member : (n : ℕ) (x : Places) → x n ≡ true → members_below (suc n) x ≡ members_below n x ++ n ∷ []
+pub members_below-member : (n : ℕ) (x : Places) → x n ≡ true → members_below (suc n) x ≡ members_below n x ++ n ∷ []
 unfolding members_below
 members_below-member n x h = rw h refl
 
-members_below-outside : (n : ℕ) (x : Places) → x n ≡ false → members_below (suc n) x ≡ members_below n x
+pub members_below-outside : (n : ℕ) (x : Places) → x n ≡ false → members_below (suc n) x ≡ members_below n x
 unfolding members_below
 members_below-outside n x h = rw h (append-nil (members_below n x))
 
-members_below-none : (x : Places) → members_below 0 x ≡ []
+pub members_below-none : (x : Places) → members_below 0 x ≡ []
 unfolding members_below
 members_below-none x = refl
 

@@ -45,3 +45,8 @@ right_of (mvd x y) = y
 -- the sets of a dependency lie within a set
 abbrev pub IsWithin : Places → Dependency → Type 0
 IsWithin universe d = Within (left_of d) universe × Within (right_of d) universe
+
+-- a dependency leads out of a set: its left side lies within, and its right side does not
+pub record LeadsOut (c : Places) (d : Dependency) : Type 0 where
+  pub inside : Within (left_of d) c
+  pub beyond : Within (right_of d) c → ⊥

@@ -13,6 +13,11 @@ dependency_of (Mvd lhs rhs) = mvd (places lhs) (places rhs)
 abbrev pub dependencies_of : List Dep → List Dependency
 dependencies_of ds = map dependency_of ds
 
+-- a fact of the sides of a functional dependency; nothing of a multivalued one
+abbrev pub IfFd : (Places → Places → Type 0) → Dep → Type 0
+IfFd P (Fd lhs rhs) = P (places lhs) (places rhs)
+IfFd P (Mvd lhs rhs) = Unit {0}
+
 -- the sets of a dependency lie within a set
 abbrev pub IsDepWithin : Places → Dep → Type 0
 IsDepWithin universe d = IsWithin universe (dependency_of d)

@@ -5,7 +5,8 @@ pub mod Projections
 pub mod OnSchemes
 pub mod Keys
 pub mod Forms
-pub mod Splits
+pub mod Plans
+pub mod Preservation
 pub mod TwoTuples
 pub mod Names
 pub mod HeldNames
@@ -14,3 +15,4 @@ pub mod Deps
 pub mod Columns
 pub mod Validity
 pub mod Schemas
+pub mod Address

@@ -2,6 +2,7 @@ use Rattle.std.specs.Prelude.{ℕ, Bool, ◌&&◌, ◌||◌, ◌==◌, nat_lt, n
 use Rattle.std.specs.List.{list_all}
 use Rattle.std.specs.Char.{is_ascii_alphabetic, is_ascii_alphanumeric}
 use Rattle.std.specs.Str.{str_eq_ignore_ascii_case}
+use Rattle.dep_model.specs.declared.name.TheConstants.{MOST_NAME_BYTES}
 
 -- a letter, a digit or `_`
 abbrev pub is_name_byte : ℕ → Bool
@@ -11,9 +12,9 @@ is_name_byte b = is_ascii_alphanumeric b || (b == 95)
 abbrev pub is_word : List ℕ → Bool
 is_word bytes = nat_lt 0 (length bytes) && is_ascii_alphabetic (slice_index bytes 0) && list_all is_name_byte bytes
 
--- a word of at most 31 bytes
+-- a word of at most `MOST_NAME_BYTES` bytes
 abbrev pub is_name : List ℕ → Bool
-is_name bytes = is_word bytes && nat_le (length bytes) 31
+is_name bytes = is_word bytes && nat_le (length bytes) MOST_NAME_BYTES
 
 -- the bytes are equal where ASCII letters of either case count as one
 abbrev pub same_name : List ℕ → List ℕ → Bool

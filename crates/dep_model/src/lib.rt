@@ -10,6 +10,8 @@ mod column;
 mod dep;
 mod integer;
 pub mod laws;
+pub mod laws_of_joins;
+pub mod laws_of_keys;
 mod memory;
 mod name;
 mod row;
@@ -20,7 +22,7 @@ mod two_rows;
 mod value;
 
 pub use column::Column;
-pub use dep::Dep;
+pub use dep::{Dep, sides};
 pub use integer::integer_text;
 pub use memory::WantMemory;
 pub use name::{MOST_NAME_BYTES, Name};

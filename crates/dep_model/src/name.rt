@@ -9,7 +9,7 @@ use std::marker::Model;
 /// The most bytes of a name.
 pub const MOST_NAME_BYTES: usize = 31;
 
-/// A name: a letter, then letters, digits and `_`, at most 31 bytes in all. Letters are ASCII.
+/// A name: a letter, then letters, digits and `_`, at most `MOST_NAME_BYTES` in all. Letters are ASCII.
 #[derive(Clone, Copy, Debug)]
 pub struct Name {
     bytes: [u8; MOST_NAME_BYTES],

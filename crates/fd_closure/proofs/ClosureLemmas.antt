@@ -11,11 +11,11 @@ use Rattle.dep_model.specs.declared.dep.Dep.TheVariants.{Fd, Mvd}
 use Rattle.dep_model.specs.Tuples.{Relation}
 use Rattle.dep_model.specs.Dependencies.{Dependency, fd, ObeysFd, functional_part, left_of, right_of}
 use Rattle.dep_model.specs.Implication.{IsLegal, Implies}
-use Rattle.dep_model.specs.Deps.{dependencies_of, IsDepWithin}
+use Rattle.dep_model.specs.Deps.{IfFd, dependencies_of, IsDepWithin}
 use Rattle.dep_model.specs.Keys.{InClosure}
 use Rattle.dep_model.specs.TwoTuples.{two_tuples}
 use Rattle.dep_model.proofs.RuleLemmas.{reflexivity_obeyed, fd_weaker_obeyed, fd_union_obeyed}
-use Rattle.dep_model.proofs.DepLemmas.{IfFd, functional_legal-from, functional_all-to}
+use Rattle.dep_model.proofs.DepLemmas.{functional_legal-from, functional_all-to}
 use Rattle.dep_model.proofs.TwoTupleLemmas.{two_tuples-over, two_tuples_fd-to, two_tuples_fd-from}
 use Rattle.fd_closure.specs.Settled.{IsSettled}
 

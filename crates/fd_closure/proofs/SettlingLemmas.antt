@@ -67,6 +67,17 @@ module _ (n : ℕ) (ds : List Dependency) (scheme : Places) where
     ];
   }
 
+  -- i is not in the scheme: nothing is tried
+  pub tried_outside : (i j : ℕ) (key : Places) → j ≡ i + 1 → IsTriedFrom n ds scheme j key → key i ≡ false → IsTriedFrom n ds scheme i key
+  tried_outside i j key e before out = record {
+    within = before.within;
+    untried = λ k l. before.untried k (omega arith);
+    tried = λ a from member. elim (cases_eq a i) [
+      | inl same ↦ absurd (true≢false (sym member ∙ sym (before.untried a (omega arith)) ∙ ap key same ∙ out))
+      | inr other ↦ before.tried a (omega arith) member
+    ];
+  }
+
   -- all were tried
   pub tried_settled : (key : Places) → IsTriedFrom n ds scheme 0 key → IsSettledKey n ds scheme key
   tried_settled key all = record { within = all.within; left_out = λ a member. all.tried a (omega arith) member }

@@ -1,1 +1,4 @@
 pub mod Settled
+pub mod Switches
+pub mod Counting
+pub mod KeyLists

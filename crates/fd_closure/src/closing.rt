@@ -3,10 +3,9 @@ ghost use Rattle.attr_sets.specs.Places.{Places, below, Within};
 ghost use Rattle.attr_sets.specs.Sets.{places};
 ghost use Rattle.dep_model.specs.Tuples.{Relation};
 ghost use Rattle.dep_model.specs.Dependencies.{fd, ObeysFd, functional_part};
-ghost use Rattle.dep_model.specs.Deps.{dependencies_of, IsDepWithin};
+ghost use Rattle.dep_model.specs.Deps.{IfFd, dependencies_of, IsDepWithin};
 ghost use Rattle.dep_model.specs.Implication.{Implies};
 ghost use Rattle.dep_model.specs.Keys.{InClosure};
-ghost use Rattle.dep_model.proofs.DepLemmas.{IfFd};
 ghost use Rattle.fd_closure.specs.Settled.{IsSettled};
 
 use attr_sets::AttrSet;
@@ -59,7 +58,7 @@ fn with_right_sides(deps: &[Dep], closed: AttrSet) -> AttrSet
 }
 
 // The set with the right side of a functional dependency whose left side it holds.
-fn with_right_side(dep: Dep, closed: AttrSet) -> AttrSet
+pub fn with_right_side(dep: Dep, closed: AttrSet) -> AttrSet
     ensures grows { Within (places closed) (places result) }
     ensures within { (universe : Places) → IsDepWithin universe dep
         → Within (places closed) universe → Within (places result) universe }

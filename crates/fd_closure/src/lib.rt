@@ -7,9 +7,12 @@
 #![tactic(auto)]
 
 mod closing;
+mod counting;
+pub mod laws;
 mod settling;
 
 pub use closing::{closure, follows};
+pub use counting::{Counters, closure_with, follows_with};
 pub use settling::functional_key;
 
 #[cfg(test)]

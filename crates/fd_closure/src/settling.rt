@@ -18,6 +18,9 @@ pub fn functional_key(deps: &[Dep], scheme: AttrSet) -> AttrSet
 {
     let mut key = scheme;
     for i in (0..PLACES).rev() {
+        if !key.has(i) {
+            continue;
+        }
         let rest = key.without(i);
         if follows(deps, rest, scheme) {
             key = rest;

@@ -1,6 +1,7 @@
 use super::*;
 use attr_sets::AttrSet;
 use dep_model::Dep;
+use std::test::Fail;
 
 fn fd(lhs: u128, rhs: u128) -> Dep {
     Dep::Fd {
@@ -64,4 +65,30 @@ fn finds_keys_from_the_last_attribute_on(rt: HostRuntime) {
     ];
     assert_eq!(rt; functional_key(&timetable, AttrSet(63)).0, 20);
     assert_eq!(rt; functional_key(&[], AttrSet(u128::MAX)).0, u128::MAX);
+}
+
+#[test]
+fn closes_by_what_is_on(rt: HostRuntime) -> Result<(), Fail> {
+    // A -> B, B -> C.
+    let deps = [fd(1, 2), fd(2, 4)];
+    let mut counters = Counters::make(rt.alloc(), &deps, 3)?;
+    assert_eq!(rt; closure_with(&mut counters, &deps, AttrSet(1)).0, 7);
+    counters.turn(0, false);
+    assert_eq!(rt; closure_with(&mut counters, &deps, AttrSet(1)).0, 1);
+    assert!(rt; !follows_with(&mut counters, &deps, AttrSet(1), AttrSet(4)));
+    counters.turn(0, true);
+    assert_eq!(rt; closure_with(&mut counters, &deps, AttrSet(1)).0, 7);
+    assert!(rt; follows_with(&mut counters, &deps, AttrSet(1), AttrSet(4)));
+    Ok(())
+}
+
+#[test]
+fn counts_empty_and_wide_left_sides(rt: HostRuntime) -> Result<(), Fail> {
+    // nothing -> B, AB -> C, A ->> D, CD -> E.
+    let deps = [fd(0, 2), fd(3, 4), mvd(1, 8), fd(12, 16)];
+    let mut counters = Counters::make(rt.alloc(), &deps, 5)?;
+    assert_eq!(rt; closure_with(&mut counters, &deps, AttrSet(0)).0, 2);
+    assert_eq!(rt; closure_with(&mut counters, &deps, AttrSet(1)).0, 7);
+    assert_eq!(rt; closure_with(&mut counters, &deps, AttrSet(9)).0, 31);
+    Ok(())
 }

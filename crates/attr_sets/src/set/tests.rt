@@ -29,6 +29,8 @@ fn changes_sets(rt: HostRuntime) {
 fn looks_into_sets(rt: HostRuntime) {
     let ends = AttrSet(TOP + 1);
     assert!(rt; ends.within(AttrSet(TOP + 3)) && !ends.within(AttrSet(TOP)));
+    assert!(rt; ends.meets(AttrSet(TOP)) && !ends.meets(AttrSet(6)));
+    assert!(rt; AttrSet(0).is_empty() && !AttrSet(TOP).is_empty());
     assert_eq!(rt; ends.len(), 2);
     assert_eq!(rt; AttrSet(u128::MAX).len(), 128);
     assert_eq!(rt; ends.least(), Some(0));
@@ -45,4 +47,30 @@ fn orders_sets_by_their_greatest_places(rt: HostRuntime) {
     assert_eq!(rt; AttrSet(4).cmp(&AttrSet(3)), Ordering::Greater);
     assert!(rt; AttrSet(5) == AttrSet(1).with(2));
     assert!(rt; AttrSet(5) != AttrSet(4));
+}
+
+// The next subset of a set that holds this one.
+fn next(now: AttrSet, whole: AttrSet) -> Option<AttrSet> {
+    if now.within(whole) {
+        now.next_subset(whole)
+    } else {
+        None
+    }
+}
+
+#[test]
+fn goes_through_the_subsets_of_a_set(rt: HostRuntime) {
+    let whole = AttrSet(TOP + 5);
+    let table: [(u128, Option<AttrSet>); 6] = [
+        (0, Some(AttrSet(1))),
+        (1, Some(AttrSet(4))),
+        (4, Some(AttrSet(5))),
+        (5, Some(AttrSet(TOP))),
+        (TOP + 4, Some(AttrSet(TOP + 5))),
+        (TOP + 5, None),
+    ];
+    for (now, after) in table {
+        assert!(rt; next(AttrSet(now), whole) == after);
+    }
+    assert!(rt; next(AttrSet(0), AttrSet(0)) == None);
 }

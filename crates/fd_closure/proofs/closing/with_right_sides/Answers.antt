@@ -5,7 +5,8 @@ use Rattle.attr_sets.specs.Sets.{places}
 use Rattle.dep_model.specs.declared.dep.Dep.{Dep}
 use Rattle.dep_model.specs.declared.dep.Dep.TheVariants.{Fd}
 use Rattle.dep_model.specs.Dependencies.{Dependency, left_of, right_of}
-use Rattle.dep_model.proofs.DepLemmas.{IfFd, functional_all-from, functional_legal-to}
+use Rattle.dep_model.specs.Deps.{IfFd}
+use Rattle.dep_model.proofs.DepLemmas.{functional_all-from, functional_legal-to}
 use Rattle.dep_model.proofs.RuleLemmas.{transitivity_obeyed, reflexivity_obeyed}
 use Rattle.fd_closure.proofs.ClosureLemmas.{IfFd-kept, all_IfFd-kept}
 use Rattle.fd_closure.proofs.closing.with_right_sides.Goals as goal

@@ -3,9 +3,8 @@ use Rattle.std.specs.Prelude.{All}
 use Rattle.attr_sets.specs.Places.{Places, Within}
 use Rattle.attr_sets.specs.Sets.{places}
 use Rattle.dep_model.specs.Dependencies.{fd, functional_part}
-use Rattle.dep_model.specs.Deps.{dependencies_of, IsDepWithin}
+use Rattle.dep_model.specs.Deps.{IfFd, dependencies_of, IsDepWithin}
 use Rattle.dep_model.specs.Implication.{Implies}
-use Rattle.dep_model.proofs.DepLemmas.{IfFd}
 use Rattle.fd_closure.proofs.closing.with_right_sides.Given as goal
 
 abbrev pub invariant-loop-dep : goal.invariant-loop-dep

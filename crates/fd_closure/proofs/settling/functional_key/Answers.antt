@@ -1,4 +1,4 @@
-use Rattle.std.proofs.Common.{◌≡◌, ℕ, ◌-◌, refl, arith}
+use Rattle.std.proofs.Common.{◌≡◌, ℕ, ◌-◌, ◌∙◌, refl, sym, arith}
 use Rattle.std.proofs.lemmas.Bool.{ltb-true, false≢true}
 use Rattle.attr_sets.specs.Places.{Places, below, only, minus, Within, Same}
 use Rattle.attr_sets.specs.Sets.{places}
@@ -6,7 +6,7 @@ use Rattle.attr_sets.specs.declared.set.TheConstants.{PLACES}
 use Rattle.attr_sets.proofs.PlacesLemmas.{places_below}
 use Rattle.dep_model.specs.Dependencies.{functional_part}
 use Rattle.dep_model.specs.Deps.{dependencies_of}
-use Rattle.fd_closure.proofs.SettlingLemmas.{IsTriedFrom, tried_none, tried_left_out, tried_kept, tried_settled}
+use Rattle.fd_closure.proofs.SettlingLemmas.{IsTriedFrom, tried_none, tried_left_out, tried_kept, tried_outside, tried_settled}
 use Rattle.fd_closure.proofs.settling.functional_key.Goals as goal
 
 pub loop-i-init : goal.loop-i-init
@@ -26,6 +26,11 @@ loop-i-preserved-then-follows c n within scheme_in =
     let rest_in = rest_low n (places c.args.scheme) (places c.loop-i.key) (places c.without-rest.result) i scheme_in before.within c.without-rest.ensures.members in
     tried_left_out n ds (places c.args.scheme) i c.loop-i.i (places c.loop-i.key) (places c.without-rest.result) (omega arith) before c.without-rest.ensures.members
     ((c.if-follows.ensures.implied n within rest_in scheme_in).0 refl)
+
+pub loop-i-preserved-then-not-has : goal.loop-i-preserved-then-not-has
+loop-i-preserved-then-not-has c n within scheme_in =
+    tried_outside n (functional_part (dependencies_of c.args.deps.now)) (places c.args.scheme) (c.loop-i.i - 1) c.loop-i.i (places c.loop-i.key) (omega arith)
+    (c.loop-i.invariant n within scheme_in) (sym c.has.ensures.member ∙ c.if-not-has.true)
 
 pub loop-i-preserved : goal.loop-i-preserved
 loop-i-preserved c n within scheme_in =

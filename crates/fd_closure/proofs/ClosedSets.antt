@@ -1,17 +1,19 @@
--- The closure of a set by functional dependencies, as a set: right sides are added until none leads out.
-use Rattle.std.proofs.Common.{◌≡◌, ℕ, ◌+◌, ◌<◌, ◌≤◌, ◌↔◌, ◌⊎◌, zero, suc, true, false, List, [], ◌∷◌, refl, sym, subst, ◌∙◌, inl, inr, ⊎_elim, arith}
-use Rattle.std.proofs.lemmas.Bool.{true≢false, ltb-true}
+-- Closed sets: the closure of a set by functional dependencies, to which right sides are added until none
+-- leads out.
+use Rattle.std.proofs.Common.{◌≡◌, ℕ, ◌+◌, ◌<◌, ◌≤◌, ◌↔◌, ◌⊎◌, zero, suc, true, false, List, [], ◌∷◌, get_or, sym, ap, subst, ◌∙◌, inl, inr, ⊎_elim, arith}
+use Rattle.std.proofs.lemmas.Bool.{true≢false, cases_eq, ltb-true, lt-ltb}
 use Rattle.std.proofs.lemmas.Bool.Decides.{nat_tests}
 use Rattle.std.proofs.lemmas.List.Elements.{All-nil, All-cons, All-head, All-tail, All-contains, filter_passes}
 use Rattle.std.specs.Prelude.{All, Contains}
 use Rattle.attr_sets.specs.Places.{Places, below, only, union, Within, count_below}
 use Rattle.attr_sets.proofs.PlacesLemmas.{tell_within, count_below-le, count_below-lt}
-use Rattle.dep_model.specs.Tuples.{Relation}
-use Rattle.dep_model.specs.Dependencies.{Dependency, fd, mvd, Obeys, ObeysFd, is_fd, functional_part, left_of, right_of, IsWithin}
+use Rattle.dep_model.specs.Dependencies.{Dependency, fd, mvd, Obeys, is_fd, functional_part, left_of, right_of, IsWithin, LeadsOut}
 use Rattle.dep_model.specs.Implication.{IsLegal, Implies}
 use Rattle.dep_model.specs.Keys.{InClosure}
 use Rattle.dep_model.specs.TwoTuples.{two_tuples}
-use Rattle.dep_model.proofs.RuleLemmas.{reflexivity_obeyed, transitivity_obeyed}
+use Rattle.dep_model.proofs.ListLemmas.{Contains-head, Contains-later}
+use Rattle.dep_model.proofs.PreservationLemmas.{fd-obeyed}
+use Rattle.dep_model.proofs.RuleLemmas.{reflexivity_obeyed, transitivity_obeyed, fd_weaker_obeyed}
 use Rattle.dep_model.proofs.TwoTupleLemmas.{two_tuples-over, two_tuples_fd-to, two_tuples_fd-from}
 use Rattle.fd_closure.specs.Settled.{IsSettled}
 use Rattle.fd_closure.proofs.ClosureLemmas.{fd_each-to, fd_added}
@@ -20,42 +22,29 @@ use Rattle.fd_closure.proofs.ClosureLemmas.{fd_each-to, fd_added}
 all_functional : (ds : List Dependency) → functional_part ds ≡ ds → All (λ d. is_fd d ≡ true) ds
 all_functional ds same = subst (λ (es : List Dependency). All (λ d. is_fd d ≡ true) es) same (filter_passes is_fd ds)
 
-functional_obeys : (n : ℕ) (d : Dependency) (r : Relation) → is_fd d ≡ true → Obeys n d r → ObeysFd (left_of d) (right_of d) r
-functional_obeys n (fd x y) r is obeys = obeys
-functional_obeys n (mvd x y) r is obeys = absurd (true≢false (sym is))
-
 -- ---- whether a dependency leads out of a set
--- the left side lies within, and the right side has a place beyond
-record LeadsOut (c : Places) (d : Dependency) : Type 0 where
-  inside : Within (left_of d) c
-  place : ℕ
-  member : right_of d place ≡ true
-  beyond : c place ≡ false
+-- an attribute of the right side beyond the set
+pub lead_place : (n : ℕ) (c : Places) (d : Dependency) → IsWithin (below n) d → LeadsOut c d → (k : ℕ) × (k < n) × (right_of d k ≡ true) × (c k ≡ false)
+lead_place n c d within out = ⊎_elim (λ found. found) (λ all. absurd (out.beyond all)) (tell_within n (right_of d) c within.1)
 
-tell_lead : (n : ℕ) (c : Places) (d : Dependency) → IsWithin (below n) d → LeadsOut c d ⊎ (Within (left_of d) c → Within (right_of d) c)
+pub tell_lead : (n : ℕ) (c : Places) (d : Dependency) → IsWithin (below n) d → LeadsOut c d ⊎ (Within (left_of d) c → Within (right_of d) c)
 tell_lead n c d within =
     ⊎_elim
     (λ out. inr (λ inside. absurd (true≢false (sym (inside out.0 out.2) ∙ out.3))))
     (λ inside. ⊎_elim
-    (λ out. inl (record { inside = inside; place = out.0; member = out.2; beyond = out.3 }))
+    (λ out. inl (record { inside = inside; beyond = λ all. true≢false (sym (all out.0 out.2) ∙ out.3) }))
     (λ all. inr (λ _. all))
     (tell_within n (right_of d) c within.1))
     (tell_within n (left_of d) c within.0)
 
-Contains-head : (d : Dependency) (ds : List Dependency) → Contains (d ∷ ds) d
-Contains-head d ds = (0, omega arith, refl)
-
-Contains-later : (e d : Dependency) (ds : List Dependency) → Contains ds d → Contains (e ∷ ds) d
-Contains-later e d ds h = (suc h.0, omega (arith, h.1), h.2)
-
 -- some dependency of a list leads out, or none does
-tell_settled : (n : ℕ) (c : Places) (ds : List Dependency) → All (IsWithin (below n)) ds → ((d : Dependency) × Contains ds d × LeadsOut c d) ⊎ IsSettled ds c
+pub tell_settled : (n : ℕ) (c : Places) (ds : List Dependency) → All (IsWithin (below n)) ds → ((d : Dependency) × Contains ds d × LeadsOut c d) ⊎ IsSettled ds c
 tell_settled n c [] within = inr (All-nil (λ (d : Dependency). Within (left_of d) c → Within (right_of d) c))
 tell_settled n c (d ∷ ds) within =
     ⊎_elim
     (λ out. inl (d, Contains-head d ds, out))
     (λ stays. ⊎_elim
-    (λ found. inl (found.0, Contains-later d found.0 ds found.1, found.2))
+    (λ found. inl (found.0, Contains-later d ds found.0 found.1, found.2))
     (λ settled. inr (All-cons (λ (e : Dependency). Within (left_of e) c → Within (right_of e) c) d ds stays settled))
     (tell_settled n c ds (All-tail (IsWithin (below n)) d ds within)))
     (tell_lead n c d (All-head (IsWithin (below n)) d ds within))
@@ -79,14 +68,15 @@ between_added n ds x c d within is given out before = record {
   universe = λ k m. grind (arith, m, before.universe k, within.1 k);
   holds = λ k m. grind (arith, before.holds k m);
   implied = λ r legal.
-      let obeys = functional_obeys n d r is (All-contains (λ (e : Dependency). Obeys n e r) ds d legal.obeys given) in
+      let obeys = fd-obeyed n d r is (All-contains (λ (e : Dependency). Obeys n e r) ds d legal.obeys given) in
       transitivity_obeyed x c (union c (right_of d)) r (before.implied r legal) (fd_added (left_of d) (right_of d) c r out.inside obeys);
 }
 
 -- it had one place less
 count_added : (n : ℕ) (c : Places) (d : Dependency) → IsWithin (below n) d → LeadsOut c d → count_below c n < count_below (union c (right_of d)) n
 count_added n c d within out =
-    count_below-lt n c (union c (right_of d)) out.place (λ (k : ℕ) m. grind (arith, m)) (ltb-true out.place n (within.1 out.place out.member)) out.beyond (grind (arith, out.member))
+    let place = lead_place n c d within out in
+    count_below-lt n c (union c (right_of d)) place.0 (λ (k : ℕ) m. grind (arith, m)) place.1 place.3 (grind (arith, place.2))
 
 -- after n steps at most no dependency leads out
 settled_from : (n : ℕ) (ds : List Dependency) (x : Places) → All (IsWithin (below n)) ds → All (λ d. is_fd d ≡ true) ds → (left : ℕ) (c : Places) → n ≤ count_below c n + left → IsBetween n ds x c
@@ -141,3 +131,39 @@ closure_set n ds x within same x_in =
     let functional = all_functional ds same in
     let found = settled_from n ds x within functional n x (omega arith) (between_itself n ds x x_in) in
     (found.0, settled_closure n ds x found.0 x_in found.1 (settled_two_legal n ds found.0 within functional found.2))
+
+-- ---- closed sets
+-- a set that holds its own closure
+abbrev pub IsClosed : ℕ → List Dependency → Places → Type 0
+IsClosed n ds c = (a : ℕ) → InClosure n ds c a → c a ≡ true
+
+-- no dependency leads out of it
+pub closed-to : (n : ℕ) (ds : List Dependency) (c : Places) → All (IsWithin (below n)) ds → functional_part ds ≡ ds → IsClosed n ds c → IsSettled ds c
+closed-to n ds c within same closed k d l inside a member =
+    let e : Dependency = get_or ds k d in
+    let is : is_fd e ≡ true = all_functional ds same k d l in
+    closed a (
+      ltb-true a n ((within k d l).1 a member),
+      λ r legal. fd_weaker_obeyed (left_of e) (right_of e) c (only a) r inside (λ (j : ℕ) m. only_in e a member j m) (fd-obeyed n e r is (legal.obeys k d l)),
+    )
+  where
+    only_in : (e : Dependency) (a : ℕ) → right_of e a ≡ true → Within (only a) (right_of e)
+    only_in e a member j m = elim (cases_eq j a) [
+      | inl same ↦ ap (right_of e) same ∙ member
+      | inr other ↦ absurd (true≢false (sym m ∙ grind (arith, nat_tests, other)))
+    ]
+
+-- and where none does, it is closed
+pub closed-from : (n : ℕ) (ds : List Dependency) (c : Places) → All (IsWithin (below n)) ds → functional_part ds ≡ ds → Within c (below n) → IsSettled ds c → IsClosed n ds c
+closed-from n ds c within same c_in settled a h =
+    two_tuples_fd-to n c c (only a) c_in (λ (k : ℕ) e. grind (arith, nat_tests, e, lt-ltb a n h.0))
+    (h.1 (two_tuples n c) (settled_two_legal n ds c within (all_functional ds same) settled)) (λ (k : ℕ) m. m) a (grind (arith, nat_tests))
+
+-- a dependency leads out of a set that determines the universe and is not all of it
+pub lead_from_superkey : (n : ℕ) (ds : List Dependency) (c : Places) (k : ℕ) → All (IsWithin (below n)) ds → functional_part ds ≡ ds → Within c (below n) → Implies n ds (fd c (below n))
+    → k < n → c k ≡ false → (d : Dependency) × Contains ds d × LeadsOut c d
+lead_from_superkey n ds c k within same c_in superkey low out =
+    ⊎_elim
+    (λ found. found)
+    (λ settled. absurd (true≢false (sym (closed-from n ds c within same c_in settled k (low, fd_each-to n ds c (below n) superkey k (lt-ltb k n low))) ∙ out)))
+    (tell_settled n c ds within)

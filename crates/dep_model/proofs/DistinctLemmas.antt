@@ -1,0 +1,94 @@
+-- Each distinct tuple once: the same relation, without repetition.
+use Rattle.std.proofs.Common.{◌≡◌, ℕ, zero, suc, Bool, true, not, List, [], ◌∷◌, get_or, filter, cond, sym, ap, ◌∙◌, subst, inl, inr, ⊎_elim, arith}
+use Rattle.std.proofs.lemmas.Bool.{cases_Bool, true≢false, eqb-true, eq-eqb, not-true, not_from_false}
+use Rattle.std.specs.Bool.{Decides}
+use Rattle.std.specs.Cmp.Lexicographic.{pointwise_decides}
+use Rattle.std.specs.Prelude.{AllPairs, Contains}
+use Rattle.std.proofs.lemmas.List.Elements.{Contains-get_or}
+use Rattle.attr_sets.specs.Places.{Places}
+use Rattle.dep_model.specs.Tuples.{Tuple, Relation, SameRelation, same_tuple, distinct}
+use Rattle.dep_model.specs.Projections.{projection, ordered_projection}
+use Rattle.dep_model.proofs.ListLemmas.{Contains-head, Contains-later, Contains-cases}
+
+-- ---- the test of equal tuples
+pub same_tuple-decides : (t u : Tuple) → Decides (same_tuple t u) (t ≡ u)
+same_tuple-decides t u = pointwise_decides (pointwise_decides (λ (a b : ℕ). (eqb-true a b, eq-eqb a b))) t u
+
+-- ---- members of a filtered list
+pub filter-member : {X : Type 0} (p : X → Bool) (xs : List X) (x : X) → Contains (filter p xs) x → Contains xs x × (p x ≡ true)
+filter-member p [] x h = absurd (omega (arith, h.1))
+filter-member p (y ∷ xs) x h = elim (cases_Bool (p y)) [
+  | inl passes ↦
+      let h' : Contains (y ∷ filter p xs) x = subst (λ (b : Bool). Contains (cond b (y ∷ filter p xs) (filter p xs)) x) passes h in
+      ⊎_elim
+      (λ (first : x ≡ y). (subst (λ (z : _). Contains (z ∷ xs) x) first (Contains-head x xs), ap p first ∙ passes))
+      (λ later. let found = filter-member p xs x later in (Contains-later y xs x found.0, found.1))
+      (Contains-cases y (filter p xs) x h')
+  | inr fails ↦
+      let h' : Contains (filter p xs) x = subst (λ (b : Bool). Contains (cond b (y ∷ filter p xs) (filter p xs)) x) fails h in
+      let found = filter-member p xs x h' in
+      (Contains-later y xs x found.0, found.1)
+]
+
+pub filter-keeps : {X : Type 0} (p : X → Bool) (xs : List X) (x : X) → Contains xs x → p x ≡ true → Contains (filter p xs) x
+filter-keeps p [] x h passes = absurd (omega (arith, h.1))
+filter-keeps {X} p (y ∷ xs) x h passes = ⊎_elim
+    (λ (first : x ≡ y). let y_passes : p y ≡ true = ap p (sym first) ∙ passes in rw y_passes (subst (λ (z : X). Contains (z ∷ filter p xs) x) first (Contains-head x (filter p xs))))
+    (λ later. elim (cases_Bool (p y)) [
+      | inl y_passes ↦ rw y_passes (Contains-later y (filter p xs) x (filter-keeps p xs x later passes))
+      | inr y_fails ↦ rw y_fails (filter-keeps p xs x later passes)
+    ])
+    (Contains-cases y xs x h)
+
+-- ---- the same tuples
+abbrev others : Tuple → Tuple → Bool
+others t u = not (same_tuple t u)
+
+pub distinct-to : (r : Relation) (t : Tuple) → Contains (distinct r) t → Contains r t
+distinct-to [] t h = h
+distinct-to (u ∷ r) t h = ⊎_elim
+    (λ (first : t ≡ u). subst (λ (z : Tuple). Contains (z ∷ r) t) first (Contains-head t r))
+    (λ later. Contains-later u r t (distinct-to r t (filter-member (others u) (distinct r) t later).0))
+    (Contains-cases u (filter (others u) (distinct r)) t h)
+
+pub distinct-from : (r : Relation) (t : Tuple) → Contains r t → Contains (distinct r) t
+distinct-from [] t h = h
+distinct-from (u ∷ r) t h = elim (cases_Bool (same_tuple u t)) [
+  | inl same ↦ subst (λ (z : Tuple). Contains (z ∷ filter (others u) (distinct r)) t) (sym ((same_tuple-decides u t).0 same)) (Contains-head t (filter (others u) (distinct r)))
+  | inr differ ↦ ⊎_elim
+      (λ (first : t ≡ u). absurd (true≢false (sym ((same_tuple-decides u t).1 (sym first)) ∙ differ)))
+      (λ later. Contains-later u (filter (others u) (distinct r)) t (filter-keeps (others u) (distinct r) t (distinct-from r t later) (not_from_false (same_tuple u t) differ)))
+      (Contains-cases u r t h)
+]
+
+-- ---- none twice
+pub all_pairs_cons : {X : Type 0} (R : X → X → Type 0) (x : X) (xs : List X) → ((y : X) → Contains xs y → R x y) → AllPairs R xs → AllPairs R (x ∷ xs)
+all_pairs_cons R x xs first later i zero d lt l = absurd (omega arith)
+all_pairs_cons R x xs first later zero (suc j) d lt l = first (get_or xs j d) (Contains-get_or xs j d (omega (arith, l)))
+all_pairs_cons R x xs first later (suc i) (suc j) d lt l = later i j d (omega arith) (omega (arith, l))
+
+abbrev pub Differ : Tuple → Tuple → Type 0
+Differ t u = t ≡ u → ⊥
+
+filter-pairs : (p : Tuple → Bool) (r : Relation) → AllPairs Differ r → AllPairs Differ (filter p r)
+filter-pairs p [] h = h
+filter-pairs p (t ∷ r) h =
+    let later : AllPairs Differ r = λ i j d lt l. h (suc i) (suc j) d (omega arith) (omega (arith, l)) in
+    let rest = filter-pairs p r later in
+    elim (cases_Bool (p t)) [
+      | inl passes ↦ rw passes (all_pairs_cons Differ t (filter p r) (λ u u_in same. first_apart u (filter-member p r u u_in).0 same) rest)
+      | inr fails ↦ rw fails rest
+    ]
+  where
+    first_apart : (u : Tuple) → Contains r u → t ≡ u → ⊥
+    first_apart u u_in same = h 0 (suc u_in.0) u (omega arith) (omega (arith, u_in.1)) (same ∙ sym u_in.2)
+
+pub distinct-differ : (r : Relation) → AllPairs Differ (distinct r)
+distinct-differ [] = λ i j d lt l. absurd (omega (arith, l))
+distinct-differ (t ∷ r) =
+    all_pairs_cons Differ t (filter (others t) (distinct r))
+    (λ u u_in same. true≢false (sym ((same_tuple-decides t u).1 same) ∙ not-true (same_tuple t u) (filter-member (others t) (distinct r) u u_in).1))
+    (filter-pairs (others t) (distinct r) (distinct-differ r))
+
+pub ordered_projection-same : (scheme : Places) (r : Relation) → SameRelation (projection scheme r) (ordered_projection scheme r)
+ordered_projection-same scheme r t = (distinct-from (projection scheme r) t, distinct-to (projection scheme r) t)

@@ -1,0 +1,7 @@
+use Rattle.std.specs.Prelude.{List, [], ◌∷◌}
+use Rattle.attr_sets.specs.Places.{only, union}
+use Rattle.dep_model.specs.Dependencies.{Dependency, fd}
+
+-- city, street and zip, in this order: city and street determine the zip, and the zip determines the city
+abbrev pub address : List Dependency
+address = fd (union (only 0) (only 1)) (only 2) ∷ fd (only 2) (only 0) ∷ []

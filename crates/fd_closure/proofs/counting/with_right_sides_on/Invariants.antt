@@ -1,0 +1,13 @@
+use Rattle.std.proofs.Common.{◌≡◌, ℕ, ◌<◌, Bool, true, get_or}
+use Rattle.attr_sets.specs.Places.{Within}
+use Rattle.attr_sets.specs.Sets.{places}
+use Rattle.dep_model.specs.declared.dep.Dep.{Dep}
+use Rattle.dep_model.specs.Deps.{IfFd}
+use Rattle.fd_closure.specs.Switches.{members_on, Grows}
+use Rattle.fd_closure.proofs.counting.with_right_sides_on.Given as goal
+
+abbrev pub invariant-loop-k : goal.invariant-loop-k
+invariant-loop-k l = record {
+  grows : Grows (members_on l.on l.deps) (places l.initial.more) (places l.more);
+  settled : (k : ℕ) (b : Bool) (d : Dep) → k < l.k → get_or l.on k b ≡ true → IfFd (λ x y. Within x (places l.initial.more) → Within y (places l.more)) (get_or l.deps k d);
+}

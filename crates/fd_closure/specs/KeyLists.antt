@@ -1,0 +1,12 @@
+use Rattle.std.specs.Prelude.{List, All, Any}
+use Rattle.attr_sets.specs.Places.{Places, union, minus, Within}
+use Rattle.dep_model.specs.Dependencies.{Dependency, left_of, right_of}
+
+-- some set of a list lies within x
+abbrev pub HoldsOne : List Places → Places → Type 0
+HoldsOne keys x = Any (λ key. Within key x) keys
+
+-- where a dependency gives what a key of the list has on its right side, what is left with the left
+-- side holds a key of the list
+abbrev pub IsExchanged : List Dependency → List Places → Type 0
+IsExchanged ds keys = All (λ d. All (λ key. HoldsOne keys (union (left_of d) (minus key (right_of d)))) keys) ds

@@ -1,0 +1,19 @@
+use Rattle.std.specs.Prelude.{ℕ, Bool, if◌then◌else◌, List, [], ◌∷◌, All}
+use Rattle.attr_sets.specs.Places.{Places, Within}
+use Rattle.dep_model.specs.declared.dep.Dep.{Dep}
+use Rattle.dep_model.specs.Dependencies.{fd, functional_part}
+use Rattle.dep_model.specs.Deps.{dependencies_of, IsDepWithin}
+use Rattle.dep_model.specs.Implication.{Implies}
+
+-- the members of a list that are on
+abbrev pub members_on : List Bool → List Dep → List Dep
+members_on [] ds = []
+members_on (on ∷ others) [] = []
+members_on (on ∷ others) (d ∷ ds) = if on then d ∷ members_on others ds else members_on others ds
+
+-- a set grows to another, which it determines by the functional dependencies of a list, with their
+-- attributes alone
+pub record Grows (ds : List Dep) (closed more : Places) : Type 0 where
+  pub holds : Within closed more
+  pub within : (universe : Places) → All (IsDepWithin universe) ds → Within closed universe → Within more universe
+  pub implied : (n : ℕ) → Implies n (functional_part (dependencies_of ds)) (fd closed more)

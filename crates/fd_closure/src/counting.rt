@@ -1,0 +1,281 @@
+ghost use Rattle.std.specs.Prelude.{◌≡◌, ℕ, ◌<◌, ◌≤◌, ◌⊎◌, ◌↔◌, true, IsTrue, IfOk, All, length, replicate, slice_set};
+ghost use Rattle.attr_sets.specs.Places.{below, Within};
+ghost use Rattle.attr_sets.specs.Sets.{places};
+ghost use Rattle.dep_model.specs.Dependencies.{fd, functional_part};
+ghost use Rattle.dep_model.specs.Deps.{dependencies_of, IsDepWithin};
+ghost use Rattle.dep_model.specs.Implication.{Implies};
+ghost use Rattle.dep_model.specs.Keys.{InClosure};
+ghost use Rattle.fd_closure.specs.Settled.{IsSettled};
+ghost use Rattle.fd_closure.specs.Switches.{members_on, Grows};
+
+use crate::closing::with_right_side;
+use attr_sets::{AttrSet, PLACES};
+use dep_model::{Dep, WantMemory, sides};
+use std::alloc::Global;
+
+/// Room for closures by those members of a list of dependencies that are on (Beeri and Bernstein 1979).
+/// Each member counts the attributes of its left side that are still missing, and gives its right side
+/// once there are none.
+///
+/// The counts only find what follows fast; what a closure holds does not rest on them. So counters made
+/// for one list of dependencies serve any list of that length.
+#[derive(Debug, Drop)]
+pub struct Counters {
+    index: Index,
+    counts: Vec<Count>,
+    on: Vec<bool>,
+}
+
+/// For each attribute, the members whose left side holds it: those of attribute `a` stand in `members`
+/// from `starts[a]` up to `starts[a + 1]`.
+#[derive(Debug, Drop)]
+struct Index {
+    starts: Vec<usize>,
+    members: Vec<usize>,
+}
+
+/// How many attributes the left side of a member has, and how many of them are still missing.
+#[derive(Clone, Copy, Debug)]
+struct Count {
+    all: u8,
+    missing: u8,
+}
+
+impl Counters {
+    ghost use Rattle.fd_closure.specs.Counting.{switches_of};
+
+    /// Counters for a list of dependencies over `width` attributes, all of them on.
+    pub fn make(alloc: Global, deps: &[Dep], width: u8) -> Result<Counters, WantMemory>
+        requires width { width ≤ PLACES }
+        ensures on { IfOk result (λ counters. switches_of counters ≡ replicate (length deps.now) true) }
+    {
+        let index = Index::make(alloc, deps, width)?;
+        let mut counts = Vec::with_capacity(alloc, deps.len())?;
+        for dep in deps {
+            let (lhs, _) = sides(*dep);
+            let all = lhs.len();
+            counts.push(Count { all, missing: all })?;
+        }
+        let on = Vec::from_elem(alloc, true, deps.len())?;
+        Ok(Counters { index, counts, on })
+    }
+
+    /// Turns member `k` on or off.
+    pub fn turn(&mut self, k: usize, on: bool)
+        requires member { k < length (switches_of self.old) }
+        ensures turned { switches_of self.new ≡ slice_set (switches_of self.old) k on }
+    {
+        self.on[k] = on;
+    }
+}
+
+ghost use Rattle.fd_closure.specs.Counting.{switches_of};
+
+/// The attributes that `from` determines by those functional dependencies of a list that are on.
+pub fn closure_with(counters: &mut Counters, deps: &[Dep], from: AttrSet) -> AttrSet
+    requires members { length (switches_of counters.old) ≡ length deps.now }
+    ensures closure { (n : ℕ) → All (IsDepWithin (below n)) deps.now
+        → Within (places from) (below n)
+        → (a : ℕ) → (places result a ≡ true)
+        ↔ InClosure n (functional_part (dependencies_of (members_on (switches_of counters.old) deps.now)))
+        (places from) a }
+    ensures switches { switches_of counters.new ≡ switches_of counters.old }
+{
+    let all = AttrSet::full(PLACES);
+    close(
+        &counters.index,
+        &mut counters.counts,
+        &counters.on,
+        deps,
+        from,
+        all,
+    )
+}
+
+/// Whether `lhs -> rhs` is implied by those functional dependencies of a list that are on. The search
+/// ends as soon as the right side is found.
+pub fn follows_with(counters: &mut Counters, deps: &[Dep], lhs: AttrSet, rhs: AttrSet) -> bool
+    requires members { length (switches_of counters.old) ≡ length deps.now }
+    ensures implied { (n : ℕ) → All (IsDepWithin (below n)) deps.now
+        → Within (places lhs) (below n) → Within (places rhs) (below n)
+        → IsTrue result
+        ↔ Implies n (functional_part (dependencies_of (members_on (switches_of counters.old) deps.now)))
+        (fd (places lhs) (places rhs)) }
+    ensures switches { switches_of counters.new ≡ switches_of counters.old }
+{
+    let found = close(
+        &counters.index,
+        &mut counters.counts,
+        &counters.on,
+        deps,
+        lhs,
+        rhs,
+    );
+    rhs.within(found)
+}
+
+// What follows from a set: all of it, unless what is wanted is found before.
+fn close(
+    index: &Index,
+    counts: &mut [Count],
+    on: &[bool],
+    deps: &[Dep],
+    from: AttrSet,
+    wanted: AttrSet,
+) -> AttrSet
+    requires members { length on.now ≡ length deps.now }
+    ensures grows { Grows (members_on on.now deps.now) (places from) (places result) }
+    ensures found { Within (places wanted) (places result)
+        ⊎ IsSettled (functional_part (dependencies_of (members_on on.now deps.now))) (places result) }
+{
+    let mut closed = from;
+    loop {
+        let near = spread(index, counts, on, deps, closed, wanted);
+        if wanted.within(near) {
+            return near;
+        }
+        // what no count told: members with an empty left side, and in the end none
+        let more = with_right_sides_on(on, deps, near);
+        if more == near {
+            return near;
+        }
+        closed = more;
+    }
+}
+
+// What follows from a set as far as the counts tell: each attribute that is found lowers the count of
+// those that miss it.
+fn spread(
+    index: &Index,
+    counts: &mut [Count],
+    on: &[bool],
+    deps: &[Dep],
+    from: AttrSet,
+    wanted: AttrSet,
+) -> AttrSet
+    requires members { length on.now ≡ length deps.now }
+    ensures grows { Grows (members_on on.now deps.now) (places from) (places result) }
+{
+    miss_all(counts);
+    let mut closed = from;
+    let mut untold = from;
+    for _ in 0..PLACES {
+        let Some(attribute) = untold.least() else {
+            return closed;
+        };
+        if wanted.within(closed) {
+            return closed;
+        }
+        let more = tell(index.members_with(attribute), counts, on, deps, closed);
+        untold = untold.without(attribute).union(more.minus(closed));
+        closed = more;
+    }
+    closed
+}
+
+// Counts from the start: every attribute is missing.
+fn miss_all(counts: &mut [Count]) {
+    for count in counts.iter_mut() {
+        count.missing = count.all;
+    }
+}
+
+// The set with the right sides of those of some members, each of which has found one more attribute,
+// that are on and miss none now.
+fn tell(
+    members: &[usize],
+    counts: &mut [Count],
+    on: &[bool],
+    deps: &[Dep],
+    closed: AttrSet,
+) -> AttrSet
+    requires members { length on.now ≡ length deps.now }
+    ensures grows { Grows (members_on on.now deps.now) (places closed) (places result) }
+{
+    let mut more = closed;
+    for k in members {
+        if misses_none(counts, *k) {
+            more = with_right_side_on(on, deps, *k, more);
+        }
+    }
+    more
+}
+
+// Whether member `k` misses no attribute, now that one more is found.
+fn misses_none(counts: &mut [Count], k: usize) -> bool {
+    if k >= counts.len() {
+        return false;
+    }
+    let missing = counts[k].missing.saturating_sub(1);
+    counts[k].missing = missing;
+    missing == 0
+}
+
+// The set with the right side of member `k`, where it is on and the set holds its left side.
+fn with_right_side_on(on: &[bool], deps: &[Dep], k: usize, closed: AttrSet) -> AttrSet
+    requires members { length on.now ≡ length deps.now }
+    ensures grows { Grows (members_on on.now deps.now) (places closed) (places result) }
+{
+    if k < on.len() && on[k] {
+        with_right_side(deps[k], closed)
+    } else {
+        closed
+    }
+}
+
+// The set with the right side of each functional dependency that is on and whose left side it comes to
+// hold, where each is tried once.
+fn with_right_sides_on(on: &[bool], deps: &[Dep], closed: AttrSet) -> AttrSet
+    requires members { length on.now ≡ length deps.now }
+    ensures grows { Grows (members_on on.now deps.now) (places closed) (places result) }
+    ensures settled { Within (places result) (places closed)
+        → IsSettled (functional_part (dependencies_of (members_on on.now deps.now))) (places closed) }
+{
+    let mut more = closed;
+    for (k, dep) in deps.iter().enumerate() {
+        if on[k] {
+            more = with_right_side(*dep, more);
+        }
+    }
+    more
+}
+
+impl Index {
+    fn make(alloc: Global, deps: &[Dep], width: u8) -> Result<Index, WantMemory>
+        requires width { width ≤ PLACES }
+    {
+        let mut starts = Vec::with_capacity(alloc, width as usize + 1)?;
+        let mut members = Vec::new(alloc);
+        starts.push(0)?;
+        for attribute in 0..width {
+            add_members(&mut members, deps, attribute)?;
+            starts.push(members.len())?;
+        }
+        Ok(Index { starts, members })
+    }
+
+    // The members whose left side holds an attribute.
+    fn members_with(&self, attribute: u8) -> &[usize] {
+        let a = attribute as usize;
+        if a + 1 >= self.starts.len() {
+            return &[];
+        }
+        match self.members.get(self.starts[a]..self.starts[a + 1]) {
+            Some(members) => members,
+            None => &[],
+        }
+    }
+}
+
+// Adds the functional dependencies whose left side holds an attribute.
+fn add_members(members: &mut Vec<usize>, deps: &[Dep], attribute: u8) -> Result<(), WantMemory>
+    requires attribute { attribute < PLACES }
+{
+    for (k, dep) in deps.iter().enumerate() {
+        match *dep {
+            Dep::Fd { lhs, .. } if lhs.has(attribute) => members.push(k)?,
+            _ => {}
+        }
+    }
+    Ok(())
+}
