@@ -1,6 +1,6 @@
 -- Traces decide what is implied on a scheme, and a left side may be taken for any set between it and
 -- its closure.
-use Rattle.std.proofs.Common.{◌≡◌, ℕ, suc, ◌↔◌, true, List, [], ◌∷◌, get_or, refl, sym, subst, ◌∙◌, inl, inr, ⊎_elim, arith}
+use Rattle.std.proofs.Common.{◌≡◌, ℕ, suc, ◌↔◌, true, false, List, [], ◌∷◌, get_or, refl, sym, ap, subst, ◌∙◌, inl, inr, ⊎_elim, arith}
 use Rattle.std.proofs.lemmas.Bool.{true≢false, cases_Bool, ltb-true, lt-ltb, or_cases}
 use Rattle.std.proofs.lemmas.Bool.Decides.{nat_tests}
 use Rattle.std.proofs.lemmas.List.Elements.{All-head, All-tail, All-cons, All-contains, All-weaker}
@@ -9,13 +9,14 @@ use Rattle.attr_sets.specs.Places.{Places, below, only, none, union, meet, minus
 use Rattle.attr_sets.specs.declared.set.AttrSet.{AttrSet}
 use Rattle.attr_sets.specs.declared.set.TheConstants.{PLACES}
 use Rattle.attr_sets.specs.Sets.{places}
-use Rattle.attr_sets.proofs.PlacesLemmas.{places_below, tell_apart, tell_empty, Same-path}
+use Rattle.attr_sets.proofs.PlacesLemmas.{places_below, tell_apart, tell_empty, Same-path, Same-within}
 use Rattle.dep_model.specs.declared.dep.Dep.{Dep}
 use Rattle.dep_model.specs.Tuples.{Tuple, Relation, value_at, AgreeOn, AgreeExactly}
 use Rattle.dep_model.specs.Dependencies.{Dependency, fd, mvd, ObeysFd, ObeysMvd, functional_part}
 use Rattle.dep_model.specs.Implication.{IsLegal, Implies}
 use Rattle.dep_model.specs.Deps.{dependencies_of, IsDepWithin}
-use Rattle.dep_model.specs.Keys.{InClosure, IsBlock}
+use Rattle.dep_model.specs.OnSchemes.{ImpliedOn}
+use Rattle.dep_model.specs.Keys.{InClosure, IsBlock, IsPart}
 use Rattle.dep_model.specs.TwoTuples.{two_tuples, all_zeros, zeros_on}
 use Rattle.dep_model.proofs.RuleLemmas.{reflexivity_obeyed, mvd_union_obeyed, mreflexivity_obeyed, transitivity_obeyed}
 use Rattle.dep_model.proofs.DepLemmas.{functional_legal-weaker}
@@ -24,9 +25,9 @@ use Rattle.dep_model.proofs.KeyLemmas.{fd_on-to, fd_on-from}
 use Rattle.dep_model.proofs.TwoRowLemmas.{two_first, two_second, two_cases, agree-to, agree-from}
 use Rattle.dep_model.proofs.TwoTupleLemmas.{two_tuples-is, two_tuples-agree}
 use Rattle.fd_closure.proofs.ClosureLemmas.{fd_each-from}
-use Rattle.dep_basis.specs.declared.blocks.Blocks.{Blocks}
+use Rattle.dep_basis.specs.declared.gathering.Blocks.{Blocks}
 use Rattle.dep_basis.specs.Traces.{IsTrace, blocks_of, AreTraces}
-use Rattle.dep_basis.specs.Bases.{IsSplitBy, SplitsNone, IsBasis, IsTraceBasis}
+use Rattle.dep_basis.specs.Bases.{IsSplitBy, SplitsNone, IsBasis, IsListedPart, IsTraceBasis}
 use Rattle.dep_basis.proofs.BlockLemmas.{outside_of, block_legal, block_apart, blocks_same}
 
 -- ---- one relation
@@ -58,13 +59,13 @@ mvd_narrower_obeyed scheme x c y r inside closed obeys t u t_in u_in agree =
 
 -- ---- a left side and a set between it and its closure
 module _ (n : ℕ) (ds : List Dependency) (x c : Places) (inside : Within x c) (closed : Implies n ds (fd x c)) where
-  closure_wider : (a : ℕ) → InClosure n ds c a → InClosure n ds x a
+  pub closure_wider : (a : ℕ) → InClosure n ds c a → InClosure n ds x a
   closure_wider a h = (h.0, λ r legal. transitivity_obeyed x c (only a) r (closed r legal) (h.1 r legal))
 
-  closure_narrower : (a : ℕ) → InClosure n ds x a → InClosure n ds c a
+  pub closure_narrower : (a : ℕ) → InClosure n ds x a → InClosure n ds c a
   closure_narrower a h = (h.0, λ r legal. transitivity_obeyed c x (only a) r (reflexivity_obeyed c x r inside) (h.1 r legal))
 
-  block_wider : (p : Places) → IsBlock n ds c p → IsBlock n ds x p
+  pub block_wider : (p : Places) → IsBlock n ds c p → IsBlock n ds x p
   block_wider p block = record {
     universe = block.universe;
     outside = λ a m h. block.outside a m (closure_narrower a h);
@@ -73,7 +74,7 @@ module _ (n : ℕ) (ds : List Dependency) (x c : Places) (inside : Within x c) (
     minimal = λ q within some implied. block.minimal q within some (λ r legal. mvd_wider_obeyed (below n) x c q r inside (closed r legal) (implied r legal));
   }
 
-  block_narrower : (p : Places) → IsBlock n ds x p → IsBlock n ds c p
+  pub block_narrower : (p : Places) → IsBlock n ds x p → IsBlock n ds c p
   block_narrower p block = record {
     universe = block.universe;
     outside = λ a m h. block.outside a m (closure_wider a h);
@@ -229,6 +230,116 @@ module _ (n : ℕ) (ds : List Dep) (scheme x : Places) (found : Blocks) (within 
             (traces.parts k (grind (arith, m)))),
       )
 
+  -- what is implied on the scheme
+  traces_decide : (y : Places) → Within y scheme → ImpliedOn n (dependencies_of ds) scheme (mvd x y) ↔ SplitsNone scheme y (blocks_of found)
+  traces_decide y y_in = (
+    (λ on. traces_split y y_in (λ r legal. mvd_in-to scheme x y r x_in y_in (on.obeyed r legal))),
+    (λ splits. record { within = (x_in, y_in); obeyed = λ r legal. mvd_in-from scheme x y r x_in y_in (traces_whole y y_in splits r legal) }),
+  )
+
+  trace_in : (q : Places) → IsTrace n (dependencies_of ds) scheme x q → Within q scheme
+  trace_in q trace k m = grind (arith, trace.trace k, m)
+
+  -- traces with a common member are the same
+  same_traces : (q p : Places) → IsTrace n (dependencies_of ds) scheme x q → IsTrace n (dependencies_of ds) scheme x p → Meets q p → Same q p
+  same_traces q p one other common =
+      let k = common.0 in
+      let blocks = blocks_same n (dependencies_of ds) x one.block other.block one.is_block other.is_block (k, grind (arith, one.trace k, common.1), grind (arith, other.trace k, common.2)) in
+      λ j. grind (arith, one.trace j, other.trace j, blocks j)
+
+  -- each trace is listed
+  traces_all : (q : Places) → IsTrace n (dependencies_of ds) scheme x q → Any (λ p. Same (places p) q) (blocks_of found)
+  traces_all q trace = ⊎_elim
+      (λ some.
+      let a = some.0 in
+      ⊎_elim
+      (λ closed. absurd (trace.is_block.outside a (grind (arith, trace.trace a, some.2)) ((traces.closed a).0 closed).1))
+      (λ one.
+      let listed = All-contains (λ (p : AttrSet). IsTrace n (dependencies_of ds) scheme x (places p)) (blocks_of found) one.1 traces.each (one.0, one.2, one.3) in
+      (one.0, one.1, one.2, one.3, same_traces (places one.1) q listed trace (a, one.4, some.2)))
+      (traces.parts a (trace_in q trace a some.2)))
+      (λ none. absurd (trace.some none))
+      (tell_empty n q (λ (k : ℕ) m. scheme_in k (trace_in q trace k m)))
+
+  -- a trace is split by none, and neither is a determined attribute
+  trace_alone : (q : Places) → IsTrace n (dependencies_of ds) scheme x q → SplitsNone scheme q (blocks_of found)
+  trace_alone q trace k d l split =
+      let same = same_traces (places (get_or (blocks_of found) k d)) q (traces.each k d l) trace split.0 in
+      let j = split.1.0 in
+      true≢false (sym split.1.1 ∙ grind (arith, same j, split.1.2))
+
+  closed_alone : (a : ℕ) → places found.closed a ≡ true → SplitsNone scheme (only a) (blocks_of found)
+  closed_alone a closed k d l split =
+      let listed = traces.each k d l in
+      let j = split.0.0 in
+      let same : j ≡ a = grind (arith, nat_tests, split.0.2) in
+      let in_q : places (get_or (blocks_of found) k d) a ≡ true = sym (ap (places (get_or (blocks_of found) k d)) same) ∙ split.0.1 in
+      listed.is_block.outside a (grind (arith, listed.trace a, in_q)) ((traces.closed a).0 closed).1
+
+  -- a listed trace lies within each set that it shares some of and that splits none
+  listed_inside : (q : AttrSet) (y : Places) (a : ℕ) → Contains (blocks_of found) q → Within (places q) scheme → places q a ≡ true → y a ≡ true → SplitsNone scheme y (blocks_of found) → Within (places q) y
+  listed_inside q y a listed q_in in_q in_y splits k m = elim (cases_Bool (y k)) [
+    | inl inside ↦ inside
+    | inr out ↦ absurd (All-contains (λ (s : AttrSet). IsSplitBy scheme y (places s) → ⊥) (blocks_of found) q splits listed ((a, in_q, in_y), (k, m, grind (arith, q_in k m, out))))
+  ]
+
+  -- a listed trace is a part
+  part_trace : (p : Places) → Any (λ q. Same (places q) p) (blocks_of found) → IsPart n (dependencies_of ds) scheme x p
+  part_trace p one =
+      let q = one.1 in
+      let listed : Contains (blocks_of found) q = (one.0, one.2, one.3) in
+      let trace = All-contains (λ (s : AttrSet). IsTrace n (dependencies_of ds) scheme x (places s)) (blocks_of found) q traces.each listed in
+      let apart = block_apart n (dependencies_of ds) x trace.block trace.is_block in
+      let made : IsPart n (dependencies_of ds) scheme x (places q) = record {
+        outside = λ k m. apart k (grind (arith, trace.trace k, m));
+        some = trace.some;
+        implied = (traces_decide (places q) (trace_in (places q) trace)).1 (trace_alone (places q) trace);
+        minimal = λ y inside some implied. ⊎_elim
+            (λ shared. listed_inside q y shared.0 listed (trace_in (places q) trace) (inside shared.0 shared.2) shared.2 ((traces_decide y implied.within.1).0 implied))
+            (λ none. absurd (some none))
+            (tell_empty n y (λ (k : ℕ) m. scheme_in k (implied.within.1 k m)));
+      } in
+      subst (λ (s : Places). IsPart n (dependencies_of ds) scheme x s) (Same-path (places q) p one.4) made
+
+  -- so is a determined attribute outside x
+  part_closed : (a : ℕ) → places found.closed a ≡ true → x a ≡ false → IsPart n (dependencies_of ds) scheme x (only a)
+  part_closed a closed out =
+      let only_in : Within (only a) scheme = λ (k : ℕ) e. grind (arith, nat_tests, e, ((traces.closed a).0 closed).0) in
+      record {
+        outside = λ k e. grind (arith, nat_tests, e, out);
+        some = λ none. true≢false (grind (arith, nat_tests, none a));
+        implied = (traces_decide (only a) only_in).1 (closed_alone a closed);
+        minimal = λ y inside some implied k e. ⊎_elim
+            (λ shared. grind (arith, nat_tests, e, inside shared.0 shared.2, shared.2))
+            (λ none. absurd (some none))
+            (tell_empty n y (λ (j : ℕ) m. scheme_in j (implied.within.1 j m)));
+      }
+
+  -- there is no other part
+  part_listed : (p : Places) → IsPart n (dependencies_of ds) scheme x p → IsListedPart x found p
+  part_listed p part =
+      let p_in = part.implied.within.1 in
+      let splits = (traces_decide p p_in).0 part.implied in
+      ⊎_elim
+      (λ some.
+      let a = some.0 in
+      ⊎_elim
+      (λ closed.
+      let out = part.outside a some.2 in
+      let alone = part_closed a closed out in
+      let inside : Within (only a) p = λ (k : ℕ) e. grind (arith, nat_tests, e, some.2) in
+      inr (a, closed, out, Same-within p (only a) (part.minimal (only a) inside alone.some alone.implied) inside))
+      (λ one.
+      let q = one.1 in
+      let listed : Contains (blocks_of found) q = (one.0, one.2, one.3) in
+      let trace = All-contains (λ (s : AttrSet). IsTrace n (dependencies_of ds) scheme x (places s)) (blocks_of found) q traces.each listed in
+      let inside = listed_inside q p a listed (trace_in (places q) trace) one.4 some.2 splits in
+      let back = part.minimal (places q) inside trace.some ((traces_decide (places q) (trace_in (places q) trace)).1 (trace_alone (places q) trace)) in
+      inl (one.0, q, one.2, one.3, Same-within (places q) p inside back))
+      (traces.parts a (p_in a some.2)))
+      (λ none. absurd (part.some none))
+      (tell_empty n p (λ (k : ℕ) m. scheme_in k (p_in k m)))
+
   pub trace_basis-from : IsTraceBasis n (dependencies_of ds) scheme x found
   trace_basis-from = record {
     traces = traces;
@@ -236,9 +347,14 @@ module _ (n : ℕ) (ds : List Dep) (scheme x : Places) (found : Blocks) (within 
       (λ m. let h = (traces.closed a).0 m in fd_on-from n (dependencies_of ds) scheme x (only a) x_in (λ (k : ℕ) e. grind (arith, nat_tests, e, h.0)) h.1.1),
       (λ on. (traces.closed a).1 (on.within.1 a (grind (arith, nat_tests)), (ltb-true a n (scheme_in a (on.within.1 a (grind (arith, nat_tests)))), fd_on-to n (dependencies_of ds) scheme x (only a) on))),
     );
-    multivalued = λ y y_in. (
-      (λ on. traces_split y y_in (λ r legal. mvd_in-to scheme x y r x_in y_in (on.obeyed r legal))),
-      (λ splits. record { within = (x_in, y_in); obeyed = λ r legal. mvd_in-from scheme x y r x_in y_in (traces_whole y y_in splits r legal) }),
+    multivalued = traces_decide;
+    all = traces_all;
+    part = λ p. (
+      part_listed p,
+      (λ listed. ⊎_elim
+          (λ one. part_trace p one)
+          (λ (a, closed, out, is). subst (λ (q : Places). IsPart n (dependencies_of ds) scheme x q) (sym (Same-path p (only a) is)) (part_closed a closed out))
+          listed),
     );
   }
 

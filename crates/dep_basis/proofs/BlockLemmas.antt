@@ -43,7 +43,7 @@ whole_legal n ds w within whole =
     legal-from n ds (two_tuples n (outside_of n w)) (two_tuples-over n (outside_of n w)) (λ (k : ℕ) (d : Dep) l. whole_obeyed n w (get_or ds k d) (within k d l) (each k d l))
 
 -- no dependency cuts a block
-block_whole : (n : ℕ) (ds : List Dependency) (x p : Places) (d : Dependency) → Within x (below n) → IsWithin (below n) d → Implies n ds d → IsBlock n ds x p → LeavesWhole p p d
+pub block_whole : (n : ℕ) (ds : List Dependency) (x p : Places) (d : Dependency) → Within x (below n) → IsWithin (below n) d → Implies n ds d → IsBlock n ds x p → LeavesWhole p p d
 block_whole n ds x p (fd v t) x_in within given block = λ apart a in_p. elim (cases_Bool (t a)) [
   | inr out ↦ out
   | inl in_t ↦ absurd (block.outside a in_p (ltb-true a n (block.universe a in_p), moves n ds x p v t x_in block.universe within.0 a apart in_p in_t block.implied given))

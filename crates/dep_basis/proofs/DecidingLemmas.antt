@@ -17,7 +17,7 @@ use Rattle.dep_model.specs.Keys.{IsBlock}
 use Rattle.dep_model.specs.TwoTuples.{two_tuples}
 use Rattle.dep_model.proofs.TwoTupleLemmas.{two_tuples_fd-to}
 use Rattle.fd_closure.proofs.ClosureLemmas.{fd_each-from, fd_each-to}
-use Rattle.dep_basis.specs.declared.blocks.Blocks.{Blocks}
+use Rattle.dep_basis.specs.declared.gathering.Blocks.{Blocks}
 use Rattle.dep_basis.specs.Traces.{blocks_of}
 use Rattle.dep_basis.specs.Bases.{IsSplitBy, IsBasis}
 use Rattle.dep_basis.specs.Firsts.{IsFirstWith}

@@ -11,8 +11,8 @@ use Rattle.attr_sets.specs.declared.set.AttrSet.{AttrSet}
 use Rattle.attr_sets.specs.Sets.{places}
 use Rattle.dep_model.specs.Dependencies.{Dependency}
 use Rattle.dep_model.specs.Keys.{InClosure, IsBlock}
-use Rattle.dep_basis.specs.declared.blocks.Blocks.{Blocks}
-use Rattle.dep_basis.specs.declared.blocks.TheConstants.{MOST_BLOCKS}
+use Rattle.dep_basis.specs.declared.gathering.Blocks.{Blocks}
+use Rattle.dep_basis.specs.declared.pieces.TheConstants.{MOST_BLOCKS}
 use Rattle.dep_basis.specs.Traces.{IsTrace, BeginsBefore, AreTraces, blocks_of}
 use Rattle.dep_basis.proofs.BlockLemmas.{blocks_same}
 
@@ -44,7 +44,7 @@ found_first n ds scheme x closed none = record {
 }
 
 -- some member of a list is one of a longer list
-Any-kept : {X : Type 0} (P : X → Type 0) (xs : List X) (y : X) → Any P xs → Any P (xs ++ y ∷ [])
+pub Any-kept : {X : Type 0} (P : X → Type 0) (xs : List X) (y : X) → Any P xs → Any P (xs ++ y ∷ [])
 Any-kept P xs y (k, x, lt, is, holds) = (k, x, omega (arith, lt, length-append xs (y ∷ [])), get_or_append_left xs (y ∷ []) x k lt ∙ is, holds)
 
 module _ (n : ℕ) (ds : List Dependency) (scheme x left closed : Places) (qs : List AttrSet) (before : IsFound n ds scheme x left closed qs) where

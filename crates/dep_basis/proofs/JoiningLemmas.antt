@@ -13,7 +13,7 @@ use Rattle.dep_model.proofs.RuleLemmas.{mvd_meet_obeyed}
 use Rattle.derivation.specs.Trees.{Tree}
 use Rattle.derivation.specs.Derivs.{tree_of}
 use Rattle.derivation.specs.Builders.{IsLittleMore}
-use Rattle.dep_basis.specs.declared.shown.PartProof.{PartProof}
+use Rattle.dep_basis.specs.declared.showing.PartProof.{PartProof}
 use Rattle.dep_basis.specs.Shown.{HasSize, IsPartProof}
 use Rattle.dep_basis.specs.Joined.{IsSetProof, IsLeft}
 use Rattle.dep_basis.proofs.ShowingLemmas.{part_size, size_grows}

@@ -26,7 +26,7 @@ from_mapped : (o : Option Dep) (d : Dependency) → option_map dependency_of o �
 from_mapped None d h = cc
 from_mapped (Some e) d h = (e, refl, cc)
 
-given_at : (ds : List Dep) (k : ℕ) (d : Dependency) → slice_get (dependencies_of ds) k ≡ Some d → (e : Dep) × (slice_get ds k ≡ Some e) × (dependency_of e ≡ d)
+pub given_at : (ds : List Dep) (k : ℕ) (d : Dependency) → slice_get (dependencies_of ds) k ≡ Some d → (e : Dep) × (slice_get ds k ≡ Some e) × (dependency_of e ≡ d)
 given_at ds k d here = from_mapped (slice_get ds k) d (sym (slice_get-map dependency_of ds k) ∙ here)
 
 -- none before it leads out
@@ -35,8 +35,7 @@ pub lead_first : (s : Schema) (c : Places) (k : ℕ) (e : Dep) (t : Places) → 
 lead_first s c k e t lt none out = record {
   lhs = out.lhs;
   given = slice_get-map dependency_of (deps_of s) k ∙ ap (option_map dependency_of) (slice_get-get_or (deps_of s) k e lt) ∙ ap Some out.is;
-  inside = out.inside;
-  beyond = out.beyond;
+  out = out.out;
   earlier = λ j v w before here.
       let found = given_at (deps_of s) j (fd v w) here in
       let few : k ≤ length (deps_of s) = omega (arith, lt) in

@@ -7,3 +7,8 @@ pub mod WitnessLemmas
 pub mod LeadLemmas
 pub mod ShowingLemmas
 pub mod JoiningLemmas
+pub mod PieceLemmas
+pub mod PartLemmas
+pub mod RestLemmas
+pub mod ProvingLemmas
+pub mod OneBlock

@@ -1,6 +1,6 @@
 -- What a cut leaves: each step keeps a candidate.
-use Rattle.std.proofs.Common.{◌≡◌, ℕ, ◌<◌, true, false, List, get_or, sym, ◌∙◌, inl, inr, ⊎_elim, arith}
-use Rattle.std.proofs.lemmas.Bool.{true≢false, cases_Bool}
+use Rattle.std.proofs.Common.{◌≡◌, ℕ, ◌<◌, true, false, List, get_or, sym, ap, ◌∙◌, inl, inr, ⊎_elim, arith}
+use Rattle.std.proofs.lemmas.Bool.{true≢false, cases_Bool, false_from_ne_true}
 use Rattle.std.proofs.lemmas.Bool.Decides.{nat_tests}
 use Rattle.std.specs.Prelude.{All}
 use Rattle.attr_sets.specs.Places.{Places, below, only, none, union, meet, minus, Within, Same, IsEmpty, Apart, Meets}
@@ -125,6 +125,10 @@ candidate_nothing n ds x w v t rest a v_in in_t apart x_in given is before = rec
 pub as_mvd : (n : ℕ) (ds : List Dependency) (d : Dependency) → Implies n ds d → Implies n ds (mvd (left_of d) (right_of d))
 as_mvd n ds (fd v t) given = replicated n ds v t given
 as_mvd n ds (mvd v t) given = given
+
+-- a left side that does not meet a set
+pub apart_from : (v lhs part : Places) → lhs ≡ v → (Meets lhs part → ⊥) → Apart v part
+apart_from v lhs part same none k m = false_from_ne_true (part k) (λ in_part. none (k, ap (λ (x : Places). x k) same ∙ m, in_part))
 
 -- ---- what cuts nothing off
 -- a left side that is not apart

@@ -4,7 +4,7 @@ use Rattle.std.proofs.lemmas.Bool.{true≢false, cases_Bool, ltb-true}
 use Rattle.std.proofs.lemmas.Option.{slice_get-get_or, slice_get_within}
 use Rattle.std.proofs.lemmas.Bool.Decides.{nat_tests}
 use Rattle.std.specs.Prelude.{All, slice_get, IfOk}
-use Rattle.attr_sets.specs.Places.{Places, below, meet, minus, Within, Same, count_below}
+use Rattle.attr_sets.specs.Places.{Places, below, meet, minus, Within, Same, Apart, count_below}
 use Rattle.attr_sets.specs.Sets.{places}
 use Rattle.attr_sets.specs.declared.set.TheConstants.{PLACES}
 use Rattle.attr_sets.proofs.PlacesLemmas.{places_below, count_below-lt, count_below-le}
@@ -17,28 +17,19 @@ use Rattle.dep_model.specs.Schemas.{width_of, universe_of, deps_of, theory_of}
 use Rattle.derivation.specs.Trees.{Tree, depth}
 use Rattle.derivation.specs.Derivs.{tree_of}
 use Rattle.derivation.specs.Conclusions.{Proves}
-use Rattle.derivation.specs.Builders.{ProveSplit, IsLittleMore}
+use Rattle.derivation.specs.Builders.{IsLittleMore}
 use Rattle.derivation.proofs.ProvesLemmas.{mvd_restated}
 use Rattle.dep_model.specs.Keys.{IsBlock}
 use Rattle.dep_basis.specs.Refining.{LeavesWhole}
 use Rattle.dep_model.proofs.DepLemmas.{legal-to}
-use Rattle.dep_basis.specs.declared.shown.PartProof.{PartProof}
+use Rattle.dep_basis.specs.declared.showing.PartProof.{PartProof}
 use Rattle.dep_basis.specs.Shown.{IsCutting, HasSize, IsPartProof, CanCut, IsNextPart}
 use Rattle.dep_basis.proofs.RefiningLemmas.{as_mvd, candidate_first, candidate_inside, candidate_outside}
 use Rattle.dep_basis.proofs.BlockLemmas.{whole_legal, candidate_block}
 
--- what a split needs
-pub part_splits : (s : Schema) (x : Places) (a : ℕ) (w : Places) (d : Dependency) (t g : Tree) → IsPartProof s x a w t → IsCutting w d → Proves s g (mvd (left_of d) (right_of d)) → ProveSplit s t g
-part_splits s x a w d t g part cutting given = record {
-  first_lhs = x;
-  first_rhs = w;
-  second_lhs = left_of d;
-  second_rhs = right_of d;
-  first = part.proves;
-  second = given;
-  apart_from_first = part.candidate.outside;
-  apart_from_second = λ k in_w. ⊎_elim (λ in_v. absurd (true≢false (sym in_w ∙ cutting.apart k in_v))) (λ out. out) (cases_Bool (left_of d k));
-}
+-- a part has nothing of the left side of what cuts it
+pub part_beside : (w : Places) (d : Dependency) → IsCutting w d → Apart w (left_of d)
+part_beside w d cutting k in_w = ⊎_elim (λ in_v. absurd (true≢false (sym in_w ∙ cutting.apart k in_v))) (λ out. out) (cases_Bool (left_of d k))
 
 -- the count falls by the attribute that is cut off
 falls : (w rest : Places) (k : ℕ) → Within w (below PLACES) → Within rest w → w k ≡ true → rest k ≡ false → count_below rest PLACES < count_below w PLACES

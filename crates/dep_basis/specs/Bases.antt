@@ -1,13 +1,13 @@
-use Rattle.std.specs.Prelude.{◌≡◌, ℕ, ◌<◌, ◌↔◌, ◌⊎◌, true, List, All, Any}
+use Rattle.std.specs.Prelude.{◌≡◌, ℕ, ◌<◌, ◌↔◌, ◌⊎◌, true, false, List, All, Any}
 use Rattle.attr_sets.specs.Places.{Places, below, only, minus, Within, Same, Meets}
 use Rattle.attr_sets.specs.declared.set.AttrSet.{AttrSet}
 use Rattle.attr_sets.specs.Sets.{places}
 use Rattle.dep_model.specs.Dependencies.{Dependency, fd, mvd}
 use Rattle.dep_model.specs.Implication.{Implies}
 use Rattle.dep_model.specs.OnSchemes.{ImpliedOn}
-use Rattle.dep_model.specs.Keys.{InClosure, IsBlock}
-use Rattle.dep_basis.specs.declared.blocks.Blocks.{Blocks}
-use Rattle.dep_basis.specs.Traces.{blocks_of, AreListed, AreTraces}
+use Rattle.dep_model.specs.Keys.{InClosure, IsBlock, IsPart}
+use Rattle.dep_basis.specs.declared.gathering.Blocks.{Blocks}
+use Rattle.dep_basis.specs.Traces.{IsTrace, blocks_of, AreListed, AreTraces}
 
 -- a set meets both y and what a scheme has beyond y
 abbrev pub IsSplitBy : Places → Places → Places → Type 0
@@ -28,9 +28,17 @@ pub record IsBasis (n : ℕ) (ds : List Dependency) (x : Places) (found : Blocks
   pub multivalued : (y : Places) → Within y (below n)
       → Implies n ds (mvd x y) ↔ SplitsNone (below n) y (blocks_of found)
 
+-- a listed trace, or a single determined attribute outside x
+abbrev pub IsListedPart : Places → Blocks → Places → Type 0
+IsListedPart x found p =
+    Any (λ q. Same (places q) p) (blocks_of found)
+    ⊎ ((a : ℕ) × (places found.closed a ≡ true) × (x a ≡ false) × Same p (only a))
+
 -- the closed set of x and the traces of its blocks on a scheme, which decide what is implied there
 pub record IsTraceBasis (n : ℕ) (ds : List Dependency) (scheme x : Places) (found : Blocks) : Type 0 where
   pub traces : AreTraces n ds scheme x found
   pub functional : (a : ℕ) → (places found.closed a ≡ true) ↔ ImpliedOn n ds scheme (fd x (only a))
   pub multivalued : (y : Places) → Within y scheme
       → ImpliedOn n ds scheme (mvd x y) ↔ SplitsNone scheme y (blocks_of found)
+  pub all : (q : Places) → IsTrace n ds scheme x q → Any (λ p. Same (places p) q) (blocks_of found)
+  pub part : (p : Places) → IsPart n ds scheme x p ↔ IsListedPart x found p

@@ -4,8 +4,8 @@ use Rattle.attr_sets.specs.Sets.{places}
 use Rattle.dep_model.specs.Dependencies.{Dependency, Obeys}
 use Rattle.dep_model.specs.Implication.{IsLegal, Implies}
 use Rattle.dep_model.specs.TwoTuples.{two_tuples}
-use Rattle.dep_basis.specs.declared.decision.Decision.{Decision}
-use Rattle.dep_basis.specs.declared.decision.Decision.TheVariants.{Implied, Broken}
+use Rattle.dep_basis.specs.declared.deciding.Decision.{Decision}
+use Rattle.dep_basis.specs.declared.deciding.Decision.TheVariants.{Implied, Broken}
 use Rattle.dep_basis.specs.Breaking.{IsBreakingBlock}
 
 -- two rows that agree exactly on a set are legal and break a dependency; the set is all outside the

@@ -9,7 +9,7 @@ use Rattle.derivation.specs.Trees.{Tree, nodes, depth}
 use Rattle.derivation.specs.Derivs.{tree_of}
 use Rattle.derivation.specs.Conclusions.{Proves}
 use Rattle.derivation.specs.declared.measures.TheConstants.{MOST_NODES, MOST_LEVELS}
-use Rattle.dep_basis.specs.declared.shown.PartProof.{PartProof}
+use Rattle.dep_basis.specs.declared.showing.PartProof.{PartProof}
 use Rattle.dep_basis.specs.Shown.{HasSize}
 
 -- a tree proves a dependency, within the limits of a certificate

@@ -1,4 +1,6 @@
 pub mod Refining
+pub mod Pieces
+pub mod Parts
 pub mod Traces
 pub mod Bases
 pub mod Firsts

@@ -11,9 +11,9 @@ use Rattle.dep_model.specs.Keys.{IsBlock}
 use Rattle.derivation.specs.Trees.{Tree, nodes, depth}
 use Rattle.derivation.specs.Derivs.{tree_of}
 use Rattle.derivation.specs.Conclusions.{Proves}
-use Rattle.dep_basis.specs.declared.shown.PartProof.{PartProof}
-use Rattle.dep_basis.specs.declared.shown.Shown.{Shown}
-use Rattle.dep_basis.specs.declared.shown.Shown.TheVariants.{Closed, Part}
+use Rattle.dep_basis.specs.declared.showing.PartProof.{PartProof}
+use Rattle.dep_basis.specs.declared.showing.Shown.{Shown}
+use Rattle.dep_basis.specs.declared.showing.Shown.TheVariants.{Closed, Part}
 use Rattle.dep_basis.specs.Refining.{IsCandidate}
 
 -- a dependency cuts a part: its left side is apart from it, and its right side shares some of it, and

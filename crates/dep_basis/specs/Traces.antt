@@ -4,8 +4,8 @@ use Rattle.attr_sets.specs.declared.set.AttrSet.{AttrSet}
 use Rattle.attr_sets.specs.Sets.{places}
 use Rattle.dep_model.specs.Dependencies.{Dependency}
 use Rattle.dep_model.specs.Keys.{InClosure, IsBlock}
-use Rattle.dep_basis.specs.declared.blocks.Blocks.{Blocks}
-use Rattle.dep_basis.specs.declared.blocks.TheConstants.{MOST_BLOCKS}
+use Rattle.dep_basis.specs.declared.gathering.Blocks.{Blocks}
+use Rattle.dep_basis.specs.declared.pieces.TheConstants.{MOST_BLOCKS}
 
 -- what a block of x has in a scheme, where that is not empty
 pub record IsTrace (n : ℕ) (ds : List Dependency) (scheme x q : Places) : Type 0 where

@@ -1,14 +1,17 @@
-ghost use Rattle.attr_sets.specs.Places.{Within};
+ghost use Rattle.std.specs.Prelude.{◌≡◌, ℕ, ◌<◌, ◌≤◌, ◌↔◌, true, All, IsNone, IfSome};
+ghost use Rattle.attr_sets.specs.Places.{below, Within};
 ghost use Rattle.attr_sets.specs.Sets.{places};
+ghost use Rattle.attr_sets.specs.declared.set.TheConstants.{PLACES};
+ghost use Rattle.dep_model.specs.Deps.{dependencies_of, IsDepWithin};
+ghost use Rattle.dep_model.specs.Keys.{InClosure, IsBlock};
 ghost use Rattle.dep_model.specs.Schemas.{width_of, universe_of, theory_of};
-ghost use Rattle.dep_basis.specs.Traces.{AreTraces};
 ghost use Rattle.dep_basis.specs.Bases.{IsBasis, IsTraceBasis};
 
-use crate::blocks::Blocks;
-use crate::gathering::traces;
+use crate::gathering::{Blocks, traces};
+use crate::pieces::{all_pieces, outside_all};
+use crate::refining::block_of;
 use attr_sets::AttrSet;
-use dep_model::Schema;
-use fd_closure::closure;
+use dep_model::{Dep, Schema};
 
 /// The dependency basis of a left side: the attributes that it determines, and the blocks, the least
 /// sets of other attributes that it multidetermines (Beeri 1980). A set is multidetermined exactly
@@ -17,7 +20,17 @@ pub fn basis(schema: &Schema, lhs: AttrSet) -> Blocks
     requires within { Within (places lhs) (universe_of schema.now) }
     ensures basis { IsBasis (width_of schema.now) (theory_of schema.now) (places lhs) result }
 {
-    traces_of(schema, AttrSet::full(schema.width()), lhs)
+    basis_by(schema.deps(), schema.width(), lhs)
+}
+
+/// The dependency basis by a list of dependencies over this many attributes.
+pub fn basis_by(deps: &[Dep], width: u8, lhs: AttrSet) -> Blocks
+    requires width { width ≤ PLACES }
+    requires deps { All (IsDepWithin (below width)) deps.now }
+    requires lhs { Within (places lhs) (below width) }
+    ensures basis { IsBasis width (dependencies_of deps.now) (places lhs) result }
+{
+    traces(deps, width, AttrSet::full(width), lhs)
 }
 
 /// What a scheme has of a dependency basis. It decides what is implied on the scheme.
@@ -26,16 +39,65 @@ pub fn trace_basis(schema: &Schema, scheme: AttrSet, lhs: AttrSet) -> Blocks
     requires lhs { Within (places lhs) (places scheme) }
     ensures basis { IsTraceBasis (width_of schema.now) (theory_of schema.now) (places scheme) (places lhs) result }
 {
-    traces_of(schema, scheme, lhs)
+    trace_basis_by(schema.deps(), schema.width(), scheme, lhs)
 }
 
-// The traces of a left side's blocks. They are those of its closure by the functional dependencies,
-// which leaves fewer attributes to refine.
-fn traces_of(schema: &Schema, scheme: AttrSet, lhs: AttrSet) -> Blocks
-    requires scheme { Within (places scheme) (universe_of schema.now) }
-    requires lhs { Within (places lhs) (universe_of schema.now) }
-    ensures traces { AreTraces (width_of schema.now) (theory_of schema.now) (places scheme) (places lhs) result }
+/// What a scheme has of a dependency basis by a list of dependencies over this many attributes.
+pub fn trace_basis_by(deps: &[Dep], width: u8, scheme: AttrSet, lhs: AttrSet) -> Blocks
+    requires width { width ≤ PLACES }
+    requires deps { All (IsDepWithin (below width)) deps.now }
+    requires scheme { Within (places scheme) (below width) }
+    requires lhs { Within (places lhs) (places scheme) }
+    ensures basis { IsTraceBasis width (dependencies_of deps.now) (places scheme) (places lhs) result }
 {
-    let deps = schema.deps();
-    traces(deps, schema.width(), scheme, closure(deps, lhs))
+    traces(deps, width, scheme, lhs)
+}
+
+/// The attributes that a left side determines.
+pub fn closed(schema: &Schema, lhs: AttrSet) -> AttrSet
+    requires within { Within (places lhs) (universe_of schema.now) }
+    ensures closed { (a : ℕ) → (places result a ≡ true)
+        ↔ InClosure (width_of schema.now) (theory_of schema.now) (places lhs) a }
+{
+    closed_by(schema.deps(), schema.width(), lhs)
+}
+
+/// The attributes that a left side determines by a list of dependencies over this many attributes.
+pub fn closed_by(deps: &[Dep], width: u8, lhs: AttrSet) -> AttrSet
+    requires width { width ≤ PLACES }
+    requires deps { All (IsDepWithin (below width)) deps.now }
+    requires lhs { Within (places lhs) (below width) }
+    ensures closed { (a : ℕ) → (places result a ≡ true)
+        ↔ InClosure width (dependencies_of deps.now) (places lhs) a }
+{
+    let found = all_pieces(deps, width, lhs);
+    outside_all(AttrSet::full(width), &found.sets[..found.count as usize])
+}
+
+/// The block of a left side with an attribute in it; none where the left side determines the attribute.
+pub fn block(schema: &Schema, lhs: AttrSet, attribute: u8) -> Option<AttrSet>
+    requires lhs { Within (places lhs) (universe_of schema.now) }
+    requires attribute { attribute < width_of schema.now }
+    ensures none { IsNone result ↔ InClosure (width_of schema.now) (theory_of schema.now) (places lhs) attribute }
+    ensures block { IfSome result (λ p. IsBlock (width_of schema.now) (theory_of schema.now) (places lhs) (places p)) }
+    ensures member { IfSome result (λ p. places p attribute ≡ true) }
+{
+    block_by(schema.deps(), schema.width(), lhs, attribute)
+}
+
+/// The block with an attribute in it by a list of dependencies over this many attributes.
+pub fn block_by(deps: &[Dep], width: u8, lhs: AttrSet, attribute: u8) -> Option<AttrSet>
+    requires width { width ≤ PLACES }
+    requires deps { All (IsDepWithin (below width)) deps.now }
+    requires lhs { Within (places lhs) (below width) }
+    requires attribute { attribute < width }
+    ensures none { IsNone result ↔ InClosure width (dependencies_of deps.now) (places lhs) attribute }
+    ensures block { IfSome result (λ p. IsBlock width (dependencies_of deps.now) (places lhs) (places p)) }
+    ensures member { IfSome result (λ p. places p attribute ≡ true) }
+{
+    let found = block_of(deps, width, lhs, attribute);
+    if found.is_empty() {
+        return None;
+    }
+    Some(found)
 }

@@ -1,14 +1,14 @@
-ghost use Rattle.std.specs.Prelude.{◌≡◌, ◌<◌, true, false, All, length, slice_index_or, IsNone, IfSome, IsTrue};
+ghost use Rattle.std.specs.Prelude.{◌≡◌, ◌<◌, true, false, All, length, slice_index_or, ◌⊎◌, IsNone, IfSome, IsTrue};
 ghost use Rattle.attr_sets.specs.Sets.{places};
+ghost use Rattle.attr_sets.specs.declared.set.TheConstants.{PLACES};
 ghost use Rattle.dep_model.specs.Deps.{dependency_of, dependencies_of};
 ghost use Rattle.dep_basis.specs.Refining.{LeavesWhole};
 ghost use Rattle.dep_model.specs.declared.dep.Dep.{Dep};
 ghost use Rattle.dep_basis.specs.Shown.{IsCutting};
 
-use crate::meeting::meets;
-use crate::refining::sides;
+use crate::refining::cut_by;
 use attr_sets::AttrSet;
-use dep_model::Dep;
+use dep_model::{Dep, sides};
 
 // The first dependency that cuts a part.
 pub fn next_cut(deps: &[Dep], part: AttrSet) -> Option<usize>
@@ -26,13 +26,68 @@ pub fn next_cut(deps: &[Dep], part: AttrSet) -> Option<usize>
     None
 }
 
+// A dependency that cuts a part: its number, from 0, and how many attributes it leaves.
+#[derive(Clone, Copy)]
+struct Cut {
+    number: usize,
+    left: u8,
+}
+
+// The first of the dependencies that cut a part which leaves the fewest attributes beside one of it.
+pub fn best_cut(deps: &[Dep], part: AttrSet, attribute: u8) -> Option<usize>
+    requires attribute { attribute < PLACES }
+    ensures none { IsNone result
+        → All (LeavesWhole (places part) (places part)) (dependencies_of deps.now) }
+    ensures place { IfSome result (λ k. k < length deps.now) }
+    ensures cuts { IfSome result (λ k.
+        (d : Dep) → IsCutting (places part) (dependency_of (slice_index_or deps.now k d))) }
+{
+    let mut best = None;
+    for (k, dep) in deps.iter().enumerate() {
+        best = better_cut(best, k, *dep, part, attribute);
+    }
+    match best {
+        Some(cut) => Some(cut.number),
+        None => None,
+    }
+}
+
+// The best cut so far, or that of one dependency more, if it leaves fewer.
+fn better_cut(
+    best: Option<Cut>,
+    number: usize,
+    dep: Dep,
+    part: AttrSet,
+    attribute: u8,
+) -> Option<Cut>
+    requires attribute { attribute < PLACES }
+    ensures none { IsNone result → IsNone best × LeavesWhole (places part) (places part) (dependency_of dep) }
+    ensures some { (result ≡ best)
+        ⊎ (IsCutting (places part) (dependency_of dep) × IfSome result (λ cut. cut.number ≡ number)) }
+{
+    if !is_cutting(dep, part) {
+        return best;
+    }
+    let left = cut_by(dep, part, attribute).len();
+    match best {
+        None => Some(Cut { number, left }),
+        Some(cut) => {
+            if left < cut.left {
+                Some(Cut { number, left })
+            } else {
+                best
+            }
+        }
+    }
+}
+
 // Whether a dependency cuts a part.
 fn is_cutting(dep: Dep, part: AttrSet) -> bool
     ensures cuts { IsTrue result → IsCutting (places part) (dependency_of dep) }
     ensures whole { result ≡ false → LeavesWhole (places part) (places part) (dependency_of dep) }
 {
     let (lhs, rhs) = sides(dep);
-    if meets(lhs, part) || !meets(rhs, part) {
+    if lhs.meets(part) || !rhs.meets(part) {
         return false;
     }
     match dep {

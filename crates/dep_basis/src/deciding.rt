@@ -1,18 +1,28 @@
-ghost use Rattle.std.specs.Prelude.{◌≡◌, ◌↔◌, true, IsNone, IfSome, All};
-ghost use Rattle.attr_sets.specs.Places.{Within, Meets};
+ghost use Rattle.std.specs.Prelude.{◌≡◌, ◌≤◌, ◌↔◌, IsNone, IfSome, All};
+ghost use Rattle.attr_sets.specs.Places.{below, Within, Meets};
 ghost use Rattle.attr_sets.specs.Sets.{places};
+ghost use Rattle.attr_sets.specs.declared.set.TheConstants.{PLACES};
 ghost use Rattle.dep_model.specs.Dependencies.{fd, mvd};
-ghost use Rattle.dep_model.specs.Deps.{dependency_of, IsDepWithin};
+ghost use Rattle.dep_model.specs.Deps.{dependency_of, dependencies_of, IsDepWithin};
+ghost use Rattle.dep_model.specs.Implication.{Implies};
 ghost use Rattle.dep_model.specs.Schemas.{width_of, universe_of, theory_of, ImpliedBy};
 ghost use Rattle.dep_basis.specs.Firsts.{IsFirstWith};
 ghost use Rattle.dep_basis.specs.Breaking.{IsBreakingBlock};
 ghost use Rattle.dep_basis.specs.Decisions.{IsDecided};
 
-use crate::bases::basis;
-use crate::decision::Decision;
-use crate::meeting::meets;
+use crate::bases::{basis_by, block_by};
 use attr_sets::AttrSet;
 use dep_model::{Dep, Schema};
+use fd_closure::closure;
+
+/// Whether a schema implies a dependency.
+#[derive(Clone, Copy, Debug, PartialEq, Eq)]
+pub enum Decision {
+    /// Every relation that obeys the schema obeys the dependency.
+    Implied,
+    /// Two rows that agree exactly on `agreement` obey the schema and break the dependency.
+    Broken { agreement: AttrSet },
+}
 
 /// Decides whether a schema implies a dependency. Where it does not, the two rows agree outside one
 /// block of the left side: for a functional dependency that of the least attribute of the right side
@@ -23,59 +33,77 @@ pub fn decide(schema: &Schema, dep: Dep) -> Decision
     ensures decision { IsDecided (width_of schema.now) (theory_of schema.now) (dependency_of dep) result }
     ensures implied { (result ≡ Decision.Implied) ↔ ImpliedBy schema.now (dependency_of dep) }
 {
-    match breaking_block(schema, dep) {
+    decide_by(schema.deps(), schema.width(), dep)
+}
+
+/// Decides whether a list of dependencies over this many attributes implies a dependency.
+pub fn decide_by(deps: &[Dep], width: u8, dep: Dep) -> Decision
+    requires width { width ≤ PLACES }
+    requires deps { All (IsDepWithin (below width)) deps.now }
+    requires within { IsDepWithin (below width) dep }
+    ensures decision { IsDecided width (dependencies_of deps.now) (dependency_of dep) result }
+    ensures implied { (result ≡ Decision.Implied) ↔ Implies width (dependencies_of deps.now) (dependency_of dep) }
+{
+    match breaking_block(deps, width, dep) {
         None => Decision::Implied,
         Some(block) => Decision::Broken {
-            agreement: AttrSet::full(schema.width()).minus(block),
+            agreement: AttrSet::full(width).minus(block),
         },
     }
 }
 
 // The block that shows that a dependency is not implied.
-fn breaking_block(schema: &Schema, dep: Dep) -> Option<AttrSet>
-    requires within { IsDepWithin (universe_of schema.now) dep }
-    ensures none { IsNone result ↔ ImpliedBy schema.now (dependency_of dep) }
+fn breaking_block(deps: &[Dep], width: u8, dep: Dep) -> Option<AttrSet>
+    requires width { width ≤ PLACES }
+    requires deps { All (IsDepWithin (below width)) deps.now }
+    requires within { IsDepWithin (below width) dep }
+    ensures none { IsNone result ↔ Implies width (dependencies_of deps.now) (dependency_of dep) }
     ensures block { IfSome result (λ p.
-        IsBreakingBlock (width_of schema.now) (theory_of schema.now) (dependency_of dep) (places p)) }
+        IsBreakingBlock width (dependencies_of deps.now) (dependency_of dep) (places p)) }
 {
     match dep {
-        Dep::Fd { lhs, rhs } => block_beyond(schema, lhs, rhs),
-        Dep::Mvd { lhs, rhs } => block_split(schema, lhs, rhs),
+        Dep::Fd { lhs, rhs } => block_beyond(deps, width, lhs, rhs),
+        Dep::Mvd { lhs, rhs } => block_split(deps, width, lhs, rhs),
     }
 }
 
-// The block of the least attribute of the right side that the left side does not determine.
-fn block_beyond(schema: &Schema, lhs: AttrSet, rhs: AttrSet) -> Option<AttrSet>
-    requires lhs { Within (places lhs) (universe_of schema.now) }
-    requires rhs { Within (places rhs) (universe_of schema.now) }
-    ensures none { IsNone result ↔ ImpliedBy schema.now (fd (places lhs) (places rhs)) }
+// The block of the least attribute of the right side that the left side does not determine. Those that
+// the functional dependencies alone determine are passed over at once.
+fn block_beyond(deps: &[Dep], width: u8, lhs: AttrSet, rhs: AttrSet) -> Option<AttrSet>
+    requires width { width ≤ PLACES }
+    requires deps { All (IsDepWithin (below width)) deps.now }
+    requires lhs { Within (places lhs) (below width) }
+    requires rhs { Within (places rhs) (below width) }
+    ensures none { IsNone result ↔ Implies width (dependencies_of deps.now) (fd (places lhs) (places rhs)) }
     ensures block { IfSome result (λ p.
-        IsBreakingBlock (width_of schema.now) (theory_of schema.now) (fd (places lhs) (places rhs)) (places p)) }
+        IsBreakingBlock width (dependencies_of deps.now) (fd (places lhs) (places rhs)) (places p)) }
 {
-    let found = basis(schema, lhs);
-    let beyond = rhs.minus(found.closed);
-    match beyond.least() {
-        None => None,
-        Some(first) => {
-            let only = AttrSet::single(first);
-            first_meeting(&found.blocks[..found.count as usize], only, only)
+    let mut left = rhs.minus(closure(deps, lhs));
+    while let Some(first) = left.least() {
+        let block = block_by(deps, width, lhs, first);
+        if block.is_some() {
+            return block;
         }
+        left = left.without(first);
     }
+    None
 }
 
 // The first block that meets both the right side and its complement.
-fn block_split(schema: &Schema, lhs: AttrSet, rhs: AttrSet) -> Option<AttrSet>
-    requires lhs { Within (places lhs) (universe_of schema.now) }
-    requires rhs { Within (places rhs) (universe_of schema.now) }
-    ensures none { IsNone result ↔ ImpliedBy schema.now (mvd (places lhs) (places rhs)) }
+fn block_split(deps: &[Dep], width: u8, lhs: AttrSet, rhs: AttrSet) -> Option<AttrSet>
+    requires width { width ≤ PLACES }
+    requires deps { All (IsDepWithin (below width)) deps.now }
+    requires lhs { Within (places lhs) (below width) }
+    requires rhs { Within (places rhs) (below width) }
+    ensures none { IsNone result ↔ Implies width (dependencies_of deps.now) (mvd (places lhs) (places rhs)) }
     ensures block { IfSome result (λ p.
-        IsBreakingBlock (width_of schema.now) (theory_of schema.now) (mvd (places lhs) (places rhs)) (places p)) }
+        IsBreakingBlock width (dependencies_of deps.now) (mvd (places lhs) (places rhs)) (places p)) }
 {
-    let found = basis(schema, lhs);
+    let found = basis_by(deps, width, lhs);
     first_meeting(
         &found.blocks[..found.count as usize],
         rhs,
-        AttrSet::full(schema.width()).minus(rhs),
+        AttrSet::full(width).minus(rhs),
     )
 }
 
@@ -87,7 +115,7 @@ fn first_meeting(blocks: &[AttrSet], one: AttrSet, other: AttrSet) -> Option<Att
         (IsFirstWith (λ p. Meets (places p) (places one) × Meets (places p) (places other)) blocks.now) }
 {
     for block in blocks {
-        if meets(*block, one) && meets(*block, other) {
+        if block.meets(one) && block.meets(other) {
             return Some(*block);
         }
     }

@@ -8,8 +8,7 @@ ghost use Rattle.dep_basis.specs.Shown.{IsClosedProof};
 ghost use Rattle.dep_basis.specs.Joined.{IsProofOf, IsSetProof};
 
 use crate::makers::{mreflexivity, reflexivity};
-use crate::showing::show_attribute;
-use crate::shown::{PartProof, Shown};
+use crate::showing::{PartProof, Shown, show_attribute};
 use attr_sets::AttrSet;
 use dep_model::{Schema, WantMemory};
 use derivation::{Deriv, unite_fd, unite_mvd};
@@ -32,7 +31,8 @@ pub fn join_fd(
     let mut left = rhs.minus(lhs);
     while let Some(first) = left.least() {
         let next = show_closed(alloc, schema, lhs, first)?;
-        let Ok(more) = unite_fd(alloc, schema, joined, next) else {
+        let only = AttrSet::single(first);
+        let Ok(more) = unite_fd(alloc, lhs, only, joined, next) else {
             return Err(WantMemory);
         };
         joined = more;
@@ -57,7 +57,8 @@ pub fn join_mvd(
     let mut left = rhs.minus(lhs);
     while let Some(first) = left.least() {
         let next = show_set(alloc, schema, lhs, first)?;
-        let Ok(more) = unite_mvd(alloc, schema, joined, next.deriv) else {
+        let done = rhs.minus(left);
+        let Ok(more) = unite_mvd(alloc, lhs, done, next.part, joined, next.deriv) else {
             return Err(WantMemory);
         };
         joined = more;

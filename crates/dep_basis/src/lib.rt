@@ -1,40 +1,43 @@
 //! Dependency bases: the closed set and the blocks of a left side, by which implication by functional
 //! and multivalued dependencies is decided (Beeri 1980).
 //!
-//! `basis` gives exactly the closed set and the blocks, `trace_basis` what a scheme has of them.
+//! `basis` gives exactly the closed set and the blocks, `trace_basis` what a scheme has of them, and so
+//! its parts; `closed` and `block` give one of them alone, and `has_two_parts` stops as soon as it knows.
 //! `decide` says whether a schema implies a dependency, and where it does not, names two rows that obey
-//! the schema and break it; `witness` makes these rows. `prove` gives a derivation of each dependency
-//! that is implied, and `functional_chain` the one of those that the functional dependencies alone
-//! imply. `witness`, `prove` and `functional_chain` take memory, and no other call does.
+//! the schema and break it; `witness` makes these rows. The calls named `.._by` ask the same of a list of
+//! dependencies over a number of attributes. `prove` gives a derivation of each dependency that is
+//! implied, and `functional_chain` the one of those that the functional dependencies alone imply.
+//! `witness`, `prove` and `functional_chain` take memory, and no other call does. `laws` has what holds
+//! of bases beside what the calls say.
 #![tactic(auto)]
 
 mod bases;
-mod blocks;
 mod chains;
 mod cutting;
 mod deciding;
-mod decision;
 mod gathering;
 mod joining;
+pub mod laws;
 mod makers;
-mod meeting;
-mod proof;
+mod parts;
+mod pieces;
 mod proving;
 mod refining;
 mod showing;
-mod shown;
 mod witnessing;
 
-pub use bases::{basis, trace_basis};
-pub use blocks::{Blocks, MOST_BLOCKS};
+pub use bases::{basis, basis_by, block, block_by, closed, closed_by, trace_basis, trace_basis_by};
 pub use chains::functional_chain;
-pub use deciding::decide;
-pub use decision::Decision;
-pub use proof::Proof;
-pub use proving::prove;
+pub use deciding::{Decision, decide, decide_by};
+pub use gathering::Blocks;
+pub use parts::{has_two_parts, has_two_parts_by};
+pub use pieces::MOST_BLOCKS;
+pub use proving::{Proof, prove};
 pub use witnessing::witness;
 
 #[cfg(test)]
 mod chain_tests;
+#[cfg(test)]
+mod derivation_tests;
 #[cfg(test)]
 mod tests;

@@ -1,30 +1,39 @@
-ghost use Rattle.std.specs.Prelude.{◌↔◌, IfOk};
+ghost use Rattle.std.specs.Prelude.{◌≡◌, ℕ, ◌↔◌, Some, slice_get, IsTrue, IsNone, IfSome, IfOk};
 ghost use Rattle.attr_sets.specs.Places.{Within};
 ghost use Rattle.attr_sets.specs.Sets.{places};
-ghost use Rattle.dep_model.specs.Dependencies.{fd};
+ghost use Rattle.dep_model.specs.Dependencies.{fd, mvd};
 ghost use Rattle.dep_model.specs.Deps.{dependency_of, IsDepWithin};
-ghost use Rattle.dep_model.specs.Schemas.{universe_of, ImpliedBy};
+ghost use Rattle.dep_model.specs.Schemas.{universe_of, theory_of, ImpliedBy};
 ghost use Rattle.derivation.specs.Derivs.{tree_of};
 ghost use Rattle.dep_basis.specs.Joined.{IsProofOf};
-ghost use Rattle.dep_basis.specs.Proofs.{IsAnswer, IsChainIfFunctional, IsYes};
+ghost use Rattle.dep_basis.specs.Proofs.{IsFirstGiven, IsAnswer, IsDirectAnswer, IsChainIfFunctional, IsDirectUnlessChain, IsYes};
 
 use crate::chains::functional_chain;
-use crate::deciding::decide;
-use crate::decision::Decision;
+use crate::deciding::{Decision, decide};
 use crate::joining::{join_fd, join_mvd};
-use crate::proof::Proof;
 use attr_sets::AttrSet;
 use dep_model::{Dep, Schema, WantMemory};
-use derivation::Deriv;
+use derivation::{Deriv, shorten};
 use std::alloc::Global;
+
+/// Why a schema implies a dependency, or that it does not.
+#[derive(Debug, Drop)]
+pub enum Proof {
+    /// A derivation of the dependency.
+    Yes(Box<Deriv>),
+    /// Two rows that agree exactly on `agreement` obey the schema and break the dependency.
+    No { agreement: AttrSet },
+}
 
 /// A derivation of a dependency where the schema implies it, and where it does not, two rows that show
 /// it, as `decide` does. A derivation has at most `MOST_NODES` nodes and `MOST_LEVELS` levels. That of
-/// a functional dependency which follows from the functional dependencies alone is their chain; any
-/// other follows the refinement of the left side's blocks (Beeri 1980).
+/// a functional dependency which follows from the functional dependencies alone is their chain; a
+/// multivalued one that the schema gives is its first; any other follows the refinement of the left
+/// side's blocks (Beeri 1980), and no line of it concludes what a line that it stands on concludes.
 pub fn prove(alloc: Global, schema: &Schema, dep: Dep) -> Result<Proof, WantMemory>
     requires within { IsDepWithin (universe_of schema.now) dep }
     ensures answer { IfOk result (IsAnswer schema.now (dependency_of dep)) }
+    ensures direct { IfOk result (IsDirectAnswer schema.now (dependency_of dep)) }
     ensures yes { IfOk result (λ proof. IsYes proof ↔ ImpliedBy schema.now (dependency_of dep)) }
 {
     match decide(schema, dep) {
@@ -39,10 +48,11 @@ fn derivation_of(alloc: Global, schema: &Schema, dep: Dep) -> Result<Box<Deriv>,
     requires implied { ImpliedBy schema.now (dependency_of dep) }
     ensures proof { IfOk result (λ b. IsProofOf schema.now (dependency_of dep) (tree_of b.value)) }
     ensures chain { IfOk result (λ b. IsChainIfFunctional schema.now (dependency_of dep) (tree_of b.value)) }
+    ensures direct { IfOk result (λ b. IsDirectUnlessChain schema.now (dependency_of dep) (tree_of b.value)) }
 {
     match dep {
         Dep::Fd { lhs, rhs } => derivation_of_fd(alloc, schema, lhs, rhs),
-        Dep::Mvd { lhs, rhs } => join_mvd(alloc, schema, lhs, rhs),
+        Dep::Mvd { lhs, rhs } => derivation_of_mvd(alloc, schema, lhs, rhs),
     }
 }
 
@@ -58,9 +68,59 @@ fn derivation_of_fd(
     requires implied { ImpliedBy schema.now (fd (places lhs) (places rhs)) }
     ensures proof { IfOk result (λ b. IsProofOf schema.now (fd (places lhs) (places rhs)) (tree_of b.value)) }
     ensures chain { IfOk result (λ b. IsChainIfFunctional schema.now (fd (places lhs) (places rhs)) (tree_of b.value)) }
+    ensures direct { IfOk result (λ b. IsDirectUnlessChain schema.now (fd (places lhs) (places rhs)) (tree_of b.value)) }
 {
     match functional_chain(alloc, schema, lhs, rhs)? {
         Some(chain) => Ok(chain),
-        None => join_fd(alloc, schema, lhs, rhs),
+        None => {
+            let joined = join_fd(alloc, schema, lhs, rhs)?;
+            Ok(shorten(schema, joined))
+        }
+    }
+}
+
+// A derivation of an implied multivalued dependency: the first that the schema gives, if it does.
+fn derivation_of_mvd(
+    alloc: Global,
+    schema: &Schema,
+    lhs: AttrSet,
+    rhs: AttrSet,
+) -> Result<Box<Deriv>, WantMemory>
+    requires lhs { Within (places lhs) (universe_of schema.now) }
+    requires rhs { Within (places rhs) (universe_of schema.now) }
+    requires implied { ImpliedBy schema.now (mvd (places lhs) (places rhs)) }
+    ensures proof { IfOk result (λ b. IsProofOf schema.now (mvd (places lhs) (places rhs)) (tree_of b.value)) }
+    ensures direct { IfOk result (λ b. IsDirectUnlessChain schema.now (mvd (places lhs) (places rhs)) (tree_of b.value)) }
+{
+    match first_given(schema, lhs, rhs) {
+        Some(k) => Ok(Box::new(alloc, Deriv::Given(k))?),
+        None => {
+            let united = join_mvd(alloc, schema, lhs, rhs)?;
+            Ok(shorten(schema, united))
+        }
+    }
+}
+
+// The number, from 0, of the first given dependency that is `lhs ->> rhs`.
+fn first_given(schema: &Schema, lhs: AttrSet, rhs: AttrSet) -> Option<u16>
+    ensures none { IsNone result → (k : ℕ)
+        → slice_get (theory_of schema.now) k ≡ Some (mvd (places lhs) (places rhs)) → ⊥ }
+    ensures first { IfSome result (IsFirstGiven schema.now (mvd (places lhs) (places rhs))) }
+{
+    for (number, dep) in schema.deps().iter().enumerate() {
+        if is_mvd(*dep, lhs, rhs) {
+            return Some(number as u16);
+        }
+    }
+    None
+}
+
+// Whether a dependency is `lhs ->> rhs`.
+fn is_mvd(dep: Dep, lhs: AttrSet, rhs: AttrSet) -> bool
+    ensures is { IsTrue result ↔ (dependency_of dep ≡ mvd (places lhs) (places rhs)) }
+{
+    match dep {
+        Dep::Fd { .. } => false,
+        Dep::Mvd { lhs: x, rhs: y } => x == lhs && y == rhs,
     }
 }

@@ -8,9 +8,8 @@ ghost use Rattle.dep_model.specs.Implication.{Implies};
 ghost use Rattle.dep_model.specs.Keys.{IsBlock};
 ghost use Rattle.dep_basis.specs.Refining.{IsCandidate, LeavesWhole};
 
-use crate::meeting::meets;
 use attr_sets::AttrSet;
-use dep_model::Dep;
+use dep_model::{Dep, sides};
 
 // The block of a left side with an attribute in it; the empty set where the attribute is in the closed
 // set. From the attributes outside the left side what a dependency cuts off is left out, as long as
@@ -58,7 +57,7 @@ fn cut_by_all(deps: &[Dep], part: AttrSet, attribute: u8) -> AttrSet
 
 // What a dependency whose left side is apart from a part leaves of it: of what it shares with the
 // right side and what it does not, that with the attribute; nothing where it determines the attribute.
-fn cut_by(dep: Dep, part: AttrSet, attribute: u8) -> AttrSet
+pub fn cut_by(dep: Dep, part: AttrSet, attribute: u8) -> AttrSet
     requires attribute { attribute < PLACES }
     ensures smaller { Within (places result) (places part) }
     ensures candidate { (n : ℕ) (ds : List Dependency) (x : Places)
@@ -67,7 +66,7 @@ fn cut_by(dep: Dep, part: AttrSet, attribute: u8) -> AttrSet
     ensures whole { LeavesWhole (places part) (places result) (dependency_of dep) }
 {
     let (lhs, rhs) = sides(dep);
-    if meets(lhs, part) {
+    if lhs.meets(part) {
         return part;
     }
     if !rhs.has(attribute) {
@@ -76,16 +75,5 @@ fn cut_by(dep: Dep, part: AttrSet, attribute: u8) -> AttrSet
     match dep {
         Dep::Fd { .. } => AttrSet::empty(),
         Dep::Mvd { .. } => part.meet(rhs),
-    }
-}
-
-// The sides of a dependency.
-pub fn sides(dep: Dep) -> (AttrSet, AttrSet)
-    ensures left { places result.0 ≡ left_of (dependency_of dep) }
-    ensures right { places result.1 ≡ right_of (dependency_of dep) }
-{
-    match dep {
-        Dep::Fd { lhs, rhs } => (lhs, rhs),
-        Dep::Mvd { lhs, rhs } => (lhs, rhs),
     }
 }

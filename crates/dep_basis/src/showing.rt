@@ -7,14 +7,29 @@ ghost use Rattle.dep_model.specs.Schemas.{width_of, universe_of};
 ghost use Rattle.derivation.specs.Derivs.{tree_of};
 ghost use Rattle.dep_basis.specs.Shown.{CanCut, IsNextPart, IsClosedProof, IsCutShown, IsShown};
 
-use crate::cutting::next_cut;
+use crate::cutting::best_cut;
 use crate::makers::{given_fd, given_mvd, moved, outside};
-use crate::refining::sides;
-use crate::shown::{PartProof, Shown};
 use attr_sets::AttrSet;
-use dep_model::{Dep, Schema, WantMemory};
+use dep_model::{Dep, Schema, WantMemory, sides};
 use derivation::{Deriv, split_inside, split_outside};
 use std::alloc::Global;
+
+// A derivation of `lhs ->> part`.
+#[derive(Debug, Drop)]
+pub struct PartProof {
+    pub lhs: AttrSet,
+    pub part: AttrSet,
+    pub deriv: Box<Deriv>,
+}
+
+// What a derivation shows of an attribute.
+#[derive(Debug, Drop)]
+pub enum Shown {
+    // That the left side determines it.
+    Closed(Box<Deriv>),
+    // That the left side multidetermines a part with it.
+    Part(PartProof),
+}
 
 // What is left of a part with an attribute, where a given dependency cuts it.
 fn cut_shown(
@@ -56,7 +71,7 @@ fn cut_outside(
     let (_, rhs) = sides(dep);
     let PartProof { lhs, part, deriv } = from;
     let given = given_mvd(alloc, schema, k, dep)?;
-    match split_outside(alloc, schema, deriv, given) {
+    match split_outside(alloc, schema, lhs, part, deriv, given) {
         Ok(deriv) => Ok(PartProof {
             lhs,
             part: part.minus(rhs),
@@ -83,7 +98,7 @@ fn cut_inside(
     let (_, rhs) = sides(dep);
     let PartProof { lhs, part, deriv } = from;
     let given = given_mvd(alloc, schema, k, dep)?;
-    match split_inside(alloc, schema, deriv, given) {
+    match split_inside(alloc, schema, lhs, part, deriv, given) {
         Ok(deriv) => Ok(PartProof {
             lhs,
             part: part.meet(rhs),
@@ -129,7 +144,7 @@ pub fn show_attribute(
         part: AttrSet::full(schema.width()).minus(lhs),
         deriv: outside(alloc, schema, lhs)?,
     };
-    while let Some(k) = next_cut(deps, from.part) {
+    while let Some(k) = best_cut(deps, from.part, attribute) {
         match cut_shown(alloc, schema, k as u16, deps[k], from, attribute)? {
             Shown::Closed(deriv) => return Ok(Shown::Closed(deriv)),
             Shown::Part(rest) => from = rest,

@@ -4,20 +4,20 @@ ghost use Rattle.dep_model.specs.Names.{same_name};
 ghost use Rattle.dep_model.specs.Deps.{IsDepWithin};
 ghost use Rattle.dep_model.specs.Schemas.{width_of};
 
-use crate::{Decision, basis, decide, trace_basis, witness};
+use crate::{Decision, basis, block, closed, decide, has_two_parts, trace_basis, witness};
 use attr_sets::AttrSet;
 use dep_model::{Dep, Name, Schema, WantMemory};
 use std::alloc::Global;
 use std::test::Fail;
 
-fn fd(lhs: u128, rhs: u128) -> Dep {
+pub fn fd(lhs: u128, rhs: u128) -> Dep {
     Dep::Fd {
         lhs: AttrSet(lhs),
         rhs: AttrSet(rhs),
     }
 }
 
-fn mvd(lhs: u128, rhs: u128) -> Dep {
+pub fn mvd(lhs: u128, rhs: u128) -> Dep {
     Dep::Mvd {
         lhs: AttrSet(lhs),
         rhs: AttrSet(rhs),
@@ -145,9 +145,10 @@ fn decides_over_one_attribute(rt: HostRuntime) -> Result<(), Fail> {
     Ok(())
 }
 
-#[test]
-fn finds_the_basis_of_a_timetable(rt: HostRuntime) -> Result<(), Fail> {
-    // COURSE TEACHER HOUR ROOM STUDENT GRADE, and the basis of COURSE.
+// COURSE TEACHER HOUR ROOM STUDENT GRADE.
+pub fn timetable(alloc: Global) -> Result<Schema, WantMemory>
+    ensures width { IfOk result (λ schema. width_of schema ≡ 6) }
+{
     let deps = [
         fd(1, 2),
         fd(12, 1),
@@ -156,16 +157,54 @@ fn finds_the_basis_of_a_timetable(rt: HostRuntime) -> Result<(), Fail> {
         fd(20, 8),
         mvd(1, 12),
     ];
-    let schema = schema_of(rt.alloc(), 6, &deps)?;
+    schema_of(alloc, 6, &deps)
+}
+
+// Whether a left side has two parts on a scheme within the universe.
+fn parted(schema: &Schema, scheme: u128, lhs: u128) -> Option<bool> {
+    let (scheme, lhs) = (AttrSet(scheme), AttrSet(lhs));
+    if scheme.within(AttrSet::full(schema.width())) && lhs.within(scheme) {
+        Some(has_two_parts(schema, scheme, lhs))
+    } else {
+        None
+    }
+}
+
+#[test]
+fn finds_the_basis_of_a_timetable(rt: HostRuntime) -> Result<(), Fail> {
+    // The basis of COURSE.
+    let schema = timetable(rt.alloc())?;
     assert_eq!(rt; decided(&schema, mvd(1, 48)), Some(Decision::Implied));
     assert_eq!(rt; decided(&schema, fd(1, 8)), broken(51));
-    assert_eq!(rt; schema.width(), 6);
     let course = basis(&schema, AttrSet::single(0));
     assert_eq!(rt; course.closed, AttrSet(3));
     assert_eq!(rt; course.count, 2);
     assert_eq!(rt; course.blocks[0], AttrSet(12));
     assert_eq!(rt; course.blocks[1], AttrSet(48));
     assert_eq!(rt; course.blocks[2], AttrSet(0));
+    assert_eq!(rt; closed(&schema, AttrSet::single(0)), AttrSet(3));
+    assert_eq!(rt; block(&schema, AttrSet::single(0), 2), Some(AttrSet(12)));
+    assert_eq!(rt; block(&schema, AttrSet::single(0), 1), None);
+    Ok(())
+}
+
+#[test]
+fn tells_two_parts_on_schemes_of_a_timetable(rt: HostRuntime) -> Result<(), Fail> {
+    let schema = timetable(rt.alloc())?;
+    let table: [(u128, u128, bool); 7] = [
+        // COURSE on all, on COURSE TEACHER, on COURSE HOUR ROOM, and on COURSE TEACHER HOUR.
+        (63, 1, true),
+        (3, 1, false),
+        (13, 1, false),
+        (7, 1, true),
+        // COURSE on COURSE HOUR STUDENT, nothing on all but COURSE, and all on all.
+        (21, 1, true),
+        (62, 0, false),
+        (63, 63, false),
+    ];
+    for (scheme, lhs, two) in table {
+        assert_eq!(rt; parted(&schema, scheme, lhs), Some(two));
+    }
     Ok(())
 }
 

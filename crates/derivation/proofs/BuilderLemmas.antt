@@ -9,12 +9,6 @@ use Rattle.derivation.specs.Conclusions.{Proves}
 use Rattle.derivation.proofs.ConclusionLemmas.{Proves-one}
 use Rattle.derivation.proofs.ProvesLemmas.{fd_restated, mvd_restated, augmentation_proves, complementation_proves, maugmentation_proves, transitivity_proves, mtransitivity_proves}
 
--- the sides of what a tree proves are the same, however they are told
-pub same_sides : (s : Schema) (t : Tree) (d e : Dependency) → Proves s t d → Proves s t e → Same (left_of d) (left_of e) × Same (right_of d) (right_of e)
-same_sides s t d e one other =
-    let equal = Proves-one s t d e one other in
-    ((λ k. ap (λ (f : Dependency). left_of f k) equal), (λ k. ap (λ (f : Dependency). right_of f k) equal))
-
 -- x -> xz and xz -> yz
 pub united_fd_proves : (s : Schema) (t u : Tree) (x y z a c : Places) → Same a x → Same c z → Within x (universe_of s) → Within z (universe_of s)
     → Proves s t (fd x y) → Proves s u (fd x z) → Proves s (pair transitivity (step (augmentation a) u) (step (augmentation c) t)) (fd x (union y z))

@@ -30,8 +30,8 @@ pub first_out-one : (s : Schema) (c : Places) (j k : ℕ) (t w : Places) → IsF
 first_out-one s c j k t w one other = elim (cases_eq j k) [
   | inl same ↦ (same, one_right one.lhs t other.lhs w (sym one.given ∙ ap (slice_get (theory_of s)) same ∙ other.given))
   | inr differ ↦ elim (cases_lt j k) [
-    | inl before ↦ absurd (one.beyond (other.earlier j one.lhs t before one.given one.inside))
-    | inr behind ↦ absurd (other.beyond (one.earlier k other.lhs w (omega arith) other.given other.inside))
+    | inl before ↦ absurd (one.out.beyond (other.earlier j one.lhs t before one.given one.out.inside))
+    | inr behind ↦ absurd (other.out.beyond (one.earlier k other.lhs w (omega arith) other.given other.out.inside))
   ]
 ]
 
@@ -119,7 +119,7 @@ reached_proves s x y x_in m a reached = (stage_keeps s x y (IsProved s x) start 
         let given_in = given_within s k first.lhs t first.given in
         let c = b.closed in
         let lifted = augmentation_proves s (leaf (given k)) first.lhs t c before.within (given_proves s k (fd first.lhs t) first.given) in
-        let whole = transitivity_proves s b.tree (step (augmentation c) (leaf (given k))) x c (union first.lhs c) (union t c) (λ j. grind (arith, first.inside j)) before.proves lifted in
+        let whole = transitivity_proves s b.tree (step (augmentation c) (leaf (given k))) x c (union first.lhs c) (union t c) (λ j. grind (arith, first.out.inside j)) before.proves lifted in
         record {
           within = λ j h. grind (arith, before.within j, given_in.1 j, h);
           proves = fd_restated s (next_stage b k t).tree x (union t c) x (union c t) (λ j. refl) (λ j. grind arith) whole;
@@ -133,7 +133,7 @@ reached_obeyed s x y = stage_keeps s x y (λ a. Implies (width_of s) (functional
         → Implies (width_of s) (functional_part (theory_of s)) (fd x (union b.closed t))
     next b k t before _ first r legal =
         let here = functional_at (λ d. Obeys (width_of s) d r) (theory_of s) k first.lhs t legal.obeys first.given in
-        fd_union_obeyed x b.closed t r (before r legal) (transitivity_obeyed x b.closed t r (before r legal) (fd_weaker_obeyed first.lhs t b.closed t r first.inside (λ j h. h) here))
+        fd_union_obeyed x b.closed t r (before r legal) (transitivity_obeyed x b.closed t r (before r legal) (fd_weaker_obeyed first.lhs t b.closed t r first.out.inside (λ j h. h) here))
 
 pub chain_obeyed : (s : Schema) (x y : Places) (t : Tree) → IsFunctionalChain s x y t → Implies (width_of s) (functional_part (theory_of s)) (fd x y)
 chain_obeyed s x y t chain r legal =
@@ -163,7 +163,7 @@ reached_size s x y (suc m) a reached =
     let t_in : Within t (below PLACES) = λ j h. grind (arith, nat_tests, (given_within s k first.lhs t first.given).1 j h, s.valid.few_names) in
     let more : count_below b.closed PLACES < count_below (union b.closed t) PLACES = elim (tell_within PLACES t b.closed t_in) [
       | inl new ↦ count_below-lt PLACES b.closed (union b.closed t) new.0 (λ j h. grind (arith, h)) new.1 new.3 (grind (arith, new.2))
-      | inr all ↦ absurd (first.beyond all)
+      | inr all ↦ absurd (first.out.beyond all)
     ] in
     subst (IsOfSteps x (suc m)) (sym reached.6) (record {
       nodes_are = omega (arith, before.nodes_are);

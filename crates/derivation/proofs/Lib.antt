@@ -6,3 +6,4 @@ pub mod WithinLemmas
 pub mod ProvesLemmas
 pub mod BuilderLemmas
 pub mod ChainLemmas
+pub mod ShorteningLemmas

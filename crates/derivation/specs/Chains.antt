@@ -1,16 +1,15 @@
 use Rattle.std.specs.Prelude.{◌≡◌, ℕ, zero, suc, ◌<◌, Some, slice_get}
 use Rattle.attr_sets.specs.Places.{Places, union, Within}
 use Rattle.dep_model.specs.declared.schema.Schema.{Schema}
-use Rattle.dep_model.specs.Dependencies.{fd}
+use Rattle.dep_model.specs.Dependencies.{fd, LeadsOut}
 use Rattle.dep_model.specs.Schemas.{theory_of}
 use Rattle.derivation.specs.Trees.{Tree, leaf, step, pair, given, reflexivity, augmentation, transitivity}
 
--- dependency k is the first functional one that leads out of c: its left side lies within c, and its right side t does not
+-- dependency k is the first functional one that leads out of c, and t is its right side
 pub record IsFirstOut (s : Schema) (c : Places) (k : ℕ) (t : Places) : Type 0 where
   pub lhs : Places
   pub given : slice_get (theory_of s) k ≡ Some (fd lhs t)
-  pub inside : Within lhs c
-  pub beyond : Within t c → ⊥
+  pub out : LeadsOut c (fd lhs t)
   pub earlier : (j : ℕ) (v w : Places) → j < k → slice_get (theory_of s) j ≡ Some (fd v w) → Within v c → Within w c
 
 -- a set that x is known to determine, and the tree that proves it

@@ -7,6 +7,7 @@ use Rattle.derivation.specs.declared.rule.LeafRule as leaves
 use Rattle.derivation.specs.declared.rule.StepRule as steps
 use Rattle.derivation.specs.declared.rule.PairRule as pairs
 use Rattle.derivation.specs.declared.rule.Node as node
+use Rattle.derivation.specs.declared.rule.Root as root
 use Rattle.derivation.specs.declared.deriv.Deriv as deriv
 use Rattle.derivation.specs.Trees.{Leaf, given, reflexivity, mreflexivity, Step, augmentation, complementation, maugmentation, replication, Pair, transitivity, mtransitivity, coalescence, Tree, leaf, step, pair}
 
@@ -44,6 +45,12 @@ abbrev pub root_of : node.Node → Tree
 root_of (node.TheVariants.Leaf rule) = leaf (leaf_of rule)
 root_of (node.TheVariants.Step rule from) = step (step_of rule) (tree_of from.now)
 root_of (node.TheVariants.Pair rule first second) = pair (pair_of rule) (tree_of first.now) (tree_of second.now)
+
+-- the tree of a root and the premises that were taken out
+abbrev pub taken_of : root.Root → Tree
+taken_of (root.TheVariants.Leaf rule) = leaf (leaf_of rule)
+taken_of (root.TheVariants.Step rule from) = step (step_of rule) (tree_of from.value)
+taken_of (root.TheVariants.Pair rule first second) = pair (pair_of rule) (tree_of first.value) (tree_of second.value)
 
 -- an outcome of the code, its dependency between sets of places
 abbrev pub outcome_of : {E : Type 0} → Result Dep E → Result Dependency E

@@ -4,3 +4,5 @@ pub mod Conclusions
 pub mod Derivs
 pub mod Builders
 pub mod Chains
+pub mod Direct
+pub mod Shortened

@@ -1,15 +1,15 @@
-ghost use Rattle.std.specs.Prelude.{◌≡◌, ℕ, ◌+◌, ◌<◌, ◌^◌, IfOk, IfErr};
+ghost use Rattle.std.specs.Prelude.{◌≡◌, IfOk, IfErr};
 ghost use Rattle.attr_sets.specs.Places.{Places, union, meet, minus, Apart};
 ghost use Rattle.attr_sets.specs.Sets.{places};
+ghost use Rattle.dep_model.specs.declared.schema.Schema.{Schema};
 ghost use Rattle.dep_model.specs.Dependencies.{fd, mvd};
-ghost use Rattle.derivation.specs.Trees.{nodes};
 ghost use Rattle.derivation.specs.Derivs.{tree_of};
 ghost use Rattle.derivation.specs.Conclusions.{Proves};
-ghost use Rattle.derivation.specs.Builders.{ProvesFd, ProvesMvd, ProveFds, ProveMvds, ProveSplit, IsLittleMore};
+ghost use Rattle.derivation.specs.Builders.{IsLittleMore};
 
-use crate::{Deriv, conclude};
+use crate::Deriv;
 use attr_sets::AttrSet;
-use dep_model::{Dep, Schema, WantMemory};
+use dep_model::{Schema, WantMemory};
 use std::alloc::Global;
 
 /// Want of memory of a call that joins two derivations, which it hands back as they were.
@@ -17,30 +17,6 @@ use std::alloc::Global;
 pub struct Returned {
     pub first: Box<Deriv>,
     pub second: Box<Deriv>,
-}
-
-// The sides of the functional dependency that a derivation concludes.
-fn fd_of(schema: &Schema, deriv: &Deriv) -> (AttrSet, AttrSet)
-    requires few { nodes (tree_of deriv.now) < 2 ^ 32 }
-    requires functional { ProvesFd schema.now (tree_of deriv.now) }
-    ensures sides { Proves schema.now (tree_of deriv.now) (fd (places result.0) (places result.1)) }
-{
-    match conclude(schema, deriv) {
-        Ok(Dep::Fd { lhs, rhs }) => (lhs, rhs),
-        _ => unreachable!(),
-    }
-}
-
-// The sides of the multivalued dependency that a derivation concludes.
-fn mvd_of(schema: &Schema, deriv: &Deriv) -> (AttrSet, AttrSet)
-    requires few { nodes (tree_of deriv.now) < 2 ^ 32 }
-    requires multivalued { ProvesMvd schema.now (tree_of deriv.now) }
-    ensures sides { Proves schema.now (tree_of deriv.now) (mvd (places result.0) (places result.1)) }
-{
-    match conclude(schema, deriv) {
-        Ok(Dep::Mvd { lhs, rhs }) => (lhs, rhs),
-        _ => unreachable!(),
-    }
 }
 
 // Room for a node that is made later.
@@ -67,21 +43,21 @@ fn room_for_six(alloc: Global) -> Result<[Box<Deriv>; 6], WantMemory> {
     Ok([a, b, c, d, e, f])
 }
 
-/// From `X -> Y` and `X -> Z`: `X -> YZ`.
+/// From `X -> Y` and `X -> Z`: `X -> YZ`, where `lhs` is `X` and `rhs` is `Z`.
 pub fn unite_fd(
     alloc: Global,
-    schema: &Schema,
+    lhs: AttrSet,
+    rhs: AttrSet,
     first: Box<Deriv>,
     second: Box<Deriv>,
 ) -> Result<Box<Deriv>, Returned>
-    requires few { nodes (tree_of first.value) + nodes (tree_of second.value) < 2 ^ 32 }
-    requires prove { ProveFds schema.now (tree_of first.value) (tree_of second.value) }
-    ensures concludes { (x y z : Places) → Proves schema.now (tree_of first.value) (fd x y) → Proves schema.now (tree_of second.value) (fd x z) → IfOk result (λ b. Proves schema.now (tree_of b.value) (fd x (union y z))) }
-    ensures little_more { IfOk result (λ b. IsLittleMore (tree_of first.value) (tree_of second.value) (tree_of b.value)) }
+    ensures concludes { (s : Schema) (y : Places) → Proves s (tree_of first.value) (fd (places lhs) y)
+        → Proves s (tree_of second.value) (fd (places lhs) (places rhs))
+        → IfOk result (λ b. Proves s (tree_of b.value) (fd (places lhs) (union y (places rhs)))) }
+    ensures little_more { IfOk result (λ b.
+        IsLittleMore (tree_of first.value) (tree_of second.value) (tree_of b.value)) }
     ensures returned { IfErr result (λ r. (r.first ≡ first) × (r.second ≡ second)) }
 {
-    let (lhs, _) = fd_of(schema, &first);
-    let (_, rhs) = fd_of(schema, &second);
     let Ok([mut low, mut high, mut top]) = room_for_three(alloc) else {
         return Err(Returned { first, second });
     };
@@ -98,21 +74,22 @@ pub fn unite_fd(
     Ok(top)
 }
 
-/// From `X ->> Y` and `X ->> Z`: `X ->> YZ`.
+/// From `X ->> Y` and `X ->> Z`: `X ->> YZ`, where `lhs` is `X`, `left` is `Y` and `right` is `Z`.
 pub fn unite_mvd(
     alloc: Global,
-    schema: &Schema,
+    lhs: AttrSet,
+    left: AttrSet,
+    right: AttrSet,
     first: Box<Deriv>,
     second: Box<Deriv>,
 ) -> Result<Box<Deriv>, Returned>
-    requires few { nodes (tree_of first.value) + nodes (tree_of second.value) < 2 ^ 32 }
-    requires prove { ProveMvds schema.now (tree_of first.value) (tree_of second.value) }
-    ensures concludes { (x y z : Places) → Proves schema.now (tree_of first.value) (mvd x y) → Proves schema.now (tree_of second.value) (mvd x z) → IfOk result (λ b. Proves schema.now (tree_of b.value) (mvd x (union y z))) }
-    ensures little_more { IfOk result (λ b. IsLittleMore (tree_of first.value) (tree_of second.value) (tree_of b.value)) }
+    ensures concludes { (s : Schema) → Proves s (tree_of first.value) (mvd (places lhs) (places left))
+        → Proves s (tree_of second.value) (mvd (places lhs) (places right))
+        → IfOk result (λ b. Proves s (tree_of b.value) (mvd (places lhs) (union (places left) (places right)))) }
+    ensures little_more { IfOk result (λ b.
+        IsLittleMore (tree_of first.value) (tree_of second.value) (tree_of b.value)) }
     ensures returned { IfErr result (λ r. (r.first ≡ first) × (r.second ≡ second)) }
 {
-    let (lhs, left) = mvd_of(schema, &first);
-    let (_, right) = mvd_of(schema, &second);
     let Ok(
         [
             mut wider,
@@ -150,19 +127,23 @@ pub fn unite_mvd(
 }
 
 /// From `X ->> W` and `V ->> T`, where `W` has no member in `X` or `V`: `X ->>` what `W` and `T` share.
+/// `lhs` is `X`, and `block` is `W`.
 pub fn split_inside(
     alloc: Global,
     schema: &Schema,
+    lhs: AttrSet,
+    block: AttrSet,
     first: Box<Deriv>,
     second: Box<Deriv>,
 ) -> Result<Box<Deriv>, Returned>
-    requires few { nodes (tree_of first.value) + nodes (tree_of second.value) < 2 ^ 32 }
-    requires prove { ProveSplit schema.now (tree_of first.value) (tree_of second.value) }
-    ensures concludes { (x w v t : Places) → Proves schema.now (tree_of first.value) (mvd x w) → Proves schema.now (tree_of second.value) (mvd v t) → IfOk result (λ b. Proves schema.now (tree_of b.value) (mvd x (meet w t))) }
-    ensures little_more { IfOk result (λ b. IsLittleMore (tree_of first.value) (tree_of second.value) (tree_of b.value)) }
+    ensures concludes { (v t : Places) → Apart (places block) (places lhs) → Apart (places block) v
+        → Proves schema.now (tree_of first.value) (mvd (places lhs) (places block))
+        → Proves schema.now (tree_of second.value) (mvd v t)
+        → IfOk result (λ b. Proves schema.now (tree_of b.value) (mvd (places lhs) (meet (places block) t))) }
+    ensures little_more { IfOk result (λ b.
+        IsLittleMore (tree_of first.value) (tree_of second.value) (tree_of b.value)) }
     ensures returned { IfErr result (λ r. (r.first ≡ first) × (r.second ≡ second)) }
 {
-    let (lhs, block) = mvd_of(schema, &first);
     let outside = AttrSet::full(schema.width()).minus(block);
     let Ok([mut rest, mut wider, mut lifted, mut top]) = room_for_four(alloc) else {
         return Err(Returned { first, second });
@@ -183,20 +164,24 @@ pub fn split_inside(
     Ok(top)
 }
 
-/// From `X ->> W` and `V ->> T`, where `W` has no member in `X` or `V`: `X ->> W - T`.
+/// From `X ->> W` and `V ->> T`, where `W` has no member in `X` or `V`: `X ->> W - T`. `lhs` is `X`, and
+/// `block` is `W`.
 pub fn split_outside(
     alloc: Global,
     schema: &Schema,
+    lhs: AttrSet,
+    block: AttrSet,
     first: Box<Deriv>,
     second: Box<Deriv>,
 ) -> Result<Box<Deriv>, Returned>
-    requires few { nodes (tree_of first.value) + nodes (tree_of second.value) < 2 ^ 32 }
-    requires prove { ProveSplit schema.now (tree_of first.value) (tree_of second.value) }
-    ensures concludes { (x w v t : Places) → Proves schema.now (tree_of first.value) (mvd x w) → Proves schema.now (tree_of second.value) (mvd v t) → IfOk result (λ b. Proves schema.now (tree_of b.value) (mvd x (minus w t))) }
-    ensures little_more { IfOk result (λ b. IsLittleMore (tree_of first.value) (tree_of second.value) (tree_of b.value)) }
+    ensures concludes { (v t : Places) → Apart (places block) (places lhs) → Apart (places block) v
+        → Proves schema.now (tree_of first.value) (mvd (places lhs) (places block))
+        → Proves schema.now (tree_of second.value) (mvd v t)
+        → IfOk result (λ b. Proves schema.now (tree_of b.value) (mvd (places lhs) (minus (places block) t))) }
+    ensures little_more { IfOk result (λ b.
+        IsLittleMore (tree_of first.value) (tree_of second.value) (tree_of b.value)) }
     ensures returned { IfErr result (λ r. (r.first ≡ first) × (r.second ≡ second)) }
 {
-    let (lhs, block) = mvd_of(schema, &first);
     let outside = AttrSet::full(schema.width()).minus(block);
     let Ok([mut rest, mut wider, mut other, mut lifted, mut top]) = room_for_five(alloc) else {
         return Err(Returned { first, second });

@@ -1,3 +1,4 @@
+use crate::rule::Root;
 use crate::{LeafRule, Node, PairRule, StepRule};
 use attr_sets::AttrSet;
 
@@ -43,7 +44,7 @@ pub enum Deriv {
 
 impl Deriv {
     ghost use Rattle.std.specs.Prelude.{◌≡◌};
-    ghost use Rattle.derivation.specs.Derivs.{tree_of, root_of};
+    ghost use Rattle.derivation.specs.Derivs.{tree_of, root_of, taken_of};
 
     /// The root: its rule, and its premises.
     pub fn root(&self) -> Node<'_>
@@ -72,6 +73,26 @@ impl Deriv {
             Deriv::Trans(first, second) => Node::Pair(PairRule::Transitivity, first, second),
             Deriv::MTrans(first, second) => Node::Pair(PairRule::MTransitivity, first, second),
             Deriv::Coalesce(first, second) => Node::Pair(PairRule::Coalescence, first, second),
+        }
+    }
+
+    // The root, and its premises taken out.
+    pub fn taken(self) -> Root
+        ensures root { tree_of self ≡ taken_of result }
+    {
+        match self {
+            Deriv::Given(k) => Root::Leaf(LeafRule::Given(k)),
+            Deriv::Reflex { lhs, rhs } => Root::Leaf(LeafRule::Reflexivity { lhs, rhs }),
+            Deriv::MReflex { lhs, rhs } => Root::Leaf(LeafRule::MReflexivity { lhs, rhs }),
+            Deriv::Augment { by, from } => Root::Step(StepRule::Augmentation { by }, from),
+            Deriv::Compl(from) => Root::Step(StepRule::Complementation, from),
+            Deriv::MAugment { wide, narrow, from } => {
+                Root::Step(StepRule::MAugmentation { wide, narrow }, from)
+            }
+            Deriv::Repl(from) => Root::Step(StepRule::Replication, from),
+            Deriv::Trans(first, second) => Root::Pair(PairRule::Transitivity, first, second),
+            Deriv::MTrans(first, second) => Root::Pair(PairRule::MTransitivity, first, second),
+            Deriv::Coalesce(first, second) => Root::Pair(PairRule::Coalescence, first, second),
         }
     }
 }

@@ -15,6 +15,7 @@ mod fault;
 pub mod laws;
 mod measures;
 mod rule;
+mod shortening;
 mod table;
 #[cfg(test)]
 mod tests;
@@ -26,4 +27,5 @@ pub use deriv::Deriv;
 pub use fault::{Fault, FaultKind};
 pub use measures::{MOST_LEVELS, MOST_NODES, depth, nodes};
 pub use rule::{LeafRule, Node, PairRule, StepRule};
+pub use shortening::shorten;
 pub use table::{leaf_conclusion, pair_conclusion, step_conclusion};

@@ -34,6 +34,14 @@ pub enum Node<'a> {
     Pair(PairRule, &'a Deriv, &'a Deriv),
 }
 
+/// A root whose premises were taken out.
+#[derive(Debug, Drop)]
+pub enum Root {
+    Leaf(LeafRule),
+    Step(StepRule, Box<Deriv>),
+    Pair(PairRule, Box<Deriv>, Box<Deriv>),
+}
+
 impl LeafRule {
     ghost use Rattle.std.specs.Prelude.{◌≡◌};
     ghost use Rattle.derivation.specs.Trees.{leaf};

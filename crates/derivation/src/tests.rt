@@ -1,16 +1,8 @@
 ghost use Rattle.std.specs.Prelude.{◌≡◌, ℕ, ◌+◌, ◌*◌, ◌<◌, ◌≤◌, ◌^◌, IfOk};
-ghost use Rattle.attr_sets.specs.Places.{Within, none};
-ghost use Rattle.attr_sets.specs.Sets.{places};
-ghost use Rattle.dep_model.specs.Dependencies.{fd, mvd};
-ghost use Rattle.dep_model.specs.Schemas.{universe_of};
-ghost use Rattle.derivation.specs.Conclusions.{Proves};
 ghost use Rattle.derivation.specs.Trees.{nodes};
 ghost use Rattle.derivation.specs.Derivs.{tree_of};
 
-use crate::{
-    Deriv, Fault, FaultKind, conclude, copy_deriv, depth, nodes, split_inside, split_outside,
-    unite_fd, unite_mvd,
-};
+use crate::{Deriv, Fault, FaultKind, conclude, copy_deriv, depth, nodes, shorten};
 use attr_sets::AttrSet;
 use dep_model::{Dep, Name, Schema, WantMemory};
 use std::alloc::Global;
@@ -30,11 +22,11 @@ fn one_attribute(alloc: Global) -> Result<Schema, WantMemory> {
 }
 
 // A given dependency, augmented again and again.
-fn tall(alloc: Global, levels: u32) -> Result<Box<Deriv>, WantMemory>
+fn tall(alloc: Global, given: u16, levels: u32) -> Result<Box<Deriv>, WantMemory>
     requires { 0 < levels }
     ensures levels { IfOk result (λ b. nodes (tree_of b.value) ≡ levels) }
 {
-    let mut top = Box::new(alloc, Deriv::Given(0))?;
+    let mut top = Box::new(alloc, Deriv::Given(given))?;
     for _level in 1..levels {
         top = Box::new(
             alloc,
@@ -64,12 +56,16 @@ fn wide(alloc: Global, leaves: u32) -> Result<Box<Deriv>, WantMemory>
 fn a_tall_derivation_is_concluded(rt: HostRuntime) -> Result<(), Fail> {
     let schema = one_attribute(rt.alloc())?;
     let a = AttrSet::full(1);
-    let deriv = tall(rt.alloc(), 2048)?;
+    let deriv = tall(rt.alloc(), 0, 2048)?;
     assert_eq!(rt; nodes(&deriv), 2048);
     assert_eq!(rt; depth(&deriv), 2048);
     let copy = copy_deriv(rt.alloc(), &deriv)?;
     assert_eq!(rt; nodes(&copy), 2048);
     assert_eq!(rt; conclude(&schema, &deriv), Ok(Dep::Fd { lhs: a, rhs: a }));
+    assert_eq!(rt; nodes(&shorten(&schema, deriv)), 1);
+    // No node of a derivation that concludes nothing gives way.
+    let faulty = tall(rt.alloc(), 2, 2048)?;
+    assert_eq!(rt; nodes(&shorten(&schema, faulty)), 2048);
     Ok(())
 }
 
@@ -81,47 +77,8 @@ fn a_large_derivation_is_concluded(rt: HostRuntime) -> Result<(), Fail> {
     assert_eq!(rt; nodes(&deriv), 262_143);
     assert_eq!(rt; depth(&deriv), 18);
     assert_eq!(rt; conclude(&schema, &deriv), Ok(Dep::Fd { lhs: a, rhs: a }));
+    assert_eq!(rt; nodes(&shorten(&schema, deriv)), 1);
     Ok(())
-}
-
-// `lhs ->> rhs`, by reflexivity.
-fn mreflex(
-    alloc: Global,
-    schema: &Schema,
-    lhs: AttrSet,
-    rhs: AttrSet,
-) -> Result<Box<Deriv>, WantMemory>
-    requires inside { Within (places lhs) (universe_of schema.now) }
-    requires within { Within (places rhs) (places lhs) }
-    ensures leaf { IfOk result (λ b. nodes (tree_of b.value) ≡ 1) }
-    ensures proves { IfOk result (λ b. Proves schema.now (tree_of b.value) (mvd (places lhs) (places rhs))) }
-{
-    Ok(Box::new(alloc, Deriv::MReflex { lhs, rhs })?)
-}
-
-// `lhs -> rhs`, by reflexivity.
-fn reflex(
-    alloc: Global,
-    schema: &Schema,
-    lhs: AttrSet,
-    rhs: AttrSet,
-) -> Result<Box<Deriv>, WantMemory>
-    requires inside { Within (places lhs) (universe_of schema.now) }
-    requires within { Within (places rhs) (places lhs) }
-    ensures leaf { IfOk result (λ b. nodes (tree_of b.value) ≡ 1) }
-    ensures proves { IfOk result (λ b. Proves schema.now (tree_of b.value) (fd (places lhs) (places rhs))) }
-{
-    Ok(Box::new(alloc, Deriv::Reflex { lhs, rhs })?)
-}
-
-// `() ->> A`, as the complement of `() ->> ()`.
-fn outside(alloc: Global, schema: &Schema) -> Result<Box<Deriv>, WantMemory>
-    ensures two { IfOk result (λ b. nodes (tree_of b.value) ≡ 2) }
-    ensures proves { IfOk result (λ b. Proves schema.now (tree_of b.value) (mvd none (universe_of schema.now))) }
-{
-    let none = AttrSet::empty();
-    let from = mreflex(alloc, schema, none, none)?;
-    Ok(Box::new(alloc, Deriv::Compl(from))?)
 }
 
 // The complement leaves out the left side too.
@@ -146,60 +103,5 @@ fn coalescence_wants_disjoint_sets(rt: HostRuntime) -> Result<(), Fail> {
     let concluded = conclude(&schema, &Deriv::Coalesce(first, second));
     let kind = FaultKind::NotDisjoint;
     assert_eq!(rt; concluded, Err(Fault { node: 3, kind }));
-    Ok(())
-}
-
-#[test]
-fn multivalued_dependencies_unite(rt: HostRuntime) -> Result<(), Fail> {
-    let schema = one_attribute(rt.alloc())?;
-    let (none, a) = (AttrSet::empty(), AttrSet::full(1));
-    let first = outside(rt.alloc(), &schema)?;
-    let second = outside(rt.alloc(), &schema)?;
-    let united = unite_mvd(rt.alloc(), &schema, first, second)?;
-    assert_eq!(rt; nodes(&united), 10);
-    assert_eq!(rt;
-        conclude(&schema, &united),
-        Ok(Dep::Mvd { lhs: none, rhs: a })
-    );
-    Ok(())
-}
-
-#[test]
-fn functional_dependencies_unite(rt: HostRuntime) -> Result<(), Fail> {
-    let schema = one_attribute(rt.alloc())?;
-    let all = AttrSet::full(schema.width());
-    let first = reflex(rt.alloc(), &schema, all, AttrSet::empty())?;
-    let second = reflex(rt.alloc(), &schema, all, all)?;
-    let united = unite_fd(rt.alloc(), &schema, first, second)?;
-    assert_eq!(rt; nodes(&united), 5);
-    assert_eq!(rt;
-        conclude(&schema, &united),
-        Ok(Dep::Fd { lhs: all, rhs: all })
-    );
-    Ok(())
-}
-
-// What `() ->> ()` splits off `A`, and what it leaves.
-#[test]
-fn blocks_are_split(rt: HostRuntime) -> Result<(), Fail> {
-    let schema = one_attribute(rt.alloc())?;
-    let (none, a) = (AttrSet::empty(), AttrSet::full(1));
-    let first = outside(rt.alloc(), &schema)?;
-    let second = mreflex(rt.alloc(), &schema, none, none)?;
-    let inside = split_inside(rt.alloc(), &schema, first, second)?;
-    assert_eq!(rt;
-        conclude(&schema, &inside),
-        Ok(Dep::Mvd {
-            lhs: none,
-            rhs: none
-        })
-    );
-    let first = outside(rt.alloc(), &schema)?;
-    let second = mreflex(rt.alloc(), &schema, none, none)?;
-    let rest = split_outside(rt.alloc(), &schema, first, second)?;
-    assert_eq!(rt;
-        conclude(&schema, &rest),
-        Ok(Dep::Mvd { lhs: none, rhs: a })
-    );
     Ok(())
 }

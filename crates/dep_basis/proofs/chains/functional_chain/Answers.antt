@@ -39,7 +39,7 @@ loop-closed-smaller c =
     let first = c.in-Some.ensures.first in
     elim (tell_within PLACES (places c.in-Some.lead.rhs) now (places_below c.in-Some.lead.rhs)) [
       | inl new ↦ omega (arith, count_below-lt PLACES now more new.0 (λ k m. grind (arith, c.union-closed.ensures.members k, m)) new.1 new.3 (grind (arith, c.union-closed.ensures.members new.0, new.2)), count_below-le PLACES more)
-      | inr all ↦ absurd (first.beyond all)
+      | inr all ↦ absurd (first.out.beyond all)
     ]
 
 pub loop-closed-preserved : goal.loop-closed-preserved

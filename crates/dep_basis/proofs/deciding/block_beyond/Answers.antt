@@ -1,43 +1,83 @@
-use Rattle.std.proofs.Common.{refl, sym, ◌∙◌, subst}
-use Rattle.std.proofs.lemmas.Option.{IfSome_then}
-use Rattle.std.specs.Prelude.{All}
-use Rattle.attr_sets.specs.Places.{Places, only, minus, Meets, IsLeastFrom}
+use Rattle.std.proofs.Common.{◌≡◌, ℕ, ◌<◌, true, refl, sym, subst, ◌∙◌, inl, inr, arith}
+use Rattle.std.proofs.lemmas.Bool.{true≢false, cases_eq, ltb-true}
+use Rattle.std.proofs.lemmas.Bool.Decides.{nat_tests}
+use Rattle.std.specs.Prelude.{Option, None, Some, IfSome}
 use Rattle.attr_sets.specs.declared.set.AttrSet.{AttrSet}
 use Rattle.attr_sets.specs.Sets.{places}
-use Rattle.attr_sets.proofs.PlacesLemmas.{Same-path}
-use Rattle.dep_model.specs.Schemas.{width_of, theory_of}
-use Rattle.dep_basis.specs.Traces.{blocks_of}
-use Rattle.dep_basis.specs.Firsts.{IsFirstWith}
-use Rattle.dep_basis.proofs.DecidingLemmas.{beyond_none, beyond_some, beyond_listed, beyond_block}
+use Rattle.attr_sets.specs.declared.set.TheConstants.{PLACES}
+use Rattle.attr_sets.proofs.PlacesLemmas.{count_below-lt}
+use Rattle.dep_model.specs.Deps.{dependencies_of}
+use Rattle.dep_model.specs.Keys.{InClosure}
+use Rattle.fd_closure.proofs.ClosureLemmas.{fd_each-to, fd_each-from}
+use Rattle.dep_basis.proofs.BasisLemmas.{closure_between}
 use Rattle.dep_basis.proofs.deciding.block_beyond.Goals as goal
-use Rattle.dep_basis.proofs.deciding.block_beyond.Goals.{After-first_meeting}
 
-pub returns-in-None-clause-none : goal.returns-in-None-clause-none
-returns-in-None-clause-none c = (
-  (λ _. beyond_none (width_of c.args.schema.now) (theory_of c.args.schema.now) (places c.args.lhs) (places c.args.rhs) c.basis-found.result c.basis-found.ensures.basis c.requires.rhs
-      (λ k. sym (c.minus-beyond.ensures.members k) ∙ c.in-None.ensures.none.0 refl k)),
-  (λ _. refl),
-)
+-- two facts of one value
+IfSome_both : {A : Type 0} {P Q R : A → Type 0} (o : Option A) → IfSome o P → IfSome o Q → ((x : A) → P x → Q x → R x) → IfSome o R
+IfSome_both (Some x) first second both = both x first second
+IfSome_both None first second both = tt
 
-least_beyond : (c : After-first_meeting) → IsLeastFrom (minus (places c.args.rhs) (places c.basis-found.result.closed)) 0 c.in-Some.first
-least_beyond c = subst (λ (x : Places). IsLeastFrom x 0 c.in-Some.first)
-    (Same-path (places c.minus-beyond.result) (minus (places c.args.rhs) (places c.basis-found.result.closed)) c.minus-beyond.ensures.members) c.in-Some.ensures.least
+pub loop-first-init : goal.loop-first-init
+loop-first-init c =
+    let n = c.args.width in
+    let ds = dependencies_of c.args.deps.now in
+    let x = places c.args.lhs in
+    let more = places c.closure.result in
+    let between = closure_between n ds x more c.requires.lhs (c.closure.ensures.closure n c.requires.deps c.requires.lhs) in
+    record {
+      within = λ k m. grind (arith, c.minus-left.ensures.members k, m);
+      closed = λ b in_y out. (
+        ltb-true b n (c.requires.rhs b in_y),
+        fd_each-to n ds x more between.2 b (grind (arith, c.minus-left.ensures.members b, in_y, out)),
+      );
+    }
 
-pub returns-in-Some-clause-none : goal.returns-in-Some-clause-none
-returns-in-Some-clause-none c =
-    let n = width_of c.args.schema.now in
-    let ds = theory_of c.args.schema.now in
-    let alone = Same-path (places c.single-only.result) (only c.in-Some.first) c.single-only.ensures.members in (
-      (λ none. absurd (beyond_listed n ds (places c.args.lhs) (places c.args.rhs) c.basis-found.result c.basis-found.ensures.basis c.requires.rhs c.in-Some.first (least_beyond c)
-          (subst (λ (x : Places). All (λ (p : AttrSet). Meets (places p) x × Meets (places p) x → ⊥) (blocks_of c.basis-found.result)) alone (c.first_meeting.ensures.none.0 none)))),
-      (λ implied. absurd (beyond_some n ds (places c.args.lhs) (places c.args.rhs) c.basis-found.result c.basis-found.ensures.basis c.requires.rhs c.in-Some.first (least_beyond c) implied)),
+pub block_by-block-requires-clause-attribute : goal.block_by-block-requires-clause-attribute
+block_by-block-requires-clause-attribute c =
+    let a = c.in-Some.first in
+    ltb-true a c.args.width (c.requires.rhs a (c.loop-first.invariant.within a c.in-Some.ensures.least.member))
+
+pub returns-then-is_some-clause-none : goal.returns-then-is_some-clause-none
+returns-then-is_some-clause-none c =
+    let n = c.args.width in
+    let a = c.in-Some.first in
+    let in_y = c.loop-first.invariant.within a c.in-Some.ensures.least.member in
+    let found = sym c.if-is_some.true ∙ c.is_some.ensures in (
+      (λ none. absurd (true≢false (found ∙ none))),
+      (λ implied. absurd (true≢false (found ∙ c.block_by-block.ensures.none.1
+          (ltb-true a n (c.requires.rhs a in_y), fd_each-to n (dependencies_of c.args.deps.now) (places c.args.lhs) (places c.args.rhs) implied a in_y)))),
     )
 
-pub returns-in-Some-clause-block : goal.returns-in-Some-clause-block
-returns-in-Some-clause-block c =
-    let n = width_of c.args.schema.now in
-    let ds = theory_of c.args.schema.now in
-    let alone = Same-path (places c.single-only.result) (only c.in-Some.first) c.single-only.ensures.members in
-    IfSome_then c.first_meeting.result c.first_meeting.ensures.first (λ (p : AttrSet) first.
-    beyond_block n ds (places c.args.lhs) (places c.args.rhs) c.basis-found.result c.basis-found.ensures.basis c.requires.rhs c.in-Some.first p (least_beyond c)
-    (subst (λ (x : Places). IsFirstWith (λ (q : AttrSet). Meets (places q) x × Meets (places q) x) (blocks_of c.basis-found.result) p) alone first))
+pub returns-then-is_some-clause-block : goal.returns-then-is_some-clause-block
+returns-then-is_some-clause-block c =
+    let a = c.in-Some.first in
+    let least = c.in-Some.ensures.least in
+    let now = c.loop-first.invariant in
+    IfSome_both c.block_by-block.result c.block_by-block.ensures.block c.block_by-block.ensures.member
+    (λ (p : AttrSet) block member. (block, (a, member, now.within a least.member, (λ b lt in_y. now.closed b in_y (least.least b (omega arith) lt)))))
+
+pub loop-first-smaller : goal.loop-first-smaller
+loop-first-smaller c =
+    count_below-lt PLACES (places c.without-left.result) (places c.loop-first.left) c.in-Some.first (λ k m. grind (arith, c.without-left.ensures.members k, m))
+    c.in-Some.ensures.place (grind (arith, nat_tests, c.without-left.ensures.members c.in-Some.first)) c.in-Some.ensures.least.member
+
+pub loop-first-preserved : goal.loop-first-preserved
+loop-first-preserved c =
+    let now = c.loop-first.invariant in
+    let a = c.in-Some.first in
+    let is = c.without-left.ensures.members in
+    record {
+      within = λ k m. now.within k (grind (arith, is k, m));
+      closed = λ b in_y out. elim (cases_eq b a) [
+        | inl same ↦ subst (λ (k : ℕ). InClosure c.args.width (dependencies_of c.args.deps.now) (places c.args.lhs) k) (sym same)
+            (c.block_by-block.ensures.none.0 (sym c.is_some.ensures ∙ c.if-is_some.false))
+        | inr differ ↦ now.closed b in_y (grind (arith, nat_tests, differ, is b, out))
+      ];
+    }
+
+pub returns-clause-none : goal.returns-clause-none
+returns-clause-none c = (
+  (λ _. fd_each-from c.args.width (dependencies_of c.args.deps.now) (places c.args.lhs) (places c.args.rhs)
+      (λ (a : ℕ) m. (c.loop-first.invariant.closed a m (c.in_default.ensures.none.0 refl a)).1)),
+  (λ _. refl),
+)

@@ -1,28 +1,25 @@
-use Rattle.std.proofs.Common.{◌≡◌, ℕ, ◌∙◌, ap, subst, arith}
+use Rattle.std.proofs.Common.{◌≡◌, ℕ, subst, arith}
 use Rattle.std.proofs.lemmas.Option.{IfSome_then}
 use Rattle.std.specs.Prelude.{All}
 use Rattle.attr_sets.specs.Places.{Places, below, minus, Meets}
 use Rattle.attr_sets.specs.declared.set.AttrSet.{AttrSet}
 use Rattle.attr_sets.specs.Sets.{places}
 use Rattle.attr_sets.proofs.PlacesLemmas.{Same-path}
-use Rattle.dep_model.specs.Schemas.{width_of, theory_of}
+use Rattle.dep_model.specs.Deps.{dependencies_of}
 use Rattle.dep_basis.specs.Traces.{blocks_of}
 use Rattle.dep_basis.specs.Firsts.{IsFirstWith}
 use Rattle.dep_basis.proofs.DecidingLemmas.{split_block}
 use Rattle.dep_basis.proofs.deciding.block_split.Goals as goal
 use Rattle.dep_basis.proofs.deciding.block_split.Goals.{After-minus}
 
-rest_is : (c : After-minus) → places c.minus.result ≡ minus (below (width_of c.args.schema.now)) (places c.args.rhs)
-rest_is c = Same-path (places c.minus.result) (minus (below (width_of c.args.schema.now)) (places c.args.rhs)) (λ (k : ℕ).
-    let whole : places c.full.result k ≡ below (width_of c.args.schema.now) k = c.full.ensures.members k ∙ ap (λ (m : ℕ). below m k) c.width.ensures.count in
-    grind (arith, c.minus.ensures.members k, whole))
+rest_is : (c : After-minus) → places c.minus.result ≡ minus (below c.args.width) (places c.args.rhs)
+rest_is c = Same-path (places c.minus.result) (minus (below c.args.width) (places c.args.rhs)) (λ (k : ℕ). grind (arith, c.minus.ensures.members k, c.full.ensures.members k))
 
 pub returns-clause-none : goal.returns-clause-none
 returns-clause-none c =
-    let n = width_of c.args.schema.now in
     let y = places c.args.rhs in
-    let decides = c.basis-found.ensures.basis.multivalued y c.requires.rhs in
-    let blocks = blocks_of c.basis-found.result in
+    let decides = c.basis_by-found.ensures.basis.multivalued y c.requires.rhs in
+    let blocks = blocks_of c.basis_by-found.result in
     let rest = rest_is ((goal.at.returns-clause-none c).After-minus) in (
       (λ none. decides.1 (subst (λ (x : Places). All (λ (p : AttrSet). Meets (places p) y × Meets (places p) x → ⊥) blocks) rest (c.first_meeting.ensures.none.0 none))),
       (λ implied. c.first_meeting.ensures.none.1 (rw rest (decides.0 implied))),
@@ -30,9 +27,8 @@ returns-clause-none c =
 
 pub returns-clause-block : goal.returns-clause-block
 returns-clause-block c =
-    let n = width_of c.args.schema.now in
     let y = places c.args.rhs in
     let rest = rest_is ((goal.at.returns-clause-block c).After-minus) in
     IfSome_then c.first_meeting.result c.first_meeting.ensures.first (λ (p : AttrSet) first.
-    split_block n (theory_of c.args.schema.now) (places c.args.lhs) y c.basis-found.result c.basis-found.ensures.basis c.requires.rhs p
-    (subst (λ (x : Places). IsFirstWith (λ (q : AttrSet). Meets (places q) y × Meets (places q) x) (blocks_of c.basis-found.result) p) rest first))
+    split_block c.args.width (dependencies_of c.args.deps.now) (places c.args.lhs) y c.basis_by-found.result c.basis_by-found.ensures.basis c.requires.rhs p
+    (subst (λ (x : Places). IsFirstWith (λ (q : AttrSet). Meets (places q) y × Meets (places q) x) (blocks_of c.basis_by-found.result) p) rest first))

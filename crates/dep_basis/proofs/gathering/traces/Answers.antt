@@ -11,6 +11,7 @@ use Rattle.attr_sets.proofs.PlacesLemmas.{count_below-le, count_below-pos, count
 use Rattle.dep_model.specs.Deps.{dependencies_of}
 use Rattle.dep_model.specs.Keys.{InClosure}
 use Rattle.dep_basis.proofs.GatheringLemmas.{found_first, found_closed, found_block, found_all}
+use Rattle.dep_basis.proofs.PieceLemmas.{piece_is}
 use Rattle.dep_basis.proofs.gathering.traces.Goals as goal
 
 pub loop-first-init : goal.loop-first-init
@@ -29,8 +30,10 @@ loop-first-smaller-then-eq c =
 pub loop-first-preserved-then-eq : goal.loop-first-preserved-then-eq
 loop-first-preserved-then-eq c =
     let before = c.loop-first.invariant in
-    let none : IsEmpty (places c.block_of-block.result) = λ k. c.if-eq.ensures.same.0 refl k ∙ c.empty.ensures.members k in
-    let is_closed : InClosure c.args.width (dependencies_of c.args.deps.now) (places c.args.lhs) c.in-Some.first = (ltb-true c.in-Some.first c.args.width (c.requires.scheme c.in-Some.first (before.found.left_in c.in-Some.first c.in-Some.ensures.least.member)), c.block_of-block.ensures.closed.0 none) in
+    let none : IsEmpty (places c.piece_with-block.result) = λ k. c.if-eq.ensures.same.0 refl k ∙ c.empty.ensures.members k in
+    let low = ltb-true c.in-Some.first c.args.width (c.requires.scheme c.in-Some.first (before.found.left_in c.in-Some.first c.in-Some.ensures.least.member)) in
+    let piece = piece_is c.args.width (dependencies_of c.args.deps.now) (places c.args.lhs) c.all_pieces-found.result c.all_pieces-found.ensures.pieces c.in-Some.first c.piece_with-block.result low c.piece_with-block.ensures.none c.piece_with-block.ensures.some c.piece_with-block.ensures.member in
+    let is_closed : InClosure c.args.width (dependencies_of c.args.deps.now) (places c.args.lhs) c.in-Some.first = (low, piece.nothing none) in
     record {
       found = found_closed c.args.width (dependencies_of c.args.deps.now) (places c.args.scheme) (places c.args.lhs) (places c.loop-first.left) (places c.loop-first.closed) (take c.loop-first.count c.loop-first.blocks)
           before.found (places c.without-left.result) (places c.with-closed.result) c.in-Some.first c.in-Some.ensures.least.member is_closed c.without-left.ensures.members c.with-closed.ensures.members;
@@ -52,8 +55,11 @@ pub bounds-blocks-count : goal.bounds-blocks-count
 bounds-blocks-count c = omega (arith, c.loop-first.invariant.room, count_below-pos PLACES (places c.loop-first.left) c.in-Some.first c.in-Some.ensures.place c.in-Some.ensures.least.member)
 
 pub loop-first-smaller : goal.loop-first-smaller
-loop-first-smaller c = falls (places c.loop-first.left) (places c.minus-left.result) (places c.block_of-block.result) c.in-Some.first c.in-Some.ensures.place c.in-Some.ensures.least.member
-    (c.block_of-block.ensures.member (not_empty (places c.block_of-block.result) (places c.empty.result) c.empty.ensures.members (λ same. false≢true (c.if-eq.ensures.same.1 same)))) c.minus-left.ensures.members
+loop-first-smaller c =
+    let low = ltb-true c.in-Some.first c.args.width (c.requires.scheme c.in-Some.first (c.loop-first.invariant.found.left_in c.in-Some.first c.in-Some.ensures.least.member)) in
+    let piece = piece_is c.args.width (dependencies_of c.args.deps.now) (places c.args.lhs) c.all_pieces-found.result c.all_pieces-found.ensures.pieces c.in-Some.first c.piece_with-block.result low c.piece_with-block.ensures.none c.piece_with-block.ensures.some c.piece_with-block.ensures.member in
+    falls (places c.loop-first.left) (places c.minus-left.result) (places c.piece_with-block.result) c.in-Some.first c.in-Some.ensures.place c.in-Some.ensures.least.member
+    (piece.member (not_empty (places c.piece_with-block.result) (places c.empty.result) c.empty.ensures.members (λ same. false≢true (c.if-eq.ensures.same.1 same)))) c.minus-left.ensures.members
 
 pub loop-first-preserved : goal.loop-first-preserved
 loop-first-preserved c =
@@ -61,16 +67,18 @@ loop-first-preserved c =
     let found = before.found in
     let n = c.args.width in
     let ds = dependencies_of c.args.deps.now in
-    let block = c.block_of-block in
+    let block = c.piece_with-block in
+    let low = ltb-true c.in-Some.first n (c.requires.scheme c.in-Some.first (found.left_in c.in-Some.first c.in-Some.ensures.least.member)) in
+    let piece = piece_is n ds (places c.args.lhs) c.all_pieces-found.result c.all_pieces-found.ensures.pieces c.in-Some.first block.result low block.ensures.none block.ensures.some block.ensures.member in
     let some = not_empty (places block.result) (places c.empty.result) c.empty.ensures.members (λ same. false≢true (c.if-eq.ensures.same.1 same)) in
     let count = c.loop-first.count in
     let blocks = c.loop-first.blocks in
-    let fewer = falls (places c.loop-first.left) (places c.minus-left.result) (places block.result) c.in-Some.first c.in-Some.ensures.place c.in-Some.ensures.least.member (block.ensures.member some) c.minus-left.ensures.members in
+    let fewer = falls (places c.loop-first.left) (places c.minus-left.result) (places block.result) c.in-Some.first c.in-Some.ensures.place c.in-Some.ensures.least.member (piece.member some) c.minus-left.ensures.members in
     let short : count < length blocks = omega (arith, before.size, before.room, fewer) in
     record {
       found = rw (take_more_set blocks count c.meet.result short)
           (found_block n ds (places c.args.scheme) (places c.args.lhs) (places c.loop-first.left) (places c.loop-first.closed) (take count blocks) found
-          (places block.result) (places c.minus-left.result) c.meet.result c.in-Some.first c.in-Some.ensures.least (block.ensures.block some) (block.ensures.member some) c.meet.ensures.members c.minus-left.ensures.members);
+          (places block.result) (places c.minus-left.result) c.meet.result c.in-Some.first c.in-Some.ensures.least (piece.block some) (piece.member some) c.meet.ensures.members c.minus-left.ensures.members);
       room = omega (arith, before.room, fewer);
       size = length-set blocks count c.meet.result ∙ before.size;
       rest = rw (drop-set-lt (count + 1) blocks count c.meet.result (omega arith), ← drop-drop 1 count blocks)

@@ -1,4 +1,4 @@
-use Rattle.std.proofs.Common.{◌≡◌, ◌+◌, ◌*◌, true, refl, arith}
+use Rattle.std.proofs.Common.{◌≡◌, ◌+◌, ◌*◌, true, refl, arith, sym}
 use Rattle.std.proofs.lemmas.Bool.Decides.{nat_tests}
 use Rattle.attr_sets.specs.Places.{only, union, minus}
 use Rattle.attr_sets.specs.Sets.{places}
@@ -45,10 +45,12 @@ loop-first-preserved c =
     let u = tree_of c.in-Ok.more.value in
     let shown = c.in_ok-next.ensures.shown in
     let in_left : left a ≡ true = c.in-Some.ensures.least.member in
+    let alone = places c.single-only.result in
+    let alone_is = c.single-only.ensures.members in
     record {
       left = left_next x y left rest (only a) a (tree_of c.loop-first.joined.value) g u before.left c.in-Some.ensures.place in_left (grind (arith, nat_tests)) c.without-left.ensures.members
           (size_grows g (8 * PLACES + 6) (5 * PLACES + 6) (8 * PLACES + 8) (5 * PLACES + 8) (omega arith) (omega arith) shown.size) c.in-Ok.ensures.little_more;
-      proves = fd_restated s u x (union (minus y left) (only a)) x (minus y rest) (λ k. refl)
-          (right_next y left rest (only a) before.left.within (λ k m. grind (arith, nat_tests, m, before.left.within a in_left)) c.without-left.ensures.members)
-          (c.in-Ok.ensures.concludes x (minus y left) (only a) before.proves shown.proves);
+      proves = fd_restated s u x (union (minus y left) alone) x (minus y rest) (λ k. refl)
+          (λ k. grind (arith, alone_is k, right_next y left rest (only a) before.left.within (λ j m. grind (arith, nat_tests, m, before.left.within a in_left)) c.without-left.ensures.members k))
+          (c.in-Ok.ensures.concludes s (minus y left) before.proves (fd_restated s g x (only a) x alone (λ k. refl) (λ k. sym (alone_is k)) shown.proves));
     }

@@ -1,4 +1,4 @@
-use Rattle.std.proofs.Common.{◌≡◌, true, refl}
+use Rattle.std.proofs.Common.{◌≡◌, true, refl, sym, arith}
 use Rattle.attr_sets.specs.Places.{union, minus}
 use Rattle.attr_sets.specs.Sets.{places}
 use Rattle.derivation.specs.Derivs.{tree_of}
@@ -36,10 +36,12 @@ loop-first-preserved c =
     let u = tree_of c.in-Ok.more.value in
     let shown = c.in_ok-next.ensures.shown in
     let in_left : left a ≡ true = c.in-Some.ensures.least.member in
+    let done = places c.minus-done.result in
+    let done_is = c.minus-done.ensures.members in
     record {
       left = left_next x y left rest (places next.part) a (tree_of c.loop-first.joined.value) (tree_of next.deriv.value) u before.left c.in-Some.ensures.place in_left shown.member c.minus-left-in-Some.ensures.members
           shown.size c.in-Ok.ensures.little_more;
-      proves = mvd_restated s u x (union (minus y left) (places next.part)) x (minus y rest) (λ k. refl)
-          (right_next y left rest (places next.part) before.left.within (shown.within y c.requires.implied (before.left.within a in_left)) c.minus-left-in-Some.ensures.members)
-          (c.in-Ok.ensures.concludes x (minus y left) (places next.part) before.proves shown.proves);
+      proves = mvd_restated s u x (union done (places next.part)) x (minus y rest) (λ k. refl)
+          (λ k. grind (arith, done_is k, right_next y left rest (places next.part) before.left.within (shown.within y c.requires.implied (before.left.within a in_left)) c.minus-left-in-Some.ensures.members k))
+          (c.in-Ok.ensures.concludes s (mvd_restated s (tree_of c.loop-first.joined.value) x (minus y left) x done (λ k. refl) (λ k. sym (done_is k)) before.proves) shown.proves);
     }

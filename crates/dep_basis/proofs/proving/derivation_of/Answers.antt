@@ -3,5 +3,5 @@ use Rattle.dep_basis.proofs.proving.derivation_of.Goals as goal
 pub derivation_of_fd-requires-clause-implied : goal.derivation_of_fd-requires-clause-implied
 derivation_of_fd-requires-clause-implied c = rw c.in-Fd.is at c.requires.implied
 
-pub join_mvd-requires-clause-implied : goal.join_mvd-requires-clause-implied
-join_mvd-requires-clause-implied c = rw c.in-Mvd.is at c.requires.implied
+pub derivation_of_mvd-requires-clause-implied : goal.derivation_of_mvd-requires-clause-implied
+derivation_of_mvd-requires-clause-implied c = rw c.in-Mvd.is at c.requires.implied

@@ -6,12 +6,9 @@ use Rattle.dep_model.specs.declared.dep.Dep.{Dep}
 use Rattle.dep_model.specs.Dependencies.{fd, left_of, right_of}
 use Rattle.dep_model.specs.Deps.{dependency_of}
 use Rattle.dep_model.specs.Implication.{Implies}
-use Rattle.dep_basis.proofs.RefiningLemmas.{as_mvd, candidate_inside, candidate_outside, candidate_nothing}
+use Rattle.dep_basis.proofs.RefiningLemmas.{apart_from, as_mvd, candidate_inside, candidate_outside, candidate_nothing}
 use Rattle.dep_basis.proofs.refining.cut_by.Goals as goal
 use Rattle.dep_basis.proofs.refining.cut_by.Goals.{Else-meets, After-has}
-
-apart_from : (v lhs part : Places) → lhs ≡ v → (Meets lhs part → ⊥) → Apart v part
-apart_from v lhs part same none k m = false_from_ne_true (part k) (λ in_part. none (k, ap (λ (x : Places). x k) same ∙ m, in_part))
 
 -- the left side is apart from the part
 sides_apart : (c : After-has) → Apart (left_of (dependency_of c.args.dep)) (places c.args.part)

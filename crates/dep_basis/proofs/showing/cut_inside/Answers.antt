@@ -4,7 +4,7 @@ use Rattle.attr_sets.specs.Sets.{places}
 use Rattle.dep_model.specs.Dependencies.{left_of, right_of}
 use Rattle.dep_model.specs.Deps.{dependency_of}
 use Rattle.derivation.specs.Derivs.{tree_of}
-use Rattle.dep_basis.proofs.ShowingLemmas.{next_part_inside}
+use Rattle.dep_basis.proofs.ShowingLemmas.{part_beside, next_part_inside}
 use Rattle.dep_basis.proofs.showing.cut_inside.Goals as goal
 
 pub returns-in-Ok : goal.returns-in-Ok
@@ -16,5 +16,5 @@ returns-in-Ok c =
     record {
       shown = next_part_inside c.args.schema.now c.args.attribute c.args.k c.args.dep from (record { lhs = from.lhs; part = c.meet.result; deriv = c.in-Ok.deriv })
           (tree_of c.in_ok-given.given.value) c.requires.cut refl c.in_ok-given.ensures.size c.in-Ok.ensures.little_more c.requires.with c.requires.multivalued is
-          (c.in-Ok.ensures.concludes (places from.lhs) (places from.part) (left_of d) (right_of d) c.requires.cut.shown.proves c.in_ok-given.ensures.proves);
+          (c.in-Ok.ensures.concludes (left_of d) (right_of d) c.requires.cut.shown.candidate.outside (part_beside (places from.part) d c.requires.cut.cutting) c.requires.cut.shown.proves c.in_ok-given.ensures.proves);
     }

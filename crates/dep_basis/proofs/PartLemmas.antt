@@ -1,0 +1,143 @@
+-- Whether a left side has two parts on a scheme: what a dependency parts, and what no dependency does.
+use Rattle.std.proofs.Common.{◌≡◌, ℕ, ◌<◌, ◌⊎◌, true, false, List, sym, subst, ◌∙◌, inl, inr, ⊎_elim, arith}
+use Rattle.std.proofs.lemmas.Bool.{true≢false, cases_eq}
+use Rattle.std.proofs.lemmas.Bool.Decides.{nat_tests}
+use Rattle.std.specs.Prelude.{All}
+use Rattle.attr_sets.specs.Places.{Places, below, only, union, meet, minus, Within, Same, IsEmpty, Apart, Meets, IsLeastFrom}
+use Rattle.dep_model.specs.declared.dep.Dep.{Dep}
+use Rattle.dep_model.specs.Tuples.{Relation}
+use Rattle.dep_model.specs.Dependencies.{Dependency, fd, mvd, ObeysMvd}
+use Rattle.dep_model.specs.Deps.{dependencies_of, IsDepWithin}
+use Rattle.dep_model.specs.Implication.{IsLegal, Implies}
+use Rattle.dep_model.specs.OnSchemes.{ImpliedOn}
+use Rattle.dep_model.specs.Keys.{IsPart}
+use Rattle.dep_model.specs.TwoTuples.{two_tuples}
+use Rattle.dep_model.proofs.RuleLemmas.{replication_obeyed}
+use Rattle.dep_model.proofs.SchemeLemmas.{mvd_in-to, mvd_in-from}
+use Rattle.attr_sets.proofs.PlacesLemmas.{tell_within, tell_empty}
+use Rattle.dep_basis.specs.Refining.{LeavesWhole}
+use Rattle.dep_basis.specs.Pieces.{CanRefine}
+use Rattle.dep_basis.specs.Parts.{HasTwoParts, IsParted}
+use Rattle.dep_basis.proofs.RefiningLemmas.{split_inside, moves}
+use Rattle.dep_basis.proofs.BlockLemmas.{outside_of, whole_legal}
+use Rattle.dep_basis.proofs.BasisLemmas.{split_broken}
+
+-- ---- what a dependency with a left side apart from a piece does to a set in the piece
+module _ (n : ℕ) (ds : List Dep) (x w v t beyond : Places) (can : CanRefine n ds x w) (v_in : Within v (below n)) (apart : Apart v w) (inside : Within beyond w) where
+  -- it determines some of it
+  pub parted_fd : Implies n (dependencies_of ds) (fd v t) → Meets t beyond → IsParted n (dependencies_of ds) x beyond
+  parted_fd given common = inl (
+    common.0,
+    common.2,
+    moves n (dependencies_of ds) x w v t can.lhs can.universe v_in common.0 apart (inside common.0 common.2) common.1 can.implied given,
+  )
+
+  -- it parts it
+  pub parted_mvd : Implies n (dependencies_of ds) (mvd v t) → Meets t beyond → (k : ℕ) → beyond k ≡ true → t k ≡ false → IsParted n (dependencies_of ds) x beyond
+  parted_mvd given common k in_beyond out = inr (
+    meet w t,
+    (λ j m. can.universe j (grind (arith, m))),
+    split_inside n (dependencies_of ds) x w v t can.lhs can.universe v_in apart can.implied given,
+    (common.0, common.2, grind (arith, inside common.0 common.2, common.1)),
+    (k, in_beyond, grind (arith, in_beyond, out)),
+  )
+
+-- ---- on a scheme
+mvd_on_scheme : (n : ℕ) (scheme x w : Places) (r : Relation) → Within scheme (below n) → ObeysMvd (below n) x w r → ObeysMvd scheme x (meet w scheme) r
+mvd_on_scheme n scheme x w r scheme_in obeys t u t_in u_in agree =
+    let v = obeys t u t_in u_in agree in
+    (v.0, v.1, (λ (k : ℕ) m. v.2 k (grind (arith, m))), (λ (k : ℕ) m. v.3 k (grind (arith, m, scheme_in k))))
+
+-- two attributes lie beyond x
+pub record TwoBeyond (beyond : Places) : Type 0 where
+  pub one : ℕ
+  pub other : ℕ
+  pub first : beyond one ≡ true
+  pub second : beyond other ≡ true
+  pub differ : one ≡ other → ⊥
+
+pub two_beyond : (beyond rest : Places) (i k : ℕ) → beyond i ≡ true → Same rest (minus beyond (only i)) → rest k ≡ true → TwoBeyond beyond
+two_beyond beyond rest i k first is second = record {
+  one = i;
+  other = k;
+  first = first;
+  second = grind (arith, is k, second);
+  differ = λ same. true≢false (sym second ∙ grind (arith, nat_tests, is k, same));
+}
+
+module _ (n : ℕ) (ds : List Dep) (scheme x beyond : Places) (scheme_in : Within scheme (below n)) (x_in : Within x scheme) (is : Same beyond (minus scheme x)) where
+  pub parted_two : TwoBeyond beyond → IsParted n (dependencies_of ds) x beyond → HasTwoParts n (dependencies_of ds) scheme x
+  parted_two two parted =
+      ⊎_elim
+      (λ closed.
+      let a = closed.0 in
+      let a_in : Within (only a) scheme = λ (k : ℕ) e. grind (arith, nat_tests, e, is a, closed.1) in
+      record {
+        rhs = only a;
+        implied = record { within = (x_in, a_in); obeyed = λ r legal. mvd_in-from scheme x (only a) r x_in a_in (replication_obeyed scheme x (only a) r (closed.2 r legal)) };
+        some = (a, grind (arith, is a, closed.1), grind (arith, nat_tests));
+        rest = elim (cases_eq two.one a) [
+          | inl same ↦ (two.other, grind (arith, is two.other, two.second), grind (arith, nat_tests, is two.other, two.second, other_differs two a same))
+          | inr differ ↦ (two.one, grind (arith, is two.one, two.first), grind (arith, nat_tests, is two.one, two.first, differ))
+        ];
+      })
+      (λ split.
+      let w = split.0 in
+      let y_in : Within (meet w scheme) scheme = λ (k : ℕ) m. grind (arith, m) in
+      let in_w = split.3 in
+      let out = split.4 in
+      record {
+        rhs = meet w scheme;
+        implied = record { within = (x_in, y_in); obeyed = λ r legal. mvd_in-from scheme x (meet w scheme) r x_in y_in (mvd_on_scheme n scheme x w r scheme_in (split.2 r legal)) };
+        some = (in_w.0, grind (arith, is in_w.0, in_w.1), grind (arith, is in_w.0, in_w.1, in_w.2));
+        rest = (out.0, grind (arith, is out.0, out.1), grind (arith, is out.0, out.1, out.2));
+      })
+      parted
+    where
+      other_differs : (two : TwoBeyond beyond) (a : ℕ) → two.one ≡ a → two.other ≡ a → ⊥
+      other_differs two a same again = two.differ (same ∙ sym again)
+
+  -- no dependency cuts a piece that has all that lies beyond x
+  pub whole_one : (w : Places) → CanRefine n ds x w → Within beyond w → All (LeavesWhole w w) (dependencies_of ds) → HasTwoParts n (dependencies_of ds) scheme x → ⊥
+  whole_one w can inside whole two =
+      let y = two.rhs in
+      let y_in = two.implied.within.1 in
+      let legal = whole_legal n ds w can.deps whole in
+      split_broken n scheme x y w scheme_in x_in y_in can.outside (
+        (two.some.0, grind (arith, two.some.1, inside two.some.0, is two.some.0), two.some.2),
+        (two.rest.0, grind (arith, two.rest.1, inside two.rest.0, is two.rest.0), two.rest.2),
+      )
+      (mvd_in-to scheme x y (two_tuples n (outside_of n w)) x_in y_in (two.implied.obeyed (two_tuples n (outside_of n w)) legal))
+
+  -- at most one attribute lies beyond x
+  pub none_beyond : IsEmpty beyond → HasTwoParts n (dependencies_of ds) scheme x → ⊥
+  none_beyond none two = true≢false (sym two.some.1 ∙ sym (is two.some.0) ∙ none two.some.0)
+
+  pub one_beyond : (i : ℕ) (rest : Places) → Same rest (minus beyond (only i)) → IsEmpty rest → HasTwoParts n (dependencies_of ds) scheme x → ⊥
+  one_beyond i rest rest_is none two =
+      let alone : (k : ℕ) → minus scheme x k ≡ true → k ≡ i = λ (k : ℕ) m. grind (arith, nat_tests, m, is k, rest_is k, none k) in
+      let k = two.some.0 in
+      let j = two.rest.0 in
+      let same : k ≡ j = alone k two.some.1 ∙ sym (alone j two.rest.1) in
+      true≢false (sym (subst (λ (m : ℕ). two.rhs m ≡ true) same two.some.2) ∙ grind (arith, two.rest.2))
+
+-- ---- two parts that differ
+pub parts_two : (n : ℕ) (ds : List Dependency) (scheme x p q : Places) → Within scheme (below n) → IsPart n ds scheme x p → IsPart n ds scheme x q → (Within q p → ⊥) → HasTwoParts n ds scheme x
+parts_two n ds scheme x p q scheme_in first second differ =
+    let q_in = second.implied.within.1 in
+    let p_in = first.implied.within.1 in
+    ⊎_elim
+    (λ out. record {
+      rhs = p;
+      implied = first.implied;
+      some = some_of p p_in first.outside first.some;
+      rest = (out.0, grind (arith, q_in out.0 out.2, second.outside out.0 out.2), grind (arith, q_in out.0 out.2, out.3));
+    })
+    (λ inside. absurd (differ inside))
+    (tell_within n q p (λ (k : ℕ) m. scheme_in k (q_in k m)))
+  where
+    some_of : (p : Places) → Within p scheme → Apart p x → (IsEmpty p → ⊥) → Meets (minus scheme x) p
+    some_of p p_in outside some = ⊎_elim
+        (λ one. (one.0, grind (arith, p_in one.0 one.2, outside one.0 one.2), one.2))
+        (λ none. absurd (some none))
+        (tell_empty n p (λ (k : ℕ) m. scheme_in k (p_in k m)))

@@ -1,0 +1,64 @@
+use Rattle.std.proofs.Common.{refl, sym, ◌∙◌, ⊎_elim, arith}
+use Rattle.std.proofs.lemmas.Bool.{false≢true}
+use Rattle.attr_sets.specs.Places.{Within}
+use Rattle.attr_sets.specs.Sets.{places}
+use Rattle.attr_sets.specs.declared.set.TheConstants.{PLACES}
+use Rattle.attr_sets.proofs.PlacesLemmas.{places_below, tell_empty, tell_within, Same-within, count_below-lt}
+use Rattle.dep_basis.proofs.PieceLemmas.{first_refined}
+use Rattle.dep_basis.proofs.PartLemmas.{two_beyond, parted_two, whole_one}
+use Rattle.dep_basis.proofs.parts.has_two_parts_by.Goals as goal
+
+pub loop-rest-init : goal.loop-rest-init
+loop-rest-init c = record {
+  can = first_refined c.args.width c.args.deps.now (places c.args.lhs) (places c.minus-piece.result) c.requires.deps (λ k m. c.requires.scheme k (c.requires.lhs k m))
+      (λ k. grind (arith, c.minus-piece.ensures.members k, c.full.ensures.members k));
+  beyond = λ k m. grind (arith, c.minus-piece.ensures.members k, c.full.ensures.members k, c.minus-beyond.ensures.members k, c.requires.scheme k, m);
+}
+
+pub narrowed_by_all-requires : goal.narrowed_by_all-requires
+narrowed_by_all-requires c = record { beyond = c.loop-rest.invariant.beyond }
+
+pub returns-in_default-narrowed_by_all : goal.returns-in_default-narrowed_by_all
+returns-in_default-narrowed_by_all c =
+    let beyond = places c.minus-beyond.result in
+    let rest = places c.without.result in
+    let parted = c.in_default-narrowed_by_all.ensures.none refl c.args.width (places c.args.lhs) c.loop-rest.invariant.can in
+    ⊎_elim
+    (λ one. record {
+      parts = (
+        (λ _. parted_two c.args.width c.args.deps.now (places c.args.scheme) (places c.args.lhs) beyond c.requires.scheme c.requires.lhs c.minus-beyond.ensures.members
+            (two_beyond beyond rest c.in-Some.first one.0 c.in-Some.ensures.least.member c.without.ensures.members one.2) parted),
+        (λ _. refl),
+      );
+    })
+    (λ none. absurd (false≢true (sym c.if-is_empty.false ∙ c.is_empty.ensures.empty.1 none)))
+    (tell_empty PLACES rest (places_below c.without.result))
+
+pub returns-then-eq : goal.returns-then-eq
+returns-then-eq c =
+    let piece = places c.loop-rest.piece in
+    let rest = places c.in-Some-narrowed_by_all.rest in
+    let back : Within piece rest = λ k m. grind (arith, c.if-eq.ensures.same.0 refl k, m) in
+    record {
+      parts = (
+        (λ no. absurd (false≢true no)),
+        (λ two. absurd (whole_one c.args.width c.args.deps.now (places c.args.scheme) (places c.args.lhs) (places c.minus-beyond.result) c.requires.scheme c.requires.lhs c.minus-beyond.ensures.members
+            piece c.loop-rest.invariant.can c.loop-rest.invariant.beyond (c.in-Some-narrowed_by_all.ensures.whole back) two)),
+      );
+    }
+
+pub loop-rest-smaller : goal.loop-rest-smaller
+loop-rest-smaller c =
+    let piece = places c.loop-rest.piece in
+    let rest = places c.in-Some-narrowed_by_all.rest in
+    let inside = c.in-Some-narrowed_by_all.ensures.smaller in
+    ⊎_elim
+    (λ gone. count_below-lt PLACES rest piece gone.0 inside gone.1 gone.3 gone.2)
+    (λ same. absurd (false≢true (sym c.if-eq.false ∙ c.eq.ensures.same.1 (Same-within rest piece inside same))))
+    (tell_within PLACES piece rest (places_below c.loop-rest.piece))
+
+pub loop-rest-preserved : goal.loop-rest-preserved
+loop-rest-preserved c = record {
+  can = c.in-Some-narrowed_by_all.ensures.refined c.args.width (places c.args.lhs) c.loop-rest.invariant.can;
+  beyond = c.in-Some-narrowed_by_all.ensures.beyond;
+}

@@ -1,0 +1,26 @@
+use Rattle.std.proofs.Common.{refl, arith}
+use Rattle.attr_sets.specs.Places.{below, minus, Same}
+use Rattle.attr_sets.specs.Sets.{places}
+use Rattle.attr_sets.specs.declared.set.TheConstants.{PLACES}
+use Rattle.attr_sets.proofs.PlacesLemmas.{count_below-le}
+use Rattle.dep_model.specs.Deps.{dependencies_of}
+use Rattle.dep_basis.proofs.BasisLemmas.{closure_between}
+use Rattle.dep_basis.proofs.PieceLemmas.{first_refined, all_refined}
+use Rattle.dep_basis.proofs.pieces.all_pieces.Goals as goal
+
+pub refine-requires : goal.refine-requires
+refine-requires c = record { room = record { size = refl; room = omega (arith, count_below-le PLACES (places c.minus-outside.result)) } }
+
+pub returns : goal.returns
+returns c =
+    let n = c.args.width in
+    let deps = c.args.deps.now in
+    let x = places c.args.lhs in
+    let more = places c.closure.result in
+    let w = places c.minus-outside.result in
+    let between = closure_between n (dependencies_of deps) x more c.requires.lhs (c.closure.ensures.closure n c.requires.deps c.requires.lhs) in
+    let is : Same w (minus (below n) more) = λ k. grind (arith, c.minus-outside.ensures.members k, c.full.ensures.members k) in
+    record {
+      pieces = all_refined n deps x more w c.refine.new.found _ between.0 between.2 is (first_refined n deps more w c.requires.deps between.1 is) refl
+          (omega (arith, c.refine.ensures.refined.room, count_below-le PLACES w)) c.refine.ensures.refined;
+    }

@@ -1,0 +1,257 @@
+ghost use Rattle.std.specs.Prelude.{◌≡◌, ℕ, ◌<◌, ◌≤◌, ◌^◌, ◌↔◌, IsTrue};
+ghost use Rattle.dep_model.specs.declared.schema.Schema.{Schema};
+ghost use Rattle.dep_model.specs.Dependencies.{Dependency};
+ghost use Rattle.dep_model.specs.Deps.{dependency_of};
+ghost use Rattle.derivation.specs.Trees.{Tree, nodes, depth, leaf, step, pair};
+ghost use Rattle.derivation.specs.Derivs.{tree_of, leaf_of, step_of, pair_of};
+ghost use Rattle.derivation.specs.Conclusions.{Proves};
+ghost use Rattle.derivation.specs.Direct.{IsIn, NoneBelow, IsDirect};
+ghost use Rattle.derivation.specs.Shortened.{ConcludesOnly, IsConcluded, IsSought, HasFew, IsLeastPart, IsShortened};
+
+use crate::rule::Root;
+use crate::table::{leaf_conclusion, pair_conclusion, step_conclusion};
+use crate::{Deriv, LeafRule, PairRule, StepRule, conclude, nodes};
+use dep_model::{Dep, Schema};
+use std::mem;
+
+// A derivation and what it concludes, if anything.
+#[derive(Debug, Drop)]
+struct Concluded {
+    deriv: Box<Deriv>,
+    dep: Option<Dep>,
+}
+
+// What a search for a conclusion in a derivation comes to.
+#[derive(Debug, Drop)]
+enum Sought {
+    // The smallest part that concludes it.
+    Found(Box<Deriv>),
+    // The derivation as it was, no node of which concludes it.
+    Whole(Concluded),
+}
+
+/// A derivation of the same dependency in which no node concludes what a node below it concludes: the
+/// smallest part that concludes it, in which, from the leaves on, each node gives way to the smallest
+/// one below it that concludes the same. It takes no memory.
+pub fn shorten(schema: &Schema, deriv: Box<Deriv>) -> Box<Deriv>
+    requires few { nodes (tree_of deriv.value) < 2 ^ 32 }
+    ensures same { (d : Dependency) → Proves schema.now (tree_of deriv.value) d
+        → Proves schema.now (tree_of result.value) d }
+    ensures few_nodes { nodes (tree_of result.value) ≤ nodes (tree_of deriv.value) }
+    ensures few_levels { depth (tree_of result.value) ≤ depth (tree_of deriv.value) }
+    ensures direct { IsDirect schema.now (tree_of result.value) }
+    ensures least { (t : Tree) (d : Dependency) → IsIn t (tree_of deriv.value)
+        → Proves schema.now (tree_of deriv.value) d → Proves schema.now t d
+        → nodes (tree_of result.value) ≤ nodes t }
+{
+    match conclude(schema, &deriv) {
+        Ok(dep) => {
+            let whole = Concluded {
+                deriv,
+                dep: Some(dep),
+            };
+            shorten_all(schema, least_of(schema, whole).deriv).deriv
+        }
+        Err(_) => shorten_all(schema, deriv).deriv,
+    }
+}
+
+// A direct derivation of the same: each node is the smallest part of what was made of its premises.
+fn shorten_all(schema: &Schema, deriv: Box<Deriv>) -> Concluded
+    requires few { nodes (tree_of deriv.value) < 2 ^ 32 }
+    ensures shortened { IsShortened schema.now (tree_of deriv.value) result }
+{
+    let mut place = deriv;
+    match mem::replace(&mut *place, Deriv::Given(0)).taken() {
+        Root::Leaf(rule) => conclude_leaf(schema, place, rule),
+        Root::Step(rule, premise) => {
+            let from = shorten_all(schema, premise);
+            least_of(schema, conclude_step(schema, place, rule, from))
+        }
+        Root::Pair(rule, first, second) => {
+            let left = shorten_all(schema, first);
+            let right = shorten_all(schema, second);
+            least_of(schema, conclude_pair(place, rule, left, right))
+        }
+    }
+}
+
+// The smallest part that concludes the same.
+fn least_of(schema: &Schema, whole: Concluded) -> Concluded
+    requires few { nodes (tree_of whole.deriv.value) < 2 ^ 32 }
+    ensures least { (t : Tree) → IsConcluded schema.now t whole → IsLeastPart schema.now t result }
+{
+    match whole.dep {
+        None => whole,
+        Some(dep) => match seek(schema, whole.deriv, dep) {
+            Sought::Found(deriv) => Concluded {
+                deriv,
+                dep: Some(dep),
+            },
+            Sought::Whole(same) => same,
+        },
+    }
+}
+
+// The smallest part that concludes a dependency.
+fn seek(schema: &Schema, deriv: Box<Deriv>, sought: Dep) -> Sought
+    requires few { nodes (tree_of deriv.value) < 2 ^ 32 }
+    ensures sought { IsSought schema.now (tree_of deriv.value) (dependency_of sought) result }
+{
+    let mut place = deriv;
+    match mem::replace(&mut *place, Deriv::Given(0)).taken() {
+        Root::Leaf(rule) => told(conclude_leaf(schema, place, rule), sought),
+        Root::Step(rule, premise) => {
+            let from = seek(schema, premise, sought);
+            seek_step(schema, place, rule, from, sought)
+        }
+        Root::Pair(rule, first, second) => {
+            let left = seek(schema, first, sought);
+            let right = seek(schema, second, sought);
+            seek_pair(place, rule, left, right, sought)
+        }
+    }
+}
+
+fn seek_step(
+    schema: &Schema,
+    room: Box<Deriv>,
+    rule: StepRule,
+    from: Sought,
+    sought: Dep,
+) -> Sought
+    ensures sought { (t : Tree) → IsSought schema.now t (dependency_of sought) from
+        → IsSought schema.now (step (step_of rule) t) (dependency_of sought) result }
+{
+    match from {
+        Sought::Found(part) => Sought::Found(part),
+        Sought::Whole(premise) => told(conclude_step(schema, room, rule, premise), sought),
+    }
+}
+
+fn seek_pair(
+    room: Box<Deriv>,
+    rule: PairRule,
+    left: Sought,
+    right: Sought,
+    sought: Dep,
+) -> Sought
+    requires few_left { HasFew left }
+    requires few_right { HasFew right }
+    ensures sought { (s : Schema) (t u : Tree) → IsSought s t (dependency_of sought) left
+        → IsSought s u (dependency_of sought) right
+        → IsSought s (pair (pair_of rule) t u) (dependency_of sought) result }
+{
+    match (left, right) {
+        (Sought::Found(one), Sought::Found(other)) => {
+            if nodes(&one) <= nodes(&other) {
+                Sought::Found(one)
+            } else {
+                Sought::Found(other)
+            }
+        }
+        (Sought::Found(one), Sought::Whole(_)) => Sought::Found(one),
+        (Sought::Whole(_), Sought::Found(other)) => Sought::Found(other),
+        (Sought::Whole(first), Sought::Whole(second)) => {
+            told(conclude_pair(room, rule, first, second), sought)
+        }
+    }
+}
+
+// Whether a derivation concludes what is sought, where no node below its root does.
+fn told(whole: Concluded, sought: Dep) -> Sought
+    ensures sought { (s : Schema) (t : Tree) → IsConcluded s t whole → NoneBelow s t (dependency_of sought)
+        → IsSought s t (dependency_of sought) result }
+{
+    match whole.dep {
+        Some(dep) => {
+            if same_dep(dep, sought) {
+                Sought::Found(whole.deriv)
+            } else {
+                Sought::Whole(whole)
+            }
+        }
+        None => Sought::Whole(whole),
+    }
+}
+
+// Whether two dependencies are the same.
+fn same_dep(one: Dep, other: Dep) -> bool
+    ensures same { IsTrue result ↔ (dependency_of one ≡ dependency_of other) }
+{
+    match (one, other) {
+        (Dep::Fd { lhs: x, rhs: y }, Dep::Fd { lhs: v, rhs: w }) => x == v && y == w,
+        (Dep::Mvd { lhs: x, rhs: y }, Dep::Mvd { lhs: v, rhs: w }) => x == v && y == w,
+        _ => false,
+    }
+}
+
+// What a rule alone concludes, if anything.
+fn leaf_dep(schema: &Schema, rule: LeafRule) -> Option<Dep>
+    ensures only { ConcludesOnly schema.now (leaf (leaf_of rule)) result }
+{
+    match leaf_conclusion(schema, rule) {
+        Ok(dep) => Some(dep),
+        Err(_) => None,
+    }
+}
+
+fn step_dep(schema: &Schema, rule: StepRule, from: Option<Dep>) -> Option<Dep>
+    ensures only { (t : Tree) → ConcludesOnly schema.now t from
+        → ConcludesOnly schema.now (step (step_of rule) t) result }
+{
+    match from {
+        Some(premise) => match step_conclusion(schema, rule, premise) {
+            Ok(dep) => Some(dep),
+            Err(_) => None,
+        },
+        None => None,
+    }
+}
+
+fn pair_dep(rule: PairRule, first: Option<Dep>, second: Option<Dep>) -> Option<Dep>
+    ensures only { (s : Schema) (t u : Tree) → ConcludesOnly s t first → ConcludesOnly s u second
+        → ConcludesOnly s (pair (pair_of rule) t u) result }
+{
+    match (first, second) {
+        (Some(one), Some(other)) => match pair_conclusion(rule, one, other) {
+            Ok(dep) => Some(dep),
+            Err(_) => None,
+        },
+        _ => None,
+    }
+}
+
+// A rule alone, in the room of another node.
+fn conclude_leaf(schema: &Schema, room: Box<Deriv>, rule: LeafRule) -> Concluded
+    ensures concluded { IsConcluded schema.now (leaf (leaf_of rule)) result }
+{
+    let mut deriv = room;
+    *deriv = rule.deriv();
+    Concluded {
+        deriv,
+        dep: leaf_dep(schema, rule),
+    }
+}
+
+// A rule over a premise.
+fn conclude_step(schema: &Schema, room: Box<Deriv>, rule: StepRule, from: Concluded) -> Concluded
+    ensures concluded { (t : Tree) → IsConcluded schema.now t from
+        → IsConcluded schema.now (step (step_of rule) t) result }
+{
+    let mut deriv = room;
+    let dep = step_dep(schema, rule, from.dep);
+    *deriv = rule.over(from.deriv);
+    Concluded { deriv, dep }
+}
+
+// A rule over two premises.
+fn conclude_pair(room: Box<Deriv>, rule: PairRule, first: Concluded, second: Concluded) -> Concluded
+    ensures concluded { (s : Schema) (t u : Tree) → IsConcluded s t first → IsConcluded s u second
+        → IsConcluded s (pair (pair_of rule) t u) result }
+{
+    let mut deriv = room;
+    let dep = pair_dep(rule, first.dep, second.dep);
+    *deriv = rule.over(first.deriv, second.deriv);
+    Concluded { deriv, dep }
+}
