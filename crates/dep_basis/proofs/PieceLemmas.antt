@@ -1,5 +1,5 @@
 -- The refinement of a piece: what a dependency that cuts it gives back, and what is found in the end.
-use Rattle.std.proofs.Common.{◌≡◌, ℕ, ◌+◌, ◌<◌, ◌≤◌, ◌↔◌, ◌⊎◌, true, false, List, [], ◌∷◌, ◌++◌, length, length-append, get_or, refl, sym, subst, ◌∙◌, inl, inr, ⊎_elim, arith}
+use Rattle.std.proofs.Common.{◌≡◌, ℕ, ◌+◌, ◌<◌, ◌≤◌, ◌↔◌, true, false, List, [], ◌∷◌, ◌++◌, length, get_or, sym, subst, ◌∙◌, inl, inr, ⊎_elim, arith}
 use Rattle.std.proofs.lemmas.Bool.{true≢false, cases_Bool, false_from_ne_true, ltb-true, lt-ltb}
 use Rattle.std.proofs.lemmas.Bool.Decides.{nat_tests}
 use Rattle.std.proofs.lemmas.List.Elements.{All-push, All-weaker, All-contains}
@@ -11,16 +11,16 @@ use Rattle.attr_sets.specs.declared.set.TheConstants.{PLACES}
 use Rattle.attr_sets.specs.Sets.{places}
 use Rattle.attr_sets.proofs.PlacesLemmas.{Same-path, tell_empty, count_below-lt, count_below-within, count_below-minus}
 use Rattle.dep_model.specs.declared.dep.Dep.{Dep}
-use Rattle.dep_model.specs.Dependencies.{Dependency, fd, mvd, left_of, right_of, functional_part}
+use Rattle.dep_model.specs.Dependencies.{Dependency, fd, mvd, right_of}
 use Rattle.dep_model.specs.Deps.{dependency_of, dependencies_of, IsDepWithin}
 use Rattle.dep_model.specs.Implication.{Implies}
 use Rattle.dep_model.specs.Keys.{InClosure, IsBlock}
 use Rattle.dep_model.proofs.RuleLemmas.{reflexivity_obeyed, complementation_obeyed, mreflexivity_obeyed}
 use Rattle.dep_model.proofs.DepLemmas.{legal-to}
-use Rattle.dep_basis.specs.Refining.{IsCandidate, LeavesWhole}
+use Rattle.dep_basis.specs.Refining.{LeavesWhole}
 use Rattle.dep_basis.specs.Shown.{IsCutting}
 use Rattle.dep_basis.specs.declared.pieces.Pieces.{Pieces}
-use Rattle.dep_basis.specs.Pieces.{sets_of, IsTold, ArePieces, CanRefine, AreRefined, IsRefined, IsPieceWith}
+use Rattle.dep_basis.specs.Pieces.{sets_of, IsTold, ArePieces, CanRefine, IsRefined, IsPieceWith}
 use Rattle.dep_basis.proofs.RefiningLemmas.{replicated, split_inside, split_outside, moves}
 use Rattle.dep_basis.proofs.BlockLemmas.{whole_legal, candidate_block}
 use Rattle.dep_basis.proofs.GatheringLemmas.{Any-kept}

@@ -1,28 +1,28 @@
 -- Each attribute is determined or in a block, and one that is in no given left side adds only itself to
 -- what a left side determines.
-use Rattle.std.proofs.Common.{◌≡◌, ℕ, zero, suc, ◌+◌, ◌<◌, ◌≤◌, ◌↔◌, ◌⊎◌, true, false, List, [], ◌∷◌, get_or, refl, sym, subst, ◌∙◌, inl, inr, ⊎_elim, arith}
-use Rattle.std.proofs.lemmas.Bool.{true≢false, cases_Bool, true_from_ne_false, false_from_ne_true, ltb-true, lt-ltb}
+use Rattle.std.proofs.Common.{◌≡◌, ℕ, zero, suc, ◌<◌, ◌≤◌, ◌↔◌, ◌⊎◌, true, false, List, [], ◌∷◌, get_or, refl, sym, subst, ◌∙◌, inl, inr, ⊎_elim, arith}
+use Rattle.std.proofs.lemmas.Bool.{true≢false, cases_Bool, false_from_ne_true, lt-ltb}
 use Rattle.std.proofs.lemmas.Bool.Decides.{nat_tests}
 use Rattle.std.proofs.lemmas.List.Elements.{All-nil, All-cons, All-head, All-tail}
 use Rattle.std.specs.Prelude.{All}
-use Rattle.attr_sets.specs.Places.{Places, below, only, none, union, meet, minus, Within, Same, IsEmpty, Apart, Meets, count_below}
-use Rattle.attr_sets.proofs.PlacesLemmas.{Same-path, tell_apart, tell_within, tell_empty, count_below-lt, count_below-pos, count_below-le}
+use Rattle.attr_sets.specs.Places.{Places, below, only, union, meet, minus, Within, Same, IsEmpty, Apart, count_below}
+use Rattle.attr_sets.proofs.PlacesLemmas.{Same-path, tell_apart, tell_within, tell_empty, count_below-pos, count_below-le}
 use Rattle.dep_model.specs.declared.dep.Dep.{Dep}
 use Rattle.dep_model.specs.declared.dep.Dep.TheVariants.{Fd, Mvd}
 use Rattle.dep_model.specs.Tuples.{Relation}
-use Rattle.dep_model.specs.Dependencies.{Dependency, fd, mvd, ObeysMvd, left_of, right_of}
+use Rattle.dep_model.specs.Dependencies.{Dependency, fd, mvd, ObeysMvd, left_of}
 use Rattle.dep_model.specs.Deps.{dependency_of, dependencies_of, IsDepWithin}
 use Rattle.dep_model.specs.Implication.{IsLegal, Implies}
 use Rattle.dep_model.specs.Keys.{InClosure, IsBlock}
 use Rattle.attr_sets.specs.Sets.{places}
 use Rattle.dep_model.specs.TwoTuples.{two_tuples}
-use Rattle.dep_model.proofs.RuleLemmas.{reflexivity_obeyed, transitivity_obeyed, complementation_obeyed, mreflexivity_obeyed}
+use Rattle.dep_model.proofs.RuleLemmas.{reflexivity_obeyed, transitivity_obeyed}
 use Rattle.dep_model.proofs.DepLemmas.{legal-to, dependencies_all-from}
-use Rattle.dep_basis.specs.Refining.{IsCandidate, LeavesWhole}
+use Rattle.dep_basis.specs.Refining.{LeavesWhole}
 use Rattle.dep_basis.specs.Shown.{IsCutting}
 use Rattle.dep_basis.specs.Pieces.{CanRefine}
-use Rattle.dep_basis.proofs.RefiningLemmas.{replicated, moves, LeavesWhole-meets, LeavesWhole-apart}
-use Rattle.dep_basis.proofs.BlockLemmas.{outside_of, whole_legal, block_whole, block_apart, blocks_same, outside_fd, candidate_block}
+use Rattle.dep_basis.proofs.RefiningLemmas.{replicated, moves, LeavesWhole-meets}
+use Rattle.dep_basis.proofs.BlockLemmas.{outside_of, whole_legal, block_whole, block_apart, blocks_same, candidate_block}
 use Rattle.dep_basis.proofs.PieceLemmas.{first_refined, outside_refined, inside_refined, outside_fewer, inside_fewer}
 
 -- ---- whether a dependency cuts a set

@@ -1,8 +1,6 @@
-use Rattle.std.specs.Prelude.{◌≡◌, ℕ, ◌⊎◌, true, false, List}
-use Rattle.attr_sets.specs.Places.{Places, below, only, minus, Within, Same, Meets}
-use Rattle.dep_model.specs.declared.dep.Dep.{Dep}
+use Rattle.std.specs.Prelude.{◌≡◌, ℕ, ◌⊎◌, true, List}
+use Rattle.attr_sets.specs.Places.{Places, below, only, minus, Within, Meets}
 use Rattle.dep_model.specs.Dependencies.{Dependency, fd, mvd}
-use Rattle.dep_model.specs.Deps.{dependency_of, dependencies_of, IsDepWithin}
 use Rattle.dep_model.specs.Implication.{Implies}
 use Rattle.dep_model.specs.OnSchemes.{ImpliedOn}
 

@@ -1,5 +1,5 @@
-use Rattle.std.proofs.Common.{◌≡◌, ℕ, ◌<◌, List, length, get_or, take_all, refl, sym, subst, ⊎_elim, arith}
-use Rattle.std.specs.Prelude.{Option, All, IfSome}
+use Rattle.std.proofs.Common.{ℕ, ◌<◌, length, get_or, take_all, refl, sym, subst, ⊎_elim, arith}
+use Rattle.std.specs.Prelude.{Option, IfSome}
 use Rattle.std.proofs.lemmas.List.{get_or_default}
 use Rattle.std.proofs.lemmas.List.Elements.{All-more}
 use Rattle.std.proofs.lemmas.Option.{IfSome_then}

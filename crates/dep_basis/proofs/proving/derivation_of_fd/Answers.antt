@@ -1,4 +1,4 @@
-use Rattle.std.proofs.Common.{◌≡◌, refl}
+use Rattle.std.proofs.Common.{refl}
 use Rattle.std.specs.Prelude.{IsSome}
 use Rattle.dep_basis.proofs.proving.derivation_of_fd.Goals as goal
 

@@ -1,6 +1,6 @@
 use Rattle.std.proofs.Common.{◌≡◌, sym, ap, subst, ◌∙◌}
-use Rattle.std.proofs.lemmas.Bool.{true≢false, false_from_ne_true}
-use Rattle.attr_sets.specs.Places.{Places, meet, minus, Same, Apart, Meets}
+use Rattle.std.proofs.lemmas.Bool.{true≢false}
+use Rattle.attr_sets.specs.Places.{Places, meet, minus, Same, Apart}
 use Rattle.attr_sets.specs.Sets.{places}
 use Rattle.dep_model.specs.declared.dep.Dep.{Dep}
 use Rattle.dep_model.specs.Dependencies.{fd, left_of, right_of}
