@@ -113,13 +113,7 @@ fn seek(schema: &Schema, deriv: Box<Deriv>, sought: Dep) -> Sought
     }
 }
 
-fn seek_step(
-    schema: &Schema,
-    room: Box<Deriv>,
-    rule: StepRule,
-    from: Sought,
-    sought: Dep,
-) -> Sought
+fn seek_step(schema: &Schema, room: Box<Deriv>, rule: StepRule, from: Sought, sought: Dep) -> Sought
     ensures sought { (t : Tree) → IsSought schema.now t (dependency_of sought) from
         → IsSought schema.now (step (step_of rule) t) (dependency_of sought) result }
 {
@@ -129,13 +123,7 @@ fn seek_step(
     }
 }
 
-fn seek_pair(
-    room: Box<Deriv>,
-    rule: PairRule,
-    left: Sought,
-    right: Sought,
-    sought: Dep,
-) -> Sought
+fn seek_pair(room: Box<Deriv>, rule: PairRule, left: Sought, right: Sought, sought: Dep) -> Sought
     requires few_left { HasFew left }
     requires few_right { HasFew right }
     ensures sought { (s : Schema) (t u : Tree) → IsSought s t (dependency_of sought) left

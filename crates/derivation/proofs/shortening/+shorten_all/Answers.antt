@@ -32,7 +32,7 @@ least_of-requires-in-Pair t c =
     let second = c.shorten_all-right in
     let all = ap nodes (pair_whole t ((goal.at.least_of-requires-in-Pair t c).In-Pair)) in
     let made = c.conclude_pair.ensures.concluded s (tree_of first.result.deriv.value) (tree_of second.result.deriv.value)
-        (as_concluded s (tree_of c.in-Pair.first.value) first.result first.ensures.shortened) (as_concluded s (tree_of c.in-Pair.second.value) second.result second.ensures.shortened) in
+    (as_concluded s (tree_of c.in-Pair.first.value) first.result first.ensures.shortened) (as_concluded s (tree_of c.in-Pair.second.value) second.result second.ensures.shortened) in
     record { few = omega (arith, all, ap nodes made.same, first.ensures.shortened.few_nodes, second.ensures.shortened.few_nodes, c.requires.few) }
 
 pub returns-in-Step : goal.returns-in-Step
@@ -52,7 +52,7 @@ returns-in-Pair t c =
     let first = c.shorten_all-left in
     let second = c.shorten_all-right in
     let made = c.conclude_pair.ensures.concluded s (tree_of first.result.deriv.value) (tree_of second.result.deriv.value)
-        (as_concluded s (tree_of c.in-Pair.first.value) first.result first.ensures.shortened) (as_concluded s (tree_of c.in-Pair.second.value) second.result second.ensures.shortened) in
+    (as_concluded s (tree_of c.in-Pair.first.value) first.result first.ensures.shortened) (as_concluded s (tree_of c.in-Pair.second.value) second.result second.ensures.shortened) in
     record {
       shortened = shortened_pair s rule (tree_of c.args.deriv.value) (tree_of c.in-Pair.first.value) (tree_of c.in-Pair.second.value) first.result second.result c.least_of-in-Pair.result
           (pair_whole t ((goal.at.returns-in-Pair t c).In-Pair)) first.ensures.shortened second.ensures.shortened
