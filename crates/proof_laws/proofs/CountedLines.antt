@@ -11,12 +11,12 @@ use Rattle.derivation.proofs.WithinLemmas.{OfAttributes, StepOfAttributes}
 use Rattle.lexer.specs.declared.token.Mode.TheVariants as mode
 use Rattle.lexer.specs.declared.token.Stop.{Stop}
 use Rattle.lexer.specs.Tokens.{Mark, lex}
-use Rattle.schema_reader.specs.declared.stage.Sign.{Sign}
-use Rattle.schema_reader.specs.declared.stage.Sign.TheVariants as sign
-use Rattle.schema_reader.specs.declared.words.Format.TheVariants as format
-use Rattle.schema_reader.specs.Grammar.{stated}
-use Rattle.schema_reader.specs.Meanings.{IsSide, named, is_at}
-use Rattle.schema_reader.proofs.WithinLemmas.{place_named_within}
+use Rattle.schema_grammar.specs.declared.symbol.Sign.{Sign}
+use Rattle.schema_grammar.specs.declared.symbol.Sign.TheVariants as sign
+use Rattle.schema_grammar.specs.declared.format.Format.TheVariants as format
+use Rattle.schema_grammar.specs.Grammar.{stated}
+use Rattle.schema_grammar.specs.Meanings.{IsSide, named, is_at}
+use Rattle.schema_grammar.proofs.WithinLemmas.{place_named_within}
 use Rattle.proof_text.specs.declared.text.LineKind.{LineKind}
 use Rattle.proof_text.specs.declared.text.LineKind.TheVariants.{Blank, Opening, Certificate}
 use Rattle.proof_text.specs.Lines.{Body, by_given, by_reflexivity, by_mreflexivity, by_step, by_pair, Line}

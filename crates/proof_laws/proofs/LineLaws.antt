@@ -8,11 +8,11 @@ use Rattle.lexer.specs.declared.token.Stop.{Stop}
 use Rattle.lexer.specs.declared.token.TokenKind.{TokenKind}
 use Rattle.lexer.specs.declared.token.TokenKind.TheVariants as token
 use Rattle.lexer.specs.Tokens.{Mark, lex}
-use Rattle.schema_reader.specs.declared.stage.Sign.{Sign}
-use Rattle.schema_reader.specs.declared.stage.Sign.TheVariants as sign
-use Rattle.schema_reader.specs.declared.words.Format.TheVariants as format
+use Rattle.schema_grammar.specs.declared.symbol.Sign.{Sign}
+use Rattle.schema_grammar.specs.declared.symbol.Sign.TheVariants as sign
+use Rattle.schema_grammar.specs.declared.format.Format.TheVariants as format
 use Rattle.schema_reader.specs.Grammar as grammar
-use Rattle.schema_reader.specs.Meanings.{IsArrow, IsDependency}
+use Rattle.schema_grammar.specs.Meanings.{IsArrow, IsDependency}
 use Rattle.proof_text.specs.declared.words.Arrow.{Arrow}
 use Rattle.proof_text.specs.declared.words.Arrow.TheVariants.{Functional, Multivalued}
 use Rattle.proof_text.specs.Lines.{Body, Line, body, dependency_with, stated, unless, line}

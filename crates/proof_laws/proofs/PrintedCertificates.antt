@@ -11,14 +11,14 @@ use Rattle.lexer.specs.declared.token.Mode.TheVariants as mode
 use Rattle.lexer.specs.declared.token.TokenKind.TheVariants as token
 use Rattle.lexer.specs.Lines.{without_mark, line_texts}
 use Rattle.lexer.specs.Tokens.{lex, led_by_mark}
-use Rattle.schema_reader.specs.declared.words.Format.TheVariants as format
-use Rattle.schema_reader.specs.Printing.{members_from, set_text, dependency_text}
+use Rattle.schema_grammar.specs.declared.format.Format.TheVariants as format
+use Rattle.schema_grammar.specs.Printing.{members_from, set_text, dependency_text}
 use Rattle.schema_reader.specs.Printing as texts
-use Rattle.reader_laws.specs.Printed.{AreNames}
-use Rattle.reader_laws.proofs.PrintedDependencies.{nothing_left}
-use Rattle.reader_laws.proofs.PrintedLexing.{AllNames, name_lexed}
-use Rattle.reader_laws.proofs.PrintedSides.{printed_names}
-use Rattle.reader_laws.proofs.PrintedTexts.{Bytes, bytes_both, words_bytes, EachBytes, lines_cut, each_dependency, is_line_byte}
+use Rattle.schema_grammar.specs.Printed.{AreNames}
+use Rattle.schema_grammar.proofs.PrintedDependencies.{nothing_left}
+use Rattle.schema_grammar.proofs.PrintedLexing.{AllNames, name_lexed}
+use Rattle.schema_grammar.proofs.PrintedSides.{printed_names}
+use Rattle.schema_grammar.proofs.PrintedTexts.{Bytes, bytes_both, words_bytes, EachBytes, lines_cut, each_dependency, is_line_byte}
 use Rattle.proof_text.specs.Lines.{Body, by_given, by_reflexivity, by_mreflexivity, by_step, by_pair, Line}
 use Rattle.proof_text.specs.Meanings.{certificate_lines, without_yes, is_yes_alone, MeansLine, MeanLines}
 use Rattle.proof_text.specs.Printing.{step_word, sides_text, pair_word, body_text, line_text, lines_text}

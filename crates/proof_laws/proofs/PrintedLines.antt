@@ -7,13 +7,13 @@ use Rattle.dep_model.specs.Names.{is_name}
 use Rattle.derivation.specs.Trees.{Step, augmentation, complementation, maugmentation, replication, Pair, transitivity, mtransitivity, coalescence}
 use Rattle.lexer.specs.declared.token.Mode.TheVariants as mode
 use Rattle.lexer.specs.Tokens.{Mark, lexed, lex}
-use Rattle.schema_reader.specs.declared.words.Format.TheVariants as format
-use Rattle.schema_reader.specs.Meanings.{HasTokens}
-use Rattle.schema_reader.specs.Printing.{members_from, set_text, dependency_text}
-use Rattle.reader_laws.specs.Printed.{AreNames}
-use Rattle.reader_laws.proofs.PrintedLexing.{Apart, led_by_marks, side_marks, side_end}
-use Rattle.reader_laws.proofs.PrintedDependencies.{led_marks, nothing_left}
-use Rattle.reader_laws.proofs.PrintedSides.{printed_side}
+use Rattle.schema_grammar.specs.declared.format.Format.TheVariants as format
+use Rattle.schema_grammar.specs.Meanings.{HasTokens}
+use Rattle.schema_grammar.specs.Printing.{members_from, set_text, dependency_text}
+use Rattle.schema_grammar.specs.Printed.{AreNames}
+use Rattle.schema_grammar.proofs.PrintedLexing.{Apart, led_by_marks, side_marks, side_end}
+use Rattle.schema_grammar.proofs.PrintedDependencies.{led_marks, nothing_left}
+use Rattle.schema_grammar.proofs.PrintedSides.{printed_side}
 use Rattle.proof_text.specs.Lines.{Body, by_given, by_reflexivity, by_mreflexivity, by_step, by_pair, Line}
 use Rattle.proof_text.specs.Meanings.{step_name, pair_name, HasSets, IsRule, MeansLine}
 use Rattle.proof_text.specs.Printing.{step_word, sides_text, pair_word, body_text, line_text, IsStepWithin, IsBodyWithin}

@@ -9,8 +9,8 @@ use Rattle.derivation.specs.declared.measures.TheConstants.{MOST_NODES}
 use Rattle.derivation.specs.Conclusions.{Proves}
 use Rattle.derivation.specs.Derivs.{tree_of}
 use Rattle.derivation.specs.Trees.{nodes}
-use Rattle.schema_reader.specs.declared.words.Format.TheVariants as format
-use Rattle.reader_laws.specs.Printed.{AreNames}
+use Rattle.schema_grammar.specs.declared.format.Format.TheVariants as format
+use Rattle.schema_grammar.specs.Printed.{AreNames}
 use Rattle.proof_text.specs.Lines.{Body, by_given, by_reflexivity, by_mreflexivity, by_step, by_pair, Line}
 use Rattle.proof_text.specs.Printing.{lines_behind, canonical_certificate}
 use Rattle.proof_text.specs.Spelling.{Spells}

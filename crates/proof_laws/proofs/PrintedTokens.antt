@@ -1,6 +1,6 @@
 -- How the pieces of a printed line are lexed: decimals, colons, words, sets and dependencies.
 use Rattle.std.proofs.Common.{◌≡◌, ◌<◌, ◌≤◌, ◌+◌, ◌-◌, ◌*◌, ◌^◌, ℕ, suc, Bool, true, false, ◌==◌, ◌&&◌, List, [], ◌∷◌, ◌++◌, length, refl, sym, ◌∙◌, ap, arith, append_assoc, length-append, rules}
-use Rattle.reader_laws.proofs.PrintedLexing.{take_front, drop_front}
+use Rattle.schema_grammar.proofs.PrintedLexing.{take_front, drop_front}
 use Rattle.std.specs.Prelude.{codes, decimal, nat_lt, nat_le, fold}
 use Rattle.std.specs.List.{list_all}
 use Rattle.std.specs.Char.{is_ascii_alphabetic, is_ascii_digit}
@@ -18,13 +18,13 @@ use Rattle.lexer.specs.Bytes.{is_gap, run_length, is_number, number_of}
 use Rattle.lexer.specs.Pieces.{front, run_piece}
 use Rattle.lexer.specs.Tokens.{Mark, Lexed, lexed, led_by_mark}
 use Rattle.lexer.proofs.Steps.{at_token}
-use Rattle.schema_reader.specs.declared.words.Format.TheVariants as format
-use Rattle.schema_reader.specs.declared.stage.Sign.TheVariants as sign
-use Rattle.schema_reader.specs.Meanings.{IsDependency}
-use Rattle.schema_reader.specs.Printing.{members_from, set_text, dependency_text}
-use Rattle.reader_laws.specs.Printed.{AreNames}
-use Rattle.reader_laws.proofs.PrintedLexing.{Apart, name_lexed, blank_lexed, led_by_marks, side_marks, side_end, side_lexed, arrow_lexed, double_arrow_lexed}
-use Rattle.reader_laws.proofs.PrintedSides.{printed_side, printed_names}
+use Rattle.schema_grammar.specs.declared.format.Format.TheVariants as format
+use Rattle.schema_grammar.specs.declared.symbol.Sign.TheVariants as sign
+use Rattle.schema_grammar.specs.Meanings.{IsDependency}
+use Rattle.schema_grammar.specs.Printing.{members_from, set_text, dependency_text}
+use Rattle.schema_grammar.specs.Printed.{AreNames}
+use Rattle.schema_grammar.proofs.PrintedLexing.{Apart, name_lexed, blank_lexed, led_by_marks, side_marks, side_end, side_lexed, arrow_lexed, double_arrow_lexed}
+use Rattle.schema_grammar.proofs.PrintedSides.{printed_side, printed_names}
 
 -- ---- a decimal
 -- reads digits from the left, behind a number

@@ -9,8 +9,8 @@ use Rattle.derivation.specs.declared.measures.TheConstants.{MOST_NODES, MOST_LEV
 use Rattle.derivation.specs.Conclusions.{Proves}
 use Rattle.derivation.specs.Derivs.{tree_of}
 use Rattle.derivation.specs.Trees.{nodes, depth}
-use Rattle.schema_reader.specs.declared.words.Format.TheVariants as format
-use Rattle.reader_laws.specs.Printed.{AreNames}
+use Rattle.schema_grammar.specs.declared.format.Format.TheVariants as format
+use Rattle.schema_grammar.specs.Printed.{AreNames}
 use Rattle.proof_text.specs.Printing.{canonical_certificate}
 use Rattle.proof_text.specs.Texts.{read_proof}
 use Rattle.proof_laws.proofs.CertificateLaws.{spelled_back}

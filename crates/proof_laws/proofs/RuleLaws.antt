@@ -5,7 +5,7 @@ use Rattle.std.proofs.lemmas.List.{append-nil}
 use Rattle.attr_sets.specs.Places.{Places}
 use Rattle.derivation.specs.Trees.{Step, augmentation, complementation, maugmentation, replication, Pair, transitivity, mtransitivity, coalescence}
 use Rattle.lexer.specs.Tokens.{Mark}
-use Rattle.schema_reader.specs.declared.refusal.SchemaRefusal.{SchemaRefusal}
+use Rattle.schema_grammar.specs.declared.refusal.SchemaRefusal.{SchemaRefusal}
 use Rattle.proof_text.specs.declared.words.RuleName.{RuleName}
 use Rattle.proof_text.specs.declared.words.RuleName.TheVariants as rule
 use Rattle.proof_text.specs.Lines.{Body, by_given, by_reflexivity, by_mreflexivity, by_step, by_pair, one, two, augmented, maugmented, body}

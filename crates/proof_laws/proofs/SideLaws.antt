@@ -8,15 +8,15 @@ use Rattle.lexer.specs.declared.token.Stop.{Stop}
 use Rattle.lexer.specs.declared.token.TokenKind.{TokenKind}
 use Rattle.lexer.specs.declared.token.TokenKind.TheVariants as token
 use Rattle.lexer.specs.Tokens.{Mark}
-use Rattle.schema_reader.specs.declared.refusal.SchemaRefusal.{SchemaRefusal}
-use Rattle.schema_reader.specs.declared.refusal.SchemaRefusalKind.TheVariants as kind
-use Rattle.schema_reader.specs.declared.refusal.What.{What}
-use Rattle.schema_reader.specs.declared.refusal.What.TheVariants as what
-use Rattle.schema_reader.specs.declared.words.Format.TheVariants as format
-use Rattle.schema_reader.specs.Meanings.{named, IsAttribute, IsSide}
-use Rattle.schema_reader.specs.Refusals.{at}
-use Rattle.schema_reader.specs.Words.{is_reserved, looked_up, known}
-use Rattle.schema_reader.proofs.SideLemmas.{union-only, union-none, named-cons, Names}
+use Rattle.schema_grammar.specs.declared.refusal.SchemaRefusal.{SchemaRefusal}
+use Rattle.schema_grammar.specs.declared.refusal.SchemaRefusalKind.TheVariants as kind
+use Rattle.schema_grammar.specs.declared.refusal.What.{What}
+use Rattle.schema_grammar.specs.declared.refusal.What.TheVariants as what
+use Rattle.schema_grammar.specs.declared.format.Format.TheVariants as format
+use Rattle.schema_grammar.specs.Meanings.{named, IsAttribute, IsSide}
+use Rattle.schema_grammar.specs.Refusals.{at}
+use Rattle.schema_grammar.specs.Words.{is_reserved, looked_up, known}
+use Rattle.schema_grammar.proofs.SideLemmas.{union-only, union-none, named-cons, Names}
 use Rattle.proof_text.specs.Marks.{place}
 use Rattle.proof_text.specs.Readers.{Rest, ◌>>=◌, take, taken, words_from, side, side_from}
 use Rattle.proof_text.specs.Tokens.{is_word}

@@ -7,9 +7,9 @@ use Rattle.derivation.proofs.RuleTableLemmas.{some_of_ok}
 use Rattle.lexer.specs.declared.token.TokenKind.{TokenKind}
 use Rattle.lexer.specs.declared.token.TokenKind.TheVariants as token
 use Rattle.lexer.specs.Tokens.{Mark}
-use Rattle.schema_reader.specs.declared.refusal.What.{What}
-use Rattle.schema_reader.specs.declared.refusal.What.TheVariants as what
-use Rattle.schema_reader.specs.Texts.{number_in}
+use Rattle.schema_grammar.specs.declared.refusal.What.{What}
+use Rattle.schema_grammar.specs.declared.refusal.What.TheVariants as what
+use Rattle.schema_grammar.specs.Texts.{number_in}
 use Rattle.proof_text.specs.declared.words.Arrow.{Arrow}
 use Rattle.proof_text.specs.declared.words.RuleName.{RuleName}
 use Rattle.proof_text.specs.declared.words.RuleName.TheVariants as rule

@@ -11,8 +11,8 @@ ghost use Rattle.derivation.specs.Trees.{nodes, depth};
 ghost use Rattle.proof_text.specs.Printing.{canonical_certificate};
 ghost use Rattle.proof_text.specs.Spelling.{Spells};
 ghost use Rattle.proof_text.specs.Texts.{read_proof};
-ghost use Rattle.reader_laws.specs.Printed.{AreNames};
-ghost use Rattle.schema_reader.specs.declared.words.Format.TheVariants as format;
+ghost use Rattle.schema_grammar.specs.Printed.{AreNames};
+ghost use Rattle.schema_grammar.specs.declared.format.Format.TheVariants as format;
 
 /// What is printed of a derivation spells its tree, also where the answer `yes` stands before it.
 pub fn spells()

@@ -4,8 +4,8 @@ ghost use Rattle.proof_laws.specs.Printable.{IsPrintableLine};
 ghost use Rattle.proof_text.specs.Lines.{Line};
 ghost use Rattle.proof_text.specs.Meanings.{MeansLine};
 ghost use Rattle.proof_text.specs.Printing.{line_text};
-ghost use Rattle.reader_laws.specs.Printed.{AreNames};
-ghost use Rattle.schema_reader.specs.declared.words.Format.TheVariants as format;
+ghost use Rattle.schema_grammar.specs.Printed.{AreNames};
+ghost use Rattle.schema_grammar.specs.declared.format.Format.TheVariants as format;
 
 /// What is printed of a line, but for its line feed, means the line. Its sets are of declared
 /// attributes, and its numbers have at most 9 digits.

@@ -3,7 +3,7 @@ use Rattle.attr_sets.specs.Places.{Places}
 use Rattle.dep_model.specs.Dependencies.{Dependency}
 use Rattle.dep_model.specs.Deps.{dependency_of, IsDepWithin}
 use Rattle.derivation.specs.declared.fault.Fault.{Fault}
-use Rattle.schema_reader.specs.declared.refusal.SchemaRefusal.{SchemaRefusal}
+use Rattle.schema_grammar.specs.declared.refusal.SchemaRefusal.{SchemaRefusal}
 use Rattle.proof_text.specs.declared.refusal.ProofRefusalKind.{ProofRefusalKind}
 use Rattle.proof_text.specs.declared.refusal.ProofRefusalKind.TheVariants as kind
 use Rattle.proof_text.specs.declared.refusal.ProofRefusal.{ProofRefusal}

@@ -4,7 +4,7 @@ use Rattle.dep_model.specs.Dependencies.{Dependency, fd, mvd}
 use Rattle.dep_model.specs.Deps.{dependency_of}
 use Rattle.derivation.specs.Trees.{Step, augmentation, maugmentation, complementation, replication, Pair, transitivity, mtransitivity, coalescence}
 use Rattle.derivation.specs.Derivs.{step_of, pair_of}
-use Rattle.schema_reader.specs.declared.refusal.SchemaRefusal.{SchemaRefusal}
+use Rattle.schema_grammar.specs.declared.refusal.SchemaRefusal.{SchemaRefusal}
 use Rattle.proof_text.specs.declared.words.Arrow.{Arrow}
 use Rattle.proof_text.specs.declared.words.Arrow.TheVariants.{Functional, Multivalued}
 use Rattle.proof_text.specs.declared.words.RuleName.{RuleName}

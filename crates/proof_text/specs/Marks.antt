@@ -1,10 +1,10 @@
 use Rattle.std.specs.Prelude.{ℕ, List, length, Result}
 use Rattle.lexer.specs.declared.token.Token.{Token}
 use Rattle.lexer.specs.Tokens.{Mark}
-use Rattle.schema_reader.specs.declared.refusal.SchemaRefusal.{SchemaRefusal}
-use Rattle.schema_reader.specs.declared.words.Format.TheVariants as format
-use Rattle.schema_reader.specs.Refusals.{at}
-use Rattle.schema_reader.specs.Words.{looked_up}
+use Rattle.schema_grammar.specs.declared.refusal.SchemaRefusal.{SchemaRefusal}
+use Rattle.schema_grammar.specs.declared.format.Format.TheVariants as format
+use Rattle.schema_grammar.specs.Refusals.{at}
+use Rattle.schema_grammar.specs.Words.{looked_up}
 
 -- a token with its bytes
 abbrev pub marked : Token → List ℕ → Mark

@@ -5,12 +5,12 @@ use Rattle.lexer.specs.declared.token.Stop.{Stop}
 use Rattle.lexer.specs.declared.token.TokenKind.{TokenKind}
 use Rattle.lexer.specs.declared.token.TokenKind.TheVariants as token
 use Rattle.lexer.specs.Tokens.{Mark, Lexed, lexed}
-use Rattle.schema_reader.specs.declared.refusal.SchemaRefusal.{SchemaRefusal}
-use Rattle.schema_reader.specs.declared.refusal.SchemaRefusalKind.TheVariants as kind
-use Rattle.schema_reader.specs.declared.refusal.What.{What}
-use Rattle.schema_reader.specs.declared.refusal.What.TheVariants as what
-use Rattle.schema_reader.specs.Refusals.{refusal, refused_by}
-use Rattle.schema_reader.specs.Texts.{number_in}
+use Rattle.schema_grammar.specs.declared.refusal.SchemaRefusal.{SchemaRefusal}
+use Rattle.schema_grammar.specs.declared.refusal.SchemaRefusalKind.TheVariants as kind
+use Rattle.schema_grammar.specs.declared.refusal.What.{What}
+use Rattle.schema_grammar.specs.declared.refusal.What.TheVariants as what
+use Rattle.schema_grammar.specs.Refusals.{refusal, refused_by}
+use Rattle.schema_grammar.specs.Texts.{number_in}
 use Rattle.proof_text.specs.declared.words.Arrow.{Arrow}
 use Rattle.proof_text.specs.declared.words.RuleName.{RuleName}
 use Rattle.proof_text.specs.declared.cursor.Cursor.{Cursor}

@@ -2,7 +2,7 @@ ghost use Rattle.std.specs.Prelude.{◌≡◌, ◌+◌, ◌<◌, ◌≤◌, ◌^
 ghost use Rattle.attr_sets.specs.Places.{only, none, union, Within};
 ghost use Rattle.attr_sets.specs.Sets.{places};
 ghost use Rattle.dep_model.specs.Schemas.{names_of, width_of, universe_of};
-ghost use Rattle.schema_reader.specs.Refusals.{refusal};
+ghost use Rattle.schema_grammar.specs.Refusals.{refusal};
 ghost use Rattle.proof_text.specs.Marks.{place, marked};
 
 use crate::guide::Guide;

@@ -8,7 +8,7 @@ ghost use Rattle.derivation.specs.Trees.{nodes, depth};
 ghost use Rattle.derivation.specs.Derivs.{tree_of, leaf_of, step_of, pair_of};
 ghost use Rattle.derivation.specs.Table.{leaf_conclusion, step_conclusion, pair_conclusion};
 ghost use Rattle.derivation.specs.Conclusions.{Proves};
-ghost use Rattle.schema_reader.specs.Printing.{set_text, dependency_text};
+ghost use Rattle.schema_grammar.specs.Printing.{set_text, dependency_text};
 ghost use Rattle.proof_text.specs.Lines.{body_of, line_of};
 ghost use Rattle.proof_text.specs.Printing.{step_word, sides_text, pair_word, body_text, line_text, leaf_body, numbered_line, lines_behind, lines_text, canonical_certificate, IsProof, IsStepWithin, IsBodyWithin};
 

@@ -1,8 +1,8 @@
 ghost use Rattle.std.specs.Prelude.{◌≡◌, ◌<◌, IfOk};
 ghost use Rattle.dep_model.specs.Schemas.{names_of, width_of, place_named};
-ghost use Rattle.schema_reader.specs.Texts.{number_in};
-ghost use Rattle.schema_reader.specs.Words.{is_common_word, looked_up};
-ghost use Rattle.schema_reader.specs.declared.words.Format.TheVariants.{Plain};
+ghost use Rattle.schema_grammar.specs.Texts.{number_in};
+ghost use Rattle.schema_grammar.specs.Words.{is_common_word, looked_up};
+ghost use Rattle.schema_grammar.specs.declared.format.Format.TheVariants.{Plain};
 ghost use Rattle.proof_text.specs.Tokens.{is_word, is_colon, arrow_in, is_with, rule_named, named};
 
 use dep_model::Schema;
@@ -120,7 +120,7 @@ fn named(word: &[u8]) -> Option<RuleName>
 }
 
 /// The attribute that a word of a side stands for; the place `guess` is tried first.
-#[tactic(auto, unfolding(schema_reader::specs::Words::looked_up, schema_reader::specs::Words::is_reserved))]
+#[tactic(auto, unfolding(schema_grammar::specs::Words::looked_up, schema_grammar::specs::Words::is_reserved))]
 pub fn look_up(schema: &Schema, word: &[u8], guess: u8) -> Result<u8, SchemaRefusalKind>
     ensures exact { result ≡ looked_up Plain (names_of schema.now) word.now }
     ensures declared { IfOk result (λ place. place < width_of schema.now) }

@@ -6,7 +6,7 @@ use Rattle.derivation.specs.Trees.{Tree}
 use Rattle.lexer.specs.declared.token.Mode.TheVariants as mode
 use Rattle.lexer.specs.Lines.{line_texts, without_mark}
 use Rattle.lexer.specs.Tokens.{lex}
-use Rattle.schema_reader.specs.declared.refusal.SchemaRefusal.{SchemaRefusal}
+use Rattle.schema_grammar.specs.declared.refusal.SchemaRefusal.{SchemaRefusal}
 use Rattle.proof_text.specs.Complaints.{Complaint, LineComplaint, bad_line, never_used, empty_proof}
 use Rattle.proof_text.specs.Lines.{Line, line}
 use Rattle.proof_text.specs.Meanings.{certificate_lines_of, certificate_lines, MeansLine, MeanLines}

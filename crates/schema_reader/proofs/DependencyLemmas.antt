@@ -2,13 +2,13 @@ use Rattle.std.proofs.Common.{◌≡◌, ◌+◌, ℕ, List, length, Ok, Err, re
 use Rattle.dep_model.specs.Dependencies.{Dependency}
 use Rattle.lexer.specs.declared.token.Token.{Token}
 use Rattle.lexer.specs.Tokens.{Lexed}
-use Rattle.schema_reader.specs.declared.refusal.SchemaRefusal.{SchemaRefusal}
-use Rattle.schema_reader.specs.declared.refusal.SchemaRefusalKind.{SchemaRefusalKind}
-use Rattle.schema_reader.specs.declared.words.Format.{Format}
-use Rattle.schema_reader.specs.Grammar.{Reading}
-use Rattle.schema_reader.specs.Declarations.{Declarations, dependency_line, dependency_lexed, begin, add_dependency, marked}
-use Rattle.schema_reader.specs.Reading.{follow_lexed}
-use Rattle.schema_reader.specs.Refusals.{refusal}
+use Rattle.schema_grammar.specs.declared.refusal.SchemaRefusal.{SchemaRefusal}
+use Rattle.schema_grammar.specs.declared.refusal.SchemaRefusalKind.{SchemaRefusalKind}
+use Rattle.schema_grammar.specs.declared.format.Format.{Format}
+use Rattle.schema_grammar.specs.Grammar.{Reading}
+use Rattle.schema_grammar.specs.Declarations.{Declarations, dependency_line, dependency_lexed, begin, add_dependency, marked}
+use Rattle.schema_grammar.specs.Reading.{follow_lexed}
+use Rattle.schema_grammar.specs.Refusals.{refusal}
 
 pub begin_refused : (f : Format) (line : ℕ) (d : Declarations) (t : Token) (word : List ℕ) (l : Lexed) (why : SchemaRefusalKind)
     → t.length ≡ length word → begin f d t.kind word ≡ Err why

@@ -3,11 +3,11 @@ use Rattle.lexer.specs.declared.token.Mode.{Mode}
 use Rattle.lexer.specs.declared.token.Stop.{Stop}
 use Rattle.lexer.specs.declared.token.Token.{Token}
 use Rattle.lexer.specs.Tokens.{Lexed, lexed, Leads}
-use Rattle.schema_reader.specs.declared.refusal.SchemaRefusalKind.{SchemaRefusalKind}
-use Rattle.schema_reader.specs.declared.words.Format.{Format}
-use Rattle.schema_reader.specs.Grammar.{Reading, finished}
-use Rattle.schema_reader.specs.Refusals.{refused_by, refusal, at, expecting}
-use Rattle.schema_reader.specs.Reading.{follow, follow_lexed, step}
+use Rattle.schema_grammar.specs.declared.refusal.SchemaRefusalKind.{SchemaRefusalKind}
+use Rattle.schema_grammar.specs.declared.format.Format.{Format}
+use Rattle.schema_grammar.specs.Grammar.{Reading, finished}
+use Rattle.schema_grammar.specs.Refusals.{refused_by, refusal, at, expecting}
+use Rattle.schema_grammar.specs.Reading.{follow, follow_lexed, step}
 
 -- to follow what is left of a line is to follow the whole
 pub record GoesOn (f : Format) (declared : List (List ℕ)) (line : ℕ) (m : Mode) (first : Reading) (start : ℕ) (text : List ℕ) (reading : Reading) (column : ℕ) (rest : List ℕ) : Type 0 where

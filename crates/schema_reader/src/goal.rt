@@ -3,17 +3,17 @@ ghost use Rattle.attr_sets.specs.Places.{below};
 ghost use Rattle.dep_model.specs.Deps.{dependency_of, IsDepWithin};
 ghost use Rattle.dep_model.specs.Schemas.{names_of, universe_of};
 ghost use Rattle.lexer.specs.Tokens.{lexed};
-ghost use Rattle.schema_reader.specs.Grammar.{reading_of, finished, IsPlaced};
-ghost use Rattle.schema_reader.specs.Reading.{symbol_of, step, follow_lexed, read_goal};
-ghost use Rattle.schema_reader.specs.Refusals.{at, expecting};
-ghost use Rattle.schema_reader.specs.Words.{names_in};
+ghost use Rattle.schema_grammar.specs.Grammar.{finished, IsPlaced};
+ghost use Rattle.schema_reader.specs.Views.{reading_of, names_in};
+ghost use Rattle.schema_grammar.specs.Reading.{symbol_of, step, follow_lexed, read_goal};
+ghost use Rattle.schema_grammar.specs.Refusals.{at, expecting};
 
-use crate::refusal::{SchemaRefusal, SchemaRefusalKind};
-use crate::stage::{Sign, Stage, Symbol, finish, turn};
-use crate::words::{Format, Names, look_up};
+use crate::stage::{Stage, finish, turn};
+use crate::words::{Names, look_up};
 use attr_sets::PLACES;
 use dep_model::{Dep, Schema};
 use lexer::{Mode, Next, TokenKind, next_token};
+use schema_grammar::{Format, SchemaRefusal, SchemaRefusalKind, Sign, Symbol};
 
 /// The most bytes of a goal.
 pub const MOST_GOAL_BYTES: usize = 16_384;
@@ -92,7 +92,7 @@ fn end_line(line: u32, stage: Stage, column: u32) -> Result<Dep, SchemaRefusal>
 }
 
 /// One token more.
-#[tactic(auto, unfolding(crate::specs::Reading::step))]
+#[tactic(auto, unfolding(schema_grammar::specs::Reading::step))]
 pub fn step(
     names: &Names<'_>,
     format: Format,

@@ -4,7 +4,7 @@ ghost use Rattle.attr_sets.specs.Places.{Within};
 ghost use Rattle.attr_sets.specs.Sets.{places};
 ghost use Rattle.dep_model.specs.Deps.{dependency_of, dependencies_of, IsDepWithin};
 ghost use Rattle.dep_model.specs.Schemas.{names_of, columns_of, theory_of, universe_of};
-ghost use Rattle.schema_reader.specs.Printing.{set_text, dependency_text, declared_text, declaring_lines, lines_text, words_text, run_line, runs_of, type_word, same_column, is_integer};
+ghost use Rattle.schema_grammar.specs.Printing.{set_text, dependency_text, declared_text, declaring_lines, lines_text, words_text, run_line, runs_of, type_word, same_column, is_integer};
 
 use attr_sets::AttrSet;
 use dep_model::{Column, Dep, Schema, WantMemory};
@@ -19,7 +19,7 @@ pub fn print_schema(alloc: Global, schema: &Schema) -> Result<Vec<u8>, WantMemor
 }
 
 /// The lines that declare the schema's attributes, and a line for each of these dependencies.
-#[tactic(auto, unfolding(crate::specs::Printing::declared_text))]
+#[tactic(auto, unfolding(schema_grammar::specs::Printing::declared_text))]
 pub fn print_deps(alloc: Global, schema: &Schema, deps: &[Dep]) -> Result<Vec<u8>, WantMemory>
     requires { All (IsDepWithin (universe_of schema.now)) deps.now }
     ensures text { IfOk result (λ text. text.items ≡ declared_text (columns_of schema.now) (names_of schema.now) (dependencies_of deps.now)) }
@@ -60,7 +60,7 @@ fn add(text: &mut Vec<u8>, bytes: &[u8]) -> Result<(), WantMemory>
     Ok(())
 }
 
-#[tactic(auto, unfolding(crate::specs::Printing::dependency_text))]
+#[tactic(auto, unfolding(schema_grammar::specs::Printing::dependency_text))]
 fn add_dependency(text: &mut Vec<u8>, schema: &Schema, dep: Dep) -> Result<(), WantMemory>
     ensures added { OnOk result (text.new.items ≡ text.old.items ++ dependency_text (names_of schema.now) (dependency_of dep)) }
 {
@@ -107,7 +107,7 @@ fn add_member(text: &mut Vec<u8>, some: bool, name: &[u8]) -> Result<(), WantMem
     add(text, name)
 }
 
-#[tactic(auto, unfolding(crate::specs::Printing::declaring_lines))]
+#[tactic(auto, unfolding(schema_grammar::specs::Printing::declaring_lines))]
 fn add_declarations(text: &mut Vec<u8>, schema: &Schema) -> Result<(), WantMemory>
     ensures added { OnOk result (text.new.items ≡ text.old.items ++ lines_text (declaring_lines (columns_of schema.now) (names_of schema.now))) }
 {

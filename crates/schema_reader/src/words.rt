@@ -1,22 +1,15 @@
 ghost use Rattle.std.specs.Prelude.{◌≡◌, ◌<◌, ◌≤◌, length, IfOk};
 ghost use Rattle.dep_model.specs.Schemas.{place_named};
-ghost use Rattle.schema_reader.specs.Words.{is_reserved, names_in, looked_up, declares, declaring};
+ghost use Rattle.schema_grammar.specs.Words.{is_reserved, looked_up, declares, declaring};
+ghost use Rattle.schema_reader.specs.Views.{names_in};
 
-use crate::refusal::SchemaRefusalKind;
 use attr_sets::PLACES;
 use dep_model::{Column, Name, Schema};
 use lexer::TokenKind;
-
-/// How a schema text is read: as one without a version line, or as one with it. Goals are read as
-/// lines of a text without one.
-#[derive(Clone, Copy, Debug, PartialEq, Eq)]
-pub enum Format {
-    Plain,
-    Typed,
-}
+use schema_grammar::{Format, SchemaRefusalKind};
 
 /// Whether a word is reserved, ASCII case aside.
-#[tactic(auto, unfolding(crate::specs::Words::is_reserved))]
+#[tactic(auto, unfolding(schema_grammar::specs::Words::is_reserved))]
 pub fn is_reserved(format: Format, word: &[u8]) -> bool
     ensures reserved { result ≡ is_reserved format word.now }
 {
@@ -64,7 +57,7 @@ pub fn place_among(names: &[Name], word: &[u8]) -> Option<usize>
 }
 
 /// The attribute that a word of a side stands for.
-#[tactic(auto, unfolding(crate::specs::Words::looked_up))]
+#[tactic(auto, unfolding(schema_grammar::specs::Words::looked_up))]
 pub fn look_up(names: &Names<'_>, format: Format, word: &[u8]) -> Result<u8, SchemaRefusalKind>
     requires { length (names_in names.now) ≤ PLACES }
     ensures exact { result ≡ looked_up format (names_in names.now) word.now }
@@ -80,7 +73,7 @@ pub fn look_up(names: &Names<'_>, format: Format, word: &[u8]) -> Result<u8, Sch
 }
 
 /// The type of the columns that a line declares, where its first token is a declaring word.
-#[tactic(auto, unfolding(crate::specs::Words::declares))]
+#[tactic(auto, unfolding(schema_grammar::specs::Words::declares))]
 pub fn declares(format: Format, kind: TokenKind, word: &[u8]) -> Option<Column>
     ensures exact { result ≡ declares format kind word.now }
 {
@@ -90,7 +83,7 @@ pub fn declares(format: Format, kind: TokenKind, word: &[u8]) -> Option<Column>
     }
 }
 
-#[tactic(auto, unfolding(crate::specs::Words::declaring))]
+#[tactic(auto, unfolding(schema_grammar::specs::Words::declaring))]
 fn declaring(format: Format, word: &[u8]) -> Option<Column>
     ensures exact { result ≡ declaring format word.now }
 {

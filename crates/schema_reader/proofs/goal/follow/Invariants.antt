@@ -1,6 +1,5 @@
 use Rattle.std.proofs.Common.{length}
-use Rattle.schema_reader.specs.Grammar.{reading_of}
-use Rattle.schema_reader.specs.Words.{names_in}
+use Rattle.schema_reader.specs.Views.{reading_of, names_in}
 use Rattle.schema_reader.proofs.FollowLemmas.{GoesOn}
 use Rattle.schema_reader.proofs.goal.follow.Given as goal
 

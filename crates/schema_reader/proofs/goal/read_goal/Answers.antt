@@ -1,7 +1,7 @@
 use Rattle.dep_model.specs.Dependencies.{IsWithin}
 use Rattle.dep_model.specs.Deps.{dependency_of}
 use Rattle.dep_model.specs.Schemas.{universe_of, names_of}
-use Rattle.schema_reader.proofs.WithinLemmas.{within_read, follow_within}
+use Rattle.schema_grammar.proofs.WithinLemmas.{within_read, follow_within}
 use Rattle.schema_reader.proofs.goal.read_goal.Goals as goal
 
 pub returns-clause-within : goal.returns-clause-within

@@ -1,12 +1,12 @@
 use Rattle.std.specs.List.{All}
-use Rattle.schema_reader.specs.Words.{is_reserved}
-use Rattle.schema_reader.specs.declared.words.Format.TheVariants as format
+use Rattle.schema_grammar.specs.Words.{is_reserved}
+use Rattle.schema_grammar.specs.declared.format.Format.TheVariants as format
 use Rattle.std.proofs.Common.{◌≡◌, ◌∙◌, ℕ, List, subst, false, sym, ap, refl, Ok}
 use Rattle.lexer.specs.Lines.{line_texts}
-use Rattle.schema_reader.specs.Declarations.{drafted}
-use Rattle.schema_reader.specs.Texts.{read_text, read_opening}
-use Rattle.schema_reader.proofs.RefusalLemmas.{ok_at, Refuses-whole}
-use Rattle.schema_reader.proofs.SoundLemmas.{IsWhole, opening_whole, forms_schema, forms_columns, whole_free}
+use Rattle.schema_reader.specs.Views.{drafted}
+use Rattle.schema_grammar.specs.Texts.{read_text, read_opening}
+use Rattle.schema_grammar.proofs.RefusalLemmas.{ok_at, Refuses-whole}
+use Rattle.schema_grammar.proofs.SoundLemmas.{IsWhole, opening_whole, forms_schema, forms_columns, whole_free}
 use Rattle.schema_reader.proofs.TextLemmas.{declared_as}
 use Rattle.schema_reader.proofs.text.read_schema.Goals as goal
 
