@@ -10,14 +10,15 @@ use Rattle.lexer.specs.declared.token.TokenKind.{TokenKind}
 use Rattle.lexer.specs.Tokens.{Mark, lex}
 use Rattle.schema_grammar.specs.declared.refusal.SchemaRefusal.{SchemaRefusal}
 use Rattle.schema_grammar.specs.declared.refusal.SchemaRefusalKind.{SchemaRefusalKind}
+use Rattle.schema_grammar.specs.declared.refusal.SchemaRefusalKind.TheVariants as kind
 use Rattle.schema_grammar.specs.declared.refusal.What.{What}
 use Rattle.schema_grammar.specs.declared.format.Format.{Format}
 use Rattle.schema_grammar.specs.declared.format.Format.TheVariants as format
-use Rattle.schema_grammar.specs.Complaints.{IsLine, BeginsLine, ComplainsOfWord, LineComplaint, kinds, number_of, flaw_number, span_at, IsFirst, FitsLine, FitsGoal}
+use Rattle.schema_grammar.specs.Complaints.{IsLine, BeginsLine, Wants, LineWants, Carries, ComplainsOfWord, LineComplaint, kinds, number_of, flaw_number, span_at, IsFirst, FitsLine, FitsGoal}
 use Rattle.schema_grammar.specs.Grammar.{Reading, start, finished}
 use Rattle.schema_grammar.specs.Reading.{step, follow, read_goal}
 use Rattle.schema_grammar.specs.Refusals.{at, and_then, expecting, refused_by, refusal, kind_of_flaw}
-use Rattle.schema_grammar.proofs.ShapeLemmas.{Shape, at_start, shape_of, turn_shape, is_final, bind, runs, StepTells, step_tells, EndTells, end_tells, final_line, line_ends, runs-append, begins_from, begins_to}
+use Rattle.schema_grammar.proofs.ShapeLemmas.{Shape, at_start, shape_of, turn_shape, is_final, bind, runs, StepTells, step_tells, EndTells, end_tells, final_line, line_ends, runs-one, wanted_by, wants_from, carries_nothing, begins_from, begins_to}
 
 -- the grammar can't go on, behind tokens of these kinds
 record IsStuckFrom (pre ks : List TokenKind) (stop : Option Stop) (place : ℕ) : Type 0 where
@@ -31,9 +32,13 @@ ComplaintFrom pre f declared ms stop place number =
     ⊎ ((number ≡ 6) × IsStuckFrom pre (kinds ms) stop place))
     ⊎ ((s : Stop) × (stop ≡ Some s) × (place ≡ length ms) × (number ≡ flaw_number s.flaw))
 
+-- what is wanted at a place from here on
+abbrev WantsFrom : List TokenKind → List Mark → ℕ → What → Type 0
+WantsFrom pre ms place = Wants (pre ++ take place (kinds ms))
+
 abbrev Judged : List TokenKind → Format → List (List ℕ) → ℕ → ℕ → List Mark → Option Stop → Result Dependency SchemaRefusal → Type 0
 Judged pre f declared line behind ms stop (Ok d) = (p n : ℕ) → ComplaintFrom pre f declared ms stop p n → ⊥
-Judged pre f declared line behind ms stop (Err e) = IsFirst (ComplaintFrom pre f declared ms stop) (span_at line behind ms stop) e
+Judged pre f declared line behind ms stop (Err e) = IsFirst (ComplaintFrom pre f declared ms stop) (WantsFrom pre ms) (span_at line behind ms stop) e
 
 -- one token later
 later_kinds : (pre : List TokenKind) (k : TokenKind) (ks : List TokenKind) → (pre ++ k ∷ []) ++ ks ≡ pre ++ k ∷ ks
@@ -79,6 +84,7 @@ judge_later pre f declared line behind m ms stop (Ok d) fine rest = λ p n compl
 judge_later pre f declared line behind m ms stop (Err e) fine rest = record {
   place = suc rest.place;
   stands = complaint_earlier pre f declared m ms stop rest.place (number_of e.kind) rest.stands;
+  carries = subst (λ (ks : List TokenKind). Carries (Wants ks) e.kind) (later_kinds pre m.kind (take rest.place (kinds ms))) rest.carries;
   there = rest.there;
   least = least;
 }
@@ -95,6 +101,23 @@ pub flaw_numbered : (why : Flaw) → number_of (kind_of_flaw why) ≡ flaw_numbe
 flaw_numbered flaw.StrangeByte = refl
 flaw_numbered flaw.BadName = refl
 
+pub Carries-map : (P Q : What → Type 0) → ((w : What) → P w → Q w) → (why : SchemaRefusalKind) → Carries P why → Carries Q why
+Carries-map P Q f kind.StrangeByte h = tt
+Carries-map P Q f kind.BadName h = tt
+Carries-map P Q f kind.ReservedName h = tt
+Carries-map P Q f kind.DoubleName h = tt
+Carries-map P Q f kind.UnknownName h = tt
+Carries-map P Q f (kind.Expected w) h = f w h
+Carries-map P Q f kind.TooManyAttributes h = tt
+Carries-map P Q f kind.TooManyDependencies h = tt
+Carries-map P Q f kind.NoAttributes h = tt
+Carries-map P Q f kind.UnknownVersion h = tt
+Carries-map P Q f kind.Memory h = tt
+
+pub flaw_carries : (Wanted : What → Type 0) (why : Flaw) → Carries Wanted (kind_of_flaw why)
+flaw_carries Wanted flaw.StrangeByte = tt
+flaw_carries Wanted flaw.BadName = tt
+
 pub no_mark : (m : Mark) (p : ℕ) → slice_get [] p ≡ Some m → ⊥
 no_mark m p e = cc
 
@@ -106,6 +129,7 @@ judge_stop : (pre : List TokenKind) (f : Format) (declared : List (List ℕ)) (l
 judge_stop pre f declared line behind s = record {
   place = 0;
   stands = inr (s, refl, refl, flaw_numbered s.flaw);
+  carries = flaw_carries (WantsFrom pre [] 0) s.flaw;
   there = refl;
   least = least;
 }
@@ -139,9 +163,10 @@ judge_end pre f declared line behind r (Ok d) final reached = λ p n complaint. 
         told (inl (less, cannot)) = absurd (omega arith)
         told (inr (same, stop, cannot)) = cannot ends
     none p n (inr (t, is, same, number)) = cc
-judge_end pre f declared line behind r (Err what) open_end reached = record {
+judge_end pre f declared line behind r (Err w) (open_end, wants) reached = record {
   place = 0;
   stands = inl (inr (refl, record { before = subst BeginsLine (sym (append-nil pre)) (begins_from pre (shape_of r) reached); here = inr (refl, refl, cannot) }));
+  carries = subst (λ (ks : List TokenKind). Wants ks w) (sym (append-nil pre)) (subst (Wants pre) (sym wants) (wants_from pre (shape_of r) reached));
   there = refl;
   least = least;
 }
@@ -164,14 +189,6 @@ judge_end pre f declared line behind r (Err what) open_end reached = record {
         told (inr (same, stop, no_more)) = inr (sym same, omega arith)
     least p n (inr (t, is, same, number)) = cc
 
--- one token more
-runs-one : (pre : List TokenKind) (s : Shape) (k : TokenKind) → runs at_start pre ≡ Some s → runs at_start (pre ++ k ∷ []) ≡ turn_shape s k
-runs-one pre s k reached = runs-append at_start pre (k ∷ []) ∙ ap (λ o. bind o (λ t. runs t (k ∷ []))) reached ∙ last (turn_shape s k)
-  where
-    last : (o : Option Shape) → bind o (λ t. Some t) ≡ o
-    last None = refl
-    last (Some t) = refl
-
 pub same_mark : (m : Mark) (ms : List Mark) (k : Mark) → slice_get (m ∷ ms) 0 ≡ Some k → m ≡ k
 same_mark m ms k e = cc
 
@@ -193,19 +210,25 @@ judge_token : (pre : List TokenKind) (f : Format) (declared : List (List ℕ)) (
 judge_token pre f declared line behind r m ms stop why reached (inl (stands, less, small)) = record {
   place = 0;
   stands = inl (inl (m, refl, stands));
+  carries = carries_nothing (WantsFrom pre (m ∷ ms) 0) why (word_number stands);
   there = refl;
   least = least;
 }
   where
+    word_number : ComplainsOfWord f declared m (number_of why) → number_of why ≡ 6 → ⊥
+    word_number (word, inl is) six = let three : number_of why ≡ 3 = is.0 in absurd (omega arith)
+    word_number (word, inr is) six = let five : number_of why ≡ 5 = is.0 in absurd (omega arith)
+
     least : (p n : ℕ) → ComplaintFrom pre f declared (m ∷ ms) stop p n → (0 < p) ⊎ ((0 ≡ p) × (number_of why ≤ n))
     least zero n (inl (inl (k, is, complaint))) =
         let of : Mark → Type 0 = λ x. ComplainsOfWord f declared x n in inr (refl, less n (subst of (sym (same_mark m ms k is)) complaint))
     least zero n (inl (inr (six, stuck))) = inr (refl, omega arith)
     least zero n (inr (t, is, same, number)) = absurd (omega arith)
     least (suc p) n complaint = inl (omega arith)
-judge_token pre f declared line behind r m ms stop why reached (inr (six, cannot, word)) = record {
+judge_token pre f declared line behind r m ms stop why reached (inr (six, cannot, word, wants)) = record {
   place = 0;
   stands = inl (inr (six, record { before = subst BeginsLine (sym (append-nil pre)) (begins_from pre (shape_of r) reached); here = inl ((omega arith), stuck) }));
+  carries = subst (Carries (Wants (pre ++ []))) (sym wants) (subst (λ (ks : List TokenKind). Wants ks (wanted_by (shape_of r))) (sym (append-nil pre)) (wants_from pre (shape_of r) reached));
   there = refl;
   least = least;
 }
@@ -257,6 +280,7 @@ line-law f declared line ms stop = fits (follow f declared line start 1 ms stop)
     fits (Err e) first = record {
       place = first.place;
       stands = to_line f declared ms stop first.place (number_of e.kind) first.stands;
+      carries = first.carries;
       there = first.there;
       least = λ p n complaint. first.least p n (from_line f declared ms stop p n complaint);
     }
@@ -266,7 +290,7 @@ goal-complaint-law declared text = line-law format.Plain declared 1 (lex mode.Go
 
 -- a token by which the reading ends is the first place, of a number up to 6
 pub record EndsAt (f : Format) (declared : List (List ℕ)) (line : ℕ) (m : Mark) (ms : List Mark) (stop : Option Stop) (why : SchemaRefusalKind) : Type 0 where
-  pub first : IsFirst (LineComplaint f declared (m ∷ ms) stop) (span_at line 1 (m ∷ ms) stop) (refusal line m.column (length m.word) why)
+  pub first : IsFirst (LineComplaint f declared (m ∷ ms) stop) (LineWants (m ∷ ms)) (span_at line 1 (m ∷ ms) stop) (refusal line m.column (length m.word) why)
   pub here : first.place ≡ 0
   pub small : number_of why ≤ 6
 
@@ -276,14 +300,14 @@ unfolding judge_token
 first_token f declared line m ms stop why (inl (stands, less, small)) =
     let first = judge_token [] f declared line 1 start m ms stop why refl (inl (stands, less, small)) in
     record {
-      first = record { place = first.place; stands = to_line f declared (m ∷ ms) stop first.place (number_of why) first.stands; there = first.there; least = λ p n complaint. first.least p n (from_line f declared (m ∷ ms) stop p n complaint) };
+      first = record { place = first.place; stands = to_line f declared (m ∷ ms) stop first.place (number_of why) first.stands; carries = first.carries; there = first.there; least = λ p n complaint. first.least p n (from_line f declared (m ∷ ms) stop p n complaint) };
       here = refl;
       small = small;
     }
-first_token f declared line m ms stop why (inr (six, cannot, word)) =
-    let first = judge_token [] f declared line 1 start m ms stop why refl (inr (six, cannot, word)) in
+first_token f declared line m ms stop why (inr (six, cannot, word, wants)) =
+    let first = judge_token [] f declared line 1 start m ms stop why refl (inr (six, cannot, word, wants)) in
     record {
-      first = record { place = first.place; stands = to_line f declared (m ∷ ms) stop first.place (number_of why) first.stands; there = first.there; least = λ p n complaint. first.least p n (from_line f declared (m ∷ ms) stop p n complaint) };
+      first = record { place = first.place; stands = to_line f declared (m ∷ ms) stop first.place (number_of why) first.stands; carries = first.carries; there = first.there; least = λ p n complaint. first.least p n (from_line f declared (m ∷ ms) stop p n complaint) };
       here = refl;
       small = omega arith;
     }

@@ -10,19 +10,19 @@ use Rattle.schema_grammar.specs.declared.refusal.SchemaRefusal.{SchemaRefusal}
 use Rattle.schema_grammar.specs.declared.refusal.SchemaRefusalKind.{SchemaRefusalKind}
 use Rattle.schema_grammar.specs.declared.refusal.SchemaRefusalKind.TheVariants as kind
 use Rattle.schema_grammar.specs.declared.format.Format.{Format}
-use Rattle.schema_grammar.specs.Complaints.{HeadComplaint, TextLineComplaint, FitsTextLine, FitsLine, FitsNames, number_of, flaw_number, span_at, IsFirst}
+use Rattle.schema_grammar.specs.Complaints.{HeadComplaint, TextLineComplaint, HeadWants, NamesWant, TextLineWants, FitsTextLine, FitsLine, FitsNames, number_of, flaw_number, span_at, IsFirst}
 use Rattle.schema_grammar.specs.Declarations.{Declarations, add_dependency, list_names, begin, dependency_line, line_from, line_of_marks}
 use Rattle.schema_grammar.specs.Grammar.{Reading, start}
 use Rattle.schema_grammar.specs.Reading.{step, follow}
 use Rattle.schema_grammar.specs.Refusals.{at, and_then, refused_by, kind_of_flaw}
 use Rattle.schema_grammar.specs.Words.{declares}
-use Rattle.schema_grammar.proofs.ComplaintLaws.{flaw_numbered, line-law, EndsAt, first_token, fine_first}
+use Rattle.schema_grammar.proofs.ComplaintLaws.{flaw_numbered, flaw_carries, Carries-map, line-law, EndsAt, first_token, fine_first}
 use Rattle.schema_grammar.proofs.NameLaws.{names-law}
 use Rattle.schema_grammar.proofs.ShapeLemmas.{StepTells, step_tells}
 
 abbrev FitsHead : Format → Declarations → ℕ → Mark → List Mark → Option Stop → Option Column → Result Declarations SchemaRefusal → Type 0
 FitsHead f d line m ms stop o (Ok whole) = (p n : ℕ) → HeadComplaint f d m ms stop o p n → ⊥
-FitsHead f d line m ms stop o (Err e) = IsFirst (HeadComplaint f d m ms stop o) (span_at line 1 (m ∷ ms) stop) e
+FitsHead f d line m ms stop o (Err e) = IsFirst (HeadComplaint f d m ms stop o) (HeadWants m ms o) (span_at line 1 (m ∷ ms) stop) e
 
 declaring_fits : (f : Format) (d : Declarations) (line : ℕ) (m : Mark) (ms : List Mark) (stop : Option Stop) (column : Column) (res : Result Declarations SchemaRefusal)
     → FitsNames f d line (m.column + length m.word) ms stop res → FitsHead f d line m ms stop (Some column) res
@@ -30,6 +30,7 @@ declaring_fits f d line m ms stop column (Ok whole) none = λ p n (later, is, co
 declaring_fits f d line m ms stop column (Err e) first = record {
   place = suc first.place;
   stands = (first.place, refl, first.stands);
+  carries = Carries-map (NamesWant first.place) (HeadWants m ms (Some column) (suc first.place)) (λ w h. (first.place, refl, h)) e.kind first.carries;
   there = first.there;
   least = least;
 }
@@ -49,7 +50,7 @@ with_room f d line m ms stop (Ok dep) room none = λ p n complaint. no_more p n 
     no_more : (p n : ℕ) → HeadComplaint f d m ms stop None p n → ⊥
     no_more p n (inl complaint) = none p n complaint
     no_more p n (inr (eight, here, full)) = absurd (omega arith)
-with_room f d line m ms stop (Err e) room first = record { place = first.place; stands = inl first.stands; there = first.there; least = least }
+with_room f d line m ms stop (Err e) room first = record { place = first.place; stands = inl first.stands; carries = first.carries; there = first.there; least = least }
   where
     least : (p n : ℕ) → HeadComplaint f d m ms stop None p n → (first.place < p) ⊎ ((first.place ≡ p) × (number_of e.kind ≤ n))
     least p n (inl complaint) = first.least p n complaint
@@ -63,12 +64,12 @@ begun_fits : (f : Format) (d : Declarations) (line : ℕ) (m : Mark) (ms : List 
     (λ next. and_then (follow f d.names line next (m.column + length m.word) ms stop) (λ dep. Ok (add_dependency d dep line))))
 begun_fits f d line m ms stop (Err why) b full tells fits =
     let ends = first_token f d.names line m ms stop why tells in
-    record { place = ends.first.place; stands = inl ends.first.stands; there = ends.first.there; least = least ends }
+    record { place = ends.first.place; stands = inl ends.first.stands; carries = ends.first.carries; there = ends.first.there; least = least ends }
   where
     least : (ends : EndsAt f d.names line m ms stop why) → (p n : ℕ) → HeadComplaint f d m ms stop None p n → (ends.first.place < p) ⊎ ((ends.first.place ≡ p) × (number_of why ≤ n))
     least ends p n (inl complaint) = ends.first.least p n complaint
     least ends p n (inr (eight, here, no_room)) = let place = ends.here in let small = ends.small in inr ((omega arith), omega arith)
-begun_fits f d line m ms stop (Ok next) true full tells fits = record { place = 0; stands = inr (refl, refl, leb-true _ _ full); there = refl; least = least }
+begun_fits f d line m ms stop (Ok next) true full tells fits = record { place = 0; stands = inr (refl, refl, leb-true _ _ full); carries = tt; there = refl; least = least }
   where
     least : (p n : ℕ) → HeadComplaint f d m ms stop None p n → (0 < p) ⊎ ((0 ≡ p) × (8 ≤ n))
     least zero n (inl complaint) = absurd (fine_first f d.names m ms stop next tells n complaint)
@@ -92,7 +93,7 @@ whole_head f d line m ms stop (Ok whole) fits = fits
 whole_head f d line m ms stop (Err e) fits = fits
 
 stop_fits : (f : Format) (d : Declarations) (line : ℕ) (s : Stop) → FitsTextLine f d line [] (Some s) (Err (refused_by line s))
-stop_fits f d line s = record { place = 0; stands = (s, refl, refl, flaw_numbered s.flaw); there = refl; least = least }
+stop_fits f d line s = record { place = 0; stands = (s, refl, refl, flaw_numbered s.flaw); carries = flaw_carries (TextLineWants f [] 0) s.flaw; there = refl; least = least }
   where
     inside : (t : Stop) → Some s ≡ Some t → s ≡ t
     inside t eq = cc

@@ -82,6 +82,7 @@ lines_behind f first d next line lines (Ok whole) read none fits = λ l p n comp
 lines_behind f first d next line lines (Err e) read none (inl found) = inl (record {
   place = found.place;
   stands = complaint_before f first d next line lines e.span.line found.place (number_of e.kind) read found.stands;
+  carries = found.carries;
   there = found.there;
   least = λ l p n complaint. found.least l p n (complaint_behind f first d next line lines l p n read none complaint);
 })
@@ -109,6 +110,7 @@ line_here f first d line lines e read found =
         stands_on = omega arith;
         complaint = found.stands;
       };
+      carries = found.carries;
       there = found.there ∙ ap (λ k. span_at k 1 (lex mode.Plain line).marks (lex mode.Plain line).stop found.place) (sym on);
       least = λ l p n complaint. told on l p n complaint complaint.before complaint.cut complaint.means complaint.stands_on;
     }

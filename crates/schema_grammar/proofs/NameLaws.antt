@@ -15,13 +15,14 @@ use Rattle.lexer.specs.Tokens.{Mark}
 use Rattle.schema_grammar.specs.declared.refusal.SchemaRefusal.{SchemaRefusal}
 use Rattle.schema_grammar.specs.declared.refusal.SchemaRefusalKind.{SchemaRefusalKind}
 use Rattle.schema_grammar.specs.declared.refusal.SchemaRefusalKind.TheVariants as kind
+use Rattle.schema_grammar.specs.declared.refusal.What.{What}
 use Rattle.schema_grammar.specs.declared.refusal.What.TheVariants as what
 use Rattle.schema_grammar.specs.declared.format.Format.{Format}
-use Rattle.schema_grammar.specs.Complaints.{NameComplaint, NamesComplaint, number_of, flaw_number, span_at, IsFirst, FitsNames}
+use Rattle.schema_grammar.specs.Complaints.{NameComplaint, NamesComplaint, NamesWant, Carries, number_of, flaw_number, span_at, IsFirst, FitsNames}
 use Rattle.schema_grammar.specs.Declarations.{Declarations, add_name, declare, name_step, wanted, list_names}
 use Rattle.schema_grammar.specs.Refusals.{at, and_then, refused_by, refusal, kind_of_flaw}
 use Rattle.schema_grammar.specs.Words.{is_reserved}
-use Rattle.schema_grammar.proofs.ComplaintLaws.{flaw_numbered, no_mark, same_mark}
+use Rattle.schema_grammar.proofs.ComplaintLaws.{flaw_numbered, flaw_carries, Carries-map, no_mark, same_mark}
 
 -- what is wrong with one word
 abbrev WordComplaint : Format → Declarations → Mark → ℕ → Type 0
@@ -31,32 +32,32 @@ WordComplaint f d m number =
     ⊎ ((number ≡ 6) × (m.kind ≡ token.Word → ⊥))
 
 -- what a token behind a declaring word tells
-abbrev NameTells : Format → Column → Declarations → Mark → Result Declarations SchemaRefusalKind → Type 0
-NameTells f column d m (Ok next) = (next ≡ add_name d m.word column) × (m.kind ≡ token.Word) × ((n : ℕ) → WordComplaint f d m n → ⊥)
-NameTells f column d m (Err why) = WordComplaint f d m (number_of why) × ((n : ℕ) → WordComplaint f d m n → number_of why ≤ n)
+abbrev NameTells : Format → Column → Declarations → Bool → Mark → Result Declarations SchemaRefusalKind → Type 0
+NameTells f column d some m (Ok next) = (next ≡ add_name d m.word column) × (m.kind ≡ token.Word) × ((n : ℕ) → WordComplaint f d m n → ⊥)
+NameTells f column d some m (Err why) = WordComplaint f d m (number_of why) × ((n : ℕ) → WordComplaint f d m n → number_of why ≤ n) × Carries (λ w. w ≡ wanted some) why
 
-word_tells : (f : Format) (column : Column) (d : Declarations) (m : Mark) → m.kind ≡ token.Word → NameTells f column d m (declare f column d m.word)
+word_tells : (f : Format) (column : Column) (d : Declarations) (some : Bool) (m : Mark) → m.kind ≡ token.Word → NameTells f column d some m (declare f column d m.word)
 unfolding declare
-word_tells f column d m word =
+word_tells f column d some m word =
     told (is_reserved f m.word) (is_some (place_named d.names m.word)) (nat_le PLACES (length d.names)) refl refl refl
   where
     told : (a b c : Bool) → is_reserved f m.word ≡ a → is_some (place_named d.names m.word) ≡ b → nat_le PLACES (length d.names) ≡ c
-        → NameTells f column d m (cond a (Err kind.ReservedName) (cond b (Err kind.DoubleName) (cond c (Err kind.TooManyAttributes) (Ok (add_name d m.word column)))))
-    told true b c reserved double full = (inl (word, inl (inl (refl, reserved))), least)
+        → NameTells f column d some m (cond a (Err kind.ReservedName) (cond b (Err kind.DoubleName) (cond c (Err kind.TooManyAttributes) (Ok (add_name d m.word column)))))
+    told true b c reserved double full = (inl (word, inl (inl (refl, reserved))), least, tt)
       where
         least : (n : ℕ) → WordComplaint f d m n → 3 ≤ n
         least n (inl (is, inl (inl three))) = let same : n ≡ 3 = three.0 in omega arith
         least n (inl (is, inl (inr four))) = let same : n ≡ 4 = four.0 in omega arith
         least n (inl (is, inr seven)) = let same : n ≡ 7 = seven.0 in omega arith
         least n (inr six) = let same : n ≡ 6 = six.0 in omega arith
-    told false true c free double full = (inl (word, inl (inr (refl, double))), least)
+    told false true c free double full = (inl (word, inl (inr (refl, double))), least, tt)
       where
         least : (n : ℕ) → WordComplaint f d m n → 4 ≤ n
         least n (inl (is, inl (inl three))) = let wrong : is_reserved f m.word ≡ true = three.1 in cc
         least n (inl (is, inl (inr four))) = let same : n ≡ 4 = four.0 in omega arith
         least n (inl (is, inr seven)) = let same : n ≡ 7 = seven.0 in omega arith
         least n (inr six) = let same : n ≡ 6 = six.0 in omega arith
-    told false false true free new full = (inl (word, inr (refl, leb-true _ _ full)), least)
+    told false false true free new full = (inl (word, inr (refl, leb-true _ _ full)), least, tt)
       where
         least : (n : ℕ) → WordComplaint f d m n → 7 ≤ n
         least n (inl (is, inl (inl three))) = let wrong : is_reserved f m.word ≡ true = three.1 in cc
@@ -71,18 +72,18 @@ word_tells f column d m word =
         none n (inl (is, inr seven)) = let small : length d.names < PLACES = leb-false _ _ room in let large : PLACES ≤ length d.names = seven.1 in absurd (omega arith)
         none n (inr six) = six.1 word
 
-other_tells : (f : Format) (column : Column) (d : Declarations) (some : Bool) (m : Mark) → (m.kind ≡ token.Word → ⊥) → NameTells f column d m (Err (kind.Expected (wanted some)))
-other_tells f column d some m other = (inr (refl, other), least)
+other_tells : (f : Format) (column : Column) (d : Declarations) (some : Bool) (m : Mark) → (m.kind ≡ token.Word → ⊥) → NameTells f column d some m (Err (kind.Expected (wanted some)))
+other_tells f column d some m other = (inr (refl, other), least, refl)
   where
     least : (n : ℕ) → WordComplaint f d m n → 6 ≤ n
     least n (inl (is, rest)) = absurd (other is)
     least n (inr six) = let same : n ≡ 6 = six.0 in omega arith
 
-name_tells : (f : Format) (column : Column) (d : Declarations) (some : Bool) (m : Mark) → NameTells f column d m (name_step f column d some m.kind m.word)
+name_tells : (f : Format) (column : Column) (d : Declarations) (some : Bool) (m : Mark) → NameTells f column d some m (name_step f column d some m.kind m.word)
 name_tells f column d some m = told m.kind refl
   where
-    told : (k : TokenKind) → m.kind ≡ k → NameTells f column d m (name_step f column d some k m.word)
-    told token.Word is = word_tells f column d m is
+    told : (k : TokenKind) → m.kind ≡ k → NameTells f column d some m (name_step f column d some k m.word)
+    told token.Word is = word_tells f column d some m is
     told (token.Number n) is = other_tells f column d some m (λ e. cc)
     told token.Arrow is = other_tells f column d some m (λ e. cc)
     told token.DoubleArrow is = other_tells f column d some m (λ e. cc)
@@ -96,9 +97,14 @@ NamesFrom some f d words stop place number =
     ⊎ ((number ≡ 6) × (place ≡ 0) × (words ≡ []) × (stop ≡ None) × (some ≡ false)))
     ⊎ ((s : Stop) × (stop ≡ Some s) × (place ≡ length words) × (number ≡ flaw_number s.flaw))
 
+-- what is wanted at a place from here on
+abbrev WantsNames : Bool → ℕ → What → Type 0
+WantsNames some zero w = w ≡ wanted some
+WantsNames some (suc place) w = w ≡ what.LineEnd
+
 abbrev JudgedNames : Bool → Format → Declarations → ℕ → ℕ → List Mark → Option Stop → Result Declarations SchemaRefusal → Type 0
 JudgedNames some f d line behind words stop (Ok whole) = (p n : ℕ) → NamesFrom some f d words stop p n → ⊥
-JudgedNames some f d line behind words stop (Err e) = IsFirst (NamesFrom some f d words stop) (span_at line behind words stop) e
+JudgedNames some f d line behind words stop (Err e) = IsFirst (NamesFrom some f d words stop) (WantsNames some) (span_at line behind words stop) e
 
 -- the complaints of a later word, seen from behind this one
 name_later : (f : Format) (column : Column) (d : Declarations) (w : Mark) (words : List Mark) (p : ℕ) (m : Mark) (n : ℕ)
@@ -166,10 +172,15 @@ names_later some f column d line behind w words stop (Ok whole) word fine rest =
 names_later some f column d line behind w words stop (Err e) word fine rest = record {
   place = suc rest.place;
   stands = from_earlier some f column d w words stop rest.place (number_of e.kind) word rest.stands;
+  carries = wants_earlier rest.place e.kind rest.carries;
   there = rest.there;
   least = least;
 }
   where
+    wants_earlier : (p : ℕ) (why : SchemaRefusalKind) → Carries (WantsNames true p) why → Carries (WantsNames some (suc p)) why
+    wants_earlier zero why carries = carries
+    wants_earlier (suc p) why carries = carries
+
     shift : (p n : ℕ) → (rest.place < p) ⊎ ((rest.place ≡ p) × (number_of e.kind ≤ n)) → (suc rest.place < suc p) ⊎ ((suc rest.place ≡ suc p) × (number_of e.kind ≤ n))
     shift p n (inl less) = inl (omega arith)
     shift p n (inr (same, less)) = inr ((omega arith), less)
@@ -181,10 +192,11 @@ names_later some f column d line behind w words stop (Err e) word fine rest = re
     least (suc p) n complaint = shift p n (rest.least p n (from_later some f column d w words stop p n complaint))
 
 names_here : (some : Bool) (f : Format) (column : Column) (d : Declarations) (line behind : ℕ) (w : Mark) (words : List Mark) (stop : Option Stop) (why : SchemaRefusalKind)
-    → NameTells f column d w (Err why) → JudgedNames some f d line behind (w ∷ words) stop (Err (refusal line w.column (length w.word) why))
-names_here some f column d line behind w words stop why (stands, less) = record {
+    → NameTells f column d some w (Err why) → JudgedNames some f d line behind (w ∷ words) stop (Err (refusal line w.column (length w.word) why))
+names_here some f column d line behind w words stop why (stands, less, wants) = record {
   place = 0;
   stands = inl (inl (w, refl, All-nil (λ v. v.kind ≡ token.Word), first_name f d w words (number_of why) stands));
+  carries = wants;
   there = refl;
   least = least;
 }
@@ -196,7 +208,7 @@ names_here some f column d line behind w words stop why (stands, less) = record 
     least (suc p) n complaint = inl (omega arith)
 
 names_stop : (some : Bool) (f : Format) (d : Declarations) (line behind : ℕ) (s : Stop) → JudgedNames some f d line behind [] (Some s) (Err (refused_by line s))
-names_stop some f d line behind s = record { place = 0; stands = inr (s, refl, refl, flaw_numbered s.flaw); there = refl; least = least }
+names_stop some f d line behind s = record { place = 0; stands = inr (s, refl, refl, flaw_numbered s.flaw); carries = flaw_carries (WantsNames some 0) s.flaw; there = refl; least = least }
   where
     inside : (t : Stop) → Some s ≡ Some t → s ≡ t
     inside t eq = cc
@@ -217,7 +229,7 @@ names_done f d line behind = λ p n complaint. none p n complaint
     none p n (inr (t, is, place, number)) = cc
 
 names_missing : (f : Format) (d : Declarations) (line behind : ℕ) → JudgedNames false f d line behind [] None (Err (refusal line behind 0 (kind.Expected what.Name)))
-names_missing f d line behind = record { place = 0; stands = inl (inr (refl, refl, refl, refl, refl)); there = refl; least = least }
+names_missing f d line behind = record { place = 0; stands = inl (inr (refl, refl, refl, refl, refl)); carries = refl; there = refl; least = least }
   where
     least : (p n : ℕ) → NamesFrom false f d [] None p n → (0 < p) ⊎ ((0 ≡ p) × (6 ≤ n))
     least p n (inl (inl (m, is, before, complaint))) = absurd (no_mark m p is)
@@ -225,7 +237,7 @@ names_missing f d line behind = record { place = 0; stands = inl (inr (refl, ref
     least p n (inr (t, is, place, number)) = cc
 
 names_token : (some : Bool) (f : Format) (column : Column) (d : Declarations) (line behind : ℕ) (w : Mark) (words : List Mark) (stop : Option Stop) (o : Result Declarations SchemaRefusalKind)
-    → NameTells f column d w o → ((next : Declarations) → JudgedNames true f next line (w.column + length w.word) words stop (list_names f column line next true (w.column + length w.word) words stop))
+    → NameTells f column d some w o → ((next : Declarations) → JudgedNames true f next line (w.column + length w.word) words stop (list_names f column line next true (w.column + length w.word) words stop))
     → JudgedNames some f d line behind (w ∷ words) stop (and_then (at line w.column (length w.word) o) (λ next. list_names f column line next true (w.column + length w.word) words stop))
 names_token some f column d line behind w words stop (Ok next) (same, word, fine) rest =
     let of : Declarations → Type 0 = λ x. JudgedNames true f x line (w.column + length w.word) words stop (list_names f column line next true (w.column + length w.word) words stop) in
@@ -259,6 +271,13 @@ names-law f column d line behind words stop = fits (list_names f column line d f
     from p n (inl (inr (six, place, nothing, stop_none))) = inl (inr (six, place, nothing, stop_none, refl))
     from p n (inr flaw) = inr flaw
 
+    wants : (p : ℕ) (w : What) → WantsNames false p w → NamesWant p w
+    wants zero w e = subst (NamesWant 0) (sym e) refl
+    wants (suc p) w e = subst (NamesWant (suc p)) (sym e) (omega arith)
+
+    carries : (p : ℕ) (why : SchemaRefusalKind) → Carries (WantsNames false p) why → Carries (NamesWant p) why
+    carries p = Carries-map (WantsNames false p) (NamesWant p) (wants p)
+
     fits : (res : Result Declarations SchemaRefusal) → JudgedNames false f d line behind words stop res → FitsNames f d line behind words stop res
     fits (Ok whole) none = λ p n complaint. none p n (from p n complaint)
-    fits (Err e) first = record { place = first.place; stands = to first.place (number_of e.kind) first.stands; there = first.there; least = λ p n complaint. first.least p n (from p n complaint) }
+    fits (Err e) first = record { place = first.place; stands = to first.place (number_of e.kind) first.stands; carries = carries first.place e.kind first.carries; there = first.there; least = λ p n complaint. first.least p n (from p n complaint) }

@@ -12,7 +12,9 @@ use Rattle.schema_grammar.specs.declared.symbol.Symbol.TheVariants as symbol
 use Rattle.schema_grammar.specs.declared.format.Format.{Format}
 use Rattle.schema_grammar.specs.declared.format.Format.TheVariants as format
 use Rattle.schema_grammar.specs.declared.refusal.What.{What}
-use Rattle.schema_grammar.specs.Complaints.{IsLine, BeginsLine, ComplainsOfWord, kinds, number_of}
+use Rattle.schema_grammar.specs.declared.refusal.What.TheVariants as what
+use Rattle.schema_grammar.specs.declared.symbol.Symbol.{Symbol}
+use Rattle.schema_grammar.specs.Complaints.{IsLine, BeginsLine, Wants, Carries, ComplainsOfWord, kinds, number_of}
 use Rattle.schema_grammar.specs.Grammar.{Reading, start, left, left_empty, behind, right, right_empty, turn, finished}
 use Rattle.schema_grammar.specs.Reading.{step, follow}
 use Rattle.schema_grammar.specs.Refusals.{at, and_then, expecting}
@@ -83,6 +85,15 @@ is_final past_arrow = false
 is_final in_right = true
 is_final past_end = true
 
+-- what is wanted there
+abbrev pub wanted_by : Shape → What
+wanted_by at_start = what.Side
+wanted_by in_left = what.Arrow
+wanted_by past_empty = what.Arrow
+wanted_by past_arrow = what.Side
+wanted_by in_right = what.LineEnd
+wanted_by past_end = what.LineEnd
+
 abbrev pub bind : Option Shape → (Shape → Option Shape) → Option Shape
 bind None f = None
 bind (Some s) f = f s
@@ -150,18 +161,50 @@ turned-Colon (behind s x) = refl
 turned-Colon (right s x y) = refl
 turned-Colon (right_empty s x) = refl
 
+-- what the grammar tells in place of a token is what is wanted
+abbrev TurnWants : Reading → Result Reading What → Type 0
+TurnWants r (Ok next) = Unit {0}
+TurnWants r (Err w) = w ≡ wanted_by (shape_of r)
+
+turn_wants : (r : Reading) (s : Symbol) → TurnWants r (turn r s)
+unfolding turn
+turn_wants start (symbol.Attribute a) = tt
+turn_wants start (symbol.Arrow s) = refl
+turn_wants start symbol.Empty = tt
+turn_wants start symbol.Other = refl
+turn_wants (left x) (symbol.Attribute a) = tt
+turn_wants (left x) (symbol.Arrow s) = tt
+turn_wants (left x) symbol.Empty = refl
+turn_wants (left x) symbol.Other = refl
+turn_wants left_empty (symbol.Attribute a) = refl
+turn_wants left_empty (symbol.Arrow s) = tt
+turn_wants left_empty symbol.Empty = refl
+turn_wants left_empty symbol.Other = refl
+turn_wants (behind s x) (symbol.Attribute a) = tt
+turn_wants (behind s x) (symbol.Arrow t) = refl
+turn_wants (behind s x) symbol.Empty = tt
+turn_wants (behind s x) symbol.Other = refl
+turn_wants (right s x y) (symbol.Attribute a) = tt
+turn_wants (right s x y) (symbol.Arrow t) = refl
+turn_wants (right s x y) symbol.Empty = refl
+turn_wants (right s x y) symbol.Other = refl
+turn_wants (right_empty s x) (symbol.Attribute a) = refl
+turn_wants (right_empty s x) (symbol.Arrow t) = refl
+turn_wants (right_empty s x) symbol.Empty = refl
+turn_wants (right_empty s x) symbol.Other = refl
+
 -- what a step tells: where it leads, or the complaint
 abbrev pub StepTells : Format → List (List ℕ) → Reading → Mark → Result Reading SchemaRefusalKind → Type 0
 StepTells f declared r m (Ok next) =
     (turn_shape (shape_of r) m.kind ≡ Some (shape_of next)) × ((n : ℕ) → ComplainsOfWord f declared m n → ⊥)
 StepTells f declared r m (Err why) =
     (ComplainsOfWord f declared m (number_of why) × ((n : ℕ) → ComplainsOfWord f declared m n → number_of why ≤ n) × (number_of why ≤ 6))
-    ⊎ ((number_of why ≡ 6) × (turn_shape (shape_of r) m.kind ≡ None) × ((n : ℕ) → ComplainsOfWord f declared m n → ⊥))
+    ⊎ ((number_of why ≡ 6) × (turn_shape (shape_of r) m.kind ≡ None) × ((n : ℕ) → ComplainsOfWord f declared m n → ⊥) × (why ≡ kind.Expected (wanted_by (shape_of r))))
 
 turn_tells : (f : Format) (declared : List (List ℕ)) (r : Reading) (m : Mark) (t : Result Reading What) → TurnsTo (turn_shape (shape_of r) m.kind) t
-    → ((n : ℕ) → ComplainsOfWord f declared m n → ⊥) → StepTells f declared r m (expecting t)
-turn_tells f declared r m (Ok next) turns none = (turns, none)
-turn_tells f declared r m (Err what) turns none = inr (refl, turns, none)
+    → TurnWants r t → ((n : ℕ) → ComplainsOfWord f declared m n → ⊥) → StepTells f declared r m (expecting t)
+turn_tells f declared r m (Ok next) turns wants none = (turns, none)
+turn_tells f declared r m (Err w) turns wants none = inr (refl, turns, none, ap (λ x. kind.Expected x) wants)
 
 no_word : (f : Format) (declared : List (List ℕ)) (m : Mark) → (m.kind ≡ token.Word → ⊥) → (n : ℕ) → ComplainsOfWord f declared m n → ⊥
 no_word f declared m other n complaint = other complaint.0
@@ -191,17 +234,17 @@ word_tells f declared r column word = told (is_reserved f word) (place_named dec
     told true o reserved place = inl ((refl, inl (refl, reserved)), (λ n c. three f declared (mark token.Word column word) n c), lit≤ tt)
     told false None free place = inl ((refl, inr (refl, place)), (λ n c. five f declared (mark token.Word column word) n free c), lit≤ tt)
     told false (Some a) free place =
-        turn_tells f declared r (mark token.Word column word) (turn r (symbol.Attribute a)) (turned-Word a r) (λ n c. known_word f declared (mark token.Word column word) a n free place c)
+        turn_tells f declared r (mark token.Word column word) (turn r (symbol.Attribute a)) (turned-Word a r) (turn_wants r (symbol.Attribute a)) (λ n c. known_word f declared (mark token.Word column word) a n free place c)
 
 kind_tells : (f : Format) (declared : List (List ℕ)) (r : Reading) (k : TokenKind) (column : ℕ) (word : List ℕ)
     → StepTells f declared r (mark k column word) (step f declared r k word)
 unfolding step
 kind_tells f declared r token.Word column word = word_tells f declared r column word
-kind_tells f declared r token.Arrow column word = turn_tells f declared r (mark token.Arrow column word) _ (turned-Arrow r) (no_word f declared (mark token.Arrow column word) (λ e. cc))
-kind_tells f declared r token.DoubleArrow column word = turn_tells f declared r (mark token.DoubleArrow column word) _ (turned-DoubleArrow r) (no_word f declared (mark token.DoubleArrow column word) (λ e. cc))
-kind_tells f declared r token.Empty column word = turn_tells f declared r (mark token.Empty column word) _ (turned-Empty r) (no_word f declared (mark token.Empty column word) (λ e. cc))
-kind_tells f declared r (token.Number n) column word = turn_tells f declared r (mark (token.Number n) column word) _ (turned-Number n r) (no_word f declared (mark (token.Number n) column word) (λ e. cc))
-kind_tells f declared r token.Colon column word = turn_tells f declared r (mark token.Colon column word) _ (turned-Colon r) (no_word f declared (mark token.Colon column word) (λ e. cc))
+kind_tells f declared r token.Arrow column word = turn_tells f declared r (mark token.Arrow column word) _ (turned-Arrow r) (turn_wants r (symbol.Arrow sign.Functional)) (no_word f declared (mark token.Arrow column word) (λ e. cc))
+kind_tells f declared r token.DoubleArrow column word = turn_tells f declared r (mark token.DoubleArrow column word) _ (turned-DoubleArrow r) (turn_wants r (symbol.Arrow sign.Multivalued)) (no_word f declared (mark token.DoubleArrow column word) (λ e. cc))
+kind_tells f declared r token.Empty column word = turn_tells f declared r (mark token.Empty column word) _ (turned-Empty r) (turn_wants r symbol.Empty) (no_word f declared (mark token.Empty column word) (λ e. cc))
+kind_tells f declared r (token.Number n) column word = turn_tells f declared r (mark (token.Number n) column word) _ (turned-Number n r) (turn_wants r symbol.Other) (no_word f declared (mark (token.Number n) column word) (λ e. cc))
+kind_tells f declared r token.Colon column word = turn_tells f declared r (mark token.Colon column word) _ (turned-Colon r) (turn_wants r symbol.Other) (no_word f declared (mark token.Colon column word) (λ e. cc))
 
 pub step_tells : (f : Format) (declared : List (List ℕ)) (r : Reading) (m : Mark) → StepTells f declared r m (step f declared r m.kind m.word)
 step_tells f declared r m = kind_tells f declared r m.kind m.column m.word
@@ -209,14 +252,14 @@ step_tells f declared r m = kind_tells f declared r m.kind m.column m.word
 -- whether the line may end
 abbrev pub EndTells : Reading → Result Dependency What → Type 0
 EndTells r (Ok d) = is_final (shape_of r) ≡ true
-EndTells r (Err what) = is_final (shape_of r) ≡ false
+EndTells r (Err w) = (is_final (shape_of r) ≡ false) × (w ≡ wanted_by (shape_of r))
 
 pub end_tells : (r : Reading) → EndTells r (finished r)
 unfolding finished
-end_tells start = refl
-end_tells (left x) = refl
-end_tells left_empty = refl
-end_tells (behind s x) = refl
+end_tells start = (refl, refl)
+end_tells (left x) = (refl, refl)
+end_tells left_empty = (refl, refl)
+end_tells (behind s x) = (refl, refl)
 end_tells (right s x y) = refl
 end_tells (right_empty s x) = refl
 
@@ -277,7 +320,7 @@ runs_read r [] s e final = told (finished r) refl (end_tells r)
     told (Ok dep) is tells = record { dep = dep; read = ap (λ t. at 1 1 0 (expecting t)) is }
     told (Err what) is tells =
         let last : shape_of r ≡ s = cc in
-        let wrong : false ≡ true = sym tells ∙ ap is_final last ∙ final in cc
+        let wrong : false ≡ true = sym tells.0 ∙ ap is_final last ∙ final in cc
 runs_read r (k ∷ ks) s e final = told (step format.Plain one_name r k (97 ∷ [])) refl (step_tells format.Plain one_name r (sample k)) (λ next h. runs_read next ks s h final)
   where
     told : (o : Result Reading SchemaRefusalKind) → step format.Plain one_name r k (97 ∷ []) ≡ o → StepTells format.Plain one_name r (sample k) o
@@ -335,6 +378,37 @@ pub begins_from : (ks : List TokenKind) (s : Shape) → runs at_start ks ≡ Som
 begins_from ks s e =
     let more = completed s in
     record { rest = completion s; line = final_line (ks ++ completion s) more.last (runs-append at_start ks (completion s) ∙ ap (λ o. bind o (λ t. runs t (completion s))) e ∙ more.leads) more.final }
+
+-- one token more
+pub runs-one : (pre : List TokenKind) (s : Shape) (k : TokenKind) → runs at_start pre ≡ Some s → runs at_start (pre ++ k ∷ []) ≡ turn_shape s k
+runs-one pre s k reached = runs-append at_start pre (k ∷ []) ∙ ap (λ o. bind o (λ t. runs t (k ∷ []))) reached ∙ last (turn_shape s k)
+  where
+    last : (o : Option Shape) → bind o (λ t. Some t) ≡ o
+    last None = refl
+    last (Some t) = refl
+
+-- what the shape wants is wanted behind tokens that lead to it
+pub wants_from : (ks : List TokenKind) (s : Shape) → runs at_start ks ≡ Some s → Wants ks (wanted_by s)
+wants_from ks at_start e = begins_from (ks ++ token.Empty ∷ []) past_empty (runs-one ks at_start token.Empty e)
+wants_from ks in_left e = begins_from (ks ++ token.Arrow ∷ []) past_arrow (runs-one ks in_left token.Arrow e)
+wants_from ks past_empty e = begins_from (ks ++ token.Arrow ∷ []) past_arrow (runs-one ks past_empty token.Arrow e)
+wants_from ks past_arrow e = begins_from (ks ++ token.Empty ∷ []) past_end (runs-one ks past_arrow token.Empty e)
+wants_from ks in_right e = final_line ks in_right e refl
+wants_from ks past_end e = final_line ks past_end e refl
+
+-- only a refusal 6 carries something
+pub carries_nothing : (Wanted : What → Type 0) (why : SchemaRefusalKind) → (number_of why ≡ 6 → ⊥) → Carries Wanted why
+carries_nothing Wanted kind.StrangeByte other = tt
+carries_nothing Wanted kind.BadName other = tt
+carries_nothing Wanted kind.ReservedName other = tt
+carries_nothing Wanted kind.DoubleName other = tt
+carries_nothing Wanted kind.UnknownName other = tt
+carries_nothing Wanted (kind.Expected w) other = absurd (other refl)
+carries_nothing Wanted kind.TooManyAttributes other = tt
+carries_nothing Wanted kind.TooManyDependencies other = tt
+carries_nothing Wanted kind.NoAttributes other = tt
+carries_nothing Wanted kind.UnknownVersion other = tt
+carries_nothing Wanted kind.Memory other = tt
 
 pub record Leads (ks : List TokenKind) : Type 0 where
   pub shape : Shape

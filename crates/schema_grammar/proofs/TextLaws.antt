@@ -13,10 +13,10 @@ use Rattle.schema_grammar.specs.Complaints.{FitsTextLine, number_of, flaw_number
 use Rattle.schema_grammar.specs.Declarations.{Declarations, no_declaration, read_line}
 use Rattle.schema_grammar.specs.Meanings.{HasTokens}
 use Rattle.schema_grammar.specs.Refusals.{and_then, refusal, refused_by, kind_of_flaw}
-use Rattle.schema_grammar.specs.Schemas.{FitsLines, VersionComplaint, FitsVersion, FitsTyped, FitsSchema, IsVersionLine, has_version_line, begins_version}
+use Rattle.schema_grammar.specs.Schemas.{FitsLines, VersionComplaint, VersionWants, FitsVersion, FitsTyped, FitsSchema, IsVersionLine, has_version_line, begins_version}
 use Rattle.schema_grammar.specs.Texts.{read_lines, read_version, read_typed, read_opening, read_text, is_version, opened, end_version, version_number, number_in}
 use Rattle.schema_grammar.proofs.BlankLemmas.{blank_plain}
-use Rattle.schema_grammar.proofs.ComplaintLaws.{flaw_numbered, no_mark, same_mark}
+use Rattle.schema_grammar.proofs.ComplaintLaws.{flaw_numbered, flaw_carries, no_mark, same_mark}
 use Rattle.schema_grammar.proofs.LinesLaws.{line-law, lines-law, lines_behind}
 use Rattle.schema_grammar.proofs.DeclaringLaws.{has_tokens, line_back}
 use Rattle.schema_grammar.proofs.SchemaLaws.{version_there}
@@ -41,7 +41,7 @@ other_number m k n i same some other yes_here none_here =
     let wrong : true ≡ false = sym yes_here ∙ ap (λ v. v == VERSION) equal ∙ none_here in cc
 
 missing_fits : (line behind : ℕ) → FitsVersion line behind [] None (Err (refusal line behind 0 (kind.Expected what.Number)))
-missing_fits line behind = record { place = 0; stands = inl (inl (inr (refl, refl, refl, refl))); there = refl; least = least }
+missing_fits line behind = record { place = 0; stands = inl (inl (inr (refl, refl, refl, refl))); carries = refl; there = refl; least = least }
   where
     least : (p n : ℕ) → VersionComplaint [] None p n → (0 < p) ⊎ ((0 ≡ p) × (6 ≤ n))
     least p n (inl (inl (inl (m, is, none, place, six)))) = absurd (no_mark m 0 is)
@@ -59,7 +59,7 @@ flaw_least s t n is why =
     inside eq = cc
 
 stop_fits : (line behind : ℕ) (s : Stop) → FitsVersion line behind [] (Some s) (Err (refused_by line s))
-stop_fits line behind s = record { place = 0; stands = inr (s, refl, refl, flaw_numbered s.flaw); there = refl; least = least }
+stop_fits line behind s = record { place = 0; stands = inr (s, refl, refl, flaw_numbered s.flaw); carries = flaw_carries (VersionWants 0) s.flaw; there = refl; least = least }
   where
     least : (p n : ℕ) → VersionComplaint [] (Some s) p n → (0 < p) ⊎ ((0 ≡ p) × (number_of (kind_of_flaw s.flaw) ≤ n))
     least p n (inl (inl (inl (m, is, none, place, six)))) = absurd (no_mark m 0 is)
@@ -70,7 +70,7 @@ stop_fits line behind s = record { place = 0; stands = inr (s, refl, refl, flaw_
 
 word_fits : (line behind : ℕ) (m : Mark) (ms : List Mark) (stop : Option Stop) → number_in m.kind ≡ None
     → FitsVersion line behind (m ∷ ms) stop (Err (refusal line m.column (length m.word) (kind.Expected what.Number)))
-word_fits line behind m ms stop none = record { place = 0; stands = inl (inl (inl (m, refl, none, refl, refl))); there = refl; least = least }
+word_fits line behind m ms stop none = record { place = 0; stands = inl (inl (inl (m, refl, none, refl, refl))); carries = refl; there = refl; least = least }
   where
     least : (p n : ℕ) → VersionComplaint (m ∷ ms) stop p n → (0 < p) ⊎ ((0 ≡ p) × (6 ≤ n))
     least p n (inl (inl (inl (k, is, none_here, place, six)))) = inr (sym place, omega arith)
@@ -81,7 +81,7 @@ word_fits line behind m ms stop none = record { place = 0; stands = inl (inl (in
 
 unknown_fits : (line behind : ℕ) (m : Mark) (ms : List Mark) (stop : Option Stop) (i : ℕ) → number_in m.kind ≡ Some i → (i == VERSION) ≡ false
     → FitsVersion line behind (m ∷ ms) stop (Err (refusal line m.column (length m.word) kind.UnknownVersion))
-unknown_fits line behind m ms stop i some other = record { place = 0; stands = inl (inr (inl (m, i, refl, some, other, refl, refl))); there = refl; least = least }
+unknown_fits line behind m ms stop i some other = record { place = 0; stands = inl (inr (inl (m, i, refl, some, other, refl, refl))); carries = tt; there = refl; least = least }
   where
     none : (k : Mark) → m ∷ ms ≡ [] → ⊥
     none k e = cc
@@ -103,7 +103,7 @@ two_fits line behind m [] None i some two = λ p n complaint. none p n complaint
     none p n (inl (inr (inl (k, j, is, some_here, other_here, place, why)))) = other_number m k i j (same_mark m [] k is) some some_here two other_here
     none p n (inl (inr (inr (k, is, place, six)))) = no_mark k 0 is
     none p n (inr (t, is, place, why)) = no_stop t is
-two_fits line behind m [] (Some s) i some two = record { place = 1; stands = inr (s, refl, refl, flaw_numbered s.flaw); there = refl; least = least }
+two_fits line behind m [] (Some s) i some two = record { place = 1; stands = inr (s, refl, refl, flaw_numbered s.flaw); carries = flaw_carries (VersionWants 1) s.flaw; there = refl; least = least }
   where
     none : m ∷ [] ≡ [] → ⊥
     none e = cc
@@ -114,7 +114,7 @@ two_fits line behind m [] (Some s) i some two = record { place = 1; stands = inr
     least p n (inl (inr (inl (k, j, is, some_here, other_here, place, why)))) = absurd (other_number m k i j (same_mark m [] k is) some some_here two other_here)
     least p n (inl (inr (inr (k, is, place, six)))) = absurd (no_mark k 0 is)
     least p n (inr (t, is, place, why)) = inr (sym place, flaw_least s t n is why)
-two_fits line behind m (k ∷ ks) stop i some two = record { place = 1; stands = inl (inr (inr (k, refl, refl, refl))); there = refl; least = least }
+two_fits line behind m (k ∷ ks) stop i some two = record { place = 1; stands = inl (inr (inr (k, refl, refl, refl))); carries = omega arith; there = refl; least = least }
   where
     none : m ∷ k ∷ ks ≡ [] → ⊥
     none e = cc

@@ -15,6 +15,8 @@ use Rattle.schema_grammar.specs.declared.refusal.SchemaRefusal.{SchemaRefusal}
 use Rattle.schema_grammar.specs.declared.refusal.SchemaRefusalKind.{SchemaRefusalKind}
 use Rattle.schema_grammar.specs.declared.refusal.SchemaRefusalKind.TheVariants as kind
 use Rattle.schema_grammar.specs.declared.refusal.Span.{Span}
+use Rattle.schema_grammar.specs.declared.refusal.What.{What}
+use Rattle.schema_grammar.specs.declared.refusal.What.TheVariants as what
 use Rattle.schema_grammar.specs.declared.format.Format.{Format}
 use Rattle.schema_grammar.specs.declared.format.Format.TheVariants as format
 use Rattle.schema_grammar.specs.Declarations.{Declarations}
@@ -60,6 +62,14 @@ pub record IsStuck (ks : List TokenKind) (stop : Option Stop) (place : ℕ) : Ty
   pub before : BeginsLine (take place ks)
   pub here : ((place < length ks) × (BeginsLine (take (suc place) ks) → ⊥)) ⊎ ((place ≡ length ks) × (stop ≡ None) × (IsLine ks → ⊥))
 
+-- what is wanted after tokens of these kinds: a side where `()` can follow, an arrow where one can, and
+-- the line's end where they are a line
+abbrev pub Wants : List TokenKind → What → Type 0
+Wants ks what.Side = BeginsLine (ks ++ token.Empty ∷ [])
+Wants ks what.Arrow = BeginsLine (ks ++ token.Arrow ∷ [])
+Wants ks what.LineEnd = IsLine ks
+Wants ks _ = ⊥
+
 -- a word of a dependency that is reserved, or that no name is
 abbrev pub ComplainsOfWord : Format → List (List ℕ) → Mark → ℕ → Type 0
 ComplainsOfWord f declared m number =
@@ -80,17 +90,28 @@ span_at line behind [] (Some s) place = record { line = line; column = s.column;
 span_at line behind (m ∷ ms) stop zero = record { line = line; column = m.column; length = length m.word }
 span_at line behind (m ∷ ms) stop (suc place) = span_at line (m.column + length m.word) ms stop place
 
--- a refusal is the complaint of the least place, and there that of the least number
-pub record IsFirst (Complaint : ℕ → ℕ → Type 0) (span : ℕ → Span) (e : SchemaRefusal) : Type 0 where
+-- a refusal 6 carries what is wanted
+abbrev pub Carries : (What → Type 0) → SchemaRefusalKind → Type 0
+Carries Wanted (kind.Expected what) = Wanted what
+Carries Wanted _ = Unit {0}
+
+-- a refusal is the complaint of the least place, and there that of the least number; a refusal 6 carries
+-- what is wanted there
+pub record IsFirst (Complaint : ℕ → ℕ → Type 0) (Wanted : ℕ → What → Type 0) (span : ℕ → Span) (e : SchemaRefusal) : Type 0 where
   pub place : ℕ
   pub stands : Complaint place (number_of e.kind)
+  pub carries : Carries (Wanted place) e.kind
   pub there : e.span ≡ span place
   pub least : (p n : ℕ) → Complaint p n → (place < p) ⊎ ((place ≡ p) × (number_of e.kind ≤ n))
+
+-- what is wanted at a place of a dependency line, before which so many of its tokens stand
+abbrev pub LineWants : List Mark → ℕ → What → Type 0
+LineWants ms place = Wants (take place (kinds ms))
 
 -- a dependency line is refused by the first complaint, and read where there is none
 abbrev pub FitsLine : Format → List (List ℕ) → ℕ → List Mark → Option Stop → Result Dependency SchemaRefusal → Type 0
 FitsLine f declared line ms stop (Ok d) = (place number : ℕ) → LineComplaint f declared ms stop place number → ⊥
-FitsLine f declared line ms stop (Err e) = IsFirst (LineComplaint f declared ms stop) (span_at line 1 ms stop) e
+FitsLine f declared line ms stop (Err e) = IsFirst (LineComplaint f declared ms stop) (LineWants ms) (span_at line 1 ms stop) e
 
 -- what is wrong with a goal over declared names
 abbrev pub GoalComplaint : List (List ℕ) → List ℕ → ℕ → ℕ → Type 0
@@ -119,10 +140,16 @@ NamesComplaint f d words stop place number =
     ⊎ ((number ≡ 6) × (place ≡ 0) × (words ≡ []) × (stop ≡ None)))
     ⊎ ((s : Stop) × (stop ≡ Some s) × (place ≡ length words) × (number ≡ flaw_number s.flaw))
 
+-- behind a declaring word a name is wanted first, and then the line's end
+abbrev pub NamesWant : ℕ → What → Type 0
+NamesWant place what.Name = place ≡ 0
+NamesWant place what.LineEnd = 0 < place
+NamesWant place _ = ⊥
+
 -- the words behind a declaring word are refused by the first complaint, and read where there is none
 abbrev pub FitsNames : Format → Declarations → ℕ → ℕ → List Mark → Option Stop → Result Declarations SchemaRefusal → Type 0
 FitsNames f d line behind words stop (Ok whole) = (place number : ℕ) → NamesComplaint f d words stop place number → ⊥
-FitsNames f d line behind words stop (Err e) = IsFirst (NamesComplaint f d words stop) (span_at line behind words stop) e
+FitsNames f d line behind words stop (Err e) = IsFirst (NamesComplaint f d words stop) NamesWant (span_at line behind words stop) e
 
 -- what is wrong with a line of a schema text that this token begins, behind what is declared
 abbrev pub HeadComplaint : Format → Declarations → Mark → List Mark → Option Stop → Option Column → ℕ → ℕ → Type 0
@@ -132,12 +159,22 @@ HeadComplaint f d m ms stop None place number =
     LineComplaint f d.names (m ∷ ms) stop place number
     ⊎ ((number ≡ 8) × (place ≡ 0) × (MOST_DEPENDENCIES ≤ length d.deps))
 
+-- what is wanted at a place of such a line
+abbrev pub HeadWants : Mark → List Mark → Option Column → ℕ → What → Type 0
+HeadWants m ms (Some column) place what = (later : ℕ) × (place ≡ suc later) × NamesWant later what
+HeadWants m ms None place what = LineWants (m ∷ ms) place what
+
 -- what is wrong with a line of a schema text, behind what is declared
 abbrev pub TextLineComplaint : Format → Declarations → List Mark → Option Stop → ℕ → ℕ → Type 0
 TextLineComplaint f d [] stop place number = (s : Stop) × (stop ≡ Some s) × (place ≡ 0) × (number ≡ flaw_number s.flaw)
 TextLineComplaint f d (m ∷ ms) stop place number = HeadComplaint f d m ms stop (declares f m.kind m.word) place number
 
+-- what is wanted at a place of it
+abbrev pub TextLineWants : Format → List Mark → ℕ → What → Type 0
+TextLineWants f [] place what = ⊥
+TextLineWants f (m ∷ ms) place what = HeadWants m ms (declares f m.kind m.word) place what
+
 -- a line is refused by the first complaint, and read where there is none
 abbrev pub FitsTextLine : Format → Declarations → ℕ → List Mark → Option Stop → Result Declarations SchemaRefusal → Type 0
 FitsTextLine f d line ms stop (Ok whole) = (place number : ℕ) → TextLineComplaint f d ms stop place number → ⊥
-FitsTextLine f d line ms stop (Err e) = IsFirst (TextLineComplaint f d ms stop) (span_at line 1 ms stop) e
+FitsTextLine f d line ms stop (Err e) = IsFirst (TextLineComplaint f d ms stop) (TextLineWants f ms) (span_at line 1 ms stop) e

@@ -11,7 +11,9 @@ use Rattle.lexer.specs.Lines.{line_texts, without_mark}
 use Rattle.lexer.specs.Tokens.{Mark, lex}
 use Rattle.schema_grammar.specs.declared.refusal.SchemaRefusal.{SchemaRefusal}
 use Rattle.schema_grammar.specs.declared.refusal.SchemaRefusalKind.TheVariants as kind
-use Rattle.schema_grammar.specs.Complaints.{TextLineComplaint, IsFirst, number_of, flaw_number, span_at}
+use Rattle.schema_grammar.specs.declared.refusal.What.{What}
+use Rattle.schema_grammar.specs.declared.refusal.What.TheVariants as what
+use Rattle.schema_grammar.specs.Complaints.{TextLineComplaint, TextLineWants, Carries, IsFirst, number_of, flaw_number, span_at}
 use Rattle.schema_grammar.specs.Refusals.{refusal}
 use Rattle.schema_grammar.specs.declared.format.TheConstants.{VERSION}
 use Rattle.schema_grammar.specs.declared.format.Format.{Format}
@@ -121,10 +123,12 @@ pub record LinesComplaint (f : Format) (first : ℕ) (d : Declarations) (lines :
   pub stands_on : number ≡ first + length before
   pub complaint : TextLineComplaint f declared (lex mode.Plain line).marks (lex mode.Plain line).stop place why
 
--- a refusal is the complaint of the first line, there of the least place, and there of the least number
+-- a refusal is the complaint of the first line, there of the least place, and there of the least number;
+-- a refusal 6 carries what is wanted there
 pub record IsFirstOfLines (f : Format) (first : ℕ) (d : Declarations) (lines : List (List ℕ)) (e : SchemaRefusal) : Type 0 where
   pub place : ℕ
   pub stands : LinesComplaint f first d lines e.span.line place (number_of e.kind)
+  pub carries : Carries (TextLineWants f (lex mode.Plain stands.line).marks place) e.kind
   pub there : e.span ≡ span_at e.span.line 1 (lex mode.Plain stands.line).marks (lex mode.Plain stands.line).stop place
   pub least : (l p n : ℕ) → LinesComplaint f first d lines l p n
       → (e.span.line < l) ⊎ ((e.span.line ≡ l) × ((place < p) ⊎ ((place ≡ p) × (number_of e.kind ≤ n))))
@@ -151,10 +155,16 @@ VersionComplaint ms stop place why =
     ⊎ ((m : Mark) × (slice_get ms 1 ≡ Some m) × (place ≡ 1) × (why ≡ 6))))
     ⊎ ((s : Stop) × (stop ≡ Some s) × (place ≡ length ms) × (why ≡ flaw_number s.flaw))
 
+-- behind the word `version` a number is wanted first, and then the line's end
+abbrev pub VersionWants : ℕ → What → Type 0
+VersionWants place what.Number = place ≡ 0
+VersionWants place what.LineEnd = 0 < place
+VersionWants place _ = ⊥
+
 -- a version line is refused by the first complaint, and read where there is none
 abbrev pub FitsVersion : ℕ → ℕ → List Mark → Option Stop → Result Declarations SchemaRefusal → Type 0
 FitsVersion line behind ms stop (Ok d) = (place why : ℕ) → VersionComplaint ms stop place why → ⊥
-FitsVersion line behind ms stop (Err e) = IsFirst (VersionComplaint ms stop) (span_at line behind ms stop) e
+FitsVersion line behind ms stop (Err e) = IsFirst (VersionComplaint ms stop) VersionWants (span_at line behind ms stop) e
 
 -- a text with a version line: refused there, or by its later lines
 pub record FitsTyped (number : ℕ) (lines : List (List ℕ)) (reading : Result Declarations SchemaRefusal) : Type 0 where
