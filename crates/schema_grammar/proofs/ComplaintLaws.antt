@@ -14,7 +14,7 @@ use Rattle.schema_grammar.specs.declared.refusal.SchemaRefusalKind.TheVariants a
 use Rattle.schema_grammar.specs.declared.refusal.What.{What}
 use Rattle.schema_grammar.specs.declared.format.Format.{Format}
 use Rattle.schema_grammar.specs.declared.format.Format.TheVariants as format
-use Rattle.schema_grammar.specs.Complaints.{IsLine, BeginsLine, Wants, LineWants, Carries, ComplainsOfWord, LineComplaint, kinds, number_of, flaw_number, span_at, IsFirst, FitsLine, FitsGoal}
+use Rattle.schema_grammar.specs.Complaints.{IsLine, BeginsLine, Wants, LineWants, Carries, ComplainsOfWord, LineComplaint, kinds, number_of, flaw_number, span_at, IsFirst, FitsLine, FitsGoal, RefusesGoal}
 use Rattle.schema_grammar.specs.Grammar.{Reading, start, finished}
 use Rattle.schema_grammar.specs.Reading.{step, follow, read_goal}
 use Rattle.schema_grammar.specs.Refusals.{at, and_then, expecting, refused_by, refusal, kind_of_flaw}
@@ -287,6 +287,9 @@ line-law f declared line ms stop = fits (follow f declared line start 1 ms stop)
 
 pub goal-complaint-law : (declared : List (List ℕ)) (text : List ℕ) → FitsGoal declared text (read_goal declared text)
 goal-complaint-law declared text = line-law format.Plain declared 1 (lex mode.Goal text).marks (lex mode.Goal text).stop
+
+pub goal_refused : (declared : List (List ℕ)) (text : List ℕ) (e : SchemaRefusal) → read_goal declared text ≡ Err e → RefusesGoal declared text e
+goal_refused declared text e h = subst (FitsGoal declared text) h (goal-complaint-law declared text)
 
 -- a token by which the reading ends is the first place, of a number up to 6
 pub record EndsAt (f : Format) (declared : List (List ℕ)) (line : ℕ) (m : Mark) (ms : List Mark) (stop : Option Stop) (why : SchemaRefusalKind) : Type 0 where

@@ -77,3 +77,11 @@ pub on_ok_whole : {X Y E : Type 0} (r : Result X E) (y : Y) (part whole : Result
     → OnOk r (part ≡ Ok y) → OnOk r (whole ≡ Ok y)
 on_ok_whole (Ok x) y part whole e h = e ∙ h
 on_ok_whole (Err why) y part whole e h = tt
+
+pub ok_map : {X E : Type 0} (P Q : X → Type 0) (r : Result X E) → ((x : X) → P x → Q x) → IfOk r P → IfOk r Q
+ok_map P Q (Ok x) f h = f x h
+ok_map P Q (Err e) f h = tt
+
+pub err_map : {X E : Type 0} (P Q : E → Type 0) (r : Result X E) → ((e : E) → P e → Q e) → IfErr r P → IfErr r Q
+err_map P Q (Ok x) f h = tt
+err_map P Q (Err e) f h = f e h

@@ -13,13 +13,20 @@ use Rattle.schema_grammar.specs.Complaints.{FitsTextLine, number_of, flaw_number
 use Rattle.schema_grammar.specs.Declarations.{Declarations, no_declaration, read_line}
 use Rattle.schema_grammar.specs.Meanings.{HasTokens}
 use Rattle.schema_grammar.specs.Refusals.{and_then, refusal, refused_by, kind_of_flaw}
-use Rattle.schema_grammar.specs.Schemas.{FitsLines, VersionComplaint, VersionWants, FitsVersion, FitsTyped, FitsSchema, IsVersionLine, has_version_line, begins_version}
+use Rattle.schema_grammar.specs.Schemas.{FitsLines, RefusesVersion, VersionComplaint, VersionWants, FitsVersion, HasVersionLine, FitsText, FitsSchema, RefusesSchema, IsVersionLine, has_version_line, begins_version}
 use Rattle.schema_grammar.specs.Texts.{read_lines, read_version, read_typed, read_opening, read_text, is_version, opened, end_version, version_number, number_in}
 use Rattle.schema_grammar.proofs.BlankLemmas.{blank_plain}
 use Rattle.schema_grammar.proofs.ComplaintLaws.{flaw_numbered, flaw_carries, no_mark, same_mark}
 use Rattle.schema_grammar.proofs.LinesLaws.{line-law, lines-law, lines_behind}
 use Rattle.schema_grammar.proofs.DeclaringLaws.{has_tokens, line_back}
 use Rattle.schema_grammar.proofs.SchemaLaws.{version_there}
+
+-- a text with a version line is refused there, or as its later lines are
+abbrev FitsTyped : ℕ → List (List ℕ) → Result Declarations SchemaRefusal → Type 0
+FitsTyped number lines reading =
+    (text : HasVersionLine lines)
+    × (((e : SchemaRefusal) × (reading ≡ Err e) × RefusesVersion (length text.before + number) (text.head.column + length text.head.word) text.others (lex mode.Numbered text.version).stop e)
+    ⊎ (IsVersionLine text.version × FitsLines format.Typed (length text.before + number + 1) no_declaration text.later reading))
 
 abbrev TextFits : ℕ → List (List ℕ) → Result Declarations SchemaRefusal → Type 0
 TextFits number lines reading = ((has_version_line lines ≡ false) × FitsLines format.Plain number no_declaration lines reading) ⊎ FitsTyped number lines reading
@@ -148,7 +155,7 @@ blank_fits number line lines reading blank (inl (none_yet, fits)) =
     let read : read_line format.Plain number no_declaration line ≡ Ok no_declaration = line_back format.Plain number no_declaration line no_declaration (inl (inl (record { tokens = blank_plain line blank; same = refl }))) in
     let of : Result Declarations SchemaRefusal → Type 0 = λ o. FitsTextLine format.Plain no_declaration number (lex mode.Plain line).marks (lex mode.Plain line).stop o in
     inl ((rw blank none_yet), lines_behind format.Plain number no_declaration no_declaration line lines reading read (subst of read (line-law format.Plain number no_declaration line)) fits)
-blank_fits number line lines reading blank (inr typed) = inr (record {
+blank_fits number line lines reading blank (inr (typed, fits)) = inr (record {
   before = line ∷ typed.before;
   version = typed.version;
   later = typed.later;
@@ -158,18 +165,17 @@ blank_fits number line lines reading blank (inr typed) = inr (record {
   others = typed.others;
   starts = typed.starts;
   is_word = typed.is_word;
-  fits = shift typed.fits;
-})
+}, shift fits)
   where
     same : length typed.before + (number + 1) ≡ suc (length typed.before) + number
     same = omega arith
 
-    shift : ((e : SchemaRefusal) × (reading ≡ Err e) × FitsVersion (length typed.before + (number + 1)) (typed.head.column + length typed.head.word) typed.others (lex mode.Numbered typed.version).stop (Err e))
+    shift : ((e : SchemaRefusal) × (reading ≡ Err e) × RefusesVersion (length typed.before + (number + 1)) (typed.head.column + length typed.head.word) typed.others (lex mode.Numbered typed.version).stop e)
         ⊎ (IsVersionLine typed.version × FitsLines format.Typed (length typed.before + (number + 1) + 1) no_declaration typed.later reading)
-        → ((e : SchemaRefusal) × (reading ≡ Err e) × FitsVersion (suc (length typed.before) + number) (typed.head.column + length typed.head.word) typed.others (lex mode.Numbered typed.version).stop (Err e))
+        → ((e : SchemaRefusal) × (reading ≡ Err e) × RefusesVersion (suc (length typed.before) + number) (typed.head.column + length typed.head.word) typed.others (lex mode.Numbered typed.version).stop e)
         ⊎ (IsVersionLine typed.version × FitsLines format.Typed (suc (length typed.before) + number + 1) no_declaration typed.later reading)
     shift (inl (e, is, first)) =
-        let of : ℕ → Type 0 = λ n. FitsVersion n (typed.head.column + length typed.head.word) typed.others (lex mode.Numbered typed.version).stop (Err e) in inl (e, is, subst of same first)
+        let of : ℕ → Type 0 = λ n. RefusesVersion n (typed.head.column + length typed.head.word) typed.others (lex mode.Numbered typed.version).stop e in inl (e, is, subst of same first)
     shift (inr (is, fits)) =
         let of : ℕ → Type 0 = λ n. FitsLines format.Typed (n + 1) no_declaration typed.later reading in inr (is, subst of same fits)
 
@@ -182,10 +188,10 @@ typed_fits number line lines m ms stop marks same is =
     here = omega arith
 
     first : (reading : Result Declarations SchemaRefusal)
-        → ((e : SchemaRefusal) × (reading ≡ Err e) × FitsVersion (0 + number) (m.column + length m.word) ms (lex mode.Numbered line).stop (Err e))
+        → ((e : SchemaRefusal) × (reading ≡ Err e) × RefusesVersion (0 + number) (m.column + length m.word) ms (lex mode.Numbered line).stop e)
         ⊎ (IsVersionLine line × FitsLines format.Typed (0 + number + 1) no_declaration lines reading)
         → FitsTyped number (line ∷ lines) reading
-    first reading fits = record {
+    first reading fits = (record {
       before = [];
       version = line;
       later = lines;
@@ -195,8 +201,7 @@ typed_fits number line lines m ms stop marks same is =
       others = ms;
       starts = marks;
       is_word = is;
-      fits = fits;
-    }
+    }, fits)
 
     told : (o : Result Declarations SchemaRefusal) → read_version number (m.column + length m.word) ms stop ≡ o → FitsVersion number (m.column + length m.word) ms stop o
         → FitsTyped number (line ∷ lines) (and_then o (λ d. read_lines format.Typed (number + 1) d lines))
@@ -236,7 +241,27 @@ text_fits number (line ∷ lines) = told (text_fits (number + 1) lines) (lex mod
     told later [] (Some s) marks stop = plain (ap (λ t. begins_version t l.stop (has_version_line lines)) marks ∙ ap (λ o. begins_version [] o (has_version_line lines)) stop)
     told later (m ∷ ms) stop marks same = first (is_version m.kind m.word) m ms stop marks same refl
 
+abbrev refused : SchemaRefusal → Result Declarations SchemaRefusal
+refused e = Err e
+
+fits_text : (number : ℕ) (lines : List (List ℕ)) (reading : Result Declarations SchemaRefusal) → TextFits number lines reading → FitsText number lines reading
+fits_text number lines (Ok whole) (inl plain) = inl plain
+fits_text number lines (Ok whole) (inr (text, inl (e, is, first))) = cc
+fits_text number lines (Ok whole) (inr (text, inr fine)) = inr (text, fine.0, fine.1)
+fits_text number lines (Err e) (inl plain) = inl plain
+fits_text number lines (Err e) (inr (text, inl (why, is, first))) =
+    let of : SchemaRefusal → Type 0 = λ x. RefusesVersion (length text.before + number) (text.head.column + length text.head.word) text.others (lex mode.Numbered text.version).stop x in
+    inr (text, inl (subst of (inside is) first))
+  where
+    inside : refused e ≡ refused why → why ≡ e
+    inside eq = cc
+fits_text number lines (Err e) (inr (text, inr refused)) = inr (text, inr refused)
+
 -- a schema text is refused by its first complaint, or as declaring nothing, and read where there is neither
 pub text-law : (text : List ℕ) → FitsSchema text (read_text text)
 unfolding read_text
-text-law text = text_fits 1 (line_texts (without_mark text))
+text-law text =
+    fits_text 1 (line_texts (without_mark text)) (read_opening 1 (line_texts (without_mark text))) (text_fits 1 (line_texts (without_mark text)))
+
+pub schema_refused : (text : List ℕ) (e : SchemaRefusal) → read_text text ≡ Err e → RefusesSchema text e
+schema_refused text e h = subst (FitsSchema text) h (text-law text)

@@ -108,15 +108,23 @@ pub record IsFirst (Complaint : ℕ → ℕ → Type 0) (Wanted : ℕ → What �
 abbrev pub LineWants : List Mark → ℕ → What → Type 0
 LineWants ms place = Wants (take place (kinds ms))
 
+-- a dependency line is refused by its first complaint
+abbrev pub RefusesLine : Format → List (List ℕ) → ℕ → List Mark → Option Stop → SchemaRefusal → Type 0
+RefusesLine f declared line ms stop e = IsFirst (LineComplaint f declared ms stop) (LineWants ms) (span_at line 1 ms stop) e
+
 -- a dependency line is refused by the first complaint, and read where there is none
 abbrev pub FitsLine : Format → List (List ℕ) → ℕ → List Mark → Option Stop → Result Dependency SchemaRefusal → Type 0
 FitsLine f declared line ms stop (Ok d) = (place number : ℕ) → LineComplaint f declared ms stop place number → ⊥
-FitsLine f declared line ms stop (Err e) = IsFirst (LineComplaint f declared ms stop) (LineWants ms) (span_at line 1 ms stop) e
+FitsLine f declared line ms stop (Err e) = RefusesLine f declared line ms stop e
 
 -- what is wrong with a goal over declared names
 abbrev pub GoalComplaint : List (List ℕ) → List ℕ → ℕ → ℕ → Type 0
 GoalComplaint declared text place number =
     LineComplaint format.Plain declared (lex mode.Goal text).marks (lex mode.Goal text).stop place number
+
+-- a goal over declared names is refused by its first complaint
+abbrev pub RefusesGoal : List (List ℕ) → List ℕ → SchemaRefusal → Type 0
+RefusesGoal declared text e = RefusesLine format.Plain declared 1 (lex mode.Goal text).marks (lex mode.Goal text).stop e
 
 -- a goal is refused by the first complaint, and read where there is none
 abbrev pub FitsGoal : List (List ℕ) → List ℕ → Result Dependency SchemaRefusal → Type 0

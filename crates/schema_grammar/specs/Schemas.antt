@@ -140,10 +140,14 @@ pub record DeclaresNothing (f : Format) (first : ℕ) (d : Declarations) (lines 
   pub nothing : length whole.names ≡ 0
   pub at_the_end : e ≡ refusal (first + length lines - 1) 1 0 kind.NoAttributes
 
+-- lines are refused by the first complaint, or as declaring nothing
+abbrev pub RefusesLines : Format → ℕ → Declarations → List (List ℕ) → SchemaRefusal → Type 0
+RefusesLines f first d lines e = IsFirstOfLines f first d lines e ⊎ DeclaresNothing f first d lines e
+
 -- lines are refused by the first complaint, or as declaring nothing, and read where there is neither
 abbrev pub FitsLines : Format → ℕ → Declarations → List (List ℕ) → Result Declarations SchemaRefusal → Type 0
 FitsLines f first d lines (Ok whole) = (l p n : ℕ) → LinesComplaint f first d lines l p n → ⊥
-FitsLines f first d lines (Err e) = IsFirstOfLines f first d lines e ⊎ DeclaresNothing f first d lines e
+FitsLines f first d lines (Err e) = RefusesLines f first d lines e
 
 -- what is wrong with the tokens behind the word `version`: no number, another number than 2, a token
 -- behind the number, or bytes that are no token
@@ -161,13 +165,17 @@ VersionWants place what.Number = place ≡ 0
 VersionWants place what.LineEnd = 0 < place
 VersionWants place _ = ⊥
 
+-- a version line is refused by its first complaint
+abbrev pub RefusesVersion : ℕ → ℕ → List Mark → Option Stop → SchemaRefusal → Type 0
+RefusesVersion line behind ms stop e = IsFirst (VersionComplaint ms stop) VersionWants (span_at line behind ms stop) e
+
 -- a version line is refused by the first complaint, and read where there is none
 abbrev pub FitsVersion : ℕ → ℕ → List Mark → Option Stop → Result Declarations SchemaRefusal → Type 0
 FitsVersion line behind ms stop (Ok d) = (place why : ℕ) → VersionComplaint ms stop place why → ⊥
-FitsVersion line behind ms stop (Err e) = IsFirst (VersionComplaint ms stop) VersionWants (span_at line behind ms stop) e
+FitsVersion line behind ms stop (Err e) = RefusesVersion line behind ms stop e
 
--- a text with a version line: refused there, or by its later lines
-pub record FitsTyped (number : ℕ) (lines : List (List ℕ)) (reading : Result Declarations SchemaRefusal) : Type 0 where
+-- a text whose first token is the word `version`
+pub record HasVersionLine (lines : List (List ℕ)) : Type 0 where
   pub before : List (List ℕ)
   pub version : List ℕ
   pub later : List (List ℕ)
@@ -177,12 +185,32 @@ pub record FitsTyped (number : ℕ) (lines : List (List ℕ)) (reading : Result 
   pub others : List Mark
   pub starts : (lex mode.Numbered version).marks ≡ head ∷ others
   pub is_word : is_version head.kind head.word ≡ true
-  pub fits :
-      ((e : SchemaRefusal) × (reading ≡ Err e) × FitsVersion (length before + number) (head.column + length head.word) others (lex mode.Numbered version).stop (Err e))
-      ⊎ (IsVersionLine version × FitsLines format.Typed (length before + number + 1) no_declaration later reading)
+
+-- it is refused at its version line, or by its later lines
+abbrev pub RefusesTyped : (number : ℕ) (lines : List (List ℕ)) → HasVersionLine lines → SchemaRefusal → Type 0
+RefusesTyped number lines text e =
+    RefusesVersion (length text.before + number) (text.head.column + length text.head.word) text.others (lex mode.Numbered text.version).stop e
+    ⊎ (IsVersionLine text.version × RefusesLines format.Typed (length text.before + number + 1) no_declaration text.later e)
+
+-- a text is refused by its first complaint, or as declaring nothing
+abbrev pub RefusesText : ℕ → List (List ℕ) → SchemaRefusal → Type 0
+RefusesText number lines e =
+    ((has_version_line lines ≡ false) × RefusesLines format.Plain number no_declaration lines e)
+    ⊎ ((text : HasVersionLine lines) × RefusesTyped number lines text e)
+
+abbrev pub RefusesSchema : List ℕ → SchemaRefusal → Type 0
+RefusesSchema text e = RefusesText 1 (line_texts (without_mark text)) e
+
+-- a text has no complaint
+abbrev pub IsFineText : ℕ → List (List ℕ) → Declarations → Type 0
+IsFineText number lines whole =
+    ((has_version_line lines ≡ false) × FitsLines format.Plain number no_declaration lines (Ok whole))
+    ⊎ ((text : HasVersionLine lines) × IsVersionLine text.version × FitsLines format.Typed (length text.before + number + 1) no_declaration text.later (Ok whole))
 
 -- a text is refused by the first complaint, or as declaring nothing, and read where there is neither
+abbrev pub FitsText : ℕ → List (List ℕ) → Result Declarations SchemaRefusal → Type 0
+FitsText number lines (Ok whole) = IsFineText number lines whole
+FitsText number lines (Err e) = RefusesText number lines e
+
 abbrev pub FitsSchema : List ℕ → Result Declarations SchemaRefusal → Type 0
-FitsSchema text reading =
-    ((has_version_line (line_texts (without_mark text)) ≡ false) × FitsLines format.Plain 1 no_declaration (line_texts (without_mark text)) reading)
-    ⊎ FitsTyped 1 (line_texts (without_mark text)) reading
+FitsSchema text reading = FitsText 1 (line_texts (without_mark text)) reading

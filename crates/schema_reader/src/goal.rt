@@ -5,7 +5,9 @@ ghost use Rattle.dep_model.specs.Schemas.{names_of, universe_of};
 ghost use Rattle.lexer.specs.Tokens.{lexed};
 ghost use Rattle.schema_grammar.specs.Grammar.{finished, IsPlaced};
 ghost use Rattle.schema_reader.specs.Views.{reading_of, names_in};
-ghost use Rattle.schema_grammar.specs.Reading.{symbol_of, step, follow_lexed, read_goal};
+ghost use Rattle.schema_grammar.specs.Complaints.{RefusesGoal};
+ghost use Rattle.schema_grammar.specs.Meanings.{MeansGoal};
+ghost use Rattle.schema_grammar.specs.Reading.{symbol_of, step, follow_lexed};
 ghost use Rattle.schema_grammar.specs.Refusals.{at, expecting};
 
 use crate::stage::{Stage, finish, turn};
@@ -18,14 +20,12 @@ use schema_grammar::{Format, SchemaRefusal, SchemaRefusalKind, Sign, Symbol};
 /// The most bytes of a goal.
 pub const MOST_GOAL_BYTES: usize = 16_384;
 
-/// The dependency over the schema's names that a goal states. The goal is one line; `#`, line ends
-/// and a byte-order mark are strange bytes in it. It takes no memory.
-///
-/// The refusals are those of the first place, and there that of the least number.
+/// The dependency over the schema's names that a goal means, or its first complaint. The goal is one
+/// line; `#`, line ends and a byte-order mark are strange bytes in it. It takes no memory.
 pub fn read_goal(schema: &Schema, text: &[u8]) -> Result<Dep, SchemaRefusal>
     requires { length text.now ≤ MOST_GOAL_BYTES }
-    ensures ok { IfOk result (λ dep. read_goal (names_of schema.now) text.now ≡ Ok (dependency_of dep)) }
-    ensures err { IfErr result (λ refusal. read_goal (names_of schema.now) text.now ≡ Err refusal) }
+    ensures ok { IfOk result (λ dep. MeansGoal (names_of schema.now) text.now (dependency_of dep)) }
+    ensures err { IfErr result (RefusesGoal (names_of schema.now) text.now) }
     ensures within { IfOk result (IsDepWithin (universe_of schema.now)) }
 {
     follow(

@@ -5,8 +5,9 @@ ghost use Rattle.lexer.specs.Lines.{line_texts};
 ghost use Rattle.lexer.specs.Tokens.{lexed};
 ghost use Rattle.schema_grammar.specs.Declarations.{no_declaration};
 ghost use Rattle.schema_reader.specs.Views.{drafted, lines_after, AreFew};
-ghost use Rattle.schema_grammar.specs.Refusals.{Refuses};
-ghost use Rattle.schema_grammar.specs.Texts.{finish, is_version, number_in, end_version_lexed, read_lines, read_version_lexed, read_typed, read_opening, read_text, declarations_of};
+ghost use Rattle.schema_grammar.specs.Refusals.{Refuses, RefusesAs};
+ghost use Rattle.schema_grammar.specs.Schemas.{MeansSchema, RefusesSchema};
+ghost use Rattle.schema_grammar.specs.Texts.{finish, is_version, number_in, end_version_lexed, read_lines, read_version_lexed, read_typed, read_opening, declarations_of};
 
 use crate::draft::Draft;
 use dep_model::Schema;
@@ -17,13 +18,11 @@ use std::alloc::Global;
 /// The most bytes of a schema text.
 pub const MOST_TEXT_BYTES: usize = 1_048_576;
 
-/// The schema that a text declares. A byte-order mark at its very start is skipped.
-///
-/// The refusals are those of the first place, and there that of the least number.
+/// The schema that a text means, or its first complaint. A byte-order mark at its very start is skipped.
 pub fn read_schema(alloc: Global, text: &[u8]) -> Result<Schema, SchemaRefusal>
     requires { length text.now ≤ MOST_TEXT_BYTES }
-    ensures ok { IfOk result (λ schema. read_text text.now ≡ Ok (declarations_of schema)) }
-    ensures err { IfErr result (λ refusal. Refuses refusal (read_text text.now)) }
+    ensures ok { IfOk result (λ schema. MeansSchema text.now (declarations_of schema)) }
+    ensures err { IfErr result (λ refusal. RefusesAs refusal.kind (RefusesSchema text.now refusal)) }
     ensures free { IfOk result (λ schema. All (λ name. is_reserved Format.Plain name ≡ false) (names_of schema)) }
 {
     let draft = match read_opening(alloc, without_mark(text)) {
