@@ -5,13 +5,13 @@ use Rattle.std.specs.List.{starts_with}
 use denote.Ref.{Bor}
 use Rattle.dep_model.specs.declared.schema.Schema.{Schema}
 use Rattle.lexer.specs.Lines.{line_texts, without_mark, CutsAt, CutsLine}
-use Rattle.proof_text.specs.declared.refusal.ProofRefusalKind.{ProofRefusalKind}
+use Rattle.proof_grammar.specs.declared.refusal.ProofRefusalKind.{ProofRefusalKind}
 use Rattle.proof_text.specs.declared.text.TheConstants.{MOST_PROOF_BYTES}
-use Rattle.proof_text.specs.Books.{Ledger, finished, complaint_at}
-use Rattle.proof_text.specs.Complaints.{Complaint, LineComplaint, complaint_of, Refuses, RefusesAt}
-use Rattle.proof_text.specs.Ledgers.{IsLedger}
-use Rattle.proof_text.proofs.CheckedLemmas.{read_one_keeps}
-use Rattle.proof_text.specs.Texts.{read_one, read_lines, read_proof}
+use Rattle.proof_grammar.specs.Books.{Ledger, finished, complaint_at}
+use Rattle.proof_grammar.specs.Complaints.{Complaint, LineComplaint, complaint_of, Refuses, RefusesAt}
+use Rattle.proof_grammar.specs.Ledgers.{IsLedger}
+use Rattle.proof_grammar.proofs.CheckedLemmas.{read_one_keeps}
+use Rattle.proof_grammar.specs.Texts.{read_one, read_lines, read_proof}
 
 -- to read the lines that are left is to read the whole
 pub record Reads (s : Schema) (text : List ℕ) (fresh : Bool) (number : ℕ) (book : Ledger) (rest : List ℕ) : Type 0 where

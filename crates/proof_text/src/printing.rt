@@ -9,8 +9,8 @@ ghost use Rattle.derivation.specs.Derivs.{tree_of, leaf_of, step_of, pair_of};
 ghost use Rattle.derivation.specs.Table.{leaf_conclusion, step_conclusion, pair_conclusion};
 ghost use Rattle.derivation.specs.Conclusions.{Proves};
 ghost use Rattle.schema_grammar.specs.Printing.{set_text, dependency_text};
-ghost use Rattle.proof_text.specs.Lines.{body_of, line_of};
-ghost use Rattle.proof_text.specs.Printing.{step_word, sides_text, pair_word, body_text, line_text, leaf_body, numbered_line, lines_behind, lines_text, canonical_certificate, IsProof, IsStepWithin, IsBodyWithin};
+ghost use Rattle.proof_text.specs.Views.{body_of, line_of};
+ghost use Rattle.proof_grammar.specs.Printing.{step_word, sides_text, pair_word, body_text, line_text, leaf_body, numbered_line, lines_behind, lines_text, canonical_certificate, IsProof, IsStepWithin, IsBodyWithin};
 
 use crate::line::{Body, Line};
 use attr_sets::AttrSet;
@@ -142,7 +142,7 @@ fn body_of_leaf(rule: LeafRule) -> Body
     }
 }
 
-#[tactic(auto, unfolding(crate::specs::Printing::line_text))]
+#[tactic(auto, unfolding(proof_grammar::specs::Printing::line_text))]
 fn add_line(
     text: &mut Vec<u8>,
     alloc: Global,
@@ -161,7 +161,7 @@ fn add_line(
     add(text, b"\n")
 }
 
-#[tactic(auto, unfolding(crate::specs::Printing::body_text))]
+#[tactic(auto, unfolding(proof_grammar::specs::Printing::body_text))]
 fn add_body(
     text: &mut Vec<u8>,
     alloc: Global,
@@ -192,7 +192,7 @@ fn add_body(
     }
 }
 
-#[tactic(auto, unfolding(crate::specs::Printing::step_word))]
+#[tactic(auto, unfolding(proof_grammar::specs::Printing::step_word))]
 fn add_step_word(text: &mut Vec<u8>, rule: StepRule) -> Result<(), WantMemory>
     ensures added { OnOk result (text.new.items ≡ text.old.items ++ step_word (step_of rule)) }
 {
@@ -228,7 +228,7 @@ fn add_sides(
     }
 }
 
-#[tactic(auto, unfolding(crate::specs::Printing::pair_word))]
+#[tactic(auto, unfolding(proof_grammar::specs::Printing::pair_word))]
 fn add_pair_word(text: &mut Vec<u8>, rule: PairRule) -> Result<(), WantMemory>
     ensures added { OnOk result (text.new.items ≡ text.old.items ++ pair_word (pair_of rule)) }
 {

@@ -2,34 +2,23 @@ ghost use Rattle.std.specs.Prelude.{◌≡◌, ◌+◌, ◌<◌, ◌≤◌, ◌^
 ghost use Rattle.lexer.specs.Tokens.{lexed, lex};
 ghost use Rattle.derivation.specs.Derivs.{tree_of};
 ghost use Rattle.dep_model.specs.Schemas.{universe_of};
-ghost use Rattle.proof_text.specs.Ledgers.{IsLedger};
-ghost use Rattle.proof_text.specs.Books.{ledger_of};
-ghost use Rattle.proof_text.specs.Checked.{IsChecked};
-ghost use Rattle.proof_text.specs.Complaints.{Refuses, RefusesAt, IsRefusalWithin};
-ghost use Rattle.proof_text.specs.Texts.{is_yes, is_blank, line_kind, read_one, read_proof};
+ghost use Rattle.proof_grammar.specs.Ledgers.{IsLedger};
+ghost use Rattle.proof_text.specs.Views.{ledger_of};
+ghost use Rattle.proof_grammar.specs.Checked.{IsChecked};
+ghost use Rattle.proof_grammar.specs.Complaints.{Refuses, RefusesAt, IsRefusalWithin};
+ghost use Rattle.proof_grammar.specs.Texts.{is_yes, is_blank, line_kind, read_one, read_proof};
 
 use crate::book::Book;
-use crate::cursor::Cursor;
-use crate::guide::Guide;
 use crate::line::read_line;
-use crate::refusal::{ProofRefusal, ProofRefusalKind};
 use dep_model::Schema;
 use derivation::Deriv;
 use lexer::{Mode, Next, TokenKind, cut_line, next_token, without_mark};
+use line_reader::{Cursor, Guide, Names};
+use proof_grammar::{LineKind, ProofRefusal, ProofRefusalKind};
 use std::alloc::Global;
 
 /// The most bytes of a certificate.
 pub const MOST_PROOF_BYTES: usize = 268_435_456;
-
-/// What a line of the text is.
-#[derive(Clone, Copy, Debug, PartialEq, Eq)]
-pub enum LineKind {
-    /// Without tokens.
-    Blank,
-    /// The one word `yes`, before any certificate line.
-    Opening,
-    Certificate,
-}
 
 /// The derivation that a certificate spells.
 ///
@@ -66,7 +55,7 @@ pub fn read_proof(alloc: Global, schema: &Schema, text: &[u8]) -> Result<Box<Der
 }
 
 /// Reads one line of the text. Whether a `yes` may still come is told and answered.
-#[tactic(auto, unfolding(crate::specs::Texts::read_one))]
+#[tactic(auto, unfolding(proof_grammar::specs::Texts::read_one))]
 fn read_one(
     alloc: Global,
     schema: &Schema,
@@ -90,9 +79,9 @@ fn read_one(
                 line: number,
                 column: 1,
                 text,
-                guide,
+                mode: Mode::Numbered,
             };
-            match read_line(schema, start) {
+            match read_line(&Names::Guided(schema, guide), start) {
                 Err(refusal) => Err(ProofRefusalKind::BadLine(refusal)),
                 Ok(line) => {
                     book.enter(alloc, schema, number, &line)?;
@@ -104,7 +93,7 @@ fn read_one(
 }
 
 /// What a line is.
-#[tactic(auto, unfolding(crate::specs::Texts::line_kind))]
+#[tactic(auto, unfolding(proof_grammar::specs::Texts::line_kind))]
 fn line_kind(fresh: bool, text: &[u8]) -> LineKind
     requires { 1 + length text.now < 2 ^ 32 }
     ensures exact { result ≡ line_kind fresh (lex Mode.Numbered text.now) }
@@ -136,7 +125,7 @@ fn is_blank(column: u32, text: &[u8]) -> bool
 }
 
 /// Whether a token is the word `yes`, in lower case.
-#[tactic(auto, unfolding(crate::specs::Texts::is_yes))]
+#[tactic(auto, unfolding(proof_grammar::specs::Texts::is_yes))]
 fn is_yes(kind: TokenKind, word: &[u8]) -> bool
     ensures exact { result ≡ is_yes kind word.now }
 {

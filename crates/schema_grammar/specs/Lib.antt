@@ -6,6 +6,7 @@ pub mod Printed
 pub mod Printing
 pub mod Reading
 pub mod Refusals
+pub mod Rests
 pub mod Schemas
 pub mod Texts
 pub mod TokenLists

@@ -3,15 +3,12 @@ use Rattle.std.specs.Prelude.{ℕ, ◌+◌, ◌<◌, ◌^◌, List, [], length, 
 use denote.Ref.{Bor}
 use Rattle.attr_sets.specs.Sets.{places}
 use Rattle.dep_model.specs.Deps.{dependencies_of}
-use Rattle.dep_model.specs.Schemas.{names_of}
 use Rattle.lexer.specs.Lines.{line_texts}
 use Rattle.schema_grammar.specs.Declarations.{Declarations}
 use Rattle.schema_grammar.specs.Grammar.{Reading, start, left, left_empty, behind, right, right_empty}
 use Rattle.schema_reader.specs.declared.draft.Draft.{Draft}
 use Rattle.schema_reader.specs.declared.stage.Stage.{Stage}
 use Rattle.schema_reader.specs.declared.stage.Stage.TheVariants as stage
-use Rattle.schema_reader.specs.declared.words.Names.{Names}
-use Rattle.schema_reader.specs.declared.words.Names.TheVariants as names
 
 abbrev pub drafted : Draft → Declarations
 drafted d = record { names = d.names.items; columns = d.columns.items; deps = dependencies_of d.deps.items; lines = d.lines.items }
@@ -23,11 +20,6 @@ reading_of stage.LeftEmpty = left_empty
 reading_of (stage.Behind s x) = behind s (places x)
 reading_of (stage.Right s x y) = right s (places x) (places y)
 reading_of (stage.RightEmpty s x) = right_empty s (places x)
-
--- the names among which a word is looked up
-abbrev pub names_in : Names → List (List ℕ)
-names_in (names.Listed listed) = listed.now
-names_in (names.Of schema) = names_of schema.now
 
 -- the lines behind a line end
 abbrev pub lines_after : Option (Bor (List ℕ)) → List (List ℕ)

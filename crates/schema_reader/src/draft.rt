@@ -7,10 +7,11 @@ ghost use Rattle.schema_grammar.specs.Refusals.{Refuses, RefusesAs};
 
 use crate::goal::{follow, step};
 use crate::stage::Stage;
-use crate::words::{Names, declares, is_reserved, place_among};
+use crate::words::declares;
 use attr_sets::PLACES;
 use dep_model::{Column, Dep, MOST_DEPENDENCIES, Name};
 use lexer::{Mode, Next, Token, TokenKind, next_token};
+use line_reader::{Names, is_reserved, place_among};
 use schema_grammar::{Format, SchemaRefusal, SchemaRefusalKind, What};
 use std::alloc::Global;
 

@@ -4,17 +4,18 @@ ghost use Rattle.dep_model.specs.Deps.{dependency_of, IsDepWithin};
 ghost use Rattle.dep_model.specs.Schemas.{names_of, universe_of};
 ghost use Rattle.lexer.specs.Tokens.{lexed};
 ghost use Rattle.schema_grammar.specs.Grammar.{finished, IsPlaced};
-ghost use Rattle.schema_reader.specs.Views.{reading_of, names_in};
+ghost use Rattle.schema_reader.specs.Views.{reading_of};
+ghost use Rattle.line_reader.specs.Views.{names_in};
 ghost use Rattle.schema_grammar.specs.Complaints.{RefusesGoal};
 ghost use Rattle.schema_grammar.specs.Meanings.{MeansGoal};
 ghost use Rattle.schema_grammar.specs.Reading.{symbol_of, step, follow_lexed};
 ghost use Rattle.schema_grammar.specs.Refusals.{at, expecting};
 
 use crate::stage::{Stage, finish, turn};
-use crate::words::{Names, look_up};
 use attr_sets::PLACES;
 use dep_model::{Dep, Schema};
 use lexer::{Mode, Next, TokenKind, next_token};
+use line_reader::{Names, look_up};
 use schema_grammar::{Format, SchemaRefusal, SchemaRefusalKind, Sign, Symbol};
 
 /// The most bytes of a goal.

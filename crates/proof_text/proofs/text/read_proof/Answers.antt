@@ -4,13 +4,13 @@ use Rattle.derivation.specs.Trees.{Tree}
 use Rattle.derivation.specs.Derivs.{tree_of}
 use Rattle.lexer.specs.Lines.{line_texts, without_mark}
 use Rattle.schema_reader.proofs.TextLemmas.{cut_any, cut_last, cut_more}
-use Rattle.proof_text.specs.Books.{ledger_of}
-use Rattle.proof_text.specs.Complaints.{LineComplaint, RefusesAt}
-use Rattle.proof_text.specs.Texts.{read_lines, read_proof}
+use Rattle.proof_text.specs.Views.{ledger_of}
+use Rattle.proof_grammar.specs.Complaints.{LineComplaint, RefusesAt}
+use Rattle.proof_grammar.specs.Texts.{read_lines, read_proof}
 use Rattle.std.proofs.lemmas.Result.{IfOk-weaker}
-use Rattle.proof_text.specs.Ledgers.{IsLedger}
-use Rattle.proof_text.specs.Checked.{IsChecked}
-use Rattle.proof_text.proofs.CheckedLemmas.{read_proof_checked}
+use Rattle.proof_grammar.specs.Ledgers.{IsLedger}
+use Rattle.proof_grammar.specs.Checked.{IsChecked}
+use Rattle.proof_grammar.proofs.CheckedLemmas.{read_proof_checked}
 use Rattle.proof_text.proofs.TextLemmas.{without_mark-shorter, line_within, line_refused, last_read, reads_more, refuses_whole}
 use Rattle.proof_text.proofs.text.read_proof.Goals as goal
 

@@ -1,5 +1,5 @@
 use Rattle.std.proofs.Common.{length}
-use Rattle.proof_text.specs.Books.{ledger_of}
+use Rattle.proof_text.specs.Views.{ledger_of}
 use Rattle.proof_text.proofs.TextLemmas.{Reads}
 use Rattle.proof_text.proofs.text.read_proof.Given as goal
 
