@@ -6,6 +6,8 @@ pub mod GoalLaws
 pub mod LineLaws
 pub mod LinesLaws
 pub mod NameLaws
+pub mod OneRefusal
+pub mod OneTextRefusal
 pub mod PrintedDependencies
 pub mod PrintedLexing
 pub mod PrintedSchemas

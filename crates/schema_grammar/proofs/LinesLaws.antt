@@ -25,14 +25,14 @@ span-line line behind [] (Some s) p = refl
 span-line line behind (m ∷ ms) stop zero = refl
 span-line line behind (m ∷ ms) stop (suc p) = span-line line (m.column + length m.word) ms stop p
 
-first_of : {X : Type 0} (x y : X) (xs ys : List X) → x ∷ xs ≡ y ∷ ys → (x ≡ y) × (xs ≡ ys)
+pub first_of : {X : Type 0} (x y : X) (xs ys : List X) → x ∷ xs ≡ y ∷ ys → (x ≡ y) × (xs ≡ ys)
 first_of x y xs ys e = (cc, cc)
 
-ok_value : (x y : Declarations) (r : Result Declarations SchemaRefusal) → r ≡ Ok x → r ≡ Ok y → x ≡ y
+pub ok_value : (x y : Declarations) (r : Result Declarations SchemaRefusal) → r ≡ Ok x → r ≡ Ok y → x ≡ y
 ok_value x y r e f = cc
 
 -- a complaint behind a line that is read
-complaint_behind : (f : Format) (first : ℕ) (d next : Declarations) (line : List ℕ) (lines : List (List ℕ)) (l p n : ℕ) → read_line f first d line ≡ Ok next
+pub complaint_behind : (f : Format) (first : ℕ) (d next : Declarations) (line : List ℕ) (lines : List (List ℕ)) (l p n : ℕ) → read_line f first d line ≡ Ok next
     → FitsTextLine f d first (lex mode.Plain line).marks (lex mode.Plain line).stop (Ok next)
     → LinesComplaint f first d (line ∷ lines) l p n → LinesComplaint f (first + 1) next lines l p n
 complaint_behind f first d next line lines l p n read none complaint = told complaint.before complaint.cut complaint.means complaint.stands_on
@@ -125,6 +125,10 @@ line_here f first d line lines e read found =
         inr ((omega arith), found.least p n (subst of_d means (subst of (sym same.0) complaint.complaint)))
     told on l p n complaint (one ∷ before) cut means stands_on = inl (omega arith)
 
+pub no_line : (before : List (List ℕ)) (line : List ℕ) (after : List (List ℕ)) → [] ≡ before ++ line ∷ after → ⊥
+no_line [] line after cut = cc
+no_line (one ∷ before) line after cut = cc
+
 finish_fits : (f : Format) (first : ℕ) (d : Declarations) (b : Bool) → (length d.names == 0) ≡ b
     → FitsLines f first d [] (cond b (Err (refusal (first - 1) 1 0 kind.NoAttributes)) (Ok d))
 finish_fits f first d true e = inr (record {
@@ -133,11 +137,7 @@ finish_fits f first d true e = inr (record {
   nothing = grind (arith, nat_tests, e);
   at_the_end = let last : first - 1 ≡ first + 0 - 1 = omega arith in ap (λ k. refusal k 1 0 kind.NoAttributes) last;
 })
-finish_fits f first d false e = λ l p n complaint. none complaint.before complaint.line complaint.after complaint.cut
-  where
-    none : (before : List (List ℕ)) (line : List ℕ) (after : List (List ℕ)) → [] ≡ before ++ line ∷ after → ⊥
-    none [] line after cut = cc
-    none (one ∷ before) line after cut = cc
+finish_fits f first d false e = λ l p n complaint. no_line complaint.before complaint.line complaint.after complaint.cut
 
 -- lines are refused by the first complaint, or as declaring nothing, and read where there is neither
 pub lines-law : (f : Format) (first : ℕ) (d : Declarations) (lines : List (List ℕ)) → FitsLines f first d lines (read_lines f first d lines)

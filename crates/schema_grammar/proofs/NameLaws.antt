@@ -272,8 +272,8 @@ names-law f column d line behind words stop = fits (list_names f column line d f
     from p n (inr flaw) = inr flaw
 
     wants : (p : ℕ) (w : What) → WantsNames false p w → NamesWant p w
-    wants zero w e = subst (NamesWant 0) (sym e) refl
-    wants (suc p) w e = subst (NamesWant (suc p)) (sym e) (omega arith)
+    wants zero w e = inl (refl, e)
+    wants (suc p) w e = inr ((omega arith), e)
 
     carries : (p : ℕ) (why : SchemaRefusalKind) → Carries (WantsNames false p) why → Carries (NamesWant p) why
     carries p = Carries-map (WantsNames false p) (NamesWant p) (wants p)

@@ -48,7 +48,7 @@ other_number m k n i same some other yes_here none_here =
     let wrong : true ≡ false = sym yes_here ∙ ap (λ v. v == VERSION) equal ∙ none_here in cc
 
 missing_fits : (line behind : ℕ) → FitsVersion line behind [] None (Err (refusal line behind 0 (kind.Expected what.Number)))
-missing_fits line behind = record { place = 0; stands = inl (inl (inr (refl, refl, refl, refl))); carries = refl; there = refl; least = least }
+missing_fits line behind = record { place = 0; stands = inl (inl (inr (refl, refl, refl, refl))); carries = inl (refl, refl); there = refl; least = least }
   where
     least : (p n : ℕ) → VersionComplaint [] None p n → (0 < p) ⊎ ((0 ≡ p) × (6 ≤ n))
     least p n (inl (inl (inl (m, is, none, place, six)))) = absurd (no_mark m 0 is)
@@ -77,7 +77,7 @@ stop_fits line behind s = record { place = 0; stands = inr (s, refl, refl, flaw_
 
 word_fits : (line behind : ℕ) (m : Mark) (ms : List Mark) (stop : Option Stop) → number_in m.kind ≡ None
     → FitsVersion line behind (m ∷ ms) stop (Err (refusal line m.column (length m.word) (kind.Expected what.Number)))
-word_fits line behind m ms stop none = record { place = 0; stands = inl (inl (inl (m, refl, none, refl, refl))); carries = refl; there = refl; least = least }
+word_fits line behind m ms stop none = record { place = 0; stands = inl (inl (inl (m, refl, none, refl, refl))); carries = inl (refl, refl); there = refl; least = least }
   where
     least : (p n : ℕ) → VersionComplaint (m ∷ ms) stop p n → (0 < p) ⊎ ((0 ≡ p) × (6 ≤ n))
     least p n (inl (inl (inl (k, is, none_here, place, six)))) = inr (sym place, omega arith)
@@ -100,7 +100,7 @@ unknown_fits line behind m ms stop i some other = record { place = 0; stands = i
     least p n (inl (inr (inr (k, is, place, six)))) = inl (omega arith)
     least p n (inr (t, is, place, why)) = inl (omega arith)
 
-two_fits : (line behind : ℕ) (m : Mark) (ms : List Mark) (stop : Option Stop) (i : ℕ) → number_in m.kind ≡ Some i → (i == VERSION) ≡ true
+pub two_fits : (line behind : ℕ) (m : Mark) (ms : List Mark) (stop : Option Stop) (i : ℕ) → number_in m.kind ≡ Some i → (i == VERSION) ≡ true
     → FitsVersion line behind (m ∷ ms) stop (end_version line ms stop)
 two_fits line behind m [] None i some two = λ p n complaint. none p n complaint
   where
@@ -121,7 +121,7 @@ two_fits line behind m [] (Some s) i some two = record { place = 1; stands = inr
     least p n (inl (inr (inl (k, j, is, some_here, other_here, place, why)))) = absurd (other_number m k i j (same_mark m [] k is) some some_here two other_here)
     least p n (inl (inr (inr (k, is, place, six)))) = absurd (no_mark k 0 is)
     least p n (inr (t, is, place, why)) = inr (sym place, flaw_least s t n is why)
-two_fits line behind m (k ∷ ks) stop i some two = record { place = 1; stands = inl (inr (inr (k, refl, refl, refl))); carries = omega arith; there = refl; least = least }
+two_fits line behind m (k ∷ ks) stop i some two = record { place = 1; stands = inl (inr (inr (k, refl, refl, refl))); carries = inr ((omega arith), refl); there = refl; least = least }
   where
     none : m ∷ k ∷ ks ≡ [] → ⊥
     none e = cc
@@ -241,7 +241,7 @@ text_fits number (line ∷ lines) = told (text_fits (number + 1) lines) (lex mod
     told later [] (Some s) marks stop = plain (ap (λ t. begins_version t l.stop (has_version_line lines)) marks ∙ ap (λ o. begins_version [] o (has_version_line lines)) stop)
     told later (m ∷ ms) stop marks same = first (is_version m.kind m.word) m ms stop marks same refl
 
-abbrev refused : SchemaRefusal → Result Declarations SchemaRefusal
+abbrev pub refused : SchemaRefusal → Result Declarations SchemaRefusal
 refused e = Err e
 
 fits_text : (number : ℕ) (lines : List (List ℕ)) (reading : Result Declarations SchemaRefusal) → TextFits number lines reading → FitsText number lines reading

@@ -148,11 +148,13 @@ NamesComplaint f d words stop place number =
     ⊎ ((number ≡ 6) × (place ≡ 0) × (words ≡ []) × (stop ≡ None)))
     ⊎ ((s : Stop) × (stop ≡ Some s) × (place ≡ length words) × (number ≡ flaw_number s.flaw))
 
--- behind a declaring word a name is wanted first, and then the line's end
+-- this is wanted first, and then the line's end
+abbrev pub AtFirst : What → ℕ → What → Type 0
+AtFirst first place w = ((place ≡ 0) × (w ≡ first)) ⊎ ((0 < place) × (w ≡ what.LineEnd))
+
+-- behind a declaring word a name is wanted first
 abbrev pub NamesWant : ℕ → What → Type 0
-NamesWant place what.Name = place ≡ 0
-NamesWant place what.LineEnd = 0 < place
-NamesWant place _ = ⊥
+NamesWant place w = AtFirst what.Name place w
 
 -- the words behind a declaring word are refused by the first complaint, and read where there is none
 abbrev pub FitsNames : Format → Declarations → ℕ → ℕ → List Mark → Option Stop → Result Declarations SchemaRefusal → Type 0

@@ -13,7 +13,7 @@ use Rattle.schema_grammar.specs.declared.refusal.SchemaRefusal.{SchemaRefusal}
 use Rattle.schema_grammar.specs.declared.refusal.SchemaRefusalKind.TheVariants as kind
 use Rattle.schema_grammar.specs.declared.refusal.What.{What}
 use Rattle.schema_grammar.specs.declared.refusal.What.TheVariants as what
-use Rattle.schema_grammar.specs.Complaints.{TextLineComplaint, TextLineWants, Carries, IsFirst, number_of, flaw_number, span_at}
+use Rattle.schema_grammar.specs.Complaints.{TextLineComplaint, TextLineWants, AtFirst, Carries, IsFirst, number_of, flaw_number, span_at}
 use Rattle.schema_grammar.specs.Refusals.{refusal}
 use Rattle.schema_grammar.specs.declared.format.TheConstants.{VERSION}
 use Rattle.schema_grammar.specs.declared.format.Format.{Format}
@@ -159,11 +159,9 @@ VersionComplaint ms stop place why =
     ⊎ ((m : Mark) × (slice_get ms 1 ≡ Some m) × (place ≡ 1) × (why ≡ 6))))
     ⊎ ((s : Stop) × (stop ≡ Some s) × (place ≡ length ms) × (why ≡ flaw_number s.flaw))
 
--- behind the word `version` a number is wanted first, and then the line's end
+-- behind the word `version` a number is wanted first
 abbrev pub VersionWants : ℕ → What → Type 0
-VersionWants place what.Number = place ≡ 0
-VersionWants place what.LineEnd = 0 < place
-VersionWants place _ = ⊥
+VersionWants place w = AtFirst what.Number place w
 
 -- a version line is refused by its first complaint
 abbrev pub RefusesVersion : ℕ → ℕ → List Mark → Option Stop → SchemaRefusal → Type 0

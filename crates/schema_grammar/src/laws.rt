@@ -2,13 +2,14 @@
 //! the gate asks for its proof.
 
 ghost use Rattle.lexer.specs.declared.token.Mode.{Mode};
-ghost use Rattle.std.specs.Prelude.{◌<◌, ◌≤◌, length, ◌≡◌, ◌↔◌, ℕ, List, Ok};
+ghost use Rattle.std.specs.Prelude.{◌<◌, ◌≤◌, length, ◌≡◌, ◌↔◌, ℕ, List, Ok, Err};
 ghost use Rattle.dep_model.specs.Dependencies.{Dependency};
+ghost use Rattle.schema_grammar.specs.declared.refusal.SchemaRefusal.{SchemaRefusal};
 ghost use Rattle.schema_grammar.specs.Meanings.{MeansGoal};
-ghost use Rattle.schema_grammar.specs.Complaints.{FitsGoal, FitsTextLine, span_at};
+ghost use Rattle.schema_grammar.specs.Complaints.{FitsGoal, FitsTextLine, RefusesGoal, span_at};
 ghost use Rattle.schema_grammar.specs.Declarations.{Declarations, read_line};
 ghost use Rattle.schema_grammar.specs.Reading.{read_goal};
-ghost use Rattle.schema_grammar.specs.Schemas.{FitsLines, FitsSchema, MeansSchema};
+ghost use Rattle.schema_grammar.specs.Schemas.{FitsLines, FitsSchema, MeansSchema, RefusesSchema};
 ghost use Rattle.schema_grammar.specs.Texts.{read_lines, read_text};
 ghost use Rattle.schema_grammar.specs.declared.format.Format.{Format};
 ghost use Rattle.lexer.specs.Tokens.{lex};
@@ -28,6 +29,18 @@ pub fn goal_meaning()
 /// number. It has no complaint where it is read; so it has a meaning or a complaint, never both.
 pub fn goal_complaint()
     ensures law { (declared : List (List ℕ)) (text : List ℕ) → FitsGoal declared text (read_goal declared text) }
+{}
+
+/// A goal is refused so exactly where the definition refuses it so; so it has one refusal at most, and
+/// none where it means a dependency.
+pub fn goal_refusal()
+    ensures law { (declared : List (List ℕ)) (text : List ℕ) (e : SchemaRefusal) → (read_goal declared text ≡ Err e) ↔ RefusesGoal declared text e }
+{}
+
+/// A schema text is refused so exactly where the definition refuses it so; so it has one refusal at most,
+/// and none where it means a schema.
+pub fn schema_refusal()
+    ensures law { (text : List ℕ) (e : SchemaRefusal) → (read_text text ≡ Err e) ↔ RefusesSchema text e }
 {}
 
 /// A schema text is read as what it declares exactly where it means that; so it means one schema at

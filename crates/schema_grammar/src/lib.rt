@@ -13,8 +13,8 @@ mod symbol;
 
 pub use format::{Format, VERSION};
 pub use laws::{
-    declared_names, goal_complaint, goal_meaning, line_complaint, lines_complaint, places_rise,
-    printed_schema_means, schema_complaint, schema_meaning,
+    declared_names, goal_complaint, goal_meaning, goal_refusal, line_complaint, lines_complaint,
+    places_rise, printed_schema_means, schema_complaint, schema_meaning, schema_refusal,
 };
 pub use refusal::{SchemaRefusal, SchemaRefusalKind, Span, What};
 pub use symbol::{Sign, Symbol};
