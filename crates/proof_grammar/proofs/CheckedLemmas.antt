@@ -1,6 +1,6 @@
 -- What is read proves: each open line of a ledger has a tree that proves its conclusion, and no node stands in two of them.
 use Rattle.std.proofs.Common.{◌≡◌, ◌<◌, ◌≤◌, ◌+◌, ◌-◌, ◌==◌, ℕ, zero, suc, Bool, true, false, List, [], ◌∷◌, ◌++◌, length, Option, Some, None, Result, Ok, Err, refl, sym, ◌∙◌, ap, subst, cond, max, arith, nat_lt, nat_le, length-append}
-use Rattle.std.specs.Prelude.{slice_get, slice_set, ◌&&◌}
+use Rattle.std.specs.Prelude.{slice_get, slice_set, ◌&&◌, option_map}
 use Rattle.std.proofs.lemmas.Bool.Decides.{nat_tests}
 use Rattle.dep_model.specs.declared.schema.Schema.{Schema}
 use Rattle.dep_model.specs.Dependencies.{Dependency, left_of, right_of}
@@ -15,7 +15,7 @@ use Rattle.proof_grammar.specs.Complaints.{Complaint, LineComplaint, no_such_lin
 use Rattle.proof_grammar.specs.Lines.{Body, by_given, by_reflexivity, by_mreflexivity, by_step, by_pair, Line, line}
 use Rattle.schema_grammar.specs.Rests.{◌>>=◌, rest_from}
 use Rattle.proof_grammar.specs.Nodes.{with_tree, same_dependency}
-use Rattle.proof_grammar.specs.Books.{Opened, Ledger, Prepared, joined, is_earlier, open_at, closed, step_node, pair_node, prepared, concluded_as, settled, add_line, entered, first_unused, root, finished_at, finished}
+use Rattle.proof_grammar.specs.Books.{Opened, Ledger, Prepared, joined, is_earlier, open_at, closed, step_node, pair_node, prepared, concluded_as, settled, add_line, entered, first_unused, root, concluded_by, rooted, finished_at, finished}
 use Rattle.proof_grammar.specs.declared.line_kind.LineKind.{LineKind}
 use Rattle.proof_grammar.specs.declared.line_kind.LineKind.TheVariants.{Blank, Opening, Certificate}
 use Rattle.lexer.specs.declared.token.Mode.TheVariants as mode
@@ -234,3 +234,16 @@ pub read_proof_checked : (s : Schema) (text : List ℕ) (t : Tree) → read_proo
 unfolding read_proof
 read_proof_checked s text t h =
     read_lines_checked s true 1 (record { lines = []; unused = [] }) (line_texts (without_mark text)) t (record { stand = tt {0}; count = refl; few = omega arith }) h
+
+-- the last line of a ledger proves what it concludes
+pub root_proves : (s : Schema) (book : Ledger) (t : Tree) (d : Dependency) → IsLedger s book → rooted book.unused ≡ Some (t, d) → Proves s t d
+root_proves s book t d is h = told (root book.unused) refl h
+  where
+    inside : (x y : Tree × Dependency) → Some x ≡ Some y → x ≡ y
+    inside x y e = cc
+
+    told : (o : Option Opened) → root book.unused ≡ o → option_map concluded_by o ≡ Some (t, d) → Proves s t d
+    told None r e = cc
+    told (Some u) r e =
+        let stands : Stands s u = subst (IfOpen s) r (AllStand-get s book.unused (length book.unused - 1) is.stand) in
+        subst (λ (x : Tree × Dependency). Proves s x.0 x.1) (inside (concluded_by u) (t, d) e) stands.proves

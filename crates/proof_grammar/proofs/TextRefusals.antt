@@ -1,7 +1,7 @@
 -- A certificate is refused exactly as it goes wrong.
 use Rattle.std.proofs.Common.{◌≡◌, ◌⊎◌, ⊎_elim, ◌+◌, ◌-◌, inl, inr, ℕ, Bool, true, false, List, [], ◌∷◌, ◌++◌, length, Result, Ok, Err, refl, sym, ◌∙◌, ap, subst, arith, length-append, append_assoc}
 use Rattle.proof_grammar.proofs.FinishedRefusals.{the_err, none_finished, IsFirstUnused, finished_refused, refused_finished}
-use Rattle.std.specs.Prelude.{slice_index}
+use Rattle.std.specs.Prelude.{slice_index, Option, None, Some, MatchOption}
 use Rattle.std.proofs.lemmas.List.{append-nil}
 use Rattle.dep_model.specs.declared.schema.Schema.{Schema}
 use Rattle.dep_model.specs.Schemas.{names_of}
@@ -13,7 +13,8 @@ use Rattle.schema_grammar.specs.declared.refusal.SchemaRefusal.{SchemaRefusal}
 use Rattle.proof_grammar.specs.declared.line_kind.LineKind.{LineKind}
 use Rattle.proof_grammar.specs.declared.line_kind.LineKind.TheVariants.{Blank, Opening, Certificate}
 use Rattle.proof_grammar.specs.Books.{Ledger, complaint_at, entered, finished}
-use Rattle.proof_grammar.specs.Complaints.{Complaint, LineComplaint}
+use Rattle.proof_grammar.specs.Complaints.{Complaint, LineComplaint, complaint_of, RefusesAt}
+use Rattle.proof_grammar.specs.declared.refusal.ProofRefusal.{ProofRefusal}
 use Rattle.proof_grammar.specs.Lines.{Line, line}
 use Rattle.proof_grammar.specs.Meanings.{certificate_lines_of, MeansLine, MeanLines}
 use Rattle.schema_grammar.specs.Rests.{◌>>=◌, rest_from}
@@ -25,7 +26,7 @@ use Rattle.proof_grammar.proofs.EnteredLaws.{entered_there}
 use Rattle.proof_grammar.proofs.LineLaws.{line_there, line_back}
 use Rattle.proof_grammar.proofs.PreparedLaws.{IsLineOfAttributes}
 use Rattle.proof_grammar.proofs.SlotLemmas.{AreSlots}
-use Rattle.proof_grammar.specs.Refusals.{StandsAt, IsBadLine, IsWrongLine, IsRefusedAt, IsEmptyProof, IsNeverUsed, IsUnfinished, IsRefused}
+use Rattle.proof_grammar.specs.Refusals.{StandsAt, IsBadLine, IsWrongLine, IsRefusedAt, IsEmptyProof, IsNeverUsed, IsUnfinished, IsRefused, RefusesProof}
 use Rattle.proof_grammar.proofs.EnteredRefusals.{entered_refused, refused_entered}
 use Rattle.proof_grammar.proofs.PlaceLemmas.{same_place}
 use Rattle.proof_grammar.proofs.ReadLines.{marked, read_from, nothing_counts, IsBehind, at_start, passed, counts_here, one_more}
@@ -233,3 +234,11 @@ end_back s text e refused =
 pub refused_back : (s : Schema) (text : List ℕ) (e : LineComplaint) → IsRefused s text e → read_proof s text ≡ Err e
 refused_back s text e (inl at_one) = at_back s text e at_one
 refused_back s text e (inr unfinished) = end_back s text e unfinished
+
+-- a refusal of the reading is one of the text
+pub refuses_there : (s : Schema) (text : List ℕ) (e : ProofRefusal) → RefusesAt e (read_proof s text) → RefusesProof s text e
+refuses_there s text e h = told (complaint_of e.kind) h
+  where
+    told : (o : Option Complaint) → MatchOption o (Unit {0}) (λ c. read_proof s text ≡ Err (record { line = e.line; complaint = c })) → MatchOption o (Unit {0}) (λ c. IsRefused s text (record { line = e.line; complaint = c }))
+    told None h = h
+    told (Some c) h = refused_there s text (record { line = e.line; complaint = c }) h

@@ -114,6 +114,13 @@ first_unused unused = position is_some (take (length unused - 1) unused)
 abbrev pub root : List (Option Opened) → Option Opened
 root unused = joined (slice_get unused (length unused - 1))
 
+-- its tree, and what it concludes
+abbrev pub concluded_by : Opened → Tree × Dependency
+concluded_by o = (o.tree, o.conclusion)
+
+abbrev pub rooted : List (Option Opened) → Option (Tree × Dependency)
+rooted unused = option_map concluded_by (root unused)
+
 abbrev pub complaint_at : ℕ → Complaint → LineComplaint
 complaint_at line why = record { line = line; complaint = why }
 

@@ -1,5 +1,5 @@
 -- Why a certificate is refused, and at which line of the text.
-use Rattle.std.specs.Prelude.{◌≡◌, ◌⊎◌, ◌<◌, ℕ, ◌+◌, List, [], ◌∷◌, ◌++◌, length, Err}
+use Rattle.std.specs.Prelude.{◌≡◌, ◌⊎◌, ◌<◌, ℕ, ◌+◌, List, [], ◌∷◌, ◌++◌, length, Err, MatchOption}
 use Rattle.dep_model.specs.declared.schema.Schema.{Schema}
 use Rattle.dep_model.specs.Schemas.{names_of}
 use Rattle.derivation.specs.Trees.{Tree}
@@ -7,7 +7,8 @@ use Rattle.lexer.specs.declared.token.Mode.TheVariants as mode
 use Rattle.lexer.specs.Lines.{line_texts, without_mark}
 use Rattle.lexer.specs.Tokens.{lex}
 use Rattle.schema_grammar.specs.declared.refusal.SchemaRefusal.{SchemaRefusal}
-use Rattle.proof_grammar.specs.Complaints.{Complaint, LineComplaint, bad_line, never_used, empty_proof}
+use Rattle.proof_grammar.specs.declared.refusal.ProofRefusal.{ProofRefusal}
+use Rattle.proof_grammar.specs.Complaints.{Complaint, LineComplaint, bad_line, never_used, empty_proof, complaint_of}
 use Rattle.proof_grammar.specs.Lines.{Line, line}
 use Rattle.proof_grammar.specs.Meanings.{certificate_lines_of, certificate_lines, MeansLine, MeanLines}
 use Rattle.schema_grammar.specs.Rests.{rest_from}
@@ -76,3 +77,7 @@ pub record IsUnfinished (s : Schema) (text : List ℕ) (e : LineComplaint) : Typ
 -- a certificate is refused so
 abbrev pub IsRefused : Schema → List ℕ → LineComplaint → Type 0
 IsRefused s text e = IsRefusedAt s text e ⊎ IsUnfinished s text e
+
+-- the same of a refusal, which may be want of memory
+abbrev pub RefusesProof : Schema → List ℕ → ProofRefusal → Type 0
+RefusesProof s text e = MatchOption (complaint_of e.kind) (Unit {0}) (λ c. IsRefused s text (record { line = e.line; complaint = c }))

@@ -1,4 +1,4 @@
-ghost use Rattle.std.specs.Prelude.{◌≡◌, ℕ, ◌+◌, ◌-◌, ◌==◌, ◌<◌, ◌≤◌, ◌^◌, [], length, IfOk, IfErr, OnOk, Ok, Err, option_map, is_some, position, take, max};
+ghost use Rattle.std.specs.Prelude.{◌≡◌, ℕ, ◌+◌, ◌-◌, ◌==◌, ◌<◌, ◌≤◌, ◌^◌, [], length, IfOk, IfErr, OnOk, Ok, Err, Some, option_map, is_some, position, take, max};
 ghost use Rattle.attr_sets.specs.Sets.{places};
 ghost use Rattle.dep_model.specs.Dependencies.{left_of, right_of};
 ghost use Rattle.dep_model.specs.Deps.{dependency_of, IsDepWithin};
@@ -11,7 +11,7 @@ ghost use Rattle.dep_model.specs.Schemas.{universe_of};
 ghost use Rattle.proof_grammar.specs.Complaints.{Refuses, RefusesAt, IsRefusalWithin};
 
 use crate::line::{Body, Line};
-use crate::node::{Open, given, leaf, pair, same_dependency, step};
+use crate::node::{Concluded, Open, given, leaf, pair, same_dependency, step};
 use attr_sets::AttrSet;
 use dep_model::{Dep, Schema};
 use derivation::{Deriv, Fault, FaultKind, LeafRule, MOST_LEVELS, MOST_NODES, PairRule, StepRule};
@@ -35,7 +35,7 @@ pub struct Node {
 
 impl Book {
     ghost use Rattle.proof_grammar.specs.Ledgers.{IsLedger};
-    ghost use Rattle.proof_grammar.specs.Books.{is_earlier, open_at, closed, prepared, step_of_line, pair_of_line, entered, add_line, finished};
+    ghost use Rattle.proof_grammar.specs.Books.{is_earlier, open_at, closed, prepared, step_of_line, pair_of_line, entered, add_line, finished, rooted};
     ghost use Rattle.proof_text.specs.Views.{prepared_of, ledger_of};
 
     pub fn new(alloc: Global) -> Book
@@ -191,10 +191,12 @@ impl Book {
         Ok(())
     }
 
-    /// The derivation of the last line, where each other one was used. The text ends with line `last`.
+    /// The derivation of the last line and its conclusion, where each other line was used. The text ends
+    /// with line `last`.
     #[tactic(auto, unfolding(proof_grammar::specs::Books::finished))]
-    pub fn finish(self, last: u32) -> Result<Box<Deriv>, ProofRefusal>
-        ensures ok { IfOk result (λ b. finished last (ledger_of self) ≡ Ok (tree_of b.value)) }
+    pub fn finish(self, last: u32) -> Result<Concluded, ProofRefusal>
+        ensures ok { IfOk result (λ x. finished last (ledger_of self) ≡ Ok (tree_of x.deriv.value)) }
+        ensures root { IfOk result (λ x. rooted (opened_all self.unused.items) ≡ Some (tree_of x.deriv.value, dependency_of x.dep)) }
         ensures err { IfErr result (λ e. RefusesAt e (finished last (ledger_of self))) }
         ensures within { (u : Places) → IfErr result (λ e. IsRefusalWithin u e.kind) }
     {
@@ -207,7 +209,10 @@ impl Book {
                 Err(ProofRefusal { line, kind })
             }
             None => match root {
-                Some(open) => Ok(open.deriv),
+                Some(open) => Ok(Concluded {
+                    deriv: open.deriv,
+                    dep: open.dep,
+                }),
                 None => {
                     let kind = ProofRefusalKind::EmptyProof;
                     Err(ProofRefusal { line: last, kind })

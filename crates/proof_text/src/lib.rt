@@ -14,7 +14,7 @@ mod printing_tests;
 mod text;
 mod words;
 
-pub use node::same_dependency;
+pub use node::{Concluded, same_dependency};
 pub use printing::print_proof;
 pub use proof_grammar::{ProofRefusal, ProofRefusalKind};
-pub use text::{MOST_PROOF_BYTES, read_proof};
+pub use text::{MOST_PROOF_BYTES, read_concluded, read_proof};

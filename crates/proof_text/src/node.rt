@@ -27,6 +27,13 @@ pub struct Open {
     pub ghost shallow: { levels ≤ MOST_LEVELS },
 }
 
+/// The derivation that a certificate spells, and the dependency that it concludes.
+#[derive(Drop)]
+pub struct Concluded {
+    pub deriv: Box<Deriv>,
+    pub dep: Dep,
+}
+
 fn is_same(a: AttrSet, b: AttrSet) -> bool
     ensures same { result ≡ is_same (places a) (places b) }
 {

@@ -4,12 +4,17 @@ ghost use Rattle.derivation.specs.Derivs.{tree_of};
 ghost use Rattle.dep_model.specs.Schemas.{universe_of};
 ghost use Rattle.proof_grammar.specs.Ledgers.{IsLedger};
 ghost use Rattle.proof_text.specs.Views.{ledger_of};
+ghost use Rattle.dep_model.specs.Deps.{dependency_of, IsDepWithin};
+ghost use Rattle.derivation.specs.Conclusions.{Proves};
+ghost use Rattle.proof_grammar.specs.Refusals.{RefusesProof};
+ghost use Rattle.proof_grammar.specs.Spelling.{SpellsWithin};
 ghost use Rattle.proof_grammar.specs.Checked.{IsChecked};
-ghost use Rattle.proof_grammar.specs.Complaints.{Refuses, RefusesAt, IsRefusalWithin};
-ghost use Rattle.proof_grammar.specs.Texts.{is_yes, is_blank, line_kind, read_one, read_proof};
+ghost use Rattle.proof_grammar.specs.Complaints.{Refuses, IsRefusalWithin};
+ghost use Rattle.proof_grammar.specs.Texts.{is_yes, is_blank, line_kind, read_one};
 
 use crate::book::Book;
 use crate::line::read_line;
+use crate::node::Concluded;
 use dep_model::Schema;
 use derivation::Deriv;
 use lexer::{Mode, Next, TokenKind, cut_line, next_token, without_mark};
@@ -20,17 +25,36 @@ use std::alloc::Global;
 /// The most bytes of a certificate.
 pub const MOST_PROOF_BYTES: usize = 268_435_456;
 
-/// The derivation that a certificate spells.
-///
-/// The first line that goes wrong is refused, and there the first of the reasons in the order of
-/// `ProofRefusalKind`, but that an unused line is told at the text's end.
+/// The derivation that a certificate spells, within the limits on lines and levels, or its refusal: the
+/// first line that goes wrong, and there the first complaint in the order of `ProofRefusalKind`, but that
+/// an unused line is told at the text's end.
 pub fn read_proof(alloc: Global, schema: &Schema, text: &[u8]) -> Result<Box<Deriv>, ProofRefusal>
     requires { length text.now ≤ MOST_PROOF_BYTES }
-    ensures ok { IfOk result (λ deriv. read_proof schema.now text.now ≡ Ok (tree_of deriv.value)) }
+    ensures ok { IfOk result (λ deriv. SpellsWithin schema.now text.now (tree_of deriv.value)) }
     // It proves a dependency, within the limits of a certificate.
     ensures checked { IfOk result (λ deriv. IsChecked schema.now (tree_of deriv.value)) }
-    ensures err { IfErr result (λ refusal. RefusesAt refusal (read_proof schema.now text.now)) }
+    ensures err { IfErr result (RefusesProof schema.now text.now) }
     // The dependencies that it names can be printed.
+    ensures within { IfErr result (λ refusal. IsRefusalWithin (universe_of schema.now) refusal.kind) }
+{
+    match read_concluded(alloc, schema, text) {
+        Ok(read) => Ok(read.deriv),
+        Err(refusal) => Err(refusal),
+    }
+}
+
+/// The same with the dependency that the derivation concludes.
+pub fn read_concluded(
+    alloc: Global,
+    schema: &Schema,
+    text: &[u8],
+) -> Result<Concluded, ProofRefusal>
+    requires { length text.now ≤ MOST_PROOF_BYTES }
+    ensures ok { IfOk result (λ read. SpellsWithin schema.now text.now (tree_of read.deriv.value)) }
+    ensures concludes { IfOk result (λ read. Proves schema.now (tree_of read.deriv.value) (dependency_of read.dep)) }
+    ensures checked { IfOk result (λ read. IsChecked schema.now (tree_of read.deriv.value)) }
+    ensures dep { IfOk result (λ read. IsDepWithin (universe_of schema.now) read.dep) }
+    ensures err { IfErr result (RefusesProof schema.now text.now) }
     ensures within { IfErr result (λ refusal. IsRefusalWithin (universe_of schema.now) refusal.kind) }
 {
     let guide = Guide::of(schema);

@@ -1,13 +1,17 @@
 use Rattle.std.proofs.Common.{◌≡◌, ◌<◌, ◌≤◌, ◌+◌, inl, inr, ℕ, suc, Bool, true, false, cond, List, [], ◌∷◌, ◌++◌, length, get_or, None, Some, refl, sym, ◌∙◌, ap, subst, arith, append_assoc, length-append}
 use Rattle.std.specs.Prelude.{codes, map}
 use Rattle.std.specs.List.{All, list_any, flat_map, Contains}
-use Rattle.std.proofs.lemmas.List.{append-nil, get_or_append_left, get_or_at}
+use Rattle.std.proofs.lemmas.List.{append-nil, get_or_append_left, get_or_at, length-map}
 use Rattle.std.proofs.lemmas.List.Elements.{All-nil}
 use Rattle.attr_sets.specs.Places.{Places, below}
 use Rattle.attr_sets.specs.declared.set.TheConstants.{PLACES}
 use Rattle.dep_model.specs.declared.column.Column.{Column}
 use Rattle.dep_model.specs.declared.column.Column.TheVariants.{Text, Integer}
+use Rattle.dep_model.specs.declared.schema.Schema.{Schema}
 use Rattle.dep_model.specs.Dependencies.{Dependency, IsWithin}
+use Rattle.dep_model.specs.Deps.{dependency_of}
+use Rattle.dep_model.specs.Schemas.{names_of, columns_of, deps_of, theory_of, universe_of}
+use Rattle.dep_model.proofs.DepLemmas.{dependencies_all-from}
 use Rattle.dep_model.specs.Names.{is_name, same_name}
 use Rattle.lexer.specs.declared.token.Mode.TheVariants as mode
 use Rattle.lexer.specs.declared.token.TokenKind.TheVariants as token
@@ -380,7 +384,7 @@ typed_means columns names deps is some =
       };
     }
 
-pub printed-law : (columns : List Column) (names : List (List ℕ)) (deps : List Dependency) → IsPrintable columns names deps
+printed-law : (columns : List Column) (names : List (List ℕ)) (deps : List Dependency) → IsPrintable columns names deps
     → (lines : List ℕ) × MeansSchema (declared_text columns names deps) (record { names = names; columns = columns; deps = deps; lines = lines })
 printed-law columns names deps is = told (list_any is_integer columns) refl
   where
@@ -390,3 +394,18 @@ printed-law columns names deps is = told (list_any is_integer columns) refl
     told : (b : Bool) → list_any is_integer columns ≡ b → (lines : List ℕ) × MeansSchema (declared_text columns names deps) (record { names = names; columns = columns; deps = deps; lines = lines })
     told true e = pair (typed_means columns names deps is e)
     told false e = pair (plain_means columns names deps is e)
+
+-- a schema holds what can be printed, where its names are words that no text reserves
+schema_printable : (s : Schema) → AreNames format.Plain (names_of s) → IsPrintable (columns_of s) (names_of s) (theory_of s)
+schema_printable s are = record {
+  some = s.valid.some_names;
+  few = s.valid.few_names;
+  are_names = are;
+  are_columns = s.typed;
+  few_deps = let size = length-map (deps_of s) dependency_of in let few = s.valid.few_deps in omega (arith, size, few);
+  within = dependencies_all-from (IsWithin (universe_of s)) (deps_of s) s.valid.deps_within;
+}
+
+pub printed-schema-law : (s : Schema) → AreNames format.Plain (names_of s)
+    → (lines : List ℕ) × MeansSchema (declared_text (columns_of s) (names_of s) (theory_of s)) (record { names = names_of s; columns = columns_of s; deps = theory_of s; lines = lines })
+printed-schema-law s are = printed-law (columns_of s) (names_of s) (theory_of s) (schema_printable s are)

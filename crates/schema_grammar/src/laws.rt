@@ -13,9 +13,10 @@ ghost use Rattle.schema_grammar.specs.Schemas.{FitsLines, FitsSchema, MeansSchem
 ghost use Rattle.schema_grammar.specs.Texts.{read_lines, read_text};
 ghost use Rattle.schema_grammar.specs.declared.format.Format.{Format};
 ghost use Rattle.lexer.specs.Tokens.{lex};
-ghost use Rattle.dep_model.specs.declared.column.Column.{Column};
+ghost use Rattle.dep_model.specs.declared.schema.Schema.{Schema};
+ghost use Rattle.dep_model.specs.Schemas.{names_of, columns_of, theory_of};
 ghost use Rattle.schema_grammar.specs.declared.format.Format.TheVariants as format;
-ghost use Rattle.schema_grammar.specs.Printed.{AreNames, IsPrintable};
+ghost use Rattle.schema_grammar.specs.Printed.{AreNames};
 ghost use Rattle.schema_grammar.specs.Printing.{declared_text};
 
 use lexer::Mode;
@@ -76,7 +77,7 @@ pub fn places_rise()
 /// What is printed of a schema none of whose names is reserved means the same names, columns and
 /// dependencies. Only the lines of the dependencies are those of the printed text.
 pub fn printed_schema_means()
-    ensures law { (columns : List Column) (names : List (List ℕ)) (deps : List Dependency) → IsPrintable columns names deps → (lines : List ℕ) × MeansSchema (declared_text columns names deps) (record { names = names; columns = columns; deps = deps; lines = lines }) }
+    ensures law { (s : Schema) → AreNames format.Plain (names_of s) → (lines : List ℕ) × MeansSchema (declared_text (columns_of s) (names_of s) (theory_of s)) (record { names = names_of s; columns = columns_of s; deps = theory_of s; lines = lines }) }
 {}
 
 /// What a schema text declares are names, which differ, and none of which is reserved in a text without a

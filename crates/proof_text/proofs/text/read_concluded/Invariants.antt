@@ -1,7 +1,7 @@
 use Rattle.std.proofs.Common.{length}
 use Rattle.proof_text.specs.Views.{ledger_of}
 use Rattle.proof_text.proofs.TextLemmas.{Reads}
-use Rattle.proof_text.proofs.text.read_proof.Given as goal
+use Rattle.proof_text.proofs.text.read_concluded.Given as goal
 
 abbrev pub invariant-lines : goal.invariant-lines
 invariant-lines l = Reads l.schema l.fn.text l.fresh l.number (ledger_of l.book) l.rest
