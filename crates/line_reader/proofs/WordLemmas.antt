@@ -1,4 +1,4 @@
--- Reading the words of a side, token by token.
+-- Reached the words of a side, token by token.
 use Rattle.std.proofs.Common.{◌≡◌, ◌<◌, ◌+◌, ◌^◌, ℕ, true, false, List, [], length, Some, None, Ok, Err, refl, sym}
 use Rattle.attr_sets.specs.Places.{Places, only, union, below, Within}
 use Rattle.lexer.specs.declared.token.Mode.{Mode}

@@ -1,4 +1,4 @@
-//! Reading a line of text token by token: what the readers of all texts share.
+//! Reached a line of text token by token: what the readers of all texts share.
 //!
 //! A `Cursor` is what is left of a line. Its calls take a token, a number, an arrow, a side or the line's
 //! end, or refuse the line at its place, by what it wants there. `look_up` gives the attribute that a word

@@ -13,7 +13,7 @@ use Rattle.schema_grammar.specs.declared.symbol.Sign.TheVariants as sign
 use Rattle.schema_grammar.specs.declared.format.Format.TheVariants as format
 use Rattle.schema_grammar.specs.Grammar as grammar
 use Rattle.schema_grammar.specs.Meanings.{IsArrow, IsDependency}
-use Rattle.proof_grammar.specs.Lines.{Body, Line, body, stated, unless, line}
+use Rattle.proof_grammar.specs.Lines.{Body, Line, body, stated_dependency, unless, line}
 use Rattle.proof_grammar.specs.Meanings.{IsNumber, IsColon, IsRule, MeansLine}
 use Rattle.schema_grammar.specs.Rests.{Rest, rest_from, number, arrow, ended, side, arrow_in, is_word}
 use Rattle.proof_grammar.specs.Readers.{colon, rule_name}
@@ -63,8 +63,8 @@ dependency_made names r left right next a x y lhs middle rhs = record {
   stop = rhs.stop ∙ middle.takes.stop ∙ lhs.stop;
 }
 
-dependency_there : (names : List (List ℕ)) (r : Rest) (d : Dependency × Rest) → stated names r ≡ Ok d → ReadsDependency names r d.0 d.1
-unfolding stated
+dependency_there : (names : List (List ℕ)) (r : Rest) (d : Dependency × Rest) → stated_dependency names r ≡ Ok d → ReadsDependency names r d.0 d.1
+unfolding stated_dependency
 dependency_there names r d e =
     let x = bound (side names r) _ d e in
     let a = bound (arrow x.value.1) _ d x.goes_on in
@@ -74,17 +74,17 @@ dependency_there names r d e =
 
 record DependencyRead (names : List (List ℕ)) (at from : ℕ) (marks tail : List Mark) (d : Dependency) : Type 0 where
   behind : ℕ
-  read : stated names (rest_at at from (marks ++ tail)) ≡ Ok (d, rest_at at behind tail)
+  read : stated_dependency names (rest_at at from (marks ++ tail)) ≡ Ok (d, rest_at at behind tail)
 
 dependency_back : (names : List (List ℕ)) (at from : ℕ) (marks tail : List Mark) (d : Dependency) → IsDependency format.Plain names marks d → NoWord tail → DependencyRead names at from marks tail d
-unfolding stated
+unfolding stated_dependency
 dependency_back names at from marks tail d is other =
     let left = side_back names at from is.lhs (is.arrow ∷ is.rhs ++ tail) None is.x is.left_side (arrow_other is.sign is.arrow.kind is.is_arrow) in
     let right = side_back names at (behind_of is.arrow) is.rhs tail None is.y is.right_side other in
     let whole : marks ++ tail ≡ is.lhs ++ (is.arrow ∷ is.rhs ++ tail) = ap (λ t. t ++ tail) is.whole ∙ append_assoc is.lhs (is.arrow ∷ is.rhs) tail in
     record {
       behind = right.behind;
-      read = ap (λ t. stated names (rest_at at from t)) whole
+      read = ap (λ t. stated_dependency names (rest_at at from t)) whole
           ∙ rw (left.read, arrow_back at left.behind is.sign is.arrow (is.rhs ++ tail) (is_arrow_in is.sign is.arrow.kind is.is_arrow), right.read)
           (ap (λ z. Ok (z, rest_at at right.behind tail)) (sym is.states));
     }
@@ -141,7 +141,7 @@ unfolding line
 line_reads names start l e =
     let n = bound (number start) _ l e in
     let a = bound (colon n.value.1) _ l n.goes_on in
-    let d = bound (stated names a.value) _ l a.goes_on in
+    let d = bound (stated_dependency names a.value) _ l a.goes_on in
     let b = bound (colon d.value.1) _ l d.goes_on in
     let r = bound (rule_name b.value) _ l b.goes_on in
     let x = bound (body names r.value.0 r.value.1) _ l r.goes_on in

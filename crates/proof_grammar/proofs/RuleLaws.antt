@@ -9,7 +9,7 @@ use Rattle.schema_grammar.specs.declared.refusal.SchemaRefusal.{SchemaRefusal}
 use Rattle.proof_grammar.specs.declared.rule_name.RuleName.{RuleName}
 use Rattle.proof_grammar.specs.declared.rule_name.RuleName.TheVariants as rule
 use Rattle.proof_grammar.specs.Lines.{Body, by_given, by_reflexivity, by_mreflexivity, by_step, by_pair, one, two, augmented, maugmented, body}
-use Rattle.proof_grammar.specs.Meanings.{IsColon, IsNumber, Says, step_name, pair_name, HasSets, IsRule, IsAugmented, IsWidened}
+use Rattle.proof_grammar.specs.Meanings.{IsColon, IsNumber, IsKeyword, step_name, pair_name, HasSets, IsRule, IsAugmented, IsWidened}
 use Rattle.schema_grammar.specs.Rests.{Rest, number, side, is_word}
 use Rattle.proof_grammar.specs.Readers.{colon, with_word, rule_name}
 use Rattle.proof_grammar.proofs.SideLaws.{bound, ok_same, ReadsSide, side_there, side_back}
@@ -27,7 +27,7 @@ Rule names name r b = ReadsRule names name r b.0 b.1
 reads_as : (names : List (List ℕ)) (name : Mark) (r next : Rest) (made : Body) (b : Body × Rest) → ◌≡◌ {A = Result (Body × Rest) SchemaRefusal} (Ok (made, next)) (Ok b) → ReadsRule names name r made next → Rule names name r b
 reads_as names name r next made b same reads = subst (Rule names name r) (ok_same _ b _ refl same) reads
 
-given_made : (names : List (List ℕ)) (name : Mark) (r next : Rest) (k : ℕ) → Says (codes "given") name → Reads (IsNumber k) r next → ReadsRule names name r (by_given k) next
+given_made : (names : List (List ℕ)) (name : Mark) (r next : Rest) (k : ℕ) → IsKeyword (codes "given") name → Reads (IsNumber k) r next → ReadsRule names name r (by_given k) next
 given_made names name r next k says place = record {
   is_rule = λ ended. record {
     name = name;
@@ -39,13 +39,13 @@ given_made names name r next k says place = record {
   stop = place.takes.stop;
 }
 
-given_there : (names : List (List ℕ)) (name : Mark) (r : Rest) (b : Body × Rest) → Says (codes "given") name → body names rule.Given r ≡ Ok b → Rule names name r b
+given_there : (names : List (List ℕ)) (name : Mark) (r : Rest) (b : Body × Rest) → IsKeyword (codes "given") name → body names rule.Given r ≡ Ok b → Rule names name r b
 unfolding body
 given_there names name r b says e =
     let k = bound (number r) _ b e in
     reads_as names name r _ _ b k.goes_on (given_made names name r _ _ says (number_there r k.value k.is))
 
-one_made : (names : List (List ℕ)) (rule : Step) (name : Mark) (r next : Rest) (p : ℕ) → Says (step_name rule) name → HasSets names [] rule → Reads (IsNumber p) r next
+one_made : (names : List (List ℕ)) (rule : Step) (name : Mark) (r next : Rest) (p : ℕ) → IsKeyword (step_name rule) name → HasSets names [] rule → Reads (IsNumber p) r next
     → ReadsRule names name r (by_step rule p) next
 one_made names rule name r next p says sets premise = record {
   is_rule = λ ended. record {
@@ -60,13 +60,13 @@ one_made names rule name r next p says sets premise = record {
   stop = premise.takes.stop;
 }
 
-one_there : (names : List (List ℕ)) (rule : Step) (name : Mark) (r : Rest) (b : Body × Rest) → Says (step_name rule) name → HasSets names [] rule → one rule r ≡ Ok b → Rule names name r b
+one_there : (names : List (List ℕ)) (rule : Step) (name : Mark) (r : Rest) (b : Body × Rest) → IsKeyword (step_name rule) name → HasSets names [] rule → one rule r ≡ Ok b → Rule names name r b
 unfolding one
 one_there names rule name r b says sets e =
     let p = bound (number r) _ b e in
     reads_as names name r _ _ b p.goes_on (one_made names rule name r _ _ says sets (number_there r p.value p.is))
 
-two_made : (names : List (List ℕ)) (rule : Pair) (name : Mark) (r middle next : Rest) (p q : ℕ) → Says (pair_name rule) name → Reads (IsNumber p) r middle → Reads (IsNumber q) middle next
+two_made : (names : List (List ℕ)) (rule : Pair) (name : Mark) (r middle next : Rest) (p q : ℕ) → IsKeyword (pair_name rule) name → Reads (IsNumber p) r middle → Reads (IsNumber q) middle next
     → ReadsRule names name r (by_pair rule p q) next
 two_made names rule name r middle next p q says first second = record {
   is_rule = λ ended. record {
@@ -81,15 +81,15 @@ two_made names rule name r middle next p q says first second = record {
   stop = second.takes.stop ∙ first.takes.stop;
 }
 
-two_there : (names : List (List ℕ)) (rule : Pair) (name : Mark) (r : Rest) (b : Body × Rest) → Says (pair_name rule) name → two rule r ≡ Ok b → Rule names name r b
+two_there : (names : List (List ℕ)) (rule : Pair) (name : Mark) (r : Rest) (b : Body × Rest) → IsKeyword (pair_name rule) name → two rule r ≡ Ok b → Rule names name r b
 unfolding two
 two_there names rule name r b says e =
     let p = bound (number r) _ b e in
     let q = bound (number p.value.1) _ b p.goes_on in
     reads_as names name r _ _ b q.goes_on (two_made names rule name r p.value.1 _ _ _ says (number_there r p.value p.is) (number_there p.value.1 q.value q.is))
 
-augmented_made : (names : List (List ℕ)) (name : Mark) (r sets last next : Rest) (p : ℕ) (z : Places) → Says (codes "augmentation") name
-    → Reads (IsNumber p) r sets → Reads (Says (codes "with")) sets last → ReadsSide names last z next → ReadsRule names name r (by_step (augmentation z) p) next
+augmented_made : (names : List (List ℕ)) (name : Mark) (r sets last next : Rest) (p : ℕ) (z : Places) → IsKeyword (codes "augmentation") name
+    → Reads (IsNumber p) r sets → Reads (IsKeyword (codes "with")) sets last → ReadsSide names last z next → ReadsRule names name r (by_step (augmentation z) p) next
 augmented_made names name r sets last next p z says premise keyword side = record {
   is_rule = λ ended.
       let end : last.marks ≡ side.marks = side.whole ∙ ap (λ t. side.marks ++ t) ended ∙ append-nil side.marks in
@@ -105,7 +105,7 @@ augmented_made names name r sets last next p z says premise keyword side = recor
   stop = side.stop ∙ keyword.takes.stop ∙ premise.takes.stop;
 }
 
-augmented_there : (names : List (List ℕ)) (name : Mark) (r : Rest) (b : Body × Rest) → Says (codes "augmentation") name → augmented names r ≡ Ok b → Rule names name r b
+augmented_there : (names : List (List ℕ)) (name : Mark) (r : Rest) (b : Body × Rest) → IsKeyword (codes "augmentation") name → augmented names r ≡ Ok b → Rule names name r b
 unfolding augmented
 augmented_there names name r b says e =
     let p = bound (number r) _ b e in
@@ -114,8 +114,8 @@ augmented_there names name r b says e =
     reads_as names name r z.value.1 (by_step (augmentation z.value.0) p.value.0) b z.goes_on (augmented_made names name r p.value.1 w.value z.value.1 p.value.0 z.value.0 says
     (number_there r p.value p.is) (with_there p.value.1 w.value w.is) (side_there names w.value z.value z.is))
 
-maugmented_made : (names : List (List ℕ)) (name : Mark) (r sets first middle last next : Rest) (p : ℕ) (w z : Places) → Says (codes "maugmentation") name
-    → Reads (IsNumber p) r sets → Reads (Says (codes "with")) sets first → ReadsSide names first w middle → Reads IsColon middle last → ReadsSide names last z next
+maugmented_made : (names : List (List ℕ)) (name : Mark) (r sets first middle last next : Rest) (p : ℕ) (w z : Places) → IsKeyword (codes "maugmentation") name
+    → Reads (IsNumber p) r sets → Reads (IsKeyword (codes "with")) sets first → ReadsSide names first w middle → Reads IsColon middle last → ReadsSide names last z next
     → ReadsRule names name r (by_step (maugmentation w z) p) next
 maugmented_made names name r sets first middle last next p w z says premise keyword wide between narrow = record {
   is_rule = λ ended.
@@ -143,7 +143,7 @@ maugmented_made names name r sets first middle last next p w z says premise keyw
   stop = narrow.stop ∙ between.takes.stop ∙ wide.stop ∙ keyword.takes.stop ∙ premise.takes.stop;
 }
 
-maugmented_there : (names : List (List ℕ)) (name : Mark) (r : Rest) (b : Body × Rest) → Says (codes "maugmentation") name → maugmented names r ≡ Ok b → Rule names name r b
+maugmented_there : (names : List (List ℕ)) (name : Mark) (r : Rest) (b : Body × Rest) → IsKeyword (codes "maugmentation") name → maugmented names r ≡ Ok b → Rule names name r b
 unfolding maugmented
 maugmented_there names name r b says e =
     let p = bound (number r) _ b e in
@@ -154,7 +154,7 @@ maugmented_there names name r b says e =
     reads_as names name r z.value.1 (by_step (maugmentation x.value.0 z.value.0) p.value.0) b z.goes_on (maugmented_made names name r p.value.1 w.value x.value.1 c.value z.value.1 p.value.0 x.value.0 z.value.0 says
     (number_there r p.value p.is) (with_there p.value.1 w.value w.is) (side_there names w.value x.value x.is) (colon_there x.value.1 c.value c.is) (side_there names c.value z.value z.is))
 
-body_there : (names : List (List ℕ)) (r : RuleName) (name : Mark) (start : Rest) (b : Body × Rest) → Says (spelled r) name → body names r start ≡ Ok b → Rule names name start b
+body_there : (names : List (List ℕ)) (r : RuleName) (name : Mark) (start : Rest) (b : Body × Rest) → IsKeyword (spelled r) name → body names r start ≡ Ok b → Rule names name start b
 unfolding body
 body_there names rule.Given name start b says e = given_there names name start b says e
 body_there names rule.Reflexivity name start b says e =
@@ -197,7 +197,7 @@ pub record RuleRead (names : List (List ℕ)) (line from : ℕ) (marks : List Ma
   pub name : rule_name (rest_at line from marks) ≡ Ok (rule, next)
   pub read : body names rule next ≡ Ok (b, rest_at line behind [])
 
-rule_made : (names : List (List ℕ)) (line from : ℕ) (r : RuleName) (m : Mark) (marks whole : List Mark) (b : Body) → whole ≡ m ∷ marks → Says (spelled r) m
+rule_made : (names : List (List ℕ)) (line from : ℕ) (r : RuleName) (m : Mark) (marks whole : List Mark) (b : Body) → whole ≡ m ∷ marks → IsKeyword (spelled r) m
     → BodyRead names line (behind_of m) r marks b → RuleRead names line from whole b
 rule_made names line from r m marks whole b same says rest = record {
   rule = r;

@@ -13,7 +13,7 @@ use Rattle.schema_grammar.specs.declared.refusal.SchemaRefusal.{SchemaRefusal}
 use Rattle.proof_grammar.specs.declared.line_kind.LineKind.{LineKind}
 use Rattle.proof_grammar.specs.declared.line_kind.LineKind.TheVariants.{Blank, Opening, Certificate}
 use Rattle.proof_grammar.specs.Books.{Ledger, complaint_at, entered, finished}
-use Rattle.proof_grammar.specs.Complaints.{Complaint, LineComplaint, complaint_of, RefusesAt}
+use Rattle.proof_grammar.specs.Complaints.{Complaint, LineComplaint, complaint_of, IsFoundAt}
 use Rattle.proof_grammar.specs.declared.refusal.ProofRefusal.{ProofRefusal}
 use Rattle.proof_grammar.specs.Lines.{Line, line}
 use Rattle.proof_grammar.specs.Meanings.{certificate_lines_of, MeansLine, MeanLines}
@@ -236,7 +236,7 @@ refused_back s text e (inl at_one) = at_back s text e at_one
 refused_back s text e (inr unfinished) = end_back s text e unfinished
 
 -- a refusal of the reading is one of the text
-pub refuses_there : (s : Schema) (text : List ℕ) (e : ProofRefusal) → RefusesAt e (read_proof s text) → RefusesProof s text e
+pub refuses_there : (s : Schema) (text : List ℕ) (e : ProofRefusal) → IsFoundAt e (read_proof s text) → RefusesProof s text e
 refuses_there s text e h = told (complaint_of e.kind) h
   where
     told : (o : Option Complaint) → MatchOption o (Unit {0}) (λ c. read_proof s text ≡ Err (record { line = e.line; complaint = c })) → MatchOption o (Unit {0}) (λ c. IsRefused s text (record { line = e.line; complaint = c }))

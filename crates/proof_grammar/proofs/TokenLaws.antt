@@ -13,10 +13,10 @@ use Rattle.schema_grammar.specs.Texts.{number_in}
 use Rattle.schema_grammar.specs.declared.symbol.Sign.{Sign}
 use Rattle.proof_grammar.specs.declared.rule_name.RuleName.{RuleName}
 use Rattle.proof_grammar.specs.declared.rule_name.RuleName.TheVariants as rule
-use Rattle.proof_grammar.specs.Meanings.{IsColon, IsNumber, Says}
+use Rattle.proof_grammar.specs.Meanings.{IsColon, IsNumber, IsKeyword}
 use Rattle.schema_grammar.specs.Rests.{Rest, ◌>>=◌, take, expected, number, arrow, arrow_in}
 use Rattle.proof_grammar.specs.Readers.{colon, with_word, rule_name}
-use Rattle.proof_grammar.specs.Tokens.{is_colon, is_with, rule_named, named}
+use Rattle.proof_grammar.specs.Tokens.{is_colon, is_with, rule_named, rule_word}
 use Rattle.proof_grammar.proofs.SideLaws.{bound, ok_same, Takes, take_there}
 
 -- ---- one token
@@ -76,10 +76,10 @@ unfolding is_with
 with_says token.Word word e = (refl, (bytes_eq-Decides word (codes "with")).0 e)
 with_says _ word e = cc
 
-pub with_there : (r next : Rest) → with_word r ≡ Ok next → Reads (Says (codes "with")) r next
+pub with_there : (r next : Rest) → with_word r ≡ Ok next → Reads (IsKeyword (codes "with")) r next
 unfolding with_word
 with_there r next e =
-    reads_as (λ m. is_with m.kind m.word ≡ true) (Says (codes "with")) r next (λ m h. with_says m.kind m.word h) (reads_test what.With (λ m. is_with m.kind m.word) r next e)
+    reads_as (λ m. is_with m.kind m.word ≡ true) (IsKeyword (codes "with")) r next (λ m h. with_says m.kind m.word h) (reads_test what.With (λ m. is_with m.kind m.word) r next e)
 
 -- ---- the name of a rule
 abbrev pub spelled : RuleName → List ℕ
@@ -102,8 +102,8 @@ peel word text first r others is more e = told (bytes_eq word text) refl e
     told true same e = let this : first ≡ r = cc in (bytes_eq-Decides word text).0 same ∙ sym is ∙ ap spelled this
     told false same e = more e
 
-named_there : (word : List ℕ) (r : RuleName) → named word ≡ Some r → word ≡ spelled r
-unfolding named
+named_there : (word : List ℕ) (r : RuleName) → rule_word word ≡ Some r → word ≡ spelled r
+unfolding rule_word
 named_there word r e =
     peel word (codes "given") rule.Given r _ refl (peel word (codes "reflexivity") rule.Reflexivity r _ refl (peel word (codes "augmentation") rule.Augmentation r _ refl
     (peel word (codes "transitivity") rule.Transitivity r _ refl (peel word (codes "complementation") rule.Complementation r _ refl
@@ -116,10 +116,10 @@ unfolding rule_named
 rule_named_there token.Word word r e = (refl, named_there word r e)
 rule_named_there _ word r e = cc
 
-pub rule_name_there : (r : Rest) (v : RuleName × Rest) → rule_name r ≡ Ok v → Reads (Says (spelled v.0)) r v.1
+pub rule_name_there : (r : Rest) (v : RuleName × Rest) → rule_name r ≡ Ok v → Reads (IsKeyword (spelled v.0)) r v.1
 unfolding rule_name
 rule_name_there r v e =
-    reads_as (λ m. rule_named m.kind m.word ≡ Some v.0) (Says (spelled v.0)) r v.1 (λ m h. rule_named_there m.kind m.word v.0 h) (reads_value what.Rule (λ m. rule_named m.kind m.word) r v e)
+    reads_as (λ m. rule_named m.kind m.word ≡ Some v.0) (IsKeyword (spelled v.0)) r v.1 (λ m h. rule_named_there m.kind m.word v.0 h) (reads_value what.Rule (λ m. rule_named m.kind m.word) r v e)
 
 -- ---- back
 -- what is left of a line that ends with its tokens
@@ -141,12 +141,12 @@ pub arrow_back : (line from : ℕ) (a : Sign) (m : Mark) (ms : List Mark) → ar
 unfolding arrow take
 arrow_back line from a m ms is = rw is refl
 
-pub with_back : (line from : ℕ) (m : Mark) (ms : List Mark) → Says (codes "with") m → with_word (rest_at line from (m ∷ ms)) ≡ Ok (rest_at line (behind_of m) ms)
+pub with_back : (line from : ℕ) (m : Mark) (ms : List Mark) → IsKeyword (codes "with") m → with_word (rest_at line from (m ∷ ms)) ≡ Ok (rest_at line (behind_of m) ms)
 unfolding with_word take is_with
 with_back line from m ms says = rw (says.0, (bytes_eq-Decides m.word (codes "with")).1 says.1) refl
 
-named_back : (r : RuleName) → named (spelled r) ≡ Some r
-unfolding named
+named_back : (r : RuleName) → rule_word (spelled r) ≡ Some r
+unfolding rule_word
 named_back rule.Given = refl
 named_back rule.Reflexivity = refl
 named_back rule.Augmentation = refl
@@ -158,6 +158,6 @@ named_back rule.MTransitivity = refl
 named_back rule.Replication = refl
 named_back rule.Coalescence = refl
 
-pub rule_name_back : (line from : ℕ) (r : RuleName) (m : Mark) (ms : List Mark) → Says (spelled r) m → rule_name (rest_at line from (m ∷ ms)) ≡ Ok (r, rest_at line (behind_of m) ms)
+pub rule_name_back : (line from : ℕ) (r : RuleName) (m : Mark) (ms : List Mark) → IsKeyword (spelled r) m → rule_name (rest_at line from (m ∷ ms)) ≡ Ok (r, rest_at line (behind_of m) ms)
 unfolding rule_name take rule_named
-rule_name_back line from r m ms says = rw (says.0, ap named says.1 ∙ named_back r) refl
+rule_name_back line from r m ms says = rw (says.0, ap rule_word says.1 ∙ named_back r) refl

@@ -46,8 +46,8 @@ IsRefusalWithin u (kind.StatesOther stated concluded) = IsDepWithin u stated × 
 IsRefusalWithin u _ = ⊤
 
 -- the refusal is what is found, or want of memory
-abbrev pub Refuses : {X : Type 0} → ProofRefusalKind → Result X Complaint → Type 0
-Refuses why found = MatchOption (complaint_of why) (Unit {0}) (λ c. found ≡ Err c)
+abbrev pub IsFound : {X : Type 0} → ProofRefusalKind → Result X Complaint → Type 0
+IsFound why found = MatchOption (complaint_of why) (Unit {0}) (λ c. found ≡ Err c)
 
-abbrev pub RefusesAt : {X : Type 0} → ProofRefusal → Result X LineComplaint → Type 0
-RefusesAt refusal found = MatchOption (complaint_of refusal.kind) (Unit {0}) (λ c. found ≡ Err (record { line = refusal.line; complaint = c }))
+abbrev pub IsFoundAt : {X : Type 0} → ProofRefusal → Result X LineComplaint → Type 0
+IsFoundAt refusal found = MatchOption (complaint_of refusal.kind) (Unit {0}) (λ c. found ≡ Err (record { line = refusal.line; complaint = c }))

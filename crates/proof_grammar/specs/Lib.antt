@@ -1,6 +1,7 @@
 pub mod Books
 pub mod Checked
 pub mod Complaints
+pub mod Laws
 pub mod Ledgers
 pub mod Lines
 pub mod Meanings

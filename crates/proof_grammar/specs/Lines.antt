@@ -67,8 +67,8 @@ body names rule.MTransitivity start = two mtransitivity start
 body names rule.Coalescence start = two coalescence start
 
 -- side, arrow, side
-unfoldable pub stated : List (List ℕ) → Rest → Result (Dependency × Rest) SchemaRefusal
-stated names start = do
+unfoldable pub stated_dependency : List (List ℕ) → Rest → Result (Dependency × Rest) SchemaRefusal
+stated_dependency names start = do
   x ← side names start
   a ← arrow x.1
   y ← side names a.1
@@ -84,7 +84,7 @@ unfoldable pub line : List (List ℕ) → Rest → Result Line SchemaRefusal
 line names start = do
   n ← number start
   c ← colon n.1
-  d ← stated names c
+  d ← stated_dependency names c
   e ← colon d.1
   r ← rule_name e
   b ← body names r.0 r.1

@@ -41,8 +41,8 @@ abbrev pub IsNumber : ℕ → Mark → Type 0
 IsNumber n m = m.kind ≡ token.Number n
 
 -- a word of the grammar, in lower case
-abbrev pub Says : List ℕ → Mark → Type 0
-Says word m = (m.kind ≡ token.Word) × (m.word ≡ word)
+abbrev pub IsKeyword : List ℕ → Mark → Type 0
+IsKeyword word m = (m.kind ≡ token.Word) × (m.word ≡ word)
 
 abbrev pub step_name : Step → List ℕ
 step_name (augmentation z) = codes "augmentation"
@@ -60,7 +60,7 @@ pub record IsAugmented (names : List (List ℕ)) (ms : List Mark) (z : Places) :
   pub keyword : Mark
   pub sides : List Mark
   pub whole : ms ≡ keyword ∷ sides
-  pub says : Says (codes "with") keyword
+  pub says : IsKeyword (codes "with") keyword
   pub side : IsSide format.Plain names sides z
 
 -- `with`, a wide side, `:` and a narrow one
@@ -70,7 +70,7 @@ pub record IsWidened (names : List (List ℕ)) (ms : List Mark) (w z : Places) :
   pub colon : Mark
   pub narrow : List Mark
   pub whole : ms ≡ keyword ∷ wide ++ colon ∷ narrow
-  pub says : Says (codes "with") keyword
+  pub says : IsKeyword (codes "with") keyword
   pub wide_side : IsSide format.Plain names wide w
   pub is_colon : IsColon colon
   pub narrow_side : IsSide format.Plain names narrow z
@@ -87,14 +87,14 @@ pub record IsGiven (ms : List Mark) (k : ℕ) : Type 0 where
   pub name : Mark
   pub place : Mark
   pub whole : ms ≡ name ∷ place ∷ []
-  pub says : Says (codes "given") name
+  pub says : IsKeyword (codes "given") name
   pub number : IsNumber k place
 
 -- the name alone
 pub record IsAlone (ms : List Mark) (word : List ℕ) : Type 0 where
   pub name : Mark
   pub whole : ms ≡ name ∷ []
-  pub says : Says word name
+  pub says : IsKeyword word name
 
 -- the name, the line of the premise, and the sets
 pub record IsStep (names : List (List ℕ)) (ms : List Mark) (rule : Step) (p : ℕ) : Type 0 where
@@ -102,7 +102,7 @@ pub record IsStep (names : List (List ℕ)) (ms : List Mark) (rule : Step) (p : 
   pub premise : Mark
   pub sets : List Mark
   pub whole : ms ≡ name ∷ premise ∷ sets
-  pub says : Says (step_name rule) name
+  pub says : IsKeyword (step_name rule) name
   pub number : IsNumber p premise
   pub has_sets : HasSets names sets rule
 
@@ -112,7 +112,7 @@ pub record IsPair (ms : List Mark) (rule : Pair) (p q : ℕ) : Type 0 where
   pub first : Mark
   pub second : Mark
   pub whole : ms ≡ name ∷ first ∷ second ∷ []
-  pub says : Says (pair_name rule) name
+  pub says : IsKeyword (pair_name rule) name
   pub first_number : IsNumber p first
   pub second_number : IsNumber q second
 

@@ -14,8 +14,8 @@ is_with token.Word word = bytes_eq word (codes "with")
 is_with _ word = false
 
 -- the rule whose name a word is
-unfoldable pub named : List ℕ → Option RuleName
-named word =
+unfoldable pub rule_word : List ℕ → Option RuleName
+rule_word word =
     if bytes_eq word (codes "given") then Some rule.Given
     else if bytes_eq word (codes "reflexivity") then Some rule.Reflexivity
     else if bytes_eq word (codes "augmentation") then Some rule.Augmentation
@@ -29,5 +29,5 @@ named word =
     else None
 
 unfoldable pub rule_named : TokenKind → List ℕ → Option RuleName
-rule_named token.Word word = named word
+rule_named token.Word word = rule_word word
 rule_named _ word = None

@@ -8,7 +8,7 @@ ghost use Rattle.proof_text.specs.Outcomes.{outcome_of};
 ghost use Rattle.proof_text.specs.Views.{opened_of, opened_all, line_of, body_of};
 ghost use Rattle.attr_sets.specs.Places.{Places};
 ghost use Rattle.dep_model.specs.Schemas.{universe_of};
-ghost use Rattle.proof_grammar.specs.Complaints.{Refuses, RefusesAt, IsRefusalWithin};
+ghost use Rattle.proof_grammar.specs.Complaints.{IsFound, IsFoundAt, IsRefusalWithin};
 
 use crate::line::{Body, Line};
 use crate::node::{Concluded, Open, given, leaf, pair, same_dependency, step};
@@ -70,7 +70,7 @@ impl Book {
     #[tactic(auto, unfolding(proof_grammar::specs::Books::prepared))]
     fn prepare(&mut self, schema: &Schema, line: &Line) -> Result<Node, ProofRefusalKind>
         ensures ok { IfOk result (λ node. prepared schema.now (opened_all self.old.unused.items) (dependency_of line.now.stated) (body_of line.now.body) ≡ Ok (prepared_of node (opened_all self.new.unused.items))) }
-        ensures err { IfErr result (λ why. Refuses why (prepared schema.now (opened_all self.old.unused.items) (dependency_of line.now.stated) (body_of line.now.body))) }
+        ensures err { IfErr result (λ why. IsFound why (prepared schema.now (opened_all self.old.unused.items) (dependency_of line.now.stated) (body_of line.now.body))) }
         ensures within { (u : Places) → IfErr result (IsRefusalWithin u) }
         ensures lines { self.new.lines.items ≡ self.old.lines.items }
         ensures length { length self.new.unused.items ≡ length self.old.unused.items }
@@ -107,7 +107,7 @@ impl Book {
         p: u32,
     ) -> Result<Node, ProofRefusalKind>
         ensures ok { IfOk result (λ node. step_of_line schema.now (step_of rule) (opened_all self.old.unused.items) p ≡ Ok (prepared_of node (opened_all self.new.unused.items))) }
-        ensures err { IfErr result (λ why. Refuses why (step_of_line schema.now (step_of rule) (opened_all self.old.unused.items) p)) }
+        ensures err { IfErr result (λ why. IsFound why (step_of_line schema.now (step_of rule) (opened_all self.old.unused.items) p)) }
         ensures within { (u : Places) → IfErr result (IsRefusalWithin u) }
         ensures lines { self.new.lines.items ≡ self.old.lines.items }
         ensures length { length self.new.unused.items ≡ length self.old.unused.items }
@@ -127,7 +127,7 @@ impl Book {
     /// The node of a rule with two premises.
     fn prepare_pair(&mut self, rule: PairRule, p: u32, q: u32) -> Result<Node, ProofRefusalKind>
         ensures ok { IfOk result (λ node. pair_of_line (pair_of rule) (opened_all self.old.unused.items) p q ≡ Ok (prepared_of node (opened_all self.new.unused.items))) }
-        ensures err { IfErr result (λ why. Refuses why (pair_of_line (pair_of rule) (opened_all self.old.unused.items) p q)) }
+        ensures err { IfErr result (λ why. IsFound why (pair_of_line (pair_of rule) (opened_all self.old.unused.items) p q)) }
         ensures within { (u : Places) → IfErr result (IsRefusalWithin u) }
         ensures lines { self.new.lines.items ≡ self.old.lines.items }
         ensures length { length self.new.unused.items ≡ length self.old.unused.items }
@@ -158,7 +158,7 @@ impl Book {
         requires ledger { IsLedger schema.now (ledger_of self.old) }
         requires within { IsDepWithin (universe_of schema.now) line.now.stated }
         ensures ok { OnOk result (entered schema.now at (ledger_of self.old) (line_of line.now) ≡ Ok (ledger_of self.new)) }
-        ensures err { IfErr result (λ why. Refuses why (entered schema.now at (ledger_of self.old) (line_of line.now))) }
+        ensures err { IfErr result (λ why. IsFound why (entered schema.now at (ledger_of self.old) (line_of line.now))) }
         ensures within { IfErr result (IsRefusalWithin (universe_of schema.now)) }
     {
         let before = self.unused.len();
@@ -197,7 +197,7 @@ impl Book {
     pub fn finish(self, last: u32) -> Result<Concluded, ProofRefusal>
         ensures ok { IfOk result (λ x. finished last (ledger_of self) ≡ Ok (tree_of x.deriv.value)) }
         ensures root { IfOk result (λ x. rooted (opened_all self.unused.items) ≡ Some (tree_of x.deriv.value, dependency_of x.dep)) }
-        ensures err { IfErr result (λ e. RefusesAt e (finished last (ledger_of self))) }
+        ensures err { IfErr result (λ e. IsFoundAt e (finished last (ledger_of self))) }
         ensures within { (u : Places) → IfErr result (λ e. IsRefusalWithin u e.kind) }
     {
         let Book { lines, mut unused } = self;
@@ -251,7 +251,7 @@ fn first_open(unused: &[Option<Open>]) -> Option<usize>
 fn settle(before: usize, line: &Line, node: Node) -> Result<(Deriv, Dep), ProofRefusalKind>
     ensures ok { IfOk result (λ x. settled before (line_of line.now) node.levels (outcome_of node.outcome) ≡ Ok (record { tree = tree_of x.0; levels = node.levels; conclusion = dependency_of x.1 })) }
     ensures shallow { OnOk result (node.levels ≤ MOST_LEVELS) }
-    ensures err { IfErr result (λ why. Refuses why (settled before (line_of line.now) node.levels (outcome_of node.outcome))) }
+    ensures err { IfErr result (λ why. IsFound why (settled before (line_of line.now) node.levels (outcome_of node.outcome))) }
     ensures within { (u : Places) → IsDepWithin u line.now.stated → IfOk node.outcome (λ x. IsDepWithin u x.1) → IfErr result (IsRefusalWithin u) }
 {
     if before >= MOST_NODES as usize {

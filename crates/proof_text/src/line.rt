@@ -3,7 +3,7 @@ ghost use Rattle.attr_sets.specs.Places.{below};
 ghost use Rattle.dep_model.specs.Deps.{dependency_of, IsDepWithin};
 ghost use Rattle.derivation.specs.Derivs.{step_of, pair_of};
 ghost use Rattle.line_reader.specs.Views.{names_in, rest_of};
-ghost use Rattle.proof_grammar.specs.Lines.{body, line, stated, one, two, augmented, maugmented};
+ghost use Rattle.proof_grammar.specs.Lines.{body, line, stated_dependency, one, two, augmented, maugmented};
 ghost use Rattle.proof_text.specs.Views.{body_of, line_of};
 
 use crate::words::{colon, rule_name, with_word};
@@ -54,12 +54,12 @@ pub fn read_line(names: &Names<'_>, start: Cursor<'_>) -> Result<Line, SchemaRef
 }
 
 /// The dependency that a line states.
-#[tactic(auto, unfolding(proof_grammar::specs::Lines::stated))]
+#[tactic(auto, unfolding(proof_grammar::specs::Lines::stated_dependency))]
 fn stated<'a>(names: &Names<'_>, start: Cursor<'a>) -> Result<(Dep, Cursor<'a>), SchemaRefusal>
     requires few { length (names_in names.now) ≤ PLACES }
-    ensures ok { IfOk result (λ x. stated (names_in names.now) (rest_of start.entry) ≡ Ok (dependency_of x.0, rest_of x.1)) }
+    ensures ok { IfOk result (λ x. stated_dependency (names_in names.now) (rest_of start.entry) ≡ Ok (dependency_of x.0, rest_of x.1)) }
     ensures within { IfOk result (λ x. IsDepWithin (below (length (names_in names.now))) x.0) }
-    ensures err { IfErr result (λ e. stated (names_in names.now) (rest_of start.entry) ≡ Err e) }
+    ensures err { IfErr result (λ e. stated_dependency (names_in names.now) (rest_of start.entry) ≡ Err e) }
 {
     let (lhs, rest) = start.side(names)?;
     let (arrow, rest) = rest.arrow()?;

@@ -3,7 +3,7 @@ ghost use Rattle.dep_model.specs.Deps.{dependency_of};
 ghost use Rattle.derivation.specs.Derivs.{tree_of, leaf_of, step_of, pair_of};
 ghost use Rattle.derivation.specs.Table.{leaf_conclusion, step_conclusion, pair_conclusion};
 ghost use Rattle.derivation.specs.declared.measures.TheConstants.{MOST_LEVELS};
-ghost use Rattle.proof_grammar.specs.Complaints.{Refuses};
+ghost use Rattle.proof_grammar.specs.Complaints.{IsFound};
 ghost use Rattle.attr_sets.specs.Sets.{places, is_same};
 ghost use Rattle.derivation.specs.Trees.{leaf, step, pair};
 ghost use Rattle.proof_grammar.specs.Nodes.{with_tree, given_outcome, same_dependency};

@@ -9,7 +9,7 @@ ghost use Rattle.derivation.specs.Conclusions.{Proves};
 ghost use Rattle.proof_grammar.specs.Refusals.{RefusesProof};
 ghost use Rattle.proof_grammar.specs.Spelling.{SpellsWithin};
 ghost use Rattle.proof_grammar.specs.Checked.{IsChecked};
-ghost use Rattle.proof_grammar.specs.Complaints.{Refuses, IsRefusalWithin};
+ghost use Rattle.proof_grammar.specs.Complaints.{IsFound, IsRefusalWithin};
 ghost use Rattle.proof_grammar.specs.Texts.{is_yes, is_blank, line_kind, read_one};
 
 use crate::book::Book;
@@ -92,7 +92,7 @@ fn read_one(
     requires room { 1 + length text.now < 2 ^ 32 }
     requires ledger { IsLedger schema.now (ledger_of book.old) }
     ensures ok { IfOk result (λ still. read_one schema.now fresh number (ledger_of book.old) text.now ≡ Ok (still, ledger_of book.new)) }
-    ensures err { IfErr result (λ why. Refuses why (read_one schema.now fresh number (ledger_of book.old) text.now)) }
+    ensures err { IfErr result (λ why. IsFound why (read_one schema.now fresh number (ledger_of book.old) text.now)) }
     ensures within { IfErr result (IsRefusalWithin (universe_of schema.now)) }
 {
     match line_kind(fresh, text) {

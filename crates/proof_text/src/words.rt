@@ -1,7 +1,7 @@
 ghost use Rattle.std.specs.Prelude.{◌≡◌, IfOk, IfErr, Ok, Err};
 ghost use Rattle.line_reader.specs.Views.{rest_of};
 ghost use Rattle.proof_grammar.specs.Readers.{colon, with_word, rule_name};
-ghost use Rattle.proof_grammar.specs.Tokens.{is_colon, is_with, rule_named, named};
+ghost use Rattle.proof_grammar.specs.Tokens.{is_colon, is_with, rule_named, rule_word};
 
 use lexer::TokenKind;
 use line_reader::Cursor;
@@ -73,14 +73,14 @@ fn rule_named(kind: TokenKind, word: &[u8]) -> Option<RuleName>
     ensures exact { result ≡ rule_named kind word.now }
 {
     match kind {
-        TokenKind::Word => named(word),
+        TokenKind::Word => rule_word(word),
         _ => None,
     }
 }
 
-#[tactic(auto, unfolding(proof_grammar::specs::Tokens::named))]
-fn named(word: &[u8]) -> Option<RuleName>
-    ensures exact { result ≡ named word.now }
+#[tactic(auto, unfolding(proof_grammar::specs::Tokens::rule_word))]
+fn rule_word(word: &[u8]) -> Option<RuleName>
+    ensures exact { result ≡ rule_word word.now }
 {
     if word == b"given".as_slice() {
         Some(RuleName::Given)

@@ -14,8 +14,8 @@ use Rattle.schema_grammar.specs.declared.refusal.SchemaRefusalKind.TheVariants a
 use Rattle.schema_grammar.specs.declared.refusal.What.{What}
 use Rattle.schema_grammar.specs.declared.format.Format.{Format}
 use Rattle.schema_grammar.specs.declared.format.Format.TheVariants as format
-use Rattle.schema_grammar.specs.Complaints.{IsLine, BeginsLine, Wants, LineWants, Carries, ComplainsOfWord, LineComplaint, kinds, number_of, flaw_number, span_at, IsFirst, FitsLine, FitsGoal, RefusesGoal}
-use Rattle.schema_grammar.specs.Grammar.{Reading, start, finished}
+use Rattle.schema_grammar.specs.Complaints.{IsLine, BeginsLine, Wants, DependencyWants, Carries, ComplainsOfWord, DependencyComplaint, kinds, refusal_number, flaw_number, span_at, IsFirst, FitsDependency, FitsGoal, RefusesGoal}
+use Rattle.schema_grammar.specs.Grammar.{Reached, start, finished}
 use Rattle.schema_grammar.specs.Reading.{step, follow, read_goal}
 use Rattle.schema_grammar.specs.Refusals.{at, and_then, expecting, refused_by, refusal, kind_of_flaw}
 use Rattle.schema_grammar.proofs.ShapeLemmas.{Shape, at_start, shape_of, turn_shape, is_final, bind, runs, StepTells, step_tells, EndTells, end_tells, final_line, line_ends, runs-one, wanted_by, wants_from, carries_nothing, begins_from, begins_to}
@@ -83,21 +83,21 @@ judge_later pre f declared line behind m ms stop (Ok d) fine rest = λ p n compl
     none (suc p) n complaint = rest p n (complaint_later pre f declared m ms stop p n complaint)
 judge_later pre f declared line behind m ms stop (Err e) fine rest = record {
   place = suc rest.place;
-  stands = complaint_earlier pre f declared m ms stop rest.place (number_of e.kind) rest.stands;
+  stands = complaint_earlier pre f declared m ms stop rest.place (refusal_number e.kind) rest.stands;
   carries = subst (λ (ks : List TokenKind). Carries (Wants ks) e.kind) (later_kinds pre m.kind (take rest.place (kinds ms))) rest.carries;
   there = rest.there;
   least = least;
 }
   where
-    shift : (p n : ℕ) → (rest.place < p) ⊎ ((rest.place ≡ p) × (number_of e.kind ≤ n)) → (suc rest.place < suc p) ⊎ ((suc rest.place ≡ suc p) × (number_of e.kind ≤ n))
+    shift : (p n : ℕ) → (rest.place < p) ⊎ ((rest.place ≡ p) × (refusal_number e.kind ≤ n)) → (suc rest.place < suc p) ⊎ ((suc rest.place ≡ suc p) × (refusal_number e.kind ≤ n))
     shift p n (inl less) = inl (omega arith)
     shift p n (inr (same, less)) = inr ((omega arith), less)
 
-    least : (p n : ℕ) → ComplaintFrom pre f declared (m ∷ ms) stop p n → (suc rest.place < p) ⊎ ((suc rest.place ≡ p) × (number_of e.kind ≤ n))
+    least : (p n : ℕ) → ComplaintFrom pre f declared (m ∷ ms) stop p n → (suc rest.place < p) ⊎ ((suc rest.place ≡ p) × (refusal_number e.kind ≤ n))
     least zero n complaint = absurd (fine n complaint)
     least (suc p) n complaint = shift p n (rest.least p n (complaint_later pre f declared m ms stop p n complaint))
 
-pub flaw_numbered : (why : Flaw) → number_of (kind_of_flaw why) ≡ flaw_number why
+pub flaw_numbered : (why : Flaw) → refusal_number (kind_of_flaw why) ≡ flaw_number why
 flaw_numbered flaw.StrangeByte = refl
 flaw_numbered flaw.BadName = refl
 
@@ -134,7 +134,7 @@ judge_stop pre f declared line behind s = record {
   least = least;
 }
   where
-    least : (p n : ℕ) → ComplaintFrom pre f declared [] (Some s) p n → (0 < p) ⊎ ((0 ≡ p) × (number_of (kind_of_flaw s.flaw) ≤ n))
+    least : (p n : ℕ) → ComplaintFrom pre f declared [] (Some s) p n → (0 < p) ⊎ ((0 ≡ p) × (refusal_number (kind_of_flaw s.flaw) ≤ n))
     least p n (inl (inl (m, is, word))) = absurd (no_mark m p is)
     least p n (inl (inr (six, stuck))) = absurd (none stuck.here)
       where
@@ -148,7 +148,7 @@ judge_stop pre f declared line behind s = record {
         inside : Some s ≡ Some t → s ≡ t
         inside eq = cc
 
-judge_end : (pre : List TokenKind) (f : Format) (declared : List (List ℕ)) (line behind : ℕ) (r : Reading) (o : Result Dependency What) → EndTells r o
+judge_end : (pre : List TokenKind) (f : Format) (declared : List (List ℕ)) (line behind : ℕ) (r : Reached) (o : Result Dependency What) → EndTells r o
     → runs at_start pre ≡ Some (shape_of r) → Judged pre f declared line behind [] None (at line behind 0 (expecting o))
 judge_end pre f declared line behind r (Ok d) final reached = λ p n complaint. none p n complaint
   where
@@ -205,7 +205,7 @@ fine_token pre f declared s m ms stop reached word n (inl (inr (six, stuck))) = 
 fine_token pre f declared s m ms stop reached word n (inr (t, is, same, number)) = absurd (omega arith)
 
 -- what is wrong with a token by which the reading ends
-judge_token : (pre : List TokenKind) (f : Format) (declared : List (List ℕ)) (line behind : ℕ) (r : Reading) (m : Mark) (ms : List Mark) (stop : Option Stop) (why : SchemaRefusalKind)
+judge_token : (pre : List TokenKind) (f : Format) (declared : List (List ℕ)) (line behind : ℕ) (r : Reached) (m : Mark) (ms : List Mark) (stop : Option Stop) (why : SchemaRefusalKind)
     → runs at_start pre ≡ Some (shape_of r) → StepTells f declared r m (Err why) → Judged pre f declared line behind (m ∷ ms) stop (Err (refusal line m.column (length m.word) why))
 judge_token pre f declared line behind r m ms stop why reached (inl (stands, less, small)) = record {
   place = 0;
@@ -215,11 +215,11 @@ judge_token pre f declared line behind r m ms stop why reached (inl (stands, les
   least = least;
 }
   where
-    word_number : ComplainsOfWord f declared m (number_of why) → number_of why ≡ 6 → ⊥
-    word_number (word, inl is) six = let three : number_of why ≡ 3 = is.0 in absurd (omega arith)
-    word_number (word, inr is) six = let five : number_of why ≡ 5 = is.0 in absurd (omega arith)
+    word_number : ComplainsOfWord f declared m (refusal_number why) → refusal_number why ≡ 6 → ⊥
+    word_number (word, inl is) six = let three : refusal_number why ≡ 3 = is.0 in absurd (omega arith)
+    word_number (word, inr is) six = let five : refusal_number why ≡ 5 = is.0 in absurd (omega arith)
 
-    least : (p n : ℕ) → ComplaintFrom pre f declared (m ∷ ms) stop p n → (0 < p) ⊎ ((0 ≡ p) × (number_of why ≤ n))
+    least : (p n : ℕ) → ComplaintFrom pre f declared (m ∷ ms) stop p n → (0 < p) ⊎ ((0 ≡ p) × (refusal_number why ≤ n))
     least zero n (inl (inl (k, is, complaint))) =
         let of : Mark → Type 0 = λ x. ComplainsOfWord f declared x n in inr (refl, less n (subst of (sym (same_mark m ms k is)) complaint))
     least zero n (inl (inr (six, stuck))) = inr (refl, omega arith)
@@ -238,14 +238,14 @@ judge_token pre f declared line behind r m ms stop why reached (inr (six, cannot
         let leads = begins_to (pre ++ m.kind ∷ []) begins in
         let wrong : None ≡ Some leads.shape = sym cannot ∙ sym (runs-one pre (shape_of r) m.kind reached) ∙ leads.leads in cc
 
-    least : (p n : ℕ) → ComplaintFrom pre f declared (m ∷ ms) stop p n → (0 < p) ⊎ ((0 ≡ p) × (number_of why ≤ n))
+    least : (p n : ℕ) → ComplaintFrom pre f declared (m ∷ ms) stop p n → (0 < p) ⊎ ((0 ≡ p) × (refusal_number why ≤ n))
     least zero n (inl (inl (k, is, complaint))) =
         let of : Mark → Type 0 = λ x. ComplainsOfWord f declared x n in absurd (word n (subst of (sym (same_mark m ms k is)) complaint))
     least zero n (inl (inr (again, other))) = inr (refl, omega arith)
     least zero n (inr (t, is, same, number)) = absurd (omega arith)
     least (suc p) n complaint = inl (omega arith)
 
-judge : (f : Format) (declared : List (List ℕ)) (line : ℕ) (ms : List Mark) (stop : Option Stop) (pre : List TokenKind) (r : Reading) (behind : ℕ)
+judge : (f : Format) (declared : List (List ℕ)) (line : ℕ) (ms : List Mark) (stop : Option Stop) (pre : List TokenKind) (r : Reached) (behind : ℕ)
     → runs at_start pre ≡ Some (shape_of r) → Judged pre f declared line behind ms stop (follow f declared line r behind ms stop)
 unfolding follow
 judge f declared line [] None pre r behind reached = judge_end pre f declared line behind r (finished r) (end_tells r) reached
@@ -253,33 +253,33 @@ judge f declared line [] (Some s) pre r behind reached = judge_stop pre f declar
 judge f declared line (m ∷ ms) stop pre r behind reached =
     told (step f declared r m.kind m.word) (step_tells f declared r m) (λ next there. judge f declared line ms stop (pre ++ m.kind ∷ []) next (m.column + length m.word) there)
   where
-    told : (o : Result Reading SchemaRefusalKind) → StepTells f declared r m o
-        → ((next : Reading) → runs at_start (pre ++ m.kind ∷ []) ≡ Some (shape_of next) → Judged (pre ++ m.kind ∷ []) f declared line (m.column + length m.word) ms stop (follow f declared line next (m.column + length m.word) ms stop))
+    told : (o : Result Reached SchemaRefusalKind) → StepTells f declared r m o
+        → ((next : Reached) → runs at_start (pre ++ m.kind ∷ []) ≡ Some (shape_of next) → Judged (pre ++ m.kind ∷ []) f declared line (m.column + length m.word) ms stop (follow f declared line next (m.column + length m.word) ms stop))
         → Judged pre f declared line behind (m ∷ ms) stop (and_then (at line m.column (length m.word) o) (λ next. follow f declared line next (m.column + length m.word) ms stop))
     told (Ok next) tells rest =
         let there = runs-one pre (shape_of r) m.kind reached ∙ tells.0 in
         judge_later pre f declared line behind m ms stop (follow f declared line next (m.column + length m.word) ms stop) (fine_token pre f declared (shape_of next) m ms stop there tells.1) (rest next there)
     told (Err why) tells rest = judge_token pre f declared line behind r m ms stop why reached tells
 
-to_line : (f : Format) (declared : List (List ℕ)) (ms : List Mark) (stop : Option Stop) (p n : ℕ) → ComplaintFrom [] f declared ms stop p n → LineComplaint f declared ms stop p n
+to_line : (f : Format) (declared : List (List ℕ)) (ms : List Mark) (stop : Option Stop) (p n : ℕ) → ComplaintFrom [] f declared ms stop p n → DependencyComplaint f declared ms stop p n
 to_line f declared ms stop p n (inl (inl word)) = inl (inl word)
 to_line f declared ms stop p n (inl (inr (six, stuck))) = inl (inr (six, record { before = stuck.before; here = stuck.here }))
 to_line f declared ms stop p n (inr flaw) = inr flaw
 
-from_line : (f : Format) (declared : List (List ℕ)) (ms : List Mark) (stop : Option Stop) (p n : ℕ) → LineComplaint f declared ms stop p n → ComplaintFrom [] f declared ms stop p n
+from_line : (f : Format) (declared : List (List ℕ)) (ms : List Mark) (stop : Option Stop) (p n : ℕ) → DependencyComplaint f declared ms stop p n → ComplaintFrom [] f declared ms stop p n
 from_line f declared ms stop p n (inl (inl word)) = inl (inl word)
 from_line f declared ms stop p n (inl (inr (six, stuck))) = inl (inr (six, record { before = stuck.before; here = stuck.here }))
 from_line f declared ms stop p n (inr flaw) = inr flaw
 
 -- a dependency line is refused by its first complaint, and read where there is none
-pub line-law : (f : Format) (declared : List (List ℕ)) (line : ℕ) (ms : List Mark) (stop : Option Stop) → FitsLine f declared line ms stop (follow f declared line start 1 ms stop)
+pub line-law : (f : Format) (declared : List (List ℕ)) (line : ℕ) (ms : List Mark) (stop : Option Stop) → FitsDependency f declared line ms stop (follow f declared line start 1 ms stop)
 line-law f declared line ms stop = fits (follow f declared line start 1 ms stop) (judge f declared line ms stop [] start 1 refl)
   where
-    fits : (res : Result Dependency SchemaRefusal) → Judged [] f declared line 1 ms stop res → FitsLine f declared line ms stop res
+    fits : (res : Result Dependency SchemaRefusal) → Judged [] f declared line 1 ms stop res → FitsDependency f declared line ms stop res
     fits (Ok d) none = λ p n complaint. none p n (from_line f declared ms stop p n complaint)
     fits (Err e) first = record {
       place = first.place;
-      stands = to_line f declared ms stop first.place (number_of e.kind) first.stands;
+      stands = to_line f declared ms stop first.place (refusal_number e.kind) first.stands;
       carries = first.carries;
       there = first.there;
       least = λ p n complaint. first.least p n (from_line f declared ms stop p n complaint);
@@ -293,9 +293,9 @@ goal_refused declared text e h = subst (FitsGoal declared text) h (goal-complain
 
 -- a token by which the reading ends is the first place, of a number up to 6
 pub record EndsAt (f : Format) (declared : List (List ℕ)) (line : ℕ) (m : Mark) (ms : List Mark) (stop : Option Stop) (why : SchemaRefusalKind) : Type 0 where
-  pub first : IsFirst (LineComplaint f declared (m ∷ ms) stop) (LineWants (m ∷ ms)) (span_at line 1 (m ∷ ms) stop) (refusal line m.column (length m.word) why)
+  pub first : IsFirst (DependencyComplaint f declared (m ∷ ms) stop) (DependencyWants (m ∷ ms)) (span_at line 1 (m ∷ ms) stop) (refusal line m.column (length m.word) why)
   pub here : first.place ≡ 0
-  pub small : number_of why ≤ 6
+  pub small : refusal_number why ≤ 6
 
 pub first_token : (f : Format) (declared : List (List ℕ)) (line : ℕ) (m : Mark) (ms : List Mark) (stop : Option Stop) (why : SchemaRefusalKind)
     → StepTells f declared start m (Err why) → EndsAt f declared line m ms stop why
@@ -303,20 +303,20 @@ unfolding judge_token
 first_token f declared line m ms stop why (inl (stands, less, small)) =
     let first = judge_token [] f declared line 1 start m ms stop why refl (inl (stands, less, small)) in
     record {
-      first = record { place = first.place; stands = to_line f declared (m ∷ ms) stop first.place (number_of why) first.stands; carries = first.carries; there = first.there; least = λ p n complaint. first.least p n (from_line f declared (m ∷ ms) stop p n complaint) };
+      first = record { place = first.place; stands = to_line f declared (m ∷ ms) stop first.place (refusal_number why) first.stands; carries = first.carries; there = first.there; least = λ p n complaint. first.least p n (from_line f declared (m ∷ ms) stop p n complaint) };
       here = refl;
       small = small;
     }
 first_token f declared line m ms stop why (inr (six, cannot, word, wants)) =
     let first = judge_token [] f declared line 1 start m ms stop why refl (inr (six, cannot, word, wants)) in
     record {
-      first = record { place = first.place; stands = to_line f declared (m ∷ ms) stop first.place (number_of why) first.stands; carries = first.carries; there = first.there; least = λ p n complaint. first.least p n (from_line f declared (m ∷ ms) stop p n complaint) };
+      first = record { place = first.place; stands = to_line f declared (m ∷ ms) stop first.place (refusal_number why) first.stands; carries = first.carries; there = first.there; least = λ p n complaint. first.least p n (from_line f declared (m ∷ ms) stop p n complaint) };
       here = refl;
       small = omega arith;
     }
 
 -- nothing is wrong with a first token by which the reading goes on
-pub fine_first : (f : Format) (declared : List (List ℕ)) (m : Mark) (ms : List Mark) (stop : Option Stop) (next : Reading)
-    → StepTells f declared start m (Ok next) → (n : ℕ) → LineComplaint f declared (m ∷ ms) stop 0 n → ⊥
+pub fine_first : (f : Format) (declared : List (List ℕ)) (m : Mark) (ms : List Mark) (stop : Option Stop) (next : Reached)
+    → StepTells f declared start m (Ok next) → (n : ℕ) → DependencyComplaint f declared (m ∷ ms) stop 0 n → ⊥
 fine_first f declared m ms stop next tells n complaint =
     fine_token [] f declared (shape_of next) m ms stop (runs-one [] at_start m.kind refl ∙ tells.0) tells.1 n (from_line f declared (m ∷ ms) stop 0 n complaint)

@@ -16,7 +16,7 @@ use Rattle.lexer.proofs.Steps.{is_a_word}
 use Rattle.schema_grammar.specs.declared.format.Format.{Format}
 use Rattle.schema_grammar.specs.declared.format.Format.TheVariants as format
 use Rattle.schema_grammar.specs.Declarations.{Declarations, no_declaration, add_name}
-use Rattle.schema_grammar.specs.Schemas.{DeclareNames, MeansLine, MeansLines, IsPlainText, IsTypedText, MeansSchema}
+use Rattle.schema_grammar.specs.Schemas.{DeclareNames, MeansTextLine, MeansLines, IsPlainText, IsTypedText, MeansSchema}
 use Rattle.schema_grammar.specs.Texts.{read_text}
 use Rattle.schema_grammar.proofs.SchemaLaws.{schema-law}
 use Rattle.schema_grammar.proofs.SoundLemmas.{IsWhole, opening_whole, whole_free}
@@ -50,7 +50,7 @@ words_proper f column d (m ∷ ms) whole marks names (here, rest) =
     words_proper f column (add_name d m.word column) ms whole (All-tail IsProper m ms marks)
     (All-push (λ name. is_name name ≡ true) d.names m.word names (All-head IsProper m ms marks here.word)) rest
 
-line_proper : (f : Format) (number : ℕ) (d : Declarations) (line : List ℕ) (whole : Declarations) → AreProper d.names → MeansLine f number d line whole → AreProper whole.names
+line_proper : (f : Format) (number : ℕ) (d : Declarations) (line : List ℕ) (whole : Declarations) → AreProper d.names → MeansTextLine f number d line whole → AreProper whole.names
 line_proper f number d line whole names (inl (inl is)) = let of : Declarations → Type 0 = λ w. AreProper w.names in subst of (sym is.same) names
 line_proper f number d line whole names (inl (inr is)) =
     let of : Lexed → Type 0 = λ l. All IsProper l.marks in

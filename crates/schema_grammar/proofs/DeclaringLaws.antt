@@ -22,7 +22,7 @@ use Rattle.schema_grammar.specs.Grammar.{start}
 use Rattle.schema_grammar.specs.Meanings.{HasTokens}
 use Rattle.schema_grammar.specs.Reading.{step, follow}
 use Rattle.schema_grammar.specs.Refusals.{at, and_then, refusal}
-use Rattle.schema_grammar.specs.Schemas.{IsNewName, DeclareNames, IsDeclaring, IsStating, MeansLine, MeansLines}
+use Rattle.schema_grammar.specs.Schemas.{IsNewName, DeclareNames, IsDeclaring, IsStating, MeansTextLine, MeansLines}
 use Rattle.schema_grammar.specs.Texts.{finish, read_lines}
 use Rattle.schema_grammar.specs.Words.{is_reserved, declares}
 use Rattle.schema_grammar.proofs.GoalLaws.{dependency-law, any_ok, stopped}
@@ -168,7 +168,7 @@ pub has_tokens : (l : Lexed) (ms : List Mark) → l.marks ≡ ms → l.stop ≡ 
 has_tokens l ms marks stop i = record { marks = marks i; stop = stop i }
 
 -- a line is read exactly where it means what is declared behind it
-pub line_there : (f : Format) (number : ℕ) (d : Declarations) (line : List ℕ) (whole : Declarations) → read_line f number d line ≡ Ok whole → MeansLine f number d line whole
+pub line_there : (f : Format) (number : ℕ) (d : Declarations) (line : List ℕ) (whole : Declarations) → read_line f number d line ≡ Ok whole → MeansTextLine f number d line whole
 unfolding read_line
 line_there f number d line whole e = told (lex mode.Plain line).marks (lex mode.Plain line).stop refl refl e
   where
@@ -198,16 +198,16 @@ line_there f number d line whole e = told (lex mode.Plain line).marks (lex mode.
     stating m ms (Some s) marks stop is begun = absurd (ok_at (λ _. ⊥) _ begun.dep begun.read (stopped f d.names number start 1 (m ∷ ms) s))
 
     from : (m : Mark) (ms : List Mark) (stop : Option Stop) (o : Option Column) → l.marks ≡ m ∷ ms → l.stop ≡ stop → declares f m.kind m.word ≡ o
-        → line_from f number d m ms stop o ≡ Ok whole → MeansLine f number d line whole
+        → line_from f number d m ms stop o ≡ Ok whole → MeansTextLine f number d line whole
     from m ms stop (Some column) marks same is e = inl (inr (declaring m ms column stop marks same is e))
     from m ms stop None marks same is e = inr (stating m ms stop marks same is (dependency_there f number d whole m ms stop e))
 
-    told : (ms : List Mark) (stop : Option Stop) → l.marks ≡ ms → l.stop ≡ stop → line_of_marks f number d ms stop ≡ Ok whole → MeansLine f number d line whole
+    told : (ms : List Mark) (stop : Option Stop) → l.marks ≡ ms → l.stop ≡ stop → line_of_marks f number d ms stop ≡ Ok whole → MeansTextLine f number d line whole
     told [] None marks stop e = inl (inl (record { tokens = has_tokens l [] marks stop; same = cc }))
     told [] (Some s) marks stop e = cc
     told (m ∷ ms) stop marks same e = from m ms stop (declares f m.kind m.word) marks same refl e
 
-pub line_back : (f : Format) (number : ℕ) (d : Declarations) (line : List ℕ) (whole : Declarations) → MeansLine f number d line whole → read_line f number d line ≡ Ok whole
+pub line_back : (f : Format) (number : ℕ) (d : Declarations) (line : List ℕ) (whole : Declarations) → MeansTextLine f number d line whole → read_line f number d line ≡ Ok whole
 unfolding read_line
 line_back f number d line whole (inl (inl blank)) = rw (blank.tokens, blank.same) refl
 line_back f number d line whole (inl (inr is)) =

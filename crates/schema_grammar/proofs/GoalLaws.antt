@@ -20,7 +20,7 @@ use Rattle.schema_grammar.specs.declared.symbol.Sign.TheVariants as sign
 use Rattle.schema_grammar.specs.declared.symbol.Symbol.TheVariants as symbol
 use Rattle.schema_grammar.specs.declared.format.Format.{Format}
 use Rattle.schema_grammar.specs.declared.format.Format.TheVariants as format
-use Rattle.schema_grammar.specs.Grammar.{Reading, start, left, left_empty, behind, right, right_empty, turn, finished, stated}
+use Rattle.schema_grammar.specs.Grammar.{Reached, start, left, left_empty, behind, right, right_empty, turn, finished, stated}
 use Rattle.schema_grammar.specs.Meanings.{HasTokens, named, IsAttribute, IsSide, IsArrow, IsDependency, MeansGoal}
 use Rattle.schema_grammar.specs.Reading.{step, follow, follow_lexed, read_goal}
 use Rattle.schema_grammar.specs.Refusals.{at, and_then, expecting}
@@ -71,7 +71,7 @@ record EndRest (s : Sign) (x : Places) (ms : List Mark) (d : Dependency) : Type 
   states : d ≡ stated s x none
 
 -- what is left of a line makes the dependency, so far as it is read
-abbrev Rest : Format → List (List ℕ) → Reading → List Mark → Dependency → Type 0
+abbrev Rest : Format → List (List ℕ) → Reached → List Mark → Dependency → Type 0
 Rest f declared start ms d = IsDependency f declared ms d
 Rest f declared (left x) ms d = LeftRest f declared x ms d
 Rest f declared left_empty ms d = ArrowRest f declared ms d
@@ -84,12 +84,12 @@ attribute : (f : Format) (declared : List (List ℕ)) (column : ℕ) (word : Lis
 attribute f declared column word a names = record { word = refl; free = names.free; place = a; known = names.place }
 
 -- a word that is read names an attribute, by which the reading goes on
-record ReadsWord (f : Format) (declared : List (List ℕ)) (line : ℕ) (r : Reading) (column : ℕ) (word : List ℕ) (ms : List Mark) (d : Dependency) : Type 0 where
+record ReadsWord (f : Format) (declared : List (List ℕ)) (line : ℕ) (r : Reached) (column : ℕ) (word : List ℕ) (ms : List Mark) (d : Dependency) : Type 0 where
   a : ℕ
   names : Names f declared word a
   goes_on : and_then (at line column (length word) (expecting (turn r (symbol.Attribute a)))) (λ next. follow f declared line next (column + length word) ms None) ≡ Ok d
 
-reads_word : (f : Format) (declared : List (List ℕ)) (line : ℕ) (r : Reading) (from column : ℕ) (word : List ℕ) (ms : List Mark) (d : Dependency)
+reads_word : (f : Format) (declared : List (List ℕ)) (line : ℕ) (r : Reached) (from column : ℕ) (word : List ℕ) (ms : List Mark) (d : Dependency)
     → follow f declared line r from (record { kind = token.Word; column = column; word = word } ∷ ms) None ≡ Ok d → ReadsWord f declared line r column word ms d
 unfolding follow step
 reads_word f declared line r from column word ms d e = told (looked_up f declared word) refl e
@@ -103,7 +103,7 @@ reads_word f declared line r from column word ms d e = told (looked_up f declare
 abbrev mark : TokenKind → ℕ → List ℕ → Mark
 mark k column word = record { kind = k; column = column; word = word }
 
-end_makes : (f : Format) (declared : List (List ℕ)) (line column : ℕ) (r : Reading) (d : Dependency) → at line column 0 (expecting (finished r)) ≡ Ok d → Rest f declared r [] d
+end_makes : (f : Format) (declared : List (List ℕ)) (line column : ℕ) (r : Reached) (d : Dependency) → at line column 0 (expecting (finished r)) ≡ Ok d → Rest f declared r [] d
 unfolding finished
 end_makes f declared line column start d e = cc
 end_makes f declared line column (left x) d e = cc
@@ -119,8 +119,8 @@ no_value : {X : Type 0} (e : SchemaRefusal) (x : X) → Err e ≡ Ok x → ⊥
 no_value e x h = cc
 
 -- what a token and the rest make, from what the rest makes
-token_makes : (f : Format) (declared : List (List ℕ)) (line from : ℕ) (r : Reading) (k : TokenKind) (column : ℕ) (word : List ℕ) (ms : List Mark) (d : Dependency)
-    → ((next : Reading) → follow f declared line next (column + length word) ms None ≡ Ok d → Rest f declared next ms d)
+token_makes : (f : Format) (declared : List (List ℕ)) (line from : ℕ) (r : Reached) (k : TokenKind) (column : ℕ) (word : List ℕ) (ms : List Mark) (d : Dependency)
+    → ((next : Reached) → follow f declared line next (column + length word) ms None ≡ Ok d → Rest f declared next ms d)
     → follow f declared line r from (mark k column word ∷ ms) None ≡ Ok d → Rest f declared r (mark k column word ∷ ms) d
 unfolding follow step turn
 token_makes f declared line from start token.Word column word ms d rest e =
@@ -253,7 +253,7 @@ token_makes f declared line from (right_empty s x) (token.Number n) column word 
 token_makes f declared line from (right_empty s x) token.Colon column word ms d rest e = absurd (no_value _ d e)
 
 -- the tokens that are read make the dependency
-marks_make : (f : Format) (declared : List (List ℕ)) (line from : ℕ) (r : Reading) (ms : List Mark) (d : Dependency)
+marks_make : (f : Format) (declared : List (List ℕ)) (line from : ℕ) (r : Reached) (ms : List Mark) (d : Dependency)
     → follow f declared line r from ms None ≡ Ok d → Rest f declared r ms d
 unfolding follow
 marks_make f declared line from r [] d e = end_makes f declared line from r d e
@@ -261,7 +261,7 @@ marks_make f declared line from r (m ∷ ms) d e =
     token_makes f declared line from r m.kind m.column m.word ms d (λ next h. marks_make f declared line (m.column + length m.word) next ms d h) e
 
 -- a word that names an attribute is read
-word_read : (f : Format) (declared : List (List ℕ)) (line : ℕ) (r : Reading) (from : ℕ) (m : Mark) (ms : List Mark) (stop : Option Stop) (attribute : IsAttribute f declared m)
+word_read : (f : Format) (declared : List (List ℕ)) (line : ℕ) (r : Reached) (from : ℕ) (m : Mark) (ms : List Mark) (stop : Option Stop) (attribute : IsAttribute f declared m)
     → follow f declared line r from (m ∷ ms) stop
     ≡ and_then (at line m.column (length m.word) (expecting (turn r (symbol.Attribute attribute.place)))) (λ next. follow f declared line next (m.column + length m.word) ms stop)
 unfolding follow step
@@ -346,7 +346,7 @@ pub any_ok : {X E : Type 0} (r : Result X E) → IfOk r (λ _. Unit {0})
 any_ok (Ok x) = tt
 any_ok (Err e) = tt
 
-pub stopped : (f : Format) (declared : List (List ℕ)) (line : ℕ) (r : Reading) (from : ℕ) (ms : List Mark) (stop : Stop)
+pub stopped : (f : Format) (declared : List (List ℕ)) (line : ℕ) (r : Reached) (from : ℕ) (ms : List Mark) (stop : Stop)
     → IfOk (follow f declared line r from ms (Some stop)) (λ _. ⊥)
 unfolding follow
 stopped f declared line r from [] stop = tt
@@ -355,7 +355,7 @@ stopped f declared line r from (m ∷ ms) stop =
     (λ next _. stopped f declared line next (m.column + length m.word) ms stop)
 
 -- only a line with a line's end is read
-pub no_stop : (f : Format) (declared : List (List ℕ)) (line : ℕ) (r : Reading) (from : ℕ) (l : Lexed) (d : Dependency)
+pub no_stop : (f : Format) (declared : List (List ℕ)) (line : ℕ) (r : Reached) (from : ℕ) (l : Lexed) (d : Dependency)
     → follow_lexed f declared line r from l ≡ Ok d → HasTokens l l.marks
 no_stop f declared line r from l d e = told l.stop refl
   where

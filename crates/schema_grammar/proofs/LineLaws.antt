@@ -10,9 +10,9 @@ use Rattle.schema_grammar.specs.declared.refusal.SchemaRefusal.{SchemaRefusal}
 use Rattle.schema_grammar.specs.declared.refusal.SchemaRefusalKind.{SchemaRefusalKind}
 use Rattle.schema_grammar.specs.declared.refusal.SchemaRefusalKind.TheVariants as kind
 use Rattle.schema_grammar.specs.declared.format.Format.{Format}
-use Rattle.schema_grammar.specs.Complaints.{HeadComplaint, TextLineComplaint, HeadWants, NamesWant, TextLineWants, FitsTextLine, FitsLine, FitsNames, number_of, flaw_number, span_at, IsFirst}
+use Rattle.schema_grammar.specs.Complaints.{HeadComplaint, TextLineComplaint, HeadWants, NamesWant, TextLineWants, FitsTextLine, FitsDependency, FitsNames, refusal_number, flaw_number, span_at, IsFirst}
 use Rattle.schema_grammar.specs.Declarations.{Declarations, add_dependency, list_names, begin, dependency_line, line_from, line_of_marks}
-use Rattle.schema_grammar.specs.Grammar.{Reading, start}
+use Rattle.schema_grammar.specs.Grammar.{Reached, start}
 use Rattle.schema_grammar.specs.Reading.{step, follow}
 use Rattle.schema_grammar.specs.Refusals.{at, and_then, refused_by, kind_of_flaw}
 use Rattle.schema_grammar.specs.Words.{declares}
@@ -35,16 +35,16 @@ declaring_fits f d line m ms stop column (Err e) first = record {
   least = least;
 }
   where
-    shift : (p later n : ℕ) → p ≡ suc later → (first.place < later) ⊎ ((first.place ≡ later) × (number_of e.kind ≤ n)) → (suc first.place < p) ⊎ ((suc first.place ≡ p) × (number_of e.kind ≤ n))
+    shift : (p later n : ℕ) → p ≡ suc later → (first.place < later) ⊎ ((first.place ≡ later) × (refusal_number e.kind ≤ n)) → (suc first.place < p) ⊎ ((suc first.place ≡ p) × (refusal_number e.kind ≤ n))
     shift p later n is (inl less) = inl (omega arith)
     shift p later n is (inr (same, less)) = inr ((omega arith), less)
 
-    least : (p n : ℕ) → HeadComplaint f d m ms stop (Some column) p n → (suc first.place < p) ⊎ ((suc first.place ≡ p) × (number_of e.kind ≤ n))
+    least : (p n : ℕ) → HeadComplaint f d m ms stop (Some column) p n → (suc first.place < p) ⊎ ((suc first.place ≡ p) × (refusal_number e.kind ≤ n))
     least p n (later, is, complaint) = shift p later n is (first.least later n complaint)
 
 -- the complaints of a dependency line, where there is room for it
 with_room : (f : Format) (d : Declarations) (line : ℕ) (m : Mark) (ms : List Mark) (stop : Option Stop) (res : Result Dependency SchemaRefusal) → length d.deps < MOST_DEPENDENCIES
-    → FitsLine f d.names line (m ∷ ms) stop res → FitsHead f d line m ms stop None (and_then res (λ dep. Ok (add_dependency d dep line)))
+    → FitsDependency f d.names line (m ∷ ms) stop res → FitsHead f d line m ms stop None (and_then res (λ dep. Ok (add_dependency d dep line)))
 with_room f d line m ms stop (Ok dep) room none = λ p n complaint. no_more p n complaint
   where
     no_more : (p n : ℕ) → HeadComplaint f d m ms stop None p n → ⊥
@@ -52,13 +52,13 @@ with_room f d line m ms stop (Ok dep) room none = λ p n complaint. no_more p n 
     no_more p n (inr (eight, here, full)) = absurd (omega arith)
 with_room f d line m ms stop (Err e) room first = record { place = first.place; stands = inl first.stands; carries = first.carries; there = first.there; least = least }
   where
-    least : (p n : ℕ) → HeadComplaint f d m ms stop None p n → (first.place < p) ⊎ ((first.place ≡ p) × (number_of e.kind ≤ n))
+    least : (p n : ℕ) → HeadComplaint f d m ms stop None p n → (first.place < p) ⊎ ((first.place ≡ p) × (refusal_number e.kind ≤ n))
     least p n (inl complaint) = first.least p n complaint
     least p n (inr (eight, here, full)) = absurd (omega arith)
 
-begun_fits : (f : Format) (d : Declarations) (line : ℕ) (m : Mark) (ms : List Mark) (stop : Option Stop) (o : Result Reading SchemaRefusalKind) (b : Bool)
+begun_fits : (f : Format) (d : Declarations) (line : ℕ) (m : Mark) (ms : List Mark) (stop : Option Stop) (o : Result Reached SchemaRefusalKind) (b : Bool)
     → nat_le MOST_DEPENDENCIES (length d.deps) ≡ b → StepTells f d.names start m o
-    → FitsLine f d.names line (m ∷ ms) stop (and_then (at line m.column (length m.word) o) (λ next. follow f d.names line next (m.column + length m.word) ms stop))
+    → FitsDependency f d.names line (m ∷ ms) stop (and_then (at line m.column (length m.word) o) (λ next. follow f d.names line next (m.column + length m.word) ms stop))
     → FitsHead f d line m ms stop None
     (and_then (at line m.column (length m.word) (and_then o (λ next. cond b (Err kind.TooManyDependencies) (Ok next))))
     (λ next. and_then (follow f d.names line next (m.column + length m.word) ms stop) (λ dep. Ok (add_dependency d dep line))))
@@ -66,7 +66,7 @@ begun_fits f d line m ms stop (Err why) b full tells fits =
     let ends = first_token f d.names line m ms stop why tells in
     record { place = ends.first.place; stands = inl ends.first.stands; carries = ends.first.carries; there = ends.first.there; least = least ends }
   where
-    least : (ends : EndsAt f d.names line m ms stop why) → (p n : ℕ) → HeadComplaint f d m ms stop None p n → (ends.first.place < p) ⊎ ((ends.first.place ≡ p) × (number_of why ≤ n))
+    least : (ends : EndsAt f d.names line m ms stop why) → (p n : ℕ) → HeadComplaint f d m ms stop None p n → (ends.first.place < p) ⊎ ((ends.first.place ≡ p) × (refusal_number why ≤ n))
     least ends p n (inl complaint) = ends.first.least p n complaint
     least ends p n (inr (eight, here, no_room)) = let place = ends.here in let small = ends.small in inr ((omega arith), omega arith)
 begun_fits f d line m ms stop (Ok next) true full tells fits = record { place = 0; stands = inr (refl, refl, leb-true _ _ full); carries = tt; there = refl; least = least }
@@ -98,7 +98,7 @@ stop_fits f d line s = record { place = 0; stands = (s, refl, refl, flaw_numbere
     inside : (t : Stop) → Some s ≡ Some t → s ≡ t
     inside t eq = cc
 
-    least : (p n : ℕ) → TextLineComplaint f d [] (Some s) p n → (0 < p) ⊎ ((0 ≡ p) × (number_of (kind_of_flaw s.flaw) ≤ n))
+    least : (p n : ℕ) → TextLineComplaint f d [] (Some s) p n → (0 < p) ⊎ ((0 ≡ p) × (refusal_number (kind_of_flaw s.flaw) ≤ n))
     least p n (t, is, place, number) =
         let flaws : s.flaw ≡ t.flaw = ap (λ x. x.flaw) (inside t is) in
         inr (sym place, (let numbers = flaw_numbered s.flaw in let again = ap flaw_number flaws in omega arith))

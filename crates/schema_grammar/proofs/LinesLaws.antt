@@ -5,10 +5,10 @@ use Rattle.lexer.specs.Tokens.{Mark, lex}
 use Rattle.schema_grammar.specs.declared.refusal.SchemaRefusal.{SchemaRefusal}
 use Rattle.schema_grammar.specs.declared.refusal.SchemaRefusalKind.TheVariants as kind
 use Rattle.schema_grammar.specs.declared.format.Format.{Format}
-use Rattle.schema_grammar.specs.Complaints.{TextLineComplaint, FitsTextLine, number_of, span_at}
+use Rattle.schema_grammar.specs.Complaints.{TextLineComplaint, FitsTextLine, refusal_number, span_at}
 use Rattle.schema_grammar.specs.Declarations.{Declarations, read_line}
 use Rattle.schema_grammar.specs.Refusals.{and_then, refusal}
-use Rattle.schema_grammar.specs.Schemas.{MeansLine, MeansLines, LinesComplaint, IsFirstOfLines, FitsLines}
+use Rattle.schema_grammar.specs.Schemas.{MeansTextLine, MeansLines, LinesComplaint, IsFirstOfLines, FitsLines}
 use Rattle.schema_grammar.specs.Texts.{finish, read_lines}
 use Rattle.schema_grammar.proofs.LineLaws.{text-line-law}
 use Rattle.schema_grammar.proofs.DeclaringLaws.{line_there, line_back}
@@ -46,7 +46,7 @@ complaint_behind f first d next line lines l p n read none complaint = told comp
         absurd (none p n (subst of_d means (subst of (sym same.0) complaint.complaint)))
     told (one ∷ before) cut (middle, first_means, rest) stands_on =
         let same = first_of line one lines (before ++ complaint.line ∷ complaint.after) cut in
-        let of : List ℕ → Type 0 = λ t. MeansLine f first d t middle in
+        let of : List ℕ → Type 0 = λ t. MeansTextLine f first d t middle in
         let again : read_line f first d line ≡ Ok middle = line_back f first d line middle (subst of (sym same.0) first_means) in
         let equal : middle ≡ next = ok_value middle next (read_line f first d line) again read in
         let of_d : Declarations → Type 0 = λ t. MeansLines f (first + 1) t before complaint.declared in
@@ -81,7 +81,7 @@ unfolding complaint_before
 lines_behind f first d next line lines (Ok whole) read none fits = λ l p n complaint. fits l p n (complaint_behind f first d next line lines l p n read none complaint)
 lines_behind f first d next line lines (Err e) read none (inl found) = inl (record {
   place = found.place;
-  stands = complaint_before f first d next line lines e.span.line found.place (number_of e.kind) read found.stands;
+  stands = complaint_before f first d next line lines e.span.line found.place (refusal_number e.kind) read found.stands;
   carries = found.carries;
   there = found.there;
   least = λ l p n complaint. found.least l p n (complaint_behind f first d next line lines l p n read none complaint);
@@ -117,7 +117,7 @@ line_here f first d line lines e read found =
   where
     told : e.span.line ≡ first → (l p n : ℕ) (complaint : LinesComplaint f first d (line ∷ lines) l p n) (before : List (List ℕ)) → line ∷ lines ≡ before ++ complaint.line ∷ complaint.after
         → MeansLines f first d before complaint.declared → l ≡ first + length before
-        → (e.span.line < l) ⊎ ((e.span.line ≡ l) × ((found.place < p) ⊎ ((found.place ≡ p) × (number_of e.kind ≤ n))))
+        → (e.span.line < l) ⊎ ((e.span.line ≡ l) × ((found.place < p) ⊎ ((found.place ≡ p) × (refusal_number e.kind ≤ n))))
     told on l p n complaint [] cut means stands_on =
         let same = first_of line complaint.line lines complaint.after cut in
         let of : List ℕ → Type 0 = λ t. TextLineComplaint f complaint.declared (lex mode.Plain t).marks (lex mode.Plain t).stop p n in

@@ -18,7 +18,7 @@ use Rattle.schema_grammar.specs.declared.refusal.SchemaRefusalKind.TheVariants a
 use Rattle.schema_grammar.specs.declared.refusal.What.{What}
 use Rattle.schema_grammar.specs.declared.refusal.What.TheVariants as what
 use Rattle.schema_grammar.specs.declared.format.Format.{Format}
-use Rattle.schema_grammar.specs.Complaints.{NameComplaint, NamesComplaint, NamesWant, Carries, number_of, flaw_number, span_at, IsFirst, FitsNames}
+use Rattle.schema_grammar.specs.Complaints.{NameComplaint, NamesComplaint, NamesWant, Carries, refusal_number, flaw_number, span_at, IsFirst, FitsNames}
 use Rattle.schema_grammar.specs.Declarations.{Declarations, add_name, declare, name_step, wanted, list_names}
 use Rattle.schema_grammar.specs.Refusals.{at, and_then, refused_by, refusal, kind_of_flaw}
 use Rattle.schema_grammar.specs.Words.{is_reserved}
@@ -34,7 +34,7 @@ WordComplaint f d m number =
 -- what a token behind a declaring word tells
 abbrev NameTells : Format → Column → Declarations → Bool → Mark → Result Declarations SchemaRefusalKind → Type 0
 NameTells f column d some m (Ok next) = (next ≡ add_name d m.word column) × (m.kind ≡ token.Word) × ((n : ℕ) → WordComplaint f d m n → ⊥)
-NameTells f column d some m (Err why) = WordComplaint f d m (number_of why) × ((n : ℕ) → WordComplaint f d m n → number_of why ≤ n) × Carries (λ w. w ≡ wanted some) why
+NameTells f column d some m (Err why) = WordComplaint f d m (refusal_number why) × ((n : ℕ) → WordComplaint f d m n → refusal_number why ≤ n) × Carries (λ w. w ≡ wanted some) why
 
 word_tells : (f : Format) (column : Column) (d : Declarations) (some : Bool) (m : Mark) → m.kind ≡ token.Word → NameTells f column d some m (declare f column d m.word)
 unfolding declare
@@ -171,7 +171,7 @@ names_later some f column d line behind w words stop (Ok whole) word fine rest =
     none (suc p) n complaint = rest p n (from_later some f column d w words stop p n complaint)
 names_later some f column d line behind w words stop (Err e) word fine rest = record {
   place = suc rest.place;
-  stands = from_earlier some f column d w words stop rest.place (number_of e.kind) word rest.stands;
+  stands = from_earlier some f column d w words stop rest.place (refusal_number e.kind) word rest.stands;
   carries = wants_earlier rest.place e.kind rest.carries;
   there = rest.there;
   least = least;
@@ -181,11 +181,11 @@ names_later some f column d line behind w words stop (Err e) word fine rest = re
     wants_earlier zero why carries = carries
     wants_earlier (suc p) why carries = carries
 
-    shift : (p n : ℕ) → (rest.place < p) ⊎ ((rest.place ≡ p) × (number_of e.kind ≤ n)) → (suc rest.place < suc p) ⊎ ((suc rest.place ≡ suc p) × (number_of e.kind ≤ n))
+    shift : (p n : ℕ) → (rest.place < p) ⊎ ((rest.place ≡ p) × (refusal_number e.kind ≤ n)) → (suc rest.place < suc p) ⊎ ((suc rest.place ≡ suc p) × (refusal_number e.kind ≤ n))
     shift p n (inl less) = inl (omega arith)
     shift p n (inr (same, less)) = inr ((omega arith), less)
 
-    least : (p n : ℕ) → NamesFrom some f d (w ∷ words) stop p n → (suc rest.place < p) ⊎ ((suc rest.place ≡ p) × (number_of e.kind ≤ n))
+    least : (p n : ℕ) → NamesFrom some f d (w ∷ words) stop p n → (suc rest.place < p) ⊎ ((suc rest.place ≡ p) × (refusal_number e.kind ≤ n))
     least zero n (inl (inl (m, is, before, complaint))) = absurd (fine n (name_first f d w words m n (same_mark w words m is) complaint))
     least zero n (inl (inr (six, place, nothing, stop_none, none_before))) = cc
     least zero n (inr (s, is, place, number)) = absurd (omega arith)
@@ -195,13 +195,13 @@ names_here : (some : Bool) (f : Format) (column : Column) (d : Declarations) (li
     → NameTells f column d some w (Err why) → JudgedNames some f d line behind (w ∷ words) stop (Err (refusal line w.column (length w.word) why))
 names_here some f column d line behind w words stop why (stands, less, wants) = record {
   place = 0;
-  stands = inl (inl (w, refl, All-nil (λ v. v.kind ≡ token.Word), first_name f d w words (number_of why) stands));
+  stands = inl (inl (w, refl, All-nil (λ v. v.kind ≡ token.Word), first_name f d w words (refusal_number why) stands));
   carries = wants;
   there = refl;
   least = least;
 }
   where
-    least : (p n : ℕ) → NamesFrom some f d (w ∷ words) stop p n → (0 < p) ⊎ ((0 ≡ p) × (number_of why ≤ n))
+    least : (p n : ℕ) → NamesFrom some f d (w ∷ words) stop p n → (0 < p) ⊎ ((0 ≡ p) × (refusal_number why ≤ n))
     least zero n (inl (inl (m, is, before, complaint))) = inr (refl, less n (name_first f d w words m n (same_mark w words m is) complaint))
     least zero n (inl (inr (six, place, nothing, stop_none, none_before))) = cc
     least zero n (inr (s, is, place, number)) = absurd (omega arith)
@@ -213,7 +213,7 @@ names_stop some f d line behind s = record { place = 0; stands = inr (s, refl, r
     inside : (t : Stop) → Some s ≡ Some t → s ≡ t
     inside t eq = cc
 
-    least : (p n : ℕ) → NamesFrom some f d [] (Some s) p n → (0 < p) ⊎ ((0 ≡ p) × (number_of (kind_of_flaw s.flaw) ≤ n))
+    least : (p n : ℕ) → NamesFrom some f d [] (Some s) p n → (0 < p) ⊎ ((0 ≡ p) × (refusal_number (kind_of_flaw s.flaw) ≤ n))
     least p n (inl (inl (m, is, before, complaint))) = absurd (no_mark m p is)
     least p n (inl (inr (six, place, nothing, stop_none, none_before))) = cc
     least p n (inr (t, is, place, number)) =
@@ -280,4 +280,4 @@ names-law f column d line behind words stop = fits (list_names f column line d f
 
     fits : (res : Result Declarations SchemaRefusal) → JudgedNames false f d line behind words stop res → FitsNames f d line behind words stop res
     fits (Ok whole) none = λ p n complaint. none p n (from p n complaint)
-    fits (Err e) first = record { place = first.place; stands = to first.place (number_of e.kind) first.stands; carries = carries first.place e.kind first.carries; there = first.there; least = λ p n complaint. first.least p n (from p n complaint) }
+    fits (Err e) first = record { place = first.place; stands = to first.place (refusal_number e.kind) first.stands; carries = carries first.place e.kind first.carries; there = first.there; least = λ p n complaint. first.least p n (from p n complaint) }

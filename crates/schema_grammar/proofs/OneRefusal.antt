@@ -16,7 +16,7 @@ use Rattle.schema_grammar.specs.declared.refusal.SchemaRefusalKind.TheVariants a
 use Rattle.schema_grammar.specs.declared.refusal.Span.{Span}
 use Rattle.schema_grammar.specs.declared.refusal.What.{What}
 use Rattle.schema_grammar.specs.declared.refusal.What.TheVariants as what
-use Rattle.schema_grammar.specs.Complaints.{Wants, LineWants, AtFirst, NamesWant, HeadWants, TextLineWants, Carries, IsFirst, RefusesLine, kinds, number_of, span_at}
+use Rattle.schema_grammar.specs.Complaints.{Wants, DependencyWants, AtFirst, NamesWant, HeadWants, TextLineWants, Carries, IsFirst, RefusesDependency, kinds, refusal_number, span_at}
 use Rattle.schema_grammar.proofs.ShapeLemmas.{Shape, at_start, in_left, past_empty, past_arrow, in_right, past_end, bind, runs, is_final, wanted_by, runs-append, begins_to, line_ends}
 
 -- ---- a kind is its number, and what it carries
@@ -39,7 +39,7 @@ other_kind n =
 abbrev kind_of : ℕ → What → SchemaRefusalKind
 kind_of n w = cond (n == 6) (kind.Expected w) (other_kind n)
 
-kind_back : (k : SchemaRefusalKind) → k ≡ kind_of (number_of k) (carried k)
+kind_back : (k : SchemaRefusalKind) → k ≡ kind_of (refusal_number k) (carried k)
 kind_back kind.StrangeByte = refl
 kind_back kind.BadName = refl
 kind_back kind.ReservedName = refl
@@ -52,7 +52,7 @@ kind_back kind.NoAttributes = refl
 kind_back kind.UnknownVersion = refl
 kind_back kind.Memory = refl
 
-carries_it : (Wanted : What → Type 0) (k : SchemaRefusalKind) → number_of k ≡ 6 → Carries Wanted k → Wanted (carried k)
+carries_it : (Wanted : What → Type 0) (k : SchemaRefusalKind) → refusal_number k ≡ 6 → Carries Wanted k → Wanted (carried k)
 carries_it Wanted kind.StrangeByte e h = absurd (omega (arith, e))
 carries_it Wanted kind.BadName e h = absurd (omega (arith, e))
 carries_it Wanted kind.ReservedName e h = absurd (omega (arith, e))
@@ -76,9 +76,9 @@ carrying n w v same = told (n == 6) refl
     told true e = ap (λ x. kind.Expected x) (same (eqb-true n 6 e))
     told false e = refl
 
-same_kind : (Wanted : What → Type 0) (k l : SchemaRefusalKind) → OneWant Wanted → Carries Wanted k → Carries Wanted l → number_of k ≡ number_of l → k ≡ l
+same_kind : (Wanted : What → Type 0) (k l : SchemaRefusalKind) → OneWant Wanted → Carries Wanted k → Carries Wanted l → refusal_number k ≡ refusal_number l → k ≡ l
 same_kind Wanted k l one h g e =
-    kind_back k ∙ carrying (number_of k) (carried k) (carried l) (λ six. one (carried k) (carried l) (carries_it Wanted k six h) (carries_it Wanted l (sym e ∙ six) g))
+    kind_back k ∙ carrying (refusal_number k) (carried k) (carried l) (λ six. one (carried k) (carried l) (carries_it Wanted k six h) (carries_it Wanted l (sym e ∙ six) g))
     ∙ ap (λ n. kind_of n (carried l)) e ∙ sym (kind_back l)
 
 pub same_refusal : (e f : SchemaRefusal) → e.span ≡ f.span → e.kind ≡ f.kind → e ≡ f
@@ -97,11 +97,11 @@ both_least p q n m (inr (same, small)) (inr (again, large)) = (same, omega arith
 pub one_first : (Complaint : ℕ → ℕ → Type 0) (Wanted : ℕ → What → Type 0) (span : ℕ → Span) (e f : SchemaRefusal) → ((p : ℕ) → OneWant (Wanted p))
     → IsFirst Complaint Wanted span e → IsFirst Complaint Wanted span f → e ≡ f
 one_first Complaint Wanted span e f one first second =
-    let same = both_least first.place second.place (number_of e.kind) (number_of f.kind) (first.least second.place (number_of f.kind) second.stands) (second.least first.place (number_of e.kind) first.stands) in
+    let same = both_least first.place second.place (refusal_number e.kind) (refusal_number f.kind) (first.least second.place (refusal_number f.kind) second.stands) (second.least first.place (refusal_number e.kind) first.stands) in
     let carries : Carries (Wanted first.place) f.kind = subst (λ (p : ℕ). Carries (Wanted p) f.kind) (sym same.0) second.carries in
     same_refusal e f (first.there ∙ ap span same.0 ∙ sym second.there) (same_kind (Wanted first.place) e.kind f.kind (one first.place) first.carries carries same.1)
 
-pub same_carried : (Wanted : What → Type 0) (e f : SchemaRefusal) → OneWant Wanted → Carries Wanted e.kind → Carries Wanted f.kind → number_of e.kind ≡ number_of f.kind → e.kind ≡ f.kind
+pub same_carried : (Wanted : What → Type 0) (e f : SchemaRefusal) → OneWant Wanted → Carries Wanted e.kind → Carries Wanted f.kind → refusal_number e.kind ≡ refusal_number f.kind → e.kind ≡ f.kind
 same_carried Wanted e f = same_kind Wanted e.kind f.kind
 
 -- ---- what is wanted
@@ -179,6 +179,6 @@ one_text_line f (m ∷ ms) p w v h g = one_head m ms _ p w v h g
 
 -- a dependency line has one refusal at most
 pub one_line_refusal : (f : Format) (declared : List (List ℕ)) (line : ℕ) (ms : List Mark) (stop : Option Stop) (e g : SchemaRefusal)
-    → RefusesLine f declared line ms stop e → RefusesLine f declared line ms stop g → e ≡ g
+    → RefusesDependency f declared line ms stop e → RefusesDependency f declared line ms stop g → e ≡ g
 one_line_refusal f declared line ms stop e g first second =
-    one_first _ (LineWants ms) (span_at line 1 ms stop) e g (λ p. one_want (take p (kinds ms))) first second
+    one_first _ (DependencyWants ms) (span_at line 1 ms stop) e g (λ p. one_want (take p (kinds ms))) first second

@@ -14,7 +14,7 @@ use Rattle.schema_grammar.specs.declared.format.TheConstants.{VERSION}
 use Rattle.schema_grammar.specs.declared.refusal.SchemaRefusal.{SchemaRefusal}
 use Rattle.schema_grammar.specs.declared.refusal.Span.{Span}
 use Rattle.schema_grammar.specs.declared.refusal.What.TheVariants as what
-use Rattle.schema_grammar.specs.Complaints.{TextLineWants, Carries, FitsTextLine, FitsGoal, AtFirst, RefusesGoal, number_of, span_at}
+use Rattle.schema_grammar.specs.Complaints.{TextLineWants, Carries, FitsTextLine, FitsGoal, AtFirst, RefusesGoal, refusal_number, span_at}
 use Rattle.schema_grammar.specs.Declarations.{Declarations, no_declaration, read_line}
 use Rattle.schema_grammar.specs.Meanings.{HasTokens}
 use Rattle.schema_grammar.specs.Reading.{read_goal}
@@ -47,7 +47,7 @@ place_in l text p = span_at l 1 (lex mode.Plain text).marks (lex mode.Plain text
 
 one_of_lines : (f : Format) (first : ℕ) (d : Declarations) (lines : List (List ℕ)) (e g : SchemaRefusal) → IsFirstOfLines f first d lines e → IsFirstOfLines f first d lines g → e ≡ g
 one_of_lines f first d lines e g a b =
-    let same = meet e.span.line g.span.line (a.least g.span.line b.place (number_of g.kind) b.stands) (b.least e.span.line a.place (number_of e.kind) a.stands) in
+    let same = meet e.span.line g.span.line (a.least g.span.line b.place (refusal_number g.kind) b.stands) (b.least e.span.line a.place (refusal_number e.kind) a.stands) in
     let on = a.stands.stands_on in
     let again = b.stands.stands_on in
     let lines_same : e.span.line ≡ g.span.line = same.0 in
@@ -59,19 +59,19 @@ one_of_lines f first d lines e g a b =
     (a.there ∙ ap (λ l. place_in l a.stands.line a.place) same.0 ∙ ap (λ t. place_in g.span.line t a.place) text ∙ ap (λ p. place_in g.span.line b.stands.line p) same.1 ∙ sym b.there)
     (same_carried (TextLineWants f (lex mode.Plain a.stands.line).marks a.place) e g (one_text_line f (lex mode.Plain a.stands.line).marks a.place) a.carries carries same.2)
   where
-    meet : (l k : ℕ) → (l < k) ⊎ ((l ≡ k) × ((a.place < b.place) ⊎ ((a.place ≡ b.place) × (number_of e.kind ≤ number_of g.kind))))
-        → (k < l) ⊎ ((k ≡ l) × ((b.place < a.place) ⊎ ((b.place ≡ a.place) × (number_of g.kind ≤ number_of e.kind))))
-        → (l ≡ k) × (a.place ≡ b.place) × (number_of e.kind ≡ number_of g.kind)
+    meet : (l k : ℕ) → (l < k) ⊎ ((l ≡ k) × ((a.place < b.place) ⊎ ((a.place ≡ b.place) × (refusal_number e.kind ≤ refusal_number g.kind))))
+        → (k < l) ⊎ ((k ≡ l) × ((b.place < a.place) ⊎ ((b.place ≡ a.place) × (refusal_number g.kind ≤ refusal_number e.kind))))
+        → (l ≡ k) × (a.place ≡ b.place) × (refusal_number e.kind ≡ refusal_number g.kind)
     meet l k (inl less) (inl more) = absurd (omega arith)
     meet l k (inl less) (inr (is, there)) = absurd (omega arith)
     meet l k (inr (is, here)) (inl more) = absurd (omega arith)
     meet l k (inr (is, here)) (inr (again, there)) =
-        let places = both_least a.place b.place (number_of e.kind) (number_of g.kind) here there in (is, places.0, places.1)
+        let places = both_least a.place b.place (refusal_number e.kind) (refusal_number g.kind) here there in (is, places.0, places.1)
 
 one_lines : (f : Format) (first : ℕ) (d : Declarations) (lines : List (List ℕ)) (e g : SchemaRefusal) → RefusesLines f first d lines e → RefusesLines f first d lines g → e ≡ g
 one_lines f first d lines e g (inl a) (inl b) = one_of_lines f first d lines e g a b
-one_lines f first d lines e g (inl a) (inr b) = absurd (fine_lines f first d lines b.whole b.means e.span.line a.place (number_of e.kind) a.stands)
-one_lines f first d lines e g (inr a) (inl b) = absurd (fine_lines f first d lines a.whole a.means g.span.line b.place (number_of g.kind) b.stands)
+one_lines f first d lines e g (inl a) (inr b) = absurd (fine_lines f first d lines b.whole b.means e.span.line a.place (refusal_number e.kind) a.stands)
+one_lines f first d lines e g (inr a) (inl b) = absurd (fine_lines f first d lines a.whole a.means g.span.line b.place (refusal_number g.kind) b.stands)
 one_lines f first d lines e g (inr a) (inr b) = a.at_the_end ∙ sym b.at_the_end
 
 -- ---- the version line
@@ -124,8 +124,8 @@ one_at : (number : ℕ) (before : List (List ℕ)) (version : List ℕ) (later :
 one_at number before version later [] e g starts a b = absurd a
 one_at number before version later (m ∷ ms) e g starts (inl a) (inl b) =
     one_first (VersionComplaint ms (lex mode.Numbered version).stop) (AtFirst what.Number) (span_at (length before + number) (m.column + length m.word) ms (lex mode.Numbered version).stop) e g (λ p. one_at_first what.Number p) a b
-one_at number before version later (m ∷ ms) e g starts (inl a) (inr b) = absurd (fine_version version m ms starts b.0 a.place (number_of e.kind) a.stands)
-one_at number before version later (m ∷ ms) e g starts (inr a) (inl b) = absurd (fine_version version m ms starts a.0 b.place (number_of g.kind) b.stands)
+one_at number before version later (m ∷ ms) e g starts (inl a) (inr b) = absurd (fine_version version m ms starts b.0 a.place (refusal_number e.kind) a.stands)
+one_at number before version later (m ∷ ms) e g starts (inr a) (inl b) = absurd (fine_version version m ms starts a.0 b.place (refusal_number g.kind) b.stands)
 one_at number before version later (m ∷ ms) e g starts (inr a) (inr b) = one_lines format.Typed (length before + number + 1) no_declaration later e g a.1 b.1
 
 refuses_at : (number : ℕ) (lines : List (List ℕ)) (text : HasVersionLine lines) (e : SchemaRefusal) → RefusesTyped number lines text e → RefusesAt number text.before text.version text.later (lex mode.Numbered text.version).marks e
@@ -171,7 +171,7 @@ means_one f first d (line ∷ lines) whole other (next, here, rest) (later, ther
     means_one f (first + 1) later lines whole other (subst (λ (x : Declarations). MeansLines f (first + 1) x lines whole) same rest) more
 
 no_refusal : (f : Format) (first : ℕ) (d : Declarations) (lines : List (List ℕ)) (whole : Declarations) → MeansLines f first d lines whole → 0 < length whole.names → (e : SchemaRefusal) → RefusesLines f first d lines e → ⊥
-no_refusal f first d lines whole means some e (inl a) = fine_lines f first d lines whole means e.span.line a.place (number_of e.kind) a.stands
+no_refusal f first d lines whole means some e (inl a) = fine_lines f first d lines whole means e.span.line a.place (refusal_number e.kind) a.stands
 no_refusal f first d lines whole means some e (inr b) =
     let same = ap (λ (x : Declarations). length x.names) (means_one f first d lines whole b.whole means b.means) in
     let nothing = b.nothing in absurd (omega (arith, same, nothing, some))
@@ -179,7 +179,7 @@ no_refusal f first d lines whole means some e (inr b) =
 none_at : (number : ℕ) (before : List (List ℕ)) (version : List ℕ) (later : List (List ℕ)) (ms : List Mark) (whole : Declarations) (e : SchemaRefusal) → (lex mode.Numbered version).marks ≡ ms → IsVersionLine version
     → MeansLines format.Typed (length before + number + 1) no_declaration later whole → 0 < length whole.names → RefusesAt number before version later ms e → ⊥
 none_at number before version later [] whole e starts is means some refusing = refusing
-none_at number before version later (m ∷ ms) whole e starts is means some (inl a) = fine_version version m ms starts is a.place (number_of e.kind) a.stands
+none_at number before version later (m ∷ ms) whole e starts is means some (inl a) = fine_version version m ms starts is a.place (refusal_number e.kind) a.stands
 none_at number before version later (m ∷ ms) whole e starts is means some (inr b) = no_refusal format.Typed (length before + number + 1) no_declaration later whole means some e b.1
 
 version_stands : (lines : List (List ℕ)) (whole : Declarations) → IsTypedText lines whole → HasVersionLine lines
@@ -227,5 +227,5 @@ pub goal-refusal-law : (declared : List (List ℕ)) (text : List ℕ) (e : Schem
 goal-refusal-law declared text e = (goal_refused declared text e, λ h. told h (read_goal declared text) refl (goal-complaint-law declared text))
   where
     told : RefusesGoal declared text e → (r : Result Dependency SchemaRefusal) → read_goal declared text ≡ r → FitsGoal declared text r → read_goal declared text ≡ Err e
-    told h (Ok d) is none = absurd (none h.place (number_of e.kind) h.stands)
+    told h (Ok d) is none = absurd (none h.place (refusal_number e.kind) h.stands)
     told h (Err g) is other = is ∙ ap refused_goal (one_line_refusal format.Plain declared 1 (lex mode.Goal text).marks (lex mode.Goal text).stop g e other h)

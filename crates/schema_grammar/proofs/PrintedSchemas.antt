@@ -25,7 +25,7 @@ use Rattle.schema_grammar.specs.declared.format.Format.TheVariants as format
 use Rattle.schema_grammar.specs.Declarations.{Declarations, no_declaration, add_name}
 use Rattle.schema_grammar.specs.Meanings.{HasTokens}
 use Rattle.schema_grammar.specs.Printing.{words_text, dependency_text, Run, run_line, runs_of, in_front, same_column, type_word, is_integer, declaring_lines, declared_text}
-use Rattle.schema_grammar.specs.Schemas.{DeclareNames, MeansLine, MeansLines, IsVersionLine, IsPlainText, IsTypedText, MeansSchema, has_version_line}
+use Rattle.schema_grammar.specs.Schemas.{DeclareNames, MeansTextLine, MeansLines, IsVersionLine, IsPlainText, IsTypedText, MeansSchema, has_version_line}
 use Rattle.schema_grammar.specs.Texts.{is_version}
 use Rattle.schema_grammar.specs.Words.{is_reserved, declares, declaring}
 use Rattle.schema_grammar.specs.Printed.{AreNames, IsPrintable}
@@ -81,7 +81,7 @@ declare_mean f column d names (word ∷ words) at place are cut few =
 
 -- a declaring line as it is printed
 declaring_mean : (f : Format) (column : Column) (number : ℕ) (d : Declarations) (key : List ℕ) (names words : List (List ℕ)) (place : ℕ) → AreNames f names → IsCutAt names d.names words place
-    → length names ≤ PLACES → 0 < length words → is_name key ≡ true → declares f token.Word key ≡ Some column → MeansLine f number d (key ++ words_text words) (with_names d words column)
+    → length names ≤ PLACES → 0 < length words → is_name key ≡ true → declares f token.Word key ≡ Some column → MeansTextLine f number d (key ++ words_text words) (with_names d words column)
 declaring_mean f column number d key names words place are cut few some proper is =
     inl (inr (record {
       head = record { kind = token.Word; column = 1; word = key };
@@ -225,7 +225,7 @@ front_proper names before (word ∷ words) rest place are cut =
     ((known_at format.Typed names before word (words ++ rest) place are cut).proper, front_proper names (before ++ word ∷ []) words rest (place + 1) are (cut_more names before word (words ++ rest) place cut))
 
 run_mean : (number : ℕ) (d : Declarations) (names : List (List ℕ)) (r : Run) (rest : List (List ℕ)) (place : ℕ) → AreNames format.Typed names → IsCutAt names d.names (r.names ++ rest) place
-    → length names ≤ PLACES → 0 < length r.names → MeansLine format.Typed number d (run_line r) (with_names d r.names r.column)
+    → length names ≤ PLACES → 0 < length r.names → MeansTextLine format.Typed number d (run_line r) (with_names d r.names r.column)
 run_mean number d names r rest place are cut few some =
     inl (inr (record {
       head = record { kind = token.Word; column = 1; word = type_word r.column };

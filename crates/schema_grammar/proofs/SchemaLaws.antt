@@ -16,7 +16,7 @@ use Rattle.schema_grammar.specs.declared.format.Format.TheVariants as format
 use Rattle.schema_grammar.specs.Declarations.{Declarations, no_declaration}
 use Rattle.schema_grammar.specs.Meanings.{HasTokens}
 use Rattle.schema_grammar.specs.Refusals.{refusal}
-use Rattle.schema_grammar.specs.Schemas.{MeansLine, MeansLines, has_version_line, begins_version, IsPlainText, IsVersionLine, IsTypedText, MeansSchema}
+use Rattle.schema_grammar.specs.Schemas.{MeansTextLine, MeansLines, has_version_line, begins_version, IsPlainText, IsVersionLine, IsTypedText, MeansSchema}
 use Rattle.schema_grammar.specs.Texts.{read_lines, read_version, read_typed, read_opening, read_text, is_version, opened, end_version, version_number, number_in}
 use Rattle.schema_grammar.proofs.BlankLemmas.{blank_plain}
 use Rattle.schema_grammar.proofs.DeclaringLaws.{steps, has_tokens, finish_there, lines_there, lines_back}
@@ -136,7 +136,7 @@ text_there number (line ∷ lines) whole e = told (text_there (number + 1) lines
     told later (m ∷ ms) stop marks same e = first (is_version m.kind m.word) m ms stop marks same refl e
 
 -- a blank line declares nothing
-blank_means : (f : Format) (number : ℕ) (d : Declarations) (line : List ℕ) (next : Declarations) → HasTokens (lex mode.Plain line) [] → MeansLine f number d line next → next ≡ d
+blank_means : (f : Format) (number : ℕ) (d : Declarations) (line : List ℕ) (next : Declarations) → HasTokens (lex mode.Plain line) [] → MeansTextLine f number d line next → next ≡ d
 blank_means f number d line next blank (inl (inl is)) = is.same
 blank_means f number d line next blank (inl (inr is)) = let wrong : is.head ∷ is.words ≡ [] = ap (λ l. l.marks) (sym is.tokens ∙ blank) in cc
 blank_means f number d line next blank (inr is) = let wrong : is.head ∷ is.others ≡ [] = ap (λ l. l.marks) (sym is.tokens ∙ blank) in cc

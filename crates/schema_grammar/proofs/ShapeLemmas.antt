@@ -14,8 +14,8 @@ use Rattle.schema_grammar.specs.declared.format.Format.TheVariants as format
 use Rattle.schema_grammar.specs.declared.refusal.What.{What}
 use Rattle.schema_grammar.specs.declared.refusal.What.TheVariants as what
 use Rattle.schema_grammar.specs.declared.symbol.Symbol.{Symbol}
-use Rattle.schema_grammar.specs.Complaints.{IsLine, BeginsLine, Wants, Carries, ComplainsOfWord, kinds, number_of}
-use Rattle.schema_grammar.specs.Grammar.{Reading, start, left, left_empty, behind, right, right_empty, turn, finished}
+use Rattle.schema_grammar.specs.Complaints.{IsLine, BeginsLine, Wants, Carries, ComplainsOfWord, kinds, refusal_number}
+use Rattle.schema_grammar.specs.Grammar.{Reached, start, left, left_empty, behind, right, right_empty, turn, finished}
 use Rattle.schema_grammar.specs.Reading.{step, follow}
 use Rattle.schema_grammar.specs.Refusals.{at, and_then, expecting}
 use Rattle.schema_grammar.specs.Words.{is_reserved, looked_up, known}
@@ -30,7 +30,7 @@ pub data Shape : Type 0 where
   in_right : Shape
   past_end : Shape
 
-abbrev pub shape_of : Reading → Shape
+abbrev pub shape_of : Reached → Shape
 shape_of start = at_start
 shape_of (left x) = in_left
 shape_of left_empty = past_empty
@@ -103,11 +103,11 @@ runs s [] = Some s
 runs s (k ∷ ks) = bind (turn_shape s k) (λ t. runs t ks)
 
 -- a turn is one of the shapes
-abbrev pub TurnsTo : Option Shape → Result Reading What → Type 0
+abbrev pub TurnsTo : Option Shape → Result Reached What → Type 0
 TurnsTo o (Ok r) = o ≡ Some (shape_of r)
 TurnsTo o (Err w) = o ≡ None
 
-turned-Word : (a : ℕ) (r : Reading) → TurnsTo (turn_shape (shape_of r) token.Word) (turn r (symbol.Attribute a))
+turned-Word : (a : ℕ) (r : Reached) → TurnsTo (turn_shape (shape_of r) token.Word) (turn r (symbol.Attribute a))
 unfolding turn
 turned-Word a start = refl
 turned-Word a (left x) = refl
@@ -116,7 +116,7 @@ turned-Word a (behind s x) = refl
 turned-Word a (right s x y) = refl
 turned-Word a (right_empty s x) = refl
 
-turned-Arrow : (r : Reading) → TurnsTo (turn_shape (shape_of r) token.Arrow) (turn r (symbol.Arrow sign.Functional))
+turned-Arrow : (r : Reached) → TurnsTo (turn_shape (shape_of r) token.Arrow) (turn r (symbol.Arrow sign.Functional))
 unfolding turn
 turned-Arrow start = refl
 turned-Arrow (left x) = refl
@@ -125,7 +125,7 @@ turned-Arrow (behind s x) = refl
 turned-Arrow (right s x y) = refl
 turned-Arrow (right_empty s x) = refl
 
-turned-DoubleArrow : (r : Reading) → TurnsTo (turn_shape (shape_of r) token.DoubleArrow) (turn r (symbol.Arrow sign.Multivalued))
+turned-DoubleArrow : (r : Reached) → TurnsTo (turn_shape (shape_of r) token.DoubleArrow) (turn r (symbol.Arrow sign.Multivalued))
 unfolding turn
 turned-DoubleArrow start = refl
 turned-DoubleArrow (left x) = refl
@@ -134,7 +134,7 @@ turned-DoubleArrow (behind s x) = refl
 turned-DoubleArrow (right s x y) = refl
 turned-DoubleArrow (right_empty s x) = refl
 
-turned-Empty : (r : Reading) → TurnsTo (turn_shape (shape_of r) token.Empty) (turn r (symbol.Empty))
+turned-Empty : (r : Reached) → TurnsTo (turn_shape (shape_of r) token.Empty) (turn r (symbol.Empty))
 unfolding turn
 turned-Empty start = refl
 turned-Empty (left x) = refl
@@ -143,7 +143,7 @@ turned-Empty (behind s x) = refl
 turned-Empty (right s x y) = refl
 turned-Empty (right_empty s x) = refl
 
-turned-Number : (n : ℕ) (r : Reading) → TurnsTo (turn_shape (shape_of r) (token.Number n)) (turn r (symbol.Other))
+turned-Number : (n : ℕ) (r : Reached) → TurnsTo (turn_shape (shape_of r) (token.Number n)) (turn r (symbol.Other))
 unfolding turn
 turned-Number n start = refl
 turned-Number n (left x) = refl
@@ -152,7 +152,7 @@ turned-Number n (behind s x) = refl
 turned-Number n (right s x y) = refl
 turned-Number n (right_empty s x) = refl
 
-turned-Colon : (r : Reading) → TurnsTo (turn_shape (shape_of r) token.Colon) (turn r (symbol.Other))
+turned-Colon : (r : Reached) → TurnsTo (turn_shape (shape_of r) token.Colon) (turn r (symbol.Other))
 unfolding turn
 turned-Colon start = refl
 turned-Colon (left x) = refl
@@ -162,11 +162,11 @@ turned-Colon (right s x y) = refl
 turned-Colon (right_empty s x) = refl
 
 -- what the grammar tells in place of a token is what is wanted
-abbrev TurnWants : Reading → Result Reading What → Type 0
+abbrev TurnWants : Reached → Result Reached What → Type 0
 TurnWants r (Ok next) = Unit {0}
 TurnWants r (Err w) = w ≡ wanted_by (shape_of r)
 
-turn_wants : (r : Reading) (s : Symbol) → TurnWants r (turn r s)
+turn_wants : (r : Reached) (s : Symbol) → TurnWants r (turn r s)
 unfolding turn
 turn_wants start (symbol.Attribute a) = tt
 turn_wants start (symbol.Arrow s) = refl
@@ -194,14 +194,14 @@ turn_wants (right_empty s x) symbol.Empty = refl
 turn_wants (right_empty s x) symbol.Other = refl
 
 -- what a step tells: where it leads, or the complaint
-abbrev pub StepTells : Format → List (List ℕ) → Reading → Mark → Result Reading SchemaRefusalKind → Type 0
+abbrev pub StepTells : Format → List (List ℕ) → Reached → Mark → Result Reached SchemaRefusalKind → Type 0
 StepTells f declared r m (Ok next) =
     (turn_shape (shape_of r) m.kind ≡ Some (shape_of next)) × ((n : ℕ) → ComplainsOfWord f declared m n → ⊥)
 StepTells f declared r m (Err why) =
-    (ComplainsOfWord f declared m (number_of why) × ((n : ℕ) → ComplainsOfWord f declared m n → number_of why ≤ n) × (number_of why ≤ 6))
-    ⊎ ((number_of why ≡ 6) × (turn_shape (shape_of r) m.kind ≡ None) × ((n : ℕ) → ComplainsOfWord f declared m n → ⊥) × (why ≡ kind.Expected (wanted_by (shape_of r))))
+    (ComplainsOfWord f declared m (refusal_number why) × ((n : ℕ) → ComplainsOfWord f declared m n → refusal_number why ≤ n) × (refusal_number why ≤ 6))
+    ⊎ ((refusal_number why ≡ 6) × (turn_shape (shape_of r) m.kind ≡ None) × ((n : ℕ) → ComplainsOfWord f declared m n → ⊥) × (why ≡ kind.Expected (wanted_by (shape_of r))))
 
-turn_tells : (f : Format) (declared : List (List ℕ)) (r : Reading) (m : Mark) (t : Result Reading What) → TurnsTo (turn_shape (shape_of r) m.kind) t
+turn_tells : (f : Format) (declared : List (List ℕ)) (r : Reached) (m : Mark) (t : Result Reached What) → TurnsTo (turn_shape (shape_of r) m.kind) t
     → TurnWants r t → ((n : ℕ) → ComplainsOfWord f declared m n → ⊥) → StepTells f declared r m (expecting t)
 turn_tells f declared r m (Ok next) turns wants none = (turns, none)
 turn_tells f declared r m (Err w) turns wants none = inr (refl, turns, none, ap (λ x. kind.Expected x) wants)
@@ -224,7 +224,7 @@ known_word f declared m a n free place (word, inr is) = let unknown : place_name
 abbrev mark : TokenKind → ℕ → List ℕ → Mark
 mark k column word = record { kind = k; column = column; word = word }
 
-word_tells : (f : Format) (declared : List (List ℕ)) (r : Reading) (column : ℕ) (word : List ℕ)
+word_tells : (f : Format) (declared : List (List ℕ)) (r : Reached) (column : ℕ) (word : List ℕ)
     → StepTells f declared r (mark token.Word column word) (step f declared r token.Word word)
 unfolding step looked_up
 word_tells f declared r column word = told (is_reserved f word) (place_named declared word) refl refl
@@ -236,7 +236,7 @@ word_tells f declared r column word = told (is_reserved f word) (place_named dec
     told false (Some a) free place =
         turn_tells f declared r (mark token.Word column word) (turn r (symbol.Attribute a)) (turned-Word a r) (turn_wants r (symbol.Attribute a)) (λ n c. known_word f declared (mark token.Word column word) a n free place c)
 
-kind_tells : (f : Format) (declared : List (List ℕ)) (r : Reading) (k : TokenKind) (column : ℕ) (word : List ℕ)
+kind_tells : (f : Format) (declared : List (List ℕ)) (r : Reached) (k : TokenKind) (column : ℕ) (word : List ℕ)
     → StepTells f declared r (mark k column word) (step f declared r k word)
 unfolding step
 kind_tells f declared r token.Word column word = word_tells f declared r column word
@@ -246,15 +246,15 @@ kind_tells f declared r token.Empty column word = turn_tells f declared r (mark 
 kind_tells f declared r (token.Number n) column word = turn_tells f declared r (mark (token.Number n) column word) _ (turned-Number n r) (turn_wants r symbol.Other) (no_word f declared (mark (token.Number n) column word) (λ e. cc))
 kind_tells f declared r token.Colon column word = turn_tells f declared r (mark token.Colon column word) _ (turned-Colon r) (turn_wants r symbol.Other) (no_word f declared (mark token.Colon column word) (λ e. cc))
 
-pub step_tells : (f : Format) (declared : List (List ℕ)) (r : Reading) (m : Mark) → StepTells f declared r m (step f declared r m.kind m.word)
+pub step_tells : (f : Format) (declared : List (List ℕ)) (r : Reached) (m : Mark) → StepTells f declared r m (step f declared r m.kind m.word)
 step_tells f declared r m = kind_tells f declared r m.kind m.column m.word
 
 -- whether the line may end
-abbrev pub EndTells : Reading → Result Dependency What → Type 0
+abbrev pub EndTells : Reached → Result Dependency What → Type 0
 EndTells r (Ok d) = is_final (shape_of r) ≡ true
 EndTells r (Err w) = (is_final (shape_of r) ≡ false) × (w ≡ wanted_by (shape_of r))
 
-pub end_tells : (r : Reading) → EndTells r (finished r)
+pub end_tells : (r : Reached) → EndTells r (finished r)
 unfolding finished
 end_tells start = (refl, refl)
 end_tells (left x) = (refl, refl)
@@ -269,7 +269,7 @@ pub record Ends (s : Shape) (ks : List TokenKind) : Type 0 where
   pub leads : runs s ks ≡ Some last
   pub final : is_final last ≡ true
 
-follow_runs : (f : Format) (declared : List (List ℕ)) (line : ℕ) (r : Reading) (from : ℕ) (ms : List Mark) (d : Dependency)
+follow_runs : (f : Format) (declared : List (List ℕ)) (line : ℕ) (r : Reached) (from : ℕ) (ms : List Mark) (d : Dependency)
     → follow f declared line r from ms None ≡ Ok d → Ends (shape_of r) (kinds ms)
 unfolding follow
 follow_runs f declared line r from [] d e = told (finished r) (end_tells r) e
@@ -280,7 +280,7 @@ follow_runs f declared line r from [] d e = told (finished r) (end_tells r) e
 follow_runs f declared line r from (m ∷ ms) d e =
     told (step f declared r m.kind m.word) (step_tells f declared r m) (λ next h. follow_runs f declared line next (m.column + length m.word) ms d h) e
   where
-    told : (o : Result Reading SchemaRefusalKind) → StepTells f declared r m o → ((next : Reading) → follow f declared line next (m.column + length m.word) ms None ≡ Ok d → Ends (shape_of next) (kinds ms))
+    told : (o : Result Reached SchemaRefusalKind) → StepTells f declared r m o → ((next : Reached) → follow f declared line next (m.column + length m.word) ms None ≡ Ok d → Ends (shape_of next) (kinds ms))
         → and_then (at line m.column (length m.word) o) (λ next. follow f declared line next (m.column + length m.word) ms None) ≡ Ok d → Ends (shape_of r) (m.kind ∷ kinds ms)
     told (Ok next) tells rest e = let more = rest next e in record { last = more.last; leads = rw tells.0 more.leads; final = more.final }
     told (Err why) tells rest e = cc
@@ -292,12 +292,12 @@ sample k = record { kind = k; column = 0; word = 97 ∷ [] }
 abbrev one_name : List (List ℕ)
 one_name = (97 ∷ []) ∷ []
 
-record Reads (r : Reading) (ks : List TokenKind) : Type 0 where
+record Reads (r : Reached) (ks : List TokenKind) : Type 0 where
   dep : Dependency
   read : follow format.Plain one_name 1 r 1 (map sample ks) None ≡ Ok dep
 
 -- the place of the line's end makes no difference where a line is read
-from_anywhere : (f : Format) (declared : List (List ℕ)) (line : ℕ) (r : Reading) (from to : ℕ) (ms : List Mark) (d : Dependency)
+from_anywhere : (f : Format) (declared : List (List ℕ)) (line : ℕ) (r : Reached) (from to : ℕ) (ms : List Mark) (d : Dependency)
     → follow f declared line r from ms None ≡ Ok d → follow f declared line r to ms None ≡ Ok d
 unfolding follow
 from_anywhere f declared line r from to [] d e = told (finished r) e
@@ -312,7 +312,7 @@ unfolding is_reserved
 no_complaint k n (word, inl is) = let wrong : false ≡ true = is.1 in cc
 no_complaint k n (word, inr is) = let wrong : Some 0 ≡ None = is.1 in cc
 
-runs_read : (r : Reading) (ks : List TokenKind) (s : Shape) → runs (shape_of r) ks ≡ Some s → is_final s ≡ true → Reads r ks
+runs_read : (r : Reached) (ks : List TokenKind) (s : Shape) → runs (shape_of r) ks ≡ Some s → is_final s ≡ true → Reads r ks
 unfolding follow
 runs_read r [] s e final = told (finished r) refl (end_tells r)
   where
@@ -323,8 +323,8 @@ runs_read r [] s e final = told (finished r) refl (end_tells r)
         let wrong : false ≡ true = sym tells.0 ∙ ap is_final last ∙ final in cc
 runs_read r (k ∷ ks) s e final = told (step format.Plain one_name r k (97 ∷ [])) refl (step_tells format.Plain one_name r (sample k)) (λ next h. runs_read next ks s h final)
   where
-    told : (o : Result Reading SchemaRefusalKind) → step format.Plain one_name r k (97 ∷ []) ≡ o → StepTells format.Plain one_name r (sample k) o
-        → ((next : Reading) → runs (shape_of next) ks ≡ Some s → Reads next ks) → Reads r (k ∷ ks)
+    told : (o : Result Reached SchemaRefusalKind) → step format.Plain one_name r k (97 ∷ []) ≡ o → StepTells format.Plain one_name r (sample k) o
+        → ((next : Reached) → runs (shape_of next) ks ≡ Some s → Reads next ks) → Reads r (k ∷ ks)
     told (Ok next) is tells rest =
         let more = rest next (ap (λ o. bind o (λ t. runs t ks)) (sym tells.0) ∙ e) in
         record {
@@ -332,7 +332,7 @@ runs_read r (k ∷ ks) s e final = told (step format.Plain one_name r k (97 ∷ 
           read = ap (λ o. and_then (at 1 0 1 o) (λ n. follow format.Plain one_name 1 n (0 + 1) (map sample ks) None)) is
               ∙ from_anywhere format.Plain one_name 1 next 1 (0 + 1) (map sample ks) more.dep more.read;
         }
-    told (Err why) is (inl complaint) rest = absurd (no_complaint k (number_of why) complaint.0)
+    told (Err why) is (inl complaint) rest = absurd (no_complaint k (refusal_number why) complaint.0)
     told (Err why) is (inr stuck) rest = let wrong : None ≡ Some s = ap (λ o. bind o (λ t. runs t ks)) (sym stuck.1) ∙ e in cc
 
 same_kinds : (ks : List TokenKind) → kinds (map sample ks) ≡ ks
@@ -397,7 +397,7 @@ wants_from ks in_right e = final_line ks in_right e refl
 wants_from ks past_end e = final_line ks past_end e refl
 
 -- only a refusal 6 carries something
-pub carries_nothing : (Wanted : What → Type 0) (why : SchemaRefusalKind) → (number_of why ≡ 6 → ⊥) → Carries Wanted why
+pub carries_nothing : (Wanted : What → Type 0) (why : SchemaRefusalKind) → (refusal_number why ≡ 6 → ⊥) → Carries Wanted why
 carries_nothing Wanted kind.StrangeByte other = tt
 carries_nothing Wanted kind.BadName other = tt
 carries_nothing Wanted kind.ReservedName other = tt

@@ -31,7 +31,7 @@ use Rattle.schema_grammar.specs.declared.refusal.SchemaRefusalKind.TheVariants a
 use Rattle.schema_grammar.specs.declared.format.Format.{Format}
 use Rattle.schema_grammar.specs.declared.format.Format.TheVariants as format
 use Rattle.schema_grammar.specs.Declarations.{Declarations, no_declaration, declare, add_name, add_dependency, name_step, list_names, begin, dependency_line, line_from, line_of_marks, read_line}
-use Rattle.schema_grammar.specs.Grammar.{Reading, start}
+use Rattle.schema_grammar.specs.Grammar.{Reached, start}
 use Rattle.schema_grammar.specs.Refusals.{refusal}
 use Rattle.schema_grammar.specs.Texts.{finish, read_lines, read_opening, read_typed, opened, end_version, version_number, read_version, is_version, number_in}
 use Rattle.schema_grammar.specs.declared.format.TheConstants.{VERSION}
@@ -169,7 +169,7 @@ list_sound f column line d false behind (m ∷ ms) stop h sound =
     (λ next better. list_sound f column line next true (m.column + length m.word) ms stop h better)
 
 -- a dependency line begins, and there is room for it
-record Begins (d : Declarations) (reading : Reading) : Type 0 where
+record Begins (d : Declarations) (reading : Reached) : Type 0 where
   within : IsReadingWithin (below (length d.names)) reading
   room : length d.deps < MOST_DEPENDENCIES
 

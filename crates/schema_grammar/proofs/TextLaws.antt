@@ -9,7 +9,7 @@ use Rattle.schema_grammar.specs.declared.refusal.SchemaRefusalKind.TheVariants a
 use Rattle.schema_grammar.specs.declared.refusal.What.TheVariants as what
 use Rattle.schema_grammar.specs.declared.format.TheConstants.{VERSION}
 use Rattle.schema_grammar.specs.declared.format.Format.TheVariants as format
-use Rattle.schema_grammar.specs.Complaints.{FitsTextLine, number_of, flaw_number}
+use Rattle.schema_grammar.specs.Complaints.{FitsTextLine, refusal_number, flaw_number}
 use Rattle.schema_grammar.specs.Declarations.{Declarations, no_declaration, read_line}
 use Rattle.schema_grammar.specs.Meanings.{HasTokens}
 use Rattle.schema_grammar.specs.Refusals.{and_then, refusal, refused_by, kind_of_flaw}
@@ -57,7 +57,7 @@ missing_fits line behind = record { place = 0; stands = inl (inl (inr (refl, ref
     least p n (inl (inr (inr (m, is, place, six)))) = absurd (no_mark m 1 is)
     least p n (inr (s, is, place, why)) = absurd (no_stop s is)
 
-flaw_least : (s t : Stop) (n : ℕ) → Some s ≡ Some t → n ≡ flaw_number t.flaw → number_of (kind_of_flaw s.flaw) ≤ n
+flaw_least : (s t : Stop) (n : ℕ) → Some s ≡ Some t → n ≡ flaw_number t.flaw → refusal_number (kind_of_flaw s.flaw) ≤ n
 flaw_least s t n is why =
     let flaws : s.flaw ≡ t.flaw = ap (λ x. x.flaw) (inside is) in
     let numbers = flaw_numbered s.flaw in let again = ap flaw_number flaws in omega arith
@@ -68,7 +68,7 @@ flaw_least s t n is why =
 stop_fits : (line behind : ℕ) (s : Stop) → FitsVersion line behind [] (Some s) (Err (refused_by line s))
 stop_fits line behind s = record { place = 0; stands = inr (s, refl, refl, flaw_numbered s.flaw); carries = flaw_carries (VersionWants 0) s.flaw; there = refl; least = least }
   where
-    least : (p n : ℕ) → VersionComplaint [] (Some s) p n → (0 < p) ⊎ ((0 ≡ p) × (number_of (kind_of_flaw s.flaw) ≤ n))
+    least : (p n : ℕ) → VersionComplaint [] (Some s) p n → (0 < p) ⊎ ((0 ≡ p) × (refusal_number (kind_of_flaw s.flaw) ≤ n))
     least p n (inl (inl (inl (m, is, none, place, six)))) = absurd (no_mark m 0 is)
     least p n (inl (inl (inr (nothing, stop_none, place, six)))) = absurd (no_stop s (sym stop_none))
     least p n (inl (inr (inl (m, i, is, some, other, place, why)))) = absurd (no_mark m 0 is)
@@ -115,7 +115,7 @@ two_fits line behind m [] (Some s) i some two = record { place = 1; stands = inr
     none : m ∷ [] ≡ [] → ⊥
     none e = cc
 
-    least : (p n : ℕ) → VersionComplaint (m ∷ []) (Some s) p n → (1 < p) ⊎ ((1 ≡ p) × (number_of (kind_of_flaw s.flaw) ≤ n))
+    least : (p n : ℕ) → VersionComplaint (m ∷ []) (Some s) p n → (1 < p) ⊎ ((1 ≡ p) × (refusal_number (kind_of_flaw s.flaw) ≤ n))
     least p n (inl (inl (inl (k, is, none_here, place, six)))) = absurd (no_number m k i (same_mark m [] k is) some none_here)
     least p n (inl (inl (inr (nothing, stop_none, place, six)))) = absurd (none nothing)
     least p n (inl (inr (inl (k, j, is, some_here, other_here, place, why)))) = absurd (other_number m k i j (same_mark m [] k is) some some_here two other_here)

@@ -19,13 +19,13 @@ use Rattle.schema_grammar.specs.declared.symbol.Sign.TheVariants as sign
 use Rattle.schema_grammar.specs.declared.symbol.Symbol.{Symbol}
 use Rattle.schema_grammar.specs.declared.symbol.Symbol.TheVariants as symbol
 use Rattle.schema_grammar.specs.declared.format.Format.{Format}
-use Rattle.schema_grammar.specs.Grammar.{Reading, start, left, left_empty, behind, right, right_empty, turn, finished, stated}
+use Rattle.schema_grammar.specs.Grammar.{Reached, start, left, left_empty, behind, right, right_empty, turn, finished, stated}
 use Rattle.schema_grammar.specs.Refusals.{at, expecting, and_then}
 use Rattle.schema_grammar.specs.Reading.{follow, step}
 use Rattle.schema_grammar.specs.Words.{is_reserved, looked_up, known}
 
 -- the sets that are read lie within a set
-abbrev pub IsReadingWithin : Places → Reading → Type 0
+abbrev pub IsReadingWithin : Places → Reached → Type 0
 IsReadingWithin u start = Unit {0}
 IsReadingWithin u (left x) = Within x u
 IsReadingWithin u left_empty = Unit {0}
@@ -52,7 +52,7 @@ union_within u x a xs h k e = or_cases (x k) (k == a) e (λ in_x. xs k in_x) (λ
 none_within : (u : Places) → Within none u
 none_within u k e = cc
 
-turn_within : (u : Places) (reading : Reading) (s : Symbol) → IsReadingWithin u reading → IsSymbolWithin u s → IfOk (turn reading s) (IsReadingWithin u)
+turn_within : (u : Places) (reading : Reached) (s : Symbol) → IsReadingWithin u reading → IsSymbolWithin u s → IfOk (turn reading s) (IsReadingWithin u)
 unfolding turn
 turn_within u start (symbol.Attribute a) h g = only_within u a g
 turn_within u start symbol.Empty h g = tt
@@ -83,7 +83,7 @@ stated_within : (u : Places) (s : Sign) (x y : Places) → Within x u → Within
 stated_within u sign.Functional x y h g = (h, g)
 stated_within u sign.Multivalued x y h g = (h, g)
 
-finished_within : (u : Places) (reading : Reading) → IsReadingWithin u reading → IfOk (finished reading) (IsWithin u)
+finished_within : (u : Places) (reading : Reached) → IsReadingWithin u reading → IfOk (finished reading) (IsWithin u)
 unfolding finished
 finished_within u start h = tt
 finished_within u (left x) h = tt
@@ -121,7 +121,7 @@ looked_up_within f declared word = both (is_reserved f word) (place_named declar
     both false None h = tt
     both false (Some a) h = h
 
-pub step_within : (f : Format) (declared : List (List ℕ)) (reading : Reading) (k : TokenKind) (word : List ℕ)
+pub step_within : (f : Format) (declared : List (List ℕ)) (reading : Reached) (k : TokenKind) (word : List ℕ)
     → IsReadingWithin (below (length declared)) reading → IfOk (step f declared reading k word) (IsReadingWithin (below (length declared)))
 unfolding step
 step_within f declared reading token.Word word h =
@@ -135,7 +135,7 @@ step_within f declared reading (token.Number n) word h = expecting_ok (IsReading
 step_within f declared reading token.Colon word h = expecting_ok (IsReadingWithin (below (length declared))) _ (turn_within (below (length declared)) reading symbol.Other h tt)
 
 -- the dependency that a line states lies within the declared names
-pub follow_within : (f : Format) (declared : List (List ℕ)) (line : ℕ) (reading : Reading) (column : ℕ) (ms : List Mark) (stop : Option Stop)
+pub follow_within : (f : Format) (declared : List (List ℕ)) (line : ℕ) (reading : Reached) (column : ℕ) (ms : List Mark) (stop : Option Stop)
     → IsReadingWithin (below (length declared)) reading → IfOk (follow f declared line reading column ms stop) (IsWithin (below (length declared)))
 unfolding follow
 follow_within f declared line reading column [] None h = at_ok (IsWithin (below (length declared))) line column 0 _ (expecting_ok (IsWithin (below (length declared))) _ (finished_within (below (length declared)) reading h))

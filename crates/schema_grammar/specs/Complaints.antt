@@ -24,18 +24,18 @@ use Rattle.schema_grammar.specs.Meanings.{IsDependency}
 use Rattle.schema_grammar.specs.Words.{is_reserved, declares}
 
 -- the number of a refusal; want of memory has none
-abbrev pub number_of : SchemaRefusalKind → ℕ
-number_of kind.StrangeByte = 1
-number_of kind.BadName = 2
-number_of kind.ReservedName = 3
-number_of kind.DoubleName = 4
-number_of kind.UnknownName = 5
-number_of (kind.Expected what) = 6
-number_of kind.TooManyAttributes = 7
-number_of kind.TooManyDependencies = 8
-number_of kind.NoAttributes = 9
-number_of kind.UnknownVersion = 13
-number_of kind.Memory = 0
+abbrev pub refusal_number : SchemaRefusalKind → ℕ
+refusal_number kind.StrangeByte = 1
+refusal_number kind.BadName = 2
+refusal_number kind.ReservedName = 3
+refusal_number kind.DoubleName = 4
+refusal_number kind.UnknownName = 5
+refusal_number (kind.Expected what) = 6
+refusal_number kind.TooManyAttributes = 7
+refusal_number kind.TooManyDependencies = 8
+refusal_number kind.NoAttributes = 9
+refusal_number kind.UnknownVersion = 13
+refusal_number kind.Memory = 0
 
 abbrev pub flaw_number : Flaw → ℕ
 flaw_number flaw.StrangeByte = 1
@@ -77,8 +77,8 @@ ComplainsOfWord f declared m number =
     × (((number ≡ 3) × (is_reserved f m.word ≡ true)) ⊎ ((number ≡ 5) × (place_named declared m.word ≡ None)))
 
 -- what is wrong with the tokens of a dependency line at a place, before which so many tokens stand
-abbrev pub LineComplaint : Format → List (List ℕ) → List Mark → Option Stop → ℕ → ℕ → Type 0
-LineComplaint f declared ms stop place number =
+abbrev pub DependencyComplaint : Format → List (List ℕ) → List Mark → Option Stop → ℕ → ℕ → Type 0
+DependencyComplaint f declared ms stop place number =
     (((m : Mark) × (slice_get ms place ≡ Some m) × ComplainsOfWord f declared m number)
     ⊎ ((number ≡ 6) × IsStuck (kinds ms) stop place))
     ⊎ ((s : Stop) × (stop ≡ Some s) × (place ≡ length ms) × (number ≡ flaw_number s.flaw))
@@ -99,37 +99,37 @@ Carries Wanted _ = Unit {0}
 -- what is wanted there
 pub record IsFirst (Complaint : ℕ → ℕ → Type 0) (Wanted : ℕ → What → Type 0) (span : ℕ → Span) (e : SchemaRefusal) : Type 0 where
   pub place : ℕ
-  pub stands : Complaint place (number_of e.kind)
+  pub stands : Complaint place (refusal_number e.kind)
   pub carries : Carries (Wanted place) e.kind
   pub there : e.span ≡ span place
-  pub least : (p n : ℕ) → Complaint p n → (place < p) ⊎ ((place ≡ p) × (number_of e.kind ≤ n))
+  pub least : (p n : ℕ) → Complaint p n → (place < p) ⊎ ((place ≡ p) × (refusal_number e.kind ≤ n))
 
 -- what is wanted at a place of a dependency line, before which so many of its tokens stand
-abbrev pub LineWants : List Mark → ℕ → What → Type 0
-LineWants ms place = Wants (take place (kinds ms))
+abbrev pub DependencyWants : List Mark → ℕ → What → Type 0
+DependencyWants ms place = Wants (take place (kinds ms))
 
 -- a dependency line is refused by its first complaint
-abbrev pub RefusesLine : Format → List (List ℕ) → ℕ → List Mark → Option Stop → SchemaRefusal → Type 0
-RefusesLine f declared line ms stop e = IsFirst (LineComplaint f declared ms stop) (LineWants ms) (span_at line 1 ms stop) e
+abbrev pub RefusesDependency : Format → List (List ℕ) → ℕ → List Mark → Option Stop → SchemaRefusal → Type 0
+RefusesDependency f declared line ms stop e = IsFirst (DependencyComplaint f declared ms stop) (DependencyWants ms) (span_at line 1 ms stop) e
 
 -- a dependency line is refused by the first complaint, and read where there is none
-abbrev pub FitsLine : Format → List (List ℕ) → ℕ → List Mark → Option Stop → Result Dependency SchemaRefusal → Type 0
-FitsLine f declared line ms stop (Ok d) = (place number : ℕ) → LineComplaint f declared ms stop place number → ⊥
-FitsLine f declared line ms stop (Err e) = RefusesLine f declared line ms stop e
+abbrev pub FitsDependency : Format → List (List ℕ) → ℕ → List Mark → Option Stop → Result Dependency SchemaRefusal → Type 0
+FitsDependency f declared line ms stop (Ok d) = (place number : ℕ) → DependencyComplaint f declared ms stop place number → ⊥
+FitsDependency f declared line ms stop (Err e) = RefusesDependency f declared line ms stop e
 
 -- what is wrong with a goal over declared names
 abbrev pub GoalComplaint : List (List ℕ) → List ℕ → ℕ → ℕ → Type 0
 GoalComplaint declared text place number =
-    LineComplaint format.Plain declared (lex mode.Goal text).marks (lex mode.Goal text).stop place number
+    DependencyComplaint format.Plain declared (lex mode.Goal text).marks (lex mode.Goal text).stop place number
 
 -- a goal over declared names is refused by its first complaint
 abbrev pub RefusesGoal : List (List ℕ) → List ℕ → SchemaRefusal → Type 0
-RefusesGoal declared text e = RefusesLine format.Plain declared 1 (lex mode.Goal text).marks (lex mode.Goal text).stop e
+RefusesGoal declared text e = RefusesDependency format.Plain declared 1 (lex mode.Goal text).marks (lex mode.Goal text).stop e
 
 -- a goal is refused by the first complaint, and read where there is none
 abbrev pub FitsGoal : List (List ℕ) → List ℕ → Result Dependency SchemaRefusal → Type 0
 FitsGoal declared text reading =
-    FitsLine format.Plain declared 1 (lex mode.Goal text).marks (lex mode.Goal text).stop reading
+    FitsDependency format.Plain declared 1 (lex mode.Goal text).marks (lex mode.Goal text).stop reading
 
 -- what is wrong with the words behind a declaring word, before the last of which so many stand
 abbrev pub NameComplaint : Format → Declarations → List Mark → ℕ → Mark → ℕ → Type 0
@@ -166,13 +166,13 @@ abbrev pub HeadComplaint : Format → Declarations → Mark → List Mark → Op
 HeadComplaint f d m ms stop (Some column) place number =
     (later : ℕ) × (place ≡ suc later) × NamesComplaint f d ms stop later number
 HeadComplaint f d m ms stop None place number =
-    LineComplaint f d.names (m ∷ ms) stop place number
+    DependencyComplaint f d.names (m ∷ ms) stop place number
     ⊎ ((number ≡ 8) × (place ≡ 0) × (MOST_DEPENDENCIES ≤ length d.deps))
 
 -- what is wanted at a place of such a line
 abbrev pub HeadWants : Mark → List Mark → Option Column → ℕ → What → Type 0
 HeadWants m ms (Some column) place what = (later : ℕ) × (place ≡ suc later) × NamesWant later what
-HeadWants m ms None place what = LineWants (m ∷ ms) place what
+HeadWants m ms None place what = DependencyWants (m ∷ ms) place what
 
 -- what is wrong with a line of a schema text, behind what is declared
 abbrev pub TextLineComplaint : Format → Declarations → List Mark → Option Stop → ℕ → ℕ → Type 0

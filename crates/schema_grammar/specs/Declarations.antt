@@ -16,7 +16,7 @@ use Rattle.schema_grammar.specs.declared.refusal.SchemaRefusalKind.TheVariants a
 use Rattle.schema_grammar.specs.declared.refusal.What.{What}
 use Rattle.schema_grammar.specs.declared.refusal.What.TheVariants as what
 use Rattle.schema_grammar.specs.declared.format.Format.{Format}
-use Rattle.schema_grammar.specs.Grammar.{Reading, start}
+use Rattle.schema_grammar.specs.Grammar.{Reached, start}
 use Rattle.schema_grammar.specs.Reading.{step, follow}
 use Rattle.schema_grammar.specs.Refusals.{refused_by, and_then, at}
 use Rattle.schema_grammar.specs.Words.{is_reserved, declares}
@@ -68,7 +68,7 @@ list_names_lexed f column line d some behind l = list_names f column line d some
 
 -- the first token of a dependency line: what the line can't begin with comes before one dependency
 -- too many
-unfoldable pub begin : Format → Declarations → TokenKind → List ℕ → Result Reading SchemaRefusalKind
+unfoldable pub begin : Format → Declarations → TokenKind → List ℕ → Result Reached SchemaRefusalKind
 begin f d k word =
     and_then (step f d.names start k word)
     (λ next. if nat_le MOST_DEPENDENCIES (length d.deps) then Err kind.TooManyDependencies else Ok next)

@@ -11,13 +11,13 @@ use Rattle.schema_grammar.specs.declared.symbol.Symbol.TheVariants as symbol
 
 -- how far a dependency is read: nothing; words of the left side, or `()`; the arrow; words of the
 -- right side, or `()`
-pub data Reading : Type 0 where
-  start : Reading
-  left : Places → Reading
-  left_empty : Reading
-  behind : Sign → Places → Reading
-  right : Sign → Places → Places → Reading
-  right_empty : Sign → Places → Reading
+pub data Reached : Type 0 where
+  start : Reached
+  left : Places → Reached
+  left_empty : Reached
+  behind : Sign → Places → Reached
+  right : Sign → Places → Places → Reached
+  right_empty : Sign → Places → Reached
 
 -- an attribute is one that a set can hold
 abbrev pub IsPlaced : Symbol → Type 0
@@ -27,7 +27,7 @@ IsPlaced symbol.Empty = Unit {0}
 IsPlaced symbol.Other = Unit {0}
 
 -- where a token leads, or what stands in the grammar in its place
-unfoldable pub turn : Reading → Symbol → Result Reading What
+unfoldable pub turn : Reached → Symbol → Result Reached What
 turn start (symbol.Attribute a) = Ok (left (only a))
 turn start symbol.Empty = Ok left_empty
 turn start _ = Err what.Side
@@ -48,7 +48,7 @@ stated sign.Functional x y = fd x y
 stated sign.Multivalued x y = mvd x y
 
 -- the dependency where the line ends, or what the line still wants
-unfoldable pub finished : Reading → Result Dependency What
+unfoldable pub finished : Reached → Result Dependency What
 finished start = Err what.Side
 finished (left x) = Err what.Arrow
 finished left_empty = Err what.Arrow

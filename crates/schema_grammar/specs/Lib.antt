@@ -1,6 +1,7 @@
 pub mod Complaints
 pub mod Declarations
 pub mod Grammar
+pub mod Laws
 pub mod Meanings
 pub mod Printed
 pub mod Printing

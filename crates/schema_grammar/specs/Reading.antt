@@ -12,7 +12,7 @@ use Rattle.schema_grammar.specs.declared.symbol.Symbol.{Symbol}
 use Rattle.schema_grammar.specs.declared.symbol.Symbol.TheVariants as symbol
 use Rattle.schema_grammar.specs.declared.format.Format.{Format}
 use Rattle.schema_grammar.specs.declared.format.Format.TheVariants as format
-use Rattle.schema_grammar.specs.Grammar.{Reading, start, turn, finished}
+use Rattle.schema_grammar.specs.Grammar.{Reached, start, turn, finished}
 use Rattle.schema_grammar.specs.Refusals.{refused_by, and_then, at, expecting}
 use Rattle.schema_grammar.specs.Words.{looked_up}
 
@@ -26,19 +26,19 @@ symbol_of f declared (token.Number n) word = Ok symbol.Other
 symbol_of f declared token.Colon word = Ok symbol.Other
 
 -- one token more: its word is looked up first, then the grammar decides
-unfoldable pub step : Format → List (List ℕ) → Reading → TokenKind → List ℕ → Result Reading SchemaRefusalKind
+unfoldable pub step : Format → List (List ℕ) → Reached → TokenKind → List ℕ → Result Reached SchemaRefusalKind
 step f declared reading kind word = and_then (symbol_of f declared kind word) (λ s. expecting (turn reading s))
 
 -- the dependency that the tokens from here on state; `column` is the place of the line's end where
 -- no token is left
-unfoldable pub follow : Format → List (List ℕ) → ℕ → Reading → ℕ → List Mark → Option Stop → Result Dependency SchemaRefusal
+unfoldable pub follow : Format → List (List ℕ) → ℕ → Reached → ℕ → List Mark → Option Stop → Result Dependency SchemaRefusal
 follow f declared line reading column [] None = at line column 0 (expecting (finished reading))
 follow f declared line reading column [] (Some stop) = Err (refused_by line stop)
 follow f declared line reading column (m ∷ ms) stop =
     and_then (at line m.column (length m.word) (step f declared reading m.kind m.word))
     (λ next. follow f declared line next (m.column + length m.word) ms stop)
 
-abbrev pub follow_lexed : Format → List (List ℕ) → ℕ → Reading → ℕ → Lexed → Result Dependency SchemaRefusal
+abbrev pub follow_lexed : Format → List (List ℕ) → ℕ → Reached → ℕ → Lexed → Result Dependency SchemaRefusal
 follow_lexed f declared line reading column l = follow f declared line reading column l.marks l.stop
 
 -- the dependency that a goal states over declared names, or its refusal

@@ -13,7 +13,7 @@ use Rattle.schema_grammar.specs.declared.refusal.SchemaRefusal.{SchemaRefusal}
 use Rattle.schema_grammar.specs.declared.refusal.SchemaRefusalKind.TheVariants as kind
 use Rattle.schema_grammar.specs.declared.refusal.What.{What}
 use Rattle.schema_grammar.specs.declared.refusal.What.TheVariants as what
-use Rattle.schema_grammar.specs.Complaints.{TextLineComplaint, TextLineWants, AtFirst, Carries, IsFirst, number_of, flaw_number, span_at}
+use Rattle.schema_grammar.specs.Complaints.{TextLineComplaint, TextLineWants, AtFirst, Carries, IsFirst, refusal_number, flaw_number, span_at}
 use Rattle.schema_grammar.specs.Refusals.{refusal}
 use Rattle.schema_grammar.specs.declared.format.TheConstants.{VERSION}
 use Rattle.schema_grammar.specs.declared.format.Format.{Format}
@@ -63,14 +63,14 @@ pub record IsBlank (d : Declarations) (line : List ℕ) (whole : Declarations) :
   pub same : whole ≡ d
 
 -- behind a line of this number the whole is declared
-abbrev pub MeansLine : Format → ℕ → Declarations → List ℕ → Declarations → Type 0
-MeansLine f number d line whole = (IsBlank d line whole ⊎ IsDeclaring f d line whole) ⊎ IsStating f number d line whole
+abbrev pub MeansTextLine : Format → ℕ → Declarations → List ℕ → Declarations → Type 0
+MeansTextLine f number d line whole = (IsBlank d line whole ⊎ IsDeclaring f d line whole) ⊎ IsStating f number d line whole
 
 -- the same of lines, of which the first has this number
 abbrev pub MeansLines : Format → ℕ → Declarations → List (List ℕ) → Declarations → Type 0
 MeansLines f number d [] whole = whole ≡ d
 MeansLines f number d (line ∷ lines) whole =
-    (next : Declarations) × MeansLine f number d line next × MeansLines f (number + 1) next lines whole
+    (next : Declarations) × MeansTextLine f number d line next × MeansLines f (number + 1) next lines whole
 
 abbrev pub begins_version : List Mark → Option Stop → Bool → Bool
 begins_version [] None later = later
@@ -127,11 +127,11 @@ pub record LinesComplaint (f : Format) (first : ℕ) (d : Declarations) (lines :
 -- a refusal 6 carries what is wanted there
 pub record IsFirstOfLines (f : Format) (first : ℕ) (d : Declarations) (lines : List (List ℕ)) (e : SchemaRefusal) : Type 0 where
   pub place : ℕ
-  pub stands : LinesComplaint f first d lines e.span.line place (number_of e.kind)
+  pub stands : LinesComplaint f first d lines e.span.line place (refusal_number e.kind)
   pub carries : Carries (TextLineWants f (lex mode.Plain stands.line).marks place) e.kind
   pub there : e.span ≡ span_at e.span.line 1 (lex mode.Plain stands.line).marks (lex mode.Plain stands.line).stop place
   pub least : (l p n : ℕ) → LinesComplaint f first d lines l p n
-      → (e.span.line < l) ⊎ ((e.span.line ≡ l) × ((place < p) ⊎ ((place ≡ p) × (number_of e.kind ≤ n))))
+      → (e.span.line < l) ⊎ ((e.span.line ≡ l) × ((place < p) ⊎ ((place ≡ p) × (refusal_number e.kind ≤ n))))
 
 -- nothing is wrong with the lines, but that they declare nothing; refused at the last of them
 pub record DeclaresNothing (f : Format) (first : ℕ) (d : Declarations) (lines : List (List ℕ)) (e : SchemaRefusal) : Type 0 where

@@ -1,4 +1,5 @@
 ghost use Rattle.std.specs.Prelude.{◌≡◌};
+ghost use Rattle.schema_grammar.specs.Complaints.{refusal_number};
 ghost use Rattle.schema_grammar.specs.Refusals.{refusal, refused_by};
 
 use lexer::{Flaw, Stop};
@@ -60,6 +61,27 @@ pub enum SchemaRefusalKind {
 pub struct SchemaRefusal {
     pub span: Span,
     pub kind: SchemaRefusalKind,
+}
+
+impl SchemaRefusalKind {
+    /// The number by which the documents and the program name it; want of memory has none.
+    pub fn number(self) -> u32
+        ensures number { result ≡ refusal_number self }
+    {
+        match self {
+            SchemaRefusalKind::Memory => 0,
+            SchemaRefusalKind::StrangeByte => 1,
+            SchemaRefusalKind::BadName => 2,
+            SchemaRefusalKind::ReservedName => 3,
+            SchemaRefusalKind::DoubleName => 4,
+            SchemaRefusalKind::UnknownName => 5,
+            SchemaRefusalKind::Expected(_) => 6,
+            SchemaRefusalKind::TooManyAttributes => 7,
+            SchemaRefusalKind::TooManyDependencies => 8,
+            SchemaRefusalKind::NoAttributes => 9,
+            SchemaRefusalKind::UnknownVersion => 13,
+        }
+    }
 }
 
 impl SchemaRefusal {

@@ -5,7 +5,7 @@ use Rattle.attr_sets.specs.Sets.{places}
 use Rattle.dep_model.specs.Deps.{dependencies_of}
 use Rattle.lexer.specs.Lines.{line_texts}
 use Rattle.schema_grammar.specs.Declarations.{Declarations}
-use Rattle.schema_grammar.specs.Grammar.{Reading, start, left, left_empty, behind, right, right_empty}
+use Rattle.schema_grammar.specs.Grammar.{Reached, start, left, left_empty, behind, right, right_empty}
 use Rattle.schema_reader.specs.declared.draft.Draft.{Draft}
 use Rattle.schema_reader.specs.declared.stage.Stage.{Stage}
 use Rattle.schema_reader.specs.declared.stage.Stage.TheVariants as stage
@@ -13,13 +13,13 @@ use Rattle.schema_reader.specs.declared.stage.Stage.TheVariants as stage
 abbrev pub drafted : Draft → Declarations
 drafted d = record { names = d.names.items; columns = d.columns.items; deps = dependencies_of d.deps.items; lines = d.lines.items }
 
-abbrev pub reading_of : Stage → Reading
-reading_of stage.Start = start
-reading_of (stage.Left x) = left (places x)
-reading_of stage.LeftEmpty = left_empty
-reading_of (stage.Behind s x) = behind s (places x)
-reading_of (stage.Right s x y) = right s (places x) (places y)
-reading_of (stage.RightEmpty s x) = right_empty s (places x)
+abbrev pub reached_of : Stage → Reached
+reached_of stage.Start = start
+reached_of (stage.Left x) = left (places x)
+reached_of stage.LeftEmpty = left_empty
+reached_of (stage.Behind s x) = behind s (places x)
+reached_of (stage.Right s x y) = right s (places x) (places y)
+reached_of (stage.RightEmpty s x) = right_empty s (places x)
 
 -- the lines behind a line end
 abbrev pub lines_after : Option (Bor (List ℕ)) → List (List ℕ)

@@ -2,7 +2,7 @@ ghost use Rattle.std.specs.Prelude.{◌≡◌, ◌+◌, ◌<◌, ◌≤◌, ◌^
 ghost use Rattle.dep_model.specs.Deps.{dependency_of};
 ghost use Rattle.dep_model.specs.Names.{is_name};
 ghost use Rattle.lexer.specs.Tokens.{lexed};
-ghost use Rattle.schema_reader.specs.Views.{reading_of};
+ghost use Rattle.schema_reader.specs.Views.{reached_of};
 ghost use Rattle.schema_grammar.specs.Refusals.{Refuses, RefusesAs};
 
 use crate::goal::{follow, step};
@@ -200,7 +200,7 @@ impl Draft {
         word: &[u8],
     ) -> Result<Stage, SchemaRefusalKind>
         requires { length (drafted self.now).names ≤ PLACES }
-        ensures ok { IfOk result (λ stage. begin format (drafted self.now) kind word.now ≡ Ok (reading_of stage)) }
+        ensures ok { IfOk result (λ stage. begin format (drafted self.now) kind word.now ≡ Ok (reached_of stage)) }
         ensures err { IfErr result (λ why. begin format (drafted self.now) kind word.now ≡ Err why) }
     {
         let stage = step(

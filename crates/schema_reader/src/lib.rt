@@ -14,7 +14,9 @@ mod words;
 
 pub use goal::{MOST_GOAL_BYTES, read_goal};
 pub use lexer::{Token, TokenKind};
-pub use print::{print_dep, print_deps, print_schema, print_set};
+pub use print::{
+    add, add_dep, add_number, add_set, print_dep, print_deps, print_schema, print_set,
+};
 pub use schema_grammar::{SchemaRefusal, SchemaRefusalKind, Span, What};
 pub use text::{MOST_TEXT_BYTES, read_schema};
 pub use token_list::tokens;

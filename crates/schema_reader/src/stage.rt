@@ -3,7 +3,7 @@ ghost use Rattle.attr_sets.specs.Places.{only, union, none};
 ghost use Rattle.attr_sets.specs.Sets.{places};
 ghost use Rattle.dep_model.specs.Deps.{dependency_of};
 ghost use Rattle.schema_grammar.specs.Grammar.{turn, finished, stated, IsPlaced};
-ghost use Rattle.schema_reader.specs.Views.{reading_of};
+ghost use Rattle.schema_reader.specs.Views.{reached_of};
 
 use attr_sets::{AttrSet, PLACES};
 use dep_model::Dep;
@@ -29,8 +29,8 @@ pub enum Stage {
 #[tactic(auto, unfolding(schema_grammar::specs::Grammar::turn))]
 pub fn turn(stage: Stage, symbol: Symbol) -> Result<Stage, What>
     requires { IsPlaced symbol }
-    ensures ok { IfOk result (λ next. turn (reading_of stage) symbol ≡ Ok (reading_of next)) }
-    ensures err { IfErr result (λ what. turn (reading_of stage) symbol ≡ Err what) }
+    ensures ok { IfOk result (λ next. turn (reached_of stage) symbol ≡ Ok (reached_of next)) }
+    ensures err { IfErr result (λ what. turn (reached_of stage) symbol ≡ Err what) }
 {
     match (stage, symbol) {
         (Stage::Start, Symbol::Attribute(place)) => Ok(Stage::Left(single(place))),
@@ -57,8 +57,8 @@ pub fn turn(stage: Stage, symbol: Symbol) -> Result<Stage, What>
 /// The dependency that is read where the line ends, or what it still wants.
 #[tactic(auto, unfolding(schema_grammar::specs::Grammar::finished))]
 pub fn finish(stage: Stage) -> Result<Dep, What>
-    ensures ok { IfOk result (λ dep. finished (reading_of stage) ≡ Ok (dependency_of dep)) }
-    ensures err { IfErr result (λ what. finished (reading_of stage) ≡ Err what) }
+    ensures ok { IfOk result (λ dep. finished (reached_of stage) ≡ Ok (dependency_of dep)) }
+    ensures err { IfErr result (λ what. finished (reached_of stage) ≡ Err what) }
 {
     match stage {
         Stage::Start | Stage::Behind(_, _) => Err(What::Side),

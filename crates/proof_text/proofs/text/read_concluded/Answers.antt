@@ -5,7 +5,7 @@ use Rattle.derivation.specs.Derivs.{tree_of}
 use Rattle.lexer.specs.Lines.{line_texts, without_mark}
 use Rattle.schema_reader.proofs.TextLemmas.{cut_any, cut_last, cut_more}
 use Rattle.proof_text.specs.Views.{ledger_of, opened_all}
-use Rattle.proof_grammar.specs.Complaints.{LineComplaint, RefusesAt}
+use Rattle.proof_grammar.specs.Complaints.{LineComplaint, IsFoundAt}
 use Rattle.proof_grammar.specs.Texts.{read_lines, read_proof}
 use Rattle.std.proofs.lemmas.Result.{IfOk-weaker}
 use Rattle.proof_grammar.specs.Ledgers.{IsLedger}
@@ -78,8 +78,8 @@ returns-in-None-clause-err c =
     let s = c.args.schema.now in
     let text = c.args.text.now in
     let whole = c.lines.invariant.same ∙ last_read _ _ _ _ _ _ _ _ (cut_last _ _ _ c.in-None.is c.cut_line.ensures.cut).lines c.in-Ok.ensures.ok in
-    err_map (λ e. RefusesAt e (read_proof s text)) (RefusesProof s text) c.finish.result (refuses_there s text)
-    (subst (λ (found : Result Tree LineComplaint). IfErr c.finish.result (λ e. RefusesAt e found)) (sym whole) c.finish.ensures.err)
+    err_map (λ e. IsFoundAt e (read_proof s text)) (RefusesProof s text) c.finish.result (refuses_there s text)
+    (subst (λ (found : Result Tree LineComplaint). IfErr c.finish.result (λ e. IsFoundAt e found)) (sym whole) c.finish.ensures.err)
 
 pub overflow_add-number : goal.overflow_add-number
 overflow_add-number c = omega (arith, c.lines.invariant.room)
