@@ -12,4 +12,4 @@ mod tokens;
 
 pub use cursor::Cursor;
 pub use guide::Guide;
-pub use names::{Names, is_reserved, look_up, place_among};
+pub use names::{Names, is_reserved, look_up, place, place_among};

@@ -10,7 +10,6 @@ use Rattle.derivation.specs.declared.measures.TheConstants.{MOST_NODES, MOST_LEV
 use Rattle.proof_grammar.specs.Complaints.{Complaint, LineComplaint, wrong_number, no_such_line, used_twice, never_used, too_many_lines, too_deep, unsound, states_other, empty_proof}
 use Rattle.proof_grammar.specs.Lines.{Body, by_given, by_reflexivity, by_mreflexivity, by_step, by_pair, Line}
 use Rattle.proof_grammar.specs.Nodes.{with_tree, given_outcome, same_dependency}
-
 use Rattle.schema_grammar.specs.Rests.{◌>>=◌}
 
 -- what a line concluded, by a tree that no later line used

@@ -1,12 +1,7 @@
 -- What the values of the reader and the printer stand for, in the words of the grammar.
-use Rattle.std.specs.Prelude.{ℕ, List, map, Option, option_map, Result, Ok, Err}
-use Rattle.dep_model.specs.declared.dep.Dep.{Dep}
-use Rattle.dep_model.specs.Dependencies.{Dependency}
+use Rattle.std.specs.Prelude.{List, map, Option, option_map}
 use Rattle.dep_model.specs.Deps.{dependency_of}
-use Rattle.derivation.specs.declared.deriv.Deriv.{Deriv}
-use Rattle.derivation.specs.declared.fault.FaultKind.{FaultKind}
 use Rattle.derivation.specs.Derivs.{tree_of, step_of, pair_of}
-use Rattle.derivation.specs.Trees.{Tree}
 use Rattle.proof_grammar.specs.Books.{Opened, Ledger, Prepared}
 use Rattle.proof_grammar.specs.Lines.{Body, by_given, by_reflexivity, by_mreflexivity, by_step, by_pair, Line}
 use Rattle.proof_text.specs.Outcomes.{outcome_of}

@@ -122,7 +122,10 @@ fn two(rule: PairRule, start: Cursor<'_>) -> Result<(Body, Cursor<'_>), SchemaRe
 
 /// `P with SIDE`
 #[tactic(auto, unfolding(proof_grammar::specs::Lines::augmented))]
-fn augmentation<'a>(names: &Names<'_>, start: Cursor<'a>) -> Result<(Body, Cursor<'a>), SchemaRefusal>
+fn augmentation<'a>(
+    names: &Names<'_>,
+    start: Cursor<'a>,
+) -> Result<(Body, Cursor<'a>), SchemaRefusal>
     requires few { length (names_in names.now) ≤ PLACES }
     ensures ok { IfOk result (λ x. augmented (names_in names.now) (rest_of start.entry) ≡ Ok (body_of x.0, rest_of x.1)) }
     ensures err { IfErr result (λ e. augmented (names_in names.now) (rest_of start.entry) ≡ Err e) }

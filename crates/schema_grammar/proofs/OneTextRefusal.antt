@@ -1,6 +1,6 @@
 -- A schema text has one refusal at most.
 use Rattle.std.specs.Prelude.{◌↔◌}
-use Rattle.std.proofs.Common.{◌≡◌, ◌<◌, ◌≤◌, ◌+◌, ◌⊎◌, inl, inr, ℕ, zero, suc, true, false, List, [], ◌∷◌, ◌++◌, length, Option, Some, None, Ok, Err, Result, refl, sym, ◌∙◌, ap, subst, arith}
+use Rattle.std.proofs.Common.{◌≡◌, ◌<◌, ◌≤◌, ◌+◌, ◌⊎◌, inl, inr, ℕ, true, false, List, [], ◌∷◌, ◌++◌, length, Option, None, Ok, Err, Result, refl, sym, ◌∙◌, ap, subst, arith}
 use Rattle.std.specs.List.{All}
 use Rattle.std.proofs.lemmas.List.Elements.{All-head, All-tail}
 use Rattle.dep_model.specs.Dependencies.{Dependency}
@@ -53,8 +53,8 @@ one_of_lines f first d lines e g a b =
     let lines_same : e.span.line ≡ g.span.line = same.0 in
     let text : a.stands.line ≡ b.stands.line = same_cut a.stands.before b.stands.before a.stands.line b.stands.line a.stands.after b.stands.after (sym a.stands.cut ∙ b.stands.cut) (omega (arith, on, again, lines_same)) in
     let carries : Carries (TextLineWants f (lex mode.Plain a.stands.line).marks a.place) g.kind =
-        subst (λ (t : List ℕ). Carries (TextLineWants f (lex mode.Plain t).marks a.place) g.kind) (sym text)
-        (subst (λ (p : ℕ). Carries (TextLineWants f (lex mode.Plain b.stands.line).marks p) g.kind) (sym same.1) b.carries) in
+    subst (λ (t : List ℕ). Carries (TextLineWants f (lex mode.Plain t).marks a.place) g.kind) (sym text)
+    (subst (λ (p : ℕ). Carries (TextLineWants f (lex mode.Plain b.stands.line).marks p) g.kind) (sym same.1) b.carries) in
     same_refusal e g
     (a.there ∙ ap (λ l. place_in l a.stands.line a.place) same.0 ∙ ap (λ t. place_in g.span.line t a.place) text ∙ ap (λ p. place_in g.span.line b.stands.line p) same.1 ∙ sym b.there)
     (same_carried (TextLineWants f (lex mode.Plain a.stands.line).marks a.place) e g (one_text_line f (lex mode.Plain a.stands.line).marks a.place) a.carries carries same.2)
@@ -106,7 +106,7 @@ fine_version line m ms starts is p n complaint =
     let others : ms ≡ is.number ∷ [] = rest_of m is.head ms (is.number ∷ []) marks in
     let stop : (lex mode.Numbered line).stop ≡ None = ap (λ l. l.stop) is.tokens in
     let here : VersionComplaint (is.number ∷ []) None p n =
-        subst (λ (o : Option Stop). VersionComplaint (is.number ∷ []) o p n) stop (subst (λ (t : List Mark). VersionComplaint t (lex mode.Numbered line).stop p n) others complaint) in
+    subst (λ (o : Option Stop). VersionComplaint (is.number ∷ []) o p n) stop (subst (λ (t : List Mark). VersionComplaint t (lex mode.Numbered line).stop p n) others complaint) in
     two_fits 0 0 is.number [] None VERSION (ap number_in is.is_number) refl p n here
   where
     rest_of : (a b : Mark) (us vs : List Mark) → a ∷ us ≡ b ∷ vs → us ≡ vs

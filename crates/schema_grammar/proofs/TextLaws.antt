@@ -155,17 +155,20 @@ blank_fits number line lines reading blank (inl (none_yet, fits)) =
     let read : read_line format.Plain number no_declaration line ≡ Ok no_declaration = line_back format.Plain number no_declaration line no_declaration (inl (inl (record { tokens = blank_plain line blank; same = refl }))) in
     let of : Result Declarations SchemaRefusal → Type 0 = λ o. FitsTextLine format.Plain no_declaration number (lex mode.Plain line).marks (lex mode.Plain line).stop o in
     inl ((rw blank none_yet), lines_behind format.Plain number no_declaration no_declaration line lines reading read (subst of read (line-law format.Plain number no_declaration line)) fits)
-blank_fits number line lines reading blank (inr (typed, fits)) = inr (record {
-  before = line ∷ typed.before;
-  version = typed.version;
-  later = typed.later;
-  cut = ap (λ t. line ∷ t) typed.cut;
-  blank = All-cons (λ l. HasTokens (lex mode.Numbered l) []) line typed.before blank typed.blank;
-  head = typed.head;
-  others = typed.others;
-  starts = typed.starts;
-  is_word = typed.is_word;
-}, shift fits)
+blank_fits number line lines reading blank (inr (typed, fits)) = inr (
+  record {
+    before = line ∷ typed.before;
+    version = typed.version;
+    later = typed.later;
+    cut = ap (λ t. line ∷ t) typed.cut;
+    blank = All-cons (λ l. HasTokens (lex mode.Numbered l) []) line typed.before blank typed.blank;
+    head = typed.head;
+    others = typed.others;
+    starts = typed.starts;
+    is_word = typed.is_word;
+  },
+  shift fits,
+)
   where
     same : length typed.before + (number + 1) ≡ suc (length typed.before) + number
     same = omega arith
@@ -191,17 +194,20 @@ typed_fits number line lines m ms stop marks same is =
         → ((e : SchemaRefusal) × (reading ≡ Err e) × RefusesVersion (0 + number) (m.column + length m.word) ms (lex mode.Numbered line).stop e)
         ⊎ (IsVersionLine line × FitsLines format.Typed (0 + number + 1) no_declaration lines reading)
         → FitsTyped number (line ∷ lines) reading
-    first reading fits = (record {
-      before = [];
-      version = line;
-      later = lines;
-      cut = refl;
-      blank = All-nil (λ l. HasTokens (lex mode.Numbered l) []);
-      head = m;
-      others = ms;
-      starts = marks;
-      is_word = is;
-    }, fits)
+    first reading fits = (
+      record {
+        before = [];
+        version = line;
+        later = lines;
+        cut = refl;
+        blank = All-nil (λ l. HasTokens (lex mode.Numbered l) []);
+        head = m;
+        others = ms;
+        starts = marks;
+        is_word = is;
+      },
+      fits,
+    )
 
     told : (o : Result Declarations SchemaRefusal) → read_version number (m.column + length m.word) ms stop ≡ o → FitsVersion number (m.column + length m.word) ms stop o
         → FitsTyped number (line ∷ lines) (and_then o (λ d. read_lines format.Typed (number + 1) d lines))

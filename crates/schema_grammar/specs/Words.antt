@@ -5,7 +5,7 @@ use Rattle.dep_model.specs.declared.column.Column.TheVariants.{Text, Integer}
 use Rattle.lexer.specs.declared.token.TokenKind.{TokenKind}
 use Rattle.lexer.specs.declared.token.TokenKind.TheVariants as token
 use Rattle.dep_model.specs.Names.{same_name, is_type_name}
-use Rattle.dep_model.specs.Schemas.{names_of, place_named}
+use Rattle.dep_model.specs.Schemas.{place_named}
 use Rattle.schema_grammar.specs.declared.refusal.SchemaRefusalKind.{SchemaRefusalKind}
 use Rattle.schema_grammar.specs.declared.refusal.SchemaRefusalKind.TheVariants as kind
 use Rattle.schema_grammar.specs.declared.format.Format.{Format}

@@ -1,5 +1,5 @@
 use Rattle.std.proofs.Common.{◌≡◌, ◌≤◌, ◌∙◌, ℕ, sym, ap, subst, List, length, Result, Ok, Some, true, arith, refl}
-use Rattle.std.specs.Prelude.{IfOk, IfErr}
+use Rattle.std.specs.Prelude.{IfErr}
 use Rattle.derivation.specs.Trees.{Tree}
 use Rattle.derivation.specs.Derivs.{tree_of}
 use Rattle.lexer.specs.Lines.{line_texts, without_mark}
