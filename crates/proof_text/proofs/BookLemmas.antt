@@ -5,7 +5,8 @@ use Rattle.std.specs.List.{prefix_len}
 use Rattle.std.proofs.lemmas.List.{length-map, take-map}
 use Rattle.std.proofs.lemmas.Option.{slice_get-map, slice_get-get_or}
 use Rattle.proof_text.specs.declared.node.Open.{Open}
-use Rattle.proof_text.specs.Books.{opened_of, opened_all, joined, root}
+use Rattle.proof_grammar.specs.Books.{joined, root}
+use Rattle.proof_text.specs.Views.{opened_of, opened_all}
 
 first_len : (xs : List (Option Open)) → prefix_len (λ o. not (is_some o)) (opened_all xs) ≡ prefix_len (λ o. not (is_some o)) xs
 first_len [] = refl

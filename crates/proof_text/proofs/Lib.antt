@@ -1,7 +1,3 @@
-pub mod WordLemmas
-pub mod NameLemmas
-pub mod PrintingLemmas
 pub mod BookLemmas
-pub mod SameLemmas
+pub mod PrintingLemmas
 pub mod TextLemmas
-pub mod CheckedLemmas

@@ -19,8 +19,8 @@ use Rattle.derivation.specs.Conclusions.{Proves, concluded}
 use Rattle.derivation.proofs.ConclusionLemmas.{concluded-from, Proves-one}
 use Rattle.derivation.proofs.RuleTableLemmas.{chosen}
 use Rattle.derivation.proofs.WithinLemmas.{tree_of-attributes, conclusion_within}
-use Rattle.proof_text.specs.Lines.{by_step, by_pair, Line}
-use Rattle.proof_text.specs.Printing.{line_text, leaf_body, numbered_line, lines_behind, lines_text, IsProof, IsStepWithin}
+use Rattle.proof_grammar.specs.Lines.{by_step, by_pair, Line}
+use Rattle.proof_grammar.specs.Printing.{line_text, leaf_body, numbered_line, lines_behind, lines_text, IsProof, IsStepWithin}
 
 -- ---- what a node proves, by its premises
 pub leaf_states : (s : Schema) (t : Tree) (rule : Leaf) → t ≡ leaf rule → IsProof s t → (d : Dependency) × (leaf_conclusion s rule ≡ Ok d)

@@ -5,13 +5,13 @@ use Rattle.std.specs.List.{starts_with}
 use denote.Ref.{Bor}
 use Rattle.dep_model.specs.declared.schema.Schema.{Schema}
 use Rattle.lexer.specs.Lines.{line_texts, without_mark, CutsAt, CutsLine}
-use Rattle.proof_text.specs.declared.refusal.ProofRefusalKind.{ProofRefusalKind}
+use Rattle.proof_grammar.specs.declared.refusal.ProofRefusalKind.{ProofRefusalKind}
 use Rattle.proof_text.specs.declared.text.TheConstants.{MOST_PROOF_BYTES}
-use Rattle.proof_text.specs.Books.{Ledger, finished, complaint_at}
-use Rattle.proof_text.specs.Complaints.{Complaint, LineComplaint, complaint_of, Refuses, RefusesAt}
-use Rattle.proof_text.specs.Ledgers.{IsLedger}
-use Rattle.proof_text.proofs.CheckedLemmas.{read_one_keeps}
-use Rattle.proof_text.specs.Texts.{read_one, read_lines, read_proof}
+use Rattle.proof_grammar.specs.Books.{Ledger, finished, complaint_at}
+use Rattle.proof_grammar.specs.Complaints.{Complaint, LineComplaint, complaint_of, IsFound, IsFoundAt}
+use Rattle.proof_grammar.specs.Ledgers.{IsLedger}
+use Rattle.proof_grammar.proofs.CheckedLemmas.{read_one_keeps}
+use Rattle.proof_grammar.specs.Texts.{read_one, read_lines, read_proof}
 
 -- to read the lines that are left is to read the whole
 pub record Reads (s : Schema) (text : List ℕ) (fresh : Bool) (number : ℕ) (book : Ledger) (rest : List ℕ) : Type 0 where
@@ -61,5 +61,5 @@ on_complaint None line part whole each h = tt {0}
 on_complaint (Some c) line part whole each h = each c h
 
 pub refuses_whole : {A B : Type 0} (kind : ProofRefusalKind) (line : ℕ) (part : Result A Complaint) (whole : Result B LineComplaint)
-    → ((why : Complaint) → part ≡ Err why → whole ≡ Err (complaint_at line why)) → Refuses kind part → RefusesAt (record { line = line; kind = kind }) whole
+    → ((why : Complaint) → part ≡ Err why → whole ≡ Err (complaint_at line why)) → IsFound kind part → IsFoundAt (record { line = line; kind = kind }) whole
 refuses_whole kind line part whole each h = on_complaint (complaint_of kind) line part whole each h

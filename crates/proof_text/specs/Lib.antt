@@ -1,13 +1,2 @@
-pub mod Marks
-pub mod Tokens
-pub mod Readers
-pub mod Lines
-pub mod Complaints
-pub mod Nodes
-pub mod Books
-pub mod Texts
-pub mod Checked
-pub mod Printing
-pub mod Meanings
-pub mod Spelling
-pub mod Ledgers
+pub mod Outcomes
+pub mod Views

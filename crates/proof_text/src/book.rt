@@ -1,22 +1,21 @@
-ghost use Rattle.std.specs.Prelude.{◌≡◌, ℕ, ◌+◌, ◌-◌, ◌==◌, ◌<◌, ◌≤◌, ◌^◌, [], length, IfOk, IfErr, OnOk, Ok, Err, option_map, is_some, position, take, max};
+ghost use Rattle.std.specs.Prelude.{◌≡◌, ℕ, ◌+◌, ◌-◌, ◌==◌, ◌<◌, ◌≤◌, ◌^◌, [], length, IfOk, IfErr, OnOk, Ok, Err, Some, option_map, is_some, position, take, max};
 ghost use Rattle.attr_sets.specs.Sets.{places};
 ghost use Rattle.dep_model.specs.Dependencies.{left_of, right_of};
 ghost use Rattle.dep_model.specs.Deps.{dependency_of, IsDepWithin};
-ghost use Rattle.derivation.specs.Derivs.{step_of, pair_of};
-ghost use Rattle.derivation.specs.Derivs.{tree_of};
-ghost use Rattle.proof_text.specs.Books.{opened_of, opened_all, root, settled};
+ghost use Rattle.derivation.specs.Derivs.{step_of, pair_of, tree_of};
+ghost use Rattle.proof_grammar.specs.Books.{root, settled};
+ghost use Rattle.proof_text.specs.Outcomes.{outcome_of};
+ghost use Rattle.proof_text.specs.Views.{opened_of, opened_all, line_of, body_of};
 ghost use Rattle.attr_sets.specs.Places.{Places};
 ghost use Rattle.dep_model.specs.Schemas.{universe_of};
-ghost use Rattle.proof_text.specs.Complaints.{Refuses, RefusesAt, IsRefusalWithin};
-ghost use Rattle.proof_text.specs.Lines.{line_of, body_of};
-ghost use Rattle.proof_text.specs.Nodes.{seen};
+ghost use Rattle.proof_grammar.specs.Complaints.{IsFound, IsFoundAt, IsRefusalWithin};
 
 use crate::line::{Body, Line};
-use crate::node::{Open, given, leaf, pair, same_dependency, step};
-use crate::refusal::{ProofRefusal, ProofRefusalKind};
+use crate::node::{Concluded, Open, given, leaf, pair, same_dependency, step};
 use attr_sets::AttrSet;
 use dep_model::{Dep, Schema};
 use derivation::{Deriv, Fault, FaultKind, LeafRule, MOST_LEVELS, MOST_NODES, PairRule, StepRule};
+use proof_grammar::{ProofRefusal, ProofRefusalKind};
 use std::alloc::Global;
 
 /// The certificate lines that are read: in which line of the text each stands, and its derivation until
@@ -35,8 +34,9 @@ pub struct Node {
 }
 
 impl Book {
-    ghost use Rattle.proof_text.specs.Ledgers.{IsLedger};
-    ghost use Rattle.proof_text.specs.Books.{prepared_of, ledger_of, is_earlier, open_at, closed, prepared, step_of_line, pair_of_line, entered, add_line, finished};
+    ghost use Rattle.proof_grammar.specs.Ledgers.{IsLedger};
+    ghost use Rattle.proof_grammar.specs.Books.{is_earlier, open_at, closed, prepared, step_of_line, pair_of_line, entered, add_line, finished, rooted};
+    ghost use Rattle.proof_text.specs.Views.{prepared_of, ledger_of};
 
     pub fn new(alloc: Global) -> Book
         ensures empty { ledger_of result ≡ record { lines = []; unused = [] } }
@@ -67,10 +67,10 @@ impl Book {
     }
 
     /// The node of a line. Its premises are taken.
-    #[tactic(auto, unfolding(crate::specs::Books::prepared))]
+    #[tactic(auto, unfolding(proof_grammar::specs::Books::prepared))]
     fn prepare(&mut self, schema: &Schema, line: &Line) -> Result<Node, ProofRefusalKind>
         ensures ok { IfOk result (λ node. prepared schema.now (opened_all self.old.unused.items) (dependency_of line.now.stated) (body_of line.now.body) ≡ Ok (prepared_of node (opened_all self.new.unused.items))) }
-        ensures err { IfErr result (λ why. Refuses why (prepared schema.now (opened_all self.old.unused.items) (dependency_of line.now.stated) (body_of line.now.body))) }
+        ensures err { IfErr result (λ why. IsFound why (prepared schema.now (opened_all self.old.unused.items) (dependency_of line.now.stated) (body_of line.now.body))) }
         ensures within { (u : Places) → IfErr result (IsRefusalWithin u) }
         ensures lines { self.new.lines.items ≡ self.old.lines.items }
         ensures length { length self.new.unused.items ≡ length self.old.unused.items }
@@ -107,7 +107,7 @@ impl Book {
         p: u32,
     ) -> Result<Node, ProofRefusalKind>
         ensures ok { IfOk result (λ node. step_of_line schema.now (step_of rule) (opened_all self.old.unused.items) p ≡ Ok (prepared_of node (opened_all self.new.unused.items))) }
-        ensures err { IfErr result (λ why. Refuses why (step_of_line schema.now (step_of rule) (opened_all self.old.unused.items) p)) }
+        ensures err { IfErr result (λ why. IsFound why (step_of_line schema.now (step_of rule) (opened_all self.old.unused.items) p)) }
         ensures within { (u : Places) → IfErr result (IsRefusalWithin u) }
         ensures lines { self.new.lines.items ≡ self.old.lines.items }
         ensures length { length self.new.unused.items ≡ length self.old.unused.items }
@@ -127,7 +127,7 @@ impl Book {
     /// The node of a rule with two premises.
     fn prepare_pair(&mut self, rule: PairRule, p: u32, q: u32) -> Result<Node, ProofRefusalKind>
         ensures ok { IfOk result (λ node. pair_of_line (pair_of rule) (opened_all self.old.unused.items) p q ≡ Ok (prepared_of node (opened_all self.new.unused.items))) }
-        ensures err { IfErr result (λ why. Refuses why (pair_of_line (pair_of rule) (opened_all self.old.unused.items) p q)) }
+        ensures err { IfErr result (λ why. IsFound why (pair_of_line (pair_of rule) (opened_all self.old.unused.items) p q)) }
         ensures within { (u : Places) → IfErr result (IsRefusalWithin u) }
         ensures lines { self.new.lines.items ≡ self.old.lines.items }
         ensures length { length self.new.unused.items ≡ length self.old.unused.items }
@@ -147,7 +147,7 @@ impl Book {
     }
 
     /// Enters a certificate line, which stands in line `at` of the text.
-    #[tactic(auto, unfolding(crate::specs::Books::entered))]
+    #[tactic(auto, unfolding(proof_grammar::specs::Books::entered))]
     pub fn enter(
         &mut self,
         alloc: Global,
@@ -158,7 +158,7 @@ impl Book {
         requires ledger { IsLedger schema.now (ledger_of self.old) }
         requires within { IsDepWithin (universe_of schema.now) line.now.stated }
         ensures ok { OnOk result (entered schema.now at (ledger_of self.old) (line_of line.now) ≡ Ok (ledger_of self.new)) }
-        ensures err { IfErr result (λ why. Refuses why (entered schema.now at (ledger_of self.old) (line_of line.now))) }
+        ensures err { IfErr result (λ why. IsFound why (entered schema.now at (ledger_of self.old) (line_of line.now))) }
         ensures within { IfErr result (IsRefusalWithin (universe_of schema.now)) }
     {
         let before = self.unused.len();
@@ -191,11 +191,13 @@ impl Book {
         Ok(())
     }
 
-    /// The derivation of the last line, where each other one was used. The text ends with line `last`.
-    #[tactic(auto, unfolding(crate::specs::Books::finished))]
-    pub fn finish(self, last: u32) -> Result<Box<Deriv>, ProofRefusal>
-        ensures ok { IfOk result (λ b. finished last (ledger_of self) ≡ Ok (tree_of b.value)) }
-        ensures err { IfErr result (λ e. RefusesAt e (finished last (ledger_of self))) }
+    /// The derivation of the last line and its conclusion, where each other line was used. The text ends
+    /// with line `last`.
+    #[tactic(auto, unfolding(proof_grammar::specs::Books::finished))]
+    pub fn finish(self, last: u32) -> Result<Concluded, ProofRefusal>
+        ensures ok { IfOk result (λ x. finished last (ledger_of self) ≡ Ok (tree_of x.deriv.value)) }
+        ensures root { IfOk result (λ x. rooted (opened_all self.unused.items) ≡ Some (tree_of x.deriv.value, dependency_of x.dep)) }
+        ensures err { IfErr result (λ e. IsFoundAt e (finished last (ledger_of self))) }
         ensures within { (u : Places) → IfErr result (λ e. IsRefusalWithin u e.kind) }
     {
         let Book { lines, mut unused } = self;
@@ -207,7 +209,10 @@ impl Book {
                 Err(ProofRefusal { line, kind })
             }
             None => match root {
-                Some(open) => Ok(open.deriv),
+                Some(open) => Ok(Concluded {
+                    deriv: open.deriv,
+                    dep: open.dep,
+                }),
                 None => {
                     let kind = ProofRefusalKind::EmptyProof;
                     Err(ProofRefusal { line: last, kind })
@@ -242,11 +247,11 @@ fn first_open(unused: &[Option<Open>]) -> Option<usize>
 }
 
 /// What a line concludes, within the limits; `before` lines stand before it.
-#[tactic(auto, unfolding(crate::specs::Books::settled))]
+#[tactic(auto, unfolding(proof_grammar::specs::Books::settled))]
 fn settle(before: usize, line: &Line, node: Node) -> Result<(Deriv, Dep), ProofRefusalKind>
-    ensures ok { IfOk result (λ x. settled before (line_of line.now) node.levels (seen node.outcome) ≡ Ok (record { tree = tree_of x.0; levels = node.levels; conclusion = dependency_of x.1 })) }
+    ensures ok { IfOk result (λ x. settled before (line_of line.now) node.levels (outcome_of node.outcome) ≡ Ok (record { tree = tree_of x.0; levels = node.levels; conclusion = dependency_of x.1 })) }
     ensures shallow { OnOk result (node.levels ≤ MOST_LEVELS) }
-    ensures err { IfErr result (λ why. Refuses why (settled before (line_of line.now) node.levels (seen node.outcome))) }
+    ensures err { IfErr result (λ why. IsFound why (settled before (line_of line.now) node.levels (outcome_of node.outcome))) }
     ensures within { (u : Places) → IsDepWithin u line.now.stated → IfOk node.outcome (λ x. IsDepWithin u x.1) → IfErr result (IsRefusalWithin u) }
 {
     if before >= MOST_NODES as usize {

@@ -6,18 +6,15 @@
 #![tactic(auto)]
 
 mod book;
-mod cursor;
-mod guide;
 mod line;
 mod node;
 mod printing;
 #[cfg(test)]
 mod printing_tests;
-mod refusal;
 mod text;
 mod words;
 
-pub use node::same_dependency;
+pub use node::{Concluded, same_dependency};
 pub use printing::print_proof;
-pub use refusal::{ProofRefusal, ProofRefusalKind};
-pub use text::{MOST_PROOF_BYTES, read_proof};
+pub use proof_grammar::{ProofRefusal, ProofRefusalKind};
+pub use text::{MOST_PROOF_BYTES, read_concluded, read_proof};

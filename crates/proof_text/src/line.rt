@@ -1,16 +1,18 @@
-ghost use Rattle.std.specs.Prelude.{◌≡◌, ◌+◌, ◌<◌, ◌^◌, length, IfOk, IfErr, Ok, Err};
+ghost use Rattle.std.specs.Prelude.{◌≡◌, ◌+◌, ◌<◌, ◌≤◌, ◌^◌, length, IfOk, IfErr, Ok, Err};
+ghost use Rattle.attr_sets.specs.Places.{below};
 ghost use Rattle.dep_model.specs.Deps.{dependency_of, IsDepWithin};
-ghost use Rattle.dep_model.specs.Schemas.{names_of, universe_of};
 ghost use Rattle.derivation.specs.Derivs.{step_of, pair_of};
-ghost use Rattle.proof_text.specs.Readers.{rest_of};
-ghost use Rattle.proof_text.specs.Lines.{body, body_of, line, line_of, stated, one, two, augmented, maugmented};
+ghost use Rattle.line_reader.specs.Views.{names_in, rest_of};
+ghost use Rattle.proof_grammar.specs.Lines.{body, line, stated_dependency, one, two, augmented, maugmented};
+ghost use Rattle.proof_text.specs.Views.{body_of, line_of};
 
-use crate::cursor::Cursor;
-use crate::words::{Arrow, RuleName};
-use attr_sets::AttrSet;
-use dep_model::{Dep, Schema};
+use crate::words::{colon, rule_name, with_word};
+use attr_sets::PLACES;
+use dep_model::Dep;
 use derivation::{PairRule, StepRule};
-use schema_reader::SchemaRefusal;
+use line_reader::{Cursor, Names};
+use proof_grammar::RuleName;
+use schema_grammar::{SchemaRefusal, Sign};
 
 /// What a line says of its dependency: the rule, and the lines of its premises.
 #[derive(Clone, Copy, Debug)]
@@ -32,16 +34,17 @@ pub struct Line {
 }
 
 /// A whole line.
-#[tactic(auto, unfolding(crate::specs::Lines::line))]
-pub fn read_line(schema: &Schema, start: Cursor<'_>) -> Result<Line, SchemaRefusal>
-    ensures ok { IfOk result (λ x. line (names_of schema.now) (rest_of start.entry) ≡ Ok (line_of x)) }
-    ensures within { IfOk result (λ x. IsDepWithin (universe_of schema.now) x.stated) }
-    ensures err { IfErr result (λ e. line (names_of schema.now) (rest_of start.entry) ≡ Err e) }
+#[tactic(auto, unfolding(proof_grammar::specs::Lines::line))]
+pub fn read_line(names: &Names<'_>, start: Cursor<'_>) -> Result<Line, SchemaRefusal>
+    requires few { length (names_in names.now) ≤ PLACES }
+    ensures ok { IfOk result (λ x. line (names_in names.now) (rest_of start.entry) ≡ Ok (line_of x)) }
+    ensures within { IfOk result (λ x. IsDepWithin (below (length (names_in names.now))) x.stated) }
+    ensures err { IfErr result (λ e. line (names_in names.now) (rest_of start.entry) ≡ Err e) }
 {
     let (number, rest) = start.number()?;
-    let (stated, rest) = stated(schema, rest.colon()?)?;
-    let (name, rest) = rest.colon()?.rule_name()?;
-    let (body, rest) = read_body(schema, name, rest)?;
+    let (stated, rest) = stated(names, colon(rest)?)?;
+    let (name, rest) = rule_name(colon(rest)?)?;
+    let (body, rest) = read_body(names, name, rest)?;
     rest.end()?;
     Ok(Line {
         number,
@@ -51,31 +54,33 @@ pub fn read_line(schema: &Schema, start: Cursor<'_>) -> Result<Line, SchemaRefus
 }
 
 /// The dependency that a line states.
-#[tactic(auto, unfolding(crate::specs::Lines::stated))]
-fn stated<'a>(schema: &Schema, start: Cursor<'a>) -> Result<(Dep, Cursor<'a>), SchemaRefusal>
-    ensures ok { IfOk result (λ x. stated (names_of schema.now) (rest_of start.entry) ≡ Ok (dependency_of x.0, rest_of x.1)) }
-    ensures within { IfOk result (λ x. IsDepWithin (universe_of schema.now) x.0) }
-    ensures err { IfErr result (λ e. stated (names_of schema.now) (rest_of start.entry) ≡ Err e) }
+#[tactic(auto, unfolding(proof_grammar::specs::Lines::stated_dependency))]
+fn stated<'a>(names: &Names<'_>, start: Cursor<'a>) -> Result<(Dep, Cursor<'a>), SchemaRefusal>
+    requires few { length (names_in names.now) ≤ PLACES }
+    ensures ok { IfOk result (λ x. stated_dependency (names_in names.now) (rest_of start.entry) ≡ Ok (dependency_of x.0, rest_of x.1)) }
+    ensures within { IfOk result (λ x. IsDepWithin (below (length (names_in names.now))) x.0) }
+    ensures err { IfErr result (λ e. stated_dependency (names_in names.now) (rest_of start.entry) ≡ Err e) }
 {
-    let (lhs, rest) = start.side(schema)?;
+    let (lhs, rest) = start.side(names)?;
     let (arrow, rest) = rest.arrow()?;
-    let (rhs, rest) = rest.side(schema)?;
+    let (rhs, rest) = rest.side(names)?;
     let dep = match arrow {
-        Arrow::Functional => Dep::Fd { lhs, rhs },
-        Arrow::Multivalued => Dep::Mvd { lhs, rhs },
+        Sign::Functional => Dep::Fd { lhs, rhs },
+        Sign::Multivalued => Dep::Mvd { lhs, rhs },
     };
     Ok((dep, rest))
 }
 
 /// What stands behind the name of a rule.
-#[tactic(auto, unfolding(crate::specs::Lines::body))]
+#[tactic(auto, unfolding(proof_grammar::specs::Lines::body))]
 fn read_body<'a>(
-    schema: &Schema,
+    names: &Names<'_>,
     name: RuleName,
     start: Cursor<'a>,
 ) -> Result<(Body, Cursor<'a>), SchemaRefusal>
-    ensures ok { IfOk result (λ x. body (names_of schema.now) name (rest_of start.entry) ≡ Ok (body_of x.0, rest_of x.1)) }
-    ensures err { IfErr result (λ e. body (names_of schema.now) name (rest_of start.entry) ≡ Err e) }
+    requires few { length (names_in names.now) ≤ PLACES }
+    ensures ok { IfOk result (λ x. body (names_in names.now) name (rest_of start.entry) ≡ Ok (body_of x.0, rest_of x.1)) }
+    ensures err { IfErr result (λ e. body (names_in names.now) name (rest_of start.entry) ≡ Err e) }
 {
     match name {
         RuleName::Given => {
@@ -84,8 +89,8 @@ fn read_body<'a>(
         }
         RuleName::Reflexivity => Ok((Body::Reflexivity, start)),
         RuleName::MReflexivity => Ok((Body::MReflexivity, start)),
-        RuleName::Augmentation => augmentation(schema, start),
-        RuleName::MAugmentation => maugmentation(schema, start),
+        RuleName::Augmentation => augmentation(names, start),
+        RuleName::MAugmentation => maugmentation(names, start),
         RuleName::Complementation => one(StepRule::Complementation, start),
         RuleName::Replication => one(StepRule::Replication, start),
         RuleName::Transitivity => two(PairRule::Transitivity, start),
@@ -95,7 +100,7 @@ fn read_body<'a>(
 }
 
 /// One premise, of a rule without sets.
-#[tactic(auto, unfolding(crate::specs::Lines::one))]
+#[tactic(auto, unfolding(proof_grammar::specs::Lines::one))]
 fn one(rule: StepRule, start: Cursor<'_>) -> Result<(Body, Cursor<'_>), SchemaRefusal>
     ensures ok { IfOk result (λ x. one (step_of rule) (rest_of start.entry) ≡ Ok (body_of x.0, rest_of x.1)) }
     ensures err { IfErr result (λ e. one (step_of rule) (rest_of start.entry) ≡ Err e) }
@@ -105,7 +110,7 @@ fn one(rule: StepRule, start: Cursor<'_>) -> Result<(Body, Cursor<'_>), SchemaRe
 }
 
 /// Two premises.
-#[tactic(auto, unfolding(crate::specs::Lines::two))]
+#[tactic(auto, unfolding(proof_grammar::specs::Lines::two))]
 fn two(rule: PairRule, start: Cursor<'_>) -> Result<(Body, Cursor<'_>), SchemaRefusal>
     ensures ok { IfOk result (λ x. two (pair_of rule) (rest_of start.entry) ≡ Ok (body_of x.0, rest_of x.1)) }
     ensures err { IfErr result (λ e. two (pair_of rule) (rest_of start.entry) ≡ Err e) }
@@ -116,28 +121,33 @@ fn two(rule: PairRule, start: Cursor<'_>) -> Result<(Body, Cursor<'_>), SchemaRe
 }
 
 /// `P with SIDE`
-#[tactic(auto, unfolding(crate::specs::Lines::augmented))]
-fn augmentation<'a>(schema: &Schema, start: Cursor<'a>) -> Result<(Body, Cursor<'a>), SchemaRefusal>
-    ensures ok { IfOk result (λ x. augmented (names_of schema.now) (rest_of start.entry) ≡ Ok (body_of x.0, rest_of x.1)) }
-    ensures err { IfErr result (λ e. augmented (names_of schema.now) (rest_of start.entry) ≡ Err e) }
+#[tactic(auto, unfolding(proof_grammar::specs::Lines::augmented))]
+fn augmentation<'a>(
+    names: &Names<'_>,
+    start: Cursor<'a>,
+) -> Result<(Body, Cursor<'a>), SchemaRefusal>
+    requires few { length (names_in names.now) ≤ PLACES }
+    ensures ok { IfOk result (λ x. augmented (names_in names.now) (rest_of start.entry) ≡ Ok (body_of x.0, rest_of x.1)) }
+    ensures err { IfErr result (λ e. augmented (names_in names.now) (rest_of start.entry) ≡ Err e) }
 {
     let (premise, rest) = start.number()?;
-    let (by, rest) = rest.with_word()?.side(schema)?;
+    let (by, rest) = with_word(rest)?.side(names)?;
     Ok((Body::Step(StepRule::Augmentation { by }, premise), rest))
 }
 
 /// `P with SIDE : SIDE`
-#[tactic(auto, unfolding(crate::specs::Lines::maugmented))]
+#[tactic(auto, unfolding(proof_grammar::specs::Lines::maugmented))]
 fn maugmentation<'a>(
-    schema: &Schema,
+    names: &Names<'_>,
     start: Cursor<'a>,
 ) -> Result<(Body, Cursor<'a>), SchemaRefusal>
-    ensures ok { IfOk result (λ x. maugmented (names_of schema.now) (rest_of start.entry) ≡ Ok (body_of x.0, rest_of x.1)) }
-    ensures err { IfErr result (λ e. maugmented (names_of schema.now) (rest_of start.entry) ≡ Err e) }
+    requires few { length (names_in names.now) ≤ PLACES }
+    ensures ok { IfOk result (λ x. maugmented (names_in names.now) (rest_of start.entry) ≡ Ok (body_of x.0, rest_of x.1)) }
+    ensures err { IfErr result (λ e. maugmented (names_in names.now) (rest_of start.entry) ≡ Err e) }
 {
     let (premise, rest) = start.number()?;
-    let (wide, rest) = rest.with_word()?.side(schema)?;
-    let (narrow, rest) = rest.colon()?.side(schema)?;
+    let (wide, rest) = with_word(rest)?.side(names)?;
+    let (narrow, rest) = colon(rest)?.side(names)?;
     Ok((
         Body::Step(StepRule::MAugmentation { wide, narrow }, premise),
         rest,

@@ -3,13 +3,13 @@ ghost use Rattle.dep_model.specs.Deps.{dependency_of};
 ghost use Rattle.derivation.specs.Derivs.{tree_of, leaf_of, step_of, pair_of};
 ghost use Rattle.derivation.specs.Table.{leaf_conclusion, step_conclusion, pair_conclusion};
 ghost use Rattle.derivation.specs.declared.measures.TheConstants.{MOST_LEVELS};
-ghost use Rattle.proof_text.specs.Complaints.{Refuses};
+ghost use Rattle.proof_grammar.specs.Complaints.{IsFound};
 ghost use Rattle.attr_sets.specs.Sets.{places, is_same};
 ghost use Rattle.derivation.specs.Trees.{leaf, step, pair};
-ghost use Rattle.proof_text.specs.Nodes.{with_tree, seen, given_outcome, same_dependency};
+ghost use Rattle.proof_grammar.specs.Nodes.{with_tree, given_outcome, same_dependency};
+ghost use Rattle.proof_text.specs.Outcomes.{outcome_of};
 
 use crate::line::{Body, Line};
-use crate::refusal::{ProofRefusal, ProofRefusalKind};
 use attr_sets::AttrSet;
 use dep_model::{Dep, Schema};
 use derivation::{
@@ -25,6 +25,13 @@ pub struct Open {
     pub levels: u32,
     pub dep: Dep,
     pub ghost shallow: { levels ≤ MOST_LEVELS },
+}
+
+/// The derivation that a certificate spells, and the dependency that it concludes.
+#[derive(Drop)]
+pub struct Concluded {
+    pub deriv: Box<Deriv>,
+    pub dep: Dep,
 }
 
 fn is_same(a: AttrSet, b: AttrSet) -> bool
@@ -66,7 +73,7 @@ fn same_sides(a: Dep, b: Dep) -> bool
 
 /// A leaf, where its rule applies.
 pub fn leaf(schema: &Schema, rule: LeafRule) -> Result<(Deriv, Dep), FaultKind>
-    ensures exact { seen result ≡ with_tree (leaf (leaf_of rule)) (leaf_conclusion schema.now (leaf_of rule)) }
+    ensures exact { outcome_of result ≡ with_tree (leaf (leaf_of rule)) (leaf_conclusion schema.now (leaf_of rule)) }
 {
     match leaf_conclusion(schema, rule) {
         Ok(dep) => Ok((rule.deriv(), dep)),
@@ -76,7 +83,7 @@ pub fn leaf(schema: &Schema, rule: LeafRule) -> Result<(Deriv, Dep), FaultKind>
 
 /// The dependency of this number, from 1.
 pub fn given(schema: &Schema, k: u32) -> Result<(Deriv, Dep), FaultKind>
-    ensures exact { seen result ≡ given_outcome schema.now k }
+    ensures exact { outcome_of result ≡ given_outcome schema.now k }
 {
     if k == 0 || k as usize > schema.deps().len() {
         return Err(FaultKind::NoSuchGiven);
@@ -86,7 +93,7 @@ pub fn given(schema: &Schema, k: u32) -> Result<(Deriv, Dep), FaultKind>
 
 /// What a rule concludes from an open line.
 pub fn step(schema: &Schema, rule: StepRule, premise: Open) -> Result<(Deriv, Dep), FaultKind>
-    ensures exact { seen result ≡ with_tree (step (step_of rule) (tree_of premise.deriv.value)) (step_conclusion schema.now (step_of rule) (dependency_of premise.dep)) }
+    ensures exact { outcome_of result ≡ with_tree (step (step_of rule) (tree_of premise.deriv.value)) (step_conclusion schema.now (step_of rule) (dependency_of premise.dep)) }
 {
     match step_conclusion(schema, rule, premise.dep) {
         Ok(dep) => Ok((rule.over(premise.deriv), dep)),
@@ -96,7 +103,7 @@ pub fn step(schema: &Schema, rule: StepRule, premise: Open) -> Result<(Deriv, De
 
 /// What a rule concludes from two open lines.
 pub fn pair(rule: PairRule, first: Open, second: Open) -> Result<(Deriv, Dep), FaultKind>
-    ensures exact { seen result ≡ with_tree (pair (pair_of rule) (tree_of first.deriv.value) (tree_of second.deriv.value)) (pair_conclusion (pair_of rule) (dependency_of first.dep) (dependency_of second.dep)) }
+    ensures exact { outcome_of result ≡ with_tree (pair (pair_of rule) (tree_of first.deriv.value) (tree_of second.deriv.value)) (pair_conclusion (pair_of rule) (dependency_of first.dep) (dependency_of second.dep)) }
 {
     match pair_conclusion(rule, first.dep, second.dep) {
         Ok(dep) => Ok((rule.over(first.deriv, second.deriv), dep)),

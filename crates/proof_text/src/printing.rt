@@ -8,9 +8,9 @@ ghost use Rattle.derivation.specs.Trees.{nodes, depth};
 ghost use Rattle.derivation.specs.Derivs.{tree_of, leaf_of, step_of, pair_of};
 ghost use Rattle.derivation.specs.Table.{leaf_conclusion, step_conclusion, pair_conclusion};
 ghost use Rattle.derivation.specs.Conclusions.{Proves};
-ghost use Rattle.schema_reader.specs.Printing.{set_text, dependency_text};
-ghost use Rattle.proof_text.specs.Lines.{body_of, line_of};
-ghost use Rattle.proof_text.specs.Printing.{step_word, sides_text, pair_word, body_text, line_text, leaf_body, numbered_line, lines_behind, lines_text, canonical_certificate, IsProof, IsStepWithin, IsBodyWithin};
+ghost use Rattle.schema_grammar.specs.Printing.{set_text, dependency_text};
+ghost use Rattle.proof_text.specs.Views.{body_of, line_of};
+ghost use Rattle.proof_grammar.specs.Printing.{step_word, sides_text, pair_word, body_text, line_text, leaf_body, numbered_line, lines_behind, lines_text, canonical_certificate, IsProof, IsStepWithin, IsBodyWithin};
 
 use crate::line::{Body, Line};
 use attr_sets::AttrSet;
@@ -19,7 +19,7 @@ use derivation::{
     Deriv, LeafRule, MOST_LEVELS, MOST_NODES, Node, PairRule, StepRule, leaf_conclusion,
     pair_conclusion, step_conclusion,
 };
-use schema_reader::{print_dep, print_set};
+use schema_reader::{add, add_dep, add_number, add_set};
 use std::alloc::Global;
 
 /// A derivation as a certificate: a line for each node, in post-order and numbered from 1. Each line
@@ -142,7 +142,7 @@ fn body_of_leaf(rule: LeafRule) -> Body
     }
 }
 
-#[tactic(auto, unfolding(crate::specs::Printing::line_text))]
+#[tactic(auto, unfolding(proof_grammar::specs::Printing::line_text))]
 fn add_line(
     text: &mut Vec<u8>,
     alloc: Global,
@@ -155,13 +155,13 @@ fn add_line(
 {
     add_number(text, alloc, line.number)?;
     add(text, b": ")?;
-    add(text, &print_dep(alloc, schema, line.stated)?)?;
+    add_dep(text, schema, line.stated)?;
     add(text, b" : ")?;
     add_body(text, alloc, schema, line.body)?;
     add(text, b"\n")
 }
 
-#[tactic(auto, unfolding(crate::specs::Printing::body_text))]
+#[tactic(auto, unfolding(proof_grammar::specs::Printing::body_text))]
 fn add_body(
     text: &mut Vec<u8>,
     alloc: Global,
@@ -181,7 +181,7 @@ fn add_body(
         Body::Step(rule, p) => {
             add_step_word(text, rule)?;
             add_number(text, alloc, p)?;
-            add_sides(text, alloc, schema, rule)
+            add_sides(text, schema, rule)
         }
         Body::Pair(rule, p, q) => {
             add_pair_word(text, rule)?;
@@ -192,7 +192,7 @@ fn add_body(
     }
 }
 
-#[tactic(auto, unfolding(crate::specs::Printing::step_word))]
+#[tactic(auto, unfolding(proof_grammar::specs::Printing::step_word))]
 fn add_step_word(text: &mut Vec<u8>, rule: StepRule) -> Result<(), WantMemory>
     ensures added { OnOk result (text.new.items ≡ text.old.items ++ step_word (step_of rule)) }
 {
@@ -204,31 +204,26 @@ fn add_step_word(text: &mut Vec<u8>, rule: StepRule) -> Result<(), WantMemory>
     }
 }
 
-fn add_sides(
-    text: &mut Vec<u8>,
-    alloc: Global,
-    schema: &Schema,
-    rule: StepRule,
-) -> Result<(), WantMemory>
+fn add_sides(text: &mut Vec<u8>, schema: &Schema, rule: StepRule) -> Result<(), WantMemory>
     requires rule { IsStepWithin (universe_of schema.now) (step_of rule) }
     ensures added { OnOk result (text.new.items ≡ text.old.items ++ sides_text (names_of schema.now) (step_of rule)) }
 {
     match rule {
         StepRule::Augmentation { by } => {
             add(text, b" with ")?;
-            add_set(text, alloc, schema, by)
+            add_set(text, schema, by)
         }
         StepRule::MAugmentation { wide, narrow } => {
             add(text, b" with ")?;
-            add_set(text, alloc, schema, wide)?;
+            add_set(text, schema, wide)?;
             add(text, b" : ")?;
-            add_set(text, alloc, schema, narrow)
+            add_set(text, schema, narrow)
         }
         StepRule::Complementation | StepRule::Replication => Ok(()),
     }
 }
 
-#[tactic(auto, unfolding(crate::specs::Printing::pair_word))]
+#[tactic(auto, unfolding(proof_grammar::specs::Printing::pair_word))]
 fn add_pair_word(text: &mut Vec<u8>, rule: PairRule) -> Result<(), WantMemory>
     ensures added { OnOk result (text.new.items ≡ text.old.items ++ pair_word (pair_of rule)) }
 {
@@ -237,30 +232,4 @@ fn add_pair_word(text: &mut Vec<u8>, rule: PairRule) -> Result<(), WantMemory>
         PairRule::MTransitivity => add(text, b"mtransitivity "),
         PairRule::Coalescence => add(text, b"coalescence "),
     }
-}
-
-fn add_set(
-    text: &mut Vec<u8>,
-    alloc: Global,
-    schema: &Schema,
-    set: AttrSet,
-) -> Result<(), WantMemory>
-    requires set { Within (places set) (universe_of schema.now) }
-    ensures added { OnOk result (text.new.items ≡ text.old.items ++ set_text (names_of schema.now) (places set)) }
-{
-    add(text, &print_set(alloc, schema, set)?)
-}
-
-fn add_number(text: &mut Vec<u8>, alloc: Global, number: u32) -> Result<(), WantMemory>
-    ensures added { OnOk result (text.new.items ≡ text.old.items ++ decimal number) }
-{
-    let digits = format!(in alloc; "{number}")?;
-    add(text, digits.as_bytes())
-}
-
-fn add(text: &mut Vec<u8>, bytes: &[u8]) -> Result<(), WantMemory>
-    ensures added { OnOk result (text.new.items ≡ text.old.items ++ bytes.now) }
-{
-    text.extend_from_slice(bytes)?;
-    Ok(())
 }

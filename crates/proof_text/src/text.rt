@@ -2,46 +2,59 @@ ghost use Rattle.std.specs.Prelude.{◌≡◌, ◌+◌, ◌<◌, ◌≤◌, ◌^
 ghost use Rattle.lexer.specs.Tokens.{lexed, lex};
 ghost use Rattle.derivation.specs.Derivs.{tree_of};
 ghost use Rattle.dep_model.specs.Schemas.{universe_of};
-ghost use Rattle.proof_text.specs.Ledgers.{IsLedger};
-ghost use Rattle.proof_text.specs.Books.{ledger_of};
-ghost use Rattle.proof_text.specs.Checked.{IsChecked};
-ghost use Rattle.proof_text.specs.Complaints.{Refuses, RefusesAt, IsRefusalWithin};
-ghost use Rattle.proof_text.specs.Texts.{is_yes, is_blank, line_kind, read_one, read_proof};
+ghost use Rattle.proof_grammar.specs.Ledgers.{IsLedger};
+ghost use Rattle.proof_text.specs.Views.{ledger_of};
+ghost use Rattle.dep_model.specs.Deps.{dependency_of, IsDepWithin};
+ghost use Rattle.derivation.specs.Conclusions.{Proves};
+ghost use Rattle.proof_grammar.specs.Refusals.{RefusesProof};
+ghost use Rattle.proof_grammar.specs.Spelling.{SpellsWithin};
+ghost use Rattle.proof_grammar.specs.Checked.{IsChecked};
+ghost use Rattle.proof_grammar.specs.Complaints.{IsFound, IsRefusalWithin};
+ghost use Rattle.proof_grammar.specs.Texts.{is_yes, is_blank, line_kind, read_one};
 
 use crate::book::Book;
-use crate::cursor::Cursor;
-use crate::guide::Guide;
 use crate::line::read_line;
-use crate::refusal::{ProofRefusal, ProofRefusalKind};
+use crate::node::Concluded;
 use dep_model::Schema;
 use derivation::Deriv;
 use lexer::{Mode, Next, TokenKind, cut_line, next_token, without_mark};
+use line_reader::{Cursor, Guide, Names};
+use proof_grammar::{LineKind, ProofRefusal, ProofRefusalKind};
 use std::alloc::Global;
 
 /// The most bytes of a certificate.
 pub const MOST_PROOF_BYTES: usize = 268_435_456;
 
-/// What a line of the text is.
-#[derive(Clone, Copy, Debug, PartialEq, Eq)]
-pub enum LineKind {
-    /// Without tokens.
-    Blank,
-    /// The one word `yes`, before any certificate line.
-    Opening,
-    Certificate,
-}
-
-/// The derivation that a certificate spells.
-///
-/// The first line that goes wrong is refused, and there the first of the reasons in the order of
-/// `ProofRefusalKind`, but that an unused line is told at the text's end.
+/// The derivation that a certificate spells, within the limits on lines and levels, or its refusal: the
+/// first line that goes wrong, and there the first complaint in the order of `ProofRefusalKind`, but that
+/// an unused line is told at the text's end.
 pub fn read_proof(alloc: Global, schema: &Schema, text: &[u8]) -> Result<Box<Deriv>, ProofRefusal>
     requires { length text.now ≤ MOST_PROOF_BYTES }
-    ensures ok { IfOk result (λ deriv. read_proof schema.now text.now ≡ Ok (tree_of deriv.value)) }
+    ensures ok { IfOk result (λ deriv. SpellsWithin schema.now text.now (tree_of deriv.value)) }
     // It proves a dependency, within the limits of a certificate.
     ensures checked { IfOk result (λ deriv. IsChecked schema.now (tree_of deriv.value)) }
-    ensures err { IfErr result (λ refusal. RefusesAt refusal (read_proof schema.now text.now)) }
+    ensures err { IfErr result (RefusesProof schema.now text.now) }
     // The dependencies that it names can be printed.
+    ensures within { IfErr result (λ refusal. IsRefusalWithin (universe_of schema.now) refusal.kind) }
+{
+    match read_concluded(alloc, schema, text) {
+        Ok(read) => Ok(read.deriv),
+        Err(refusal) => Err(refusal),
+    }
+}
+
+/// The same with the dependency that the derivation concludes.
+pub fn read_concluded(
+    alloc: Global,
+    schema: &Schema,
+    text: &[u8],
+) -> Result<Concluded, ProofRefusal>
+    requires { length text.now ≤ MOST_PROOF_BYTES }
+    ensures ok { IfOk result (λ read. SpellsWithin schema.now text.now (tree_of read.deriv.value)) }
+    ensures concludes { IfOk result (λ read. Proves schema.now (tree_of read.deriv.value) (dependency_of read.dep)) }
+    ensures checked { IfOk result (λ read. IsChecked schema.now (tree_of read.deriv.value)) }
+    ensures dep { IfOk result (λ read. IsDepWithin (universe_of schema.now) read.dep) }
+    ensures err { IfErr result (RefusesProof schema.now text.now) }
     ensures within { IfErr result (λ refusal. IsRefusalWithin (universe_of schema.now) refusal.kind) }
 {
     let guide = Guide::of(schema);
@@ -66,7 +79,7 @@ pub fn read_proof(alloc: Global, schema: &Schema, text: &[u8]) -> Result<Box<Der
 }
 
 /// Reads one line of the text. Whether a `yes` may still come is told and answered.
-#[tactic(auto, unfolding(crate::specs::Texts::read_one))]
+#[tactic(auto, unfolding(proof_grammar::specs::Texts::read_one))]
 fn read_one(
     alloc: Global,
     schema: &Schema,
@@ -79,7 +92,7 @@ fn read_one(
     requires room { 1 + length text.now < 2 ^ 32 }
     requires ledger { IsLedger schema.now (ledger_of book.old) }
     ensures ok { IfOk result (λ still. read_one schema.now fresh number (ledger_of book.old) text.now ≡ Ok (still, ledger_of book.new)) }
-    ensures err { IfErr result (λ why. Refuses why (read_one schema.now fresh number (ledger_of book.old) text.now)) }
+    ensures err { IfErr result (λ why. IsFound why (read_one schema.now fresh number (ledger_of book.old) text.now)) }
     ensures within { IfErr result (IsRefusalWithin (universe_of schema.now)) }
 {
     match line_kind(fresh, text) {
@@ -90,9 +103,9 @@ fn read_one(
                 line: number,
                 column: 1,
                 text,
-                guide,
+                mode: Mode::Numbered,
             };
-            match read_line(schema, start) {
+            match read_line(&Names::Guided(schema, guide), start) {
                 Err(refusal) => Err(ProofRefusalKind::BadLine(refusal)),
                 Ok(line) => {
                     book.enter(alloc, schema, number, &line)?;
@@ -104,7 +117,7 @@ fn read_one(
 }
 
 /// What a line is.
-#[tactic(auto, unfolding(crate::specs::Texts::line_kind))]
+#[tactic(auto, unfolding(proof_grammar::specs::Texts::line_kind))]
 fn line_kind(fresh: bool, text: &[u8]) -> LineKind
     requires { 1 + length text.now < 2 ^ 32 }
     ensures exact { result ≡ line_kind fresh (lex Mode.Numbered text.now) }
@@ -136,7 +149,7 @@ fn is_blank(column: u32, text: &[u8]) -> bool
 }
 
 /// Whether a token is the word `yes`, in lower case.
-#[tactic(auto, unfolding(crate::specs::Texts::is_yes))]
+#[tactic(auto, unfolding(proof_grammar::specs::Texts::is_yes))]
 fn is_yes(kind: TokenKind, word: &[u8]) -> bool
     ensures exact { result ≡ is_yes kind word.now }
 {

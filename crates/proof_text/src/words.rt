@@ -1,76 +1,64 @@
-ghost use Rattle.std.specs.Prelude.{◌≡◌, ◌<◌, IfOk};
-ghost use Rattle.dep_model.specs.Schemas.{names_of, width_of, place_named};
-ghost use Rattle.schema_reader.specs.Texts.{number_in};
-ghost use Rattle.schema_reader.specs.Words.{is_common_word, looked_up};
-ghost use Rattle.schema_reader.specs.declared.words.Format.TheVariants.{Plain};
-ghost use Rattle.proof_text.specs.Tokens.{is_word, is_colon, arrow_in, is_with, rule_named, named};
+ghost use Rattle.std.specs.Prelude.{◌≡◌, IfOk, IfErr, Ok, Err};
+ghost use Rattle.line_reader.specs.Views.{rest_of};
+ghost use Rattle.proof_grammar.specs.Readers.{colon, with_word, rule_name};
+ghost use Rattle.proof_grammar.specs.Tokens.{is_colon, is_with, rule_named, rule_word};
 
-use dep_model::Schema;
 use lexer::TokenKind;
-use schema_reader::SchemaRefusalKind;
+use line_reader::Cursor;
+use proof_grammar::RuleName;
+use schema_grammar::{SchemaRefusal, What};
 
-/// Which arrow a dependency has.
-#[derive(Clone, Copy, Debug, PartialEq, Eq)]
-pub enum Arrow {
-    /// `->`
-    Functional,
-    /// `->>`
-    Multivalued,
-}
-
-/// The names of the rules.
-#[derive(Clone, Copy, Debug, PartialEq, Eq)]
-pub enum RuleName {
-    Given,
-    Reflexivity,
-    Augmentation,
-    Transitivity,
-    Complementation,
-    MReflexivity,
-    MAugmentation,
-    MTransitivity,
-    Replication,
-    Coalescence,
-}
-
-/// Whether a token is a word.
-pub fn is_word(kind: TokenKind) -> bool
-    ensures exact { result ≡ is_word kind }
+/// `:`
+#[tactic(auto, unfolding(proof_grammar::specs::Readers::colon))]
+pub fn colon(start: Cursor<'_>) -> Result<Cursor<'_>, SchemaRefusal>
+    ensures ok { IfOk result (λ x. colon (rest_of start.entry) ≡ Ok (rest_of x)) }
+    ensures err { IfErr result (λ e. colon (rest_of start.entry) ≡ Err e) }
 {
-    matches!(kind, TokenKind::Word)
+    let (token, _, rest) = start.take(What::Colon)?;
+    if is_colon(token.kind) {
+        Ok(rest)
+    } else {
+        Err(rest.expected(token, What::Colon))
+    }
+}
+
+/// The word `with`.
+#[tactic(auto, unfolding(proof_grammar::specs::Readers::with_word))]
+pub fn with_word(start: Cursor<'_>) -> Result<Cursor<'_>, SchemaRefusal>
+    ensures ok { IfOk result (λ x. with_word (rest_of start.entry) ≡ Ok (rest_of x)) }
+    ensures err { IfErr result (λ e. with_word (rest_of start.entry) ≡ Err e) }
+{
+    let (token, word, rest) = start.take(What::With)?;
+    if is_with(token.kind, word) {
+        Ok(rest)
+    } else {
+        Err(rest.expected(token, What::With))
+    }
+}
+
+/// The name of a rule.
+#[tactic(auto, unfolding(proof_grammar::specs::Readers::rule_name))]
+pub fn rule_name(start: Cursor<'_>) -> Result<(RuleName, Cursor<'_>), SchemaRefusal>
+    ensures ok { IfOk result (λ x. rule_name (rest_of start.entry) ≡ Ok (x.0, rest_of x.1)) }
+    ensures err { IfErr result (λ e. rule_name (rest_of start.entry) ≡ Err e) }
+{
+    let (token, word, rest) = start.take(What::Rule)?;
+    match rule_named(token.kind, word) {
+        Some(name) => Ok((name, rest)),
+        None => Err(rest.expected(token, What::Rule)),
+    }
 }
 
 /// Whether a token is `:`.
-pub fn is_colon(kind: TokenKind) -> bool
+fn is_colon(kind: TokenKind) -> bool
     ensures exact { result ≡ is_colon kind }
 {
     matches!(kind, TokenKind::Colon)
 }
 
-/// The value of a number.
-pub fn number_in(kind: TokenKind) -> Option<u32>
-    ensures exact { result ≡ number_in kind }
-{
-    match kind {
-        TokenKind::Number(value) => Some(value),
-        _ => None,
-    }
-}
-
-/// The arrow that a token is.
-pub fn arrow_in(kind: TokenKind) -> Option<Arrow>
-    ensures exact { result ≡ arrow_in kind }
-{
-    match kind {
-        TokenKind::Arrow => Some(Arrow::Functional),
-        TokenKind::DoubleArrow => Some(Arrow::Multivalued),
-        _ => None,
-    }
-}
-
 /// Whether a token is the word `with`, in lower case.
-#[tactic(auto, unfolding(crate::specs::Tokens::is_with))]
-pub fn is_with(kind: TokenKind, word: &[u8]) -> bool
+#[tactic(auto, unfolding(proof_grammar::specs::Tokens::is_with))]
+fn is_with(kind: TokenKind, word: &[u8]) -> bool
     ensures exact { result ≡ is_with kind word.now }
 {
     match kind {
@@ -80,19 +68,19 @@ pub fn is_with(kind: TokenKind, word: &[u8]) -> bool
 }
 
 /// The rule whose name a token is, in lower case.
-#[tactic(auto, unfolding(crate::specs::Tokens::rule_named))]
-pub fn rule_named(kind: TokenKind, word: &[u8]) -> Option<RuleName>
+#[tactic(auto, unfolding(proof_grammar::specs::Tokens::rule_named))]
+fn rule_named(kind: TokenKind, word: &[u8]) -> Option<RuleName>
     ensures exact { result ≡ rule_named kind word.now }
 {
     match kind {
-        TokenKind::Word => named(word),
+        TokenKind::Word => rule_word(word),
         _ => None,
     }
 }
 
-#[tactic(auto, unfolding(crate::specs::Tokens::named))]
-fn named(word: &[u8]) -> Option<RuleName>
-    ensures exact { result ≡ named word.now }
+#[tactic(auto, unfolding(proof_grammar::specs::Tokens::rule_word))]
+fn rule_word(word: &[u8]) -> Option<RuleName>
+    ensures exact { result ≡ rule_word word.now }
 {
     if word == b"given".as_slice() {
         Some(RuleName::Given)
@@ -117,38 +105,4 @@ fn named(word: &[u8]) -> Option<RuleName>
     } else {
         None
     }
-}
-
-/// The attribute that a word of a side stands for; the place `guess` is tried first.
-#[tactic(auto, unfolding(schema_reader::specs::Words::looked_up, schema_reader::specs::Words::is_reserved))]
-pub fn look_up(schema: &Schema, word: &[u8], guess: u8) -> Result<u8, SchemaRefusalKind>
-    ensures exact { result ≡ looked_up Plain (names_of schema.now) word.now }
-    ensures declared { IfOk result (λ place. place < width_of schema.now) }
-{
-    if is_reserved(word) {
-        return Err(SchemaRefusalKind::ReservedName);
-    }
-    match place_of(schema, word, guess) {
-        Some(place) => Ok(place),
-        None => Err(SchemaRefusalKind::UnknownName),
-    }
-}
-
-// The attribute of this name.
-fn place_of(schema: &Schema, word: &[u8], guess: u8) -> Option<u8>
-    ensures place { result ≡ place_named (names_of schema.now) word.now }
-{
-    if guess < schema.width() && schema.name(guess).bytes().eq_ignore_ascii_case(word) {
-        return Some(guess);
-    }
-    schema.place_of(word)
-}
-
-/// Whether a word is reserved, ASCII case aside.
-fn is_reserved(word: &[u8]) -> bool
-    ensures reserved { result ≡ is_common_word word.now }
-{
-    word.eq_ignore_ascii_case(b"attributes")
-        || word.eq_ignore_ascii_case(b"scheme")
-        || word.eq_ignore_ascii_case(b"version")
 }

@@ -4,12 +4,12 @@ use Rattle.lexer.specs.declared.token.Mode.TheVariants as mode
 use Rattle.lexer.specs.declared.token.Stop.{Stop}
 use Rattle.lexer.specs.declared.token.Token.{Token}
 use Rattle.lexer.specs.Tokens.{Lexed, lexed, Leads}
-use Rattle.schema_reader.specs.declared.refusal.SchemaRefusalKind.{SchemaRefusalKind}
-use Rattle.schema_reader.specs.declared.refusal.SchemaRefusalKind.TheVariants as kind
-use Rattle.schema_reader.specs.declared.refusal.What.TheVariants as what
-use Rattle.schema_reader.specs.declared.words.Format.{Format}
-use Rattle.schema_reader.specs.Declarations.{Declarations, list_names, list_names_lexed, name_step}
-use Rattle.schema_reader.specs.Refusals.{refused_by, refusal}
+use Rattle.schema_grammar.specs.declared.refusal.SchemaRefusalKind.{SchemaRefusalKind}
+use Rattle.schema_grammar.specs.declared.refusal.SchemaRefusalKind.TheVariants as kind
+use Rattle.schema_grammar.specs.declared.refusal.What.TheVariants as what
+use Rattle.schema_grammar.specs.declared.format.Format.{Format}
+use Rattle.schema_grammar.specs.Declarations.{Declarations, list_names, list_names_lexed, name_step}
+use Rattle.schema_grammar.specs.Refusals.{refused_by, refusal}
 
 -- to read what is left of a declaring line is to read the whole
 pub record Lists (f : Format) (column : Column) (line : ℕ) (first : Declarations) (start : ℕ) (text : List ℕ) (d : Declarations) (some : Bool) (behind : ℕ) (rest : List ℕ) : Type 0 where

@@ -6,7 +6,7 @@ use Rattle.std.proofs.lemmas.List.{append-nil}
 use Rattle.std.specs.Prelude.{map, codes}
 use Rattle.attr_sets.specs.Places.{Places}
 use Rattle.dep_model.specs.declared.column.Column.{Column}
-use Rattle.schema_reader.specs.Printing.{words_text, members_from, side_text, set_text, runs_of, in_front, run_line, lines_text, type_word, same_column, is_integer, Run}
+use Rattle.schema_grammar.specs.Printing.{words_text, members_from, side_text, set_text, runs_of, in_front, run_line, lines_text, type_word, same_column, is_integer, Run}
 
 -- what is still to print of a set, where a name stood before or not
 abbrev pub rest_text : Bool → List (List ℕ) → List ℕ

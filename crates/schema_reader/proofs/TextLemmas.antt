@@ -5,23 +5,25 @@ use Rattle.lexer.specs.declared.token.Stop.{Stop}
 use Rattle.lexer.specs.declared.token.Token.{Token}
 use denote.Ref.{Bor}
 use Rattle.lexer.specs.Lines.{line_texts, CutsAt, CutsLine, IsLastLine}
-use Rattle.schema_reader.proofs.RefusalLemmas.{ok_at}
-use Rattle.schema_reader.proofs.SoundLemmas.{IsSound, line_sound}
+use Rattle.schema_grammar.proofs.RefusalLemmas.{ok_at}
+use Rattle.schema_grammar.proofs.SoundLemmas.{IsSound, line_sound}
 use Rattle.lexer.specs.Tokens.{Lexed, lexed, lex, Leads}
-use Rattle.schema_reader.specs.declared.refusal.SchemaRefusal.{SchemaRefusal}
-use Rattle.schema_reader.specs.declared.text.TheConstants.{MOST_TEXT_BYTES, VERSION}
-use Rattle.schema_reader.specs.declared.words.Format.{Format}
-use Rattle.schema_reader.specs.declared.words.Format.TheVariants as format
-use Rattle.schema_reader.specs.Declarations.{Declarations, no_declaration, read_line}
-use Rattle.schema_reader.specs.Refusals.{refusal, refused_by}
+use Rattle.schema_grammar.specs.declared.refusal.SchemaRefusal.{SchemaRefusal}
+use Rattle.schema_grammar.specs.declared.format.TheConstants.{VERSION}
+use Rattle.schema_reader.specs.declared.text.TheConstants.{MOST_TEXT_BYTES}
+use Rattle.schema_grammar.specs.declared.format.Format.{Format}
+use Rattle.schema_grammar.specs.declared.format.Format.TheVariants as format
+use Rattle.schema_grammar.specs.Declarations.{Declarations, no_declaration, read_line}
+use Rattle.schema_grammar.specs.Refusals.{refusal, refused_by}
 use Rattle.std.proofs.lemmas.Bool.Decides.{nat_tests}
 use Rattle.dep_model.specs.declared.dep.Dep.{Dep}
 use Rattle.dep_model.specs.declared.schema.Schema.{Schema}
 use Rattle.dep_model.specs.Deps.{dependencies_of}
 use Rattle.dep_model.specs.Schemas.{names_of, columns_of, deps_of, lines_of, theory_of}
-use Rattle.schema_reader.specs.declared.refusal.SchemaRefusalKind.TheVariants as kind
-use Rattle.schema_reader.specs.declared.refusal.What.TheVariants as what
-use Rattle.schema_reader.specs.Texts.{read_lines, read_opening, read_typed, finish, is_version, read_version, read_version_lexed, end_version_lexed, number_in, lines_after, declarations_of}
+use Rattle.schema_grammar.specs.declared.refusal.SchemaRefusalKind.TheVariants as kind
+use Rattle.schema_grammar.specs.declared.refusal.What.TheVariants as what
+use Rattle.schema_grammar.specs.Texts.{read_lines, read_opening, read_typed, finish, is_version, read_version, read_version_lexed, end_version_lexed, number_in, declarations_of}
+use Rattle.schema_reader.specs.Views.{lines_after}
 
 -- to read the lines that are left is to read all of them
 pub record Reads (f : Format) (first : ℕ) (text : List ℕ) (d : Declarations) (number : ℕ) (rest : List ℕ) : Type 0 where

@@ -5,8 +5,8 @@ use Rattle.lexer.specs.declared.token.Mode.{Mode}
 use Rattle.lexer.specs.declared.token.Stop.{Stop}
 use Rattle.lexer.specs.declared.token.Token.{Token}
 use Rattle.lexer.specs.Tokens.{lexed, lex, Leads, IsBehind, token_of}
-use Rattle.schema_reader.specs.Refusals.{refused_by}
-use Rattle.schema_reader.specs.TokenLists.{tokens_lexed, all_or_stop}
+use Rattle.schema_grammar.specs.Refusals.{refused_by}
+use Rattle.schema_grammar.specs.TokenLists.{tokens_lexed, all_or_stop}
 
 -- the tokens of a line are those that are taken, and those of what is left
 pub record Collects (m : Mode) (line : List ℕ) (taken : List Token) (column : ℕ) (rest : List ℕ) : Type 0 where

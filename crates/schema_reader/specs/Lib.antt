@@ -1,11 +1,1 @@
-pub mod Complaints
-pub mod Declarations
-pub mod Grammar
-pub mod Meanings
-pub mod Printing
-pub mod Reading
-pub mod Refusals
-pub mod Schemas
-pub mod Texts
-pub mod TokenLists
-pub mod Words
+pub mod Views

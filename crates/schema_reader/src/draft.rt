@@ -2,16 +2,17 @@ ghost use Rattle.std.specs.Prelude.{◌≡◌, ◌+◌, ◌<◌, ◌≤◌, ◌^
 ghost use Rattle.dep_model.specs.Deps.{dependency_of};
 ghost use Rattle.dep_model.specs.Names.{is_name};
 ghost use Rattle.lexer.specs.Tokens.{lexed};
-ghost use Rattle.schema_reader.specs.Grammar.{reading_of};
-ghost use Rattle.schema_reader.specs.Refusals.{Refuses, RefusesAs};
+ghost use Rattle.schema_reader.specs.Views.{reached_of};
+ghost use Rattle.schema_grammar.specs.Refusals.{Refuses, RefusesAs};
 
 use crate::goal::{follow, step};
-use crate::refusal::{SchemaRefusal, SchemaRefusalKind, What};
 use crate::stage::Stage;
-use crate::words::{Format, Names, declares, is_reserved, place_among};
+use crate::words::declares;
 use attr_sets::PLACES;
 use dep_model::{Column, Dep, MOST_DEPENDENCIES, Name};
 use lexer::{Mode, Next, Token, TokenKind, next_token};
+use line_reader::{Names, is_reserved, place_among};
+use schema_grammar::{Format, SchemaRefusal, SchemaRefusalKind, What};
 use std::alloc::Global;
 
 /// What a schema text declares, as far as it is read.
@@ -24,7 +25,8 @@ pub struct Draft {
 }
 
 impl Draft {
-    ghost use Rattle.schema_reader.specs.Declarations.{no_declaration, declare, name_step, list_names_lexed, add_name, add_dependency, begin, dependency_lexed, marked, read_line, drafted};
+    ghost use Rattle.schema_grammar.specs.Declarations.{no_declaration, declare, name_step, list_names_lexed, add_name, add_dependency, begin, dependency_lexed, marked, read_line};
+    ghost use Rattle.schema_reader.specs.Views.{drafted};
 
     pub fn new(alloc: Global) -> Draft
         ensures empty { drafted result ≡ no_declaration }
@@ -38,7 +40,7 @@ impl Draft {
     }
 
     /// Reads one line more.
-    #[tactic(auto, unfolding(crate::specs::Declarations::read_line))]
+    #[tactic(auto, unfolding(schema_grammar::specs::Declarations::read_line))]
     pub fn read_line(&mut self, format: Format, line: u32, text: &[u8]) -> Result<(), SchemaRefusal>
         requires few { length (drafted self.old).names ≤ PLACES }
         requires room { 1 + length text.now < 2 ^ 32 }
@@ -125,7 +127,7 @@ impl Draft {
     }
 
     /// Declares a name.
-    #[tactic(auto, unfolding(crate::specs::Declarations::declare))]
+    #[tactic(auto, unfolding(schema_grammar::specs::Declarations::declare))]
     fn declare(
         &mut self,
         format: Format,
@@ -190,7 +192,7 @@ impl Draft {
 
     /// Where the first token of a dependency line leads. A token that the line can't begin with is
     /// refused before one dependency too many.
-    #[tactic(auto, unfolding(crate::specs::Declarations::begin))]
+    #[tactic(auto, unfolding(schema_grammar::specs::Declarations::begin))]
     fn begin(
         &self,
         format: Format,
@@ -198,7 +200,7 @@ impl Draft {
         word: &[u8],
     ) -> Result<Stage, SchemaRefusalKind>
         requires { length (drafted self.now).names ≤ PLACES }
-        ensures ok { IfOk result (λ stage. begin format (drafted self.now) kind word.now ≡ Ok (reading_of stage)) }
+        ensures ok { IfOk result (λ stage. begin format (drafted self.now) kind word.now ≡ Ok (reached_of stage)) }
         ensures err { IfErr result (λ why. begin format (drafted self.now) kind word.now ≡ Err why) }
     {
         let stage = step(

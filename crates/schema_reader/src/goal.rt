@@ -3,29 +3,30 @@ ghost use Rattle.attr_sets.specs.Places.{below};
 ghost use Rattle.dep_model.specs.Deps.{dependency_of, IsDepWithin};
 ghost use Rattle.dep_model.specs.Schemas.{names_of, universe_of};
 ghost use Rattle.lexer.specs.Tokens.{lexed};
-ghost use Rattle.schema_reader.specs.Grammar.{reading_of, finished, IsPlaced};
-ghost use Rattle.schema_reader.specs.Reading.{symbol_of, step, follow_lexed, read_goal};
-ghost use Rattle.schema_reader.specs.Refusals.{at, expecting};
-ghost use Rattle.schema_reader.specs.Words.{names_in};
+ghost use Rattle.schema_grammar.specs.Grammar.{finished, IsPlaced};
+ghost use Rattle.schema_reader.specs.Views.{reached_of};
+ghost use Rattle.line_reader.specs.Views.{names_in};
+ghost use Rattle.schema_grammar.specs.Complaints.{RefusesGoal};
+ghost use Rattle.schema_grammar.specs.Meanings.{MeansGoal};
+ghost use Rattle.schema_grammar.specs.Reading.{symbol_of, step, follow_lexed};
+ghost use Rattle.schema_grammar.specs.Refusals.{at, expecting};
 
-use crate::refusal::{SchemaRefusal, SchemaRefusalKind};
-use crate::stage::{Sign, Stage, Symbol, finish, turn};
-use crate::words::{Format, Names, look_up};
+use crate::stage::{Stage, finish, turn};
 use attr_sets::PLACES;
 use dep_model::{Dep, Schema};
 use lexer::{Mode, Next, TokenKind, next_token};
+use line_reader::{Names, look_up};
+use schema_grammar::{Format, SchemaRefusal, SchemaRefusalKind, Sign, Symbol};
 
 /// The most bytes of a goal.
 pub const MOST_GOAL_BYTES: usize = 16_384;
 
-/// The dependency over the schema's names that a goal states. The goal is one line; `#`, line ends
-/// and a byte-order mark are strange bytes in it. It takes no memory.
-///
-/// The refusals are those of the first place, and there that of the least number.
+/// The dependency over the schema's names that a goal means, or its first complaint. The goal is one
+/// line; `#`, line ends and a byte-order mark are strange bytes in it. It takes no memory.
 pub fn read_goal(schema: &Schema, text: &[u8]) -> Result<Dep, SchemaRefusal>
     requires { length text.now ≤ MOST_GOAL_BYTES }
-    ensures ok { IfOk result (λ dep. read_goal (names_of schema.now) text.now ≡ Ok (dependency_of dep)) }
-    ensures err { IfErr result (λ refusal. read_goal (names_of schema.now) text.now ≡ Err refusal) }
+    ensures ok { IfOk result (λ dep. MeansGoal (names_of schema.now) text.now (dependency_of dep)) }
+    ensures err { IfErr result (RefusesGoal (names_of schema.now) text.now) }
     ensures within { IfOk result (IsDepWithin (universe_of schema.now)) }
 {
     follow(
@@ -51,8 +52,8 @@ pub fn follow(
 ) -> Result<Dep, SchemaRefusal>
     requires few { length (names_in names.now) ≤ PLACES }
     requires room { column + length text.now < 2 ^ 32 }
-    ensures ok { IfOk result (λ dep. follow_lexed format (names_in names.now) line (reading_of stage) column (lexed mode 0 column text.now) ≡ Ok (dependency_of dep)) }
-    ensures err { IfErr result (λ refusal. follow_lexed format (names_in names.now) line (reading_of stage) column (lexed mode 0 column text.now) ≡ Err refusal) }
+    ensures ok { IfOk result (λ dep. follow_lexed format (names_in names.now) line (reached_of stage) column (lexed mode 0 column text.now) ≡ Ok (dependency_of dep)) }
+    ensures err { IfErr result (λ refusal. follow_lexed format (names_in names.now) line (reached_of stage) column (lexed mode 0 column text.now) ≡ Err refusal) }
 {
     let mut stage = stage;
     let mut column = column;
@@ -82,8 +83,8 @@ pub fn follow(
 
 /// The dependency that is read where the line ends.
 fn end_line(line: u32, stage: Stage, column: u32) -> Result<Dep, SchemaRefusal>
-    ensures ok { IfOk result (λ dep. at line column 0 (expecting (finished (reading_of stage))) ≡ Ok (dependency_of dep)) }
-    ensures err { IfErr result (λ refusal. at line column 0 (expecting (finished (reading_of stage))) ≡ Err refusal) }
+    ensures ok { IfOk result (λ dep. at line column 0 (expecting (finished (reached_of stage))) ≡ Ok (dependency_of dep)) }
+    ensures err { IfErr result (λ refusal. at line column 0 (expecting (finished (reached_of stage))) ≡ Err refusal) }
 {
     match finish(stage) {
         Ok(dep) => Ok(dep),
@@ -92,7 +93,7 @@ fn end_line(line: u32, stage: Stage, column: u32) -> Result<Dep, SchemaRefusal>
 }
 
 /// One token more.
-#[tactic(auto, unfolding(crate::specs::Reading::step))]
+#[tactic(auto, unfolding(schema_grammar::specs::Reading::step))]
 pub fn step(
     names: &Names<'_>,
     format: Format,
@@ -101,8 +102,8 @@ pub fn step(
     word: &[u8],
 ) -> Result<Stage, SchemaRefusalKind>
     requires { length (names_in names.now) ≤ PLACES }
-    ensures ok { IfOk result (λ next. step format (names_in names.now) (reading_of stage) kind word.now ≡ Ok (reading_of next)) }
-    ensures err { IfErr result (λ why. step format (names_in names.now) (reading_of stage) kind word.now ≡ Err why) }
+    ensures ok { IfOk result (λ next. step format (names_in names.now) (reached_of stage) kind word.now ≡ Ok (reached_of next)) }
+    ensures err { IfErr result (λ why. step format (names_in names.now) (reached_of stage) kind word.now ≡ Err why) }
 {
     let symbol = symbol_of(names, format, kind, word)?;
     match turn(stage, symbol) {

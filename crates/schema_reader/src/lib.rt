@@ -6,22 +6,18 @@
 
 mod draft;
 mod goal;
-mod laws;
 mod print;
-mod refusal;
 mod stage;
 mod text;
 mod token_list;
 mod words;
 
 pub use goal::{MOST_GOAL_BYTES, read_goal};
-pub use laws::{
-    goal_complaint, goal_meaning, line_complaint, lines_complaint, places_rise, schema_complaint,
-    schema_meaning,
-};
 pub use lexer::{Token, TokenKind};
-pub use print::{print_dep, print_deps, print_schema, print_set};
-pub use refusal::{SchemaRefusal, SchemaRefusalKind, Span, What};
+pub use print::{
+    add, add_dep, add_number, add_set, print_dep, print_deps, print_schema, print_set,
+};
+pub use schema_grammar::{SchemaRefusal, SchemaRefusalKind, Span, What};
 pub use text::{MOST_TEXT_BYTES, read_schema};
 pub use token_list::tokens;
 

@@ -1,10 +1,10 @@
-ghost use Rattle.std.specs.Prelude.{◌≡◌, ◌∷◌, ◌++◌, if◌then◌else◌, map, IfOk, OnOk, All};
+ghost use Rattle.std.specs.Prelude.{◌≡◌, ◌∷◌, ◌++◌, if◌then◌else◌, map, decimal, IfOk, OnOk, All};
 ghost use Rattle.std.specs.List.{list_any};
 ghost use Rattle.attr_sets.specs.Places.{Within};
 ghost use Rattle.attr_sets.specs.Sets.{places};
 ghost use Rattle.dep_model.specs.Deps.{dependency_of, dependencies_of, IsDepWithin};
 ghost use Rattle.dep_model.specs.Schemas.{names_of, columns_of, theory_of, universe_of};
-ghost use Rattle.schema_reader.specs.Printing.{set_text, dependency_text, declared_text, declaring_lines, lines_text, words_text, run_line, runs_of, type_word, same_column, is_integer};
+ghost use Rattle.schema_grammar.specs.Printing.{set_text, dependency_text, declared_text, declaring_lines, lines_text, words_text, run_line, runs_of, type_word, same_column, is_integer};
 
 use attr_sets::AttrSet;
 use dep_model::{Column, Dep, Schema, WantMemory};
@@ -19,7 +19,7 @@ pub fn print_schema(alloc: Global, schema: &Schema) -> Result<Vec<u8>, WantMemor
 }
 
 /// The lines that declare the schema's attributes, and a line for each of these dependencies.
-#[tactic(auto, unfolding(crate::specs::Printing::declared_text))]
+#[tactic(auto, unfolding(schema_grammar::specs::Printing::declared_text))]
 pub fn print_deps(alloc: Global, schema: &Schema, deps: &[Dep]) -> Result<Vec<u8>, WantMemory>
     requires { All (IsDepWithin (universe_of schema.now)) deps.now }
     ensures text { IfOk result (λ text. text.items ≡ declared_text (columns_of schema.now) (names_of schema.now) (dependencies_of deps.now)) }
@@ -27,7 +27,7 @@ pub fn print_deps(alloc: Global, schema: &Schema, deps: &[Dep]) -> Result<Vec<u8
     let mut text = Vec::new(alloc);
     add_declarations(&mut text, schema)?;
     for dep in deps {
-        add_dependency(&mut text, schema, *dep)?;
+        add_dep(&mut text, schema, *dep)?;
         add(&mut text, b"\n")?;
     }
     Ok(text)
@@ -39,7 +39,7 @@ pub fn print_dep(alloc: Global, schema: &Schema, dep: Dep) -> Result<Vec<u8>, Wa
     ensures text { IfOk result (λ text. text.items ≡ dependency_text (names_of schema.now) (dependency_of dep)) }
 {
     let mut text = Vec::new(alloc);
-    add_dependency(&mut text, schema, dep)?;
+    add_dep(&mut text, schema, dep)?;
     Ok(text)
 }
 
@@ -53,15 +53,25 @@ pub fn print_set(alloc: Global, schema: &Schema, set: AttrSet) -> Result<Vec<u8>
     Ok(text)
 }
 
-fn add(text: &mut Vec<u8>, bytes: &[u8]) -> Result<(), WantMemory>
+/// Adds bytes to a text.
+pub fn add(text: &mut Vec<u8>, bytes: &[u8]) -> Result<(), WantMemory>
     ensures added { OnOk result (text.new.items ≡ text.old.items ++ bytes.now) }
 {
     text.extend_from_slice(bytes)?;
     Ok(())
 }
 
-#[tactic(auto, unfolding(crate::specs::Printing::dependency_text))]
-fn add_dependency(text: &mut Vec<u8>, schema: &Schema, dep: Dep) -> Result<(), WantMemory>
+/// Adds a number in decimal digits to a text.
+pub fn add_number(text: &mut Vec<u8>, alloc: Global, number: u32) -> Result<(), WantMemory>
+    ensures added { OnOk result (text.new.items ≡ text.old.items ++ decimal number) }
+{
+    let digits = format!(in alloc; "{number}")?;
+    add(text, digits.as_bytes())
+}
+
+/// Adds a dependency to a text, without a line end.
+#[tactic(auto, unfolding(schema_grammar::specs::Printing::dependency_text))]
+pub fn add_dep(text: &mut Vec<u8>, schema: &Schema, dep: Dep) -> Result<(), WantMemory>
     ensures added { OnOk result (text.new.items ≡ text.old.items ++ dependency_text (names_of schema.now) (dependency_of dep)) }
 {
     match dep {
@@ -84,7 +94,8 @@ fn add_sides(
     add_set(text, schema, rhs)
 }
 
-fn add_set(text: &mut Vec<u8>, schema: &Schema, set: AttrSet) -> Result<(), WantMemory>
+/// Adds the names of a set's members to a text, or `()`.
+pub fn add_set(text: &mut Vec<u8>, schema: &Schema, set: AttrSet) -> Result<(), WantMemory>
     ensures added { OnOk result (text.new.items ≡ text.old.items ++ set_text (names_of schema.now) (places set)) }
 {
     let mut some = false;
@@ -107,7 +118,7 @@ fn add_member(text: &mut Vec<u8>, some: bool, name: &[u8]) -> Result<(), WantMem
     add(text, name)
 }
 
-#[tactic(auto, unfolding(crate::specs::Printing::declaring_lines))]
+#[tactic(auto, unfolding(schema_grammar::specs::Printing::declaring_lines))]
 fn add_declarations(text: &mut Vec<u8>, schema: &Schema) -> Result<(), WantMemory>
     ensures added { OnOk result (text.new.items ≡ text.old.items ++ lines_text (declaring_lines (columns_of schema.now) (names_of schema.now))) }
 {

@@ -2,31 +2,12 @@ ghost use Rattle.std.specs.Prelude.{◌≡◌, ◌<◌, IfOk, IfErr, Ok, Err};
 ghost use Rattle.attr_sets.specs.Places.{only, union, none};
 ghost use Rattle.attr_sets.specs.Sets.{places};
 ghost use Rattle.dep_model.specs.Deps.{dependency_of};
-ghost use Rattle.schema_reader.specs.Grammar.{turn, finished, stated, reading_of, IsPlaced};
+ghost use Rattle.schema_grammar.specs.Grammar.{turn, finished, stated, IsPlaced};
+ghost use Rattle.schema_reader.specs.Views.{reached_of};
 
-use crate::refusal::What;
 use attr_sets::{AttrSet, PLACES};
 use dep_model::Dep;
-
-/// Which arrow a dependency has.
-#[derive(Clone, Copy, Debug, PartialEq, Eq)]
-pub enum Sign {
-    /// `->`
-    Functional,
-    /// `->>`
-    Multivalued,
-}
-
-/// What a token of a dependency line stands for.
-#[derive(Clone, Copy, Debug, PartialEq, Eq)]
-pub enum Symbol {
-    Attribute(u8),
-    Arrow(Sign),
-    /// `()`
-    Empty,
-    /// What no dependency has.
-    Other,
-}
+use schema_grammar::{Sign, Symbol, What};
 
 /// How far a dependency is read, and its sets so far.
 #[derive(Clone, Copy)]
@@ -45,11 +26,11 @@ pub enum Stage {
 }
 
 /// Where a token leads.
-#[tactic(auto, unfolding(crate::specs::Grammar::turn))]
+#[tactic(auto, unfolding(schema_grammar::specs::Grammar::turn))]
 pub fn turn(stage: Stage, symbol: Symbol) -> Result<Stage, What>
     requires { IsPlaced symbol }
-    ensures ok { IfOk result (λ next. turn (reading_of stage) symbol ≡ Ok (reading_of next)) }
-    ensures err { IfErr result (λ what. turn (reading_of stage) symbol ≡ Err what) }
+    ensures ok { IfOk result (λ next. turn (reached_of stage) symbol ≡ Ok (reached_of next)) }
+    ensures err { IfErr result (λ what. turn (reached_of stage) symbol ≡ Err what) }
 {
     match (stage, symbol) {
         (Stage::Start, Symbol::Attribute(place)) => Ok(Stage::Left(single(place))),
@@ -74,10 +55,10 @@ pub fn turn(stage: Stage, symbol: Symbol) -> Result<Stage, What>
 }
 
 /// The dependency that is read where the line ends, or what it still wants.
-#[tactic(auto, unfolding(crate::specs::Grammar::finished))]
+#[tactic(auto, unfolding(schema_grammar::specs::Grammar::finished))]
 pub fn finish(stage: Stage) -> Result<Dep, What>
-    ensures ok { IfOk result (λ dep. finished (reading_of stage) ≡ Ok (dependency_of dep)) }
-    ensures err { IfErr result (λ what. finished (reading_of stage) ≡ Err what) }
+    ensures ok { IfOk result (λ dep. finished (reached_of stage) ≡ Ok (dependency_of dep)) }
+    ensures err { IfErr result (λ what. finished (reached_of stage) ≡ Err what) }
 {
     match stage {
         Stage::Start | Stage::Behind(_, _) => Err(What::Side),

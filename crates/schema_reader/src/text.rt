@@ -1,32 +1,28 @@
 ghost use Rattle.std.specs.Prelude.{All, false, ◌≡◌, ◌+◌, ◌<◌, ◌≤◌, ◌^◌, length, OnOk, IfOk, IfErr, Ok, Err};
 ghost use Rattle.dep_model.specs.Schemas.{names_of};
-ghost use Rattle.schema_reader.specs.Words.{is_reserved};
+ghost use Rattle.schema_grammar.specs.Words.{is_reserved};
 ghost use Rattle.lexer.specs.Lines.{line_texts};
 ghost use Rattle.lexer.specs.Tokens.{lexed};
-ghost use Rattle.schema_reader.specs.Declarations.{drafted, no_declaration};
-ghost use Rattle.schema_reader.specs.Refusals.{Refuses};
-ghost use Rattle.schema_reader.specs.Texts.{finish, is_version, number_in, end_version_lexed, read_lines, read_version_lexed, read_typed, read_opening, read_text, declarations_of, lines_after, AreFew};
+ghost use Rattle.schema_grammar.specs.Declarations.{no_declaration};
+ghost use Rattle.schema_reader.specs.Views.{drafted, lines_after, AreFew};
+ghost use Rattle.schema_grammar.specs.Refusals.{Refuses, RefusesAs};
+ghost use Rattle.schema_grammar.specs.Schemas.{MeansSchema, RefusesSchema};
+ghost use Rattle.schema_grammar.specs.Texts.{finish, is_version, number_in, end_version_lexed, read_lines, read_version_lexed, read_typed, read_opening, declarations_of};
 
 use crate::draft::Draft;
-use crate::refusal::{SchemaRefusal, SchemaRefusalKind, What};
-use crate::words::Format;
 use dep_model::Schema;
 use lexer::{Mode, Next, TokenKind, cut_line, next_token, without_mark};
+use schema_grammar::{Format, SchemaRefusal, SchemaRefusalKind, VERSION, What};
 use std::alloc::Global;
 
 /// The most bytes of a schema text.
 pub const MOST_TEXT_BYTES: usize = 1_048_576;
 
-/// The version of the texts that begin with a version line.
-pub const VERSION: u32 = 2;
-
-/// The schema that a text declares. A byte-order mark at its very start is skipped.
-///
-/// The refusals are those of the first place, and there that of the least number.
+/// The schema that a text means, or its first complaint. A byte-order mark at its very start is skipped.
 pub fn read_schema(alloc: Global, text: &[u8]) -> Result<Schema, SchemaRefusal>
     requires { length text.now ≤ MOST_TEXT_BYTES }
-    ensures ok { IfOk result (λ schema. read_text text.now ≡ Ok (declarations_of schema)) }
-    ensures err { IfErr result (λ refusal. Refuses refusal (read_text text.now)) }
+    ensures ok { IfOk result (λ schema. MeansSchema text.now (declarations_of schema)) }
+    ensures err { IfErr result (λ refusal. RefusesAs refusal.kind (RefusesSchema text.now refusal)) }
     ensures free { IfOk result (λ schema. All (λ name. is_reserved Format.Plain name ≡ false) (names_of schema)) }
 {
     let draft = match read_opening(alloc, without_mark(text)) {
@@ -150,7 +146,7 @@ fn end_version(line: u32, behind: u32, text: &[u8]) -> Result<(), SchemaRefusal>
 }
 
 /// Whether the first token of a text makes its line a version line.
-#[tactic(auto, unfolding(crate::specs::Texts::is_version))]
+#[tactic(auto, unfolding(schema_grammar::specs::Texts::is_version))]
 fn is_version(kind: TokenKind, word: &[u8]) -> bool
     ensures exact { result ≡ is_version kind word.now }
 {
@@ -190,7 +186,7 @@ fn read_lines(
 }
 
 /// A text ends with this line; it declares an attribute.
-#[tactic(auto, unfolding(crate::specs::Texts::finish))]
+#[tactic(auto, unfolding(schema_grammar::specs::Texts::finish))]
 fn finish(last: u32, draft: Draft) -> Result<Draft, SchemaRefusal>
     ensures ok { IfOk result (λ whole. finish last (drafted draft) ≡ Ok (drafted whole)) }
     ensures err { IfErr result (λ refusal. finish last (drafted draft) ≡ Err refusal) }

@@ -1,9 +1,9 @@
 ghost use Rattle.std.specs.Prelude.{◌≡◌, ◌+◌, ◌<◌, ◌^◌, length, IfOk, IfErr, Ok};
-ghost use Rattle.schema_reader.specs.Refusals.{Refuses};
-ghost use Rattle.schema_reader.specs.TokenLists.{tokens_of, mode_of};
+ghost use Rattle.schema_grammar.specs.Refusals.{Refuses};
+ghost use Rattle.schema_grammar.specs.TokenLists.{tokens_of, mode_of};
 
-use crate::refusal::{SchemaRefusal, SchemaRefusalKind};
 use lexer::{Mode, Next, Token, next_token};
+use schema_grammar::{SchemaRefusal, SchemaRefusalKind};
 use std::alloc::Global;
 
 /// The tokens of one line, which is given without its end; with `proof` numbers and `:` are tokens

@@ -1,6 +1,6 @@
 use Rattle.std.proofs.Common.{◌≡◌, ◌↔◌, IsTrue, Bool, sym, subst}
 use Rattle.dep_model.specs.Deps.{dependency_of}
-use Rattle.proof_text.proofs.SameLemmas.{decides_same}
+use Rattle.proof_grammar.proofs.SameLemmas.{decides_same}
 use Rattle.proof_text.proofs.node.same_dependency.Goals as goal
 
 pub returns-clause-decides : goal.returns-clause-decides

@@ -2,7 +2,7 @@ use Rattle.std.proofs.Common.{◌≡◌, ◌∙◌, sym, subst, Result, Ok, Err,
 use Rattle.std.specs.Result.{IfOk, IfErr}
 use Rattle.dep_model.specs.Dependencies.{Dependency}
 use Rattle.dep_model.specs.Deps.{dependency_of}
-use Rattle.schema_reader.specs.declared.refusal.SchemaRefusal.{SchemaRefusal}
+use Rattle.schema_grammar.specs.declared.refusal.SchemaRefusal.{SchemaRefusal}
 use Rattle.schema_reader.proofs.FollowLemmas.{at_end, at_stop, at_refused, at_token}
 use Rattle.schema_reader.proofs.goal.follow.Goals as goal
 

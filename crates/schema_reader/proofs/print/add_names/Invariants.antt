@@ -1,6 +1,6 @@
 use Rattle.std.proofs.Common.{◌≡◌, ◌++◌, drop}
 use Rattle.dep_model.specs.Schemas.{names_of}
-use Rattle.schema_reader.specs.Printing.{words_text}
+use Rattle.schema_grammar.specs.Printing.{words_text}
 use Rattle.schema_reader.proofs.print.add_names.Given as goal
 
 abbrev pub invariant-loop-place : goal.invariant-loop-place

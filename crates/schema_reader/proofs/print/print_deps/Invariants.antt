@@ -1,7 +1,7 @@
 use Rattle.std.proofs.Common.{◌≡◌, take}
 use Rattle.dep_model.specs.Deps.{dependencies_of}
 use Rattle.dep_model.specs.Schemas.{names_of, columns_of}
-use Rattle.schema_reader.specs.Printing.{declared_text}
+use Rattle.schema_grammar.specs.Printing.{declared_text}
 use Rattle.schema_reader.proofs.print.print_deps.Given as goal
 
 abbrev pub invariant-loop-dep : goal.invariant-loop-dep

@@ -1,6 +1,6 @@
 use Rattle.std.proofs.Common.{◌∙◌}
-use Rattle.schema_reader.specs.Declarations.{drafted}
-use Rattle.schema_reader.proofs.RefusalLemmas.{ok_whole, err_refuses, Refuses-whole}
+use Rattle.schema_reader.specs.Views.{drafted}
+use Rattle.schema_grammar.proofs.RefusalLemmas.{ok_whole, err_refuses, Refuses-whole}
 use Rattle.schema_reader.proofs.TextLemmas.{cut_any, cut_last, cut_more, line_refused, last_read, reads_more}
 use Rattle.schema_reader.proofs.text.read_lines.Goals as goal
 

@@ -1,5 +1,5 @@
 use Rattle.std.proofs.Common.{length}
-use Rattle.schema_reader.specs.Declarations.{drafted}
+use Rattle.schema_reader.specs.Views.{drafted}
 use Rattle.schema_reader.proofs.TextLemmas.{Reads}
 use Rattle.schema_reader.proofs.text.read_lines.Given as goal
 

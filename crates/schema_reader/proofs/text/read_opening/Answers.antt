@@ -1,7 +1,7 @@
 use Rattle.std.proofs.Common.{◌∙◌, sym, ap}
-use Rattle.schema_reader.specs.Declarations.{drafted}
-use Rattle.schema_reader.specs.Texts.{finish}
-use Rattle.schema_reader.proofs.RefusalLemmas.{ok_whole, err_refuses, refuses_whole}
+use Rattle.schema_reader.specs.Views.{drafted}
+use Rattle.schema_grammar.specs.Texts.{finish}
+use Rattle.schema_grammar.proofs.RefusalLemmas.{ok_whole, err_refuses, refuses_whole}
 use Rattle.schema_reader.proofs.TextLemmas.{cut_any, cut_last, cut_more, opens_more, last_blank, stopped_opening, plain_opening, version_opening}
 use Rattle.schema_reader.proofs.text.read_opening.Goals as goal
 

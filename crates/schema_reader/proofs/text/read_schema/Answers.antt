@@ -1,12 +1,14 @@
 use Rattle.std.specs.List.{All}
-use Rattle.schema_reader.specs.Words.{is_reserved}
-use Rattle.schema_reader.specs.declared.words.Format.TheVariants as format
+use Rattle.schema_grammar.specs.Words.{is_reserved}
+use Rattle.schema_grammar.specs.declared.format.Format.TheVariants as format
 use Rattle.std.proofs.Common.{◌≡◌, ◌∙◌, ℕ, List, subst, false, sym, ap, refl, Ok}
 use Rattle.lexer.specs.Lines.{line_texts}
-use Rattle.schema_reader.specs.Declarations.{drafted}
-use Rattle.schema_reader.specs.Texts.{read_text, read_opening}
-use Rattle.schema_reader.proofs.RefusalLemmas.{ok_at, Refuses-whole}
-use Rattle.schema_reader.proofs.SoundLemmas.{IsWhole, opening_whole, forms_schema, forms_columns, whole_free}
+use Rattle.schema_reader.specs.Views.{drafted}
+use Rattle.schema_grammar.specs.Texts.{read_text, read_opening, declarations_of}
+use Rattle.schema_grammar.proofs.RefusalLemmas.{ok_at, RefusesAs-map}
+use Rattle.schema_grammar.proofs.SchemaLaws.{schema-law}
+use Rattle.schema_grammar.proofs.TextLaws.{schema_refused}
+use Rattle.schema_grammar.proofs.SoundLemmas.{IsWhole, opening_whole, forms_schema, forms_columns, whole_free}
 use Rattle.schema_reader.proofs.TextLemmas.{declared_as}
 use Rattle.schema_reader.proofs.text.read_schema.Goals as goal
 
@@ -14,7 +16,7 @@ pub returns-in-Err-clause-err : goal.returns-in-Err-clause-err
 unfolding read_text
 returns-in-Err-clause-err c =
     let here = ap (λ text. read_opening 1 (line_texts text)) (sym c.without_mark.ensures.text) in
-    Refuses-whole _ _ _ (λ refused. here ∙ refused) c.in-Err.ensures.err
+    RefusesAs-map _ _ _ (λ refused. schema_refused c.args.text.now c.in-Err.refusal (here ∙ refused)) c.in-Err.ensures.err
 
 pub make_typed-requires-clause-schema : goal.make_typed-requires-clause-schema
 make_typed-requires-clause-schema c =
@@ -29,7 +31,7 @@ unfolding read_text
 returns-clause-ok c =
     let here = ap (λ text. read_opening 1 (line_texts text)) (sym c.without_mark.ensures.text) in
     let made = declared_as c.make_typed.result (drafted c.in-Ok.draft) _ c.make_typed.ensures.names c.make_typed.ensures.columns c.make_typed.ensures.deps c.make_typed.ensures.lines refl in
-    here ∙ c.in-Ok.ensures.ok ∙ ap Ok (sym made)
+    (schema-law c.args.text.now (declarations_of c.make_typed.result)).0 (here ∙ c.in-Ok.ensures.ok ∙ ap Ok (sym made))
 
 pub returns-clause-free : goal.returns-clause-free
 returns-clause-free c =

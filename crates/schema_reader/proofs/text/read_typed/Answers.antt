@@ -1,9 +1,9 @@
 use Rattle.std.proofs.Common.{◌∙◌, sym, ap}
 use Rattle.lexer.specs.declared.token.Mode.TheVariants as mode
 use Rattle.lexer.specs.Tokens.{lexed}
-use Rattle.schema_reader.specs.Declarations.{drafted}
-use Rattle.schema_reader.specs.Texts.{read_typed, lines_after, finish}
-use Rattle.schema_reader.proofs.RefusalLemmas.{ok_whole, err_refuses}
+use Rattle.schema_reader.specs.Views.{drafted, lines_after}
+use Rattle.schema_grammar.specs.Texts.{read_typed, finish}
+use Rattle.schema_grammar.proofs.RefusalLemmas.{ok_whole, err_refuses}
 use Rattle.schema_reader.proofs.TextLemmas.{typed_end}
 use Rattle.schema_reader.proofs.text.read_typed.Goals as goal
 

@@ -1,6 +1,6 @@
 use Rattle.std.proofs.Common.{◌∙◌, sym, ap, Err}
-use Rattle.schema_reader.specs.Declarations.{no_declaration}
-use Rattle.schema_reader.proofs.RefusalLemmas.{on_ok_whole, err_whole}
+use Rattle.schema_grammar.specs.Declarations.{no_declaration}
+use Rattle.schema_grammar.proofs.RefusalLemmas.{on_ok_whole, err_whole}
 use Rattle.schema_reader.proofs.TextLemmas.{version_missing, version_stopped, version_no_number, version_unknown, version_known}
 use Rattle.schema_reader.proofs.text.read_version.Goals as goal
 

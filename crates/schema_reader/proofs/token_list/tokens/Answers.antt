@@ -1,7 +1,7 @@
 use Rattle.std.proofs.Common.{◌∙◌, sym, ap, cond, ◌++◌, ◌∷◌, []}
 use Rattle.lexer.specs.Tokens.{lex}
-use Rattle.schema_reader.specs.TokenLists.{tokens_lexed}
-use Rattle.schema_reader.proofs.RefusalLemmas.{Refuses-here}
+use Rattle.schema_grammar.specs.TokenLists.{tokens_lexed}
+use Rattle.schema_grammar.proofs.RefusalLemmas.{Refuses-here}
 use Rattle.schema_reader.proofs.TokenLemmas.{at_end, at_stop, one_more}
 use Rattle.schema_reader.proofs.token_list.tokens.Goals as goal
 

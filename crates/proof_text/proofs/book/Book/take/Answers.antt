@@ -2,7 +2,7 @@ use Rattle.std.proofs.Common.{◌-◌, ◌∙◌, ap}
 use Rattle.std.specs.Prelude.{Option, option_map, slice_set}
 use Rattle.std.proofs.lemmas.List.{map-set}
 use Rattle.proof_text.specs.declared.node.Open.{Open}
-use Rattle.proof_text.specs.Books.{opened_of, opened_all}
+use Rattle.proof_text.specs.Views.{opened_of, opened_all}
 use Rattle.proof_text.proofs.book.Book.take.Goals as goal
 
 pub returns-clause-closed : goal.returns-clause-closed

@@ -1,9 +1,10 @@
 use Rattle.std.proofs.Common.{◌∙◌, ap, arith}
 use Rattle.lexer.specs.declared.token.Mode.TheVariants as mode
 use Rattle.lexer.specs.Tokens.{lexed}
-use Rattle.schema_reader.specs.Declarations.{list_names_lexed, drafted}
+use Rattle.schema_grammar.specs.Declarations.{list_names_lexed}
+use Rattle.schema_reader.specs.Views.{drafted}
 use Rattle.schema_reader.proofs.ListLemmas.{names_end, names_missing, names_stop, names_refused, names_more}
-use Rattle.schema_reader.proofs.RefusalLemmas.{Refuses-at, Refuses-here}
+use Rattle.schema_grammar.proofs.RefusalLemmas.{Refuses-at, Refuses-here}
 use Rattle.schema_reader.proofs.draft.Draft.list_names.Goals as goal
 
 pub returns-then-some-clause-ok : goal.returns-then-some-clause-ok

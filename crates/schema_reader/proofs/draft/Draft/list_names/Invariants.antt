@@ -1,5 +1,5 @@
 use Rattle.std.proofs.Common.{length}
-use Rattle.schema_reader.specs.Declarations.{drafted}
+use Rattle.schema_reader.specs.Views.{drafted}
 use Rattle.schema_reader.proofs.ListLemmas.{Lists}
 use Rattle.schema_reader.proofs.draft.Draft.list_names.Given as goal
 

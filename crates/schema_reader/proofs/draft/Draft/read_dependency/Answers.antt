@@ -1,6 +1,6 @@
 use Rattle.std.proofs.Common.{◌∙◌, sym, ap, Ok}
 use Rattle.schema_reader.proofs.DependencyLemmas.{begin_refused, follow_refused, dependency_read}
-use Rattle.schema_reader.proofs.RefusalLemmas.{Refuses-here, Refuses-from}
+use Rattle.schema_grammar.proofs.RefusalLemmas.{Refuses-here, Refuses-from}
 use Rattle.schema_reader.proofs.draft.Draft.read_dependency.Goals as goal
 
 pub returns-in-Err-clause-err : goal.returns-in-Err-clause-err

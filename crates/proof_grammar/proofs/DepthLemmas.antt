@@ -1,0 +1,128 @@
+-- No tree of a line has more levels than the root.
+use Rattle.std.proofs.Common.{◌≡◌, ◌<◌, ◌≤◌, ◌+◌, ◌==◌, ℕ, zero, suc, Bool, true, false, List, [], ◌∷◌, ◌++◌, length, slice_get, Some, refl, sym, ◌∙◌, ap, subst, arith, length-append, append_assoc}
+use Rattle.std.specs.Prelude.{filter, nat_eq, max}
+use Rattle.std.specs.List.{flat_map}
+use Rattle.std.proofs.lemmas.Bool.Decides.{nat_tests}
+use Rattle.std.proofs.lemmas.List.Elements.{filter-append}
+use Rattle.std.proofs.lemmas.Option.{slice_get_within}
+use Rattle.dep_model.specs.declared.schema.Schema.{Schema}
+use Rattle.derivation.specs.Trees.{Tree, depth}
+use Rattle.proof_grammar.specs.Lines.{Body, by_given, by_reflexivity, by_mreflexivity, by_step, by_pair, Line}
+use Rattle.proof_grammar.specs.Spelling.{IsTreeAt, IsTreeOf, AreNodes, AreNodesOf, premises_of, uses}
+use Rattle.proof_grammar.proofs.NodeLemmas.{seam}
+use Rattle.proof_grammar.proofs.SlotLemmas.{times}
+use Rattle.proof_grammar.proofs.PremiseLemmas.{times_other, times_two}
+
+pub uses_first : (n : ℕ) (l : Line) (ls : List Line) → uses n (l ∷ ls) ≡ times n (premises_of l.body) + uses n ls
+uses_first n l ls =
+    let rest = flat_map (λ (m : Line). premises_of m.body) ls in
+    ap length (filter-append (nat_eq n) (premises_of l.body) rest) ∙ length-append (filter (nat_eq n) (premises_of l.body)) (filter (nat_eq n) rest)
+
+pub nodes_size : (s : Schema) (prior : List Tree) (ls : List Line) (ts : List Tree) → AreNodes s prior ls ts → length ls ≡ length ts
+nodes_size s prior [] [] are = refl
+nodes_size s prior [] (t ∷ ts) are = absurd are
+nodes_size s prior (l ∷ ls) [] are = absurd are
+nodes_size s prior (l ∷ ls) (t ∷ ts) (here, rest) = ap suc (nodes_size s (prior ++ t ∷ []) ls ts rest)
+
+-- ---- who uses a line
+-- a line's tree stands right below the tree of a later line
+pub record IsBelow (all : List Tree) (n : ℕ) (w : Tree) : Type 0 where
+  pub premise : Tree
+  pub at : IsTreeAt all n premise
+  pub less : depth premise < depth w
+
+step_below : (prior : List Tree) (n p : ℕ) (u w : Tree) → IsTreeAt prior p u → depth u < depth w → 0 < times n (p ∷ []) → IsBelow prior n w
+step_below prior n p u w at less some = told (n == p) refl
+  where
+    told : (b : Bool) → (n == p) ≡ b → IsBelow prior n w
+    told true is =
+        let same : n ≡ p = grind (arith, nat_tests, is) in
+        record { premise = u; at = record { before = at.before; number = omega (arith, same, at.number); tree = at.tree }; less = less }
+    told false other = let none : ⊥ = omega (arith, some, times_other n p other) in absurd none
+
+line_below : (prior : List Tree) (l : Line) (b : Body) (w : Tree) (n : ℕ) → IsTreeOf prior l b w → 0 < times n (premises_of b) → IsBelow prior n w
+line_below prior l (by_given k) w n tree some = let none : ⊥ = omega (arith, some) in absurd none
+line_below prior l by_reflexivity w n tree some = let none : ⊥ = omega (arith, some) in absurd none
+line_below prior l by_mreflexivity w n tree some = let none : ⊥ = omega (arith, some) in absurd none
+line_below prior l (by_step rule p) w n tree some =
+    step_below prior n p tree.premise w tree.earlier (omega (arith, ap depth tree.tree)) some
+line_below prior l (by_pair rule p q) w n tree some = told (n == p) refl
+  where
+    deep : depth w ≡ max (depth tree.first) (depth tree.second) + 1
+    deep = ap depth tree.tree
+
+    told : (b : Bool) → (n == p) ≡ b → IsBelow prior n w
+    told true is =
+        let same : n ≡ p = grind (arith, nat_tests, is) in
+        record { premise = tree.first; at = record { before = tree.first_earlier.before; number = omega (arith, same, tree.first_earlier.number); tree = tree.first_earlier.tree }; less = omega (arith, deep) }
+    told false other = step_below prior n q tree.second w tree.second_earlier (omega (arith, deep)) (omega (arith, some, times_two n p q, times_other n p other))
+
+-- a line that is used is used by a later one
+record IsUsed (prior ts : List Tree) (n : ℕ) : Type 0 where
+  at : ℕ
+  tree : Tree
+  here : slice_get ts at ≡ Some tree
+  below : IsBelow (prior ++ ts) n tree
+  later : n ≤ length prior + at
+
+get_more : (xs ys : List Tree) (i : ℕ) (x : Tree) → slice_get xs i ≡ Some x → slice_get (xs ++ ys) i ≡ Some x
+get_more [] ys i x e = cc
+get_more (y ∷ xs) ys zero x e = e
+get_more (y ∷ xs) ys (suc i) x e = get_more xs ys i x e
+
+below_more : (prior more : List Tree) (n : ℕ) (w : Tree) → IsBelow prior n w → IsBelow (prior ++ more) n w
+below_more prior more n w is = record { premise = is.premise; at = record { before = is.at.before; number = is.at.number; tree = get_more prior more is.at.before is.premise is.at.tree }; less = is.less }
+
+user : (s : Schema) (prior : List Tree) (ls : List Line) (ts : List Tree) (n : ℕ) → AreNodes s prior ls ts → 0 < uses n ls → IsUsed prior ts n
+user s prior [] [] n are some = let none : ⊥ = omega (arith, some) in absurd none
+user s prior [] (t ∷ ts) n are some = absurd are
+user s prior (l ∷ ls) [] n are some = absurd are
+user s prior (l ∷ ls) (t ∷ ts) n (here, rest) some = told (user s (prior ++ t ∷ []) ls ts n rest) (times n (premises_of l.body) == 0) refl
+  where
+    told : (0 < uses n ls → IsUsed (prior ++ t ∷ []) ts n) → (b : Bool) → (times n (premises_of l.body) == 0) ≡ b → IsUsed prior (t ∷ ts) n
+    told more true is =
+        let used = more (grind (arith, nat_tests, is, some, uses_first n l ls)) in
+        let same : (prior ++ t ∷ []) ++ ts ≡ prior ++ t ∷ ts = append_assoc prior (t ∷ []) ts in
+        record {
+          at = suc used.at;
+          tree = used.tree;
+          here = used.here;
+          below = subst (λ (all : List Tree). IsBelow all n used.tree) same used.below;
+          later = omega (arith, used.later, length-append prior (t ∷ []));
+        }
+    told more false is =
+        let below = line_below prior l l.body t n here.tree (grind (arith, nat_tests, is)) in
+        let inside = slice_get_within prior below.at.before below.premise below.at.tree in
+        record { at = 0; tree = t; here = refl; below = below_more prior (t ∷ ts) n t below; later = omega (arith, inside, below.at.number) }
+
+-- ---- up to the root
+some_one : (x y : Tree) → Some x ≡ Some y → x ≡ y
+some_one x y e = cc
+
+climb : (s : Schema) (lines : List Line) (t : Tree) (are : AreNodesOf s lines t) (k i : ℕ) (u : Tree) → length lines ≤ i + k + 1 → slice_get (are.before ++ t ∷ []) i ≡ Some u → depth u ≤ depth t
+climb s lines t are zero i u far here =
+    let all = are.before ++ t ∷ [] in
+    let inside = slice_get_within all i u here in
+    let size : length all ≡ length are.before + 1 = length-append are.before (t ∷ []) in
+    let count = nodes_size s [] lines all are.nodes in
+    let last : i ≡ length are.before = omega (arith, far, inside, size, count) in
+    let same : u ≡ t = some_one u t (sym here ∙ ap (slice_get all) last ∙ seam are.before t []) in
+    omega (arith, ap depth same)
+climb s lines t are (suc k) i u far here = told (climb s lines t are k) (i + 1 == length lines) refl
+  where
+    all : List Tree
+    all = are.before ++ t ∷ []
+
+    told : ((j : ℕ) (v : Tree) → length lines ≤ j + k + 1 → slice_get (are.before ++ t ∷ []) j ≡ Some v → depth v ≤ depth t) → (b : Bool) → (i + 1 == length lines) ≡ b → depth u ≤ depth t
+    told more true is = more i u (grind (arith, nat_tests, is)) here
+    told more false other =
+        let inside = slice_get_within all i u here in
+        let count = nodes_size s [] lines all are.nodes in
+        let once = are.used (i + 1) (omega arith) (grind (arith, nat_tests, other, inside, count)) in
+        let used = user s [] lines all (i + 1) are.nodes (omega (arith, once)) in
+        let at : used.below.at.before ≡ i = omega (arith, used.below.at.number) in
+        let same : used.below.premise ≡ u = some_one used.below.premise u (sym used.below.at.tree ∙ ap (slice_get all) at ∙ here) in
+        omega (arith, more used.at used.tree (omega (arith, far, used.later)) used.here, used.below.less, ap depth same)
+
+pub no_deeper : (s : Schema) (lines : List Line) (t : Tree) (are : AreNodesOf s lines t) (i : ℕ) (u : Tree) → slice_get (are.before ++ t ∷ []) i ≡ Some u → depth u ≤ depth t
+no_deeper s lines t are i u here = climb s lines t are (length lines) i u (omega arith) here

@@ -1,0 +1,188 @@
+-- A line of a certificate is read exactly where the grammar has one.
+use Rattle.std.specs.Prelude.{◌↔◌}
+use Rattle.std.proofs.Common.{◌≡◌, ℕ, false, List, [], ◌∷◌, ◌++◌, Option, Some, None, Ok, refl, sym, ◌∙◌, ap, subst, append_assoc}
+use Rattle.attr_sets.specs.Places.{Places}
+use Rattle.dep_model.specs.Dependencies.{Dependency}
+use Rattle.lexer.specs.declared.token.Mode.TheVariants as mode
+use Rattle.lexer.specs.declared.token.Stop.{Stop}
+use Rattle.lexer.specs.declared.token.TokenKind.{TokenKind}
+use Rattle.lexer.specs.declared.token.TokenKind.TheVariants as token
+use Rattle.lexer.specs.Tokens.{Mark, lex}
+use Rattle.schema_grammar.specs.declared.symbol.Sign.{Sign}
+use Rattle.schema_grammar.specs.declared.symbol.Sign.TheVariants as sign
+use Rattle.schema_grammar.specs.declared.format.Format.TheVariants as format
+use Rattle.schema_grammar.specs.Grammar as grammar
+use Rattle.schema_grammar.specs.Meanings.{IsArrow, IsDependency}
+use Rattle.proof_grammar.specs.Lines.{Body, Line, body, stated_dependency, unless, line}
+use Rattle.proof_grammar.specs.Meanings.{IsNumber, IsColon, IsRule, MeansLine}
+use Rattle.schema_grammar.specs.Rests.{Rest, rest_from, number, arrow, ended, side, arrow_in, is_word}
+use Rattle.proof_grammar.specs.Readers.{colon, rule_name}
+use Rattle.proof_grammar.proofs.SideLaws.{bound, ok_same, ReadsSide, side_there, NoWord, side_back}
+use Rattle.proof_grammar.proofs.TokenLaws.{Reads, behind_of, number_there, colon_there, arrow_there, rest_at, number_back, colon_back, arrow_back}
+use Rattle.proof_grammar.proofs.RuleLaws.{RuleEnds, rule_there, rule_back}
+
+-- ---- the dependency
+arrow_is : (a : Sign) (k : TokenKind) → arrow_in k ≡ Some a → IsArrow a k
+arrow_is sign.Functional token.Arrow e = refl
+arrow_is sign.Multivalued token.DoubleArrow e = refl
+arrow_is _ _ e = cc
+
+is_arrow_in : (s : Sign) (k : TokenKind) → IsArrow s k → arrow_in k ≡ Some s
+is_arrow_in sign.Functional k is = ap arrow_in is
+is_arrow_in sign.Multivalued k is = ap arrow_in is
+
+arrow_other : (s : Sign) (k : TokenKind) → IsArrow s k → is_word k ≡ false
+arrow_other sign.Functional k is = ap is_word is
+arrow_other sign.Multivalued k is = ap is_word is
+
+-- a dependency that is read
+record ReadsDependency (names : List (List ℕ)) (r : Rest) (d : Dependency) (next : Rest) : Type 0 where
+  marks : List Mark
+  whole : r.marks ≡ marks ++ next.marks
+  is : IsDependency format.Plain names marks d
+  stop : next.stop ≡ r.stop
+
+dependency_made : (names : List (List ℕ)) (r left right next : Rest) (a : Sign) (x y : Places) → ReadsSide names r x left → Reads (λ m. arrow_in m.kind ≡ Some a) left right → ReadsSide names right y next
+    → ReadsDependency names r (grammar.stated a x y) next
+dependency_made names r left right next a x y lhs middle rhs = record {
+  marks = lhs.marks ++ middle.mark ∷ rhs.marks;
+  whole = lhs.whole ∙ ap (λ t. lhs.marks ++ t) (middle.takes.marks ∙ ap (λ t. middle.mark ∷ t) rhs.whole) ∙ sym (append_assoc lhs.marks (middle.mark ∷ rhs.marks) next.marks);
+  is = record {
+    lhs = lhs.marks;
+    arrow = middle.mark;
+    rhs = rhs.marks;
+    x = x;
+    y = y;
+    sign = a;
+    whole = refl;
+    left_side = lhs.is_side;
+    is_arrow = arrow_is a middle.mark.kind middle.holds;
+    right_side = rhs.is_side;
+    states = refl;
+  };
+  stop = rhs.stop ∙ middle.takes.stop ∙ lhs.stop;
+}
+
+dependency_there : (names : List (List ℕ)) (r : Rest) (d : Dependency × Rest) → stated_dependency names r ≡ Ok d → ReadsDependency names r d.0 d.1
+unfolding stated_dependency
+dependency_there names r d e =
+    let x = bound (side names r) _ d e in
+    let a = bound (arrow x.value.1) _ d x.goes_on in
+    let y = bound (side names a.value.1) _ d a.goes_on in
+    subst (λ (u : Dependency × Rest). ReadsDependency names r u.0 u.1) (ok_same _ d _ refl y.goes_on)
+    (dependency_made names r x.value.1 a.value.1 _ _ _ _ (side_there names r x.value x.is) (arrow_there x.value.1 a.value a.is) (side_there names a.value.1 y.value y.is))
+
+record DependencyRead (names : List (List ℕ)) (at from : ℕ) (marks tail : List Mark) (d : Dependency) : Type 0 where
+  behind : ℕ
+  read : stated_dependency names (rest_at at from (marks ++ tail)) ≡ Ok (d, rest_at at behind tail)
+
+dependency_back : (names : List (List ℕ)) (at from : ℕ) (marks tail : List Mark) (d : Dependency) → IsDependency format.Plain names marks d → NoWord tail → DependencyRead names at from marks tail d
+unfolding stated_dependency
+dependency_back names at from marks tail d is other =
+    let left = side_back names at from is.lhs (is.arrow ∷ is.rhs ++ tail) None is.x is.left_side (arrow_other is.sign is.arrow.kind is.is_arrow) in
+    let right = side_back names at (behind_of is.arrow) is.rhs tail None is.y is.right_side other in
+    let whole : marks ++ tail ≡ is.lhs ++ (is.arrow ∷ is.rhs ++ tail) = ap (λ t. t ++ tail) is.whole ∙ append_assoc is.lhs (is.arrow ∷ is.rhs) tail in
+    record {
+      behind = right.behind;
+      read = ap (λ t. stated_dependency names (rest_at at from t)) whole
+          ∙ rw (left.read, arrow_back at left.behind is.sign is.arrow (is.rhs ++ tail) (is_arrow_in is.sign is.arrow.kind is.is_arrow), right.read)
+          (ap (λ z. Ok (z, rest_at at right.behind tail)) (sym is.states));
+    }
+
+-- ---- the line
+-- a value that is given only where a line ends
+record Ends (r : Rest) : Type 0 where
+  marks : r.marks ≡ []
+  stop : r.stop ≡ None
+
+unless_there : {X : Type 0} (r : Rest) (x y : X) → unless (ended r) x ≡ Ok y → (x ≡ y) × Ends r
+unfolding ended
+unless_there {X} r x y e = told r.marks r.stop refl refl e
+  where
+    told : (ms : List Mark) (stop : Option Stop) → r.marks ≡ ms → r.stop ≡ stop → unless (ended (record { line = r.line; behind = r.behind; marks = ms; stop = stop })) x ≡ Ok y → (x ≡ y) × Ends r
+    told [] None here there e = (cc, record { marks = here; stop = there })
+    told [] (Some stop) here there e = cc
+    told (m ∷ ms) stop here there e = cc
+
+-- what a line's tokens make
+record ReadsLine (names : List (List ℕ)) (start : Rest) (l : Line) : Type 0 where
+  number : Mark
+  first : Mark
+  stated : List Mark
+  second : Mark
+  rule : List Mark
+  marks : start.marks ≡ number ∷ first ∷ stated ++ second ∷ rule
+  stop : start.stop ≡ None
+  is_number : IsNumber l.number number
+  first_colon : IsColon first
+  dependency : IsDependency format.Plain names stated l.stated
+  second_colon : IsColon second
+  is_rule : IsRule names rule l.body
+
+line_made : (names : List (List ℕ)) (start a b c d last : Rest) (n : ℕ) (s : Dependency) (body : Body) → Reads (IsNumber n) start a → Reads IsColon a b → ReadsDependency names b s c → Reads IsColon c d
+    → RuleEnds names d body last → Ends last → ReadsLine names start (record { number = n; stated = s; body = body })
+line_made names start a b c d last n s body number first dependency second rule end = record {
+  number = number.mark;
+  first = first.mark;
+  stated = dependency.marks;
+  second = second.mark;
+  rule = d.marks;
+  marks = number.takes.marks ∙ ap (λ t. number.mark ∷ t) (first.takes.marks ∙ ap (λ t. first.mark ∷ t) (dependency.whole ∙ ap (λ t. dependency.marks ++ t) second.takes.marks));
+  stop = sym (rule.stop ∙ second.takes.stop ∙ dependency.stop ∙ first.takes.stop ∙ number.takes.stop) ∙ end.stop;
+  is_number = number.holds;
+  first_colon = first.holds;
+  dependency = dependency.is;
+  second_colon = second.holds;
+  is_rule = rule.is_rule end.marks;
+}
+
+line_reads : (names : List (List ℕ)) (start : Rest) (l : Line) → line names start ≡ Ok l → ReadsLine names start l
+unfolding line
+line_reads names start l e =
+    let n = bound (number start) _ l e in
+    let a = bound (colon n.value.1) _ l n.goes_on in
+    let d = bound (stated_dependency names a.value) _ l a.goes_on in
+    let b = bound (colon d.value.1) _ l d.goes_on in
+    let r = bound (rule_name b.value) _ l b.goes_on in
+    let x = bound (body names r.value.0 r.value.1) _ l r.goes_on in
+    let end = unless_there x.value.1 (record { number = n.value.0; stated = d.value.0; body = x.value.0 }) l x.goes_on in
+    subst (ReadsLine names start) end.0
+    (line_made names start n.value.1 a.value d.value.1 b.value x.value.1 n.value.0 d.value.0 x.value.0
+    (number_there start n.value n.is) (colon_there n.value.1 a.value a.is) (dependency_there names a.value d.value d.is) (colon_there d.value.1 b.value b.is)
+    (rule_there names b.value r.value x.value r.is x.is) end.1)
+
+pub line_there : (names : List (List ℕ)) (number : ℕ) (text : List ℕ) (l : Line) → line names (rest_from number 1 (lex mode.Numbered text)) ≡ Ok l → MeansLine names text l
+line_there names number text l e =
+    let reads = line_reads names (rest_from number 1 (lex mode.Numbered text)) l e in
+    record {
+      number = reads.number;
+      first = reads.first;
+      stated = reads.stated;
+      second = reads.second;
+      rule = reads.rule;
+      tokens = λ i. record { marks = reads.marks i; stop = reads.stop i };
+      is_number = reads.is_number;
+      first_colon = reads.first_colon;
+      dependency = reads.dependency;
+      second_colon = reads.second_colon;
+      is_rule = reads.is_rule;
+    }
+
+pub line_back : (names : List (List ℕ)) (number : ℕ) (text : List ℕ) (l : Line) → MeansLine names text l → line names (rest_from number 1 (lex mode.Numbered text)) ≡ Ok l
+unfolding line ended
+line_back names at text l means =
+    let rest = means.stated ++ means.second ∷ means.rule in
+    let d = dependency_back names at (behind_of means.first) means.stated (means.second ∷ means.rule) l.stated means.dependency (ap is_word means.second_colon) in
+    let r = rule_back names at (behind_of means.second) means.rule l.body means.is_rule in
+    ap (λ t. line names (rest_from at 1 t)) means.tokens
+    ∙ rw (
+      number_back at 1 l.number means.number (means.first ∷ rest) means.is_number,
+      colon_back at (behind_of means.number) means.first rest means.first_colon,
+      d.read,
+      colon_back at d.behind means.second means.rule means.second_colon,
+      r.name,
+      r.read,
+    ) refl
+
+pub line_law : (names : List (List ℕ)) (number : ℕ) (text : List ℕ) (l : Line) → (line names (rest_from number 1 (lex mode.Numbered text)) ≡ Ok l) ↔ MeansLine names text l
+line_law names number text l = (line_there names number text l, line_back names number text l)

@@ -1,0 +1,203 @@
+-- The reader behind some lines of a text: what they mean, and at which lines of the text they stand.
+use Rattle.std.proofs.Common.{◌≡◌, ◌<◌, ◌≤◌, ◌+◌, ◌-◌, ◌==◌, ℕ, zero, suc, Bool, true, false, cond, List, [], ◌∷◌, ◌++◌, length, Option, Some, None, Result, Ok, Err, refl, sym, ◌∙◌, ap, subst, arith, length-append, append_assoc}
+use Rattle.std.specs.Prelude.{All, nat_lt, slice_index}
+use Rattle.std.proofs.Math.Seq.{get_or-append_seam}
+use Rattle.std.proofs.lemmas.Bool.Decides.{nat_tests}
+use Rattle.std.proofs.lemmas.List.{append-nil, get_or_append_left}
+use Rattle.std.proofs.lemmas.List.Elements.{All-append}
+use Rattle.dep_model.specs.declared.schema.Schema.{Schema}
+use Rattle.dep_model.specs.Schemas.{names_of}
+use Rattle.derivation.specs.declared.measures.TheConstants.{MOST_LEVELS}
+use Rattle.derivation.specs.Trees.{Tree, depth}
+use Rattle.derivation.proofs.RuleTableLemmas.{the_ok}
+use Rattle.proof_grammar.specs.declared.line_kind.LineKind.TheVariants.{Certificate}
+use Rattle.proof_grammar.specs.Books.{Opened, Ledger, Prepared, prepared, settled, add_line, entered}
+use Rattle.proof_grammar.specs.Complaints.{Complaint, LineComplaint, wrong_number}
+use Rattle.proof_grammar.specs.Lines.{Line}
+use Rattle.proof_grammar.specs.Meanings.{certificate_lines_of, MeansLine, MeanLines}
+use Rattle.schema_grammar.specs.Rests.{◌>>=◌}
+use Rattle.proof_grammar.specs.Spelling.{uses}
+use Rattle.proof_grammar.specs.Texts.{at_line, read_lines}
+use Rattle.proof_grammar.proofs.CheckedLemmas.{bind_ok}
+use Rattle.proof_grammar.proofs.CountedLines.{counted, Counts}
+use Rattle.proof_grammar.proofs.DepthLemmas.{uses_first, nodes_size}
+use Rattle.proof_grammar.proofs.EnteredLaws.{Follows, IsEntered, used_behind}
+use Rattle.proof_grammar.proofs.NodeLemmas.{AreNodes-append, uses-append}
+use Rattle.proof_grammar.proofs.SlotLemmas.{IsSlot, slots_same, slots_size, slot_of_tree, tree_of_slot}
+use Rattle.proof_grammar.specs.Refusals.{StandsAt}
+use Rattle.proof_grammar.specs.Wrongs.{AreRead}
+
+-- ---- what is read of a line
+-- the ledger behind a certificate line, behind which no `yes` may come
+abbrev pub marked : Result Ledger Complaint → Result (Bool × Ledger) Complaint
+marked r = r >>= λ next. Ok (false, next)
+
+-- what is read of a line, and behind it
+abbrev pub read_from : Schema → ℕ → List (List ℕ) → Result (Bool × Ledger) Complaint → Result Tree LineComplaint
+read_from s number texts r = at_line number r >>= λ next. read_lines s next.0 (number + 1) next.1 texts
+
+-- ---- what follows lines
+pub follows_same : (s : Schema) (used other : ℕ → ℕ) (ts : List Tree) (book : Ledger) → ((n : ℕ) → used n ≡ other n) → Follows s used ts book → Follows s other ts book
+follows_same s used other ts book same follows = record {
+  slots = slots_same s used other 0 ts book.unused (λ m h. same m) follows.slots;
+  fresh = λ n h. sym (same n) ∙ follows.fresh n h;
+}
+
+-- no line is used twice
+follows_once : (s : Schema) (used : ℕ → ℕ) (ts : List Tree) (book : Ledger) (n : ℕ) → Follows s used ts book → 0 < n → used n ≤ 1
+follows_once s used ts book n follows low = told (nat_lt (n - 1) (length book.unused)) refl
+  where
+    size : length book.unused ≡ length ts
+    size = slots_size s used 0 ts book.unused follows.slots
+
+    same : 0 + (n - 1) + 1 ≡ n
+    same = omega (arith, low)
+
+    slot : (t : Tree) (o : Option Opened) → IsSlot s (used (0 + (n - 1) + 1)) t o → used n ≤ 1
+    slot t (Some o) is = omega (arith, ap used same, is.0)
+    slot t None is = omega (arith, ap used same, is)
+
+    told : (b : Bool) → nat_lt (n - 1) (length book.unused) ≡ b → used n ≤ 1
+    told true is =
+        let tree = tree_of_slot s used 0 ts book.unused (n - 1) follows.slots (grind (arith, nat_tests, is)) in
+        let found = slot_of_tree s used 0 ts book.unused (n - 1) tree.0 follows.slots tree.1 in
+        slot tree.0 found.slot found.is
+    told false is = omega (arith, follows.fresh n (grind (arith, nat_tests, is, low, size)))
+
+-- the line of the text is kept
+entered_adds : (s : Schema) (at : ℕ) (book next : Ledger) (l : Line) → entered s at book l ≡ Ok next → next.lines ≡ book.lines ++ at ∷ []
+unfolding entered
+entered_adds s at book next l h =
+    let os = book.unused in
+    let add = λ (p : Prepared) (o : Opened). add_line at book.lines p.unused o in
+    let settle = λ (p : Prepared). settled (length os) l p.levels p.outcome in
+    let whole = numbered (l.number == length os + 1) (prepared s os l.stated l.body >>= λ p. settle p >>= λ o. Ok (add p o)) h in
+    let first = bind_ok (prepared s os l.stated l.body) (λ p. settle p >>= λ o. Ok (add p o)) next whole in
+    let second = bind_ok (settle first.0) (λ o. Ok (add first.0 o)) next first.2 in
+    sym (ap (λ (b : Ledger). b.lines) (the_ok {A = Ledger} {E = Complaint} (add first.0 second.0) next second.2))
+  where
+    numbered : (b : Bool) (r : Result Ledger Complaint) → cond b r (Err wrong_number) ≡ Ok next → r ≡ Ok next
+    numbered true r g = g
+    numbered false r g = cc
+
+-- ---- lines and what they mean
+pub mean_size : (names : List (List ℕ)) (texts : List (List ℕ)) (lines : List Line) → MeanLines names texts lines → length texts ≡ length lines
+mean_size names [] [] mean = refl
+mean_size names [] (l ∷ ls) mean = absurd mean
+mean_size names (text ∷ texts) [] mean = absurd mean
+mean_size names (text ∷ texts) (l ∷ ls) mean = ap suc (mean_size names texts ls mean.1)
+
+mean_more : (names : List (List ℕ)) (texts : List (List ℕ)) (lines : List Line) (text : List ℕ) (l : Line) → MeanLines names texts lines → MeansLine names text l
+    → MeanLines names (texts ++ text ∷ []) (lines ++ l ∷ [])
+mean_more names [] [] text l mean means = (means, tt)
+mean_more names [] (m ∷ ms) text l mean means = absurd mean
+mean_more names (t ∷ ts) [] text l mean means = absurd mean
+mean_more names (t ∷ ts) (m ∷ ms) text l mean means = (mean.0, mean_more names ts ms text l mean.1 means)
+
+pub nothing_counts : (fresh : Bool) → counted fresh [] ≡ []
+nothing_counts true = refl
+nothing_counts false = refl
+
+flat : (t : Tree) → depth t ≤ MOST_LEVELS → All (λ u. depth u ≤ MOST_LEVELS) (t ∷ [])
+flat t few zero d h = few
+flat t few (suc k) d h = absurd (omega (arith, h))
+
+-- ---- behind some lines
+-- where a certificate line behind so many others stands in a text
+pub record IsPlace (text : List ℕ) (at i : ℕ) : Type 0 where
+  pub before : List (List ℕ)
+  pub here : List ℕ
+  pub stands : StandsAt text before here at
+  pub count : length (certificate_lines_of before) ≡ i
+
+pub record IsBehind (s : Schema) (text : List ℕ) (before : List (List ℕ)) (fresh : Bool) (lines : List Line) (trees : List Tree) (book : Ledger) : Type 0 where
+  pub counts : (more : List (List ℕ)) → certificate_lines_of (before ++ more) ≡ certificate_lines_of before ++ counted fresh more
+  pub mean : MeanLines (names_of s) (certificate_lines_of before) lines
+  pub read : AreRead s lines trees
+  pub follows : Follows s (λ n. uses n lines) trees book
+  pub size : length book.lines ≡ length trees
+  pub places : (i : ℕ) → i < length book.lines → IsPlace text (slice_index book.lines i) i
+
+pub at_start : (s : Schema) (text : List ℕ) → IsBehind s text [] true [] [] (record { lines = []; unused = [] })
+at_start s text = record {
+  counts = λ more. refl;
+  mean = tt;
+  read = record { nodes = tt; once = λ n h. omega arith; few_lines = omega arith; few_levels = λ k t h. absurd (omega (arith, h)) };
+  follows = record { slots = tt; fresh = λ n low. refl };
+  size = refl;
+  places = λ i h. absurd (omega (arith, h));
+}
+
+-- a line that does not count
+pub passed : (s : Schema) (text : List ℕ) (before : List (List ℕ)) (fresh next : Bool) (lines : List Line) (trees : List Tree) (book : Ledger) (here : List ℕ)
+    → IsBehind s text before fresh lines trees book → ((more : List (List ℕ)) → counted fresh (here ∷ more) ≡ counted next more) → IsBehind s text (before ++ here ∷ []) next lines trees book
+passed s text before fresh next lines trees book here behind skips =
+    let so_far = certificate_lines_of before in
+    let same : certificate_lines_of (before ++ here ∷ []) ≡ so_far =
+    behind.counts (here ∷ []) ∙ ap (λ (ls : List (List ℕ)). so_far ++ ls) (skips [] ∙ nothing_counts next) ∙ append-nil so_far in
+    record {
+      counts = λ more. ap certificate_lines_of (append_assoc before (here ∷ []) more)
+          ∙ behind.counts (here ∷ more)
+          ∙ ap (λ (ls : List (List ℕ)). so_far ++ ls) (skips more)
+          ∙ ap (λ (ls : List (List ℕ)). ls ++ counted next more) (sym same);
+      mean = subst (λ (ls : List (List ℕ)). MeanLines (names_of s) ls lines) (sym same) behind.mean;
+      read = behind.read;
+      follows = behind.follows;
+      size = behind.size;
+      places = behind.places;
+    }
+
+-- where a certificate line counts, it stands behind those before
+pub counts_here : (s : Schema) (text : List ℕ) (before : List (List ℕ)) (fresh : Bool) (lines : List Line) (trees : List Tree) (book : Ledger) (here : List ℕ)
+    → IsBehind s text before fresh lines trees book → Counts Certificate fresh here → certificate_lines_of (before ++ here ∷ []) ≡ certificate_lines_of before ++ here ∷ []
+counts_here s text before fresh lines trees book here behind counts = behind.counts (here ∷ []) ∙ ap (λ (ls : List (List ℕ)). certificate_lines_of before ++ ls) (counts [])
+
+-- a line is entered
+pub one_more : (s : Schema) (text : List ℕ) (before : List (List ℕ)) (fresh : Bool) (lines : List Line) (trees : List Tree) (book : Ledger) (here : List ℕ) (at : ℕ) (l : Line) (u : Tree)
+    (next : Ledger) → IsBehind s text before fresh lines trees book → Counts Certificate fresh here → StandsAt text before here at → MeansLine (names_of s) here l
+    → entered s at book l ≡ Ok next → IsEntered s (λ n. uses n lines) trees l next u → IsBehind s text (before ++ here ∷ []) false (lines ++ l ∷ []) (trees ++ u ∷ []) next
+one_more s text before fresh lines trees book here at l u next behind counts stands means enter is = record {
+  counts = λ more. ap certificate_lines_of (append_assoc before (here ∷ []) more)
+      ∙ behind.counts (here ∷ more)
+      ∙ ap (λ (ls : List (List ℕ)). so_far ++ ls) (counts more)
+      ∙ sym (append_assoc so_far (here ∷ []) (counted false more))
+      ∙ ap (λ (ls : List (List ℕ)). ls ++ counted false more) (sym whole);
+  mean = subst (λ (ls : List (List ℕ)). MeanLines (names_of s) ls (lines ++ l ∷ [])) (sym whole) (mean_more (names_of s) so_far lines here l behind.mean means);
+  read = record {
+    nodes = AreNodes-append s [] lines trees (l ∷ []) (u ∷ []) behind.read.nodes (is.node, tt);
+    once = λ n low. follows_once s (λ n. uses n (lines ++ l ∷ [])) (trees ++ u ∷ []) next n follows low;
+    few_lines = omega (arith, is.few_lines, count, length-append lines (l ∷ []));
+    few_levels = All-append (λ t. depth t ≤ MOST_LEVELS) trees (u ∷ []) behind.read.few_levels (flat u is.few_levels);
+  };
+  follows = follows;
+  size = ap length adds ∙ omega (arith, length-append book.lines (at ∷ []), length-append trees (u ∷ []), behind.size);
+  places = subst (λ (ls : List ℕ). (i : ℕ) → i < length ls → IsPlace text (slice_index ls i) i) (sym adds) (λ i h. place i (nat_lt i (length book.lines)) refl h);
+}
+  where
+    so_far : List (List ℕ)
+    so_far = certificate_lines_of before
+
+    whole : certificate_lines_of (before ++ here ∷ []) ≡ so_far ++ here ∷ []
+    whole = counts_here s text before fresh lines trees book here behind counts
+
+    adds : next.lines ≡ book.lines ++ at ∷ []
+    adds = entered_adds s at book next l enter
+
+    count : length lines ≡ length trees
+    count = nodes_size s [] lines trees behind.read.nodes
+
+    sums : (n : ℕ) → used_behind (λ n. uses n lines) l n ≡ uses n (lines ++ l ∷ [])
+    sums n = omega (arith, uses-append n lines (l ∷ []), uses_first n l [])
+
+    follows : Follows s (λ n. uses n (lines ++ l ∷ [])) (trees ++ u ∷ []) next
+    follows = follows_same s (used_behind (λ n. uses n lines) l) (λ n. uses n (lines ++ l ∷ [])) (trees ++ u ∷ []) next sums is.follows
+
+    place : (i : ℕ) (b : Bool) → nat_lt i (length book.lines) ≡ b → i < length (book.lines ++ at ∷ []) → IsPlace text (slice_index (book.lines ++ at ∷ []) i) i
+    place i true e h =
+        let inside : i < length book.lines = grind (arith, nat_tests, e) in
+        subst (λ (n : ℕ). IsPlace text n i) (sym (get_or_append_left book.lines (at ∷ []) 0 i inside)) (behind.places i inside)
+    place i false e h =
+        let last : length book.lines ≡ i = grind (arith, nat_tests, e, h, length-append book.lines (at ∷ [])) in
+        let value : slice_index (book.lines ++ at ∷ []) i ≡ at = sym (ap (slice_index (book.lines ++ at ∷ [])) last) ∙ get_or-append_seam book.lines at [] 0 in
+        subst (λ (n : ℕ). IsPlace text n i) (sym value)
+        (record { before = before; here = here; stands = stands; count = omega (arith, mean_size (names_of s) so_far lines behind.mean, count, behind.size, last) })

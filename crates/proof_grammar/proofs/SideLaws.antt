@@ -1,0 +1,221 @@
+-- A side of a line is read exactly where the grammar has one.
+use Rattle.std.proofs.Common.{◌≡◌, ◌<◌, ◌+◌, inl, inr, ℕ, Bool, true, false, cond, List, [], ◌∷◌, ◌++◌, length, Option, Some, None, Ok, Err, Result, refl, sym, ◌∙◌, ap, arith}
+use Rattle.std.specs.List.{All}
+use Rattle.std.proofs.lemmas.List.Elements.{All-cons, All-nil, All-head, All-tail}
+use Rattle.attr_sets.specs.Places.{Places, only, union}
+use Rattle.dep_model.specs.Schemas.{place_named}
+use Rattle.lexer.specs.declared.token.Stop.{Stop}
+use Rattle.lexer.specs.declared.token.TokenKind.{TokenKind}
+use Rattle.lexer.specs.declared.token.TokenKind.TheVariants as token
+use Rattle.lexer.specs.Tokens.{Mark}
+use Rattle.schema_grammar.specs.declared.refusal.SchemaRefusal.{SchemaRefusal}
+use Rattle.schema_grammar.specs.declared.refusal.SchemaRefusalKind.TheVariants as kind
+use Rattle.schema_grammar.specs.declared.refusal.What.{What}
+use Rattle.schema_grammar.specs.declared.refusal.What.TheVariants as what
+use Rattle.schema_grammar.specs.declared.format.Format.TheVariants as format
+use Rattle.schema_grammar.specs.Meanings.{named, IsAttribute, IsSide}
+use Rattle.schema_grammar.specs.Refusals.{at}
+use Rattle.schema_grammar.specs.Words.{is_reserved, looked_up, known}
+use Rattle.schema_grammar.proofs.SideLemmas.{union-only, union-none, named-cons, Names}
+use Rattle.schema_grammar.specs.Rests.{place, Rest, ◌>>=◌, take, taken, words_from, side, side_from, is_word}
+
+-- a step of a reading that gives a value: its own value, and what follows
+pub record Bound {A B E : Type 0} (r : Result A E) (next : A → Result B E) (y : B) : Type 0 where
+  pub value : A
+  pub is : r ≡ Ok value
+  pub goes_on : next value ≡ Ok y
+
+pub bound : {A B E : Type 0} (r : Result A E) (next : A → Result B E) (y : B) → (r >>= next) ≡ Ok y → Bound r next y
+bound (Ok x) next y e = record { value = x; is = refl; goes_on = e }
+bound (Err why) next y e = cc
+
+pub ok_same : {X E : Type 0} (x y : X) (r : Result X E) → r ≡ Ok x → r ≡ Ok y → x ≡ y
+ok_same x y r here there = cc
+
+-- ---- one token
+-- what is left of a line before and behind a token
+pub record Takes (r : Rest) (m : Mark) (next : Rest) : Type 0 where
+  pub marks : r.marks ≡ m ∷ next.marks
+  pub stop : next.stop ≡ r.stop
+
+pub take_there : (want : What) (r : Rest) (t : Mark × Rest) → take want r ≡ Ok t → Takes r t.0 t.1
+unfolding take
+take_there want r t e = told r.marks r.stop refl refl e
+  where
+    told : (ms : List Mark) (stop : Option Stop) → r.marks ≡ ms → r.stop ≡ stop → taken want r.line r.behind ms stop ≡ Ok t → Takes r t.0 t.1
+    told [] None here there e = cc
+    told [] (Some stop) here there e = cc
+    told (m ∷ ms) stop here there e =
+        let same = ok_same _ t _ refl e in
+        record {
+          marks = here ∙ ap (λ (u : Mark × Rest). u.0 ∷ u.1.marks) same;
+          stop = sym (ap (λ (u : Mark × Rest). u.1.stop) same) ∙ sym there;
+        }
+
+-- ---- words
+place_there : (names : List (List ℕ)) (line : ℕ) (m : Mark) (a : ℕ) → place names line m ≡ Ok a → Names format.Plain names m.word a
+unfolding looked_up
+place_there names line m a e = told (is_reserved format.Plain m.word) (place_named names m.word) refl refl e
+  where
+    told : (b : Bool) (o : Option ℕ) → is_reserved format.Plain m.word ≡ b → place_named names m.word ≡ o
+        → at line m.column (length m.word) (cond b (Err kind.ReservedName) (known o)) ≡ Ok a → Names format.Plain names m.word a
+    told true o free place e = cc
+    told false None free place e = cc
+    told false (Some c) free place e = record { free = free; place = let same : c ≡ a = cc in place ∙ ap Some same }
+
+place_back : (names : List (List ℕ)) (line : ℕ) (m : Mark) (attribute : IsAttribute format.Plain names m) → place names line m ≡ Ok attribute.place
+unfolding looked_up
+place_back names line m attribute = rw (attribute.free, attribute.known) refl
+
+word_is : (k : TokenKind) → is_word k ≡ true → k ≡ token.Word
+word_is token.Word e = refl
+word_is _ e = cc
+
+-- words that are read, and what they add to a set
+record ReadsWords (names : List (List ℕ)) (acc : Places) (marks : List Mark) (stop : Option Stop) (x : Places) (next : Rest) : Type 0 where
+  words : List Mark
+  whole : marks ≡ words ++ next.marks
+  each : All (IsAttribute format.Plain names) words
+  members : x ≡ union acc (named names words)
+  same_stop : next.stop ≡ stop
+
+words_none : (names : List (List ℕ)) (acc : Places) (r : Rest) (x : Places) (next : Rest) → ◌≡◌ {A = Result (Places × Rest) SchemaRefusal} (Ok (acc, r)) (Ok (x, next)) → ReadsWords names acc r.marks r.stop x next
+words_none names acc r x next e =
+    let same = ok_same _ (x, next) _ refl e in
+    record {
+      words = [];
+      whole = ap (λ (u : Places × Rest). u.1.marks) same;
+      each = All-nil (IsAttribute format.Plain names);
+      members = sym (ap (λ (u : Places × Rest). u.0) same) ∙ sym (union-none acc (named names []) refl);
+      same_stop = sym (ap (λ (u : Places × Rest). u.1.stop) same);
+    }
+
+words_there : (names : List (List ℕ)) (line : ℕ) (acc : Places) (behind : ℕ) (marks : List Mark) (stop : Option Stop) (x : Places) (next : Rest)
+    → words_from names line acc behind marks stop ≡ Ok (x, next) → ReadsWords names acc marks stop x next
+unfolding words_from
+words_there names line acc behind [] stop x next e = words_none names acc _ x next e
+words_there names line acc behind (m ∷ ms) stop x next e =
+    told (is_word m.kind) refl e (λ a. words_there names line (union acc (only a)) (m.column + length m.word) ms stop x next)
+  where
+    told : (b : Bool) → is_word m.kind ≡ b
+        → cond b (place names line m >>= λ a. words_from names line (union acc (only a)) (m.column + length m.word) ms stop) (Ok (acc, record { line = line; behind = behind; marks = m ∷ ms; stop = stop })) ≡ Ok (x, next)
+        → ((a : ℕ) → words_from names line (union acc (only a)) (m.column + length m.word) ms stop ≡ Ok (x, next) → ReadsWords names (union acc (only a)) ms stop x next)
+        → ReadsWords names acc (m ∷ ms) stop x next
+    told true is e more =
+        let here = bound (place names line m) _ (x, next) e in
+        let names_it = place_there names line m here.value here.is in
+        let rest = more here.value here.goes_on in
+        record {
+          words = m ∷ rest.words;
+          whole = ap (λ t. m ∷ t) rest.whole;
+          each = All-cons (IsAttribute format.Plain names) m rest.words (record { word = word_is m.kind is; free = names_it.free; place = here.value; known = names_it.place }) rest.each;
+          members = rest.members ∙ union-only acc (named names rest.words) here.value ∙ ap (union acc) (sym (named-cons names m rest.words here.value names_it.place));
+          same_stop = rest.same_stop;
+        }
+    told false is e more = words_none names acc _ x next e
+
+-- a side that is read
+pub record ReadsSide (names : List (List ℕ)) (r : Rest) (x : Places) (next : Rest) : Type 0 where
+  pub marks : List Mark
+  pub whole : r.marks ≡ marks ++ next.marks
+  pub is_side : IsSide format.Plain names marks x
+  pub stop : next.stop ≡ r.stop
+
+pub side_there : (names : List (List ℕ)) (r : Rest) (s : Places × Rest) → side names r ≡ Ok s → ReadsSide names r s.0 s.1
+unfolding side
+side_there names r s e =
+    let first = bound (take what.Side r) _ s e in
+    told first.value.0 first.value.1 (take_there what.Side r first.value first.is) first.value.0.kind refl first.goes_on
+  where
+    told : (m : Mark) (behind : Rest) → Takes r m behind → (k : TokenKind) → m.kind ≡ k → side_from names m behind k ≡ Ok s → ReadsSide names r s.0 s.1
+    told m behind takes token.Word is e =
+        let here = bound (place names behind.line m) _ s e in
+        let names_it = place_there names behind.line m here.value here.is in
+        let rest = words_there names behind.line (only here.value) behind.behind behind.marks behind.stop s.0 s.1 here.goes_on in
+        record {
+          marks = m ∷ rest.words;
+          whole = takes.marks ∙ ap (λ t. m ∷ t) rest.whole;
+          is_side = inr (record {
+            some = omega arith;
+            each = All-cons (IsAttribute format.Plain names) m rest.words (record { word = is; free = names_it.free; place = here.value; known = names_it.place }) rest.each;
+            members = rest.members ∙ sym (named-cons names m rest.words here.value names_it.place);
+          });
+          stop = rest.same_stop ∙ takes.stop;
+        }
+    told m behind takes token.Empty is e =
+        let same = ok_same _ s _ refl e in
+        record {
+          marks = m ∷ [];
+          whole = takes.marks ∙ ap (λ (u : Places × Rest). m ∷ u.1.marks) same;
+          is_side = inl (record {
+            column = m.column;
+            bytes = m.word;
+            alone = ap (λ (k : TokenKind). record { kind = k; column = m.column; word = m.word } ∷ []) is;
+            nothing = sym (ap (λ (u : Places × Rest). u.0) same);
+          });
+          stop = sym (ap (λ (u : Places × Rest). u.1.stop) same) ∙ takes.stop;
+        }
+    told m behind takes _ is e = cc
+
+-- ---- back
+-- what stands behind words is no word
+abbrev pub NoWord : List Mark → Type 0
+NoWord [] = Unit {0}
+NoWord (m ∷ ms) = is_word m.kind ≡ false
+
+record WordsRead (names : List (List ℕ)) (line : ℕ) (acc : Places) (from : ℕ) (words tail : List Mark) (stop : Option Stop) (x : Places) : Type 0 where
+  behind : ℕ
+  read : words_from names line acc from (words ++ tail) stop ≡ Ok (x, record { line = line; behind = behind; marks = tail; stop = stop })
+
+words_end : (names : List (List ℕ)) (line : ℕ) (acc : Places) (from : ℕ) (tail : List Mark) (stop : Option Stop) → NoWord tail
+    → words_from names line acc from tail stop ≡ Ok (acc, record { line = line; behind = from; marks = tail; stop = stop })
+unfolding words_from
+words_end names line acc from [] stop other = refl
+words_end names line acc from (m ∷ ms) stop other = rw other refl
+
+word_back : (names : List (List ℕ)) (line : ℕ) (acc : Places) (from : ℕ) (m : Mark) (ms : List Mark) (stop : Option Stop) (attribute : IsAttribute format.Plain names m)
+    → words_from names line acc from (m ∷ ms) stop ≡ words_from names line (union acc (only attribute.place)) (m.column + length m.word) ms stop
+unfolding words_from
+word_back names line acc from m ms stop attribute = rw (attribute.word, place_back names line m attribute) refl
+
+words_back : (names : List (List ℕ)) (line : ℕ) (acc : Places) (from : ℕ) (words tail : List Mark) (stop : Option Stop) → All (IsAttribute format.Plain names) words → NoWord tail
+    → WordsRead names line acc from words tail stop (union acc (named names words))
+unfolding words_from
+words_back names line acc from [] tail stop each other = record {
+  behind = from;
+  read = words_end names line acc from tail stop other ∙ ap (λ (x : Places). Ok (x, record { line = line; behind = from; marks = tail; stop = stop })) (sym (union-none acc (named names []) refl));
+}
+words_back names line acc from (m ∷ words) tail stop each other =
+    let here : IsAttribute format.Plain names m = All-head (IsAttribute format.Plain names) m words each in
+    let there : All (IsAttribute format.Plain names) words = All-tail (IsAttribute format.Plain names) m words each in
+    let rest = words_back names line (union acc (only here.place)) (m.column + length m.word) words tail stop there other in
+    let members = union-only acc (named names words) here.place ∙ ap (union acc) (sym (named-cons names m words here.place here.known)) in
+    record {
+      behind = rest.behind;
+      read = word_back names line acc from m (words ++ tail) stop here ∙ rest.read ∙ ap (λ (x : Places). Ok (x, record { line = line; behind = rest.behind; marks = tail; stop = stop })) members;
+    }
+
+-- a side that is read from a column
+pub record SideRead (names : List (List ℕ)) (line from : ℕ) (marks tail : List Mark) (stop : Option Stop) (x : Places) : Type 0 where
+  pub behind : ℕ
+  pub read : side names (record { line = line; behind = from; marks = marks ++ tail; stop = stop }) ≡ Ok (x, record { line = line; behind = behind; marks = tail; stop = stop })
+
+side_begun : (names : List (List ℕ)) (line from : ℕ) (m : Mark) (ms : List Mark) (stop : Option Stop) (attribute : IsAttribute format.Plain names m)
+    → side names (record { line = line; behind = from; marks = m ∷ ms; stop = stop }) ≡ words_from names line (only attribute.place) (m.column + length m.word) ms stop
+unfolding side take
+side_begun names line from m ms stop attribute = rw (attribute.word, place_back names line m attribute) refl
+
+pub side_back : (names : List (List ℕ)) (line from : ℕ) (marks tail : List Mark) (stop : Option Stop) (x : Places) → IsSide format.Plain names marks x → NoWord tail
+    → SideRead names line from marks tail stop x
+unfolding side take
+side_back names line from marks tail stop x (inl empty) other = record { behind = empty.column + length empty.bytes; read = rw (empty.alone, empty.nothing) refl }
+side_back names line from [] tail stop x (inr words) other = let some : 0 < 0 = words.some in absurd (omega arith)
+side_back names line from (m ∷ marks) tail stop x (inr words) other =
+    let here : IsAttribute format.Plain names m = All-head (IsAttribute format.Plain names) m marks words.each in
+    let there : All (IsAttribute format.Plain names) marks = All-tail (IsAttribute format.Plain names) m marks words.each in
+    let rest = words_back names line (only here.place) (m.column + length m.word) marks tail stop there other in
+    let members = sym (named-cons names m marks here.place here.known) ∙ sym words.members in
+    record {
+      behind = rest.behind;
+      read = side_begun names line from m (marks ++ tail) stop here ∙ rest.read ∙ ap (λ (z : Places). Ok (z, record { line = line; behind = rest.behind; marks = tail; stop = stop })) members;
+    }

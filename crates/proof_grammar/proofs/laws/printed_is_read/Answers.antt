@@ -1,0 +1,5 @@
+use Rattle.proof_grammar.proofs.ReadBack.{printed_is_read, answered_is_read}
+use Rattle.proof_grammar.proofs.laws.printed_is_read.Goals as goal
+
+pub returns : goal.returns
+returns c = record { printed = printed_is_read; answered = answered_is_read }

@@ -1,0 +1,65 @@
+-- The laws that tie the reading of a certificate to what it spells, and what printed certificates spell.
+use Rattle.std.specs.Prelude.{◌≡◌, ◌≤◌, ◌↔◌, ℕ, List, ◌++◌, length, codes, Ok, Err}
+use Rattle.dep_model.specs.declared.schema.Schema.{Schema}
+use Rattle.dep_model.specs.Dependencies.{Dependency}
+use Rattle.dep_model.specs.Schemas.{names_of}
+use Rattle.derivation.specs.declared.deriv.Deriv.{Deriv}
+use Rattle.derivation.specs.declared.measures.TheConstants.{MOST_NODES, MOST_LEVELS}
+use Rattle.derivation.specs.Conclusions.{Proves}
+use Rattle.derivation.specs.Derivs.{tree_of}
+use Rattle.derivation.specs.Trees.{Tree, nodes, depth}
+use Rattle.lexer.specs.declared.token.Mode.TheVariants as mode
+use Rattle.lexer.specs.Tokens.{lex}
+use Rattle.schema_grammar.specs.declared.format.Format.TheVariants as format
+use Rattle.schema_grammar.specs.Printed.{AreNames}
+use Rattle.schema_grammar.specs.Rests.{rest_from}
+use Rattle.proof_grammar.specs.Complaints.{LineComplaint}
+use Rattle.proof_grammar.specs.Lines.{Line, line}
+use Rattle.proof_grammar.specs.Meanings.{MeansLine}
+use Rattle.proof_grammar.specs.Printable.{IsPrintableLine}
+use Rattle.proof_grammar.specs.Printing.{line_text, lines_behind, canonical_certificate}
+use Rattle.proof_grammar.specs.Refusals.{IsRefused}
+use Rattle.proof_grammar.specs.Spelling.{AreNodesOf, Spells, SpellsWithin}
+use Rattle.proof_grammar.specs.Texts.{read_proof}
+
+-- ---- reading
+abbrev pub LineMeaning : Type 0
+LineMeaning =
+    (names : List (List ℕ)) (number : ℕ) (text : List ℕ) (l : Line)
+    → (line names (rest_from number 1 (lex mode.Numbered text)) ≡ Ok l) ↔ MeansLine names text l
+
+abbrev pub SpelledIsRead : Type 0
+SpelledIsRead = (s : Schema) (text : List ℕ) (t : Tree) → (read_proof s text ≡ Ok t) ↔ SpellsWithin s text t
+
+abbrev pub OneTree : Type 0
+OneTree = (s : Schema) (text : List ℕ) (t u : Tree) → Spells s text t → Spells s text u → t ≡ u
+
+abbrev pub LinesAreNodes : Type 0
+LinesAreNodes = (s : Schema) (text : List ℕ) (t : Tree) (w : Spells s text t) → length w.lines ≡ nodes t
+
+abbrev pub RefusedAsTold : Type 0
+RefusedAsTold = (s : Schema) (text : List ℕ) (e : LineComplaint) → (read_proof s text ≡ Err e) ↔ IsRefused s text e
+
+-- ---- printing
+abbrev pub PrintedLineMeans : Type 0
+PrintedLineMeans =
+    (names : List (List ℕ)) (l : Line) → AreNames format.Plain names → IsPrintableLine names l
+    → (text : List ℕ) × (line_text names l ≡ text ++ codes "\n") × MeansLine names text l
+
+abbrev pub PrintedNodes : Type 0
+PrintedNodes =
+    (s : Schema) (p : Deriv) (d : Dependency) → Proves s (tree_of p) d
+    → AreNodesOf s (lines_behind s 0 (tree_of p)) (tree_of p) × (length (lines_behind s 0 (tree_of p)) ≡ nodes (tree_of p))
+
+-- what is printed of a derivation after these bytes spells its tree
+abbrev pub PrintedSpells : List ℕ → Type 0
+PrintedSpells before =
+    (s : Schema) (p : Deriv) (d : Dependency) → AreNames format.Plain (names_of s) → Proves s (tree_of p) d
+    → nodes (tree_of p) ≤ MOST_NODES → Spells s (before ++ canonical_certificate s (tree_of p)) (tree_of p)
+
+-- and is read as it
+abbrev pub PrintedIsRead : List ℕ → Type 0
+PrintedIsRead before =
+    (s : Schema) (p : Deriv) (d : Dependency) → AreNames format.Plain (names_of s) → Proves s (tree_of p) d
+    → nodes (tree_of p) ≤ MOST_NODES → depth (tree_of p) ≤ MOST_LEVELS
+    → read_proof s (before ++ canonical_certificate s (tree_of p)) ≡ Ok (tree_of p)

@@ -1,0 +1,16 @@
+pub mod Books
+pub mod Checked
+pub mod Complaints
+pub mod Laws
+pub mod Ledgers
+pub mod Lines
+pub mod Meanings
+pub mod Nodes
+pub mod Printable
+pub mod Printing
+pub mod Readers
+pub mod Refusals
+pub mod Spelling
+pub mod Texts
+pub mod Tokens
+pub mod Wrongs

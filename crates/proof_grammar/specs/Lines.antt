@@ -1,0 +1,91 @@
+use Rattle.std.specs.Prelude.{ℕ, List, Option, Some, None, Result, Ok, Err}
+use Rattle.attr_sets.specs.Places.{Places}
+use Rattle.dep_model.specs.Dependencies.{Dependency, fd, mvd}
+use Rattle.dep_model.specs.Deps.{dependency_of}
+use Rattle.derivation.specs.Trees.{Step, augmentation, maugmentation, complementation, replication, Pair, transitivity, mtransitivity, coalescence}
+use Rattle.derivation.specs.Derivs.{step_of, pair_of}
+use Rattle.schema_grammar.specs.declared.refusal.SchemaRefusal.{SchemaRefusal}
+use Rattle.proof_grammar.specs.declared.rule_name.RuleName.{RuleName}
+use Rattle.proof_grammar.specs.declared.rule_name.RuleName.TheVariants as rule
+use Rattle.schema_grammar.specs.Grammar as grammar
+use Rattle.schema_grammar.specs.Rests.{Rest, ◌>>=◌, number, arrow, ended, side}
+use Rattle.proof_grammar.specs.Readers.{colon, with_word, rule_name}
+
+-- what a line says of its dependency: the rule, and the lines of its premises
+pub data Body : Type 0 where
+  by_given : ℕ → Body
+  by_reflexivity : Body
+  by_mreflexivity : Body
+  by_step : Step → ℕ → Body
+  by_pair : Pair → ℕ → ℕ → Body
+
+-- a line of a certificate
+pub record Line : Type 0 where
+  pub number : ℕ
+  pub stated : Dependency
+  pub body : Body
+
+unfoldable pub one : Step → Rest → Result (Body × Rest) SchemaRefusal
+one r start = do
+  p ← number start
+  Ok (by_step r p.0, p.1)
+
+unfoldable pub two : Pair → Rest → Result (Body × Rest) SchemaRefusal
+two r start = do
+  p ← number start
+  q ← number p.1
+  Ok (by_pair r p.0 q.0, q.1)
+
+unfoldable pub augmented : List (List ℕ) → Rest → Result (Body × Rest) SchemaRefusal
+augmented names start = do
+  p ← number start
+  w ← with_word p.1
+  z ← side names w
+  Ok (by_step (augmentation z.0) p.0, z.1)
+
+unfoldable pub maugmented : List (List ℕ) → Rest → Result (Body × Rest) SchemaRefusal
+maugmented names start = do
+  p ← number start
+  w ← with_word p.1
+  wide ← side names w
+  c ← colon wide.1
+  narrow ← side names c
+  Ok (by_step (maugmentation wide.0 narrow.0) p.0, narrow.1)
+
+unfoldable pub body : List (List ℕ) → RuleName → Rest → Result (Body × Rest) SchemaRefusal
+body names rule.Given start = do
+  k ← number start
+  Ok (by_given k.0, k.1)
+body names rule.Reflexivity start = Ok (by_reflexivity, start)
+body names rule.MReflexivity start = Ok (by_mreflexivity, start)
+body names rule.Augmentation start = augmented names start
+body names rule.MAugmentation start = maugmented names start
+body names rule.Complementation start = one complementation start
+body names rule.Replication start = one replication start
+body names rule.Transitivity start = two transitivity start
+body names rule.MTransitivity start = two mtransitivity start
+body names rule.Coalescence start = two coalescence start
+
+-- side, arrow, side
+unfoldable pub stated_dependency : List (List ℕ) → Rest → Result (Dependency × Rest) SchemaRefusal
+stated_dependency names start = do
+  x ← side names start
+  a ← arrow x.1
+  y ← side names a.1
+  Ok (grammar.stated a.0 x.0 y.0, y.1)
+
+-- a value, unless the line does not end here
+abbrev pub unless : {A : Type 0} → Option SchemaRefusal → A → Result A SchemaRefusal
+unless None x = Ok x
+unless (Some e) x = Err e
+
+-- number, `:`, a dependency, `:`, the rule
+unfoldable pub line : List (List ℕ) → Rest → Result Line SchemaRefusal
+line names start = do
+  n ← number start
+  c ← colon n.1
+  d ← stated_dependency names c
+  e ← colon d.1
+  r ← rule_name e
+  b ← body names r.0 r.1
+  unless (ended b.1) (record { number = n.0; stated = d.0; body = b.0 })

@@ -1,0 +1,27 @@
+use Rattle.std.specs.Prelude.{ℕ, ◌==◌, ◌-◌, Bool, false, ◌&&◌, if◌then◌else◌, Result, Ok, Err}
+use Rattle.attr_sets.specs.Sets.{is_same}
+use Rattle.dep_model.specs.declared.dep.Dep.{Dep}
+use Rattle.dep_model.specs.declared.schema.Schema.{Schema}
+use Rattle.dep_model.specs.Dependencies.{Dependency, fd, mvd}
+use Rattle.dep_model.specs.Deps.{dependency_of}
+use Rattle.derivation.specs.declared.deriv.Deriv.{Deriv}
+use Rattle.derivation.specs.declared.fault.FaultKind.{FaultKind}
+use Rattle.derivation.specs.declared.fault.FaultKind.TheVariants.{NoSuchGiven}
+use Rattle.derivation.specs.Trees.{Tree, leaf, given}
+use Rattle.derivation.specs.Derivs.{tree_of}
+use Rattle.derivation.specs.Table.{leaf_conclusion}
+
+-- a tree with what its root concludes
+abbrev pub with_tree : Tree → Result Dependency FaultKind → Result (Tree × Dependency) FaultKind
+with_tree t (Ok d) = Ok (t, d)
+with_tree t (Err why) = Err why
+
+-- the dependency of this number, from 1
+abbrev pub given_outcome : Schema → ℕ → Result (Tree × Dependency) FaultKind
+given_outcome s k = if k == 0 then Err NoSuchGiven else with_tree (leaf (given (k - 1))) (leaf_conclusion s (given (k - 1)))
+
+-- whether two dependencies are one
+abbrev pub same_dependency : Dependency → Dependency → Bool
+same_dependency (fd x y) (fd v w) = is_same x v && is_same y w
+same_dependency (mvd x y) (mvd v w) = is_same x v && is_same y w
+same_dependency _ _ = false

@@ -1,0 +1,83 @@
+-- Why a certificate is refused, and at which line of the text.
+use Rattle.std.specs.Prelude.{◌≡◌, ◌⊎◌, ◌<◌, ℕ, ◌+◌, List, [], ◌∷◌, ◌++◌, length, Err, MatchOption}
+use Rattle.dep_model.specs.declared.schema.Schema.{Schema}
+use Rattle.dep_model.specs.Schemas.{names_of}
+use Rattle.derivation.specs.Trees.{Tree}
+use Rattle.lexer.specs.declared.token.Mode.TheVariants as mode
+use Rattle.lexer.specs.Lines.{line_texts, without_mark}
+use Rattle.lexer.specs.Tokens.{lex}
+use Rattle.schema_grammar.specs.declared.refusal.SchemaRefusal.{SchemaRefusal}
+use Rattle.proof_grammar.specs.declared.refusal.ProofRefusal.{ProofRefusal}
+use Rattle.proof_grammar.specs.Complaints.{Complaint, LineComplaint, bad_line, never_used, empty_proof, complaint_of}
+use Rattle.proof_grammar.specs.Lines.{Line, line}
+use Rattle.proof_grammar.specs.Meanings.{certificate_lines_of, certificate_lines, MeansLine, MeanLines}
+use Rattle.schema_grammar.specs.Rests.{rest_from}
+use Rattle.proof_grammar.specs.Spelling.{uses}
+use Rattle.proof_grammar.specs.Wrongs.{AreRead, IsFirstWrong}
+
+-- a certificate line stands in this line of a text, behind those of the lines before
+pub record StandsAt (text : List ℕ) (before : List (List ℕ)) (here : List ℕ) (at : ℕ) : Type 0 where
+  pub after : List (List ℕ)
+  pub cut : line_texts (without_mark text) ≡ before ++ here ∷ after
+  pub number : at ≡ length before + 1
+  pub counts : certificate_lines_of (before ++ here ∷ []) ≡ certificate_lines_of before ++ here ∷ []
+
+-- ---- at a line
+-- the grammar refuses the line
+pub record IsBadLine (names : List (List ℕ)) (here : List ℕ) (at : ℕ) (c : Complaint) : Type 0 where
+  pub refusal : SchemaRefusal
+  pub grammar : line names (rest_from at 1 (lex mode.Numbered here)) ≡ Err refusal
+  pub is : c ≡ bad_line refusal
+
+-- or it means a line, with which something is wrong
+pub record IsWrongLine (s : Schema) (lines : List Line) (trees : List Tree) (here : List ℕ) (c : Complaint) : Type 0 where
+  pub line : Line
+  pub means : MeansLine (names_of s) here line
+  pub wrong : IsFirstWrong s lines trees line c
+
+-- the lines before are read, and this one is refused
+pub record IsRefusedAt (s : Schema) (text : List ℕ) (e : LineComplaint) : Type 0 where
+  pub before : List (List ℕ)
+  pub here : List ℕ
+  pub stands : StandsAt text before here e.line
+  pub lines : List Line
+  pub trees : List Tree
+  pub mean : MeanLines (names_of s) (certificate_lines_of before) lines
+  pub read : AreRead s lines trees
+  pub why : IsBadLine (names_of s) here e.line e.complaint ⊎ IsWrongLine s lines trees here e.complaint
+
+-- ---- at the end
+-- there is no line; this is told at the last line of the text
+pub record IsEmptyProof (text : List ℕ) (lines : List Line) (e : LineComplaint) : Type 0 where
+  pub none : lines ≡ []
+  pub at : e.line ≡ length (line_texts (without_mark text))
+  pub is : e.complaint ≡ empty_proof
+
+-- the first line but the last that no line uses; it is told at its line of the text
+pub record IsNeverUsed (text : List ℕ) (lines : List Line) (e : LineComplaint) : Type 0 where
+  pub number : ℕ
+  pub some : 0 < number
+  pub not_last : number < length lines
+  pub unused : uses number lines ≡ 0
+  pub first : (n : ℕ) → 0 < n → n < number → uses n lines ≡ 1
+  pub before : List (List ℕ)
+  pub here : List ℕ
+  pub stands : StandsAt text before here e.line
+  pub is_number : number ≡ length (certificate_lines_of before) + 1
+  pub is : e.complaint ≡ never_used
+
+-- all lines are read, and they are not the nodes of one tree
+pub record IsUnfinished (s : Schema) (text : List ℕ) (e : LineComplaint) : Type 0 where
+  pub lines : List Line
+  pub trees : List Tree
+  pub mean : MeanLines (names_of s) (certificate_lines text) lines
+  pub read : AreRead s lines trees
+  pub why : IsEmptyProof text lines e ⊎ IsNeverUsed text lines e
+
+-- a certificate is refused so
+abbrev pub IsRefused : Schema → List ℕ → LineComplaint → Type 0
+IsRefused s text e = IsRefusedAt s text e ⊎ IsUnfinished s text e
+
+-- the same of a refusal, which may be want of memory
+abbrev pub RefusesProof : Schema → List ℕ → ProofRefusal → Type 0
+RefusesProof s text e = MatchOption (complaint_of e.kind) (Unit {0}) (λ c. IsRefused s text (record { line = e.line; complaint = c }))

@@ -1,5 +1,0 @@
-use Rattle.proof_laws.proofs.ReadBack.{printed_is_read, answered_is_read}
-use Rattle.proof_laws.proofs.printed_certificate.is_read.Goals as goal
-
-pub returns : goal.returns
-returns c = record { printed = printed_is_read; answered = answered_is_read }

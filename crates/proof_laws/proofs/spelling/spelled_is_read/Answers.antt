@@ -1,5 +1,0 @@
-use Rattle.proof_laws.proofs.CertificateLaws.{spelled_there, spelled_back}
-use Rattle.proof_laws.proofs.spelling.spelled_is_read.Goals as goal
-
-pub returns : goal.returns
-returns c = record { law = λ s text t. (spelled_there s text t, spelled_back s text t) }

@@ -1,8 +1,0 @@
-pub mod EnteredRefusals
-pub mod FinishedRefusals
-pub mod PlaceLemmas
-pub mod PreparedRefusals
-pub mod ReadLines
-pub mod TextRefusals
-pub mod WalkedLines
-pub mod WrongLemmas

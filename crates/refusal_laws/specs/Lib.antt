@@ -1,2 +1,0 @@
-pub mod Wrongs
-pub mod Refusals

@@ -1,0 +1,246 @@
+use Rattle.std.proofs.Common.{◌≡◌, ◌<◌, ◌+◌, ◌-◌, inl, inr, ℕ, Bool, true, false, cond, List, [], ◌∷◌, length, Option, Some, None, Ok, Err, Result, refl, sym, ◌∙◌, ap, arith, ◌==◌}
+use Rattle.std.specs.Option.{is_some}
+use Rattle.std.specs.Result.{IfOk}
+use Rattle.std.specs.Prelude.{nat_le}
+use Rattle.std.proofs.lemmas.Bool.{leb-false}
+use Rattle.std.proofs.lemmas.Bool.Decides.{nat_tests}
+use Rattle.attr_sets.specs.declared.set.TheConstants.{PLACES}
+use Rattle.dep_model.specs.declared.column.Column.{Column}
+use Rattle.dep_model.specs.declared.schema.TheConstants.{MOST_DEPENDENCIES}
+use Rattle.dep_model.specs.Dependencies.{Dependency}
+use Rattle.dep_model.specs.Schemas.{place_named}
+use Rattle.lexer.specs.declared.token.Mode.TheVariants as mode
+use Rattle.lexer.specs.declared.token.Stop.{Stop}
+use Rattle.lexer.specs.declared.token.TokenKind.{TokenKind}
+use Rattle.lexer.specs.declared.token.TokenKind.TheVariants as token
+use Rattle.lexer.specs.Tokens.{Mark, Lexed, lex}
+use Rattle.schema_grammar.specs.declared.refusal.SchemaRefusalKind.{SchemaRefusalKind}
+use Rattle.schema_grammar.specs.declared.refusal.SchemaRefusalKind.TheVariants as kind
+use Rattle.schema_grammar.specs.declared.format.Format.{Format}
+use Rattle.schema_grammar.specs.Declarations.{Declarations, add_name, add_dependency, declare, name_step, list_names, begin, dependency_line, line_from, line_of_marks, read_line}
+use Rattle.schema_grammar.specs.Grammar.{start}
+use Rattle.schema_grammar.specs.Meanings.{HasTokens}
+use Rattle.schema_grammar.specs.Reading.{step, follow}
+use Rattle.schema_grammar.specs.Refusals.{at, and_then, refusal}
+use Rattle.schema_grammar.specs.Schemas.{IsNewName, DeclareNames, IsDeclaring, IsStating, MeansTextLine, MeansLines}
+use Rattle.schema_grammar.specs.Texts.{finish, read_lines}
+use Rattle.schema_grammar.specs.Words.{is_reserved, declares}
+use Rattle.schema_grammar.proofs.GoalLaws.{dependency-law, any_ok, stopped}
+use Rattle.schema_grammar.proofs.RefusalLemmas.{ok_at}
+use Rattle.schema_grammar.proofs.WithinLemmas.{and_then_ok}
+
+-- a value behind two steps comes from one behind the first
+pub record Steps {X Y E : Type 0} (r : Result X E) (next : X → Result Y E) (y : Y) : Type 0 where
+  pub x : X
+  pub first : r ≡ Ok x
+  pub second : next x ≡ Ok y
+
+pub steps : {X Y E : Type 0} (r : Result X E) (next : X → Result Y E) (y : Y) → and_then r next ≡ Ok y → Steps r next y
+steps (Ok x) next y e = record { x = x; first = refl; second = e }
+steps (Err why) next y e = cc
+
+placed : {X : Type 0} (line column size : ℕ) (r : Result X SchemaRefusalKind) (x : X) → at line column size r ≡ Ok x → r ≡ Ok x
+placed line column size (Ok y) x e = let same : y ≡ x = cc in ap Ok same
+placed line column size (Err why) x e = cc
+
+unless_ok : {X : Type 0} (b : Bool) (why : SchemaRefusalKind) (r : Result X SchemaRefusalKind) (x : X) → cond b (Err why) r ≡ Ok x → (b ≡ false) × (r ≡ Ok x)
+unless_ok true why r x e = cc
+unless_ok false why r x e = (refl, e)
+
+is_none : (o : Option ℕ) → is_some o ≡ false → o ≡ None
+is_none None e = refl
+is_none (Some a) e = cc
+
+leb-refuses : (a b : ℕ) → b < a → nat_le a b ≡ false
+leb-refuses a b h = grind (arith, nat_tests)
+
+declares_name : (f : Format) (column : Column) (d whole : Declarations) (some : Bool) (m : Mark) → name_step f column d some m.kind m.word ≡ Ok whole
+    → IsNewName f d m × (whole ≡ add_name d m.word column)
+unfolding declare
+declares_name f column d whole some m e = told m.kind refl e
+  where
+    word : m.kind ≡ token.Word → declare f column d m.word ≡ Ok whole → IsNewName f d m × (whole ≡ add_name d m.word column)
+    word is e =
+        let free = unless_ok (is_reserved f m.word) kind.ReservedName _ whole e in
+        let new = unless_ok (is_some (place_named d.names m.word)) kind.DoubleName _ whole free.1 in
+        let room = unless_ok (nat_le PLACES (length d.names)) kind.TooManyAttributes (Ok (add_name d m.word column)) whole new.1 in
+        (record { word = is; free = free.0; new = is_none _ new.0; room = leb-false _ _ room.0 }, (let same : Ok whole ≡ Ok (add_name d m.word column) = sym room.1 in cc))
+
+    told : (k : TokenKind) → m.kind ≡ k → name_step f column d some k m.word ≡ Ok whole → IsNewName f d m × (whole ≡ add_name d m.word column)
+    told token.Word is e = word is e
+    told (token.Number n) is e = cc
+    told token.Arrow is e = cc
+    told token.DoubleArrow is e = cc
+    told token.Empty is e = cc
+    told token.Colon is e = cc
+
+name_declared : (f : Format) (column : Column) (d : Declarations) (some : Bool) (m : Mark) → IsNewName f d m → name_step f column d some m.kind m.word ≡ Ok (add_name d m.word column)
+unfolding declare
+name_declared f column d some m new =
+    let room = leb-refuses PLACES (length d.names) new.room in rw (new.word, new.free, new.new, room) refl
+
+-- names behind a declaring word are read exactly where each is a new one
+names_there : (f : Format) (column : Column) (line : ℕ) (d whole : Declarations) (behind : ℕ) (ms : List Mark)
+    → list_names f column line d true behind ms None ≡ Ok whole → DeclareNames f column d ms whole
+unfolding list_names
+names_there f column line d whole behind [] e = cc
+names_there f column line d whole behind (m ∷ ms) e =
+    let two = steps (at line m.column (length m.word) (name_step f column d true m.kind m.word)) _ whole e in
+    let first = declares_name f column d two.x true m (placed line m.column (length m.word) _ two.x two.first) in
+    let rest : list_names f column line (add_name d m.word column) true (m.column + length m.word) ms None ≡ Ok whole
+    = ap (λ n. list_names f column line n true (m.column + length m.word) ms None) (sym first.1) ∙ two.second in
+    (first.0, names_there f column line (add_name d m.word column) whole (m.column + length m.word) ms rest)
+
+names_back : (f : Format) (column : Column) (line : ℕ) (d whole : Declarations) (behind : ℕ) (ms : List Mark)
+    → DeclareNames f column d ms whole → list_names f column line d true behind ms None ≡ Ok whole
+unfolding list_names
+names_back f column line d whole behind [] e = cc
+names_back f column line d whole behind (m ∷ ms) (new, rest) =
+    let first = name_declared f column d true m new in
+    rw first (names_back f column line (add_name d m.word column) whole (m.column + length m.word) ms rest)
+
+first_there : (f : Format) (column : Column) (line : ℕ) (d whole : Declarations) (behind : ℕ) (ms : List Mark)
+    → list_names f column line d false behind ms None ≡ Ok whole → (0 < length ms) × DeclareNames f column d ms whole
+unfolding list_names
+first_there f column line d whole behind [] e = cc
+first_there f column line d whole behind (m ∷ ms) e =
+    let two = steps (at line m.column (length m.word) (name_step f column d false m.kind m.word)) _ whole e in
+    let first = declares_name f column d two.x false m (placed line m.column (length m.word) _ two.x two.first) in
+    let rest : list_names f column line (add_name d m.word column) true (m.column + length m.word) ms None ≡ Ok whole
+    = ap (λ n. list_names f column line n true (m.column + length m.word) ms None) (sym first.1) ∙ two.second in
+    (omega arith, (first.0, names_there f column line (add_name d m.word column) whole (m.column + length m.word) ms rest))
+
+first_back : (f : Format) (column : Column) (line : ℕ) (d whole : Declarations) (behind : ℕ) (ms : List Mark)
+    → 0 < length ms → DeclareNames f column d ms whole → list_names f column line d false behind ms None ≡ Ok whole
+unfolding list_names
+first_back f column line d whole behind [] some e = absurd (omega arith)
+first_back f column line d whole behind (m ∷ ms) some (new, rest) =
+    let first = name_declared f column d false m new in
+    rw first (names_back f column line (add_name d m.word column) whole (m.column + length m.word) ms rest)
+
+names_stopped : (f : Format) (column : Column) (line : ℕ) (d : Declarations) (some : Bool) (behind : ℕ) (ms : List Mark) (stop : Stop)
+    → IfOk (list_names f column line d some behind ms (Some stop)) (λ _. ⊥)
+unfolding list_names
+names_stopped f column line d true behind [] stop = tt
+names_stopped f column line d false behind [] stop = tt
+names_stopped f column line d true behind (m ∷ ms) stop =
+    and_then_ok (λ _. Unit {0}) (λ _. ⊥) _ _ (any_ok (at line m.column (length m.word) (name_step f column d true m.kind m.word)))
+    (λ next _. names_stopped f column line next true (m.column + length m.word) ms stop)
+names_stopped f column line d false behind (m ∷ ms) stop =
+    and_then_ok (λ _. Unit {0}) (λ _. ⊥) _ _ (any_ok (at line m.column (length m.word) (name_step f column d false m.kind m.word)))
+    (λ next _. names_stopped f column line next true (m.column + length m.word) ms stop)
+
+-- the first token of a dependency line, with room for the line
+record Begun (f : Format) (line : ℕ) (d : Declarations) (m : Mark) (ms : List Mark) (stop : Option Stop) (whole : Declarations) : Type 0 where
+  dep : Dependency
+  read : follow f d.names line start 1 (m ∷ ms) stop ≡ Ok dep
+  room : length d.deps < MOST_DEPENDENCIES
+  adds : whole ≡ add_dependency d dep line
+
+dependency_there : (f : Format) (line : ℕ) (d whole : Declarations) (m : Mark) (ms : List Mark) (stop : Option Stop)
+    → dependency_line f line d m ms stop ≡ Ok whole → Begun f line d m ms stop whole
+unfolding dependency_line begin follow
+dependency_there f line d whole m ms stop e =
+    let two = steps (at line m.column (length m.word) (begin f d m.kind m.word)) _ whole e in
+    let begun = placed line m.column (length m.word) (begin f d m.kind m.word) two.x two.first in
+    let inner = steps (step f d.names start m.kind m.word) _ two.x begun in
+    let room = unless_ok (nat_le MOST_DEPENDENCIES (length d.deps)) kind.TooManyDependencies (Ok inner.x) two.x inner.second in
+    let same : inner.x ≡ two.x = (let eq : Ok inner.x ≡ Ok two.x = room.1 in cc) in
+    let three = steps (follow f d.names line two.x (m.column + length m.word) ms stop) _ whole two.second in
+    record {
+      dep = three.x;
+      read = ap (λ s. and_then (at line m.column (length m.word) s) (λ next. follow f d.names line next (m.column + length m.word) ms stop)) (inner.first ∙ ap Ok same) ∙ three.first;
+      room = leb-false _ _ room.0;
+      adds = let eq : Ok (add_dependency d three.x line) ≡ Ok whole = three.second in cc;
+    }
+
+dependency_back : (f : Format) (line : ℕ) (d : Declarations) (m : Mark) (ms : List Mark) (dep : Dependency)
+    → follow f d.names line start 1 (m ∷ ms) None ≡ Ok dep → length d.deps < MOST_DEPENDENCIES → dependency_line f line d m ms None ≡ Ok (add_dependency d dep line)
+unfolding dependency_line begin follow
+dependency_back f line d m ms dep e h =
+    let two = steps (at line m.column (length m.word) (step f d.names start m.kind m.word)) _ dep e in
+    let first = placed line m.column (length m.word) (step f d.names start m.kind m.word) two.x two.first in
+    let room = leb-refuses MOST_DEPENDENCIES (length d.deps) h in
+    let read = two.second in
+    rw first (rw room (rw read refl))
+
+pub has_tokens : (l : Lexed) (ms : List Mark) → l.marks ≡ ms → l.stop ≡ None → HasTokens l ms
+has_tokens l ms marks stop i = record { marks = marks i; stop = stop i }
+
+-- a line is read exactly where it means what is declared behind it
+pub line_there : (f : Format) (number : ℕ) (d : Declarations) (line : List ℕ) (whole : Declarations) → read_line f number d line ≡ Ok whole → MeansTextLine f number d line whole
+unfolding read_line
+line_there f number d line whole e = told (lex mode.Plain line).marks (lex mode.Plain line).stop refl refl e
+  where
+    l : Lexed
+    l = lex mode.Plain line
+
+    declaring : (m : Mark) (ms : List Mark) (column : Column) (stop : Option Stop) → l.marks ≡ m ∷ ms → l.stop ≡ stop → declares f m.kind m.word ≡ Some column
+        → list_names f column number d false (m.column + length m.word) ms stop ≡ Ok whole → IsDeclaring f d line whole
+    declaring m ms column None marks stop is e =
+        let both = first_there f column number d whole (m.column + length m.word) ms e in
+        record { head = m; words = ms; column = column; tokens = has_tokens l (m ∷ ms) marks stop; declaring = is; some = both.0; names = both.1 }
+    declaring m ms column (Some s) marks stop is e =
+        absurd (ok_at (λ _. ⊥) _ whole e (names_stopped f column number d false (m.column + length m.word) ms s))
+
+    stating : (m : Mark) (ms : List Mark) (stop : Option Stop) → l.marks ≡ m ∷ ms → l.stop ≡ stop → declares f m.kind m.word ≡ None
+        → Begun f number d m ms stop whole → IsStating f number d line whole
+    stating m ms None marks stop is begun = record {
+      head = m;
+      others = ms;
+      dep = begun.dep;
+      tokens = has_tokens l (m ∷ ms) marks stop;
+      stating = is;
+      dependency = (dependency-law f d.names number 1 (m ∷ ms) begun.dep).0 begun.read;
+      room = begun.room;
+      adds = begun.adds;
+    }
+    stating m ms (Some s) marks stop is begun = absurd (ok_at (λ _. ⊥) _ begun.dep begun.read (stopped f d.names number start 1 (m ∷ ms) s))
+
+    from : (m : Mark) (ms : List Mark) (stop : Option Stop) (o : Option Column) → l.marks ≡ m ∷ ms → l.stop ≡ stop → declares f m.kind m.word ≡ o
+        → line_from f number d m ms stop o ≡ Ok whole → MeansTextLine f number d line whole
+    from m ms stop (Some column) marks same is e = inl (inr (declaring m ms column stop marks same is e))
+    from m ms stop None marks same is e = inr (stating m ms stop marks same is (dependency_there f number d whole m ms stop e))
+
+    told : (ms : List Mark) (stop : Option Stop) → l.marks ≡ ms → l.stop ≡ stop → line_of_marks f number d ms stop ≡ Ok whole → MeansTextLine f number d line whole
+    told [] None marks stop e = inl (inl (record { tokens = has_tokens l [] marks stop; same = cc }))
+    told [] (Some s) marks stop e = cc
+    told (m ∷ ms) stop marks same e = from m ms stop (declares f m.kind m.word) marks same refl e
+
+pub line_back : (f : Format) (number : ℕ) (d : Declarations) (line : List ℕ) (whole : Declarations) → MeansTextLine f number d line whole → read_line f number d line ≡ Ok whole
+unfolding read_line
+line_back f number d line whole (inl (inl blank)) = rw (blank.tokens, blank.same) refl
+line_back f number d line whole (inl (inr is)) =
+    rw (is.tokens, is.declaring) (first_back f is.column number d whole (is.head.column + length is.head.word) is.words is.some is.names)
+line_back f number d line whole (inr is) =
+    rw (is.tokens, is.stating, is.adds)
+    (dependency_back f number d is.head is.others is.dep ((dependency-law f d.names number 1 (is.head ∷ is.others) is.dep).1 is.dependency) is.room)
+
+pub finish_there : (last : ℕ) (d whole : Declarations) → finish last d ≡ Ok whole → (whole ≡ d) × (0 < length d.names)
+unfolding finish
+finish_there last d whole e = told (length d.names == 0) refl e
+  where
+    told : (b : Bool) → (length d.names == 0) ≡ b → cond b (Err (refusal last 1 0 kind.NoAttributes)) (Ok d) ≡ Ok whole → (whole ≡ d) × (0 < length d.names)
+    told true is e = cc
+    told false is e = (cc, grind (arith, nat_tests, is))
+
+finish_back : (last : ℕ) (d : Declarations) → 0 < length d.names → finish last d ≡ Ok d
+unfolding finish
+finish_back last d some = let is : (length d.names == 0) ≡ false = grind (arith, nat_tests) in rw is refl
+
+pub lines_there : (f : Format) (number : ℕ) (d whole : Declarations) (lines : List (List ℕ)) → read_lines f number d lines ≡ Ok whole
+    → MeansLines f number d lines whole × (0 < length whole.names)
+unfolding read_lines
+lines_there f number d whole [] e =
+    let both = finish_there (number - 1) d whole e in (both.0, let some : 0 < length d.names = both.1 in rw both.0 some)
+lines_there f number d whole (line ∷ lines) e =
+    let two = steps (read_line f number d line) (λ next. read_lines f (number + 1) next lines) whole e in
+    let more = lines_there f (number + 1) two.x whole lines two.second in
+    ((two.x, line_there f number d line two.x two.first, more.0), more.1)
+
+pub lines_back : (f : Format) (number : ℕ) (d whole : Declarations) (lines : List (List ℕ)) → MeansLines f number d lines whole → 0 < length whole.names
+    → read_lines f number d lines ≡ Ok whole
+unfolding read_lines
+lines_back f number d whole [] e some = rw (← e) (finish_back (number - 1) whole some)
+lines_back f number d whole (line ∷ lines) (next, first, rest) some =
+    rw (line_back f number d line next first) (lines_back f (number + 1) next whole lines rest some)

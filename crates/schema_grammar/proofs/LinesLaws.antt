@@ -1,0 +1,151 @@
+use Rattle.std.proofs.Common.{◌≡◌, ◌<◌, ◌≤◌, ◌+◌, ◌-◌, ◌⊎◌, inl, inr, ℕ, zero, suc, Bool, true, false, cond, List, [], ◌∷◌, ◌++◌, length, Some, None, Ok, Err, Result, refl, sym, ◌∙◌, ap, subst, arith, ◌==◌}
+use Rattle.std.proofs.lemmas.Bool.Decides.{nat_tests}
+use Rattle.lexer.specs.declared.token.Mode.TheVariants as mode
+use Rattle.lexer.specs.Tokens.{Mark, lex}
+use Rattle.schema_grammar.specs.declared.refusal.SchemaRefusal.{SchemaRefusal}
+use Rattle.schema_grammar.specs.declared.refusal.SchemaRefusalKind.TheVariants as kind
+use Rattle.schema_grammar.specs.declared.format.Format.{Format}
+use Rattle.schema_grammar.specs.Complaints.{TextLineComplaint, FitsTextLine, refusal_number, span_at}
+use Rattle.schema_grammar.specs.Declarations.{Declarations, read_line}
+use Rattle.schema_grammar.specs.Refusals.{and_then, refusal}
+use Rattle.schema_grammar.specs.Schemas.{MeansTextLine, MeansLines, LinesComplaint, IsFirstOfLines, FitsLines}
+use Rattle.schema_grammar.specs.Texts.{finish, read_lines}
+use Rattle.schema_grammar.proofs.LineLaws.{text-line-law}
+use Rattle.schema_grammar.proofs.DeclaringLaws.{line_there, line_back}
+
+pub line-law : (f : Format) (number : ℕ) (d : Declarations) (text : List ℕ)
+    → FitsTextLine f d number (lex mode.Plain text).marks (lex mode.Plain text).stop (read_line f number d text)
+unfolding read_line
+line-law f number d text = text-line-law f d number (lex mode.Plain text).marks (lex mode.Plain text).stop
+
+-- the line of a refusal is that of its line's number
+span-line : (line behind : ℕ) (ms : List Mark) (stop : _) (p : ℕ) → (span_at line behind ms stop p).line ≡ line
+span-line line behind [] None p = refl
+span-line line behind [] (Some s) p = refl
+span-line line behind (m ∷ ms) stop zero = refl
+span-line line behind (m ∷ ms) stop (suc p) = span-line line (m.column + length m.word) ms stop p
+
+pub first_of : {X : Type 0} (x y : X) (xs ys : List X) → x ∷ xs ≡ y ∷ ys → (x ≡ y) × (xs ≡ ys)
+first_of x y xs ys e = (cc, cc)
+
+pub ok_value : (x y : Declarations) (r : Result Declarations SchemaRefusal) → r ≡ Ok x → r ≡ Ok y → x ≡ y
+ok_value x y r e f = cc
+
+-- a complaint behind a line that is read
+pub complaint_behind : (f : Format) (first : ℕ) (d next : Declarations) (line : List ℕ) (lines : List (List ℕ)) (l p n : ℕ) → read_line f first d line ≡ Ok next
+    → FitsTextLine f d first (lex mode.Plain line).marks (lex mode.Plain line).stop (Ok next)
+    → LinesComplaint f first d (line ∷ lines) l p n → LinesComplaint f (first + 1) next lines l p n
+complaint_behind f first d next line lines l p n read none complaint = told complaint.before complaint.cut complaint.means complaint.stands_on
+  where
+    told : (before : List (List ℕ)) → line ∷ lines ≡ before ++ complaint.line ∷ complaint.after → MeansLines f first d before complaint.declared
+        → l ≡ first + length before → LinesComplaint f (first + 1) next lines l p n
+    told [] cut means stands_on =
+        let same = first_of line complaint.line lines complaint.after cut in
+        let of : List ℕ → Type 0 = λ t. TextLineComplaint f complaint.declared (lex mode.Plain t).marks (lex mode.Plain t).stop p n in
+        let of_d : Declarations → Type 0 = λ t. TextLineComplaint f t (lex mode.Plain line).marks (lex mode.Plain line).stop p n in
+        absurd (none p n (subst of_d means (subst of (sym same.0) complaint.complaint)))
+    told (one ∷ before) cut (middle, first_means, rest) stands_on =
+        let same = first_of line one lines (before ++ complaint.line ∷ complaint.after) cut in
+        let of : List ℕ → Type 0 = λ t. MeansTextLine f first d t middle in
+        let again : read_line f first d line ≡ Ok middle = line_back f first d line middle (subst of (sym same.0) first_means) in
+        let equal : middle ≡ next = ok_value middle next (read_line f first d line) again read in
+        let of_d : Declarations → Type 0 = λ t. MeansLines f (first + 1) t before complaint.declared in
+        record {
+          before = before;
+          line = complaint.line;
+          after = complaint.after;
+          declared = complaint.declared;
+          cut = same.1;
+          means = subst of_d equal rest;
+          stands_on = omega arith;
+          complaint = complaint.complaint;
+        }
+
+complaint_before : (f : Format) (first : ℕ) (d next : Declarations) (line : List ℕ) (lines : List (List ℕ)) (l p n : ℕ) → read_line f first d line ≡ Ok next
+    → LinesComplaint f (first + 1) next lines l p n → LinesComplaint f first d (line ∷ lines) l p n
+complaint_before f first d next line lines l p n read complaint = record {
+  before = line ∷ complaint.before;
+  line = complaint.line;
+  after = complaint.after;
+  declared = complaint.declared;
+  cut = ap (λ t. line ∷ t) complaint.cut;
+  means = (next, line_there f first d line next read, complaint.means);
+  stands_on = let on = complaint.stands_on in omega arith;
+  complaint = complaint.complaint;
+}
+
+pub lines_behind : (f : Format) (first : ℕ) (d next : Declarations) (line : List ℕ) (lines : List (List ℕ)) (res : Result Declarations SchemaRefusal) → read_line f first d line ≡ Ok next
+    → FitsTextLine f d first (lex mode.Plain line).marks (lex mode.Plain line).stop (Ok next)
+    → FitsLines f (first + 1) next lines res → FitsLines f first d (line ∷ lines) res
+unfolding complaint_before
+lines_behind f first d next line lines (Ok whole) read none fits = λ l p n complaint. fits l p n (complaint_behind f first d next line lines l p n read none complaint)
+lines_behind f first d next line lines (Err e) read none (inl found) = inl (record {
+  place = found.place;
+  stands = complaint_before f first d next line lines e.span.line found.place (refusal_number e.kind) read found.stands;
+  carries = found.carries;
+  there = found.there;
+  least = λ l p n complaint. found.least l p n (complaint_behind f first d next line lines l p n read none complaint);
+})
+lines_behind f first d next line lines (Err e) read none (inr empty) = inr (record {
+  whole = empty.whole;
+  means = (next, line_there f first d line next read, empty.means);
+  nothing = empty.nothing;
+  at_the_end = let last : (first + 1) + length lines - 1 ≡ first + suc (length lines) - 1 = omega arith in empty.at_the_end ∙ ap (λ k. refusal k 1 0 kind.NoAttributes) last;
+})
+
+-- a line that is refused
+line_here : (f : Format) (first : ℕ) (d : Declarations) (line : List ℕ) (lines : List (List ℕ)) (e : SchemaRefusal) → read_line f first d line ≡ Err e
+    → FitsTextLine f d first (lex mode.Plain line).marks (lex mode.Plain line).stop (Err e) → IsFirstOfLines f first d (line ∷ lines) e
+line_here f first d line lines e read found =
+    let on : e.span.line ≡ first = ap (λ s. s.line) found.there ∙ span-line first 1 (lex mode.Plain line).marks (lex mode.Plain line).stop found.place in
+    record {
+      place = found.place;
+      stands = record {
+        before = [];
+        line = line;
+        after = lines;
+        declared = d;
+        cut = refl;
+        means = refl;
+        stands_on = omega arith;
+        complaint = found.stands;
+      };
+      carries = found.carries;
+      there = found.there ∙ ap (λ k. span_at k 1 (lex mode.Plain line).marks (lex mode.Plain line).stop found.place) (sym on);
+      least = λ l p n complaint. told on l p n complaint complaint.before complaint.cut complaint.means complaint.stands_on;
+    }
+  where
+    told : e.span.line ≡ first → (l p n : ℕ) (complaint : LinesComplaint f first d (line ∷ lines) l p n) (before : List (List ℕ)) → line ∷ lines ≡ before ++ complaint.line ∷ complaint.after
+        → MeansLines f first d before complaint.declared → l ≡ first + length before
+        → (e.span.line < l) ⊎ ((e.span.line ≡ l) × ((found.place < p) ⊎ ((found.place ≡ p) × (refusal_number e.kind ≤ n))))
+    told on l p n complaint [] cut means stands_on =
+        let same = first_of line complaint.line lines complaint.after cut in
+        let of : List ℕ → Type 0 = λ t. TextLineComplaint f complaint.declared (lex mode.Plain t).marks (lex mode.Plain t).stop p n in
+        let of_d : Declarations → Type 0 = λ t. TextLineComplaint f t (lex mode.Plain line).marks (lex mode.Plain line).stop p n in
+        inr ((omega arith), found.least p n (subst of_d means (subst of (sym same.0) complaint.complaint)))
+    told on l p n complaint (one ∷ before) cut means stands_on = inl (omega arith)
+
+pub no_line : (before : List (List ℕ)) (line : List ℕ) (after : List (List ℕ)) → [] ≡ before ++ line ∷ after → ⊥
+no_line [] line after cut = cc
+no_line (one ∷ before) line after cut = cc
+
+finish_fits : (f : Format) (first : ℕ) (d : Declarations) (b : Bool) → (length d.names == 0) ≡ b
+    → FitsLines f first d [] (cond b (Err (refusal (first - 1) 1 0 kind.NoAttributes)) (Ok d))
+finish_fits f first d true e = inr (record {
+  whole = d;
+  means = refl;
+  nothing = grind (arith, nat_tests, e);
+  at_the_end = let last : first - 1 ≡ first + 0 - 1 = omega arith in ap (λ k. refusal k 1 0 kind.NoAttributes) last;
+})
+finish_fits f first d false e = λ l p n complaint. no_line complaint.before complaint.line complaint.after complaint.cut
+
+-- lines are refused by the first complaint, or as declaring nothing, and read where there is neither
+pub lines-law : (f : Format) (first : ℕ) (d : Declarations) (lines : List (List ℕ)) → FitsLines f first d lines (read_lines f first d lines)
+unfolding read_lines finish
+lines-law f first d [] = finish_fits f first d (length d.names == 0) refl
+lines-law f first d (line ∷ lines) = told (λ next. lines-law f (first + 1) next lines) (read_line f first d line) refl (line-law f first d line)
+  where
+    told : ((next : Declarations) → FitsLines f (first + 1) next lines (read_lines f (first + 1) next lines)) → (o : Result Declarations SchemaRefusal) → read_line f first d line ≡ o → FitsTextLine f d first (lex mode.Plain line).marks (lex mode.Plain line).stop o
+        → FitsLines f first d (line ∷ lines) (and_then o (λ next. read_lines f (first + 1) next lines))
+    told rest (Ok next) read fits = lines_behind f first d next line lines (read_lines f (first + 1) next lines) read fits (rest next)
+    told rest (Err e) read fits = inl (line_here f first d line lines e read fits)

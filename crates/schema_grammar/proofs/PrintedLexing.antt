@@ -1,0 +1,143 @@
+use Rattle.std.proofs.Common.{◌≡◌, ◌+◌, ℕ, suc, Bool, true, false, ◌==◌, ◌&&◌, List, [], ◌∷◌, ◌++◌, length, take, drop, refl, sym, ◌∙◌, ap, arith, append_assoc}
+use Rattle.std.specs.Prelude.{nat_lt, nat_le}
+use Rattle.std.specs.List.{list_all}
+use Rattle.std.specs.Char.{is_ascii_alphabetic}
+use Rattle.std.proofs.lemmas.Bool.Decides.{nat_tests}
+use Rattle.dep_model.specs.Names.{is_name, is_name_byte, is_word}
+use Rattle.lexer.specs.declared.piece.Piece.TheVariants as piece
+use Rattle.lexer.specs.declared.token.Mode.{Mode}
+use Rattle.lexer.specs.declared.token.TokenKind.TheVariants as token
+use Rattle.lexer.specs.Bytes.{is_gap, run_length}
+use Rattle.lexer.specs.Pieces.{front, run_piece}
+use Rattle.lexer.specs.Tokens.{Mark, Lexed, lexed, led_by_mark}
+use Rattle.schema_grammar.specs.Printing.{words_text, side_text}
+use Rattle.lexer.proofs.Steps.{at_token, after_gap}
+
+-- what is left of a line begins with a byte of no name, or is nothing
+abbrev pub Apart : List ℕ → Type 0
+Apart [] = Unit {0}
+Apart (b ∷ bs) = is_name_byte b ≡ false
+
+-- the parts of a name
+pub record IsNamed (first : ℕ) (others : List ℕ) : Type 0 where
+  pub letter : is_ascii_alphabetic first ≡ true
+  pub bytes : list_all is_name_byte (first ∷ others) ≡ true
+
+both : (a b : Bool) → (a && b) ≡ true → (a ≡ true) × (b ≡ true)
+both true b e = (refl, e)
+both false b e = cc
+
+pub named_parts : (first : ℕ) (others : List ℕ) → is_name (first ∷ others) ≡ true → IsNamed first others
+named_parts first others e =
+    let word = both (is_word (first ∷ others)) (nat_le (length (first ∷ others)) 31) e in
+    let inner = both (nat_lt 0 (length (first ∷ others)) && is_ascii_alphabetic first) (list_all is_name_byte (first ∷ others)) word.0 in
+    record { letter = (both (nat_lt 0 (length (first ∷ others))) (is_ascii_alphabetic first) inner.0).1; bytes = inner.1 }
+
+-- a run ends where the name does
+run_is : (word rest : List ℕ) → list_all is_name_byte word ≡ true → Apart rest → run_length (word ++ rest) ≡ length word
+run_is [] [] e apart = refl
+run_is [] (b ∷ bs) e apart = rw apart refl
+run_is (b ∷ bs) rest e apart =
+    let parts = both (is_name_byte b) (list_all is_name_byte bs) e in
+    let more : run_length (bs ++ rest) ≡ length bs = run_is bs rest parts.1 apart in
+    rw (parts.0, more) (omega arith)
+
+pub take_front : (word rest : List ℕ) → take (length word) (word ++ rest) ≡ word
+take_front [] [] = refl
+take_front [] (b ∷ bs) = refl
+take_front (b ∷ bs) rest = ap (λ t. b ∷ t) (take_front bs rest)
+
+pub drop_front : (word rest : List ℕ) → drop (length word) (word ++ rest) ≡ rest
+drop_front [] [] = refl
+drop_front [] (b ∷ bs) = refl
+drop_front (b ∷ bs) rest = drop_front bs rest
+
+-- the front of a text that begins with a name
+front_name : (m : Mode) (word rest : List ℕ) → is_name word ≡ true → Apart rest → front m (word ++ rest) ≡ piece.Token token.Word (length word)
+unfolding front run_piece
+front_name m [] rest e apart = cc
+front_name m (first ∷ others) rest e apart =
+    let parts = named_parts first others e in
+    let letter = parts.letter in
+    let gap : is_gap first ≡ false = grind (arith, nat_tests) in
+    let hash : (first == 35) ≡ false = grind (arith, nat_tests) in
+    let byte : is_name_byte first ≡ true = (both (is_name_byte first) (list_all is_name_byte others) parts.bytes).0 in
+    let bytes = (both (is_name_byte first) (list_all is_name_byte others) parts.bytes).1 in
+    let more : run_length (others ++ rest) ≡ length others = run_is others rest bytes apart in
+    let one : 1 + length others ≡ suc (length others) = omega arith in
+    rw (gap, hash, byte) (rw (more, one) (rw (take_front others rest, e) refl))
+
+-- a name is a token
+pub name_lexed : (m : Mode) (column : ℕ) (word rest : List ℕ) → is_name word ≡ true → Apart rest
+    → lexed m 0 column (word ++ rest) ≡ led_by_mark (record { kind = token.Word; column = column; word = word }) (lexed m 0 (column + length word) rest)
+name_lexed m column [] rest e apart = cc
+name_lexed m column (first ∷ others) rest e apart =
+    let whole = at_token m column ((first ∷ others) ++ rest) token.Word (length (first ∷ others)) (omega arith) (sym (front_name m (first ∷ others) rest e apart)) in
+    whole ∙ (rw (take_front (first ∷ others) rest, drop_front (first ∷ others) rest) refl)
+
+-- the tokens of words, each behind a blank
+abbrev pub word_marks : ℕ → List (List ℕ) → List Mark
+word_marks column [] = []
+word_marks column (word ∷ words) = record { kind = token.Word; column = column + 1; word = word } ∷ word_marks (column + 1 + length word) words
+
+-- where they end
+abbrev pub words_end : ℕ → List (List ℕ) → ℕ
+words_end column [] = column
+words_end column (word ∷ words) = words_end (column + 1 + length word) words
+
+abbrev pub led_by_marks : List Mark → Lexed → Lexed
+led_by_marks [] l = l
+led_by_marks (m ∷ ms) l = led_by_mark m (led_by_marks ms l)
+
+abbrev pub AllNames : List (List ℕ) → Type 0
+AllNames [] = Unit {0}
+AllNames (word ∷ words) = (is_name word ≡ true) × AllNames words
+
+pub blank_lexed : (m : Mode) (column : ℕ) (text : List ℕ) → lexed m 0 column (32 ∷ text) ≡ lexed m 0 (column + 1) text
+unfolding front
+blank_lexed m column text = after_gap m column (32 ∷ text) (omega arith) refl
+
+apart_words : (words : List (List ℕ)) (rest : List ℕ) → Apart rest → Apart (words_text words ++ rest)
+apart_words [] rest apart = apart
+apart_words (word ∷ words) rest apart = refl
+
+pub words_lexed : (m : Mode) (column : ℕ) (words : List (List ℕ)) (rest : List ℕ) → AllNames words → Apart rest
+    → lexed m 0 column (words_text words ++ rest) ≡ led_by_marks (word_marks column words) (lexed m 0 (words_end column words) rest)
+words_lexed m column [] rest names apart = refl
+words_lexed m column (word ∷ words) rest names apart =
+    let cut : words_text (word ∷ words) ++ rest ≡ 32 ∷ (word ++ (words_text words ++ rest)) = ap (λ t. 32 ∷ t) (append_assoc word (words_text words) rest) in
+    ap (lexed m 0 column) cut ∙ blank_lexed m column (word ++ (words_text words ++ rest))
+    ∙ name_lexed m (column + 1) word (words_text words ++ rest) names.0 (apart_words words rest apart)
+    ∙ ap (led_by_mark (record { kind = token.Word; column = column + 1; word = word })) (words_lexed m (column + 1 + length word) words rest names.1 apart)
+
+-- a side
+abbrev pub side_marks : ℕ → List (List ℕ) → List Mark
+side_marks column [] = record { kind = token.Empty; column = column; word = 40 ∷ 41 ∷ [] } ∷ []
+side_marks column (word ∷ words) = record { kind = token.Word; column = column; word = word } ∷ word_marks (column + length word) words
+
+abbrev pub side_end : ℕ → List (List ℕ) → ℕ
+side_end column [] = column + 2
+side_end column (word ∷ words) = words_end (column + length word) words
+
+pub side_lexed : (m : Mode) (column : ℕ) (words : List (List ℕ)) (rest : List ℕ) → AllNames words → Apart rest
+    → lexed m 0 column (side_text words ++ rest) ≡ led_by_marks (side_marks column words) (lexed m 0 (side_end column words) rest)
+unfolding front
+side_lexed m column [] rest names apart = at_token m column (40 ∷ 41 ∷ rest) token.Empty 2 (omega arith) refl
+side_lexed m column (word ∷ words) rest names apart =
+    ap (lexed m 0 column) (append_assoc word (words_text words) rest)
+    ∙ name_lexed m column word (words_text words ++ rest) names.0 (apart_words words rest apart)
+    ∙ ap (led_by_mark (record { kind = token.Word; column = column; word = word })) (words_lexed m (column + length word) words rest names.1 apart)
+
+pub arrow_lexed : (m : Mode) (column : ℕ) (rest : List ℕ) → lexed m 0 column (32 ∷ 45 ∷ 62 ∷ 32 ∷ rest)
+    ≡ led_by_mark (record { kind = token.Arrow; column = column + 1; word = 45 ∷ 62 ∷ [] }) (lexed m 0 (column + 1 + 2 + 1) rest)
+unfolding front
+arrow_lexed m column rest =
+    blank_lexed m column (45 ∷ 62 ∷ 32 ∷ rest) ∙ at_token m (column + 1) (45 ∷ 62 ∷ 32 ∷ rest) token.Arrow 2 (omega arith) refl
+    ∙ ap (led_by_mark (record { kind = token.Arrow; column = column + 1; word = 45 ∷ 62 ∷ [] })) (blank_lexed m (column + 1 + 2) rest)
+
+pub double_arrow_lexed : (m : Mode) (column : ℕ) (rest : List ℕ) → lexed m 0 column (32 ∷ 45 ∷ 62 ∷ 62 ∷ 32 ∷ rest)
+    ≡ led_by_mark (record { kind = token.DoubleArrow; column = column + 1; word = 45 ∷ 62 ∷ 62 ∷ [] }) (lexed m 0 (column + 1 + 3 + 1) rest)
+unfolding front
+double_arrow_lexed m column rest =
+    blank_lexed m column (45 ∷ 62 ∷ 62 ∷ 32 ∷ rest) ∙ at_token m (column + 1) (45 ∷ 62 ∷ 62 ∷ 32 ∷ rest) token.DoubleArrow 3 (omega arith) refl
+    ∙ ap (led_by_mark (record { kind = token.DoubleArrow; column = column + 1; word = 45 ∷ 62 ∷ 62 ∷ [] })) (blank_lexed m (column + 1 + 3) rest)

@@ -1,0 +1,189 @@
+use Rattle.std.proofs.Common.{◌≡◌, ◌+◌, inl, inr, ℕ, suc, Bool, true, false, cond, ◌==◌, ◌&&◌, ◌||◌, not, List, [], ◌∷◌, ◌++◌, length, get_or, Some, refl, sym, ◌∙◌, ap, subst, arith, append_assoc, length-append, lt-ltb, eq-eqb}
+use Rattle.std.specs.Prelude.{nat_lt, nat_le}
+use Rattle.std.specs.List.{All, list_any, prefix_len}
+use Rattle.std.specs.Str.{bytes_eq, str_to_ascii_lowercase}
+use Rattle.std.proofs.lemmas.Bool.Decides.{nat_tests}
+use Rattle.std.proofs.lemmas.Bool.{eqb-true}
+use Rattle.std.proofs.lemmas.List.{get_or_append_left, get_or_at}
+use Rattle.std.proofs.lemmas.List.Elements.{All-cons, All-nil}
+use Rattle.attr_sets.proofs.PlacesLemmas.{Same-path}
+use Rattle.attr_sets.specs.Places.{Places, none, below, Within}
+use Rattle.dep_model.specs.Names.{is_name, same_name}
+use Rattle.dep_model.specs.Schemas.{place_named}
+use Rattle.schema_grammar.specs.declared.format.Format.{Format}
+use Rattle.schema_grammar.specs.Meanings.{is_at, named, IsAttribute, IsSide}
+use Rattle.schema_grammar.specs.Printing.{members_from}
+use Rattle.schema_grammar.specs.Words.{is_reserved}
+use Rattle.schema_grammar.specs.Printed.{AreNames}
+use Rattle.schema_grammar.proofs.PrintedLexing.{AllNames, word_marks, side_marks}
+
+bytes_same : (xs : List ℕ) → bytes_eq xs xs ≡ true
+bytes_same [] = refl
+bytes_same (x ∷ xs) = rw (eq-eqb x x refl, bytes_same xs) refl
+
+pub name_same : (name : List ℕ) → same_name name name ≡ true
+name_same name = bytes_same (str_to_ascii_lowercase name)
+
+-- the first name that passes
+prefix_split : (p : List ℕ → Bool) (before : List (List ℕ)) (name : List ℕ) (after : List (List ℕ)) → All (λ b. p b ≡ false) before → p name ≡ true
+    → prefix_len (λ b. not (p b)) (before ++ name ∷ after) ≡ length before
+prefix_split p [] name after none here = rw here refl
+prefix_split p (b ∷ before) name after none here =
+    let first : p b ≡ false = none 0 b (omega arith) in
+    let more : prefix_len (λ c. not (p c)) (before ++ name ∷ after) ≡ length before = prefix_split p before name after (λ k d h. none (suc k) d (omega arith)) here in
+    rw (first, more) (omega arith)
+
+-- a name is found at its place
+pub found_at : (before : List (List ℕ)) (name : List ℕ) (after : List (List ℕ)) → All (λ b. same_name b name ≡ false) before
+    → place_named (before ++ name ∷ after) name ≡ Some (length before)
+found_at before name after none =
+    let at : prefix_len (λ b. not (same_name b name)) (before ++ name ∷ after) ≡ length before = prefix_split (λ b. same_name b name) before name after none (name_same name) in
+    let size : length (before ++ name ∷ after) ≡ length before + suc (length after) = length-append before (name ∷ after) in
+    let inside : nat_lt (length before) (length (before ++ name ∷ after)) ≡ true = lt-ltb _ _ (omega arith) in
+    rw (at, inside) refl
+
+-- what is known of the name in the middle
+pub record IsKnown (f : Format) (names : List (List ℕ)) (name : List ℕ) (place : ℕ) : Type 0 where
+  pub proper : is_name name ≡ true
+  pub free : is_reserved f name ≡ false
+  pub found : place_named names name ≡ Some place
+
+middle : (f : Format) (before : List (List ℕ)) (name : List ℕ) (after : List (List ℕ)) → AreNames f (before ++ name ∷ after) → IsKnown f (before ++ name ∷ after) name (length before)
+middle f before name after are =
+    let size : length (before ++ name ∷ after) ≡ length before + suc (length after) = length-append before (name ∷ after) in
+    let here : get_or (before ++ name ∷ after) (length before) [] ≡ name = get_or_at before name after [] (length before) refl in
+    record {
+      proper = let of : List ℕ → Type 0 = λ t. is_name t ≡ true in subst of here (are.each (length before) [] (omega arith));
+      free = let of : List ℕ → Type 0 = λ t. is_reserved f t ≡ false in subst of here (are.free (length before) [] (omega arith));
+      found = found_at before name after (λ k d h.
+          let left : get_or (before ++ name ∷ after) k d ≡ get_or before k d = get_or_append_left before (name ∷ after) d k h in
+          let right : get_or (before ++ name ∷ after) (length before) d ≡ name = get_or_at before name after d (length before) refl in
+          let differs = are.differ k (length before) d h (omega arith) in
+          let of : List ℕ → Type 0 = λ t. same_name (get_or before k d) t ≡ false in
+          let of_left : List ℕ → Type 0 = λ t. same_name t (get_or (before ++ name ∷ after) (length before) d) ≡ false in
+          subst of right (subst of_left left differs));
+    }
+
+-- each word is a known name
+abbrev pub EachKnown : Format → List (List ℕ) → List (List ℕ) → Type 0
+EachKnown f names [] = Unit {0}
+EachKnown f names (word ∷ words) = ((place : ℕ) × IsKnown f names word place) × EachKnown f names words
+
+-- the attributes that words name
+abbrev pub words_set : List (List ℕ) → List (List ℕ) → Places
+words_set names words k = list_any (λ w. is_at (place_named names w) k) words
+
+-- names are those before a place, and those from it on
+pub record IsCutAt (names before after : List (List ℕ)) (place : ℕ) : Type 0 where
+  pub whole : names ≡ before ++ after
+  pub size : length before ≡ place
+
+pub cut_more : (names before : List (List ℕ)) (name : List ℕ) (after : List (List ℕ)) (place : ℕ) → IsCutAt names before (name ∷ after) place → IsCutAt names (before ++ name ∷ []) after (place + 1)
+cut_more names before name after place cut = record {
+  whole = cut.whole ∙ sym (append_assoc before (name ∷ []) after);
+  size = length-append before (name ∷ []) ∙ (let same = cut.size in omega arith);
+}
+
+pub known_at : (f : Format) (names before : List (List ℕ)) (name : List ℕ) (after : List (List ℕ)) (place : ℕ) → AreNames f names → IsCutAt names before (name ∷ after) place → IsKnown f names name place
+known_at f names before name after place are cut =
+    let of : List (List ℕ) → Type 0 = λ t. AreNames f t in
+    let of_known : List (List ℕ) → Type 0 = λ t. IsKnown f t name place in
+    let of_place : ℕ → Type 0 = λ p. IsKnown f (before ++ name ∷ after) name p in
+    subst of_known (sym cut.whole) (subst of_place cut.size (middle f before name after (subst of cut.whole are)))
+
+pub members_known : (f : Format) (x : Places) (names before after : List (List ℕ)) (place : ℕ) → AreNames f names → IsCutAt names before after place → EachKnown f names (members_from x place after)
+members_known f x names before [] place are cut = tt
+members_known f x names before (name ∷ after) place are cut =
+    told (x place) (members_known f x names (before ++ name ∷ []) after (place + 1) are (cut_more names before name after place cut))
+  where
+    told : (b : Bool) → EachKnown f names (members_from x (place + 1) after) → EachKnown f names (cond b (name ∷ members_from x (place + 1) after) (members_from x (place + 1) after))
+    told true rest = ((place, known_at f names before name after place are cut), rest)
+    told false rest = rest
+
+-- the window of places
+abbrev within_window : ℕ → ℕ → ℕ → Bool
+within_window place n i = nat_le place i && nat_lt i (place + n)
+
+window_none : (place i : ℕ) → within_window place 0 i ≡ false
+window_none place i = grind (arith, nat_tests)
+
+window_first : (place n : ℕ) → within_window place (suc n) place ≡ true
+window_first place n = grind (arith, nat_tests)
+
+window_past : (place n : ℕ) → within_window (place + 1) n place ≡ false
+window_past place n = grind (arith, nat_tests)
+
+window_other : (place n i : ℕ) → (i == place) ≡ false → within_window (place + 1) n i ≡ within_window place (suc n) i
+window_other place n i other = grind (arith, nat_tests)
+
+-- the words of the members name the members
+members_set : (f : Format) (x : Places) (names before after : List (List ℕ)) (place i : ℕ) → AreNames f names → IsCutAt names before after place
+    → words_set names (members_from x place after) i ≡ (within_window place (length after) i && x i)
+members_set f x names before [] place i are cut = rw (window_none place i) refl
+members_set f x names before (name ∷ after) place i are cut =
+    told (x place) (i == place) refl refl (members_set f x names (before ++ name ∷ []) after (place + 1) i are (cut_more names before name after place cut))
+  where
+    found : place_named names name ≡ Some place
+    found = (known_at f names before name after place are cut).found
+
+    told : (b same : Bool) → x place ≡ b → (i == place) ≡ same → words_set names (members_from x (place + 1) after) i ≡ (within_window (place + 1) (length after) i && x i)
+        → words_set names (cond b (name ∷ members_from x (place + 1) after) (members_from x (place + 1) after)) i ≡ (within_window place (suc (length after)) i && x i)
+    told true true here is rest =
+        let at : i ≡ place = eqb-true i place is in
+        let value : x i ≡ true = ap x at ∙ here in
+        let window : within_window place (suc (length after)) i ≡ true = ap (within_window place (suc (length after))) at ∙ window_first place (length after) in
+        rw (found, is, window, value) refl
+    told true false here is rest = rw (found, is) (rest ∙ ap (λ w. w && x i) (window_other place (length after) i is))
+    told false true here is rest =
+        let at : i ≡ place = eqb-true i place is in
+        let value : x i ≡ false = ap x at ∙ here in
+        let past : within_window (place + 1) (length after) i ≡ false = ap (within_window (place + 1) (length after)) at ∙ window_past place (length after) in
+        rest ∙ (rw (past, value) (sym (and_false (within_window place (suc (length after)) i))))
+      where
+        and_false : (b : Bool) → (b && false) ≡ false
+        and_false true = refl
+        and_false false = refl
+    told false false here is rest = rest ∙ ap (λ w. w && x i) (window_other place (length after) i is)
+
+members_are : (f : Format) (x : Places) (names : List (List ℕ)) → AreNames f names → Within x (below (length names)) → x ≡ words_set names (members_from x 0 names)
+members_are f x names are within =
+    Same-path x (words_set names (members_from x 0 names)) (λ i. told i (x i) refl ∙ sym (members_set f x names [] names 0 i are (record { whole = refl; size = refl })))
+  where
+    told : (i : ℕ) (b : Bool) → x i ≡ b → x i ≡ (within_window 0 (length names) i && x i)
+    told i true is =
+        let small : nat_lt i (length names) ≡ true = within i is in
+        let window : within_window 0 (length names) i ≡ true = grind (arith, nat_tests) in rw (window, is) refl
+    told i false is = is ∙ sym (ap (λ v. within_window 0 (length names) i && v) is ∙ and_false (within_window 0 (length names) i))
+      where
+        and_false : (b : Bool) → (b && false) ≡ false
+        and_false true = refl
+        and_false false = refl
+
+marks_set : (names : List (List ℕ)) (column : ℕ) (words : List (List ℕ)) (k : ℕ) → named names (word_marks column words) k ≡ words_set names words k
+marks_set names column [] k = refl
+marks_set names column (word ∷ words) k = ap (λ b. is_at (place_named names word) k || b) (marks_set names (column + 1 + length word) words k)
+
+marks_known : (f : Format) (names : List (List ℕ)) (column : ℕ) (words : List (List ℕ)) → EachKnown f names words → All (IsAttribute f names) (word_marks column words)
+marks_known f names column [] known = All-nil (IsAttribute f names)
+marks_known f names column (word ∷ words) (here, rest) =
+    All-cons (IsAttribute f names) _ _ (record { word = refl; free = here.1.free; place = here.0; known = here.1.found }) (marks_known f names (column + 1 + length word) words rest)
+
+pub known_names : (f : Format) (names words : List (List ℕ)) → EachKnown f names words → AllNames words
+known_names f names [] known = tt
+known_names f names (word ∷ words) (here, rest) = (here.1.proper, known_names f names words rest)
+
+side_is : (f : Format) (names : List (List ℕ)) (x : Places) (column : ℕ) (words : List (List ℕ)) → EachKnown f names words → x ≡ words_set names words → IsSide f names (side_marks column words) x
+side_is f names x column [] known e = inl (record { column = column; bytes = 40 ∷ 41 ∷ []; alone = refl; nothing = e })
+side_is f names x column (word ∷ words) (here, rest) e = inr (record {
+  some = omega arith;
+  each = All-cons (IsAttribute f names) _ _ (record { word = refl; free = here.1.free; place = here.0; known = here.1.found }) (marks_known f names (column + length word) words rest);
+  members = e ∙ Same-path _ _ (λ k. ap (λ b. is_at (place_named names word) k || b) (sym (marks_set names (column + length word) words k)));
+})
+
+-- what is printed of a set, is a side for the set
+pub printed_side : (f : Format) (names : List (List ℕ)) (x : Places) (column : ℕ) → AreNames f names → Within x (below (length names)) → IsSide f names (side_marks column (members_from x 0 names)) x
+printed_side f names x column are within =
+    side_is f names x column (members_from x 0 names) (members_known f x names [] names 0 are (record { whole = refl; size = refl })) (members_are f x names are within)
+
+pub printed_names : (f : Format) (names : List (List ℕ)) (x : Places) → AreNames f names → AllNames (members_from x 0 names)
+printed_names f names x are = known_names f names (members_from x 0 names) (members_known f x names [] names 0 are (record { whole = refl; size = refl }))

@@ -1,0 +1,156 @@
+use Rattle.std.proofs.Common.{◌≡◌, ◌≤◌, ◌+◌, ◌-◌, inl, inr, ℕ, zero, suc, Bool, true, false, ◌==◌, ◌&&◌, not, List, [], ◌∷◌, ◌++◌, length, drop, get_or, None, refl, ◌∙◌, ap, subst, arith, append_assoc, length-append, nat_eq}
+use lib.Pointwise.{pointwise}
+use Rattle.std.specs.Prelude.{codes, map, nat_lt}
+use Rattle.std.specs.List.{All, list_all, slice_split, ends_with, prefix_len}
+use Rattle.std.proofs.lemmas.Bool.Decides.{nat_tests}
+use Rattle.std.proofs.lemmas.List.{append-nil}
+use Rattle.std.proofs.lemmas.List.Folds.{list_all-append}
+use Rattle.std.proofs.lemmas.List.Sums.{AllPass-from_list_all}
+use Rattle.std.proofs.lemmas.List.Splits.{slice_split_at}
+use Rattle.attr_sets.specs.Places.{Places, below}
+use Rattle.dep_model.specs.declared.schema.TheConstants.{MOST_DEPENDENCIES}
+use Rattle.dep_model.specs.Dependencies.{Dependency, fd, mvd, IsWithin}
+use Rattle.dep_model.specs.Names.{is_name, is_name_byte, same_name}
+use Rattle.dep_model.specs.Schemas.{place_named}
+use Rattle.lexer.specs.declared.token.Mode.TheVariants as mode
+use Rattle.lexer.specs.Lines.{is_line_feed, line_texts, without_return, without_returns}
+use Rattle.schema_grammar.specs.declared.format.Format.{Format}
+use Rattle.schema_grammar.specs.Declarations.{Declarations, add_dependency}
+use Rattle.schema_grammar.specs.Printing.{words_text, side_text, members_from, set_text, dependency_text, lines_text}
+use Rattle.schema_grammar.specs.Schemas.{MeansLines}
+use Rattle.schema_grammar.specs.Printed.{AreNames}
+use Rattle.schema_grammar.proofs.PrintedLexing.{AllNames, named_parts}
+use Rattle.schema_grammar.proofs.PrintedDependencies.{printed_line, nothing_left}
+use Rattle.schema_grammar.proofs.PrintedSides.{printed_names}
+
+-- a byte of a printed line
+abbrev pub is_line_byte : ℕ → Bool
+is_line_byte b = not (b == 10) && not (b == 13)
+
+abbrev pub Bytes : List ℕ → Type 0
+Bytes line = list_all is_line_byte line ≡ true
+
+pub bytes_both : (xs ys : List ℕ) → Bytes xs → Bytes ys → Bytes (xs ++ ys)
+bytes_both xs ys h g = list_all-append is_line_byte xs ys ∙ (rw (h, g) refl)
+
+name_byte : (b : ℕ) → is_name_byte b ≡ true → is_line_byte b ≡ true
+name_byte b e = grind (arith, nat_tests)
+
+both : (a b : Bool) → (a && b) ≡ true → (a ≡ true) × (b ≡ true)
+both true b e = (refl, e)
+both false b e = cc
+
+name_bytes : (word : List ℕ) → list_all is_name_byte word ≡ true → Bytes word
+name_bytes [] e = refl
+name_bytes (b ∷ bs) e =
+    let parts = both (is_name_byte b) (list_all is_name_byte bs) e in rw (name_byte b parts.0, name_bytes bs parts.1) refl
+
+proper_bytes : (word : List ℕ) → is_name word ≡ true → Bytes word
+proper_bytes [] e = refl
+proper_bytes (first ∷ others) e = name_bytes (first ∷ others) (named_parts first others e).bytes
+
+pub words_bytes : (words : List (List ℕ)) → AllNames words → Bytes (words_text words)
+words_bytes [] names = refl
+words_bytes (word ∷ words) (here, rest) = bytes_both (32 ∷ word) (words_text words) (proper_bytes word here) (words_bytes words rest)
+
+side_bytes : (words : List (List ℕ)) → AllNames words → Bytes (side_text words)
+side_bytes [] names = refl
+side_bytes (word ∷ words) (here, rest) = bytes_both word (words_text words) (proper_bytes word here) (words_bytes words rest)
+
+dependency_bytes : (f : Format) (names : List (List ℕ)) (d : Dependency) → AreNames f names → Bytes (dependency_text names d)
+unfolding dependency_text set_text
+dependency_bytes f names (fd x y) are =
+    bytes_both (side_text (members_from x 0 names) ++ codes " -> ") (side_text (members_from y 0 names))
+    (bytes_both (side_text (members_from x 0 names)) (codes " -> ") (side_bytes _ (printed_names f names x are)) refl) (side_bytes _ (printed_names f names y are))
+dependency_bytes f names (mvd x y) are =
+    bytes_both (side_text (members_from x 0 names) ++ codes " ->> ") (side_text (members_from y 0 names))
+    (bytes_both (side_text (members_from x 0 names)) (codes " ->> ") (side_bytes _ (printed_names f names x are)) refl) (side_bytes _ (printed_names f names y are))
+
+-- printed lines are cut where they end
+abbrev pub EachBytes : List (List ℕ) → Type 0
+EachBytes [] = Unit {0}
+EachBytes (line ∷ lines) = Bytes line × EachBytes lines
+
+no_feed : (b : ℕ) → is_line_byte b ≡ true → is_line_feed b ≡ false
+no_feed b e = grind (arith, nat_tests)
+
+split_lines : (lines : List (List ℕ)) → EachBytes lines → slice_split is_line_feed (lines_text lines) ≡ lines ++ [] ∷ []
+split_lines [] each = refl
+split_lines (line ∷ lines) (here, rest) =
+    let cut : lines_text (line ∷ lines) ≡ line ++ 10 ∷ lines_text lines = append_assoc line (10 ∷ []) (lines_text lines) in
+    let all = AllPass-from_list_all is_line_byte line here in
+    ap (slice_split is_line_feed) cut
+    ∙ slice_split_at is_line_feed line 10 (lines_text lines) (λ k d h. no_feed (get_or line k d) (all k d h)) refl
+    ∙ ap (λ t. line ∷ t) (split_lines lines rest)
+
+drop_bytes : (k : ℕ) (line : List ℕ) → Bytes line → Bytes (drop k line)
+drop_bytes zero line e = e
+drop_bytes (suc k) [] e = e
+drop_bytes (suc k) (b ∷ bs) e = drop_bytes k bs (both (is_line_byte b) (list_all is_line_byte bs) e).1
+
+not_return : (line : List ℕ) → Bytes line → pointwise nat_eq (13 ∷ []) line ≡ false
+not_return [] e = refl
+not_return (b ∷ bs) e =
+    let byte = (both (is_line_byte b) (list_all is_line_byte bs) e).0 in
+    let other : (13 == b) ≡ false = grind (arith, nat_tests) in rw other refl
+
+kept : (line : List ℕ) → Bytes line → without_return line ≡ line
+kept line e = let none : ends_with nat_eq line (13 ∷ []) ≡ false = not_return (drop (length line - 1) line) (drop_bytes (length line - 1) line e) in rw none refl
+
+all_kept : (lines : List (List ℕ)) → EachBytes lines → without_returns (lines ++ [] ∷ []) ≡ lines ++ [] ∷ []
+all_kept [] each = refl
+all_kept (line ∷ []) (here, rest) = rw (kept line here) refl
+all_kept (line ∷ next ∷ lines) (here, rest) = rw (kept line here) (ap (λ t. line ∷ t) (all_kept (next ∷ lines) rest))
+
+pub lines_cut : (lines : List (List ℕ)) → EachBytes lines → line_texts (lines_text lines) ≡ lines ++ [] ∷ []
+unfolding line_texts
+lines_cut lines each = ap without_returns (split_lines lines each) ∙ all_kept lines each
+
+-- the numbers of lines from one on
+abbrev pub numbers : ℕ → List Dependency → List ℕ
+numbers n [] = []
+numbers n (d ∷ ds) = n ∷ numbers (n + 1) ds
+
+abbrev pub EachWithin : Places → List Dependency → Type 0
+EachWithin u [] = Unit {0}
+EachWithin u (d ∷ ds) = IsWithin u d × EachWithin u ds
+
+abbrev pub with_dependencies : Declarations → List Dependency → List ℕ → Declarations
+with_dependencies d deps lines = record { names = d.names; columns = d.columns; deps = d.deps ++ deps; lines = d.lines ++ lines }
+
+-- the lines of dependencies, and the empty line behind the last line feed
+pub dependencies_mean : (f : Format) (number : ℕ) (d : Declarations) (deps : List Dependency) → AreNames f d.names → EachWithin (below (length d.names)) deps
+    → length d.deps + length deps ≤ MOST_DEPENDENCIES
+    → MeansLines f number d (map (dependency_text d.names) deps ++ [] ∷ []) (with_dependencies d deps (numbers number deps))
+dependencies_mean f number d [] are within room = (
+  d,
+  inl (inl (record { tokens = nothing_left mode.Plain 1; same = refl })),
+  λ i. record { names = d.names; columns = d.columns; deps = append-nil d.deps i; lines = append-nil d.lines i },
+)
+dependencies_mean f number d (dep ∷ deps) are (here, rest) room =
+    let line = printed_line f d.names dep are here in
+    let size : length (d.deps ++ dep ∷ []) ≡ length d.deps + 1 = length-append d.deps (dep ∷ []) in
+    let more = dependencies_mean f (number + 1) (add_dependency d dep number) deps are rest (omega arith) in
+    let of : Declarations → Type 0 = λ w. MeansLines f (number + 1) (add_dependency d dep number) (map (dependency_text d.names) deps ++ [] ∷ []) w in
+    let same : with_dependencies (add_dependency d dep number) deps (numbers (number + 1) deps) ≡ with_dependencies d (dep ∷ deps) (number ∷ numbers (number + 1) deps) =
+    (λ i. record { names = d.names; columns = d.columns; deps = append_assoc d.deps (dep ∷ []) deps i; lines = append_assoc d.lines (number ∷ []) (numbers (number + 1) deps) i }) in (
+      add_dependency d dep number,
+      inr (record { head = line.head; others = line.others; dep = dep; tokens = line.tokens; stating = line.stating; dependency = line.dependency; room = omega arith; adds = refl }),
+      subst of same more,
+    )
+
+pub each_dependency : (f : Format) (names : List (List ℕ)) (deps : List Dependency) → AreNames f names → EachBytes (map (dependency_text names) deps)
+each_dependency f names [] are = tt
+each_dependency f names (d ∷ deps) are = (dependency_bytes f names d are, each_dependency f names deps are)
+
+-- a name that differs from those before is none of them
+pub none_found : (before : List (List ℕ)) (word : List ℕ) → All (λ b. same_name b word ≡ false) before → place_named before word ≡ None
+none_found before word none =
+    let all : prefix_len (λ b. not (same_name b word)) before ≡ length before = whole before none in
+    let outside : nat_lt (length before) (length before) ≡ false = grind (arith, nat_tests) in rw (all, outside) refl
+  where
+    whole : (bs : List (List ℕ)) → All (λ b. same_name b word ≡ false) bs → prefix_len (λ b. not (same_name b word)) bs ≡ length bs
+    whole [] none = refl
+    whole (b ∷ bs) none =
+        let first : same_name b word ≡ false = none 0 b (omega arith) in
+        let more : prefix_len (λ c. not (same_name c word)) bs ≡ length bs = whole bs (λ k d h. none (suc k) d (omega arith)) in rw (first, more) (omega arith)

@@ -1,0 +1,87 @@
+use Rattle.std.proofs.Common.{◌≡◌, ◌∙◌, ℕ, Result, Ok, Err, sym, subst}
+use Rattle.std.specs.Result.{IfOk, IfErr, OnOk}
+use Rattle.schema_grammar.specs.declared.refusal.SchemaRefusal.{SchemaRefusal}
+use Rattle.schema_grammar.specs.declared.refusal.SchemaRefusalKind.{SchemaRefusalKind}
+use Rattle.schema_grammar.specs.declared.refusal.SchemaRefusalKind.TheVariants as kind
+use Rattle.schema_grammar.specs.Refusals.{refusal, Refuses, RefusesAs}
+
+pub RefusesAs-from : (k : SchemaRefusalKind) (P : Type 0) → P → RefusesAs k P
+RefusesAs-from kind.StrangeByte P h = h
+RefusesAs-from kind.BadName P h = h
+RefusesAs-from kind.ReservedName P h = h
+RefusesAs-from kind.DoubleName P h = h
+RefusesAs-from kind.UnknownName P h = h
+RefusesAs-from (kind.Expected what) P h = h
+RefusesAs-from kind.TooManyAttributes P h = h
+RefusesAs-from kind.TooManyDependencies P h = h
+RefusesAs-from kind.NoAttributes P h = h
+RefusesAs-from kind.UnknownVersion P h = h
+RefusesAs-from kind.Memory P h = tt
+
+pub RefusesAs-map : (k : SchemaRefusalKind) (P Q : Type 0) → (P → Q) → RefusesAs k P → RefusesAs k Q
+RefusesAs-map kind.StrangeByte P Q f h = f h
+RefusesAs-map kind.BadName P Q f h = f h
+RefusesAs-map kind.ReservedName P Q f h = f h
+RefusesAs-map kind.DoubleName P Q f h = f h
+RefusesAs-map kind.UnknownName P Q f h = f h
+RefusesAs-map (kind.Expected what) P Q f h = f h
+RefusesAs-map kind.TooManyAttributes P Q f h = f h
+RefusesAs-map kind.TooManyDependencies P Q f h = f h
+RefusesAs-map kind.NoAttributes P Q f h = f h
+RefusesAs-map kind.UnknownVersion P Q f h = f h
+RefusesAs-map kind.Memory P Q f h = tt
+
+pub Refuses-from : {X : Type 0} (e : SchemaRefusal) (reading : Result X SchemaRefusal) → reading ≡ Err e → Refuses e reading
+Refuses-from e reading h = RefusesAs-from e.kind (reading ≡ Err e) h
+
+-- the error of a part is that of the whole
+pub Refuses-whole : {X Y : Type 0} (e : SchemaRefusal) (part : Result X SchemaRefusal) (whole : Result Y SchemaRefusal)
+    → (part ≡ Err e → whole ≡ Err e) → Refuses e part → Refuses e whole
+Refuses-whole e part whole f h = RefusesAs-map e.kind (part ≡ Err e) (whole ≡ Err e) f h
+
+-- an error gets its place
+pub Refuses-at : {X : Type 0} (e : SchemaRefusal) (reading : Result X SchemaRefusal) (line column size : ℕ) (why : SchemaRefusalKind) (P : Type 0)
+    → e ≡ refusal line column size why → (P → reading ≡ Err (refusal line column size why)) → RefusesAs why P → Refuses e reading
+Refuses-at e reading line column size why P same f h =
+    subst (λ (x : SchemaRefusal). Refuses x reading) (sym same) (RefusesAs-map why P (reading ≡ Err (refusal line column size why)) f h)
+
+pub Refuses-here : {X : Type 0} (e : SchemaRefusal) (reading : Result X SchemaRefusal) (e' : SchemaRefusal)
+    → e ≡ e' → reading ≡ Err e' → Refuses e reading
+Refuses-here e reading e' same h = Refuses-from e reading cc
+
+-- what a call gave of the reading of a part, it gave of the whole
+pub ok_whole : {X Y : Type 0} {E : Type 0} (g : X → Y) (r : Result X E) (part whole : Result Y SchemaRefusal) → whole ≡ part
+    → IfOk r (λ x. part ≡ Ok (g x)) → IfOk r (λ x. whole ≡ Ok (g x))
+ok_whole g (Ok x) part whole e h = e ∙ h
+ok_whole g (Err why) part whole e h = tt
+
+pub err_whole : {X Y : Type 0} (r : Result X SchemaRefusal) (part whole : Result Y SchemaRefusal) → whole ≡ part
+    → IfErr r (λ e. part ≡ Err e) → IfErr r (λ e. whole ≡ Err e)
+err_whole (Ok x) part whole e h = tt
+err_whole (Err why) part whole e h = e ∙ h
+
+pub err_refuses : {X Y : Type 0} (r : Result X SchemaRefusal) (part whole : Result Y SchemaRefusal) → whole ≡ part
+    → IfErr r (λ e. part ≡ Err e) → IfErr r (λ e. Refuses e whole)
+err_refuses (Ok x) part whole e h = tt
+err_refuses (Err why) part whole e h = Refuses-from why whole (e ∙ h)
+
+pub refuses_whole : {X Y : Type 0} (r : Result X SchemaRefusal) (part whole : Result Y SchemaRefusal) → whole ≡ part
+    → IfErr r (λ e. Refuses e part) → IfErr r (λ e. Refuses e whole)
+refuses_whole (Ok x) part whole e h = tt
+refuses_whole (Err why) part whole e h = Refuses-whole why part whole (λ same. e ∙ same) h
+
+pub ok_at : {X E : Type 0} (P : X → Type 0) (r : Result X E) (x : X) → r ≡ Ok x → IfOk r P → P x
+ok_at {X} {E} P r x e h = let at : Result X E → Type 0 = λ s. IfOk s P in subst at e h
+
+pub on_ok_whole : {X Y E : Type 0} (r : Result X E) (y : Y) (part whole : Result Y SchemaRefusal) → whole ≡ part
+    → OnOk r (part ≡ Ok y) → OnOk r (whole ≡ Ok y)
+on_ok_whole (Ok x) y part whole e h = e ∙ h
+on_ok_whole (Err why) y part whole e h = tt
+
+pub ok_map : {X E : Type 0} (P Q : X → Type 0) (r : Result X E) → ((x : X) → P x → Q x) → IfOk r P → IfOk r Q
+ok_map P Q (Ok x) f h = f x h
+ok_map P Q (Err e) f h = tt
+
+pub err_map : {X E : Type 0} (P Q : E → Type 0) (r : Result X E) → ((e : E) → P e → Q e) → IfErr r P → IfErr r Q
+err_map P Q (Ok x) f h = tt
+err_map P Q (Err e) f h = f e h

@@ -1,0 +1,67 @@
+use Rattle.std.proofs.Common.{◌≡◌, ◌<◌, ◌≤◌, ◌+◌, ◌-◌, ℕ, zero, suc, List, [], ◌∷◌, length, take, Option, Some, None, refl, subst, arith}
+use Rattle.std.proofs.lemmas.List.{length-take-le}
+use Rattle.lexer.proofs.Steps.{LiesIn, lies_in}
+use Rattle.lexer.specs.declared.piece.Piece.{Piece}
+use Rattle.lexer.specs.declared.piece.Piece.TheVariants as piece
+use Rattle.lexer.specs.declared.token.Mode.{Mode}
+use Rattle.lexer.specs.declared.token.Stop.{Stop}
+use Rattle.lexer.specs.Pieces.{front}
+use Rattle.lexer.specs.Tokens.{Mark, Lexed, lexed, led_by, lex}
+use Rattle.schema_grammar.specs.Complaints.{span_at}
+
+-- tokens stand one behind the other, from a column on
+abbrev IsRising : ℕ → List Mark → Option Stop → Type 0
+IsRising from [] None = Unit {0}
+IsRising from [] (Some s) = from ≤ s.column
+IsRising from (m ∷ ms) stop = (from ≤ m.column) × (0 < length m.word) × IsRising (m.column + length m.word) ms stop
+
+rising_earlier : (from to : ℕ) (ms : List Mark) (stop : Option Stop) → from ≤ to → IsRising to ms stop → IsRising from ms stop
+rising_earlier from to [] None h r = tt
+rising_earlier from to [] (Some s) h r = omega arith
+rising_earlier from to (m ∷ ms) stop h (first, some, rest) = ((omega arith), some, rest)
+
+-- the tokens at whose front this piece stands
+piece_rises : (m : Mode) (p : Piece) (column : ℕ) (text : List ℕ) (behind : ℕ → Lexed) → 0 < length text → p ≡ front m text
+    → ((skip : ℕ) → IsRising (column + 1 + skip) (behind skip).marks (behind skip).stop) → IsRising (column + 0) (led_by p column text behind).marks (led_by p column text behind).stop
+piece_rises m piece.Gap column text behind some is rest = rising_earlier (column + 0) (column + 1 + 0) (behind 0).marks (behind 0).stop (omega arith) (rest 0)
+piece_rises m piece.Comment column text behind some is rest = tt
+piece_rises m (piece.Token k n) column text behind some is rest =
+    let lies : LiesIn text n = lies_in m text k n some is in
+    let has_some : 0 < n = lies.some in
+    let size : length (take n text) ≡ n = length-take-le n text lies.within in
+    let same : column + 1 + (n - 1) ≡ column + length (take n text) = omega arith in
+    let of : ℕ → Type 0 = λ c. IsRising c (behind (n - 1)).marks (behind (n - 1)).stop in
+    ((omega arith), (omega arith), subst of same (rest (n - 1)))
+piece_rises m (piece.Flaw why n) column text behind some is rest = omega arith
+
+lexed_rises : (m : Mode) (skip column : ℕ) (text : List ℕ) → IsRising (column + skip) (lexed m skip column text).marks (lexed m skip column text).stop
+unfolding lexed
+lexed_rises m zero column [] = tt
+lexed_rises m (suc n) column [] = tt
+lexed_rises m zero column (b ∷ bs) =
+    piece_rises m (front m (b ∷ bs)) column (b ∷ bs) (λ skip. lexed m skip (column + 1) bs) (omega arith) refl (λ skip. lexed_rises m skip (column + 1) bs)
+lexed_rises m (suc n) column (b ∷ bs) =
+    let same : column + 1 + n ≡ column + suc n = omega arith in
+    let of : ℕ → Type 0 = λ c. IsRising c (lexed m n (column + 1) bs).marks (lexed m n (column + 1) bs).stop in
+    subst of same (lexed_rises m n (column + 1) bs)
+
+from_on : (line behind : ℕ) (ms : List Mark) (stop : Option Stop) (q : ℕ) → IsRising behind ms stop → q ≤ length ms → behind ≤ (span_at line behind ms stop q).column
+from_on line behind [] None q rising h = omega arith
+from_on line behind [] (Some s) q rising h = rising
+from_on line behind (m ∷ ms) stop zero rising h = rising.0
+from_on line behind (m ∷ ms) stop (suc q) rising h =
+    let next = from_on line (m.column + length m.word) ms stop q rising.2 (omega arith) in let first = rising.0 in omega arith
+
+spans_rise : (line behind : ℕ) (ms : List Mark) (stop : Option Stop) (p q : ℕ) → IsRising behind ms stop → p < q → q ≤ length ms
+    → (span_at line behind ms stop p).column < (span_at line behind ms stop q).column
+spans_rise line behind [] stop p q rising h g = absurd (omega arith)
+spans_rise line behind (m ∷ ms) stop p zero rising h g = absurd (omega arith)
+spans_rise line behind (m ∷ ms) stop zero (suc q) rising h g =
+    let next = from_on line (m.column + length m.word) ms stop q rising.2 (omega arith) in let some = rising.1 in omega arith
+spans_rise line behind (m ∷ ms) stop (suc p) (suc q) rising h g = spans_rise line (m.column + length m.word) ms stop p q rising.2 (omega arith) (omega arith)
+
+-- a later place of a line stands in a greater column
+pub places-law : (m : Mode) (line : ℕ) (text : List ℕ) (p q : ℕ) → p < q → q ≤ length (lex m text).marks
+    → (span_at line 1 (lex m text).marks (lex m text).stop p).column < (span_at line 1 (lex m text).marks (lex m text).stop q).column
+places-law m line text p q h g =
+    spans_rise line 1 (lex m text).marks (lex m text).stop p q (rising_earlier 1 (1 + 0) (lex m text).marks (lex m text).stop (omega arith) (lexed_rises m 0 1 text)) h g

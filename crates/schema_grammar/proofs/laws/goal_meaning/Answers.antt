@@ -1,0 +1,5 @@
+use Rattle.schema_grammar.proofs.GoalLaws.{goal-law}
+use Rattle.schema_grammar.proofs.laws.goal_meaning.Goals as goal
+
+pub returns : goal.returns
+returns c = record { law = goal-law }

@@ -1,0 +1,5 @@
+use Rattle.schema_grammar.proofs.SchemaLaws.{schema-law}
+use Rattle.schema_grammar.proofs.laws.schema_meaning.Goals as goal
+
+pub returns : goal.returns
+returns c = record { law = schema-law }

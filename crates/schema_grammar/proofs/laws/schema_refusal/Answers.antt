@@ -1,0 +1,5 @@
+use Rattle.schema_grammar.proofs.OneTextRefusal.{schema-refusal-law}
+use Rattle.schema_grammar.proofs.laws.schema_refusal.Goals as goal
+
+pub returns : goal.returns
+returns c = record { law = schema-refusal-law }

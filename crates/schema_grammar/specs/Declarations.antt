@@ -1,0 +1,102 @@
+use Rattle.std.specs.Prelude.{ℕ, ◌+◌, Bool, true, false, if◌then◌else◌, List, [], ◌∷◌, ◌++◌, length, nat_le, Option, Some, None, is_some, Result, Ok, Err}
+use Rattle.attr_sets.specs.declared.set.TheConstants.{PLACES}
+use Rattle.dep_model.specs.declared.column.Column.{Column}
+use Rattle.dep_model.specs.declared.schema.TheConstants.{MOST_DEPENDENCIES}
+use Rattle.dep_model.specs.Dependencies.{Dependency}
+use Rattle.dep_model.specs.Schemas.{place_named}
+use Rattle.lexer.specs.declared.token.Mode.TheVariants as mode
+use Rattle.lexer.specs.declared.token.Stop.{Stop}
+use Rattle.lexer.specs.declared.token.Token.{Token}
+use Rattle.lexer.specs.declared.token.TokenKind.{TokenKind}
+use Rattle.lexer.specs.declared.token.TokenKind.TheVariants as token
+use Rattle.lexer.specs.Tokens.{Mark, Lexed, lex}
+use Rattle.schema_grammar.specs.declared.refusal.SchemaRefusal.{SchemaRefusal}
+use Rattle.schema_grammar.specs.declared.refusal.SchemaRefusalKind.{SchemaRefusalKind}
+use Rattle.schema_grammar.specs.declared.refusal.SchemaRefusalKind.TheVariants as kind
+use Rattle.schema_grammar.specs.declared.refusal.What.{What}
+use Rattle.schema_grammar.specs.declared.refusal.What.TheVariants as what
+use Rattle.schema_grammar.specs.declared.format.Format.{Format}
+use Rattle.schema_grammar.specs.Grammar.{Reached, start}
+use Rattle.schema_grammar.specs.Reading.{step, follow}
+use Rattle.schema_grammar.specs.Refusals.{refused_by, and_then, at}
+use Rattle.schema_grammar.specs.Words.{is_reserved, declares}
+
+-- what a schema text declares: names and the types of their columns, dependencies and their lines
+pub record Declarations : Type 0 where
+  pub names : List (List ℕ)
+  pub columns : List Column
+  pub deps : List Dependency
+  pub lines : List ℕ
+
+abbrev pub no_declaration : Declarations
+no_declaration = record { names = []; columns = []; deps = []; lines = [] }
+
+abbrev pub add_name : Declarations → List ℕ → Column → Declarations
+add_name d name column = record d { names = d.names ++ name ∷ []; columns = d.columns ++ column ∷ [] }
+
+abbrev pub add_dependency : Declarations → Dependency → ℕ → Declarations
+add_dependency d dep line = record d { deps = d.deps ++ dep ∷ []; lines = d.lines ++ line ∷ [] }
+
+-- a word declares a name
+unfoldable pub declare : Format → Column → Declarations → List ℕ → Result Declarations SchemaRefusalKind
+declare f column d word =
+    if is_reserved f word then Err kind.ReservedName
+    else if is_some (place_named d.names word) then Err kind.DoubleName
+    else if nat_le PLACES (length d.names) then Err kind.TooManyAttributes
+    else Ok (add_name d word column)
+
+-- what is wanted behind a declaring word where no name stands
+abbrev pub wanted : Bool → What
+wanted some = if some then what.LineEnd else what.Name
+
+-- a token behind a declaring word; `some` is whether a name stood before
+abbrev pub name_step : Format → Column → Declarations → Bool → TokenKind → List ℕ → Result Declarations SchemaRefusalKind
+name_step f column d some token.Word word = declare f column d word
+name_step f column d some _ word = Err (kind.Expected (wanted some))
+
+-- the tokens behind a declaring word
+unfoldable pub list_names : Format → Column → ℕ → Declarations → Bool → ℕ → List Mark → Option Stop → Result Declarations SchemaRefusal
+list_names f column line d true behind [] None = Ok d
+list_names f column line d false behind [] None = at line behind 0 (Err (kind.Expected what.Name))
+list_names f column line d some behind [] (Some stop) = Err (refused_by line stop)
+list_names f column line d some behind (m ∷ ms) stop =
+    and_then (at line m.column (length m.word) (name_step f column d some m.kind m.word))
+    (λ next. list_names f column line next true (m.column + length m.word) ms stop)
+
+abbrev pub list_names_lexed : Format → Column → ℕ → Declarations → Bool → ℕ → Lexed → Result Declarations SchemaRefusal
+list_names_lexed f column line d some behind l = list_names f column line d some behind l.marks l.stop
+
+-- the first token of a dependency line: what the line can't begin with comes before one dependency
+-- too many
+unfoldable pub begin : Format → Declarations → TokenKind → List ℕ → Result Reached SchemaRefusalKind
+begin f d k word =
+    and_then (step f d.names start k word)
+    (λ next. if nat_le MOST_DEPENDENCIES (length d.deps) then Err kind.TooManyDependencies else Ok next)
+
+-- a dependency line with this first token
+unfoldable pub dependency_line : Format → ℕ → Declarations → Mark → List Mark → Option Stop → Result Declarations SchemaRefusal
+dependency_line f line d m ms stop =
+    and_then (at line m.column (length m.word) (begin f d m.kind m.word))
+    (λ next. and_then (follow f d.names line next (m.column + length m.word) ms stop)
+    (λ dep. Ok (add_dependency d dep line)))
+
+abbrev pub dependency_lexed : Format → ℕ → Declarations → Mark → Lexed → Result Declarations SchemaRefusal
+dependency_lexed f line d m l = dependency_line f line d m l.marks l.stop
+
+-- a token with its bytes
+abbrev pub marked : Token → List ℕ → Mark
+marked t word = record { kind = t.kind; column = t.column; word = word }
+
+-- a line whose first token is this: it declares names, or states a dependency
+abbrev pub line_from : Format → ℕ → Declarations → Mark → List Mark → Option Stop → Option Column → Result Declarations SchemaRefusal
+line_from f line d m ms stop (Some column) = list_names f column line d false (m.column + length m.word) ms stop
+line_from f line d m ms stop None = dependency_line f line d m ms stop
+
+abbrev pub line_of_marks : Format → ℕ → Declarations → List Mark → Option Stop → Result Declarations SchemaRefusal
+line_of_marks f line d [] None = Ok d
+line_of_marks f line d [] (Some stop) = Err (refused_by line stop)
+line_of_marks f line d (m ∷ ms) stop = line_from f line d m ms stop (declares f m.kind m.word)
+
+-- what is declared behind one line more
+unfoldable pub read_line : Format → ℕ → Declarations → List ℕ → Result Declarations SchemaRefusal
+read_line f line d text = line_of_marks f line d (lex mode.Plain text).marks (lex mode.Plain text).stop

@@ -1,0 +1,65 @@
+-- The laws that tie the reading of a text to what it means, and what printed schemas mean.
+use Rattle.std.specs.Prelude.{◌≡◌, ◌<◌, ◌≤◌, ◌↔◌, ℕ, List, length, Ok, Err}
+use Rattle.dep_model.specs.declared.schema.Schema.{Schema}
+use Rattle.dep_model.specs.Dependencies.{Dependency}
+use Rattle.dep_model.specs.Schemas.{names_of, columns_of, theory_of}
+use Rattle.lexer.specs.declared.token.Mode.{Mode}
+use Rattle.lexer.specs.declared.token.Mode.TheVariants as mode
+use Rattle.lexer.specs.Tokens.{lex}
+use Rattle.schema_grammar.specs.declared.format.Format.{Format}
+use Rattle.schema_grammar.specs.declared.format.Format.TheVariants as format
+use Rattle.schema_grammar.specs.declared.refusal.SchemaRefusal.{SchemaRefusal}
+use Rattle.schema_grammar.specs.Complaints.{FitsGoal, FitsTextLine, RefusesGoal, span_at}
+use Rattle.schema_grammar.specs.Declarations.{Declarations, read_line}
+use Rattle.schema_grammar.specs.Meanings.{MeansGoal}
+use Rattle.schema_grammar.specs.Printed.{AreNames}
+use Rattle.schema_grammar.specs.Printing.{declared_text}
+use Rattle.schema_grammar.specs.Reading.{read_goal}
+use Rattle.schema_grammar.specs.Schemas.{FitsLines, FitsSchema, MeansSchema, RefusesSchema}
+use Rattle.schema_grammar.specs.Texts.{read_lines, read_text}
+
+-- ---- goals
+abbrev pub GoalMeaning : Type 0
+GoalMeaning = (declared : List (List ℕ)) (text : List ℕ) (d : Dependency) → (read_goal declared text ≡ Ok d) ↔ MeansGoal declared text d
+
+abbrev pub GoalComplaints : Type 0
+GoalComplaints = (declared : List (List ℕ)) (text : List ℕ) → FitsGoal declared text (read_goal declared text)
+
+abbrev pub GoalRefusal : Type 0
+GoalRefusal =
+    (declared : List (List ℕ)) (text : List ℕ) (e : SchemaRefusal) → (read_goal declared text ≡ Err e) ↔ RefusesGoal declared text e
+
+-- ---- schema texts
+abbrev pub SchemaMeaning : Type 0
+SchemaMeaning = (text : List ℕ) (whole : Declarations) → (read_text text ≡ Ok whole) ↔ MeansSchema text whole
+
+abbrev pub TextLineComplaints : Type 0
+TextLineComplaints =
+    (f : Format) (number : ℕ) (d : Declarations) (line : List ℕ)
+    → FitsTextLine f d number (lex mode.Plain line).marks (lex mode.Plain line).stop (read_line f number d line)
+
+abbrev pub LinesComplaints : Type 0
+LinesComplaints =
+    (f : Format) (first : ℕ) (d : Declarations) (lines : List (List ℕ)) → FitsLines f first d lines (read_lines f first d lines)
+
+abbrev pub SchemaComplaints : Type 0
+SchemaComplaints = (text : List ℕ) → FitsSchema text (read_text text)
+
+abbrev pub SchemaRefused : Type 0
+SchemaRefused = (text : List ℕ) (e : SchemaRefusal) → (read_text text ≡ Err e) ↔ RefusesSchema text e
+
+-- a later place of a line stands in a greater column
+abbrev pub PlacesRise : Type 0
+PlacesRise =
+    (m : Mode) (line : ℕ) (text : List ℕ) (p q : ℕ) → p < q → q ≤ length (lex m text).marks
+    → (span_at line 1 (lex m text).marks (lex m text).stop p).column < (span_at line 1 (lex m text).marks (lex m text).stop q).column
+
+-- ---- printed schemas
+abbrev pub PrintedSchemaMeans : Type 0
+PrintedSchemaMeans =
+    (s : Schema) → AreNames format.Plain (names_of s)
+    → (lines : List ℕ) × MeansSchema (declared_text (columns_of s) (names_of s) (theory_of s))
+    (record { names = names_of s; columns = columns_of s; deps = theory_of s; lines = lines })
+
+abbrev pub DeclaredNames : Type 0
+DeclaredNames = (text : List ℕ) (d : Declarations) → MeansSchema text d → AreNames format.Plain d.names

@@ -1,0 +1,14 @@
+pub mod Complaints
+pub mod Declarations
+pub mod Grammar
+pub mod Laws
+pub mod Meanings
+pub mod Printed
+pub mod Printing
+pub mod Reading
+pub mod Refusals
+pub mod Rests
+pub mod Schemas
+pub mod Texts
+pub mod TokenLists
+pub mod Words

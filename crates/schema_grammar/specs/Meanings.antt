@@ -1,0 +1,75 @@
+use Rattle.std.specs.Prelude.{◌≡◌, ◌<◌, ◌⊎◌, ℕ, ◌==◌, false, List, [], ◌∷◌, ◌++◌, length, Option, Some, None, All}
+use Rattle.std.specs.List.{list_any}
+use Rattle.attr_sets.specs.Places.{Places, none}
+use Rattle.dep_model.specs.Dependencies.{Dependency}
+use Rattle.dep_model.specs.Schemas.{place_named}
+use Rattle.lexer.specs.declared.token.Mode.TheVariants as mode
+use Rattle.lexer.specs.declared.token.TokenKind.{TokenKind}
+use Rattle.lexer.specs.declared.token.TokenKind.TheVariants as token
+use Rattle.lexer.specs.Tokens.{Mark, Lexed, lex}
+use Rattle.schema_grammar.specs.declared.symbol.Sign.{Sign}
+use Rattle.schema_grammar.specs.declared.symbol.Sign.TheVariants as sign
+use Rattle.schema_grammar.specs.declared.format.Format.{Format}
+use Rattle.schema_grammar.specs.declared.format.Format.TheVariants as format
+use Rattle.schema_grammar.specs.Grammar.{stated}
+use Rattle.schema_grammar.specs.Words.{is_reserved}
+
+-- a line has exactly these tokens
+abbrev pub HasTokens : Lexed → List Mark → Type 0
+HasTokens l ms = l ≡ record { marks = ms; stop = None }
+
+abbrev pub is_at : Option ℕ → Places
+is_at None k = false
+is_at (Some a) k = k == a
+
+-- the attributes that words name
+abbrev pub named : List (List ℕ) → List Mark → Places
+named declared words k = list_any (λ m. is_at (place_named declared m.word) k) words
+
+-- a word that names a declared attribute
+pub record IsAttribute (f : Format) (declared : List (List ℕ)) (m : Mark) : Type 0 where
+  pub word : m.kind ≡ token.Word
+  pub free : is_reserved f m.word ≡ false
+  pub place : ℕ
+  pub known : place_named declared m.word ≡ Some place
+
+-- a side is `()`, for no attribute
+pub record IsEmptySide (ms : List Mark) (x : Places) : Type 0 where
+  pub column : ℕ
+  pub bytes : List ℕ
+  pub alone : ms ≡ record { kind = token.Empty; column = column; word = bytes } ∷ []
+  pub nothing : x ≡ none
+
+-- or it is one or more words, for the attributes that they name
+pub record IsNamedSide (f : Format) (declared : List (List ℕ)) (ms : List Mark) (x : Places) : Type 0 where
+  pub some : 0 < length ms
+  pub each : All (IsAttribute f declared) ms
+  pub members : x ≡ named declared ms
+
+abbrev pub IsSide : Format → List (List ℕ) → List Mark → Places → Type 0
+IsSide f declared ms x = IsEmptySide ms x ⊎ IsNamedSide f declared ms x
+
+-- `->` or `->>`
+abbrev pub IsArrow : Sign → TokenKind → Type 0
+IsArrow sign.Functional k = k ≡ token.Arrow
+IsArrow sign.Multivalued k = k ≡ token.DoubleArrow
+
+-- a side, an arrow, a side
+pub record IsDependency (f : Format) (declared : List (List ℕ)) (ms : List Mark) (d : Dependency) : Type 0 where
+  pub lhs : List Mark
+  pub arrow : Mark
+  pub rhs : List Mark
+  pub x : Places
+  pub y : Places
+  pub sign : Sign
+  pub whole : ms ≡ lhs ++ arrow ∷ rhs
+  pub left_side : IsSide f declared lhs x
+  pub is_arrow : IsArrow sign arrow.kind
+  pub right_side : IsSide f declared rhs y
+  pub states : d ≡ stated sign x y
+
+-- a goal over declared names means a dependency
+pub record MeansGoal (declared : List (List ℕ)) (text : List ℕ) (d : Dependency) : Type 0 where
+  pub marks : List Mark
+  pub tokens : HasTokens (lex mode.Goal text) marks
+  pub dependency : IsDependency format.Plain declared marks d

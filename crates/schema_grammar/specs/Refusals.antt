@@ -1,0 +1,44 @@
+use Rattle.std.specs.Prelude.{◌≡◌, ℕ, Result, Ok, Err}
+use Rattle.lexer.specs.declared.token.Flaw.{Flaw}
+use Rattle.lexer.specs.declared.token.Flaw.TheVariants as flaw
+use Rattle.lexer.specs.declared.token.Stop.{Stop}
+use Rattle.schema_grammar.specs.declared.refusal.SchemaRefusal.{SchemaRefusal}
+use Rattle.schema_grammar.specs.declared.refusal.SchemaRefusalKind.{SchemaRefusalKind}
+use Rattle.schema_grammar.specs.declared.refusal.SchemaRefusalKind.TheVariants as kind
+use Rattle.schema_grammar.specs.declared.refusal.What.{What}
+
+-- a refusal at a place
+abbrev pub refusal : ℕ → ℕ → ℕ → SchemaRefusalKind → SchemaRefusal
+refusal line column length why =
+    record { span = record { line = line; column = column; length = length }; kind = why }
+
+abbrev pub kind_of_flaw : Flaw → SchemaRefusalKind
+kind_of_flaw flaw.StrangeByte = kind.StrangeByte
+kind_of_flaw flaw.BadName = kind.BadName
+
+-- the refusal of bytes that are no token
+abbrev pub refused_by : ℕ → Stop → SchemaRefusal
+refused_by line stop = refusal line stop.column stop.length (kind_of_flaw stop.flaw)
+
+-- what follows a value, and nothing after an error
+abbrev pub and_then : {X Y E : Type 0} → Result X E → (X → Result Y E) → Result Y E
+and_then (Ok x) next = next x
+and_then (Err e) next = Err e
+
+-- an error gets its place
+abbrev pub at : {X : Type 0} → ℕ → ℕ → ℕ → Result X SchemaRefusalKind → Result X SchemaRefusal
+at line column length (Ok x) = Ok x
+at line column length (Err why) = Err (refusal line column length why)
+
+-- an error of the grammar
+abbrev pub expecting : {X : Type 0} → Result X What → Result X SchemaRefusalKind
+expecting (Ok x) = Ok x
+expecting (Err what) = Err (kind.Expected what)
+
+-- a refusal is that of the text, or want of memory
+abbrev pub RefusesAs : SchemaRefusalKind → Type 0 → Type 0
+RefusesAs kind.Memory of_text = Unit {0}
+RefusesAs _ of_text = of_text
+
+abbrev pub Refuses : {X : Type 0} → SchemaRefusal → Result X SchemaRefusal → Type 0
+Refuses e reading = RefusesAs e.kind (reading ≡ Err e)

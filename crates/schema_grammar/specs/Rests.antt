@@ -1,0 +1,101 @@
+-- What is left of a line, and what is read of it token by token.
+use Rattle.std.specs.Prelude.{ℕ, ◌+◌, Bool, true, false, if◌then◌else◌, List, [], ◌∷◌, length, Option, Some, None, Result, Ok, Err, ok_or}
+use Rattle.attr_sets.specs.Places.{Places, only, none, union}
+use Rattle.lexer.specs.declared.token.Stop.{Stop}
+use Rattle.lexer.specs.declared.token.TokenKind.{TokenKind}
+use Rattle.lexer.specs.declared.token.TokenKind.TheVariants as token
+use Rattle.lexer.specs.Tokens.{Mark, Lexed}
+use Rattle.schema_grammar.specs.declared.format.Format.TheVariants as format
+use Rattle.schema_grammar.specs.declared.refusal.SchemaRefusal.{SchemaRefusal}
+use Rattle.schema_grammar.specs.declared.refusal.SchemaRefusalKind.TheVariants as kind
+use Rattle.schema_grammar.specs.declared.refusal.What.{What}
+use Rattle.schema_grammar.specs.declared.refusal.What.TheVariants as what
+use Rattle.schema_grammar.specs.declared.symbol.Sign.{Sign}
+use Rattle.schema_grammar.specs.declared.symbol.Sign.TheVariants.{Functional, Multivalued}
+use Rattle.schema_grammar.specs.Refusals.{refusal, refused_by, at}
+use Rattle.schema_grammar.specs.Texts.{number_in}
+use Rattle.schema_grammar.specs.Words.{looked_up}
+
+abbrev pub is_word : TokenKind → Bool
+is_word token.Word = true
+is_word _ = false
+
+-- the arrow that a token is
+abbrev pub arrow_in : TokenKind → Option Sign
+arrow_in token.Arrow = Some Functional
+arrow_in token.DoubleArrow = Some Multivalued
+arrow_in _ = None
+
+-- the attribute that a word of a side stands for
+abbrev pub place : List (List ℕ) → ℕ → Mark → Result ℕ SchemaRefusal
+place names line m = at line m.column (length m.word) (looked_up format.Plain names m.word)
+
+-- what is left of a line behind a column: its tokens, and where they stop
+pub record Rest : Type 0 where
+  pub line : ℕ
+  pub behind : ℕ
+  pub marks : List Mark
+  pub stop : Option Stop
+
+abbrev pub rest_from : ℕ → ℕ → Lexed → Rest
+rest_from line behind l = record { line = line; behind = behind; marks = l.marks; stop = l.stop }
+
+infixl 10 ◌>>=◌
+abbrev pub ◌>>=◌ : {A B E : Type 0} → Result A E → (A → Result B E) → Result B E
+(Ok x) >>= f = f x
+(Err e) >>= f = Err e
+
+-- the next token, and the rest behind it
+abbrev pub taken : What → ℕ → ℕ → List Mark → Option Stop → Result (Mark × Rest) SchemaRefusal
+taken want line behind [] None = Err (refusal line behind 0 (kind.Expected want))
+taken want line behind [] (Some stop) = Err (refused_by line stop)
+taken want line behind (m ∷ ms) stop = Ok (m, record { line = line; behind = m.column + length m.word; marks = ms; stop = stop })
+
+unfoldable pub take : What → Rest → Result (Mark × Rest) SchemaRefusal
+take want r = taken want r.line r.behind r.marks r.stop
+
+-- the refusal of a token where something else is wanted
+abbrev pub expected : What → Mark → Rest → SchemaRefusal
+expected want m r = refusal r.line m.column (length m.word) (kind.Expected want)
+
+unfoldable pub number : Rest → Result (ℕ × Rest) SchemaRefusal
+number r = do
+  t ← take what.Number r
+  n ← ok_or (number_in t.0.kind) (expected what.Number t.0 t.1)
+  Ok (n, t.1)
+
+unfoldable pub arrow : Rest → Result (Sign × Rest) SchemaRefusal
+arrow r = do
+  t ← take what.Arrow r
+  a ← ok_or (arrow_in t.0.kind) (expected what.Arrow t.0 t.1)
+  Ok (a, t.1)
+
+-- what stands where the line is to end
+abbrev pub ended_from : ℕ → List Mark → Option Stop → Option SchemaRefusal
+ended_from line [] None = None
+ended_from line [] (Some stop) = Some (refused_by line stop)
+ended_from line (m ∷ ms) stop = Some (refusal line m.column (length m.word) (kind.Expected what.LineEnd))
+
+unfoldable pub ended : Rest → Option SchemaRefusal
+ended r = ended_from r.line r.marks r.stop
+
+-- words that stand here, added to a set
+unfoldable pub words_from : List (List ℕ) → ℕ → Places → ℕ → List Mark → Option Stop → Result (Places × Rest) SchemaRefusal
+words_from names line x behind [] stop = Ok (x, record { line = line; behind = behind; marks = []; stop = stop })
+words_from names line x behind (m ∷ ms) stop =
+    if is_word m.kind
+    then (place names line m >>= λ a. words_from names line (union x (only a)) (m.column + length m.word) ms stop)
+    else Ok (x, record { line = line; behind = behind; marks = m ∷ ms; stop = stop })
+
+abbrev pub words : List (List ℕ) → Places → Rest → Result (Places × Rest) SchemaRefusal
+words names x r = words_from names r.line x r.behind r.marks r.stop
+
+-- a side that begins with this token
+abbrev pub side_from : List (List ℕ) → Mark → Rest → TokenKind → Result (Places × Rest) SchemaRefusal
+side_from names m r token.Word = place names r.line m >>= λ a. words names (only a) r
+side_from names m r token.Empty = Ok (none, r)
+side_from names m r _ = Err (expected what.Side m r)
+
+-- words, or `()`
+unfoldable pub side : List (List ℕ) → Rest → Result (Places × Rest) SchemaRefusal
+side names r = take what.Side r >>= λ t. side_from names t.0 t.1 t.0.kind

@@ -1,0 +1,214 @@
+use Rattle.std.specs.Prelude.{◌≡◌, ◌<◌, ◌≤◌, ◌⊎◌, ℕ, ◌+◌, ◌-◌, Result, Ok, Err, Bool, true, false, List, [], ◌∷◌, ◌++◌, length, Option, Some, None, All, slice_get, ◌==◌}
+use Rattle.attr_sets.specs.declared.set.TheConstants.{PLACES}
+use Rattle.dep_model.specs.declared.column.Column.{Column}
+use Rattle.dep_model.specs.declared.schema.TheConstants.{MOST_DEPENDENCIES}
+use Rattle.dep_model.specs.Dependencies.{Dependency}
+use Rattle.dep_model.specs.Schemas.{place_named}
+use Rattle.lexer.specs.declared.token.Mode.TheVariants as mode
+use Rattle.lexer.specs.declared.token.Stop.{Stop}
+use Rattle.lexer.specs.declared.token.TokenKind.TheVariants as token
+use Rattle.lexer.specs.Lines.{line_texts, without_mark}
+use Rattle.lexer.specs.Tokens.{Mark, lex}
+use Rattle.schema_grammar.specs.declared.refusal.SchemaRefusal.{SchemaRefusal}
+use Rattle.schema_grammar.specs.declared.refusal.SchemaRefusalKind.TheVariants as kind
+use Rattle.schema_grammar.specs.declared.refusal.What.{What}
+use Rattle.schema_grammar.specs.declared.refusal.What.TheVariants as what
+use Rattle.schema_grammar.specs.Complaints.{TextLineComplaint, TextLineWants, AtFirst, Carries, IsFirst, refusal_number, flaw_number, span_at}
+use Rattle.schema_grammar.specs.Refusals.{refusal}
+use Rattle.schema_grammar.specs.declared.format.TheConstants.{VERSION}
+use Rattle.schema_grammar.specs.declared.format.Format.{Format}
+use Rattle.schema_grammar.specs.declared.format.Format.TheVariants as format
+use Rattle.schema_grammar.specs.Declarations.{Declarations, no_declaration, add_name, add_dependency}
+use Rattle.schema_grammar.specs.Meanings.{HasTokens, IsDependency}
+use Rattle.schema_grammar.specs.Texts.{is_version, number_in}
+use Rattle.schema_grammar.specs.Words.{is_reserved, declares}
+
+-- a word that declares one name more
+pub record IsNewName (f : Format) (d : Declarations) (m : Mark) : Type 0 where
+  pub word : m.kind ≡ token.Word
+  pub free : is_reserved f m.word ≡ false
+  pub new : place_named d.names m.word ≡ None
+  pub room : length d.names < PLACES
+
+-- words declare a name each, for columns of one type
+abbrev pub DeclareNames : Format → Column → Declarations → List Mark → Declarations → Type 0
+DeclareNames f column d [] whole = whole ≡ d
+DeclareNames f column d (m ∷ ms) whole =
+    IsNewName f d m × DeclareNames f column (add_name d m.word column) ms whole
+
+-- a declaring line: a declaring word, and one or more names
+pub record IsDeclaring (f : Format) (d : Declarations) (line : List ℕ) (whole : Declarations) : Type 0 where
+  pub head : Mark
+  pub words : List Mark
+  pub column : Column
+  pub tokens : HasTokens (lex mode.Plain line) (head ∷ words)
+  pub declaring : declares f head.kind head.word ≡ Some column
+  pub some : 0 < length words
+  pub names : DeclareNames f column d words whole
+
+-- a dependency line, which no declaring word begins
+pub record IsStating (f : Format) (number : ℕ) (d : Declarations) (line : List ℕ) (whole : Declarations) : Type 0 where
+  pub head : Mark
+  pub others : List Mark
+  pub dep : Dependency
+  pub tokens : HasTokens (lex mode.Plain line) (head ∷ others)
+  pub stating : declares f head.kind head.word ≡ None
+  pub dependency : IsDependency f d.names (head ∷ others) dep
+  pub room : length d.deps < MOST_DEPENDENCIES
+  pub adds : whole ≡ add_dependency d dep number
+
+-- a line without tokens means nothing
+pub record IsBlank (d : Declarations) (line : List ℕ) (whole : Declarations) : Type 0 where
+  pub tokens : HasTokens (lex mode.Plain line) []
+  pub same : whole ≡ d
+
+-- behind a line of this number the whole is declared
+abbrev pub MeansTextLine : Format → ℕ → Declarations → List ℕ → Declarations → Type 0
+MeansTextLine f number d line whole = (IsBlank d line whole ⊎ IsDeclaring f d line whole) ⊎ IsStating f number d line whole
+
+-- the same of lines, of which the first has this number
+abbrev pub MeansLines : Format → ℕ → Declarations → List (List ℕ) → Declarations → Type 0
+MeansLines f number d [] whole = whole ≡ d
+MeansLines f number d (line ∷ lines) whole =
+    (next : Declarations) × MeansTextLine f number d line next × MeansLines f (number + 1) next lines whole
+
+abbrev pub begins_version : List Mark → Option Stop → Bool → Bool
+begins_version [] None later = later
+begins_version [] (Some stop) later = false
+begins_version (m ∷ ms) stop later = is_version m.kind m.word
+
+-- whether the first token of the lines is the word `version`
+unfoldable pub has_version_line : List (List ℕ) → Bool
+has_version_line [] = false
+has_version_line (line ∷ lines) =
+    begins_version (lex mode.Numbered line).marks (lex mode.Numbered line).stop (has_version_line lines)
+
+-- a text without a version line
+pub record IsPlainText (lines : List (List ℕ)) (whole : Declarations) : Type 0 where
+  pub no_version : has_version_line lines ≡ false
+  pub declared : MeansLines format.Plain 1 no_declaration lines whole
+
+-- a version line: the word `version`, and the number 2
+pub record IsVersionLine (line : List ℕ) : Type 0 where
+  pub head : Mark
+  pub number : Mark
+  pub tokens : HasTokens (lex mode.Numbered line) (head ∷ number ∷ [])
+  pub is_word : is_version head.kind head.word ≡ true
+  pub is_number : number.kind ≡ token.Number VERSION
+
+-- a text with a version line, before which no line has a token
+pub record IsTypedText (lines : List (List ℕ)) (whole : Declarations) : Type 0 where
+  pub before : List (List ℕ)
+  pub version : List ℕ
+  pub later : List (List ℕ)
+  pub cut : lines ≡ before ++ version ∷ later
+  pub blank : All (λ line. HasTokens (lex mode.Numbered line) []) before
+  pub versioned : IsVersionLine version
+  pub declared : MeansLines format.Typed (length before + 2) no_declaration later whole
+
+-- a schema text means what it declares: one attribute at least
+pub record MeansSchema (text : List ℕ) (whole : Declarations) : Type 0 where
+  pub some : 0 < length whole.names
+  pub lines : IsPlainText (line_texts (without_mark text)) whole ⊎ IsTypedText (line_texts (without_mark text)) whole
+
+-- what is wrong with lines, of which the first has this number: on one of them, behind lines that have
+-- a meaning
+pub record LinesComplaint (f : Format) (first : ℕ) (d : Declarations) (lines : List (List ℕ)) (number place why : ℕ) : Type 0 where
+  pub before : List (List ℕ)
+  pub line : List ℕ
+  pub after : List (List ℕ)
+  pub declared : Declarations
+  pub cut : lines ≡ before ++ line ∷ after
+  pub means : MeansLines f first d before declared
+  pub stands_on : number ≡ first + length before
+  pub complaint : TextLineComplaint f declared (lex mode.Plain line).marks (lex mode.Plain line).stop place why
+
+-- a refusal is the complaint of the first line, there of the least place, and there of the least number;
+-- a refusal 6 carries what is wanted there
+pub record IsFirstOfLines (f : Format) (first : ℕ) (d : Declarations) (lines : List (List ℕ)) (e : SchemaRefusal) : Type 0 where
+  pub place : ℕ
+  pub stands : LinesComplaint f first d lines e.span.line place (refusal_number e.kind)
+  pub carries : Carries (TextLineWants f (lex mode.Plain stands.line).marks place) e.kind
+  pub there : e.span ≡ span_at e.span.line 1 (lex mode.Plain stands.line).marks (lex mode.Plain stands.line).stop place
+  pub least : (l p n : ℕ) → LinesComplaint f first d lines l p n
+      → (e.span.line < l) ⊎ ((e.span.line ≡ l) × ((place < p) ⊎ ((place ≡ p) × (refusal_number e.kind ≤ n))))
+
+-- nothing is wrong with the lines, but that they declare nothing; refused at the last of them
+pub record DeclaresNothing (f : Format) (first : ℕ) (d : Declarations) (lines : List (List ℕ)) (e : SchemaRefusal) : Type 0 where
+  pub whole : Declarations
+  pub means : MeansLines f first d lines whole
+  pub nothing : length whole.names ≡ 0
+  pub at_the_end : e ≡ refusal (first + length lines - 1) 1 0 kind.NoAttributes
+
+-- lines are refused by the first complaint, or as declaring nothing
+abbrev pub RefusesLines : Format → ℕ → Declarations → List (List ℕ) → SchemaRefusal → Type 0
+RefusesLines f first d lines e = IsFirstOfLines f first d lines e ⊎ DeclaresNothing f first d lines e
+
+-- lines are refused by the first complaint, or as declaring nothing, and read where there is neither
+abbrev pub FitsLines : Format → ℕ → Declarations → List (List ℕ) → Result Declarations SchemaRefusal → Type 0
+FitsLines f first d lines (Ok whole) = (l p n : ℕ) → LinesComplaint f first d lines l p n → ⊥
+FitsLines f first d lines (Err e) = RefusesLines f first d lines e
+
+-- what is wrong with the tokens behind the word `version`: no number, another number than 2, a token
+-- behind the number, or bytes that are no token
+abbrev pub VersionComplaint : List Mark → Option Stop → ℕ → ℕ → Type 0
+VersionComplaint ms stop place why =
+    ((((m : Mark) × (slice_get ms 0 ≡ Some m) × (number_in m.kind ≡ None) × (place ≡ 0) × (why ≡ 6))
+    ⊎ ((ms ≡ []) × (stop ≡ None) × (place ≡ 0) × (why ≡ 6)))
+    ⊎ (((m : Mark) × (n : ℕ) × (slice_get ms 0 ≡ Some m) × (number_in m.kind ≡ Some n) × ((n == VERSION) ≡ false) × (place ≡ 0) × (why ≡ 13))
+    ⊎ ((m : Mark) × (slice_get ms 1 ≡ Some m) × (place ≡ 1) × (why ≡ 6))))
+    ⊎ ((s : Stop) × (stop ≡ Some s) × (place ≡ length ms) × (why ≡ flaw_number s.flaw))
+
+-- behind the word `version` a number is wanted first
+abbrev pub VersionWants : ℕ → What → Type 0
+VersionWants place w = AtFirst what.Number place w
+
+-- a version line is refused by its first complaint
+abbrev pub RefusesVersion : ℕ → ℕ → List Mark → Option Stop → SchemaRefusal → Type 0
+RefusesVersion line behind ms stop e = IsFirst (VersionComplaint ms stop) VersionWants (span_at line behind ms stop) e
+
+-- a version line is refused by the first complaint, and read where there is none
+abbrev pub FitsVersion : ℕ → ℕ → List Mark → Option Stop → Result Declarations SchemaRefusal → Type 0
+FitsVersion line behind ms stop (Ok d) = (place why : ℕ) → VersionComplaint ms stop place why → ⊥
+FitsVersion line behind ms stop (Err e) = RefusesVersion line behind ms stop e
+
+-- a text whose first token is the word `version`
+pub record HasVersionLine (lines : List (List ℕ)) : Type 0 where
+  pub before : List (List ℕ)
+  pub version : List ℕ
+  pub later : List (List ℕ)
+  pub cut : lines ≡ before ++ version ∷ later
+  pub blank : All (λ line. HasTokens (lex mode.Numbered line) []) before
+  pub head : Mark
+  pub others : List Mark
+  pub starts : (lex mode.Numbered version).marks ≡ head ∷ others
+  pub is_word : is_version head.kind head.word ≡ true
+
+-- it is refused at its version line, or by its later lines
+abbrev pub RefusesTyped : (number : ℕ) (lines : List (List ℕ)) → HasVersionLine lines → SchemaRefusal → Type 0
+RefusesTyped number lines text e =
+    RefusesVersion (length text.before + number) (text.head.column + length text.head.word) text.others (lex mode.Numbered text.version).stop e
+    ⊎ (IsVersionLine text.version × RefusesLines format.Typed (length text.before + number + 1) no_declaration text.later e)
+
+-- a text is refused by its first complaint, or as declaring nothing
+abbrev pub RefusesText : ℕ → List (List ℕ) → SchemaRefusal → Type 0
+RefusesText number lines e =
+    ((has_version_line lines ≡ false) × RefusesLines format.Plain number no_declaration lines e)
+    ⊎ ((text : HasVersionLine lines) × RefusesTyped number lines text e)
+
+abbrev pub RefusesSchema : List ℕ → SchemaRefusal → Type 0
+RefusesSchema text e = RefusesText 1 (line_texts (without_mark text)) e
+
+-- a text has no complaint
+abbrev pub IsFineText : ℕ → List (List ℕ) → Declarations → Type 0
+IsFineText number lines whole =
+    ((has_version_line lines ≡ false) × FitsLines format.Plain number no_declaration lines (Ok whole))
+    ⊎ ((text : HasVersionLine lines) × IsVersionLine text.version × FitsLines format.Typed (length text.before + number + 1) no_declaration text.later (Ok whole))
+
+-- a text is refused by the first complaint, or as declaring nothing, and read where there is neither
+abbrev pub FitsText : ℕ → List (List ℕ) → Result Declarations SchemaRefusal → Type 0
+FitsText number lines (Ok whole) = IsFineText number lines whole
+FitsText number lines (Err e) = RefusesText number lines e
+
+abbrev pub FitsSchema : List ℕ → Result Declarations SchemaRefusal → Type 0
+FitsSchema text reading = FitsText 1 (line_texts (without_mark text)) reading

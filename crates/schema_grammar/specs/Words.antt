@@ -1,0 +1,49 @@
+use Rattle.std.specs.Prelude.{ℕ, Bool, ◌||◌, List, Option, Some, None, Result, Ok, Err, codes, if◌then◌else◌}
+use Rattle.std.specs.Str.{bytes_eq}
+use Rattle.dep_model.specs.declared.column.Column.{Column}
+use Rattle.dep_model.specs.declared.column.Column.TheVariants.{Text, Integer}
+use Rattle.lexer.specs.declared.token.TokenKind.{TokenKind}
+use Rattle.lexer.specs.declared.token.TokenKind.TheVariants as token
+use Rattle.dep_model.specs.Names.{same_name, is_type_name}
+use Rattle.dep_model.specs.Schemas.{place_named}
+use Rattle.schema_grammar.specs.declared.refusal.SchemaRefusalKind.{SchemaRefusalKind}
+use Rattle.schema_grammar.specs.declared.refusal.SchemaRefusalKind.TheVariants as kind
+use Rattle.schema_grammar.specs.declared.format.Format.{Format}
+use Rattle.schema_grammar.specs.declared.format.Format.TheVariants as format
+
+-- reserved in every text: `attributes`, `scheme` and `version`, in any case
+abbrev pub is_common_word : List ℕ → Bool
+is_common_word word =
+    (same_name word (codes "attributes") || same_name word (codes "scheme")) || same_name word (codes "version")
+
+-- a text with a version line reserves `integer` and `text` too
+unfoldable pub is_reserved : Format → List ℕ → Bool
+is_reserved format.Plain word = is_common_word word
+is_reserved format.Typed word = is_common_word word || is_type_name word
+
+abbrev pub known : Option ℕ → Result ℕ SchemaRefusalKind
+known (Some place) = Ok place
+known None = Err kind.UnknownName
+
+-- the attribute that a word of a side stands for
+unfoldable pub looked_up : Format → List (List ℕ) → List ℕ → Result ℕ SchemaRefusalKind
+looked_up f declared word =
+    if is_reserved f word then Err kind.ReservedName else known (place_named declared word)
+
+-- the type of the columns that a declaring word declares; it is in lower case
+unfoldable pub declaring : Format → List ℕ → Option Column
+declaring format.Plain word = if bytes_eq word (codes "attributes") then Some Text else None
+declaring format.Typed word =
+    if bytes_eq word (codes "attributes") then Some Text
+    else if bytes_eq word (codes "text") then Some Text
+    else if bytes_eq word (codes "integer") then Some Integer
+    else None
+
+-- the same of the first token of a line
+unfoldable pub declares : Format → TokenKind → List ℕ → Option Column
+declares f token.Word word = declaring f word
+declares f (token.Number n) word = None
+declares f token.Arrow word = None
+declares f token.DoubleArrow word = None
+declares f token.Empty word = None
+declares f token.Colon word = None

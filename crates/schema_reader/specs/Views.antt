@@ -1,0 +1,32 @@
+-- What the reader's values stand for, in the words of the grammar.
+use Rattle.std.specs.Prelude.{ℕ, ◌+◌, ◌<◌, ◌^◌, List, [], length, Option, Some, None}
+use denote.Ref.{Bor}
+use Rattle.attr_sets.specs.Sets.{places}
+use Rattle.dep_model.specs.Deps.{dependencies_of}
+use Rattle.lexer.specs.Lines.{line_texts}
+use Rattle.schema_grammar.specs.Declarations.{Declarations}
+use Rattle.schema_grammar.specs.Grammar.{Reached, start, left, left_empty, behind, right, right_empty}
+use Rattle.schema_reader.specs.declared.draft.Draft.{Draft}
+use Rattle.schema_reader.specs.declared.stage.Stage.{Stage}
+use Rattle.schema_reader.specs.declared.stage.Stage.TheVariants as stage
+
+abbrev pub drafted : Draft → Declarations
+drafted d = record { names = d.names.items; columns = d.columns.items; deps = dependencies_of d.deps.items; lines = d.lines.items }
+
+abbrev pub reached_of : Stage → Reached
+reached_of stage.Start = start
+reached_of (stage.Left x) = left (places x)
+reached_of stage.LeftEmpty = left_empty
+reached_of (stage.Behind s x) = behind s (places x)
+reached_of (stage.Right s x y) = right s (places x) (places y)
+reached_of (stage.RightEmpty s x) = right_empty s (places x)
+
+-- the lines behind a line end
+abbrev pub lines_after : Option (Bor (List ℕ)) → List (List ℕ)
+lines_after None = []
+lines_after (Some after) = line_texts after.now
+
+-- there is room for their numbers
+abbrev pub AreFew : ℕ → Option (Bor (List ℕ)) → Type 0
+AreFew number None = number < 2 ^ 31
+AreFew number (Some after) = (number + 1) + length after.now < 2 ^ 31
