@@ -5,7 +5,7 @@
 //! that is answered was one: the object's count of faults rose in that call.
 //!
 //! - [`Shelf`], [`Sink`] and [`Folder`] are the files to read, the printed text and the files to write.
-//! - [`load`] reads a whole file, up to a limit; [`send`] writes all of a text.
+//! - [`load`] reads a whole file, up to a limit; [`send`] and [`write_all`] write all of a text.
 //! - [`MemoryShelf`], [`MemorySink`] and [`MemoryFolder`] tell all that they hold, and fail at chosen
 //!   calls alone.
 //! - [`FileShelf`], [`StdoutSink`] and [`FileFolder`] are the system's. They tell nothing of content.
@@ -34,5 +34,5 @@ pub use planned::PlannedFaults;
 pub use real::{FileShelf, StdoutSink};
 pub use shelf::Shelf;
 pub use sink::Sink;
-pub use transfer::{load, send};
+pub use transfer::{load, send, write_all};
 pub use word::{HeldFile, Word};
