@@ -28,7 +28,7 @@ pub record FedTarget {T : Type 0} (tells : T → Bool) (finished : T → Finishe
   pub later : faults old ≤ faults new
 
 -- as many new values as old ones and as results, and P holds of the three at each place
-pub record AtEachPlace {S T U : Type 0} (P : S → T → U → Type 0) (olds : List S) (news : List T) (results : List U) : Type 0 where
-  pub news : length news ≡ length olds
-  pub results : length results ≡ length olds
-  pub each : (i : ℕ) → i < length olds → (x : S) (y : T) (z : U) → P (slice_index_or olds i x) (slice_index_or news i y) (slice_index_or results i z)
+pub record AtEachPlace {S T U : Type 0} (P : S → T → U → Type 0) (xs : List S) (ys : List T) (zs : List U) : Type 0 where
+  pub news : length ys ≡ length xs
+  pub results : length zs ≡ length xs
+  pub each : (i : ℕ) → i < length xs → (x : S) (y : T) (z : U) → P (slice_index_or xs i x) (slice_index_or ys i y) (slice_index_or zs i z)
