@@ -61,10 +61,11 @@ holds_more {S} {U} P i olds xs zs old new result within is so_far here = record 
     at k less x y z (inr other) = before k (omega (arith, less, other)) other x y z
 
 -- with the list of results that it makes
-pub holds_next : {S U : Type 0} (P : S → S → U → Type 0) (i : ℕ) (olds xs : List S) (zs ws : List U) (old new : S) (result : U)
-    → ws ≡ zs ++ result ∷ [] → i < length xs → old ≡ get_or xs i old → HoldsSoFar P i olds xs zs → P old new result → HoldsSoFar P (i + 1) olds (set xs i new) ws
-holds_next {S} {U} P i olds xs zs ws old new result made within is so_far here =
-    subst (λ (results : List U). HoldsSoFar P (i + 1) olds (set xs i new) results) (sym made) (holds_more P i olds xs zs old new result within is so_far here)
+pub holds_next : {S U : Type 0} (P : S → S → U → Type 0) (i : ℕ) (olds xs : List S) (zs ws : List U) (d new : S) (result : U)
+    → ws ≡ zs ++ result ∷ [] → i < length xs → HoldsSoFar P i olds xs zs → P (get_or xs i d) new result → HoldsSoFar P (i + 1) olds (set xs i new) ws
+holds_next {S} {U} P i olds xs zs ws d new result made within so_far here =
+    subst (λ (results : List U). HoldsSoFar P (i + 1) olds (set xs i new) results) (sym made)
+        (holds_more P i olds xs zs (get_or xs i d) new result within (get_or_default xs i d (get_or xs i d) within) so_far here)
 
 pub holds_all : {S U : Type 0} (P : S → S → U → Type 0) (i : ℕ) (olds xs : List S) (zs : List U) → i ≡ length xs → HoldsSoFar P i olds xs zs → AtEachPlace P olds xs zs
 holds_all P i olds xs zs whole all = record {
