@@ -1,6 +1,7 @@
 -- What the whole call ends with, by the answer of a command.
-use Rattle.std.proofs.Common.{◌≡◌, ◌⊎◌, inl, inr, ℕ, zero, suc, ◌<◌, ◌≤◌, arith, Bool, true, false, if◌then◌else◌, List, [], ◌∷◌, length, get_or, Option, Some, None, Ok, Err, Result, refl, sym, ap, ◌∙◌, subst}
+use Rattle.std.proofs.Common.{◌≡◌, ◌⊎◌, inl, inr, ℕ, zero, suc, ◌<◌, ◌≤◌, arith, Bool, true, false, if◌then◌else◌, List, [], ◌∷◌, ◌++◌, ◌+◌, length, get_or, drop, Option, Some, None, Ok, Err, Result, refl, sym, ap, ◌∙◌, subst, append_assoc, append-nil}
 use Rattle.std.specs.Prelude.{MatchOption}
+use Rattle.std.proofs.lemmas.List.{drop_more, drop_all}
 use Rattle.std.specs.List.{list_any, list_all}
 use Rattle.dep_model.specs.declared.memory.WantMemory.{WantMemory}
 use Rattle.desk_outside.specs.Causes.{Rose}
@@ -13,7 +14,7 @@ use Rattle.csv_migrate.specs.Feeding.{Fed, HasAll}
 use Rattle.desk_cli.specs.declared.status.Status.{Status}
 use Rattle.desk_cli.specs.declared.status.Status.TheVariants.{Yes, No, Refused, CannotRead, CannotWrite, TargetFailed}
 use Rattle.desk_cli.specs.Answers.{Answer}
-use Rattle.desk_cli.specs.Endings.{Ending, TargetsInCall, FedAs, is_done, wants_memory, failures_text, plain, reported, FeedsTargets, Settles, EndsAs, NoneFails, AllHave, HaveTables}
+use Rattle.desk_cli.specs.Endings.{Ending, TargetsInCall, FedAs, is_done, wants_memory, end_text, failures_text, plain, reported, FeedsTargets, Settles, EndsAs, NoneFails, AllHave, HaveTables}
 use Rattle.std.specs.Io.KnownBytes.{append_known}
 use Rattle.desk_cli.specs.Desk.{Desk, Delivered, Delivers, ShelfInCall, SinkInCall, shown, WritesWhole, WritesPart, IsNoOrStops}
 use Rattle.desk_cli.specs.Performs.{Answers}
@@ -66,6 +67,20 @@ all_done targets tables ends fed none calm = (
         (targets.faults (get_or targets.old i x)) (targets.faults (get_or targets.new i y))
         (none_at wants_memory ends i Done none (omega (arith, within, fed.results))) (fed.each i within x y Done).fed (calm i within x y)
 
+-- ---- failures
+pub failures_next : (ends : List FeedEnd) (i : ℕ) (d : FeedEnd) (before after : List ℕ) → i < length ends
+    → before ++ failures_text (i + 1) (drop i ends) ≡ failures_text 1 ends → after ≡ before ++ end_text (i + 1) (get_or ends i d)
+    → after ++ failures_text (i + 1 + 1) (drop (i + 1) ends) ≡ failures_text 1 ends
+failures_next ends i d before after within so_far made =
+    ap (λ (text : List ℕ). text ++ failures_text (i + 1 + 1) (drop (i + 1) ends)) made
+    ∙ append_assoc before (end_text (i + 1) (get_or ends i d)) (failures_text (i + 1 + 1) (drop (i + 1) ends))
+    ∙ ap (λ (rest : List FeedEnd). before ++ failures_text (i + 1) rest) (sym (drop_more ends i d within))
+    ∙ so_far
+
+pub failures_all : (ends : List FeedEnd) (i : ℕ) (text : List ℕ) → length ends ≤ i → text ++ failures_text (i + 1) (drop i ends) ≡ failures_text 1 ends → text ≡ failures_text 1 ends
+failures_all ends i text whole so_far =
+    sym (append-nil text) ∙ ap (λ (rest : List FeedEnd). text ++ failures_text (i + 1) rest) (sym (drop_all i ends whole)) ∙ so_far
+
 -- ---- answers
 -- where no target fails, an answer ends plainly, and the targets have its tables
 settled : (targets : TargetsInCall) (answer : Answer) (ending : Ending) (tables : Option (List TableValue))
@@ -77,29 +92,29 @@ settled targets answer ending (Some ts) feeds calm =
 
 yes_or_failed : (answer : Answer) (b : Bool) (text : List ℕ) → answer.status ≡ Yes
     → ((if b then plain answer else record { status = TargetFailed; text = text }).status ≡ Yes) ⊎ ((if b then plain answer else record { status = TargetFailed; text = text }).status ≡ TargetFailed)
-yes_or_failed answer true text yes = inl yes
-yes_or_failed answer false text yes = inr refl
+yes_or_failed answer true text said = inl said
+yes_or_failed answer false text said = inr refl
 
 not_those : (status : Status) → (status ≡ Yes) ⊎ (status ≡ TargetFailed) → IsNoOrStops status → ⊥
-not_those status (inl is) (inl no) = cc
-not_those status (inl is) (inr (inl no)) = cc
-not_those status (inl is) (inr (inr no)) = cc
-not_those status (inr is) (inl no) = cc
-not_those status (inr is) (inr (inl no)) = cc
-not_those status (inr is) (inr (inr no)) = cc
+not_those status (inl is) (inl other) = cc
+not_those status (inl is) (inr (inl other)) = cc
+not_those status (inl is) (inr (inr other)) = cc
+not_those status (inr is) (inl other) = cc
+not_those status (inr is) (inr (inl other)) = cc
+not_those status (inr is) (inr (inr other)) = cc
 
 not_written : (status : Status) → status ≡ CannotWrite → IsNoOrStops status → ⊥
-not_written status is (inl no) = cc
-not_written status is (inr (inl no)) = cc
-not_written status is (inr (inr no)) = cc
+not_written status is (inl other) = cc
+not_written status is (inr (inl other)) = cc
+not_written status is (inr (inr other)) = cc
 
 -- only yes gives tables
 untouched : (targets : TargetsInCall) (answer : Answer) (ending : Ending) (tables : Option (List TableValue))
     → MatchOption tables ((targets.new ≡ targets.old) × (ending ≡ plain answer)) (λ ts. FeedsTargets targets answer ts ending) → IsNoOrStops ending.status → targets.new ≡ targets.old
-untouched targets answer ending None (same, is) no = same
-untouched targets answer ending (Some ts) feeds no =
+untouched targets answer ending None (same, is) other = same
+untouched targets answer ending (Some ts) feeds other =
     let status : ending.status ≡ (reported answer feeds.ends).status = ap (λ (e : Ending). e.status) feeds.reports in
-    absurd (not_those ending.status (subst (λ (s : Status). (s ≡ Yes) ⊎ (s ≡ TargetFailed)) (sym status) (yes_or_failed answer (list_all is_done feeds.ends) (failures_text 1 feeds.ends) feeds.yes)) no)
+    absurd (not_those ending.status (subst (λ (s : Status). (s ≡ Yes) ⊎ (s ≡ TargetFailed)) (sym status) (yes_or_failed answer (list_all is_done feeds.ends) (failures_text 1 feeds.ends) feeds.yes)) other)
 
 -- ---- the top call
 -- an answer that is allowed, delivered
@@ -110,7 +125,7 @@ pub desk_delivered : (words : List (List ℕ)) (shelf : ShelfInCall) (sink : Sin
 desk_delivered words shelf sink targets answer result seen_so told_so delivered files reads = record {
   answer = λ status is. ended status (delivered.ends status is);
   complete = λ files are calm calm_sink calm_targets status is. whole files are calm calm_sink calm_targets status (delivered.ends status is);
-  stay = λ status is no. stays status no (delivered.ends status is);
+  stay = λ status is other. stays status other (delivered.ends status is);
   memory = λ e is. ((delivered.memory e is).0, inr (answer, seen_so, (delivered.memory e is).1));
   targets_stay = delivered.count;
   files_stay = files;
@@ -137,8 +152,8 @@ desk_delivered words shelf sink targets answer result seen_so told_so delivered 
     whole files are calm calm_sink calm_targets status (inr (cannot, rose, part)) = absurd (calm_sink rose)
 
     stays : (status : Status) → IsNoOrStops status → WritesWhole sink (Settles targets answer) status ⊎ WritesPart sink (Settles targets answer) status → targets.new ≡ targets.old
-    stays status no (inl (ending, settles, same, written)) = untouched targets answer ending answer.tables settles (subst IsNoOrStops same no)
-    stays status no (inr (cannot, rose, part)) = absurd (not_written status cannot no)
+    stays status other (inl (ending, settles, same, written)) = untouched targets answer ending answer.tables settles (subst IsNoOrStops same other)
+    stays status other (inr (cannot, rose, part)) = absurd (not_written status cannot other)
 
 -- no answer for want of memory
 pub desk_memory : (words : List (List ℕ)) (shelf : ShelfInCall) (sink : SinkInCall) (targets : TargetsInCall) (e : WantMemory)
@@ -146,7 +161,7 @@ pub desk_memory : (words : List (List ℕ)) (shelf : ShelfInCall) (sink : SinkIn
 desk_memory words shelf sink targets e same kept writes files reads = record {
   answer = λ status is. absurd (no_status status is);
   complete = λ fs are calm calm_sink calm_targets status is. absurd (no_status status is);
-  stay = λ status is no. kept;
+  stay = λ status is other. kept;
   memory = λ other is. (same, inl kept);
   targets_stay = ap length kept;
   files_stay = files;

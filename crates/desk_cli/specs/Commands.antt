@@ -1,6 +1,6 @@
 -- A command of the code, as its form.
 use Rattle.desk_cli.specs.declared.command.Command.{Command}
-use Rattle.desk_cli.specs.declared.command.Command.TheVariants.{OverSchema}
+use Rattle.desk_cli.specs.declared.command.Command.TheVariants.{OverSchema, Help, Version}
 use Rattle.desk_cli.specs.declared.command.Task.{Task}
 use Rattle.desk_cli.specs.declared.command.Task.TheVariants.{Implies, CheckProof}
 use Rattle.desk_cli.specs.Forms as form
@@ -11,3 +11,5 @@ task_form (CheckProof file goal) = form.check_proof file.now goal.now
 
 abbrev pub command_form : Command → form.Form
 command_form (OverSchema schema task) = form.over_schema schema.now (task_form task)
+command_form Help = form.help
+command_form Version = form.version

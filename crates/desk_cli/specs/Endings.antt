@@ -48,16 +48,16 @@ wants_memory Done = false
 wants_memory Failed = false
 wants_memory NoMemory = true
 
--- the line for the target of this number
-abbrev pub failure_text : ℕ → List ℕ
-failure_text number = line (codes "target " ++ decimal number ++ codes " failed")
+-- what is said of the target of this number, which ended so
+abbrev pub end_text : ℕ → FeedEnd → List ℕ
+end_text number Failed = line (codes "target " ++ decimal number ++ codes " failed")
+end_text number Done = []
+end_text number NoMemory = []
 
 -- a line for each target that failed; the first of these ends is that of the target of this number
 abbrev pub failures_text : ℕ → List FeedEnd → List ℕ
 failures_text number [] = []
-failures_text number (Failed ∷ ends) = failure_text number ++ failures_text (number + 1) ends
-failures_text number (Done ∷ ends) = failures_text (number + 1) ends
-failures_text number (NoMemory ∷ ends) = failures_text (number + 1) ends
+failures_text number (end ∷ ends) = end_text number end ++ failures_text (number + 1) ends
 
 -- an answer, as an ending
 abbrev pub plain : Answer → Ending

@@ -13,6 +13,10 @@ pub data Task : Type 0 where
 pub data Form : Type 0 where
   -- a schema file, and what is asked of it
   over_schema : List ℕ → Task → Form
+  -- the commands, in a few lines
+  help : Form
+  -- the number of the release
+  version : Form
 
 -- ---- words after those of a command
 -- a schema and one word more
@@ -24,6 +28,11 @@ schema_and task _ = None
 unfoldable pub schema_and_two : (List ℕ → List ℕ → Task) → List (List ℕ) → Option Form
 schema_and_two task (schema ∷ first ∷ second ∷ []) = Some (over_schema schema (task first second))
 schema_and_two task _ = None
+
+-- no word
+unfoldable pub alone : Form → List (List ℕ) → Option Form
+alone form [] = Some form
+alone form _ = None
 
 -- ---- the words of a command
 -- after `check`
@@ -39,4 +48,8 @@ form_of [] = None
 form_of (verb ∷ rest) =
     if bytes_eq verb (codes "implies") then schema_and implies rest
     else if bytes_eq verb (codes "check") then check_form rest
+    else if bytes_eq verb (codes "help") then alone help rest
+    else if bytes_eq verb (codes "--help") then alone help rest
+    else if bytes_eq verb (codes "-h") then alone help rest
+    else if bytes_eq verb (codes "--version") then alone version rest
     else None

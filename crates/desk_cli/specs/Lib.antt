@@ -5,6 +5,7 @@ pub mod Readings
 pub mod Inputs
 pub mod Implication
 pub mod Certificates
+pub mod Help
 pub mod Forms
 pub mod Performs
 pub mod Commands

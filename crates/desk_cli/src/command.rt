@@ -1,5 +1,5 @@
 ghost use Rattle.std.specs.Prelude.{◌≡◌, option_map};
-ghost use Rattle.desk_cli.specs.Forms.{schema_and, schema_and_two, check_form, form_of, implies, check_proof};
+ghost use Rattle.desk_cli.specs.Forms.{schema_and, schema_and_two, alone, check_form, form_of, implies, check_proof};
 ghost use Rattle.desk_cli.specs.Commands.{command_form};
 
 use desk_outside::Word;
@@ -18,6 +18,10 @@ pub enum Task<'a> {
 pub enum Command<'a> {
     /// What is asked of the schema of a file.
     OverSchema { schema: &'a Word, task: Task<'a> },
+    /// The commands, in a few lines.
+    Help,
+    /// The number of the release.
+    Version,
 }
 
 /// The command that the words form, if they form one.
@@ -34,7 +38,25 @@ pub fn parse(words: &[Word]) -> Option<Command<'_>>
     if verb.bytes() == b"check".as_slice() {
         return of_check(rest);
     }
+    let verb = verb.bytes();
+    if verb == b"help".as_slice() || verb == b"--help".as_slice() || verb == b"-h".as_slice() {
+        return alone(Command::Help, rest);
+    }
+    if verb == b"--version".as_slice() {
+        return alone(Command::Version, rest);
+    }
     None
+}
+
+// No word more.
+#[tactic(auto, unfolding(crate::specs::Forms::alone))]
+fn alone<'a>(command: Command<'a>, words: &[Word]) -> Option<Command<'a>>
+    ensures form { option_map command_form result ≡ alone (command_form command.entry) words.now }
+{
+    match words {
+        [] => Some(command),
+        _ => None,
+    }
 }
 
 // After `check`.

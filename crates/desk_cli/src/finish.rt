@@ -1,9 +1,11 @@
-ghost use Rattle.std.specs.Prelude.{◌≡◌, List, [], ◌++◌, false, length, IfOk, OnOk, OnErr};
+ghost use Rattle.std.specs.Prelude.{◌≡◌, List, [], ◌++◌, false, length, codes, IfOk, OnOk, OnErr};
+ghost use Rattle.std.specs.Fmt.{decimal};
 ghost use Rattle.std.specs.List.{list_any};
 ghost use Rattle.csv_migrate.specs.Tables.{values_of};
 ghost use Rattle.desk_cli.specs.Answers.{gives};
-ghost use Rattle.desk_cli.specs.Endings.{targets_in_call, is_done, wants_memory, failure_text, failures_text, reported, FeedsTargets, Settles, LeavesTargets};
+ghost use Rattle.desk_cli.specs.Endings.{targets_in_call, is_done, wants_memory, end_text, failures_text, reported, FeedsTargets, Settles, LeavesTargets};
 ghost use Rattle.desk_cli.specs.Replies.{answer_of, ending_of};
+ghost use Rattle.desk_cli.specs.Texts.{line};
 ghost use Rattle.targets.specs.Tables.{TableValue};
 
 use crate::Status;
@@ -104,16 +106,24 @@ fn failures(mut text: Vec<u8>, ends: &[FeedEnd]) -> Result<Vec<u8>, WantMemory>
     ensures lines { IfOk result (λ text. text.items ≡ failures_text 1 ends.now) }
 {
     for (i, end) in ends.iter().enumerate() {
-        if *end == FeedEnd::Failed {
-            put_failure(&mut text, i + 1)?;
-        }
+        put_end(&mut text, i + 1, *end)?;
     }
     Ok(text)
 }
 
+// What is said of the target of this number, at the end of a text.
+fn put_end(text: &mut Vec<u8>, number: usize, end: FeedEnd) -> Result<(), WantMemory>
+    ensures more { OnOk result (text.new.items ≡ text.old.items ++ end_text number end) }
+{
+    match end {
+        FeedEnd::Failed => put_failure(text, number),
+        FeedEnd::Done | FeedEnd::NoMemory => Ok(()),
+    }
+}
+
 // The line for the target of this number, at the end of a text.
 fn put_failure(text: &mut Vec<u8>, number: usize) -> Result<(), WantMemory>
-    ensures more { OnOk result (text.new.items ≡ text.old.items ++ failure_text number) }
+    ensures more { OnOk result (text.new.items ≡ text.old.items ++ line (codes "target " ++ decimal number ++ codes " failed")) }
 {
     put(text, b"target ")?;
     put(text, Buffer::new().format(number).as_bytes())?;

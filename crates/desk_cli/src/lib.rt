@@ -10,6 +10,7 @@ mod check_proof;
 mod command;
 mod finish;
 mod goal;
+mod help;
 mod implies;
 mod proof_refusals;
 mod read;

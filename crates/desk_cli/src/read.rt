@@ -14,7 +14,7 @@ use crate::proof_refusals::proof_refusal_line;
 use crate::refusals::refusal_line;
 use crate::reply::Stop;
 use crate::text::line_of;
-use dep_model::Schema;
+use dep_model::{Schema, WantMemory};
 use derivation::Deriv;
 use desk_outside::{LoadRefusal, Shelf, Word, load};
 use proof_text::{MOST_PROOF_BYTES, ProofRefusal, ProofRefusalKind, read_proof};
@@ -47,20 +47,26 @@ pub fn open_file<F: Shelf>(
 fn cannot_read(alloc: Global, name: &Word) -> Stop
     ensures says { StopsAs (Says Status.CannotRead (cannot_read_text name.now)) result }
 {
-    Stop::says(
-        Status::CannotRead,
-        line_of(alloc, b"cannot read ", name.bytes(), b""),
-    )
+    Stop::says(Status::CannotRead, cannot_read_line(alloc, name))
+}
+
+fn cannot_read_line(alloc: Global, name: &Word) -> Result<Vec<u8>, WantMemory>
+    ensures line { IfOk result (λ text. text.items ≡ cannot_read_text name.now) }
+{
+    line_of(alloc, b"cannot read ", name.bytes(), b"")
 }
 
 // A file that is too long.
 fn too_long(alloc: Global, name: &Word) -> Stop
     ensures says { StopsAs (Says Status.Refused (too_long_text name.now)) result }
 {
-    Stop::says(
-        Status::Refused,
-        line_of(alloc, b"refused: ", name.bytes(), b" is too long"),
-    )
+    Stop::says(Status::Refused, too_long_line(alloc, name))
+}
+
+fn too_long_line(alloc: Global, name: &Word) -> Result<Vec<u8>, WantMemory>
+    ensures line { IfOk result (λ text. text.items ≡ too_long_text name.now) }
+{
+    line_of(alloc, b"refused: ", name.bytes(), b" is too long")
 }
 
 /// The schema of a file.

@@ -11,6 +11,7 @@ use crate::Status;
 use crate::check_proof::check_proof;
 use crate::command::{Command, Task, parse};
 use crate::finish::settle;
+use crate::help::{help, version};
 use crate::implies::implies;
 use crate::read::open_schema;
 use crate::reply::{Reply, Stop};
@@ -108,6 +109,8 @@ fn perform<F: Shelf>(alloc: Global, command: Command<'_>, shelf: &mut F) -> Resu
 {
     match command {
         Command::OverSchema { schema, task } => over_schema(alloc, shelf, schema, task),
+        Command::Help => help(alloc),
+        Command::Version => version(alloc),
     }
 }
 
