@@ -49,12 +49,12 @@ holds_more {S} {U} P i olds xs zs old new result within is so_far here = record 
         let new_is : new ≡ get_or (set xs i new) i y = sym (get_or-set_same xs i new y within) in
         let result_is : result ≡ get_or (zs ++ result ∷ []) i z = sym (get_or_push zs result z i so_far.results) in
         subst (λ (c : U). P (get_or olds i x) (get_or (set xs i new) i y) c) result_is
-            (subst (λ (b : S). P (get_or olds i x) b result) new_is (subst (λ (a : S). P a new result) old_is here))
+        (subst (λ (b : S). P (get_or olds i x) b result) new_is (subst (λ (a : S). P a new result) old_is here))
 
     before : (k : ℕ) → k < i → (k ≡ i → ⊥) → (x y : S) (z : U) → P (get_or olds k x) (get_or (set xs i new) k y) (get_or (zs ++ result ∷ []) k z)
     before k less other x y z =
         subst (λ (c : U). P (get_or olds k x) (get_or (set xs i new) k y) c) (sym (get_or_append_left zs (result ∷ []) z k (omega (arith, less, so_far.results))))
-            (subst (λ (b : S). P (get_or olds k x) b (get_or zs k z)) (sym (get_or-set_other xs i k new y other)) (so_far.done k less x y z))
+        (subst (λ (b : S). P (get_or olds k x) b (get_or zs k z)) (sym (get_or-set_other xs i k new y other)) (so_far.done k less x y z))
 
     at : (k : ℕ) → k < i + 1 → (x y : S) (z : U) → (k ≡ i) ⊎ (k ≡ i → ⊥) → P (get_or olds k x) (get_or (set xs i new) k y) (get_or (zs ++ result ∷ []) k z)
     at k less x y z (inl e) = subst (λ (n : ℕ). P (get_or olds n x) (get_or (set xs i new) n y) (get_or (zs ++ result ∷ []) n z)) (sym e) (last x y z)
@@ -65,7 +65,7 @@ pub holds_next : {S U : Type 0} (P : S → S → U → Type 0) (i : ℕ) (olds x
     → ws ≡ zs ++ result ∷ [] → i < length xs → HoldsSoFar P i olds xs zs → P (get_or xs i d) new result → HoldsSoFar P (i + 1) olds (set xs i new) ws
 holds_next {S} {U} P i olds xs zs ws d new result made within so_far here =
     subst (λ (results : List U). HoldsSoFar P (i + 1) olds (set xs i new) results) (sym made)
-        (holds_more P i olds xs zs (get_or xs i d) new result within (get_or_default xs i d (get_or xs i d) within) so_far here)
+    (holds_more P i olds xs zs (get_or xs i d) new result within (get_or_default xs i d (get_or xs i d) within) so_far here)
 
 pub holds_all : {S U : Type 0} (P : S → S → U → Type 0) (i : ℕ) (olds xs : List S) (zs : List U) → i ≡ length xs → HoldsSoFar P i olds xs zs → AtEachPlace P olds xs zs
 holds_all P i olds xs zs whole all = record {

@@ -18,7 +18,8 @@ pub fn feed(
     tables: &[Table],
 ) -> Result<Vec<FeedEnd>, WantMemory>
     ensures fed { IfOk result (λ ends. AtEachPlace
-        (FedTarget ⟦<Box<dyn Target> as Target>⟧.tells ⟦<Box<dyn Target> as Target>⟧.finished ⟦<Box<dyn Target> as Target>⟧.faults (values_of tables.now))
+        (FedTarget ⟦<Box<dyn Target> as Target>⟧.tells ⟦<Box<dyn Target> as Target>⟧.finished
+        ⟦<Box<dyn Target> as Target>⟧.faults (values_of tables.now))
         targets.old.items targets.new.items ends.items) }
     ensures err { OnErr result (targets.new.items ≡ targets.old.items) }
 {

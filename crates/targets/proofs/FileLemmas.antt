@@ -53,8 +53,8 @@ pub csv_adds : (known : Option FolderContents) (table : TableValue) (row : Tuple
 csv_adds known table row bytes is open_is =
     adds csv_file known table (with_row row table) bytes
     (ap (λ (text : List ℕ). record { name = table.name ++ codes ".csv"; bytes = text })
-        (ap (λ (more : List ℕ). flat_map csv_row (table.columns ∷ table.rows) ++ more) is
-        ∙ flat_map_more csv_row (csv_row table.columns) table.rows row))
+    (ap (λ (more : List ℕ). flat_map csv_row (table.columns ∷ table.rows) ++ more) is
+    ∙ flat_map_more csv_row (csv_row table.columns) table.rows row))
     open_is
 
 pub sql_opens : (known : Option FolderContents) (name : List ℕ) (columns : List (List ℕ)) → OpenIs sql_file (option_map (with_begun (name ++ codes ".sql")) known) (empty_table name columns)
@@ -65,6 +65,6 @@ pub sql_adds : (known : Option FolderContents) (table : TableValue) (row : Tuple
 sql_adds known table row head bytes head_is is open_is =
     adds sql_file known table (with_row row table) bytes
     (ap (λ (text : List ℕ). record { name = table.name ++ codes ".sql"; bytes = text })
-        (ap (λ (more : List ℕ). flat_map (sql_row (sql_head table.name table.columns)) table.rows ++ more) (is ∙ ap (λ (h : List ℕ). sql_row h row) head_is)
-        ∙ flat_map_more (sql_row (sql_head table.name table.columns)) [] table.rows row))
+    (ap (λ (more : List ℕ). flat_map (sql_row (sql_head table.name table.columns)) table.rows ++ more) (is ∙ ap (λ (h : List ℕ). sql_row h row) head_is)
+    ∙ flat_map_more (sql_row (sql_head table.name table.columns)) [] table.rows row))
     open_is

@@ -34,8 +34,10 @@ impl<G: Folder> BufferedFolder<G> {
     fn write_out(&mut self) -> Result<(), OutsideFault>
         requires is_open { IsTrue (G.is_open self.old.folder) }
         ensures empty { OnOk result (self.new.buffer.items ≡ []) }
-        ensures ok { OnOk result (G.contents self.new.folder ≡ option_map (with_bytes self.old.buffer.items) (G.contents self.old.folder)) }
-        ensures closed { OnErr result (G.contents self.new.folder ≡ option_map with_none_open (G.contents self.old.folder)) }
+        ensures ok { OnOk result (G.contents self.new.folder
+            ≡ option_map (with_bytes self.old.buffer.items) (G.contents self.old.folder)) }
+        ensures closed { OnErr result (G.contents self.new.folder
+            ≡ option_map with_none_open (G.contents self.old.folder)) }
         ensures is_open { G.is_open self.new.folder ≡ is_ok result }
         ensures cause { HasOutsideCause (G.faults self.old.folder) (G.faults self.new.folder) result }
     {

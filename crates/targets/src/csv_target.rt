@@ -46,9 +46,11 @@ impl<G: Folder> Target for CsvTarget<G> {
 
     ghost tells = { λ target. is_some (G.contents target.folder.folder) };
 
-    ghost finished = { λ target done. FilesAre csv_file (⟦<BufferedFolder<G> as Folder>⟧.contents target.folder) done };
+    ghost finished = { λ target done.
+        FilesAre csv_file (⟦<BufferedFolder<G> as Folder>⟧.contents target.folder) done };
 
-    ghost opened = { λ target table. OpenIs csv_file (⟦<BufferedFolder<G> as Folder>⟧.contents target.folder) table };
+    ghost opened = { λ target table.
+        OpenIs csv_file (⟦<BufferedFolder<G> as Folder>⟧.contents target.folder) table };
 
     ghost width = { λ target. target.columns };
 
@@ -85,7 +87,8 @@ impl<G: Folder> Target for CsvTarget<G> {
     }
 
     fn held_files(&self) -> Option<&[HeldFile]>
-        ensures shown { IfSome result (λ files. option_map (λ folder. folder.finished) (G.contents self.now.folder.folder) ≡ Some (files_of files.now)) }
+        ensures shown { IfSome result (λ files.
+            option_map (λ folder. folder.finished) (G.contents self.now.folder.folder) ≡ Some (files_of files.now)) }
     {
         self.folder.shown()
     }

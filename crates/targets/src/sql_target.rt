@@ -47,9 +47,12 @@ impl<G: Folder> Target for SqlTarget<G> {
 
     ghost tells = { λ target. is_some (G.contents target.folder.folder) };
 
-    ghost finished = { λ target done. FilesAre sql_file (⟦<BufferedFolder<G> as Folder>⟧.contents target.folder) done };
+    ghost finished = { λ target done.
+        FilesAre sql_file (⟦<BufferedFolder<G> as Folder>⟧.contents target.folder) done };
 
-    ghost opened = { λ target table. OpenIs sql_file (⟦<BufferedFolder<G> as Folder>⟧.contents target.folder) table × (target.head.items ≡ sql_head table.name table.columns) };
+    ghost opened = { λ target table.
+        OpenIs sql_file (⟦<BufferedFolder<G> as Folder>⟧.contents target.folder) table
+        × (target.head.items ≡ sql_head table.name table.columns) };
 
     ghost width = { λ target. target.columns };
 
@@ -85,7 +88,8 @@ impl<G: Folder> Target for SqlTarget<G> {
     }
 
     fn held_files(&self) -> Option<&[HeldFile]>
-        ensures shown { IfSome result (λ files. option_map (λ folder. folder.finished) (G.contents self.now.folder.folder) ≡ Some (files_of files.now)) }
+        ensures shown { IfSome result (λ files.
+            option_map (λ folder. folder.finished) (G.contents self.now.folder.folder) ≡ Some (files_of files.now)) }
     {
         self.folder.shown()
     }

@@ -57,7 +57,8 @@ pub trait Target: Drop {
 
     /// The finished tables, of a target that keeps them in memory.
     fn held_tables(&self) -> Option<&[HeldTable]>
-        ensures held { (done : List TableValue) → finished self.now done → IfSome result (λ tables. done ≡ map held_value tables.now) };
+        ensures held { (done : List TableValue) → finished self.now done
+            → IfSome result (λ tables. done ≡ map held_value tables.now) };
 
     /// The finished files, of a target over a folder that shows them.
     fn held_files(&self) -> Option<&[HeldFile]>;
