@@ -1,6 +1,6 @@
 ghost use Rattle.std.specs.Prelude.{◌≡◌, List, [], ◌++◌, false, length, codes, IfOk, OnOk, OnErr};
 ghost use Rattle.std.specs.Fmt.{decimal};
-ghost use Rattle.std.specs.List.{list_any};
+ghost use Rattle.std.specs.List.{list_any, list_all};
 ghost use Rattle.csv_migrate.specs.Tables.{values_of};
 ghost use Rattle.desk_cli.specs.Answers.{gives};
 ghost use Rattle.desk_cli.specs.Endings.{targets_in_call, is_done, wants_memory, end_text, failures_text, reported, FeedsTargets, Settles, LeavesTargets};
@@ -64,7 +64,8 @@ fn hand_over<T: Target>(
 {
     let room = Vec::with_capacity(alloc, targets.len().saturating_mul(LINE))?;
     let ends = feed_list(alloc, targets, tables)?;
-    report(text, room, &ends)
+    let end = report(text, room, &ends)?;
+    Ok(end)
 }
 
 // What is told after targets ended so. The text of a failure is written into the room.
@@ -73,10 +74,10 @@ fn report(text: Vec<u8>, room: Vec<u8>, ends: &[FeedEnd]) -> Result<End, WantMem
     ensures memory { OnOk result (list_any wants_memory ends.now ≡ false) }
     ensures reports { (tables : List TableValue) → IfOk result (λ end. ending_of end ≡ reported (gives text.items tables) ends.now) }
 {
-    if ends.iter().any(|end| wants_memory(*end)) {
+    if some_wants_memory(ends) {
         return Err(WantMemory);
     }
-    if ends.iter().all(|end| is_done(*end)) {
+    if all_are_done(ends) {
         return Ok(End {
             status: Status::Yes,
             text,
@@ -86,6 +87,18 @@ fn report(text: Vec<u8>, room: Vec<u8>, ends: &[FeedEnd]) -> Result<End, WantMem
         status: Status::TargetFailed,
         text: failures(room, ends)?,
     })
+}
+
+fn some_wants_memory(ends: &[FeedEnd]) -> bool
+    ensures some { result ≡ list_any wants_memory ends.now }
+{
+    ends.iter().any(|end| wants_memory(*end))
+}
+
+fn all_are_done(ends: &[FeedEnd]) -> bool
+    ensures all { result ≡ list_all is_done ends.now }
+{
+    ends.iter().all(|end| is_done(*end))
 }
 
 fn wants_memory(end: FeedEnd) -> bool
