@@ -1,13 +1,15 @@
 //! The program: it answers its words over the files of the current folder, on standard output, and
-//! ends with the number of the status, or with 6 where no memory was found.
+//! ends with the number of the status, or with 6 where no memory was found. Tables that it migrates
+//! become files of the current folder, `t1.csv`, `t1.sql` and so on.
 #![tactic(auto)]
 
 use dep_model::WantMemory;
 use desk_cli::{Status, desk};
-use desk_outside::{FileShelf, StdoutSink, Word};
+use desk_outside::{FileFolder, FileShelf, StdoutSink, Word};
 use std::env;
 use std::process::ExitCode;
 use std::rt::Runtime;
+use targets::{CsvTarget, SqlTarget, Target};
 
 fn main(rt: HostRuntime) -> ExitCode {
     match run(rt) {
@@ -19,15 +21,25 @@ fn main(rt: HostRuntime) -> ExitCode {
 fn run<R: Runtime + AllocGlobal>(rt: R) -> Result<Status, WantMemory> {
     let alloc = rt.alloc();
     let words = words_of(&rt)?;
-    let Ok(files) = rt.clone() else {
-        return Err(WantMemory);
-    };
-    let mut shelf = FileShelf::make(files);
+    let mut shelf = FileShelf::make(another(&rt)?);
+    let csv = CsvTarget::make(alloc, FileFolder::make(another(&rt)?))?;
+    let sql = SqlTarget::make(alloc, FileFolder::make(another(&rt)?))?;
+    let mut targets: Vec<Box<dyn Target>> = Vec::new(alloc);
+    targets.push(Box::new(alloc, csv)?)?;
+    targets.push(Box::new(alloc, sql)?)?;
     let mut out = StdoutSink::make(rt);
-    desk(alloc, &words, &mut shelf, &mut out)
+    desk(alloc, &words, &mut shelf, &mut out, &mut targets)
 }
 
-// The words behind the program's name.
+// The runtime once more, for an object that keeps it.
+fn another<R: Runtime>(rt: &R) -> Result<R, WantMemory> {
+    match rt.clone() {
+        Ok(rt) => Ok(rt),
+        Err(_) => Err(WantMemory),
+    }
+}
+
+// The words after the program's name.
 fn words_of<R: Runtime + AllocGlobal>(rt: &R) -> Result<Vec<Word>, WantMemory> {
     let Ok(arguments) = env::args(rt) else {
         return Err(WantMemory);

@@ -1,2 +1,3 @@
-pub mod CompleteLemmas
+pub mod StepLemmas
 pub mod MeaningLemmas
+pub mod EndingLemmas

@@ -1,8 +1,15 @@
+-- A command of the code, as its form.
 use Rattle.desk_cli.specs.declared.command.Command.{Command}
-use Rattle.desk_cli.specs.declared.command.Command.TheVariants.{Implies, CheckProof}
-use Rattle.desk_cli.specs.Forms.{Form, implies, check_proof}
+use Rattle.desk_cli.specs.declared.command.Command.TheVariants.{OverSchema, Help, Version}
+use Rattle.desk_cli.specs.declared.command.Task.{Task}
+use Rattle.desk_cli.specs.declared.command.Task.TheVariants.{Implies, CheckProof}
+use Rattle.desk_cli.specs.Forms as form
 
--- a command by its words
-abbrev pub command_form : Command → Form
-command_form (Implies schema goal) = implies schema.now goal.now
-command_form (CheckProof schema file goal) = check_proof schema.now file.now goal.now
+abbrev pub task_form : Task → form.Task
+task_form (Implies goal) = form.implies goal.now
+task_form (CheckProof file goal) = form.check_proof file.now goal.now
+
+abbrev pub command_form : Command → form.Form
+command_form (OverSchema schema task) = form.over_schema schema.now (task_form task)
+command_form Help = form.help
+command_form Version = form.version

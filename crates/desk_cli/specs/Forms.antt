@@ -1,16 +1,55 @@
-use Rattle.std.specs.Prelude.{ℕ, Option, Some, None, List, [], ◌∷◌, ◌&&◌, if◌then◌else◌, codes}
+-- The commands, and the words that form them.
+use Rattle.std.specs.Prelude.{ℕ, Option, Some, None, List, [], ◌∷◌, if◌then◌else◌, codes}
 use Rattle.std.specs.Str.{bytes_eq}
 
--- a command, with the words that follow its own
+-- what is asked of a schema, with the words that follow the schema's
+pub data Task : Type 0 where
+  -- whether it implies a goal
+  implies : List ℕ → Task
+  -- whether the certificate of a file proves a goal
+  check_proof : List ℕ → List ℕ → Task
+
+-- a command
 pub data Form : Type 0 where
-  -- a schema file and a goal
-  implies : List ℕ → List ℕ → Form
-  -- a schema file, a certificate file and a goal
-  check_proof : List ℕ → List ℕ → List ℕ → Form
+  -- a schema file, and what is asked of it
+  over_schema : List ℕ → Task → Form
+  -- the commands, in a few lines
+  help : Form
+  -- the number of the release
+  version : Form
+
+-- ---- words after those of a command
+-- a schema and one word more
+unfoldable pub schema_and : (List ℕ → Task) → List (List ℕ) → Option Form
+schema_and task (schema ∷ word ∷ []) = Some (over_schema schema (task word))
+schema_and task _ = None
+
+-- a schema and two words more
+unfoldable pub schema_and_two : (List ℕ → List ℕ → Task) → List (List ℕ) → Option Form
+schema_and_two task (schema ∷ first ∷ second ∷ []) = Some (over_schema schema (task first second))
+schema_and_two task _ = None
+
+-- no word
+unfoldable pub alone : Form → List (List ℕ) → Option Form
+alone form [] = Some form
+alone form _ = None
+
+-- ---- the words of a command
+-- after `check`
+unfoldable pub check_form : List (List ℕ) → Option Form
+check_form [] = None
+check_form (what ∷ rest) =
+    if bytes_eq what (codes "proof") then schema_and_two check_proof rest
+    else None
 
 -- the command that the words form, if they form one
-abbrev pub form_of : List (List ℕ) → Option Form
-form_of (verb ∷ schema ∷ goal ∷ []) = if bytes_eq verb (codes "implies") then Some (implies schema goal) else None
-form_of (verb ∷ what ∷ schema ∷ file ∷ goal ∷ []) =
-    if bytes_eq verb (codes "check") && bytes_eq what (codes "proof") then Some (check_proof schema file goal) else None
-form_of _ = None
+unfoldable pub form_of : List (List ℕ) → Option Form
+form_of [] = None
+form_of (verb ∷ rest) =
+    if bytes_eq verb (codes "implies") then schema_and implies rest
+    else if bytes_eq verb (codes "check") then check_form rest
+    else if bytes_eq verb (codes "help") then alone help rest
+    else if bytes_eq verb (codes "--help") then alone help rest
+    else if bytes_eq verb (codes "-h") then alone help rest
+    else if bytes_eq verb (codes "--version") then alone version rest
+    else None

@@ -1,8 +1,14 @@
-pub mod Forms
-pub mod Commands
+pub mod Answers
 pub mod Texts
 pub mod ProofTexts
 pub mod Readings
-pub mod Answers
+pub mod Inputs
+pub mod Implication
+pub mod Certificates
+pub mod Help
+pub mod Forms
+pub mod Performs
+pub mod Commands
 pub mod Replies
+pub mod Endings
 pub mod Desk

@@ -1,28 +1,44 @@
--- What a shelf of files shows in a call.
-use Rattle.std.specs.Prelude.{◌≡◌, ◌⊎◌, ℕ, ◌+◌, ◌<◌, List, length, Option, Some, None, IsSomeAnd}
+-- What is known of the files while a command reads them.
+use Rattle.std.specs.Prelude.{⊤, ◌≡◌, ◌⊎◌, ℕ, ◌+◌, ◌≤◌, List, length, Option, Some}
 use Rattle.desk_outside.specs.Causes.{Rose}
-use Rattle.desk_outside.specs.Files.{Files, held, IsMissing, IsHeld, IsLonger}
+use Rattle.desk_outside.specs.Files.{Files, IsMissing, IsHeld, IsLonger}
 
--- which files can't be read, which are longer than a limit, and which bytes a file has
-pub record Reading : Type 1 where
-  pub cannot_read : List ℕ → Type 0
-  pub too_long : List ℕ → ℕ → Type 0
-  pub has : List ℕ → List ℕ → Type 0
+pub data Reading : Type 0 where
+  -- these are the files, and nothing fails
+  told : Files → Reading
+  -- a shelf in a call: its files, where told, its faults before and after, and the bytes taken since the
+  -- last file was begun
+  seen : Option Files → ℕ → ℕ → ℕ → Reading
 
--- files that are told, where nothing fails
-abbrev pub told : Files → Reading
-told files = record {
-  cannot_read = λ name. held files name ≡ None;
-  too_long = λ name limit. IsSomeAnd (held files name) (λ bytes. limit < length bytes);
-  has = λ name bytes. held files name ≡ Some bytes;
-}
+-- the files, where told
+abbrev pub files_in : Reading → Option Files
+files_in (told files) = Some files
+files_in (seen files before after taken) = files
 
--- A shelf in a call: its files, where told, its faults before and after, and the bytes taken since the
--- last file was begun. A file can't be read only where the faults rose or the shelf lacks it; it is too
--- long only where one byte more than the limit was taken.
-abbrev pub seen : Option Files → ℕ → ℕ → ℕ → Reading
-seen files before after taken = record {
-  cannot_read = λ name. Rose before after ⊎ IsMissing files name;
-  too_long = λ name limit. (taken ≡ limit + 1) × IsLonger files name limit;
-  has = λ name bytes. IsHeld files name bytes;
-}
+-- the faults rose
+abbrev pub Fails : Reading → Type 0
+Fails (told files) = ⊥
+Fails (seen files before after taken) = Rose before after
+
+-- one byte more than a limit was taken
+abbrev pub TookMore : Reading → ℕ → Type 0
+TookMore (told files) limit = ⊤
+TookMore (seen files before after taken) limit = taken ≡ limit + 1
+
+-- a file can't be read only where the faults rose or the shelf lacks it
+abbrev pub CannotBeRead : Reading → List ℕ → Type 0
+CannotBeRead r name = Fails r ⊎ IsMissing (files_in r) name
+
+-- a file is too long only where one byte more than the limit was taken
+abbrev pub IsTooLong : Reading → List ℕ → ℕ → Type 0
+IsTooLong r name limit = TookMore r limit × IsLonger (files_in r) name limit
+
+-- a file of at most so many bytes has these
+abbrev pub IsContent : Reading → List ℕ → ℕ → List ℕ → Type 0
+IsContent r name limit bytes = IsHeld (files_in r) name bytes × (length bytes ≤ limit)
+
+-- a reading tells what a shelf shows from one state to a later one
+pub record Shows {S : Type 0} (files : S → Option Files) (faults taken : S → ℕ) (old new : S) (r : Reading) : Type 0 where
+  pub same : files_in r ≡ files old
+  pub fails : Rose (faults old) (faults new) → Fails r
+  pub takes : (limit : ℕ) → taken new ≡ limit + 1 → TookMore r limit

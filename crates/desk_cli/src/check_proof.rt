@@ -3,14 +3,14 @@ ghost use Rattle.dep_model.specs.Deps.{dependency_of, IsDepWithin};
 ghost use Rattle.dep_model.specs.Schemas.{universe_of};
 ghost use Rattle.derivation.specs.Derivs.{tree_of};
 ghost use Rattle.proof_text.specs.Checked.{IsChecked};
-ghost use Rattle.desk_cli.specs.Forms.{check_proof};
-ghost use Rattle.desk_cli.specs.Readings.{seen};
-ghost use Rattle.desk_cli.specs.Replies.{RepliesAs};
-ghost use Rattle.desk_cli.specs.Answers.{Performs, Checked};
+ghost use Rattle.desk_cli.specs.Certificates.{Checked, ChecksProof};
+ghost use Rattle.desk_cli.specs.Inputs.{WithGoal};
+ghost use Rattle.desk_cli.specs.Readings.{Reading, Shows};
+ghost use Rattle.desk_cli.specs.Replies.{answer_of, RepliesAs};
 
 use crate::Status;
 use crate::goal::goal_of;
-use crate::read::{open_proof, open_schema};
+use crate::read::open_proof;
 use crate::reply::{Reply, Stop};
 use crate::text::{line_of, put};
 use dep_model::{Dep, Schema, WantMemory};
@@ -20,46 +20,50 @@ use proof_text::same_dependency;
 use schema_reader::print_dep;
 use std::alloc::Global;
 
-/// Whether the certificate of a file proves a goal over the schema of a file, by the rules alone.
-#[tactic(auto, unfolding(crate::specs::Answers::Performs))]
+/// Whether the certificate of a file proves a goal over a schema, by the rules alone.
 pub fn check_proof<F: Shelf>(
     alloc: Global,
     shelf: &mut F,
+    schema: &Schema,
     file: &Word,
-    proof: &Word,
     goal: &Word,
 ) -> Result<Reply, Stop>
     ensures files { F.files shelf.new ≡ F.files shelf.old }
     ensures later { F.faults shelf.old ≤ F.faults shelf.new }
-    ensures reply { RepliesAs (Performs (seen (F.files shelf.old) (F.faults shelf.old) (F.faults shelf.new) (F.taken shelf.new)) (check_proof file.now proof.now goal.now)) result }
+    ensures reply { (r : Reading) → Shows F.files F.faults F.taken shelf.old shelf.new r → RepliesAs (ChecksProof r schema.now file.now goal.now) result }
 {
-    let schema = open_schema(alloc, shelf, file)?;
-    let deriv = match open_proof(alloc, shelf, &schema, proof) {
+    let deriv = match open_proof(alloc, shelf, schema, file) {
         Ok(deriv) => deriv,
         Err(stop) => return Err(stop),
     };
-    let dep = match goal_of(alloc, &schema, goal) {
+    concludes(alloc, schema, &deriv, goal)
+}
+
+// Whether a derivation concludes a goal.
+fn concludes(alloc: Global, schema: &Schema, deriv: &Deriv, goal: &Word) -> Result<Reply, Stop>
+    requires proof { IsChecked schema.now (tree_of deriv.now) }
+    ensures reply { RepliesAs (WithGoal schema.now goal.now (Checked schema.now (tree_of deriv.now))) result }
+{
+    let dep = match goal_of(alloc, schema, goal) {
         Ok(dep) => dep,
         Err(stop) => return Err(stop),
     };
-    Ok(checked(alloc, &schema, &deriv, dep)?)
+    Ok(checked(alloc, schema, deriv, dep)?)
 }
 
 /// The answer to a derivation and a goal.
 fn checked(alloc: Global, schema: &Schema, deriv: &Deriv, dep: Dep) -> Result<Reply, WantMemory>
     requires proof { IsChecked schema.now (tree_of deriv.now) }
     requires dep { IsDepWithin (universe_of schema.now) dep }
-    ensures answer { IfOk result (λ reply. Checked schema.now (tree_of deriv.now) (dependency_of dep) reply.status reply.text.items) }
+    ensures answer { IfOk result (λ reply. Checked schema.now (tree_of deriv.now) (dependency_of dep) (answer_of reply)) }
 {
     let concluded = match conclude(schema, deriv) {
         Ok(concluded) => concluded,
         Err(_) => unreachable!(),
     };
     if same_dependency(concluded, dep) {
-        return Ok(Reply {
-            status: Status::Yes,
-            text: line_of(alloc, b"checked ", &print_dep(alloc, schema, dep)?, b"")?,
-        });
+        let text = line_of(alloc, b"checked ", &print_dep(alloc, schema, dep)?, b"")?;
+        return Ok(Reply::says(Status::Yes, text));
     }
     let mut text = line_of(
         alloc,
@@ -69,8 +73,5 @@ fn checked(alloc: Global, schema: &Schema, deriv: &Deriv, dep: Dep) -> Result<Re
     )?;
     let asked = line_of(alloc, b"asked ", &print_dep(alloc, schema, dep)?, b"")?;
     put(&mut text, &asked)?;
-    Ok(Reply {
-        status: Status::No,
-        text,
-    })
+    Ok(Reply::says(Status::No, text))
 }

@@ -1,59 +1,100 @@
-ghost use Rattle.std.specs.Prelude.{◌≡◌, [], ◌∷◌};
-ghost use Rattle.std.specs.Option.{option_map};
-ghost use Rattle.desk_cli.specs.Forms.{form_of};
+ghost use Rattle.std.specs.Prelude.{◌≡◌, option_map};
+ghost use Rattle.desk_cli.specs.Forms.{schema_and, schema_and_two, alone, check_form, form_of, implies, check_proof};
 ghost use Rattle.desk_cli.specs.Commands.{command_form};
 
 use desk_outside::Word;
 
-/// A command, with the words that follow its own.
+/// What is asked of a schema, with the words that follow the schema's.
+#[derive(Clone, Copy, Debug)]
+pub enum Task<'a> {
+    /// Whether it implies a goal.
+    Implies { goal: &'a Word },
+    /// Whether the certificate of a file proves a goal.
+    CheckProof { file: &'a Word, goal: &'a Word },
+}
+
+/// A command.
 #[derive(Clone, Copy, Debug)]
 pub enum Command<'a> {
-    /// Whether the schema of a file implies a goal.
-    Implies {
-        schema: &'a Word,
-        goal: &'a Word,
-    },
-    /// Whether a certificate proves a goal.
-    CheckProof {
-        schema: &'a Word,
-        file: &'a Word,
-        goal: &'a Word,
-    },
+    /// What is asked of the schema of a file.
+    OverSchema { schema: &'a Word, task: Task<'a> },
+    /// The commands, in a few lines.
+    Help,
+    /// The number of the release.
+    Version,
 }
 
 /// The command that the words form, if they form one.
+#[tactic(auto, unfolding(crate::specs::Forms::form_of))]
 pub fn parse(words: &[Word]) -> Option<Command<'_>>
     ensures form { option_map command_form result ≡ form_of words.now }
 {
+    let [verb, rest @ ..] = words else {
+        return None;
+    };
+    if verb.bytes() == b"implies".as_slice() {
+        return of_implies(rest);
+    }
+    if verb.bytes() == b"check".as_slice() {
+        return of_check(rest);
+    }
+    let verb = verb.bytes();
+    if verb == b"help".as_slice() || verb == b"--help".as_slice() || verb == b"-h".as_slice() {
+        return alone(Command::Help, rest);
+    }
+    if verb == b"--version".as_slice() {
+        return alone(Command::Version, rest);
+    }
+    None
+}
+
+// No word more.
+#[tactic(auto, unfolding(crate::specs::Forms::alone))]
+fn alone<'a>(command: Command<'a>, words: &[Word]) -> Option<Command<'a>>
+    ensures form { option_map command_form result ≡ alone (command_form command.entry) words.now }
+{
     match words {
-        [verb, schema, goal] => of_two(verb, schema, goal),
-        [verb, what, schema, file, goal] => of_three(verb, what, schema, file, goal),
+        [] => Some(command),
         _ => None,
     }
 }
 
-/// A command of one word, with two words more.
-fn of_two<'a>(verb: &Word, schema: &'a Word, goal: &'a Word) -> Option<Command<'a>>
-    ensures form { option_map command_form result ≡ form_of (verb.now ∷ schema.now ∷ goal.now ∷ []) }
+// After `check`.
+#[tactic(auto, unfolding(crate::specs::Forms::check_form))]
+fn of_check(words: &[Word]) -> Option<Command<'_>>
+    ensures form { option_map command_form result ≡ check_form words.now }
 {
-    if verb.bytes() == b"implies".as_slice() {
-        return Some(Command::Implies { schema, goal });
+    let [what, rest @ ..] = words else {
+        return None;
+    };
+    if what.bytes() == b"proof".as_slice() {
+        return of_check_proof(rest);
     }
     None
 }
 
-/// A command of two words, with three words more.
-fn of_three<'a>(
-    verb: &Word,
-    what: &Word,
-    schema: &'a Word,
-    file: &'a Word,
-    goal: &'a Word,
-) -> Option<Command<'a>>
-    ensures form { option_map command_form result ≡ form_of (verb.now ∷ what.now ∷ schema.now ∷ file.now ∷ goal.now ∷ []) }
+#[tactic(auto, unfolding(crate::specs::Forms::schema_and))]
+fn of_implies(words: &[Word]) -> Option<Command<'_>>
+    ensures form { option_map command_form result ≡ schema_and implies words.now }
 {
-    if verb.bytes() == b"check".as_slice() && what.bytes() == b"proof".as_slice() {
-        return Some(Command::CheckProof { schema, file, goal });
+    match words {
+        [schema, goal] => Some(Command::OverSchema {
+            schema,
+            task: Task::Implies { goal },
+        }),
+        _ => None,
     }
-    None
+}
+
+#[tactic(auto, unfolding(crate::specs::Forms::schema_and_two))]
+fn of_check_proof(words: &[Word]) -> Option<Command<'_>>
+    ensures form { option_map command_form result ≡ schema_and_two check_proof words.now }
+{
+    match words {
+        [schema, file, goal] => Some(Command::OverSchema {
+            schema,
+            task: Task::CheckProof { file, goal },
+        }),
+        _ => None,
+    }
 }

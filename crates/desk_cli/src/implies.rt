@@ -7,15 +7,13 @@ ghost use Rattle.dep_model.specs.TwoTuples.{two_tuples};
 ghost use Rattle.derivation.specs.Trees.{nodes, depth};
 ghost use Rattle.derivation.specs.Derivs.{tree_of};
 ghost use Rattle.proof_text.specs.Printing.{canonical_certificate, IsProof};
-ghost use Rattle.desk_cli.specs.Forms.{implies};
-ghost use Rattle.desk_cli.specs.Readings.{seen};
-ghost use Rattle.desk_cli.specs.Replies.{RepliesAs};
-ghost use Rattle.desk_cli.specs.Answers.{Says, Performs, Decided};
+ghost use Rattle.desk_cli.specs.Answers.{Says};
+ghost use Rattle.desk_cli.specs.Implication.{Decided, Implies};
+ghost use Rattle.desk_cli.specs.Replies.{answer_of, RepliesAs};
 ghost use Rattle.desk_cli.specs.Texts.{yes_text, no_text};
 
 use crate::Status;
 use crate::goal::goal_of;
-use crate::read::open_schema;
 use crate::reply::{Reply, Stop};
 use crate::text::{line_of, put};
 use attr_sets::AttrSet;
@@ -23,35 +21,26 @@ use csv_rows::print_rows;
 use dep_basis::{Proof, prove, witness};
 use dep_model::{Dep, Schema, WantMemory};
 use derivation::{Deriv, MOST_LEVELS, MOST_NODES};
-use desk_outside::{Shelf, Word};
+use desk_outside::Word;
 use proof_text::print_proof;
 use std::alloc::Global;
 
-/// Whether the schema of a file implies a goal: `yes`, or `no` with two tuples that obey the schema
-/// and break the goal.
-#[tactic(auto, unfolding(crate::specs::Answers::Performs))]
-pub fn implies<F: Shelf>(
-    alloc: Global,
-    shelf: &mut F,
-    file: &Word,
-    goal: &Word,
-) -> Result<Reply, Stop>
-    ensures files { F.files shelf.new ≡ F.files shelf.old }
-    ensures later { F.faults shelf.old ≤ F.faults shelf.new }
-    ensures reply { RepliesAs (Performs (seen (F.files shelf.old) (F.faults shelf.old) (F.faults shelf.new) (F.taken shelf.new)) (implies file.now goal.now)) result }
+/// Whether a schema implies a goal: `yes` with a certificate, or `no` with two tuples that obey the
+/// schema and break the goal.
+pub fn implies(alloc: Global, schema: &Schema, goal: &Word) -> Result<Reply, Stop>
+    ensures reply { RepliesAs (Implies schema.now goal.now) result }
 {
-    let schema = open_schema(alloc, shelf, file)?;
-    let dep = match goal_of(alloc, &schema, goal) {
+    let dep = match goal_of(alloc, schema, goal) {
         Ok(dep) => dep,
         Err(stop) => return Err(stop),
     };
-    Ok(decided(alloc, &schema, dep)?)
+    Ok(decided(alloc, schema, dep)?)
 }
 
 /// The answer to a goal.
 fn decided(alloc: Global, schema: &Schema, dep: Dep) -> Result<Reply, WantMemory>
     requires { IsDepWithin (universe_of schema.now) dep }
-    ensures answer { IfOk result (λ reply. Decided schema.now (dependency_of dep) reply.status reply.text.items) }
+    ensures answer { IfOk result (λ reply. Decided schema.now (dependency_of dep) (answer_of reply)) }
 {
     match prove(alloc, schema, dep)? {
         Proof::Yes(deriv) => certified(alloc, schema, &deriv),
@@ -64,26 +53,20 @@ fn certified(alloc: Global, schema: &Schema, deriv: &Deriv) -> Result<Reply, Wan
     requires proof { IsProof schema.now (tree_of deriv.now) }
     requires few_lines { nodes (tree_of deriv.now) ≤ MOST_NODES }
     requires few_levels { depth (tree_of deriv.now) ≤ MOST_LEVELS }
-    ensures reply { IfOk result (λ reply. Says Status.Yes (yes_text ++ canonical_certificate schema.now (tree_of deriv.now)) reply.status reply.text.items) }
+    ensures reply { IfOk result (λ reply. Says Status.Yes (yes_text ++ canonical_certificate schema.now (tree_of deriv.now)) (answer_of reply)) }
 {
     let mut text = line_of(alloc, b"yes", b"", b"")?;
     put(&mut text, &print_proof(alloc, schema, deriv)?)?;
-    Ok(Reply {
-        status: Status::Yes,
-        text,
-    })
+    Ok(Reply::says(Status::Yes, text))
 }
 
 /// `no`, and the two tuples that agree just on a set.
 fn refuted(alloc: Global, schema: &Schema, agreement: AttrSet) -> Result<Reply, WantMemory>
     requires within { Within (places agreement) (universe_of schema.now) }
-    ensures reply { IfOk result (λ reply. Says Status.No (no_text (names_of schema.now) (two_tuples (width_of schema.now) (places agreement))) reply.status reply.text.items) }
+    ensures reply { IfOk result (λ reply. Says Status.No (no_text (names_of schema.now) (two_tuples (width_of schema.now) (places agreement))) (answer_of reply)) }
 {
     let rows = witness(alloc, schema, agreement)?;
     let mut text = line_of(alloc, b"no", b"", b"")?;
     put(&mut text, &print_rows(alloc, schema, &rows)?)?;
-    Ok(Reply {
-        status: Status::No,
-        text,
-    })
+    Ok(Reply::says(Status::No, text))
 }

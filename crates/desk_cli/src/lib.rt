@@ -1,19 +1,24 @@
-//! The top call: the words of a command, the files of a shelf, a text for a sink and a status.
+//! The top call: the words of a command, the files of a shelf, a text for a sink, tables for targets
+//! and a status.
 //!
 //! `desk` promises, in one record of clauses, that its answer is one that the words and the files
-//! allow, that the sink took just that answer's text, that each fault has its cause, and that where
-//! nothing fails the answer is the one that the theory fixes.
+//! allow, that the sink took just that answer's text and the targets just its tables, that each fault
+//! has its cause, and that where nothing fails the answer is the one that the theory fixes.
 #![tactic(auto)]
 
 mod check_proof;
 mod command;
+mod finish;
 mod goal;
+mod help;
 mod implies;
 mod proof_refusals;
 mod read;
 mod refusals;
 mod reply;
 mod status;
+#[cfg(test)]
+mod table_tests;
 #[cfg(test)]
 mod tests;
 mod text;

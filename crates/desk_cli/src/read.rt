@@ -1,16 +1,18 @@
-ghost use Rattle.std.specs.Prelude.{◌≡◌, ◌^◌, ◌<◌, ◌≤◌, IfOk, IfErr};
+ghost use Rattle.std.specs.Prelude.{◌≡◌, ◌^◌, ◌<◌, ◌≤◌, length, IfOk, IfErr};
 ghost use Rattle.dep_model.specs.Schemas.{names_of, universe_of};
 ghost use Rattle.derivation.specs.Derivs.{tree_of};
 ghost use Rattle.proof_text.specs.Complaints.{IsRefusalWithin};
 ghost use Rattle.proof_text.specs.Checked.{IsChecked};
-ghost use Rattle.desk_cli.specs.Readings.{seen};
-ghost use Rattle.desk_cli.specs.Replies.{StopsAs, TellsRefusal, TellsProof};
-ghost use Rattle.desk_cli.specs.Answers.{FileStops, SchemaStops, ProofStops, IsContent, IsSchemaFile, IsProofFile};
+ghost use Rattle.desk_cli.specs.Answers.{Says};
+ghost use Rattle.desk_cli.specs.Texts.{cannot_read_text, too_long_text};
+ghost use Rattle.desk_cli.specs.Inputs.{FileStops, SchemaStops, IsSchemaFile, ProofStops, IsProofFile, TellsRefusal, TellsProof};
+ghost use Rattle.desk_cli.specs.Readings.{Reading, files_in, Shows, IsContent};
+ghost use Rattle.desk_cli.specs.Replies.{StopsAs};
 
 use crate::Status;
 use crate::proof_refusals::proof_refusal_line;
 use crate::refusals::refusal_line;
-use crate::reply::{Reply, Stop};
+use crate::reply::Stop;
 use crate::text::line_of;
 use dep_model::{Schema, WantMemory};
 use derivation::Deriv;
@@ -29,32 +31,55 @@ pub fn open_file<F: Shelf>(
     requires { limit < 2 ^ 32 }
     ensures files { F.files shelf.new ≡ F.files shelf.old }
     ensures later { F.faults shelf.old ≤ F.faults shelf.new }
-    ensures ok { IfOk result (λ bytes. IsContent (seen (F.files shelf.old) (F.faults shelf.old) (F.faults shelf.new) (F.taken shelf.new)) name.now limit bytes.items) }
-    ensures stop { IfErr result (StopsAs (FileStops (seen (F.files shelf.old) (F.faults shelf.old) (F.faults shelf.new) (F.taken shelf.new)) name.now limit)) }
+    ensures within { IfOk result (λ bytes. length bytes.items ≤ limit) }
+    ensures ok { (r : Reading) → files_in r ≡ F.files shelf.old → IfOk result (λ bytes. IsContent r name.now limit bytes.items) }
+    ensures stop { (r : Reading) → Shows F.files F.faults F.taken shelf.old shelf.new r → IfErr result (StopsAs (FileStops r name.now limit)) }
 {
     match load(alloc, shelf, name.bytes(), limit) {
         Ok(bytes) => Ok(bytes),
-        Err(LoadRefusal::CannotRead) => Err(Stop::Answered(Reply {
-            status: Status::CannotRead,
-            text: line_of(alloc, b"cannot read ", name.bytes(), b"")?,
-        })),
-        Err(LoadRefusal::TooLong) => Err(Stop::Answered(Reply {
-            status: Status::Refused,
-            text: line_of(alloc, b"refused: ", name.bytes(), b" is too long")?,
-        })),
+        Err(LoadRefusal::CannotRead) => Err(cannot_read(alloc, name)),
+        Err(LoadRefusal::TooLong) => Err(too_long(alloc, name)),
         Err(LoadRefusal::Memory) => Err(Stop::Memory),
     }
 }
 
+// A file that cannot be read.
+fn cannot_read(alloc: Global, name: &Word) -> Stop
+    ensures says { StopsAs (Says Status.CannotRead (cannot_read_text name.now)) result }
+{
+    Stop::says(Status::CannotRead, cannot_read_line(alloc, name))
+}
+
+fn cannot_read_line(alloc: Global, name: &Word) -> Result<Vec<u8>, WantMemory>
+    ensures line { IfOk result (λ text. text.items ≡ cannot_read_text name.now) }
+{
+    line_of(alloc, b"cannot read ", name.bytes(), b"")
+}
+
+// A file that is too long.
+fn too_long(alloc: Global, name: &Word) -> Stop
+    ensures says { StopsAs (Says Status.Refused (too_long_text name.now)) result }
+{
+    Stop::says(Status::Refused, too_long_line(alloc, name))
+}
+
+fn too_long_line(alloc: Global, name: &Word) -> Result<Vec<u8>, WantMemory>
+    ensures line { IfOk result (λ text. text.items ≡ too_long_text name.now) }
+{
+    line_of(alloc, b"refused: ", name.bytes(), b" is too long")
+}
+
 /// The schema of a file.
-#[tactic(auto, using(crate::proofs::MeaningLemmas::schema_means))]
 pub fn open_schema<F: Shelf>(alloc: Global, shelf: &mut F, name: &Word) -> Result<Schema, Stop>
     ensures files { F.files shelf.new ≡ F.files shelf.old }
     ensures later { F.faults shelf.old ≤ F.faults shelf.new }
-    ensures ok { IfOk result (λ schema. IsSchemaFile (seen (F.files shelf.old) (F.faults shelf.old) (F.faults shelf.new) (F.taken shelf.new)) name.now schema) }
-    ensures stop { IfErr result (StopsAs (SchemaStops (seen (F.files shelf.old) (F.faults shelf.old) (F.faults shelf.new) (F.taken shelf.new)) name.now)) }
+    ensures ok { (r : Reading) → files_in r ≡ F.files shelf.old → IfOk result (IsSchemaFile r name.now) }
+    ensures stop { (r : Reading) → Shows F.files F.faults F.taken shelf.old shelf.new r → IfErr result (StopsAs (SchemaStops r name.now)) }
 {
-    let bytes = open_file(alloc, shelf, name, MOST_TEXT_BYTES)?;
+    let bytes = match open_file(alloc, shelf, name, MOST_TEXT_BYTES) {
+        Ok(bytes) => bytes,
+        Err(stop) => return Err(stop),
+    };
     match read_schema(alloc, &bytes) {
         Ok(schema) => Ok(schema),
         Err(refusal) => Err(refused(alloc, b"schema", name.bytes(), refusal)),
@@ -63,22 +88,18 @@ pub fn open_schema<F: Shelf>(alloc: Global, shelf: &mut F, name: &Word) -> Resul
 
 /// A command that ends with the refusal of a text, or for want of memory.
 pub fn refused(alloc: Global, group: &[u8], name: &[u8], refusal: SchemaRefusal) -> Stop
-    ensures refused { TellsRefusal group.now name.now refusal result }
+    ensures refused { StopsAs (TellsRefusal group.now name.now refusal) result }
 {
     if refusal.kind == SchemaRefusalKind::Memory {
         return Stop::Memory;
     }
-    match refusal_line(alloc, group, name, refusal) {
-        Ok(text) => Stop::Answered(Reply {
-            status: Status::Refused,
-            text,
-        }),
-        Err(WantMemory) => Stop::Memory,
-    }
+    Stop::says(
+        Status::Refused,
+        refusal_line(alloc, group, name, refusal),
+    )
 }
 
 /// The derivation of a certificate file.
-#[tactic(auto, using(crate::proofs::MeaningLemmas::proof_spells))]
 pub fn open_proof<F: Shelf>(
     alloc: Global,
     shelf: &mut F,
@@ -87,30 +108,30 @@ pub fn open_proof<F: Shelf>(
 ) -> Result<Box<Deriv>, Stop>
     ensures files { F.files shelf.new ≡ F.files shelf.old }
     ensures later { F.faults shelf.old ≤ F.faults shelf.new }
-    ensures ok { IfOk result (λ deriv. IsProofFile (seen (F.files shelf.old) (F.faults shelf.old) (F.faults shelf.new) (F.taken shelf.new)) schema.now name.now (tree_of deriv.value)) }
+    ensures ok { (r : Reading) → files_in r ≡ F.files shelf.old → IfOk result (λ deriv. IsProofFile r schema.now name.now (tree_of deriv.value)) }
     ensures checked { IfOk result (λ deriv. IsChecked schema.now (tree_of deriv.value)) }
-    ensures stop { IfErr result (StopsAs (ProofStops (seen (F.files shelf.old) (F.faults shelf.old) (F.faults shelf.new) (F.taken shelf.new)) schema.now name.now)) }
+    ensures stop { (r : Reading) → Shows F.files F.faults F.taken shelf.old shelf.new r → IfErr result (StopsAs (ProofStops r schema.now name.now)) }
 {
-    let bytes = open_file(alloc, shelf, name, MOST_PROOF_BYTES)?;
+    let bytes = match open_file(alloc, shelf, name, MOST_PROOF_BYTES) {
+        Ok(bytes) => bytes,
+        Err(stop) => return Err(stop),
+    };
     match read_proof(alloc, schema, &bytes) {
         Ok(deriv) => Ok(deriv),
         Err(refusal) => Err(proof_refused(alloc, schema, name.bytes(), refusal)),
     }
 }
 
-/// A command that ends with the refusal of a certificate, or for want of memory.
+// A command that ends with the refusal of a certificate, or for want of memory.
 fn proof_refused(alloc: Global, schema: &Schema, name: &[u8], refusal: ProofRefusal) -> Stop
     requires within { IsRefusalWithin (universe_of schema.now) refusal.kind }
-    ensures refused { TellsProof (names_of schema.now) name.now refusal result }
+    ensures refused { StopsAs (TellsProof (names_of schema.now) name.now refusal) result }
 {
     if let ProofRefusalKind::Memory = refusal.kind {
         return Stop::Memory;
     }
-    match proof_refusal_line(alloc, schema, name, refusal) {
-        Ok(text) => Stop::Answered(Reply {
-            status: Status::Refused,
-            text,
-        }),
-        Err(WantMemory) => Stop::Memory,
-    }
+    Stop::says(
+        Status::Refused,
+        proof_refusal_line(alloc, schema, name, refusal),
+    )
 }

@@ -3,6 +3,7 @@ use dep_model::WantMemory;
 use desk_outside::{HeldFile, MemoryShelf, MemorySink, Word};
 use std::alloc::Global;
 use std::test::Fail;
+use targets::{MemoryTarget, Target};
 
 const CHAIN: &[u8] = b"attributes A B C\nA -> B\nB -> C\n";
 
@@ -30,7 +31,8 @@ fn words_of(alloc: Global, words: &[&[u8]]) -> Result<Vec<Word>, WantMemory> {
     Ok(held)
 }
 
-fn shelf_of(alloc: Global, fails: &[u64]) -> Result<MemoryShelf, WantMemory> {
+// A shelf with the two files, of which each read gives a byte, and which fails at these calls.
+fn slow_shelf(alloc: Global, fails: &[u64]) -> Result<MemoryShelf, WantMemory> {
     let mut files = Vec::new(alloc);
     files.push(HeldFile {
         name: Word::make(alloc, b"s")?,
@@ -40,12 +42,26 @@ fn shelf_of(alloc: Global, fails: &[u64]) -> Result<MemoryShelf, WantMemory> {
         name: Word::make(alloc, b"p")?,
         bytes: Vec::from_slice(alloc, YES)?,
     })?;
-    Ok(MemoryShelf::make(files, Vec::from_slice(alloc, fails)?))
+    Ok(MemoryShelf::with_step(files, Vec::from_slice(alloc, fails)?, 1))
+}
+
+// The status and the text of a call without targets.
+fn call(
+    alloc: Global,
+    words: &[&[u8]],
+    shelf: &mut MemoryShelf,
+    capacity: usize,
+) -> Result<(Status, MemorySink), WantMemory> {
+    let mut sink = MemorySink::with_step(alloc, capacity, Vec::new(alloc), 1)?;
+    let mut targets: Vec<Box<dyn Target>> = Vec::new(alloc);
+    let words = words_of(alloc, words)?;
+    let status = desk(alloc, &words, shelf, &mut sink, &mut targets)?;
+    Ok((status, sink))
 }
 
 #[test]
 fn answers_over_objects_in_memory(rt: HostRuntime) -> Result<(), Fail> {
-    let cases: [(&[&[u8]], Status, &[u8]); 6] = [
+    let cases: [(&[&[u8]], Status, &[u8]); 8] = [
         (&[b"implies", b"s", b"A -> C"], Status::Yes, YES),
         (&[b"implies", b"s", b"C -> A"], Status::No, NO),
         (&[b"implies", b"s", b"() ->> A"], Status::No, MULTIVALUED),
@@ -64,12 +80,21 @@ fn answers_over_objects_in_memory(rt: HostRuntime) -> Result<(), Fail> {
             Status::Refused,
             b"refused: the words form no command\n",
         ),
+        (
+            &[b"implies", b"s"],
+            Status::Refused,
+            b"refused: the words form no command\n",
+        ),
+        (
+            &[b"check", b"proof", b"s", b"p"],
+            Status::Refused,
+            b"refused: the words form no command\n",
+        ),
     ];
     for (words, status, text) in cases {
         let alloc = rt.alloc();
-        let mut shelf = shelf_of(alloc, &[])?;
-        let mut sink = MemorySink::make(alloc, 1000, Vec::new(alloc))?;
-        let ended = desk(alloc, &words_of(alloc, words)?, &mut shelf, &mut sink)?;
+        let mut shelf = slow_shelf(alloc, &[])?;
+        let (ended, sink) = call(alloc, words, &mut shelf, 1000)?;
         assert!(rt; ended == status, "{words:?}");
         assert_eq!(rt; sink.taken(), text);
     }
@@ -78,28 +103,55 @@ fn answers_over_objects_in_memory(rt: HostRuntime) -> Result<(), Fail> {
 
 #[test]
 fn a_full_sink_holds_a_prefix(rt: HostRuntime) -> Result<(), Fail> {
-    for capacity in 0..NO.len() {
+    for capacity in 0..YES.len() {
         let alloc = rt.alloc();
-        let mut shelf = shelf_of(alloc, &[])?;
-        let mut sink = MemorySink::make(alloc, capacity, Vec::new(alloc))?;
-        let words = words_of(alloc, &[b"implies", b"s", b"C -> A"])?;
-        let ended = desk(alloc, &words, &mut shelf, &mut sink)?;
+        let mut shelf = slow_shelf(alloc, &[])?;
+        let (ended, sink) = call(alloc, &[b"implies", b"s", b"A -> C"], &mut shelf, capacity)?;
         assert!(rt; ended == Status::CannotWrite);
-        assert_eq!(rt; sink.taken(), &NO[..capacity]);
+        assert_eq!(rt; sink.taken(), &YES[..capacity]);
     }
     Ok(())
 }
 
+// The calls for a file of 31 bytes are one begin, 31 reads of a byte, and one that finds the end.
 #[test]
-fn a_failing_shelf_cannot_be_read(rt: HostRuntime) -> Result<(), Fail> {
-    for call in [1, 2, 3] {
+fn each_call_of_the_shelf_may_fail(rt: HostRuntime) -> Result<(), Fail> {
+    let last = 33 + 2 + YES.len() as u64;
+    for failing in 1..=last + 1 {
         let alloc = rt.alloc();
-        let mut shelf = shelf_of(alloc, &[call])?;
+        let mut shelf = slow_shelf(alloc, &[failing])?;
+        let (implied, sink) = call(alloc, &[b"implies", b"s", b"A -> C"], &mut shelf, 1000)?;
+        let read = failing > 33;
+        assert!(rt; implied == (if read { Status::Yes } else { Status::CannotRead }));
+        assert_eq!(rt; sink.taken(), if read { YES } else { b"cannot read s\n" });
+        let mut shelf = slow_shelf(alloc, &[failing])?;
+        let words: &[&[u8]] = &[b"check", b"proof", b"s", b"p", b"A -> C"];
+        let (checked, sink) = call(alloc, words, &mut shelf, 1000)?;
+        assert!(rt; checked == (if failing > last { Status::Yes } else { Status::CannotRead }));
+        let text: &[u8] = match (read, failing > last) {
+            (_, true) => b"checked A -> C\n",
+            (true, false) => b"cannot read p\n",
+            (false, false) => b"cannot read s\n",
+        };
+        assert_eq!(rt; sink.taken(), text);
+    }
+    Ok(())
+}
+
+// No command that is built gives tables.
+#[test]
+fn targets_are_not_called_without_tables(rt: HostRuntime) -> Result<(), Fail> {
+    for goal in [b"A -> C".as_slice(), b"C -> A", b"no goal"] {
+        let alloc = rt.alloc();
+        let mut shelf = slow_shelf(alloc, &[])?;
         let mut sink = MemorySink::make(alloc, 1000, Vec::new(alloc))?;
-        let words = words_of(alloc, &[b"implies", b"s", b"A -> C"])?;
-        let ended = desk(alloc, &words, &mut shelf, &mut sink)?;
-        assert!(rt; ended == Status::CannotRead);
-        assert_eq!(rt; sink.taken(), b"cannot read s\n".as_slice());
+        let target = MemoryTarget::make(alloc, Vec::from_slice(alloc, &[1])?);
+        let mut targets: Vec<Box<dyn Target>> = Vec::new(alloc);
+        targets.push(Box::new(alloc, target)?)?;
+        let words = words_of(alloc, &[b"implies", b"s", goal])?;
+        let status = desk(alloc, &words, &mut shelf, &mut sink, &mut targets)?;
+        assert!(rt; status != Status::TargetFailed);
+        assert_eq!(rt; targets.len(), 1);
     }
     Ok(())
 }

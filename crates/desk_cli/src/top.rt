@@ -1,40 +1,82 @@
 ghost use Rattle.std.specs.Prelude.{◌≡◌, ◌≤◌, IfOk};
-ghost use Rattle.desk_cli.specs.Readings.{seen};
-ghost use Rattle.desk_cli.specs.Answers.{Performs, Answers};
-ghost use Rattle.desk_cli.specs.Commands.{command_form};
-ghost use Rattle.desk_cli.specs.Replies.{RepliesAs};
-ghost use Rattle.desk_cli.specs.Desk.{Desk, shelf_in_call, sink_in_call};
+ghost use Rattle.desk_cli.specs.Commands.{command_form, task_form};
+ghost use Rattle.desk_cli.specs.Desk.{Desk, Delivered, shelf_in_call, sink_in_call};
+ghost use Rattle.desk_cli.specs.Endings.{targets_in_call};
+ghost use Rattle.desk_cli.specs.Inputs.{WithSchema};
+ghost use Rattle.desk_cli.specs.Performs.{Does, Performs, Answers};
+ghost use Rattle.desk_cli.specs.Readings.{Reading, Shows};
+ghost use Rattle.desk_cli.specs.Replies.{answer_of, RepliesAs};
 
 use crate::Status;
 use crate::check_proof::check_proof;
-use crate::command::{Command, parse};
+use crate::command::{Command, Task, parse};
+use crate::finish::settle;
+use crate::help::{help, version};
 use crate::implies::implies;
+use crate::read::open_schema;
 use crate::reply::{Reply, Stop};
 use crate::text::line_of;
-use dep_model::WantMemory;
+use dep_model::{Schema, WantMemory};
 use desk_outside::{Shelf, Sink, Word, send};
 use std::alloc::Global;
+use targets::Target;
 
-/// Answers the words over the files of the shelf, in a status and a text that goes to the sink.
+/// Answers the words over the files of the shelf, in a status, a text that goes to the sink, and tables
+/// that go to the targets.
 ///
-/// The words are those behind the program's name. The whole text is made before its first byte is
-/// written. The words are looked at first, then each file in the order of the words (read, its
-/// length, its grammar), then the goal (its length, its grammar), then the answer; the first that
-/// applies decides.
+/// The words are those after the program's name. The whole text is made before its first byte is
+/// written, and before the first call of a target. The words are looked at first, then each file in the
+/// order of the words (read, its length, its grammar), then the goal (its length, its grammar), then
+/// the answer, then the targets, then the sink; the first that applies decides.
 pub fn desk<F: Shelf, K: Sink>(
     alloc: Global,
     words: &[Word],
     shelf: &mut F,
     out: &mut K,
+    targets: &mut Vec<Box<dyn Target>>,
 ) -> Result<Status, WantMemory>
     ensures desk { Desk words.now
         (shelf_in_call (F.files shelf.old) (F.files shelf.new) (F.faults shelf.old) (F.faults shelf.new) (F.taken shelf.new))
         (sink_in_call (K.contents out.old) (K.contents out.new) (K.faults out.old) (K.faults out.new))
+        (targets_in_call ⟦<Box<dyn Target> as Target>⟧.tells ⟦<Box<dyn Target> as Target>⟧.finished ⟦<Box<dyn Target> as Target>⟧.faults targets.old.items targets.new.items)
+        result }
+{
+    desk_over(alloc, words, shelf, out, targets)
+}
+
+// The same over targets of one type.
+fn desk_over<F: Shelf, K: Sink, T: Target>(
+    alloc: Global,
+    words: &[Word],
+    shelf: &mut F,
+    out: &mut K,
+    targets: &mut Vec<T>,
+) -> Result<Status, WantMemory>
+    ensures desk { Desk words.now
+        (shelf_in_call (F.files shelf.old) (F.files shelf.new) (F.faults shelf.old) (F.faults shelf.new) (F.taken shelf.new))
+        (sink_in_call (K.contents out.old) (K.contents out.new) (K.faults out.old) (K.faults out.new))
+        (targets_in_call T.tells T.finished T.faults targets.old.items targets.new.items)
         result }
 {
     let reply = answer(alloc, words, shelf)?;
-    match send(out, &reply.text) {
-        Ok(()) => Ok(reply.status),
+    deliver(alloc, reply, out, targets)
+}
+
+/// Hands the tables of a reply to the targets, and its text to the sink.
+pub fn deliver<K: Sink, T: Target>(
+    alloc: Global,
+    reply: Reply,
+    out: &mut K,
+    targets: &mut Vec<T>,
+) -> Result<Status, WantMemory>
+    ensures delivers { Delivered
+        (sink_in_call (K.contents out.old) (K.contents out.new) (K.faults out.old) (K.faults out.new))
+        (targets_in_call T.tells T.finished T.faults targets.old.items targets.new.items)
+        (answer_of reply) result }
+{
+    let end = settle(alloc, targets, reply)?;
+    match send(out, &end.text) {
+        Ok(()) => Ok(end.status),
         Err(_) => Ok(Status::CannotWrite),
     }
 }
@@ -43,13 +85,13 @@ pub fn desk<F: Shelf, K: Sink>(
 fn answer<F: Shelf>(alloc: Global, words: &[Word], shelf: &mut F) -> Result<Reply, WantMemory>
     ensures files { F.files shelf.new ≡ F.files shelf.old }
     ensures later { F.faults shelf.old ≤ F.faults shelf.new }
-    ensures reply { IfOk result (λ reply. Answers (seen (F.files shelf.old) (F.faults shelf.old) (F.faults shelf.new) (F.taken shelf.new)) words.now reply.status reply.text.items) }
+    ensures reply { (r : Reading) → Shows F.files F.faults F.taken shelf.old shelf.new r → IfOk result (λ reply. Answers r words.now (answer_of reply)) }
 {
     match parse(words) {
-        None => Ok(Reply {
-            status: Status::Refused,
-            text: line_of(alloc, b"refused: the words form no command", b"", b"")?,
-        }),
+        None => Ok(Reply::says(
+            Status::Refused,
+            line_of(alloc, b"refused: the words form no command", b"", b"")?,
+        )),
         Some(command) => match perform(alloc, command, shelf) {
             Ok(reply) => Ok(reply),
             Err(Stop::Answered(reply)) => Ok(reply),
@@ -59,13 +101,51 @@ fn answer<F: Shelf>(alloc: Global, words: &[Word], shelf: &mut F) -> Result<Repl
 }
 
 /// Performs a command.
+#[tactic(auto, unfolding(crate::specs::Performs::Performs))]
 fn perform<F: Shelf>(alloc: Global, command: Command<'_>, shelf: &mut F) -> Result<Reply, Stop>
     ensures files { F.files shelf.new ≡ F.files shelf.old }
     ensures later { F.faults shelf.old ≤ F.faults shelf.new }
-    ensures reply { RepliesAs (Performs (seen (F.files shelf.old) (F.faults shelf.old) (F.faults shelf.new) (F.taken shelf.new)) (command_form command.entry)) result }
+    ensures reply { (r : Reading) → Shows F.files F.faults F.taken shelf.old shelf.new r → RepliesAs (Performs r (command_form command.entry)) result }
 {
     match command {
-        Command::Implies { schema, goal } => implies(alloc, shelf, schema, goal),
-        Command::CheckProof { schema, file, goal } => check_proof(alloc, shelf, schema, file, goal),
+        Command::OverSchema { schema, task } => over_schema(alloc, shelf, schema, task),
+        Command::Help => help(alloc),
+        Command::Version => version(alloc),
+    }
+}
+
+/// Answers what is asked of the schema of a file.
+fn over_schema<F: Shelf>(
+    alloc: Global,
+    shelf: &mut F,
+    file: &Word,
+    task: Task<'_>,
+) -> Result<Reply, Stop>
+    ensures files { F.files shelf.new ≡ F.files shelf.old }
+    ensures later { F.faults shelf.old ≤ F.faults shelf.new }
+    ensures reply { (r : Reading) → Shows F.files F.faults F.taken shelf.old shelf.new r → RepliesAs (WithSchema r file.now (λ schema. Does r schema (task_form task.entry))) result }
+{
+    let schema = match open_schema(alloc, shelf, file) {
+        Ok(schema) => schema,
+        Err(stop) => return Err(stop),
+    };
+    does(alloc, shelf, &schema, task)
+}
+
+/// Answers what is asked of a schema.
+#[tactic(auto, unfolding(crate::specs::Performs::Does))]
+fn does<F: Shelf>(
+    alloc: Global,
+    shelf: &mut F,
+    schema: &Schema,
+    task: Task<'_>,
+) -> Result<Reply, Stop>
+    ensures files { F.files shelf.new ≡ F.files shelf.old }
+    ensures later { F.faults shelf.old ≤ F.faults shelf.new }
+    ensures reply { (r : Reading) → Shows F.files F.faults F.taken shelf.old shelf.new r → RepliesAs (Does r schema.now (task_form task.entry)) result }
+{
+    match task {
+        Task::Implies { goal } => implies(alloc, schema, goal),
+        Task::CheckProof { file, goal } => check_proof(alloc, shelf, schema, file, goal),
     }
 }

@@ -27,8 +27,13 @@ use Rattle.proof_text.specs.Spelling.{SpellsWithin}
 use Rattle.proof_laws.proofs.OneTree.{one_tree}
 use Rattle.proof_laws.proofs.PrintedSpells.{answered_spells}
 use Rattle.desk_cli.specs.declared.status.Status.{Status}
-use Rattle.desk_cli.specs.declared.status.Status.TheVariants.{Yes}
-use Rattle.desk_cli.specs.Answers.{Answers, Performs, Decided, Checked, WithSchema, WithProof, WithGoal}
+use Rattle.desk_cli.specs.declared.status.Status.TheVariants.{Yes, No}
+use Rattle.desk_cli.specs.Answers.{Answer}
+use Rattle.desk_cli.specs.Certificates.{Checked}
+use Rattle.desk_cli.specs.Forms.{form_of, check_form, schema_and, schema_and_two}
+use Rattle.desk_cli.specs.Implication.{Decided}
+use Rattle.desk_cli.specs.Inputs.{WithSchema, WithProof, WithGoal}
+use Rattle.desk_cli.specs.Performs.{Answers, Performs, Does}
 use Rattle.desk_cli.specs.Readings.{told}
 use Rattle.desk_cli.specs.Texts.{yes_text}
 use Rattle.desk_laws.proofs.SchemaLemmas.{AreAlike, proves_alike, spells_alike}
@@ -49,30 +54,32 @@ record SaidYes (files : Files) (schema goal text : List ℕ) : Type 0 where
   is_proof : IsProofOf of dep (tree_of proof)
   printed : text ≡ yes_text ++ canonical_certificate of (tree_of proof)
 
-yes_there : (files : Files) (schema goal text : List ℕ) → Answers (told files) (codes "implies" ∷ schema ∷ goal ∷ []) Yes text → SaidYes files schema goal text
-unfolding Performs
-yes_there files schema goal text (inl stop) = absurd (schema_says (told files) schema text stop)
-yes_there files schema goal text (inr (of, (bytes, (has, few), means), answer)) = behind_goal answer
+no_says : (answer : Answer) → answer.status ≡ Yes → answer.status ≡ No → ⊥
+no_says answer yes is = cc
+
+yes_there : (files : Files) (schema goal : List ℕ) (answer : Answer) → answer.status ≡ Yes → WithSchema (told files) schema (λ s. WithGoal s goal (Decided s)) answer → SaidYes files schema goal answer.text
+yes_there files schema goal answer yes (inl stop) = absurd (schema_says (told files) schema answer yes stop)
+yes_there files schema goal answer yes (inr (of, file, rest)) = after_goal rest
   where
-    decided : (dep : Dependency) → length goal ≤ MOST_GOAL_BYTES → MeansGoal (names_of of) goal dep → Decided of dep Yes text → SaidYes files schema goal text
+    decided : (dep : Dependency) → length goal ≤ MOST_GOAL_BYTES → MeansGoal (names_of of) goal dep → Decided of dep answer → SaidYes files schema goal answer.text
     decided dep few_goal means_goal (inl (implied, found)) = record {
       of = of;
-      bytes = bytes;
-      has = has;
-      few_bytes = few;
-      means = means;
+      bytes = file.bytes;
+      has = file.content.0;
+      few_bytes = file.content.1;
+      means = file.means;
       dep = dep;
       few_goal = few_goal;
       means_goal = means_goal;
       proof = found.0;
       is_proof = found.1;
-      printed = found.3.1;
+      printed = ap (λ (a : Answer). a.text) found.3;
     }
-    decided dep few_goal means_goal (inr (broken, found)) = let wrong = found.2.0 in absurd cc
+    decided dep few_goal means_goal (inr (broken, found)) = absurd (no_says answer yes (ap (λ (a : Answer). a.status) found.2))
 
-    behind_goal : WithGoal of goal (λ dep. Decided of dep) Yes text → SaidYes files schema goal text
-    behind_goal (inl stop) = absurd (goal_says of goal text stop)
-    behind_goal (inr (dep, few_goal, means_goal, answer)) = decided dep few_goal means_goal answer
+    after_goal : WithGoal of goal (Decided of) answer → SaidYes files schema goal answer.text
+    after_goal (inl stop) = absurd (goal_says of goal answer yes stop)
+    after_goal (inr (dep, is, rest)) = decided dep is.few is.means rest
 
 -- ---- the second answer
 -- two schemas that one text means are alike
@@ -100,14 +107,14 @@ printed_within files schema goal text r said alike =
     } in
     subst (λ (bytes : List ℕ). SpellsWithin r bytes t) (sym said.printed) within
 
-checked_yes : (s : Schema) (t : Tree) (d : Dependency) (status : Status) (out : List ℕ) → Proves s t d → Checked s t d status out → status ≡ Yes
-checked_yes s t d status out proves (inl (proved, says)) = says.0
-checked_yes s t d status out proves (inr (unproved, found)) = absurd (unproved proves)
+checked_yes : (s : Schema) (t : Tree) (d : Dependency) (answer : Answer) → Proves s t d → Checked s t d answer → answer.status ≡ Yes
+checked_yes s t d answer proves (inl (proved, says)) = ap (λ (a : Answer). a.status) says
+checked_yes s t d answer proves (inr (unproved, found)) = absurd (unproved proves)
 
 -- the same goal is read, and the tree concludes it
-goal_yes : (files : Files) (schema goal text : List ℕ) (r : Schema) (status : Status) (out : List ℕ) → (said : SaidYes files schema goal text) → AreAlike said.of r
-    → WithGoal r goal (λ dep. Checked r (tree_of said.proof) dep) status out → status ≡ Yes
-goal_yes files schema goal text r status out said alike go = behind go
+goal_yes : (files : Files) (schema goal text : List ℕ) (r : Schema) (answer : Answer) → (said : SaidYes files schema goal text) → AreAlike said.of r
+    → WithGoal r goal (Checked r (tree_of said.proof)) answer → answer.status ≡ Yes
+goal_yes files schema goal text r answer said alike go = after go
   where
     means : MeansGoal (names_of r) goal said.dep
     means = subst (λ (names : List (List ℕ)). MeansGoal names goal said.dep) alike.names said.means_goal
@@ -115,35 +122,43 @@ goal_yes files schema goal text r status out said alike go = behind go
     proves : (d : Dependency) → MeansGoal (names_of r) goal d → Proves r (tree_of said.proof) d
     proves d other = subst (Proves r (tree_of said.proof)) (one_goal (names_of r) goal said.dep d means other) (proves_alike said.of r (tree_of said.proof) said.dep alike said.is_proof.proves)
 
-    behind : WithGoal r goal (λ dep. Checked r (tree_of said.proof) dep) status out → status ≡ Yes
-    behind (inl stop) = absurd (goal_goes r goal said.dep status out said.few_goal means stop)
-    behind (inr (d, few, other, answer)) = checked_yes r (tree_of said.proof) d status out (proves d other) answer
+    after : WithGoal r goal (Checked r (tree_of said.proof)) answer → answer.status ≡ Yes
+    after (inl stop) = absurd (goal_goes r goal said.dep answer said.few_goal means stop)
+    after (inr (d, is, rest)) = checked_yes r (tree_of said.proof) d answer (proves d is.means) rest
 
 -- what was printed is read from a file, as the tree that was found
-proof_yes : (files after : Files) (schema goal file text : List ℕ) (r : Schema) (status : Status) (out : List ℕ) → (said : SaidYes files schema goal text) → AreAlike said.of r
+proof_yes : (files after : Files) (schema goal file text : List ℕ) (r : Schema) (answer : Answer) → (said : SaidYes files schema goal text) → AreAlike said.of r
     → held after file ≡ Some text → length text ≤ MOST_PROOF_BYTES
-    → WithProof (told after) r file (λ t. WithGoal r goal (λ dep. Checked r t dep)) status out → status ≡ Yes
-proof_yes files after schema goal file text r status out said alike kept few (inl stop) =
-    absurd (proof_goes after r file text (tree_of said.proof) status out kept few (printed_within files schema goal text r said alike) stop)
-proof_yes files after schema goal file text r status out said alike kept few (inr (t, (bytes, (has, short), spells), go)) =
-    let spelled : SpellsWithin r text t = subst (λ (b : List ℕ). SpellsWithin r b t) (one_content after file bytes text has kept) spells in
+    → WithProof (told after) r file (λ t. WithGoal r goal (Checked r t)) answer → answer.status ≡ Yes
+proof_yes files after schema goal file text r answer said alike kept few (inl stop) =
+    absurd (proof_goes after r file text (tree_of said.proof) answer kept few (printed_within files schema goal text r said alike) stop)
+proof_yes files after schema goal file text r answer said alike kept few (inr (t, is, go)) =
+    let spelled : SpellsWithin r text t = subst (λ (b : List ℕ). SpellsWithin r b t) (one_content after file is.bytes text is.content.0 kept) is.spells in
     let same : t ≡ tree_of said.proof = one_tree r text t (tree_of said.proof) spelled.spells (printed_within files schema goal text r said alike).spells in
-    goal_yes files schema goal text r status out said alike (subst (λ (u : Tree). WithGoal r goal (λ dep. Checked r u dep) status out) same go)
+    goal_yes files schema goal text r answer said alike (subst (λ (u : Tree). WithGoal r goal (Checked r u) answer) same go)
 
-schema_yes : (files after : Files) (schema goal file text : List ℕ) (status : Status) (out : List ℕ) → (said : SaidYes files schema goal text)
+schema_yes : (files after : Files) (schema goal file text : List ℕ) (answer : Answer) → (said : SaidYes files schema goal text)
     → held after schema ≡ Some said.bytes → held after file ≡ Some text → length text ≤ MOST_PROOF_BYTES
-    → WithSchema (told after) schema (λ r. WithProof (told after) r file (λ t. WithGoal r goal (λ dep. Checked r t dep))) status out → status ≡ Yes
-schema_yes files after schema goal file text status out said same kept few (inl stop) =
-    absurd (schema_goes after schema said.bytes (declarations_of said.of) status out same said.few_bytes said.means stop)
-schema_yes files after schema goal file text status out said same kept few (inr (r, (bytes, (has, short), means), go)) =
-    let moved : MeansSchema said.bytes (declarations_of r) = subst (λ (b : List ℕ). MeansSchema b (declarations_of r)) (one_content after schema bytes said.bytes has same) means in
-    proof_yes files after schema goal file text r status out said (one_schema said.bytes said.of r said.means moved) kept few go
+    → WithSchema (told after) schema (λ r. WithProof (told after) r file (λ t. WithGoal r goal (Checked r t))) answer → answer.status ≡ Yes
+schema_yes files after schema goal file text answer said same kept few (inl stop) =
+    absurd (schema_goes after schema said.bytes (declarations_of said.of) answer same said.few_bytes said.means stop)
+schema_yes files after schema goal file text answer said same kept few (inr (r, is, go)) =
+    let moved : MeansSchema said.bytes (declarations_of r) = subst (λ (b : List ℕ). MeansSchema b (declarations_of r)) (one_content after schema is.bytes said.bytes is.content.0 same) is.means in
+    proof_yes files after schema goal file text r answer said (one_schema said.bytes said.of r said.means moved) kept few go
+
+implies_answers : (files : Files) (schema goal : List ℕ) (answer : Answer) → Answers (told files) (codes "implies" ∷ schema ∷ goal ∷ []) answer → WithSchema (told files) schema (λ s. WithGoal s goal (Decided s)) answer
+unfolding form_of schema_and Performs Does
+implies_answers files schema goal answer answered = answered
+
+check_answers : (files : Files) (schema goal file : List ℕ) (answer : Answer) → Answers (told files) (codes "check" ∷ codes "proof" ∷ schema ∷ file ∷ goal ∷ []) answer
+    → WithSchema (told files) schema (λ r. WithProof (told files) r file (λ t. WithGoal r goal (Checked r t))) answer
+unfolding form_of check_form schema_and_two Performs Does
+check_answers files schema goal file answer answered = answered
 
 -- what is printed after yes and kept in a file is accepted for the same schema and goal
-pub printed_accepted : (before after : Files) (schema goal file text : List ℕ) → Answers (told before) (codes "implies" ∷ schema ∷ goal ∷ []) Yes text
-    → held after schema ≡ held before schema → held after file ≡ Some text → length text ≤ MOST_PROOF_BYTES
-    → (status : Status) (out : List ℕ) → Answers (told after) (codes "check" ∷ codes "proof" ∷ schema ∷ file ∷ goal ∷ []) status out → status ≡ Yes
-unfolding Performs
-printed_accepted before after schema goal file text answered same kept few status out again =
-    let said = yes_there before schema goal text answered in
-    schema_yes before after schema goal file text status out said (same ∙ said.has) kept few again
+pub printed_accepted : (before after : Files) (schema goal file : List ℕ) (printed : Answer) → Answers (told before) (codes "implies" ∷ schema ∷ goal ∷ []) printed → printed.status ≡ Yes
+    → held after schema ≡ held before schema → held after file ≡ Some printed.text → length printed.text ≤ MOST_PROOF_BYTES
+    → (answer : Answer) → Answers (told after) (codes "check" ∷ codes "proof" ∷ schema ∷ file ∷ goal ∷ []) answer → answer.status ≡ Yes
+printed_accepted before after schema goal file printed answered yes same kept few answer again =
+    let said = yes_there before schema goal printed yes (implies_answers before schema goal printed answered) in
+    schema_yes before after schema goal file printed.text answer said (same ∙ said.has) kept few (check_answers after schema goal file answer again)

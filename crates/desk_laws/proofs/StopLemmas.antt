@@ -1,5 +1,5 @@
 -- No way to stop says yes, and where a text has its meaning nothing stops.
-use Rattle.std.proofs.Common.{◌≡◌, ◌≤◌, ℕ, List, length, Some, Ok, inl, inr, sym, ◌∙◌, subst, arith, Option, Err}
+use Rattle.std.proofs.Common.{◌≡◌, ◌≤◌, ℕ, List, length, Some, Ok, inl, inr, sym, ap, ◌∙◌, subst, arith, Option, Err, Result}
 use Rattle.std.specs.Prelude.{IsSomeAnd, ◌<◌}
 use Rattle.dep_model.specs.declared.schema.Schema.{Schema}
 use Rattle.dep_model.specs.Dependencies.{Dependency}
@@ -21,49 +21,64 @@ use Rattle.proof_text.specs.Texts.{read_proof}
 use Rattle.refusal_laws.proofs.TextRefusals.{refused_back}
 use Rattle.proof_laws.proofs.CertificateLaws.{spelled_back}
 use Rattle.desk_cli.specs.declared.status.Status.{Status}
-use Rattle.desk_cli.specs.declared.status.Status.TheVariants.{Yes}
+use Rattle.desk_cli.specs.declared.status.Status.TheVariants.{Yes, Refused, CannotRead}
 use Rattle.desk_cli.specs.Readings.{Reading, told}
-use Rattle.desk_cli.specs.Answers.{FileStops, SchemaStops, GoalStops, ProofStops}
+use Rattle.desk_cli.specs.Answers.{Answer}
+use Rattle.desk_cli.specs.Inputs.{FileStops, SchemaStops, GoalStops, ProofStops}
 
 -- ---- no way to stop says yes
-file_says : (r : Reading) (name : List ℕ) (limit : ℕ) (text : List ℕ) → FileStops r name limit Yes text → ⊥
-file_says r name limit text (inl stop) = let wrong = stop.1.0 in cc
-file_says r name limit text (inr stop) = let wrong = stop.1.0 in cc
+refused_says : (answer : Answer) → answer.status ≡ Yes → answer.status ≡ Refused → ⊥
+refused_says answer yes is = cc
 
-pub schema_says : (r : Reading) (name text : List ℕ) → SchemaStops r name Yes text → ⊥
-schema_says r name text (inl stop) = file_says r name MOST_TEXT_BYTES text stop
-schema_says r name text (inr stop) = let wrong = stop.4.0 in cc
+unread_says : (answer : Answer) → answer.status ≡ Yes → answer.status ≡ CannotRead → ⊥
+unread_says answer yes is = cc
 
-pub goal_says : (s : Schema) (goal text : List ℕ) → GoalStops s goal Yes text → ⊥
-goal_says s goal text (inl stop) = let wrong = stop.1.0 in cc
-goal_says s goal text (inr stop) = let wrong = stop.3.0 in cc
+status_is : (answer told : Answer) → answer ≡ told → answer.status ≡ told.status
+status_is answer told is = ap (λ (a : Answer). a.status) is
+
+file_says : (r : Reading) (name : List ℕ) (limit : ℕ) (answer : Answer) → answer.status ≡ Yes → FileStops r name limit answer → ⊥
+file_says r name limit answer yes (inl stop) = unread_says answer yes (status_is answer _ stop.1)
+file_says r name limit answer yes (inr stop) = refused_says answer yes (status_is answer _ stop.1)
+
+pub schema_says : (r : Reading) (name : List ℕ) (answer : Answer) → answer.status ≡ Yes → SchemaStops r name answer → ⊥
+schema_says r name answer yes (inl stop) = file_says r name MOST_TEXT_BYTES answer yes stop
+schema_says r name answer yes (inr stop) = refused_says answer yes (status_is answer _ stop.2)
+
+pub goal_says : (s : Schema) (goal : List ℕ) (answer : Answer) → answer.status ≡ Yes → GoalStops s goal answer → ⊥
+goal_says s goal answer yes (inl stop) = refused_says answer yes (status_is answer _ stop.1)
+goal_says s goal answer yes (inr stop) = refused_says answer yes (status_is answer _ stop.2)
 
 -- ---- what has a meaning does not stop
 -- a file of this name has one content
 pub one_content : (files : Files) (name first second : List ℕ) → held files name ≡ Some first → held files name ≡ Some second → first ≡ second
 one_content files name first second here there = let same : Some first ≡ Some second = sym here ∙ there in cc
 
-file_goes : (files : Files) (name bytes : List ℕ) (limit : ℕ) (status : Status) (text : List ℕ) → held files name ≡ Some bytes → length bytes ≤ limit
-    → FileStops (told files) name limit status text → ⊥
-file_goes files name bytes limit status text has few (inl stop) = let none = stop.0 in cc
-file_goes files name bytes limit status text has few (inr stop) =
+file_goes : (files : Files) (name bytes : List ℕ) (limit : ℕ) (answer : Answer) → held files name ≡ Some bytes → length bytes ≤ limit
+    → FileStops (told files) name limit answer → ⊥
+file_goes files name bytes limit answer has few (inl (inl fails, said)) = absurd fails
+file_goes files name bytes limit answer has few (inl (inr none, said)) = cc
+file_goes files name bytes limit answer has few (inr stop) =
     let of : Option (List ℕ) → Type 0 = λ o. IsSomeAnd o (λ bytes. limit < length bytes) in
-    let long : limit < length bytes = subst of has stop.0 in omega (arith, few, long)
+    let long : limit < length bytes = subst of has stop.0.1 in omega (arith, few, long)
 
-pub schema_goes : (files : Files) (name bytes : List ℕ) (d : Declarations) (status : Status) (text : List ℕ) → held files name ≡ Some bytes → length bytes ≤ MOST_TEXT_BYTES → MeansSchema bytes d
-    → SchemaStops (told files) name status text → ⊥
-schema_goes files name bytes d status text has few means (inl stop) = file_goes files name bytes MOST_TEXT_BYTES status text has few stop
-schema_goes files name bytes d status text has few means (inr stop) =
-    let read : read_text stop.0 ≡ Ok d = (schema-law stop.0 d).1 (subst (λ (b : List ℕ). MeansSchema b d) (one_content files name bytes stop.0 has stop.2.0) means) in
-    let refused = stop.3 in cc
+pub schema_goes : (files : Files) (name bytes : List ℕ) (d : Declarations) (answer : Answer) → held files name ≡ Some bytes → length bytes ≤ MOST_TEXT_BYTES → MeansSchema bytes d
+    → SchemaStops (told files) name answer → ⊥
+schema_goes files name bytes d answer has few means (inl stop) = file_goes files name bytes MOST_TEXT_BYTES answer has few stop
+schema_goes files name bytes d answer has few means (inr stop) =
+    let text = stop.1.bytes in
+    let read : read_text text ≡ Ok d = (schema-law text d).1 (subst (λ (b : List ℕ). MeansSchema b d) (one_content files name bytes text has stop.1.content.0) means) in
+    let refused : read_text text ≡ Err stop.0 = stop.1.refused in cc
 
-pub proof_goes : (files : Files) (s : Schema) (name bytes : List ℕ) (t : Tree) (status : Status) (text : List ℕ) → held files name ≡ Some bytes → length bytes ≤ MOST_PROOF_BYTES → SpellsWithin s bytes t
-    → ProofStops (told files) s name status text → ⊥
-proof_goes files s name bytes t status text has few spells (inl stop) = file_goes files name bytes MOST_PROOF_BYTES status text has few stop
-proof_goes files s name bytes t status text has few spells (inr stop) =
-    let read : read_proof s stop.0 ≡ Ok t = spelled_back s stop.0 t (subst (λ (b : List ℕ). SpellsWithin s b t) (one_content files name bytes stop.0 has stop.2.0) spells) in
-    let refused : read_proof s stop.0 ≡ Err stop.1 = refused_back s stop.0 stop.1 stop.3 in cc
+pub proof_goes : (files : Files) (s : Schema) (name bytes : List ℕ) (t : Tree) (answer : Answer) → held files name ≡ Some bytes → length bytes ≤ MOST_PROOF_BYTES → SpellsWithin s bytes t
+    → ProofStops (told files) s name answer → ⊥
+proof_goes files s name bytes t answer has few spells (inl stop) = file_goes files name bytes MOST_PROOF_BYTES answer has few stop
+proof_goes files s name bytes t answer has few spells (inr stop) =
+    let text = stop.1.bytes in
+    let read : read_proof s text ≡ Ok t = spelled_back s text t (subst (λ (b : List ℕ). SpellsWithin s b t) (one_content files name bytes text has stop.1.content.0) spells) in
+    let refused : read_proof s text ≡ Err stop.0 = refused_back s text stop.0 stop.1.refused in cc
 
-pub goal_goes : (s : Schema) (goal : List ℕ) (d : Dependency) (status : Status) (text : List ℕ) → length goal ≤ MOST_GOAL_BYTES → MeansGoal (names_of s) goal d → GoalStops s goal status text → ⊥
-goal_goes s goal d status text few means (inl stop) = let long = stop.0 in omega (arith, few, long)
-goal_goes s goal d status text few means (inr stop) = let read : read_goal (names_of s) goal ≡ Ok d = (goal-law (names_of s) goal d).1 means in let refused = stop.2 in cc
+pub goal_goes : (s : Schema) (goal : List ℕ) (d : Dependency) (answer : Answer) → length goal ≤ MOST_GOAL_BYTES → MeansGoal (names_of s) goal d → GoalStops s goal answer → ⊥
+goal_goes s goal d answer few means (inl stop) = let long = stop.0 in omega (arith, few, long)
+goal_goes s goal d answer few means (inr stop) =
+    let read : read_goal (names_of s) goal ≡ Ok d = (goal-law (names_of s) goal d).1 means in
+    let refused : read_goal (names_of s) goal ≡ Err stop.0 = stop.1.refused in cc

@@ -4,9 +4,9 @@
 #![tactic(auto)]
 
 ghost use Rattle.std.specs.Prelude.{◌≡◌, ◌≤◌, ℕ, List, [], ◌∷◌, length, Some, codes};
-ghost use Rattle.desk_cli.specs.declared.status.Status.{Status};
 ghost use Rattle.desk_cli.specs.declared.status.Status.TheVariants.{Yes};
-ghost use Rattle.desk_cli.specs.Answers.{Answers};
+ghost use Rattle.desk_cli.specs.Answers.{Answer};
+ghost use Rattle.desk_cli.specs.Performs.{Answers};
 ghost use Rattle.desk_cli.specs.Readings.{told};
 ghost use Rattle.desk_outside.specs.Files.{Files, held};
 ghost use Rattle.proof_text.specs.declared.text.TheConstants.{MOST_PROOF_BYTES};
@@ -14,5 +14,8 @@ ghost use Rattle.proof_text.specs.declared.text.TheConstants.{MOST_PROOF_BYTES};
 /// What `implies` prints after yes, kept in a file, is accepted by `check proof` for the same schema and
 /// goal, where the text is within the limit of certificate files.
 pub fn printed_proof_is_accepted()
-    ensures law { (before after : Files) (schema goal file text : List ℕ) → Answers (told before) (codes "implies" ∷ schema ∷ goal ∷ []) Yes text → held after schema ≡ held before schema → held after file ≡ Some text → length text ≤ MOST_PROOF_BYTES → (status : Status) (out : List ℕ) → Answers (told after) (codes "check" ∷ codes "proof" ∷ schema ∷ file ∷ goal ∷ []) status out → status ≡ Yes }
+    ensures law { (before after : Files) (schema goal file : List ℕ) (printed : Answer)
+        → Answers (told before) (codes "implies" ∷ schema ∷ goal ∷ []) printed → printed.status ≡ Yes
+        → held after schema ≡ held before schema → held after file ≡ Some printed.text → length printed.text ≤ MOST_PROOF_BYTES
+        → (answer : Answer) → Answers (told after) (codes "check" ∷ codes "proof" ∷ schema ∷ file ∷ goal ∷ []) answer → answer.status ≡ Yes }
 {}

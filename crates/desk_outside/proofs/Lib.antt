@@ -1,2 +1,3 @@
 pub mod ListFacts
 pub mod HeldFacts
+pub mod FolderFacts

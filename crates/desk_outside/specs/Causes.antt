@@ -1,5 +1,5 @@
 -- Each fault that is answered was one: what a call does to its object's count of faults.
-use Rattle.std.specs.Prelude.{◌≡◌, ◌⊎◌, ℕ, ◌+◌, ◌-◌, ◌^◌, ◌<◌, ◌≤◌, min, List, length, take, Option, Result, OnErr, Err}
+use Rattle.std.specs.Prelude.{◌≡◌, ◌⊎◌, ℕ, ◌+◌, ◌-◌, ◌^◌, ◌<◌, ◌≤◌, min, List, length, take, Option, Result, OnErr, Ok, Err, Bool, true, false}
 use Rattle.std.specs.Io.KnownBytes.{append_known}
 use Rattle.desk_outside.specs.declared.failure.OutsideFault.{OutsideFault}
 use Rattle.desk_outside.specs.declared.failure.OutsideFault.TheVariants.{Failed, Memory}
@@ -39,3 +39,14 @@ TookPart old bytes new = (n : ℕ) × (n < length bytes) × (new ≡ append_know
 abbrev pub refusal_of : OutsideFault → LoadRefusal
 refusal_of Failed = refusal.CannotRead
 refusal_of Memory = refusal.Memory
+
+-- the faults of a call that may want memory: the count has not fallen, and at `Failed` it rose
+pub record HasOutsideCause {T : Type 0} (before now : ℕ) (result : Result T OutsideFault) : Type 0 where
+  pub later : before ≤ now
+  pub failed : result ≡ Err Failed → Rose before now
+
+-- whether a call failed, and did not only want memory
+abbrev pub is_failed : {T : Type 0} → Result T OutsideFault → Bool
+is_failed (Ok _) = false
+is_failed (Err Failed) = true
+is_failed (Err Memory) = false

@@ -1,4 +1,5 @@
 pub mod Causes
 pub mod Files
+pub mod Folders
 pub mod Planned
 pub mod Memory

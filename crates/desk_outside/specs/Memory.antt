@@ -2,7 +2,8 @@
 use Rattle.std.specs.Prelude.{ℕ, ◌-◌, ◌<◌, ◌≤◌, List, [], length, Option, Some, None, slice_get}
 use Rattle.std.specs.Option.{option_map_or}
 use Rattle.desk_outside.specs.declared.word.HeldFile.{HeldFile}
-use Rattle.desk_outside.specs.Files.{Files}
+use Rattle.desk_outside.specs.Files.{Files, StoredFile}
+use Rattle.desk_outside.specs.Folders.{FolderContents}
 use Rattle.desk_outside.specs.Planned.{FaultPlan, new_plan}
 
 -- a shelf: its files, what is left of the begun one, how many bytes were taken since it was begun,
@@ -43,3 +44,17 @@ bytes_at files (Some place) = option_map_or (λ (file : HeldFile). file.bytes.it
 abbrev pub IsBegun : List HeldFile → Option ℕ → ℕ → Type 0
 IsBegun files None taken = Unit {0}
 IsBegun files (Some place) taken = (place < length files) × (taken ≤ length (bytes_at files (Some place)))
+
+-- a folder: its finished files in the order of their ending, the open one, and its planned faults
+pub record FolderInMemory : Type 0 where
+  pub finished : Files
+  pub opened : Option StoredFile
+  pub planned : FaultPlan
+
+-- no file is finished or open, and no call was made
+abbrev pub new_folder : List ℕ → FolderInMemory
+new_folder fails = record { finished = []; opened = None; planned = new_plan fails }
+
+-- its files
+abbrev pub contents_of : FolderInMemory → FolderContents
+contents_of folder = record { finished = folder.finished; opened = folder.opened }

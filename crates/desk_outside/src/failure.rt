@@ -1,7 +1,9 @@
 ghost use Rattle.std.specs.Prelude.{◌≡◌, ⊤};
+ghost use Rattle.desk_outside.specs.declared.failure.OutsideFault.TheVariants as of_outside;
 ghost use Rattle.desk_outside.specs.declared.failure.LoadRefusal.TheVariants.{CannotRead, Memory};
 ghost use Rattle.desk_outside.specs.Causes.{refusal_of};
 
+use dep_model::WantMemory;
 use std::alloc::AllocError;
 use thiserror::Error;
 
@@ -19,6 +21,22 @@ pub enum OutsideFault {
     /// It could not take the memory that it needed.
     #[error("out of memory")]
     Memory,
+}
+
+impl From<AllocError> for OutsideFault {
+    ghost from_gives = { λ _ fault. fault ≡ of_outside.Memory };
+
+    fn from(_error: AllocError) -> Self {
+        OutsideFault::Memory
+    }
+}
+
+impl From<WantMemory> for OutsideFault {
+    ghost from_gives = { λ _ fault. fault ≡ of_outside.Memory };
+
+    fn from(_error: WantMemory) -> Self {
+        OutsideFault::Memory
+    }
 }
 
 /// Why a file was not loaded.

@@ -130,6 +130,58 @@ fn each_call_of_a_sending_may_fail(rt: HostRuntime) -> Result<(), Fail> {
     Ok(())
 }
 
+// Of the calls of a file with two pieces, from 1, any may fail; then no file is open, and those
+// finished before stay.
+#[test]
+fn each_call_of_a_folder_may_fail(rt: HostRuntime) -> Result<(), Fail> {
+    for call in 1..=9u64 {
+        let alloc = rt.alloc();
+        let mut folder = MemoryFolder::make(alloc, Vec::from_slice(alloc, &[call])?);
+        let mut failed = 0;
+        for name in [b"a".as_slice(), b"b"] {
+            if write_file(&mut folder, name).is_err() {
+                failed += 1;
+            }
+        }
+        let finished = folder.finished();
+        assert_eq!(rt; failed, if call <= 8 { 1 } else { 0 });
+        assert_eq!(rt; finished.len(), 2 - failed);
+        for file in finished {
+            assert_eq!(rt; file.bytes.as_slice(), b"no\nyes\n".as_slice());
+        }
+        assert!(rt; matches!(folder.shown(), Some(files) if files.len() == finished.len()));
+    }
+    Ok(())
+}
+
+// A file of two pieces, up to the first fault.
+fn write_file<G: Folder>(folder: &mut G, name: &[u8]) -> Result<(), OutsideFault> {
+    folder.begin(name)?;
+    folder.write(b"no\n")?;
+    folder.write(b"yes\n")?;
+    folder.end()
+}
+
+#[test]
+fn the_system_has_a_folder(rt: HostRuntime) -> Result<(), Fail> {
+    let mut folder = FileFolder::make(&rt);
+    for text in [b"the first text".as_slice(), b"second"] {
+        assert_eq!(rt; folder.begin(b"desk_outside_written"), Ok(()));
+        assert_eq!(rt; folder.write(text), Ok(text.len()));
+        assert_eq!(rt; folder.end(), Ok(()));
+    }
+    assert!(rt; folder.shown().is_none());
+    assert_eq!(rt;
+        folder.begin(b"desk_outside_\xff"),
+        Err(OutsideFault::Failed)
+    );
+    let mut shelf = FileShelf::make(&rt);
+    let bytes = load(rt.alloc(), &mut shelf, b"desk_outside_written", 100);
+    fs::remove_file(&rt, "desk_outside_written")?;
+    assert_eq!(rt; bytes?.as_slice(), b"second".as_slice());
+    Ok(())
+}
+
 #[test]
 fn the_system_has_files(rt: HostRuntime) -> Result<(), Fail> {
     fs::write(&rt, "desk_outside_text", TEXT)?;

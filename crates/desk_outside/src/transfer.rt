@@ -1,9 +1,11 @@
-ghost use Rattle.std.specs.Prelude.{◌≡◌, ◌+◌, ◌^◌, ◌<◌, ◌≤◌, ◌↔◌, ◌⊎◌, length, IfOk, OnOk, OnErr, IsErrOf, Err};
+ghost use Rattle.std.specs.Prelude.{◌≡◌, ◌+◌, ◌^◌, ◌<◌, ◌≤◌, ◌↔◌, ◌⊎◌, length, is_ok, option_map, IsTrue, IfOk, OnOk, OnErr, IsErrOf, Err};
 ghost use Rattle.std.specs.Io.KnownBytes.{append_known, IsAtEnd};
-ghost use Rattle.desk_outside.specs.Causes.{Rose, TookPart};
+ghost use Rattle.desk_outside.specs.Causes.{Rose, TookPart, HasOutsideCause};
 ghost use Rattle.desk_outside.specs.Files.{none_left, IsMissing, IsHeld, IsLonger};
+ghost use Rattle.desk_outside.specs.Folders.{with_bytes, with_none_open};
 
-use crate::failure::{CannotWrite, LoadRefusal};
+use crate::failure::{CannotWrite, LoadRefusal, OutsideFault};
+use crate::folder::Folder;
 use crate::shelf::Shelf;
 use crate::sink::Sink;
 use std::alloc::Global;
@@ -70,6 +72,21 @@ pub fn send<K: Sink>(sink: &mut K, bytes: &[u8]) -> Result<(), CannotWrite>
     let mut sent = 0;
     while sent < bytes.len() {
         sent += sink.write(&bytes[sent..])?;
+    }
+    Ok(())
+}
+
+/// Writes all bytes, in order, to the open file of a folder.
+pub fn write_all<G: Folder>(folder: &mut G, bytes: &[u8]) -> Result<(), OutsideFault>
+    requires is_open { IsTrue (G.is_open folder.old) }
+    ensures ok { OnOk result (G.contents folder.new ≡ option_map (with_bytes bytes.now) (G.contents folder.old)) }
+    ensures closed { OnErr result (G.contents folder.new ≡ option_map with_none_open (G.contents folder.old)) }
+    ensures is_open { G.is_open folder.new ≡ is_ok result }
+    ensures cause { HasOutsideCause (G.faults folder.old) (G.faults folder.new) result }
+{
+    let mut written = 0;
+    while written < bytes.len() {
+        written += folder.write(&bytes[written..])?;
     }
     Ok(())
 }

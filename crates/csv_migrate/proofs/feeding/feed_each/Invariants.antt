@@ -1,0 +1,15 @@
+use Rattle.std.proofs.Common.{◌≤◌, length}
+use Rattle.std.specs.Prelude.{vec_capacity}
+use Rattle.csv_migrate.specs.Tables.{values_of}
+use Rattle.csv_migrate.specs.Feeding.{FedTarget}
+use Rattle.csv_migrate.proofs.FeedLemmas.{HoldsSoFar}
+use Rattle.csv_migrate.proofs.feeding.feed_each.Given as goal
+
+-- the targets so far are fed, and the others are as they were
+abbrev pub invariant-loop-target : goal.invariant-loop-target
+invariant-loop-target g l =
+    let target = g.T.Target in
+    record {
+      fed : HoldsSoFar (FedTarget target.tells target.finished target.faults (values_of l.tables)) l.target-index l.fn.targets l.targets l.ends.items;
+      room : length l.targets ≤ vec_capacity l.ends;
+    }

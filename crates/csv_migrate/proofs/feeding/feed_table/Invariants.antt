@@ -1,0 +1,15 @@
+use Rattle.std.proofs.Common.{◌≡◌, ◌≤◌, length, take, Some}
+use Rattle.targets.specs.Targets.{KeepsFinished}
+use Rattle.csv_migrate.proofs.feeding.feed_table.Given as goal
+
+-- the table is open, with the rows so far
+abbrev pub invariant-loop-row : goal.invariant-loop-row
+invariant-loop-row g l =
+    let target = g.T.Target in
+    record {
+      tells : target.tells l.target ≡ target.tells l.fn.target;
+      keeps : KeepsFinished (target.finished l.fn.target) (target.finished l.target);
+      opened : target.opened l.target (record { name = l.table.name; columns = l.table.columns.items; rows = take l.row-index l.table.rows.items });
+      width : target.width l.target ≡ Some (length l.table.columns.items);
+      later : target.faults l.fn.target ≤ target.faults l.target;
+    }

@@ -1,0 +1,12 @@
+use Rattle.std.proofs.Common.{refl}
+use Rattle.csv_migrate.specs.Tables.{values_of}
+use Rattle.desk_cli.proofs.finish.hand_over.Goals as goal
+
+pub returns-clause-ends : goal.returns-clause-ends
+returns-clause-ends g c = record {
+  yes = refl;
+  ends = c.in_ok-ends.ends.items;
+  fed = c.in_ok-ends.ensures.fed;
+  memory = rw c.deref.ensures.value at c.in_ok-end.ensures.memory;
+  reports = rw c.deref.ensures.value at (c.in_ok-end.ensures.reports (values_of c.args.tables.now));
+}

@@ -1,0 +1,107 @@
+-- How a schema, a goal and a certificate are read, and how their reading ends a command.
+use Rattle.std.specs.Prelude.{◌≡◌, ◌≢◌, ◌⊎◌, ℕ, ◌<◌, ◌≤◌, List, length, codes, Some, Err}
+use Rattle.dep_model.specs.Dependencies.{Dependency}
+use Rattle.dep_model.specs.Schemas.{names_of}
+use Rattle.dep_model.specs.declared.schema.Schema.{Schema}
+use Rattle.derivation.specs.Trees.{Tree}
+use Rattle.schema_reader.specs.declared.goal.TheConstants.{MOST_GOAL_BYTES}
+use Rattle.schema_reader.specs.declared.text.TheConstants.{MOST_TEXT_BYTES}
+use Rattle.schema_reader.specs.declared.refusal.SchemaRefusal.{SchemaRefusal}
+use Rattle.schema_reader.specs.declared.refusal.SchemaRefusalKind.TheVariants as kind
+use Rattle.schema_reader.specs.Meanings.{MeansGoal}
+use Rattle.schema_reader.specs.Reading.{read_goal}
+use Rattle.schema_reader.specs.Schemas.{MeansSchema}
+use Rattle.schema_reader.specs.Texts.{read_text, declarations_of}
+use Rattle.proof_text.specs.declared.text.TheConstants.{MOST_PROOF_BYTES}
+use Rattle.proof_text.specs.declared.refusal.ProofRefusal.{ProofRefusal}
+use Rattle.proof_text.specs.Complaints.{LineComplaint, Complaint, complaint_of}
+use Rattle.proof_text.specs.Spelling.{SpellsWithin}
+use Rattle.refusal_laws.specs.Refusals.{IsRefused}
+use Rattle.desk_cli.specs.declared.status.Status.TheVariants.{Refused, CannotRead}
+use Rattle.desk_cli.specs.Answers.{Allowed, Says, With}
+use Rattle.desk_cli.specs.ProofTexts.{proof_refusal_text}
+use Rattle.desk_cli.specs.Readings.{Reading, CannotBeRead, IsTooLong, IsContent}
+use Rattle.desk_cli.specs.Texts.{cannot_read_text, too_long_text, goal_too_long_text, refusal_text, goal_refusal_text}
+
+-- how the reading of a file of at most so many bytes ends a command
+abbrev pub FileStops : Reading → List ℕ → ℕ → Allowed
+FileStops r name limit answer =
+    (CannotBeRead r name × Says CannotRead (cannot_read_text name) answer)
+    ⊎ (IsTooLong r name limit × Says Refused (too_long_text name) answer)
+
+-- ---- schemas
+-- the text of a file is refused so
+pub record IsRefusedSchema (r : Reading) (name : List ℕ) (refusal : SchemaRefusal) : Type 0 where
+  pub bytes : List ℕ
+  pub content : IsContent r name MOST_TEXT_BYTES bytes
+  pub refused : read_text bytes ≡ Err refusal
+
+-- the text of a file means this schema
+pub record IsSchemaFile (r : Reading) (name : List ℕ) (schema : Schema) : Type 0 where
+  pub bytes : List ℕ
+  pub content : IsContent r name MOST_TEXT_BYTES bytes
+  pub means : MeansSchema bytes (declarations_of schema)
+
+-- how the reading of a schema file ends a command
+abbrev pub SchemaStops : Reading → List ℕ → Allowed
+SchemaStops r name answer =
+    FileStops r name MOST_TEXT_BYTES answer
+    ⊎ ((refusal : SchemaRefusal) × IsRefusedSchema r name refusal × Says Refused (refusal_text (codes "schema") name refusal) answer)
+
+-- a schema file is read, and then the rest follows
+abbrev pub WithSchema : Reading → List ℕ → (Schema → Allowed) → Allowed
+WithSchema r name = With (SchemaStops r name) (IsSchemaFile r name)
+
+-- ---- goals
+-- a goal is refused so
+pub record IsRefusedGoal (schema : Schema) (goal : List ℕ) (refusal : SchemaRefusal) : Type 0 where
+  pub few : length goal ≤ MOST_GOAL_BYTES
+  pub refused : read_goal (names_of schema) goal ≡ Err refusal
+
+-- a goal means this dependency
+pub record IsGoal (schema : Schema) (goal : List ℕ) (dep : Dependency) : Type 0 where
+  pub few : length goal ≤ MOST_GOAL_BYTES
+  pub means : MeansGoal (names_of schema) goal dep
+
+-- how the reading of a goal ends a command
+abbrev pub GoalStops : Schema → List ℕ → Allowed
+GoalStops schema goal answer =
+    ((MOST_GOAL_BYTES < length goal) × Says Refused goal_too_long_text answer)
+    ⊎ ((refusal : SchemaRefusal) × IsRefusedGoal schema goal refusal × Says Refused (goal_refusal_text refusal) answer)
+
+-- a goal is read, and then the rest follows
+abbrev pub WithGoal : Schema → List ℕ → (Dependency → Allowed) → Allowed
+WithGoal schema goal = With (GoalStops schema goal) (IsGoal schema goal)
+
+-- ---- certificates
+-- the text of a file is refused so
+pub record IsRefusedProof (r : Reading) (schema : Schema) (name : List ℕ) (refusal : LineComplaint) : Type 0 where
+  pub bytes : List ℕ
+  pub content : IsContent r name MOST_PROOF_BYTES bytes
+  pub refused : IsRefused schema bytes refusal
+
+-- the text of a file spells this tree, within the limits of a certificate
+pub record IsProofFile (r : Reading) (schema : Schema) (name : List ℕ) (tree : Tree) : Type 0 where
+  pub bytes : List ℕ
+  pub content : IsContent r name MOST_PROOF_BYTES bytes
+  pub spells : SpellsWithin schema bytes tree
+
+-- how the reading of a certificate file ends a command
+abbrev pub ProofStops : Reading → Schema → List ℕ → Allowed
+ProofStops r schema name answer =
+    FileStops r name MOST_PROOF_BYTES answer
+    ⊎ ((refusal : LineComplaint) × IsRefusedProof r schema name refusal × Says Refused (proof_refusal_text (names_of schema) name refusal) answer)
+
+-- a certificate file is read, and then the rest follows
+abbrev pub WithProof : Reading → Schema → List ℕ → (Tree → Allowed) → Allowed
+WithProof r schema name = With (ProofStops r schema name) (IsProofFile r schema name)
+
+-- ---- replies
+-- a command ends with the refusal of a text
+abbrev pub TellsRefusal : List ℕ → List ℕ → SchemaRefusal → Allowed
+TellsRefusal group name refusal answer = (refusal.kind ≢ kind.Memory) × Says Refused (refusal_text group name refusal) answer
+
+-- a command ends with the refusal of a certificate
+abbrev pub TellsProof : List (List ℕ) → List ℕ → ProofRefusal → Allowed
+TellsProof names name refusal answer =
+    (c : Complaint) × (complaint_of refusal.kind ≡ Some c) × Says Refused (proof_refusal_text names name (record { line = refusal.line; complaint = c })) answer

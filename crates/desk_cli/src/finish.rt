@@ -1,0 +1,144 @@
+ghost use Rattle.std.specs.Prelude.{◌≡◌, List, [], ◌++◌, false, length, codes, IfOk, OnOk, OnErr};
+ghost use Rattle.std.specs.Fmt.{decimal};
+ghost use Rattle.std.specs.List.{list_any, list_all};
+ghost use Rattle.csv_migrate.specs.Tables.{values_of};
+ghost use Rattle.desk_cli.specs.Answers.{gives};
+ghost use Rattle.desk_cli.specs.Endings.{targets_in_call, is_done, wants_memory, end_text, failures_text, reported, FeedsTargets, Settles, LeavesTargets};
+ghost use Rattle.desk_cli.specs.Replies.{answer_of, ending_of};
+ghost use Rattle.desk_cli.specs.Texts.{line};
+ghost use Rattle.targets.specs.Tables.{TableValue};
+
+use crate::Status;
+use crate::reply::Reply;
+use crate::text::put;
+use csv_migrate::{FeedEnd, Table, feed_list};
+use dep_model::WantMemory;
+use itoa::Buffer;
+use std::alloc::Global;
+use targets::Target;
+
+// The most bytes of the line for a target that failed.
+const LINE: usize = 40;
+
+/// What the whole call ends with: a status, and the text that is written.
+#[derive(Debug, Drop)]
+pub struct End {
+    pub status: Status,
+    pub text: Vec<u8>,
+}
+
+/// Hands the tables of a reply, if it has any, to the targets.
+pub fn settle<T: Target>(
+    alloc: Global,
+    targets: &mut Vec<T>,
+    reply: Reply,
+) -> Result<End, WantMemory>
+    ensures ends { IfOk result (λ end. Settles (targets_in_call T.tells T.finished T.faults targets.old.items targets.new.items) (answer_of reply) (ending_of end)) }
+    ensures err { OnErr result (LeavesTargets (targets_in_call T.tells T.finished T.faults targets.old.items targets.new.items) (answer_of reply)) }
+    ensures count { length targets.new.items ≡ length targets.old.items }
+{
+    let Reply {
+        status,
+        text,
+        tables,
+    } = reply;
+    match tables {
+        None => Ok(End { status, text }),
+        Some(tables) => hand_over(alloc, targets, text, &tables),
+    }
+}
+
+// Hands these tables to the targets, and then tells this text, or which targets failed.
+//
+// All memory but that of the targets is taken before the first call of a target.
+fn hand_over<T: Target>(
+    alloc: Global,
+    targets: &mut Vec<T>,
+    text: Vec<u8>,
+    tables: &[Table],
+) -> Result<End, WantMemory>
+    ensures ends { IfOk result (λ end. FeedsTargets (targets_in_call T.tells T.finished T.faults targets.old.items targets.new.items)
+        (gives text.items (values_of tables.now)) (values_of tables.now) (ending_of end)) }
+    ensures err { OnErr result (LeavesTargets (targets_in_call T.tells T.finished T.faults targets.old.items targets.new.items) (gives text.items (values_of tables.now))) }
+    ensures count { length targets.new.items ≡ length targets.old.items }
+{
+    let room = Vec::with_capacity(alloc, targets.len().saturating_mul(LINE))?;
+    let ends = feed_list(alloc, targets, tables)?;
+    let end = report(text, room, &ends)?;
+    Ok(end)
+}
+
+// What is told after targets ended so. The text of a failure is written into the room.
+fn report(text: Vec<u8>, room: Vec<u8>, ends: &[FeedEnd]) -> Result<End, WantMemory>
+    requires empty { room.items ≡ [] }
+    ensures memory { OnOk result (list_any wants_memory ends.now ≡ false) }
+    ensures reports { (tables : List TableValue) → IfOk result (λ end. ending_of end ≡ reported (gives text.items tables) ends.now) }
+{
+    if some_wants_memory(ends) {
+        return Err(WantMemory);
+    }
+    if all_are_done(ends) {
+        return Ok(End {
+            status: Status::Yes,
+            text,
+        });
+    }
+    Ok(End {
+        status: Status::TargetFailed,
+        text: failures(room, ends)?,
+    })
+}
+
+fn some_wants_memory(ends: &[FeedEnd]) -> bool
+    ensures some { result ≡ list_any wants_memory ends.now }
+{
+    ends.iter().any(|end| wants_memory(*end))
+}
+
+fn all_are_done(ends: &[FeedEnd]) -> bool
+    ensures all { result ≡ list_all is_done ends.now }
+{
+    ends.iter().all(|end| is_done(*end))
+}
+
+fn wants_memory(end: FeedEnd) -> bool
+    ensures is { result ≡ wants_memory end }
+{
+    end == FeedEnd::NoMemory
+}
+
+fn is_done(end: FeedEnd) -> bool
+    ensures is { result ≡ is_done end }
+{
+    end == FeedEnd::Done
+}
+
+// A line for each target that failed, counted from 1.
+fn failures(mut text: Vec<u8>, ends: &[FeedEnd]) -> Result<Vec<u8>, WantMemory>
+    requires empty { text.items ≡ [] }
+    ensures lines { IfOk result (λ text. text.items ≡ failures_text 1 ends.now) }
+{
+    for (i, end) in ends.iter().enumerate() {
+        put_end(&mut text, i + 1, *end)?;
+    }
+    Ok(text)
+}
+
+// What is said of the target of this number, at the end of a text.
+fn put_end(text: &mut Vec<u8>, number: usize, end: FeedEnd) -> Result<(), WantMemory>
+    ensures more { OnOk result (text.new.items ≡ text.old.items ++ end_text number end) }
+{
+    match end {
+        FeedEnd::Failed => put_failure(text, number),
+        FeedEnd::Done | FeedEnd::NoMemory => Ok(()),
+    }
+}
+
+// The line for the target of this number, at the end of a text.
+fn put_failure(text: &mut Vec<u8>, number: usize) -> Result<(), WantMemory>
+    ensures more { OnOk result (text.new.items ≡ text.old.items ++ line (codes "target " ++ decimal number ++ codes " failed")) }
+{
+    put(text, b"target ")?;
+    put(text, Buffer::new().format(number).as_bytes())?;
+    put(text, b" failed\n")
+}

@@ -1,0 +1,95 @@
+ghost use Rattle.std.specs.Prelude.{◌≡◌, ◌≤◌, false, None, IfOk, is_some, length};
+
+use crate::failure::OutsideFault;
+use crate::folder::Folder;
+use crate::word::HeldFile;
+use std::fs::OpenOptions;
+use std::io;
+use std::io::Write;
+use std::rt::Files;
+
+/// The system's current folder.
+///
+/// It tells nothing of what it holds. A name that is not UTF-8, a write that takes nothing and any
+/// error of the system are faults, and all are counted. A file of a name that is there is emptied.
+#[derive(Drop)]
+pub struct FileFolder<R: Files + Drop> {
+    rt: R,
+    opened: Option<R::File>,
+    faults: u64,
+}
+
+impl<R: Files + Drop> FileFolder<R> {
+    /// The folder that the runtime reaches. No file is open, and no fault is counted.
+    pub fn make(rt: R) -> FileFolder<R>
+        ensures is_open { ⟦<FileFolder<R> as Folder>⟧.is_open result ≡ false }
+        ensures faults { ⟦<FileFolder<R> as Folder>⟧.faults result ≡ 0 }
+    {
+        FileFolder {
+            rt,
+            opened: None,
+            faults: 0,
+        }
+    }
+}
+
+// An empty file of this name, if it is UTF-8 and the system makes one.
+fn create_named<R: Files>(rt: &R, name: &[u8]) -> Option<R::File> {
+    let path = str::from_utf8(name).ok()?;
+    OpenOptions::new()
+        .write(true)
+        .create(true)
+        .truncate(true)
+        .open(rt, path)
+        .ok()
+}
+
+// Bytes from the front of the piece for the open file, where one is open.
+fn write_opened<T: Write>(opened: &mut Option<T>, piece: &[u8]) -> io::Result<usize>
+    ensures bound { IfOk result (λ n. n ≤ length piece.now) }
+    ensures stays { is_some opened.new ≡ is_some opened.old }
+{
+    match opened {
+        Some(file) => file.write(piece),
+        None => Ok(0),
+    }
+}
+
+impl<R: Files + Drop> Folder for FileFolder<R> {
+    ghost contents = { λ _. None };
+
+    ghost is_open = { λ folder. is_some folder.opened };
+
+    ghost faults = { λ folder. folder.faults };
+
+    fn begin(&mut self, name: &[u8]) -> Result<(), OutsideFault> {
+        self.opened = create_named(&self.rt, name);
+        if self.opened.is_some() {
+            return Ok(());
+        }
+        self.faults = self.faults.saturating_add(1);
+        Err(OutsideFault::Failed)
+    }
+
+    fn write(&mut self, piece: &[u8]) -> Result<usize, OutsideFault> {
+        match write_opened(&mut self.opened, piece) {
+            Ok(count) if count > 0 => Ok(count),
+            _ => {
+                self.opened = None;
+                self.faults = self.faults.saturating_add(1);
+                Err(OutsideFault::Failed)
+            }
+        }
+    }
+
+    fn end(&mut self) -> Result<(), OutsideFault> {
+        self.opened = None;
+        Ok(())
+    }
+
+    fn shown(&self) -> Option<&[HeldFile]>
+        ensures none { result ≡ None }
+    {
+        None
+    }
+}

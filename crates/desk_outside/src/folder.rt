@@ -1,0 +1,55 @@
+ghost use Rattle.std.specs.Prelude.{◌≡◌, ℕ, Bool, false, ◌<◌, ◌≤◌, length, take, Option, Some, is_ok, IsTrue, IfOk, IfSome, OnOk, OnErr};
+ghost use Rattle.std.specs.Option.{option_map};
+ghost use Rattle.desk_outside.specs.Causes.{HasOutsideCause};
+ghost use Rattle.desk_outside.specs.Files.{files_of};
+ghost use Rattle.desk_outside.specs.Folders.{FolderContents, with_begun, with_bytes, with_ended, with_none_open};
+
+use crate::failure::OutsideFault;
+use crate::word::HeldFile;
+
+/// A place for files to write, one at a time.
+///
+/// After an error the finished files are as before and no file is open.
+pub trait Folder: Drop {
+    /// The finished files and the open one, where told.
+    ghost contents: { Self → Option FolderContents };
+
+    /// Whether a file is open.
+    ghost is_open: { Self → Bool };
+
+    /// A count of faults, which never falls.
+    ghost faults: { Self → ℕ };
+
+    /// Gives up an open file and opens an empty one of this name.
+    fn begin(&mut self, name: &[u8]) -> Result<(), OutsideFault>
+        ensures begun { OnOk result (contents self.new ≡ option_map (with_begun name.now) (contents self.old)) }
+        ensures closed { OnErr result (contents self.new ≡ option_map with_none_open (contents self.old)) }
+        ensures is_open { is_open self.new ≡ is_ok result }
+        ensures cause { HasOutsideCause (faults self.old) (faults self.new) result };
+
+    /// Takes bytes from the front of the piece, at least one, for the end of the open file, and
+    /// answers how many.
+    fn write(&mut self, piece: &[u8]) -> Result<usize, OutsideFault>
+        requires is_open { IsTrue (is_open self.old) }
+        requires some { 0 < length piece.now }
+        ensures some { IfOk result (λ n. 0 < n) }
+        ensures bound { IfOk result (λ n. n ≤ length piece.now) }
+        ensures bytes { IfOk result (λ n.
+            contents self.new ≡ option_map (with_bytes (take n piece.now)) (contents self.old)) }
+        ensures closed { OnErr result (contents self.new ≡ option_map with_none_open (contents self.old)) }
+        ensures is_open { is_open self.new ≡ is_ok result }
+        ensures cause { HasOutsideCause (faults self.old) (faults self.new) result };
+
+    /// The open file becomes the last finished one.
+    fn end(&mut self) -> Result<(), OutsideFault>
+        requires is_open { IsTrue (is_open self.old) }
+        ensures ended { OnOk result (contents self.new ≡ option_map with_ended (contents self.old)) }
+        ensures closed { OnErr result (contents self.new ≡ option_map with_none_open (contents self.old)) }
+        ensures is_open { is_open self.new ≡ false }
+        ensures cause { HasOutsideCause (faults self.old) (faults self.new) result };
+
+    /// The finished files, of a folder that shows them.
+    fn shown(&self) -> Option<&[HeldFile]>
+        ensures shown { IfSome result (λ files.
+            option_map (λ folder. folder.finished) (contents self.now) ≡ Some (files_of files.now)) };
+}

@@ -1,0 +1,143 @@
+ghost use Rattle.std.specs.Prelude.{◌≡◌, ◌↔◌, ◌<◌, [], ◌++◌, length, None, Some, is_some, IsTrue, IsErrOf, IfOk, IsSomeAnd, option_map, option_to_list, OnOk, OnErr};
+ghost use Rattle.desk_outside.specs.declared.failure.OutsideFault.{OutsideFault};
+ghost use Rattle.desk_outside.specs.declared.failure.OutsideFault.TheVariants.{Failed};
+ghost use Rattle.desk_outside.specs.Causes.{HasOutsideCause, is_failed};
+ghost use Rattle.desk_outside.specs.Files.{files_of};
+ghost use Rattle.desk_outside.specs.Folders.{more_bytes};
+ghost use Rattle.desk_outside.specs.Memory.{new_folder, contents_of};
+ghost use Rattle.desk_outside.specs.Planned.{FailsNext, CountsCall};
+
+use crate::failure::OutsideFault;
+use crate::folder::Folder;
+use crate::planned::PlannedFaults;
+use crate::word::{HeldFile, Word};
+use std::alloc::Global;
+use std::marker::Model;
+
+/// A folder in memory. It tells all its files, and fails at chosen calls alone.
+#[derive(Drop)]
+pub struct MemoryFolder {
+    alloc: Global,
+    finished: Vec<HeldFile>,
+    opened: Option<HeldFile>,
+    planned: PlannedFaults,
+}
+
+impl Model for MemoryFolder {
+    ghost use Rattle.std.specs.Option.{option_map};
+    ghost use Rattle.desk_outside.specs.Files.{files_of, stored};
+    ghost use Rattle.desk_outside.specs.Memory.{FolderInMemory};
+
+    ghost Value = { FolderInMemory };
+
+    ghost view = { λ f. record {
+      finished = files_of f.finished.items;
+      opened = option_map stored f.opened;
+      planned = f.planned;
+    } };
+}
+
+impl MemoryFolder {
+    /// An empty folder. The calls with these numbers, from 1, fail.
+    pub fn make(alloc: Global, fails: Vec<u64>) -> MemoryFolder
+        ensures begins { result ≡ new_folder fails.items }
+    {
+        MemoryFolder {
+            alloc,
+            finished: Vec::new(alloc),
+            opened: None,
+            planned: PlannedFaults::make(fails),
+        }
+    }
+
+    /// The finished files, in the order of their ending.
+    pub fn finished(&self) -> &[HeldFile]
+        ensures files { files_of result.now ≡ self.now.finished }
+    {
+        &self.finished
+    }
+}
+
+impl Folder for MemoryFolder {
+    ghost contents = { λ folder. Some (contents_of folder) };
+
+    ghost is_open = { λ folder. is_some folder.opened };
+
+    ghost faults = { λ folder. folder.planned.faults };
+
+    fn begin(&mut self, name: &[u8]) -> Result<(), OutsideFault>
+        ensures finished { self.new.finished ≡ self.old.finished }
+        ensures begun { OnOk result (self.new.opened ≡ Some (record { name = name.now; bytes = [] })) }
+        ensures closed { OnErr result (self.new.opened ≡ None) }
+
+        // It fails exactly where its number is planned.
+        ensures failed { IsErrOf result OutsideFault.Failed ↔ FailsNext self.old.planned }
+        ensures counts { CountsCall self.old.planned self.new.planned (is_failed result) }
+        ensures cause { HasOutsideCause self.old.planned.faults self.new.planned.faults result }
+    {
+        self.opened = None;
+        if self.planned.next_fails() {
+            self.planned.count_fault();
+            return Err(OutsideFault::Failed);
+        }
+        let name = Word::make(self.alloc, name)?;
+        let bytes = Vec::new(self.alloc);
+        self.opened = Some(HeldFile { name, bytes });
+        Ok(())
+    }
+
+    fn write(&mut self, piece: &[u8]) -> Result<usize, OutsideFault>
+        requires is_open { IsTrue (is_some self.old.opened) }
+        requires some { 0 < length piece.now }
+        ensures finished { self.new.finished ≡ self.old.finished }
+
+        // It takes the whole piece.
+        ensures count { IfOk result (λ n. n ≡ length piece.now) }
+        ensures bytes { OnOk result (self.new.opened ≡ option_map (more_bytes piece.now) self.old.opened) }
+        ensures closed { OnErr result (self.new.opened ≡ None) }
+        ensures failed { IsErrOf result OutsideFault.Failed ↔ FailsNext self.old.planned }
+        ensures counts { CountsCall self.old.planned self.new.planned (is_failed result) }
+        ensures cause { HasOutsideCause self.old.planned.faults self.new.planned.faults result }
+    {
+        let opened = self.opened.take();
+        if self.planned.next_fails() {
+            self.planned.count_fault();
+            return Err(OutsideFault::Failed);
+        }
+        let Some(mut file) = opened else {
+            unreachable!();
+        };
+        file.bytes.extend_from_slice(piece)?;
+        self.opened = Some(file);
+        Ok(piece.len())
+    }
+
+    fn end(&mut self) -> Result<(), OutsideFault>
+        requires is_open { IsTrue (is_some self.old.opened) }
+        ensures finished { OnErr result (self.new.finished ≡ self.old.finished) }
+        ensures ended { OnOk result (self.new.finished ≡ self.old.finished ++ option_to_list self.old.opened) }
+        ensures closed { self.new.opened ≡ None }
+        ensures failed { IsErrOf result OutsideFault.Failed ↔ FailsNext self.old.planned }
+        ensures counts { CountsCall self.old.planned self.new.planned (is_failed result) }
+        ensures cause { HasOutsideCause self.old.planned.faults self.new.planned.faults result }
+    {
+        let opened = self.opened.take();
+        if self.planned.next_fails() {
+            self.planned.count_fault();
+            return Err(OutsideFault::Failed);
+        }
+        let Some(file) = opened else {
+            unreachable!();
+        };
+        match self.finished.push(file) {
+            Ok(()) => Ok(()),
+            Err(_) => Err(OutsideFault::Memory),
+        }
+    }
+
+    fn shown(&self) -> Option<&[HeldFile]>
+        ensures shown { IsSomeAnd result (λ files. files_of files.now ≡ self.now.finished) }
+    {
+        Some(&self.finished)
+    }
+}

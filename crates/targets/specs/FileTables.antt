@@ -1,0 +1,13 @@
+-- Tables that a folder keeps, one file each.
+use Rattle.std.specs.Prelude.{◌≡◌, List, map, Option, Some, IfSome}
+use Rattle.desk_outside.specs.Files.{StoredFile}
+use Rattle.desk_outside.specs.Folders.{FolderContents}
+use Rattle.targets.specs.Tables.{TableValue}
+
+-- where told, the finished files are those of these tables, in order
+abbrev pub FilesAre : (TableValue → StoredFile) → Option FolderContents → List TableValue → Type 0
+FilesAre file contents tables = IfSome contents (λ folder. folder.finished ≡ map file tables)
+
+-- where told, the open file is that of this table
+abbrev pub OpenIs : (TableValue → StoredFile) → Option FolderContents → TableValue → Type 0
+OpenIs file contents table = IfSome contents (λ folder. folder.opened ≡ Some (file table))

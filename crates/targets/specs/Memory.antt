@@ -1,0 +1,14 @@
+-- A target in memory, as contracts see it.
+use Rattle.std.specs.Prelude.{ℕ, List, [], Option, None}
+use Rattle.desk_outside.specs.Planned.{FaultPlan, new_plan}
+use Rattle.targets.specs.Tables.{TableValue}
+
+-- its finished tables in the order of their ending, the open one, and its planned faults
+pub record TargetInMemory : Type 0 where
+  pub finished : List TableValue
+  pub opened : Option TableValue
+  pub planned : FaultPlan
+
+-- no table is finished or open, and no call was made
+abbrev pub new_target : List ℕ → TargetInMemory
+new_target fails = record { finished = []; opened = None; planned = new_plan fails }

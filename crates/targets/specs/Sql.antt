@@ -1,0 +1,49 @@
+-- A table as INSERT lines.
+use Rattle.std.specs.Prelude.{ℕ, ◌==◌, ◌&&◌, Bool, not, if◌then◌else◌, List, [], ◌∷◌, ◌++◌, codes}
+use Rattle.std.specs.List.{flat_map, list_any}
+use Rattle.std.specs.Str.{is_utf8}
+use Rattle.hex.specs.Hex.{encode_upper}
+use Rattle.dep_model.specs.Tuples.{Tuple}
+use Rattle.desk_outside.specs.Files.{StoredFile}
+use Rattle.targets.specs.Tables.{TableValue}
+
+-- what separates two items of a list
+abbrev pub separator : List ℕ
+separator = codes ", "
+
+-- the texts of items, with a comma and a blank between
+abbrev pub listed : {X : Type 0} → (X → List ℕ) → List X → List ℕ
+listed text [] = []
+listed text (x ∷ xs) = text x ++ flat_map (λ y. separator ++ text y) xs
+
+-- a name in double quotes
+abbrev pub quoted_name : List ℕ → List ℕ
+quoted_name name = 34 ∷ (name ++ 34 ∷ [])
+
+-- a byte between single quotes: a single quote is doubled
+abbrev pub doubled : ℕ → List ℕ
+doubled byte = if byte == 39 then 39 ∷ 39 ∷ [] else byte ∷ []
+
+-- whether a value can be a text of SQL: it is UTF-8, and has no zero byte
+abbrev pub is_sql_text : List ℕ → Bool
+is_sql_text value = is_utf8 value && not (list_any (λ byte. byte == 0) value)
+
+-- a value: a text between single quotes, or its bytes in hexadecimal digits
+abbrev pub sql_value : List ℕ → List ℕ
+sql_value value =
+    if is_sql_text value then 39 ∷ (flat_map doubled value ++ 39 ∷ [])
+    else codes "X'" ++ encode_upper value ++ codes "'"
+
+-- the front of each line of a table
+abbrev pub sql_head : List ℕ → List (List ℕ) → List ℕ
+sql_head name columns = codes "INSERT INTO " ++ quoted_name name ++ codes " (" ++ listed quoted_name columns ++ codes ") VALUES ("
+
+-- a row after this front
+abbrev pub sql_row : List ℕ → Tuple → List ℕ
+sql_row head row = head ++ listed sql_value row ++ (codes ");" ++ 10 ∷ [])
+
+abbrev pub sql_text : TableValue → List ℕ
+sql_text table = flat_map (sql_row (sql_head table.name table.columns)) table.rows
+
+abbrev pub sql_file : TableValue → StoredFile
+sql_file table = record { name = table.name ++ codes ".sql"; bytes = sql_text table }

@@ -1,0 +1,37 @@
+use crate::fault::TargetFault;
+use crate::table::HeldTable;
+use crate::target::Target;
+use dep_model::{Name, Row};
+use desk_outside::HeldFile;
+
+impl Target for Box<dyn Target> {
+    ghost tells = { λ b. (Target-box b).tells b.value };
+
+    ghost finished = { λ b. (Target-box b).finished b.value };
+
+    ghost opened = { λ b. (Target-box b).opened b.value };
+
+    ghost width = { λ b. (Target-box b).width b.value };
+
+    ghost faults = { λ b. (Target-box b).faults b.value };
+
+    fn begin_table(&mut self, name: &Name, columns: &[Name]) -> Result<(), TargetFault> {
+        (**self).begin_table(name, columns)
+    }
+
+    fn put_row(&mut self, row: &Row) -> Result<(), TargetFault> {
+        (**self).put_row(row)
+    }
+
+    fn end_table(&mut self) -> Result<(), TargetFault> {
+        (**self).end_table()
+    }
+
+    fn held_tables(&self) -> Option<&[HeldTable]> {
+        (**self).held_tables()
+    }
+
+    fn held_files(&self) -> Option<&[HeldFile]> {
+        (**self).held_files()
+    }
+}

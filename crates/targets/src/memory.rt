@@ -1,0 +1,154 @@
+ghost use Rattle.std.specs.Prelude.{◌≡◌, ◌↔◌, true, [], ◌++◌, length, map, None, Some, is_ok, if◌then◌else◌, option_map, option_to_list, IsSome, IsSomeAnd, IsErrOf, OnOk, OnErr};
+ghost use Rattle.desk_outside.specs.Planned.{FailsNext, CountsCall};
+ghost use Rattle.targets.specs.Memory.{new_target};
+ghost use Rattle.targets.specs.Tables.{empty_table, with_row, held_value};
+ghost use Rattle.targets.specs.Targets.{HasTargetCause, is_failed};
+
+use crate::fault::TargetFault;
+use crate::table::HeldTable;
+use crate::target::Target;
+use dep_model::{Name, Row};
+use desk_outside::{HeldFile, PlannedFaults};
+use std::alloc::Global;
+use std::marker::Model;
+
+/// Tables in memory. It tells them all, and fails at chosen calls alone.
+#[derive(Drop)]
+pub struct MemoryTarget {
+    alloc: Global,
+    finished: Vec<HeldTable>,
+    opened: Option<HeldTable>,
+    planned: PlannedFaults,
+}
+
+impl Model for MemoryTarget {
+    ghost use Rattle.std.specs.Prelude.{map, option_map};
+    ghost use Rattle.targets.specs.Memory.{TargetInMemory};
+    ghost use Rattle.targets.specs.Tables.{held_value};
+
+    ghost Value = { TargetInMemory };
+
+    ghost view = { λ t. record {
+      finished = map held_value t.finished.items;
+      opened = option_map held_value t.opened;
+      planned = t.planned;
+    } };
+}
+
+impl MemoryTarget {
+    /// A target without tables. The calls with these numbers, from 1, fail.
+    pub fn make(alloc: Global, fails: Vec<u64>) -> MemoryTarget
+        ensures begins { result ≡ new_target fails.items }
+    {
+        MemoryTarget {
+            alloc,
+            finished: Vec::new(alloc),
+            opened: None,
+            planned: PlannedFaults::make(fails),
+        }
+    }
+
+    /// The finished tables, in the order of their ending.
+    pub fn tables(&self) -> &[HeldTable]
+        ensures tables { map held_value result.now ≡ self.now.finished }
+    {
+        &self.finished
+    }
+}
+
+impl Target for MemoryTarget {
+    ghost tells = { λ _. true };
+
+    ghost finished = { λ target done. target.finished ≡ done };
+
+    ghost opened = { λ target table. target.opened ≡ Some table };
+
+    ghost width = { λ target. option_map (λ table. length table.columns) target.opened };
+
+    ghost faults = { λ target. target.planned.faults };
+
+    fn begin_table(&mut self, name: &Name, columns: &[Name]) -> Result<(), TargetFault>
+        ensures finished { self.new.finished ≡ self.old.finished }
+        ensures begun { OnOk result (self.new.opened ≡ Some (empty_table name.now columns.now)) }
+        ensures closed { OnErr result (self.new.opened ≡ None) }
+
+        // It fails exactly where its number is planned.
+        ensures failed { IsErrOf result TargetFault.Failed ↔ FailsNext self.old.planned }
+        ensures counts { CountsCall self.old.planned self.new.planned (is_failed result) }
+        ensures cause { HasTargetCause self.old.planned.faults self.new.planned.faults result }
+    {
+        self.opened = None;
+        if self.planned.next_fails() {
+            self.planned.count_fault();
+            return Err(TargetFault::Failed);
+        }
+        let columns = Vec::from_slice(self.alloc, columns)?;
+        self.opened = Some(HeldTable {
+            name: *name,
+            columns,
+            rows: Vec::new(self.alloc),
+        });
+        Ok(())
+    }
+
+    fn put_row(&mut self, row: &Row) -> Result<(), TargetFault>
+        requires even { option_map (λ table. length table.columns) self.old.opened ≡ Some (length row.now) }
+        ensures finished { self.new.finished ≡ self.old.finished }
+        ensures adds { OnOk result (self.new.opened ≡ option_map (with_row row.now) self.old.opened) }
+        ensures closed { OnErr result (self.new.opened ≡ None) }
+        ensures failed { IsErrOf result TargetFault.Failed ↔ FailsNext self.old.planned }
+        ensures counts { CountsCall self.old.planned self.new.planned (is_failed result) }
+        ensures cause { HasTargetCause self.old.planned.faults self.new.planned.faults result }
+    {
+        let opened = self.opened.take();
+        if self.planned.next_fails() {
+            self.planned.count_fault();
+            return Err(TargetFault::Failed);
+        }
+        let Some(mut table) = opened else {
+            unreachable!();
+        };
+        match table.rows.push(row.copy(self.alloc)?) {
+            Ok(()) => {
+                self.opened = Some(table);
+                Ok(())
+            }
+            Err(_) => Err(TargetFault::Memory),
+        }
+    }
+
+    fn end_table(&mut self) -> Result<(), TargetFault>
+        requires is_open { IsSome (option_map (λ table. length table.columns) self.old.opened) }
+        ensures ended { OnOk result (self.new.finished ≡ self.old.finished ++ option_to_list self.old.opened) }
+        ensures finished { OnErr result (self.new.finished ≡ self.old.finished) }
+        ensures closed { self.new.opened ≡ None }
+        ensures failed { IsErrOf result TargetFault.Failed ↔ FailsNext self.old.planned }
+        ensures counts { CountsCall self.old.planned self.new.planned (is_failed result) }
+        ensures cause { HasTargetCause self.old.planned.faults self.new.planned.faults result }
+    {
+        let opened = self.opened.take();
+        if self.planned.next_fails() {
+            self.planned.count_fault();
+            return Err(TargetFault::Failed);
+        }
+        let Some(table) = opened else {
+            unreachable!();
+        };
+        match self.finished.push(table) {
+            Ok(()) => Ok(()),
+            Err(_) => Err(TargetFault::Memory),
+        }
+    }
+
+    fn held_tables(&self) -> Option<&[HeldTable]>
+        ensures held { IsSomeAnd result (λ tables. map held_value tables.now ≡ self.now.finished) }
+    {
+        Some(&self.finished)
+    }
+
+    fn held_files(&self) -> Option<&[HeldFile]>
+        ensures none { result ≡ None }
+    {
+        None
+    }
+}

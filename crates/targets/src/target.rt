@@ -1,0 +1,65 @@
+ghost use Rattle.std.specs.Prelude.{◌≡◌, ℕ, Bool, List, length, map, Option, None, Some, is_ok, if◌then◌else◌, IsSome, IfSome, OnOk, OnErr};
+ghost use Rattle.targets.specs.Tables.{TableValue, empty_table, held_value};
+ghost use Rattle.targets.specs.Targets.{KeepsFinished, AddsRow, FinishesTable, HasTargetCause};
+
+use crate::fault::TargetFault;
+use crate::table::HeldTable;
+use dep_model::{Name, Row};
+use desk_outside::HeldFile;
+
+/// A destination of tables, which come one at a time.
+///
+/// What it holds is told by two tests, since a table need not be found in what is kept: `finished` of
+/// a list of tables and `opened` of a table. It stands for those of which both are true. Of a target
+/// that does not tell what it holds, they are true of everything. After an error the finished tables
+/// are as before and no table is open.
+pub trait Target: Drop {
+    /// Whether it tells what it holds.
+    ghost tells: { Self → Bool };
+
+    /// Whether it stands for these finished tables.
+    ghost finished: { Self → List TableValue → Type 0 };
+
+    /// Whether it stands for this open table.
+    ghost opened: { Self → TableValue → Type 0 };
+
+    /// The number of columns of the open table, where one is open.
+    ghost width: { Self → Option ℕ };
+
+    /// A count of faults, which never falls.
+    ghost faults: { Self → ℕ };
+
+    /// Gives up an open table and opens an empty one.
+    fn begin_table(&mut self, name: &Name, columns: &[Name]) -> Result<(), TargetFault>
+        ensures tells { tells self.new ≡ tells self.old }
+        ensures keeps { KeepsFinished (finished self.old) (finished self.new) }
+        ensures opens { OnOk result (opened self.new (empty_table name.now columns.now)) }
+        ensures width { width self.new ≡ (if is_ok result then Some (length columns.now) else None) }
+        ensures cause { HasTargetCause (faults self.old) (faults self.new) result };
+
+    /// Adds a row at the end of the open table.
+    fn put_row(&mut self, row: &Row) -> Result<(), TargetFault>
+        requires even { width self.old ≡ Some (length row.now) }
+        ensures tells { tells self.new ≡ tells self.old }
+        ensures keeps { KeepsFinished (finished self.old) (finished self.new) }
+        ensures adds { OnOk result (AddsRow row.now (opened self.old) (opened self.new)) }
+        ensures width { width self.new ≡ (if is_ok result then width self.old else None) }
+        ensures cause { HasTargetCause (faults self.old) (faults self.new) result };
+
+    /// The open table becomes the last finished one.
+    fn end_table(&mut self) -> Result<(), TargetFault>
+        requires is_open { IsSome (width self.old) }
+        ensures tells { tells self.new ≡ tells self.old }
+        ensures finishes { OnOk result (FinishesTable (finished self.old) (opened self.old) (finished self.new)) }
+        ensures keeps { OnErr result (KeepsFinished (finished self.old) (finished self.new)) }
+        ensures width { width self.new ≡ None }
+        ensures cause { HasTargetCause (faults self.old) (faults self.new) result };
+
+    /// The finished tables, of a target that keeps them in memory.
+    fn held_tables(&self) -> Option<&[HeldTable]>
+        ensures held { (done : List TableValue) → finished self.now done
+            → IfSome result (λ tables. done ≡ map held_value tables.now) };
+
+    /// The finished files, of a target over a folder that shows them.
+    fn held_files(&self) -> Option<&[HeldFile]>;
+}
