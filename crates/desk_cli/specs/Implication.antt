@@ -10,7 +10,7 @@ use Rattle.derivation.specs.Derivs.{tree_of}
 use Rattle.dep_basis.specs.Decisions.{IsBrokenBy}
 use Rattle.dep_basis.specs.Joined.{IsProofOf}
 use Rattle.dep_basis.specs.Proofs.{IsChainIfFunctional}
-use Rattle.proof_text.specs.Printing.{canonical_certificate}
+use Rattle.proof_grammar.specs.Printing.{canonical_certificate}
 use Rattle.desk_cli.specs.declared.status.Status.TheVariants.{Yes, No}
 use Rattle.desk_cli.specs.Answers.{Allowed, Says}
 use Rattle.desk_cli.specs.Inputs.{WithGoal}

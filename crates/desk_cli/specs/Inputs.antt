@@ -6,17 +6,17 @@ use Rattle.dep_model.specs.declared.schema.Schema.{Schema}
 use Rattle.derivation.specs.Trees.{Tree}
 use Rattle.schema_reader.specs.declared.goal.TheConstants.{MOST_GOAL_BYTES}
 use Rattle.schema_reader.specs.declared.text.TheConstants.{MOST_TEXT_BYTES}
-use Rattle.schema_reader.specs.declared.refusal.SchemaRefusal.{SchemaRefusal}
-use Rattle.schema_reader.specs.declared.refusal.SchemaRefusalKind.TheVariants as kind
-use Rattle.schema_reader.specs.Meanings.{MeansGoal}
-use Rattle.schema_reader.specs.Reading.{read_goal}
-use Rattle.schema_reader.specs.Schemas.{MeansSchema}
-use Rattle.schema_reader.specs.Texts.{read_text, declarations_of}
+use Rattle.schema_grammar.specs.declared.refusal.SchemaRefusal.{SchemaRefusal}
+use Rattle.schema_grammar.specs.declared.refusal.SchemaRefusalKind.TheVariants as kind
+use Rattle.schema_grammar.specs.Meanings.{MeansGoal}
+use Rattle.schema_grammar.specs.Reading.{read_goal}
+use Rattle.schema_grammar.specs.Schemas.{MeansSchema}
+use Rattle.schema_grammar.specs.Texts.{read_text, declarations_of}
 use Rattle.proof_text.specs.declared.text.TheConstants.{MOST_PROOF_BYTES}
-use Rattle.proof_text.specs.declared.refusal.ProofRefusal.{ProofRefusal}
-use Rattle.proof_text.specs.Complaints.{LineComplaint, Complaint, complaint_of}
-use Rattle.proof_text.specs.Spelling.{SpellsWithin}
-use Rattle.refusal_laws.specs.Refusals.{IsRefused}
+use Rattle.proof_grammar.specs.declared.refusal.ProofRefusal.{ProofRefusal}
+use Rattle.proof_grammar.specs.Complaints.{LineComplaint, Complaint, complaint_of}
+use Rattle.proof_grammar.specs.Spelling.{SpellsWithin}
+use Rattle.proof_grammar.specs.Refusals.{IsRefused}
 use Rattle.desk_cli.specs.declared.status.Status.TheVariants.{Refused, CannotRead}
 use Rattle.desk_cli.specs.Answers.{Allowed, Says, With}
 use Rattle.desk_cli.specs.ProofTexts.{proof_refusal_text}

@@ -1,11 +1,11 @@
 -- The texts that are printed.
 use Rattle.std.specs.Prelude.{ℕ, List, [], ◌∷◌, ◌++◌, codes}
 use Rattle.std.specs.Fmt.{decimal}
-use Rattle.schema_reader.specs.declared.refusal.What.{What}
-use Rattle.schema_reader.specs.declared.refusal.What.TheVariants as what
-use Rattle.schema_reader.specs.declared.refusal.SchemaRefusalKind.{SchemaRefusalKind}
-use Rattle.schema_reader.specs.declared.refusal.SchemaRefusalKind.TheVariants as kind
-use Rattle.schema_reader.specs.declared.refusal.SchemaRefusal.{SchemaRefusal}
+use Rattle.schema_grammar.specs.declared.refusal.What.{What}
+use Rattle.schema_grammar.specs.declared.refusal.What.TheVariants as what
+use Rattle.schema_grammar.specs.declared.refusal.SchemaRefusalKind.{SchemaRefusalKind}
+use Rattle.schema_grammar.specs.declared.refusal.SchemaRefusalKind.TheVariants as kind
+use Rattle.schema_grammar.specs.declared.refusal.SchemaRefusal.{SchemaRefusal}
 use Rattle.csv_rows.specs.RowsText.{rows_text}
 use Rattle.dep_model.specs.Tuples.{Relation}
 

@@ -2,7 +2,7 @@ ghost use Rattle.std.specs.Prelude.{◌≡◌, ◌≤◌, IfOk};
 ghost use Rattle.dep_model.specs.Deps.{dependency_of, IsDepWithin};
 ghost use Rattle.dep_model.specs.Schemas.{universe_of};
 ghost use Rattle.derivation.specs.Derivs.{tree_of};
-ghost use Rattle.proof_text.specs.Checked.{IsChecked};
+ghost use Rattle.proof_grammar.specs.Checked.{IsChecked};
 ghost use Rattle.desk_cli.specs.Certificates.{Checked, ChecksProof};
 ghost use Rattle.desk_cli.specs.Inputs.{WithGoal};
 ghost use Rattle.desk_cli.specs.Readings.{Reading, Shows};

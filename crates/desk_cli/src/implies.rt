@@ -6,7 +6,7 @@ ghost use Rattle.dep_model.specs.Schemas.{names_of, width_of, universe_of};
 ghost use Rattle.dep_model.specs.TwoTuples.{two_tuples};
 ghost use Rattle.derivation.specs.Trees.{nodes, depth};
 ghost use Rattle.derivation.specs.Derivs.{tree_of};
-ghost use Rattle.proof_text.specs.Printing.{canonical_certificate, IsProof};
+ghost use Rattle.proof_grammar.specs.Printing.{canonical_certificate, IsProof};
 ghost use Rattle.desk_cli.specs.Answers.{Says};
 ghost use Rattle.desk_cli.specs.Implication.{Decided, Implies};
 ghost use Rattle.desk_cli.specs.Replies.{answer_of, RepliesAs};

@@ -1,9 +1,8 @@
 ghost use Rattle.std.specs.Prelude.{◌≡◌, ◌++◌, IfOk, OnOk};
 ghost use Rattle.dep_model.specs.Schemas.{names_of, universe_of};
 ghost use Rattle.dep_model.specs.Deps.{dependency_of, IsDepWithin};
-ghost use Rattle.proof_text.specs.Complaints.{states_other};
+ghost use Rattle.proof_grammar.specs.Complaints.{states_other, IsRefusalWithin};
 ghost use Rattle.desk_cli.specs.ProofTexts.{fault_text, complaint_number, complaint_text, place_text, proof_refusal_text, OfComplaint};
-ghost use Rattle.proof_text.specs.Complaints.{IsRefusalWithin};
 
 use crate::refusals::reason_of;
 use crate::text::{put, put_number};

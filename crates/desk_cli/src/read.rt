@@ -1,8 +1,8 @@
 ghost use Rattle.std.specs.Prelude.{◌≡◌, ◌^◌, ◌<◌, ◌≤◌, length, IfOk, IfErr};
 ghost use Rattle.dep_model.specs.Schemas.{names_of, universe_of};
 ghost use Rattle.derivation.specs.Derivs.{tree_of};
-ghost use Rattle.proof_text.specs.Complaints.{IsRefusalWithin};
-ghost use Rattle.proof_text.specs.Checked.{IsChecked};
+ghost use Rattle.proof_grammar.specs.Complaints.{IsRefusalWithin};
+ghost use Rattle.proof_grammar.specs.Checked.{IsChecked};
 ghost use Rattle.desk_cli.specs.Answers.{Says};
 ghost use Rattle.desk_cli.specs.Texts.{cannot_read_text, too_long_text};
 ghost use Rattle.desk_cli.specs.Inputs.{FileStops, SchemaStops, IsSchemaFile, ProofStops, IsProofFile, TellsRefusal, TellsProof};

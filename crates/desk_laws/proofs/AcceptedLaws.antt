@@ -11,21 +11,21 @@ use Rattle.derivation.specs.Trees.{Tree}
 use Rattle.derivation.proofs.RuleTableLemmas.{the_ok}
 use Rattle.dep_basis.specs.Joined.{IsProofOf}
 use Rattle.desk_outside.specs.Files.{Files, held}
-use Rattle.reader_laws.proofs.DeclaredNames.{declared_are_names}
+use Rattle.schema_grammar.proofs.DeclaredNames.{declared_are_names}
 use Rattle.schema_reader.specs.declared.goal.TheConstants.{MOST_GOAL_BYTES}
 use Rattle.schema_reader.specs.declared.text.TheConstants.{MOST_TEXT_BYTES}
-use Rattle.schema_reader.specs.declared.refusal.SchemaRefusal.{SchemaRefusal}
-use Rattle.schema_reader.specs.Declarations.{Declarations}
-use Rattle.schema_reader.specs.Meanings.{MeansGoal}
-use Rattle.schema_reader.specs.Schemas.{MeansSchema}
-use Rattle.schema_reader.specs.Texts.{declarations_of}
-use Rattle.schema_reader.proofs.GoalLaws.{goal-law}
-use Rattle.schema_reader.proofs.SchemaLaws.{schema-law}
+use Rattle.schema_grammar.specs.declared.refusal.SchemaRefusal.{SchemaRefusal}
+use Rattle.schema_grammar.specs.Declarations.{Declarations}
+use Rattle.schema_grammar.specs.Meanings.{MeansGoal}
+use Rattle.schema_grammar.specs.Schemas.{MeansSchema}
+use Rattle.schema_grammar.specs.Texts.{declarations_of}
+use Rattle.schema_grammar.proofs.GoalLaws.{goal-law}
+use Rattle.schema_grammar.proofs.SchemaLaws.{schema-law}
 use Rattle.proof_text.specs.declared.text.TheConstants.{MOST_PROOF_BYTES}
-use Rattle.proof_text.specs.Printing.{canonical_certificate}
-use Rattle.proof_text.specs.Spelling.{SpellsWithin}
-use Rattle.proof_laws.proofs.OneTree.{one_tree}
-use Rattle.proof_laws.proofs.PrintedSpells.{answered_spells}
+use Rattle.proof_grammar.specs.Printing.{canonical_certificate}
+use Rattle.proof_grammar.specs.Spelling.{SpellsWithin}
+use Rattle.proof_grammar.proofs.OneTree.{one_tree}
+use Rattle.proof_grammar.proofs.PrintedSpells.{answered_spells}
 use Rattle.desk_cli.specs.declared.status.Status.{Status}
 use Rattle.desk_cli.specs.declared.status.Status.TheVariants.{Yes, No}
 use Rattle.desk_cli.specs.Answers.{Answer}

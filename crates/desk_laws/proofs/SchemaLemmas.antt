@@ -10,9 +10,9 @@ use Rattle.derivation.specs.declared.fault.FaultKind.TheVariants.{NoSuchGiven, N
 use Rattle.derivation.specs.Conclusions.{Proves}
 use Rattle.derivation.specs.Table.{is_inside, leaf_conclusion, step_conclusion}
 use Rattle.derivation.specs.Trees.{Tree, leaf, step, pair, Leaf, given, reflexivity, mreflexivity, Step, augmentation, complementation, maugmentation, replication}
-use Rattle.proof_text.specs.Lines.{Line}
-use Rattle.proof_text.specs.Meanings.{certificate_lines, MeanLines}
-use Rattle.proof_text.specs.Spelling.{IsNode, AreNodes, Spells}
+use Rattle.proof_grammar.specs.Lines.{Line}
+use Rattle.proof_grammar.specs.Meanings.{certificate_lines, MeanLines}
+use Rattle.proof_grammar.specs.Spelling.{IsNode, AreNodes, Spells}
 
 -- two schemas have the same names and dependencies
 pub record AreAlike (s r : Schema) : Type 0 where

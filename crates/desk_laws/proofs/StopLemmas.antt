@@ -8,18 +8,18 @@ use Rattle.derivation.specs.Trees.{Tree}
 use Rattle.desk_outside.specs.Files.{Files, held}
 use Rattle.schema_reader.specs.declared.goal.TheConstants.{MOST_GOAL_BYTES}
 use Rattle.schema_reader.specs.declared.text.TheConstants.{MOST_TEXT_BYTES}
-use Rattle.schema_reader.specs.Declarations.{Declarations}
-use Rattle.schema_reader.specs.Meanings.{MeansGoal}
-use Rattle.schema_reader.specs.Reading.{read_goal}
-use Rattle.schema_reader.specs.Schemas.{MeansSchema}
-use Rattle.schema_reader.specs.Texts.{read_text}
-use Rattle.schema_reader.proofs.GoalLaws.{goal-law}
-use Rattle.schema_reader.proofs.SchemaLaws.{schema-law}
+use Rattle.schema_grammar.specs.Declarations.{Declarations}
+use Rattle.schema_grammar.specs.Meanings.{MeansGoal}
+use Rattle.schema_grammar.specs.Reading.{read_goal}
+use Rattle.schema_grammar.specs.Schemas.{MeansSchema}
+use Rattle.schema_grammar.specs.Texts.{read_text}
+use Rattle.schema_grammar.proofs.GoalLaws.{goal-law}
+use Rattle.schema_grammar.proofs.SchemaLaws.{schema-law}
 use Rattle.proof_text.specs.declared.text.TheConstants.{MOST_PROOF_BYTES}
-use Rattle.proof_text.specs.Spelling.{SpellsWithin}
-use Rattle.proof_text.specs.Texts.{read_proof}
-use Rattle.refusal_laws.proofs.TextRefusals.{refused_back}
-use Rattle.proof_laws.proofs.CertificateLaws.{spelled_back}
+use Rattle.proof_grammar.specs.Spelling.{SpellsWithin}
+use Rattle.proof_grammar.specs.Texts.{read_proof}
+use Rattle.proof_grammar.proofs.TextRefusals.{refused_back}
+use Rattle.proof_grammar.proofs.CertificateLaws.{spelled_back}
 use Rattle.desk_cli.specs.declared.status.Status.{Status}
 use Rattle.desk_cli.specs.declared.status.Status.TheVariants.{Yes, Refused, CannotRead}
 use Rattle.desk_cli.specs.Readings.{Reading, told}
