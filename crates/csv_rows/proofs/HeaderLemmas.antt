@@ -96,7 +96,7 @@ pub order_more : (n i : ℕ) (columns : List ℕ) (order : List Placed) → orde
 order_more n i columns order e h =
     let (has, at) = in_column columns n i h in
     let step : order_of (n + 1) columns ≡ order_of n columns ++ placed columns n ∷ [] =
-        order_next n columns ∙ ap (λ (b : Bool). order_of n columns ++ (if b then placed columns n ∷ [] else [])) has in
+    order_next n columns ∙ ap (λ (b : Bool). order_of n columns ++ (if b then placed columns n ∷ [] else [])) has in
     ap (λ (l : List Placed). l ++ record { attribute = n; column = i } ∷ []) e
     ∙ ap (λ (j : ℕ). order_of n columns ++ record { attribute = n; column = j } ∷ []) (sym at) ∙ sym step
 

@@ -1,5 +1,5 @@
 -- Numbers in the order of first occurrence.
-use Rattle.std.proofs.Common.{inl, inr, true≢false, unwrap_or, option_map, ◌||◌, ◌&&◌, ◌==◌, nat_lt, replicate, Bor,  ◌≡◌, ◌≢◌, ◌+◌, ◌<◌, ◌≤◌, ◌↔◌, ◌⊎◌, ℕ, zero, suc, Bool, true, false, if◌then◌else◌, nat_eq, List, [], ◌∷◌, ◌++◌, length, map, Option, Some, None, slice_index_or, get_or, refl, sym, ap, subst, ◌∙◌, arith}
+use Rattle.std.proofs.Common.{inl, inr, true≢false, unwrap_or, option_map, ◌||◌, ◌&&◌, ◌==◌, nat_lt, replicate, Bor, ◌≡◌, ◌≢◌, ◌+◌, ◌<◌, ◌≤◌, ◌↔◌, ◌⊎◌, ℕ, zero, suc, Bool, true, false, if◌then◌else◌, nat_eq, List, [], ◌∷◌, ◌++◌, length, map, Option, Some, None, slice_index_or, get_or, refl, sym, ap, subst, ◌∙◌, arith}
 use Rattle.std.specs.List.{slice_get, list_any, position_or_len}
 use Rattle.std.proofs.Math.Seq.{get_or-append_seam}
 use Rattle.std.proofs.lemmas.Bool.{cases_Bool, cases_lt, eqb-true, eq-eqb}
@@ -108,8 +108,10 @@ numbered_more {X} value n seen after numbers r old gets = elim gets.number [
   where
     size : length (numbers ++ r ∷ []) ≡ n + 1
     size = length-append numbers (r ∷ []) ∙ ap (λ (m : ℕ). m + 1) old.one_each
+
     seen_before : (g : ℕ) → g < length seen → (j : ℕ) × (j < n + 1) × (number_at (numbers ++ r ∷ []) j ≡ g)
     seen_before g l = let (j, below, at) = old.used g l in (j, omega (arith, below), at_front numbers n r j old.one_each below ∙ at)
+
     ordered : ((g : ℕ) → g < r → g < length seen) → (i g : ℕ) → i < n + 1 → g < number_at (numbers ++ r ∷ []) i → (j : ℕ) × (j < i) × (number_at (numbers ++ r ∷ []) j ≡ g)
     ordered within i g l m = elim (cases_lt i n) [
       | inl front ↦
@@ -131,17 +133,23 @@ inserted {K} {X} eq view same back keys after key r is at = elim (cases_lt (posi
       let p : ℕ = position_or_len (eq key) keys in
       let hit : eq key (get_or keys p key) ≡ true = passes_at_first (eq key) keys key l in
       let has : list_any (eq key) keys ≡ true = list_any_at (eq key) keys p key l hit in
-      record { number = inl
-        ( ap (map view) (is ∙ ap (λ (b : Bool). if b then keys else keys ++ key ∷ []) has)
-        , slice_get-map view keys r ∙ ap (λ (j : ℕ). option_map view (slice_get keys j)) at ∙ ap (option_map view) (slice_get-get_or keys p key l) ∙ ap Some (sym (same key _ hit)) ) }
+      record {
+        number = inl (
+          ap (map view) (is ∙ ap (λ (b : Bool). if b then keys else keys ++ key ∷ []) has),
+          slice_get-map view keys r ∙ ap (λ (j : ℕ). option_map view (slice_get keys j)) at ∙ ap (option_map view) (slice_get-get_or keys p key l) ∙ ap Some (sym (same key _ hit)),
+        );
+      }
   | inr over ↦
       let none : (k : ℕ) (d : K) → k < length keys → eq key (get_or keys k d) ≡ false = λ k d m. fails_before_first (eq key) keys k d (omega (arith, m, over)) in
       let lacks : list_any (eq key) keys ≡ false = list_any_none (eq key) keys none in
       let end : position_or_len (eq key) keys ≡ length keys = position_or_len_is (eq key) keys (length keys) key (omega arith) (λ k m. none k key m) (λ m. absurd (omega (arith, m))) in
-      record { number = inr
-        ( ap (map view) (is ∙ ap (λ (b : Bool). if b then keys else keys ++ key ∷ []) lacks) ∙ map-append view keys (key ∷ [])
-        , at ∙ end ∙ sym (length-map keys view)
-        , λ g h. fresh none g h ) }
+      record {
+        number = inr (
+          ap (map view) (is ∙ ap (λ (b : Bool). if b then keys else keys ++ key ∷ []) lacks) ∙ map-append view keys (key ∷ []),
+          at ∙ end ∙ sym (length-map keys view),
+          λ g h. fresh none g h,
+        );
+      }
 ]
   where
     fresh : ((k : ℕ) (d : K) → k < length keys → eq key (get_or keys k d) ≡ false) → (g : ℕ) → slice_get (map view keys) g ≡ Some (view key) → ⊥
@@ -159,7 +167,8 @@ groups_from rows x value seen numbers n same = record {
   one_each = n.one_each;
   equal = λ i j li lj. (
     (λ e. (same i j li lj).0 (some_inj _ _ (sym (n.read i li) ∙ ap (slice_get seen) e ∙ n.read j lj))),
-    (λ a. n.once _ _ (value j) (n.read i li ∙ ap Some ((same i j li lj).1 a)) (n.read j lj)));
+    (λ a. n.once _ _ (value j) (n.read i li ∙ ap Some ((same i j li lj).1 a)) (n.read j lj)),
+  );
   in_order = λ i g l m. n.in_order i g (omega (arith, l, n.one_each)) m;
 }
 
@@ -188,9 +197,10 @@ agree_right x y t u a m has = a m (by (x m) has)
 
 pub refined_groups : (rows : Relation) (x y : Places) (groups codes : List ℕ) (seen : List (ℕ × ℕ)) (numbers : List ℕ) → AreGroups rows x groups → AreGroups rows y codes
     → AreNumbered (λ i. (number_at groups i, number_at codes i)) (length rows) seen numbers → AreGroups rows (union x y) numbers
-refined_groups rows x y groups codes seen numbers g c n = groups_from rows (union x y) (λ i. (number_at groups i, number_at codes i)) seen numbers n (λ i j li lj.
-    ((λ e. agree_union x y _ _ ((g.equal i j li lj).0 (ap (λ (p : ℕ × ℕ). p.0) e)) ((c.equal i j li lj).0 (ap (λ (p : ℕ × ℕ). p.1) e))),
-    (λ a. pair_path _ _ _ _ ((g.equal i j li lj).1 (agree_left x y _ _ a)) ((c.equal i j li lj).1 (agree_right x y _ _ a)))))
+refined_groups rows x y groups codes seen numbers g c n = groups_from rows (union x y) (λ i. (number_at groups i, number_at codes i)) seen numbers n (λ i j li lj. (
+  (λ e. agree_union x y _ _ ((g.equal i j li lj).0 (ap (λ (p : ℕ × ℕ). p.0) e)) ((c.equal i j li lj).0 (ap (λ (p : ℕ × ℕ). p.1) e))),
+  (λ a. pair_path _ _ _ _ ((g.equal i j li lj).1 (agree_left x y _ _ a)) ((c.equal i j li lj).1 (agree_right x y _ _ a))),
+))
   where
     pair_path : (a b c d : ℕ) → a ≡ b → c ≡ d → ◌≡◌ {A = ℕ × ℕ} (a, c) (b, d)
     pair_path a b c d e f = cc
@@ -202,7 +212,8 @@ single_group rows x k groups codes g zeros c = record {
   one_each = c.one_each;
   equal = λ i j li lj. (
     (λ e. agree_union x (only k) _ _ ((g.equal i j li lj).0 (zeros i li ∙ sym (zeros j lj))) ((c.equal i j li lj).0 e)),
-    (λ a. (c.equal i j li lj).1 (agree_right x (only k) _ _ a)));
+    (λ a. (c.equal i j li lj).1 (agree_right x (only k) _ _ a)),
+  );
   in_order = c.in_order;
 }
 
@@ -212,7 +223,8 @@ same_groups rows x y groups same g = record {
   one_each = g.one_each;
   equal = λ i j li lj. (
     (λ e m has. (g.equal i j li lj).0 e m (same m ∙ has)),
-    (λ a. (g.equal i j li lj).1 (λ m has. a m (sym (same m) ∙ has))));
+    (λ a. (g.equal i j li lj).1 (λ m has. a m (sym (same m) ∙ has))),
+  );
   in_order = g.in_order;
 }
 
@@ -245,7 +257,7 @@ pub column_step : (rows : Relation) (k n : ℕ) (row : Tuple) (keys after : List
 column_step rows k n row keys after key numbers items r old within is_row is_key grown at pushed =
     let value : key.now ≡ value_at (row_at rows n) k = is_key ∙ ap (λ (t : Tuple). value_at t k) (is_row ∙ same_default rows n row [] within) in
     let gets = inserted (λ (x y : Bor (List ℕ)). pointwise nat_eq x.now y.now) (λ (s : Bor (List ℕ)). s.now)
-        (λ x y. (bytes_eq-Decides x.now y.now).0) (λ x y. (bytes_eq-Decides x.now y.now).1) keys after key r grown at in
+    (λ x y. (bytes_eq-Decides x.now y.now).0) (λ x y. (bytes_eq-Decides x.now y.now).1) keys after key r grown at in
     subst (λ (l : List ℕ). AreNumbered (λ i. value_at (row_at rows i) k) (n + 1) (map (λ (s : Bor (List ℕ)). s.now) after) l) (sym pushed)
     (numbered_more (λ i. value_at (row_at rows i) k) n _ _ numbers r old (subst (λ (v : List ℕ). Gets v (map (λ (s : Bor (List ℕ)). s.now) keys) (map (λ (s : Bor (List ℕ)). s.now) after) r) value gets))
 
@@ -323,6 +335,7 @@ meet_in x k h m = elim (cases_Bool (m == k)) [
     or_true : (b : Bool) → (b || true) ≡ true
     or_true true = refl
     or_true false = refl
+
     or_false : (b : Bool) → (b || false) ≡ b
     or_false true = refl
     or_false false = refl
@@ -375,7 +388,7 @@ new_first numbers firsts items i old is pushed = subst (FirstsBefore numbers (i 
   least = λ j l. elim (cases_lt j i) [
     | inl front ↦
         let same : number_at (firsts ++ i ∷ []) (number_at numbers j) ≡ number_at firsts (number_at numbers j) = at_front firsts (length firsts) i (number_at numbers j) refl (old.each j front) in
-        elim (old.least j front) [ | inl less ↦ inl (omega (arith, same, less)) | inr equal ↦ inr (same ∙ equal) ]
+        elim (old.least j front) [ inl less ↦ inl (omega (arith, same, less)) | inr equal ↦ inr (same ∙ equal) ]
     | inr last ↦
         let e : i ≡ j = at_end j i l last in
         inr (ap (number_at (firsts ++ i ∷ [])) (ap (number_at numbers) (sym e) ∙ is) ∙ at_last firsts (length firsts) i refl ∙ e)
@@ -384,6 +397,7 @@ new_first numbers firsts items i old is pushed = subst (FirstsBefore numbers (i 
   where
     size : length (firsts ++ i ∷ []) ≡ length firsts + 1
     size = length-append firsts (i ∷ [])
+
     here : (g : ℕ) → g < length (firsts ++ i ∷ []) → length firsts ≤ g → number_at (firsts ++ i ∷ []) g ≡ i
     here g l last = ap (number_at (firsts ++ i ∷ [])) (sym (at_end g (length firsts) (omega (arith, l, size)) last)) ∙ at_last firsts (length firsts) i refl
 
@@ -395,19 +409,19 @@ old_first numbers firsts i old order l other = elim (cases_lt (length firsts) (n
       absurd (omega (arith, old.each j before, at))
   | inr few ↦ elim (cases_lt (number_at numbers i) (length firsts)) [
     | inl less ↦ record {
-        each = λ j m. elim (cases_lt j i) [
-          | inl front ↦ old.each j front
-          | inr last ↦ omega (arith, ap (number_at numbers) (at_end j i m last), less)
-        ];
-        within = λ g m. omega (arith, old.within g m);
-        number = old.number;
-        least = λ j m. elim (cases_lt j i) [
-          | inl front ↦ old.least j front
-          | inr last ↦
-              let e : i ≡ j = at_end j i m last in
-              inl (omega (arith, ap (λ (k : ℕ). number_at firsts (number_at numbers k)) e, old.within (number_at numbers i) less, e))
-        ];
-      }
+      each = λ j m. elim (cases_lt j i) [
+        | inl front ↦ old.each j front
+        | inr last ↦ omega (arith, ap (number_at numbers) (at_end j i m last), less)
+      ];
+      within = λ g m. omega (arith, old.within g m);
+      number = old.number;
+      least = λ j m. elim (cases_lt j i) [
+        | inl front ↦ old.least j front
+        | inr last ↦
+            let e : i ≡ j = at_end j i m last in
+            inl (omega (arith, ap (λ (k : ℕ). number_at firsts (number_at numbers k)) e, old.within (number_at numbers i) less, e))
+      ];
+    }
     | inr equal ↦ absurd (other (omega (arith, few, equal)))
   ]
 ]

@@ -66,6 +66,7 @@ never_missing names before (f ∷ fs) a h = by (place_named names f) h (λ (b : 
         → (columns_from names (before ++ b ∷ []) fs ≡ Err (refusal.MissingColumn a) → ⊥) → ⊥
     tested true b g later = cc
     tested false b g later = later g
+
     by : (o : Option ℕ) → (column_of (length before + 1) (named before) o >>= (λ c. columns_from names (before ++ c ∷ []) fs)) ≡ Err (refusal.MissingColumn a)
         → ((b : ℕ) → columns_from names (before ++ b ∷ []) fs ≡ Err (refusal.MissingColumn a) → ⊥) → ⊥
     by None g later = cc
@@ -168,8 +169,8 @@ placed_at n columns h i p kept l e =
     let at : i < length (members_below n (named columns)) = omega (arith, l, size) in
     let a : ℕ = get_or (members_below n (named columns)) i p.attribute in
     let same : p ≡ placed columns a =
-        e ∙ ap (λ (o : List Placed). get_or o i p) kept.order ∙ same_default (order_of n columns) i p (placed columns p.attribute) (omega (arith, l, ap length kept.order))
-        ∙ get_or-map (placed columns) (members_below n (named columns)) i p.attribute in
+    e ∙ ap (λ (o : List Placed). get_or o i p) kept.order ∙ same_default (order_of n columns) i p (placed columns p.attribute) (omega (arith, l, ap length kept.order))
+    ∙ get_or-map (placed columns) (members_below n (named columns)) i p.attribute in
     let attribute : p.attribute ≡ a = ap (λ (q : Placed). q.attribute) same in
     let m = member_at n (named columns) i p.attribute at attribute in
     record {
@@ -213,7 +214,7 @@ takes_one s columns fields values i p value column takes at is type fits =
     let ms = members_below (width_of s) (named columns) in
     let here : value ≡ value_of columns fields p.attribute = is ∙ ap (λ (j : ℕ). slice_index_or fields j []) at.column in
     let next : take (i + 1) ms ≡ take i ms ++ p.attribute ∷ [] =
-        rw add-one (take-suc ms i p.attribute at.at ∙ ap (λ (a : ℕ). take i ms ++ a ∷ []) at.is) in
+    rw add-one (take-suc ms i p.attribute at.at ∙ ap (λ (a : ℕ). take i ms ++ a ∷ []) at.is) in
     record {
       so_far = ap (λ (l : List (List ℕ)). l ++ value ∷ []) takes.so_far ∙ ap (λ (v : List ℕ). map (value_of columns fields) (take i ms) ++ v ∷ []) here
           ∙ sym (ap (map (value_of columns fields)) next ∙ map-append (value_of columns fields) (take i ms) (p.attribute ∷ []));
@@ -235,10 +236,13 @@ pub takes_all : (s : Schema) (columns : List ℕ) (fields values : List (List �
 takes_all s columns fields values h i row kept takes end even few =
     let ms = members_below (width_of s) (named columns) in
     let size : length h.order.items ≡ length ms = ap length kept.order ∙ length-map ms (placed columns) in
-    let all : take i ms ≡ ms = take_all i ms (omega (arith, end, size)) in
-    ((even ∙ kept.count, few), takes.so_far ∙ ap (map (value_of columns fields)) all, λ a has.
-        let small : a < width_of s = omega (arith, slice_get_within (types_of s) a Integer has.1, length-columns_on (width_of s) (places s.integers)) in
-        takes.typed a has (omega (arith, count_below-place (width_of s) a (named columns) small has.0, length-members_below (width_of s) (named columns), end, size)))
+    let all : take i ms ≡ ms = take_all i ms (omega (arith, end, size)) in (
+      (even ∙ kept.count, few),
+      takes.so_far ∙ ap (map (value_of columns fields)) all,
+      λ a has.
+          let small : a < width_of s = omega (arith, slice_get_within (types_of s) a Integer has.1, length-columns_on (width_of s) (places s.integers)) in
+          takes.typed a has (omega (arith, count_below-place (width_of s) a (named columns) small has.0, length-members_below (width_of s) (named columns), end, size)),
+    )
 
 -- the value at hand is refused
 pub not_integer : (s : Schema) (columns : List ℕ) (fields values : List (List ℕ)) (h : Header) (i row : ℕ) (p : Placed) (value : List ℕ) (column : Column)
@@ -246,9 +250,14 @@ pub not_integer : (s : Schema) (columns : List ℕ) (fields values : List (List 
     → slice_get (types_of s) p.attribute ≡ Some column → (column ≡ Integer) × (IsIntegerText value → ⊥)
     → length fields ≡ h.columns → row ≤ 100000 → RowOf s columns row fields (Err (refusal.NotInteger row p.attribute))
 not_integer s columns fields values h i row p value column kept takes at is type breaks even few =
-    let here : value ≡ value_of columns fields p.attribute = is ∙ ap (λ (j : ℕ). slice_index_or fields j []) at.column in
-    ((even ∙ kept.count, few), refl, (at.has, type ∙ ap Some breaks.0), (λ t. breaks.1 (subst IsIntegerText (sym here) t)), λ b less has.
-        takes.typed b has (omega (arith, count_below-place p.attribute b (named columns) less has.0, at.before)))
+    let here : value ≡ value_of columns fields p.attribute = is ∙ ap (λ (j : ℕ). slice_index_or fields j []) at.column in (
+      (even ∙ kept.count, few),
+      refl,
+      (at.has, type ∙ ap Some breaks.0),
+      (λ t. breaks.1 (subst IsIntegerText (sym here) t)),
+      λ b less has.
+          takes.typed b has (omega (arith, count_below-place p.attribute b (named columns) less has.0, at.before)),
+    )
 
 -- records of which some were taken, each giving a row
 pub record Progress (s : Schema) (columns : List ℕ) (rs : List (List (List ℕ))) (reader : Reader (Bor (List ℕ))) (rows : Relation) : Type 0 where
@@ -317,7 +326,7 @@ row_refused s columns rs old new b fields rows n e p is takes count row =
     let all : rs ≡ p.taken ++ fields ∷ more = p.all ∙ ap (λ (l : List (List (List ℕ))). p.taken ++ l) rest in
     let (within, at) = next_at rs p.taken more fields (length rows) all p.as_many in
     let here : RowOf s columns (length rows + 1) (slice_index_or rs (length rows) []) (Err e) =
-        subst (λ (f : List (List ℕ)). RowOf s columns (length rows + 1) f (Err e)) (sym at) (subst (λ (m : ℕ). RowOf s columns (m + 1) fields (Err e)) count row) in
+    subst (λ (f : List (List ℕ)). RowOf s columns (length rows + 1) f (Err e)) (sym at) (subst (λ (m : ℕ). RowOf s columns (m + 1) fields (Err e)) count row) in
     (rows, p.first, within, here)
 
 -- the attributes without a column, as the sets of the code have them
@@ -343,15 +352,17 @@ row_whole : (s : Schema) (columns : List ℕ) (row : ℕ) (fields : List (List �
 row_whole s columns row fields t within (fits, is, typed) =
     let n : ℕ = width_of s in
     let ms : List ℕ = members_below n (named columns) in
-    let size : length ms ≡ n = length-members_below n (named columns) ∙ whole_count n (named columns) within n (omega arith) in
-    (ap length is ∙ length-map ms (value_of columns fields) ∙ size, λ k integer.
-        let small : k < n = omega (arith, slice_get_within (types_of s) k Integer integer, length-columns_on n (places s.integers)) in
-        let has : named columns k ≡ true = within k (grind (arith, small)) in
-        let at : get_or ms k k ≡ k = ap (λ (j : ℕ). get_or ms j k) (sym (whole_count n (named columns) within k (omega (arith, small)))) ∙ members_below-at n (named columns) k k small has in
-        let long : k < length (map (value_of columns fields) ms) = omega (arith, length-map ms (value_of columns fields), size, small) in
-        let value : value_at t k ≡ value_of columns fields k =
-            ap (λ (u : Tuple). value_at u k) is ∙ same_default (map (value_of columns fields) ms) k [] (value_of columns fields k) long ∙ get_or-map (value_of columns fields) ms k k ∙ ap (value_of columns fields) at in
-        subst IsIntegerText (sym value) (typed k (has, integer)))
+    let size : length ms ≡ n = length-members_below n (named columns) ∙ whole_count n (named columns) within n (omega arith) in (
+      ap length is ∙ length-map ms (value_of columns fields) ∙ size,
+      λ k integer.
+          let small : k < n = omega (arith, slice_get_within (types_of s) k Integer integer, length-columns_on n (places s.integers)) in
+          let has : named columns k ≡ true = within k (grind (arith, small)) in
+          let at : get_or ms k k ≡ k = ap (λ (j : ℕ). get_or ms j k) (sym (whole_count n (named columns) within k (omega (arith, small)))) ∙ members_below-at n (named columns) k k small has in
+          let long : k < length (map (value_of columns fields) ms) = omega (arith, length-map ms (value_of columns fields), size, small) in
+          let value : value_at t k ≡ value_of columns fields k =
+          ap (λ (u : Tuple). value_at u k) is ∙ same_default (map (value_of columns fields) ms) k [] (value_of columns fields k) long ∙ get_or-map (value_of columns fields) ms k k ∙ ap (value_of columns fields) at in
+          subst IsIntegerText (sym value) (typed k (has, integer)),
+    )
 
 whole_table : (s : Schema) (rs : List (List (List ℕ))) (rows : Relation) → TableOf s (IsHeaderOf (width_of s) (names_of s)) rs (Ok rows)
     → (i : ℕ) → i < length rows

@@ -132,10 +132,10 @@ next_left old new fields rs has reads first flexible =
     let (p, read, is_first, stands) = reached in
     let (state, rest) = stands in
     let t = shrinks has.rest old.state [] [] p read in
-    let more = one_more old.state has.rest p has.between read in
-    ( records_from default_config (length p.2 + 1) p.1 p.2
-    , sym has.left ∙ more ∙ ap (λ (f : List (List ℕ)). f ∷ records_from default_config (length p.2 + 1) p.1 p.2) (sym is_first)
-    , record {
+    let more = one_more old.state has.rest p has.between read in (
+      records_from default_config (length p.2 + 1) p.1 p.2,
+      sym has.left ∙ more ∙ ap (λ (f : List (List ℕ)). f ∷ records_from default_config (length p.2 + 1) p.1 p.2) (sym is_first),
+      record {
         config = reads.2 ∙ has.config;
         trim = reads.3 ∙ has.trim;
         flexible = flexible ∙ has.flexible;
@@ -144,7 +144,8 @@ next_left old new fields rs has reads first flexible =
         rest = z;
         source = source;
         left = ap (λ (q : State × List ℕ). records_from default_config (length q.1 + 1) q.0 q.1) (sym (pair_path p.1 new.state p.2 z state rest));
-      } )
+      },
+    )
   where
     pair_path : (s t : State) (xs ys : List ℕ) → s ≡ t → xs ≡ ys → ◌≡◌ {A = State × List ℕ} (s, xs) (t, ys)
     pair_path s t xs ys e f = cc

@@ -5,7 +5,6 @@ ghost use Rattle.attr_sets.specs.declared.set.TheConstants.{PLACES};
 ghost use Rattle.csv.specs.Records.{fields_of};
 ghost use Rattle.csv_rows.specs.Columns.{column_of, columns_of, order_of, IsHeader};
 ghost use Rattle.dep_model.specs.Schemas.{names_of, place_named, width_of};
-
 ghost use Rattle.csv_rows.specs.declared.refusal.RowRefusal.TheVariants.{Memory};
 
 use crate::RowRefusal;

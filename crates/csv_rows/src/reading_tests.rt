@@ -11,7 +11,10 @@ fn rows_in_the_order_of_the_schema(rt: HostRuntime) -> Result<(), Fail> {
         ("city,Zip\r\nBonn,53111\r\n", "ZIP,CITY\n53111,Bonn\n"),
         ("\u{feff}ZIP,CITY\n1,2", "ZIP,CITY\n1,2\n"),
         ("\n\nZIP,CITY\n\n1,2\n\n\n3,4\n\n", "ZIP,CITY\n1,2\n3,4\n"),
-        ("ZIP,CITY\n\"a \"\"b\"\"\",\"c,\nd\"\n", "ZIP,CITY\n\"a \"\"b\"\"\",\"c,\nd\"\n"),
+        (
+            "ZIP,CITY\n\"a \"\"b\"\"\",\"c,\nd\"\n",
+            "ZIP,CITY\n\"a \"\"b\"\"\",\"c,\nd\"\n",
+        ),
         ("ZIP,CITY\n , x \n,\n", "ZIP,CITY\n , x \n,\n"),
         ("ZIP,CITY\n", "ZIP,CITY\n"),
         ("\"ZIP\",CITY", "ZIP,CITY\n"),
@@ -37,7 +40,10 @@ fn refusals_in_their_order(rt: HostRuntime) -> Result<(), Fail> {
         ("ZIP,TOWN,ZIP\n", RowRefusal::UnknownColumn { column: 2 }),
         ("ZIP,zip,TOWN\n", RowRefusal::DoubleColumn { column: 2 }),
         ("ZIP,\n", RowRefusal::UnknownColumn { column: 2 }),
-        ("\u{feff}\u{feff}ZIP,CITY\n", RowRefusal::UnknownColumn { column: 1 }),
+        (
+            "\u{feff}\u{feff}ZIP,CITY\n",
+            RowRefusal::UnknownColumn { column: 1 },
+        ),
         ("ZIP\n1,2\n", RowRefusal::MissingColumn { attribute: 1 }),
         ("City\n", RowRefusal::MissingColumn { attribute: 0 }),
         ("ZIP,CITY\n1,2\n1\n", RowRefusal::UnevenRow { row: 2 }),
@@ -55,13 +61,36 @@ fn refusals_in_their_order(rt: HostRuntime) -> Result<(), Fail> {
 #[test]
 fn integers_in_integer_columns(rt: HostRuntime) -> Result<(), Fail> {
     let alloc = rt.alloc();
-    let schema = read_schema(alloc, b"version 2\ninteger ID\ntext NAME\ninteger AGE\n").expect(&rt, "a schema");
+    let schema = read_schema(alloc, b"version 2\ninteger ID\ntext NAME\ninteger AGE\n").expect(
+        &rt, "a schema",
+    );
     let cases = [
         ("NAME,ID,AGE\nAnn,7,0\nBo,-9223372036854775808,1\n", None),
-        ("NAME,ID,AGE\nAnn,07,0\n", Some(RowRefusal::NotInteger { row: 1, attribute: 0 })),
-        ("NAME,ID,AGE\nAnn,7,0\nBo,-0,x\n", Some(RowRefusal::NotInteger { row: 2, attribute: 0 })),
-        ("NAME,ID,AGE\nAnn,7,\n", Some(RowRefusal::NotInteger { row: 1, attribute: 2 })),
-        ("NAME,ID,AGE\nAnn,9223372036854775808,1,\n", Some(RowRefusal::UnevenRow { row: 1 })),
+        (
+            "NAME,ID,AGE\nAnn,07,0\n",
+            Some(RowRefusal::NotInteger {
+                row: 1,
+                attribute: 0,
+            }),
+        ),
+        (
+            "NAME,ID,AGE\nAnn,7,0\nBo,-0,x\n",
+            Some(RowRefusal::NotInteger {
+                row: 2,
+                attribute: 0,
+            }),
+        ),
+        (
+            "NAME,ID,AGE\nAnn,7,\n",
+            Some(RowRefusal::NotInteger {
+                row: 1,
+                attribute: 2,
+            }),
+        ),
+        (
+            "NAME,ID,AGE\nAnn,9223372036854775808,1,\n",
+            Some(RowRefusal::UnevenRow { row: 1 }),
+        ),
     ];
     for (text, want) in cases {
         match read_rows(alloc, &schema, text.as_bytes()) {
@@ -81,5 +110,31 @@ fn part_of_the_columns(rt: HostRuntime) -> Result<(), Fail> {
     assert!(rt; !part.scheme.has(1));
     assert!(rt; part.rows.len() == 1 && part.rows[0].len() == 2);
     assert_eq!(rt; part.rows[0].value(0).bytes(), b"2".as_slice());
+    Ok(())
+}
+
+#[test]
+fn as_many_rows_as_may_be(rt: HostRuntime) -> Result<(), Fail> {
+    let alloc = rt.alloc();
+    let schema = read_schema(alloc, b"attributes A").expect(&rt, "a schema");
+    let mut text = Vec::from_slice(alloc, b"A\n")?;
+    for _ in 0..100_000 {
+        text.extend_from_slice(b"1\n")?;
+    }
+    let rows = read_rows(alloc, &schema, &text).expect(&rt, "rows");
+    assert_eq!(rt; rows.len(), 100_000);
+    let cases = [
+        ("\n", None),
+        ("1\n", Some(RowRefusal::TooManyRows)),
+        ("1,2\n", Some(RowRefusal::UnevenRow { row: 100_001 })),
+    ];
+    for (last, want) in cases {
+        let mut whole = Vec::from_slice(alloc, &text)?;
+        whole.extend_from_slice(last.as_bytes())?;
+        match read_rows(alloc, &schema, &whole) {
+            Err(refusal) => assert!(rt; want == Some(refusal)),
+            Ok(_) => assert!(rt; want == None),
+        }
+    }
     Ok(())
 }

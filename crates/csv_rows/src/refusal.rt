@@ -1,5 +1,5 @@
-use std::alloc::{AllocError, AllocFailed};
 use dep_model::WantMemory;
+use std::alloc::{AllocError, AllocFailed};
 
 /// Why a CSV text is refused.
 #[derive(Clone, Copy, Debug, PartialEq, Eq, Hash)]

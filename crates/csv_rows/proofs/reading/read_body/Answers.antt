@@ -16,7 +16,7 @@ records-preserved c =
     record {
       few = omega (arith, size, count, row);
       progress = λ rs columns left kept. rw items
-        (progress_one _ columns rs _ _ _ _ _ c.len.result c.in-Ok.row (c.records.invariant.progress rs columns left kept) c.in-Ok-true.field-0-test c.in-Ok-true.ensures.record count (c.in-Ok.ensures.ok columns kept));
+          (progress_one _ columns rs _ _ _ _ _ c.len.result c.in-Ok.row (c.records.invariant.progress rs columns left kept) c.in-Ok-true.field-0-test c.in-Ok-true.ensures.record count (c.in-Ok.ensures.ok columns kept));
     }
 
 pub returns-in-Err-read_row-clause-err : goal.returns-in-Err-read_row-clause-err

@@ -21,12 +21,14 @@ returns-then-not-fits-clause-err c = λ columns kept other.
     not_integer _ columns _ _ _ _ _ _ c.field-value.result.now c.column.result kept (c.loop-placed.invariant.takes columns kept) at c.field-value.ensures.value c.column.ensures.column (c.fits.ensures.breaks broken) even few
 
 pub loop-placed-preserved : goal.loop-placed-preserved
-loop-placed-preserved c = record { takes = λ columns kept.
-    let at = placed_in _ columns _ c.deref-placed-items.result.now c.loop-placed.placed-index _ kept c.deref-placed-items.ensures.value c.loop-placed-test.true in
-    let good : c.fits.result ≡ true = grind (arith, c.if-not-fits.false) in
-    rw c.in_ok-push.ensures.items
-    (takes_one _ columns _ _ _ _ _ c.column.result (c.loop-placed.invariant.takes columns kept) at (c.in_ok-make.ensures.value ∙ c.field-value.ensures.value) c.column.ensures.column
-    (λ integer. subst IsIntegerText (sym c.in_ok-make.ensures.value) (c.fits.ensures.fits good integer))) }
+loop-placed-preserved c = record {
+  takes = λ columns kept.
+      let at = placed_in _ columns _ c.deref-placed-items.result.now c.loop-placed.placed-index _ kept c.deref-placed-items.ensures.value c.loop-placed-test.true in
+      let good : c.fits.result ≡ true = grind (arith, c.if-not-fits.false) in
+      rw c.in_ok-push.ensures.items
+      (takes_one _ columns _ _ _ _ _ c.column.result (c.loop-placed.invariant.takes columns kept) at (c.in_ok-make.ensures.value ∙ c.field-value.ensures.value) c.column.ensures.column
+      (λ integer. subst IsIntegerText (sym c.in_ok-make.ensures.value) (c.fits.ensures.fits good integer)));
+}
 
 pub returns-clause-ok : goal.returns-clause-ok
 returns-clause-ok c = λ columns kept.

@@ -20,14 +20,14 @@ pub returns-clause-ok : goal.returns-clause-ok
 returns-clause-ok c =
     let read = c.in-Ok.ensures.ok _ c.open-reader.ensures.all in
     on_ok _ _ c.read_body.result (λ v rows.
-        whole_rows _ _ _ _ (places c.minus-missing.result) _ read (lacking _ _ _ _ _ c.width.ensures.count c.full.ensures.members c.minus-missing.ensures.members) (c.in-None.ensures.none.0 refl) rows)
+    whole_rows _ _ _ _ (places c.minus-missing.result) _ read (lacking _ _ _ _ _ c.width.ensures.count c.full.ensures.members c.minus-missing.ensures.members) (c.in-None.ensures.none.0 refl) rows)
     (c.read_body.ensures.ok read.records read.columns read.left read.kept)
 
 pub returns-clause-err : goal.returns-clause-err
 returns-clause-err c =
     let read = c.in-Ok.ensures.ok _ c.open-reader.ensures.all in
     on_err _ _ c.read_body.result (λ e rows other.
-        whole_rows _ _ _ _ (places c.minus-missing.result) _ read (lacking _ _ _ _ _ c.width.ensures.count c.full.ensures.members c.minus-missing.ensures.members) (c.in-None.ensures.none.0 refl) (rows other))
+    whole_rows _ _ _ _ (places c.minus-missing.result) _ read (lacking _ _ _ _ _ c.width.ensures.count c.full.ensures.members c.minus-missing.ensures.members) (c.in-None.ensures.none.0 refl) (rows other))
     (c.read_body.ensures.err read.records read.columns read.left read.kept)
 
 pub returns-clause-over : goal.returns-clause-over

@@ -17,19 +17,19 @@ loop-place-preserved c =
           record {
             count = rw w.numbers-is (w.in_ok-numbers-2.ensures.count ∙ ap length w.deref.ensures.value ∙ old.count);
             groups = λ n rows kept.
-              let low : k < n = grind (arith, c.requires.within k has, kept.width) in
-              rw w.numbers-is
-              (same_groups rows (union (meet (places c.args.set) (below k)) (only k)) (meet (places c.args.set) (below (k + 1))) _ (meet_in (places c.args.set) k has)
-              (w.in_ok-numbers-2.ensures.groups rows (meet (places c.args.set) (below k)) k
-              (subst (AreGroups rows (meet (places c.args.set) (below k))) (sym w.deref.ensures.value) (old.groups n rows kept))
-              (subst (AreGroups rows (only k)) (sym w.column.ensures.codes) (kept.codes k low))));
+                let low : k < n = grind (arith, c.requires.within k has, kept.width) in
+                rw w.numbers-is
+                (same_groups rows (union (meet (places c.args.set) (below k)) (only k)) (meet (places c.args.set) (below (k + 1))) _ (meet_in (places c.args.set) k has)
+                (w.in_ok-numbers-2.ensures.groups rows (meet (places c.args.set) (below k)) k
+                (subst (AreGroups rows (meet (places c.args.set) (below k))) (sym w.deref.ensures.value) (old.groups n rows kept))
+                (subst (AreGroups rows (only k)) (sym w.column.ensures.codes) (kept.codes k low))));
           }
       | else-has w ↦
           let lacks : places c.args.set k ≡ false = sym c.has.ensures.member ∙ w.if-has.false in
           record {
             count = rw w.numbers-is old.count;
             groups = λ n rows kept. rw w.numbers-is
-              (same_groups rows (meet (places c.args.set) (below k)) (meet (places c.args.set) (below (k + 1))) _ (meet_out (places c.args.set) k lacks) (old.groups n rows kept));
+                (same_groups rows (meet (places c.args.set) (below k)) (meet (places c.args.set) (below (k + 1))) _ (meet_out (places c.args.set) k lacks) (old.groups n rows kept));
           }
     ]
 

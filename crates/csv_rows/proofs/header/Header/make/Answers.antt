@@ -41,11 +41,12 @@ pub returns-clause-ok : goal.returns-clause-ok
 returns-clause-ok c =
     let end = c.len-i-end.ensures in
     let over = c.loop-i-test.false in
-    let within = c.loop-i.auto.i-end in
-    ( c.loop-i.columns.items
-    , all_read _ _ c.loop-i.i _ _ c.loop-i.invariant (omega arith)
-    , record {
+    let within = c.loop-i.auto.i-end in (
+      c.loop-i.columns.items,
+      all_read _ _ c.loop-i.i _ _ c.loop-i.invariant (omega arith),
+      record {
         count = omega (arith, c.loop-i.columns.ok.0, c.len-2.ensures);
         scheme = c.loop-i.invariant.same;
         order = rw (← c.width.ensures.count, ← c.deref.ensures.value) c.in_ok-in_order.ensures.order;
-      } )
+      },
+    )

@@ -12,7 +12,7 @@ loop-place-preserved c =
     record {
       width = ap length pushed ∙ length-append c.loop-place.columns.items (c.in_ok-numbers.numbers.items ∷ []) ∙ ap (λ (m : ℕ). m + 1) old.width;
       codes = λ k l. subst (λ (xs : List (List ℕ)). AreGroups c.args.rows.now (only k) (slice_index_or xs k [])) (sym pushed)
-        (one_column_more c.args.rows.now c.loop-place.columns.items c.in_ok-numbers.numbers.items c.loop-place.place old.width old.codes c.in_ok-numbers.ensures.groups k l);
+          (one_column_more c.args.rows.now c.loop-place.columns.items c.in_ok-numbers.numbers.items c.loop-place.place old.width old.codes c.in_ok-numbers.ensures.groups k l);
     }
 
 pub invariant_of-result : goal.invariant_of-result
