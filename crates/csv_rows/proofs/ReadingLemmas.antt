@@ -27,7 +27,7 @@ use Rattle.csv_rows.specs.declared.refusal.RowRefusal.{RowRefusal}
 use Rattle.csv_rows.specs.declared.refusal.RowRefusal.TheVariants as refusal
 use Rattle.csv_rows.specs.Records.{HasLeft, TakesRecord, records_of}
 use Rattle.csv_rows.specs.Columns.{named, placed, order_of, column_of, columns_from, columns_of, ◌>>=◌, IsHeader, IsHeaderOf}
-use Rattle.csv_rows.specs.Reading.{value_of, tuple_of, HasInteger, Fits, RowOf, RowAt, AreFirstRows, RowsUnder, TableOf, RowsOf, ReadsHeader, RefusesHeader}
+use Rattle.csv_rows.specs.Reading.{value_of, HasInteger, RowOf, RowAt, AreFirstRows, RowsUnder, TableOf, RowsOf, ReadsHeader, RefusesHeader}
 
 -- the first record is the header
 pub header_read : (s : Schema) (old new : Reader (Bor (List ℕ))) (fields : List (List ℕ)) (b : Bool) (r : Result Header RowRefusal) (rs : List (List (List ℕ)))

@@ -1,6 +1,6 @@
 use Rattle.std.specs.Prelude.{◌≡◌, ◌+◌, ℕ, Bool, true, false, List, [], ◌∷◌, length, Some, ⊤}
 use Rattle.std.specs.Borrow.{Bor}
-use Rattle.csv.specs.Machine.{next_record, ends_at_end}
+use Rattle.csv.specs.Machine.{ends_at_end}
 use Rattle.csv.specs.Reading.{records, records_from, strip_bom, default_config, source_of, reader_config, reader_trim, reader_state, is_flexible, Ready, error_kind}
 use Rattle.csv.specs.declared.reader.Reader.{Reader}
 use Rattle.csv.specs.declared.reader.Trim.TheVariants as trim

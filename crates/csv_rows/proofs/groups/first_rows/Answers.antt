@@ -1,5 +1,4 @@
 use Rattle.std.proofs.Common.{arith, ◌≡◌, length}
-use Rattle.csv_rows.specs.Numberings.{number_at}
 use Rattle.csv_rows.proofs.NumberingLemmas.{new_first, old_first}
 use Rattle.csv_rows.proofs.groups.first_rows.Goals as goal
 use Rattle.csv_rows.proofs.groups.first_rows.Goals.{then-numbers-i+in_ok-push, else-numbers-i}

@@ -1,4 +1,4 @@
-use Rattle.std.proofs.Common.{arith, ◌≡◌, ℕ, List, map, length, subst, refl}
+use Rattle.std.proofs.Common.{arith, ◌≡◌, ℕ, map, length, subst, refl}
 use Rattle.csv_rows.specs.Numberings.{AreNumbered, number_at}
 use Rattle.csv_rows.proofs.NumberingLemmas.{pair_step}
 use Rattle.csv_rows.proofs.groups.numbered_pairs.Goals as goal

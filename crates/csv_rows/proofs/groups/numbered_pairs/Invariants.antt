@@ -1,4 +1,4 @@
-use Rattle.std.proofs.Common.{ℕ, List, map}
+use Rattle.std.proofs.Common.{ℕ, map}
 use Rattle.csv_rows.specs.Numberings.{AreNumbered, number_at}
 use Rattle.csv_rows.proofs.groups.numbered_pairs.Given as goal
 

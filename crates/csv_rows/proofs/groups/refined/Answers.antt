@@ -1,4 +1,4 @@
-use Rattle.std.proofs.Common.{arith, ◌≡◌, sym, subst}
+use Rattle.std.proofs.Common.{arith, sym, subst}
 use Rattle.attr_sets.specs.Places.{union, only}
 use Rattle.csv_rows.specs.Numberings.{AreGroups}
 use Rattle.csv_rows.proofs.NumberingLemmas.{single_group, pair_groups}

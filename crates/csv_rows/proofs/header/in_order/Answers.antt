@@ -1,6 +1,5 @@
-use Rattle.std.proofs.Common.{sym, ap, ◌∙◌, ◌≡◌, List, [], ◌∷◌, ◌++◌}
+use Rattle.std.proofs.Common.{sym, ◌∙◌}
 use Rattle.dep_model.specs.Projections.{members_below}
-use Rattle.csv_rows.specs.declared.header.Placed.{Placed}
 use Rattle.csv_rows.proofs.HeaderLemmas.{order_more, order_same}
 use Rattle.csv_rows.proofs.header.in_order.Goals as goal
 use Rattle.csv_rows.proofs.header.in_order.Goals.{in-Some+in_ok-push-in-Some, in-None}

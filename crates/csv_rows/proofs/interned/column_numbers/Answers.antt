@@ -1,7 +1,7 @@
 use Rattle.std.proofs.Common.{arith, ◌≡◌, ℕ, List, Bor, map, length, subst, ◌∙◌}
 use Rattle.dep_model.specs.Tuples.{value_at}
 use Rattle.csv_rows.specs.Numberings.{AreNumbered, row_at}
-use Rattle.csv_rows.proofs.NumberingLemmas.{numbered_none, column_step, column_groups}
+use Rattle.csv_rows.proofs.NumberingLemmas.{column_step, column_groups}
 use Rattle.csv_rows.proofs.interned.column_numbers.Goals as goal
 
 pub loop-row-preserved : goal.loop-row-preserved

@@ -1,7 +1,5 @@
 use Rattle.std.proofs.Common.{refl}
-use Rattle.attr_sets.specs.Places.{Same, minus, below}
 use Rattle.attr_sets.specs.Sets.{places}
-use Rattle.dep_model.specs.Schemas.{width_of}
 use Rattle.csv_rows.proofs.ReadingLemmas.{refused_whole, refused_missing, whole_rows, on_ok, on_err, lacking, rows_over, rows_typed}
 use Rattle.csv_rows.proofs.reading.read_rows.Goals as goal
 

@@ -1,4 +1,4 @@
-use Rattle.std.proofs.Common.{◌≡◌, ◌+◌, ℕ, length}
+use Rattle.std.proofs.Common.{◌≡◌, ℕ, length}
 use Rattle.attr_sets.specs.Places.{meet, below}
 use Rattle.attr_sets.specs.Sets.{places}
 use Rattle.dep_model.specs.Tuples.{Relation}

@@ -1,7 +1,6 @@
-use Rattle.std.proofs.Common.{arith, ◌≡◌, ◌<◌, length, rules, sym, ◌∙◌}
+use Rattle.std.proofs.Common.{arith, ◌≡◌, length}
 use Rattle.attr_sets.specs.Sets.{places}
 use Rattle.attr_sets.proofs.PlacesLemmas.{count_below-le}
-use Rattle.dep_model.specs.Schemas.{names_of}
 use Rattle.csv_rows.proofs.HeaderLemmas.{no_columns, one_column, refused_column, all_read}
 use Rattle.csv_rows.proofs.header.Header.make.Goals as goal
 
