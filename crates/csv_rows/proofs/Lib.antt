@@ -1,1 +1,5 @@
 pub mod RowLemmas
+pub mod RecordLemmas
+pub mod HeaderLemmas
+pub mod ReadingLemmas
+pub mod NumberingLemmas

@@ -1,1 +1,6 @@
 pub mod RowsText
+pub mod Records
+pub mod Columns
+pub mod Reading
+pub mod Numberings
+pub mod Interning

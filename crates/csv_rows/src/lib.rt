@@ -1,12 +1,32 @@
-//! Rows as CSV text: a comma between fields, double quotes where they are needed, LF after each row.
+//! Rows as CSV text, and rows as numbers.
 //!
-//! `print_rows` writes a header of the declared names and then each row. Its bytes are the text that
-//! `csv` writes with its default settings.
+//! `read_rows` gives the rows of a text, each with its values in the order of the schema, or the
+//! text's first refusal. The records are those that `csv` defines, with a comma between fields and
+//! double quotes, after one byte-order mark. `read_part` reads a text that has a column for some of the
+//! attributes. `print_rows` writes a header of the declared names and then each row; its bytes are the
+//! text that `csv` writes with its default settings.
+//!
+//! `Interned` holds rows by numbers in place of their values. `Groups` numbers rows by what they have
+//! on a set of attributes: two rows have one number exactly where they agree on it.
 #![tactic(auto)]
 
+mod groups;
+mod header;
+mod interned;
+mod part;
 mod printing;
+mod reading;
+mod records;
+mod refusal;
 
+pub use groups::Groups;
+pub use interned::Interned;
+pub use part::{Part, read_part};
 pub use printing::print_rows;
+pub use reading::{MOST_ROWS, read_rows};
+pub use refusal::RowRefusal;
 
+#[cfg(test)]
+mod reading_tests;
 #[cfg(test)]
 mod tests;

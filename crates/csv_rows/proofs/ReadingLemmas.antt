@@ -1,0 +1,381 @@
+-- What a header and the records below it give, field by field and record by record.
+use Rattle.std.proofs.Common.{inl, inr, ◌≡◌, ◌≢◌, ◌+◌, ◌<◌, ◌≤◌, ℕ, zero, suc, Bool, true, false, if◌then◌else◌, not, ◌&&◌, nat_lt, nat_eq, List, [], ◌∷◌, ◌++◌, length, map, take, Option, Some, None, Result, Ok, Err, IfOk, IfErr, slice_index_or, get_or, add-one, refl, sym, ap, subst, ◌∙◌, arith}
+use Rattle.std.specs.Borrow.{Bor}
+use Rattle.std.specs.List.{slice_get, position_or_len}
+use Rattle.std.proofs.Math.ListN.{get_or-map}
+use Rattle.std.proofs.Math.Seq.{take-suc, get_or-append_seam}
+use Rattle.std.proofs.lemmas.Bool.{cases_Bool, cases_lt}
+use Rattle.std.proofs.lemmas.List.{append-nil, length-append, length-map, map-append, take_all, append_assoc, get_or_append_left}
+use Rattle.std.proofs.lemmas.Option.{slice_get_within}
+use Rattle.attr_sets.specs.Places.{Places, Within, Same, IsEmpty, below, minus, IsLeastFrom, count_below}
+use Rattle.attr_sets.proofs.PlacesLemmas.{count_below-place, count_below-equal, count_below-below}
+use Rattle.csv.specs.declared.reader.Reader.{Reader}
+use Rattle.dep_model.specs.Integers.{IsIntegerText}
+use Rattle.dep_model.specs.Projections.{members_below}
+use Rattle.dep_model.specs.Schemas.{names_of, width_of, place_named, columns_of as types_of, TypedFor}
+use Rattle.dep_model.specs.Tuples.{Tuple, Relation, IsOver, value_at}
+use Rattle.dep_model.specs.declared.column.Column.{Column}
+use Rattle.dep_model.specs.declared.column.Column.TheVariants.{Integer}
+use Rattle.dep_model.specs.declared.schema.Schema.{Schema}
+use Rattle.dep_model.proofs.ColumnLemmas.{length-columns_on}
+use Rattle.dep_model.proofs.SchemeLemmas.{length-members_below, members_below-at}
+use Rattle.attr_sets.specs.Sets.{places}
+use Rattle.csv_rows.proofs.NumberingLemmas.{same_default}
+use Rattle.csv_rows.specs.declared.header.Header.{Header}
+use Rattle.csv_rows.specs.declared.header.Placed.{Placed}
+use Rattle.csv_rows.specs.declared.refusal.RowRefusal.{RowRefusal}
+use Rattle.csv_rows.specs.declared.refusal.RowRefusal.TheVariants as refusal
+use Rattle.csv_rows.specs.Records.{HasLeft, TakesRecord, records_of}
+use Rattle.csv_rows.specs.Columns.{named, placed, order_of, column_of, columns_from, columns_of, ◌>>=◌, IsHeader, IsHeaderOf}
+use Rattle.csv_rows.specs.Reading.{value_of, HasInteger, RowOf, RowAt, AreFirstRows, RowsUnder, TableOf, RowsOf, ReadsHeader, RefusesHeader}
+
+-- the first record is the header
+pub header_read : (s : Schema) (old new : Reader (Bor (List ℕ))) (fields : List (List ℕ)) (b : Bool) (r : Result Header RowRefusal) (rs : List (List (List ℕ)))
+    → b ≡ true → TakesRecord b old new fields → HasLeft old rs
+    → IfOk r (λ h. (columns : List ℕ) × (columns_of (names_of s) fields ≡ Ok columns) × IsHeader (width_of s) columns h)
+    → IfOk r (λ h. ReadsHeader s rs new h)
+header_read s old new fields b (Err e) rs is takes left means = tt
+header_read s old new fields b (Ok h) rs is takes left means =
+    let takes : TakesRecord true old new fields = subst (λ (t : Bool). TakesRecord t old new fields) is takes in
+    let (more, all, rest) = takes rs left in
+    record { fields = fields; records = more; all = all; columns = means.0; means = means.1; kept = means.2; left = rest }
+
+pub header_refused : (names : List (List ℕ)) (old new : Reader (Bor (List ℕ))) (fields : List (List ℕ)) (b : Bool) (r : Result Header RowRefusal) (rs : List (List (List ℕ)))
+    → b ≡ true → TakesRecord b old new fields → HasLeft old rs
+    → IfErr r (λ e. e ≢ refusal.Memory → columns_of names fields ≡ Err e)
+    → IfErr r (λ e. e ≢ refusal.Memory → RefusesHeader names rs e)
+header_refused names old new fields b (Ok h) rs is takes left means = tt
+header_refused names old new fields b (Err e) rs is takes left means =
+    let takes : TakesRecord true old new fields = subst (λ (t : Bool). TakesRecord t old new fields) is takes in
+    let (more, all, rest) = takes rs left in
+    λ other. subst (λ (l : List (List (List ℕ))). RefusesHeader names l e) (sym all) (means other)
+
+pub no_header : (names : List (List ℕ)) (old new : Reader (Bor (List ℕ))) (fields : List (List ℕ)) (b : Bool) (rs : List (List (List ℕ)))
+    → b ≡ false → TakesRecord b old new fields → HasLeft old rs → RefusesHeader names rs refusal.NoHeader
+no_header names old new fields b rs is takes left =
+    let takes : TakesRecord false old new fields = subst (λ (t : Bool). TakesRecord t old new fields) is takes in
+    subst (λ (l : List (List (List ℕ))). RefusesHeader names l refusal.NoHeader) (sym (takes rs left)) refl
+
+-- no field of a header tells of a missing column
+never_missing : (names : List (List ℕ)) (before : List ℕ) (fields : List (List ℕ)) (a : ℕ) → columns_from names before fields ≡ Err (refusal.MissingColumn a) → ⊥
+unfolding columns_from
+never_missing names before [] a h = cc
+never_missing names before (f ∷ fs) a h = by (place_named names f) h (λ (b : ℕ) g. never_missing names (before ++ b ∷ []) fs a g)
+  where
+    tested : (t : Bool) (b : ℕ) → ((if t then Err (refusal.DoubleColumn (length before + 1)) else Ok b) >>= (λ c. columns_from names (before ++ c ∷ []) fs)) ≡ Err (refusal.MissingColumn a)
+        → (columns_from names (before ++ b ∷ []) fs ≡ Err (refusal.MissingColumn a) → ⊥) → ⊥
+    tested true b g later = cc
+    tested false b g later = later g
+
+    by : (o : Option ℕ) → (column_of (length before + 1) (named before) o >>= (λ c. columns_from names (before ++ c ∷ []) fs)) ≡ Err (refusal.MissingColumn a)
+        → ((b : ℕ) → columns_from names (before ++ b ∷ []) fs ≡ Err (refusal.MissingColumn a) → ⊥) → ⊥
+    by None g later = cc
+    by (Some b) g later = tested (named before b) b g (later b)
+
+-- a header that is refused is so in either reading
+pub refused_whole : (s : Schema) (rs : List (List (List ℕ))) (e : RowRefusal) → RefusesHeader (names_of s) rs e
+    → TableOf s (IsHeaderOf (width_of s) (names_of s)) rs (Err e)
+refused_whole s [] e h = ap Err h
+refused_whole s (header ∷ records) e h = (Err e, whole e h, refl)
+  where
+    whole : (e : RowRefusal) → columns_of (names_of s) header ≡ Err e → IsHeaderOf (width_of s) (names_of s) header (Err e)
+    whole (refusal.MissingColumn a) h = absurd (never_missing (names_of s) [] header a h)
+    whole refusal.NoHeader h = h
+    whole (refusal.UnknownColumn c) h = h
+    whole (refusal.DoubleColumn c) h = h
+    whole (refusal.UnevenRow r) h = h
+    whole refusal.TooManyRows h = h
+    whole (refusal.NotInteger r a) h = h
+    whole refusal.Memory h = h
+
+pub refused_part : (s : Schema) (rs : List (List (List ℕ))) (e : RowRefusal) → RefusesHeader (names_of s) rs e
+    → TableOf s (λ header columns. columns ≡ columns_of (names_of s) header) rs (Err e)
+refused_part s [] e h = ap Err h
+refused_part s (header ∷ records) e h = (Err e, sym h, refl)
+
+-- a header without a column for each attribute
+pub refused_missing : (s : Schema) (rs : List (List (List ℕ))) (reader : Reader (Bor (List ℕ))) (h : Header) (x : Places) (a : ℕ)
+    → ReadsHeader s rs reader h → Same x (minus (below (width_of s)) (places h.scheme)) → IsLeastFrom x 0 a
+    → TableOf s (IsHeaderOf (width_of s) (names_of s)) rs (Err (refusal.MissingColumn a))
+refused_missing s rs reader h x a read same least =
+    let all : Same x (minus (below (width_of s)) (named read.columns)) = λ k. same k ∙ ap (λ (b : Bool). nat_lt k (width_of s) && not b) (read.kept.scheme k) in
+    let moved : IsLeastFrom (minus (below (width_of s)) (named read.columns)) 0 a = record {
+      from_on = least.from_on;
+      member = sym (all a) ∙ least.member;
+      least = λ k f l. sym (all k) ∙ least.least k f l;
+    } in
+    subst (λ (l : List (List (List ℕ))). TableOf s (IsHeaderOf (width_of s) (names_of s)) l (Err (refusal.MissingColumn a))) (sym read.all)
+    (Err (refusal.MissingColumn a), (read.columns, read.means, moved), refl)
+
+-- the rows under a header with a column for each attribute
+pub whole_rows : (s : Schema) (rs : List (List (List ℕ))) (reader : Reader (Bor (List ℕ))) (h : Header) (x : Places) (result : Result Relation RowRefusal)
+    → (read : ReadsHeader s rs reader h) → Same x (minus (below (width_of s)) (places h.scheme)) → IsEmpty x → RowsUnder s (Ok read.columns) read.records result
+    → TableOf s (IsHeaderOf (width_of s) (names_of s)) rs result
+whole_rows s rs reader h x result read same empty rows =
+    let within : Within (below (width_of s)) (named read.columns) = λ k has. inside k has (sym (read.kept.scheme k)) (sym (same k) ∙ empty k) in
+    subst (λ (l : List (List (List ℕ))). TableOf s (IsHeaderOf (width_of s) (names_of s)) l result) (sym read.all)
+    (Ok read.columns, (read.means, within), rows)
+  where
+    inside : (k : ℕ) → nat_lt k (width_of s) ≡ true → {b : Bool} → b ≡ places h.scheme k → (nat_lt k (width_of s) && not (places h.scheme k)) ≡ false → b ≡ true
+    inside k has {b} e none = e ∙ by (places h.scheme k) (ap (λ (t : Bool). t && not (places h.scheme k)) (sym has) ∙ none)
+      where
+        by : (t : Bool) → (true && not t) ≡ false → t ≡ true
+        by true f = refl
+        by false f = cc
+
+pub part_rows : (s : Schema) (rs : List (List (List ℕ))) (reader : Reader (Bor (List ℕ))) (h : Header) (result : Result Relation RowRefusal)
+    → (read : ReadsHeader s rs reader h) → RowsUnder s (Ok read.columns) read.records result
+    → TableOf s (λ header columns. columns ≡ columns_of (names_of s) header) rs result
+part_rows s rs reader h result read rows =
+    subst (λ (l : List (List (List ℕ))). TableOf s (λ header columns. columns ≡ columns_of (names_of s) header) l result) (sym read.all)
+    (Ok read.columns, sym read.means, rows)
+
+-- the members of a set in their order
+pub member_at : (n : ℕ) (x : Places) (i a : ℕ) → i < length (members_below n x) → a ≡ get_or (members_below n x) i a → (a < n) × (x a ≡ true) × (i ≡ count_below x a)
+unfolding members_below
+member_at zero x i a l h = absurd (omega arith)
+member_at (suc n) x i a l h = elim (cases_Bool (x n)) [
+  | inl has ↦
+      let list : members_below (suc n) x ≡ members_below n x ++ n ∷ [] = ap (λ (b : Bool). members_below n x ++ (if b then n ∷ [] else [])) has in
+      elim (cases_lt i (length (members_below n x))) [
+        | inl front ↦
+            let old = member_at n x i a front (h ∙ ap (λ (l : List ℕ). get_or l i a) list ∙ get_or_append_left (members_below n x) (n ∷ []) a i front) in
+            (omega (arith, old.0), old.1, old.2)
+        | inr last ↦
+            let size : length (members_below (suc n) x) ≡ length (members_below n x) + 1 = ap length list ∙ length-append (members_below n x) (n ∷ []) in
+            let at : i ≡ length (members_below n x) = omega (arith, l, size, last) in
+            let is : a ≡ n = h ∙ ap (λ (l : List ℕ). get_or l i a) list ∙ ap (λ (j : ℕ). get_or (members_below n x ++ n ∷ []) j a) at ∙ get_or-append_seam (members_below n x) n [] a in
+            (omega (arith, is), ap x is ∙ has, at ∙ length-members_below n x ∙ ap (count_below x) (sym is))
+      ]
+  | inr lacks ↦
+      let list : members_below (suc n) x ≡ members_below n x = ap (λ (b : Bool). members_below n x ++ (if b then n ∷ [] else [])) lacks ∙ append-nil _ in
+      let size : length (members_below (suc n) x) ≡ length (members_below n x) = ap length list in
+      let old = member_at n x i a (omega (arith, l, size)) (h ∙ ap (λ (l : List ℕ). get_or l i a) list) in
+      (omega (arith, old.0), old.1, old.2)
+]
+
+-- an entry of the order of a header
+pub record IsPlaced (n : ℕ) (columns : List ℕ) (i : ℕ) (p : Placed) : Type 0 where
+  pub small : p.attribute < n
+  pub has : named columns p.attribute ≡ true
+  pub column : p.column ≡ position_or_len (nat_eq p.attribute) columns
+  pub before : i ≡ count_below (named columns) p.attribute
+  pub at : i < length (members_below n (named columns))
+  pub is : get_or (members_below n (named columns)) i p.attribute ≡ p.attribute
+
+placed_at : (n : ℕ) (columns : List ℕ) (h : Header) (i : ℕ) (p : Placed) → IsHeader n columns h → i < length h.order.items → p ≡ get_or h.order.items i p → IsPlaced n columns i p
+placed_at n columns h i p kept l e =
+    let size : length h.order.items ≡ length (members_below n (named columns)) = ap length kept.order ∙ length-map (members_below n (named columns)) (placed columns) in
+    let at : i < length (members_below n (named columns)) = omega (arith, l, size) in
+    let a : ℕ = get_or (members_below n (named columns)) i p.attribute in
+    let same : p ≡ placed columns a =
+    e ∙ ap (λ (o : List Placed). get_or o i p) kept.order ∙ same_default (order_of n columns) i p (placed columns p.attribute) (omega (arith, l, ap length kept.order))
+    ∙ get_or-map (placed columns) (members_below n (named columns)) i p.attribute in
+    let attribute : p.attribute ≡ a = ap (λ (q : Placed). q.attribute) same in
+    let m = member_at n (named columns) i p.attribute at attribute in
+    record {
+      small = m.0;
+      has = m.1;
+      column = ap (λ (q : Placed). q.column) same ∙ ap (λ (b : ℕ). position_or_len (nat_eq b) columns) (sym attribute);
+      before = m.2;
+      at = at;
+      is = sym attribute;
+    }
+
+pub placed_in : (n : ℕ) (columns : List ℕ) (h : Header) (items : List Placed) (i : ℕ) (d : Placed) → IsHeader n columns h → items ≡ h.order.items → i < length items
+    → IsPlaced n columns i (get_or items i d)
+placed_in n columns h items i d kept e l =
+    let within : i < length h.order.items = omega (arith, l, ap length e) in
+    placed_at n columns h i (get_or items i d) kept within (ap (λ (o : List Placed). get_or o i d) e ∙ same_default h.order.items i d (get_or items i d) within)
+
+-- the values of the first attributes that have a column
+pub record Takes (s : Schema) (columns : List ℕ) (fields : List (List ℕ)) (i : ℕ) (values : List (List ℕ)) : Type 0 where
+  pub so_far : values ≡ map (value_of columns fields) (take i (members_below (width_of s) (named columns)))
+  pub typed : (b : ℕ) → HasInteger s columns b → count_below (named columns) b < i → IsIntegerText (value_of columns fields b)
+
+pub takes_none : (s : Schema) (columns : List ℕ) (fields values : List (List ℕ)) → values ≡ [] → Takes s columns fields 0 values
+takes_none s columns fields values e = record { so_far = e; typed = λ b h l. absurd (omega (arith, l)) }
+
+-- two attributes with columns that have as many before them are one
+pub same_count : (x : Places) (a b : ℕ) → x a ≡ true → x b ≡ true → count_below x a ≡ count_below x b → a ≡ b
+same_count x a b ha hb e = elim (cases_lt a b) [
+  | inl less ↦ absurd (omega (arith, count_below-place b a x less ha, e))
+  | inr other ↦ elim (cases_lt b a) [
+    | inl more ↦ absurd (omega (arith, count_below-place a b x more hb, e))
+    | inr same ↦ omega (arith, other, same)
+  ]
+]
+
+pub takes_one : (s : Schema) (columns : List ℕ) (fields values : List (List ℕ)) (i : ℕ) (p : Placed) (value : List ℕ) (column : Column)
+    → Takes s columns fields i values → IsPlaced (width_of s) columns i p → value ≡ slice_index_or fields p.column []
+    → slice_get (types_of s) p.attribute ≡ Some column → (column ≡ Integer → IsIntegerText value)
+    → Takes s columns fields (i + 1) (values ++ value ∷ [])
+takes_one s columns fields values i p value column takes at is type fits =
+    let ms = members_below (width_of s) (named columns) in
+    let here : value ≡ value_of columns fields p.attribute = is ∙ ap (λ (j : ℕ). slice_index_or fields j []) at.column in
+    let next : take (i + 1) ms ≡ take i ms ++ p.attribute ∷ [] =
+    rw add-one (take-suc ms i p.attribute at.at ∙ ap (λ (a : ℕ). take i ms ++ a ∷ []) at.is) in
+    record {
+      so_far = ap (λ (l : List (List ℕ)). l ++ value ∷ []) takes.so_far ∙ ap (λ (v : List ℕ). map (value_of columns fields) (take i ms) ++ v ∷ []) here
+          ∙ sym (ap (map (value_of columns fields)) next ∙ map-append (value_of columns fields) (take i ms) (p.attribute ∷ []));
+      typed = λ b h l. elim (cases_lt (count_below (named columns) b) i) [
+        | inl before ↦ takes.typed b h before
+        | inr last ↦
+            let same : b ≡ p.attribute = same_count (named columns) b p.attribute h.0 at.has (omega (arith, l, last, at.before)) in
+            let integer : Some column ≡ Some Integer = sym type ∙ ap (slice_get (types_of s)) (sym same) ∙ h.1 in
+            subst IsIntegerText (here ∙ ap (value_of columns fields) (sym same)) (fits (some_inj integer))
+      ];
+    }
+  where
+    some_inj : {c d : Column} → Some c ≡ Some d → c ≡ d
+    some_inj e = cc
+
+-- all values are taken
+pub takes_all : (s : Schema) (columns : List ℕ) (fields values : List (List ℕ)) (h : Header) (i row : ℕ) → IsHeader (width_of s) columns h → Takes s columns fields i values → i ≡ length h.order.items
+    → length fields ≡ h.columns → row ≤ 100000 → RowOf s columns row fields (Ok values)
+takes_all s columns fields values h i row kept takes end even few =
+    let ms = members_below (width_of s) (named columns) in
+    let size : length h.order.items ≡ length ms = ap length kept.order ∙ length-map ms (placed columns) in
+    let all : take i ms ≡ ms = take_all i ms (omega (arith, end, size)) in (
+      (even ∙ kept.count, few),
+      takes.so_far ∙ ap (map (value_of columns fields)) all,
+      λ a has.
+          let small : a < width_of s = omega (arith, slice_get_within (types_of s) a Integer has.1, length-columns_on (width_of s) (places s.integers)) in
+          takes.typed a has (omega (arith, count_below-place (width_of s) a (named columns) small has.0, length-members_below (width_of s) (named columns), end, size)),
+    )
+
+-- the value at hand is refused
+pub not_integer : (s : Schema) (columns : List ℕ) (fields values : List (List ℕ)) (h : Header) (i row : ℕ) (p : Placed) (value : List ℕ) (column : Column)
+    → IsHeader (width_of s) columns h → Takes s columns fields i values → IsPlaced (width_of s) columns i p → value ≡ slice_index_or fields p.column []
+    → slice_get (types_of s) p.attribute ≡ Some column → (column ≡ Integer) × (IsIntegerText value → ⊥)
+    → length fields ≡ h.columns → row ≤ 100000 → RowOf s columns row fields (Err (refusal.NotInteger row p.attribute))
+not_integer s columns fields values h i row p value column kept takes at is type breaks even few =
+    let here : value ≡ value_of columns fields p.attribute = is ∙ ap (λ (j : ℕ). slice_index_or fields j []) at.column in (
+      (even ∙ kept.count, few),
+      refl,
+      (at.has, type ∙ ap Some breaks.0),
+      (λ t. breaks.1 (subst IsIntegerText (sym here) t)),
+      λ b less has.
+          takes.typed b has (omega (arith, count_below-place p.attribute b (named columns) less has.0, at.before)),
+    )
+
+-- records of which some were taken, each giving a row
+pub record Progress (s : Schema) (columns : List ℕ) (rs : List (List (List ℕ))) (reader : Reader (Bor (List ℕ))) (rows : Relation) : Type 0 where
+  pub taken : List (List (List ℕ))
+  pub rest : List (List (List ℕ))
+  pub all : rs ≡ taken ++ rest
+  pub as_many : length taken ≡ length rows
+  pub left : HasLeft reader rest
+  pub first : AreFirstRows s columns rs rows
+
+pub progress_none : (s : Schema) (columns : List ℕ) (rs : List (List (List ℕ))) (reader : Reader (Bor (List ℕ))) (rows : Relation) → rows ≡ [] → HasLeft reader rs → Progress s columns rs reader rows
+progress_none s columns rs reader rows e left = subst (λ (r : Relation). Progress s columns rs reader r) (sym e) (record {
+  taken = [];
+  rest = rs;
+  all = refl;
+  as_many = refl;
+  left = left;
+  first = record { within = omega arith; each = λ i l. absurd (omega (arith, l)) };
+})
+
+-- the record that was taken stands at the next place
+next_at : (rs taken more : List (List (List ℕ))) (fields : List (List ℕ)) (n : ℕ) → rs ≡ taken ++ fields ∷ more → length taken ≡ n
+    → (n < length rs) × (slice_index_or rs n [] ≡ fields)
+next_at rs taken more fields n e size =
+    (omega (arith, ap length e ∙ length-append taken (fields ∷ more), size), ap (λ (l : List (List (List ℕ))). slice_index_or l n []) e ∙ ap (λ (j : ℕ). slice_index_or (taken ++ fields ∷ more) j []) (sym size) ∙ get_or-append_seam taken fields more [])
+
+pub progress_one : (s : Schema) (columns : List ℕ) (rs : List (List (List ℕ))) (old new : Reader (Bor (List ℕ))) (b : Bool) (fields : List (List ℕ)) (rows : Relation) (n : ℕ) (t : Tuple)
+    → Progress s columns rs old rows → b ≡ true → TakesRecord b old new fields → n ≡ length rows → RowOf s columns (n + 1) fields (Ok t)
+    → Progress s columns rs new (rows ++ t ∷ [])
+progress_one s columns rs old new b fields rows n t p is takes count row =
+    let takes : TakesRecord true old new fields = subst (λ (t : Bool). TakesRecord t old new fields) is takes in
+    let (more, rest, left) = takes p.rest p.left in
+    let all : rs ≡ p.taken ++ fields ∷ more = p.all ∙ ap (λ (l : List (List (List ℕ))). p.taken ++ l) rest in
+    let (within, at) = next_at rs p.taken more fields (length rows) all p.as_many in
+    record {
+      taken = p.taken ++ fields ∷ [];
+      rest = more;
+      all = all ∙ sym (append_assoc p.taken (fields ∷ []) more);
+      as_many = length-append p.taken (fields ∷ []) ∙ ap (λ (m : ℕ). m + 1) p.as_many ∙ sym (length-append rows (t ∷ []));
+      left = left;
+      first = record {
+        within = omega (arith, length-append rows (t ∷ []), within);
+        each = λ i l. elim (cases_lt i (length rows)) [
+          | inl front ↦ subst (λ (u : Tuple). RowAt s columns rs i (Ok u)) (sym (get_or_append_left rows (t ∷ []) [] i front)) (p.first.each i front)
+          | inr last ↦
+              let here : length rows ≡ i = omega (arith, l, last, length-append rows (t ∷ [])) in
+              subst (λ (j : ℕ). RowAt s columns rs j (Ok (slice_index_or (rows ++ t ∷ []) j []))) here
+              (rw (get_or-append_seam rows t [] [], at, ← count) row)
+        ];
+      };
+    }
+
+pub rows_read : (s : Schema) (columns : List ℕ) (rs : List (List (List ℕ))) (old new : Reader (Bor (List ℕ))) (b : Bool) (fields : List (List ℕ)) (rows : Relation)
+    → Progress s columns rs old rows → b ≡ false → TakesRecord b old new fields → RowsUnder s (Ok columns) rs (Ok rows)
+rows_read s columns rs old new b fields rows p is takes =
+    let takes : TakesRecord false old new fields = subst (λ (t : Bool). TakesRecord t old new fields) is takes in
+    let none = takes p.rest p.left in
+    (p.first, sym p.as_many ∙ ap length (sym (append-nil p.taken) ∙ ap (λ (l : List (List (List ℕ))). p.taken ++ l) (sym none) ∙ sym p.all))
+
+pub row_refused : (s : Schema) (columns : List ℕ) (rs : List (List (List ℕ))) (old new : Reader (Bor (List ℕ))) (b : Bool) (fields : List (List ℕ)) (rows : Relation) (n : ℕ) (e : RowRefusal)
+    → Progress s columns rs old rows → b ≡ true → TakesRecord b old new fields → n ≡ length rows → RowOf s columns (n + 1) fields (Err e)
+    → RowsUnder s (Ok columns) rs (Err e)
+row_refused s columns rs old new b fields rows n e p is takes count row =
+    let takes : TakesRecord true old new fields = subst (λ (t : Bool). TakesRecord t old new fields) is takes in
+    let (more, rest, left) = takes p.rest p.left in
+    let all : rs ≡ p.taken ++ fields ∷ more = p.all ∙ ap (λ (l : List (List (List ℕ))). p.taken ++ l) rest in
+    let (within, at) = next_at rs p.taken more fields (length rows) all p.as_many in
+    let here : RowOf s columns (length rows + 1) (slice_index_or rs (length rows) []) (Err e) =
+    subst (λ (f : List (List ℕ)). RowOf s columns (length rows + 1) f (Err e)) (sym at) (subst (λ (m : ℕ). RowOf s columns (m + 1) fields (Err e)) count row) in
+    (rows, p.first, within, here)
+
+-- the attributes without a column, as the sets of the code have them
+pub lacking : (n m : ℕ) (full scheme x : Places) → n ≡ m → Same full (below n) → Same x (minus full scheme) → Same x (minus (below m) scheme)
+lacking n m full scheme x e whole rest k = rest k ∙ ap (λ (b : Bool). b && not (scheme k)) (whole k ∙ ap (λ (j : ℕ). nat_lt k j) e)
+
+pub on_ok : {T : Type 0} (P Q : T → Type 0) (r : Result T RowRefusal) → ((v : T) → P v → Q v) → IfOk r P → IfOk r Q
+on_ok P Q (Ok v) f h = f v h
+on_ok P Q (Err e) f h = tt
+
+pub on_err : {T : Type 0} (P Q : RowRefusal → Type 0) (r : Result T RowRefusal) → ((e : RowRefusal) → P e → Q e) → IfErr r P → IfErr r Q
+on_err P Q (Ok v) f h = tt
+on_err P Q (Err e) f h = f e h
+
+-- the members of a set that has all places below n
+whole_count : (n : ℕ) (x : Places) → Within (below n) x → (k : ℕ) → k ≤ n → count_below x k ≡ k
+whole_count n x within k l =
+    count_below-equal k x (below k) (λ j m. within j (grind (arith, l, m)) ∙ sym (grind (arith, m))) ∙ count_below-below k k (omega arith)
+
+-- a row of a text in which each attribute has a column
+row_whole : (s : Schema) (columns : List ℕ) (row : ℕ) (fields : List (List ℕ)) (t : Tuple) → Within (below (width_of s)) (named columns) → RowOf s columns row fields (Ok t)
+    → (length t ≡ width_of s) × ((k : ℕ) → slice_get (types_of s) k ≡ Some Integer → IsIntegerText (value_at t k))
+row_whole s columns row fields t within (fits, is, typed) =
+    let n : ℕ = width_of s in
+    let ms : List ℕ = members_below n (named columns) in
+    let size : length ms ≡ n = length-members_below n (named columns) ∙ whole_count n (named columns) within n (omega arith) in (
+      ap length is ∙ length-map ms (value_of columns fields) ∙ size,
+      λ k integer.
+          let small : k < n = omega (arith, slice_get_within (types_of s) k Integer integer, length-columns_on n (places s.integers)) in
+          let has : named columns k ≡ true = within k (grind (arith, small)) in
+          let at : get_or ms k k ≡ k = ap (λ (j : ℕ). get_or ms j k) (sym (whole_count n (named columns) within k (omega (arith, small)))) ∙ members_below-at n (named columns) k k small has in
+          let long : k < length (map (value_of columns fields) ms) = omega (arith, length-map ms (value_of columns fields), size, small) in
+          let value : value_at t k ≡ value_of columns fields k =
+          ap (λ (u : Tuple). value_at u k) is ∙ same_default (map (value_of columns fields) ms) k [] (value_of columns fields k) long ∙ get_or-map (value_of columns fields) ms k k ∙ ap (value_of columns fields) at in
+          subst IsIntegerText (sym value) (typed k (has, integer)),
+    )
+
+whole_table : (s : Schema) (rs : List (List (List ℕ))) (rows : Relation) → TableOf s (IsHeaderOf (width_of s) (names_of s)) rs (Ok rows)
+    → (i : ℕ) → i < length rows
+    → (length (slice_index_or rows i []) ≡ width_of s) × ((k : ℕ) → slice_get (types_of s) k ≡ Some Integer → IsIntegerText (value_at (slice_index_or rows i []) k))
+whole_table s [] rows h i l = cc
+whole_table s (header ∷ records) rows (Err e, means, under) i l = cc
+whole_table s (header ∷ records) rows (Ok columns, means, under) i l =
+    row_whole s columns (i + 1) (slice_index_or records i []) (slice_index_or rows i []) means.1 (under.0.each i l)
+
+-- the rows have a value for each attribute, and fit the types of the columns
+pub rows_over : (s : Schema) (text : List ℕ) (rows : Relation) → RowsOf s text (Ok rows) → IsOver (width_of s) rows
+rows_over s text rows h k d l = ap length (same_default rows k d [] l) ∙ (whole_table s (records_of text) rows h k l).0
+
+pub rows_typed : (s : Schema) (text : List ℕ) (rows : Relation) → RowsOf s text (Ok rows) → TypedFor s rows
+rows_typed s text rows h k d l j integer =
+    subst (λ (t : Tuple). IsIntegerText (value_at t j)) (sym (same_default rows k d [] l)) ((whole_table s (records_of text) rows h k l).1 j integer)

@@ -1,0 +1,22 @@
+use Rattle.std.proofs.Common.{◌≡◌, ◌+◌, ◌++◌, ◌∷◌, [], ℕ, List, length, slice_index_or, sym, ap, subst, ◌∙◌}
+use Rattle.std.proofs.lemmas.List.{length-append}
+use Rattle.attr_sets.specs.Places.{only}
+use Rattle.csv_rows.specs.Numberings.{AreGroups}
+use Rattle.csv_rows.proofs.NumberingLemmas.{columns_even, one_column_more}
+use Rattle.csv_rows.proofs.interned.Interned.intern.Goals as goal
+
+pub loop-place-preserved : goal.loop-place-preserved
+loop-place-preserved c =
+    let old = c.loop-place.invariant in
+    let pushed : c.push.new.self.items ≡ c.loop-place.columns.items ++ c.in_ok-numbers.numbers.items ∷ [] = c.in_ok-push.ensures.items in
+    record {
+      width = ap length pushed ∙ length-append c.loop-place.columns.items (c.in_ok-numbers.numbers.items ∷ []) ∙ ap (λ (m : ℕ). m + 1) old.width;
+      codes = λ k l. subst (λ (xs : List (List ℕ)). AreGroups c.args.rows.now (only k) (slice_index_or xs k [])) (sym pushed)
+          (one_column_more c.args.rows.now c.loop-place.columns.items c.in_ok-numbers.numbers.items c.loop-place.place old.width old.codes c.in_ok-numbers.ensures.groups k l);
+    }
+
+pub invariant_of-result : goal.invariant_of-result
+invariant_of-result c = record {
+  few = c.requires.few;
+  even = columns_even c.args.rows.now c.loop-place.columns.items c.loop-place.place c.loop-place.invariant.width c.loop-place.invariant.codes;
+}

@@ -1,0 +1,17 @@
+use Rattle.std.proofs.Common.{◌≤◌, ◌-◌, ℕ, List, length}
+use Rattle.dep_model.specs.Schemas.{width_of}
+use Rattle.csv_rows.specs.Records.{HasLeft}
+use Rattle.csv_rows.specs.Columns.{IsHeader}
+use Rattle.csv_rows.proofs.ReadingLemmas.{Progress}
+use Rattle.csv_rows.proofs.reading.read_body.Given as goal
+
+-- the records so far gave these rows
+abbrev pub invariant-records : goal.invariant-records
+invariant-records l = record {
+  few : length l.rows.items ≤ 100000;
+  progress : (rs : List (List (List ℕ))) (columns : List ℕ) → HasLeft l.fn.reader rs → IsHeader (width_of l.schema) columns l.header
+      → Progress l.schema columns rs l.reader l.rows.items;
+}
+
+abbrev pub decreases-records : goal.decreases-records
+decreases-records l = 100000 - length l.rows.items

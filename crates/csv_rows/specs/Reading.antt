@@ -1,0 +1,102 @@
+use Rattle.std.specs.Prelude.{◌≡◌, ◌≢◌, ◌+◌, ◌<◌, ◌≤◌, ℕ, true, List, [], ◌∷◌, length, map, nat_eq, slice_index_or, slice_get, Some, Result, Ok, Err}
+use Rattle.std.specs.List.{position_or_len}
+use Rattle.attr_sets.specs.Places.{Same}
+use Rattle.attr_sets.specs.Sets.{places}
+use Rattle.attr_sets.specs.declared.set.AttrSet.{AttrSet}
+use Rattle.dep_model.specs.Tuples.{Tuple, Relation}
+use Rattle.dep_model.specs.Projections.{members_below}
+use Rattle.dep_model.specs.Integers.{IsIntegerText}
+use Rattle.dep_model.specs.declared.schema.Schema.{Schema}
+use Rattle.dep_model.specs.declared.column.Column.TheVariants.{Integer}
+use Rattle.dep_model.specs.Schemas.{names_of, width_of, columns_of as types_of}
+use Rattle.csv_rows.specs.declared.refusal.RowRefusal.{RowRefusal}
+use Rattle.csv_rows.specs.declared.refusal.RowRefusal.TheVariants as refusal
+use Rattle.csv_rows.specs.declared.reading.TheConstants.{MOST_ROWS}
+use Rattle.std.specs.Borrow.{Bor}
+use Rattle.csv.specs.declared.reader.Reader.{Reader}
+use Rattle.csv_rows.specs.declared.header.Header.{Header}
+use Rattle.csv_rows.specs.Records.{records_of, HasLeft}
+use Rattle.csv_rows.specs.Columns.{named, columns_of, IsHeaderOf, IsHeader}
+
+-- the value of an attribute in a record: the field in its column
+abbrev pub value_of : List ℕ → List (List ℕ) → ℕ → List ℕ
+value_of columns fields a = slice_index_or fields (position_or_len (nat_eq a) columns) []
+
+-- the tuple of a record: the value of each attribute that has a column, in the order of the schema
+abbrev pub tuple_of : ℕ → List ℕ → List (List ℕ) → Tuple
+tuple_of n columns fields = map (value_of columns fields) (members_below n (named columns))
+
+-- a record has a value for an attribute whose column in the schema is an integer one
+abbrev pub HasInteger : Schema → List ℕ → ℕ → Type 0
+HasInteger s columns a = (named columns a ≡ true) × (slice_get (types_of s) a ≡ Some Integer)
+
+-- a record of as many fields as the header, among the most rows that a file may have
+abbrev pub Fits : List ℕ → ℕ → List (List ℕ) → Type 0
+Fits columns row fields = (length fields ≡ length columns) × (row ≤ MOST_ROWS)
+
+-- what a record gives that stands in this row, from 1
+abbrev pub RowOf : Schema → List ℕ → ℕ → List (List ℕ) → Result Tuple RowRefusal → Type 0
+RowOf s columns row fields (Ok t) =
+    Fits columns row fields × (t ≡ tuple_of (width_of s) columns fields)
+    × ((a : ℕ) → HasInteger s columns a → IsIntegerText (value_of columns fields a))
+RowOf s columns row fields (Err (refusal.UnevenRow r)) = (r ≡ row) × (length fields ≢ length columns)
+RowOf s columns row fields (Err refusal.TooManyRows) = (length fields ≡ length columns) × (MOST_ROWS < row)
+RowOf s columns row fields (Err (refusal.NotInteger r a)) =
+    Fits columns row fields × (r ≡ row) × HasInteger s columns a × (IsIntegerText (value_of columns fields a) → ⊥)
+    × ((b : ℕ) → b < a → HasInteger s columns b → IsIntegerText (value_of columns fields b))
+RowOf s columns row fields (Err refusal.NoHeader) = ⊥
+RowOf s columns row fields (Err (refusal.UnknownColumn c)) = ⊥
+RowOf s columns row fields (Err (refusal.DoubleColumn c)) = ⊥
+RowOf s columns row fields (Err (refusal.MissingColumn a)) = ⊥
+RowOf s columns row fields (Err refusal.Memory) = ⊥
+
+-- what the record at a place gives
+abbrev pub RowAt : Schema → List ℕ → List (List (List ℕ)) → ℕ → Result Tuple RowRefusal → Type 0
+RowAt s columns records i result = RowOf s columns (i + 1) (slice_index_or records i []) result
+
+-- the first rows of a text are these, one for each of the first records
+pub record AreFirstRows (s : Schema) (columns : List ℕ) (records : List (List (List ℕ))) (rows : Relation) : Type 0 where
+  pub within : length rows ≤ length records
+  pub each : (i : ℕ) → i < length rows → RowAt s columns records i (Ok (slice_index_or rows i []))
+
+-- what the records under a header give: a row each, or the refusal of the first that gives one
+abbrev pub RowsUnder : Schema → Result (List ℕ) RowRefusal → List (List (List ℕ)) → Result Relation RowRefusal → Type 0
+RowsUnder s (Err e) records result = result ≡ Err e
+RowsUnder s (Ok columns) records (Ok rows) = AreFirstRows s columns records rows × (length rows ≡ length records)
+RowsUnder s (Ok columns) records (Err e) =
+    (rows : Relation) × AreFirstRows s columns records rows × (length rows < length records) × RowAt s columns records (length rows) (Err e)
+
+-- what the records of a text give, where a header means its columns so
+abbrev pub TableOf : Schema → (List (List ℕ) → Result (List ℕ) RowRefusal → Type 0) → List (List (List ℕ)) → Result Relation RowRefusal → Type 0
+TableOf s Means [] result = result ≡ Err refusal.NoHeader
+TableOf s Means (header ∷ records) result =
+    (columns : Result (List ℕ) RowRefusal) × Means header columns × RowsUnder s columns records result
+
+-- the rows of a CSV text in which each attribute has a column, or the first refusal
+abbrev pub RowsOf : Schema → List ℕ → Result Relation RowRefusal → Type 0
+RowsOf s text result = TableOf s (IsHeaderOf (width_of s) (names_of s)) (records_of text) result
+
+-- the same of a text in which any of the attributes have columns
+abbrev pub PartOf : Schema → List ℕ → Result Relation RowRefusal → Type 0
+PartOf s text result = TableOf s (λ header columns. columns ≡ columns_of (names_of s) header) (records_of text) result
+
+-- the attributes that the header of a text names
+abbrev pub HasScheme : Schema → List ℕ → AttrSet → Type 0
+HasScheme s text scheme =
+    (header : List (List ℕ)) × (records : List (List (List ℕ))) × (records_of text ≡ header ∷ records)
+    × (columns : List ℕ) × (columns_of (names_of s) header ≡ Ok columns) × Same (places scheme) (named columns)
+
+-- the header of a text was read, and the records below it are still to come
+pub record ReadsHeader (s : Schema) (rs : List (List (List ℕ))) (reader : Reader (Bor (List ℕ))) (h : Header) : Type 0 where
+  pub fields : List (List ℕ)
+  pub records : List (List (List ℕ))
+  pub all : rs ≡ fields ∷ records
+  pub columns : List ℕ
+  pub means : columns_of (names_of s) fields ≡ Ok columns
+  pub kept : IsHeader (width_of s) columns h
+  pub left : HasLeft reader records
+
+-- there is no header, or it is refused
+abbrev pub RefusesHeader : List (List ℕ) → List (List (List ℕ)) → RowRefusal → Type 0
+RefusesHeader names [] e = e ≡ refusal.NoHeader
+RefusesHeader names (header ∷ records) e = columns_of names header ≡ Err e

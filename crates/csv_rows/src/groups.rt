@@ -1,0 +1,117 @@
+ghost use Rattle.std.specs.Prelude.{◌≡◌, ◌<◌, ◌^◌, ℕ, true, List, length, replicate, IfOk};
+ghost use Rattle.attr_sets.specs.Places.{Places, Within, below, only, union};
+ghost use Rattle.attr_sets.specs.Sets.{places};
+ghost use Rattle.csv_rows.specs.Interning.{IsInterned, firsts_of, groups_of, places_of};
+ghost use Rattle.csv_rows.specs.Numberings.{AreFirsts, AreGroups, AreInOrder, AreNumbered, number_at};
+ghost use Rattle.dep_model.specs.Tuples.{Relation};
+
+use crate::Interned;
+use attr_sets::{AttrSet, PLACES};
+use dep_model::WantMemory;
+use indexmap::IndexSet;
+use std::alloc::Global;
+
+/// Rows grouped by what they have on a set of attributes. The groups are numbered from 0 in the order
+/// of their first rows.
+#[derive(Debug, Drop)]
+pub struct Groups {
+    numbers: Vec<u32>,
+    firsts: Vec<u32>,
+}
+
+impl Groups {
+    /// The groups of rows that agree on a set.
+    pub fn of(alloc: Global, codes: &Interned, set: AttrSet) -> Result<Groups, WantMemory>
+        requires within { Within (places set) (below (places_of codes.now)) }
+        ensures groups { (n : ℕ) (rows : Relation) → IsInterned n rows codes.now → IfOk result (λ g. AreGroups rows (places set) (groups_of g)) }
+        ensures firsts { (n : ℕ) (rows : Relation) → IsInterned n rows codes.now → IfOk result (λ g. AreFirsts (groups_of g) (firsts_of g)) }
+    {
+        let mut numbers = zeros(alloc, codes.count())?;
+        for place in 0..PLACES as u8 {
+            if set.has(place) {
+                numbers = refined(alloc, &numbers, codes.column(place))?;
+            }
+        }
+        let firsts = first_rows(alloc, &numbers)?;
+        Ok(Groups { numbers, firsts })
+    }
+
+    /// The group of each row.
+    pub fn numbers(&self) -> &[u32]
+        ensures numbers { result.now ≡ groups_of self.now }
+    {
+        &self.numbers
+    }
+
+    /// The first row of each group.
+    pub fn firsts(&self) -> &[u32]
+        ensures firsts { result.now ≡ firsts_of self.now }
+    {
+        &self.firsts
+    }
+}
+
+// One group of this many rows.
+fn zeros(alloc: Global, count: usize) -> Result<Vec<u32>, WantMemory>
+    ensures zeros { IfOk result (λ v. v.items ≡ replicate count 0) }
+{
+    let mut numbers = Vec::new(alloc);
+    numbers.resize(count, 0)?;
+    Ok(numbers)
+}
+
+// The groups of rows that are in one group and have one number in a column.
+fn refined(alloc: Global, groups: &[u32], codes: &[u32]) -> Result<Vec<u32>, WantMemory>
+    requires same { length groups.now ≡ length codes.now }
+    requires few { length groups.now < 2 ^ 32 }
+    ensures count { IfOk result (λ v. length v.items ≡ length groups.now) }
+    ensures groups { (rows : Relation) (x : Places) (k : ℕ) → AreGroups rows x groups.now → AreGroups rows (only k) codes.now
+        → IfOk result (λ v. AreGroups rows (union x (only k)) v.items) }
+{
+    if are_zeros(groups) {
+        return Ok(Vec::from_slice(alloc, codes)?);
+    }
+    let numbers = numbered_pairs(alloc, groups, codes)?;
+    Ok(numbers)
+}
+
+// Whether all is one group. It is a matter of speed alone: the column then numbers the rows itself.
+fn are_zeros(groups: &[u32]) -> bool
+    ensures zeros { result ≡ true → (i : ℕ) → i < length groups.now → number_at groups.now i ≡ 0 }
+{
+    for group in groups {
+        if *group != 0 {
+            return false;
+        }
+    }
+    true
+}
+
+// The number of each pair, in the order of first occurrence.
+fn numbered_pairs(alloc: Global, first: &[u32], second: &[u32]) -> Result<Vec<u32>, WantMemory>
+    requires same { length first.now ≡ length second.now }
+    requires few { length first.now < 2 ^ 32 }
+    ensures numbered { IfOk result (λ v. (seen : List (ℕ × ℕ)) × AreNumbered (λ i. (number_at first.now i, number_at second.now i)) (length first.now) seen v.items) }
+{
+    let mut pairs: IndexSet<(u32, u32)> = IndexSet::new(alloc);
+    let mut numbers = Vec::with_capacity(alloc, first.len())?;
+    for i in 0..first.len() {
+        let (number, _) = pairs.insert_full((first[i], second[i]))?;
+        numbers.push(number as u32)?;
+    }
+    Ok(numbers)
+}
+
+// The first row of each group.
+fn first_rows(alloc: Global, numbers: &[u32]) -> Result<Vec<u32>, WantMemory>
+    requires few { length numbers.now < 2 ^ 32 }
+    ensures firsts { AreInOrder numbers.now → IfOk result (λ v. AreFirsts numbers.now v.items) }
+{
+    let mut firsts = Vec::new(alloc);
+    for i in 0..numbers.len() {
+        if numbers[i] as usize == firsts.len() {
+            firsts.push(i as u32)?;
+        }
+    }
+    Ok(firsts)
+}

@@ -1,0 +1,105 @@
+ghost use Rattle.std.specs.Prelude.{◌≡◌, ◌≢◌, ◌<◌, ◌≤◌, ℕ, List, [], ◌∷◌, length, slice_index_or, nat_eq, position, IfOk, IfErr, Ok, Err};
+ghost use Rattle.attr_sets.specs.Places.{count_below};
+ghost use Rattle.attr_sets.specs.Sets.{places};
+ghost use Rattle.attr_sets.specs.declared.set.TheConstants.{PLACES};
+ghost use Rattle.csv.specs.Records.{fields_of};
+ghost use Rattle.csv_rows.specs.Columns.{column_of, columns_of, order_of, IsHeader};
+ghost use Rattle.dep_model.specs.Schemas.{names_of, place_named, width_of};
+ghost use Rattle.csv_rows.specs.declared.refusal.RowRefusal.TheVariants.{Memory};
+
+use crate::RowRefusal;
+use attr_sets::AttrSet;
+use csv::ByteRecord;
+use dep_model::Schema;
+use std::alloc::Global;
+
+// An attribute and its column, from 0.
+#[derive(Clone, Copy, Debug)]
+pub struct Placed {
+    pub attribute: u8,
+    pub column: usize,
+}
+
+// What rows want of a header: how many columns it has, which attributes have one, and these in the
+// order of the schema, each with its column.
+#[derive(Drop)]
+pub struct Header {
+    pub columns: usize,
+    pub scheme: AttrSet,
+    pub order: Vec<Placed>,
+}
+
+impl Header {
+    // The header of these fields.
+    pub fn make(alloc: Global, schema: &Schema, fields: &ByteRecord) -> Result<Header, RowRefusal>
+        ensures ok { IfOk result (λ h. (columns : List ℕ) × (columns_of (names_of schema.now) (fields_of fields.now) ≡ Ok columns)
+            × IsHeader (width_of schema.now) columns h) }
+        ensures err { IfErr result (λ e. e ≢ Memory → columns_of (names_of schema.now) (fields_of fields.now) ≡ Err e) }
+    {
+        let mut columns = Vec::new(alloc);
+        let mut scheme = AttrSet::empty();
+        for i in 0..fields.len() {
+            let column = columns.len() as u32 + 1;
+            let attribute = match attribute_of(schema, scheme, field(fields, i), column) {
+                Ok(attribute) => attribute,
+                Err(refusal) => return Err(refusal),
+            };
+            scheme = scheme.with(attribute);
+            columns.push(attribute)?;
+        }
+        Ok(Header {
+            columns: columns.len(),
+            scheme,
+            order: in_order(alloc, schema.width(), &columns)?,
+        })
+    }
+}
+
+// The attribute of a column, where the columns before it have those of `before`.
+fn attribute_of(
+    schema: &Schema,
+    before: AttrSet,
+    field: &[u8],
+    column: u32,
+) -> Result<u8, RowRefusal>
+    ensures attribute { result ≡ column_of column (places before) (place_named (names_of schema.now) field.now) }
+    ensures within { IfOk result (λ a. a < width_of schema.now) }
+{
+    match schema.place_of(field) {
+        None => Err(RowRefusal::UnknownColumn { column }),
+        Some(attribute) if before.has(attribute) => Err(RowRefusal::DoubleColumn { column }),
+        Some(attribute) => Ok(attribute),
+    }
+}
+
+// The attributes that have a column, ascending, each with it.
+fn in_order(alloc: Global, width: u8, columns: &[u8]) -> Result<Vec<Placed>, RowRefusal>
+    ensures order { IfOk result (λ v. v.items ≡ order_of width columns.now) }
+    ensures memory { IfErr result (λ e. e ≡ Memory) }
+{
+    let mut order = Vec::new(alloc);
+    for attribute in 0..width {
+        match column_of(columns, attribute) {
+            Some(column) => order.push(Placed { attribute, column })?,
+            None => {}
+        }
+    }
+    Ok(order)
+}
+
+// The first column of an attribute.
+fn column_of(columns: &[u8], attribute: u8) -> Option<usize>
+    ensures column { result ≡ position (nat_eq attribute) columns.now }
+{
+    columns.iter().position(|a| attribute == *a)
+}
+
+// The field at a place; beyond the last one nothing.
+pub fn field(fields: &ByteRecord, i: usize) -> &[u8]
+    ensures value { result.now ≡ slice_index_or (fields_of fields.now) i [] }
+{
+    match fields.get(i) {
+        Some(field) => field,
+        None => &[],
+    }
+}

@@ -1,0 +1,140 @@
+use crate::{RowRefusal, print_rows, read_part, read_rows};
+use schema_reader::read_schema;
+use std::test::Fail;
+
+#[test]
+fn rows_in_the_order_of_the_schema(rt: HostRuntime) -> Result<(), Fail> {
+    let alloc = rt.alloc();
+    let schema = read_schema(alloc, b"attributes ZIP CITY").expect(&rt, "a schema");
+    let cases = [
+        ("ZIP,CITY\n53111,Bonn\n", "ZIP,CITY\n53111,Bonn\n"),
+        ("city,Zip\r\nBonn,53111\r\n", "ZIP,CITY\n53111,Bonn\n"),
+        ("\u{feff}ZIP,CITY\n1,2", "ZIP,CITY\n1,2\n"),
+        ("\n\nZIP,CITY\n\n1,2\n\n\n3,4\n\n", "ZIP,CITY\n1,2\n3,4\n"),
+        (
+            "ZIP,CITY\n\"a \"\"b\"\"\",\"c,\nd\"\n",
+            "ZIP,CITY\n\"a \"\"b\"\"\",\"c,\nd\"\n",
+        ),
+        ("ZIP,CITY\n , x \n,\n", "ZIP,CITY\n , x \n,\n"),
+        ("ZIP,CITY\n", "ZIP,CITY\n"),
+        ("\"ZIP\",CITY", "ZIP,CITY\n"),
+    ];
+    for (text, want) in cases {
+        let rows = read_rows(alloc, &schema, text.as_bytes()).expect(&rt, "rows");
+        let printed = print_rows(alloc, &schema, &rows)?;
+        assert_eq!(rt; printed.as_slice(), want.as_bytes());
+        let again = read_rows(alloc, &schema, &printed).expect(&rt, "rows");
+        let reprinted = print_rows(alloc, &schema, &again)?;
+        assert_eq!(rt; reprinted.as_slice(), want.as_bytes());
+    }
+    Ok(())
+}
+
+#[test]
+fn refusals_in_their_order(rt: HostRuntime) -> Result<(), Fail> {
+    let alloc = rt.alloc();
+    let schema = read_schema(alloc, b"attributes ZIP CITY").expect(&rt, "a schema");
+    let cases = [
+        ("", RowRefusal::NoHeader),
+        ("\n\r\n", RowRefusal::NoHeader),
+        ("ZIP,TOWN,ZIP\n", RowRefusal::UnknownColumn { column: 2 }),
+        ("ZIP,zip,TOWN\n", RowRefusal::DoubleColumn { column: 2 }),
+        ("ZIP,\n", RowRefusal::UnknownColumn { column: 2 }),
+        (
+            "\u{feff}\u{feff}ZIP,CITY\n",
+            RowRefusal::UnknownColumn { column: 1 },
+        ),
+        ("ZIP\n1,2\n", RowRefusal::MissingColumn { attribute: 1 }),
+        ("City\n", RowRefusal::MissingColumn { attribute: 0 }),
+        ("ZIP,CITY\n1,2\n1\n", RowRefusal::UnevenRow { row: 2 }),
+        ("ZIP,CITY\n1,2,3\n", RowRefusal::UnevenRow { row: 1 }),
+    ];
+    for (text, want) in cases {
+        match read_rows(alloc, &schema, text.as_bytes()) {
+            Err(refusal) => assert_eq!(rt; refusal, want),
+            Ok(_) => assert!(rt; false),
+        }
+    }
+    Ok(())
+}
+
+#[test]
+fn integers_in_integer_columns(rt: HostRuntime) -> Result<(), Fail> {
+    let alloc = rt.alloc();
+    let schema = read_schema(alloc, b"version 2\ninteger ID\ntext NAME\ninteger AGE\n").expect(
+        &rt, "a schema",
+    );
+    let cases = [
+        ("NAME,ID,AGE\nAnn,7,0\nBo,-9223372036854775808,1\n", None),
+        (
+            "NAME,ID,AGE\nAnn,07,0\n",
+            Some(RowRefusal::NotInteger {
+                row: 1,
+                attribute: 0,
+            }),
+        ),
+        (
+            "NAME,ID,AGE\nAnn,7,0\nBo,-0,x\n",
+            Some(RowRefusal::NotInteger {
+                row: 2,
+                attribute: 0,
+            }),
+        ),
+        (
+            "NAME,ID,AGE\nAnn,7,\n",
+            Some(RowRefusal::NotInteger {
+                row: 1,
+                attribute: 2,
+            }),
+        ),
+        (
+            "NAME,ID,AGE\nAnn,9223372036854775808,1,\n",
+            Some(RowRefusal::UnevenRow { row: 1 }),
+        ),
+    ];
+    for (text, want) in cases {
+        match read_rows(alloc, &schema, text.as_bytes()) {
+            Err(refusal) => assert!(rt; want == Some(refusal)),
+            Ok(_) => assert!(rt; want == None),
+        }
+    }
+    Ok(())
+}
+
+#[test]
+fn part_of_the_columns(rt: HostRuntime) -> Result<(), Fail> {
+    let alloc = rt.alloc();
+    let schema = read_schema(alloc, b"attributes A B C").expect(&rt, "a schema");
+    let part = read_part(alloc, &schema, b"c,A\n1,2\n").expect(&rt, "a part");
+    assert_eq!(rt; part.scheme.len(), 2);
+    assert!(rt; !part.scheme.has(1));
+    assert!(rt; part.rows.len() == 1 && part.rows[0].len() == 2);
+    assert_eq!(rt; part.rows[0].value(0).bytes(), b"2".as_slice());
+    Ok(())
+}
+
+#[test]
+fn as_many_rows_as_may_be(rt: HostRuntime) -> Result<(), Fail> {
+    let alloc = rt.alloc();
+    let schema = read_schema(alloc, b"attributes A").expect(&rt, "a schema");
+    let mut text = Vec::from_slice(alloc, b"A\n")?;
+    for _ in 0..100_000 {
+        text.extend_from_slice(b"1\n")?;
+    }
+    let rows = read_rows(alloc, &schema, &text).expect(&rt, "rows");
+    assert_eq!(rt; rows.len(), 100_000);
+    let cases = [
+        ("\n", None),
+        ("1\n", Some(RowRefusal::TooManyRows)),
+        ("1,2\n", Some(RowRefusal::UnevenRow { row: 100_001 })),
+    ];
+    for (last, want) in cases {
+        let mut whole = Vec::from_slice(alloc, &text)?;
+        whole.extend_from_slice(last.as_bytes())?;
+        match read_rows(alloc, &schema, &whole) {
+            Err(refusal) => assert!(rt; want == Some(refusal)),
+            Ok(_) => assert!(rt; want == None),
+        }
+    }
+    Ok(())
+}

@@ -1,0 +1,57 @@
+use dep_model::WantMemory;
+use std::alloc::{AllocError, AllocFailed};
+
+/// Why a CSV text is refused.
+#[derive(Clone, Copy, Debug, PartialEq, Eq, Hash)]
+pub enum RowRefusal {
+    /// 1: the text has no record.
+    NoHeader,
+    /// 2: the header's field in this column, from 1, is the name of no attribute.
+    UnknownColumn { column: u32 },
+    /// 3: the attribute of this column, from 1, has a column further left.
+    DoubleColumn { column: u32 },
+    /// 4: the attribute has no column, and each one before it has one.
+    MissingColumn { attribute: u8 },
+    /// 5: the row, from 1, has another number of fields than the header.
+    UnevenRow { row: u32 },
+    /// 6: one row more than a file may have.
+    TooManyRows,
+    /// 7: in the row, from 1, the value of an integer column is no integer text. The attribute is
+    /// the least such one.
+    NotInteger { row: u32, attribute: u8 },
+    /// Want of memory.
+    Memory,
+}
+
+impl From<AllocError> for RowRefusal {
+    ghost use Rattle.csv_rows.specs.declared.refusal.RowRefusal.TheVariants.{Memory};
+    ghost use Rattle.std.specs.Prelude.{◌≡◌};
+
+    ghost from_gives = { λ _ e. e ≡ Memory };
+
+    fn from(_error: AllocError) -> Self {
+        RowRefusal::Memory
+    }
+}
+
+impl<T: Drop> From<AllocFailed<T>> for RowRefusal {
+    ghost use Rattle.csv_rows.specs.declared.refusal.RowRefusal.TheVariants.{Memory};
+    ghost use Rattle.std.specs.Prelude.{◌≡◌};
+
+    ghost from_gives = { λ _ e. e ≡ Memory };
+
+    fn from(_error: AllocFailed<T>) -> Self {
+        RowRefusal::Memory
+    }
+}
+
+impl From<WantMemory> for RowRefusal {
+    ghost use Rattle.csv_rows.specs.declared.refusal.RowRefusal.TheVariants.{Memory};
+    ghost use Rattle.std.specs.Prelude.{◌≡◌};
+
+    ghost from_gives = { λ _ e. e ≡ Memory };
+
+    fn from(_error: WantMemory) -> Self {
+        RowRefusal::Memory
+    }
+}
