@@ -85,24 +85,29 @@ left_more n kept later rest left d fails others = record {
     needed_at (b ∷ before) after e same implied =
         let parts = cons_parts d b left (before ++ e ∷ after) same in
         let joined : kept ++ (b ∷ (before ++ after)) ≡ (kept ++ d ∷ []) ++ (before ++ after) =
-            ap (λ (f : Dependency). kept ++ (f ∷ (before ++ after))) (sym parts.0) ∙ sym (append_assoc kept (d ∷ []) (before ++ after)) in
+        ap (λ (f : Dependency). kept ++ (f ∷ (before ++ after))) (sym parts.0) ∙ sym (append_assoc kept (d ∷ []) (before ++ after)) in
         others.needed before after e parts.1 (subst (λ (es : List Dependency). Implies n es e) joined implied)
 
 pub thinned_left : (n : ℕ) (kept ds rest : List Dependency) → IsThinned n kept ds rest → (left : List Dependency) × IsLeftOf n kept ds rest left
-thinned_left n kept [] rest thinned = ([], record {
-  whole = thinned ∙ sym (append-nil kept);
-  among = λ r all. All-nil (λ (d : Dependency). Obeys n d r);
-  needed = λ before after d same implied. nil_not_split before d after same;
-})
+thinned_left n kept [] rest thinned = (
+  [],
+  record {
+    whole = thinned ∙ sym (append-nil kept);
+    among = λ r all. All-nil (λ (d : Dependency). Obeys n d r);
+    needed = λ before after d same implied. nil_not_split before d after same;
+  },
+)
 thinned_left n kept (d ∷ later) rest thinned =
     ⊎_elim
     (λ (out : Implies n (kept ++ later) d × IsThinned n kept later rest).
-    let others = thinned_left n kept later rest out.1 in
-    (others.0, record {
-      whole = others.1.whole;
-      among = λ r all. others.1.among r (All-tail (λ (e : Dependency). Obeys n e r) d later all);
-      needed = others.1.needed;
-    }))
+    let others = thinned_left n kept later rest out.1 in (
+      others.0,
+      record {
+        whole = others.1.whole;
+        among = λ r all. others.1.among r (All-tail (λ (e : Dependency). Obeys n e r) d later all);
+        needed = others.1.needed;
+      },
+    ))
     (λ (stays : (Implies n (kept ++ later) d → ⊥) × IsThinned n (kept ++ d ∷ []) later rest).
     let others = thinned_left n (kept ++ d ∷ []) later rest stays.1 in
     (d ∷ others.0, left_more n kept later rest others.0 d stays.0 others.1))

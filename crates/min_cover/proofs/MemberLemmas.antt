@@ -99,7 +99,7 @@ module _ (n : ℕ) (ds : List Dependency) (x y short : Places) (is : IsShortLeft
 pub short_needed : (n : ℕ) (ds : List Dependency) (x y short : Places) (i : ℕ) → IsShortLeft n ds x y short → short i ≡ true → Implies n (functional_part ds) (fd (minus short (only i)) y) → ⊥
 short_needed n ds x y short i is member implied =
     let beside : Implies n (functional_part ds) (fd (kept_beside x short i) y) = λ r legal.
-        fd_weaker_obeyed (minus short (only i)) y (kept_beside x short i) y r (λ (k : ℕ) m. grind (arith, nat_tests, m, is.within k)) (λ (k : ℕ) m. m) (implied r legal) in
+    fd_weaker_obeyed (minus short (only i)) y (kept_beside x short i) y r (λ (k : ℕ) m. grind (arith, nat_tests, m, is.within k)) (λ (k : ℕ) m. m) (implied r legal) in
     true≢false (sym member ∙ (is.left_out i (is.within i member)).1 beside)
 
 -- ---- the list of them

@@ -146,14 +146,14 @@ module _ (n : ℕ) (first first_kept others kept : List Dep) (k : ℕ) (d nothin
         let P : Dep → Type 0 = λ (f : Dep). Obeys n (dependency_of f) r in
         let taken : take (k + 1) others ≡ take k others ++ d ∷ [] = take_more others k d lt ∙ ap (λ (e : Dep). take k others ++ e ∷ []) (sym at) in (
           (λ all.
-          let parts = subst (λ (es : List Dep). All P es) taken all in
-          All-append P kept (d ∷ []) ((before.same r).0 (All-left P (take k others) (d ∷ []) parts)) (All-right P (take k others) (d ∷ []) parts)),
+              let parts = subst (λ (es : List Dep). All P es) taken all in
+              All-append P kept (d ∷ []) ((before.same r).0 (All-left P (take k others) (d ∷ []) parts)) (All-right P (take k others) (d ∷ []) parts)),
           (λ all. subst (λ (es : List Dep). All P es) (sym taken)
-          (All-append P (take k others) (d ∷ []) ((before.same r).1 (All-left P kept (d ∷ []) all)) (All-right P kept (d ∷ []) all))),
+              (All-append P (take k others) (d ∷ []) ((before.same r).1 (All-left P kept (d ∷ []) all)) (All-right P kept (d ∷ []) all))),
         );
     onward = λ rest thinned.
         let then : IsThinned n (dependencies_of kept ++ dependency_of d ∷ []) (dependencies_of later) rest =
-            subst (λ (es : List Dependency). IsThinned n es (dependencies_of later) rest) (map_push dependency_of kept d) thinned in
+        subst (λ (es : List Dependency). IsThinned n es (dependencies_of later) rest) (map_push dependency_of kept d) thinned in
         before.onward rest (subst (λ (es : List Dependency). IsThinned n (dependencies_of kept) es rest) (sym next_tried) (inr ((λ implied. fails (implied_from (dependency_of d) implied)), then)));
   }
 
@@ -213,8 +213,8 @@ pub thinned_after : (n width from : ℕ) (cover others : List Dep) (ms rest : Li
     → IsThinned width (dependencies_of (take from others)) (dependencies_of (drop from others)) rest → IsThinned n (dependencies_of cover) ms rest
 thinned_after n width from cover others ms rest width_is from_is front later thinned =
     let by_n : IsThinned n (dependencies_of (take from others)) (dependencies_of (drop from others)) rest =
-        subst (λ (m : ℕ). IsThinned m (dependencies_of (take from others)) (dependencies_of (drop from others)) rest) width_is thinned in
+    subst (λ (m : ℕ). IsThinned m (dependencies_of (take from others)) (dependencies_of (drop from others)) rest) width_is thinned in
     let by_cover : IsThinned n (dependencies_of (take (length cover) others)) (dependencies_of (drop (length cover) others)) rest =
-        subst (λ (k : ℕ). IsThinned n (dependencies_of (take k others)) (dependencies_of (drop k others)) rest) from_is by_n in
+    subst (λ (k : ℕ). IsThinned n (dependencies_of (take k others)) (dependencies_of (drop k others)) rest) from_is by_n in
     subst (λ (es : List Dependency). IsThinned n (dependencies_of cover) es rest) later
     (subst (λ (es : List Dep). IsThinned n (dependencies_of es) (dependencies_of (drop (length cover) others)) rest) front by_cover)

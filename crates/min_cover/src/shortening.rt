@@ -38,7 +38,7 @@ fn add_members(
     ensures short { (firsts : List Dependency)
         → AreShortened (width_of schema.now) (theory_of schema.now) firsts members.old.items
         → IfOk result (λ _. AreShortened (width_of schema.now) (theory_of schema.now)
-            (firsts ++ members_of (width_of schema.now) (fd (places lhs) (places rhs))) members.new.items) }
+        (firsts ++ members_of (width_of schema.now) (fd (places lhs) (places rhs))) members.new.items) }
 {
     let beyond = rhs.minus(lhs);
     for a in 0..schema.width() {

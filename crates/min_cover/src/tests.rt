@@ -87,7 +87,11 @@ fn schema_of(alloc: Global, width: u8, deps: &[Dep]) -> Result<Schema, WantMemor
 fn leaves_out_what_the_others_imply(rt: HostRuntime) -> Result<(), Fail> {
     let rows: [(u8, &[Dep], &[Dep]); 6] = [
         // A -> B C, B -> C, A B -> C, A ->> B
-        (3, &[fd(1, 6), fd(2, 4), fd(3, 4), mvd(1, 2)], &[fd(1, 2), fd(2, 4)]),
+        (
+            3,
+            &[fd(1, 6), fd(2, 4), fd(3, 4), mvd(1, 2)],
+            &[fd(1, 2), fd(2, 4)],
+        ),
         // equal ones: the last stays
         (2, &[fd(1, 2), fd(1, 2)], &[fd(1, 2)]),
         // A -> B, B -> C, C -> A, and the other way round: the last ones stay
@@ -98,7 +102,11 @@ fn leaves_out_what_the_others_imply(rt: HostRuntime) -> Result<(), Fail> {
         ),
         // A B -> C, A -> B: the left side A is enough; the first attributes are tried first
         (3, &[fd(3, 4), fd(1, 2)], &[fd(1, 4), fd(1, 2)]),
-        (4, &[fd(3, 4), fd(1, 2), fd(2, 1)], &[fd(2, 4), fd(1, 2), fd(2, 1)]),
+        (
+            4,
+            &[fd(3, 4), fd(1, 2), fd(2, 1)],
+            &[fd(2, 4), fd(1, 2), fd(2, 1)],
+        ),
         // nothing to say
         (2, &[fd(3, 1), mvd(1, 2)], &[]),
     ];
@@ -113,13 +121,29 @@ fn leaves_out_what_the_others_imply(rt: HostRuntime) -> Result<(), Fail> {
 fn leaves_out_multivalued_dependencies(rt: HostRuntime) -> Result<(), Fail> {
     let rows: [(u8, &[Dep], &[Dep]); 5] = [
         // A -> B C, B -> C, A B -> C, A ->> B: the cover implies A ->> B
-        (3, &[fd(1, 6), fd(2, 4), fd(3, 4), mvd(1, 2)], &[fd(1, 2), fd(2, 4)]),
+        (
+            3,
+            &[fd(1, 6), fd(2, 4), fd(3, 4), mvd(1, 2)],
+            &[fd(1, 2), fd(2, 4)],
+        ),
         // the two sides of one, of which the last stays, after the functional ones
-        (4, &[mvd(1, 2), fd(4, 8), mvd(1, 12)], &[fd(4, 8), mvd(1, 12)]),
+        (
+            4,
+            &[mvd(1, 2), fd(4, 8), mvd(1, 12)],
+            &[fd(4, 8), mvd(1, 12)],
+        ),
         // A ->> B, A ->> C, A ->> B C: the last and the second give the first
-        (4, &[mvd(1, 2), mvd(1, 4), mvd(1, 6)], &[mvd(1, 4), mvd(1, 6)]),
+        (
+            4,
+            &[mvd(1, 2), mvd(1, 4), mvd(1, 6)],
+            &[mvd(1, 4), mvd(1, 6)],
+        ),
         // A ->> B and B ->> C give A ->> C together, and neither alone
-        (4, &[mvd(1, 2), mvd(2, 4), mvd(1, 4)], &[mvd(1, 2), mvd(2, 4)]),
+        (
+            4,
+            &[mvd(1, 2), mvd(2, 4), mvd(1, 4)],
+            &[mvd(1, 2), mvd(2, 4)],
+        ),
         (2, &[], &[]),
     ];
     for (width, deps, cover) in rows {

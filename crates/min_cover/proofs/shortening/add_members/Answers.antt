@@ -21,7 +21,7 @@ loop-a-init c firsts before =
     let x = places c.args.lhs in
     let z = minus (places c.args.rhs) x in
     let none : firsts ++ map (λ (a : ℕ). fd x (only a)) (members_below 0 z) ≡ firsts =
-        ap (λ (l : List ℕ). firsts ++ map (λ (a : ℕ). fd x (only a)) l) (members_none z) ∙ append-nil firsts in
+    ap (λ (l : List ℕ). firsts ++ map (λ (a : ℕ). fd x (only a)) l) (members_none z) ∙ append-nil firsts in
     subst (λ (es : List Dependency). AreShortened (width_of c.args.schema.now) (theory_of c.args.schema.now) es c.args.members.now.items) (sym none) before
 
 -- one place more
@@ -54,9 +54,9 @@ loop-a-preserved c firsts before =
           let by_deps = w.short_left.ensures.short n within c.requires.lhs right_in in
           let is_short : IsShortLeft n (theory_of s) x right short = subst (λ (es : List Dep). IsShortLeft n (dependencies_of es) x right short) w.deps.ensures.deps by_deps in
           let shortened : IsShortened n (theory_of s) (fd x (only a)) (fd short right) =
-              (short, ap (λ (p : Places). fd short p) right_is, subst (λ (p : Places). IsShortLeft n (theory_of s) x p short) right_is is_short) in
+          (short, ap (λ (p : Places). fd short p) right_is, subst (λ (p : Places). IsShortLeft n (theory_of s) x p short) right_is is_short) in
           let more = shortened_more n (theory_of s) (firsts ++ map f (members_below a z)) c.loop-a.members.items (fd x (only a)) _ old shortened
-              ((λ (k : ℕ) m. c.requires.lhs k (is_short.within k m)), right_in) refl in
+          ((λ (k : ℕ) m. c.requires.lhs k (is_short.within k m)), right_in) refl in
           let pushed = ap (λ v. v.items) w.members-is ∙ w.in_ok-push.ensures.items in
           subst (λ (es : List Dep). AreShortened n (theory_of s) (firsts ++ map f (members_below (a + 1) z)) es) (sym pushed)
           (subst (λ (es : List Dependency). AreShortened n (theory_of s) es (c.loop-a.members.items ++ Fd w.short_left.result w.single-right.result ∷ [])) (sym (more_is firsts x z a member)) more)

@@ -12,4 +12,4 @@ abbrev pub invariant-loop-a : goal.invariant-loop-a
 invariant-loop-a l =
     (firsts : List Dependency) → AreShortened (width_of l.schema) (theory_of l.schema) firsts l.initial.members.items
     → AreShortened (width_of l.schema) (theory_of l.schema)
-      (firsts ++ map (λ (a : ℕ). fd (places l.lhs) (only a)) (members_below l.a (minus (places l.fn.rhs) (places l.lhs)))) l.members.items
+    (firsts ++ map (λ (a : ℕ). fd (places l.lhs) (only a)) (members_below l.a (minus (places l.fn.rhs) (places l.lhs)))) l.members.items

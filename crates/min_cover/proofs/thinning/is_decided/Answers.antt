@@ -13,7 +13,9 @@ returns-in-Implied c = record { implied = ((λ _. c.decide_by.ensures.implied.0 
 
 pub returns-in-Broken : goal.returns-in-Broken
 unfolding is_yes
-returns-in-Broken c = record { implied = (
-  (λ e. absurd (false≢true e)),
-  (λ implied. absurd (true≢false (ap is_yes (sym (c.decide_by.ensures.implied.1 implied) ∙ c.in-Broken.is)))),
-) }
+returns-in-Broken c = record {
+  implied = (
+    (λ e. absurd (false≢true e)),
+    (λ implied. absurd (true≢false (ap is_yes (sym (c.decide_by.ensures.implied.1 implied) ∙ c.in-Broken.is)))),
+  );
+}

@@ -52,7 +52,7 @@ loop-k-preserved c =
     let lt : k < length others = omega (arith, c.loop-k-test.true, c.len-k-end.ensures, before.long, c.args.others.ok.0) in
     let one_in : IsDepWithin (below n) d = subst (λ (e : Dep). IsDepWithin (below n) e) (sym c.index-dep.ensures) (before.within k d lt) in
     let tested : IsTrue c.is_implied.result ↔ Implies n (dependencies_of without) (dependency_of d) =
-        subst (λ (es : List Dep). IsTrue c.is_implied.result ↔ Implies n (dependencies_of es) (dependency_of d)) c.deref-in-loop-k.ensures.value c.is_implied.ensures.implied in
+    subst (λ (es : List Dep). IsTrue c.is_implied.result ↔ Implies n (dependencies_of es) (dependency_of d)) c.deref-in-loop-k.ensures.value c.is_implied.ensures.implied in
     elim c.if-not-is_implied.branch [
       | then-not-is_implied+in_ok-push w ↦
           let after : c.if-not-is_implied.others.items ≡ set without k d = ap (λ v. v.items) w.others-is in
