@@ -1,0 +1,180 @@
+-- Keys that are found one from another by functional dependencies, and their order once they are sorted.
+use Rattle.std.proofs.Common.{◌≡◌, ℕ, ◌+◌, ◌^◌, ◌<◌, ◌≤◌, ◌⊎◌, suc, true, false, List, [], ◌∷◌, ◌++◌, length, get_or, map, take, refl, sym, ◌∙◌, subst, ap, ⊎_elim, inl, inr, arith}
+use Rattle.std.proofs.lemmas.Bool.{cases_eq, true≢false}
+use Rattle.std.proofs.lemmas.List.{length_push, length-map, get_or_default, get_or-take, map_more}
+use Rattle.std.proofs.lemmas.List.Elements.{All-push, All-contains, All-head, All-tail, All-map, Contains-get_or, filter_passes}
+use Rattle.std.proofs.lemmas.List.Quantifiers.{all_pairs_push}
+use Rattle.std.proofs.lemmas.List.Sorted.{All-permutation, length_permutation, IsNonDecreasingBy-from_sort}
+use Rattle.std.specs.Prelude.{All, AllPairs, Any, Contains}
+use Rattle.std.specs.List.Sorted.{IsSorted, IsPermutation}
+use Rattle.std.specs.Ordering.{nat_cmp}
+use Rattle.attr_sets.specs.declared.set.AttrSet.{AttrSet}
+use Rattle.attr_sets.specs.declared.set.TheConstants.{PLACES}
+use Rattle.attr_sets.proofs.PlacesLemmas.{places-at_number}
+use Rattle.attr_sets.proofs.OrderLemmas.{before_from_lt}
+use Rattle.dep_model.specs.declared.dep.Dep.{Dep}
+use Rattle.dep_model.specs.Deps.{dependency_of, dependencies_of}
+use Rattle.attr_sets.specs.Sets.{places}
+use Rattle.attr_sets.specs.Places.{Places, below, union, minus, Within, Same, IsBefore}
+use Rattle.dep_model.specs.Tuples.{Relation}
+use Rattle.dep_model.specs.Dependencies.{Dependency, fd, mvd, Obeys, ObeysFd, is_fd, functional_part, IsWithin}
+use Rattle.dep_model.specs.Keys.{IsSuperkey, IsKey, IsSettledKey}
+use Rattle.dep_model.proofs.RuleLemmas.{reflexivity_obeyed, transitivity_obeyed, fd_weaker_obeyed, fd_union_obeyed}
+use Rattle.dep_model.proofs.KeyLemmas.{superkey-from, fd_on-to, settled_is_key, key_of_superkey}
+use Rattle.key_listing.specs.declared.refusal.TheConstants.{MOST_KEYS}
+use Rattle.dep_model.proofs.ListLemmas.{Contains-map, map-member}
+use Rattle.key_listing.specs.Listing.{HoldsAny, HoldsAnyUnlessMany, AreSomeKeys, AreFoundKeys, exchanged, IsExchangedBy, IsExchangedUnlessMany}
+use Rattle.fd_closure.specs.KeyLists.{HoldsOne, IsExchanged}
+use Rattle.fd_closure.proofs.AllKeys.{all_keys}
+use Rattle.key_listing.proofs.ListLemmas.{Any-map, Any-grows, Any-permutation, AllPairs-permutation, grows_longer}
+
+-- what a dependency makes of a key is a superkey
+pub exchanged_superkey : (n : ℕ) (ds : List Dependency) (scheme x y k : Places) → Contains ds (fd x y) → Within x scheme → IsSuperkey n ds scheme k → IsSuperkey n ds scheme (exchanged (fd x y) k)
+exchanged_superkey n ds scheme x y k given x_in superkey =
+    superkey-from n ds scheme (exchanged (fd x y) k) (λ i m. grind (arith, m, x_in i, superkey.within.0 i))
+    (λ r legal.
+    let made = exchanged (fd x y) k in
+    let obeys : ObeysFd x y r = All-contains (λ (d : Dependency). Obeys n d r) ds (fd x y) legal.obeys given in
+    let gives_y : ObeysFd made y r = fd_weaker_obeyed x y made y r (λ i m. grind (arith, m)) (λ i m. m) obeys in
+    let gives_both : ObeysFd made (union made y) r = fd_union_obeyed made made y r (reflexivity_obeyed made made r (λ i m. m)) gives_y in
+    let gives_key : ObeysFd made k r = fd_weaker_obeyed made (union made y) made k r (λ i m. m) (λ i m. grind (arith, m)) gives_both in
+    transitivity_obeyed made k scheme r gives_key (fd_on-to n ds scheme k scheme superkey r legal))
+
+-- no key
+pub some_none : (n : ℕ) (ds : List Dependency) (scheme : Places) → AreSomeKeys n ds scheme []
+some_none n ds scheme = record {
+  each = λ k d l. absurd (omega (arith, l));
+  differ = λ i j d before l. absurd (omega (arith, l));
+  few = omega arith;
+  numbers = λ k d l. absurd (omega (arith, l));
+}
+
+-- one more key
+pub some_more : (n : ℕ) (ds : List Dependency) (scheme set : Places) (found : List AttrSet) (k : AttrSet) → AreSomeKeys n ds scheme found → length found ≤ MOST_KEYS
+    → IsKey n ds scheme (places k) → Within (places k) set → (HoldsAny found set → ⊥) → k.0 < 2 ^ PLACES → AreSomeKeys n ds scheme (found ++ k ∷ [])
+some_more n ds scheme set found k some few key inside none number = record {
+  each = All-push (λ (j : AttrSet). IsKey n ds scheme (places j)) found k some.each key;
+  differ = all_pairs_push (λ (i j : AttrSet). Same (places i) (places j) → ⊥) found k some.differ
+      (λ i d l same. none (i, get_or found i d, l, get_or_default found i (get_or found i d) d l, λ p m. inside p (sym (same p) ∙ m)));
+  few = omega (arith, length_push found k, few);
+  numbers = All-push (λ (j : AttrSet). j.0 < 2 ^ PLACES) found k some.numbers number;
+}
+
+-- the key on which a superkey settles is a key
+pub settled_found : (n : ℕ) (ds : List Dependency) (scheme s k : Places) → Within scheme (below n) → functional_part ds ≡ ds → IsSuperkey n ds scheme s → IsSettledKey n (functional_part ds) s k → IsKey n ds scheme k
+settled_found n ds scheme s k low functional superkey settled =
+    let by_all : IsSettledKey n ds s k = subst (λ (es : List Dependency). IsSettledKey n es s k) functional settled in
+    key_of_superkey n ds scheme s k superkey (settled_is_key n ds s k (λ i m. low i (superkey.within.0 i m)) by_all)
+
+-- ---- with each dependency
+-- a dependency of a list of them
+pub given_in : (deps : List Dep) (i : ℕ) (first e : Dep) → i < length deps → get_or deps i first ≡ e → Contains (dependencies_of deps) (dependency_of e)
+given_in deps i first e lt at = Contains-map dependency_of deps e (i, lt, get_or_default deps i e first lt ∙ at)
+
+-- none has been tried
+pub exchanged_none : (deps : List Dep) (found : List AttrSet) (k : Places) → IsExchangedUnlessMany (dependencies_of (take 0 deps)) found k
+exchanged_none deps found k few i d l = absurd (omega (arith, l))
+
+-- one more
+pub exchanged_more : (deps : List Dep) (i : ℕ) (first e : Dep) (old found : List AttrSet) (k : Places) → i < length deps → get_or deps i first ≡ e → take (length old) found ≡ old
+    → IsExchangedUnlessMany (dependencies_of (take i deps)) old k → HoldsAnyUnlessMany found (exchanged (dependency_of e) k) → IsExchangedUnlessMany (dependencies_of (take (i + 1) deps)) found k
+exchanged_more deps i first e old found k lt at grows before held few =
+    let P : Dependency → Type 0 = λ (d : Dependency). HoldsAny found (exchanged d k) in
+    let longer : length old ≤ length found = grows_longer old found grows in
+    let earlier : All P (dependencies_of (take i deps)) = λ j d l. Any-grows (λ (s : AttrSet). Within (places s) (exchanged (get_or (dependencies_of (take i deps)) j d) k)) old found grows (before (omega (arith, longer, few)) j d l) in
+    let more : dependencies_of (take (i + 1) deps) ≡ dependencies_of (take i deps) ++ dependency_of e ∷ [] =
+        map_more dependency_of deps i first lt ∙ ap (λ (d : Dep). dependencies_of (take i deps) ++ dependency_of d ∷ []) at in
+    subst (λ (ds : List Dependency). All P ds) (sym more) (All-push P (dependencies_of (take i deps)) (dependency_of e) earlier (held few))
+
+-- a key that was tried stays so where more are found
+pub exchanged_grows : (ds : List Dependency) (old found : List AttrSet) (k : Places) → take (length old) found ≡ old → IsExchangedUnlessMany ds old k → IsExchangedUnlessMany ds found k
+exchanged_grows ds old found k grows before few =
+    let longer : length old ≤ length found = grows_longer old found grows in
+    λ j d l. Any-grows (λ (s : AttrSet). Within (places s) (exchanged (get_or ds j d) k)) old found grows (before (omega (arith, longer, few)) j d l)
+
+-- each key before a place was tried, and so was that at it
+pub tried_more : (ds : List Dependency) (old found : List AttrSet) (tried j : ℕ) (key : AttrSet) → j ≡ tried + 1 → tried < length old → key ≡ get_or old tried key → take (length old) found ≡ old
+    → ((i : ℕ) (d : AttrSet) → i < tried → IsExchangedUnlessMany ds old (places (get_or old i d))) → IsExchangedUnlessMany ds found (places key)
+    → (i : ℕ) (d : AttrSet) → i < j → IsExchangedUnlessMany ds found (places (get_or found i d))
+tried_more ds old found tried j key e lt at grows before now i d l =
+    let short : i < length old = omega (arith, l, e, lt) in
+    let same : get_or found i d ≡ get_or old i d = sym (get_or-take (length old) found i d short) ∙ ap (λ (xs : List AttrSet). get_or xs i d) grows in
+    subst (λ (k : AttrSet). IsExchangedUnlessMany ds found (places k)) (sym same)
+    (⊎_elim
+    (λ (here : i ≡ tried).
+    let is : get_or old i d ≡ key = ap (λ (m : ℕ). get_or old m d) here ∙ get_or_default old tried d key lt ∙ sym at in
+    subst (λ (k : AttrSet). IsExchangedUnlessMany ds found (places k)) (sym is) now)
+    (λ (earlier : i ≡ tried → ⊥). exchanged_grows ds old found (places (get_or old i d)) grows (before i d (omega (arith, l, e, earlier))))
+    (cases_eq i tried))
+
+-- where all are functional, the functional part is the list
+pub functional_list : (ds : List Dep) → All (λ (d : Dep). is_fd (dependency_of d) ≡ true) ds → functional_part (dependencies_of ds) ≡ dependencies_of ds
+functional_list [] all = refl
+functional_list (d ∷ ds) all =
+    let first : is_fd (dependency_of d) ≡ true = All-head (λ (e : Dep). is_fd (dependency_of e) ≡ true) d ds all in
+    rw first (ap (λ (es : List Dependency). dependency_of d ∷ es) (functional_list ds (All-tail (λ (e : Dep). is_fd (dependency_of e) ≡ true) d ds all)))
+
+-- ---- multivalued dependencies
+pub all_functional : (ds : List Dependency) → functional_part ds ≡ ds → All (λ (d : Dependency). is_fd d ≡ true) ds
+all_functional ds same = subst (λ (es : List Dependency). All (λ (d : Dependency). is_fd d ≡ true) es) same (filter_passes is_fd ds)
+
+tell_multivalued : (ds : List Dependency) → Any (λ (d : Dependency). is_fd d ≡ false) ds ⊎ (functional_part ds ≡ ds)
+tell_multivalued [] = inr refl
+tell_multivalued (fd x y ∷ ds) =
+    ⊎_elim
+    (λ some. inl (suc some.0, some.1, omega (arith, some.2), some.3, some.4))
+    (λ same. inr (ap (λ (es : List Dependency). fd x y ∷ es) same))
+    (tell_multivalued ds)
+tell_multivalued (mvd x y ∷ ds) = inl (0, mvd x y, omega arith, refl, refl)
+
+-- where one is given, not all are functional
+pub some_multivalued : (ds : List Dependency) → (functional_part ds ≡ ds → ⊥) → Any (λ (d : Dependency). is_fd d ≡ false) ds
+some_multivalued ds other = ⊎_elim (λ some. some) (λ same. absurd (other same)) (tell_multivalued ds)
+
+pub none_multivalued : (ds : List Dependency) → functional_part ds ≡ ds → Any (λ (d : Dependency). is_fd d ≡ false) ds → ⊥
+none_multivalued ds same some =
+    true≢false (sym (all_functional ds same some.0 some.1 some.2) ∙ ap is_fd some.3 ∙ some.4)
+
+-- ---- the keys in their order
+-- sorted keys ascend
+pub sorted_ascend : (found : List AttrSet) → AllPairs (λ j k. Same (places j) (places k) → ⊥) found → All (λ (k : AttrSet). k.0 < 2 ^ PLACES) found
+    → IsSorted (λ (j k : AttrSet). nat_cmp j.0 k.0) found → AllPairs (λ j k. IsBefore (places j) (places k)) found
+sorted_ascend found differ fit sorted i j d before l =
+    let x = get_or found i d in
+    let y = get_or found j d in
+    let rises : x.0 ≤ y.0 = IsNonDecreasingBy-from_sort (λ (k : AttrSet). k.0) found sorted i j d (omega (arith, before)) l in
+    before_from_lt x y (fit j d l)
+    (⊎_elim
+    (λ (same : x.0 ≡ y.0). absurd (differ i j d before l (places-at_number x y same)))
+    (λ (other : x.0 ≡ y.0 → ⊥). omega (arith, rises, other))
+    (cases_eq x.0 y.0))
+
+-- ---- all keys
+-- the law over lists of sets of attributes
+exchanged_all : (n : ℕ) (ds : List Dependency) (found : List AttrSet) → All (IsWithin (below n)) ds → functional_part ds ≡ ds → 0 < length found → All (λ (k : AttrSet). IsKey n ds (below n) (places k)) found
+    → ((i : ℕ) (d : AttrSet) → i < length found → IsExchangedBy ds found (places (get_or found i d))) → (k : Places) → IsKey n ds (below n) k → Any (λ (j : AttrSet). Same (places j) k) found
+exchanged_all n ds found within functional some each exchange k key =
+    let held = all_keys n ds (map places found) within functional (get_or (map places found) 0 (below n)) (Contains-get_or (map places found) 0 (below n) (omega (arith, some, length-map found places)))
+        (All-map (IsKey n ds (below n)) places found each) all_exchanged k key in
+    let at = map-member places found held.1 (held.0, held.2, held.3) in
+    (at.1.0, at.0, at.1.1, at.1.2, subst (λ (v : Places). Same v k) (sym at.2) held.4)
+  where
+    all_exchanged : IsExchanged ds (map places found)
+    all_exchanged j e in_ds =
+        All-map (λ (v : Places). HoldsOne (map places found) (exchanged (get_or ds j e) v)) places found
+        (λ i d l. Any-map (λ (v : Places). Within v (exchanged (get_or ds j e) (places (get_or found i d)))) found (exchange i d l j e in_ds))
+
+-- what was found, once all were tried and sorted
+pub sorted_found : (n : ℕ) (ds : List Dependency) (found sorted : List AttrSet) → All (IsWithin (below n)) ds → functional_part ds ≡ ds → 0 < length found → AreSomeKeys n ds (below n) found
+    → (length found ≤ MOST_KEYS → (i : ℕ) (d : AttrSet) → i < length found → IsExchangedBy ds found (places (get_or found i d)))
+    → IsPermutation found sorted → IsSorted (λ (j k : AttrSet). nat_cmp j.0 k.0) sorted → AreFoundKeys n ds (below n) sorted
+sorted_found n ds found sorted within functional some keys exchange moved in_order =
+    let long = length_permutation found sorted moved in
+    let differ = AllPairs-permutation (λ (j k : AttrSet). Same (places j) (places k) → ⊥) (λ j k other same. other (λ i. sym (same i))) found sorted moved keys.differ in
+    record {
+      each = All-permutation (λ (k : AttrSet). IsKey n ds (below n) (places k)) found sorted moved keys.each;
+      ascending = sorted_ascend sorted differ (All-permutation (λ (k : AttrSet). k.0 < 2 ^ PLACES) found sorted moved keys.numbers) in_order;
+      few = omega (arith, long, keys.few);
+      all = λ few k key. Any-permutation (λ (j : AttrSet). Same (places j) k) found sorted moved
+          (exchanged_all n ds found within functional some keys.each (exchange (omega (arith, long, few))) k key);
+    }

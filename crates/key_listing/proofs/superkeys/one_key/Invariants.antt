@@ -1,0 +1,7 @@
+use Rattle.attr_sets.specs.Sets.{places}
+use Rattle.dep_model.specs.Schemas.{width_of, theory_of}
+use Rattle.fd_closure.proofs.SettlingLemmas.{IsTriedFrom}
+use Rattle.key_listing.proofs.superkeys.one_key.Given as goal
+
+abbrev pub invariant-loop-i : goal.invariant-loop-i
+invariant-loop-i l = IsTriedFrom (width_of l.schema) (theory_of l.schema) (places l.scheme) l.i (places l.key)

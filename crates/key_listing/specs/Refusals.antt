@@ -1,0 +1,19 @@
+use Rattle.std.specs.Prelude.{◌≡◌, ◌<◌, false, Any}
+use Rattle.dep_model.specs.Dependencies.{is_fd}
+use Rattle.dep_model.specs.declared.schema.Schema.{Schema}
+use Rattle.dep_model.specs.Schemas.{width_of, universe_of, theory_of}
+use Rattle.key_listing.specs.declared.refusal.KeyRefusal.{KeyRefusal}
+use Rattle.key_listing.specs.declared.refusal.KeyRefusal.TheVariants.{TooManyKeys, TooWide, Memory}
+use Rattle.key_listing.specs.declared.refusal.TheConstants.{WIDEST_SEARCHED}
+use Rattle.key_listing.specs.Listing.{AreManyKeys}
+
+-- a multivalued dependency is given, and the universe has more attributes than are searched
+abbrev pub IsTooWide : Schema → Type 0
+IsTooWide s = Any (λ d. is_fd d ≡ false) (theory_of s) × (WIDEST_SEARCHED < width_of s)
+
+-- why the keys of a schema are not listed
+abbrev pub IsRefused : Schema → KeyRefusal → Type 0
+IsRefused s (TooManyKeys found) =
+    (IsTooWide s → ⊥) × AreManyKeys (width_of s) (theory_of s) (universe_of s) found.items
+IsRefused s TooWide = IsTooWide s
+IsRefused s Memory = IsTooWide s → ⊥

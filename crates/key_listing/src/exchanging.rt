@@ -1,0 +1,75 @@
+ghost use Rattle.std.specs.Prelude.{◌≡◌, ℕ, ◌≤◌, ◌<◌, List, length, take, IfOk, All};
+ghost use Rattle.attr_sets.specs.Places.{Places};
+ghost use Rattle.attr_sets.specs.Sets.{places};
+ghost use Rattle.dep_model.specs.Dependencies.{functional_part};
+ghost use Rattle.dep_model.specs.Keys.{IsSuperkey, IsKey};
+ghost use Rattle.dep_model.specs.Schemas.{width_of, universe_of, theory_of};
+ghost use Rattle.key_listing.specs.Listing.{AreFoundKeys, AreSomeKeys, HoldsAnyUnlessMany, IsExchangedUnlessMany};
+
+use crate::holding::holds_any;
+use crate::refusal::MOST_KEYS;
+use attr_sets::AttrSet;
+use dep_model::{Dep, Schema, WantMemory};
+use fd_closure::functional_key;
+use std::alloc::Global;
+
+// The keys of the universe by functional dependencies: one, and from each with each dependency another,
+// until all have been had, or one more than are listed.
+pub fn exchanged_keys(alloc: Global, schema: &Schema) -> Result<Vec<AttrSet>, WantMemory>
+    requires functional { functional_part (theory_of schema.now) ≡ theory_of schema.now }
+    ensures keys { IfOk result (λ found.
+        AreFoundKeys (width_of schema.now) (theory_of schema.now) (universe_of schema.now) found.items) }
+{
+    let mut found = Vec::new(alloc);
+    found.push(functional_key(schema.deps(), AttrSet::full(schema.width())))?;
+    let mut tried = 0;
+    while tried < found.len() {
+        let key = found[tried];
+        add_exchanged(schema, key, &mut found)?;
+        tried += 1;
+    }
+    found.sort_unstable();
+    Ok(found)
+}
+
+// Adds a key within each set that a dependency makes of a key, where no found one lies within it.
+fn add_exchanged(
+    schema: &Schema,
+    key: AttrSet,
+    found: &mut Vec<AttrSet>,
+) -> Result<(), WantMemory>
+    requires functional { functional_part (theory_of schema.now) ≡ theory_of schema.now }
+    requires key { IsKey (width_of schema.now) (theory_of schema.now) (universe_of schema.now) (places key) }
+    requires some { AreSomeKeys (width_of schema.now) (theory_of schema.now) (universe_of schema.now) found.old.items }
+    ensures some { IfOk result (λ _.
+        AreSomeKeys (width_of schema.now) (theory_of schema.now) (universe_of schema.now) found.new.items) }
+    ensures kept { IfOk result (λ _. take (length found.old.items) found.new.items ≡ found.old.items) }
+    ensures exchanged { IfOk result (λ _. IsExchangedUnlessMany (theory_of schema.now) found.new.items (places key)) }
+{
+    for dep in schema.deps() {
+        if let Dep::Fd { lhs, rhs } = *dep {
+            add_key_within(schema, lhs.union(key.minus(rhs)), found)?;
+        }
+    }
+    Ok(())
+}
+
+// Adds a key within a superkey, where no found one lies within it and they are not more than are listed.
+fn add_key_within(
+    schema: &Schema,
+    set: AttrSet,
+    found: &mut Vec<AttrSet>,
+) -> Result<(), WantMemory>
+    requires functional { functional_part (theory_of schema.now) ≡ theory_of schema.now }
+    requires superkey { IsSuperkey (width_of schema.now) (theory_of schema.now) (universe_of schema.now) (places set) }
+    requires some { AreSomeKeys (width_of schema.now) (theory_of schema.now) (universe_of schema.now) found.old.items }
+    ensures some { IfOk result (λ _.
+        AreSomeKeys (width_of schema.now) (theory_of schema.now) (universe_of schema.now) found.new.items) }
+    ensures kept { IfOk result (λ _. take (length found.old.items) found.new.items ≡ found.old.items) }
+    ensures held { IfOk result (λ _. HoldsAnyUnlessMany found.new.items (places set)) }
+{
+    if found.len() <= MOST_KEYS && !holds_any(found, set) {
+        found.push(functional_key(schema.deps(), set))?;
+    }
+    Ok(())
+}

@@ -1,0 +1,59 @@
+ghost use Rattle.std.specs.Prelude.{◌≤◌, ◌↔◌, length, IsTrue, IfOk, IfErr};
+ghost use Rattle.dep_model.specs.Schemas.{width_of, universe_of, theory_of};
+ghost use Rattle.key_listing.specs.Listing.{AreAllKeys, AreFoundKeys};
+ghost use Rattle.key_listing.specs.Refusals.{IsTooWide, IsRefused};
+
+use crate::exchanging::exchanged_keys;
+use crate::kinds::is_functional;
+use crate::refusal::{KeyRefusal, MOST_KEYS, WIDEST_SEARCHED};
+use crate::searching::searched_keys;
+use attr_sets::AttrSet;
+use dep_model::{Schema, WantMemory};
+use std::alloc::Global;
+
+/// All keys of the universe by all dependencies, ascending: of two keys the greatest attribute that is
+/// in one alone decides. There are at most `MOST_KEYS`; where there are more, or where a multivalued
+/// dependency is given over more than `WIDEST_SEARCHED` attributes, the keys are refused.
+pub fn keys(alloc: Global, schema: &Schema) -> Result<Vec<AttrSet>, KeyRefusal>
+    ensures keys { IfOk result (λ keys.
+        AreAllKeys (width_of schema.now) (theory_of schema.now) (universe_of schema.now) keys.items) }
+    ensures few { IfOk result (λ keys. length keys.items ≤ MOST_KEYS) }
+    ensures narrow { IfOk result (λ _. IsTooWide schema.now → ⊥) }
+    ensures refused { IfErr result (IsRefused schema.now) }
+{
+    if is_too_wide(schema) {
+        return Err(KeyRefusal::TooWide);
+    }
+    match found_keys(alloc, schema) {
+        Err(WantMemory) => Err(KeyRefusal::Memory),
+        Ok(found) => {
+            if found.len() > MOST_KEYS {
+                Err(KeyRefusal::TooManyKeys { found })
+            } else {
+                Ok(found)
+            }
+        }
+    }
+}
+
+// Whether a multivalued dependency is given, and there are more attributes than are searched.
+fn is_too_wide(schema: &Schema) -> bool
+    ensures wide { IsTrue result ↔ IsTooWide schema.now }
+{
+    if is_functional(schema.deps()) {
+        return false;
+    }
+    schema.width() > WIDEST_SEARCHED
+}
+
+// The keys of the universe, one more than are listed at most.
+fn found_keys(alloc: Global, schema: &Schema) -> Result<Vec<AttrSet>, WantMemory>
+    ensures keys { IfOk result (λ found.
+        AreFoundKeys (width_of schema.now) (theory_of schema.now) (universe_of schema.now) found.items) }
+{
+    if is_functional(schema.deps()) {
+        exchanged_keys(alloc, schema)
+    } else {
+        searched_keys(alloc, schema, AttrSet::full(schema.width()))
+    }
+}

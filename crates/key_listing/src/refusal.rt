@@ -1,0 +1,18 @@
+use attr_sets::AttrSet;
+
+/// The most keys that are listed.
+pub const MOST_KEYS: usize = 1_024;
+
+/// The most attributes over whose subsets keys are searched.
+pub const WIDEST_SEARCHED: u8 = 20;
+
+/// Why the keys of a schema are not listed.
+#[derive(Debug, Drop)]
+pub enum KeyRefusal {
+    /// There are more than `MOST_KEYS`. One more than that are given, ascending.
+    TooManyKeys { found: Vec<AttrSet> },
+    /// A multivalued dependency is given, and there are more than `WIDEST_SEARCHED` attributes.
+    TooWide,
+    /// Want of memory.
+    Memory,
+}

@@ -1,0 +1,176 @@
+ghost use Rattle.std.specs.Prelude.{◌≡◌, ◌≤◌, ◌<◌, false, length, IsTrue, IfOk, All, AllPairs};
+ghost use Rattle.attr_sets.specs.Sets.{places};
+ghost use Rattle.dep_model.specs.Names.{same_name};
+ghost use Rattle.dep_model.specs.Deps.{IsDepWithin};
+ghost use Rattle.dep_model.specs.Schemas.{width_of};
+
+use super::*;
+use attr_sets::AttrSet;
+use dep_model::{Dep, Name, Schema, WantMemory};
+use std::alloc::Global;
+use std::test::Fail;
+
+fn fd(lhs: u128, rhs: u128) -> Dep {
+    Dep::Fd {
+        lhs: AttrSet(lhs),
+        rhs: AttrSet(rhs),
+    }
+}
+
+fn mvd(lhs: u128, rhs: u128) -> Dep {
+    Dep::Mvd {
+        lhs: AttrSet(lhs),
+        rhs: AttrSet(rhs),
+    }
+}
+
+fn are_within(deps: &[Dep], universe: AttrSet) -> bool
+    ensures within { IsTrue result → All (IsDepWithin (places universe)) deps.now }
+{
+    for dep in deps {
+        if !is_within(*dep, universe) {
+            return false;
+        }
+    }
+    true
+}
+
+fn is_within(dep: Dep, universe: AttrSet) -> bool
+    ensures within { IsTrue result → IsDepWithin (places universe) dep }
+{
+    match dep {
+        Dep::Fd { lhs, rhs } | Dep::Mvd { lhs, rhs } => {
+            lhs.within(universe) && rhs.within(universe)
+        }
+    }
+}
+
+fn differs_from_all(names: &[Name], name: &Name) -> bool
+    ensures differs { IsTrue result → All (λ other. same_name other name.now ≡ false) names.now }
+{
+    for other in names {
+        if other.same(name) {
+            return false;
+        }
+    }
+    true
+}
+
+// The names `Aa`, `Ab` and so on.
+fn names_of(alloc: Global, width: u8) -> Result<Vec<Name>, WantMemory>
+    requires few { width ≤ 128 }
+    ensures count { IfOk result (λ names. length names.items ≡ width) }
+    ensures differ { IfOk result (λ names. AllPairs (λ a b. same_name a b ≡ false) names.items) }
+{
+    let mut names = Vec::new(alloc);
+    for i in 0..width {
+        let Some(name) = Name::make(&[b'A' + i / 16, b'a' + i % 16]) else {
+            return Err(WantMemory);
+        };
+        if !differs_from_all(&names, &name) {
+            return Err(WantMemory);
+        }
+        names.push(name)?;
+    }
+    Ok(names)
+}
+
+fn schema_of(alloc: Global, width: u8, deps: &[Dep]) -> Result<Schema, WantMemory>
+    ensures width { IfOk result (λ schema. width_of schema ≡ width) }
+{
+    if width == 0 || width > 128 || deps.len() > 256 || !are_within(deps, AttrSet::full(width)) {
+        return Err(WantMemory);
+    }
+    let names = names_of(alloc, width)?;
+    let lines = vec![in alloc; 1u32; deps.len()]?;
+    Ok(Schema::make(names, Vec::from_slice(alloc, deps)?, lines))
+}
+
+fn keys_of(alloc: Global, width: u8, deps: &[Dep]) -> Result<Vec<AttrSet>, KeyRefusal> {
+    match schema_of(alloc, width, deps) {
+        Ok(schema) => keys(alloc, &schema),
+        Err(WantMemory) => Err(KeyRefusal::Memory),
+    }
+}
+
+// Pairs of attributes that determine each other: A1 B1 A2 B2 and so on.
+fn pairs(alloc: Global, count: u8) -> Result<Vec<Dep>, WantMemory> {
+    let mut deps = Vec::new(alloc);
+    for i in 0..count {
+        let (a, b) = (1u128 << (2 * i), 2u128 << (2 * i));
+        deps.push(fd(a, b))?;
+        deps.push(fd(b, a))?;
+    }
+    Ok(deps)
+}
+
+#[test]
+fn lists_all_keys(rt: HostRuntime) -> Result<(), Fail> {
+    let rows: [(u8, &[Dep], &[AttrSet]); 9] = [
+        // CITY STREET -> ZIP, ZIP -> CITY
+        (3, &[fd(3, 4), fd(4, 1)], &[AttrSet(3), AttrSet(6)]),
+        // A B -> C, C -> D, D -> A
+        (4, &[fd(3, 4), fd(4, 8), fd(8, 1)], &[AttrSet(3), AttrSet(6), AttrSet(10)]),
+        // a ring: each attribute is a key
+        (3, &[fd(1, 2), fd(2, 4), fd(4, 1)], &[AttrSet(1), AttrSet(2), AttrSet(4)]),
+        // no dependency: the universe
+        (3, &[], &[AttrSet(7)]),
+        // () -> A
+        (1, &[fd(0, 1)], &[AttrSet(0)]),
+        // A ->> B alone, and with C -> B, which together give A -> B
+        (3, &[mvd(1, 2)], &[AttrSet(7)]),
+        (3, &[mvd(1, 2), fd(4, 2)], &[AttrSet(5)]),
+        // the ring once more, with a multivalued dependency
+        (3, &[fd(1, 2), fd(2, 4), fd(4, 1), mvd(1, 2)], &[AttrSet(1), AttrSet(2), AttrSet(4)]),
+        // COURSE TEACHER HOUR ROOM STUDENT GRADE: HOUR STUDENT
+        (
+            6,
+            &[fd(1, 2), fd(12, 1), fd(6, 8), fd(17, 32), fd(20, 8), mvd(1, 12)],
+            &[AttrSet(20)],
+        ),
+    ];
+    for (width, deps, expected) in rows {
+        match keys_of(rt.alloc(), width, deps) {
+            Ok(found) => assert!(rt; found.as_slice() == expected),
+            Err(_) => assert!(rt; false),
+        }
+    }
+    Ok(())
+}
+
+#[test]
+fn lists_as_many_keys_as_are_allowed(rt: HostRuntime) -> Result<(), Fail> {
+    let ten = pairs(rt.alloc(), 10)?;
+    match keys_of(rt.alloc(), 20, &ten) {
+        Ok(found) => {
+            assert_eq!(rt; found.len(), 1_024);
+            assert_eq!(rt; found[0], AttrSet(0x5_5555));
+            assert_eq!(rt; found[1_023], AttrSet(0xA_AAAA));
+        }
+        Err(_) => assert!(rt; false),
+    }
+    let eleven = pairs(rt.alloc(), 11)?;
+    match keys_of(rt.alloc(), 22, &eleven) {
+        Err(KeyRefusal::TooManyKeys { found }) => assert_eq!(rt; found.len(), 1_025),
+        _ => assert!(rt; false),
+    }
+    Ok(())
+}
+
+#[test]
+fn refuses_wide_universes_with_multivalued_dependencies(rt: HostRuntime) {
+    assert!(rt; matches!(&keys_of(rt.alloc(), 21, &[mvd(1, 2)]), Err(KeyRefusal::TooWide)));
+    assert!(rt; matches!(&keys_of(rt.alloc(), 21, &[fd(1, 2)]), Ok(_)));
+    assert!(rt; matches!(&keys_of(rt.alloc(), 20, &[mvd(1, 2)]), Ok(_)));
+}
+
+#[test]
+fn settles_on_one_key(rt: HostRuntime) -> Result<(), Fail> {
+    let address = schema_of(rt.alloc(), 3, &[fd(3, 4), fd(4, 1)])?;
+    assert_eq!(rt; address.width(), 3);
+    assert_eq!(rt; one_key(&address, AttrSet::full(3)), AttrSet(3));
+    let mixed = schema_of(rt.alloc(), 3, &[mvd(1, 2), fd(4, 2)])?;
+    assert_eq!(rt; mixed.width(), 3);
+    assert_eq!(rt; one_key(&mixed, AttrSet::full(2)), AttrSet(1));
+    Ok(())
+}

@@ -1,0 +1,5 @@
+pub mod ListLemmas
+pub mod MemberLemmas
+pub mod ShorteningLemmas
+pub mod ThinningLemmas
+pub mod CoverLemmas

@@ -1,0 +1,46 @@
+use Rattle.std.proofs.Common.{◌≡◌, ℕ, ◌+◌, refl, sym, ◌∙◌, arith}
+use Rattle.std.proofs.lemmas.Bool.{ltb-true, false≢true}
+use Rattle.attr_sets.specs.Places.{Places, below, only, minus, Within, Same}
+use Rattle.attr_sets.specs.Sets.{places}
+use Rattle.attr_sets.specs.declared.set.TheConstants.{PLACES}
+use Rattle.attr_sets.proofs.PlacesLemmas.{places_below}
+use Rattle.dep_model.specs.Deps.{dependencies_of}
+use Rattle.min_cover.proofs.ShorteningLemmas.{IsTriedTo, tried_none, tried_left_out, tried_kept, tried_outside, tried_all}
+use Rattle.min_cover.proofs.shortening.short_left.Goals.{then-has+then-follows, then-has+else-follows, else-has}
+use Rattle.min_cover.proofs.shortening.short_left.Goals as goal
+
+pub loop-i-init : goal.loop-i-init
+loop-i-init c n within lhs_in rhs_in = tried_none n (dependencies_of c.args.deps.now) (places c.args.lhs) (places c.args.rhs)
+
+-- the rest lies within the left side, and so below n
+rest_low : (n : ℕ) (x short rest : Places) (i : ℕ) → Within x (below n) → Within short x → Same rest (minus short (only i)) → Within rest (below n)
+rest_low n x short rest i low inside is k m = low k (inside k (grind (arith, is k, m)))
+
+pub loop-i-preserved : goal.loop-i-preserved
+loop-i-preserved c n within lhs_in rhs_in =
+    let ds = dependencies_of c.args.deps.now in
+    let x = places c.args.lhs in
+    let y = places c.args.rhs in
+    let i = c.loop-i.i in
+    let before = c.loop-i.invariant n within lhs_in rhs_in in
+    elim c.if-has.branch [
+      | then-has+then-follows w ↦
+          let is = w.without-rest.ensures.members in
+          let low = rest_low n x (places c.loop-i.short) (places w.without-rest.result) i lhs_in before.within is in
+          rw w.short-is (tried_left_out n ds x y i (i + 1) (places c.loop-i.short) (places w.without-rest.result) refl before is
+          ((w.follows.ensures.implied n within low rhs_in).0 w.if-follows.true))
+      | then-has+else-follows w ↦
+          let is = w.without-rest.ensures.members in
+          let low = rest_low n x (places c.loop-i.short) (places w.without-rest.result) i lhs_in before.within is in
+          rw w.short-is (tried_kept n ds x y i (i + 1) (places c.loop-i.short) (places w.without-rest.result) refl before is
+          (λ implied. false≢true (sym w.if-follows.false ∙ (w.follows.ensures.implied n within low rhs_in).1 implied)))
+      | else-has w ↦
+          rw w.short-is (tried_outside n ds x y i (i + 1) (places c.loop-i.short) refl before (sym c.has.ensures.member ∙ w.if-has.false))
+    ]
+
+pub returns : goal.returns
+returns c = record {
+  short = λ n within lhs_in rhs_in.
+      tried_all n (dependencies_of c.args.deps.now) (places c.args.lhs) (places c.args.rhs) c.loop-i.i (places c.loop-i.short)
+      (λ a m. let low = ltb-true a PLACES (places_below c.args.lhs a m) in omega (arith, low)) (c.loop-i.invariant n within lhs_in rhs_in);
+}

@@ -1,0 +1,39 @@
+ghost use Rattle.std.specs.Prelude.{IfOk, All};
+ghost use Rattle.dep_model.specs.Deps.{dependencies_of, IsDepWithin};
+ghost use Rattle.dep_model.specs.Schemas.{width_of, universe_of, theory_of};
+ghost use Rattle.min_cover.specs.Covers.{IsFixedCover, IsFixedWholeCover, IsMinimalCover, IsWholeCover};
+
+use crate::shortening::short_members;
+use crate::thinning::{add_multivalued, needed_from};
+use dep_model::{Dep, Schema, WantMemory};
+use std::alloc::Global;
+
+/// A minimal cover of the functional dependencies of a schema. Each is taken as its members, with one
+/// attribute on the right; from each, the attributes of its left side are left out that can be, from the
+/// first on; then, from the first member on, those are left out that the others imply.
+pub fn minimal(alloc: Global, schema: &Schema) -> Result<Vec<Dep>, WantMemory>
+    ensures fixed { IfOk result (λ cover.
+        IsFixedCover (width_of schema.now) (theory_of schema.now) (dependencies_of cover.items)) }
+    ensures minimal { IfOk result (λ cover.
+        IsMinimalCover (width_of schema.now) (theory_of schema.now) (dependencies_of cover.items)) }
+    ensures within { IfOk result (λ cover. All (IsDepWithin (universe_of schema.now)) cover.items) }
+{
+    let members = short_members(alloc, schema)?;
+    needed_from(alloc, schema.width(), members, 0)
+}
+
+/// A minimal cover of the functional dependencies, and those multivalued ones that are left where, from
+/// the first to the last, each is left out that the cover and the others imply. It says all that the
+/// schema says.
+pub fn whole_cover(alloc: Global, schema: &Schema) -> Result<Vec<Dep>, WantMemory>
+    ensures fixed { IfOk result (λ whole.
+        IsFixedWholeCover (width_of schema.now) (theory_of schema.now) (dependencies_of whole.items)) }
+    ensures whole { IfOk result (λ whole.
+        IsWholeCover (width_of schema.now) (theory_of schema.now) (dependencies_of whole.items)) }
+    ensures within { IfOk result (λ whole. All (IsDepWithin (universe_of schema.now)) whole.items) }
+{
+    let mut cover = minimal(alloc, schema)?;
+    let from = cover.len();
+    add_multivalued(schema.deps(), &mut cover)?;
+    needed_from(alloc, schema.width(), cover, from)
+}

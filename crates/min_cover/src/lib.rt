@@ -1,0 +1,15 @@
+//! Covers of a schema's dependencies: what says the same with nothing that can be left out.
+//!
+//! `minimal` gives a minimal cover of the functional dependencies, the one that a fixed order of trying
+//! leaves (Maier 1980). `whole_cover` adds the multivalued dependencies that the others do not imply; it
+//! says all that the schema says.
+#![tactic(auto)]
+
+mod covering;
+mod shortening;
+mod thinning;
+
+pub use covering::{minimal, whole_cover};
+
+#[cfg(test)]
+mod tests;
