@@ -8,6 +8,10 @@ pub data Task : Type 0 where
   implies : List ℕ → Task
   -- whether the certificate of a file proves a goal
   check_proof : List ℕ → List ℕ → Task
+  -- its cover
+  cover : Task
+  -- its keys
+  keys : Task
 
 -- a command
 pub data Form : Type 0 where
@@ -19,6 +23,11 @@ pub data Form : Type 0 where
   version : Form
 
 -- ---- words after those of a command
+-- a schema alone
+unfoldable pub schema_alone : Task → List (List ℕ) → Option Form
+schema_alone task (schema ∷ []) = Some (over_schema schema task)
+schema_alone task _ = None
+
 -- a schema and one word more
 unfoldable pub schema_and : (List ℕ → Task) → List (List ℕ) → Option Form
 schema_and task (schema ∷ word ∷ []) = Some (over_schema schema (task word))
@@ -48,6 +57,8 @@ form_of [] = None
 form_of (verb ∷ rest) =
     if bytes_eq verb (codes "implies") then schema_and implies rest
     else if bytes_eq verb (codes "check") then check_form rest
+    else if bytes_eq verb (codes "cover") then schema_alone cover rest
+    else if bytes_eq verb (codes "keys") then schema_alone keys rest
     else if bytes_eq verb (codes "help") then alone help rest
     else if bytes_eq verb (codes "--help") then alone help rest
     else if bytes_eq verb (codes "-h") then alone help rest

@@ -7,6 +7,8 @@ pub mod Implication
 pub mod Certificates
 pub mod Help
 pub mod Forms
+pub mod Covering
+pub mod Keys
 pub mod Performs
 pub mod Commands
 pub mod Replies

@@ -4,10 +4,12 @@ use Rattle.dep_model.specs.declared.schema.Schema.{Schema}
 use Rattle.desk_cli.specs.declared.status.Status.TheVariants.{Yes, Refused}
 use Rattle.desk_cli.specs.Answers.{Allowed, Says}
 use Rattle.desk_cli.specs.Certificates.{ChecksProof}
-use Rattle.desk_cli.specs.Forms.{Form, over_schema, help, version, Task, implies, check_proof, form_of}
+use Rattle.desk_cli.specs.Covering.{GivesCover}
+use Rattle.desk_cli.specs.Forms.{Form, over_schema, help, version, Task, implies, check_proof, cover, keys, form_of}
 use Rattle.desk_cli.specs.Help.{help_text, version_text}
 use Rattle.desk_cli.specs.Implication.{Implies}
 use Rattle.desk_cli.specs.Inputs.{WithSchema}
+use Rattle.desk_cli.specs.Keys.{ListsKeys}
 use Rattle.desk_cli.specs.Readings.{Reading}
 use Rattle.desk_cli.specs.Texts.{words_text}
 
@@ -15,6 +17,8 @@ use Rattle.desk_cli.specs.Texts.{words_text}
 unfoldable pub Does : Reading → Schema → Task → Allowed
 Does r schema (implies goal) = Implies schema goal
 Does r schema (check_proof file goal) = ChecksProof r schema file goal
+Does r schema cover = GivesCover schema
+Does r schema keys = ListsKeys schema
 
 -- a command
 unfoldable pub Performs : Reading → Form → Allowed

@@ -1,6 +1,6 @@
 ghost use Rattle.std.specs.Prelude.{◌≡◌, option_map};
-ghost use Rattle.desk_cli.specs.Forms.{schema_and, schema_and_two, alone, check_form, form_of, implies, check_proof};
-ghost use Rattle.desk_cli.specs.Commands.{command_form};
+ghost use Rattle.desk_cli.specs.Forms.{schema_alone, schema_and, schema_and_two, alone, check_form, form_of, implies, check_proof};
+ghost use Rattle.desk_cli.specs.Commands.{command_form, task_form};
 
 use desk_outside::Word;
 
@@ -11,6 +11,10 @@ pub enum Task<'a> {
     Implies { goal: &'a Word },
     /// Whether the certificate of a file proves a goal.
     CheckProof { file: &'a Word, goal: &'a Word },
+    /// What says the same, with nothing that can be left out.
+    Cover,
+    /// All its keys.
+    Keys,
 }
 
 /// A command.
@@ -38,6 +42,12 @@ pub fn parse(words: &[Word]) -> Option<Command<'_>>
     if verb.bytes() == b"check".as_slice() {
         return of_check(rest);
     }
+    if verb.bytes() == b"cover".as_slice() {
+        return over_schema_alone(Task::Cover, rest);
+    }
+    if verb.bytes() == b"keys".as_slice() {
+        return over_schema_alone(Task::Keys, rest);
+    }
     let verb = verb.bytes();
     if verb == b"help".as_slice() || verb == b"--help".as_slice() || verb == b"-h".as_slice() {
         return alone(Command::Help, rest);
@@ -55,6 +65,17 @@ fn alone<'a>(command: Command<'a>, words: &[Word]) -> Option<Command<'a>>
 {
     match words {
         [] => Some(command),
+        _ => None,
+    }
+}
+
+// A schema, and no word more.
+#[tactic(auto, unfolding(crate::specs::Forms::schema_alone))]
+fn over_schema_alone<'a>(task: Task<'a>, words: &'a [Word]) -> Option<Command<'a>>
+    ensures form { option_map command_form result ≡ schema_alone (task_form task.entry) words.now }
+{
+    match words {
+        [schema] => Some(Command::OverSchema { schema, task }),
         _ => None,
     }
 }

@@ -8,6 +8,8 @@ use std::alloc::Global;
 
 const HELP: &[u8] = b"desk implies SCHEMA GOAL              whether the schema implies the goal
 desk check proof SCHEMA FILE GOAL     whether the certificate in FILE proves the goal
+desk cover SCHEMA                     what says the same, with nothing that can be left out
+desk keys SCHEMA                      all keys
 desk help                             this text
 desk --version                        the release
 Status: 0 yes, 1 no, 2 refused, 3 a file cannot be read, 4 the output cannot be written, 5 a target failed, 6 want of memory.

@@ -8,10 +8,12 @@
 
 mod check_proof;
 mod command;
+mod cover;
 mod finish;
 mod goal;
 mod help;
 mod implies;
+mod keys;
 mod proof_refusals;
 mod read;
 mod refusals;

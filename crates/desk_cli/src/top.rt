@@ -10,9 +10,11 @@ ghost use Rattle.desk_cli.specs.Replies.{answer_of, RepliesAs};
 use crate::Status;
 use crate::check_proof::check_proof;
 use crate::command::{Command, Task, parse};
+use crate::cover::cover;
 use crate::finish::settle;
 use crate::help::{help, version};
 use crate::implies::implies;
+use crate::keys::list_keys;
 use crate::read::open_schema;
 use crate::reply::{Reply, Stop};
 use crate::text::line_of;
@@ -147,5 +149,7 @@ fn does<F: Shelf>(
     match task {
         Task::Implies { goal } => implies(alloc, schema, goal),
         Task::CheckProof { file, goal } => check_proof(alloc, shelf, schema, file, goal),
+        Task::Cover => cover(alloc, schema),
+        Task::Keys => list_keys(alloc, schema),
     }
 }

@@ -1,0 +1,78 @@
+ghost use Rattle.std.specs.Prelude.{◌≡◌, ◌≤◌, All, IfOk, length};
+ghost use Rattle.attr_sets.specs.Places.{Within};
+ghost use Rattle.attr_sets.specs.Sets.{places};
+ghost use Rattle.dep_model.specs.Schemas.{names_of, universe_of};
+ghost use Rattle.desk_cli.specs.Answers.{Says};
+ghost use Rattle.desk_cli.specs.Keys.{ListsKeys, sets_text, too_wide_text, too_many_keys_text};
+ghost use Rattle.desk_cli.specs.Replies.{answer_of, RepliesAs, StopsAs};
+
+use crate::Status;
+use crate::reply::{Reply, Stop};
+use crate::text::line_of;
+use attr_sets::AttrSet;
+use dep_model::{Schema, WantMemory};
+use key_listing::{KeyRefusal, keys};
+use schema_reader::{add, add_set, print_set};
+use std::alloc::Global;
+
+/// All keys of a schema's universe, each on a line.
+pub fn list_keys(alloc: Global, schema: &Schema) -> Result<Reply, Stop>
+    ensures reply { RepliesAs (ListsKeys schema.now) result }
+{
+    match keys(alloc, schema) {
+        Ok(keys) => Ok(listed(alloc, schema, &keys)?),
+        Err(KeyRefusal::TooManyKeys { .. }) => Err(too_many_keys(alloc)),
+        Err(KeyRefusal::TooWide) => Err(too_wide(alloc, schema, AttrSet::full(schema.width()))),
+        Err(KeyRefusal::Memory) => Err(Stop::Memory),
+    }
+}
+
+/// Sets of attributes, each on a line.
+pub fn listed(alloc: Global, schema: &Schema, sets: &[AttrSet]) -> Result<Reply, WantMemory>
+    requires within { All (λ set. Within (places set) (universe_of schema.now)) sets.now }
+    ensures says { IfOk result (λ reply. Says Status.Yes (sets_text (names_of schema.now) sets.now) (answer_of reply)) }
+{
+    Ok(Reply::says(Status::Yes, set_lines(alloc, schema, sets)?))
+}
+
+fn set_lines(alloc: Global, schema: &Schema, sets: &[AttrSet]) -> Result<Vec<u8>, WantMemory>
+    requires within { All (λ set. Within (places set) (universe_of schema.now)) sets.now }
+    ensures text { IfOk result (λ text. text.items ≡ sets_text (names_of schema.now) sets.now) }
+{
+    let mut text = Vec::new(alloc);
+    for set in sets {
+        add_set(&mut text, schema, *set)?;
+        add(&mut text, b"\n")?;
+    }
+    Ok(text)
+}
+
+// There are more keys than are listed.
+fn too_many_keys(alloc: Global) -> Stop
+    ensures says { StopsAs (Says Status.Refused too_many_keys_text) result }
+{
+    Stop::says(
+        Status::Refused,
+        line_of(alloc, b"refused: too many keys", b"", b""),
+    )
+}
+
+/// A scheme has more attributes than are looked at.
+pub fn too_wide(alloc: Global, schema: &Schema, scheme: AttrSet) -> Stop
+    requires within { Within (places scheme) (universe_of schema.now) }
+    ensures says { StopsAs (Says Status.Refused (too_wide_text (names_of schema.now) (places scheme))) result }
+{
+    Stop::says(Status::Refused, too_wide_line(alloc, schema, scheme))
+}
+
+fn too_wide_line(alloc: Global, schema: &Schema, scheme: AttrSet) -> Result<Vec<u8>, WantMemory>
+    requires within { Within (places scheme) (universe_of schema.now) }
+    ensures line { IfOk result (λ text. text.items ≡ too_wide_text (names_of schema.now) (places scheme)) }
+{
+    line_of(
+        alloc,
+        b"refused: too wide: scheme ",
+        &print_set(alloc, schema, scheme)?,
+        b"",
+    )
+}
