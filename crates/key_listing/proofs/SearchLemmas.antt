@@ -65,9 +65,9 @@ module _ (n : ℕ) (scheme x y z : Places) (low : Within scheme (below n)) (x_in
       let first = after_at after.0 after.1 after.2 after.3 in (
         (λ (k : ℕ) m. sym (after.3 k (first k m)) ∙ m),
         (λ (k : ℕ) m. ⊎_elim
-        (λ (above : after.0 < k). filled.grows k (after.3 k above ∙ m))
-        (λ (upto : k ≤ after.0). filled.all k (z_in k m) (λ (j : ℕ) h. omega (arith, upto, first j h)))
-        (cases_lt after.0 k)),
+            (λ (above : after.0 < k). filled.grows k (after.3 k above ∙ m))
+            (λ (upto : k ≤ after.0). filled.all k (z_in k m) (λ (j : ℕ) h. omega (arith, upto, first j h)))
+            (cases_lt after.0 k)),
       ))
       (λ (back : IsBefore z x). absurd (from back)))
       (tell_before n x z (λ k m. low k (x_in k m)) (λ k m. low k (z_in k m)))

@@ -28,10 +28,10 @@ loop-tried-init c =
     let superkey : IsSuperkey n ds (universe_of s) set = subst (λ (v : Places). IsSuperkey n ds (universe_of s) v) (sym is) (scheme_superkey n ds (universe_of s)) in
     let within : All (IsDepWithin (below n)) c.deps.result.now = subst (λ (es : List Dep). All (IsDepWithin (below n)) es) (sym c.deps.ensures.deps) s.valid.deps_within in
     let settled : IsSettledKey n (functional_part ds) set (places k) =
-        subst (λ (es : List Dep). IsSettledKey n (functional_part (dependencies_of es)) set (places k)) c.deps.ensures.deps (c.functional_key.ensures.settled n within superkey.within.0) in
+    subst (λ (es : List Dep). IsSettledKey n (functional_part (dependencies_of es)) set (places k)) c.deps.ensures.deps (c.functional_key.ensures.settled n within superkey.within.0) in
     let key : IsKey n ds (universe_of s) (places k) = settled_found n ds (universe_of s) set (places k) (λ i m. m) c.requires.functional superkey settled in
     let some : AreSomeKeys n ds (universe_of s) (k ∷ []) =
-        some_more n ds (universe_of s) set [] k (some_none n ds (universe_of s)) (omega arith) key settled.within (λ (held : HoldsAny [] set). absurd (omega (arith, held.2))) (omega arith) in
+    some_more n ds (universe_of s) set [] k (some_none n ds (universe_of s)) (omega arith) key settled.within (λ (held : HoldsAny [] set). absurd (omega (arith, held.2))) (omega arith) in
     let items : c.push.new.self.items ≡ k ∷ [] = c.in_ok-push.ensures.items ∙ ap (λ (fs : List AttrSet). fs ++ k ∷ []) c.new-found.ensures.items in
     record {
       some = subst (λ (fs : List AttrSet). AreSomeKeys n ds (universe_of s) fs) (sym items) some;

@@ -18,15 +18,17 @@ loop-dep-preserved c =
 
 pub returns-in-Mvd : goal.returns-in-Mvd
 returns-in-Mvd c =
-    record { functional = (
-      (λ e. absurd (false≢true e)),
-      (λ same.
-      let all = dependencies_all-to (λ (d : Dependency). is_fd d ≡ true) c.args.deps.now (all_functional (dependencies_of c.args.deps.now) same) in
-      absurd (true≢false (sym (all c.loop-dep.dep-index _ c.loop-dep-test.true) ∙ ap (λ (d : Dep). is_fd (dependency_of d)) c.in-Mvd.is))),
-    ) }
+    record {
+      functional = (
+        (λ e. absurd (false≢true e)),
+        (λ same.
+            let all = dependencies_all-to (λ (d : Dependency). is_fd d ≡ true) c.args.deps.now (all_functional (dependencies_of c.args.deps.now) same) in
+            absurd (true≢false (sym (all c.loop-dep.dep-index _ c.loop-dep-test.true) ∙ ap (λ (d : Dep). is_fd (dependency_of d)) c.in-Mvd.is))),
+      );
+    }
 
 pub returns : goal.returns
 returns c =
     let all : All (λ (d : Dep). is_fd (dependency_of d) ≡ true) c.args.deps.now =
-        subst (λ (ds : List Dep). All (λ (d : Dep). is_fd (dependency_of d) ≡ true) ds) (take_all c.loop-dep.dep-index c.args.deps.now c.loop-dep-test.false) c.loop-dep.invariant in
+    subst (λ (ds : List Dep). All (λ (d : Dep). is_fd (dependency_of d) ≡ true) ds) (take_all c.loop-dep.dep-index c.args.deps.now c.loop-dep-test.false) c.loop-dep.invariant in
     record { functional = ((λ _. functional_list c.args.deps.now all), (λ _. refl)) }
