@@ -15,8 +15,7 @@ use Rattle.attr_sets.proofs.OrderLemmas.{before_from_lt}
 use Rattle.dep_model.specs.declared.dep.Dep.{Dep}
 use Rattle.dep_model.specs.Deps.{dependency_of, dependencies_of}
 use Rattle.attr_sets.specs.Sets.{places}
-use Rattle.attr_sets.specs.Places.{Places, below, union, minus, Within, Same, IsBefore}
-use Rattle.dep_model.specs.Tuples.{Relation}
+use Rattle.attr_sets.specs.Places.{Places, below, union, Within, Same, IsBefore}
 use Rattle.dep_model.specs.Dependencies.{Dependency, fd, mvd, Obeys, ObeysFd, is_fd, functional_part, IsWithin}
 use Rattle.dep_model.specs.Keys.{IsSuperkey, IsKey, IsSettledKey}
 use Rattle.dep_model.proofs.RuleLemmas.{reflexivity_obeyed, transitivity_obeyed, fd_weaker_obeyed, fd_union_obeyed}

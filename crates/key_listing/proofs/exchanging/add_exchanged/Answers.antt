@@ -1,17 +1,16 @@
-use Rattle.std.proofs.Common.{◌≡◌, ℕ, ◌+◌, ◌<◌, ◌≤◌, true, List, take, take_all, length, get_or, refl, sym, ◌∙◌, ap, subst, arith}
+use Rattle.std.proofs.Common.{◌≡◌, ℕ, ◌<◌, true, List, take, take_all, length, get_or, sym, ◌∙◌, ap, subst, arith}
 use Rattle.std.proofs.lemmas.Bool.{true≢false}
-use Rattle.std.specs.Prelude.{All}
-use Rattle.attr_sets.specs.Places.{Places, below, union, minus, Within}
+use Rattle.attr_sets.specs.Places.{Places, below, union, minus}
 use Rattle.attr_sets.specs.Sets.{places}
 use Rattle.attr_sets.proofs.PlacesLemmas.{Same-path}
 use Rattle.dep_model.specs.declared.dep.Dep.{Dep}
 use Rattle.dep_model.specs.declared.dep.Dep.TheVariants.{Fd, Mvd}
-use Rattle.dep_model.specs.Dependencies.{Dependency, fd, is_fd}
+use Rattle.dep_model.specs.Dependencies.{Dependency, is_fd}
 use Rattle.dep_model.specs.Keys.{IsSuperkey}
 use Rattle.dep_model.specs.Deps.{dependency_of, dependencies_of, IsDepWithin}
 use Rattle.dep_model.specs.Schemas.{width_of, universe_of, theory_of, deps_of}
 use Rattle.dep_model.proofs.DepLemmas.{dependencies_all-to}
-use Rattle.key_listing.specs.Listing.{HoldsAnyUnlessMany, IsExchangedUnlessMany, exchanged}
+use Rattle.key_listing.specs.Listing.{HoldsAnyUnlessMany, IsExchangedUnlessMany}
 use Rattle.key_listing.proofs.ListLemmas.{grows_none, grows_again}
 use Rattle.key_listing.proofs.FoundLemmas.{all_functional, exchanged_superkey, given_in, exchanged_none, exchanged_more}
 use Rattle.key_listing.proofs.exchanging.add_exchanged.Goals.{in-Fd+in_ok-add_key_within, in_default}

@@ -1,7 +1,7 @@
-use Rattle.std.proofs.Common.{◌≡◌, ℕ, ◌+◌, ◌<◌, ◌≤◌, List, [], ◌∷◌, ◌++◌, length, get_or, refl, sym, ◌∙◌, ap, subst, arith}
+use Rattle.std.proofs.Common.{◌≡◌, ℕ, ◌+◌, ◌<◌, ◌≤◌, List, [], ◌∷◌, ◌++◌, length, refl, sym, ◌∙◌, ap, subst, arith}
 use Rattle.std.specs.Prelude.{All}
 use Rattle.attr_sets.specs.declared.set.AttrSet.{AttrSet}
-use Rattle.attr_sets.specs.Places.{Places, below, Within}
+use Rattle.attr_sets.specs.Places.{Places, below}
 use Rattle.attr_sets.specs.Sets.{places}
 use Rattle.attr_sets.proofs.PlacesLemmas.{Same-path}
 use Rattle.dep_model.specs.declared.dep.Dep.{Dep}
@@ -11,8 +11,7 @@ use Rattle.dep_model.specs.Deps.{dependencies_of, IsDepWithin}
 use Rattle.dep_model.specs.Schemas.{width_of, universe_of, theory_of, deps_of}
 use Rattle.dep_model.proofs.DepLemmas.{dependencies_all-from}
 use Rattle.dep_model.proofs.KeyLemmas.{scheme_superkey}
-use Rattle.key_listing.specs.declared.refusal.TheConstants.{MOST_KEYS}
-use Rattle.key_listing.specs.Listing.{AreSomeKeys, HoldsAny, IsExchangedUnlessMany}
+use Rattle.key_listing.specs.Listing.{AreSomeKeys, HoldsAny}
 use Rattle.key_listing.proofs.ListLemmas.{grows_longer}
 use Rattle.key_listing.proofs.FoundLemmas.{some_none, some_more, settled_found, tried_more, sorted_found}
 use Rattle.key_listing.proofs.exchanging.exchanged_keys.Goals as goal
