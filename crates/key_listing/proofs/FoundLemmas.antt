@@ -15,8 +15,7 @@ use Rattle.attr_sets.proofs.OrderLemmas.{before_from_lt}
 use Rattle.dep_model.specs.declared.dep.Dep.{Dep}
 use Rattle.dep_model.specs.Deps.{dependency_of, dependencies_of}
 use Rattle.attr_sets.specs.Sets.{places}
-use Rattle.attr_sets.specs.Places.{Places, below, union, minus, Within, Same, IsBefore}
-use Rattle.dep_model.specs.Tuples.{Relation}
+use Rattle.attr_sets.specs.Places.{Places, below, union, Within, Same, IsBefore}
 use Rattle.dep_model.specs.Dependencies.{Dependency, fd, mvd, Obeys, ObeysFd, is_fd, functional_part, IsWithin}
 use Rattle.dep_model.specs.Keys.{IsSuperkey, IsKey, IsSettledKey}
 use Rattle.dep_model.proofs.RuleLemmas.{reflexivity_obeyed, transitivity_obeyed, fd_weaker_obeyed, fd_union_obeyed}
@@ -83,7 +82,7 @@ exchanged_more deps i first e old found k lt at grows before held few =
     let longer : length old ≤ length found = grows_longer old found grows in
     let earlier : All P (dependencies_of (take i deps)) = λ j d l. Any-grows (λ (s : AttrSet). Within (places s) (exchanged (get_or (dependencies_of (take i deps)) j d) k)) old found grows (before (omega (arith, longer, few)) j d l) in
     let more : dependencies_of (take (i + 1) deps) ≡ dependencies_of (take i deps) ++ dependency_of e ∷ [] =
-        map_more dependency_of deps i first lt ∙ ap (λ (d : Dep). dependencies_of (take i deps) ++ dependency_of d ∷ []) at in
+    map_more dependency_of deps i first lt ∙ ap (λ (d : Dep). dependencies_of (take i deps) ++ dependency_of d ∷ []) at in
     subst (λ (ds : List Dependency). All P ds) (sym more) (All-push P (dependencies_of (take i deps)) (dependency_of e) earlier (held few))
 
 -- a key that was tried stays so where more are found
@@ -155,7 +154,7 @@ exchanged_all : (n : ℕ) (ds : List Dependency) (found : List AttrSet) → All 
     → ((i : ℕ) (d : AttrSet) → i < length found → IsExchangedBy ds found (places (get_or found i d))) → (k : Places) → IsKey n ds (below n) k → Any (λ (j : AttrSet). Same (places j) k) found
 exchanged_all n ds found within functional some each exchange k key =
     let held = all_keys n ds (map places found) within functional (get_or (map places found) 0 (below n)) (Contains-get_or (map places found) 0 (below n) (omega (arith, some, length-map found places)))
-        (All-map (IsKey n ds (below n)) places found each) all_exchanged k key in
+    (All-map (IsKey n ds (below n)) places found each) all_exchanged k key in
     let at = map-member places found held.1 (held.0, held.2, held.3) in
     (at.1.0, at.0, at.1.1, at.1.2, subst (λ (v : Places). Same v k) (sym at.2) held.4)
   where

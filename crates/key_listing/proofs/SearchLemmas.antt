@@ -1,17 +1,15 @@
 -- The search for keys over the subsets of a scheme, in their order.
-use Rattle.std.proofs.Common.{◌≡◌, ℕ, ◌+◌, ◌-◌, ◌^◌, ◌<◌, ◌≤◌, ◌⊎◌, true, false, List, [], ◌∷◌, ◌++◌, length, get_or, refl, sym, ◌∙◌, subst, ap, ⊎_elim, inl, inr, arith}
-use Rattle.std.proofs.lemmas.Bool.{cases_Bool, cases_eq, cases_lt, cases_order, true≢false}
-use Rattle.std.proofs.lemmas.Bool.Decides.{nat_tests}
-use Rattle.std.proofs.lemmas.List.{length_push}
-use Rattle.std.proofs.lemmas.List.Elements.{All-push, All-get_or}
+use Rattle.std.proofs.Common.{◌≡◌, ℕ, ◌+◌, ◌-◌, ◌^◌, ◌<◌, ◌≤◌, true, false, List, [], ◌∷◌, ◌++◌, length, refl, sym, ◌∙◌, subst, ap, ⊎_elim, inl, inr, arith}
+use Rattle.std.proofs.lemmas.Bool.{cases_Bool, cases_lt, cases_order, true≢false}
+use Rattle.std.proofs.lemmas.List.Elements.{All-push}
 use Rattle.std.proofs.lemmas.List.Quantifiers.{all_pairs_push, Any-push}
-use Rattle.std.specs.Prelude.{All, AllPairs, Any, Option, Some, None, IsNone, IfSome}
+use Rattle.std.specs.Prelude.{All, AllPairs, Option, Some, None, IsNone, IfSome}
 use Rattle.attr_sets.specs.declared.set.AttrSet.{AttrSet}
 use Rattle.attr_sets.specs.Sets.{places}
 use Rattle.attr_sets.specs.Places.{Places, below, none, Within, Same, IsBefore, IsNextSubset}
 use Rattle.attr_sets.specs.declared.set.TheConstants.{PLACES}
 use Rattle.attr_sets.proofs.PlacesLemmas.{Same-path, Same-within, same_number, places_below}
-use Rattle.attr_sets.proofs.OrderLemmas.{IsBefore-irrefl, IsBefore-trans, lt_from_before, tell_before, next_subset-before, none-first, whole-last}
+use Rattle.attr_sets.proofs.OrderLemmas.{IsBefore-irrefl, IsBefore-trans, lt_from_before, tell_before, next_subset-before, none-first}
 use Rattle.dep_model.specs.Dependencies.{Dependency}
 use Rattle.dep_model.specs.Keys.{IsSuperkey, IsKey}
 use Rattle.dep_model.proofs.KeyLemmas.{superkey_more}
@@ -65,9 +63,9 @@ module _ (n : ℕ) (scheme x y z : Places) (low : Within scheme (below n)) (x_in
       let first = after_at after.0 after.1 after.2 after.3 in (
         (λ (k : ℕ) m. sym (after.3 k (first k m)) ∙ m),
         (λ (k : ℕ) m. ⊎_elim
-        (λ (above : after.0 < k). filled.grows k (after.3 k above ∙ m))
-        (λ (upto : k ≤ after.0). filled.all k (z_in k m) (λ (j : ℕ) h. omega (arith, upto, first j h)))
-        (cases_lt after.0 k)),
+            (λ (above : after.0 < k). filled.grows k (after.3 k above ∙ m))
+            (λ (upto : k ≤ after.0). filled.all k (z_in k m) (λ (j : ℕ) h. omega (arith, upto, first j h)))
+            (cases_lt after.0 k)),
       ))
       (λ (back : IsBefore z x). absurd (from back)))
       (tell_before n x z (λ k m. low k (x_in k m)) (λ k m. low k (z_in k m)))

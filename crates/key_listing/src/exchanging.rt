@@ -33,11 +33,7 @@ pub fn exchanged_keys(alloc: Global, schema: &Schema) -> Result<Vec<AttrSet>, Wa
 }
 
 // Adds a key within each set that a dependency makes of a key, where no found one lies within it.
-fn add_exchanged(
-    schema: &Schema,
-    key: AttrSet,
-    found: &mut Vec<AttrSet>,
-) -> Result<(), WantMemory>
+fn add_exchanged(schema: &Schema, key: AttrSet, found: &mut Vec<AttrSet>) -> Result<(), WantMemory>
     requires functional { functional_part (theory_of schema.now) ≡ theory_of schema.now }
     requires key { IsKey (width_of schema.now) (theory_of schema.now) (universe_of schema.now) (places key) }
     requires some { AreSomeKeys (width_of schema.now) (theory_of schema.now) (universe_of schema.now) found.old.items }
@@ -55,11 +51,7 @@ fn add_exchanged(
 }
 
 // Adds a key within a superkey, where no found one lies within it and they are not more than are listed.
-fn add_key_within(
-    schema: &Schema,
-    set: AttrSet,
-    found: &mut Vec<AttrSet>,
-) -> Result<(), WantMemory>
+fn add_key_within(schema: &Schema, set: AttrSet, found: &mut Vec<AttrSet>) -> Result<(), WantMemory>
     requires functional { functional_part (theory_of schema.now) ≡ theory_of schema.now }
     requires superkey { IsSuperkey (width_of schema.now) (theory_of schema.now) (universe_of schema.now) (places set) }
     requires some { AreSomeKeys (width_of schema.now) (theory_of schema.now) (universe_of schema.now) found.old.items }

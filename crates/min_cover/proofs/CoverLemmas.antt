@@ -1,18 +1,17 @@
 -- The fixed cover is a minimal one, and the fixed whole cover says the same as the schema.
-use Rattle.std.proofs.Common.{◌≡◌, ℕ, ◌↔◌, true, false, not, List, [], ◌∷◌, ◌++◌, refl, sym, ◌∙◌, subst, ap, ⊎_elim, arith, append-nil, append_assoc}
+use Rattle.std.proofs.Common.{◌≡◌, ℕ, true, not, List, [], ◌∷◌, ◌++◌, refl, sym, ◌∙◌, subst, ap, ⊎_elim, arith, append-nil, append_assoc}
 use Rattle.std.proofs.lemmas.Bool.{true≢false}
 use Rattle.std.proofs.lemmas.Bool.Decides.{nat_tests}
-use Rattle.std.proofs.lemmas.List.{append_cancel_left}
 use Rattle.std.proofs.lemmas.List.Elements.{All-nil, All-cons, All-head, All-tail, All-append, All-weaker, All-contains, All-map, All-filter}
-use Rattle.std.specs.Prelude.{All, Contains, filter}
-use Rattle.std.specs.List.{AllZip, flat_map}
-use Rattle.attr_sets.specs.Places.{Places, below, only, minus, Within}
+use Rattle.std.specs.Prelude.{All}
+use Rattle.std.specs.List.{flat_map}
+use Rattle.attr_sets.specs.Places.{below, only, minus, Within}
 use Rattle.dep_model.specs.Tuples.{Relation}
-use Rattle.dep_model.specs.Dependencies.{Dependency, fd, mvd, Obeys, ObeysFd, is_fd, functional_part, left_of, right_of, IsWithin}
+use Rattle.dep_model.specs.Dependencies.{Dependency, fd, mvd, Obeys, is_fd, functional_part, left_of, right_of, IsWithin}
 use Rattle.dep_model.specs.Implication.{IsLegal, Implies}
 use Rattle.dep_model.specs.Projections.{members_below}
 use Rattle.dep_model.proofs.RuleLemmas.{fd_weaker_obeyed, replication_obeyed}
-use Rattle.min_cover.specs.Members.{members_of, IsShortLeft, IsShortened}
+use Rattle.min_cover.specs.Members.{members_of, IsShortened}
 use Rattle.min_cover.specs.Covers.{IsThinned, IsFixedCover, IsFixedWholeCover, multivalued_part, HaveSameLegal, IsSingle, IsMinimalCover, IsWholeCover}
 use Rattle.min_cover.proofs.ListLemmas.{All-left, All-right, All-flat_map-to, All-flat_map-from, AllZip-to, AllZip-from, cons_parts, nil_not_split, split_later}
 use Rattle.min_cover.proofs.MemberLemmas.{members_are, members_obeyed-to, short_implied, short_needed}

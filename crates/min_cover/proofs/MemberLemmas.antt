@@ -1,16 +1,16 @@
 -- The members of a functional dependency say the same as it, also with their left sides shortened.
-use Rattle.std.proofs.Common.{◌≡◌, ℕ, ◌+◌, ◌<◌, zero, suc, ◌↔◌, true, false, List, [], ◌∷◌, ◌++◌, map, refl, sym, ◌∙◌, subst, ap, inl, inr, arith, append-nil}
+use Rattle.std.proofs.Common.{◌≡◌, ℕ, ◌+◌, ◌<◌, zero, suc, true, false, List, [], ◌∷◌, ◌++◌, refl, sym, ◌∙◌, subst, ap, inl, inr, arith, append-nil}
 use Rattle.std.proofs.lemmas.Bool.{cases_Bool, cases_eq, ltb-true, true≢false}
 use Rattle.std.proofs.lemmas.Bool.Decides.{nat_tests}
 use Rattle.std.proofs.lemmas.List.{map_push}
-use Rattle.std.proofs.lemmas.List.Elements.{All-nil, All-map, All-push, All-contains, AllZip-push}
+use Rattle.std.proofs.lemmas.List.Elements.{All-nil, All-push, All-contains, AllZip-push}
 use Rattle.std.specs.Prelude.{All, Contains, nat_lt, if◌then◌else◌}
 use Rattle.std.specs.List.{AllZip}
-use Rattle.attr_sets.specs.Places.{Places, below, only, union, minus, Within, count_below}
+use Rattle.attr_sets.specs.Places.{Places, below, only, minus, Within, count_below}
 use Rattle.attr_sets.proofs.PlacesLemmas.{Same-path, count_below-place}
 use Rattle.dep_model.specs.Tuples.{Relation}
 use Rattle.dep_model.specs.declared.dep.Dep.{Dep}
-use Rattle.dep_model.specs.Dependencies.{Dependency, fd, mvd, Obeys, ObeysFd, is_fd, functional_part}
+use Rattle.dep_model.specs.Dependencies.{Dependency, fd, Obeys, ObeysFd, is_fd, functional_part}
 use Rattle.dep_model.specs.Deps.{dependency_of, dependencies_of, IsDepWithin}
 use Rattle.dep_model.specs.Implication.{Implies}
 use Rattle.dep_model.specs.Projections.{members_below}

@@ -1,15 +1,14 @@
 -- The loop that leaves out what the others imply: a list in which a dependency that every relation obeys stands for each that was left out.
-use Rattle.std.proofs.Common.{◌≡◌, ℕ, ◌+◌, ◌<◌, suc, ◌↔◌, true, List, [], ◌∷◌, ◌++◌, length, get_or, set, take, drop, map, refl, sym, ◌∙◌, subst, ap, ◌⊎◌, ◌≤◌, ⊎_elim, inl, inr, Bool, not, false, append-nil, arith}
+use Rattle.std.proofs.Common.{◌≡◌, ℕ, ◌+◌, ◌<◌, suc, ◌↔◌, true, List, [], ◌∷◌, ◌++◌, length, get_or, set, take, drop, refl, sym, ◌∙◌, subst, ap, ◌⊎◌, ◌≤◌, ⊎_elim, inl, inr, Bool, not, false, append-nil, arith}
 use Rattle.std.proofs.lemmas.Bool.{true≢false, not-true}
 use Rattle.std.proofs.lemmas.List.{set_split, set-set, set-get_or, drop-set-lt, drop_more, drop_all, take_more, take_more_set, map_push, map-append, drop-map, drop_at, length-map, length-take, map_more, take-append-le}
 use Rattle.std.proofs.lemmas.List.Elements.{All-cons, All-head, All-tail, All-append, All-push, All-set, All-weaker, filter_passes, filter-append}
 use Rattle.std.specs.Prelude.{All, filter}
-use Rattle.attr_sets.specs.Places.{below}
 use Rattle.dep_model.specs.declared.dep.Dep.{Dep}
-use Rattle.dep_model.specs.Tuples.{Relation, IsOver}
+use Rattle.dep_model.specs.Tuples.{Relation}
 use Rattle.dep_model.specs.Dependencies.{Dependency, fd, mvd, Obeys, is_fd, functional_part}
 use Rattle.dep_model.specs.Implication.{IsLegal, Implies}
-use Rattle.dep_model.specs.Deps.{dependency_of, dependencies_of, IsDepWithin}
+use Rattle.dep_model.specs.Deps.{dependency_of, dependencies_of}
 use Rattle.dep_model.proofs.DepLemmas.{legal-to, legal-from, dependencies_all-to}
 use Rattle.min_cover.specs.Covers.{IsThinned, multivalued_part}
 use Rattle.min_cover.proofs.ListLemmas.{All-left, All-right}

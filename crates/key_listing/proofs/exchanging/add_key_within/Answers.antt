@@ -1,4 +1,4 @@
-use Rattle.std.proofs.Common.{◌≡◌, ℕ, ◌≤◌, List, [], ◌∷◌, ◌++◌, length, sym, ◌∙◌, subst, arith}
+use Rattle.std.proofs.Common.{◌≤◌, List, length, sym, ◌∙◌, subst, arith}
 use Rattle.std.proofs.lemmas.Bool.{false≢true}
 use Rattle.std.proofs.lemmas.List.Quantifiers.{Any-push}
 use Rattle.std.specs.Prelude.{All}
@@ -25,11 +25,11 @@ returns-in_ok-push-clause-some c =
     let k = c.functional_key.result in
     let few : length found ≤ MOST_KEYS = omega (arith, c.if-len-le-MOST_KEYS.true, c.len.ensures, c.args.found.now.ok.0) in
     let none : HoldsAny found set → ⊥ = λ held.
-        false≢true (sym c.if-not-holds_any.true ∙ c.holds_any.ensures.holds.1 (subst (λ (fs : List AttrSet). HoldsAny fs set) (sym c.deref.ensures.value) held)) in
+    false≢true (sym c.if-not-holds_any.true ∙ c.holds_any.ensures.holds.1 (subst (λ (fs : List AttrSet). HoldsAny fs set) (sym c.deref.ensures.value) held)) in
     let within : All (IsDepWithin (below n)) c.deps.result.now = subst (λ (es : List Dep). All (IsDepWithin (below n)) es) (sym c.deps.ensures.deps) s.valid.deps_within in
     let set_in : Within set (below n) = c.requires.superkey.within.0 in
     let settled : IsSettledKey n (functional_part ds) set (places k) =
-        subst (λ (es : List Dep). IsSettledKey n (functional_part (dependencies_of es)) set (places k)) c.deps.ensures.deps (c.functional_key.ensures.settled n within set_in) in
+    subst (λ (es : List Dep). IsSettledKey n (functional_part (dependencies_of es)) set (places k)) c.deps.ensures.deps (c.functional_key.ensures.settled n within set_in) in
     let key : IsKey n ds (universe_of s) (places k) = settled_found n ds (universe_of s) set (places k) (λ i m. m) c.requires.functional c.requires.superkey settled in
     subst (λ (fs : List AttrSet). AreSomeKeys n ds (universe_of s) fs) (sym c.in_ok-push.ensures.items)
     (some_more n ds (universe_of s) set found k c.requires.some few key settled.within none (omega arith))

@@ -1,7 +1,7 @@
-use Rattle.std.proofs.Common.{◌≡◌, ℕ, ◌+◌, ◌<◌, ◌≤◌, List, [], ◌∷◌, ◌++◌, length, get_or, refl, sym, ◌∙◌, ap, subst, arith}
+use Rattle.std.proofs.Common.{◌≡◌, ℕ, ◌+◌, ◌<◌, ◌≤◌, List, [], ◌∷◌, ◌++◌, length, refl, sym, ◌∙◌, ap, subst, arith}
 use Rattle.std.specs.Prelude.{All}
 use Rattle.attr_sets.specs.declared.set.AttrSet.{AttrSet}
-use Rattle.attr_sets.specs.Places.{Places, below, Within}
+use Rattle.attr_sets.specs.Places.{Places, below}
 use Rattle.attr_sets.specs.Sets.{places}
 use Rattle.attr_sets.proofs.PlacesLemmas.{Same-path}
 use Rattle.dep_model.specs.declared.dep.Dep.{Dep}
@@ -11,8 +11,7 @@ use Rattle.dep_model.specs.Deps.{dependencies_of, IsDepWithin}
 use Rattle.dep_model.specs.Schemas.{width_of, universe_of, theory_of, deps_of}
 use Rattle.dep_model.proofs.DepLemmas.{dependencies_all-from}
 use Rattle.dep_model.proofs.KeyLemmas.{scheme_superkey}
-use Rattle.key_listing.specs.declared.refusal.TheConstants.{MOST_KEYS}
-use Rattle.key_listing.specs.Listing.{AreSomeKeys, HoldsAny, IsExchangedUnlessMany}
+use Rattle.key_listing.specs.Listing.{AreSomeKeys, HoldsAny}
 use Rattle.key_listing.proofs.ListLemmas.{grows_longer}
 use Rattle.key_listing.proofs.FoundLemmas.{some_none, some_more, settled_found, tried_more, sorted_found}
 use Rattle.key_listing.proofs.exchanging.exchanged_keys.Goals as goal
@@ -28,10 +27,10 @@ loop-tried-init c =
     let superkey : IsSuperkey n ds (universe_of s) set = subst (λ (v : Places). IsSuperkey n ds (universe_of s) v) (sym is) (scheme_superkey n ds (universe_of s)) in
     let within : All (IsDepWithin (below n)) c.deps.result.now = subst (λ (es : List Dep). All (IsDepWithin (below n)) es) (sym c.deps.ensures.deps) s.valid.deps_within in
     let settled : IsSettledKey n (functional_part ds) set (places k) =
-        subst (λ (es : List Dep). IsSettledKey n (functional_part (dependencies_of es)) set (places k)) c.deps.ensures.deps (c.functional_key.ensures.settled n within superkey.within.0) in
+    subst (λ (es : List Dep). IsSettledKey n (functional_part (dependencies_of es)) set (places k)) c.deps.ensures.deps (c.functional_key.ensures.settled n within superkey.within.0) in
     let key : IsKey n ds (universe_of s) (places k) = settled_found n ds (universe_of s) set (places k) (λ i m. m) c.requires.functional superkey settled in
     let some : AreSomeKeys n ds (universe_of s) (k ∷ []) =
-        some_more n ds (universe_of s) set [] k (some_none n ds (universe_of s)) (omega arith) key settled.within (λ (held : HoldsAny [] set). absurd (omega (arith, held.2))) (omega arith) in
+    some_more n ds (universe_of s) set [] k (some_none n ds (universe_of s)) (omega arith) key settled.within (λ (held : HoldsAny [] set). absurd (omega (arith, held.2))) (omega arith) in
     let items : c.push.new.self.items ≡ k ∷ [] = c.in_ok-push.ensures.items ∙ ap (λ (fs : List AttrSet). fs ++ k ∷ []) c.new-found.ensures.items in
     record {
       some = subst (λ (fs : List AttrSet). AreSomeKeys n ds (universe_of s) fs) (sym items) some;

@@ -1,4 +1,4 @@
-use Rattle.std.proofs.Common.{◌<◌, length, get_or, take, take_all, refl, sym, ◌∙◌, subst, arith}
+use Rattle.std.proofs.Common.{get_or, take_all, refl, sym, ◌∙◌, subst, arith}
 use Rattle.std.proofs.lemmas.Bool.{false≢true}
 use Rattle.std.proofs.lemmas.List.{get_or_default}
 use Rattle.std.proofs.lemmas.List.Elements.{All-more}
@@ -29,5 +29,5 @@ loop-key-preserved c =
 pub returns : goal.returns
 returns c =
     let all : All (λ (k : AttrSet). Within (places k) (places c.args.set) → ⊥) c.args.found.now =
-        subst (λ (ks : List AttrSet). All (λ (k : AttrSet). Within (places k) (places c.args.set) → ⊥) ks) (take_all c.loop-key.key-index c.args.found.now c.loop-key-test.false) c.loop-key.invariant in
+    subst (λ (ks : List AttrSet). All (λ (k : AttrSet). Within (places k) (places c.args.set) → ⊥) ks) (take_all c.loop-key.key-index c.args.found.now c.loop-key-test.false) c.loop-key.invariant in
     record { holds = ((λ e. absurd (false≢true e)), (λ any. absurd (all any.0 any.1 any.2 (subst (λ (k : AttrSet). Within (places k) (places c.args.set)) (sym any.3) any.4)))) }

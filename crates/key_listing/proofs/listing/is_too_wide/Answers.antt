@@ -1,9 +1,9 @@
-use Rattle.std.proofs.Common.{◌≡◌, refl, sym, ◌∙◌, ap, subst, arith}
-use Rattle.std.proofs.lemmas.Bool.{false≢true, true≢false}
+use Rattle.std.proofs.Common.{◌≡◌, sym, ◌∙◌, subst, arith}
+use Rattle.std.proofs.lemmas.Bool.{false≢true}
 use Rattle.std.proofs.lemmas.Bool.Decides.{nat_tests}
 use Rattle.std.specs.Prelude.{List}
 use Rattle.dep_model.specs.declared.dep.Dep.{Dep}
-use Rattle.dep_model.specs.Dependencies.{Dependency, is_fd, functional_part}
+use Rattle.dep_model.specs.Dependencies.{functional_part}
 use Rattle.dep_model.specs.Deps.{dependencies_of}
 use Rattle.dep_model.specs.Schemas.{theory_of}
 use Rattle.key_listing.proofs.FoundLemmas.{some_multivalued, none_multivalued}
@@ -13,12 +13,12 @@ pub returns-then-is_functional : goal.returns-then-is_functional
 returns-then-is_functional c =
     let ds = theory_of c.args.schema.now in
     let same : functional_part ds ≡ ds =
-        subst (λ (es : List Dep). functional_part (dependencies_of es) ≡ dependencies_of es) c.deps.ensures.deps (c.is_functional.ensures.functional.0 c.if-is_functional.true) in
+    subst (λ (es : List Dep). functional_part (dependencies_of es) ≡ dependencies_of es) c.deps.ensures.deps (c.is_functional.ensures.functional.0 c.if-is_functional.true) in
     record { wide = ((λ e. absurd (false≢true e)), (λ wide. absurd (none_multivalued ds same wide.0))) }
 
 pub returns : goal.returns
 returns c =
     let ds = theory_of c.args.schema.now in
     let some = some_multivalued ds (λ same. false≢true (sym c.if-is_functional.false ∙ c.is_functional.ensures.functional.1
-        (subst (λ (es : List Dep). functional_part (dependencies_of es) ≡ dependencies_of es) (sym c.deps.ensures.deps) same))) in
+    (subst (λ (es : List Dep). functional_part (dependencies_of es) ≡ dependencies_of es) (sym c.deps.ensures.deps) same))) in
     record { wide = ((λ e. (some, grind (arith, nat_tests, e, c.width.ensures.count))), (λ wide. grind (arith, nat_tests, wide.1, c.width.ensures.count))) }

@@ -1,9 +1,8 @@
-use Rattle.std.proofs.Common.{◌≡◌, ℕ, ◌+◌, ◌≤◌, List, [], ◌∷◌, ◌++◌, length, refl, sym, ◌∙◌, ap, subst, arith}
+use Rattle.std.proofs.Common.{◌≡◌, ◌+◌, ◌≤◌, List, [], ◌∷◌, ◌++◌, length, sym, ◌∙◌, ap, subst, arith}
 use Rattle.std.proofs.lemmas.Bool.{false≢true}
 use Rattle.std.proofs.lemmas.List.{length_push}
-use Rattle.std.specs.Prelude.{Option, Some, None, IfSome}
+use Rattle.std.specs.Prelude.{Option, Some}
 use Rattle.attr_sets.specs.declared.set.AttrSet.{AttrSet}
-use Rattle.attr_sets.specs.Places.{Places, Within}
 use Rattle.attr_sets.specs.Sets.{places}
 use Rattle.dep_model.specs.Keys.{IsSuperkey}
 use Rattle.dep_model.specs.Schemas.{width_of, theory_of}
@@ -44,13 +43,13 @@ loop-next-preserved c =
       | else-is_new_key w ↦
           let items : found ≡ old = ap (λ v. v.items) w.found-is in
           let held : IsSuperkey n ds scheme (places set) → HoldsAny old (places set) = λ superkey.
-              subst (λ (fs : List AttrSet). HoldsAny fs (places set)) c.deref.ensures.value (c.is_new_key.ensures.old w.if-is_new_key.false superkey) in (
+          subst (λ (fs : List AttrSet). HoldsAny fs (places set)) c.deref.ensures.value (c.is_new_key.ensures.old w.if-is_new_key.false superkey) in (
             subst (λ (fs : List AttrSet). AreTried n ds scheme fs (places set)) (sym items) (tried_old n ds scheme c.requires.scheme old set before held),
             subst (λ (fs : List AttrSet). length fs ≤ MOST_KEYS) (sym items) before.few,
           )
     ] in
     let alike : AreAlike n ds scheme found (places set) last =
-        subst (λ (fs : List AttrSet). AreAlike n ds scheme fs (places set) last) c.deref-in-Some.ensures.value c.last_alike.ensures.alike in
+    subst (λ (fs : List AttrSet). AreAlike n ds scheme fs (places set) last) c.deref-in-Some.ensures.value c.last_alike.ensures.alike in
     record {
       within = next_within scheme last c.next_subset-next.result c.next_subset-next.ensures.next;
       searched = search_on n ds scheme c.requires.scheme found (places set) last c.next_subset-next.result c.last_alike.ensures.grows c.last_alike.ensures.within tried.0 tried.1 alike
@@ -73,14 +72,16 @@ returns-then-len-gt-MOST_KEYS c =
     let none : HoldsAny old (places set) → ⊥ = λ held. c.is_new_key.ensures.new c.if-is_new_key.true (subst (λ (fs : List AttrSet). HoldsAny fs (places set)) (sym c.deref.ensures.value) held) in
     let items : c.push.new.self.items ≡ old ++ set ∷ [] = c.in_ok-push.ensures.items in
     let tried = subst (λ (fs : List AttrSet). AreTried n ds scheme fs (places set)) (sym items)
-        (tried_new n ds scheme c.requires.scheme old set before (c.is_new_key.ensures.superkey c.if-is_new_key.true) none) in
+    (tried_new n ds scheme c.requires.scheme old set before (c.is_new_key.ensures.superkey c.if-is_new_key.true) none) in
     let count : length c.push.new.self.items ≡ MOST_KEYS + 1 =
-        omega (arith, c.if-len-gt-MOST_KEYS.true, c.len.ensures, c.push.new.self.ok.0, before.few, length_push old set, ap (λ (fs : List AttrSet). length fs) items) in
+    omega (arith, c.if-len-gt-MOST_KEYS.true, c.len.ensures, c.push.new.self.ok.0, before.few, length_push old set, ap (λ (fs : List AttrSet). length fs) items) in
     record { keys = found_many n ds scheme c.requires.scheme c.push.new.self.items (places set) tried count }
 
 pub returns : goal.returns
 returns c =
     let s = c.args.schema.now in
     let scheme = places c.args.scheme in
-    record { keys = found_all (width_of s) (theory_of s) scheme c.requires.scheme c.loop-next.found.items
-        (subst (λ (o : Option AttrSet). AreSearched (width_of s) (theory_of s) scheme c.loop-next.found.items o) c.in_default.is c.loop-next.invariant.searched) }
+    record {
+      keys = found_all (width_of s) (theory_of s) scheme c.requires.scheme c.loop-next.found.items
+          (subst (λ (o : Option AttrSet). AreSearched (width_of s) (theory_of s) scheme c.loop-next.found.items o) c.in_default.is c.loop-next.invariant.searched);
+    }

@@ -24,9 +24,11 @@ pub returns-in-Broken : goal.returns-in-Broken
 unfolding is_yes
 returns-in-Broken c =
     let s = c.args.schema.now in
-    record { superkey = (
-      (λ e. absurd (false≢true e)),
-      (λ superkey.
-      let implied = c.decide.ensures.implied.1 (fd_on-to (width_of s) (theory_of s) (places c.args.scheme) (places c.args.set) (places c.args.scheme) superkey) in
-      absurd (true≢false (ap is_yes (sym implied ∙ c.in-Broken.is)))),
-    ) }
+    record {
+      superkey = (
+        (λ e. absurd (false≢true e)),
+        (λ superkey.
+            let implied = c.decide.ensures.implied.1 (fd_on-to (width_of s) (theory_of s) (places c.args.scheme) (places c.args.set) (places c.args.scheme) superkey) in
+            absurd (true≢false (ap is_yes (sym implied ∙ c.in-Broken.is)))),
+      );
+    }

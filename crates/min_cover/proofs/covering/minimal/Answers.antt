@@ -1,10 +1,9 @@
-use Rattle.std.proofs.Common.{[], inl, subst, sym, arith}
+use Rattle.std.proofs.Common.{[], inl, arith}
 use Rattle.std.proofs.lemmas.Result.{IfOk-weaker}
-use Rattle.std.specs.Prelude.{All}
 use Rattle.attr_sets.specs.Places.{below}
 use Rattle.dep_model.specs.Dependencies.{IsWithin}
 use Rattle.dep_model.specs.Schemas.{width_of, theory_of, deps_of}
-use Rattle.dep_model.specs.Deps.{dependencies_of, IsDepWithin}
+use Rattle.dep_model.specs.Deps.{dependencies_of}
 use Rattle.dep_model.proofs.DepLemmas.{dependencies_all-from}
 use Rattle.min_cover.specs.Covers.{IsThinned, IsFixedCover, IsMinimalCover}
 use Rattle.min_cover.proofs.CoverLemmas.{fixed_is_minimal}

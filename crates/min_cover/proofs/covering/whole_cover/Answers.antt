@@ -1,12 +1,12 @@
-use Rattle.std.proofs.Common.{◌≡◌, ℕ, ◌≤◌, List, ◌++◌, length, take, drop, map, inr, sym, ◌∙◌, ap, subst, arith}
-use Rattle.std.proofs.lemmas.List.{drop-map, drop_at, length-map, length-take}
+use Rattle.std.proofs.Common.{◌≡◌, ℕ, List, ◌++◌, length, take, drop, sym, ap, subst, arith}
+use Rattle.std.proofs.lemmas.List.{length-take}
 use Rattle.std.proofs.lemmas.Result.{IfOk-weaker}
 use Rattle.std.specs.Prelude.{All}
 use Rattle.attr_sets.specs.Places.{below}
 use Rattle.dep_model.specs.declared.dep.Dep.{Dep}
-use Rattle.dep_model.specs.Dependencies.{Dependency, IsWithin}
+use Rattle.dep_model.specs.Dependencies.{IsWithin}
 use Rattle.dep_model.specs.Schemas.{width_of, theory_of, deps_of}
-use Rattle.dep_model.specs.Deps.{dependency_of, dependencies_of, IsDepWithin}
+use Rattle.dep_model.specs.Deps.{dependencies_of, IsDepWithin}
 use Rattle.dep_model.proofs.DepLemmas.{dependencies_all-from}
 use Rattle.min_cover.specs.Covers.{IsThinned, IsFixedWholeCover, IsWholeCover, multivalued_part}
 use Rattle.min_cover.proofs.ThinningLemmas.{AreOfAKind, added_later, added_kinds, thinned_after}

@@ -1,6 +1,6 @@
 use Rattle.std.proofs.Common.{ℕ, List, ◌++◌}
 use Rattle.std.specs.Prelude.{map}
-use Rattle.attr_sets.specs.Places.{Places, only, minus}
+use Rattle.attr_sets.specs.Places.{only, minus}
 use Rattle.attr_sets.specs.Sets.{places}
 use Rattle.dep_model.specs.Dependencies.{Dependency, fd}
 use Rattle.dep_model.specs.Projections.{members_below}

@@ -1,11 +1,11 @@
-use Rattle.std.proofs.Common.{◌≡◌, ℕ, ◌+◌, refl, sym, ◌∙◌, arith}
+use Rattle.std.proofs.Common.{ℕ, ◌+◌, refl, sym, ◌∙◌, arith}
 use Rattle.std.proofs.lemmas.Bool.{ltb-true, false≢true}
 use Rattle.attr_sets.specs.Places.{Places, below, only, minus, Within, Same}
 use Rattle.attr_sets.specs.Sets.{places}
 use Rattle.attr_sets.specs.declared.set.TheConstants.{PLACES}
 use Rattle.attr_sets.proofs.PlacesLemmas.{places_below}
 use Rattle.dep_model.specs.Deps.{dependencies_of}
-use Rattle.min_cover.proofs.ShorteningLemmas.{IsTriedTo, tried_none, tried_left_out, tried_kept, tried_outside, tried_all}
+use Rattle.min_cover.proofs.ShorteningLemmas.{tried_none, tried_left_out, tried_kept, tried_outside, tried_all}
 use Rattle.min_cover.proofs.shortening.short_left.Goals.{then-has+then-follows, then-has+else-follows, else-has}
 use Rattle.min_cover.proofs.shortening.short_left.Goals as goal
 

@@ -1,5 +1,4 @@
 use Rattle.std.proofs.Common.{refl}
-use Rattle.attr_sets.specs.Sets.{places}
 use Rattle.min_cover.proofs.ThinningLemmas.{all_functional}
 use Rattle.min_cover.proofs.thinning.is_implied.Goals as goal
 

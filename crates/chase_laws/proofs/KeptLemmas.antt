@@ -1,0 +1,154 @@
+-- What every step keeps, and what follows for the tableaux that are reached.
+use Rattle.std.proofs.Common.{◌≡◌, ℕ, ◌+◌, ◌≤◌, zero, suc, Bool, true, false, cond, List, [], ◌∷◌, length, sym, ap, subst, ◌∙◌, inl, inr, ⊎_elim, arith}
+use Rattle.std.proofs.lemmas.Bool.{cases_lt}
+use Rattle.std.specs.Prelude.{Contains}
+use Rattle.attr_sets.specs.Places.{Places, union}
+use Rattle.dep_model.specs.Dependencies.{Dependency}
+use Rattle.dep_model.proofs.ListLemmas.{map-member, Contains-map}
+use Rattle.chase_laws.specs.Tableaux.{SymbolRow, Tableau, SameTableau, symbol_at, scheme_row, scheme_rows, plan_tableau}
+use Rattle.chase_laws.specs.Steps.{replaced_in, exchanged, IsFdStep, IsMvdStep, IsFunctionalStep, IsStep, LeadsIn}
+use Rattle.chase_laws.specs.Rounds.{Reaches}
+use Rattle.chase_laws.proofs.TableauLemmas.{symbol_at_past, length-scheme_row, symbol_at-scheme_row, length-exchanged, symbol_at-exchanged, length-replaced_in, replaced_le, cons_cases, cons_here, cons_later}
+
+-- ---- any number of steps
+-- what holds of one of two equal tableaux holds of the other, and each step keeps it
+pub kept : (Step : Tableau → Tableau → Type 0) (P : Tableau → Type 0) → ((t s : Tableau) → SameTableau t s → P t → P s) → ((t s : Tableau) → Step t s → P t → P s)
+    → (count : ℕ) (t s : Tableau) → LeadsIn Step count t s → P t → P s
+kept Step P same step zero t s leads p = same t s leads p
+kept Step P same step (suc count) t s leads p = step leads.0 s leads.2 (kept Step P same step count t leads.0 leads.1 p)
+
+-- a fact of each row
+abbrev pub Each : (SymbolRow → Type 0) → Tableau → Type 0
+Each Q t = (row : SymbolRow) → Contains t row → Q row
+
+pub Each-same : (Q : SymbolRow → Type 0) (t s : Tableau) → SameTableau t s → Each Q t → Each Q s
+Each-same Q t s same each row h = each row ((same row).1 h)
+
+pub Each-fd : (Q : SymbolRow → Type 0) (x y : Places) (t s : Tableau) (step : IsFdStep x y t s)
+    → ((p : SymbolRow) → Contains t p → Q (replaced_in step.place (symbol_at step.second step.place) (symbol_at step.first step.place) p)) → Each Q s
+Each-fd Q x y t s step each row h =
+    let w = map-member (replaced_in step.place (symbol_at step.second step.place) (symbol_at step.first step.place)) t row ((step.after row).1 h) in
+    subst Q w.2 (each w.0 w.1)
+
+pub Each-mvd : (Q : SymbolRow → Type 0) (n : ℕ) (x y : Places) (t s : Tableau) (step : IsMvdStep n x y t s) → Each Q t → Q (exchanged n (union x y) step.first step.second) → Each Q s
+Each-mvd Q n x y t s step each made row h =
+    ⊎_elim (λ (e : exchanged n (union x y) step.first step.second ≡ row). subst Q e made) (each row) (cons_cases (exchanged n (union x y) step.first step.second) t row ((step.after row).1 h))
+
+-- ---- the length of the rows
+abbrev pub HasLength : ℕ → SymbolRow → Type 0
+HasLength n row = length row ≡ n
+
+over_fd : (n : ℕ) (ds : List Dependency) (t s : Tableau) → IsFunctionalStep ds t s → Each (HasLength n) t → Each (HasLength n) s
+over_fd n ds t s step each =
+    Each-fd (HasLength n) step.lhs step.rhs t s step.step
+    (λ p p_in. length-replaced_in step.step.place (symbol_at step.step.second step.step.place) (symbol_at step.step.first step.step.place) p ∙ each p p_in)
+
+over_step : (n : ℕ) (ds : List Dependency) (t s : Tableau) → IsStep n ds t s → Each (HasLength n) t → Each (HasLength n) s
+over_step n ds t s (inl step) each = over_fd n ds t s step each
+over_step n ds t s (inr step) each = Each-mvd (HasLength n) n step.lhs step.rhs t s step.step each (length-exchanged n (union step.lhs step.rhs) step.step.first step.step.second)
+
+pub over-functional : (n : ℕ) (ds : List Dependency) (count : ℕ) (t s : Tableau) → LeadsIn (IsFunctionalStep ds) count t s → Each (HasLength n) t → Each (HasLength n) s
+over-functional n ds = kept (IsFunctionalStep ds) (Each (HasLength n)) (Each-same (HasLength n)) (over_fd n ds)
+
+pub over-leads : (n : ℕ) (ds : List Dependency) (count : ℕ) (t s : Tableau) → LeadsIn (IsStep n ds) count t s → Each (HasLength n) t → Each (HasLength n) s
+over-leads n ds = kept (IsStep n ds) (Each (HasLength n)) (Each-same (HasLength n)) (over_step n ds)
+
+-- ---- the greatest symbol
+abbrev pub HasAtMost : ℕ → SymbolRow → Type 0
+HasAtMost most row = (k : ℕ) → symbol_at row k ≤ most
+
+cond_le : (b : Bool) (x y most : ℕ) → x ≤ most → y ≤ most → cond b x y ≤ most
+cond_le true x y most x_low y_low = x_low
+cond_le false x y most x_low y_low = y_low
+
+most_exchanged : (most n : ℕ) (z : Places) (p q : SymbolRow) → HasAtMost most p → HasAtMost most q → HasAtMost most (exchanged n z p q)
+most_exchanged most n z p q p_low q_low k = elim (cases_lt k n) [
+  | inl low ↦ rw (symbol_at-exchanged n z p q k low) (cond_le (z k) (symbol_at p k) (symbol_at q k) most (p_low k) (q_low k))
+  | inr past ↦ rw (symbol_at_past (exchanged n z p q) k (omega (arith, length-exchanged n z p q, past))) (omega arith)
+]
+
+most_fd : (most : ℕ) (ds : List Dependency) (t s : Tableau) → IsFunctionalStep ds t s → Each (HasAtMost most) t → Each (HasAtMost most) s
+most_fd most ds t s step each =
+    Each-fd (HasAtMost most) step.lhs step.rhs t s step.step (λ p p_in k.
+    omega (arith, each p p_in k, replaced_le step.step.place (symbol_at step.step.second step.step.place) (symbol_at step.step.first step.step.place) p k (omega (arith, step.step.differ))))
+
+most_step : (n most : ℕ) (ds : List Dependency) (t s : Tableau) → IsStep n ds t s → Each (HasAtMost most) t → Each (HasAtMost most) s
+most_step n most ds t s (inl step) each = most_fd most ds t s step each
+most_step n most ds t s (inr step) each =
+    Each-mvd (HasAtMost most) n step.lhs step.rhs t s step.step each
+    (most_exchanged most n (union step.lhs step.rhs) step.step.first step.step.second (each step.step.first step.step.first_in) (each step.step.second step.step.second_in))
+
+pub most-functional : (most : ℕ) (ds : List Dependency) (count : ℕ) (t s : Tableau) → LeadsIn (IsFunctionalStep ds) count t s → Each (HasAtMost most) t → Each (HasAtMost most) s
+most-functional most ds = kept (IsFunctionalStep ds) (Each (HasAtMost most)) (Each-same (HasAtMost most)) (most_fd most ds)
+
+pub most-leads : (n most : ℕ) (ds : List Dependency) (count : ℕ) (t s : Tableau) → LeadsIn (IsStep n ds) count t s → Each (HasAtMost most) t → Each (HasAtMost most) s
+most-leads n most ds = kept (IsStep n ds) (Each (HasAtMost most)) (Each-same (HasAtMost most)) (most_step n most ds)
+
+-- ---- the tableau of a plan
+pub plan_over : (n i : ℕ) (plan : List Places) → Each (HasLength n) (scheme_rows n i plan)
+plan_over n i [] row h = absurd (omega (arith, h.1))
+plan_over n i (scheme ∷ plan) row h =
+    ⊎_elim (λ (e : scheme_row n scheme i ≡ row). ap (λ (r : SymbolRow). length r) (sym e) ∙ length-scheme_row n scheme i) (plan_over n (suc i) plan row) (cons_cases (scheme_row n scheme i) (scheme_rows n (suc i) plan) row h)
+
+most_scheme_row : (n : ℕ) (scheme : Places) (i most : ℕ) → i ≤ most → HasAtMost most (scheme_row n scheme i)
+most_scheme_row n scheme i most le k = elim (cases_lt k n) [
+  | inl low ↦ rw (symbol_at-scheme_row n scheme i k low) (cond_le (scheme k) 0 i most (omega arith) le)
+  | inr past ↦ rw (symbol_at_past (scheme_row n scheme i) k (omega (arith, length-scheme_row n scheme i, past))) (omega arith)
+]
+
+plan_most : (n i most : ℕ) (plan : List Places) → i + length plan ≤ suc most → Each (HasAtMost most) (scheme_rows n i plan)
+plan_most n i most [] le row h = absurd (omega (arith, h.1))
+plan_most n i most (scheme ∷ plan) le row h =
+    ⊎_elim
+    (λ (e : scheme_row n scheme i ≡ row). subst (HasAtMost most) e (most_scheme_row n scheme i most (omega (arith, le))))
+    (plan_most n (suc i) most plan (omega (arith, le)) row)
+    (cons_cases (scheme_row n scheme i) (scheme_rows n (suc i) plan) row h)
+
+-- what is reached has n symbols a row, each at most the number of schemes
+pub reached-over : (n : ℕ) (ds : List Dependency) (plan : List Places) (t : Tableau) → Reaches n ds plan t → Each (HasLength n) t
+reached-over n ds plan t reached = over-leads n ds reached.0 (plan_tableau n plan) t reached.1 (plan_over n 1 plan)
+
+pub reached-most : (n : ℕ) (ds : List Dependency) (plan : List Places) (t : Tableau) → Reaches n ds plan t → Each (HasAtMost (length plan)) t
+reached-most n ds plan t reached = most-leads n (length plan) ds reached.0 (plan_tableau n plan) t reached.1 (plan_most n 1 (length plan) plan (omega arith))
+
+-- ---- each scheme's row: distinguished on the scheme
+abbrev pub HasZerosOn : Places → Tableau → Type 0
+HasZerosOn scheme t = (row : SymbolRow) × Contains t row × ((k : ℕ) → scheme k ≡ true → symbol_at row k ≡ 0)
+
+zeros_same : (scheme : Places) (t s : Tableau) → SameTableau t s → HasZerosOn scheme t → HasZerosOn scheme s
+zeros_same scheme t s same h = (h.0, (same h.0).0 h.1, h.2)
+
+zeros_step : (n : ℕ) (ds : List Dependency) (scheme : Places) (t s : Tableau) → IsStep n ds t s → HasZerosOn scheme t → HasZerosOn scheme s
+zeros_step n ds scheme t s (inl step) h =
+    let a = step.step.place in
+    let former = symbol_at step.step.second a in
+    let later = symbol_at step.step.first a in (
+      replaced_in a former later h.0,
+      (step.step.after (replaced_in a former later h.0)).0 (Contains-map (replaced_in a former later) t h.0 h.1),
+      λ k m. omega (arith, h.2 k m, replaced_le a former later h.0 k (omega (arith, step.step.differ))),
+    )
+zeros_step n ds scheme t s (inr step) h =
+    (h.0, (step.step.after h.0).0 (cons_later (exchanged n (union step.lhs step.rhs) step.step.first step.step.second) t h.0 h.1), h.2)
+
+zeros_scheme_row : (n : ℕ) (scheme : Places) (i k : ℕ) → scheme k ≡ true → symbol_at (scheme_row n scheme i) k ≡ 0
+zeros_scheme_row n scheme i k m = elim (cases_lt k n) [
+  | inl low ↦ symbol_at-scheme_row n scheme i k low ∙ ap (λ (b : Bool). cond b 0 i) m
+  | inr past ↦ symbol_at_past (scheme_row n scheme i) k (omega (arith, length-scheme_row n scheme i, past))
+]
+
+plan_zeros : (n i : ℕ) (plan : List Places) (scheme : Places) → Contains plan scheme → HasZerosOn scheme (scheme_rows n i plan)
+plan_zeros n i [] scheme h = absurd (omega (arith, h.1))
+plan_zeros n i (first ∷ plan) scheme h = ⊎_elim
+    (λ (e : first ≡ scheme). (
+      scheme_row n first i,
+      cons_here (scheme_row n first i) (scheme_rows n (suc i) plan),
+      λ k m. zeros_scheme_row n first i k (ap (λ (x : Places). x k) e ∙ m),
+    ))
+    (λ later.
+    let w = plan_zeros n (suc i) plan scheme later in
+    (w.0, cons_later (scheme_row n first i) (scheme_rows n (suc i) plan) w.0 w.1, w.2))
+    (cons_cases first plan scheme h)
+
+pub reached-zeros : (n : ℕ) (ds : List Dependency) (plan : List Places) (t : Tableau) → Reaches n ds plan t → (scheme : Places) → Contains plan scheme → HasZerosOn scheme t
+reached-zeros n ds plan t reached scheme given =
+    kept (IsStep n ds) (HasZerosOn scheme) (zeros_same scheme) (zeros_step n ds scheme) reached.0 (plan_tableau n plan) t reached.1 (plan_zeros n 1 plan scheme given)

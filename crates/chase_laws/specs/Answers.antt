@@ -1,0 +1,36 @@
+use Rattle.std.specs.Prelude.{◌≡◌, ℕ, ◌≤◌, List, length, map, AllPairs, Contains, decimal}
+use Rattle.std.specs.Ordering.{nat_cmp}
+use Rattle.std.specs.declared.cmp.Ordering.TheVariants.{Less}
+use Rattle.std.specs.Cmp.Lexicographic.{slice_cmp}
+use Rattle.attr_sets.specs.Places.{Places}
+use Rattle.dep_model.specs.Tuples.{Relation}
+use Rattle.dep_model.specs.Dependencies.{Dependency}
+use Rattle.dep_model.specs.Implication.{IsLegal}
+use Rattle.dep_model.specs.Projections.{InJoin, projections}
+use Rattle.dep_model.specs.TwoTuples.{all_zeros}
+use Rattle.chase_laws.specs.Tableaux.{SymbolRow, Tableau}
+use Rattle.chase_laws.specs.Steps.{IsClosed}
+use Rattle.chase_laws.specs.Rounds.{Reaches}
+
+-- a tableau as a relation: each symbol as a decimal text
+abbrev pub texts_of : Tableau → Relation
+texts_of t = map (map decimal) t
+
+-- the first row comes before the second in the order of the lists of their symbols
+abbrev pub RowBefore : SymbolRow → SymbolRow → Type 0
+RowBefore p q = slice_cmp nat_cmp p q ≡ Less
+
+-- a legal relation whose projections have one tuple more in their join: that of n times `0`
+pub record IsGaining (n : ℕ) (ds : List Dependency) (plan : List Places) (r : Relation) : Type 0 where
+  pub legal : IsLegal n ds r
+  pub joined : InJoin n plan (projections plan r) (all_zeros n)
+  pub gained : Contains r (all_zeros n) → ⊥
+
+-- a closed tableau that is reached, as texts, its rows ascending
+pub record IsClosedTableau (n : ℕ) (ds : List Dependency) (plan : List Places) (limit : ℕ) (r : Relation) : Type 0 where
+  pub symbols : Tableau
+  pub texts : r ≡ texts_of symbols
+  pub reached : Reaches n ds plan symbols
+  pub closed : IsClosed n ds symbols
+  pub few : length symbols ≤ limit
+  pub ascending : AllPairs RowBefore symbols

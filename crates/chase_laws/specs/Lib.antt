@@ -1,0 +1,4 @@
+pub mod Tableaux
+pub mod Steps
+pub mod Rounds
+pub mod Answers
