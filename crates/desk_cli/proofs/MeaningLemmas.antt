@@ -1,22 +1,72 @@
--- The refusal of a certificate ends a command as the answers say.
-use Rattle.std.proofs.Common.{inr, ℕ, List, Option, subst}
-use Rattle.std.specs.Prelude.{MatchOption}
+-- The refusal of a text ends a command as the answers say.
+use Rattle.std.proofs.Common.{◌≢◌, ◌≤◌, ◌≡◌, inr, ℕ, List, length, Option, Some, None, Ok, Err, Result, false, refl, sym, ap, ◌∙◌, subst}
+use Rattle.std.proofs.lemmas.Bool.{false≢true}
+use Rattle.std.specs.Prelude.{⊤, MatchOption, is_none, IfOk, codes}
 use Rattle.dep_model.specs.declared.schema.Schema.{Schema}
 use Rattle.dep_model.specs.Schemas.{names_of}
+use Rattle.dep_model.specs.declared.memory.WantMemory.{WantMemory}
+use Rattle.schema_grammar.specs.declared.refusal.SchemaRefusal.{SchemaRefusal}
+use Rattle.schema_grammar.specs.declared.refusal.SchemaRefusalKind.{SchemaRefusalKind}
+use Rattle.schema_grammar.specs.declared.refusal.SchemaRefusalKind.TheVariants as kind
+use Rattle.schema_grammar.specs.Complaints.{RefusesGoal}
+use Rattle.schema_grammar.specs.Refusals.{RefusesAs}
+use Rattle.schema_grammar.specs.Schemas.{RefusesSchema}
+use Rattle.schema_reader.specs.declared.goal.TheConstants.{MOST_GOAL_BYTES}
+use Rattle.schema_reader.specs.declared.text.TheConstants.{MOST_TEXT_BYTES}
 use Rattle.proof_grammar.specs.declared.refusal.ProofRefusal.{ProofRefusal}
-use Rattle.proof_grammar.specs.Complaints.{Complaint, LineComplaint}
+use Rattle.proof_grammar.specs.declared.refusal.ProofRefusalKind.{ProofRefusalKind}
+use Rattle.proof_grammar.specs.Complaints.{Complaint, LineComplaint, complaint_of}
 use Rattle.proof_grammar.specs.Refusals.{IsRefused, RefusesProof}
 use Rattle.proof_text.specs.declared.text.TheConstants.{MOST_PROOF_BYTES}
 use Rattle.desk_cli.specs.declared.reply.Stop.{Stop}
-use Rattle.desk_cli.specs.declared.reply.Stop.TheVariants.{Answered, Memory}
-use Rattle.desk_cli.specs.Answers.{IsContent, ProofStops}
-use Rattle.desk_cli.specs.Readings.{Reading}
-use Rattle.desk_cli.specs.Replies.{StopsAs, TellsProof}
+use Rattle.desk_cli.specs.Inputs.{GoalStops, SchemaStops, ProofStops, wants_memory, TellsRefusal, TellsProof}
+use Rattle.desk_cli.specs.ProofTexts.{OfComplaint}
+use Rattle.desk_cli.specs.Readings.{Reading, IsContent}
+use Rattle.desk_cli.specs.Replies.{StopsAs}
 
-pub proof_stop : (r : Reading) (s : Schema) (name bytes : List ℕ) (refusal : ProofRefusal) (stop : Stop) → IsContent r name MOST_PROOF_BYTES bytes → RefusesProof s bytes refusal
-    → TellsProof (names_of s) name refusal stop → StopsAs (ProofStops r s name) stop
-proof_stop r s name bytes refusal Memory content refuses tells = tells
-proof_stop r s name bytes refusal (Answered reply) content refuses (c, is, status, text) =
-    let of : Option Complaint → Type 0 = λ o. MatchOption o (Unit {0}) (λ d. IsRefused s bytes (record { line = refusal.line; complaint = d })) in
-    let e : LineComplaint = record { line = refusal.line; complaint = c } in
-    inr (bytes, e, content, subst of is refuses, (status, text))
+-- where it is not want of memory, the text is refused
+of_text : (why : SchemaRefusalKind) (refused : Type 0) → why ≢ kind.Memory → RefusesAs why refused → refused
+of_text kind.StrangeByte refused other refuses = refuses
+of_text kind.BadName refused other refuses = refuses
+of_text kind.ReservedName refused other refuses = refuses
+of_text kind.DoubleName refused other refuses = refuses
+of_text kind.UnknownName refused other refuses = refuses
+of_text (kind.Expected what) refused other refuses = refuses
+of_text kind.TooManyAttributes refused other refuses = refuses
+of_text kind.TooManyDependencies refused other refuses = refuses
+of_text kind.NoAttributes refused other refuses = refuses
+of_text kind.UnknownVersion refused other refuses = refuses
+of_text kind.Memory refused other refuses = absurd (other refl)
+
+pub schema_stop : (r : Reading) (name bytes : List ℕ) (refusal : SchemaRefusal) (stop : Stop) → IsContent r name MOST_TEXT_BYTES bytes
+    → RefusesAs refusal.kind (RefusesSchema bytes refusal) → StopsAs (TellsRefusal (codes "schema") name refusal) stop → StopsAs (SchemaStops r name) stop
+schema_stop r name bytes refusal stop content refuses tells = λ reply is.
+    let told = tells reply is in
+    inr (refusal, record { bytes = bytes; content = content; refused = of_text refusal.kind (RefusesSchema bytes refusal) told.0 refuses }, told.1)
+
+pub goal_stop : (s : Schema) (goal : List ℕ) (refusal : SchemaRefusal) (stop : Stop) → length goal ≤ MOST_GOAL_BYTES
+    → RefusesGoal (names_of s) goal refusal → StopsAs (TellsRefusal (codes "goal") (codes "goal") refusal) stop → StopsAs (GoalStops s goal) stop
+goal_stop s goal refusal stop few refuses tells = λ reply is.
+    let told = tells reply is in inr (refusal, record { few = few; refused = refuses }, told.1)
+
+pub proof_stop : (r : Reading) (s : Schema) (name bytes : List ℕ) (refusal : ProofRefusal) (stop : Stop) → IsContent r name MOST_PROOF_BYTES bytes
+    → RefusesProof s bytes refusal → StopsAs (TellsProof (names_of s) name refusal) stop → StopsAs (ProofStops r s name) stop
+proof_stop r s name bytes refusal stop content refuses tells = λ reply is.
+    let told = tells reply is in
+    let of : Option Complaint → Type 0 = λ o. MatchOption o (Unit {0}) (λ c. IsRefused s bytes (record { line = refusal.line; complaint = c })) in
+    let e : LineComplaint = record { line = refusal.line; complaint = told.0 } in
+    inr (e, record { bytes = bytes; content = content; refused = subst of told.1 refuses }, told.2)
+
+-- a refusal that is not want of memory
+pub is_told : (why : SchemaRefusalKind) → wants_memory why ≡ false → why ≢ kind.Memory
+is_told why is = λ same. false≢true (sym is ∙ ap wants_memory same)
+
+pub a_complaint : (found : Option Complaint) → is_none found ≡ false → (c : Complaint) × (found ≡ Some c)
+a_complaint None is = absurd (false≢true (sym is))
+a_complaint (Some c) is = (c, refl)
+
+-- what is told of the complaint that a refusal is
+pub told_of : {V : Type 0} (items : V → List ℕ) (why : ProofRefusalKind) (c : Complaint) (wanted : Complaint → List ℕ) (text : Result V WantMemory)
+    → complaint_of why ≡ Some c → IfOk text (λ v. OfComplaint why (λ d. items v ≡ wanted d)) → IfOk text (λ v. items v ≡ wanted c)
+told_of items why c wanted (Ok v) is told = subst (λ (o : Option Complaint). MatchOption o ⊤ (λ d. items v ≡ wanted d)) is told
+told_of items why c wanted (Err e) is told = told

@@ -1,5 +1,5 @@
 -- How a schema, a goal and a certificate are read, and how their reading ends a command.
-use Rattle.std.specs.Prelude.{◌≡◌, ◌≢◌, ◌⊎◌, ℕ, ◌<◌, ◌≤◌, List, length, codes, Some, Err}
+use Rattle.std.specs.Prelude.{◌≡◌, ◌≢◌, ◌⊎◌, ℕ, Bool, true, false, ◌<◌, ◌≤◌, List, length, codes, Some}
 use Rattle.dep_model.specs.Dependencies.{Dependency}
 use Rattle.dep_model.specs.Schemas.{names_of}
 use Rattle.dep_model.specs.declared.schema.Schema.{Schema}
@@ -7,11 +7,12 @@ use Rattle.derivation.specs.Trees.{Tree}
 use Rattle.schema_reader.specs.declared.goal.TheConstants.{MOST_GOAL_BYTES}
 use Rattle.schema_reader.specs.declared.text.TheConstants.{MOST_TEXT_BYTES}
 use Rattle.schema_grammar.specs.declared.refusal.SchemaRefusal.{SchemaRefusal}
+use Rattle.schema_grammar.specs.declared.refusal.SchemaRefusalKind.{SchemaRefusalKind}
 use Rattle.schema_grammar.specs.declared.refusal.SchemaRefusalKind.TheVariants as kind
+use Rattle.schema_grammar.specs.Complaints.{RefusesGoal}
 use Rattle.schema_grammar.specs.Meanings.{MeansGoal}
-use Rattle.schema_grammar.specs.Reading.{read_goal}
-use Rattle.schema_grammar.specs.Schemas.{MeansSchema}
-use Rattle.schema_grammar.specs.Texts.{read_text, declarations_of}
+use Rattle.schema_grammar.specs.Schemas.{MeansSchema, RefusesSchema}
+use Rattle.schema_grammar.specs.Texts.{declarations_of}
 use Rattle.proof_text.specs.declared.text.TheConstants.{MOST_PROOF_BYTES}
 use Rattle.proof_grammar.specs.declared.refusal.ProofRefusal.{ProofRefusal}
 use Rattle.proof_grammar.specs.Complaints.{LineComplaint, Complaint, complaint_of}
@@ -34,7 +35,7 @@ FileStops r name limit answer =
 pub record IsRefusedSchema (r : Reading) (name : List ℕ) (refusal : SchemaRefusal) : Type 0 where
   pub bytes : List ℕ
   pub content : IsContent r name MOST_TEXT_BYTES bytes
-  pub refused : read_text bytes ≡ Err refusal
+  pub refused : RefusesSchema bytes refusal
 
 -- the text of a file means this schema
 pub record IsSchemaFile (r : Reading) (name : List ℕ) (schema : Schema) : Type 0 where
@@ -56,7 +57,7 @@ WithSchema r name = With (SchemaStops r name) (IsSchemaFile r name)
 -- a goal is refused so
 pub record IsRefusedGoal (schema : Schema) (goal : List ℕ) (refusal : SchemaRefusal) : Type 0 where
   pub few : length goal ≤ MOST_GOAL_BYTES
-  pub refused : read_goal (names_of schema) goal ≡ Err refusal
+  pub refused : RefusesGoal (names_of schema) goal refusal
 
 -- a goal means this dependency
 pub record IsGoal (schema : Schema) (goal : List ℕ) (dep : Dependency) : Type 0 where
@@ -97,6 +98,11 @@ abbrev pub WithProof : Reading → Schema → List ℕ → (Tree → Allowed) �
 WithProof r schema name = With (ProofStops r schema name) (IsProofFile r schema name)
 
 -- ---- replies
+-- a refusal is want of memory
+abbrev pub wants_memory : SchemaRefusalKind → Bool
+wants_memory kind.Memory = true
+wants_memory _ = false
+
 -- a command ends with the refusal of a text
 abbrev pub TellsRefusal : List ℕ → List ℕ → SchemaRefusal → Allowed
 TellsRefusal group name refusal answer = (refusal.kind ≢ kind.Memory) × Says Refused (refusal_text group name refusal) answer

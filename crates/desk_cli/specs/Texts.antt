@@ -6,6 +6,7 @@ use Rattle.schema_grammar.specs.declared.refusal.What.TheVariants as what
 use Rattle.schema_grammar.specs.declared.refusal.SchemaRefusalKind.{SchemaRefusalKind}
 use Rattle.schema_grammar.specs.declared.refusal.SchemaRefusalKind.TheVariants as kind
 use Rattle.schema_grammar.specs.declared.refusal.SchemaRefusal.{SchemaRefusal}
+use Rattle.schema_grammar.specs.Complaints.{refusal_number}
 use Rattle.csv_rows.specs.RowsText.{rows_text}
 use Rattle.dep_model.specs.Tuples.{Relation}
 
@@ -51,24 +52,10 @@ kind_text kind.NoAttributes = codes "no attributes"
 kind_text kind.UnknownVersion = codes "unknown version"
 kind_text kind.Memory = []
 
--- its number
-abbrev pub kind_number : SchemaRefusalKind → ℕ
-kind_number kind.StrangeByte = 1
-kind_number kind.BadName = 2
-kind_number kind.ReservedName = 3
-kind_number kind.DoubleName = 4
-kind_number kind.UnknownName = 5
-kind_number (kind.Expected w) = 6
-kind_number kind.TooManyAttributes = 7
-kind_number kind.TooManyDependencies = 8
-kind_number kind.NoAttributes = 9
-kind_number kind.UnknownVersion = 13
-kind_number kind.Memory = 0
-
 -- a refusal of a text at its place: the kind of text, its name, the line and the column
 abbrev pub refusal_text : List ℕ → List ℕ → SchemaRefusal → List ℕ
 refusal_text group name refusal =
-    line (codes "refused: " ++ group ++ codes " " ++ decimal (kind_number refusal.kind) ++ codes " at " ++ name
+    line (codes "refused: " ++ group ++ codes " " ++ decimal (refusal_number refusal.kind) ++ codes " at " ++ name
     ++ codes ":" ++ decimal refusal.span.line ++ codes ":" ++ decimal refusal.span.column ++ codes " " ++ kind_text refusal.kind)
 
 -- a goal is named `goal`

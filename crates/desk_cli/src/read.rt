@@ -1,11 +1,12 @@
-ghost use Rattle.std.specs.Prelude.{◌≡◌, ◌^◌, ◌<◌, ◌≤◌, length, IfOk, IfErr};
+ghost use Rattle.std.specs.Prelude.{◌≡◌, ◌^◌, ◌<◌, ◌≤◌, length, is_none, IfOk, IfErr};
 ghost use Rattle.dep_model.specs.Schemas.{names_of, universe_of};
+ghost use Rattle.dep_model.specs.Deps.{dependency_of, IsDepWithin};
+ghost use Rattle.derivation.specs.Conclusions.{Proves};
 ghost use Rattle.derivation.specs.Derivs.{tree_of};
-ghost use Rattle.proof_grammar.specs.Complaints.{IsRefusalWithin};
-ghost use Rattle.proof_grammar.specs.Checked.{IsChecked};
+ghost use Rattle.proof_grammar.specs.Complaints.{complaint_of, IsRefusalWithin};
 ghost use Rattle.desk_cli.specs.Answers.{Says};
 ghost use Rattle.desk_cli.specs.Texts.{cannot_read_text, too_long_text};
-ghost use Rattle.desk_cli.specs.Inputs.{FileStops, SchemaStops, IsSchemaFile, ProofStops, IsProofFile, TellsRefusal, TellsProof};
+ghost use Rattle.desk_cli.specs.Inputs.{FileStops, SchemaStops, IsSchemaFile, ProofStops, IsProofFile, wants_memory, TellsRefusal, TellsProof};
 ghost use Rattle.desk_cli.specs.Readings.{Reading, files_in, Shows, IsContent};
 ghost use Rattle.desk_cli.specs.Replies.{StopsAs};
 
@@ -15,9 +16,8 @@ use crate::refusals::refusal_line;
 use crate::reply::Stop;
 use crate::text::line_of;
 use dep_model::{Schema, WantMemory};
-use derivation::Deriv;
 use desk_outside::{LoadRefusal, Shelf, Word, load};
-use proof_text::{MOST_PROOF_BYTES, ProofRefusal, ProofRefusalKind, read_proof};
+use proof_text::{MOST_PROOF_BYTES, Concluded, ProofRefusal, ProofRefusalKind, read_concluded};
 use schema_reader::{MOST_TEXT_BYTES, SchemaRefusal, SchemaRefusalKind, read_schema};
 use std::alloc::Global;
 
@@ -90,7 +90,7 @@ pub fn open_schema<F: Shelf>(alloc: Global, shelf: &mut F, name: &Word) -> Resul
 pub fn refused(alloc: Global, group: &[u8], name: &[u8], refusal: SchemaRefusal) -> Stop
     ensures refused { StopsAs (TellsRefusal group.now name.now refusal) result }
 {
-    if refusal.kind == SchemaRefusalKind::Memory {
+    if wants_memory(refusal.kind) {
         return Stop::Memory;
     }
     Stop::says(
@@ -99,25 +99,32 @@ pub fn refused(alloc: Global, group: &[u8], name: &[u8], refusal: SchemaRefusal)
     )
 }
 
-/// The derivation of a certificate file.
+fn wants_memory(kind: SchemaRefusalKind) -> bool
+    ensures is { result ≡ wants_memory kind }
+{
+    matches!(kind, SchemaRefusalKind::Memory)
+}
+
+/// The derivation of a certificate file, and the dependency that it concludes.
 pub fn open_proof<F: Shelf>(
     alloc: Global,
     shelf: &mut F,
     schema: &Schema,
     name: &Word,
-) -> Result<Box<Deriv>, Stop>
+) -> Result<Concluded, Stop>
     ensures files { F.files shelf.new ≡ F.files shelf.old }
     ensures later { F.faults shelf.old ≤ F.faults shelf.new }
-    ensures ok { (r : Reading) → files_in r ≡ F.files shelf.old → IfOk result (λ deriv. IsProofFile r schema.now name.now (tree_of deriv.value)) }
-    ensures checked { IfOk result (λ deriv. IsChecked schema.now (tree_of deriv.value)) }
+    ensures ok { (r : Reading) → files_in r ≡ F.files shelf.old → IfOk result (λ read. IsProofFile r schema.now name.now (tree_of read.deriv.value)) }
+    ensures concludes { IfOk result (λ read. Proves schema.now (tree_of read.deriv.value) (dependency_of read.dep)) }
+    ensures within { IfOk result (λ read. IsDepWithin (universe_of schema.now) read.dep) }
     ensures stop { (r : Reading) → Shows F.files F.faults F.taken shelf.old shelf.new r → IfErr result (StopsAs (ProofStops r schema.now name.now)) }
 {
     let bytes = match open_file(alloc, shelf, name, MOST_PROOF_BYTES) {
         Ok(bytes) => bytes,
         Err(stop) => return Err(stop),
     };
-    match read_proof(alloc, schema, &bytes) {
-        Ok(deriv) => Ok(deriv),
+    match read_concluded(alloc, schema, &bytes) {
+        Ok(read) => Ok(read),
         Err(refusal) => Err(proof_refused(alloc, schema, name.bytes(), refusal)),
     }
 }
@@ -127,11 +134,17 @@ fn proof_refused(alloc: Global, schema: &Schema, name: &[u8], refusal: ProofRefu
     requires within { IsRefusalWithin (universe_of schema.now) refusal.kind }
     ensures refused { StopsAs (TellsProof (names_of schema.now) name.now refusal) result }
 {
-    if let ProofRefusalKind::Memory = refusal.kind {
+    if is_no_complaint(refusal.kind) {
         return Stop::Memory;
     }
     Stop::says(
         Status::Refused,
         proof_refusal_line(alloc, schema, name, refusal),
     )
+}
+
+fn is_no_complaint(kind: ProofRefusalKind) -> bool
+    ensures is { result ≡ is_none (complaint_of kind) }
+{
+    matches!(kind, ProofRefusalKind::Memory)
 }

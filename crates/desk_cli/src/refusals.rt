@@ -1,5 +1,5 @@
 ghost use Rattle.std.specs.Prelude.{◌≡◌, IfOk};
-ghost use Rattle.desk_cli.specs.Texts.{what_text, kind_text, kind_number, refusal_text};
+ghost use Rattle.desk_cli.specs.Texts.{what_text, kind_text, refusal_text};
 
 use crate::text::{put, put_number};
 use dep_model::WantMemory;
@@ -19,7 +19,7 @@ pub fn refusal_line(
     put(&mut text, b"refused: ")?;
     put(&mut text, group)?;
     put(&mut text, b" ")?;
-    put_number(alloc, &mut text, number_of(refusal.kind))?;
+    put_number(alloc, &mut text, refusal.kind.number())?;
     put(&mut text, b" at ")?;
     put(&mut text, name)?;
     put(&mut text, b":")?;
@@ -30,25 +30,6 @@ pub fn refusal_line(
     put(&mut text, reason_of(refusal.kind))?;
     put(&mut text, b"\n")?;
     Ok(text)
-}
-
-/// The number of a reason.
-fn number_of(kind: SchemaRefusalKind) -> u32
-    ensures number { result ≡ kind_number kind }
-{
-    match kind {
-        SchemaRefusalKind::StrangeByte => 1,
-        SchemaRefusalKind::BadName => 2,
-        SchemaRefusalKind::ReservedName => 3,
-        SchemaRefusalKind::DoubleName => 4,
-        SchemaRefusalKind::UnknownName => 5,
-        SchemaRefusalKind::Expected(_) => 6,
-        SchemaRefusalKind::TooManyAttributes => 7,
-        SchemaRefusalKind::TooManyDependencies => 8,
-        SchemaRefusalKind::NoAttributes => 9,
-        SchemaRefusalKind::UnknownVersion => 13,
-        SchemaRefusalKind::Memory => 0,
-    }
 }
 
 /// A reason in words.

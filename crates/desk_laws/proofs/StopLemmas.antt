@@ -15,6 +15,7 @@ use Rattle.schema_grammar.specs.Schemas.{MeansSchema}
 use Rattle.schema_grammar.specs.Texts.{read_text}
 use Rattle.schema_grammar.proofs.GoalLaws.{goal-law}
 use Rattle.schema_grammar.proofs.SchemaLaws.{schema-law}
+use Rattle.schema_grammar.proofs.OneTextRefusal.{goal-refusal-law, schema-refusal-law}
 use Rattle.proof_text.specs.declared.text.TheConstants.{MOST_PROOF_BYTES}
 use Rattle.proof_grammar.specs.Spelling.{SpellsWithin}
 use Rattle.proof_grammar.specs.Texts.{read_proof}
@@ -67,7 +68,7 @@ schema_goes files name bytes d answer has few means (inl stop) = file_goes files
 schema_goes files name bytes d answer has few means (inr stop) =
     let text = stop.1.bytes in
     let read : read_text text ≡ Ok d = (schema-law text d).1 (subst (λ (b : List ℕ). MeansSchema b d) (one_content files name bytes text has stop.1.content.0) means) in
-    let refused : read_text text ≡ Err stop.0 = stop.1.refused in cc
+    let refused : read_text text ≡ Err stop.0 = (schema-refusal-law text stop.0).1 stop.1.refused in cc
 
 pub proof_goes : (files : Files) (s : Schema) (name bytes : List ℕ) (t : Tree) (answer : Answer) → held files name ≡ Some bytes → length bytes ≤ MOST_PROOF_BYTES → SpellsWithin s bytes t
     → ProofStops (told files) s name answer → ⊥
@@ -81,4 +82,4 @@ pub goal_goes : (s : Schema) (goal : List ℕ) (d : Dependency) (answer : Answer
 goal_goes s goal d answer few means (inl stop) = let long = stop.0 in omega (arith, few, long)
 goal_goes s goal d answer few means (inr stop) =
     let read : read_goal (names_of s) goal ≡ Ok d = (goal-law (names_of s) goal d).1 means in
-    let refused : read_goal (names_of s) goal ≡ Err stop.0 = stop.1.refused in cc
+    let refused : read_goal (names_of s) goal ≡ Err stop.0 = (goal-refusal-law (names_of s) goal stop.0).1 stop.1.refused in cc
