@@ -20,8 +20,5 @@ fn covered(alloc: Global, schema: &Schema) -> Result<Reply, WantMemory>
     ensures answer { IfOk result (λ reply. GivesCover schema.now (answer_of reply)) }
 {
     let whole = whole_cover(alloc, schema)?;
-    Ok(Reply::says(
-        Status::Yes,
-        print_deps(alloc, schema, &whole)?,
-    ))
+    Ok(Reply::says(Status::Yes, print_deps(alloc, schema, &whole)?))
 }

@@ -51,10 +51,13 @@ fn set_lines(alloc: Global, schema: &Schema, sets: &[AttrSet]) -> Result<Vec<u8>
 fn too_many_keys(alloc: Global) -> Stop
     ensures says { StopsAs (Says Status.Refused too_many_keys_text) result }
 {
-    Stop::says(
-        Status::Refused,
-        line_of(alloc, b"refused: too many keys", b"", b""),
-    )
+    Stop::says(Status::Refused, too_many_keys_line(alloc))
+}
+
+fn too_many_keys_line(alloc: Global) -> Result<Vec<u8>, WantMemory>
+    ensures line { IfOk result (λ text. text.items ≡ too_many_keys_text) }
+{
+    line_of(alloc, b"refused: too many keys", b"", b"")
 }
 
 /// A scheme has more attributes than are looked at.
