@@ -11,24 +11,47 @@ use std::process::ExitCode;
 use std::rt::Runtime;
 use targets::{CsvTarget, SqlTarget, Target};
 
+type CsvFiles<R> = CsvTarget<FileFolder<R>>;
+
+type SqlFiles<R> = SqlTarget<FileFolder<R>>;
+
 fn main(rt: HostRuntime) -> ExitCode {
-    match run(rt) {
+    let alloc = rt.alloc();
+    let Ok((csv, sql)) = file_targets(&rt) else {
+        return ExitCode::from(6);
+    };
+    let (Ok(csv), Ok(sql)) = (Box::new(alloc, csv), Box::new(alloc, sql)) else {
+        return ExitCode::from(6);
+    };
+    let mut targets: Vec<Box<dyn Target>> = Vec::new(alloc);
+    if targets.push(csv).is_err() || targets.push(sql).is_err() {
+        return ExitCode::from(6);
+    }
+    match run(rt, &mut targets) {
         Ok(status) => ExitCode::from(status as u8),
         Err(WantMemory) => ExitCode::from(6),
     }
 }
 
-fn run<R: Runtime + AllocGlobal>(rt: R) -> Result<Status, WantMemory> {
+fn run<R: Runtime + AllocGlobal>(
+    rt: R,
+    targets: &mut Vec<Box<dyn Target>>,
+) -> Result<Status, WantMemory> {
     let alloc = rt.alloc();
     let words = words_of(&rt)?;
     let mut shelf = FileShelf::make(another(&rt)?);
-    let csv = CsvTarget::make(alloc, FileFolder::make(another(&rt)?))?;
-    let sql = SqlTarget::make(alloc, FileFolder::make(another(&rt)?))?;
-    let mut targets: Vec<Box<dyn Target>> = Vec::new(alloc);
-    targets.push(Box::new(alloc, csv)?)?;
-    targets.push(Box::new(alloc, sql)?)?;
     let mut out = StdoutSink::make(rt);
-    desk(alloc, &words, &mut shelf, &mut out, &mut targets)
+    desk(alloc, &words, &mut shelf, &mut out, targets)
+}
+
+// The targets whose tables become files.
+fn file_targets<R: Runtime + AllocGlobal>(
+    rt: &R,
+) -> Result<(CsvFiles<R>, SqlFiles<R>), WantMemory> {
+    let alloc = rt.alloc();
+    let csv = CsvTarget::make(alloc, FileFolder::make(another(rt)?))?;
+    let sql = SqlTarget::make(alloc, FileFolder::make(another(rt)?))?;
+    Ok((csv, sql))
 }
 
 // The runtime once more, for an object that keeps it.
