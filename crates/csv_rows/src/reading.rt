@@ -1,4 +1,4 @@
-ghost use Rattle.std.specs.Prelude.{◌≡◌, ◌≢◌, ℕ, true, false, List, Ok, Err, IfOk, IfErr};
+ghost use Rattle.std.specs.Prelude.{◌≡◌, ◌≢◌, ◌≤◌, ℕ, true, false, List, length, Ok, Err, IfOk, IfErr};
 ghost use Rattle.csv.specs.Records.{fields_of};
 ghost use Rattle.csv_rows.specs.Columns.{columns_of, IsHeader};
 ghost use Rattle.csv_rows.specs.Records.{HasLeft};
@@ -27,6 +27,7 @@ pub const MOST_ROWS: u32 = 100_000;
 pub fn read_rows(alloc: Global, schema: &Schema, text: &[u8]) -> Result<Vec<Row>, RowRefusal>
     ensures ok { IfOk result (λ v. RowsOf schema.now text.now (Ok v.items)) }
     ensures over { IfOk result (λ v. IsOver (width_of schema.now) v.items) }
+    ensures few { IfOk result (λ v. length v.items ≤ MOST_ROWS) }
     ensures typed { IfOk result (λ v. TypedFor schema.now v.items) }
     ensures err { IfErr result (λ e. e ≢ Memory → RowsOf schema.now text.now (Err e)) }
 {
@@ -72,6 +73,7 @@ pub fn read_body(
         → IfOk result (λ v. RowsUnder schema.now (Ok columns) rs (Ok v.items)) }
     ensures err { (rs : List (List (List ℕ))) (columns : List ℕ) → HasLeft reader.old rs → IsHeader (width_of schema.now) columns header.now
         → IfErr result (λ e. e ≢ Memory → RowsUnder schema.now (Ok columns) rs (Err e)) }
+    ensures few { IfOk result (λ v. length v.items ≤ MOST_ROWS) }
 {
     let mut fields = ByteRecord::new(alloc);
     let mut rows = Vec::new(alloc);

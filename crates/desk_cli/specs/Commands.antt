@@ -2,7 +2,7 @@
 use Rattle.desk_cli.specs.declared.command.Command.{Command}
 use Rattle.desk_cli.specs.declared.command.Command.TheVariants.{OverSchema, Help, Version}
 use Rattle.desk_cli.specs.declared.command.Task.{Task}
-use Rattle.desk_cli.specs.declared.command.Task.TheVariants.{Implies, CheckProof, Cover, Keys}
+use Rattle.desk_cli.specs.declared.command.Task.TheVariants.{Implies, CheckProof, Cover, Keys, Synthesize}
 use Rattle.desk_cli.specs.Forms as form
 
 abbrev pub task_form : Task → form.Task
@@ -10,6 +10,7 @@ task_form (Implies goal) = form.implies goal.now
 task_form (CheckProof file goal) = form.check_proof file.now goal.now
 task_form Cover = form.cover
 task_form Keys = form.keys
+task_form Synthesize = form.synthesize
 
 abbrev pub command_form : Command → form.Form
 command_form (OverSchema schema task) = form.over_schema schema.now (task_form task)

@@ -12,6 +12,8 @@ pub data Task : Type 0 where
   cover : Task
   -- its keys
   keys : Task
+  -- a plan in third normal form
+  synthesize : Task
 
 -- a command
 pub data Form : Type 0 where
@@ -59,6 +61,7 @@ form_of (verb ∷ rest) =
     else if bytes_eq verb (codes "check") then check_form rest
     else if bytes_eq verb (codes "cover") then schema_alone cover rest
     else if bytes_eq verb (codes "keys") then schema_alone keys rest
+    else if bytes_eq verb (codes "synthesize") then schema_alone synthesize rest
     else if bytes_eq verb (codes "help") then alone help rest
     else if bytes_eq verb (codes "--help") then alone help rest
     else if bytes_eq verb (codes "-h") then alone help rest

@@ -11,6 +11,7 @@ help_text =
     ++ line (codes "desk check proof SCHEMA FILE GOAL     whether the certificate in FILE proves the goal")
     ++ line (codes "desk cover SCHEMA                     what says the same, with nothing that can be left out")
     ++ line (codes "desk keys SCHEMA                      all keys")
+    ++ line (codes "desk synthesize SCHEMA                a plan in third normal form")
     ++ line (codes "desk help                             this text")
     ++ line (codes "desk --version                        the release")
     ++ line (codes "Status: 0 yes, 1 no, 2 refused, 3 a file cannot be read, 4 the output cannot be written, 5 a target failed, 6 want of memory.")

@@ -9,6 +9,7 @@ pub mod Help
 pub mod Forms
 pub mod Covering
 pub mod Keys
+pub mod Synthesis
 pub mod Performs
 pub mod Commands
 pub mod Replies

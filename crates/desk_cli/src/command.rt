@@ -15,6 +15,8 @@ pub enum Task<'a> {
     Cover,
     /// All its keys.
     Keys,
+    /// A plan in third normal form.
+    Synthesize,
 }
 
 /// A command.
@@ -47,6 +49,9 @@ pub fn parse(words: &[Word]) -> Option<Command<'_>>
     }
     if verb.bytes() == b"keys".as_slice() {
         return over_schema_alone(Task::Keys, rest);
+    }
+    if verb.bytes() == b"synthesize".as_slice() {
+        return over_schema_alone(Task::Synthesize, rest);
     }
     let verb = verb.bytes();
     if verb == b"help".as_slice() || verb == b"--help".as_slice() || verb == b"-h".as_slice() {

@@ -10,6 +10,7 @@ const HELP: &[u8] = b"desk implies SCHEMA GOAL              whether the schema i
 desk check proof SCHEMA FILE GOAL     whether the certificate in FILE proves the goal
 desk cover SCHEMA                     what says the same, with nothing that can be left out
 desk keys SCHEMA                      all keys
+desk synthesize SCHEMA                a plan in third normal form
 desk help                             this text
 desk --version                        the release
 Status: 0 yes, 1 no, 2 refused, 3 a file cannot be read, 4 the output cannot be written, 5 a target failed, 6 want of memory.

@@ -19,6 +19,7 @@ mod read;
 mod refusals;
 mod reply;
 mod status;
+mod synthesis;
 #[cfg(test)]
 mod table_tests;
 #[cfg(test)]

@@ -17,6 +17,7 @@ use crate::implies::implies;
 use crate::keys::list_keys;
 use crate::read::open_schema;
 use crate::reply::{Reply, Stop};
+use crate::synthesis::synthesized;
 use crate::text::line_of;
 use dep_model::{Schema, WantMemory};
 use desk_outside::{Shelf, Sink, Word, send};
@@ -151,5 +152,6 @@ fn does<F: Shelf>(
         Task::CheckProof { file, goal } => check_proof(alloc, shelf, schema, file, goal),
         Task::Cover => cover(alloc, schema),
         Task::Keys => list_keys(alloc, schema),
+        Task::Synthesize => synthesized(alloc, schema),
     }
 }

@@ -1,0 +1,7 @@
+pub mod ListLemmas
+pub mod PlanLemmas
+mod ContainingLemmas
+mod DroppingLemmas
+mod LoopLemmas
+mod PrintingLemmas
+mod ReadingLemmas

@@ -1,0 +1,115 @@
+-- Reading a plan text line by line, and a line word by word.
+use Rattle.std.proofs.Common.{◌≡◌, ◌<◌, ◌+◌, ◌^◌, ℕ, Bool, true, false, List, [], ◌∷◌, ◌++◌, length, Some, None, Result, Ok, Err, refl, sym, ◌∙◌, arith}
+use Rattle.attr_sets.specs.Places.{Places, none, only, union}
+use Rattle.lexer.specs.declared.token.Mode.TheVariants as mode
+use Rattle.lexer.specs.declared.token.Stop.{Stop}
+use Rattle.lexer.specs.declared.token.Token.{Token}
+use Rattle.lexer.specs.Lines.{line_texts, CutsAt}
+use Rattle.lexer.specs.Tokens.{Lexed, lexed, lex, Leads}
+use Rattle.schema_grammar.specs.Declarations.{marked}
+use Rattle.schema_grammar.specs.Refusals.{refused_by}
+use Rattle.plan_grammar.specs.declared.refusal.PlanRefusal.{PlanRefusal}
+use Rattle.plan_grammar.specs.declared.refusal.PlanRefusal.TheVariants as plan
+use Rattle.plan_grammar.specs.Reading.{attribute, read_words, read_words_lexed, read_scheme, read_line, read_lines}
+use Rattle.plan_grammar.specs.Refusals.{RefusesPlanAs}
+
+-- ---- want of memory
+pub as_from : (e : PlanRefusal) (P : Type 0) → P → RefusesPlanAs e P
+as_from (plan.Text t) P h = h
+as_from (plan.EmptyScheme line) P h = h
+as_from (plan.NotCovered a) P h = h
+as_from (plan.TooManySchemes line) P h = h
+as_from plan.Memory P h = tt
+
+pub as_map : (e : PlanRefusal) (P Q : Type 0) → (P → Q) → RefusesPlanAs e P → RefusesPlanAs e Q
+as_map (plan.Text t) P Q f h = f h
+as_map (plan.EmptyScheme line) P Q f h = f h
+as_map (plan.NotCovered a) P Q f h = f h
+as_map (plan.TooManySchemes line) P Q f h = f h
+as_map plan.Memory P Q f h = tt
+
+-- ---- words
+-- to read the words that are left is to read all of them
+pub record GoesOn (names : List (List ℕ)) (line start : ℕ) (text : List ℕ) (first : Bool) (x : Places) (column : ℕ) (rest : List ℕ) : Type 0 where
+  pub same : read_words_lexed names line true none (lexed mode.Plain 0 start text) ≡ read_words_lexed names line first x (lexed mode.Plain 0 column rest)
+  pub room : column + length rest < 2 ^ 32
+
+pub words_empty : (names : List (List ℕ)) (line : ℕ) (x : Places) (l : Lexed) → l ≡ record { marks = []; stop = None } → read_words_lexed names line true x l ≡ Err (plan.EmptyScheme line)
+unfolding read_words
+words_empty names line x l e = rw e refl
+
+pub words_end : (names : List (List ℕ)) (line : ℕ) (x : Places) (l : Lexed) → l ≡ record { marks = []; stop = None } → read_words_lexed names line false x l ≡ Ok x
+unfolding read_words
+words_end names line x l e = rw e refl
+
+pub words_stop : (names : List (List ℕ)) (line : ℕ) (first : Bool) (x : Places) (stop : Stop) (l : Lexed) → l ≡ record { marks = []; stop = Some stop }
+    → read_words_lexed names line first x l ≡ Err (plan.Text (refused_by line stop))
+unfolding read_words
+words_stop names line true x stop l e = rw e refl
+words_stop names line false x stop l e = rw e refl
+
+pub words_refused : (names : List (List ℕ)) (line : ℕ) (first : Bool) (x : Places) (t : Token) (word rest : List ℕ) (l : Lexed) (e : PlanRefusal) → Leads mode.Plain t word rest l
+    → attribute names line first (marked t word) t.kind ≡ Err e → read_words_lexed names line first x l ≡ Err e
+unfolding read_words
+words_refused names line true x t word rest l e leads is = rw (leads.all_tokens, is) refl
+words_refused names line false x t word rest l e leads is = rw (leads.all_tokens, is) refl
+
+pub words_more : (names : List (List ℕ)) (line : ℕ) (first : Bool) (x : Places) (t : Token) (word rest : List ℕ) (l : Lexed) (a : ℕ) → Leads mode.Plain t word rest l
+    → attribute names line first (marked t word) t.kind ≡ Ok a
+    → read_words_lexed names line first x l ≡ read_words_lexed names line false (union x (only a)) (lexed mode.Plain 0 (t.column + t.length) rest)
+unfolding read_words
+words_more names line true x t word rest l a leads is = rw (leads.all_tokens, is) refl
+words_more names line false x t word rest l a leads is = rw (leads.all_tokens, is) refl
+
+-- ---- one line
+pub line_ended : (names : List (List ℕ)) (number : ℕ) (schemes : List Places) (l : Lexed) → l ≡ record { marks = []; stop = None } → read_line names number schemes l.marks l.stop ≡ Ok schemes
+unfolding read_line
+line_ended names number schemes l e = rw e refl
+
+pub line_stopped : (names : List (List ℕ)) (number : ℕ) (schemes : List Places) (stop : Stop) (l : Lexed) → l ≡ record { marks = []; stop = Some stop }
+    → read_line names number schemes l.marks l.stop ≡ Err (plan.Text (refused_by number stop))
+unfolding read_line
+line_stopped names number schemes stop l e = rw e refl
+
+pub scheme_refused : (names : List (List ℕ)) (number : ℕ) (schemes : List Places) (t : Token) (word rest : List ℕ) (l : Lexed) (earlier : ℕ) (e : PlanRefusal) → Leads mode.Plain t word rest l
+    → earlier ≡ length schemes → read_scheme names number earlier (marked t word) (lexed mode.Plain 0 (t.column + t.length) rest) ≡ Err e
+    → read_line names number schemes l.marks l.stop ≡ Err e
+unfolding read_line
+scheme_refused names number schemes t word rest l earlier e leads count is = rw (leads.all_tokens, sym count, is) refl
+
+pub scheme_added : (names : List (List ℕ)) (number : ℕ) (schemes : List Places) (t : Token) (word rest : List ℕ) (l : Lexed) (earlier : ℕ) (x : Places) → Leads mode.Plain t word rest l
+    → earlier ≡ length schemes → read_scheme names number earlier (marked t word) (lexed mode.Plain 0 (t.column + t.length) rest) ≡ Ok x
+    → read_line names number schemes l.marks l.stop ≡ Ok (schemes ++ x ∷ [])
+unfolding read_line
+scheme_added names number schemes t word rest l earlier x leads count is = rw (leads.all_tokens, sym count, is) refl
+
+-- ---- lines
+-- to read the lines that are left is to read all of them
+pub record Reads (names : List (List ℕ)) (text : List ℕ) (schemes : List Places) (number : ℕ) (rest : List ℕ) : Type 0 where
+  pub same : read_lines names 1 [] (line_texts text) ≡ read_lines names number schemes (line_texts rest)
+  pub room : number + length rest < 2 ^ 31
+
+abbrev pub line_read : List (List ℕ) → ℕ → List Places → List ℕ → Result (List Places) PlanRefusal
+line_read names number schemes line = read_line names number schemes (lex mode.Plain line).marks (lex mode.Plain line).stop
+
+pub line_refused : (names : List (List ℕ)) (number : ℕ) (schemes : List Places) (line : List ℕ) (lines ls : List (List ℕ)) (e : PlanRefusal)
+    → ls ≡ line ∷ lines → line_read names number schemes line ≡ Err e → read_lines names number schemes ls ≡ Err e
+unfolding read_lines
+line_refused names number schemes line lines ls e whole h = rw whole (rw h refl)
+
+pub last_read : (names : List (List ℕ)) (number : ℕ) (schemes more : List Places) (line : List ℕ) (ls : List (List ℕ))
+    → ls ≡ line ∷ [] → line_read names number schemes line ≡ Ok more → read_lines names number schemes ls ≡ Ok more
+unfolding read_lines
+last_read names number schemes more line ls whole h = rw whole (rw h refl)
+
+next_lines : (names : List (List ℕ)) (number : ℕ) (schemes more : List Places) (line : List ℕ) (lines ls : List (List ℕ))
+    → ls ≡ line ∷ lines → line_read names number schemes line ≡ Ok more → read_lines names number schemes ls ≡ read_lines names (number + 1) more lines
+unfolding read_lines
+next_lines names number schemes more line lines ls whole read = rw whole (rw read refl)
+
+pub reads_more : (names : List (List ℕ)) (text : List ℕ) (schemes more : List Places) (number : ℕ) (rest line behind : List ℕ)
+    → Reads names text schemes number rest → CutsAt rest line behind → line_read names number schemes line ≡ Ok more → Reads names text more (number + 1) behind
+reads_more names text schemes more number rest line behind reads cut read = record {
+  same = reads.same ∙ next_lines names number schemes more line (line_texts behind) (line_texts rest) cut.lines read;
+  room = omega (arith, reads.room, cut.shorter);
+}

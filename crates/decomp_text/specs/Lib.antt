@@ -1,0 +1,3 @@
+pub mod Schemes
+pub mod Plans
+pub mod Containing

@@ -1,0 +1,259 @@
+ghost use Rattle.std.specs.Prelude.{◌≡◌, ◌+◌, ◌<◌, ◌≤◌, ◌^◌, true, [], length, OnOk, IfOk, IfErr, Ok, Err};
+ghost use Rattle.attr_sets.specs.Places.{none, only, union};
+ghost use Rattle.attr_sets.specs.Sets.{places};
+ghost use Rattle.dep_model.specs.Plans.{schemes_of};
+ghost use Rattle.dep_model.specs.Schemas.{names_of};
+ghost use Rattle.lexer.specs.Lines.{line_texts};
+ghost use Rattle.lexer.specs.Tokens.{lexed, lex};
+ghost use Rattle.line_reader.specs.Views.{names_in};
+ghost use Rattle.schema_grammar.specs.Declarations.{marked};
+ghost use Rattle.schema_grammar.specs.Refusals.{refusal};
+ghost use Rattle.plan_grammar.specs.Complaints.{RefusesPlan};
+ghost use Rattle.plan_grammar.specs.Meanings.{is_scheme, MeansPlan};
+ghost use Rattle.plan_grammar.specs.Reading.{attribute, no_scheme, read_words_lexed, read_scheme, read_line, read_lines};
+ghost use Rattle.plan_grammar.specs.Refusals.{RefusesPlanAs};
+ghost use Rattle.decomp_text.specs.Plans.{plan_of, IsPlanOver};
+
+use crate::Plan;
+use crate::covering::first_uncovered;
+use attr_sets::{AttrSet, PLACES};
+use dep_model::Schema;
+use lexer::{Mode, Next, Token, TokenKind, cut_line, next_token, without_mark};
+use line_reader::{Guide, Names, is_reserved, look_up};
+use plan_grammar::{MOST_SCHEMES, PlanRefusal};
+use schema_grammar::{Format, SchemaRefusal, SchemaRefusalKind, What};
+use std::alloc::Global;
+
+/// The most bytes of a plan text.
+pub const MOST_PLAN_BYTES: usize = 1_048_576;
+
+/// The plan that a text means over the names of a schema, or its first complaint. A byte-order mark at
+/// its very start is skipped.
+pub fn read_plan(alloc: Global, schema: &Schema, text: &[u8]) -> Result<Plan, PlanRefusal>
+    requires { length text.now ≤ MOST_PLAN_BYTES }
+    ensures universe { IfOk result (λ plan. IsPlanOver schema.now plan) }
+    ensures ok { IfOk result (λ plan. MeansPlan (names_of schema.now) text.now (plan_of plan)) }
+    ensures err { IfErr result (λ refusal.
+        RefusesPlanAs refusal (RefusesPlan (names_of schema.now) text.now refusal)) }
+{
+    let schemes = match read_lines(alloc, schema, without_mark(text)) {
+        Ok(schemes) => schemes,
+        Err(refusal) => return Err(refusal),
+    };
+    match first_uncovered(schema, &schemes) {
+        Some(attribute) => Err(PlanRefusal::NotCovered { attribute }),
+        None => Ok(Plan::make(schema, schemes)),
+    }
+}
+
+// Reads the lines of a text.
+fn read_lines(alloc: Global, schema: &Schema, text: &[u8]) -> Result<Vec<AttrSet>, PlanRefusal>
+    requires { length text.now ≤ MOST_PLAN_BYTES }
+    ensures ok { IfOk result (λ schemes. read_lines (names_of schema.now) 1 [] (line_texts text.now)
+        ≡ Ok (schemes_of schemes.items)) }
+    ensures err { IfErr result (λ refusal. RefusesPlanAs refusal
+        (read_lines (names_of schema.now) 1 [] (line_texts text.now) ≡ Err refusal)) }
+{
+    let guide = Guide::of(schema);
+    let names = Names::Guided(schema, &guide);
+    let mut schemes = Vec::new(alloc);
+    let mut number = 1;
+    let mut rest = text;
+    'lines: loop {
+        let (line, after) = cut_line(rest);
+        match read_line(&names, number, line, &mut schemes) {
+            Err(refusal) => return Err(refusal),
+            Ok(()) => match after {
+                None => return Ok(schemes),
+                Some(lines) => {
+                    rest = lines;
+                    number += 1;
+                }
+            },
+        }
+    }
+}
+
+// Reads a line, and adds its scheme if it has tokens.
+#[tactic(auto, unfolding(plan_grammar::specs::Reading::read_line))]
+fn read_line(
+    names: &Names<'_>,
+    number: u32,
+    line: &[u8],
+    schemes: &mut Vec<AttrSet>,
+) -> Result<(), PlanRefusal>
+    requires few { length (names_in names.now) ≤ PLACES }
+    requires room { 1 + length line.now < 2 ^ 32 }
+    ensures ok { OnOk result (read_line (names_in names.now) number (schemes_of schemes.old.items)
+        (lex Mode.Plain line.now).marks (lex Mode.Plain line.now).stop ≡ Ok (schemes_of schemes.new.items)) }
+    ensures err { IfErr result (λ refusal. RefusesPlanAs refusal (read_line (names_in names.now) number
+        (schemes_of schemes.old.items) (lex Mode.Plain line.now).marks (lex Mode.Plain line.now).stop
+        ≡ Err refusal)) }
+{
+    match next_token(Mode::Plain, 1, line) {
+        Next::End => Ok(()),
+        Next::Stop(stop) => Err(PlanRefusal::Text(SchemaRefusal::by(number, stop))),
+        Next::Token(token, word, rest) => {
+            match read_scheme(names, number, schemes.len(), token, word, rest) {
+                Err(refusal) => Err(refusal),
+                Ok(scheme) => match schemes.push(scheme) {
+                    Ok(()) => Ok(()),
+                    Err(_) => Err(PlanRefusal::Memory),
+                },
+            }
+        }
+    }
+}
+
+// The scheme of a line of which the first token is taken, where so many scheme lines stand before it.
+fn read_scheme(
+    names: &Names<'_>,
+    number: u32,
+    earlier: usize,
+    token: Token,
+    word: &[u8],
+    rest: &[u8],
+) -> Result<AttrSet, PlanRefusal>
+    requires few { length (names_in names.now) ≤ PLACES }
+    requires room { token.column + token.length + length rest.now < 2 ^ 32 }
+    requires word { token.length ≡ length word.now }
+    ensures ok { IfOk result (λ scheme. read_scheme (names_in names.now) number earlier (marked token word.now)
+        (lexed Mode.Plain 0 (token.column + token.length) rest.now) ≡ Ok (places scheme)) }
+    ensures err { IfErr result (λ refusal. read_scheme (names_in names.now) number earlier (marked token word.now)
+        (lexed Mode.Plain 0 (token.column + token.length) rest.now) ≡ Err refusal) }
+{
+    if !is_scheme(token.kind, word) {
+        return Err(refused(number, token, no_scheme(token.kind, word)));
+    }
+    if earlier >= MOST_SCHEMES {
+        return Err(PlanRefusal::TooManySchemes { line: number });
+    }
+    read_words(names, number, token.column + token.length, rest)
+}
+
+// Whether a token is the word `scheme`, in lower case.
+#[tactic(auto, unfolding(plan_grammar::specs::Meanings::is_scheme))]
+fn is_scheme(kind: TokenKind, word: &[u8]) -> bool
+    ensures exact { result ≡ is_scheme kind word.now }
+{
+    match kind {
+        TokenKind::Word => word == b"scheme".as_slice(),
+        _ => false,
+    }
+}
+
+// Why a line can't begin with a token.
+fn no_scheme(kind: TokenKind, word: &[u8]) -> SchemaRefusalKind
+    ensures exact { result ≡ no_scheme kind word.now }
+{
+    match kind {
+        TokenKind::Word => {
+            if is_reserved(Format::Plain, word) {
+                SchemaRefusalKind::ReservedName
+            } else {
+                SchemaRefusalKind::Expected(What::Scheme)
+            }
+        }
+        _ => SchemaRefusalKind::Expected(What::Scheme),
+    }
+}
+
+// The attributes that the tokens after the word `scheme` stand for.
+fn read_words(
+    names: &Names<'_>,
+    line: u32,
+    column: u32,
+    text: &[u8],
+) -> Result<AttrSet, PlanRefusal>
+    requires few { length (names_in names.now) ≤ PLACES }
+    requires room { column + length text.now < 2 ^ 32 }
+    ensures ok { IfOk result (λ scheme. read_words_lexed (names_in names.now) line true none
+        (lexed Mode.Plain 0 column text.now) ≡ Ok (places scheme)) }
+    ensures err { IfErr result (λ refusal. read_words_lexed (names_in names.now) line true none
+        (lexed Mode.Plain 0 column text.now) ≡ Err refusal) }
+{
+    let mut set = no_place();
+    let mut first = true;
+    let mut column = column;
+    let mut rest = text;
+    'words: loop {
+        match next_token(Mode::Plain, column, rest) {
+            Next::End => {
+                return if first {
+                    Err(PlanRefusal::EmptyScheme { line })
+                } else {
+                    Ok(set)
+                };
+            }
+            Next::Stop(stop) => return Err(PlanRefusal::Text(SchemaRefusal::by(line, stop))),
+            Next::Token(token, word, others) => {
+                match attribute(names, line, first, token, word) {
+                    Err(refusal) => return Err(refusal),
+                    Ok(place) => {
+                        set = added(set, place);
+                        first = false;
+                        column = token.column + token.length;
+                        rest = others;
+                    }
+                }
+            }
+        }
+    }
+}
+
+// The attribute that a token after the word `scheme` stands for; `first` is whether it stands right
+// after it.
+fn attribute(
+    names: &Names<'_>,
+    line: u32,
+    first: bool,
+    token: Token,
+    word: &[u8],
+) -> Result<u8, PlanRefusal>
+    requires few { length (names_in names.now) ≤ PLACES }
+    requires word { token.length ≡ length word.now }
+    ensures ok { IfOk result (λ place.
+        attribute (names_in names.now) line first (marked token word.now) token.kind ≡ Ok place) }
+    ensures inside { IfOk result (λ place. place < length (names_in names.now)) }
+    ensures err { IfErr result (λ refusal.
+        attribute (names_in names.now) line first (marked token word.now) token.kind ≡ Err refusal) }
+{
+    match token.kind {
+        TokenKind::Word => match look_up(names, Format::Plain, word) {
+            Ok(place) => Ok(place),
+            Err(kind) => Err(refused(line, token, kind)),
+        },
+        TokenKind::Empty => {
+            if first {
+                Err(PlanRefusal::EmptyScheme { line })
+            } else {
+                let kind = SchemaRefusalKind::Expected(What::LineEnd);
+                Err(refused(line, token, kind))
+            }
+        }
+        _ => {
+            let want = if first { What::Name } else { What::LineEnd };
+            Err(refused(line, token, SchemaRefusalKind::Expected(want)))
+        }
+    }
+}
+
+// The refusal of a token.
+fn refused(line: u32, token: Token, kind: SchemaRefusalKind) -> PlanRefusal
+    ensures refusal { result ≡ PlanRefusal.Text (refusal line token.column token.length kind) }
+{
+    PlanRefusal::Text(SchemaRefusal::at(line, token.column, token.length, kind))
+}
+
+fn no_place() -> AttrSet
+    ensures members { places result ≡ none }
+{
+    AttrSet::empty()
+}
+
+fn added(set: AttrSet, place: u8) -> AttrSet
+    requires { place < PLACES }
+    ensures members { places result ≡ union (places set) (only place) }
+{
+    set.with(place)
+}

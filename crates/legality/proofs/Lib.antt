@@ -1,0 +1,4 @@
+pub mod PairLemmas
+pub mod CountLemmas
+pub mod PartLemmas
+pub mod OffenceLemmas

@@ -1,0 +1,3 @@
+pub mod Offences
+pub mod Answers
+pub mod Parts

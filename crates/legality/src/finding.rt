@@ -1,0 +1,74 @@
+ghost use Rattle.std.specs.Prelude.{◌≡◌, ◌+◌, ◌<◌, ◌≤◌, ◌^◌, ◌↔◌, [], length, IfOk};
+ghost use Rattle.attr_sets.specs.Places.{below};
+ghost use Rattle.csv_rows.specs.Interning.{IsInterned};
+ghost use Rattle.dep_model.specs.Deps.{IsDepWithin, dependency_of};
+ghost use Rattle.dep_model.specs.Schemas.{LegalFor, theory_of, width_of};
+ghost use Rattle.dep_model.specs.Tuples.{IsOver};
+ghost use Rattle.legality.specs.Offences.{OffencesOf};
+ghost use Rattle.legality.specs.Answers.{IsAnswer};
+
+use crate::functional::least_functional_pair;
+use crate::multivalued::least_multivalued_pair;
+use crate::offence::Offence;
+use crate::pair::Pair;
+use attr_sets::PLACES;
+use csv_rows::Interned;
+use dep_model::{Dep, Row, Schema, WantMemory};
+use std::alloc::Global;
+
+/// For each dependency that the rows do not obey, in the order of the file, the least pair of rows
+/// that breaks it: by its first row, then by its second, over all pairs in both orders. Two rows
+/// break `X -> Y` where they agree on X and not on Y; they break `X ->> Y` where they agree on X and
+/// no row agrees with the first on X and Y and with the second on the rest.
+/// There is none exactly where the rows are legal.
+pub fn offences(alloc: Global, schema: &Schema, rows: &[Row]) -> Result<Vec<Offence>, WantMemory>
+    requires over { IsOver (width_of schema.now) rows.now }
+    requires few { length rows.now < 2 ^ 32 }
+    ensures offences { IfOk result (λ v. OffencesOf (width_of schema.now) (theory_of schema.now) rows.now v.items) }
+    ensures legal { IfOk result (λ v. (v.items ≡ []) ↔ LegalFor schema.now rows.now) }
+{
+    let codes = Interned::intern(alloc, schema.width(), rows)?;
+    let mut offences = Vec::new(alloc);
+    for k in 0..schema.deps().len() {
+        let least = least_pair(alloc, rows, schema.width(), &codes, schema.deps()[k])?;
+        match least {
+            Some(pair) => offences.push(offence(k as u16, pair))?,
+            None => {}
+        }
+    }
+    Ok(offences)
+}
+
+// The offence of a dependency, with rows from 1.
+fn offence(dep: u16, pair: Pair) -> Offence
+    requires first { pair.first + 1 < 2 ^ 32 }
+    requires second { pair.second + 1 < 2 ^ 32 }
+    ensures dep { result.dep ≡ dep }
+    ensures first { result.first ≡ pair.first + 1 }
+    ensures second { result.second ≡ pair.second + 1 }
+{
+    Offence {
+        dep,
+        first: pair.first as u32 + 1,
+        second: pair.second as u32 + 1,
+    }
+}
+
+// The least pair of rows that breaks a dependency, if one does.
+fn least_pair(
+    alloc: Global,
+    rows: &[Row],
+    width: u8,
+    codes: &Interned,
+    dep: Dep,
+) -> Result<Option<Pair>, WantMemory>
+    requires width { width ≤ PLACES }
+    requires codes { IsInterned width rows.now codes.now }
+    requires dep { IsDepWithin (below width) dep }
+    ensures pair { IfOk result (λ least. IsAnswer width rows.now (dependency_of dep) least) }
+{
+    match dep {
+        Dep::Fd { lhs, rhs } => least_functional_pair(alloc, rows, width, codes, lhs, rhs),
+        Dep::Mvd { lhs, rhs } => least_multivalued_pair(alloc, rows, width, codes, lhs, rhs),
+    }
+}

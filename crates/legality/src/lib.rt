@@ -1,0 +1,17 @@
+//! Which rows break which dependency of a schema.
+//!
+//! `offences` gives for each dependency that rows do not obey the least pair of rows that breaks it,
+//! of all pairs of rows, and gives nothing exactly where the rows are legal. It looks at rows by
+//! numbers in place of values, group by group, and never at all pairs of rows.
+#![tactic(auto)]
+
+mod finding;
+mod functional;
+mod multivalued;
+mod offence;
+mod pair;
+#[cfg(test)]
+mod tests;
+
+pub use finding::offences;
+pub use offence::Offence;

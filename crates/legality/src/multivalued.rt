@@ -1,0 +1,144 @@
+ghost use Rattle.std.specs.Prelude.{◌≡◌, ◌<◌, ◌≤◌, false, length, replicate, IfOk};
+ghost use Rattle.attr_sets.specs.Places.{Within, below};
+ghost use Rattle.attr_sets.specs.Sets.{places};
+ghost use Rattle.csv_rows.specs.Interning.{IsInterned, firsts_of, groups_of};
+ghost use Rattle.csv_rows.specs.Numberings.{AreFirsts};
+ghost use Rattle.dep_model.specs.Dependencies.{mvd};
+ghost use Rattle.legality.specs.Answers.{IsAnswer};
+ghost use Rattle.legality.specs.Parts.{AreBelow, AreBeside, ArePartCounts, IsFirstMissing, IsFirstShort};
+
+use crate::pair::Pair;
+use attr_sets::{AttrSet, PLACES};
+use csv_rows::{Groups, Interned};
+use dep_model::{Row, WantMemory};
+use std::alloc::Global;
+
+// The least pair of rows that agree on `lhs` and have no row that is the first on `lhs` and `rhs`
+// and the second on the rest. A row is the first of such a pair exactly where fewer rests stand
+// beside its left and right side than there are in its group.
+pub fn least_multivalued_pair(
+    alloc: Global,
+    rows: &[Row],
+    width: u8,
+    codes: &Interned,
+    lhs: AttrSet,
+    rhs: AttrSet,
+) -> Result<Option<Pair>, WantMemory>
+    requires width { width ≤ PLACES }
+    requires codes { IsInterned width rows.now codes.now }
+    requires lhs { Within (places lhs) (below width) }
+    requires rhs { Within (places rhs) (below width) }
+    ensures pair { IfOk result (λ least. IsAnswer width rows.now (mvd (places lhs) (places rhs)) least) }
+{
+    let universe = AttrSet::full(width);
+    let sides = lhs.union(rhs);
+    let outside = universe.minus(sides);
+    let others = lhs.union(outside);
+    let groups = Groups::of(alloc, codes, lhs)?;
+    let lefts = Groups::of(alloc, codes, sides)?;
+    let rests = Groups::of(alloc, codes, others)?;
+    let all = Groups::of(alloc, codes, universe)?;
+    let wanted = part_counts(alloc, &groups, &rests)?;
+    let present = part_counts(alloc, &lefts, &all)?;
+    match first_short(groups.numbers(), &wanted, lefts.numbers(), &present) {
+        Some(first) => {
+            let count = rests.firsts().len();
+            let beside = marked(alloc, lefts.numbers(), rests.numbers(), count, first)?;
+            let least = first_missing(groups.numbers(), rests.numbers(), &beside, first);
+            Ok(least)
+        }
+        None => Ok(None),
+    }
+}
+
+// How many of the parts each group has.
+fn part_counts(alloc: Global, groups: &Groups, parts: &Groups) -> Result<Vec<usize>, WantMemory>
+    requires same { length (groups_of groups.now) ≡ length (groups_of parts.now) }
+    requires groups { AreFirsts (groups_of groups.now) (firsts_of groups.now) }
+    requires parts { AreFirsts (groups_of parts.now) (firsts_of parts.now) }
+    ensures counts { IfOk result (λ v. ArePartCounts (groups_of groups.now) (firsts_of groups.now)
+        (firsts_of parts.now) v.items) }
+{
+    let mut counts = zeros(alloc, groups.firsts().len())?;
+    for row in parts.firsts() {
+        let group = groups.numbers()[*row as usize] as usize;
+        counts[group] += 1;
+    }
+    Ok(counts)
+}
+
+// This many counts of nothing.
+fn zeros(alloc: Global, count: usize) -> Result<Vec<usize>, WantMemory>
+    ensures zeros { IfOk result (λ v. v.items ≡ replicate count 0) }
+{
+    let mut counts = Vec::new(alloc);
+    counts.resize(count, 0)?;
+    Ok(counts)
+}
+
+// The first row whose left and right side has fewer rests beside it than there are in its group.
+fn first_short(groups: &[u32], wanted: &[usize], lefts: &[u32], present: &[usize]) -> Option<usize>
+    requires same { length lefts.now ≡ length groups.now }
+    requires wanted { AreBelow groups.now (length wanted.now) }
+    requires present { AreBelow lefts.now (length present.now) }
+    ensures first { IsFirstShort groups.now wanted.now lefts.now present.now result }
+{
+    for row in 0..groups.len() {
+        let some = present[lefts[row] as usize];
+        if some < wanted[groups[row] as usize] {
+            return Some(row);
+        }
+    }
+    None
+}
+
+// Which of this many rests stand beside the left and right side of a row.
+fn marked(
+    alloc: Global,
+    lefts: &[u32],
+    rests: &[u32],
+    count: usize,
+    first: usize,
+) -> Result<Vec<bool>, WantMemory>
+    requires same { length rests.now ≡ length lefts.now }
+    requires first { first < length lefts.now }
+    requires count { AreBelow rests.now count }
+    ensures count { IfOk result (λ v. length v.items ≡ count) }
+    ensures beside { IfOk result (λ v. AreBeside lefts.now rests.now first (length lefts.now) v.items) }
+{
+    let mut beside = unmarked(alloc, count)?;
+    for row in 0..lefts.len() {
+        if lefts[row] == lefts[first] {
+            let rest = rests[row] as usize;
+            beside[rest] = true;
+        }
+    }
+    Ok(beside)
+}
+
+// This many rests, of which none is marked.
+fn unmarked(alloc: Global, count: usize) -> Result<Vec<bool>, WantMemory>
+    ensures unmarked { IfOk result (λ v. v.items ≡ replicate count false) }
+{
+    let mut beside = Vec::new(alloc);
+    beside.resize(count, false)?;
+    Ok(beside)
+}
+
+// The first row of the group of `first` whose rest is not marked.
+fn first_missing(groups: &[u32], rests: &[u32], beside: &[bool], first: usize) -> Option<Pair>
+    requires same { length rests.now ≡ length groups.now }
+    requires first { first < length groups.now }
+    requires beside { AreBelow rests.now (length beside.now) }
+    ensures missing { IsFirstMissing groups.now rests.now beside.now first result }
+{
+    for second in 0..groups.len() {
+        if groups[second] == groups[first] {
+            let rest = rests[second] as usize;
+            if !beside[rest] {
+                return Some(Pair { first, second });
+            }
+        }
+    }
+    None
+}

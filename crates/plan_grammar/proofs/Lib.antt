@@ -1,0 +1,6 @@
+pub mod FirstLemmas
+pub mod WordLemmas
+pub mod LineLemmas
+pub mod PlanLaws
+pub mod PrintedLaws
+pub mod ExactLaws

@@ -1,0 +1,57 @@
+-- What lines mean are schemes with attributes, all within the names.
+use Rattle.std.proofs.Common.{◌≡◌, ◌<◌, ℕ, true, List, [], ◌∷◌, length, Option, Some, None, refl, sym, ap, subst, ◌∙◌, ⊎_elim, arith}
+use Rattle.std.specs.Prelude.{All, IfSome}
+use Rattle.std.specs.List.{list_any}
+use Rattle.std.proofs.lemmas.Bool.{false≢true, or_cases, or_left, eqb-true, eq-eqb, lt-ltb}
+use Rattle.std.proofs.lemmas.List.Elements.{All-nil, All-cons, All-head}
+use Rattle.attr_sets.specs.Places.{Places, below, Within, IsEmpty}
+use Rattle.dep_model.specs.Schemas.{place_named}
+use Rattle.lexer.specs.Tokens.{Mark}
+use Rattle.schema_grammar.specs.declared.format.Format.TheVariants as format
+use Rattle.schema_grammar.specs.Meanings.{IsAttribute, is_at, named}
+use Rattle.schema_grammar.proofs.WithinLemmas.{place_named_within}
+use Rattle.plan_grammar.specs.Meanings.{IsSchemeLine, MeansLines}
+
+at_within : (n : ℕ) (o : Option ℕ) (k : ℕ) → IfSome o (λ a. a < n) → is_at o k ≡ true → k < n
+at_within n None k low here = absurd (false≢true here)
+at_within n (Some a) k low here = subst (λ (j : ℕ). j < n) (sym (eqb-true k a here)) low
+
+named_within : (names : List (List ℕ)) (words : List Mark) → Within (named names words) (below (length names))
+named_within names [] k member = absurd (false≢true member)
+named_within names (m ∷ ms) k member =
+    ⊎_elim
+    (λ here. lt-ltb k (length names) (at_within (length names) (place_named names m.word) k (place_named_within names m.word) here))
+    (λ later. named_within names ms k later)
+    (or_cases (is_at (place_named names m.word) k) (list_any (λ w. is_at (place_named names w.word) k) ms) member)
+
+line_within : (names : List (List ℕ)) (ms : List Mark) (x : Places) → IsSchemeLine names ms x → Within x (below (length names))
+line_within names ms x is k member = named_within names is.words k (sym (ap (λ (y : Places). y k) is.members) ∙ member)
+
+named_some : (names : List (List ℕ)) (words : List Mark) → 0 < length words → All (IsAttribute format.Plain names) words → IsEmpty (named names words) → ⊥
+named_some names [] some each empty = omega (arith, some)
+named_some names (m ∷ ms) some each empty =
+    let first : IsAttribute format.Plain names m = All-head (IsAttribute format.Plain names) m ms each in
+    let a = first.place in
+    let here : is_at (place_named names m.word) a ≡ true = ap (λ (o : Option ℕ). is_at o a) first.known ∙ eq-eqb a a refl in
+    false≢true (sym (empty a) ∙ or_left (is_at (place_named names m.word) a) (list_any (λ w. is_at (place_named names w.word) a) ms) here)
+
+line_some : (names : List (List ℕ)) (ms : List Mark) (x : Places) → IsSchemeLine names ms x → IsEmpty x → ⊥
+line_some names ms x is empty = named_some names is.words is.some is.each (λ k. sym (ap (λ (y : Places). y k) is.members) ∙ empty k)
+
+pub lines_within : (names : List (List ℕ)) (lines : List (List ℕ)) (schemes : List Places) → MeansLines names lines schemes → All (λ x. Within x (below (length names))) schemes
+lines_within names [] schemes is = subst (λ (xs : List Places). All (λ x. Within x (below (length names))) xs) (sym is) (All-nil (λ (x : Places). Within x (below (length names))))
+lines_within names (line ∷ lines) schemes is =
+    ⊎_elim
+    (λ blank. lines_within names lines schemes blank.1)
+    (λ adds. subst (λ (xs : List Places). All (λ x. Within x (below (length names))) xs) (sym adds.4)
+    (All-cons (λ (x : Places). Within x (below (length names))) adds.0 adds.1 (line_within names adds.2.marks adds.0 adds.2.scheme) (lines_within names lines adds.1 adds.3)))
+    is
+
+pub lines_some : (names : List (List ℕ)) (lines : List (List ℕ)) (schemes : List Places) → MeansLines names lines schemes → All (λ x. IsEmpty x → ⊥) schemes
+lines_some names [] schemes is = subst (λ (xs : List Places). All (λ x. IsEmpty x → ⊥) xs) (sym is) (All-nil (λ (x : Places). IsEmpty x → ⊥))
+lines_some names (line ∷ lines) schemes is =
+    ⊎_elim
+    (λ blank. lines_some names lines schemes blank.1)
+    (λ adds. subst (λ (xs : List Places). All (λ x. IsEmpty x → ⊥) xs) (sym adds.4)
+    (All-cons (λ (x : Places). IsEmpty x → ⊥) adds.0 adds.1 (line_some names adds.2.marks adds.0 adds.2.scheme) (lines_some names lines adds.1 adds.3)))
+    is

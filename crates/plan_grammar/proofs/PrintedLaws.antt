@@ -1,0 +1,109 @@
+-- A printed plan means its schemes.
+use Rattle.std.proofs.Common.{◌≡◌, ◌≤◌, ◌+◌, true, None, ℕ, List, [], ◌∷◌, ◌++◌, map, length, refl, sym, ap, subst, ◌∙◌, ⊎_elim, inl, inr}
+use Rattle.std.specs.Prelude.{All, codes}
+use Rattle.std.proofs.lemmas.List.{append-nil}
+use Rattle.std.proofs.lemmas.List.Elements.{All-head, All-tail}
+use Rattle.attr_sets.specs.Places.{Places, below, Within, IsEmpty}
+use Rattle.dep_model.specs.Names.{is_name}
+use Rattle.dep_model.specs.Plans.{IsPlan}
+use Rattle.lexer.specs.declared.token.Mode.TheVariants as mode
+use Rattle.lexer.specs.declared.token.TokenKind.TheVariants as token
+use Rattle.lexer.specs.Lines.{line_texts, without_mark}
+use Rattle.lexer.specs.Tokens.{Mark, lex, lexed, led_by_mark}
+use Rattle.schema_grammar.specs.declared.format.Format.TheVariants as format
+use Rattle.schema_grammar.specs.Meanings.{HasTokens, IsSide, IsNamedSide, IsAttribute}
+use Rattle.schema_grammar.specs.Printed.{AreNames}
+use Rattle.schema_grammar.specs.Printing.{words_text, members_from}
+use Rattle.schema_grammar.proofs.PrintedDependencies.{led_marks, nothing_left}
+use Rattle.schema_grammar.proofs.PrintedLexing.{AllNames, Apart, word_marks, words_end, side_marks, led_by_marks, words_lexed, name_lexed}
+use Rattle.schema_grammar.proofs.PrintedSides.{printed_side, printed_names}
+use Rattle.schema_grammar.proofs.PrintedTexts.{bytes_both, words_bytes, EachBytes, lines_cut}
+use Rattle.plan_grammar.specs.declared.refusal.TheConstants.{MOST_SCHEMES}
+use Rattle.plan_grammar.specs.Meanings.{is_scheme, MeansScheme, MeansLines, MeansPlan}
+use Rattle.plan_grammar.specs.Printing.{scheme_text, plan_text}
+
+-- a word, and words each after a blank
+word_line : (word : List ℕ) (words : List (List ℕ)) → is_name word ≡ true → AllNames words
+    → HasTokens (lex mode.Plain (word ++ words_text words)) (record { kind = token.Word; column = 1; word = word } ∷ word_marks (1 + length word) words)
+word_line word words proper names =
+    name_lexed mode.Plain 1 word (words_text words) proper (apart words)
+    ∙ ap (led_by_mark (record { kind = token.Word; column = 1; word = word }))
+    (ap (lexed mode.Plain 0 (1 + length word)) (sym (append-nil (words_text words))) ∙ words_lexed mode.Plain (1 + length word) words [] names tt
+    ∙ ap (led_by_marks (word_marks (1 + length word) words)) (nothing_left mode.Plain (words_end (1 + length word) words)) ∙ led_marks (word_marks (1 + length word) words) _
+    ∙ ap (λ ms. record { marks = ms; stop = None }) (append-nil (word_marks (1 + length word) words)))
+  where
+    apart : (ws : List (List ℕ)) → Apart (words_text ws)
+    apart [] = tt
+    apart (w ∷ ws) = refl
+
+-- the words of a set with attributes are a side for it
+side_named : (names words : List (List ℕ)) (x : Places) → (IsEmpty x → ⊥) → IsSide format.Plain names (side_marks 8 words) x → IsNamedSide format.Plain names (word_marks 7 words) x
+side_named names [] x some side =
+    ⊎_elim
+    (λ empty. absurd (some (λ k. ap (λ (y : Places). y k) empty.nothing)))
+    (λ named. absurd (no_word (All-head (IsAttribute format.Plain names) (record { kind = token.Empty; column = 8; word = 40 ∷ 41 ∷ [] }) [] named.each)))
+    side
+  where
+    no_word : IsAttribute format.Plain names (record { kind = token.Empty; column = 8; word = 40 ∷ 41 ∷ [] }) → ⊥
+    no_word is = let wrong : token.Empty ≡ token.Word = is.word in cc
+side_named names (word ∷ words) x some side =
+    ⊎_elim
+    (λ empty. absurd (no_empty empty.column empty.bytes empty.alone))
+    (λ named. named)
+    side
+  where
+    no_empty : (column : ℕ) (bytes : List ℕ) → side_marks 8 (word ∷ words) ≡ record { kind = token.Empty; column = column; word = bytes } ∷ [] → ⊥
+    no_empty column bytes same =
+        let first : Mark = record { kind = token.Word; column = 8; word = word } in
+        let other : Mark = record { kind = token.Empty; column = column; word = bytes } in
+        let heads : first ≡ other = cc in
+        let kinds : token.Word ≡ token.Empty = ap (λ (m : Mark). m.kind) heads in cc
+
+scheme_means : (names : List (List ℕ)) (x : Places) → AreNames format.Plain names → Within x (below (length names)) → (IsEmpty x → ⊥) → MeansScheme names (scheme_text names x) x
+unfolding is_scheme
+scheme_means names x are within some =
+    let words = members_from x 0 names in
+    let side = side_named names words x some (printed_side format.Plain names x 8 are within) in
+    record {
+      marks = record { kind = token.Word; column = 1; word = codes "scheme" } ∷ word_marks 7 words;
+      tokens = word_line (codes "scheme") words refl (printed_names format.Plain names x are);
+      scheme = record {
+        head = record { kind = token.Word; column = 1; word = codes "scheme" };
+        words = word_marks 7 words;
+        whole = refl;
+        scheme = refl;
+        some = side.some;
+        each = side.each;
+        members = side.members;
+      };
+    }
+
+lines_mean : (names : List (List ℕ)) (schemes : List Places) → AreNames format.Plain names → All (λ x. Within x (below (length names))) schemes → All (λ x. IsEmpty x → ⊥) schemes
+    → MeansLines names (map (scheme_text names) schemes ++ [] ∷ []) schemes
+lines_mean names [] are within some = inl (nothing_left mode.Plain 1, refl)
+lines_mean names (x ∷ schemes) are within some =
+    inr (
+      x,
+      schemes,
+      scheme_means names x are (All-head (λ (y : Places). Within y (below (length names))) x schemes within) (All-head (λ (y : Places). IsEmpty y → ⊥) x schemes some),
+      lines_mean names schemes are (All-tail (λ (y : Places). Within y (below (length names))) x schemes within) (All-tail (λ (y : Places). IsEmpty y → ⊥) x schemes some),
+      refl,
+    )
+
+each_bytes : (names : List (List ℕ)) (schemes : List Places) → AreNames format.Plain names → EachBytes (map (scheme_text names) schemes)
+each_bytes names [] are = tt
+each_bytes names (x ∷ schemes) are =
+    (bytes_both (codes "scheme") (words_text (members_from x 0 names)) refl (words_bytes (members_from x 0 names) (printed_names format.Plain names x are)), each_bytes names schemes are)
+
+no_mark : (names : List (List ℕ)) (schemes : List Places) → without_mark (plan_text names schemes) ≡ plan_text names schemes
+no_mark names [] = refl
+no_mark names (x ∷ schemes) = refl
+
+pub printed_plan_means : (names : List (List ℕ)) (schemes : List Places) → AreNames format.Plain names → IsPlan (length names) schemes → length schemes ≤ MOST_SCHEMES → MeansPlan names (plan_text names schemes) schemes
+printed_plan_means names schemes are plan few = record {
+  lines = subst (λ (lines : List (List ℕ)). MeansLines names lines schemes)
+      (sym (ap (λ (text : List ℕ). line_texts text) (no_mark names schemes) ∙ lines_cut (map (scheme_text names) schemes) (each_bytes names schemes are)))
+      (lines_mean names schemes are plan.within plan.some);
+  few = few;
+  covers = plan.covers;
+}

@@ -1,0 +1,201 @@
+-- The words after `scheme`: read where nothing is wrong with them, or refused by the first complaint.
+use Rattle.std.proofs.Common.{◌≡◌, ◌<◌, ◌≤◌, ◌+◌, ℕ, Bool, true, false, cond, List, [], ◌∷◌, length, Option, Some, None, Result, Ok, Err, refl, sym, ap, ◌∙◌, ◌⊎◌, inl, inr, ⊎_elim, arith}
+use Rattle.std.specs.Prelude.{All}
+use Rattle.std.proofs.lemmas.Bool.{false≢true, true≢false}
+use Rattle.std.proofs.lemmas.List.Elements.{All-nil, All-cons}
+use Rattle.attr_sets.specs.Places.{Places, only, union}
+use Rattle.dep_model.specs.Schemas.{place_named}
+use Rattle.lexer.specs.declared.token.Stop.{Stop}
+use Rattle.lexer.specs.declared.token.TokenKind.{TokenKind}
+use Rattle.lexer.specs.declared.token.TokenKind.TheVariants as token
+use Rattle.lexer.specs.Tokens.{Mark}
+use Rattle.schema_grammar.specs.declared.format.Format.TheVariants as format
+use Rattle.schema_grammar.specs.declared.refusal.SchemaRefusalKind.TheVariants as kind
+use Rattle.schema_grammar.specs.Complaints.{span_at}
+use Rattle.schema_grammar.specs.Meanings.{IsAttribute, named}
+use Rattle.schema_grammar.specs.Refusals.{refused_by, and_then, at}
+use Rattle.schema_grammar.specs.Words.{is_reserved, known, looked_up}
+use Rattle.schema_grammar.proofs.ComplaintLaws.{flaw_numbered, flaw_carries}
+use Rattle.schema_grammar.proofs.SideLemmas.{union-only, union-none, named-cons}
+use Rattle.plan_grammar.specs.declared.refusal.PlanRefusal.{PlanRefusal}
+use Rattle.plan_grammar.specs.declared.refusal.PlanRefusal.TheVariants as plan
+use Rattle.plan_grammar.specs.Refusals.{plan_refusal_number}
+use Rattle.plan_grammar.specs.Complaints.{WordComplaint, WordsComplaint, StandsAt, IsFirstOf, wanted_after}
+use Rattle.plan_grammar.specs.Reading.{of_text, other_token, attribute, read_words}
+use Rattle.plan_grammar.proofs.FirstLemmas.{first_here, first_later, later_fine, no_flaw, flaw_least}
+
+-- ---- kinds of tokens
+is_word : TokenKind → Bool
+is_word token.Word = true
+is_word token.Empty = false
+is_word token.Arrow = false
+is_word token.DoubleArrow = false
+is_word token.Colon = false
+is_word (token.Number n) = false
+
+is_empty : TokenKind → Bool
+is_empty token.Empty = true
+is_empty token.Word = false
+is_empty token.Arrow = false
+is_empty token.DoubleArrow = false
+is_empty token.Colon = false
+is_empty (token.Number n) = false
+
+no_word : (k : TokenKind) → is_word k ≡ false → k ≡ token.Word → ⊥
+unfolding is_word
+no_word k other same = true≢false (sym (ap is_word same) ∙ other)
+
+no_empty : (k : TokenKind) → is_empty k ≡ false → k ≡ token.Empty → ⊥
+unfolding is_empty
+no_empty k other same = true≢false (sym (ap is_empty same) ∙ other)
+
+-- ---- one token
+-- what a token after the word `scheme` stands for, or what is wrong with it
+module _ (names : List (List ℕ)) (line behind : ℕ) (m : Mark) (ms : List Mark) (stop : Option Stop) where
+  pub record IsNamed (a : ℕ) : Type 0 where
+    pub word : m.kind ≡ token.Word
+    pub free : is_reserved format.Plain m.word ≡ false
+    pub place : place_named names m.word ≡ Some a
+
+  abbrev pub Tells : Bool → Result ℕ PlanRefusal → Type 0
+  Tells first (Ok a) = IsNamed a
+  Tells first (Err e) = WordComplaint names first m (plan_refusal_number e) × StandsAt line (span_at line behind (m ∷ ms) stop) (wanted_after first) 0 e
+      × ((n : ℕ) → WordComplaint names first m n → plan_refusal_number e ≤ n)
+
+  word_tells : (first : Bool) → m.kind ≡ token.Word → Tells first (of_text (at line m.column (length m.word) (looked_up format.Plain names m.word)))
+  unfolding looked_up
+  word_tells first is = told (is_reserved format.Plain m.word) (place_named names m.word) refl refl
+    where
+      small : (first : Bool) (low n : ℕ) → low ≤ 5 → (n ≡ 3 → low ≤ 3 ⊎ (is_reserved format.Plain m.word ≡ false)) → WordComplaint names first m n → low ≤ n
+      small first low n most other h =
+          ⊎_elim
+          (λ word. ⊎_elim
+          (λ three. ⊎_elim (λ le. omega (arith, le, three.0)) (λ free. absurd (true≢false (sym three.1 ∙ free))) (other three.0))
+          (λ five. omega (arith, most, five.0))
+          word.1)
+          (λ rest. ⊎_elim (λ ten. omega (arith, most, ten.2)) (λ six. omega (arith, most, six.2)) rest)
+          h
+
+      told : (b : Bool) (o : Option ℕ) → is_reserved format.Plain m.word ≡ b → place_named names m.word ≡ o
+          → Tells first (of_text (at line m.column (length m.word) (cond b (Err kind.ReservedName) (known o))))
+      told true o reserved place = (inl (is, inl (refl, reserved)), (refl, tt), λ n h. small first 3 n (omega arith) (λ three. inl (omega arith)) h)
+      told false None free place = (inl (is, inr (refl, place)), (refl, tt), λ n h. small first 5 n (omega arith) (λ three. inr free) h)
+      told false (Some a) free place = record { word = is; free = free; place = place }
+
+  empty_tells : m.kind ≡ token.Empty → Tells true (Err (plan.EmptyScheme line))
+  empty_tells is = (
+    inr (inl (refl, is, refl)),
+    refl,
+    λ n h. ⊎_elim
+        (λ word. absurd (apart is word.0))
+        (λ rest. ⊎_elim (λ ten. omega (arith, ten.2)) (λ six. absurd (six.1 refl is)) rest)
+        h,
+  )
+    where
+      apart : m.kind ≡ token.Empty → m.kind ≡ token.Word → ⊥
+      apart e w = let wrong : token.Empty ≡ token.Word = sym e ∙ w in cc
+
+  other_tells : (first : Bool) → (m.kind ≡ token.Word → ⊥) → (first ≡ true → m.kind ≡ token.Empty → ⊥) → Tells first (Err (other_token line first m))
+  other_tells first word empty = (
+    inr (inr (word, empty, refl)),
+    (refl, refl),
+    λ n h. ⊎_elim
+        (λ is. absurd (word is.0))
+        (λ rest. ⊎_elim (λ ten. absurd (empty ten.0 ten.1)) (λ six. omega (arith, six.2)) rest)
+        h,
+  )
+
+  pub token_tells : (first : Bool) (k : TokenKind) → m.kind ≡ k → Tells first (attribute names line first m k)
+  unfolding is_word is_empty
+  token_tells first token.Word is = word_tells first is
+  token_tells true token.Empty is = empty_tells is
+  token_tells false token.Empty is = other_tells false (no_word m.kind (ap is_word is)) (λ t _. absurd (false≢true t))
+  token_tells first token.Arrow is = other_tells first (no_word m.kind (ap is_word is)) (λ _. no_empty m.kind (ap is_empty is))
+  token_tells first token.DoubleArrow is = other_tells first (no_word m.kind (ap is_word is)) (λ _. no_empty m.kind (ap is_empty is))
+  token_tells first token.Colon is = other_tells first (no_word m.kind (ap is_word is)) (λ _. no_empty m.kind (ap is_empty is))
+  token_tells first (token.Number n) is = other_tells first (no_word m.kind (ap is_word is)) (λ _. no_empty m.kind (ap is_empty is))
+
+-- ---- all tokens
+-- the tokens are words that name attributes
+pub record AreWords (names : List (List ℕ)) (first : Bool) (x : Places) (ms : List Mark) (stop : Option Stop) (y : Places) : Type 0 where
+  pub each : All (IsAttribute format.Plain names) ms
+  pub ended : stop ≡ None
+  pub some : first ≡ true → 0 < length ms
+  pub members : y ≡ union x (named names ms)
+  pub fine : (p n : ℕ) → WordsComplaint names first ms stop p n → ⊥
+
+abbrev pub WordsFit : List (List ℕ) → ℕ → Bool → Places → ℕ → List Mark → Option Stop → Result Places PlanRefusal → Type 0
+WordsFit names line first x behind ms stop (Ok y) = AreWords names first x ms stop y
+WordsFit names line first x behind ms stop (Err e) = IsFirstOf (WordsComplaint names first ms stop) (StandsAt line (span_at line behind ms stop) (wanted_after first)) e
+
+named_fine : (names : List (List ℕ)) (line behind : ℕ) (first : Bool) (m : Mark) (ms : List Mark) (stop : Option Stop) (a n : ℕ) → IsNamed names line behind m ms stop a → WordComplaint names first m n → ⊥
+named_fine names line behind first m ms stop a n is h =
+    ⊎_elim
+    (λ word. ⊎_elim
+    (λ three. true≢false (sym three.1 ∙ is.free))
+    (λ five. unknown (sym five.1 ∙ is.place))
+    word.1)
+    (λ rest. ⊎_elim (λ ten. apart (sym is.word ∙ ten.1)) (λ six. six.0 is.word) rest)
+    h
+  where
+    unknown : None ≡ Some a → ⊥
+    unknown e = cc
+
+    apart : token.Word ≡ token.Empty → ⊥
+    apart e = cc
+
+-- a word, and then what follows it
+words_after : (names : List (List ℕ)) (line behind : ℕ) (first : Bool) (x : Places) (m : Mark) (ms : List Mark) (stop : Option Stop) (a : ℕ) (r : Result Places PlanRefusal)
+    → IsNamed names line behind m ms stop a → WordsFit names line false (union x (only a)) (m.column + length m.word) ms stop r → WordsFit names line first x behind (m ∷ ms) stop r
+words_after names line behind first x m ms stop a (Ok y) is fit = record {
+  each = All-cons (IsAttribute format.Plain names) m ms (record { word = is.word; free = is.free; place = a; known = is.place }) fit.each;
+  ended = fit.ended;
+  some = λ _. omega arith;
+  members = fit.members ∙ union-only x (named names ms) a ∙ ap (λ (z : Places). union x z) (sym (named-cons names m ms a is.place));
+  fine = later_fine (WordsComplaint names first (m ∷ ms) stop) (λ n h. named_fine names line behind first m ms stop a n is h) fit.fine;
+}
+words_after names line behind first x m ms stop a (Err e) is fit =
+    first_later (WordsComplaint names first (m ∷ ms) stop) (StandsAt line (span_at line behind (m ∷ ms) stop) (wanted_after first)) e
+    (λ n h. named_fine names line behind first m ms stop a n is h) fit
+
+words_join : (names : List (List ℕ)) (line behind : ℕ) (first : Bool) (x : Places) (m : Mark) (ms : List Mark) (stop : Option Stop) (r : Result ℕ PlanRefusal)
+    → ((a : ℕ) → WordsFit names line false (union x (only a)) (m.column + length m.word) ms stop (read_words names line false (union x (only a)) ms stop))
+    → Tells names line behind m ms stop first r
+    → WordsFit names line first x behind (m ∷ ms) stop (and_then r (λ a. read_words names line false (union x (only a)) ms stop))
+words_join names line behind first x m ms stop (Ok a) later tells =
+    words_after names line behind first x m ms stop a (read_words names line false (union x (only a)) ms stop) tells (later a)
+words_join names line behind first x m ms stop (Err e) later tells =
+    first_here (WordsComplaint names first (m ∷ ms) stop) (StandsAt line (span_at line behind (m ∷ ms) stop) (wanted_after first)) e tells.0 tells.1 tells.2
+
+stopped_fit : (names : List (List ℕ)) (line : ℕ) (first : Bool) (behind : ℕ) (s : Stop)
+    → IsFirstOf (WordsComplaint names first [] (Some s)) (StandsAt line (span_at line behind [] (Some s)) (wanted_after first)) (plan.Text (refused_by line s))
+stopped_fit names line first behind s =
+    first_here (WordsComplaint names first [] (Some s)) (StandsAt line (span_at line behind [] (Some s)) (wanted_after first)) (plan.Text (refused_by line s))
+    (refl, inr (s, refl, flaw_numbered s.flaw)) (refl, flaw_carries (λ w. w ≡ wanted_after first 0) s.flaw)
+    (λ n h. ⊎_elim (λ ended. absurd (some_stop ended.0)) (λ flaw. flaw_least s n flaw) h.1)
+  where
+    some_stop : Some s ≡ None → ⊥
+    some_stop e = cc
+
+pub words_fit : (names : List (List ℕ)) (line : ℕ) (first : Bool) (x : Places) (behind : ℕ) (ms : List Mark) (stop : Option Stop)
+    → WordsFit names line first x behind ms stop (read_words names line first x ms stop)
+unfolding read_words
+words_fit names line true x behind [] None =
+    first_here (WordsComplaint names true [] None) (StandsAt line (span_at line behind [] None) (wanted_after true)) (plan.EmptyScheme line)
+    (refl, inl (refl, refl, refl)) refl
+    (λ n h. ⊎_elim (λ ended. omega (arith, ended.2)) (λ flaw. absurd (no_flaw n flaw)) h.1)
+words_fit names line false x behind [] None = record {
+  each = All-nil (IsAttribute format.Plain names);
+  ended = refl;
+  some = λ first. absurd (false≢true first);
+  members = sym (union-none x (named names []) refl);
+  fine = λ p n h. ⊎_elim (λ ended. false≢true ended.1) (λ flaw. no_flaw n flaw) h.1;
+}
+words_fit names line true x behind [] (Some s) = stopped_fit names line true behind s
+words_fit names line false x behind [] (Some s) = stopped_fit names line false behind s
+words_fit names line true x behind (m ∷ ms) stop =
+    words_join names line behind true x m ms stop (attribute names line true m m.kind)
+    (λ a. words_fit names line false (union x (only a)) (m.column + length m.word) ms stop) (token_tells names line behind m ms stop true m.kind refl)
+words_fit names line false x behind (m ∷ ms) stop =
+    words_join names line behind false x m ms stop (attribute names line false m m.kind)
+    (λ a. words_fit names line false (union x (only a)) (m.column + length m.word) ms stop) (token_tells names line behind m ms stop false m.kind refl)

@@ -1,0 +1,115 @@
+use Rattle.std.specs.Prelude.{◌≡◌, ◌<◌, ◌≤◌, ◌⊎◌, ℕ, ◌+◌, zero, suc, Bool, true, false, not, ◌&&◌, if◌then◌else◌, List, [], ◌∷◌, length, Option, Some, None}
+use Rattle.std.specs.List.{list_any}
+use Rattle.attr_sets.specs.Places.{Places, below, IsLeastFrom}
+use Rattle.lexer.specs.declared.token.Mode.TheVariants as mode
+use Rattle.lexer.specs.declared.token.Stop.{Stop}
+use Rattle.lexer.specs.declared.token.TokenKind.TheVariants as token
+use Rattle.lexer.specs.Lines.{line_texts, without_mark}
+use Rattle.lexer.specs.Tokens.{Mark, lex}
+use Rattle.schema_grammar.specs.declared.format.Format.TheVariants as format
+use Rattle.schema_grammar.specs.declared.refusal.Span.{Span}
+use Rattle.schema_grammar.specs.declared.refusal.What.{What}
+use Rattle.schema_grammar.specs.declared.refusal.What.TheVariants as what
+use Rattle.schema_grammar.specs.Complaints.{ComplainsOfWord, Carries, flaw_number, span_at}
+use Rattle.schema_grammar.specs.Words.{is_reserved}
+use Rattle.plan_grammar.specs.declared.refusal.PlanRefusal.{PlanRefusal}
+use Rattle.plan_grammar.specs.declared.refusal.PlanRefusal.TheVariants as plan
+use Rattle.plan_grammar.specs.declared.refusal.TheConstants.{MOST_SCHEMES}
+use Rattle.plan_grammar.specs.Meanings.{is_scheme, MeansLines}
+use Rattle.plan_grammar.specs.Refusals.{plan_refusal_number}
+
+-- bytes that are no token
+abbrev pub FlawComplaint : Option Stop → ℕ → Type 0
+FlawComplaint stop number = (s : Stop) × (stop ≡ Some s) × (number ≡ flaw_number s.flaw)
+
+-- what is wrong with the first token of a line, before which so many scheme lines stand: it is another
+-- one than the word `scheme`, or begins one scheme line too many
+abbrev pub HeadComplaint : ℕ → Mark → ℕ → Type 0
+HeadComplaint earlier m number =
+    ((is_scheme m.kind m.word ≡ false) × (((number ≡ 3) × (m.kind ≡ token.Word) × (is_reserved format.Plain m.word ≡ true)) ⊎ (number ≡ 6)))
+    ⊎ ((is_scheme m.kind m.word ≡ true) × (MOST_SCHEMES ≤ earlier) × (number ≡ 12))
+
+-- what is wrong with a token after the word `scheme`; `first` is whether it stands right after it
+abbrev pub WordComplaint : List (List ℕ) → Bool → Mark → ℕ → Type 0
+WordComplaint names first m number =
+    ComplainsOfWord format.Plain names m number
+    ⊎ (((first ≡ true) × (m.kind ≡ token.Empty) × (number ≡ 10))
+    ⊎ ((m.kind ≡ token.Word → ⊥) × (first ≡ true → m.kind ≡ token.Empty → ⊥) × (number ≡ 6)))
+
+-- what is wrong after the word `scheme` at a place, before which so many tokens stand there
+abbrev pub WordsComplaint : List (List ℕ) → Bool → List Mark → Option Stop → ℕ → ℕ → Type 0
+WordsComplaint names first [] stop place number =
+    (place ≡ 0) × (((stop ≡ None) × (first ≡ true) × (number ≡ 10)) ⊎ FlawComplaint stop number)
+WordsComplaint names first (m ∷ ms) stop zero number = WordComplaint names first m number
+WordsComplaint names first (m ∷ ms) stop (suc place) number = WordsComplaint names false ms stop place number
+
+-- what is wrong with a line at a place, before which so many of its tokens stand
+abbrev pub LineComplaint : List (List ℕ) → ℕ → List Mark → Option Stop → ℕ → ℕ → Type 0
+LineComplaint names earlier [] stop place number = (place ≡ 0) × FlawComplaint stop number
+LineComplaint names earlier (m ∷ ms) stop zero number = HeadComplaint earlier m number
+LineComplaint names earlier (m ∷ ms) stop (suc place) number = WordsComplaint names true ms stop place number
+
+-- what a refusal 6 carries at a place after the word `scheme`
+abbrev pub wanted_after : Bool → ℕ → What
+wanted_after first zero = if first then what.Name else what.LineEnd
+wanted_after first (suc place) = wanted_after false place
+
+-- and at a place of the line
+abbrev pub wanted : ℕ → What
+wanted zero = what.Scheme
+wanted (suc place) = wanted_after true place
+
+-- a refusal stands at a place of a line
+abbrev pub StandsAt : ℕ → (ℕ → Span) → (ℕ → What) → ℕ → PlanRefusal → Type 0
+StandsAt line span want place (plan.Text e) = (e.span ≡ span place) × Carries (λ w. w ≡ want place) e.kind
+StandsAt line span want place (plan.EmptyScheme l) = l ≡ line
+StandsAt line span want place (plan.TooManySchemes l) = l ≡ line
+StandsAt line span want place (plan.NotCovered a) = ⊥
+StandsAt line span want place plan.Memory = ⊥
+
+-- a refusal is the complaint of the least place, and there that of the least number
+pub record IsFirstOf (Complaint : ℕ → ℕ → Type 0) (Stands : ℕ → PlanRefusal → Type 0) (e : PlanRefusal) : Type 0 where
+  pub place : ℕ
+  pub complaint : Complaint place (plan_refusal_number e)
+  pub there : Stands place e
+  pub least : (p n : ℕ) → Complaint p n → (place < p) ⊎ ((place ≡ p) × (plan_refusal_number e ≤ n))
+
+-- a line is refused by its first complaint
+abbrev pub RefusesLine : List (List ℕ) → ℕ → ℕ → List Mark → Option Stop → PlanRefusal → Type 0
+RefusesLine names line earlier ms stop e =
+    IsFirstOf (LineComplaint names earlier ms stop) (StandsAt line (span_at line 1 ms stop) wanted) e
+
+-- nothing is wrong with it
+abbrev pub IsFine : List (List ℕ) → ℕ → List Mark → Option Stop → Type 0
+IsFine names earlier ms stop = (place number : ℕ) → LineComplaint names earlier ms stop place number → ⊥
+
+-- how many scheme lines a line is with which nothing is wrong
+abbrev pub schemes_in : List Mark → ℕ
+schemes_in [] = 0
+schemes_in (m ∷ ms) = 1
+
+-- lines, of which the first has this number, are refused by the first line with which something is wrong
+abbrev pub RefusesLines : List (List ℕ) → ℕ → ℕ → List (List ℕ) → PlanRefusal → Type 0
+RefusesLines names number earlier [] e = ⊥
+RefusesLines names number earlier (line ∷ lines) e =
+    RefusesLine names number earlier (lex mode.Plain line).marks (lex mode.Plain line).stop e
+    ⊎ (IsFine names earlier (lex mode.Plain line).marks (lex mode.Plain line).stop
+    × RefusesLines names (number + 1) (earlier + schemes_in (lex mode.Plain line).marks) lines e)
+
+-- the attributes that are in no scheme
+abbrev pub uncovered : ℕ → List Places → Places
+uncovered n schemes k = below n k && not (list_any (λ scheme. scheme k) schemes)
+
+-- the lines mean schemes, and this is the least attribute that is in none
+pub record LeavesOut (names : List (List ℕ)) (lines : List (List ℕ)) (e : PlanRefusal) : Type 0 where
+  pub schemes : List Places
+  pub means : MeansLines names lines schemes
+  pub few : length schemes ≤ MOST_SCHEMES
+  pub attribute : ℕ
+  pub least : IsLeastFrom (uncovered (length names) schemes) 0 attribute
+  pub told : e ≡ plan.NotCovered attribute
+
+-- a plan text over declared names is refused so
+abbrev pub RefusesPlan : List (List ℕ) → List ℕ → PlanRefusal → Type 0
+RefusesPlan names text e =
+    RefusesLines names 1 0 (line_texts (without_mark text)) e ⊎ LeavesOut names (line_texts (without_mark text)) e

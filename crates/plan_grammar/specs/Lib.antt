@@ -1,0 +1,5 @@
+pub mod Refusals
+pub mod Meanings
+pub mod Complaints
+pub mod Reading
+pub mod Printing

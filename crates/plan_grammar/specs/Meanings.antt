@@ -1,0 +1,51 @@
+use Rattle.std.specs.Prelude.{◌≡◌, ◌<◌, ◌≤◌, ◌⊎◌, ℕ, Bool, true, false, List, [], ◌∷◌, length, All, codes}
+use Rattle.std.specs.Str.{bytes_eq}
+use Rattle.attr_sets.specs.Places.{Places}
+use Rattle.dep_model.specs.Projections.{Covers}
+use Rattle.lexer.specs.declared.token.Mode.TheVariants as mode
+use Rattle.lexer.specs.declared.token.TokenKind.{TokenKind}
+use Rattle.lexer.specs.declared.token.TokenKind.TheVariants as token
+use Rattle.lexer.specs.Lines.{line_texts, without_mark}
+use Rattle.lexer.specs.Tokens.{Mark, lex}
+use Rattle.schema_grammar.specs.declared.format.Format.TheVariants as format
+use Rattle.schema_grammar.specs.Meanings.{HasTokens, IsAttribute, named}
+use Rattle.plan_grammar.specs.declared.refusal.TheConstants.{MOST_SCHEMES}
+
+-- whether a token is the word `scheme`, in lower case
+unfoldable pub is_scheme : TokenKind → List ℕ → Bool
+is_scheme token.Word word = bytes_eq word (codes "scheme")
+is_scheme (token.Number n) word = false
+is_scheme token.Arrow word = false
+is_scheme token.DoubleArrow word = false
+is_scheme token.Empty word = false
+is_scheme token.Colon word = false
+
+-- a scheme line over declared names: the word `scheme`, and one or more words, for the attributes that
+-- they name
+pub record IsSchemeLine (names : List (List ℕ)) (ms : List Mark) (x : Places) : Type 0 where
+  pub head : Mark
+  pub words : List Mark
+  pub whole : ms ≡ head ∷ words
+  pub scheme : is_scheme head.kind head.word ≡ true
+  pub some : 0 < length words
+  pub each : All (IsAttribute format.Plain names) words
+  pub members : x ≡ named names words
+
+-- a line has the tokens of a scheme line
+pub record MeansScheme (names : List (List ℕ)) (line : List ℕ) (x : Places) : Type 0 where
+  pub marks : List Mark
+  pub tokens : HasTokens (lex mode.Plain line) marks
+  pub scheme : IsSchemeLine names marks x
+
+-- lines mean the schemes of their scheme lines, in order; the others have no tokens
+abbrev pub MeansLines : List (List ℕ) → List (List ℕ) → List Places → Type 0
+MeansLines names [] schemes = schemes ≡ []
+MeansLines names (line ∷ lines) schemes =
+    (HasTokens (lex mode.Plain line) [] × MeansLines names lines schemes)
+    ⊎ ((x : Places) × (others : List Places) × MeansScheme names line x × MeansLines names lines others × (schemes ≡ x ∷ others))
+
+-- a plan text over declared names means schemes
+pub record MeansPlan (names : List (List ℕ)) (text : List ℕ) (schemes : List Places) : Type 0 where
+  pub lines : MeansLines names (line_texts (without_mark text)) schemes
+  pub few : length schemes ≤ MOST_SCHEMES
+  pub covers : Covers (length names) schemes

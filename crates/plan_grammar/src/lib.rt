@@ -1,0 +1,12 @@
+//! What plan texts mean, and how they are refused: the grammar, which their reader promises.
+//!
+//! A plan text over the names of a schema means schemes, or it has complaints: that of the first line
+//! which has one is its refusal, there of the first place, and there of the least number; or an
+//! attribute is in no scheme. There is no code here but the enum of the refusals.
+#![tactic(auto)]
+
+mod laws;
+mod refusal;
+
+pub use laws::{lines_are_read, lines_are_refused, plan_texts_have_one_answer, printed_plan_means};
+pub use refusal::{MOST_SCHEMES, PlanRefusal};

@@ -1,0 +1,58 @@
+ghost use Rattle.std.specs.Prelude.{◌≡◌};
+ghost use Rattle.plan_grammar.specs.Refusals.{plan_refusal_number};
+
+use schema_grammar::SchemaRefusal;
+use std::alloc::{AllocError, AllocFailed};
+
+/// The most schemes of a plan text.
+pub const MOST_SCHEMES: usize = 256;
+
+/// Why a plan text is refused.
+#[derive(Clone, Copy, Debug, PartialEq, Eq, Hash)]
+pub enum PlanRefusal {
+    /// 1, 2, 3, 5 and 6, as of a schema text.
+    Text(SchemaRefusal),
+    /// 10: a scheme line without attributes.
+    EmptyScheme { line: u32 },
+    /// 11: the least attribute that is in no scheme.
+    NotCovered { attribute: u8 },
+    /// 12: one scheme more than a plan text holds.
+    TooManySchemes { line: u32 },
+    /// Want of memory.
+    Memory,
+}
+
+impl PlanRefusal {
+    /// The number by which the documents and the program name it; want of memory has none.
+    pub fn number(self) -> u32
+        ensures number { result ≡ plan_refusal_number self }
+    {
+        match self {
+            PlanRefusal::Text(refusal) => refusal.kind.number(),
+            PlanRefusal::EmptyScheme { .. } => 10,
+            PlanRefusal::NotCovered { .. } => 11,
+            PlanRefusal::TooManySchemes { .. } => 12,
+            PlanRefusal::Memory => 0,
+        }
+    }
+}
+
+impl From<AllocError> for PlanRefusal {
+    ghost use Rattle.plan_grammar.specs.declared.refusal.PlanRefusal.TheVariants.{Memory};
+
+    ghost from_gives = { λ _ e. e ≡ Memory };
+
+    fn from(_error: AllocError) -> Self {
+        PlanRefusal::Memory
+    }
+}
+
+impl<T: Drop> From<AllocFailed<T>> for PlanRefusal {
+    ghost use Rattle.plan_grammar.specs.declared.refusal.PlanRefusal.TheVariants.{Memory};
+
+    ghost from_gives = { λ _ e. e ≡ Memory };
+
+    fn from(_error: AllocFailed<T>) -> Self {
+        PlanRefusal::Memory
+    }
+}

@@ -1,0 +1,35 @@
+use Rattle.std.proofs.Common.{◌≡◌, ℕ, ◌↔◌, ◌<◌, ◌+◌, true, false, List, [], ◌∷◌, take, take_all, length, get_or, sym, subst, ap, ◌∙◌, refl, arith}
+use Rattle.std.specs.Prelude.{Any, Contains}
+use Rattle.std.proofs.lemmas.Bool.{false≢true}
+use Rattle.std.proofs.lemmas.List.Elements.{Contains-get_or}
+use Rattle.attr_sets.specs.declared.set.AttrSet.{AttrSet}
+use Rattle.attr_sets.specs.Places.{Places, below}
+use Rattle.attr_sets.specs.Sets.{places}
+use Rattle.dep_model.specs.Dependencies.{functional_part}
+use Rattle.dep_model.specs.Keys.{IsSuperkey}
+use Rattle.dep_model.specs.Plans.{schemes_of}
+use Rattle.dep_model.specs.Schemas.{width_of, theory_of}
+use Rattle.synthesis_3nf.specs.GroupedPlans.{HoldSuperkey}
+use Rattle.synthesis_3nf.proofs.LoopLemmas.{none_more}
+use Rattle.synthesis_3nf.proofs.completing.hold_superkey.Goals as goal
+
+pub loop-scheme-init : goal.loop-scheme-init
+loop-scheme-init c found = absurd (omega (arith, found.2))
+
+pub loop-scheme-preserved : goal.loop-scheme-preserved
+loop-scheme-preserved c =
+    let s = c.args.schema.now in
+    let n = width_of s in
+    let first : AttrSet = record { 0 = 0 } in
+    none_more (λ (x : Places). IsSuperkey n (functional_part (theory_of s)) (below n) x) c.args.schemes.now c.loop-scheme.scheme-index first c.loop-scheme-test.true c.loop-scheme.invariant
+    (λ is. false≢true (sym c.if-is_superkey.false ∙ c.is_superkey.ensures.superkey.1 is))
+
+pub returns : goal.returns
+returns c =
+    let s = c.args.schema.now in
+    record {
+      superkey = (
+        λ told. absurd (false≢true told),
+        λ found. absurd (c.loop-scheme.invariant (subst (λ (xs : List AttrSet). HoldSuperkey (width_of s) (theory_of s) (schemes_of xs)) (sym (take_all c.loop-scheme.scheme-index c.args.schemes.now c.loop-scheme-test.false)) found)),
+      );
+    }

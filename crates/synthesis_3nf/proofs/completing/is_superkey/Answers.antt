@@ -1,0 +1,33 @@
+use Rattle.std.proofs.Common.{◌≡◌, ℕ, ◌↔◌, List, sym, subst, ap, ◌∙◌, arith}
+use Rattle.std.specs.Prelude.{All, IsTrue}
+use Rattle.attr_sets.specs.Places.{Places, below, Within, Same}
+use Rattle.attr_sets.specs.Sets.{places}
+use Rattle.attr_sets.proofs.PlacesLemmas.{Same-path}
+use Rattle.dep_model.specs.declared.dep.Dep.{Dep}
+use Rattle.dep_model.specs.Dependencies.{fd, functional_part}
+use Rattle.dep_model.specs.Deps.{dependencies_of, IsDepWithin}
+use Rattle.dep_model.specs.Implication.{Implies}
+use Rattle.dep_model.specs.Schemas.{width_of, theory_of, deps_of}
+use Rattle.dep_model.proofs.KeyLemmas.{fd_on-to, superkey-from}
+use Rattle.synthesis_3nf.proofs.completing.is_superkey.Goals as goal
+
+pub returns : goal.returns
+returns c =
+    let s = c.args.schema.now in
+    let n = width_of s in
+    let ds = functional_part (theory_of s) in
+    let x = places c.args.scheme in
+    let x_in = c.requires.within in
+    let universe : places c.full.result ≡ below n = Same-path (places c.full.result) (below n) (subst (λ (m : ℕ). Same (places c.full.result) (below m)) c.width.ensures.count c.full.ensures.members) in
+    let within : All (IsDepWithin (below n)) c.deps.result.now = subst (λ (es : List Dep). All (IsDepWithin (below n)) es) (sym c.deps.ensures.deps) s.valid.deps_within in
+    let u_in : Within (places c.full.result) (below n) = subst (λ (u : Places). Within u (below n)) (sym universe) (λ k m. m) in
+    let decides : IsTrue c.follows.result ↔ Implies n ds (fd x (below n)) =
+    subst (λ (u : Places). IsTrue c.follows.result ↔ Implies n ds (fd x u)) universe
+    (subst (λ (es : List Dep). IsTrue c.follows.result ↔ Implies n (functional_part (dependencies_of es)) (fd x (places c.full.result))) c.deps.ensures.deps
+    (c.follows.ensures.implied n within x_in u_in)) in
+    record {
+      superkey = (
+        λ told. superkey-from n ds (below n) x x_in (decides.0 told),
+        λ is. decides.1 (fd_on-to n ds (below n) x (below n) is),
+      );
+    }

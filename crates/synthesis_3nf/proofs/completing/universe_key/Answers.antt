@@ -1,0 +1,25 @@
+use Rattle.std.proofs.Common.{◌≡◌, ℕ, List, sym, subst}
+use Rattle.std.specs.Prelude.{All}
+use Rattle.attr_sets.specs.Places.{Places, below, Within, Same}
+use Rattle.attr_sets.specs.Sets.{places}
+use Rattle.attr_sets.proofs.PlacesLemmas.{Same-path}
+use Rattle.dep_model.specs.declared.dep.Dep.{Dep}
+use Rattle.dep_model.specs.Dependencies.{functional_part}
+use Rattle.dep_model.specs.Deps.{dependencies_of, IsDepWithin}
+use Rattle.dep_model.specs.Keys.{IsSettledKey}
+use Rattle.dep_model.specs.Schemas.{width_of, theory_of}
+use Rattle.synthesis_3nf.proofs.completing.universe_key.Goals as goal
+
+pub returns : goal.returns
+returns c =
+    let s = c.args.schema.now in
+    let n = width_of s in
+    let key = places c.functional_key.result in
+    let universe : places c.full.result ≡ below n = Same-path (places c.full.result) (below n) (subst (λ (m : ℕ). Same (places c.full.result) (below m)) c.width.ensures.count c.full.ensures.members) in
+    let within : All (IsDepWithin (below n)) c.deps.result.now = subst (λ (es : List Dep). All (IsDepWithin (below n)) es) (sym c.deps.ensures.deps) s.valid.deps_within in
+    let u_in : Within (places c.full.result) (below n) = subst (λ (u : Places). Within u (below n)) (sym universe) (λ k m. m) in
+    record {
+      settled = subst (λ (u : Places). IsSettledKey n (functional_part (theory_of s)) u key) universe
+          (subst (λ (es : List Dep). IsSettledKey n (functional_part (dependencies_of es)) (places c.full.result) key) c.deps.ensures.deps
+          (c.functional_key.ensures.settled n within u_in));
+    }

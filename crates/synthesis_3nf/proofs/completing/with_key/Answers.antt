@@ -1,0 +1,32 @@
+use Rattle.std.proofs.Common.{◌≡◌, ℕ, ◌↔◌, true, false, List, [], ◌∷◌, ◌++◌, sym, subst, ap, ◌∙◌, ◌⊎◌, inl, inr, refl}
+use Rattle.std.specs.Prelude.{IsTrue}
+use Rattle.std.proofs.lemmas.List.{map-append}
+use Rattle.std.proofs.lemmas.Bool.{false≢true}
+use Rattle.attr_sets.specs.declared.set.AttrSet.{AttrSet}
+use Rattle.attr_sets.specs.Places.{Places}
+use Rattle.attr_sets.specs.Sets.{places}
+use Rattle.dep_model.specs.Plans.{schemes_of}
+use Rattle.dep_model.specs.Schemas.{width_of, theory_of}
+use Rattle.synthesis_3nf.specs.GroupedPlans.{HoldSuperkey, IsWithKey}
+use Rattle.synthesis_3nf.proofs.completing.with_key.Goals.{then-not-hold_superkey+in_ok-push, else-not-hold_superkey}
+use Rattle.synthesis_3nf.proofs.completing.with_key.Goals as goal
+
+pub returns : goal.returns
+returns c =
+    let s = c.args.schema.now in
+    let n = width_of s in
+    let ds = theory_of s in
+    let old = c.args.schemes.items in
+    let told : IsTrue c.hold_superkey.result ↔ HoldSuperkey n ds (schemes_of old) =
+    subst (λ (xs : List AttrSet). IsTrue c.hold_superkey.result ↔ HoldSuperkey n ds (schemes_of xs)) c.deref.ensures.value c.hold_superkey.ensures.superkey in
+    record {
+      completed = elim c.if-not-hold_superkey.branch [
+        | then-not-hold_superkey+in_ok-push w ↦ inr (record {
+          none = λ holds. false≢true (sym w.if-not-hold_superkey.true ∙ told.1 holds);
+          key = places w.universe_key.result;
+          settled = w.universe_key.ensures.settled;
+          last = ap (λ v. schemes_of v.items) w.schemes-is ∙ ap (λ (xs : List AttrSet). schemes_of xs) w.in_ok-push.ensures.items ∙ map-append places old (w.universe_key.result ∷ []);
+        })
+        | else-not-hold_superkey w ↦ inl (told.0 w.if-not-hold_superkey.false, ap (λ v. schemes_of v.items) w.schemes-is)
+      ];
+    }

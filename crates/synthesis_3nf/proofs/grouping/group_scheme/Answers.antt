@@ -1,0 +1,22 @@
+use Rattle.std.proofs.Common.{◌<◌, length, sym, subst, take, take_all, arith}
+use Rattle.std.proofs.Math.Bool.{or-false}
+use Rattle.attr_sets.specs.Places.{Same}
+use Rattle.attr_sets.specs.Sets.{places}
+use Rattle.dep_model.specs.declared.dep.Dep.{Dep}
+use Rattle.dep_model.specs.declared.dep.Dep.TheVariants.{Fd}
+use Rattle.dep_model.specs.Deps.{dependencies_of}
+use Rattle.synthesis_3nf.specs.Groups.{group_scheme}
+use Rattle.synthesis_3nf.proofs.LoopLemmas.{group_more}
+use Rattle.synthesis_3nf.proofs.grouping.group_scheme.Goals as goal
+
+pub loop-dep-init : goal.loop-dep-init
+loop-dep-init c k = sym (or-false (places c.args.left k))
+
+pub loop-dep-preserved : goal.loop-dep-preserved
+loop-dep-preserved c =
+    let first : Dep = Fd (record { 0 = 0 }) (record { 0 = 0 }) in
+    let lt : c.loop-dep.dep-index < length c.args.deps.now = c.loop-dep-test.true in
+    group_more c.args.deps.now c.loop-dep.dep-index first (places c.args.left) (places c.loop-dep.scheme) (places c.with_member-scheme.result) lt c.loop-dep.invariant c.with_member-scheme.ensures.scheme
+
+pub returns : goal.returns
+returns c = record { scheme = rw (take_all c.loop-dep.dep-index c.args.deps.now c.loop-dep-test.false) at c.loop-dep.invariant }

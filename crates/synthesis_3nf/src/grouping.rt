@@ -1,0 +1,78 @@
+ghost use Rattle.std.specs.Prelude.{◌≡◌, ◌||◌, ◌&&◌, [], map, IfOk};
+ghost use Rattle.std.specs.List.{list_any};
+ghost use Rattle.attr_sets.specs.Places.{Same};
+ghost use Rattle.attr_sets.specs.Sets.{places, is_same};
+ghost use Rattle.dep_model.specs.Dependencies.{left_of, right_of};
+ghost use Rattle.dep_model.specs.Deps.{dependency_of, dependencies_of};
+ghost use Rattle.dep_model.specs.Plans.{schemes_of};
+ghost use Rattle.synthesis_3nf.specs.Groups.{left_sides_after, group_scheme, grouped};
+
+use attr_sets::AttrSet;
+use dep_model::{Dep, WantMemory, sides};
+use std::alloc::Global;
+
+// The schemes of the left sides of a list, in the order of their first occurrence.
+pub fn group_schemes(alloc: Global, deps: &[Dep]) -> Result<Vec<AttrSet>, WantMemory>
+    ensures grouped { IfOk result (λ schemes. schemes_of schemes.items ≡ grouped (dependencies_of deps.now)) }
+{
+    let lefts = left_sides(alloc, deps)?;
+    each_scheme(alloc, deps, &lefts)
+}
+
+// The schemes of these left sides.
+fn each_scheme(alloc: Global, deps: &[Dep], lefts: &[AttrSet]) -> Result<Vec<AttrSet>, WantMemory>
+    ensures schemes { IfOk result (λ schemes.
+        schemes_of schemes.items ≡ map (group_scheme (dependencies_of deps.now)) (schemes_of lefts.now)) }
+{
+    let mut schemes = Vec::new(alloc);
+    for left in lefts {
+        schemes.push(group_scheme(deps, *left))?;
+    }
+    Ok(schemes)
+}
+
+// The left sides of a list, each once, in the order of their first occurrence.
+fn left_sides(alloc: Global, deps: &[Dep]) -> Result<Vec<AttrSet>, WantMemory>
+    ensures lefts { IfOk result (λ lefts.
+        schemes_of lefts.items ≡ left_sides_after [] (dependencies_of deps.now)) }
+{
+    let mut lefts = Vec::new(alloc);
+    for dep in deps {
+        let (left, _) = sides(*dep);
+        if !is_among(&lefts, left) {
+            lefts.push(left)?;
+        }
+    }
+    Ok(lefts)
+}
+
+// Whether a set is among these.
+fn is_among(sets: &[AttrSet], set: AttrSet) -> bool
+    ensures among { result ≡ list_any (λ other. is_same (places other) (places set)) sets.now }
+{
+    sets.iter().any(|other| *other == set)
+}
+
+// A left side with all that the dependencies of the list with this left side determine.
+fn group_scheme(deps: &[Dep], left: AttrSet) -> AttrSet
+    ensures scheme { Same (places result) (group_scheme (dependencies_of deps.now) (places left)) }
+{
+    let mut scheme = left;
+    for dep in deps {
+        scheme = with_member(scheme, *dep, left);
+    }
+    scheme
+}
+
+// A scheme with the right side of a dependency, if this has the left side.
+fn with_member(scheme: AttrSet, dep: Dep, left: AttrSet) -> AttrSet
+    ensures scheme { Same (places result) (λ k. places scheme k
+        || (is_same (places left) (left_of (dependency_of dep)) && right_of (dependency_of dep) k)) }
+{
+    let (lhs, rhs) = sides(dep);
+    if left == lhs {
+        scheme.union(rhs)
+    } else {
+        scheme
+    }
+}

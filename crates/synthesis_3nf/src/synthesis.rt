@@ -1,0 +1,36 @@
+ghost use Rattle.std.specs.Prelude.{IfOk, All};
+ghost use Rattle.dep_model.specs.Forms.{IsThird};
+ghost use Rattle.dep_model.specs.Preservation.{KeepsDependencies};
+ghost use Rattle.dep_model.specs.Projections.{IsLossless};
+ghost use Rattle.dep_model.specs.Schemas.{width_of, theory_of};
+ghost use Rattle.decomp_text.specs.Plans.{sets_of, plan_of, IsPlanOver};
+ghost use Rattle.synthesis_3nf.specs.GroupedPlans.{IsGroupedPlan};
+
+use crate::completing::with_key;
+use crate::grouping::group_schemes;
+use decomp_text::{Plan, drop_contained};
+use dep_model::{Schema, WantMemory};
+use min_cover::minimal;
+use std::alloc::Global;
+
+/// A lossless plan of schemes in third normal form that keeps the functional dependencies of a schema
+/// (Beeri and Bernstein 1979; Biskup, Dayal and Bernstein 1979). The fixed cover is grouped by left
+/// side, in the order of first occurrence; each group gives the scheme of its left side and right sides.
+/// Where no scheme is a superkey of the universe, a key of it is added last. Contained schemes are
+/// dropped.
+pub fn synthesize(alloc: Global, schema: &Schema) -> Result<Plan, WantMemory>
+    ensures universe { IfOk result (λ plan. IsPlanOver schema.now plan) }
+    ensures grouped { IfOk result (λ plan.
+        IsGroupedPlan (width_of schema.now) (theory_of schema.now) (sets_of plan)) }
+    ensures lossless { IfOk result (λ plan.
+        IsLossless (width_of schema.now) (theory_of schema.now) (plan_of plan)) }
+    ensures third { IfOk result (λ plan.
+        All (IsThird (width_of schema.now) (theory_of schema.now)) (plan_of plan)) }
+    ensures keeps { IfOk result (λ plan.
+        KeepsDependencies (width_of schema.now) (theory_of schema.now) (plan_of plan)) }
+{
+    let cover = minimal(alloc, schema)?;
+    let groups = group_schemes(alloc, &cover)?;
+    let schemes = with_key(schema, groups)?;
+    Ok(drop_contained(schema, Plan::make(schema, schemes)))
+}
