@@ -1,0 +1,572 @@
+#!/usr/bin/env python3.11
+"""Compares a built program with the model on random inputs.
+
+    compare.py PROGRAM FAMILY COUNT [SEED]
+
+FAMILY is one of those listed at the end of this file, or `all`. COUNT random cases are made; the first three
+differences are printed, and their files kept in a folder of their own. The last line is `N same, N differ`, and how
+often each status came. DESK_KEEP=DIR keeps the files elsewhere. Runs one program at a time.
+"""
+import collections
+import os
+import pathlib
+import random
+import shutil
+import subprocess
+import sys
+import tempfile
+
+import model
+
+from model import FD, MVD, members
+
+KEEP = pathlib.Path(os.environ.get("DESK_KEEP") or tempfile.mkdtemp())
+NAMES = ["A", "B", "C", "D", "E", "F", "G", "H", "I", "J", "K", "L", "M", "N", "O", "P"]
+LONG = ["City", "street_1", "ZIP", "Room", "x9", "Teacher", "HOUR", "grade", "given", "with", "yes", "Integers",
+        "a_name_of_thirty_one_bytes_long", "Tn", "Id", "q"]
+
+
+# ---------------------------------------------------------------- makers
+
+class Maker:
+    def __init__(self, rng):
+        self.r = rng
+
+    def some(self, n, most=3, least=0):
+        """A small set of places."""
+        k = self.r.randint(least, min(most, n))
+        return sum(1 << i for i in self.r.sample(range(n), k))
+
+    def schema(self, low=1, high=6, deps=None, mvd=None, typed=None, empty=0.08):
+        """names, columns, deps."""
+        r = self.r
+        n = r.randint(low, high)
+        names = r.sample(r.choice((NAMES, NAMES, LONG)), n) if r.random() < .3 else NAMES[:n]
+        typed = r.random() < .15 if typed is None else typed
+        columns = [r.choice(("text", "integer")) if typed else "text" for _ in range(n)]
+        mvd = r.choice((0, 0, .3, .5, 1)) if mvd is None else mvd
+        out = []
+        for _ in range(r.randint(0, n + 2) if deps is None else deps):
+            x = self.some(n, r.choice((1, 2, 3)), 0 if r.random() < empty else 1)
+            y = self.some(n, r.choice((1, 1, 2, 3)), 0 if r.random() < .05 else 1)
+            out.append((MVD if r.random() < mvd else FD, x, y))
+        if r.random() < .1 and out:
+            out.append(r.choice(out))
+        return names, columns, out
+
+    def spelled(self, name):
+        r = self.r.random()
+        return name if r < .7 else name.lower() if r < .85 else name.upper()
+
+    def side(self, names, x):
+        if not x:
+            return "()"
+        places = members(x)
+        if self.r.random() < .1:
+            places = places + [self.r.choice(places)]
+            self.r.shuffle(places)
+        return self.r.choice((" ", " ", " ", ", ", "\t")).join(self.spelled(names[i]) for i in places)
+
+    def dep(self, names, d):
+        gap = self.r.choice((" ", " ", ""))
+        return self.side(names, d[1]) + gap + d[0] + gap + self.side(names, d[2])
+
+    def schema_text(self, schema):
+        r = self.r
+        names, columns, deps = schema
+        typed = "integer" in columns
+        lines = []
+        if typed or r.random() < .08:
+            lines.append(r.choice(("version 2", "version 02", "version\t2 # two")))
+            for name, column in zip(names, columns):
+                lines.append(f"{column if column == 'integer' or r.random() < .5 else 'attributes'} {name}")
+        elif r.random() < .2 and len(names) > 1:
+            k = r.randrange(1, len(names))
+            lines += ["attributes " + " ".join(names[:k]), "attributes " + ",".join(names[k:])]
+        else:
+            lines.append("attributes " + " ".join(names))
+        lines += [self.dep(names, d) for d in deps]
+        out = []
+        for line in lines:
+            if r.random() < .06:
+                out.append(r.choice(("", "# a comment", "  \t", " # \x01")))
+            out.append(line + (" # why" if r.random() < .05 else ""))
+        end = r.choice(("\n", "\n", "\n", "\r\n"))
+        text = end.join(out) + ("" if r.random() < .1 else end)
+        return ("\ufeff" if r.random() < .05 else "").encode() + text.encode()
+
+    def goal(self, names, mvd=.4, n=None):
+        n = len(names)
+        d = (MVD if self.r.random() < mvd else FD, self.some(n, 3, 0 if self.r.random() < .1 else 1), self.some(n, 3, 0 if self.r.random() < .1 else 1))
+        return d, self.dep(names, d)
+
+    def plan(self, n, covers=.95, most=5):
+        r = self.r
+        out = [self.some(n, r.choice((2, 3, n)), 1) for _ in range(r.randint(1, most))]
+        missing = ((1 << n) - 1) & ~sum_or(out)
+        if missing and r.random() < covers:
+            if r.random() < .5:
+                out.append(missing)
+            else:
+                for a in members(missing):
+                    i = r.randrange(len(out))
+                    out[i] |= 1 << a
+        r.shuffle(out)
+        return out
+
+    def plan_text(self, names, plan):
+        return "".join(f"scheme {self.side(names, x)}\n" for x in plan).encode()
+
+    def value(self, column="text"):
+        r = self.r
+        if column == "integer":
+            return b"%d" % r.choice((0, 1, 2, -1, 7, 9223372036854775807, -9223372036854775808)) if r.random() < .98 else r.choice((b"07", b"-0", b"", b"+1", b"9223372036854775808", b"x"))
+        if r.random() < .85:
+            return r.choice((b"x", b"y", b"z", b"1", b"2"))
+        return r.choice((b"", b"a,b", b'q"q', b"l\nf", b"c\rr", b"O'Hara", b"\xff\x00", b"\xc3\xa9", b"'", b'""', b" x ", b"nul\0"))
+
+    def rows(self, schema, most=8, repair=None):
+        r = self.r
+        names, columns, deps = schema
+        n = len(names)
+        rows = [tuple(self.value(c) for c in columns) for _ in range(r.randint(0, most))]
+        if r.random() < (.7 if repair is None else repair):
+            for _ in range(6):
+                for kind, x, y in deps:
+                    seen, new = {}, []
+                    for row in rows:
+                        key = tuple(row[a] for a in members(x))
+                        if kind == FD:
+                            one = seen.setdefault(key, row)
+                            row = tuple(one[a] if y >> a & 1 else row[a] for a in range(n))
+                        else:
+                            for other in seen.setdefault(key, []):
+                                for t, u in ((row, other), (other, row)):
+                                    new.append(tuple(t[a] if (x | y) >> a & 1 else u[a] for a in range(n)))
+                            seen[key].append(row)
+                        new.append(row)
+                    rows = list(dict.fromkeys(new))[:40] if kind == MVD else new
+        if rows and r.random() < .3:
+            rows.append(r.choice(rows))
+        if r.random() < .5:
+            r.shuffle(rows)
+        return rows
+
+    def csv(self, names, rows, scheme=None, noise=.1):
+        """A CSV text: columns shuffled, spelled in another case, quotes where not needed, other line ends."""
+        r = self.r
+        places = members(scheme) if scheme is not None else list(range(len(names)))
+        order = list(range(len(places)))
+        if r.random() < .5:
+            r.shuffle(order)
+        end = r.choice((b"\n", b"\n", b"\r\n", b"\r"))
+
+        def field(v):
+            if any(c in v for c in b',"\r\n') or r.random() < .05:
+                return b'"' + v.replace(b'"', b'""') + b'"'
+            return v
+
+        def line(values):
+            text = b",".join(field(v) for v in values)
+            return (text or b'""') + end
+        text = line([self.spelled(names[places[i]]).encode() for i in order])
+        for row in rows:
+            if r.random() < .03:
+                text += end
+            text += line([row[i] for i in order])
+        if r.random() < .2:
+            text = text[:-len(end)]
+        if r.random() < .05:
+            text = model.BOM + text
+        if r.random() < noise:
+            text = self.mutated(text, [b",", b'"', b"\n", b"\r", b"x", b",,", b"A", b"\n\n", b"\xef\xbb\xbf", b"0"])
+        return text
+
+    def mutated(self, text, pieces, most=3):
+        r = self.r
+        for _ in range(r.randint(1, most)):
+            i = r.randint(0, len(text))
+            what = r.random()
+            if what < .5:
+                text = text[:i] + r.choice(pieces) + text[i:]
+            elif what < .8:
+                text = text[:i] + text[i + r.randint(1, 3):]
+            else:
+                text = text[:i] + r.choice(pieces) + text[i + 1:]
+        return text
+
+
+def sum_or(sets):
+    x = 0
+    for s in sets:
+        x |= s
+    return x
+
+
+PIECES = [b"attributes ", b"scheme ", b"version ", b"integer ", b"text ", b"Scheme", b" -> ", b" ->> ", b"->", b"-", b">",
+          b"()", b"(", b" ( ) ", b":", b"A", b" B ", b"Z9", b"_x", b"1a", b"12", b"\n", b"\r", b"\r\n", b"#", b",", b"\t",
+          b"\xef\xbb\xbf", b"\0", b"\xff", b"version 2\n", b"2", b"x" * 32, b" yes\n", b" given 1", b" with ", b" : "]
+
+
+# ---------------------------------------------------------------- families: each gives words, files
+
+def f_implies(m):
+    s = m.schema(1, 7)
+    return ["implies", "s", m.goal(s[0])[1]], {"s": m.schema_text(s)}
+
+
+def f_goal(m):
+    s = m.schema(1, 4)
+    goal = m.mutated(m.goal(s[0])[1].encode(), [p for p in PIECES if b"\0" not in p and b"\xff" not in p])
+    return ["implies", "s", os.fsdecode(goal)], {"s": m.schema_text(s)}
+
+
+def f_schema(m):
+    s = m.schema(1, 5)
+    return ["cover", "s"] if m.r.random() < .5 else ["implies", "s", m.goal(s[0])[1]], {"s": m.mutated(m.schema_text(s), PIECES)}
+
+
+def certificate(m, schema):
+    """A random certificate: many valid steps, some broken ones."""
+    r = m.r
+    names, columns, deps = schema
+    s = model.Schema([n.encode() for n in names], columns, deps, list(range(len(deps))))
+    nodes, free = [], []
+    for _ in range(r.randint(1, 12)):
+        rule = r.choice(list(model.RULES))
+        shape = model.RULES[rule]
+        want = sum(c in "pq" for c in shape)
+        if len(free) < want:
+            rule, shape, want = r.choice(((b"given", "k", 0), (b"reflexivity", "", 0), (b"mreflexivity", "", 0)))
+        premises = r.sample(free, want)
+        x = m.some(len(names))
+        y = x & r.randrange(1 << len(names)) if r.random() < .9 else m.some(len(names))
+        args = [r.randint(1, max(1, len(deps)))] if shape == "k" else [x] if shape == "ps" else [x, y] if shape == "pss" else []
+        stated = (FD, x, y)
+        try:
+            stated = model.rule_conclusion(s, rule, stated, args, [nodes[p][0] for p in premises])
+        except model.Fault:
+            if r.random() < .8:
+                continue
+        if r.random() < .02:
+            stated = (r.choice((FD, MVD)), stated[1], m.some(len(names)))
+        for p in premises:
+            free.remove(p)
+        nodes.append((stated, rule, premises, args))
+        free.append(len(nodes) - 1)
+    if not nodes:
+        nodes.append(((FD, 0, 0), b"reflexivity", [], []))
+    if r.random() < .7:
+        while len(free) > 1 and nodes:           # keep only the tree of the last line
+            keep, stack = set(), [len(nodes) - 1]
+            while stack:
+                k = stack.pop()
+                keep.add(k)
+                stack += nodes[k][2]
+            order = sorted(keep)
+            number = {k: i for i, k in enumerate(order)}
+            nodes = [(nodes[k][0], nodes[k][1], [number[p] for p in nodes[k][2]], nodes[k][3]) for k in order]
+            break
+    out = "yes\n" if r.random() < .3 else ""
+    for i, (stated, rule, premises, args) in enumerate(nodes, 1):
+        text = [rule.decode()] + [str(p + 1) for p in premises]
+        if rule == b"given":
+            text.append(str(args[0]))
+        elif rule == b"augmentation":
+            text += ["with", m.side(names, args[0])]
+        elif rule == b"maugmentation":
+            text += ["with", m.side(names, args[0]), ":", m.side(names, args[1])]
+        out += f"{i}: {m.dep(names, stated)} : {' '.join(text)}\n"
+    return nodes[-1][0], out.encode()
+
+
+def f_proof(m):
+    s = m.schema(1, 5)
+    d, text = certificate(m, s)
+    if m.r.random() < .3:
+        text = m.mutated(text, PIECES)
+    goal = m.dep(s[0], d) if m.r.random() < .7 else m.goal(s[0])[1]
+    return ["check", "proof", "s", "p", goal], {"s": m.schema_text(s), "p": text}
+
+
+def f_keys(m):
+    s = m.schema(1, 8)
+    return ["keys", "s"], {"s": m.schema_text(s)}
+
+
+def f_cover(m):
+    s = m.schema(1, 7, deps=m.r.randint(0, 12))
+    return ["cover", "s"], {"s": m.schema_text(s)}
+
+
+def f_synthesize(m):
+    s = m.schema(1, 8)
+    return ["synthesize", "s"], {"s": m.schema_text(s)}
+
+
+def f_split(m):
+    s = m.schema(1, 8)
+    return ["split", m.r.choice(("bcnf", "4nf")), "s"], {"s": m.schema_text(s)}
+
+
+def wide(m, deps):
+    r = m.r
+    n = r.randint(19, 26)
+    names = [f"a{i}" for i in range(1, n + 1)]
+    core = r.sample(range(n), r.randint(2, 7))
+    out = []
+    for _ in range(deps):
+        x = sum(1 << i for i in r.sample(core, r.randint(1, 2)))
+        y = sum(1 << i for i in r.sample(range(n), r.randint(1, 9)))
+        out.append((MVD if r.random() < .3 else FD, x, y))
+    return names, ["text"] * n, out
+
+
+def f_wide_split(m):
+    s = wide(m, m.r.randint(0, 5))
+    return ["split", m.r.choice(("bcnf", "4nf", "wide-bcnf")), "s"], {"s": m.schema_text(s)}
+
+
+def f_wide_form(m):
+    s = wide(m, m.r.randint(0, 5))
+    return ["check", "form", m.r.choice(model.FORMS), "s", "p"], {"s": m.schema_text(s), "p": m.plan_text(s[0], m.plan(len(s[0]), 1, 3))}
+
+
+def f_split_wide(m):
+    s = m.schema(1, 9)
+    return ["split", "wide-bcnf", "s"], {"s": m.schema_text(s)}
+
+
+def f_ddl(m):
+    s = m.schema(1, 7)
+    return ["ddl", m.r.choice(model.FORMS), "s"], {"s": m.schema_text(s)}
+
+
+def with_plan(m, words, low=1, high=6, mutate=.05):
+    s = m.schema(low, high)
+    plan = m.plan_text(s[0], m.plan(len(s[0])))
+    if m.r.random() < mutate:
+        plan = m.mutated(plan, PIECES)
+    return words, {"s": m.schema_text(s), "p": plan}
+
+
+def f_plan(m):
+    return with_plan(m, ["check", "join", "s", "p"], mutate=1)
+
+
+def f_join(m):
+    return with_plan(m, ["check", "join", "s", "p"], 1, 6)
+
+
+def f_form(m):
+    return with_plan(m, ["check", "form", m.r.choice(model.FORMS), "s", "p"], 1, 7)
+
+
+def f_keys_plan(m):
+    return with_plan(m, ["keys", "s", "p"], 1, 7)
+
+
+def f_keeps(m):
+    return with_plan(m, ["check", "keeps", "s", "p"], 1, 7)
+
+
+def f_ddl_plan(m):
+    return with_plan(m, ["ddl", "plan", "s", "p"])
+
+
+def f_draw(m):
+    if m.r.random() < .5:
+        return with_plan(m, ["draw", "plan", "s", "p"])
+    return ["draw", m.r.choice(model.FORMS), "s"], {"s": m.schema_text(m.schema(1, 6))}
+
+
+def f_rows(m):
+    s = m.schema(1, 5)
+    return ["check", "rows", "s", "r"], {"s": m.schema_text(s), "r": m.csv(s[0], m.rows(s, m.r.choice((4, 8, 16))))}
+
+
+def f_csv(m):
+    s = m.schema(1, 3, deps=0)
+    return ["migrate", "3nf", "s", "r"], {"s": m.schema_text(s), "r": m.csv(s[0], m.rows(s, 4), noise=1)}
+
+
+def f_migrate(m):
+    s = m.schema(1, 5)
+    files = {"s": m.schema_text(s), "r": m.csv(s[0], m.rows(s), noise=.02)}
+    if m.r.random() < .4:
+        files["p"] = m.plan_text(s[0], m.plan(len(s[0])))
+        return ["migrate", "plan", "s", "p", "r"], files
+    return ["migrate", m.r.choice(model.FORMS), "s", "r"], files
+
+
+def f_sample(m):
+    return ["sample", m.r.choice(("1", "2", "3", "10", "0003", "00001", "000001", "0", "25001", "99", "x", "-1", "+2", "", "1 "))], {}
+
+
+def f_exhibit(m):
+    s = m.schema(1, 7, mvd=0 if m.r.random() < .9 else .2)
+    return ["exhibit", "s"], {"s": m.schema_text(s)}
+
+
+def f_discover(m):
+    n = m.r.randint(1, 6)
+    s = (NAMES[:n], ["text"] * n, [])
+    names = list(s[0])
+    if m.r.random() < .1:
+        names[m.r.randrange(n)] = m.r.choice(("scheme", "a", "1x", "", "Version", "x" * 32, "b_", "integer"))
+    rows = m.rows(s, m.r.choice((2, 4, 8, 12)), 0)
+    return ["discover", "r"], {"r": m.csv(names, rows, noise=.1)}
+
+
+def f_rejoin(m):
+    r = m.r
+    s = m.schema(1, 5)
+    n = len(s[0])
+    rows = m.rows(s)
+    files, words = {"s": m.schema_text(s)}, ["rejoin", "s"]
+    for k, x in enumerate(m.plan(n, .9, 3), 1):
+        part = [tuple(row[a] for a in members(x)) for row in rows if r.random() < .95]
+        files[f"f{k}"] = m.csv(s[0], part, x, .05)
+        words.append(f"f{k}")
+    return words, files
+
+
+def f_basis(m):
+    s = m.schema(1, 7)
+    side = m.side(s[0], m.some(len(s[0]), 3, 0))
+    if m.r.random() < .2:
+        side = os.fsdecode(m.mutated(side.encode(), [p for p in PIECES if b"\0" not in p and b"\xff" not in p]))
+    return ["basis", "s", side], {"s": m.schema_text(s)}
+
+
+def f_same(m):
+    r = m.r
+    names, columns, deps = m.schema(1, 5)
+    order = list(range(len(names)))
+    r.shuffle(order)
+    carry = lambda x: sum(1 << order.index(a) for a in members(x))
+    others = [(k, carry(x), carry(y)) for k, x, y in deps]
+    r.shuffle(others)
+    if others and r.random() < .4:
+        others.pop()
+    if others and r.random() < .4:
+        k, x, y = others[0]
+        others[0] = (k, x, y & ~x or y)
+        for a in members(y)[1:]:
+            others.append((k, x, 1 << a))
+    spelled = [m.spelled(names[a]) for a in order]
+    if r.random() < .08:
+        spelled[0] = "OTHER"
+    if r.random() < .08:
+        spelled.append("MORE")
+        columns = columns + ["text"]
+    return ["check", "same", "s", "o"], {"s": m.schema_text((names, columns[:len(names)], deps)),
+                                         "o": m.schema_text((spelled, ["text"] * len(spelled), others))}
+
+
+TABLES = ["t", "orders", "public.addresses", "a.b.c", "a.b.c.d", "joined", "main.Joined", "x.T12", "t1x", "joined.t", "_x", "1x", "a..b",
+          "", ".", "a b", 'a"b', "a;b", "t_1", "T", "x" * 63, "x" * 64, "é", "t0", "a.t", "select"]
+
+
+def f_sql(m):
+    r = m.r
+    table = r.choice(TABLES) if r.random() < .5 else "main.orders"
+    what = r.random()
+    if what < .5:
+        return ["sql", "check", "s", table], {"s": m.schema_text(m.schema(1, 5))}
+    if what < .75:
+        return ["sql", "migrate", r.choice(model.FORMS), "s", table], {"s": m.schema_text(m.schema(1, 6))}
+    words, files = with_plan(m, ["sql", "migrate", "plan", "s", "p", table])
+    return words, files
+
+
+ALL_WORDS = ["implies", "keys", "cover", "synthesize", "split", "bcnf", "4nf", "3nf", "wide-bcnf", "ddl", "plan", "check", "proof", "join", "form",
+             "rows", "same", "keeps", "migrate", "sample", "exhibit", "discover", "rejoin", "basis", "sql", "draw", "help", "--help", "-h", "--version",
+             "s", "p", "r", "A -> B", "1", "missing", "", "Keys", "table"]
+
+
+def f_words(m):
+    words = [m.r.choice(ALL_WORDS) for _ in range(m.r.randint(0, 5))]
+    return words, {"s": b"attributes A B\nA -> B\n", "p": b"scheme A B\n", "r": b"A,B\n1,2\n"}
+
+
+FAMILIES = {name[2:]: f for name, f in list(globals().items()) if name.startswith("f_")}
+
+
+# ---------------------------------------------------------------- comparing
+
+def check_certificate(words, files, text):
+    """What is wrong with a free certificate, or None."""
+    if not text.startswith(b"yes\n"):
+        return "does not begin with yes"
+    s = model.read_schema(files[words[1]], b"s")
+    goal = model.read_goal(s, os.fsencode(words[2]))
+    try:
+        nodes = model.read_proof(s, text[4:], b"p")
+    except model.Refused as r:
+        return f"certificate refused: {r.text!r}"
+    if nodes[-1][0] != goal:
+        return f"certificate concludes {s.dep(nodes[-1][0])!r}"
+    if model.print_nodes(s, nodes) != text[4:]:
+        return "certificate is not canonical"
+    return None
+
+
+def difference(program, words, files):
+    with tempfile.TemporaryDirectory() as folder:
+        for name, data in files.items():
+            with open(os.path.join(folder, name), "wb") as f:
+                f.write(data)
+        done = subprocess.run([program, *words], cwd=folder, stdin=subprocess.DEVNULL, capture_output=True, timeout=120)
+        wrote = {n: open(os.path.join(folder, n), "rb").read() for n in os.listdir(folder)}
+    want = model.run(words, files)
+    wrong = []
+    if done.returncode != want.status:
+        wrong.append(f"status {done.returncode}, the model has {want.status}")
+    if want.free == "certificate":
+        bad = check_certificate(words, files, done.stdout) if done.returncode == 0 else None
+        if bad:
+            wrong.append(bad)
+    elif want.free is None and done.stdout != want.text:
+        wrong.append(f"printed {done.stdout[:600]!r}\n   the model {want.text[:600]!r}")
+    if done.stderr:
+        wrong.append(f"standard error {done.stderr[:200]!r}")
+    expected = {**files, **want.wrote}
+    if wrote != expected:
+        names = sorted(n for n in set(wrote) | set(expected) if wrote.get(n) != expected.get(n))
+        wrong.append("files differ: " + "; ".join(f"{n}: {wrote.get(n, b'(none)')[:300]!r}, the model {expected.get(n, b'(none)')[:300]!r}" for n in names[:2]))
+    return wrong, want.status, done
+
+
+def main():
+    program, family, count = os.path.abspath(sys.argv[1]), sys.argv[2], int(sys.argv[3])
+    seed = int(sys.argv[4]) if sys.argv[4:] else 1
+    same = differ = 0
+    statuses = collections.Counter()
+    for name in FAMILIES if family == "all" else [family]:
+        for k in range(count):
+            maker = Maker(random.Random(f"{name} {seed} {k}"))
+            words, files = FAMILIES[name](maker)
+            wrong, status, done = difference(program, words, files)
+            statuses[status] += 1
+            if not wrong:
+                same += 1
+                continue
+            differ += 1
+            if differ <= 3:
+                keep = KEEP / f"{name}_{seed}_{k}"
+                shutil.rmtree(keep, ignore_errors=True)
+                keep.mkdir(parents=True)
+                for n, data in files.items():
+                    (keep / n).write_bytes(data)
+                print(f"== {name} {seed} case {k}: {words!r}, files in {keep}")
+                for n, data in files.items():
+                    print(f"   {n}: {data[:500]!r}")
+                for w in wrong:
+                    print("   " + w)
+    print(f"{same} same, {differ} differ; statuses {dict(sorted(statuses.items()))}")
+    return 1 if differ else 0
+
+
+if __name__ == "__main__":
+    sys.exit(main())
