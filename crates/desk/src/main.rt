@@ -4,7 +4,7 @@
 #![tactic(auto)]
 
 use dep_model::WantMemory;
-use desk_cli::{Status, desk};
+use desk_cli::desk;
 use desk_outside::{FileFolder, FileShelf, StdoutSink, Word};
 use std::env;
 use std::process::ExitCode;
@@ -15,33 +15,33 @@ type CsvFiles<R> = CsvTarget<FileFolder<R>>;
 
 type SqlFiles<R> = SqlTarget<FileFolder<R>>;
 
+// The status of a call that finds no memory.
+const NO_MEMORY: u8 = 6;
+
+// The trait objects are made here, since a function that hands them out could not be proved for all.
 fn main(rt: HostRuntime) -> ExitCode {
     let alloc = rt.alloc();
-    let Ok((csv, sql)) = file_targets(&rt) else {
-        return ExitCode::from(6);
+    let (Ok((words, mut shelf)), Ok((csv, sql))) = (inputs(&rt), file_targets(&rt)) else {
+        return ExitCode::from(NO_MEMORY);
     };
     let (Ok(csv), Ok(sql)) = (Box::new(alloc, csv), Box::new(alloc, sql)) else {
-        return ExitCode::from(6);
+        return ExitCode::from(NO_MEMORY);
     };
     let mut targets: Vec<Box<dyn Target>> = Vec::new(alloc);
     if targets.push(csv).is_err() || targets.push(sql).is_err() {
-        return ExitCode::from(6);
+        return ExitCode::from(NO_MEMORY);
     }
-    match run(rt, &mut targets) {
+    let mut out = StdoutSink::make(rt);
+    match desk(alloc, &words, &mut shelf, &mut out, &mut targets) {
         Ok(status) => ExitCode::from(status as u8),
-        Err(WantMemory) => ExitCode::from(6),
+        Err(WantMemory) => ExitCode::from(NO_MEMORY),
     }
 }
 
-fn run<R: Runtime + AllocGlobal>(
-    rt: R,
-    targets: &mut Vec<Box<dyn Target>>,
-) -> Result<Status, WantMemory> {
-    let alloc = rt.alloc();
-    let words = words_of(&rt)?;
-    let mut shelf = FileShelf::make(another(&rt)?);
-    let mut out = StdoutSink::make(rt);
-    desk(alloc, &words, &mut shelf, &mut out, targets)
+// The words after the program's name, and the shelf.
+fn inputs<R: Runtime + AllocGlobal>(rt: &R) -> Result<(Vec<Word>, FileShelf<R>), WantMemory> {
+    let words = words_of(rt)?;
+    Ok((words, FileShelf::make(another(rt)?)))
 }
 
 // The targets whose tables become files.

@@ -55,11 +55,11 @@ record SaidYes (files : Files) (schema goal text : List ℕ) : Type 0 where
   printed : text ≡ yes_text ++ canonical_certificate of (tree_of proof)
 
 no_says : (answer : Answer) → answer.status ≡ Yes → answer.status ≡ No → ⊥
-no_says answer yes is = cc
+no_says answer says_yes is = cc
 
 yes_there : (files : Files) (schema goal : List ℕ) (answer : Answer) → answer.status ≡ Yes → WithSchema (told files) schema (λ s. WithGoal s goal (Decided s)) answer → SaidYes files schema goal answer.text
-yes_there files schema goal answer yes (inl stop) = absurd (schema_says (told files) schema answer yes stop)
-yes_there files schema goal answer yes (inr (of, file, rest)) = after_goal rest
+yes_there files schema goal answer says_yes (inl stop) = absurd (schema_says (told files) schema answer says_yes stop)
+yes_there files schema goal answer says_yes (inr (of, file, rest)) = after_goal rest
   where
     decided : (dep : Dependency) → length goal ≤ MOST_GOAL_BYTES → MeansGoal (names_of of) goal dep → Decided of dep answer → SaidYes files schema goal answer.text
     decided dep few_goal means_goal (inl (implied, found)) = record {
@@ -75,10 +75,10 @@ yes_there files schema goal answer yes (inr (of, file, rest)) = after_goal rest
       is_proof = found.1;
       printed = ap (λ (a : Answer). a.text) found.3;
     }
-    decided dep few_goal means_goal (inr (broken, found)) = absurd (no_says answer yes (ap (λ (a : Answer). a.status) found.2))
+    decided dep few_goal means_goal (inr (broken, found)) = absurd (no_says answer says_yes (ap (λ (a : Answer). a.status) found.2))
 
     after_goal : WithGoal of goal (Decided of) answer → SaidYes files schema goal answer.text
-    after_goal (inl stop) = absurd (goal_says of goal answer yes stop)
+    after_goal (inl stop) = absurd (goal_says of goal answer says_yes stop)
     after_goal (inr (dep, is, rest)) = decided dep is.few is.means rest
 
 -- ---- the second answer
@@ -159,6 +159,6 @@ check_answers files schema goal file answer answered = answered
 pub printed_accepted : (before after : Files) (schema goal file : List ℕ) (printed : Answer) → Answers (told before) (codes "implies" ∷ schema ∷ goal ∷ []) printed → printed.status ≡ Yes
     → held after schema ≡ held before schema → held after file ≡ Some printed.text → length printed.text ≤ MOST_PROOF_BYTES
     → (answer : Answer) → Answers (told after) (codes "check" ∷ codes "proof" ∷ schema ∷ file ∷ goal ∷ []) answer → answer.status ≡ Yes
-printed_accepted before after schema goal file printed answered yes same kept few answer again =
-    let said = yes_there before schema goal printed yes (implies_answers before schema goal printed answered) in
+printed_accepted before after schema goal file printed answered says_yes same kept few answer again =
+    let said = yes_there before schema goal printed says_yes (implies_answers before schema goal printed answered) in
     schema_yes before after schema goal file printed.text answer said (same ∙ said.has) kept few (check_answers after schema goal file answer again)

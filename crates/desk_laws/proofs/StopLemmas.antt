@@ -29,25 +29,25 @@ use Rattle.desk_cli.specs.Inputs.{FileStops, SchemaStops, GoalStops, ProofStops}
 
 -- ---- no way to stop says yes
 refused_says : (answer : Answer) → answer.status ≡ Yes → answer.status ≡ Refused → ⊥
-refused_says answer yes is = cc
+refused_says answer says_yes is = cc
 
 unread_says : (answer : Answer) → answer.status ≡ Yes → answer.status ≡ CannotRead → ⊥
-unread_says answer yes is = cc
+unread_says answer says_yes is = cc
 
-status_is : (answer told : Answer) → answer ≡ told → answer.status ≡ told.status
-status_is answer told is = ap (λ (a : Answer). a.status) is
+status_is : (answer wanted : Answer) → answer ≡ wanted → answer.status ≡ wanted.status
+status_is answer wanted is = ap (λ (a : Answer). a.status) is
 
 file_says : (r : Reading) (name : List ℕ) (limit : ℕ) (answer : Answer) → answer.status ≡ Yes → FileStops r name limit answer → ⊥
-file_says r name limit answer yes (inl stop) = unread_says answer yes (status_is answer _ stop.1)
-file_says r name limit answer yes (inr stop) = refused_says answer yes (status_is answer _ stop.1)
+file_says r name limit answer says_yes (inl stop) = unread_says answer says_yes (status_is answer _ stop.1)
+file_says r name limit answer says_yes (inr stop) = refused_says answer says_yes (status_is answer _ stop.1)
 
 pub schema_says : (r : Reading) (name : List ℕ) (answer : Answer) → answer.status ≡ Yes → SchemaStops r name answer → ⊥
-schema_says r name answer yes (inl stop) = file_says r name MOST_TEXT_BYTES answer yes stop
-schema_says r name answer yes (inr stop) = refused_says answer yes (status_is answer _ stop.2)
+schema_says r name answer says_yes (inl stop) = file_says r name MOST_TEXT_BYTES answer says_yes stop
+schema_says r name answer says_yes (inr stop) = refused_says answer says_yes (status_is answer _ stop.2)
 
 pub goal_says : (s : Schema) (goal : List ℕ) (answer : Answer) → answer.status ≡ Yes → GoalStops s goal answer → ⊥
-goal_says s goal answer yes (inl stop) = refused_says answer yes (status_is answer _ stop.1)
-goal_says s goal answer yes (inr stop) = refused_says answer yes (status_is answer _ stop.2)
+goal_says s goal answer says_yes (inl stop) = refused_says answer says_yes (status_is answer _ stop.1)
+goal_says s goal answer says_yes (inr stop) = refused_says answer says_yes (status_is answer _ stop.2)
 
 -- ---- what has a meaning does not stop
 -- a file of this name has one content
