@@ -141,8 +141,7 @@ desk_delivered words shelf sink targets answer result seen_so told_so delivered 
     whole : (files : Files) → shelf.files ≡ Some files → (Rose shelf.before shelf.after → ⊥) → (Rose sink.before sink.after → ⊥) → NoneFails targets
         → (status : Status) → WritesWhole sink (Settles targets answer) status ⊎ WritesPart sink (Settles targets answer) status → Delivers sink targets (Answers (told files) words) status
     whole files are calm calm_sink calm_targets status (inl (ending, settles, same, written)) =
-        let end = settled targets answer ending answer.tables settles calm_targets in
-        (
+        let end = settled targets answer ending answer.tables settles calm_targets in (
           answer,
           told_so files are calm,
           same ∙ ap (λ (e : Ending). e.status) end.0,

@@ -60,10 +60,7 @@ fn checked(alloc: Global, schema: &Schema, concluded: Dep, dep: Dep) -> Result<R
     if same_dependency(concluded, dep) {
         return Ok(Reply::says(Status::Yes, checked_line(alloc, schema, dep)?));
     }
-    Ok(Reply::says(
-        Status::No,
-        concludes_lines(alloc, schema, concluded, dep)?,
-    ))
+    Ok(Reply::says(Status::No, concludes_lines(alloc, schema, concluded, dep)?))
 }
 
 fn checked_line(alloc: Global, schema: &Schema, dep: Dep) -> Result<Vec<u8>, WantMemory>

@@ -17,7 +17,7 @@ use crate::reply::Stop;
 use crate::text::line_of;
 use dep_model::{Schema, WantMemory};
 use desk_outside::{LoadRefusal, Shelf, Word, load};
-use proof_text::{MOST_PROOF_BYTES, Concluded, ProofRefusal, ProofRefusalKind, read_concluded};
+use proof_text::{Concluded, MOST_PROOF_BYTES, ProofRefusal, ProofRefusalKind, read_concluded};
 use schema_reader::{MOST_TEXT_BYTES, SchemaRefusal, SchemaRefusalKind, read_schema};
 use std::alloc::Global;
 
@@ -93,10 +93,7 @@ pub fn refused(alloc: Global, group: &[u8], name: &[u8], refusal: SchemaRefusal)
     if wants_memory(refusal.kind) {
         return Stop::Memory;
     }
-    Stop::says(
-        Status::Refused,
-        refusal_line(alloc, group, name, refusal),
-    )
+    Stop::says(Status::Refused, refusal_line(alloc, group, name, refusal))
 }
 
 fn wants_memory(kind: SchemaRefusalKind) -> bool

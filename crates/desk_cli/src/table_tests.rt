@@ -49,10 +49,7 @@ fn three_tables(alloc: Global) -> Result<Vec<Table>, WantMemory> {
 }
 
 fn reply(alloc: Global) -> Result<Reply, WantMemory> {
-    Ok(Reply::gives(
-        Vec::from_slice(alloc, READ)?,
-        three_tables(alloc)?,
-    ))
+    Ok(Reply::gives(Vec::from_slice(alloc, READ)?, three_tables(alloc)?))
 }
 
 // A target in memory that fails at these calls.
@@ -78,8 +75,18 @@ fn a_target_that_fails_is_named(rt: HostRuntime) -> Result<(), Fail> {
             _ => 3,
         };
         let failed = held < 3;
-        assert!(rt; status == (if failed { Status::TargetFailed } else { Status::Yes }));
-        assert_eq!(rt; sink.taken(), if failed { b"target 2 failed\n" } else { READ });
+        assert!(rt;
+            status
+                == (if failed {
+                    Status::TargetFailed
+                } else {
+                    Status::Yes
+                })
+        );
+        assert_eq!(rt;
+            sink.taken(),
+            if failed { b"target 2 failed\n" } else { READ }
+        );
         for (i, target) in targets.iter().enumerate() {
             assert_eq!(rt; target.tables().len(), if i == 1 { held } else { 3 });
         }
@@ -97,7 +104,10 @@ fn failed_targets_are_named_in_order(rt: HostRuntime) -> Result<(), Fail> {
     }
     let status = deliver(alloc, reply(alloc)?, &mut sink, &mut targets)?;
     assert!(rt; status == Status::TargetFailed);
-    assert_eq!(rt; sink.taken(), b"target 1 failed\ntarget 3 failed\n".as_slice());
+    assert_eq!(rt;
+        sink.taken(),
+        b"target 1 failed\ntarget 3 failed\n".as_slice()
+    );
     assert_eq!(rt; targets[1].tables().len(), 3);
     Ok(())
 }
@@ -197,9 +207,18 @@ fn files_are_written(rt: HostRuntime) -> Result<(), Fail> {
         (
             2,
             &[
-                (b"t1.sql", b"INSERT INTO \"t1\" (\"A\") VALUES ('x');\nINSERT INTO \"t1\" (\"A\") VALUES ('O''Hara');\n"),
-                (b"t2.sql", b"INSERT INTO \"t2\" (\"A\") VALUES ('');\nINSERT INTO \"t2\" (\"A\") VALUES ('a,b');\nINSERT INTO \"t2\" (\"A\") VALUES (X'FF');\n"),
-                (b"t3.sql", b"INSERT INTO \"t3\" (\"A\") VALUES ('1');\nINSERT INTO \"t3\" (\"A\") VALUES ('2');\nINSERT INTO \"t3\" (\"A\") VALUES (X'3300');\n"),
+                (
+                    b"t1.sql",
+                    b"INSERT INTO \"t1\" (\"A\") VALUES ('x');\nINSERT INTO \"t1\" (\"A\") VALUES ('O''Hara');\n",
+                ),
+                (
+                    b"t2.sql",
+                    b"INSERT INTO \"t2\" (\"A\") VALUES ('');\nINSERT INTO \"t2\" (\"A\") VALUES ('a,b');\nINSERT INTO \"t2\" (\"A\") VALUES (X'FF');\n",
+                ),
+                (
+                    b"t3.sql",
+                    b"INSERT INTO \"t3\" (\"A\") VALUES ('1');\nINSERT INTO \"t3\" (\"A\") VALUES ('2');\nINSERT INTO \"t3\" (\"A\") VALUES (X'3300');\n",
+                ),
             ],
         ),
     ];

@@ -122,12 +122,26 @@ fn each_call_of_the_shelf_may_fail(rt: HostRuntime) -> Result<(), Fail> {
         let mut shelf = slow_shelf(alloc, &[failing])?;
         let (implied, sink) = call(alloc, &[b"implies", b"s", b"A -> C"], &mut shelf, 1000)?;
         let read = failing > 33;
-        assert!(rt; implied == (if read { Status::Yes } else { Status::CannotRead }));
+        assert!(rt;
+            implied
+                == (if read {
+                    Status::Yes
+                } else {
+                    Status::CannotRead
+                })
+        );
         assert_eq!(rt; sink.taken(), if read { YES } else { b"cannot read s\n" });
         let mut shelf = slow_shelf(alloc, &[failing])?;
         let words: &[&[u8]] = &[b"check", b"proof", b"s", b"p", b"A -> C"];
         let (checked, sink) = call(alloc, words, &mut shelf, 1000)?;
-        assert!(rt; checked == (if failing > last { Status::Yes } else { Status::CannotRead }));
+        assert!(rt;
+            checked
+                == (if failing > last {
+                    Status::Yes
+                } else {
+                    Status::CannotRead
+                })
+        );
         let text: &[u8] = match (read, failing > last) {
             (_, true) => b"checked A -> C\n",
             (true, false) => b"cannot read p\n",
