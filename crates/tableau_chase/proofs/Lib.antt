@@ -1,0 +1,10 @@
+pub mod NumberLemmas
+pub mod RowLemmas
+pub mod EquatingLemmas
+pub mod GroupLemmas
+pub mod SettleLemmas
+pub mod PoolLemmas
+pub mod MakingLemmas
+pub mod ChaseLemmas
+pub mod TextLemmas
+pub mod ZeroLemmas

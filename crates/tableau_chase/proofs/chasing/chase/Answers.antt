@@ -1,0 +1,239 @@
+-- Each answer of `chase` by the lemmas on a round: which tableau each call gave, and what that says.
+use Rattle.std.proofs.Common.{◌≡◌, ℕ, ◌<◌, ◌^◌, List, ◌∙◌, length, sym, ap, subst, refl, inl, arith}
+use Rattle.std.proofs.lemmas.Bool.{false≢true}
+use Rattle.std.proofs.lemmas.List.{length-map, with_items_is}
+use Rattle.std.specs.Prelude.{Contains, Result, Err}
+use Rattle.tableau_chase.specs.declared.chased.Chased.{Chased}
+use Rattle.tableau_chase.specs.declared.chased.ChaseRefusal.{ChaseRefusal}
+use Rattle.tableau_chase.specs.declared.chased.ChaseRefusal.TheVariants.{TooManyRows}
+use Rattle.tableau_chase.specs.declared.pool.Pool.{Pool}
+use Rattle.attr_sets.specs.Sets.{places}
+use Rattle.dep_model.specs.declared.dep.Dep.{Dep}
+use Rattle.dep_model.specs.Tuples.{Relation}
+use Rattle.dep_model.specs.Deps.{dependencies_of}
+use Rattle.dep_model.specs.Projections.{IsLossless}
+use Rattle.dep_model.specs.Schemas.{width_of, theory_of}
+use Rattle.chase_laws.specs.Tableaux.{Tableau, SameTableau, IsTableauOver, distinguished}
+use Rattle.chase_laws.specs.Rounds.{Settles, IsMadeOf, RoundsExceed}
+use Rattle.chase_laws.proofs.RoundLemmas.{functional_few}
+use Rattle.chase_laws.proofs.SoundLemmas.{lossless_from_distinguished}
+use Rattle.chase_laws.proofs.ClosedLemmas.{gaining_lossy}
+use Rattle.tableau_chase.specs.Chases.{plan_of}
+use Rattle.tableau_chase.specs.Making.{AddsAll, Overflows}
+use Rattle.tableau_chase.proofs.ChaseLemmas.{EndsLossy, first_round, first_exceeds, round_over, settled_over, reached_settled, next_round, next_lower, ended, next_exceeds, ends_lossy, closed_typed, functional_none}
+use Rattle.tableau_chase.proofs.PoolLemmas.{extends_length}
+use Rattle.tableau_chase.proofs.chasing.chase.Goals as goal
+
+-- a refusal handed on
+refused : (refusal : ChaseRefusal) → ◌≡◌ {A = Result Chased ChaseRefusal} (Err refusal) (Err TooManyRows) → ◌≡◌ {A = Result (Unit {0}) ChaseRefusal} (Err refusal) (Err TooManyRows)
+refused refusal e = let same : refusal ≡ TooManyRows = cc in ap {B = Result (Unit {0}) ChaseRefusal} (λ (r : ChaseRefusal). Err r) same
+
+refused_pool : (refusal : ChaseRefusal) → ◌≡◌ {A = Result Chased ChaseRefusal} (Err refusal) (Err TooManyRows) → ◌≡◌ {A = Result Pool ChaseRefusal} (Err refusal) (Err TooManyRows)
+refused_pool refusal e = let same : refusal ≡ TooManyRows = cc in ap {B = Result Pool ChaseRefusal} (λ (r : ChaseRefusal). Err r) same
+
+pub loop-rows-init : goal.loop-rows-init
+loop-rows-init c = first_round c.width-width.result (theory_of c.args.schema.now) (plan_of c.args.schemes.now) c.args.limit c.in-Ok.pool.rows.items c.in-Ok.ensures.same c.in-Ok.ensures.pool.differ c.in-Ok.ensures.pool.few
+
+pub settle-requires-clause-over : goal.settle-requires-clause-over
+settle-requires-clause-over c =
+    subst (λ (r : Tableau). IsTableauOver c.width-width.result r) (sym c.deref_mut.ensures.value)
+    (round_over c.width-width.result (theory_of c.args.schema.now) (plan_of c.args.schemes.now) c.args.limit c.loop-rows.rows.items c.loop-rows.invariant)
+
+pub has_distinguished-requires : goal.has_distinguished-requires
+has_distinguished-requires c =
+    let n = c.width-width.result in
+    let ds = theory_of c.args.schema.now in
+    let plan = plan_of c.args.schemes.now in
+    let limit = c.args.limit in
+    let rows = c.loop-rows.rows.items in
+    let round = c.loop-rows.invariant in
+    let s = c.settle.new.rows in
+    let t = c.in-Ok-pool_of.pool.rows.items in
+    let settles : Settles ds rows s = subst (λ (d : List Dep). Settles (dependencies_of d) rows s) c.deps-deps.ensures.deps
+    (subst (λ (r : Tableau). Settles (dependencies_of c.deps-deps.result.now) r s) c.deref_mut.ensures.value c.in_ok-settle.ensures.settles) in
+    let back : c.deref.result.now ≡ s = c.deref.ensures.value ∙ with_items_is c.loop-rows.rows s (c.in_ok-settle.ensures.count ∙ c.deref_mut.ensures.len) in
+    let same : SameTableau s t = subst (λ (r : Tableau). SameTableau r t) back c.in-Ok-pool_of.ensures.same in
+    record { over = subst (λ (r : Tableau). IsTableauOver n r) (sym c.deref-in-loop-rows.ensures.value) (settled_over n ds plan limit rows s t round settles same) }
+
+pub add_next-requires-clause-over : goal.add_next-requires-clause-over
+add_next-requires-clause-over c =
+    let n = c.width-width.result in
+    let ds = theory_of c.args.schema.now in
+    let plan = plan_of c.args.schemes.now in
+    let limit = c.args.limit in
+    let rows = c.loop-rows.rows.items in
+    let round = c.loop-rows.invariant in
+    let s = c.settle.new.rows in
+    let t = c.in-Ok-pool_of.pool.rows.items in
+    let settles : Settles ds rows s = subst (λ (d : List Dep). Settles (dependencies_of d) rows s) c.deps-deps.ensures.deps
+    (subst (λ (r : Tableau). Settles (dependencies_of c.deps-deps.result.now) r s) c.deref_mut.ensures.value c.in_ok-settle.ensures.settles) in
+    let back : c.deref.result.now ≡ s = c.deref.ensures.value ∙ with_items_is c.loop-rows.rows s (c.in_ok-settle.ensures.count ∙ c.deref_mut.ensures.len) in
+    let same : SameTableau s t = subst (λ (r : Tableau). SameTableau r t) back c.in-Ok-pool_of.ensures.same in
+    settled_over n ds plan limit rows s t round settles same
+
+pub returns-then-has_distinguished-clause-within_limit : goal.returns-then-has_distinguished-clause-within_limit
+returns-then-has_distinguished-clause-within_limit c =
+    let n = c.width-width.result in
+    let ds = theory_of c.args.schema.now in
+    let plan = plan_of c.args.schemes.now in
+    let limit = c.args.limit in
+    let rows = c.loop-rows.rows.items in
+    let round = c.loop-rows.invariant in
+    let s = c.settle.new.rows in
+    let t = c.in-Ok-pool_of.pool.rows.items in
+    let settles : Settles ds rows s = subst (λ (d : List Dep). Settles (dependencies_of d) rows s) c.deps-deps.ensures.deps
+    (subst (λ (r : Tableau). Settles (dependencies_of c.deps-deps.result.now) r s) c.deref_mut.ensures.value c.in_ok-settle.ensures.settles) in
+    let back : c.deref.result.now ≡ s = c.deref.ensures.value ∙ with_items_is c.loop-rows.rows s (c.in_ok-settle.ensures.count ∙ c.deref_mut.ensures.len) in
+    let same : SameTableau s t = subst (λ (r : Tableau). SameTableau r t) back c.in-Ok-pool_of.ensures.same in
+    let has : Contains t (distinguished n) = subst (λ (r : Tableau). Contains r (distinguished n)) c.deref-in-loop-rows.ensures.value (c.if-has_distinguished.ensures.found.0 refl) in
+    subst (λ (m : ℕ). RoundsExceed m ds plan limit → ⊥) c.width-width.ensures.count (ended n ds plan limit rows s t round settles same (inl has))
+
+pub returns-then-has_distinguished-clause-lossless : goal.returns-then-has_distinguished-clause-lossless
+returns-then-has_distinguished-clause-lossless c =
+    let n = c.width-width.result in
+    let ds = theory_of c.args.schema.now in
+    let plan = plan_of c.args.schemes.now in
+    let limit = c.args.limit in
+    let rows = c.loop-rows.rows.items in
+    let round = c.loop-rows.invariant in
+    let s = c.settle.new.rows in
+    let t = c.in-Ok-pool_of.pool.rows.items in
+    let settles : Settles ds rows s = subst (λ (d : List Dep). Settles (dependencies_of d) rows s) c.deps-deps.ensures.deps
+    (subst (λ (r : Tableau). Settles (dependencies_of c.deps-deps.result.now) r s) c.deref_mut.ensures.value c.in_ok-settle.ensures.settles) in
+    let back : c.deref.result.now ≡ s = c.deref.ensures.value ∙ with_items_is c.loop-rows.rows s (c.in_ok-settle.ensures.count ∙ c.deref_mut.ensures.len) in
+    let same : SameTableau s t = subst (λ (r : Tableau). SameTableau r t) back c.in-Ok-pool_of.ensures.same in
+    let has : Contains t (distinguished n) = subst (λ (r : Tableau). Contains r (distinguished n)) c.deref-in-loop-rows.ensures.value (c.if-has_distinguished.ensures.found.0 refl) in
+    let lossless : IsLossless n ds plan = lossless_from_distinguished n ds plan t (λ (k : ℕ) l. c.requires.cover k (omega (arith, l, c.width-width.ensures.count))) (reached_settled n ds plan limit rows s t round settles same) has in
+    ((λ _. subst (λ (m : ℕ). IsLossless m ds plan) c.width-width.ensures.count lossless), (λ _. refl))
+
+pub returns-in-Err-clause-too_many_rows : goal.returns-in-Err-clause-too_many_rows
+returns-in-Err-clause-too_many_rows c e =
+    subst (λ (m : ℕ). RoundsExceed m (theory_of c.args.schema.now) (plan_of c.args.schemes.now) c.args.limit) c.width-width.ensures.count
+    (first_exceeds c.width-width.result (theory_of c.args.schema.now) (plan_of c.args.schemes.now) c.args.limit (c.in-Err.ensures.too_many (refused_pool c.in-Err.refusal e)))
+
+pub returns-in-Err-clause-never_too_many : goal.returns-in-Err-clause-never_too_many
+returns-in-Err-clause-never_too_many c whole low e =
+    let ds = theory_of c.args.schema.now in
+    let plan = plan_of c.args.schemes.now in
+    functional_few c.width-width.result ds plan c.args.limit (functional_none ds whole) (omega (arith, low, length-map c.args.schemes.now places))
+    (first_exceeds c.width-width.result ds plan c.args.limit (c.in-Err.ensures.too_many (refused_pool c.in-Err.refusal e)))
+
+pub returns-in-Err-add_next-clause-too_many_rows : goal.returns-in-Err-add_next-clause-too_many_rows
+returns-in-Err-add_next-clause-too_many_rows c e =
+    let n = c.width-width.result in
+    let ds = theory_of c.args.schema.now in
+    let plan = plan_of c.args.schemes.now in
+    let limit = c.args.limit in
+    let rows = c.loop-rows.rows.items in
+    let round = c.loop-rows.invariant in
+    let s = c.settle.new.rows in
+    let t = c.in-Ok-pool_of.pool.rows.items in
+    let settles : Settles ds rows s = subst (λ (d : List Dep). Settles (dependencies_of d) rows s) c.deps-deps.ensures.deps
+    (subst (λ (r : Tableau). Settles (dependencies_of c.deps-deps.result.now) r s) c.deref_mut.ensures.value c.in_ok-settle.ensures.settles) in
+    let back : c.deref.result.now ≡ s = c.deref.ensures.value ∙ with_items_is c.loop-rows.rows s (c.in_ok-settle.ensures.count ∙ c.deref_mut.ensures.len) in
+    let same : SameTableau s t = subst (λ (r : Tableau). SameTableau r t) back c.in-Ok-pool_of.ensures.same in
+    let lacks : Contains t (distinguished n) → ⊥ = λ h. false≢true (c.if-has_distinguished.ensures.found.1 (subst (λ (r : Tableau). Contains r (distinguished n)) (sym c.deref-in-loop-rows.ensures.value) h)) in
+    let over : Overflows (IsMadeOf n ds t) limit t = subst (λ (d : List Dep). Overflows (IsMadeOf n (dependencies_of d) t) limit t) c.deps-deps.ensures.deps (c.in-Err-add_next.ensures.too_many (refused c.in-Err-add_next.refusal e)) in
+    let exceeds : RoundsExceed n ds plan limit = next_exceeds n ds plan limit rows s t round settles same lacks c.in-Ok-pool_of.ensures.pool.few over in
+    subst (λ (m : ℕ). RoundsExceed m ds plan limit) c.width-width.ensures.count exceeds
+
+pub returns-in-Err-add_next-clause-never_too_many : goal.returns-in-Err-add_next-clause-never_too_many
+returns-in-Err-add_next-clause-never_too_many c whole low e =
+    let n = c.width-width.result in
+    let ds = theory_of c.args.schema.now in
+    let plan = plan_of c.args.schemes.now in
+    let limit = c.args.limit in
+    let rows = c.loop-rows.rows.items in
+    let round = c.loop-rows.invariant in
+    let s = c.settle.new.rows in
+    let t = c.in-Ok-pool_of.pool.rows.items in
+    let settles : Settles ds rows s = subst (λ (d : List Dep). Settles (dependencies_of d) rows s) c.deps-deps.ensures.deps
+    (subst (λ (r : Tableau). Settles (dependencies_of c.deps-deps.result.now) r s) c.deref_mut.ensures.value c.in_ok-settle.ensures.settles) in
+    let back : c.deref.result.now ≡ s = c.deref.ensures.value ∙ with_items_is c.loop-rows.rows s (c.in_ok-settle.ensures.count ∙ c.deref_mut.ensures.len) in
+    let same : SameTableau s t = subst (λ (r : Tableau). SameTableau r t) back c.in-Ok-pool_of.ensures.same in
+    let lacks : Contains t (distinguished n) → ⊥ = λ h. false≢true (c.if-has_distinguished.ensures.found.1 (subst (λ (r : Tableau). Contains r (distinguished n)) (sym c.deref-in-loop-rows.ensures.value) h)) in
+    let over : Overflows (IsMadeOf n ds t) limit t = subst (λ (d : List Dep). Overflows (IsMadeOf n (dependencies_of d) t) limit t) c.deps-deps.ensures.deps (c.in-Err-add_next.ensures.too_many (refused c.in-Err-add_next.refusal e)) in
+    let exceeds : RoundsExceed n ds plan limit = next_exceeds n ds plan limit rows s t round settles same lacks c.in-Ok-pool_of.ensures.pool.few over in
+    functional_few n ds plan limit (functional_none ds whole) (omega (arith, low, length-map c.args.schemes.now places)) exceeds
+
+pub loop-rows-preserved : goal.loop-rows-preserved
+loop-rows-preserved c =
+    let n = c.width-width.result in
+    let ds = theory_of c.args.schema.now in
+    let plan = plan_of c.args.schemes.now in
+    let limit = c.args.limit in
+    let rows = c.loop-rows.rows.items in
+    let round = c.loop-rows.invariant in
+    let s = c.settle.new.rows in
+    let t = c.in-Ok-pool_of.pool.rows.items in
+    let settles : Settles ds rows s = subst (λ (d : List Dep). Settles (dependencies_of d) rows s) c.deps-deps.ensures.deps
+    (subst (λ (r : Tableau). Settles (dependencies_of c.deps-deps.result.now) r s) c.deref_mut.ensures.value c.in_ok-settle.ensures.settles) in
+    let back : c.deref.result.now ≡ s = c.deref.ensures.value ∙ with_items_is c.loop-rows.rows s (c.in_ok-settle.ensures.count ∙ c.deref_mut.ensures.len) in
+    let same : SameTableau s t = subst (λ (r : Tableau). SameTableau r t) back c.in-Ok-pool_of.ensures.same in
+    let lacks : Contains t (distinguished n) → ⊥ = λ h. false≢true (c.if-has_distinguished.ensures.found.1 (subst (λ (r : Tableau). Contains r (distinguished n)) (sym c.deref-in-loop-rows.ensures.value) h)) in
+    let u = c.add_next.new.pool.rows.items in
+    let adds : AddsAll (IsMadeOf n ds t) t u = subst (λ (d : List Dep). AddsAll (IsMadeOf n (dependencies_of d) t) t u) c.deps-deps.ensures.deps c.in_default.ensures.next in
+    let grows : length t < length u = omega (arith, extends_length t u adds.extends, c.if-len-count.false, c.len.ensures, c.len-count.ensures) in
+    next_round n ds plan limit rows s t round settles same u adds c.in_default.ensures.pool.differ c.in_default.ensures.pool.few lacks grows
+
+pub loop-rows-smaller : goal.loop-rows-smaller
+loop-rows-smaller c =
+    let n = c.width-width.result in
+    let ds = theory_of c.args.schema.now in
+    let plan = plan_of c.args.schemes.now in
+    let limit = c.args.limit in
+    let rows = c.loop-rows.rows.items in
+    let round = c.loop-rows.invariant in
+    let s = c.settle.new.rows in
+    let t = c.in-Ok-pool_of.pool.rows.items in
+    let settles : Settles ds rows s = subst (λ (d : List Dep). Settles (dependencies_of d) rows s) c.deps-deps.ensures.deps
+    (subst (λ (r : Tableau). Settles (dependencies_of c.deps-deps.result.now) r s) c.deref_mut.ensures.value c.in_ok-settle.ensures.settles) in
+    let back : c.deref.result.now ≡ s = c.deref.ensures.value ∙ with_items_is c.loop-rows.rows s (c.in_ok-settle.ensures.count ∙ c.deref_mut.ensures.len) in
+    let same : SameTableau s t = subst (λ (r : Tableau). SameTableau r t) back c.in-Ok-pool_of.ensures.same in
+    let u = c.add_next.new.pool.rows.items in
+    let adds : AddsAll (IsMadeOf n ds t) t u = subst (λ (d : List Dep). AddsAll (IsMadeOf n (dependencies_of d) t) t u) c.deps-deps.ensures.deps c.in_default.ensures.next in
+    let grows : length t < length u = omega (arith, extends_length t u adds.extends, c.if-len-count.false, c.len.ensures, c.len-count.ensures) in
+    next_lower n ds plan limit rows s t round settles same u adds c.in_default.ensures.pool.differ c.in_default.ensures.pool.few grows
+
+-- the end at a closed tableau
+ends : (c : goal.After-drop-rows-then-len-count) → EndsLossy (width_of c.args.schema.now) (theory_of c.args.schema.now) (plan_of c.args.schemes.now) c.args.limit c.in_ok-ascending_texts.field-0.items
+ends c =
+    let n = c.width-width.result in
+    let ds = theory_of c.args.schema.now in
+    let plan = plan_of c.args.schemes.now in
+    let limit = c.args.limit in
+    let rows = c.loop-rows.rows.items in
+    let round = c.loop-rows.invariant in
+    let s = c.settle.new.rows in
+    let t = c.in-Ok-pool_of.pool.rows.items in
+    let settles : Settles ds rows s = subst (λ (d : List Dep). Settles (dependencies_of d) rows s) c.deps-deps.ensures.deps
+    (subst (λ (r : Tableau). Settles (dependencies_of c.deps-deps.result.now) r s) c.deref_mut.ensures.value c.in_ok-settle.ensures.settles) in
+    let back : c.deref.result.now ≡ s = c.deref.ensures.value ∙ with_items_is c.loop-rows.rows s (c.in_ok-settle.ensures.count ∙ c.deref_mut.ensures.len) in
+    let same : SameTableau s t = subst (λ (r : Tableau). SameTableau r t) back c.in-Ok-pool_of.ensures.same in
+    let lacks : Contains t (distinguished n) → ⊥ = λ h. false≢true (c.if-has_distinguished.ensures.found.1 (subst (λ (r : Tableau). Contains r (distinguished n)) (sym c.deref-in-loop-rows.ensures.value) h)) in
+    let u = c.add_next.new.pool.rows.items in
+    let adds : AddsAll (IsMadeOf n ds t) t u = subst (λ (d : List Dep). AddsAll (IsMadeOf n (dependencies_of d) t) t u) c.deps-deps.ensures.deps c.in_default.ensures.next in
+    let count : length u ≡ length t = omega (arith, c.if-len-count.true, c.len.ensures, c.len-count.ensures) in
+    let texts : Relation = c.in_ok-ascending_texts.field-0.items in
+    let small : length plan < 2 ^ 32 = omega (arith, c.requires.few, length-map c.args.schemes.now places) in
+    subst (λ (m : ℕ). EndsLossy m ds plan limit texts) c.width-width.ensures.count
+    (ends_lossy n ds plan limit rows s t u texts small round settles same c.in-Ok-pool_of.ensures.pool.few lacks adds count c.in_ok-ascending_texts.ensures.texts)
+
+pub returns-then-len-count-clause-within_limit : goal.returns-then-len-count-clause-within_limit
+returns-then-len-count-clause-within_limit c = (ends c).within
+
+pub returns-then-len-count-clause-lossless : goal.returns-then-len-count-clause-lossless
+returns-then-len-count-clause-lossless c = (
+  (λ e. absurd cc),
+  (λ lossless. absurd (gaining_lossy (width_of c.args.schema.now) (theory_of c.args.schema.now) (plan_of c.args.schemes.now) c.in_ok-ascending_texts.field-0.items (ends c).gains lossless)),
+)
+
+pub returns-then-len-count-clause-closed_tableau : goal.returns-then-len-count-clause-closed_tableau
+returns-then-len-count-clause-closed_tableau c = (ends c).closed
+
+pub returns-then-len-count-clause-gaining : goal.returns-then-len-count-clause-gaining
+returns-then-len-count-clause-gaining c = (ends c).gains
+
+pub returns-then-len-count-clause-typed : goal.returns-then-len-count-clause-typed
+returns-then-len-count-clause-typed c =
+    closed_typed c.args.schema.now (plan_of c.args.schemes.now) c.args.limit c.in_ok-ascending_texts.field-0.items (omega (arith, c.requires.few, length-map c.args.schemes.now places)) (ends c).closed

@@ -1,0 +1,75 @@
+ghost use Rattle.std.specs.Prelude.{◌≡◌, ◌≤◌, ◌<◌, ◌^◌, ◌↔◌, length, Contains, Err, IsTrue, IfOk, OnOk};
+ghost use Rattle.dep_model.specs.Dependencies.{functional_part};
+ghost use Rattle.dep_model.specs.Projections.{Covers, IsLossless};
+ghost use Rattle.dep_model.specs.Schemas.{width_of, theory_of, TypedFor};
+ghost use Rattle.chase_laws.specs.Tableaux.{IsTableauOver, distinguished};
+ghost use Rattle.chase_laws.specs.Rounds.{RoundsExceed};
+ghost use Rattle.chase_laws.specs.Answers.{IsClosedTableau, IsGaining};
+ghost use Rattle.tableau_chase.specs.Chases.{plan_of, IfLossy};
+
+use crate::adding::{plan_pool, pool_of};
+use crate::chased::{ChaseRefusal, Chased};
+use crate::making::add_next;
+use crate::settling::settle;
+use crate::symbol_row::SymbolRow;
+use crate::texts::ascending_texts;
+use attr_sets::AttrSet;
+use dep_model::Schema;
+use std::alloc::Global;
+
+/// Whether a plan is lossless, by the chase of its tableau; no tableau of the rounds may have more than
+/// `limit` rows.
+pub fn chase(
+    alloc: Global,
+    schema: &Schema,
+    schemes: &[AttrSet],
+    limit: u32,
+) -> Result<Chased, ChaseRefusal>
+    requires few { length schemes.now < 2 ^ 32 }
+    requires cover { Covers (width_of schema.now) (plan_of schemes.now) }
+    ensures too_many_rows { result ≡ Err ChaseRefusal.TooManyRows → RoundsExceed (width_of schema.now) (theory_of schema.now) (plan_of schemes.now) limit }
+    ensures within_limit { OnOk result (RoundsExceed (width_of schema.now) (theory_of schema.now) (plan_of schemes.now) limit → ⊥) }
+    ensures lossless { IfOk result (λ chased. (chased ≡ Chased.Lossless) ↔ IsLossless (width_of schema.now) (theory_of schema.now) (plan_of schemes.now)) }
+    ensures closed_tableau { IfOk result (IfLossy (IsClosedTableau (width_of schema.now) (theory_of schema.now) (plan_of schemes.now) limit)) }
+    ensures gaining { IfOk result (IfLossy (IsGaining (width_of schema.now) (theory_of schema.now) (plan_of schemes.now))) }
+    ensures typed { IfOk result (IfLossy (TypedFor schema.now)) }
+    ensures never_too_many { functional_part (theory_of schema.now) ≡ theory_of schema.now → length schemes.now ≤ limit → result ≡ Err ChaseRefusal.TooManyRows → ⊥ }
+{
+    let width = schema.width();
+    let deps = schema.deps();
+    let mut rows = match plan_pool(alloc, schemes, width, limit) {
+        Ok(pool) => pool.rows,
+        Err(refusal) => return Err(refusal),
+    };
+    loop {
+        settle(alloc, &mut rows, deps, width)?;
+        let mut pool = match pool_of(alloc, &rows, limit) {
+            Ok(pool) => pool,
+            Err(refusal) => return Err(refusal),
+        };
+        if has_distinguished(&pool.rows, width) {
+            return Ok(Chased::Lossless);
+        }
+        let count = pool.rows.len();
+        if let Err(refusal) = add_next(alloc, &mut pool, deps, width, limit) {
+            return Err(refusal);
+        }
+        if pool.rows.len() == count {
+            return Ok(Chased::Lossy(ascending_texts(alloc, pool.rows)?));
+        }
+        rows = pool.rows;
+    }
+}
+
+// Whether some row has distinguished symbols alone.
+fn has_distinguished(rows: &[SymbolRow], width: u8) -> bool
+    requires over { IsTableauOver width rows.now }
+    ensures found { IsTrue result ↔ Contains rows.now (distinguished width) }
+{
+    for i in 0..rows.len() {
+        if rows[i].is_distinguished() {
+            return true;
+        }
+    }
+    false
+}
