@@ -1,3 +1,4 @@
 pub mod StepLemmas
 pub mod MeaningLemmas
+pub mod RowLemmas
 pub mod EndingLemmas

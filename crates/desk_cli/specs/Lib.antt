@@ -5,6 +5,8 @@ pub mod Readings
 pub mod Inputs
 pub mod Implication
 pub mod Certificates
+pub mod Rows
+pub mod Legality
 pub mod Help
 pub mod Forms
 pub mod Covering

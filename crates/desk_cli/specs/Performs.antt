@@ -5,11 +5,12 @@ use Rattle.desk_cli.specs.declared.status.Status.TheVariants.{Yes, Refused}
 use Rattle.desk_cli.specs.Answers.{Allowed, Says}
 use Rattle.desk_cli.specs.Certificates.{ChecksProof}
 use Rattle.desk_cli.specs.Covering.{GivesCover}
-use Rattle.desk_cli.specs.Forms.{Form, over_schema, help, version, Task, implies, check_proof, cover, keys, synthesize, form_of}
+use Rattle.desk_cli.specs.Forms.{Form, over_schema, help, version, Task, implies, check_proof, check_rows, cover, keys, synthesize, form_of}
 use Rattle.desk_cli.specs.Help.{help_text, version_text}
 use Rattle.desk_cli.specs.Implication.{Implies}
 use Rattle.desk_cli.specs.Inputs.{WithSchema}
 use Rattle.desk_cli.specs.Keys.{ListsKeys}
+use Rattle.desk_cli.specs.Legality.{ChecksRows}
 use Rattle.desk_cli.specs.Readings.{Reading}
 use Rattle.desk_cli.specs.Synthesis.{Synthesizes}
 use Rattle.desk_cli.specs.Texts.{words_text}
@@ -18,6 +19,7 @@ use Rattle.desk_cli.specs.Texts.{words_text}
 unfoldable pub Does : Reading → Schema → Task → Allowed
 Does r schema (implies goal) = Implies schema goal
 Does r schema (check_proof file goal) = ChecksProof r schema file goal
+Does r schema (check_rows file) = ChecksRows r schema file
 Does r schema cover = GivesCover schema
 Does r schema keys = ListsKeys schema
 Does r schema synthesize = Synthesizes schema

@@ -7,6 +7,7 @@
 #![tactic(auto)]
 
 mod check_proof;
+mod check_rows;
 mod command;
 mod cover;
 mod finish;
@@ -18,6 +19,8 @@ mod proof_refusals;
 mod read;
 mod refusals;
 mod reply;
+mod row_refusals;
+mod rows;
 mod status;
 mod synthesis;
 #[cfg(test)]

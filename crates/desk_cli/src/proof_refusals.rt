@@ -5,7 +5,7 @@ ghost use Rattle.proof_grammar.specs.Complaints.{states_other, IsRefusalWithin};
 ghost use Rattle.desk_cli.specs.ProofTexts.{fault_text, complaint_number, complaint_text, place_text, proof_refusal_text, OfComplaint};
 
 use crate::refusals::reason_of;
-use crate::text::{put, put_number};
+use crate::text::{put, put_number, put_pair};
 use dep_model::{Dep, Schema, WantMemory};
 use derivation::FaultKind;
 use proof_text::{ProofRefusal, ProofRefusalKind};
@@ -99,14 +99,6 @@ fn put_reason(
         ProofRefusalKind::EmptyProof => put(text, b"empty proof"),
         ProofRefusalKind::Memory => Ok(()),
     }
-}
-
-/// Two pieces, at the end of a text.
-fn put_pair(text: &mut Vec<u8>, front: &[u8], back: &[u8]) -> Result<(), WantMemory>
-    ensures more { OnOk result (text.new.items ≡ text.old.items ++ (front.now ++ back.now)) }
-{
-    put(text, front)?;
-    put(text, back)
 }
 
 /// What a line states and what it concludes, at the end of a text.

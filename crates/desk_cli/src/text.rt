@@ -13,6 +13,14 @@ pub fn put(text: &mut Vec<u8>, bytes: &[u8]) -> Result<(), WantMemory>
     Ok(())
 }
 
+/// Two pieces more at the end of a text.
+pub fn put_pair(text: &mut Vec<u8>, front: &[u8], back: &[u8]) -> Result<(), WantMemory>
+    ensures more { OnOk result (text.new.items ≡ text.old.items ++ (front.now ++ back.now)) }
+{
+    put(text, front)?;
+    put(text, back)
+}
+
 /// A number more at the end of a text, in decimal digits.
 pub fn put_number(alloc: Global, text: &mut Vec<u8>, number: u32) -> Result<(), WantMemory>
     ensures more { OnOk result (text.new.items ≡ text.old.items ++ decimal number) }

@@ -9,6 +9,7 @@ ghost use Rattle.desk_cli.specs.Replies.{answer_of, RepliesAs};
 
 use crate::Status;
 use crate::check_proof::check_proof;
+use crate::check_rows::check_rows;
 use crate::command::{Command, Task, parse};
 use crate::cover::cover;
 use crate::finish::settle;
@@ -150,6 +151,7 @@ fn does<F: Shelf>(
     match task {
         Task::Implies { goal } => implies(alloc, schema, goal),
         Task::CheckProof { file, goal } => check_proof(alloc, shelf, schema, file, goal),
+        Task::CheckRows { file } => check_rows(alloc, shelf, schema, file),
         Task::Cover => cover(alloc, schema),
         Task::Keys => list_keys(alloc, schema),
         Task::Synthesize => synthesized(alloc, schema),

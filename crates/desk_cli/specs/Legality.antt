@@ -1,0 +1,53 @@
+-- Whether rows are legal for a schema.
+use Rattle.std.specs.Prelude.{◌⊎◌, ℕ, List, [], ◌++◌, codes, Option, Some, None, slice_get}
+use Rattle.std.specs.Fmt.{decimal}
+use Rattle.std.specs.List.{flat_map}
+use Rattle.dep_model.specs.Deps.{dependency_of}
+use Rattle.dep_model.specs.Schemas.{names_of, width_of, theory_of, deps_of, lines_of, LegalFor}
+use Rattle.dep_model.specs.Tuples.{Relation}
+use Rattle.dep_model.specs.declared.dep.Dep.{Dep}
+use Rattle.dep_model.specs.declared.schema.Schema.{Schema}
+use Rattle.schema_grammar.specs.Printing.{dependency_text}
+use Rattle.legality.specs.declared.offence.Offence.{Offence}
+use Rattle.legality.specs.Offences.{OffencesOf}
+use Rattle.desk_cli.specs.declared.status.Status.TheVariants.{Yes, No}
+use Rattle.desk_cli.specs.Answers.{Allowed, Says}
+use Rattle.desk_cli.specs.Readings.{Reading}
+use Rattle.desk_cli.specs.Rows.{WithRows}
+use Rattle.desk_cli.specs.Texts.{line}
+
+abbrev pub legal_text : List ℕ
+legal_text = line (codes "legal")
+
+-- the line of a schema file on which a dependency stands
+abbrev pub line_text : Option ℕ → List ℕ
+line_text (Some at) = decimal at
+line_text None = []
+
+-- a dependency, over the names of the attributes
+abbrev pub dep_text : List (List ℕ) → Option Dep → List ℕ
+dep_text names (Some d) = dependency_text names (dependency_of d)
+dep_text names None = []
+
+-- an offence: the line of the dependency, the dependency, and the two rows that break it
+abbrev pub offence_text : Schema → Offence → List ℕ
+offence_text schema offence =
+    line (codes "line " ++ line_text (slice_get (lines_of schema) offence.dep)
+    ++ codes ": " ++ dep_text (names_of schema) (slice_get (deps_of schema) offence.dep)
+    ++ codes " broken by rows " ++ decimal offence.first ++ codes " and " ++ decimal offence.second)
+
+-- a line for each offence
+abbrev pub offences_text : Schema → List Offence → List ℕ
+offences_text schema offences = flat_map (offence_text schema) offences
+
+-- yes exactly where the rows obey every dependency; else no, with a line for each dependency that they
+-- break and the least pair of rows that breaks it
+abbrev pub Judged : Schema → Relation → Allowed
+Judged schema rows answer =
+    (LegalFor schema rows × Says Yes legal_text answer)
+    ⊎ ((LegalFor schema rows → ⊥)
+    × ((offences : List Offence) × OffencesOf (width_of schema) (theory_of schema) rows offences × Says No (offences_text schema offences) answer))
+
+-- of the rows of a file
+abbrev pub ChecksRows : Reading → Schema → List ℕ → Allowed
+ChecksRows r schema file = WithRows r schema file (Judged schema)

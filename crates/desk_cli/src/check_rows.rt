@@ -1,0 +1,98 @@
+ghost use Rattle.std.specs.Prelude.{◌≡◌, ◌≤◌, ◌<◌, ◌^◌, ◌++◌, length, slice_get, IfOk, OnOk};
+ghost use Rattle.dep_model.specs.Schemas.{deps_of, lines_of, names_of, width_of};
+ghost use Rattle.dep_model.specs.Tuples.{IsOver};
+ghost use Rattle.desk_cli.specs.Legality.{ChecksRows, Judged, dep_text, line_text, offence_text, offences_text};
+ghost use Rattle.desk_cli.specs.Readings.{Reading, Shows};
+ghost use Rattle.desk_cli.specs.Replies.{answer_of, RepliesAs};
+
+use crate::Status;
+use crate::reply::{Reply, Stop};
+use crate::rows::open_rows;
+use crate::text::{line_of, put, put_number};
+use dep_model::{Row, Schema, WantMemory};
+use desk_outside::{Shelf, Word};
+use legality::{Offence, offences};
+use schema_reader::add_dep;
+use std::alloc::Global;
+
+/// Whether the rows of a CSV file are legal for a schema.
+pub fn check_rows<F: Shelf>(
+    alloc: Global,
+    shelf: &mut F,
+    schema: &Schema,
+    file: &Word,
+) -> Result<Reply, Stop>
+    ensures files { F.files shelf.new ≡ F.files shelf.old }
+    ensures later { F.faults shelf.old ≤ F.faults shelf.new }
+    ensures reply { (r : Reading) → Shows F.files F.faults F.taken shelf.old shelf.new r → RepliesAs (ChecksRows r schema.now file.now) result }
+{
+    let rows = match open_rows(alloc, shelf, schema, file) {
+        Ok(rows) => rows,
+        Err(stop) => return Err(stop),
+    };
+    Ok(judged(alloc, schema, &rows)?)
+}
+
+// The answer to rows.
+fn judged(alloc: Global, schema: &Schema, rows: &[Row]) -> Result<Reply, WantMemory>
+    requires over { IsOver (width_of schema.now) rows.now }
+    requires few { length rows.now < 2 ^ 32 }
+    ensures answer { IfOk result (λ reply. Judged schema.now rows.now (answer_of reply)) }
+{
+    let found = offences(alloc, schema, rows)?;
+    if found.is_empty() {
+        return Ok(Reply::says(Status::Yes, line_of(alloc, b"legal", b"", b"")?));
+    }
+    Ok(Reply::says(Status::No, offence_lines(alloc, schema, &found)?))
+}
+
+fn offence_lines(
+    alloc: Global,
+    schema: &Schema,
+    offences: &[Offence],
+) -> Result<Vec<u8>, WantMemory>
+    ensures text { IfOk result (λ text. text.items ≡ offences_text schema.now offences.now) }
+{
+    let mut text = Vec::new(alloc);
+    for offence in offences {
+        put(&mut text, &offence_line(alloc, schema, *offence)?)?;
+    }
+    Ok(text)
+}
+
+fn offence_line(alloc: Global, schema: &Schema, offence: Offence) -> Result<Vec<u8>, WantMemory>
+    ensures text { IfOk result (λ text. text.items ≡ offence_text schema.now offence) }
+{
+    let mut text = Vec::new(alloc);
+    put(&mut text, b"line ")?;
+    put_line(alloc, &mut text, schema, offence.dep as usize)?;
+    put(&mut text, b": ")?;
+    put_dep(&mut text, schema, offence.dep as usize)?;
+    put(&mut text, b" broken by rows ")?;
+    put_number(alloc, &mut text, offence.first)?;
+    put(&mut text, b" and ")?;
+    put_number(alloc, &mut text, offence.second)?;
+    put(&mut text, b"\n")?;
+    Ok(text)
+}
+
+// The line of a dependency of a schema, at the end of a text.
+fn put_line(alloc: Global, text: &mut Vec<u8>, schema: &Schema, k: usize) -> Result<(), WantMemory>
+    ensures more { OnOk result (text.new.items ≡ text.old.items ++ line_text (slice_get (lines_of schema.now) k)) }
+{
+    if k < schema.deps().len() {
+        put_number(alloc, text, schema.line_of(k))
+    } else {
+        Ok(())
+    }
+}
+
+// A dependency of a schema, at the end of a text.
+fn put_dep(text: &mut Vec<u8>, schema: &Schema, k: usize) -> Result<(), WantMemory>
+    ensures more { OnOk result (text.new.items ≡ text.old.items ++ dep_text (names_of schema.now) (slice_get (deps_of schema.now) k)) }
+{
+    match schema.deps().get(k) {
+        Some(dep) => add_dep(text, schema, *dep),
+        None => Ok(()),
+    }
+}
