@@ -12,7 +12,7 @@ use Rattle.csv_migrate.specs.declared.end.FeedEnd.{FeedEnd}
 use Rattle.csv_migrate.specs.declared.end.FeedEnd.TheVariants.{Done, Failed, NoMemory}
 use Rattle.csv_migrate.specs.Feeding.{Fed, HasAll}
 use Rattle.desk_cli.specs.declared.status.Status.{Status}
-use Rattle.desk_cli.specs.declared.status.Status.TheVariants.{Yes, No, Refused, CannotRead, CannotWrite, TargetFailed}
+use Rattle.desk_cli.specs.declared.status.Status.TheVariants.{Yes, CannotWrite, TargetFailed}
 use Rattle.desk_cli.specs.Answers.{Answer}
 use Rattle.desk_cli.specs.Endings.{Ending, TargetsInCall, FedAs, is_done, wants_memory, end_text, failures_text, plain, reported, FeedsTargets, Settles, EndsAs, NoneFails, AllHave, HaveTables}
 use Rattle.std.specs.Io.KnownBytes.{append_known}

@@ -1,11 +1,11 @@
 -- The steps of a command, under every reading of the shelf.
-use Rattle.std.proofs.Common.{◌≡◌, ◌⊎◌, inl, inr, ℕ, ◌+◌, ◌≤◌, arith, List, Option, Some, Ok, Err, Result, refl, sym, ◌∙◌}
+use Rattle.std.proofs.Common.{◌≡◌, inl, inr, ℕ, ◌≤◌, arith, Option, Some, Ok, Err, Result, refl, sym, ◌∙◌}
 use Rattle.desk_outside.specs.Causes.{Rose}
-use Rattle.desk_outside.specs.Files.{Files, IsMissing, IsLonger}
+use Rattle.desk_outside.specs.Files.{Files}
 use Rattle.desk_cli.specs.declared.reply.Reply.{Reply}
 use Rattle.desk_cli.specs.declared.reply.Stop.{Stop}
 use Rattle.desk_cli.specs.Answers.{Answer, Allowed, With}
-use Rattle.desk_cli.specs.Readings.{Reading, told, seen, files_in, CannotBeRead, IsTooLong, Shows}
+use Rattle.desk_cli.specs.Readings.{Reading, told, seen, Shows}
 use Rattle.desk_cli.specs.Replies.{StopsAs, RepliesAs}
 
 -- ---- readings

@@ -2,12 +2,13 @@
 use Rattle.desk_cli.specs.declared.command.Command.{Command}
 use Rattle.desk_cli.specs.declared.command.Command.TheVariants.{OverSchema, Help, Version}
 use Rattle.desk_cli.specs.declared.command.Task.{Task}
-use Rattle.desk_cli.specs.declared.command.Task.TheVariants.{Implies, CheckProof, Cover, Keys, Synthesize}
+use Rattle.desk_cli.specs.declared.command.Task.TheVariants.{Implies, CheckProof, CheckJoin, Cover, Keys, Synthesize}
 use Rattle.desk_cli.specs.Forms as form
 
 abbrev pub task_form : Task → form.Task
 task_form (Implies goal) = form.implies goal.now
 task_form (CheckProof file goal) = form.check_proof file.now goal.now
+task_form (CheckJoin file) = form.check_join file.now
 task_form Cover = form.cover
 task_form Keys = form.keys
 task_form Synthesize = form.synthesize

@@ -8,6 +8,8 @@ pub data Task : Type 0 where
   implies : List ℕ → Task
   -- whether the certificate of a file proves a goal
   check_proof : List ℕ → List ℕ → Task
+  -- whether the plan of a file loses nothing
+  check_join : List ℕ → Task
   -- its cover
   cover : Task
   -- its keys
@@ -51,6 +53,7 @@ unfoldable pub check_form : List (List ℕ) → Option Form
 check_form [] = None
 check_form (what ∷ rest) =
     if bytes_eq what (codes "proof") then schema_and_two check_proof rest
+    else if bytes_eq what (codes "join") then schema_and check_join rest
     else None
 
 -- the command that the words form, if they form one

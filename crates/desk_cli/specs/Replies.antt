@@ -1,5 +1,5 @@
 -- Replies of the parts of a command.
-use Rattle.std.specs.Prelude.{⊤, ◌≡◌, ℕ, List, Option, Some, None, option_map, Result, Ok, Err}
+use Rattle.std.specs.Prelude.{◌≡◌, option_map, Result, Ok, Err}
 use Rattle.csv_migrate.specs.Tables.{values_of}
 use Rattle.desk_cli.specs.declared.reply.Reply.{Reply}
 use Rattle.desk_cli.specs.declared.reply.Stop.{Stop}

@@ -1,5 +1,5 @@
 ghost use Rattle.std.specs.Prelude.{◌≡◌, option_map};
-ghost use Rattle.desk_cli.specs.Forms.{schema_alone, schema_and, schema_and_two, alone, check_form, form_of, implies, check_proof};
+ghost use Rattle.desk_cli.specs.Forms.{schema_alone, schema_and, schema_and_two, alone, check_form, form_of, implies, check_proof, check_join};
 ghost use Rattle.desk_cli.specs.Commands.{command_form, task_form};
 
 use desk_outside::Word;
@@ -11,6 +11,8 @@ pub enum Task<'a> {
     Implies { goal: &'a Word },
     /// Whether the certificate of a file proves a goal.
     CheckProof { file: &'a Word, goal: &'a Word },
+    /// Whether the plan of a file loses nothing.
+    CheckJoin { file: &'a Word },
     /// What says the same, with nothing that can be left out.
     Cover,
     /// All its keys.
@@ -96,6 +98,9 @@ fn of_check(words: &[Word]) -> Option<Command<'_>>
     if what.bytes() == b"proof".as_slice() {
         return of_check_proof(rest);
     }
+    if what.bytes() == b"join".as_slice() {
+        return of_check_join(rest);
+    }
     None
 }
 
@@ -120,6 +125,19 @@ fn of_check_proof(words: &[Word]) -> Option<Command<'_>>
         [schema, file, goal] => Some(Command::OverSchema {
             schema,
             task: Task::CheckProof { file, goal },
+        }),
+        _ => None,
+    }
+}
+
+#[tactic(auto, unfolding(crate::specs::Forms::schema_and))]
+fn of_check_join(words: &[Word]) -> Option<Command<'_>>
+    ensures form { option_map command_form result ≡ schema_and check_join words.now }
+{
+    match words {
+        [schema, file] => Some(Command::OverSchema {
+            schema,
+            task: Task::CheckJoin { file },
         }),
         _ => None,
     }

@@ -9,7 +9,7 @@ use Rattle.dep_model.specs.Keys.{IsKey}
 use Rattle.dep_model.specs.Schemas.{names_of, width_of, theory_of, universe_of}
 use Rattle.key_listing.specs.declared.refusal.KeyRefusal.{KeyRefusal}
 use Rattle.key_listing.specs.Refusals.{IsRefused}
-use Rattle.desk_cli.specs.Answers.{Answer, Says}
+use Rattle.desk_cli.specs.Answers.{Says}
 use Rattle.desk_cli.specs.Keys.{too_wide_text}
 use Rattle.desk_cli.specs.Replies.{answer_of}
 use Rattle.desk_cli.specs.declared.status.Status.TheVariants.{Refused}

@@ -1,6 +1,6 @@
 use Rattle.desk_cli.specs.Desk.{shelf_in_call, sink_in_call}
 use Rattle.desk_cli.specs.Endings.{targets_in_call}
-use Rattle.desk_cli.specs.Readings.{seen, told}
+use Rattle.desk_cli.specs.Readings.{told}
 use Rattle.desk_cli.specs.Replies.{answer_of}
 use Rattle.desk_cli.proofs.EndingLemmas.{desk_delivered}
 use Rattle.desk_cli.proofs.StepLemmas.{seen_shows, told_shows}
