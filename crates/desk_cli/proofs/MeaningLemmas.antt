@@ -18,8 +18,14 @@ use Rattle.proof_grammar.specs.declared.refusal.ProofRefusalKind.{ProofRefusalKi
 use Rattle.proof_grammar.specs.Complaints.{Complaint, LineComplaint, complaint_of}
 use Rattle.proof_grammar.specs.Refusals.{IsRefused, RefusesProof}
 use Rattle.proof_text.specs.declared.text.TheConstants.{MOST_PROOF_BYTES}
+use Rattle.decomp_text.specs.declared.reading.TheConstants.{MOST_PLAN_BYTES}
+use Rattle.plan_grammar.specs.Complaints.{RefusesPlan}
+use Rattle.plan_grammar.specs.Refusals.{RefusesPlanAs}
+use Rattle.plan_grammar.specs.declared.refusal.PlanRefusal.{PlanRefusal}
+use Rattle.plan_grammar.specs.declared.refusal.PlanRefusal.TheVariants as plan
 use Rattle.desk_cli.specs.declared.reply.Stop.{Stop}
 use Rattle.desk_cli.specs.Inputs.{GoalStops, SchemaStops, ProofStops, wants_memory, TellsRefusal, TellsProof}
+use Rattle.desk_cli.specs.Plans.{PlanStops, TellsPlan, is_want}
 use Rattle.desk_cli.specs.ProofTexts.{OfComplaint}
 use Rattle.desk_cli.specs.Readings.{Reading, IsContent}
 use Rattle.desk_cli.specs.Replies.{StopsAs}
@@ -56,6 +62,24 @@ proof_stop r s name bytes refusal stop content refuses tells = λ reply is.
     let of : Option Complaint → Type 0 = λ o. MatchOption o (Unit {0}) (λ c. IsRefused s bytes (record { line = refusal.line; complaint = c })) in
     let e : LineComplaint = record { line = refusal.line; complaint = told.0 } in
     inr (e, record { bytes = bytes; content = content; refused = subst of told.1 refuses }, told.2)
+
+-- where it is not want of memory, the plan is refused
+of_plan : (refusal : PlanRefusal) (refused : Type 0) → refusal ≢ plan.Memory → RefusesPlanAs refusal refused → refused
+of_plan (plan.Text e) refused other refuses = refuses
+of_plan (plan.EmptyScheme at) refused other refuses = refuses
+of_plan (plan.NotCovered attribute) refused other refuses = refuses
+of_plan (plan.TooManySchemes at) refused other refuses = refuses
+of_plan plan.Memory refused other refuses = absurd (other refl)
+
+pub plan_stop : (r : Reading) (s : Schema) (name bytes : List ℕ) (refusal : PlanRefusal) (stop : Stop) → IsContent r name MOST_PLAN_BYTES bytes
+    → RefusesPlanAs refusal (RefusesPlan (names_of s) bytes refusal) → StopsAs (TellsPlan (names_of s) name refusal) stop → StopsAs (PlanStops r s name) stop
+plan_stop r s name bytes refusal stop content refuses tells = λ reply is.
+    let told = tells reply is in
+    inr (refusal, record { bytes = bytes; content = content; refused = of_plan refusal (RefusesPlan (names_of s) bytes refusal) told.0 refuses }, told.1)
+
+-- a refusal of a plan that is not want of memory
+pub is_other : (refusal : PlanRefusal) → is_want refusal ≡ false → refusal ≢ plan.Memory
+is_other refusal is = λ same. false≢true (sym is ∙ ap is_want same)
 
 -- a refusal that is not want of memory
 pub is_told : (why : SchemaRefusalKind) → wants_memory why ≡ false → why ≢ kind.Memory

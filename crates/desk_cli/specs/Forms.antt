@@ -10,6 +10,8 @@ pub data Task : Type 0 where
   check_proof : List ℕ → List ℕ → Task
   -- whether the rows of a file are legal
   check_rows : List ℕ → Task
+  -- whether the plan of a file loses nothing
+  check_join : List ℕ → Task
   -- its cover
   cover : Task
   -- its keys
@@ -54,6 +56,7 @@ check_form [] = None
 check_form (what ∷ rest) =
     if bytes_eq what (codes "proof") then schema_and_two check_proof rest
     else if bytes_eq what (codes "rows") then schema_and check_rows rest
+    else if bytes_eq what (codes "join") then schema_and check_join rest
     else None
 
 -- the command that the words form, if they form one

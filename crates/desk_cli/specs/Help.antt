@@ -10,6 +10,7 @@ help_text =
     line (codes "desk implies SCHEMA GOAL              whether the schema implies the goal")
     ++ line (codes "desk check proof SCHEMA FILE GOAL     whether the certificate in FILE proves the goal")
     ++ line (codes "desk check rows SCHEMA CSV            whether the rows in CSV are legal, and which break what")
+    ++ line (codes "desk check join SCHEMA PLAN           whether the plan in PLAN loses nothing")
     ++ line (codes "desk cover SCHEMA                     what says the same, with nothing that can be left out")
     ++ line (codes "desk keys SCHEMA                      all keys")
     ++ line (codes "desk synthesize SCHEMA                a plan in third normal form")

@@ -12,6 +12,8 @@ pub mod Forms
 pub mod Covering
 pub mod Keys
 pub mod Synthesis
+pub mod Plans
+pub mod Joins
 pub mod Performs
 pub mod Commands
 pub mod Replies

@@ -5,10 +5,11 @@ use Rattle.desk_cli.specs.declared.status.Status.TheVariants.{Yes, Refused}
 use Rattle.desk_cli.specs.Answers.{Allowed, Says}
 use Rattle.desk_cli.specs.Certificates.{ChecksProof}
 use Rattle.desk_cli.specs.Covering.{GivesCover}
-use Rattle.desk_cli.specs.Forms.{Form, over_schema, help, version, Task, implies, check_proof, check_rows, cover, keys, synthesize, form_of}
+use Rattle.desk_cli.specs.Forms.{Form, over_schema, help, version, Task, implies, check_proof, check_rows, check_join, cover, keys, synthesize, form_of}
 use Rattle.desk_cli.specs.Help.{help_text, version_text}
 use Rattle.desk_cli.specs.Implication.{Implies}
 use Rattle.desk_cli.specs.Inputs.{WithSchema}
+use Rattle.desk_cli.specs.Joins.{ChecksJoin}
 use Rattle.desk_cli.specs.Keys.{ListsKeys}
 use Rattle.desk_cli.specs.Legality.{ChecksRows}
 use Rattle.desk_cli.specs.Readings.{Reading}
@@ -20,6 +21,7 @@ unfoldable pub Does : Reading → Schema → Task → Allowed
 Does r schema (implies goal) = Implies schema goal
 Does r schema (check_proof file goal) = ChecksProof r schema file goal
 Does r schema (check_rows file) = ChecksRows r schema file
+Does r schema (check_join file) = ChecksJoin r schema file
 Does r schema cover = GivesCover schema
 Does r schema keys = ListsKeys schema
 Does r schema synthesize = Synthesizes schema

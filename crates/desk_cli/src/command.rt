@@ -1,5 +1,5 @@
 ghost use Rattle.std.specs.Prelude.{◌≡◌, option_map};
-ghost use Rattle.desk_cli.specs.Forms.{schema_alone, schema_and, schema_and_two, alone, check_form, form_of, implies, check_proof, check_rows};
+ghost use Rattle.desk_cli.specs.Forms.{schema_alone, schema_and, schema_and_two, alone, check_form, form_of, implies, check_proof, check_rows, check_join};
 ghost use Rattle.desk_cli.specs.Commands.{command_form, task_form};
 
 use desk_outside::Word;
@@ -13,6 +13,8 @@ pub enum Task<'a> {
     CheckProof { file: &'a Word, goal: &'a Word },
     /// Whether the rows of a file are legal.
     CheckRows { file: &'a Word },
+    /// Whether the plan of a file loses nothing.
+    CheckJoin { file: &'a Word },
     /// What says the same, with nothing that can be left out.
     Cover,
     /// All its keys.
@@ -101,6 +103,9 @@ fn of_check(words: &[Word]) -> Option<Command<'_>>
     if what.bytes() == b"rows".as_slice() {
         return of_check_rows(rest);
     }
+    if what.bytes() == b"join".as_slice() {
+        return of_check_join(rest);
+    }
     None
 }
 
@@ -138,6 +143,19 @@ fn of_check_rows(words: &[Word]) -> Option<Command<'_>>
         [schema, file] => Some(Command::OverSchema {
             schema,
             task: Task::CheckRows { file },
+        }),
+        _ => None,
+    }
+}
+
+#[tactic(auto, unfolding(crate::specs::Forms::schema_and))]
+fn of_check_join(words: &[Word]) -> Option<Command<'_>>
+    ensures form { option_map command_form result ≡ schema_and check_join words.now }
+{
+    match words {
+        [schema, file] => Some(Command::OverSchema {
+            schema,
+            task: Task::CheckJoin { file },
         }),
         _ => None,
     }

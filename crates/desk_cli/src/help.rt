@@ -9,6 +9,7 @@ use std::alloc::Global;
 const HELP: &[u8] = b"desk implies SCHEMA GOAL              whether the schema implies the goal
 desk check proof SCHEMA FILE GOAL     whether the certificate in FILE proves the goal
 desk check rows SCHEMA CSV            whether the rows in CSV are legal, and which break what
+desk check join SCHEMA PLAN           whether the plan in PLAN loses nothing
 desk cover SCHEMA                     what says the same, with nothing that can be left out
 desk keys SCHEMA                      all keys
 desk synthesize SCHEMA                a plan in third normal form

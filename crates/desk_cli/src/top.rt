@@ -15,6 +15,7 @@ use crate::cover::cover;
 use crate::finish::settle;
 use crate::help::{help, version};
 use crate::implies::implies;
+use crate::join::check_join;
 use crate::keys::list_keys;
 use crate::read::open_schema;
 use crate::reply::{Reply, Stop};
@@ -152,6 +153,7 @@ fn does<F: Shelf>(
         Task::Implies { goal } => implies(alloc, schema, goal),
         Task::CheckProof { file, goal } => check_proof(alloc, shelf, schema, file, goal),
         Task::CheckRows { file } => check_rows(alloc, shelf, schema, file),
+        Task::CheckJoin { file } => check_join(alloc, shelf, schema, file),
         Task::Cover => cover(alloc, schema),
         Task::Keys => list_keys(alloc, schema),
         Task::Synthesize => synthesized(alloc, schema),

@@ -1,0 +1,62 @@
+-- Whether a plan loses nothing.
+use Rattle.std.specs.Prelude.{◌⊎◌, ℕ, List, ◌++◌, length, codes}
+use Rattle.attr_sets.specs.Places.{Places}
+use Rattle.csv.specs.Writing.{row_text, default_writer}
+use Rattle.csv_rows.specs.RowsText.{rows_text}
+use Rattle.chase_laws.specs.Answers.{IsClosedTableau, IsGaining}
+use Rattle.chase_laws.specs.Rounds.{RoundsExceed}
+use Rattle.dep_model.specs.Projections.{IsLossless}
+use Rattle.dep_model.specs.Schemas.{names_of, width_of, theory_of, TypedFor}
+use Rattle.dep_model.specs.declared.schema.Schema.{Schema}
+use Rattle.dep_model.specs.Tuples.{Relation}
+use Rattle.dep_model.specs.TwoTuples.{all_zeros}
+use Rattle.desk_cli.specs.declared.join.TheConstants.{MOST_TABLEAU_ROWS}
+use Rattle.desk_cli.specs.declared.status.Status.TheVariants.{Yes, No, Refused}
+use Rattle.desk_cli.specs.Answers.{Allowed, Says}
+use Rattle.desk_cli.specs.Plans.{WithPlan}
+use Rattle.desk_cli.specs.Readings.{Reading}
+use Rattle.desk_cli.specs.Texts.{line}
+
+-- ---- texts
+abbrev pub lossless_text : List ℕ
+lossless_text = line (codes "lossless")
+
+-- the tuple of n times `0`, as a row of CSV
+abbrev pub zeros_text : ℕ → List ℕ
+zeros_text n = row_text default_writer (all_zeros n)
+
+-- a relation, and the tuple that it gains
+abbrev pub lossy_text : List (List ℕ) → Relation → List ℕ
+lossy_text names rows = line (codes "lossy") ++ rows_text names rows ++ line (codes "gains") ++ zeros_text (length names)
+
+abbrev pub too_many_rows_text : List ℕ
+too_many_rows_text = line (codes "refused: too many tableau rows")
+
+-- ---- answers
+-- no legal relation loses by a plan
+abbrev pub LosesNothing : Schema → List Places → Type 0
+LosesNothing schema plan = IsLossless (width_of schema) (theory_of schema) plan
+
+-- the chase of a plan comes to a tableau of more rows than it may have
+abbrev pub IsTooLarge : Schema → List Places → Type 0
+IsTooLarge schema plan = RoundsExceed (width_of schema) (theory_of schema) plan MOST_TABLEAU_ROWS
+
+-- a closed tableau of a plan, as a legal relation of the columns' types whose projections have the tuple
+-- of all `0` in their join, which it has not itself
+pub record ShowsLoss (schema : Schema) (plan : List Places) (rows : Relation) : Type 0 where
+  pub closed : IsClosedTableau (width_of schema) (theory_of schema) plan MOST_TABLEAU_ROWS rows
+  pub gaining : IsGaining (width_of schema) (theory_of schema) plan rows
+  pub typed : TypedFor schema rows
+
+-- refused exactly where the chase comes to too many rows; else yes exactly where the plan loses nothing,
+-- and no, with a relation that shows it, where it does not
+abbrev pub JudgesJoin : Schema → List Places → Allowed
+JudgesJoin schema plan answer =
+    ((IsTooLarge schema plan → ⊥) × LosesNothing schema plan × Says Yes lossless_text answer)
+    ⊎ ((IsTooLarge schema plan → ⊥) × (LosesNothing schema plan → ⊥)
+    × ((rows : Relation) × ShowsLoss schema plan rows × Says No (lossy_text (names_of schema) rows) answer))
+    ⊎ (IsTooLarge schema plan × Says Refused too_many_rows_text answer)
+
+-- of a plan file
+abbrev pub ChecksJoin : Reading → Schema → List ℕ → Allowed
+ChecksJoin r schema file = WithPlan r schema file (JudgesJoin schema)

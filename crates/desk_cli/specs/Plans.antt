@@ -1,0 +1,65 @@
+-- How a plan is read, and how its reading ends a command.
+use Rattle.std.specs.Prelude.{◌≢◌, ◌⊎◌, ℕ, Bool, true, false, List, [], ◌++◌, codes, slice_index_or}
+use Rattle.std.specs.Fmt.{decimal}
+use Rattle.attr_sets.specs.Places.{Places}
+use Rattle.dep_model.specs.Schemas.{names_of}
+use Rattle.dep_model.specs.declared.schema.Schema.{Schema}
+use Rattle.decomp_text.specs.declared.reading.TheConstants.{MOST_PLAN_BYTES}
+use Rattle.plan_grammar.specs.Complaints.{RefusesPlan}
+use Rattle.plan_grammar.specs.Meanings.{MeansPlan}
+use Rattle.plan_grammar.specs.Refusals.{plan_refusal_number}
+use Rattle.plan_grammar.specs.declared.refusal.PlanRefusal.{PlanRefusal}
+use Rattle.plan_grammar.specs.declared.refusal.PlanRefusal.TheVariants as plan
+use Rattle.desk_cli.specs.declared.status.Status.TheVariants.{Refused}
+use Rattle.desk_cli.specs.Answers.{Allowed, Says, With}
+use Rattle.desk_cli.specs.Inputs.{FileStops}
+use Rattle.desk_cli.specs.Readings.{Reading, IsContent}
+use Rattle.desk_cli.specs.Texts.{line, kind_text}
+
+-- ---- texts
+-- the place of a refusal and its reason in words, over the names of the attributes; want of memory has none
+abbrev pub plan_reason_text : List (List ℕ) → PlanRefusal → List ℕ
+plan_reason_text names (plan.Text refusal) =
+    decimal refusal.span.line ++ codes ":" ++ decimal refusal.span.column ++ codes " " ++ kind_text refusal.kind
+plan_reason_text names (plan.EmptyScheme at) = decimal at ++ codes " empty scheme"
+plan_reason_text names (plan.NotCovered attribute) = codes " " ++ slice_index_or names attribute [] ++ codes " is in no scheme"
+plan_reason_text names (plan.TooManySchemes at) = decimal at ++ codes " too many schemes"
+plan_reason_text names plan.Memory = []
+
+-- a refusal of a plan
+abbrev pub plan_refusal_text : List (List ℕ) → List ℕ → PlanRefusal → List ℕ
+plan_refusal_text names file refusal =
+    line (codes "refused: plan " ++ decimal (plan_refusal_number refusal) ++ codes " at " ++ file ++ codes ":" ++ plan_reason_text names refusal)
+
+-- ---- plans
+-- the text of a file is refused so
+pub record IsRefusedPlan (r : Reading) (schema : Schema) (name : List ℕ) (refusal : PlanRefusal) : Type 0 where
+  pub bytes : List ℕ
+  pub content : IsContent r name MOST_PLAN_BYTES bytes
+  pub refused : RefusesPlan (names_of schema) bytes refusal
+
+-- the text of a file means these schemes
+pub record IsPlanFile (r : Reading) (schema : Schema) (name : List ℕ) (schemes : List Places) : Type 0 where
+  pub bytes : List ℕ
+  pub content : IsContent r name MOST_PLAN_BYTES bytes
+  pub means : MeansPlan (names_of schema) bytes schemes
+
+-- how the reading of a plan file ends a command
+abbrev pub PlanStops : Reading → Schema → List ℕ → Allowed
+PlanStops r schema name answer =
+    FileStops r name MOST_PLAN_BYTES answer
+    ⊎ ((refusal : PlanRefusal) × IsRefusedPlan r schema name refusal × Says Refused (plan_refusal_text (names_of schema) name refusal) answer)
+
+-- a plan file is read, and then the rest follows
+abbrev pub WithPlan : Reading → Schema → List ℕ → (List Places → Allowed) → Allowed
+WithPlan r schema name = With (PlanStops r schema name) (IsPlanFile r schema name)
+
+-- ---- replies
+-- a refusal is want of memory
+abbrev pub is_want : PlanRefusal → Bool
+is_want plan.Memory = true
+is_want _ = false
+
+-- a command ends with the refusal of a plan
+abbrev pub TellsPlan : List (List ℕ) → List ℕ → PlanRefusal → Allowed
+TellsPlan names name refusal answer = (refusal ≢ plan.Memory) × Says Refused (plan_refusal_text names name refusal) answer

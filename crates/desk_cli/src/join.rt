@@ -1,0 +1,135 @@
+ghost use Rattle.std.specs.Prelude.{◌≡◌, ◌≤◌, length, IfOk, OnOk};
+ghost use Rattle.csv.specs.Records.{fields_of};
+ghost use Rattle.csv_rows.specs.RowsText.{WritesRow};
+ghost use Rattle.dep_model.specs.Plans.{schemes_of};
+ghost use Rattle.dep_model.specs.Projections.{Covers};
+ghost use Rattle.dep_model.specs.Schemas.{names_of, width_of};
+ghost use Rattle.dep_model.specs.Tuples.{IsOver};
+ghost use Rattle.dep_model.specs.TwoTuples.{all_zeros};
+ghost use Rattle.desk_cli.specs.Answers.{Says};
+ghost use Rattle.desk_cli.specs.Joins.{ChecksJoin, JudgesJoin, lossless_text, lossy_text, zeros_text, too_many_rows_text};
+ghost use Rattle.desk_cli.specs.Readings.{Reading, Shows};
+ghost use Rattle.desk_cli.specs.Replies.{answer_of, RepliesAs, StopsAs};
+
+use crate::Status;
+use crate::plan::open_plan;
+use crate::reply::{Reply, Stop};
+use crate::text::{line_of, put};
+use attr_sets::AttrSet;
+use csv::{ByteRecord, Writer};
+use csv_rows::print_rows;
+use decomp_text::MOST_SCHEMES;
+use dep_model::{Row, Schema, WantMemory};
+use desk_outside::{Shelf, Word};
+use std::alloc::Global;
+use tableau_chase::{ChaseRefusal, Chased, chase};
+
+/// The most rows of a tableau.
+pub const MOST_TABLEAU_ROWS: u32 = 1_024;
+
+/// Whether the plan of a file loses nothing.
+pub fn check_join<F: Shelf>(
+    alloc: Global,
+    shelf: &mut F,
+    schema: &Schema,
+    file: &Word,
+) -> Result<Reply, Stop>
+    ensures files { F.files shelf.new ≡ F.files shelf.old }
+    ensures later { F.faults shelf.old ≤ F.faults shelf.new }
+    ensures reply { (r : Reading) → Shows F.files F.faults F.taken shelf.old shelf.new r → RepliesAs (ChecksJoin r schema.now file.now) result }
+{
+    let plan = match open_plan(alloc, shelf, schema, file) {
+        Ok(plan) => plan,
+        Err(stop) => return Err(stop),
+    };
+    judge(alloc, schema, plan.schemes())
+}
+
+// Whether a plan loses nothing.
+fn judge(alloc: Global, schema: &Schema, schemes: &[AttrSet]) -> Result<Reply, Stop>
+    requires few { length schemes.now ≤ MOST_SCHEMES }
+    requires covers { Covers (width_of schema.now) (schemes_of schemes.now) }
+    ensures reply { RepliesAs (JudgesJoin schema.now (schemes_of schemes.now)) result }
+{
+    match chase(alloc, schema, schemes, MOST_TABLEAU_ROWS) {
+        Ok(Chased::Lossless) => Ok(lossless(alloc)?),
+        Ok(Chased::Lossy(rows)) => Ok(lossy(alloc, schema, &rows)?),
+        Err(ChaseRefusal::TooManyRows) => Err(too_many_rows(alloc)),
+        Err(ChaseRefusal::Memory) => Err(Stop::Memory),
+    }
+}
+
+// Nothing is lost.
+fn lossless(alloc: Global) -> Result<Reply, WantMemory>
+    ensures says { IfOk result (λ reply. Says Status.Yes lossless_text (answer_of reply)) }
+{
+    Ok(Reply::says(Status::Yes, line_of(alloc, b"lossless", b"", b"")?))
+}
+
+// A relation that gains the tuple of all `0`.
+fn lossy(alloc: Global, schema: &Schema, rows: &[Row]) -> Result<Reply, WantMemory>
+    requires over { IsOver (width_of schema.now) rows.now }
+    ensures says { IfOk result (λ reply. Says Status.No (lossy_text (names_of schema.now) rows.now) (answer_of reply)) }
+{
+    Ok(Reply::says(Status::No, lossy_lines(alloc, schema, rows)?))
+}
+
+fn lossy_lines(alloc: Global, schema: &Schema, rows: &[Row]) -> Result<Vec<u8>, WantMemory>
+    requires over { IsOver (width_of schema.now) rows.now }
+    ensures text { IfOk result (λ text. text.items ≡ lossy_text (names_of schema.now) rows.now) }
+{
+    let mut text = line_of(alloc, b"lossy", b"", b"")?;
+    put(&mut text, &print_rows(alloc, schema, rows)?)?;
+    put(&mut text, b"gains\n")?;
+    put(&mut text, &zeros_row(alloc, schema.width())?)?;
+    Ok(text)
+}
+
+// The tuple of all `0`, as a row of CSV.
+fn zeros_row(alloc: Global, width: u8) -> Result<Vec<u8>, WantMemory>
+    ensures text { IfOk result (λ text. text.items ≡ zeros_text width) }
+{
+    let mut writer = Writer::from_writer(Vec::new(alloc));
+    let mut fields = ByteRecord::new(alloc);
+    take_zeros(&mut fields, width)?;
+    write_row(&mut writer, &fields)?;
+    match writer.into_inner() {
+        Ok(text) => Ok(text),
+        Err(_) => Err(WantMemory),
+    }
+}
+
+// The fields become so many times `0`.
+#[tactic(auto, unfolding(dep_model::specs::TwoTuples::all_zeros))]
+fn take_zeros(fields: &mut ByteRecord, width: u8) -> Result<(), WantMemory>
+    ensures zeros { OnOk result (fields_of fields.new ≡ all_zeros width) }
+{
+    fields.clear();
+    for _ in 0..width {
+        fields.push_field(b"0")?;
+    }
+    Ok(())
+}
+
+// Writes the fields as the next row.
+fn write_row(writer: &mut Writer<Vec<u8>>, fields: &ByteRecord) -> Result<(), WantMemory>
+    ensures row { OnOk result (WritesRow ⟦<Vec<u8> as std::io::Write>⟧.contents writer.old writer.new (fields_of fields.now)) }
+{
+    match writer.write_byte_record(fields) {
+        Ok(()) => Ok(()),
+        Err(_) => Err(WantMemory),
+    }
+}
+
+// The chase comes to too many rows.
+fn too_many_rows(alloc: Global) -> Stop
+    ensures says { StopsAs (Says Status.Refused too_many_rows_text) result }
+{
+    Stop::says(Status::Refused, too_many_rows_line(alloc))
+}
+
+fn too_many_rows_line(alloc: Global) -> Result<Vec<u8>, WantMemory>
+    ensures line { IfOk result (λ text. text.items ≡ too_many_rows_text) }
+{
+    line_of(alloc, b"refused: too many tableau rows", b"", b"")
+}
