@@ -26,8 +26,6 @@ mod rows;
 mod status;
 mod synthesis;
 #[cfg(test)]
-mod table_tests;
-#[cfg(test)]
 mod tests;
 mod text;
 mod top;
