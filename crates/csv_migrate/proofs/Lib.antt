@@ -1,1 +1,4 @@
 pub mod FeedLemmas
+pub mod DistinctLemmas
+pub mod ProjectionLemmas
+pub mod MigrationLemmas

@@ -1,2 +1,3 @@
 pub mod Tables
 pub mod Feeding
+pub mod Migration

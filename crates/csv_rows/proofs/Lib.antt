@@ -3,3 +3,5 @@ pub mod RecordLemmas
 pub mod HeaderLemmas
 pub mod ReadingLemmas
 pub mod NumberingLemmas
+pub mod UniqueRows
+pub mod PrintedRows

@@ -342,7 +342,7 @@ on_err P Q (Ok v) f h = tt
 on_err P Q (Err e) f h = f e h
 
 -- the members of a set that has all places below n
-whole_count : (n : ℕ) (x : Places) → Within (below n) x → (k : ℕ) → k ≤ n → count_below x k ≡ k
+pub whole_count : (n : ℕ) (x : Places) → Within (below n) x → (k : ℕ) → k ≤ n → count_below x k ≡ k
 whole_count n x within k l =
     count_below-equal k x (below k) (λ j m. within j (grind (arith, l, m)) ∙ sym (grind (arith, m))) ∙ count_below-below k k (omega arith)
 

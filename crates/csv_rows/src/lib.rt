@@ -4,7 +4,8 @@
 //! text's first refusal. The records are those that `csv` defines, with a comma between fields and
 //! double quotes, after one byte-order mark. `read_part` reads a text that has a column for some of the
 //! attributes. `print_rows` writes a header of the declared names and then each row; its bytes are the
-//! text that `csv` writes with its default settings.
+//! text that `csv` writes with its default settings. A law says that it means these rows, and another
+//! that no text has two meanings.
 //!
 //! `Interned` holds rows by numbers in place of their values. `Groups` numbers rows by what they have
 //! on a set of attributes: two rows have one number exactly where they agree on it.
@@ -13,6 +14,7 @@
 mod groups;
 mod header;
 mod interned;
+mod laws;
 mod part;
 mod printing;
 mod reading;
@@ -21,6 +23,7 @@ mod refusal;
 
 pub use groups::Groups;
 pub use interned::Interned;
+pub use laws::{one_reading, printed_rows_are_read_back};
 pub use part::{Part, read_part};
 pub use printing::print_rows;
 pub use reading::{MOST_ROWS, read_rows};

@@ -1,4 +1,12 @@
 pub mod StepLemmas
 pub mod MeaningLemmas
 pub mod RowLemmas
+pub mod HeadedLemmas
+pub mod SplitLemmas
+pub mod RuleLemmas
+pub mod NumberLemmas
+pub mod MigrationLemmas
+pub mod LossLemmas
+pub mod PartLemmas
+pub mod FormLemmas
 pub mod EndingLemmas

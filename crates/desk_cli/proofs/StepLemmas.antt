@@ -4,7 +4,7 @@ use Rattle.desk_outside.specs.Causes.{Rose}
 use Rattle.desk_outside.specs.Files.{Files}
 use Rattle.desk_cli.specs.declared.reply.Reply.{Reply}
 use Rattle.desk_cli.specs.declared.reply.Stop.{Stop}
-use Rattle.desk_cli.specs.Answers.{Answer, Allowed, With}
+use Rattle.desk_cli.specs.Answers.{Answer, Allowed, With, Unless}
 use Rattle.desk_cli.specs.Readings.{Reading, told, seen, Shows}
 use Rattle.desk_cli.specs.Replies.{StopsAs, RepliesAs}
 
@@ -40,3 +40,13 @@ stopped stops is rest stop there reply e = inl (there reply e)
 pub found : {T : Type 0} (stops : Allowed) (is : T → Type 0) (rest : T → Allowed) (x : T) (result : Result Reply Stop) → is x → RepliesAs (rest x) result → RepliesAs (With stops is rest) result
 found stops is rest x (Ok reply) there goes = inr (x, there, goes)
 found stops is rest x (Err stop) there goes = λ reply e. inr (x, there, goes reply e)
+
+-- ---- tests
+-- a test that stops ends the command
+pub failed : (stops : Allowed) (is : Type 0) (rest : Allowed) (stop : Stop) → StopsAs stops stop → StopsAs (Unless stops is rest) stop
+failed stops is rest stop there reply e = inl (there reply e)
+
+-- a test that is passed goes on
+pub passed : (stops : Allowed) (is : Type 0) (rest : Allowed) (result : Result Reply Stop) → is → RepliesAs rest result → RepliesAs (Unless stops is rest) result
+passed stops is rest (Ok reply) there goes = inr (there, goes)
+passed stops is rest (Err stop) there goes = λ reply e. inr (there, goes reply e)

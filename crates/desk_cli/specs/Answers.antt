@@ -30,6 +30,10 @@ Says s t answer = answer ≡ says s t
 abbrev pub Gives : List ℕ → List TableValue → Allowed
 Gives t tables answer = answer ≡ gives t tables
 
+-- a test of a command: it stops, or the test is passed and the rest follows
+abbrev pub Unless : Allowed → Type 0 → Allowed → Allowed
+Unless stops passed rest answer = stops answer ⊎ (passed × rest answer)
+
 -- a step of a command: it stops, or what is found there goes on
 abbrev pub With : {T : Type 0} → Allowed → (T → Type 0) → (T → Allowed) → Allowed
 With {T} stops is rest answer = stops answer ⊎ ((x : T) × is x × rest x answer)

@@ -1,20 +1,33 @@
 -- A command of the code, as its form.
+use Rattle.std.specs.Prelude.{map}
 use Rattle.desk_cli.specs.declared.command.Command.{Command}
-use Rattle.desk_cli.specs.declared.command.Command.TheVariants.{OverSchema, Help, Version}
+use Rattle.desk_cli.specs.declared.command.Command.TheVariants.{OverSchema, Discover, Sample, Help, Version}
 use Rattle.desk_cli.specs.declared.command.Task.{Task}
-use Rattle.desk_cli.specs.declared.command.Task.TheVariants.{Implies, CheckProof, CheckRows, CheckJoin, Cover, Keys, Synthesize}
+use Rattle.desk_cli.specs.declared.command.Task.TheVariants as task
 use Rattle.desk_cli.specs.Forms as form
 
 abbrev pub task_form : Task → form.Task
-task_form (Implies goal) = form.implies goal.now
-task_form (CheckProof file goal) = form.check_proof file.now goal.now
-task_form (CheckRows file) = form.check_rows file.now
-task_form (CheckJoin file) = form.check_join file.now
-task_form Cover = form.cover
-task_form Keys = form.keys
-task_form Synthesize = form.synthesize
+task_form (task.Implies goal) = form.implies goal.now
+task_form (task.CheckProof file goal) = form.check_proof file.now goal.now
+task_form (task.CheckRows file) = form.check_rows file.now
+task_form (task.CheckJoin plan) = form.check_join plan.now
+task_form (task.CheckForm normal plan) = form.check_form normal plan.now
+task_form (task.CheckKeeps plan) = form.check_keeps plan.now
+task_form task.Cover = form.cover
+task_form task.Keys = form.keys
+task_form task.Synthesize = form.synthesize
+task_form (task.Split normal) = form.split normal
+task_form task.SplitWide = form.split_wide
+task_form task.Exhibit = form.exhibit
+task_form (task.Ddl normal) = form.ddl normal
+task_form (task.DdlPlan plan) = form.ddl_plan plan.now
+task_form (task.Migrate normal file) = form.migrate normal file.now
+task_form (task.MigratePlan plan file) = form.migrate_plan plan.now file.now
+task_form (task.Rejoin files) = form.rejoin files.now
 
 abbrev pub command_form : Command → form.Form
 command_form (OverSchema schema task) = form.over_schema schema.now (task_form task)
+command_form (Discover file) = form.discover file.now
+command_form (Sample persons) = form.sample persons.number
 command_form Help = form.help
 command_form Version = form.version

@@ -1,8 +1,13 @@
 -- The commands, and the words that form them.
-use Rattle.std.specs.Prelude.{ℕ, Option, Some, None, List, [], ◌∷◌, if◌then◌else◌, codes}
+use Rattle.std.specs.Prelude.{ℕ, Bool, ◌&&◌, Option, Some, None, List, [], ◌∷◌, length, nat_lt, if◌then◌else◌, codes}
+use Rattle.std.specs.Option.{option_and_then}
 use Rattle.std.specs.Str.{bytes_eq}
+use Rattle.form_tests.specs.declared.forms.Form.{Form as NormalForm}
+use Rattle.form_tests.specs.declared.forms.Form.TheVariants.{Third, Bcnf, Fourth}
+use Rattle.lexer.specs.Bytes.{number_of}
+use Rattle.desk_cli.specs.Numbers.{is_count}
 
--- what is asked of a schema, with the words that follow the schema's
+-- what is asked of a schema, with the words that go with it
 pub data Task : Type 0 where
   -- whether it implies a goal
   implies : List ℕ → Task
@@ -12,17 +17,41 @@ pub data Task : Type 0 where
   check_rows : List ℕ → Task
   -- whether the plan of a file loses nothing
   check_join : List ℕ → Task
+  -- whether the schemes of the plan of a file are in a normal form
+  check_form : NormalForm → List ℕ → Task
+  -- whether the plan of a file keeps the functional dependencies
+  check_keeps : List ℕ → Task
   -- its cover
   cover : Task
   -- its keys
   keys : Task
   -- a plan in third normal form
   synthesize : Task
+  -- a plan in Boyce-Codd or fourth normal form
+  split : NormalForm → Task
+  -- a plan in Boyce-Codd normal form, at any width
+  split_wide : Task
+  -- a relation that obeys just what it implies
+  exhibit : Task
+  -- SQL tables in a normal form
+  ddl : NormalForm → Task
+  -- SQL tables of the plan of a file
+  ddl_plan : List ℕ → Task
+  -- the rows of a file, as tables in a normal form
+  migrate : NormalForm → List ℕ → Task
+  -- the rows of a file, as tables of the plan of another
+  migrate_plan : List ℕ → List ℕ → Task
+  -- the natural join of the tables of files
+  rejoin : List (List ℕ) → Task
 
 -- a command
 pub data Form : Type 0 where
   -- a schema file, and what is asked of it
   over_schema : List ℕ → Task → Form
+  -- the functional dependencies that the rows of a file obey
+  discover : List ℕ → Form
+  -- so many invented persons, as tables in fourth normal form
+  sample : ℕ → Form
   -- the commands, in a few lines
   help : Form
   -- the number of the release
@@ -44,32 +73,102 @@ unfoldable pub schema_and_two : (List ℕ → List ℕ → Task) → List (List 
 schema_and_two task (schema ∷ first ∷ second ∷ []) = Some (over_schema schema (task first second))
 schema_and_two task _ = None
 
+-- from one to 64 words
+abbrev pub are_few : List (List ℕ) → Bool
+are_few words = nat_lt 0 (length words) && nat_lt (length words) 65
+
+-- a schema and from one to 64 words more
+unfoldable pub schema_and_few : (List (List ℕ) → Task) → List (List ℕ) → Option Form
+schema_and_few task [] = None
+schema_and_few task (schema ∷ words) = if are_few words then Some (over_schema schema (task words)) else None
+
+-- one word
+unfoldable pub word_alone : (List ℕ → Form) → List (List ℕ) → Option Form
+word_alone form (word ∷ []) = Some (form word)
+word_alone form _ = None
+
 -- no word
 unfoldable pub alone : Form → List (List ℕ) → Option Form
 alone form [] = Some form
 alone form _ = None
 
+-- ---- words with a meaning of their own
+-- a normal form
+unfoldable pub normal_form : List ℕ → Option NormalForm
+normal_form word =
+    if bytes_eq word (codes "3nf") then Some Third
+    else if bytes_eq word (codes "bcnf") then Some Bcnf
+    else if bytes_eq word (codes "4nf") then Some Fourth
+    else None
+
+-- so many persons
+unfoldable pub persons_alone : List (List ℕ) → Option Form
+persons_alone (word ∷ []) = if is_count word then Some (sample (number_of word)) else None
+persons_alone _ = None
+
 -- ---- the words of a command
+-- after `check form`
+unfoldable pub after_check_form : List (List ℕ) → Option Form
+after_check_form [] = None
+after_check_form (what ∷ rest) = option_and_then (λ form. schema_and (check_form form) rest) (normal_form what)
+
 -- after `check`
-unfoldable pub check_form : List (List ℕ) → Option Form
-check_form [] = None
-check_form (what ∷ rest) =
+unfoldable pub after_check : List (List ℕ) → Option Form
+after_check [] = None
+after_check (what ∷ rest) =
     if bytes_eq what (codes "proof") then schema_and_two check_proof rest
     else if bytes_eq what (codes "rows") then schema_and check_rows rest
     else if bytes_eq what (codes "join") then schema_and check_join rest
+    else if bytes_eq what (codes "form") then after_check_form rest
+    else if bytes_eq what (codes "keeps") then schema_and check_keeps rest
+    else None
+
+-- after `split`
+unfoldable pub after_split : List (List ℕ) → Option Form
+after_split [] = None
+after_split (what ∷ rest) =
+    if bytes_eq what (codes "bcnf") then schema_alone (split Bcnf) rest
+    else if bytes_eq what (codes "4nf") then schema_alone (split Fourth) rest
+    else if bytes_eq what (codes "wide-bcnf") then schema_alone split_wide rest
+    else None
+
+-- after `ddl`
+unfoldable pub after_ddl : List (List ℕ) → Option Form
+after_ddl [] = None
+after_ddl (what ∷ rest) =
+    if bytes_eq what (codes "plan") then schema_and ddl_plan rest
+    else option_and_then (λ form. schema_alone (ddl form) rest) (normal_form what)
+
+-- after `migrate`
+unfoldable pub after_migrate : List (List ℕ) → Option Form
+after_migrate [] = None
+after_migrate (what ∷ rest) =
+    if bytes_eq what (codes "plan") then schema_and_two migrate_plan rest
+    else option_and_then (λ form. schema_and (migrate form) rest) (normal_form what)
+
+-- what is asked of a schema
+unfoldable pub form_over_schema : List ℕ → List (List ℕ) → Option Form
+form_over_schema verb rest =
+    if bytes_eq verb (codes "implies") then schema_and implies rest
+    else if bytes_eq verb (codes "check") then after_check rest
+    else if bytes_eq verb (codes "cover") then schema_alone cover rest
+    else if bytes_eq verb (codes "keys") then schema_alone keys rest
+    else if bytes_eq verb (codes "synthesize") then schema_alone synthesize rest
+    else if bytes_eq verb (codes "split") then after_split rest
+    else if bytes_eq verb (codes "exhibit") then schema_alone exhibit rest
+    else if bytes_eq verb (codes "ddl") then after_ddl rest
+    else if bytes_eq verb (codes "migrate") then after_migrate rest
+    else if bytes_eq verb (codes "rejoin") then schema_and_few rejoin rest
     else None
 
 -- the command that the words form, if they form one
 unfoldable pub form_of : List (List ℕ) → Option Form
 form_of [] = None
 form_of (verb ∷ rest) =
-    if bytes_eq verb (codes "implies") then schema_and implies rest
-    else if bytes_eq verb (codes "check") then check_form rest
-    else if bytes_eq verb (codes "cover") then schema_alone cover rest
-    else if bytes_eq verb (codes "keys") then schema_alone keys rest
-    else if bytes_eq verb (codes "synthesize") then schema_alone synthesize rest
+    if bytes_eq verb (codes "discover") then word_alone discover rest
+    else if bytes_eq verb (codes "sample") then persons_alone rest
     else if bytes_eq verb (codes "help") then alone help rest
     else if bytes_eq verb (codes "--help") then alone help rest
     else if bytes_eq verb (codes "-h") then alone help rest
     else if bytes_eq verb (codes "--version") then alone version rest
-    else None
+    else form_over_schema verb rest

@@ -12,7 +12,7 @@ use Rattle.dep_model.specs.Tuples.{Relation}
 use Rattle.dep_model.specs.TwoTuples.{all_zeros}
 use Rattle.desk_cli.specs.declared.join.TheConstants.{MOST_TABLEAU_ROWS}
 use Rattle.desk_cli.specs.declared.status.Status.TheVariants.{Yes, No, Refused}
-use Rattle.desk_cli.specs.Answers.{Allowed, Says}
+use Rattle.desk_cli.specs.Answers.{Allowed, Says, Unless}
 use Rattle.desk_cli.specs.Plans.{WithPlan}
 use Rattle.desk_cli.specs.Readings.{Reading}
 use Rattle.desk_cli.specs.Texts.{line}
@@ -48,14 +48,26 @@ pub record ShowsLoss (schema : Schema) (plan : List Places) (rows : Relation) : 
   pub gaining : IsGaining (width_of schema) (theory_of schema) plan rows
   pub typed : TypedFor schema rows
 
--- refused exactly where the chase comes to too many rows; else yes exactly where the plan loses nothing,
--- and no, with a relation that shows it, where it does not
-abbrev pub JudgesJoin : Schema → List Places → Allowed
-JudgesJoin schema plan answer =
-    ((IsTooLarge schema plan → ⊥) × LosesNothing schema plan × Says Yes lossless_text answer)
-    ⊎ ((IsTooLarge schema plan → ⊥) × (LosesNothing schema plan → ⊥)
+-- the chase keeps within its limit, and no legal relation loses by a plan
+pub record IsShownLossless (schema : Schema) (plan : List Places) : Type 0 where
+  pub within_limit : IsTooLarge schema plan → ⊥
+  pub lossless : LosesNothing schema plan
+
+-- how the test of a plan ends a command: refused exactly where the chase comes to too many rows; else
+-- no, with a relation that shows it, exactly where something is lost
+abbrev pub LossStops : Schema → List Places → Allowed
+LossStops schema plan answer =
+    ((IsTooLarge schema plan → ⊥) × (LosesNothing schema plan → ⊥)
     × ((rows : Relation) × ShowsLoss schema plan rows × Says No (lossy_text (names_of schema) rows) answer))
     ⊎ (IsTooLarge schema plan × Says Refused too_many_rows_text answer)
+
+-- a plan loses nothing, and then the rest follows
+abbrev pub WithoutLoss : Schema → List Places → Allowed → Allowed
+WithoutLoss schema plan = Unless (LossStops schema plan) (IsShownLossless schema plan)
+
+-- yes where a plan loses nothing
+abbrev pub JudgesJoin : Schema → List Places → Allowed
+JudgesJoin schema plan = WithoutLoss schema plan (Says Yes lossless_text)
 
 -- of a plan file
 abbrev pub ChecksJoin : Reading → Schema → List ℕ → Allowed

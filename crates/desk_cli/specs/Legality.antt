@@ -11,7 +11,7 @@ use Rattle.schema_grammar.specs.Printing.{dependency_text}
 use Rattle.legality.specs.declared.offence.Offence.{Offence}
 use Rattle.legality.specs.Offences.{OffencesOf}
 use Rattle.desk_cli.specs.declared.status.Status.TheVariants.{Yes, No}
-use Rattle.desk_cli.specs.Answers.{Allowed, Says}
+use Rattle.desk_cli.specs.Answers.{Allowed, Says, Unless}
 use Rattle.desk_cli.specs.Readings.{Reading}
 use Rattle.desk_cli.specs.Rows.{WithRows}
 use Rattle.desk_cli.specs.Texts.{line}
@@ -40,13 +40,20 @@ offence_text schema offence =
 abbrev pub offences_text : Schema → List Offence → List ℕ
 offences_text schema offences = flat_map (offence_text schema) offences
 
--- yes exactly where the rows obey every dependency; else no, with a line for each dependency that they
--- break and the least pair of rows that breaks it
+-- how the test of rows ends a command: no, exactly where they do not obey every dependency, with a line
+-- for each that they break and the least pair of rows that breaks it
+abbrev pub OffenceStops : Schema → Relation → Allowed
+OffenceStops schema rows answer =
+    (LegalFor schema rows → ⊥)
+    × ((offences : List Offence) × OffencesOf (width_of schema) (theory_of schema) rows offences × Says No (offences_text schema offences) answer)
+
+-- the rows are legal, and then the rest follows
+abbrev pub WithLegal : Schema → Relation → Allowed → Allowed
+WithLegal schema rows = Unless (OffenceStops schema rows) (LegalFor schema rows)
+
+-- yes where the rows are legal
 abbrev pub Judged : Schema → Relation → Allowed
-Judged schema rows answer =
-    (LegalFor schema rows × Says Yes legal_text answer)
-    ⊎ ((LegalFor schema rows → ⊥)
-    × ((offences : List Offence) × OffencesOf (width_of schema) (theory_of schema) rows offences × Says No (offences_text schema offences) answer))
+Judged schema rows = WithLegal schema rows (Says Yes legal_text)
 
 -- of the rows of a file
 abbrev pub ChecksRows : Reading → Schema → List ℕ → Allowed

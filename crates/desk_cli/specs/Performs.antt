@@ -5,32 +5,53 @@ use Rattle.desk_cli.specs.declared.status.Status.TheVariants.{Yes, Refused}
 use Rattle.desk_cli.specs.Answers.{Allowed, Says}
 use Rattle.desk_cli.specs.Certificates.{ChecksProof}
 use Rattle.desk_cli.specs.Covering.{GivesCover}
-use Rattle.desk_cli.specs.Forms.{Form, over_schema, help, version, Task, implies, check_proof, check_rows, check_join, cover, keys, synthesize, form_of}
+use Rattle.desk_cli.specs.Decompositions.{Splits, SplitsWide}
+use Rattle.desk_cli.specs.Designs.{WritesForm, WritesPlan}
+use Rattle.desk_cli.specs.Discoveries.{Discovers}
+use Rattle.desk_cli.specs.Exhibits.{Exhibits}
+use Rattle.desk_cli.specs.Forms as form
+use Rattle.desk_cli.specs.Forms.{Form, Task, form_of}
 use Rattle.desk_cli.specs.Help.{help_text, version_text}
 use Rattle.desk_cli.specs.Implication.{Implies}
 use Rattle.desk_cli.specs.Inputs.{WithSchema}
 use Rattle.desk_cli.specs.Joins.{ChecksJoin}
+use Rattle.desk_cli.specs.Keeping.{ChecksKeeping}
 use Rattle.desk_cli.specs.Keys.{ListsKeys}
 use Rattle.desk_cli.specs.Legality.{ChecksRows}
+use Rattle.desk_cli.specs.Migrations.{Migrates, MigratesPlan, Samples}
+use Rattle.desk_cli.specs.NormalForms.{ChecksForm}
 use Rattle.desk_cli.specs.Readings.{Reading}
+use Rattle.desk_cli.specs.Rejoining.{Rejoins}
 use Rattle.desk_cli.specs.Synthesis.{Synthesizes}
 use Rattle.desk_cli.specs.Texts.{words_text}
 
 -- what is asked of a schema
 unfoldable pub Does : Reading → Schema → Task → Allowed
-Does r schema (implies goal) = Implies schema goal
-Does r schema (check_proof file goal) = ChecksProof r schema file goal
-Does r schema (check_rows file) = ChecksRows r schema file
-Does r schema (check_join file) = ChecksJoin r schema file
-Does r schema cover = GivesCover schema
-Does r schema keys = ListsKeys schema
-Does r schema synthesize = Synthesizes schema
+Does r schema (form.implies goal) = Implies schema goal
+Does r schema (form.check_proof file goal) = ChecksProof r schema file goal
+Does r schema (form.check_rows file) = ChecksRows r schema file
+Does r schema (form.check_join plan) = ChecksJoin r schema plan
+Does r schema (form.check_form normal plan) = ChecksForm r schema normal plan
+Does r schema (form.check_keeps plan) = ChecksKeeping r schema plan
+Does r schema form.cover = GivesCover schema
+Does r schema form.keys = ListsKeys schema
+Does r schema form.synthesize = Synthesizes schema
+Does r schema (form.split normal) = Splits schema normal
+Does r schema form.split_wide = SplitsWide schema
+Does r schema form.exhibit = Exhibits schema
+Does r schema (form.ddl normal) = WritesForm schema normal
+Does r schema (form.ddl_plan plan) = WritesPlan r schema plan
+Does r schema (form.migrate normal file) = Migrates r schema normal file
+Does r schema (form.migrate_plan plan file) = MigratesPlan r schema plan file
+Does r schema (form.rejoin files) = Rejoins r schema files
 
 -- a command
 unfoldable pub Performs : Reading → Form → Allowed
-Performs r (over_schema file task) = WithSchema r file (λ schema. Does r schema task)
-Performs r help = Says Yes help_text
-Performs r version = Says Yes version_text
+Performs r (form.over_schema file task) = WithSchema r file (λ schema. Does r schema task)
+Performs r (form.discover file) = Discovers r file
+Performs r (form.sample persons) = Samples persons
+Performs r form.help = Says Yes help_text
+Performs r form.version = Says Yes version_text
 
 -- the words
 abbrev pub Answers : Reading → List (List ℕ) → Allowed

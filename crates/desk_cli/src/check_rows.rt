@@ -1,9 +1,10 @@
-ghost use Rattle.std.specs.Prelude.{◌≡◌, ◌≤◌, ◌<◌, ◌^◌, ◌++◌, length, slice_get, IfOk, OnOk};
-ghost use Rattle.dep_model.specs.Schemas.{deps_of, lines_of, names_of, width_of};
+ghost use Rattle.std.specs.Prelude.{◌≡◌, ◌≤◌, ◌<◌, ◌^◌, ◌++◌, length, slice_get, IfOk, IfErr, OnOk};
+ghost use Rattle.dep_model.specs.Schemas.{deps_of, lines_of, names_of, width_of, LegalFor};
 ghost use Rattle.dep_model.specs.Tuples.{IsOver};
-ghost use Rattle.desk_cli.specs.Legality.{ChecksRows, Judged, dep_text, line_text, offence_text, offences_text};
+ghost use Rattle.desk_cli.specs.Legality.{ChecksRows, OffenceStops, dep_text, legal_text, line_text, offence_text, offences_text};
+ghost use Rattle.desk_cli.specs.Answers.{Says};
 ghost use Rattle.desk_cli.specs.Readings.{Reading, Shows};
-ghost use Rattle.desk_cli.specs.Replies.{answer_of, RepliesAs};
+ghost use Rattle.desk_cli.specs.Replies.{answer_of, RepliesAs, StopsAs};
 
 use crate::Status;
 use crate::reply::{Reply, Stop};
@@ -30,20 +31,39 @@ pub fn check_rows<F: Shelf>(
         Ok(rows) => rows,
         Err(stop) => return Err(stop),
     };
-    Ok(judged(alloc, schema, &rows)?)
+    match test_rows(alloc, schema, &rows) {
+        Ok(()) => {}
+        Err(stop) => return Err(stop),
+    }
+    Ok(legal(alloc)?)
 }
 
-// The answer to rows.
-fn judged(alloc: Global, schema: &Schema, rows: &[Row]) -> Result<Reply, WantMemory>
+/// Whether rows are legal.
+pub fn test_rows(alloc: Global, schema: &Schema, rows: &[Row]) -> Result<(), Stop>
     requires over { IsOver (width_of schema.now) rows.now }
     requires few { length rows.now < 2 ^ 32 }
-    ensures answer { IfOk result (λ reply. Judged schema.now rows.now (answer_of reply)) }
+    ensures ok { IfOk result (λ _. LegalFor schema.now rows.now) }
+    ensures stop { IfErr result (StopsAs (OffenceStops schema.now rows.now)) }
 {
     let found = offences(alloc, schema, rows)?;
     if found.is_empty() {
-        return Ok(Reply::says(Status::Yes, line_of(alloc, b"legal", b"", b"")?));
+        return Ok(());
     }
-    Ok(Reply::says(Status::No, offence_lines(alloc, schema, &found)?))
+    Err(offended(alloc, schema, &found))
+}
+
+// Rows break dependencies.
+fn offended(alloc: Global, schema: &Schema, found: &[Offence]) -> Stop
+    ensures says { StopsAs (Says Status.No (offences_text schema.now found.now)) result }
+{
+    Stop::says(Status::No, offence_lines(alloc, schema, found))
+}
+
+// The rows obey every dependency.
+fn legal(alloc: Global) -> Result<Reply, WantMemory>
+    ensures says { IfOk result (λ reply. Says Status.Yes legal_text (answer_of reply)) }
+{
+    Ok(Reply::says(Status::Yes, line_of(alloc, b"legal", b"", b"")?))
 }
 
 fn offence_lines(
@@ -76,8 +96,13 @@ fn offence_line(alloc: Global, schema: &Schema, offence: Offence) -> Result<Vec<
     Ok(text)
 }
 
-// The line of a dependency of a schema, at the end of a text.
-fn put_line(alloc: Global, text: &mut Vec<u8>, schema: &Schema, k: usize) -> Result<(), WantMemory>
+/// The line of a dependency of a schema, at the end of a text.
+pub fn put_line(
+    alloc: Global,
+    text: &mut Vec<u8>,
+    schema: &Schema,
+    k: usize,
+) -> Result<(), WantMemory>
     ensures more { OnOk result (text.new.items ≡ text.old.items ++ line_text (slice_get (lines_of schema.now) k)) }
 {
     if k < schema.deps().len() {
@@ -87,8 +112,8 @@ fn put_line(alloc: Global, text: &mut Vec<u8>, schema: &Schema, k: usize) -> Res
     }
 }
 
-// A dependency of a schema, at the end of a text.
-fn put_dep(text: &mut Vec<u8>, schema: &Schema, k: usize) -> Result<(), WantMemory>
+/// A dependency of a schema, at the end of a text.
+pub fn put_dep(text: &mut Vec<u8>, schema: &Schema, k: usize) -> Result<(), WantMemory>
     ensures more { OnOk result (text.new.items ≡ text.old.items ++ dep_text (names_of schema.now) (slice_get (deps_of schema.now) k)) }
 {
     match schema.deps().get(k) {

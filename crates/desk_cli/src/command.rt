@@ -1,10 +1,13 @@
 ghost use Rattle.std.specs.Prelude.{◌≡◌, option_map};
-ghost use Rattle.desk_cli.specs.Forms.{schema_alone, schema_and, schema_and_two, alone, check_form, form_of, implies, check_proof, check_rows, check_join};
-ghost use Rattle.desk_cli.specs.Commands.{command_form, task_form};
+ghost use Rattle.desk_cli.specs.Commands.{command_form};
+ghost use Rattle.desk_cli.specs.Forms.{after_check, after_check_form, after_ddl, after_migrate, after_split, form_of, form_over_schema};
 
+use crate::persons::Persons;
+use crate::shapes::*;
 use desk_outside::Word;
+use form_tests::Form;
 
-/// What is asked of a schema, with the words that follow the schema's.
+/// What is asked of a schema, with the words that go with it.
 #[derive(Clone, Copy, Debug)]
 pub enum Task<'a> {
     /// Whether it implies a goal.
@@ -14,13 +17,33 @@ pub enum Task<'a> {
     /// Whether the rows of a file are legal.
     CheckRows { file: &'a Word },
     /// Whether the plan of a file loses nothing.
-    CheckJoin { file: &'a Word },
+    CheckJoin { plan: &'a Word },
+    /// Whether the schemes of the plan of a file are in a normal form.
+    CheckForm { form: Form, plan: &'a Word },
+    /// Whether the plan of a file keeps the functional dependencies.
+    CheckKeeps { plan: &'a Word },
     /// What says the same, with nothing that can be left out.
     Cover,
     /// All its keys.
     Keys,
     /// A plan in third normal form.
     Synthesize,
+    /// A plan in Boyce-Codd or fourth normal form.
+    Split { form: Form },
+    /// A plan in Boyce-Codd normal form, at any width.
+    SplitWide,
+    /// A relation that obeys just what it implies.
+    Exhibit,
+    /// SQL tables in a normal form.
+    Ddl { form: Form },
+    /// SQL tables of the plan of a file.
+    DdlPlan { plan: &'a Word },
+    /// The rows of a file, as tables in a normal form.
+    Migrate { form: Form, file: &'a Word },
+    /// The rows of a file, as tables of the plan of another.
+    MigratePlan { plan: &'a Word, file: &'a Word },
+    /// The natural join of the tables of files.
+    Rejoin { files: &'a [Word] },
 }
 
 /// A command.
@@ -28,6 +51,10 @@ pub enum Task<'a> {
 pub enum Command<'a> {
     /// What is asked of the schema of a file.
     OverSchema { schema: &'a Word, task: Task<'a> },
+    /// The functional dependencies that the rows of a file obey.
+    Discover { file: &'a Word },
+    /// So many invented persons, as tables in fourth normal form.
+    Sample { persons: Persons },
     /// The commands, in a few lines.
     Help,
     /// The number of the release.
@@ -42,6 +69,27 @@ pub fn parse(words: &[Word]) -> Option<Command<'_>>
     let [verb, rest @ ..] = words else {
         return None;
     };
+    if verb.bytes() == b"discover".as_slice() {
+        return of_discover(rest);
+    }
+    if verb.bytes() == b"sample".as_slice() {
+        return of_sample(rest);
+    }
+    let name = verb.bytes();
+    if name == b"help".as_slice() || name == b"--help".as_slice() || name == b"-h".as_slice() {
+        return alone(Command::Help, rest);
+    }
+    if verb.bytes() == b"--version".as_slice() {
+        return alone(Command::Version, rest);
+    }
+    over_schema(verb, rest)
+}
+
+// What is asked of a schema.
+#[tactic(auto, unfolding(crate::specs::Forms::form_over_schema))]
+fn over_schema<'a>(verb: &Word, rest: &'a [Word]) -> Option<Command<'a>>
+    ensures form { option_map command_form result ≡ form_over_schema verb.now rest.now }
+{
     if verb.bytes() == b"implies".as_slice() {
         return of_implies(rest);
     }
@@ -57,106 +105,106 @@ pub fn parse(words: &[Word]) -> Option<Command<'_>>
     if verb.bytes() == b"synthesize".as_slice() {
         return over_schema_alone(Task::Synthesize, rest);
     }
-    let verb = verb.bytes();
-    if verb == b"help".as_slice() || verb == b"--help".as_slice() || verb == b"-h".as_slice() {
-        return alone(Command::Help, rest);
+    if verb.bytes() == b"split".as_slice() {
+        return of_split(rest);
     }
-    if verb == b"--version".as_slice() {
-        return alone(Command::Version, rest);
+    if verb.bytes() == b"exhibit".as_slice() {
+        return over_schema_alone(Task::Exhibit, rest);
+    }
+    if verb.bytes() == b"ddl".as_slice() {
+        return of_ddl(rest);
+    }
+    if verb.bytes() == b"migrate".as_slice() {
+        return of_migrate(rest);
+    }
+    if verb.bytes() == b"rejoin".as_slice() {
+        return of_rejoin(rest);
     }
     None
 }
 
-// No word more.
-#[tactic(auto, unfolding(crate::specs::Forms::alone))]
-fn alone<'a>(command: Command<'a>, words: &[Word]) -> Option<Command<'a>>
-    ensures form { option_map command_form result ≡ alone (command_form command.entry) words.now }
-{
-    match words {
-        [] => Some(command),
-        _ => None,
-    }
-}
-
-// A schema, and no word more.
-#[tactic(auto, unfolding(crate::specs::Forms::schema_alone))]
-fn over_schema_alone<'a>(task: Task<'a>, words: &'a [Word]) -> Option<Command<'a>>
-    ensures form { option_map command_form result ≡ schema_alone (task_form task.entry) words.now }
-{
-    match words {
-        [schema] => Some(Command::OverSchema { schema, task }),
-        _ => None,
-    }
-}
-
 // After `check`.
-#[tactic(auto, unfolding(crate::specs::Forms::check_form))]
+#[tactic(auto, unfolding(crate::specs::Forms::after_check))]
 fn of_check(words: &[Word]) -> Option<Command<'_>>
-    ensures form { option_map command_form result ≡ check_form words.now }
+    ensures form { option_map command_form result ≡ after_check words.now }
 {
     let [what, rest @ ..] = words else {
         return None;
     };
-    if what.bytes() == b"proof".as_slice() {
-        return of_check_proof(rest);
+    match what.bytes() {
+        b"proof" => of_check_proof(rest),
+        b"rows" => of_check_rows(rest),
+        b"join" => of_check_join(rest),
+        b"form" => of_check_form(rest),
+        b"keeps" => of_check_keeps(rest),
+        _ => None,
     }
-    if what.bytes() == b"rows".as_slice() {
-        return of_check_rows(rest);
+}
+
+// After `check form`.
+#[tactic(auto, unfolding(crate::specs::Forms::after_check_form))]
+fn of_check_form(words: &[Word]) -> Option<Command<'_>>
+    ensures form { option_map command_form result ≡ after_check_form words.now }
+{
+    let [what, rest @ ..] = words else {
+        return None;
+    };
+    match normal_form(what) {
+        Some(form) => of_check_of_form(form, rest),
+        None => None,
     }
-    if what.bytes() == b"join".as_slice() {
-        return of_check_join(rest);
+}
+
+// After `split`.
+#[tactic(auto, unfolding(crate::specs::Forms::after_split))]
+fn of_split(words: &[Word]) -> Option<Command<'_>>
+    ensures form { option_map command_form result ≡ after_split words.now }
+{
+    let [what, rest @ ..] = words else {
+        return None;
+    };
+    if what.bytes() == b"bcnf".as_slice() {
+        return over_schema_alone(Task::Split { form: Form::Bcnf }, rest);
+    }
+    if what.bytes() == b"4nf".as_slice() {
+        return over_schema_alone(Task::Split { form: Form::Fourth }, rest);
+    }
+    if what.bytes() == b"wide-bcnf".as_slice() {
+        return over_schema_alone(Task::SplitWide, rest);
     }
     None
 }
 
-#[tactic(auto, unfolding(crate::specs::Forms::schema_and))]
-fn of_implies(words: &[Word]) -> Option<Command<'_>>
-    ensures form { option_map command_form result ≡ schema_and implies words.now }
+// After `ddl`.
+#[tactic(auto, unfolding(crate::specs::Forms::after_ddl))]
+fn of_ddl(words: &[Word]) -> Option<Command<'_>>
+    ensures form { option_map command_form result ≡ after_ddl words.now }
 {
-    match words {
-        [schema, goal] => Some(Command::OverSchema {
-            schema,
-            task: Task::Implies { goal },
-        }),
-        _ => None,
+    let [what, rest @ ..] = words else {
+        return None;
+    };
+    if what.bytes() == b"plan".as_slice() {
+        return of_ddl_plan(rest);
+    }
+    match normal_form(what) {
+        Some(form) => over_schema_alone(Task::Ddl { form }, rest),
+        None => None,
     }
 }
 
-#[tactic(auto, unfolding(crate::specs::Forms::schema_and_two))]
-fn of_check_proof(words: &[Word]) -> Option<Command<'_>>
-    ensures form { option_map command_form result ≡ schema_and_two check_proof words.now }
+// After `migrate`.
+#[tactic(auto, unfolding(crate::specs::Forms::after_migrate))]
+fn of_migrate(words: &[Word]) -> Option<Command<'_>>
+    ensures form { option_map command_form result ≡ after_migrate words.now }
 {
-    match words {
-        [schema, file, goal] => Some(Command::OverSchema {
-            schema,
-            task: Task::CheckProof { file, goal },
-        }),
-        _ => None,
+    let [what, rest @ ..] = words else {
+        return None;
+    };
+    if what.bytes() == b"plan".as_slice() {
+        return of_migrate_plan(rest);
     }
-}
-
-#[tactic(auto, unfolding(crate::specs::Forms::schema_and))]
-fn of_check_rows(words: &[Word]) -> Option<Command<'_>>
-    ensures form { option_map command_form result ≡ schema_and check_rows words.now }
-{
-    match words {
-        [schema, file] => Some(Command::OverSchema {
-            schema,
-            task: Task::CheckRows { file },
-        }),
-        _ => None,
-    }
-}
-
-#[tactic(auto, unfolding(crate::specs::Forms::schema_and))]
-fn of_check_join(words: &[Word]) -> Option<Command<'_>>
-    ensures form { option_map command_form result ≡ schema_and check_join words.now }
-{
-    match words {
-        [schema, file] => Some(Command::OverSchema {
-            schema,
-            task: Task::CheckJoin { file },
-        }),
-        _ => None,
+    match normal_form(what) {
+        Some(form) => of_migrate_in_form(form, rest),
+        None => None,
     }
 }

@@ -6,13 +6,27 @@ use crate::Status;
 use crate::reply::{Reply, Stop};
 use std::alloc::Global;
 
-const HELP: &[u8] = b"desk implies SCHEMA GOAL              whether the schema implies the goal
+const HELP: &[u8] =
+    b"desk implies SCHEMA GOAL              whether the schema implies the goal, with a proof or two rows against it
 desk check proof SCHEMA FILE GOAL     whether the certificate in FILE proves the goal
 desk check rows SCHEMA CSV            whether the rows in CSV are legal, and which break what
 desk check join SCHEMA PLAN           whether the plan in PLAN loses nothing
+desk check form FORM SCHEMA PLAN      whether each scheme of the plan is in the form: 3nf, bcnf or 4nf
+desk check keeps SCHEMA PLAN          whether the plan keeps the functional dependencies
 desk cover SCHEMA                     what says the same, with nothing that can be left out
 desk keys SCHEMA                      all keys
 desk synthesize SCHEMA                a plan in third normal form
+desk split bcnf SCHEMA                a plan in Boyce-Codd normal form
+desk split 4nf SCHEMA                 a plan in fourth normal form
+desk split wide-bcnf SCHEMA           a plan in Boyce-Codd normal form, at any width
+desk exhibit SCHEMA                   rows that obey just what follows from the schema
+desk ddl FORM SCHEMA                  SQL tables in the form
+desk ddl plan SCHEMA PLAN             SQL tables of the plan
+desk migrate FORM SCHEMA CSV          the rows in CSV as tables in the form, in files t1.csv, t1.sql and so on
+desk migrate plan SCHEMA PLAN CSV     the same as tables of the plan
+desk sample N                         the tables of N invented persons
+desk discover CSV                     the functional dependencies that the rows in CSV obey
+desk rejoin SCHEMA CSV..              the join of the tables in files
 desk help                             this text
 desk --version                        the release
 Status: 0 yes, 1 no, 2 refused, 3 a file cannot be read, 4 the output cannot be written, 5 a target failed, 6 want of memory.

@@ -1,4 +1,4 @@
-ghost use Rattle.std.specs.Prelude.{◌≡◌, ◌≤◌, length, IfOk, OnOk};
+ghost use Rattle.std.specs.Prelude.{◌≡◌, ◌≤◌, length, IfOk, IfErr, OnOk};
 ghost use Rattle.csv.specs.Records.{fields_of};
 ghost use Rattle.csv_rows.specs.RowsText.{WritesRow};
 ghost use Rattle.dep_model.specs.Plans.{schemes_of};
@@ -7,7 +7,7 @@ ghost use Rattle.dep_model.specs.Schemas.{names_of, width_of};
 ghost use Rattle.dep_model.specs.Tuples.{IsOver};
 ghost use Rattle.dep_model.specs.TwoTuples.{all_zeros};
 ghost use Rattle.desk_cli.specs.Answers.{Says};
-ghost use Rattle.desk_cli.specs.Joins.{ChecksJoin, JudgesJoin, lossless_text, lossy_text, zeros_text, too_many_rows_text};
+ghost use Rattle.desk_cli.specs.Joins.{ChecksJoin, IsShownLossless, LossStops, lossless_text, lossy_text, zeros_text, too_many_rows_text};
 ghost use Rattle.desk_cli.specs.Readings.{Reading, Shows};
 ghost use Rattle.desk_cli.specs.Replies.{answer_of, RepliesAs, StopsAs};
 
@@ -42,18 +42,23 @@ pub fn check_join<F: Shelf>(
         Ok(plan) => plan,
         Err(stop) => return Err(stop),
     };
-    judge(alloc, schema, plan.schemes())
+    match test_loss(alloc, schema, plan.schemes()) {
+        Ok(()) => {}
+        Err(stop) => return Err(stop),
+    }
+    Ok(lossless(alloc)?)
 }
 
-// Whether a plan loses nothing.
-fn judge(alloc: Global, schema: &Schema, schemes: &[AttrSet]) -> Result<Reply, Stop>
+/// Whether no legal relation loses by a plan.
+pub fn test_loss(alloc: Global, schema: &Schema, schemes: &[AttrSet]) -> Result<(), Stop>
     requires few { length schemes.now ≤ MOST_SCHEMES }
     requires covers { Covers (width_of schema.now) (schemes_of schemes.now) }
-    ensures reply { RepliesAs (JudgesJoin schema.now (schemes_of schemes.now)) result }
+    ensures ok { IfOk result (λ _. IsShownLossless schema.now (schemes_of schemes.now)) }
+    ensures stop { IfErr result (StopsAs (LossStops schema.now (schemes_of schemes.now))) }
 {
     match chase(alloc, schema, schemes, MOST_TABLEAU_ROWS) {
-        Ok(Chased::Lossless) => Ok(lossless(alloc)?),
-        Ok(Chased::Lossy(rows)) => Ok(lossy(alloc, schema, &rows)?),
+        Ok(Chased::Lossless) => Ok(()),
+        Ok(Chased::Lossy(rows)) => Err(lossy(alloc, schema, &rows)),
         Err(ChaseRefusal::TooManyRows) => Err(too_many_rows(alloc)),
         Err(ChaseRefusal::Memory) => Err(Stop::Memory),
     }
@@ -67,11 +72,11 @@ fn lossless(alloc: Global) -> Result<Reply, WantMemory>
 }
 
 // A relation that gains the tuple of all `0`.
-fn lossy(alloc: Global, schema: &Schema, rows: &[Row]) -> Result<Reply, WantMemory>
+fn lossy(alloc: Global, schema: &Schema, rows: &[Row]) -> Stop
     requires over { IsOver (width_of schema.now) rows.now }
-    ensures says { IfOk result (λ reply. Says Status.No (lossy_text (names_of schema.now) rows.now) (answer_of reply)) }
+    ensures says { StopsAs (Says Status.No (lossy_text (names_of schema.now) rows.now)) result }
 {
-    Ok(Reply::says(Status::No, lossy_lines(alloc, schema, rows)?))
+    Stop::says(Status::No, lossy_lines(alloc, schema, rows))
 }
 
 fn lossy_lines(alloc: Global, schema: &Schema, rows: &[Row]) -> Result<Vec<u8>, WantMemory>

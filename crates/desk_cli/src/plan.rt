@@ -1,4 +1,4 @@
-ghost use Rattle.std.specs.Prelude.{◌≡◌, ◌≤◌, ◌++◌, [], length, slice_index_or, IfOk, IfErr, codes};
+ghost use Rattle.std.specs.Prelude.{◌≡◌, ◌≤◌, ◌++◌, [], length, IfOk, IfErr, codes};
 ghost use Rattle.std.specs.Fmt.{decimal};
 ghost use Rattle.dep_model.specs.Projections.{Covers};
 ghost use Rattle.dep_model.specs.Schemas.{names_of, width_of};
@@ -13,6 +13,7 @@ use crate::Status;
 use crate::read::open_file;
 use crate::refusals::reason_of;
 use crate::reply::Stop;
+use crate::row_refusals::name_of;
 use crate::text::{put, put_number};
 use decomp_text::{MOST_PLAN_BYTES, Plan, PlanRefusal, read_plan};
 use dep_model::{Schema, WantMemory};
@@ -129,15 +130,4 @@ fn uncovered_reason(alloc: Global, schema: &Schema, attribute: u8) -> Result<Vec
     put(&mut text, name_of(schema, attribute))?;
     put(&mut text, b" is in no scheme")?;
     Ok(text)
-}
-
-// The name of an attribute, if there is such a one.
-fn name_of(schema: &Schema, attribute: u8) -> &[u8]
-    ensures name { result.now ≡ slice_index_or (names_of schema.now) attribute [] }
-{
-    if attribute < schema.width() {
-        schema.name(attribute).bytes()
-    } else {
-        b""
-    }
 }

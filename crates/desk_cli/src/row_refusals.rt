@@ -76,7 +76,7 @@ fn put_reason(
 }
 
 /// A piece and a number, at the end of a text.
-fn put_before_number(
+pub fn put_before_number(
     alloc: Global,
     text: &mut Vec<u8>,
     front: &[u8],
@@ -107,7 +107,7 @@ fn put_no_integer(
 }
 
 /// A number between two pieces, at the end of a text.
-fn put_numbered(
+pub fn put_numbered(
     alloc: Global,
     text: &mut Vec<u8>,
     front: &[u8],
@@ -122,7 +122,7 @@ fn put_numbered(
 }
 
 /// The declared name of an attribute.
-fn name_of(schema: &Schema, attribute: u8) -> &[u8]
+pub fn name_of(schema: &Schema, attribute: u8) -> &[u8]
     ensures name { result.now ≡ name_at (names_of schema.now) attribute }
 {
     if attribute < schema.width() {

@@ -43,8 +43,8 @@ pub fn open_rows<F: Shelf>(
     }
 }
 
-// A command that ends with the refusal of rows, or for want of memory.
-fn rows_refused(alloc: Global, schema: &Schema, name: &[u8], refusal: RowRefusal) -> Stop
+/// A command that ends with the refusal of rows, or for want of memory.
+pub fn rows_refused(alloc: Global, schema: &Schema, name: &[u8], refusal: RowRefusal) -> Stop
     ensures refused { StopsAs (TellsRows (names_of schema.now) name.now refusal) result }
 {
     if wants_memory(refusal) {

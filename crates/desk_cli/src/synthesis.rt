@@ -3,11 +3,11 @@ ghost use Rattle.desk_cli.specs.Replies.{answer_of, RepliesAs};
 ghost use Rattle.desk_cli.specs.Synthesis.{Synthesizes};
 
 use crate::Status;
+use crate::decomposition::third_form_plan;
 use crate::reply::{Reply, Stop};
 use decomp_text::print_plan;
 use dep_model::{Schema, WantMemory};
 use std::alloc::Global;
-use synthesis_3nf::synthesize;
 
 /// A plan in third normal form that loses nothing and keeps the functional dependencies.
 pub fn synthesized(alloc: Global, schema: &Schema) -> Result<Reply, Stop>
@@ -19,6 +19,6 @@ pub fn synthesized(alloc: Global, schema: &Schema) -> Result<Reply, Stop>
 fn printed(alloc: Global, schema: &Schema) -> Result<Reply, WantMemory>
     ensures answer { IfOk result (λ reply. Synthesizes schema.now (answer_of reply)) }
 {
-    let plan = synthesize(alloc, schema)?;
+    let plan = third_form_plan(alloc, schema)?;
     Ok(Reply::says(Status::Yes, print_plan(alloc, schema, &plan)?))
 }

@@ -12,13 +12,22 @@ use crate::check_proof::check_proof;
 use crate::check_rows::check_rows;
 use crate::command::{Command, Task, parse};
 use crate::cover::cover;
+use crate::decomposition::{split_by_pairs, split_in_form};
+use crate::designs::{write_form, write_plan};
+use crate::discovering::discovered;
+use crate::exhibits::exhibited;
 use crate::finish::settle;
 use crate::help::{help, version};
 use crate::implies::implies;
 use crate::join::check_join;
+use crate::keeping::check_keeps;
 use crate::keys::list_keys;
+use crate::migration::{migrate_by_plan, migrate_in_form};
+use crate::normal_forms::check_form;
 use crate::read::open_schema;
+use crate::rejoining::rejoin;
 use crate::reply::{Reply, Stop};
+use crate::sampling::migrate_sample;
 use crate::synthesis::synthesized;
 use crate::text::line_of;
 use dep_model::{Schema, WantMemory};
@@ -114,6 +123,8 @@ fn perform<F: Shelf>(alloc: Global, command: Command<'_>, shelf: &mut F) -> Resu
 {
     match command {
         Command::OverSchema { schema, task } => over_schema(alloc, shelf, schema, task),
+        Command::Discover { file } => discovered(alloc, shelf, file),
+        Command::Sample { persons } => migrate_sample(alloc, persons),
         Command::Help => help(alloc),
         Command::Version => version(alloc),
     }
@@ -153,9 +164,19 @@ fn does<F: Shelf>(
         Task::Implies { goal } => implies(alloc, schema, goal),
         Task::CheckProof { file, goal } => check_proof(alloc, shelf, schema, file, goal),
         Task::CheckRows { file } => check_rows(alloc, shelf, schema, file),
-        Task::CheckJoin { file } => check_join(alloc, shelf, schema, file),
+        Task::CheckJoin { plan } => check_join(alloc, shelf, schema, plan),
+        Task::CheckForm { form, plan } => check_form(alloc, shelf, schema, form, plan),
+        Task::CheckKeeps { plan } => check_keeps(alloc, shelf, schema, plan),
         Task::Cover => cover(alloc, schema),
         Task::Keys => list_keys(alloc, schema),
         Task::Synthesize => synthesized(alloc, schema),
+        Task::Split { form } => split_in_form(alloc, schema, form),
+        Task::SplitWide => split_by_pairs(alloc, schema),
+        Task::Exhibit => exhibited(alloc, schema),
+        Task::Ddl { form } => write_form(alloc, schema, form),
+        Task::DdlPlan { plan } => write_plan(alloc, shelf, schema, plan),
+        Task::Migrate { form, file } => migrate_in_form(alloc, shelf, schema, form, file),
+        Task::MigratePlan { plan, file } => migrate_by_plan(alloc, shelf, schema, plan, file),
+        Task::Rejoin { files } => rejoin(alloc, shelf, schema, files),
     }
 }

@@ -30,7 +30,7 @@ use Rattle.desk_cli.specs.declared.status.Status.{Status}
 use Rattle.desk_cli.specs.declared.status.Status.TheVariants.{Yes, No}
 use Rattle.desk_cli.specs.Answers.{Answer}
 use Rattle.desk_cli.specs.Certificates.{Checked}
-use Rattle.desk_cli.specs.Forms.{form_of, check_form, schema_and, schema_and_two}
+use Rattle.desk_cli.specs.Forms.{form_of, after_check, schema_and, schema_and_two, form_over_schema}
 use Rattle.desk_cli.specs.Implication.{Decided}
 use Rattle.desk_cli.specs.Inputs.{WithSchema, WithProof, WithGoal}
 use Rattle.desk_cli.specs.Performs.{Answers, Performs, Does}
@@ -147,12 +147,12 @@ schema_yes files after schema goal file text answer said same kept few (inr (r, 
     proof_yes files after schema goal file text r answer said (one_schema said.bytes said.of r said.means moved) kept few go
 
 implies_answers : (files : Files) (schema goal : List ℕ) (answer : Answer) → Answers (told files) (codes "implies" ∷ schema ∷ goal ∷ []) answer → WithSchema (told files) schema (λ s. WithGoal s goal (Decided s)) answer
-unfolding form_of schema_and Performs Does
+unfolding form_of form_over_schema schema_and Performs Does
 implies_answers files schema goal answer answered = answered
 
 check_answers : (files : Files) (schema goal file : List ℕ) (answer : Answer) → Answers (told files) (codes "check" ∷ codes "proof" ∷ schema ∷ file ∷ goal ∷ []) answer
     → WithSchema (told files) schema (λ r. WithProof (told files) r file (λ t. WithGoal r goal (Checked r t))) answer
-unfolding form_of check_form schema_and_two Performs Does
+unfolding form_of form_over_schema after_check schema_and_two Performs Does
 check_answers files schema goal file answer answered = answered
 
 -- what is printed after yes and kept in a file is accepted for the same schema and goal

@@ -1,3 +1,5 @@
 pub mod AcceptedLaws
 pub mod SchemaLemmas
 pub mod StopLemmas
+pub mod CompleteLaws
+pub mod TableLaws

@@ -54,7 +54,7 @@ goal_says s goal answer says_yes (inr stop) = refused_says answer says_yes (stat
 pub one_content : (files : Files) (name first second : List ℕ) → held files name ≡ Some first → held files name ≡ Some second → first ≡ second
 one_content files name first second here there = let same : Some first ≡ Some second = sym here ∙ there in cc
 
-file_goes : (files : Files) (name bytes : List ℕ) (limit : ℕ) (answer : Answer) → held files name ≡ Some bytes → length bytes ≤ limit
+pub file_goes : (files : Files) (name bytes : List ℕ) (limit : ℕ) (answer : Answer) → held files name ≡ Some bytes → length bytes ≤ limit
     → FileStops (told files) name limit answer → ⊥
 file_goes files name bytes limit answer has few (inl (inl fails, said)) = absurd fails
 file_goes files name bytes limit answer has few (inl (inr none, said)) = cc

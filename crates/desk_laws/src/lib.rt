@@ -1,7 +1,11 @@
-//! What `desk` answers in one call, beside what it answers in another.
+//! What `desk` answers in one call, beside what it answers in another, and that it answers where
+//! nothing fails.
 //!
 //! Each law is a function that does nothing, whose clause is the law; so the gate asks for its proof.
 #![tactic(auto)]
+
+mod complete;
+mod complete_tables;
 
 ghost use Rattle.std.specs.Prelude.{◌≡◌, ◌≤◌, ℕ, List, [], ◌∷◌, length, Some, codes};
 ghost use Rattle.desk_cli.specs.declared.status.Status.TheVariants.{Yes};
@@ -10,6 +14,16 @@ ghost use Rattle.desk_cli.specs.Performs.{Answers};
 ghost use Rattle.desk_cli.specs.Readings.{told};
 ghost use Rattle.desk_outside.specs.Files.{Files, held};
 ghost use Rattle.proof_text.specs.declared.text.TheConstants.{MOST_PROOF_BYTES};
+
+pub use complete::{
+    answered_calls_end, check_join_is_answered, check_proof_is_answered, check_rows_is_answered,
+    cover_is_answered, help_is_answered, implies_is_answered, keys_is_answered,
+    synthesize_is_answered,
+};
+pub use complete_tables::{
+    check_form_is_answered, check_keeps_is_answered, ddl_is_answered, exhibit_is_answered,
+    migrate_is_answered, sample_is_answered, small_universes_are_split, split_is_answered,
+};
 
 /// What `implies` prints after yes, kept in a file, is accepted by `check proof` for the same schema and
 /// goal, where the text is within the limit of certificate files.

@@ -163,17 +163,23 @@ exchanged_all n ds found within functional some each exchange k key =
         All-map (λ (v : Places). HoldsOne (map places found) (exchanged (get_or ds j e) v)) places found
         (λ i d l. Any-map (λ (v : Places). Within v (exchanged (get_or ds j e) (places (get_or found i d)))) found (exchange i d l j e in_ds))
 
--- what was found, once all were tried and sorted
-pub sorted_found : (n : ℕ) (ds : List Dependency) (found sorted : List AttrSet) → All (IsWithin (below n)) ds → functional_part ds ≡ ds → 0 < length found → AreSomeKeys n ds (below n) found
-    → (length found ≤ MOST_KEYS → (i : ℕ) (d : AttrSet) → i < length found → IsExchangedBy ds found (places (get_or found i d)))
-    → IsPermutation found sorted → IsSorted (λ (j k : AttrSet). nat_cmp j.0 k.0) sorted → AreFoundKeys n ds (below n) sorted
-sorted_found n ds found sorted within functional some keys exchange moved in_order =
+-- what was found, once it is sorted
+pub sorted_keys : (n : ℕ) (ds : List Dependency) (scheme : Places) (found sorted : List AttrSet) → AreSomeKeys n ds scheme found
+    → (length found ≤ MOST_KEYS → (k : Places) → IsKey n ds scheme k → Any (λ (j : AttrSet). Same (places j) k) found)
+    → IsPermutation found sorted → IsSorted (λ (j k : AttrSet). nat_cmp j.0 k.0) sorted → AreFoundKeys n ds scheme sorted
+sorted_keys n ds scheme found sorted keys all moved in_order =
     let long = length_permutation found sorted moved in
     let differ = AllPairs-permutation (λ (j k : AttrSet). Same (places j) (places k) → ⊥) (λ j k other same. other (λ i. sym (same i))) found sorted moved keys.differ in
     record {
-      each = All-permutation (λ (k : AttrSet). IsKey n ds (below n) (places k)) found sorted moved keys.each;
+      each = All-permutation (λ (k : AttrSet). IsKey n ds scheme (places k)) found sorted moved keys.each;
       ascending = sorted_ascend sorted differ (All-permutation (λ (k : AttrSet). k.0 < 2 ^ PLACES) found sorted moved keys.numbers) in_order;
       few = omega (arith, long, keys.few);
-      all = λ few k key. Any-permutation (λ (j : AttrSet). Same (places j) k) found sorted moved
-          (exchanged_all n ds found within functional some keys.each (exchange (omega (arith, long, few))) k key);
+      all = λ few k key. Any-permutation (λ (j : AttrSet). Same (places j) k) found sorted moved (all (omega (arith, long, few)) k key);
     }
+
+-- the same, once all were tried
+pub sorted_found : (n : ℕ) (ds : List Dependency) (found sorted : List AttrSet) → All (IsWithin (below n)) ds → functional_part ds ≡ ds → 0 < length found → AreSomeKeys n ds (below n) found
+    → (length found ≤ MOST_KEYS → (i : ℕ) (d : AttrSet) → i < length found → IsExchangedBy ds found (places (get_or found i d)))
+    → IsPermutation found sorted → IsSorted (λ (j k : AttrSet). nat_cmp j.0 k.0) sorted → AreFoundKeys n ds (below n) sorted
+sorted_found n ds found sorted within functional some keys exchange =
+    sorted_keys n ds (below n) found sorted keys (λ few k key. exchanged_all n ds found within functional some keys.each (exchange few) k key)

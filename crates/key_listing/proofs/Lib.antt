@@ -1,3 +1,4 @@
 pub mod ListLemmas
 pub mod SearchLemmas
+pub mod NarrowingLemmas
 pub mod FoundLemmas

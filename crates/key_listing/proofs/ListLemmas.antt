@@ -1,13 +1,14 @@
 -- Lists of which some element is such, of which any two differ, and what sorting keeps of them.
-use Rattle.std.proofs.Common.{◌≡◌, ℕ, ◌<◌, ◌≤◌, ◌⊎◌, List, [], ◌∷◌, ◌++◌, length, get_or, map, take, refl, sym, ◌∙◌, subst, ap, ⊎_elim, inl, inr, arith}
-use Rattle.std.proofs.lemmas.Bool.{cases_eq, cases_order}
-use Rattle.std.proofs.lemmas.List.{get_or-take, length-take, length_push, length-map, get_or-map, get_or_append_left, take-take, take_all, take_at}
+use Rattle.std.proofs.Common.{◌≡◌, ℕ, ◌+◌, ◌<◌, ◌≤◌, ◌⊎◌, List, [], ◌∷◌, ◌++◌, length, get_or, map, take, refl, sym, ◌∙◌, subst, ap, ⊎_elim, inl, inr, arith}
+use Rattle.std.proofs.lemmas.Bool.{cases_eq, cases_order, true≢false}
+use Rattle.std.proofs.lemmas.List.Elements.{All-more}
+use Rattle.std.proofs.lemmas.List.{get_or-take, get_or_default, length-take, length_push, length-map, get_or-map, get_or_append_left, take-take, take_all, take_at}
 use Rattle.std.proofs.lemmas.List.Edits.{swapped_from_swap, length-swap}
 use Rattle.std.proofs.lemmas.List.Sorted.{IsPermutation-keeps, Contains-permutation}
-use Rattle.std.specs.Prelude.{AllPairs, Any}
+use Rattle.std.specs.Prelude.{All, AllPairs, Any, Contains, Option, Some, None, IsNone, IfSome}
 use Rattle.std.specs.List.{swap}
 use Rattle.attr_sets.specs.declared.set.AttrSet.{AttrSet}
-use Rattle.attr_sets.specs.Places.{Places}
+use Rattle.attr_sets.specs.Places.{Places, Within}
 use Rattle.attr_sets.specs.Sets.{places}
 use Rattle.std.specs.List.Sorted.{IsPermutation}
 
@@ -85,3 +86,34 @@ module _ {X : Type 0} (R : X → X → Type 0) (back : (x y : X) → R x y → R
 pub AllPairs-permutation : {X : Type 0} (R : X → X → Type 0) → ((x y : X) → R x y → R y x) → (xs ys : List X) → IsPermutation xs ys → AllPairs R xs → AllPairs R ys
 AllPairs-permutation R back xs ys moved all =
     IsPermutation-keeps xs (λ l. AllPairs R l) all (λ l i j i_in j_in before. swap_pairs R back l i j i_in j_in before) ys moved
+
+-- ---- a set at hand
+-- of the first sets of a list, one that lies within a set; none where none does
+pub record IsHeldSoFar (found : List AttrSet) (set : Places) (i : ℕ) (held : Option AttrSet) : Type 0 where
+  pub none : IsNone held → All (λ k. Within (places k) set → ⊥) (take i found)
+  pub member : IfSome held (Contains found)
+  pub within : IfSome held (λ k. Within (places k) set)
+
+pub held_none : (found : List AttrSet) (set : Places) → IsHeldSoFar found set 0 None
+held_none found set = record { none = λ _ k d l. absurd (omega (arith, l)); member = tt; within = tt }
+
+pub held_same : (found : List AttrSet) (set : Places) (i : ℕ) (held : Option AttrSet) (zero : AttrSet) → i < length found → IsHeldSoFar found set i held → (Within (places (get_or found i zero)) set → ⊥) → IsHeldSoFar found set (i + 1) held
+held_same found set i held zero lt before out = record {
+  none = λ e. All-more (λ (k : AttrSet). Within (places k) set → ⊥) found i zero lt (before.none e) out;
+  member = before.member;
+  within = before.within;
+}
+
+pub held_more : (found : List AttrSet) (set : Places) (i : ℕ) (held : Option AttrSet) (zero result : AttrSet) → i < length found → IsHeldSoFar found set i held → Within (places (get_or found i zero)) set
+    → (result ≡ get_or found i zero) ⊎ (held ≡ Some result) → IsHeldSoFar found set (i + 1) (Some result)
+held_more found set i held zero result lt before inside either = record {
+  none = λ e. absurd (true≢false e);
+  member = ⊎_elim
+      (λ (same : result ≡ get_or found i zero). subst (λ (k : AttrSet). Contains found k) (sym same) (i, lt, get_or_default found i (get_or found i zero) zero lt))
+      (λ (old : held ≡ Some result). subst (λ (o : Option AttrSet). IfSome o (Contains found)) old before.member)
+      either;
+  within = ⊎_elim
+      (λ (same : result ≡ get_or found i zero). subst (λ (k : AttrSet). Within (places k) set) (sym same) inside)
+      (λ (old : held ≡ Some result). subst (λ (o : Option AttrSet). IfSome o (λ k. Within (places k) set)) old before.within)
+      either;
+}

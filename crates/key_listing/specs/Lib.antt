@@ -1,3 +1,4 @@
 pub mod Listing
 pub mod Searching
+pub mod Narrowing
 pub mod Refusals

@@ -1,9 +1,13 @@
 use Rattle.std.specs.Prelude.{◌≡◌, ◌<◌, false, Any}
+use Rattle.attr_sets.specs.Places.{Places, count_below}
+use Rattle.attr_sets.specs.declared.set.TheConstants.{PLACES}
 use Rattle.dep_model.specs.Dependencies.{is_fd}
 use Rattle.dep_model.specs.declared.schema.Schema.{Schema}
 use Rattle.dep_model.specs.Schemas.{width_of, universe_of, theory_of}
 use Rattle.key_listing.specs.declared.refusal.KeyRefusal.{KeyRefusal}
 use Rattle.key_listing.specs.declared.refusal.KeyRefusal.TheVariants.{TooManyKeys, TooWide, Memory}
+use Rattle.key_listing.specs.declared.refusal.SchemeKeyRefusal.{SchemeKeyRefusal}
+use Rattle.key_listing.specs.declared.refusal.SchemeKeyRefusal.TheVariants as of_scheme
 use Rattle.key_listing.specs.declared.refusal.TheConstants.{WIDEST_SEARCHED}
 use Rattle.key_listing.specs.Listing.{AreManyKeys}
 
@@ -17,3 +21,14 @@ IsRefused s (TooManyKeys found) =
     (IsTooWide s → ⊥) × AreManyKeys (width_of s) (theory_of s) (universe_of s) found.items
 IsRefused s TooWide = IsTooWide s
 IsRefused s Memory = IsTooWide s → ⊥
+
+-- a scheme has more attributes than are searched
+abbrev pub IsWideScheme : Places → Type 0
+IsWideScheme scheme = WIDEST_SEARCHED < count_below scheme PLACES
+
+-- why the keys of a scheme are not listed
+abbrev pub IsRefusedFor : Schema → Places → SchemeKeyRefusal → Type 0
+IsRefusedFor s scheme (of_scheme.TooManyKeys found) =
+    (IsWideScheme scheme → ⊥) × AreManyKeys (width_of s) (theory_of s) scheme found.items
+IsRefusedFor s scheme of_scheme.TooWide = IsWideScheme scheme
+IsRefusedFor s scheme of_scheme.Memory = IsWideScheme scheme → ⊥

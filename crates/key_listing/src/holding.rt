@@ -1,4 +1,5 @@
-ghost use Rattle.std.specs.Prelude.{◌↔◌, IsTrue};
+ghost use Rattle.std.specs.Prelude.{◌≡◌, ◌⊎◌, ◌↔◌, Contains, IsTrue, IsNone, IfSome, Some};
+ghost use Rattle.attr_sets.specs.Places.{Within};
 ghost use Rattle.attr_sets.specs.Sets.{places};
 ghost use Rattle.key_listing.specs.Listing.{HoldsAny};
 
@@ -14,4 +15,32 @@ pub fn holds_any(found: &[AttrSet], set: AttrSet) -> bool
         }
     }
     false
+}
+
+// A listed set within a set. Of several it is the one with the fewest members beyond a third, which is the
+// best to go on from; nothing rests on that.
+pub fn held_key(found: &[AttrSet], set: AttrSet, least: AttrSet) -> Option<AttrSet>
+    ensures none { IsNone result → HoldsAny found.now (places set) → ⊥ }
+    ensures found { IfSome result (Contains found.now) }
+    ensures within { IfSome result (λ k. Within (places k) (places set)) }
+{
+    let mut held = None;
+    for key in found {
+        if key.within(set) {
+            held = Some(with_fewer(held, *key, least));
+        }
+    }
+    held
+}
+
+// Of two sets the one with fewer members beyond a third.
+fn with_fewer(held: Option<AttrSet>, key: AttrSet, least: AttrSet) -> AttrSet
+    ensures either { (result ≡ key) ⊎ (held ≡ Some result) }
+{
+    if let Some(other) = held {
+        if other.minus(least).len() <= key.minus(least).len() {
+            return other;
+        }
+    }
+    key
 }

@@ -27,7 +27,8 @@ pub fn keys(alloc: Global, schema: &Schema) -> Result<Vec<AttrSet>, KeyRefusal>
     match found_keys(alloc, schema) {
         Err(WantMemory) => Err(KeyRefusal::Memory),
         Ok(found) => {
-            if found.len() > MOST_KEYS {
+            let many = found.len() > MOST_KEYS;
+            if many {
                 Err(KeyRefusal::TooManyKeys { found })
             } else {
                 Ok(found)

@@ -16,3 +16,14 @@ pub enum KeyRefusal {
     /// Want of memory.
     Memory,
 }
+
+/// Why the keys of a scheme are not listed.
+#[derive(Debug, Drop)]
+pub enum SchemeKeyRefusal {
+    /// There are more than `MOST_KEYS`. One more than that are given, ascending.
+    TooManyKeys { found: Vec<AttrSet> },
+    /// The scheme has more than `WIDEST_SEARCHED` attributes.
+    TooWide,
+    /// Want of memory.
+    Memory,
+}

@@ -93,6 +93,22 @@ fn keys_of(alloc: Global, width: u8, deps: &[Dep]) -> Result<Vec<AttrSet>, KeyRe
     }
 }
 
+// The keys of what a scheme has of the universe.
+fn keys_in(
+    alloc: Global,
+    width: u8,
+    deps: &[Dep],
+    scheme: u128,
+) -> Result<Vec<AttrSet>, SchemeKeyRefusal> {
+    match schema_of(alloc, width, deps) {
+        Ok(schema) => {
+            let part = AttrSet(scheme).meet(AttrSet::full(schema.width()));
+            keys_of_scheme(alloc, &schema, part)
+        }
+        Err(WantMemory) => Err(SchemeKeyRefusal::Memory),
+    }
+}
+
 // Pairs of attributes that determine each other: A1 B1 A2 B2 and so on.
 fn pairs(alloc: Global, count: u8) -> Result<Vec<Dep>, WantMemory>
     requires few { count ≤ 64 }
@@ -188,6 +204,105 @@ fn refuses_wide_universes_with_multivalued_dependencies(rt: HostRuntime) {
     );
     assert!(rt; matches!(&keys_of(rt.alloc(), 21, &[fd(1, 2)]), Ok(_)));
     assert!(rt; matches!(&keys_of(rt.alloc(), 20, &[mvd(1, 2)]), Ok(_)));
+}
+
+#[test]
+fn lists_all_keys_of_schemes(rt: HostRuntime) -> Result<(), Fail> {
+    let address: [Dep; 2] = [fd(3, 4), fd(4, 1)];
+    let chain: [Dep; 2] = [fd(1, 2), fd(2, 4)];
+    let rows: [(u8, &[Dep], u128, &[AttrSet]); 12] = [
+        // CITY STREET -> ZIP, ZIP -> CITY: the universe, CITY ZIP and STREET ZIP
+        (3, &address, 7, &[AttrSet(3), AttrSet(6)]),
+        (3, &address, 5, &[AttrSet(4)]),
+        (3, &address, 6, &[AttrSet(6)]),
+        // A -> B, B -> C: what follows by way of an attribute outside counts
+        (3, &chain, 5, &[AttrSet(1)]),
+        (3, &chain, 6, &[AttrSet(2)]),
+        (3, &chain, 4, &[AttrSet(4)]),
+        // () -> A, and the empty scheme
+        (2, &[fd(0, 1)], 1, &[AttrSet(0)]),
+        (2, &[fd(0, 1)], 2, &[AttrSet(2)]),
+        (2, &[fd(0, 1)], 0, &[AttrSet(0)]),
+        // A ->> B and C -> B, which together give A -> B
+        (3, &[mvd(1, 2), fd(4, 2)], 3, &[AttrSet(1)]),
+        (3, &[mvd(1, 2), fd(4, 2)], 7, &[AttrSet(5)]),
+        // A -> B C, B C -> A, C -> D: D is in no key, and E in each
+        (
+            5,
+            &[fd(1, 6), fd(6, 1), fd(4, 8)],
+            31,
+            &[AttrSet(17), AttrSet(22)],
+        ),
+    ];
+    for (width, deps, scheme, expected) in rows {
+        match keys_in(rt.alloc(), width, deps, scheme) {
+            Ok(found) => assert!(rt; found.as_slice() == expected),
+            Err(_) => assert!(rt; false),
+        }
+    }
+    Ok(())
+}
+
+// How many keys of a scheme were listed, or told as too many; nothing of another refusal.
+fn counted_of_scheme(found: Result<Vec<AttrSet>, SchemeKeyRefusal>) -> (bool, usize) {
+    match found {
+        Ok(found) => (true, found.len()),
+        Err(SchemeKeyRefusal::TooManyKeys { found }) => (false, found.len()),
+        Err(SchemeKeyRefusal::TooWide) => (false, 0),
+        Err(SchemeKeyRefusal::Memory) => (false, 0),
+    }
+}
+
+#[test]
+fn lists_as_many_keys_of_a_scheme_as_are_allowed(rt: HostRuntime) -> Result<(), Fail> {
+    // ten of eleven pairs have two to the power of ten keys
+    let pairs = pairs(rt.alloc(), 11)?;
+    let scheme = (1u128 << 20) - 1;
+    assert_eq!(rt;
+        counted_of_scheme(keys_in(rt.alloc(), 22, &pairs, scheme)),
+        (true, 1_024)
+    );
+    // four rings of three and two of four have 1,296
+    let rings = [
+        fd(1, 2),
+        fd(2, 4),
+        fd(4, 1),
+        fd(8, 16),
+        fd(16, 32),
+        fd(32, 8),
+        fd(64, 128),
+        fd(128, 256),
+        fd(256, 64),
+        fd(512, 1_024),
+        fd(1_024, 2_048),
+        fd(2_048, 512),
+        fd(4_096, 8_192),
+        fd(8_192, 16_384),
+        fd(16_384, 32_768),
+        fd(32_768, 4_096),
+        fd(65_536, 131_072),
+        fd(131_072, 262_144),
+        fd(262_144, 524_288),
+        fd(524_288, 65_536),
+    ];
+    assert_eq!(rt;
+        counted_of_scheme(keys_in(rt.alloc(), 20, &rings, scheme)),
+        (false, 1_025)
+    );
+    Ok(())
+}
+
+#[test]
+fn refuses_wide_schemes(rt: HostRuntime) {
+    let twenty = (1u128 << 20) - 1;
+    let next = (1u128 << 21) - 1;
+    assert!(rt;
+        matches!(
+            &keys_in(rt.alloc(), 21, &[fd(1, 2)], next),
+            Err(SchemeKeyRefusal::TooWide)
+        )
+    );
+    assert!(rt; matches!(&keys_in(rt.alloc(), 21, &[fd(1, 2)], twenty), Ok(_)));
 }
 
 #[test]

@@ -2,3 +2,4 @@ pub mod PairLemmas
 pub mod CountLemmas
 pub mod PartLemmas
 pub mod OffenceLemmas
+pub mod OffenceLaws

@@ -75,7 +75,8 @@ pub fn needed_from(
     for k in from..others.len() {
         let dep = others[k];
         others[k] = nothing();
-        if !is_implied(&others, width, dep) {
+        let implied = is_implied(&others, width, dep);
+        if !implied {
             others[k] = dep;
             kept.push(dep)?;
         }

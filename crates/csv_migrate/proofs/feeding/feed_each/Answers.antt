@@ -9,7 +9,8 @@ loop-target-preserved g c =
     let fed = FedTarget g.T.Target.tells g.T.Target.finished g.T.Target.faults (values_of c.args.tables.now) in
     record {
       fed = holds_next fed _ _ _ _ _ c.target-item.result c.feed_one-end.new.target c.feed_one-end.result
-          c.push_reserved.ensures.items (omega (arith, c.loop-target-test.true, c.loop-target.invariant.fed.count)) c.loop-target.invariant.fed c.feed_one-end.ensures.fed;
+          c.push_reserved.ensures.items
+          (omega (arith, c.loop-target-test.true, c.loop-target.invariant.fed.count)) c.loop-target.invariant.fed c.feed_one-end.ensures.fed;
       room = search rules;
     }
 

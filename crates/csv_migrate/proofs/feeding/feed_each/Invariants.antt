@@ -10,6 +10,8 @@ abbrev pub invariant-loop-target : goal.invariant-loop-target
 invariant-loop-target g l =
     let target = g.T.Target in
     record {
-      fed : HoldsSoFar (FedTarget target.tells target.finished target.faults (values_of l.tables)) l.target-index l.fn.targets l.targets l.ends.items;
+      fed : HoldsSoFar
+          (FedTarget target.tells target.finished target.faults
+          (values_of l.tables)) l.target-index l.fn.targets l.targets l.ends.items;
       room : length l.targets ≤ vec_capacity l.ends;
     }

@@ -9,7 +9,8 @@ invariant-loop-row g l =
     record {
       tells : target.tells l.target ≡ target.tells l.fn.target;
       keeps : KeepsFinished (target.finished l.fn.target) (target.finished l.target);
-      opened : target.opened l.target (record { name = l.table.name; columns = l.table.columns.items; rows = take l.row-index l.table.rows.items });
+      opened : target.opened l.target
+          (record { name = l.table.name; columns = l.table.columns.items; rows = take l.row-index l.table.rows.items });
       width : target.width l.target ≡ Some (length l.table.columns.items);
       later : target.faults l.fn.target ≤ target.faults l.target;
     }

@@ -1,13 +1,22 @@
-use Rattle.std.proofs.Common.{inr, subst}
+use Rattle.std.proofs.Common.{inl, inr, subst}
+use Rattle.dep_model.specs.Schemas.{LegalFor}
 use Rattle.dep_model.specs.Tuples.{Relation}
-use Rattle.desk_cli.specs.Legality.{Judged}
+use Rattle.desk_cli.specs.Legality.{OffenceStops}
 use Rattle.desk_cli.specs.Replies.{answer_of}
 use Rattle.desk_cli.proofs.check_rows.check_rows.Goals as goal
+
+pub returns-in-Err-test_rows-clause-reply : goal.returns-in-Err-test_rows-clause-reply
+returns-in-Err-test_rows-clause-reply g c = λ r shows reply is.
+    inr (
+      c.in-Ok.rows.items,
+      c.in-Ok.ensures.ok r shows.same,
+      inl (subst (λ (rows : Relation). OffenceStops c.args.schema.now rows (answer_of reply)) c.deref.ensures.value (c.in-Err-test_rows.ensures.stop reply is)),
+    )
 
 pub returns-clause-reply : goal.returns-clause-reply
 returns-clause-reply g c = λ r shows.
     inr (
       c.in-Ok.rows.items,
       c.in-Ok.ensures.ok r shows.same,
-      subst (λ (rows : Relation). Judged c.args.schema.now rows (answer_of c.in_ok-judged.field-0)) c.deref.ensures.value c.in_ok-judged.ensures.answer,
+      inr (subst (LegalFor c.args.schema.now) c.deref.ensures.value c.in-Ok-test_rows.ensures.ok, c.in_ok-legal.ensures.says),
     )

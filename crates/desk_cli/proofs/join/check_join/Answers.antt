@@ -1,21 +1,32 @@
-use Rattle.std.proofs.Common.{List, sym, subst}
+use Rattle.std.proofs.Common.{inl, inr, List, sym, subst}
+use Rattle.attr_sets.specs.declared.set.AttrSet.{AttrSet}
 use Rattle.decomp_text.specs.Plans.{plan_of}
 use Rattle.dep_model.specs.Plans.{schemes_of}
 use Rattle.dep_model.specs.Projections.{Covers}
 use Rattle.dep_model.specs.Schemas.{width_of}
-use Rattle.attr_sets.specs.declared.set.AttrSet.{AttrSet}
-use Rattle.desk_cli.specs.Joins.{JudgesJoin}
-use Rattle.desk_cli.specs.Plans.{PlanStops, IsPlanFile}
-use Rattle.desk_cli.specs.Replies.{RepliesAs}
-use Rattle.desk_cli.proofs.StepLemmas.{found}
+use Rattle.desk_cli.specs.Joins.{IsShownLossless, LossStops}
+use Rattle.desk_cli.specs.Replies.{answer_of}
 use Rattle.desk_cli.proofs.join.check_join.Goals as goal
 
-pub judge-requires-clause-covers : goal.judge-requires-clause-covers
-judge-requires-clause-covers g c = subst (λ (schemes : List AttrSet). Covers (width_of c.args.schema.now) (schemes_of schemes)) (sym c.schemes.ensures.schemes) c.in-Ok.ensures.covers
+pub test_loss-requires-clause-covers : goal.test_loss-requires-clause-covers
+test_loss-requires-clause-covers g c =
+    subst (λ (schemes : List AttrSet). Covers (width_of c.args.schema.now) (schemes_of schemes)) (sym c.schemes.ensures.schemes) c.in-Ok.ensures.covers
+
+pub returns-in-Err-test_loss-clause-reply : goal.returns-in-Err-test_loss-clause-reply
+returns-in-Err-test_loss-clause-reply g c = λ r shows reply is.
+    inr (
+      plan_of c.in-Ok.plan,
+      c.in-Ok.ensures.ok r shows.same,
+      inl (subst (λ (schemes : List AttrSet). LossStops c.args.schema.now (schemes_of schemes) (answer_of reply)) c.schemes.ensures.schemes (c.in-Err-test_loss.ensures.stop reply is)),
+    )
 
 pub returns-clause-reply : goal.returns-clause-reply
 returns-clause-reply g c = λ r shows.
-    let schema = c.args.schema.now in
-    let file = c.args.file.now in
-    let judged = subst (λ (schemes : List AttrSet). RepliesAs (JudgesJoin schema (schemes_of schemes)) c.judge.result) c.schemes.ensures.schemes c.judge.ensures.reply in
-    found (PlanStops r schema file) (IsPlanFile r schema file) (JudgesJoin schema) (plan_of c.in-Ok.plan) c.judge.result (c.in-Ok.ensures.ok r shows.same) judged
+    inr (
+      plan_of c.in-Ok.plan,
+      c.in-Ok.ensures.ok r shows.same,
+      inr (
+        subst (λ (schemes : List AttrSet). IsShownLossless c.args.schema.now (schemes_of schemes)) c.schemes.ensures.schemes c.in-Ok-test_loss.ensures.ok,
+        c.in_ok-lossless.ensures.says,
+      ),
+    )

@@ -8,7 +8,7 @@ use Rattle.dep_model.specs.declared.dep.Dep.{Dep}
 use Rattle.dep_model.specs.Implication.{Implies}
 use Rattle.dep_model.specs.Deps.{dependency_of, dependencies_of, IsDepWithin}
 use Rattle.min_cover.proofs.ThinningLemmas.{IsThinnedTo, AreOfAKind, restored, thinned_none, thinned_done, thinned_left_out, thinned_kept, kind_tried, kind_left_out, kind_kept}
-use Rattle.min_cover.proofs.thinning.needed_from.Goals.{then-not-is_implied+in_ok-push, else-not-is_implied}
+use Rattle.min_cover.proofs.thinning.needed_from.Goals.{then-not-implied+in_ok-push, else-not-implied}
 use Rattle.min_cover.proofs.thinning.needed_from.Goals as goal
 
 pub loop-k-init : goal.loop-k-init
@@ -22,17 +22,17 @@ loop-k-init c =
       thinned = thinned_none c.args.width c.args.others.items c.args.from;
     })
 
-pub is_implied-requires-clause-deps : goal.is_implied-requires-clause-deps
-is_implied-requires-clause-deps c =
+pub is_implied-implied-requires-clause-deps : goal.is_implied-implied-requires-clause-deps
+is_implied-implied-requires-clause-deps c =
     rw c.deref-in-loop-k.ensures.value (All-set (IsDepWithin (below c.args.width)) c.loop-k.others.items c.loop-k.k c.nothing.result (c.nothing.ensures.within c.args.width) c.loop-k.invariant.within)
 
-pub is_implied-requires-clause-within : goal.is_implied-requires-clause-within
-is_implied-requires-clause-within c =
+pub is_implied-implied-requires-clause-within : goal.is_implied-implied-requires-clause-within
+is_implied-implied-requires-clause-within c =
     let lt : c.loop-k.k < length c.loop-k.others.items = omega (arith, c.loop-k-test.true, c.len-k-end.ensures, c.loop-k.invariant.long, c.args.others.ok.0) in
     subst (λ (e : Dep). IsDepWithin (below c.args.width) e) (sym c.index-dep.ensures) (c.loop-k.invariant.within c.loop-k.k c.index-dep.result.now lt)
 
-pub is_implied-requires-clause-kind : goal.is_implied-requires-clause-kind
-is_implied-requires-clause-kind c is =
+pub is_implied-implied-requires-clause-kind : goal.is_implied-implied-requires-clause-kind
+is_implied-implied-requires-clause-kind c is =
     let lt : c.loop-k.k < length c.loop-k.others.items = omega (arith, c.loop-k-test.true, c.len-k-end.ensures, c.loop-k.invariant.long, c.args.others.ok.0) in
     rw c.deref-in-loop-k.ensures.value (kind_tried c.loop-k.others.items c.loop-k.k c.index-dep.result.now c.nothing.result c.index-dep.ensures lt c.nothing.ensures.functional c.loop-k.invariant.kinds is)
 
@@ -50,37 +50,37 @@ loop-k-preserved c =
     let without = set others k nothing in
     let lt : k < length others = omega (arith, c.loop-k-test.true, c.len-k-end.ensures, before.long, c.args.others.ok.0) in
     let one_in : IsDepWithin (below n) d = subst (λ (e : Dep). IsDepWithin (below n) e) (sym c.index-dep.ensures) (before.within k d lt) in
-    let tested : IsTrue c.is_implied.result ↔ Implies n (dependencies_of without) (dependency_of d) =
-    subst (λ (es : List Dep). IsTrue c.is_implied.result ↔ Implies n (dependencies_of es) (dependency_of d)) c.deref-in-loop-k.ensures.value c.is_implied.ensures.implied in
-    elim c.if-not-is_implied.branch [
-      | then-not-is_implied+in_ok-push w ↦
-          let after : c.if-not-is_implied.others.items ≡ set without k d = ap (λ v. v.items) w.others-is in
-          let same : c.if-not-is_implied.others.items ≡ others = after ∙ restored others k d nothing c.index-dep.ensures in
-          let pushed : c.if-not-is_implied.kept.items ≡ kept ++ d ∷ [] = ap (λ v. v.items) w.kept-is ∙ w.in_ok-push.ensures.items in
+    let tested : IsTrue c.is_implied-implied.result ↔ Implies n (dependencies_of without) (dependency_of d) =
+    subst (λ (es : List Dep). IsTrue c.is_implied-implied.result ↔ Implies n (dependencies_of es) (dependency_of d)) c.deref-in-loop-k.ensures.value c.is_implied-implied.ensures.implied in
+    elim c.if-not-implied.branch [
+      | then-not-implied+in_ok-push w ↦
+          let after : c.if-not-implied.others.items ≡ set without k d = ap (λ v. v.items) w.others-is in
+          let same : c.if-not-implied.others.items ≡ others = after ∙ restored others k d nothing c.index-dep.ensures in
+          let pushed : c.if-not-implied.kept.items ≡ kept ++ d ∷ [] = ap (λ v. v.items) w.kept-is ∙ w.in_ok-push.ensures.items in
           record {
             long = ap (λ (es : List Dep). length es) same ∙ before.long;
             kinds = subst (λ (es : List Dep). AreOfAKind es (k + 1)) (sym same) (kind_kept others k (k + 1) d refl lt before.kinds);
             within = subst (λ (es : List Dep). All (IsDepWithin (below n)) es) (sym same) before.within;
             kept_within = subst (λ (es : List Dep). All (IsDepWithin (below n)) es) (sym pushed) (All-push (IsDepWithin (below n)) kept d before.kept_within one_in);
             thinned =
-                subst (λ (es : List Dep). IsThinnedTo n first first_kept es c.if-not-is_implied.kept.items (k + 1)) (sym after)
+                subst (λ (es : List Dep). IsThinnedTo n first first_kept es c.if-not-implied.kept.items (k + 1)) (sym after)
                 (subst (λ (es : List Dep). IsThinnedTo n first first_kept (set without k d) es (k + 1)) (sym pushed)
                 (thinned_kept n first first_kept others kept k d nothing c.index-dep.ensures lt (c.nothing.ensures.obeyed n) before.thinned (k + 1) refl
-                (λ implied. false≢true (sym w.if-not-is_implied.true ∙ tested.1 implied))));
+                (λ implied. false≢true (sym w.if-not-implied.true ∙ tested.1 implied))));
           }
-      | else-not-is_implied w ↦
-          let after : c.if-not-is_implied.others.items ≡ without = ap (λ v. v.items) w.others-is in
-          let same_kept : c.if-not-is_implied.kept.items ≡ kept = ap (λ v. v.items) w.kept-is in
+      | else-not-implied w ↦
+          let after : c.if-not-implied.others.items ≡ without = ap (λ v. v.items) w.others-is in
+          let same_kept : c.if-not-implied.kept.items ≡ kept = ap (λ v. v.items) w.kept-is in
           record {
             long = ap (λ (es : List Dep). length es) after ∙ length-set others k nothing ∙ before.long;
             kinds = subst (λ (es : List Dep). AreOfAKind es (k + 1)) (sym after) (kind_left_out others k (k + 1) d nothing refl lt c.nothing.ensures.functional before.kinds);
             within = subst (λ (es : List Dep). All (IsDepWithin (below n)) es) (sym after) (All-set (IsDepWithin (below n)) others k nothing (c.nothing.ensures.within n) before.within);
             kept_within = subst (λ (es : List Dep). All (IsDepWithin (below n)) es) (sym same_kept) before.kept_within;
             thinned =
-                subst (λ (es : List Dep). IsThinnedTo n first first_kept es c.if-not-is_implied.kept.items (k + 1)) (sym after)
+                subst (λ (es : List Dep). IsThinnedTo n first first_kept es c.if-not-implied.kept.items (k + 1)) (sym after)
                 (subst (λ (es : List Dep). IsThinnedTo n first first_kept without es (k + 1)) (sym same_kept)
                 (thinned_left_out n first first_kept others kept k d nothing c.index-dep.ensures lt (c.nothing.ensures.obeyed n) before.thinned (k + 1) refl
-                (tested.0 w.if-not-is_implied.false)));
+                (tested.0 w.if-not-implied.false)));
           }
     ]
 

@@ -1,0 +1,209 @@
+-- The relation of the irreducible closed sets obeys exactly what is implied; it is legal, and of either type.
+use Rattle.std.proofs.Common.{◌≡◌, ℕ, ◌-◌, ◌^◌, ◌<◌, ◌≤◌, true, false, List, length, get_or, refl, sym, subst, ap, ◌∙◌, inl, inr, ⊎_elim, arith}
+use Rattle.std.specs.Prelude.{All}
+use Rattle.std.specs.Fmt.{decimal}
+use Rattle.std.specs.List.{list_all}
+use Rattle.std.specs.Char.{is_ascii_digit}
+use Rattle.std.specs.Str.Parse.{digits_value}
+use Rattle.std.proofs.lemmas.Bool.{true≢false, cases_eq, cases_Bool, ltb-true, lt-ltb}
+use Rattle.std.proofs.lemmas.Fmt.{decimal_injective, decimal_nonempty, first_decimal, digits_decimal, digits_value-decimal}
+use Rattle.std.proofs.lemmas.List.Elements.{Contains-get_or, filter_passes}
+use Rattle.std.proofs.lemmas.Option.{slice_get_within}
+use Rattle.std.proofs.lemmas.Str.Parse.{IsNumeralModel, IsDigitsTest, numerals_by_value}
+use borrow.Author.Rules.{rules}
+use Rattle.attr_sets.specs.Places.{Places, below, meet, Within}
+use Rattle.attr_sets.proofs.PlacesLemmas.{tell_within}
+use Rattle.dep_model.specs.declared.column.Column.TheVariants.{Integer}
+use Rattle.attr_sets.specs.Sets.{places}
+use Rattle.dep_model.specs.declared.schema.Schema.{Schema}
+use Rattle.dep_model.specs.Schemas.{width_of, theory_of, deps_of, LegalFor, TypedFor}
+use Rattle.dep_model.specs.Columns.{columns_on, IsTyped}
+use Rattle.dep_model.specs.Integers.{IsIntegerText}
+use Rattle.dep_model.specs.Tuples.{Tuple, Relation, value_at, AgreeOn, IsOver}
+use Rattle.dep_model.specs.Dependencies.{Dependency, fd, ObeysFd, is_fd, functional_part, left_of, right_of, IsWithin}
+use Rattle.dep_model.specs.Implication.{IsLegal, Implies}
+use Rattle.dep_model.specs.TwoTuples.{all_zeros}
+use Rattle.dep_model.proofs.ColumnLemmas.{length-columns_on}
+use Rattle.dep_model.proofs.DepLemmas.{dependencies_all-from}
+use Rattle.dep_model.proofs.ListLemmas.{Contains-head}
+use Rattle.dep_model.proofs.PreservationLemmas.{fd-obeys, fd-obeyed}
+use Rattle.dep_model.proofs.TwoTupleLemmas.{value_at-all_zeros}
+use Rattle.fd_closure.proofs.ClosureLemmas.{fd_each-to, fd_each-from}
+use Rattle.armstrong_rel.specs.ClosedSets.{IsClosedSet, AreIrreducible}
+use Rattle.armstrong_rel.specs.Exhibits.{numbered_tuple, numbered_from, tuples_for, IsArmstrong, IsExhibit}
+use Rattle.armstrong_rel.proofs.ClosedLemmas.{HaveClosures, functional_closures, closure_more, closure_holds, closure_closed, universe_closed, meet_closed, above_lacking}
+use Rattle.armstrong_rel.proofs.TupleLemmas.{value_inside, value_outside, decimal_zero, decimal_not_zero, set_of, set_of_zero, tuple_of_number, tuple_of_set, set_of_all, tuples_over}
+
+-- ---- two tuples with different numbers agree on the meet of their sets alone
+agree_inside : (n i j : ℕ) (x y : Places) (k : ℕ) → i < 2 ^ 64 → j < 2 ^ 64 → (i ≡ j → ⊥) → (i ≡ 0 → x k ≡ true)
+    → (j ≡ 0 → y k ≡ true) → k < n
+    → value_at (numbered_tuple n i x) k ≡ value_at (numbered_tuple n j y) k → meet x y k ≡ true
+agree_inside n i j x y k i_wide j_wide differ i_first j_first low same = ⊎_elim
+    (λ in_x. ⊎_elim
+    (λ in_y. grind (arith, in_x, in_y))
+    (λ out_y. absurd (decimal_not_zero j (some j j_first out_y) j_wide
+    (sym (value_outside n j y k low out_y) ∙ sym same ∙ value_inside n i x k low in_x)))
+    (cases_Bool (y k)))
+    (λ out_x. ⊎_elim
+    (λ in_y. absurd (decimal_not_zero i (some_x out_x) i_wide
+    (sym (value_outside n i x k low out_x) ∙ same ∙ value_inside n j y k low in_y)))
+    (λ out_y. absurd (differ (decimal_injective i j i_wide j_wide
+    (sym (value_outside n i x k low out_x) ∙ same ∙ value_outside n j y k low out_y))))
+    (cases_Bool (y k)))
+    (cases_Bool (x k))
+  where
+    some : (j : ℕ) → (j ≡ 0 → y k ≡ true) → y k ≡ false → 0 < j
+    some j first outside = elim (cases_eq j 0)
+        [ inl none ↦ absurd (true≢false (sym (first none) ∙ outside)) | inr more ↦ omega arith ]
+
+    some_x : x k ≡ false → 0 < i
+    some_x outside = elim (cases_eq i 0)
+        [ inl none ↦ absurd (true≢false (sym (i_first none) ∙ outside)) | inr more ↦ omega arith ]
+
+module _ (n : ℕ) (ds : List Dependency) (sets : List Places) (few : length sets < 2 ^ 64 - 1)
+    (are : AreIrreducible n ds sets) where
+  closed_at : (j : ℕ) → j ≤ length sets → IsClosedSet n ds (set_of n sets j)
+  closed_at j low = set_of_all n sets (IsClosedSet n ds) (universe_closed n ds) (λ i d l. (are.each i d l).closed) j low
+
+  universe_first : (j k : ℕ) → k < n → j ≡ 0 → set_of n sets j k ≡ true
+  universe_first j k low first = ap (λ (i : ℕ). set_of n sets i k) first
+      ∙ ap (λ (x : Places). x k) (set_of_zero n sets) ∙ lt-ltb k n low
+
+  -- what is implied is obeyed
+  pub implied_obeyed : (x y : Places) → Within x (below n) → Within y (below n) → Implies n ds (fd x y)
+      → ObeysFd x y (tuples_for n sets)
+  implied_obeyed x y x_in y_in implied t u t_in u_in agree k member =
+      let one = tuple_of_number n sets t t_in in
+      let other = tuple_of_number n sets u u_in in
+      let i = one.0 in
+      let j = other.0 in
+      let c = set_of n sets i in
+      let d = set_of n sets j in
+      let low : k < n = ltb-true k n (y_in k member) in
+      elim (cases_eq i j) [
+        | inl same ↦ ap (λ (v : Tuple). value_at v k)
+            (one.2 ∙ ap (λ (m : ℕ). numbered_tuple n m (set_of n sets m)) same ∙ sym other.2)
+        | inr differ ↦
+            let inside : Within x (meet c d) = λ (a : ℕ) m.
+            let a_low : a < n = ltb-true a n (x_in a m) in
+            agree_inside n i j c d a (omega (arith, one.1, few)) (omega (arith, other.1, few)) differ
+            (universe_first i a a_low) (universe_first j a a_low) a_low
+            (ap (λ (v : Tuple). value_at v a) (sym one.2) ∙ agree a m ∙ ap (λ (v : Tuple). value_at v a) other.2) in
+            let both : meet c d k ≡ true =
+            (meet_closed n ds c d (closed_at i one.1) (closed_at j other.1)).closed k
+            (closure_more n ds x (meet c d) k inside (low, fd_each-to n ds x y implied k member)) in
+            ap (λ (v : Tuple). value_at v k) one.2 ∙ value_inside n i c k low (grind (arith, both))
+            ∙ sym (ap (λ (v : Tuple). value_at v k) other.2 ∙ value_inside n j d k low (grind (arith, both)))
+      ]
+
+  -- and what is obeyed is implied
+  pub obeyed_implied : HaveClosures n ds → (x y : Places) → Within x (below n) → Within y (below n)
+      → ObeysFd x y (tuples_for n sets) → Implies n ds (fd x y)
+  obeyed_implied closures x y x_in y_in obeys =
+      let found = closures x x_in in
+      let c = found.0 in
+      ⊎_elim
+      (λ beyond.
+      let k = beyond.0 in
+      let above = above_lacking n ds closures c k (closure_closed n ds x c found.1) beyond.1 beyond.3 in
+      let m = above.0 in
+      let listed = are.all m above.1 in
+      let s = listed.1 in
+      let tuple = tuple_of_set n sets s (listed.0, listed.2, listed.3) in
+      let t = numbered_tuple n tuple.0 s in
+      let agree : AgreeOn x (all_zeros n) t = λ (a : ℕ) h.
+      let a_low : a < n = ltb-true a n (x_in a h) in
+      let a_in : s a ≡ true = listed.4 a ∙ above.2 a (closure_holds n ds x c x_in found.1 a h) in
+      value_at-all_zeros n a a_low ∙ sym (value_inside n tuple.0 s a a_low a_in) in
+      let same = obeys (all_zeros n) t
+      (Contains-head (all_zeros n) (numbered_from n 1 sets)) tuple.3 agree k beyond.2 in
+      absurd (decimal_not_zero tuple.0 tuple.1 (omega (arith, tuple.2, few))
+      (sym (value_outside n tuple.0 s k beyond.1 (listed.4 k ∙ above.3)) ∙ sym same ∙ value_at-all_zeros n k beyond.1)))
+      (λ all. fd_each-from n ds x y (λ (a : ℕ) m. ((found.1 a).0 (all a m)).1))
+      (tell_within n y c y_in)
+
+pub exact : (n : ℕ) (ds : List Dependency) (sets : List Places) → All (IsWithin (below n)) ds → functional_part ds
+    ≡ ds → AreIrreducible n ds sets → length sets < 2 ^ 64 - 1
+    → IsArmstrong n ds (tuples_for n sets)
+exact n ds sets within same are few x y x_in y_in = (
+  obeyed_implied n ds sets few are (functional_closures n ds within same) x y x_in y_in,
+  implied_obeyed n ds sets few are x y x_in y_in,
+)
+
+-- ---- so the relation is legal
+all_functional : (ds : List Dependency) → functional_part ds ≡ ds → All (λ d. is_fd d ≡ true) ds
+all_functional ds same = subst (λ (es : List Dependency). All (λ d. is_fd d ≡ true) es) same (filter_passes is_fd ds)
+
+pub armstrong_legal : (n : ℕ) (ds : List Dependency) (r : Relation) → All (IsWithin (below n)) ds → functional_part ds
+    ≡ ds → IsOver n r → IsArmstrong n ds r → IsLegal n ds r
+armstrong_legal n ds r within same over armstrong = record {
+  over = over;
+  obeys = λ k d l.
+      let e : Dependency = get_or ds k d in
+      let is : is_fd e ≡ true = all_functional ds same k d l in
+      let inside = within k d l in
+      fd-obeys n e r is ((armstrong (left_of e) (right_of e) inside.0 inside.1).1
+      (λ s legal. fd-obeyed n e s is (legal.obeys k d l)));
+}
+
+-- ---- and its values are integer texts
+digits_told : IsDigitsTest (λ ds. list_all is_ascii_digit ds ≡ true)
+digits_told = search rules
+
+own : IsNumeralModel (λ ds. list_all is_ascii_digit ds ≡ true) (digits_value 10)
+own = numerals_by_value (λ ds. list_all is_ascii_digit ds ≡ true) digits_told
+
+decimal_integer : (v : ℕ) → v < 2 ^ 63 → IsIntegerText (decimal v)
+decimal_integer v few = elim (cases_eq v 0) [
+  | inl none ↦ inl (ap decimal none ∙ decimal_zero)
+  | inr some ↦
+      let wide : v < 2 ^ 64 = omega (arith, few) in
+      let first : 48 < get_or (decimal v) 0 0 = first_decimal v (omega (arith, some)) wide in
+      let value : digits_value 10 (decimal v) ≡ v = digits_value-decimal own v wide in
+      inr (inl (record {
+        some = decimal_nonempty v wide;
+        first = λ (e : get_or (decimal v) 0 0 ≡ 48). absurd (omega (arith, e, first));
+        digits = digits_decimal own v wide;
+        value = omega (arith, value, few);
+      }))
+]
+
+pub tuples_typed : (n : ℕ) (integers : Places) (sets : List Places) → length sets < 2 ^ 63
+    → IsTyped (columns_on n integers) (tuples_for n sets)
+tuples_typed n integers sets few i d l k is_integer =
+    let low : k < n = omega (
+      arith,
+      slice_get_within
+          (columns_on n integers) k Integer is_integer,
+      length-columns_on n integers,
+    ) in
+    let t : Tuple = get_or (tuples_for n sets) i d in
+    let found = tuple_of_number n sets t (Contains-get_or (tuples_for n sets) i d l) in
+    let j = found.0 in
+    let x = set_of n sets j in
+    subst (λ (u : Tuple). IsIntegerText (value_at u k)) (sym found.2)
+    (⊎_elim
+    (λ inside. subst IsIntegerText (sym (value_inside n j x k low inside)) (inl refl))
+    (λ outside. subst IsIntegerText (sym (value_outside n j x k low outside))
+    (decimal_integer j (omega (arith, found.1, few))))
+    (cases_Bool (x k)))
+
+-- ---- what is shown of a schema of functional dependencies
+pub record IsShown (s : Schema) (r : Relation) : Type 0 where
+  pub exhibit : IsExhibit (width_of s) (theory_of s) r
+  pub armstrong : IsArmstrong (width_of s) (theory_of s) r
+  pub legal : LegalFor s r
+  pub typed : TypedFor s r
+
+pub shown : (s : Schema) (sets : List Places) → functional_part (theory_of s) ≡ theory_of s
+    → AreIrreducible (width_of s) (theory_of s) sets → length sets < 2 ^ 63 → IsShown s (tuples_for (width_of s) sets)
+shown s sets same are few =
+    let within = dependencies_all-from (IsWithin (below (width_of s))) (deps_of s) s.valid.deps_within in
+    let armstrong = exact (width_of s) (theory_of s) sets within same are (omega (arith, few)) in
+    record {
+      exhibit = record { sets = sets; irreducible = are; tuples = refl };
+      armstrong = armstrong;
+      legal = armstrong_legal (width_of s) (theory_of s) (tuples_for (width_of s) sets) within same
+          (tuples_over (width_of s) sets) armstrong;
+      typed = tuples_typed (width_of s) (places s.integers) sets few;
+    }

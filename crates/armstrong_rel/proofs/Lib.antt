@@ -1,0 +1,8 @@
+pub mod KindLemmas
+pub mod NumberLemmas
+pub mod ClosedLemmas
+pub mod MeetLemmas
+pub mod FoundLemmas
+pub mod TupleLemmas
+pub mod ExactLemmas
+pub mod OneExhibit

@@ -1,0 +1,4 @@
+pub mod ClosedSets
+pub mod Exhibits
+pub mod Closures
+pub mod Refusals

@@ -1,0 +1,20 @@
+//! Example relations: for a schema of functional dependencies a relation in which each dependency
+//! that does not follow is seen broken (Armstrong 1974; Beeri, Dowd, Fagin and Statman 1984).
+//!
+//! `exhibit` gives the relation of the irreducible closed sets. For all sets of attributes it obeys
+//! `X -> Y` exactly where the schema implies it; so it is legal. `laws` has the theorems.
+#![tactic(auto)]
+
+mod closures;
+mod exhibiting;
+mod irreducible;
+mod kinds;
+pub mod laws;
+mod refusal;
+mod rows;
+
+pub use exhibiting::exhibit;
+pub use refusal::{ExhibitRefusal, WIDEST_EXHIBITED};
+
+#[cfg(test)]
+mod tests;

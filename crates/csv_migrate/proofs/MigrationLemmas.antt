@@ -1,0 +1,128 @@
+-- The tables of schemes one after the other, and their join.
+use Rattle.std.proofs.Common.{◌≡◌, ◌+◌, ◌<◌, ◌≤◌, ℕ, List, [], ◌∷◌, ◌++◌, length, get_or, take, sym, ap, subst, ◌∙◌, arith, add-one}
+use Rattle.std.specs.Prelude.{Contains}
+use Rattle.std.specs.List.{AllZip}
+use Rattle.std.proofs.lemmas.List.{length-map, length-take-le, map-append, take_all}
+use Rattle.std.proofs.Math.ListN.{get_or-map}
+use Rattle.std.proofs.Math.Seq.{take-suc}
+use Rattle.attr_sets.specs.Places.{Places}
+use Rattle.attr_sets.specs.Sets.{places}
+use Rattle.attr_sets.specs.declared.set.AttrSet.{AttrSet}
+use Rattle.dep_model.specs.Tuples.{Tuple, Relation}
+use Rattle.dep_model.specs.Dependencies.{Dependency}
+use Rattle.dep_model.specs.Implication.{IsLegal}
+use Rattle.dep_model.specs.Plans.{schemes_of}
+use Rattle.dep_model.specs.Projections.{project_tuple, projections, IsLossless}
+use Rattle.dep_model.specs.declared.schema.Schema.{Schema}
+use Rattle.dep_model.proofs.DistinctLemmas.{ordered_projection-same}
+use Rattle.dep_model.proofs.JoinLemmas.{tuple_in_join}
+use Rattle.targets.specs.Tables.{TableValue}
+use Rattle.csv_migrate.specs.declared.table.Table.{Table}
+use Rattle.csv_migrate.specs.Tables.{table_value, values_of}
+use Rattle.csv_migrate.specs.Migration.{table_of, tables_from, migrated, schemes_in, relations_of, JoinIs}
+
+-- one scheme more
+tables_more : (schema : Schema) (rows : Relation) (number : ℕ) (plan : List Places) (scheme : Places)
+    → tables_from schema rows number (plan ++ scheme ∷ [])
+    ≡ tables_from schema rows number plan ++ table_of schema rows (number + length plan) scheme ∷ []
+tables_more schema rows number [] scheme = ap (λ (k : ℕ). table_of schema rows k scheme ∷ []) at
+  where
+    at : number ≡ number + 0
+    at = omega arith
+tables_more schema rows number (first ∷ plan) scheme =
+    let at : (number + 1) + length plan ≡ number + length (first ∷ plan) = omega arith in
+    ap (λ (l : List TableValue). table_of schema rows number first ∷ l)
+    (tables_more schema rows (number + 1) plan scheme)
+    ∙ ap (λ (k : ℕ). table_of schema rows number first ∷ (tables_from schema rows
+    (number + 1) plan ++ table_of schema rows k scheme ∷ [])) at
+
+-- the table of the next scheme
+pub next_table : (schema : Schema) (rows : Relation) (sets : List AttrSet) (k : ℕ) (d : AttrSet) → k < length sets
+    → migrated schema (take (k + 1) (schemes_of sets)) rows
+    ≡ migrated schema (take k (schemes_of sets)) rows ++ table_of schema rows (k + 1) (places (get_or sets k d)) ∷ []
+next_table schema rows sets k d l =
+    let low : k < length (schemes_of sets) = omega (arith, l, length-map sets places) in
+    let more : take (k + 1) (schemes_of sets) ≡ take k (schemes_of sets) ++ places (get_or sets k d) ∷ [] =
+    rw add-one
+    (take-suc (schemes_of sets) k (places d) low
+    ∙ ap (λ (s : Places). take k (schemes_of sets) ++ s ∷ []) (get_or-map places sets k d)) in
+    let at : 1 + length (take k (schemes_of sets)) ≡ k + 1 =
+    omega (arith, length-take-le k (schemes_of sets) (omega (arith, low))) in
+    ap (λ (plan : List Places). migrated schema plan rows) more
+    ∙ tables_more schema rows 1 (take k (schemes_of sets)) (places (get_or sets k d))
+    ∙ ap (λ (n : ℕ). migrated schema (take k (schemes_of sets)) rows ++ table_of schema rows n
+    (places (get_or sets k d)) ∷ []) at
+
+pub same_table : (name name' : List ℕ) (columns columns' : List (List ℕ)) (rows rows' : Relation) → name ≡ name'
+    → columns ≡ columns' → rows ≡ rows'
+    → ◌≡◌ {A = TableValue} (record { name = name; columns = columns; rows = rows })
+    (record { name = name'; columns = columns'; rows = rows' })
+same_table name name' columns columns' rows rows' e f g = cc
+
+-- one table more, of the next scheme
+pub table_added : (schema : Schema) (rows : Relation) (sets shown : List AttrSet) (k : ℕ) (d : AttrSet)
+    (old new : List Table) (made : Table) → shown ≡ sets → k < length shown
+    → values_of old ≡ migrated schema (take k (schemes_of sets)) rows → new ≡ old ++ made ∷ []
+    → table_value made ≡ table_of schema rows (k + 1) (places (get_or shown k d))
+    → values_of new ≡ migrated schema (take (k + 1) (schemes_of sets)) rows
+table_added schema rows sets shown k d old new made same low so_far pushed is =
+    let l : k < length sets = subst (λ (xs : List AttrSet). k < length xs) same low in
+    ap values_of pushed ∙ map-append table_value old (made ∷ [])
+    ∙ ap (λ (ts : List TableValue). ts ++ table_value made ∷ []) so_far
+    ∙ ap (λ (t : TableValue). migrated schema (take k (schemes_of sets)) rows ++ t ∷ [])
+    (is ∙ ap (λ (xs : List AttrSet). table_of schema rows (k + 1) (places (get_or xs k d))) same)
+    ∙ sym (next_table schema rows sets k d l)
+
+pub scheme_added : (sets shown : List AttrSet) (k : ℕ) (d : AttrSet) (old new : List Table) (made : Table)
+    → shown ≡ sets → k < length shown
+    → schemes_in old ≡ take k sets → new ≡ old ++ made ∷ [] → made.scheme ≡ get_or shown k d
+    → schemes_in new ≡ take (k + 1) sets
+scheme_added sets shown k d old new made same low so_far pushed is =
+    let l : k < length sets = subst (λ (xs : List AttrSet). k < length xs) same low in
+    let more : take (k + 1) sets ≡ take k sets ++ get_or sets k d ∷ [] = rw add-one (take-suc sets k d l) in
+    ap schemes_in pushed ∙ map-append (λ (t : Table). t.scheme) old (made ∷ [])
+    ∙ ap (λ (xs : List AttrSet). xs ++ made.scheme ∷ []) so_far
+    ∙ ap (λ (s : AttrSet). take k sets ++ s ∷ []) (is ∙ ap (λ (xs : List AttrSet). get_or xs k d) same) ∙ sym more
+
+pub all_tables : (schema : Schema) (rows : Relation) (sets shown : List AttrSet) (k : ℕ) (made : List Table)
+    → shown ≡ sets → length shown ≤ k
+    → values_of made ≡ migrated schema (take k (schemes_of sets)) rows
+    → values_of made ≡ migrated schema (schemes_of sets) rows
+all_tables schema rows sets shown k made same whole so_far =
+    let long : length (schemes_of sets) ≤ k = omega (arith, whole, ap length same, length-map sets places) in
+    so_far ∙ ap (λ (plan : List Places). migrated schema plan rows) (take_all k (schemes_of sets) long)
+
+-- ---- the join of the tables
+abbrev IsIn : Tuple → Places → Relation → Type 0
+IsIn t scheme table = Contains table (project_tuple scheme t)
+
+in_projections : (schema : Schema) (rows : Relation) (number : ℕ) (plan : List Places) (t : Tuple)
+    → AllZip (λ (scheme : Places) (table : Relation). IsIn t scheme table) plan
+    (relations_of (tables_from schema rows number plan))
+    → AllZip (λ (scheme : Places) (table : Relation). IsIn t scheme table) plan (projections plan rows)
+in_projections schema rows number [] t each = tt
+in_projections schema rows number (scheme ∷ plan) t each = (
+  (ordered_projection-same scheme rows (project_tuple scheme t)).1 each.0,
+  in_projections schema rows (number + 1) plan t each.1,
+)
+
+in_tables : (schema : Schema) (rows : Relation) (number : ℕ) (plan : List Places) (t : Tuple)
+    → AllZip (λ (scheme : Places) (table : Relation). IsIn t scheme table) plan (projections plan rows)
+    → AllZip (λ (scheme : Places) (table : Relation). IsIn t scheme table) plan
+    (relations_of (tables_from schema rows number plan))
+in_tables schema rows number [] t each = tt
+in_tables schema rows number (scheme ∷ plan) t each = (
+  (ordered_projection-same scheme rows (project_tuple scheme t)).0 each.0,
+  in_tables schema rows (number + 1) plan t each.1,
+)
+
+-- the join of the tables of legal rows on a lossless plan is exactly the rows
+pub join_is_rows : (schema : Schema) (n : ℕ) (ds : List Dependency) (plan : List Places) (rows : Relation)
+    → IsLegal n ds rows → IsLossless n ds plan → JoinIs n plan (migrated schema plan rows) rows
+join_is_rows schema n ds plan rows legal lossless t = (
+  (λ joined. lossless.gains_none rows legal t
+      (record { over = joined.over; in_each = in_projections schema rows 1 plan t joined.in_each })),
+  (λ member.
+      let joined = tuple_in_join n plan rows t legal.over member in
+      record { over = joined.over; in_each = in_tables schema rows 1 plan t joined.in_each }),
+)

@@ -1,0 +1,47 @@
+-- The tables of a migration, and their join.
+use Rattle.std.specs.Prelude.{ℕ, ◌+◌, ◌↔◌, List, [], ◌∷◌, map, Contains}
+use Rattle.attr_sets.specs.Places.{Places}
+use Rattle.attr_sets.specs.declared.set.AttrSet.{AttrSet}
+use Rattle.dep_model.specs.Tuples.{Tuple, Relation}
+use Rattle.dep_model.specs.Projections.{ordered_projection, InJoin}
+use Rattle.dep_model.specs.Schemas.{names_of}
+use Rattle.dep_model.specs.declared.schema.Schema.{Schema}
+use Rattle.schema_grammar.specs.Printing.{members_from}
+use Rattle.table_names.specs.TableNames.{table_name}
+use Rattle.targets.specs.Tables.{TableValue}
+use Rattle.csv_migrate.specs.declared.table.Table.{Table}
+
+-- the names of the attributes of a scheme, ascending
+abbrev pub column_names : Schema → Places → List (List ℕ)
+column_names schema scheme = members_from scheme 0 (names_of schema)
+
+-- the table of a scheme: its attributes are the columns, and each distinct projection of the rows
+-- stands in it once, at its first occurrence
+abbrev pub table_of : Schema → Relation → ℕ → Places → TableValue
+table_of schema rows number scheme = record {
+  name = table_name number;
+  columns = column_names schema scheme;
+  rows = ordered_projection scheme rows;
+}
+
+-- the tables of schemes, in order, numbered from this number on
+abbrev pub tables_from : Schema → Relation → ℕ → List Places → List TableValue
+tables_from schema rows number [] = []
+tables_from schema rows number (scheme ∷ schemes) =
+    table_of schema rows number scheme ∷ tables_from schema rows (number + 1) schemes
+
+-- the tables of a migration: one of each scheme of the plan, in order, named `t1`, `t2` and so on
+abbrev pub migrated : Schema → List Places → Relation → List TableValue
+migrated schema plan rows = tables_from schema rows 1 plan
+
+-- the schemes of tables
+abbrev pub schemes_in : List Table → List AttrSet
+schemes_in tables = map (λ table. table.scheme) tables
+
+-- the rows of each table
+abbrev pub relations_of : List TableValue → List Relation
+relations_of tables = map (λ table. table.rows) tables
+
+-- a tuple is in the natural join of tables over the schemes of a plan exactly where it is in a relation
+abbrev pub JoinIs : ℕ → List Places → List TableValue → Relation → Type 0
+JoinIs n plan tables r = (t : Tuple) → InJoin n plan (relations_of tables) t ↔ Contains r t

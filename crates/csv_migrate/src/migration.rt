@@ -1,0 +1,89 @@
+ghost use Rattle.std.specs.Prelude.{◌≡◌, ◌<◌, ◌≤◌, ◌^◌, length, IfOk};
+ghost use Rattle.attr_sets.specs.Places.{Within, below};
+ghost use Rattle.attr_sets.specs.Sets.{places};
+ghost use Rattle.csv_migrate.specs.Migration.{JoinIs, column_names, migrated, schemes_in, table_of};
+ghost use Rattle.csv_migrate.specs.Tables.{table_value, values_of};
+ghost use Rattle.csv_rows.specs.Interning.{IsInterned};
+ghost use Rattle.decomp_text.specs.Plans.{IsPlanOver, plan_of, sets_of};
+ghost use Rattle.dep_model.specs.Projections.{IsLossless};
+ghost use Rattle.dep_model.specs.Schemas.{LegalFor, theory_of, width_of};
+ghost use Rattle.dep_model.specs.Tuples.{IsOver};
+
+use crate::projecting::projected;
+use crate::table::Table;
+use attr_sets::AttrSet;
+use csv_rows::{Groups, Interned};
+use decomp_text::Plan;
+use dep_model::{Name, Row, Schema, WantMemory};
+use std::alloc::Global;
+use table_names::{MOST_TABLES, table_name};
+
+/// For each scheme of a plan, in order, the table of the distinct projections of the rows on it, each at
+/// the place of its first occurrence. The tables are named `t1`, `t2` and so on; the columns of a table
+/// are the attributes of its scheme, ascending. If the rows are legal and the plan is lossless, the
+/// natural join of the tables is exactly the rows.
+pub fn tables(
+    alloc: Global,
+    schema: &Schema,
+    plan: &Plan,
+    rows: &[Row],
+) -> Result<Vec<Table>, WantMemory>
+    requires over { IsOver (width_of schema.now) rows.now }
+    requires few_rows { length rows.now < 2 ^ 32 }
+    requires universe { IsPlanOver schema.now plan.now }
+    requires few_schemes { length (sets_of plan.now) ≤ MOST_TABLES }
+    ensures tables { IfOk result (λ v. values_of v.items ≡ migrated schema.now (plan_of plan.now) rows.now) }
+    ensures schemes { IfOk result (λ v. schemes_in v.items ≡ sets_of plan.now) }
+    ensures joins { LegalFor schema.now rows.now
+        → IsLossless (width_of schema.now) (theory_of schema.now) (plan_of plan.now)
+        → IfOk result (λ v. JoinIs (width_of schema.now) (plan_of plan.now) (values_of v.items) rows.now) }
+{
+    let codes = Interned::intern(alloc, schema.width(), rows)?;
+    let schemes = plan.schemes();
+    let mut tables = Vec::with_capacity(alloc, schemes.len())?;
+    for k in 0..schemes.len() {
+        let table = table(alloc, schema, rows, &codes, k as u32 + 1, schemes[k])?;
+        tables.push(table)?;
+    }
+    Ok(tables)
+}
+
+// The table of this number, on a scheme.
+fn table(
+    alloc: Global,
+    schema: &Schema,
+    rows: &[Row],
+    codes: &Interned,
+    number: u32,
+    scheme: AttrSet,
+) -> Result<Table, WantMemory>
+    requires over { IsOver (width_of schema.now) rows.now }
+    requires codes { IsInterned (width_of schema.now) rows.now codes.now }
+    requires scheme { Within (places scheme) (below (width_of schema.now)) }
+    ensures value { IfOk result (λ t. table_value t ≡ table_of schema.now rows.now number (places scheme)) }
+    ensures scheme { IfOk result (λ t. t.scheme ≡ scheme) }
+{
+    let groups = Groups::of(alloc, codes, scheme)?;
+    let columns = columns(alloc, schema, scheme)?;
+    let rows = projected(alloc, scheme, rows, groups.firsts())?;
+    Ok(Table {
+        name: table_name(number),
+        scheme,
+        columns,
+        rows,
+    })
+}
+
+// The names of the attributes of a scheme.
+#[tactic(auto, using(crate::proofs::ProjectionLemmas::name_steps))]
+fn columns(alloc: Global, schema: &Schema, scheme: AttrSet) -> Result<Vec<Name>, WantMemory>
+    ensures names { IfOk result (λ v. v.items ≡ column_names schema.now (places scheme)) }
+{
+    let mut names = Vec::with_capacity(alloc, scheme.len() as usize)?;
+    for place in 0..schema.width() {
+        if scheme.has(place) {
+            names.push(*schema.name(place))?;
+        }
+    }
+    Ok(names)
+}

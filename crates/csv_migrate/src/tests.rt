@@ -1,0 +1,97 @@
+use crate::{Table, tables};
+use csv_rows::read_rows;
+use decomp_text::read_plan;
+use dep_model::WantMemory;
+use schema_reader::read_schema;
+use std::alloc::Global;
+use std::test::Fail;
+
+const TIMETABLE: &str =
+    "attributes COURSE TEACHER HOUR ROOM STUDENT GRADE\nCOURSE -> TEACHER\nHOUR ROOM -> COURSE\nHOUR TEACHER -> ROOM\nCOURSE STUDENT -> GRADE\nHOUR STUDENT -> ROOM\nCOURSE ->> HOUR ROOM\n";
+
+const ADDRESS: &str = "attributes CITY STREET ZIP\nCITY STREET -> ZIP\nZIP -> CITY\n";
+
+// A table on one line: its name, its columns, and each row behind a bar.
+fn line_of(alloc: Global, table: &Table) -> Result<Vec<u8>, WantMemory> {
+    let mut line = Vec::new(alloc);
+    line.extend_from_slice(table.name.bytes())?;
+    for column in &table.columns {
+        line.push(b' ')?;
+        line.extend_from_slice(column.bytes())?;
+    }
+    for row in &table.rows {
+        line.push(b'|')?;
+        for i in 0..row.len() {
+            line.push(b'<')?;
+            line.extend_from_slice(row.value(i).bytes())?;
+        }
+    }
+    Ok(line)
+}
+
+#[test]
+fn tables_of_rows(rt: HostRuntime) -> Result<(), Fail> {
+    let alloc = rt.alloc();
+    let cases: [(&str, &str, &str, &[&str]); 6] = [
+        (
+            TIMETABLE,
+            "scheme COURSE TEACHER\nscheme COURSE HOUR ROOM\nscheme COURSE STUDENT GRADE\n",
+            "COURSE,TEACHER,HOUR,ROOM,STUDENT,GRADE\ndb,Ada,mon,r1,Max,1\ndb,Ada,wed,r2,Max,1\ndb,Ada,mon,r1,Eva,2\ndb,Ada,wed,r2,Eva,2\nos,Bo,tue,r1,Max,2\n",
+            &[
+                "t1 COURSE TEACHER|<db<Ada|<os<Bo",
+                "t2 COURSE HOUR ROOM|<db<mon<r1|<db<wed<r2|<os<tue<r1",
+                "t3 COURSE STUDENT GRADE|<db<Max<1|<db<Eva<2|<os<Max<2",
+            ],
+        ),
+        (
+            ADDRESS,
+            "scheme CITY ZIP\nscheme STREET ZIP\n",
+            "ZIP,CITY,STREET\n53111,\"Bonn, West\",Markt\n53111,\"Bonn, West\",Markt\n53115,Bonn,Allee\n53111,\"Bonn, West\",Hof\n",
+            &[
+                "t1 CITY ZIP|<Bonn, West<53111|<Bonn<53115",
+                "t2 STREET ZIP|<Markt<53111|<Allee<53115|<Hof<53111",
+            ],
+        ),
+        (
+            ADDRESS,
+            "scheme CITY ZIP\nscheme STREET ZIP\n",
+            "ZIP,CITY,STREET\n",
+            &["t1 CITY ZIP", "t2 STREET ZIP"],
+        ),
+        ("attributes A\n", "scheme A\n", "A\n\"\"\n\n", &["t1 A|<"]),
+        (
+            "attributes A B\n",
+            "scheme B A\nscheme B\nscheme A\nscheme B\n",
+            "b,A\nx,\n,x\nx,\nxx,\n,xx\n",
+            &[
+                "t1 A B|<<x|<x<|<<xx|<xx<",
+                "t2 B|<x|<|<xx",
+                "t3 A|<|<x|<xx",
+                "t4 B|<x|<|<xx",
+            ],
+        ),
+        (
+            "attributes A B\nA -> B\n",
+            "scheme A\nscheme B\n",
+            "A,B\n1,2\n2,1\n1,1\n2,2\n",
+            &["t1 A|<1|<2", "t2 B|<2|<1"],
+        ),
+    ];
+    for (schema, plan, text, want) in cases {
+        let schema = read_schema(alloc, schema.as_bytes()).expect(&rt, "a schema");
+        let plan = read_plan(alloc, &schema, plan.as_bytes()).expect(&rt, "a plan");
+        let rows = read_rows(alloc, &schema, text.as_bytes()).expect(&rt, "rows");
+        assert!(rt; rows.len() < 10);
+        assert!(rt; plan.schemes().len() < 10);
+        let made = tables(alloc, &schema, &plan, &rows)?;
+        assert_eq!(rt; made.len(), want.len());
+        for (table, want) in made.iter().zip(want.iter()) {
+            let line = line_of(alloc, table)?;
+            assert_eq!(rt; line.as_slice(), want.as_bytes());
+        }
+        for (table, scheme) in made.iter().zip(plan.schemes().iter()) {
+            assert_eq!(rt; table.scheme, *scheme);
+        }
+    }
+    Ok(())
+}

@@ -1,0 +1,247 @@
+-- Printed rows: the records of the printed text, the columns of its header, and the rows.
+use Rattle.std.proofs.Common.{inl, inr, ◌≡◌, ◌≢◌, ◌+◌, ◌<◌, ◌≤◌, ◌==◌, ◌&&◌, ◌||◌, ℕ, zero, suc, Bool, true, false, if◌then◌else◌, nat_lt, nat_eq, List, [], ◌∷◌, ◌++◌, length, map, Option, Some, None, Result, Ok, Err, IsTrue, slice_index_or, get_or, refl, sym, ap, subst, ◌∙◌, arith}
+use Rattle.std.specs.Prelude.{All, AllPairs}
+use Rattle.std.specs.List.{slice_get, position_or_len, range_with_len, flat_map, list_any}
+use Rattle.std.specs.Char.{is_ascii_alphabetic}
+use Rattle.std.proofs.Math.ListN.{get_or-map}
+use Rattle.std.proofs.lemmas.Bool.{false≢true}
+use Rattle.std.proofs.lemmas.Bool.Decides.{nat_tests}
+use Rattle.std.proofs.lemmas.List.{append_assoc, append-nil, length-append, length-map, ext_get_or}
+use Rattle.std.proofs.lemmas.List.FromFn.{length-range_with_len, get_or-range_with_len}
+use Rattle.std.proofs.lemmas.List.Sums.{position_or_len_is}
+use Rattle.std.proofs.lemmas.Option.{slice_get_within}
+use Rattle.attr_sets.specs.Places.{Places, Within, Same, below, only, union}
+use Rattle.attr_sets.specs.Sets.{places}
+use Rattle.csv.specs.Machine.{next_record}
+use Rattle.csv.specs.Reading.{records_from, default_config, strip_bom}
+use Rattle.csv.specs.Writing.{default_writer, row_text, row_body, field_text, fields_text, is_blank, needs_byte, read_back}
+use Rattle.csv.specs.declared.parser.State.TheVariants as st
+use Rattle.csv.proofs.RoundTrip.{read-write}
+use Rattle.dep_model.specs.Integers.{IsIntegerText}
+use Rattle.dep_model.specs.Names.{is_name, same_name}
+use Rattle.dep_model.specs.Projections.{members_below}
+use Rattle.dep_model.specs.Schemas.{names_of, width_of, place_named, columns_of as types_of, TypedFor}
+use Rattle.dep_model.specs.Tuples.{Tuple, Relation, IsOver, value_at}
+use Rattle.dep_model.specs.declared.column.Column.TheVariants.{Integer}
+use Rattle.dep_model.specs.declared.schema.Schema.{Schema}
+use Rattle.dep_model.proofs.SchemeLemmas.{length-members_below, members_below-at}
+use Rattle.schema_grammar.proofs.PrintedSides.{found_at}
+use Rattle.csv_rows.proofs.HeaderLemmas.{named_after}
+use Rattle.csv_rows.proofs.NumberingLemmas.{same_default}
+use Rattle.csv_rows.proofs.ReadingLemmas.{whole_count}
+use Rattle.csv_rows.proofs.RecordLemmas.{one_more, no_more}
+use Rattle.csv_rows.specs.Columns.{named, column_of, columns_of, columns_from, IsHeaderOf, ◌>>=◌}
+use Rattle.csv_rows.specs.Reading.{value_of, tuple_of, HasInteger, RowOf, AreFirstRows, RowsOf, TableOf}
+use Rattle.csv_rows.specs.Records.{records_of}
+use Rattle.csv_rows.specs.RowsText.{rows_only, rows_text}
+use Rattle.csv_rows.specs.declared.reading.TheConstants.{MOST_ROWS}
+use Rattle.csv_rows.specs.declared.refusal.RowRefusal.{RowRefusal}
+use Rattle.csv_rows.specs.declared.refusal.RowRefusal.TheVariants as refusal
+
+-- ---- the records of the text
+back_same : (row : List (List ℕ)) → 0 < length row → read_back row ≡ row
+back_same [] some = absurd (omega (arith, some))
+back_same (x ∷ rest) some = refl
+
+nothing_left : next_record default_config st.StartRecord [] [] [] ≡ None
+unfolding next_record
+nothing_left = refl
+
+rows_back : (rows : Relation) → All (λ row. 0 < length row) rows
+    → records_from default_config (length (rows_only rows) + 1) st.StartRecord (rows_only rows) ≡ rows
+rows_back [] some = no_more st.StartRecord [] nothing_left
+rows_back (row ∷ rows) some =
+    one_more st.StartRecord (row_text default_writer row ++ rows_only rows)
+    (read_back row, st.StartRecord, rows_only rows) refl (read-write row (rows_only rows))
+    ∙ ap (λ (r : Tuple). r ∷ records_from default_config (length (rows_only rows) + 1) st.StartRecord (rows_only rows)) (back_same row (some 0 [] (omega arith)))
+    ∙ ap (λ (rest : Relation). row ∷ rest) (rows_back rows (λ k d h. some (suc k) d (omega (arith, h))))
+
+-- a text that does not begin as a byte-order mark does is left as it is
+no_mark : (b : ℕ) (rest : List ℕ) → (b == 239) ≡ false → strip_bom (b ∷ rest) ≡ b ∷ rest
+unfolding strip_bom
+no_mark b [] other = refl
+no_mark b (c ∷ []) other = refl
+no_mark b (c ∷ d ∷ rest) other = rw other refl
+
+-- the first byte of a row whose first value is not empty is that of the value, or a quote
+abbrev Begins : ℕ → List ℕ → Type 0
+Begins c text = (b : ℕ) × (rest : List ℕ) × (text ≡ b ∷ rest) × ((b == 239) ≡ false)
+
+field_begins : (c : ℕ) (cs : List ℕ) → (c == 239) ≡ false → Begins c (field_text default_writer (c ∷ cs))
+field_begins c cs other = by (list_any (needs_byte default_writer) (c ∷ cs)) refl
+  where
+    by : (needs : Bool) → list_any (needs_byte default_writer) (c ∷ cs) ≡ needs
+        → Begins c (field_text default_writer (c ∷ cs))
+    by true e = rw e (34, _, refl, refl)
+    by false e = rw e (c, cs, refl, other)
+
+text_begins : (c : ℕ) (field more : List ℕ) → Begins c field → Begins c (field ++ more)
+text_begins c field more (b, rest, is, other) = (b, rest ++ more, ap (λ (t : List ℕ). t ++ more) is, other)
+
+row_begins : (c : ℕ) (cs : List ℕ) (values : List (List ℕ)) → (c == 239) ≡ false
+    → Begins c (row_text default_writer ((c ∷ cs) ∷ values))
+row_begins c cs values other =
+    text_begins c _ _ (text_begins c _ (fields_text default_writer values) (field_begins c cs other))
+
+unmarked : (c : ℕ) (text : List ℕ) → Begins c text → strip_bom text ≡ text
+unmarked c text (b, rest, is, other) = subst (λ (t : List ℕ). strip_bom t ≡ t) (sym is) (no_mark b rest other)
+
+second_of : (a b c d : Bool) → (((a && b) && c) && d) ≡ true → b ≡ true
+second_of true true c d e = refl
+second_of true false c d e = e
+second_of false b c d e = absurd (false≢true e)
+
+letter_is : (c : ℕ) → is_ascii_alphabetic c ≡ true → (c == 239) ≡ false
+letter_is c e = grind (arith, nat_tests, e)
+
+name_begins : (name : List ℕ) → IsTrue (is_name name)
+    → (c : ℕ) × (cs : List ℕ) × (name ≡ c ∷ cs) × ((c == 239) ≡ false)
+name_begins [] proper = cc
+name_begins (c ∷ cs) proper = (c, cs, refl, letter_is c (second_of _ _ _ _ proper))
+
+text_unmarked : (names : List (List ℕ)) (rows : Relation) → 0 < length names
+    → All (λ name. IsTrue (is_name name)) names → strip_bom (rows_text names rows) ≡ rows_text names rows
+text_unmarked [] rows some proper = absurd (omega (arith, some))
+text_unmarked (name ∷ names) rows some proper =
+    let (c, cs, is, other) = name_begins name (proper 0 [] (omega arith)) in
+    let begins : Begins c (row_text default_writer (name ∷ names)) =
+    subst (λ (n : List ℕ). Begins c (row_text default_writer (n ∷ names))) (sym is) (row_begins c cs names other) in
+    unmarked c _ (text_begins c _ (rows_only rows) begins)
+
+pub printed_records : (names : List (List ℕ)) (rows : Relation) → 0 < length names
+    → All (λ name. IsTrue (is_name name)) names → All (λ row. 0 < length row) rows
+    → records_of (rows_text names rows) ≡ names ∷ rows
+printed_records names rows some proper wide =
+    ap (λ (t : List ℕ). records_from default_config (length t + 1) st.StartRecord t) (text_unmarked names rows some proper)
+    ∙ rows_back (names ∷ rows) (first wide)
+  where
+    first : All (λ row. 0 < length row) rows → All (λ row. 0 < length row) (names ∷ rows)
+    first all zero d h = some
+    first all (suc k) d h = all k d (omega (arith, h))
+
+-- ---- the columns of the header
+range_push : (a n : ℕ) → range_with_len a (suc n) ≡ range_with_len a n ++ (a + n) ∷ []
+range_push a zero = ap (λ (m : ℕ). m ∷ []) (omega arith)
+range_push a (suc n) =
+    ap (λ (l : List ℕ). a ∷ l) (range_push (a + 1) n ∙ ap (λ (m : ℕ). range_with_len (a + 1) n ++ m ∷ []) (omega arith))
+
+zero_plus : (n : ℕ) → 0 + n ≡ n
+zero_plus n = omega arith
+
+range_more : (n : ℕ) → range_with_len 0 (suc n) ≡ range_with_len 0 n ++ n ∷ []
+range_more n = range_push 0 n ∙ ap (λ (m : ℕ). range_with_len 0 n ++ m ∷ []) (zero_plus n)
+
+pub named_range : (n k : ℕ) → named (range_with_len 0 n) k ≡ nat_lt k n
+named_range zero k = grind (arith, nat_tests)
+named_range (suc n) k =
+    ap (λ (l : List ℕ). named l k) (range_more n) ∙ named_after (range_with_len 0 n) n k
+    ∙ ap (λ (b : Bool). b || (k == n)) (named_range n k) ∙ grind (arith, nat_tests)
+
+own_column : (column m : ℕ) (x : Places) (o : Option ℕ) → o ≡ Some m → x m ≡ false → column_of column x o ≡ Ok m
+own_column column m x o e f = rw (e, f) refl
+
+seam : (before : List (List ℕ)) (name : List ℕ) (after : List (List ℕ)) (d : List ℕ)
+    → get_or (before ++ name ∷ after) (length before) d ≡ name
+seam [] name after d = refl
+seam (b ∷ before) name after d = seam before name after d
+
+other_name : (before : List (List ℕ)) (name : List ℕ) (after : List (List ℕ)) (k : ℕ) (d : List ℕ) → k < length before
+    → AllPairs (λ a b. same_name a b ≡ false) (before ++ name ∷ after)
+    → same_name (slice_index_or before k d) name ≡ false
+other_name [] name after k d h differ = absurd (omega (arith, h))
+other_name (b ∷ before) name after zero d h differ =
+    let inside : suc (length before) < length (b ∷ (before ++ name ∷ after)) =
+    omega (arith, length-append before (name ∷ after)) in
+    subst (λ (n : List ℕ). same_name b n ≡ false) (seam before name after d) (differ 0 (suc (length before)) d (omega arith) inside)
+other_name (b ∷ before) name after (suc k) d h differ =
+    other_name before name after k d (omega (arith, h))
+    (λ i j e less in_list. differ (suc i) (suc j) e (omega (arith, less)) (omega (arith, in_list)))
+
+own_columns_from : (before after : List (List ℕ)) → AllPairs (λ a b. same_name a b ≡ false) (before ++ after)
+    → columns_from (before ++ after) (range_with_len 0 (length before)) after ≡ Ok
+    (range_with_len 0 (length (before ++ after)))
+unfolding columns_from
+own_columns_from before [] differ =
+    ap (λ (l : List (List ℕ)). Ok (range_with_len 0 (length l))) (sym (append-nil before))
+own_columns_from before (name ∷ after) differ =
+    let m = length before in
+    let names = before ++ name ∷ after in
+    let split : (before ++ name ∷ []) ++ after ≡ names = append_assoc before (name ∷ []) after in
+    let size : length (before ++ name ∷ []) ≡ suc m = length-append before (name ∷ []) ∙ omega arith in
+    let none : All (λ b. same_name b name ≡ false) before = λ k d h. other_name before name after k d h differ in
+    let place : place_named names name ≡ Some m = found_at before name after none in
+    let free : named (range_with_len 0 m) m ≡ false = named_range m m ∙ grind (arith, nat_tests) in
+    let column : column_of (length (range_with_len 0 m) + 1) (named (range_with_len 0 m))
+    (place_named names name) ≡ Ok m =
+    own_column _ m _ _ place free in
+    let columns : range_with_len 0 m ++ m ∷ [] ≡ range_with_len 0 (length (before ++ name ∷ [])) =
+    sym (range_more m) ∙ ap (range_with_len 0) (sym size) in
+    let rest =
+    own_columns_from (before ++ name ∷ []) after
+    (subst (λ (l : List (List ℕ)). AllPairs (λ a b. same_name a b ≡ false) l) (sym split) differ) in
+    ap (λ (r : Result ℕ RowRefusal). r >>= (λ a. columns_from names (range_with_len 0 m ++ a ∷ []) after)) column
+    ∙ ap (λ (l : List ℕ). columns_from names l after) columns
+    ∙ subst (λ (l : List (List ℕ)). columns_from l (range_with_len 0 (length (before ++ name ∷ []))) after ≡ Ok (range_with_len 0 (length l))) split rest
+
+own_columns : (names : List (List ℕ)) → AllPairs (λ a b. same_name a b ≡ false) names
+    → columns_of names names ≡ Ok (range_with_len 0 (length names))
+own_columns names differ = own_columns_from [] names differ
+
+-- ---- the rows
+all_named : (n : ℕ) → Within (below n) (named (range_with_len 0 n))
+all_named n k in_below = named_range n k ∙ in_below
+
+column_is : (n k : ℕ) → k < n → position_or_len (nat_eq k) (range_with_len 0 n) ≡ k
+column_is n k small =
+    position_or_len_is (nat_eq k) (range_with_len 0 n) k 0 (omega (arith, small, length-range_with_len 0 n))
+    (λ j less. let is : get_or (range_with_len 0 n) j 0 ≡ 0 + j = get_or-range_with_len 0 n j 0 (omega (arith, less, small)) in rw is (grind (arith, nat_tests, less)))
+    (λ inside. let is : get_or (range_with_len 0 n) k 0 ≡ 0 + k = get_or-range_with_len 0 n k 0 small in rw is (grind (arith, nat_tests)))
+
+value_is : (n k : ℕ) (t : Tuple) → k < n → value_of (range_with_len 0 n) t k ≡ value_at t k
+value_is n k t small = ap (λ (j : ℕ). slice_index_or t j []) (column_is n k small)
+
+tuple_is : (n : ℕ) (t : Tuple) → length t ≡ n → t ≡ tuple_of n (range_with_len 0 n) t
+tuple_is n t size =
+    let columns = range_with_len 0 n in
+    let ms = members_below n (named columns) in
+    let count : length ms ≡ n =
+    length-members_below n (named columns) ∙ whole_count n (named columns) (all_named n) n (omega arith) in
+    let long : length (map (value_of columns t) ms) ≡ n = length-map ms (value_of columns t) ∙ count in
+    ext_get_or [] t (map (value_of columns t) ms) (size ∙ sym long) (λ k less.
+    let small : k < n = omega (arith, less, size) in
+    let has : named columns k ≡ true = named_range n k ∙ grind (arith, nat_tests, small) in
+    let at : get_or ms k k ≡ k =
+    ap (λ (j : ℕ). get_or ms j k) (sym (whole_count n (named columns) (all_named n) k (omega (arith, small))))
+    ∙ members_below-at n (named columns) k k small has in
+    let inside : k < length (map (value_of columns t) ms) = omega (arith, small, long) in
+    sym (same_default (map (value_of columns t) ms) k [] (value_of columns t k) inside ∙ get_or-map (value_of columns t) ms k k ∙ ap (value_of columns t) at ∙ value_is n k t small))
+
+row_is : (s : Schema) (row : ℕ) (t : Tuple) → length t ≡ width_of s → row ≤ MOST_ROWS
+    → ((k : ℕ) → slice_get (types_of s) k ≡ Some Integer → IsIntegerText (value_at t k))
+    → RowOf s (range_with_len 0 (width_of s)) row t (Ok t)
+row_is s row t size few typed =
+    let n = width_of s in (
+      (size ∙ sym (length-range_with_len 0 n), few),
+      tuple_is n t size,
+      λ k has.
+          let small : k < n = grind (arith, nat_tests, sym (named_range n k) ∙ has.0) in
+          subst IsIntegerText (sym (value_is n k t small)) (typed k has.1),
+    )
+
+pub printed_back : (s : Schema) (rows : Relation) → All (λ name. IsTrue (is_name name)) (names_of s)
+    → IsOver (width_of s) rows → TypedFor s rows → length rows ≤ MOST_ROWS
+    → RowsOf s (rows_text (names_of s) rows) (Ok rows)
+printed_back s rows proper over typed few =
+    let n = width_of s in
+    let names = names_of s in
+    let columns = range_with_len 0 n in
+    let wide : All (λ row. 0 < length row) rows = λ k d h. omega (arith, over k d h, s.valid.some_names) in
+    let records : records_of (rows_text names rows) ≡ names ∷ rows =
+    printed_records names rows s.valid.some_names proper wide in
+    let header : IsHeaderOf n names names (Ok columns) = (own_columns names s.valid.names_differ, all_named n) in
+    let first : AreFirstRows s columns rows rows = record {
+      within = omega arith;
+      each =
+          λ i less. row_is s (i + 1) (slice_index_or rows i []) (over i [] less) (omega (arith, less, few)) (λ k integer. typed i [] less k integer);
+    } in
+    subst (λ (rs : List (List (List ℕ))). TableOf s (IsHeaderOf n names) rs (Ok rows)) (sym records) (Ok columns, header, (first, refl))

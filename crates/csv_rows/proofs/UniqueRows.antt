@@ -1,0 +1,257 @@
+-- A text has one list of rows for a schema, or one refusal.
+use Rattle.std.proofs.Common.{inl, inr, ◌≡◌, ◌≢◌, ◌+◌, ◌<◌, ◌≤◌, ◌⊎◌, ℕ, false, List, [], ◌∷◌, length, Result, Ok, Err, slice_index_or, get_or, refl, sym, ap, subst, ◌∙◌, arith}
+use Rattle.std.proofs.lemmas.Bool.{cases_lt, true≢false}
+use Rattle.std.proofs.lemmas.List.{ext_get_or}
+use Rattle.attr_sets.specs.Places.{Within, below, minus, IsLeastFrom}
+use Rattle.dep_model.specs.Schemas.{names_of, width_of}
+use Rattle.dep_model.specs.Tuples.{Tuple, Relation}
+use Rattle.dep_model.specs.declared.schema.Schema.{Schema}
+use Rattle.csv_rows.specs.Columns.{named, columns_of, IsHeaderOf}
+use Rattle.csv_rows.specs.Reading.{RowOf, AreFirstRows, RowsUnder, TableOf}
+use Rattle.csv_rows.specs.declared.reading.TheConstants.{MOST_ROWS}
+use Rattle.csv_rows.specs.declared.refusal.RowRefusal.{RowRefusal}
+use Rattle.csv_rows.specs.declared.refusal.RowRefusal.TheVariants as refusal
+
+few_not_many : (row : ℕ) → row ≤ MOST_ROWS → MOST_ROWS < row → ⊥
+few_not_many row few many = omega (arith, few, many)
+
+same_integer : (r u k l : ℕ) → r ≡ u → k ≡ l → ◌≡◌ {A = Result Tuple RowRefusal} (Err (refusal.NotInteger r k))
+    (Err (refusal.NotInteger u l))
+same_integer r u k l e f =
+    ap (λ (m : ℕ). Err (refusal.NotInteger m k)) e ∙ ap (λ (m : ℕ). Err (refusal.NotInteger u m)) f
+
+-- a record gives one tuple or one refusal
+row_same : (s : Schema) (columns : List ℕ) (row : ℕ) (fields : List (List ℕ)) (one other : Result Tuple RowRefusal)
+    → RowOf s columns row fields one → RowOf s columns row fields other → one ≡ other
+row_same s columns row fields (Ok t) (Ok w) p q = ap Ok (p.1 ∙ sym q.1)
+row_same s columns row fields (Ok t) (Err (refusal.UnevenRow u)) p q = absurd (q.1 p.0.0)
+row_same s columns row fields (Ok t) (Err refusal.TooManyRows) p q = absurd (few_not_many row p.0.1 q.1)
+row_same s columns row fields (Ok t) (Err (refusal.NotInteger u l)) p q = absurd (q.3 (p.2 l q.2))
+row_same s columns row fields (Ok t) (Err refusal.NoHeader) p q = absurd q
+row_same s columns row fields (Ok t) (Err (refusal.UnknownColumn z)) p q = absurd q
+row_same s columns row fields (Ok t) (Err (refusal.DoubleColumn z)) p q = absurd q
+row_same s columns row fields (Ok t) (Err (refusal.MissingColumn z)) p q = absurd q
+row_same s columns row fields (Ok t) (Err refusal.Memory) p q = absurd q
+row_same s columns row fields (Err (refusal.UnevenRow r)) (Ok w) p q = absurd (p.1 q.0.0)
+row_same s columns row fields (Err (refusal.UnevenRow r)) (Err (refusal.UnevenRow u)) p q =
+    ap (λ (m : ℕ). Err (refusal.UnevenRow m)) (p.0 ∙ sym q.0)
+row_same s columns row fields (Err (refusal.UnevenRow r)) (Err refusal.TooManyRows) p q = absurd (p.1 q.0)
+row_same s columns row fields (Err (refusal.UnevenRow r)) (Err (refusal.NotInteger u l)) p q = absurd (p.1 q.0.0)
+row_same s columns row fields (Err (refusal.UnevenRow r)) (Err refusal.NoHeader) p q = absurd q
+row_same s columns row fields (Err (refusal.UnevenRow r)) (Err (refusal.UnknownColumn z)) p q = absurd q
+row_same s columns row fields (Err (refusal.UnevenRow r)) (Err (refusal.DoubleColumn z)) p q = absurd q
+row_same s columns row fields (Err (refusal.UnevenRow r)) (Err (refusal.MissingColumn z)) p q = absurd q
+row_same s columns row fields (Err (refusal.UnevenRow r)) (Err refusal.Memory) p q = absurd q
+row_same s columns row fields (Err refusal.TooManyRows) (Ok w) p q = absurd (few_not_many row q.0.1 p.1)
+row_same s columns row fields (Err refusal.TooManyRows) (Err (refusal.UnevenRow u)) p q = absurd (q.1 p.0)
+row_same s columns row fields (Err refusal.TooManyRows) (Err refusal.TooManyRows) p q = refl
+row_same s columns row fields (Err refusal.TooManyRows) (Err (refusal.NotInteger u l)) p q =
+    absurd (few_not_many row q.0.1 p.1)
+row_same s columns row fields (Err refusal.TooManyRows) (Err refusal.NoHeader) p q = absurd q
+row_same s columns row fields (Err refusal.TooManyRows) (Err (refusal.UnknownColumn z)) p q = absurd q
+row_same s columns row fields (Err refusal.TooManyRows) (Err (refusal.DoubleColumn z)) p q = absurd q
+row_same s columns row fields (Err refusal.TooManyRows) (Err (refusal.MissingColumn z)) p q = absurd q
+row_same s columns row fields (Err refusal.TooManyRows) (Err refusal.Memory) p q = absurd q
+row_same s columns row fields (Err (refusal.NotInteger r k)) (Ok w) p q = absurd (p.3 (q.2 k p.2))
+row_same s columns row fields (Err (refusal.NotInteger r k)) (Err (refusal.UnevenRow u)) p q = absurd (q.1 p.0.0)
+row_same s columns row fields (Err (refusal.NotInteger r k)) (Err refusal.TooManyRows) p q =
+    absurd (few_not_many row p.0.1 q.1)
+row_same s columns row fields (Err (refusal.NotInteger r k)) (Err (refusal.NotInteger u l)) p q =
+    elim (cases_lt k l) [
+      | inl before ↦ absurd (p.3 (q.4 k before p.2))
+      | inr on ↦ elim (cases_lt l k) [
+        | inl before ↦ absurd (q.3 (p.4 l before q.2))
+        | inr here ↦ same_integer r u k l (p.1 ∙ sym q.1) (omega (arith, on, here))
+      ]
+    ]
+row_same s columns row fields (Err (refusal.NotInteger r k)) (Err refusal.NoHeader) p q = absurd q
+row_same s columns row fields (Err (refusal.NotInteger r k)) (Err (refusal.UnknownColumn z)) p q = absurd q
+row_same s columns row fields (Err (refusal.NotInteger r k)) (Err (refusal.DoubleColumn z)) p q = absurd q
+row_same s columns row fields (Err (refusal.NotInteger r k)) (Err (refusal.MissingColumn z)) p q = absurd q
+row_same s columns row fields (Err (refusal.NotInteger r k)) (Err refusal.Memory) p q = absurd q
+row_same s columns row fields (Err refusal.NoHeader) (Ok w) p q = absurd p
+row_same s columns row fields (Err refusal.NoHeader) (Err (refusal.UnevenRow u)) p q = absurd p
+row_same s columns row fields (Err refusal.NoHeader) (Err refusal.TooManyRows) p q = absurd p
+row_same s columns row fields (Err refusal.NoHeader) (Err (refusal.NotInteger u l)) p q = absurd p
+row_same s columns row fields (Err refusal.NoHeader) (Err refusal.NoHeader) p q = absurd p
+row_same s columns row fields (Err refusal.NoHeader) (Err (refusal.UnknownColumn z)) p q = absurd p
+row_same s columns row fields (Err refusal.NoHeader) (Err (refusal.DoubleColumn z)) p q = absurd p
+row_same s columns row fields (Err refusal.NoHeader) (Err (refusal.MissingColumn z)) p q = absurd p
+row_same s columns row fields (Err refusal.NoHeader) (Err refusal.Memory) p q = absurd p
+row_same s columns row fields (Err (refusal.UnknownColumn z)) (Ok w) p q = absurd p
+row_same s columns row fields (Err (refusal.UnknownColumn m)) (Err (refusal.UnevenRow u)) p q = absurd p
+row_same s columns row fields (Err (refusal.UnknownColumn m)) (Err refusal.TooManyRows) p q = absurd p
+row_same s columns row fields (Err (refusal.UnknownColumn m)) (Err (refusal.NotInteger u l)) p q = absurd p
+row_same s columns row fields (Err (refusal.UnknownColumn m)) (Err refusal.NoHeader) p q = absurd p
+row_same s columns row fields (Err (refusal.UnknownColumn m)) (Err (refusal.UnknownColumn z)) p q = absurd p
+row_same s columns row fields (Err (refusal.UnknownColumn m)) (Err (refusal.DoubleColumn z)) p q = absurd p
+row_same s columns row fields (Err (refusal.UnknownColumn m)) (Err (refusal.MissingColumn z)) p q = absurd p
+row_same s columns row fields (Err (refusal.UnknownColumn m)) (Err refusal.Memory) p q = absurd p
+row_same s columns row fields (Err (refusal.DoubleColumn z)) (Ok w) p q = absurd p
+row_same s columns row fields (Err (refusal.DoubleColumn m)) (Err (refusal.UnevenRow u)) p q = absurd p
+row_same s columns row fields (Err (refusal.DoubleColumn m)) (Err refusal.TooManyRows) p q = absurd p
+row_same s columns row fields (Err (refusal.DoubleColumn m)) (Err (refusal.NotInteger u l)) p q = absurd p
+row_same s columns row fields (Err (refusal.DoubleColumn m)) (Err refusal.NoHeader) p q = absurd p
+row_same s columns row fields (Err (refusal.DoubleColumn m)) (Err (refusal.UnknownColumn z)) p q = absurd p
+row_same s columns row fields (Err (refusal.DoubleColumn m)) (Err (refusal.DoubleColumn z)) p q = absurd p
+row_same s columns row fields (Err (refusal.DoubleColumn m)) (Err (refusal.MissingColumn z)) p q = absurd p
+row_same s columns row fields (Err (refusal.DoubleColumn m)) (Err refusal.Memory) p q = absurd p
+row_same s columns row fields (Err (refusal.MissingColumn z)) (Ok w) p q = absurd p
+row_same s columns row fields (Err (refusal.MissingColumn m)) (Err (refusal.UnevenRow u)) p q = absurd p
+row_same s columns row fields (Err (refusal.MissingColumn m)) (Err refusal.TooManyRows) p q = absurd p
+row_same s columns row fields (Err (refusal.MissingColumn m)) (Err (refusal.NotInteger u l)) p q = absurd p
+row_same s columns row fields (Err (refusal.MissingColumn m)) (Err refusal.NoHeader) p q = absurd p
+row_same s columns row fields (Err (refusal.MissingColumn m)) (Err (refusal.UnknownColumn z)) p q = absurd p
+row_same s columns row fields (Err (refusal.MissingColumn m)) (Err (refusal.DoubleColumn z)) p q = absurd p
+row_same s columns row fields (Err (refusal.MissingColumn m)) (Err (refusal.MissingColumn z)) p q = absurd p
+row_same s columns row fields (Err (refusal.MissingColumn m)) (Err refusal.Memory) p q = absurd p
+row_same s columns row fields (Err refusal.Memory) (Ok w) p q = absurd p
+row_same s columns row fields (Err refusal.Memory) (Err (refusal.UnevenRow u)) p q = absurd p
+row_same s columns row fields (Err refusal.Memory) (Err refusal.TooManyRows) p q = absurd p
+row_same s columns row fields (Err refusal.Memory) (Err (refusal.NotInteger u l)) p q = absurd p
+row_same s columns row fields (Err refusal.Memory) (Err refusal.NoHeader) p q = absurd p
+row_same s columns row fields (Err refusal.Memory) (Err (refusal.UnknownColumn z)) p q = absurd p
+row_same s columns row fields (Err refusal.Memory) (Err (refusal.DoubleColumn z)) p q = absurd p
+row_same s columns row fields (Err refusal.Memory) (Err (refusal.MissingColumn z)) p q = absurd p
+row_same s columns row fields (Err refusal.Memory) (Err refusal.Memory) p q = absurd p
+
+not_both : (t : Tuple) (e : RowRefusal) → ◌≡◌ {A = Result Tuple RowRefusal} (Ok t) (Err e) → ⊥
+not_both t e same = cc
+
+refusal_same : (e f : RowRefusal) → ◌≡◌ {A = Result Tuple RowRefusal} (Err e) (Err f) → e ≡ f
+refusal_same e f same = cc
+
+tuple_same : (t u : Tuple) → ◌≡◌ {A = Result Tuple RowRefusal} (Ok t) (Ok u) → t ≡ u
+tuple_same t u same = cc
+
+-- the first records give one list of tuples of each length
+rows_same : (s : Schema) (columns : List ℕ) (records : List (List (List ℕ))) (one other : Relation)
+    → AreFirstRows s columns records one → AreFirstRows s columns records other → length one ≡ length other
+    → one ≡ other
+rows_same s columns records one other p q size =
+    ext_get_or [] one other size
+    (λ i l. tuple_same _ _ (row_same s columns (i + 1) (slice_index_or records i []) _ _ (p.each i l) (q.each i (omega (arith, l, size)))))
+
+-- what the records under a header give
+under_same : (s : Schema) (columns : Result (List ℕ) RowRefusal) (records : List (List (List ℕ)))
+    (one other : Result Relation RowRefusal)
+    → RowsUnder s columns records one → RowsUnder s columns records other → one ≡ other
+under_same s (Err e) records one other p q = p ∙ sym q
+under_same s (Ok columns) records (Ok one) (Ok other) p q =
+    ap Ok (rows_same s columns records one other p.0 q.0 (p.1 ∙ sym q.1))
+under_same s (Ok columns) records (Ok one) (Err f) p (other, first, less, at) =
+    let i = length other in
+    absurd (not_both _ f (row_same s columns (i + 1) (slice_index_or records i []) _ _ (p.0.each i (omega (arith, less, p.1))) at))
+under_same s (Ok columns) records (Err e) (Ok other) (one, first, less, at) q =
+    let i = length one in
+    absurd (not_both _ e (row_same s columns (i + 1) (slice_index_or records i []) _ _ (q.0.each i (omega (arith, less, q.1))) at))
+under_same s (Ok columns) records (Err e) (Err f) (one, first, less, at) (other, also, fewer, there) =
+    let i = length one in
+    let j = length other in
+    elim (cases_lt i j) [
+      | inl before ↦ absurd
+          (not_both _ e (row_same s columns (i + 1) (slice_index_or records i []) _ _ (also.each i before) at))
+      | inr on ↦ elim (cases_lt j i) [
+        | inl before ↦ absurd
+            (not_both _ f (row_same s columns (j + 1) (slice_index_or records j []) _ _ (first.each j before) there))
+        | inr here ↦
+            let size : j ≡ i = omega (arith, on, here) in
+            let same : RowOf s columns (i + 1) (slice_index_or records i []) (Err f) =
+            subst (λ (m : ℕ). RowOf s columns (m + 1) (slice_index_or records m []) (Err f)) size there in
+            ap Err (refusal_same e f (row_same s columns (i + 1) (slice_index_or records i []) _ _ at same))
+      ]
+    ]
+
+-- what a header is: columns for all attributes, columns with a first one missing, or a refusal of a column
+abbrev SeenHeader : ℕ → List (List ℕ) → List (List ℕ) → Result (List ℕ) RowRefusal → Type 0
+SeenHeader n names header r =
+    ((columns : List ℕ) × (r ≡ Ok columns) × (columns_of names header ≡ Ok columns) × Within (below n) (named columns))
+    ⊎ ((a : ℕ) × (r ≡ Err (refusal.MissingColumn a)) × (columns : List ℕ) × (columns_of names header ≡ Ok columns) × IsLeastFrom (minus (below n) (named columns)) 0 a)
+    ⊎ ((e : RowRefusal) × (r ≡ Err e) × (columns_of names header ≡ Err e))
+
+seen_header : (n : ℕ) (names header : List (List ℕ)) (r : Result (List ℕ) RowRefusal) → IsHeaderOf n names header r
+    → SeenHeader n names header r
+seen_header n names header (Ok columns) h = inl (columns, refl, h.0, h.1)
+seen_header n names header (Err (refusal.MissingColumn a)) (columns, means, least) =
+    inr (inl (a, refl, columns, means, least))
+seen_header n names header (Err (refusal.UnevenRow r)) h = inr (inr ((refusal.UnevenRow r), refl, h))
+seen_header n names header (Err refusal.TooManyRows) h = inr (inr (refusal.TooManyRows, refl, h))
+seen_header n names header (Err (refusal.NotInteger r k)) h = inr (inr ((refusal.NotInteger r k), refl, h))
+seen_header n names header (Err refusal.NoHeader) h = inr (inr (refusal.NoHeader, refl, h))
+seen_header n names header (Err (refusal.UnknownColumn m)) h = inr (inr ((refusal.UnknownColumn m), refl, h))
+seen_header n names header (Err (refusal.DoubleColumn m)) h = inr (inr ((refusal.DoubleColumn m), refl, h))
+seen_header n names header (Err refusal.Memory) h = inr (inr (refusal.Memory, refl, h))
+
+columns_same : (r : Result (List ℕ) RowRefusal) (columns others : List ℕ) → r ≡ Ok columns → r ≡ Ok others
+    → columns ≡ others
+columns_same r columns others e f = let same : Ok columns ≡ Ok others = sym e ∙ f in cc
+
+columns_or_none : (r : Result (List ℕ) RowRefusal) (columns : List ℕ) (e : RowRefusal) → r ≡ Ok columns → r ≡ Err e
+    → ⊥
+columns_or_none r columns e f g =
+    let same : ◌≡◌ {A = Result (List ℕ) RowRefusal} (Ok columns) (Err e) = sym f ∙ g in cc
+
+all_or_missing : (n a : ℕ) (columns others : List ℕ) → columns ≡ others → Within (below n) (named columns)
+    → IsLeastFrom (minus (below n) (named others)) 0 a → ⊥
+all_or_missing n a columns others same within least =
+    let all : Within (below n) (named others) = subst (λ (cs : List ℕ). Within (below n) (named cs)) same within in
+    grind (arith, least.member, all a)
+
+least_same : (n a b : ℕ) (columns others : List ℕ) → columns ≡ others
+    → IsLeastFrom (minus (below n) (named columns)) 0 a → IsLeastFrom (minus (below n) (named others)) 0 b → a ≡ b
+least_same n a b columns others same one other =
+    let also : IsLeastFrom (minus (below n) (named columns)) 0 b =
+    subst (λ (cs : List ℕ). IsLeastFrom (minus (below n) (named cs)) 0 b) (sym same) other in
+    elim (cases_lt a b) [
+      | inl before ↦ let not : minus (below n) (named columns) a ≡ false = also.least a (omega arith) before in absurd
+          (true≢false (sym one.member ∙ not))
+      | inr on ↦ elim (cases_lt b a) [
+        | inl before ↦ let not : minus (below n) (named columns) b ≡ false = one.least b (omega arith) before in absurd
+            (true≢false (sym also.member ∙ not))
+        | inr here ↦ omega (arith, on, here)
+      ]
+    ]
+
+-- a header gives one list of columns or one refusal
+header_same : (n : ℕ) (names header : List (List ℕ)) (one other : Result (List ℕ) RowRefusal)
+    → IsHeaderOf n names header one → IsHeaderOf n names header other → one ≡ other
+header_same n names header one other p q = by (seen_header n names header one p) (seen_header n names header other q)
+  where
+    by : SeenHeader n names header one → SeenHeader n names header other → one ≡ other
+    by (inl (cs, is, means, all)) (inl (ds, also, there, every)) =
+        is ∙ ap Ok (columns_same _ cs ds means there) ∙ sym also
+    by (inl (cs, is, means, all)) (inr (inl (b, also, ds, there, least))) =
+        absurd (all_or_missing n b cs ds (columns_same _ cs ds means there) all least)
+    by (inl (cs, is, means, all)) (inr (inr (f, also, there))) = absurd (columns_or_none _ cs f means there)
+    by (inr (inl (a, is, cs, means, least))) (inl (ds, also, there, every)) =
+        absurd (all_or_missing n a ds cs (columns_same _ ds cs there means) every least)
+    by (inr (inl (a, is, cs, means, least))) (inr (inl (b, also, ds, there, other_least))) =
+        is
+        ∙ ap (λ (m : ℕ). Err (refusal.MissingColumn m)) (least_same n a b cs ds (columns_same _ cs ds means there) least other_least)
+        ∙ sym also
+    by (inr (inl (a, is, cs, means, least))) (inr (inr (f, also, there))) =
+        absurd (columns_or_none _ cs f means there)
+    by (inr (inr (e, is, means))) (inl (ds, also, there, every)) = absurd (columns_or_none _ ds e there means)
+    by (inr (inr (e, is, means))) (inr (inl (b, also, ds, there, least))) =
+        absurd (columns_or_none _ ds e there means)
+    by (inr (inr (e, is, means))) (inr (inr (f, also, there))) =
+        let same : ◌≡◌ {A = Result (List ℕ) RowRefusal} (Err e) (Err f) = sym means ∙ there in is ∙ same ∙ sym also
+
+-- the records of a text give one list of rows or one refusal, where a header means one list of columns
+pub table_same : (s : Schema) (Means : List (List ℕ) → Result (List ℕ) RowRefusal → Type 0)
+    → ((header : List (List ℕ)) (one other : Result (List ℕ) RowRefusal) → Means header one → Means header other → one ≡ other)
+    → (records : List (List (List ℕ))) (one other : Result Relation RowRefusal) → TableOf s Means records one
+    → TableOf s Means records other → one ≡ other
+table_same s Means means [] one other p q = p ∙ sym q
+table_same s Means means (header ∷ records) one other (columns, is, p) (others, also, q) =
+    under_same s columns records one other p
+    (subst (λ (cs : Result (List ℕ) RowRefusal). RowsUnder s cs records other) (means header others columns also is) q)
+
+pub whole_header_same : (s : Schema) (header : List (List ℕ)) (one other : Result (List ℕ) RowRefusal)
+    → IsHeaderOf (width_of s) (names_of s) header one → IsHeaderOf (width_of s) (names_of s) header other
+    → one ≡ other
+whole_header_same s header one other p q = header_same (width_of s) (names_of s) header one other p q
+
+pub part_header_same : (s : Schema) (header : List (List ℕ)) (one other : Result (List ℕ) RowRefusal)
+    → one ≡ columns_of (names_of s) header → other ≡ columns_of (names_of s) header → one ≡ other
+part_header_same s header one other p q = p ∙ sym q

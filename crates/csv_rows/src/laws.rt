@@ -1,0 +1,28 @@
+//! Laws of what CSV texts mean.
+
+ghost use Rattle.std.specs.Prelude.{◌≡◌, ◌≤◌, List, ℕ, length, All, IsTrue, Result, Ok};
+ghost use Rattle.dep_model.specs.Names.{is_name};
+ghost use Rattle.dep_model.specs.Schemas.{names_of, width_of, TypedFor};
+ghost use Rattle.dep_model.specs.Tuples.{Relation, IsOver};
+ghost use Rattle.dep_model.specs.declared.schema.Schema.{Schema};
+ghost use Rattle.csv_rows.specs.Reading.{RowsOf, PartOf};
+ghost use Rattle.csv_rows.specs.RowsText.{rows_text};
+ghost use Rattle.csv_rows.specs.declared.reading.TheConstants.{MOST_ROWS};
+ghost use Rattle.csv_rows.specs.declared.refusal.RowRefusal.{RowRefusal};
+
+/// For a schema, a text has one list of rows or one refusal: never two lists, never two refusals, and
+/// never both.
+pub fn one_reading()
+    ensures rows { (s : Schema) (text : List ℕ) (one other : Result Relation RowRefusal)
+        → RowsOf s text one → RowsOf s text other → one ≡ other }
+    ensures part { (s : Schema) (text : List ℕ) (one other : Result Relation RowRefusal)
+        → PartOf s text one → PartOf s text other → one ≡ other }
+{}
+
+/// What is printed of rows is the text of these rows, where they fit the types of the columns and are
+/// no more than a file may have.
+pub fn printed_rows_are_read_back()
+    ensures law { (s : Schema) (rows : Relation) → All (λ name. IsTrue (is_name name)) (names_of s)
+        → IsOver (width_of s) rows → TypedFor s rows → length rows ≤ MOST_ROWS
+        → RowsOf s (rows_text (names_of s) rows) (Ok rows) }
+{}

@@ -1,0 +1,3 @@
+mod DesignLemmas
+mod HoldingLemmas
+mod TextLemmas

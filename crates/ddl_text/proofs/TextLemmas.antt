@@ -1,0 +1,305 @@
+-- Lists of quoted names, and elements on their lines: one more at the end.
+use Rattle.std.proofs.Common.{◌≡◌, ◌<◌, ◌+◌, ℕ, suc, Bool, true, false, ◌||◌, List, [], ◌∷◌, ◌++◌, length, get_or, map, take, Option, Some, Result, Ok, Err, inl, inr, refl, sym, ap, ◌∙◌, arith, append_assoc, append-nil, add-one}
+use Rattle.std.specs.Prelude.{if◌then◌else◌, codes, slice_get, unwrap_or, option_map, OnOk}
+use Rattle.std.specs.List.{flat_map}
+use Rattle.std.proofs.Math.Bool.{or-false}
+use Rattle.std.proofs.lemmas.Bool.{true≢false, false_from_ne_true, cases_Bool}
+use Rattle.std.proofs.lemmas.List.{map-append, take_more, length-take-le, flat_map_more}
+use Rattle.std.proofs.lemmas.Option.{get_or_from_slice_get, slice_get_read}
+use Rattle.attr_sets.specs.declared.set.AttrSet.{AttrSet}
+use Rattle.attr_sets.specs.Places.{Places, none, IsEmpty}
+use Rattle.attr_sets.specs.Sets.{places}
+use Rattle.attr_sets.proofs.PlacesLemmas.{places_below, is_within-from, is_within-not}
+use Rattle.dep_model.specs.declared.column.Column.{Column}
+use Rattle.dep_model.specs.declared.schema.Schema.{Schema}
+use Rattle.dep_model.specs.Columns.{column_at}
+use Rattle.dep_model.specs.Schemas.{names_of, width_of, columns_of}
+use Rattle.dep_model.specs.Projections.{members_below}
+use Rattle.dep_model.proofs.ColumnLemmas.{slice_get-columns_on}
+use Rattle.dep_model.proofs.SchemeLemmas.{members_below-member, members_below-outside}
+use Rattle.schema_grammar.specs.Printing.{members_from}
+use Rattle.targets.specs.Sql.{separator, listed, quoted_name}
+use Rattle.ddl_text.specs.declared.table.TableDesign.{TableDesign}
+use Rattle.ddl_text.specs.Ddl.{name_list, column_type, column_element, is_empty, key_element, key_elements, reference_element, reference_elements, elements, opening, element_lines, has_some, comment, table_text}
+
+-- ---- the members of a set
+pub members_inside : (f : ℕ → List ℕ) (n : ℕ) (x : Places) → x n ≡ true
+    → map f (members_below (n + 1) x) ≡ map f (members_below n x) ++ f n ∷ []
+members_inside f n x inside =
+    rw add-one (ap (map f) (members_below-member n x inside) ∙ map-append f (members_below n x) (n ∷ []))
+
+pub members_outside : (f : ℕ → List ℕ) (n : ℕ) (x : Places) → x n ≡ false
+    → map f (members_below (n + 1) x) ≡ map f (members_below n x)
+members_outside f n x outside = rw add-one (ap (map f) (members_below-outside n x outside))
+
+members_append : (x : Places) (k : ℕ) (names more : List (List ℕ))
+    → members_from x k (names ++ more) ≡ members_from x k names ++ members_from x (k + length names) more
+members_append x k [] more = let e : k + 0 ≡ k = omega arith in ap (λ (j : ℕ). members_from x j more) (sym e)
+members_append x k (name ∷ names) more =
+    let later = members_append x (k + 1) names more in
+    let at_end : k + 1 + length names ≡ k + length (name ∷ names) = omega arith in
+    let rest = later ∙ ap (λ (j : ℕ). members_from x (k + 1) names ++ members_from x j more) at_end in
+    elim (cases_Bool (x k)) [
+      | inl inside ↦ rw inside (ap (λ (ns : List (List ℕ)). name ∷ ns) rest)
+      | inr outside ↦ rw outside rest
+    ]
+
+names_next : (x : Places) (names : List (List ℕ)) (n : ℕ) → n < length names
+    → members_from x 0 (take (n + 1) names) ≡ members_from x 0 (take n names) ++ members_from x n
+    (get_or names n [] ∷ [])
+names_next x names n lt =
+    let long : 0 + length (take n names) ≡ n = omega (arith, lt, length-take-le n names) in
+    ap (members_from x 0) (take_more names n [] lt)
+    ∙ members_append x 0 (take n names) (get_or names n [] ∷ [])
+    ∙ ap (λ (k : ℕ). members_from x 0 (take n names) ++ members_from x k (get_or names n [] ∷ [])) long
+
+-- the names of the members before a place and of the one that is there
+pub names_inside : (x : Places) (names : List (List ℕ)) (n : ℕ) → n < length names → x n ≡ true
+    → members_from x 0 (take (n + 1) names) ≡ members_from x 0 (take n names) ++ get_or names n [] ∷ []
+names_inside x names n lt inside =
+    names_next x names n lt
+    ∙ ap (λ (b : Bool). members_from x 0 (take n names) ++ (if b then get_or names n [] ∷ [] else [])) inside
+
+pub names_outside : (x : Places) (names : List (List ℕ)) (n : ℕ) → n < length names → x n ≡ false
+    → members_from x 0 (take (n + 1) names) ≡ members_from x 0 (take n names)
+names_outside x names n lt outside =
+    names_next x names n lt
+    ∙ ap (λ (b : Bool). members_from x 0 (take n names) ++ (if b then get_or names n [] ∷ [] else [])) outside
+    ∙ append-nil (members_from x 0 (take n names))
+
+pub some_pushed : (xs : List (List ℕ)) (x : List ℕ) → has_some (xs ++ x ∷ []) ≡ true
+some_pushed [] x = refl
+some_pushed (y ∷ xs) x = refl
+
+-- ---- names
+pub listed_push : (text : List ℕ → List ℕ) (xs : List (List ℕ)) (x : List ℕ)
+    → listed text (xs ++ x ∷ []) ≡ listed text xs ++ (if has_some xs then separator ++ text x else text x)
+listed_push text [] x = append-nil (text x)
+listed_push text (y ∷ xs) x = sym (flat_map_more (λ z. separator ++ text z) (text y) xs x)
+
+-- ---- elements
+or_true : (b : Bool) → (b || true) ≡ true
+or_true true = refl
+or_true false = refl
+
+pub lines_append : (some : Bool) (xs ys : List (List ℕ))
+    → element_lines some (xs ++ ys) ≡ element_lines some xs ++ element_lines (some || has_some xs) ys
+lines_append some [] ys = ap (λ (b : Bool). element_lines b ys) (sym (or-false some))
+lines_append some (x ∷ xs) ys =
+    ap (λ (rest : List ℕ). opening some ++ x ++ rest) (lines_append true xs ys)
+    ∙ sym (append_assoc (opening some ++ x) (element_lines true xs) (element_lines true ys))
+    ∙ ap (λ (b : Bool). opening some ++ x ++ element_lines true xs ++ element_lines b ys) (sym (or_true some))
+
+-- ---- texts that grow
+-- two parts are added
+pub adds : (old a b mid new : List ℕ) → mid ≡ old ++ a → new ≡ mid ++ b → new ≡ old ++ (a ++ b)
+adds old a b mid new first second = second ∙ ap (λ (t : List ℕ). t ++ b) first ∙ append_assoc old a b
+
+-- the same, where the last part is added unless there is no memory
+pub adds_last : {T E : Type 0} (r : Result T E) (old a b mid new : List ℕ) → mid ≡ old ++ a
+    → OnOk r (new ≡ mid ++ b) → OnOk r (new ≡ old ++ (a ++ b))
+adds_last (Ok x) old a b mid new first second = adds old a b mid new first second
+adds_last (Err e) old a b mid new first second = tt
+
+on_ok : {T E : Type 0} (r : Result T E) (P Q : Type 0) → (P → Q) → OnOk r P → OnOk r Q
+on_ok (Ok x) P Q f h = f h
+on_ok (Err e) P Q f h = tt
+
+-- a name more
+pub listed_more : (xs : List (List ℕ)) (x name : List ℕ) (some : Bool) (before text next : List ℕ)
+    → text ≡ before ++ listed quoted_name xs → some ≡ has_some xs → x ≡ name
+    → next ≡ text ++ (if some then separator ++ quoted_name name else quoted_name name)
+    → next ≡ before ++ listed quoted_name (xs ++ x ∷ [])
+listed_more xs x name some before text next so_far is_some is added =
+    adds before (listed quoted_name xs) (if some then separator ++ quoted_name name else quoted_name name) text next
+    so_far added
+    ∙ ap (λ (b : Bool). before ++ (listed quoted_name xs ++
+    (if b then separator ++ quoted_name name else quoted_name name))) is_some
+    ∙ ap (λ (n : List ℕ). before ++ (listed quoted_name xs ++
+    (if has_some xs then separator ++ quoted_name n else quoted_name n))) (sym is)
+    ∙ ap (λ (t : List ℕ). before ++ t) (sym (listed_push quoted_name xs x))
+
+-- an element more
+pub lines_more : (first some : Bool) (xs : List (List ℕ)) (x before text mid next : List ℕ)
+    → text ≡ before ++ element_lines first xs → some ≡ (first || has_some xs) → mid ≡ text ++ opening some
+    → next ≡ mid ++ x
+    → next ≡ before ++ element_lines first (xs ++ x ∷ [])
+lines_more first some xs x before text mid next so_far is_some opened added =
+    adds before (element_lines first xs) (opening some ++ x) text next so_far
+    (adds text (opening some) x mid next opened added)
+    ∙ ap (λ (b : Bool). before ++ (element_lines first xs ++ (opening b ++ x))) is_some
+    ∙ ap (λ (t : List ℕ). before ++ (element_lines first xs ++ t))
+    (sym (append-nil (opening (first || has_some xs) ++ x)))
+    ∙ ap (λ (t : List ℕ). before ++ t) (sym (lines_append first xs (x ∷ [])))
+
+pub some_more : (first : Bool) (xs : List (List ℕ)) (x : List ℕ) → true ≡ (first || has_some (xs ++ x ∷ []))
+some_more first xs x = sym (ap (λ (b : Bool). first || b) (some_pushed xs x) ∙ or_true first)
+
+-- ---- columns
+pub name_is : (s : Schema) (k : ℕ) (name : List ℕ) → slice_get (names_of s) k ≡ Some name
+    → get_or (names_of s) k [] ≡ name
+name_is s k name at = get_or_from_slice_get (names_of s) k name [] at
+
+column_is : (s : Schema) (k : ℕ) (column : Column) → k < width_of s → slice_get (columns_of s) k ≡ Some column
+    → column ≡ column_at (places s.integers) k
+column_is s k column lt at =
+    sym (get_or_from_slice_get (columns_of s) k column column at)
+    ∙ get_or_from_slice_get (columns_of s) k (column_at (places s.integers) k) column
+    (slice_get-columns_on (width_of s) (places s.integers) k lt)
+
+pub column_added : {T E : Type 0} (r : Result T E) (s : Schema) (k : ℕ) (name : List ℕ) (column : Column)
+    (old mid new : List ℕ) → k < width_of s
+    → slice_get (names_of s) k ≡ Some name → slice_get (columns_of s) k ≡ Some column
+    → mid ≡ old ++ quoted_name name → OnOk r (new ≡ mid ++ column_type column)
+    → OnOk r (new ≡ old ++ column_element s k)
+unfolding column_element
+column_added r s k name column old mid new lt named typed first second =
+    adds_last r old (quoted_name (get_or (names_of s) k [])) (column_type (column_at (places s.integers) k)) mid new
+    (first ∙ ap (λ (n : List ℕ). old ++ quoted_name n) (sym (name_is s k name named)))
+    (on_ok r (new ≡ mid ++ column_type column) (new ≡ mid ++ column_type (column_at (places s.integers) k))
+    (λ e. e ∙ ap (λ (c : Column). mid ++ column_type c) (column_is s k column lt typed)) second)
+
+-- ---- keys
+pub empty_passes : (x : Places) → IsEmpty x → is_empty x ≡ true
+empty_passes x empty = is_within-from x none (λ k member. absurd (true≢false (sym member ∙ empty k)))
+
+pub empty_fails : (x : AttrSet) → (IsEmpty (places x) → ⊥) → is_empty (places x) ≡ false
+empty_fails x some =
+    is_within-not (places x) none (places_below x)
+    (λ within. some (λ k. false_from_ne_true (places x k) (λ member. true≢false (sym (within k member)))))
+
+pub no_key : (s : Schema) (key : Places) → IsEmpty key → key_elements s key ≡ []
+no_key s key empty = ap (λ (b : Bool). if b then [] else key_element s key ∷ []) (empty_passes key empty)
+
+pub one_key : (s : Schema) (key : AttrSet) → (IsEmpty (places key) → ⊥)
+    → key_elements s (places key) ≡ key_element s (places key) ∷ []
+one_key s key some = ap (λ (b : Bool). if b then [] else key_element s (places key) ∷ []) (empty_fails key some)
+
+-- the key as the first element or behind others
+pub key_added : (s : Schema) (key : AttrSet) (some : Bool) (old opened t u new : List ℕ)
+    → (IsEmpty (places key) → ⊥) → opened ≡ old ++ opening some
+    → t ≡ opened ++ codes "PRIMARY KEY (" → u ≡ t ++ name_list s (places key) → new ≡ u ++ codes ")"
+    → new ≡ old ++ element_lines some (key_elements s (places key))
+unfolding key_element
+key_added s key some old opened t u new not_empty is_opened first second last =
+    let names = name_list s (places key) in
+    let added = adds opened (codes "PRIMARY KEY (" ++ names) (codes ")") u new
+    (adds opened (codes "PRIMARY KEY (") names t u first second) last in
+    lines_more some some [] (codes "PRIMARY KEY (" ++ names ++ codes ")") old old opened new (sym (append-nil old))
+    (sym (or-false some)) is_opened added
+    ∙ ap (λ (es : List (List ℕ)). old ++ element_lines some es) (sym (one_key s key not_empty))
+
+pub key_some : (s : Schema) (key : AttrSet) (some : Bool) → (IsEmpty (places key) → ⊥)
+    → true ≡ (some || has_some (key_elements s (places key)))
+key_some s key some not_empty = sym (ap (λ (es : List (List ℕ)). some || has_some es) (one_key s key not_empty)
+    ∙ or_true some)
+
+-- ---- references
+pub reference_added : {T E : Type 0} (r : Result T E) (s : Schema) (other : TableDesign) (old t u v w x y new : List ℕ)
+    → t ≡ old ++ codes "FOREIGN KEY (" → u ≡ t ++ name_list s (places other.key) → v ≡ u ++ codes ") REFERENCES "
+    → w ≡ v ++ quoted_name other.name
+    → x ≡ w ++ codes " (" → y ≡ x ++ name_list s (places other.key) → OnOk r (new ≡ y ++ codes ")")
+    → OnOk r (new ≡ old ++ reference_element s other)
+unfolding reference_element
+reference_added r s other old t u v w x y new to_t to_u to_v to_w to_x to_y to_new =
+    let names = name_list s (places other.key) in
+    let name = quoted_name other.name in
+    let head : List ℕ = codes "FOREIGN KEY (" in
+    let middle : List ℕ = codes ") REFERENCES " in
+    let open_names : List ℕ = codes " (" in
+    let at_u = adds old head names t u to_t to_u in
+    let at_v = adds old (head ++ names) middle u v at_u to_v in
+    let at_w = adds old (head ++ names ++ middle) name v w at_v to_w in
+    let at_x = adds old (head ++ names ++ middle ++ name) open_names w x at_w to_x in
+    let at_y = adds old (head ++ names ++ middle ++ name ++ open_names) names x y at_x to_y in
+    adds_last r old (head ++ names ++ middle ++ name ++ open_names ++ names) (codes ")") y new at_y to_new
+
+abbrev pub reference_at : Schema → List TableDesign → ℕ → List ℕ
+reference_at s tables j = unwrap_or (option_map (reference_element s) (slice_get tables j)) []
+
+reference_is : (s : Schema) (tables : List TableDesign) (j : ℕ) (other : TableDesign) → j < length tables
+    → other ≡ get_or tables j other
+    → reference_element s other ≡ reference_at s tables j
+reference_is s tables j other lt is =
+    ap (λ (found : Option TableDesign). unwrap_or (option_map (reference_element s) found) [])
+    (sym (slice_get_read tables (length tables) j other refl lt is))
+
+-- the references before a place and the one that is there
+pub references_next : (s : Schema) (tables : List TableDesign) (refs : List ℕ) (i : ℕ) (d : ℕ) → i < length refs
+    → reference_elements s tables (take (i + 1) refs) ≡ reference_elements s tables (take i refs) ++ reference_at s
+    tables (get_or refs i d) ∷ []
+references_next s tables refs i d lt =
+    ap (reference_elements s tables) (take_more refs i d lt)
+    ∙ map-append (reference_at s tables) (take i refs) (get_or refs i d ∷ [])
+
+pub references_more : (s : Schema) (tables : List TableDesign) (refs : List ℕ) (i d : ℕ) (other : TableDesign)
+    (first some : Bool) (before text mid next : List ℕ) → i < length refs
+    → get_or refs i d < length tables → other ≡ get_or tables (get_or refs i d) other
+    → text ≡ before ++ element_lines first (reference_elements s tables (take i refs))
+    → some ≡ (first || has_some (reference_elements s tables (take i refs)))
+    → mid ≡ text ++ opening some → next ≡ mid ++ reference_element s other
+    → next ≡ before ++ element_lines first (reference_elements s tables (take (i + 1) refs))
+references_more s tables refs i d other first some before text mid next lt within is so_far is_some opened added =
+    let element = reference_is s tables (get_or refs i d) other within is in
+    lines_more first some (reference_elements s tables (take i refs)) (reference_at s tables (get_or refs i d))
+    before text mid next so_far is_some opened
+    (added ∙ ap (λ (e : List ℕ). mid ++ e) element)
+    ∙ ap (λ (es : List (List ℕ)). before ++ element_lines first es) (sym (references_next s tables refs i d lt))
+
+pub references_some : (s : Schema) (tables : List TableDesign) (refs : List ℕ) (i d : ℕ) (first : Bool)
+    → i < length refs
+    → true ≡ (first || has_some (reference_elements s tables (take (i + 1) refs)))
+references_some s tables refs i d first lt =
+    some_more first (reference_elements s tables (take i refs)) (reference_at s tables (get_or refs i d))
+    ∙ ap (λ (es : List (List ℕ)). first || has_some es) (sym (references_next s tables refs i d lt))
+
+-- ---- tables
+some_append : (xs ys : List (List ℕ)) → has_some (xs ++ ys) ≡ (has_some xs || has_some ys)
+some_append [] ys = refl
+some_append (x ∷ xs) ys = refl
+
+-- the three kinds of elements, one after another
+pub elements_added : {T E : Type 0} (r : Result T E) (columns keys references : List (List ℕ)) (one two : Bool)
+    (old t u new : List ℕ)
+    → t ≡ old ++ element_lines false columns → one ≡ has_some columns → u ≡ t ++ element_lines one keys
+    → two ≡ (one || has_some keys)
+    → OnOk r (new ≡ u ++ element_lines two references)
+    → OnOk r (new ≡ old ++ element_lines false (columns ++ keys ++ references))
+elements_added r columns keys references one two old t u new to_t is_one to_u is_two to_new =
+    let keyed : u ≡ old ++ element_lines false (columns ++ keys) =
+    adds old (element_lines false columns) (element_lines one keys) t u to_t to_u
+    ∙ ap (λ (b : Bool). old ++ (element_lines false columns ++ element_lines b keys)) is_one
+    ∙ ap (λ (t : List ℕ). old ++ t) (sym (lines_append false columns keys)) in
+    let some : two ≡ has_some (columns ++ keys) = is_two ∙ ap (λ (b : Bool). b || has_some keys) is_one
+    ∙ sym (some_append columns keys) in
+    on_ok r (new ≡ u ++ element_lines two references) (new ≡ old ++ element_lines false (columns ++ keys ++ references))
+    (λ e. adds old (element_lines false (columns ++ keys)) (element_lines two references) u new keyed e
+    ∙ ap (λ (b : Bool). old ++ (element_lines false (columns ++ keys) ++ element_lines b references)) some
+    ∙ ap (λ (t : List ℕ). old ++ t) (sym (lines_append false (columns ++ keys) references))) to_new
+
+pub comment_some : (key : Places) → IsEmpty key → comment key ≡ codes "-- at most one row\n"
+unfolding comment
+comment_some key empty = ap (λ (b : Bool). if b then codes "-- at most one row\n" else []) (empty_passes key empty)
+
+pub comment_none : (key : AttrSet) → (IsEmpty (places key) → ⊥) → comment (places key) ≡ []
+unfolding comment
+comment_none key some = ap (λ (b : Bool). if b then codes "-- at most one row\n" else []) (empty_fails key some)
+
+pub table_added : {T E : Type 0} (r : Result T E) (s : Schema) (tables : List TableDesign) (table : TableDesign)
+    (old t u v w x new : List ℕ)
+    → t ≡ old ++ comment (places table.key) → u ≡ t ++ codes "CREATE TABLE " → v ≡ u ++ quoted_name table.name
+    → w ≡ v ++ codes " (\n"
+    → x ≡ w ++ element_lines false (elements s tables table) → OnOk r (new ≡ x ++ codes "\n);\n")
+    → OnOk r (new ≡ old ++ table_text s tables table)
+unfolding table_text
+table_added r s tables table old t u v w x new to_t to_u to_v to_w to_x to_new =
+    let head = comment (places table.key) in
+    let create : List ℕ = codes "CREATE TABLE " in
+    let name = quoted_name table.name in
+    let begin_lines : List ℕ = codes " (\n" in
+    let lines = element_lines false (elements s tables table) in
+    let at_u = adds old head create t u to_t to_u in
+    let at_v = adds old (head ++ create) name u v at_u to_v in
+    let at_w = adds old (head ++ create ++ name) begin_lines v w at_v to_w in
+    let at_x = adds old (head ++ create ++ name ++ begin_lines) lines w x at_w to_x in
+    adds_last r old (head ++ create ++ name ++ begin_lines ++ lines) (codes "\n);\n") x new at_x to_new

@@ -1,0 +1,25 @@
+use Rattle.std.proofs.Common.{◌≡◌, ◌++◌, List, ℕ, subst}
+use Rattle.std.specs.Prelude.{OnOk}
+use Rattle.attr_sets.specs.Sets.{places}
+use Rattle.ddl_text.specs.Ddl.{column_elements, key_elements, reference_elements, element_lines}
+use Rattle.ddl_text.proofs.TextLemmas.{elements_added}
+use Rattle.ddl_text.proofs.elements.add_elements.Goals as goal
+
+pub returns : goal.returns
+returns c =
+    let s = c.args.schema.now in
+    let tables = c.args.tables.now in
+    let table = c.args.table.now in
+    let one = c.in_ok-some.some in
+    let two = c.in_ok-some-2.some in
+    let references = reference_elements s tables table.refs.items in
+    record {
+      added = elements_added c.add_references.result (column_elements s (places table.scheme))
+          (key_elements s (places table.key)) references one two
+          c.args.text.now.items c.add_columns.new.text.items c.add_key.new.text.items c.add_references.new.text.items
+          c.in_ok-some.ensures.added c.in_ok-some.ensures.some c.in_ok-some-2.ensures.added c.in_ok-some-2.ensures.some
+          (subst (λ (refs : List ℕ). OnOk c.add_references.result
+          (c.add_references.new.text.items ≡ c.add_key.new.text.items ++ element_lines two
+          (reference_elements s tables refs)))
+          c.deref.ensures.value c.add_references.ensures.added);
+    }

@@ -1,0 +1,87 @@
+-- A design as SQL.
+use Rattle.std.specs.Prelude.{ℕ, Bool, true, false, if◌then◌else◌, List, [], ◌∷◌, ◌++◌, map, codes, slice_get, slice_index_or, unwrap_or, option_map}
+use Rattle.std.specs.List.{flat_map}
+use Rattle.attr_sets.specs.Places.{Places, none}
+use Rattle.attr_sets.specs.Sets.{places, is_within}
+use Rattle.dep_model.specs.declared.column.Column.{Column}
+use Rattle.dep_model.specs.declared.column.Column.TheVariants.{Text, Integer}
+use Rattle.dep_model.specs.declared.schema.Schema.{Schema}
+use Rattle.dep_model.specs.Projections.{members_below}
+use Rattle.dep_model.specs.Columns.{column_at}
+use Rattle.dep_model.specs.Schemas.{names_of, width_of}
+use Rattle.schema_grammar.specs.Printing.{members_from}
+use Rattle.targets.specs.Sql.{quoted_name, listed}
+use Rattle.ddl_text.specs.declared.table.TableDesign.{TableDesign}
+
+-- the quoted names of a set's attributes, ascending, with a comma and a blank between
+abbrev pub name_list : Schema → Places → List ℕ
+name_list s x = listed quoted_name (members_from x 0 (names_of s))
+
+-- what stands behind the name of a column of a type
+abbrev pub column_type : Column → List ℕ
+column_type Text = codes " TEXT NOT NULL"
+column_type Integer = codes " BIGINT NOT NULL"
+
+-- the column of an attribute
+unfoldable pub column_element : Schema → ℕ → List ℕ
+column_element s k = quoted_name (slice_index_or (names_of s) k []) ++ column_type (column_at (places s.integers) k)
+
+-- the columns of a scheme, ascending
+abbrev pub column_elements : Schema → Places → List (List ℕ)
+column_elements s scheme = map (column_element s) (members_below (width_of s) scheme)
+
+unfoldable pub key_element : Schema → Places → List ℕ
+key_element s key = codes "PRIMARY KEY (" ++ name_list s key ++ codes ")"
+
+-- whether a set has no member
+abbrev pub is_empty : Places → Bool
+is_empty x = is_within x none
+
+-- the key, where it is not empty
+abbrev pub key_elements : Schema → Places → List (List ℕ)
+key_elements s key = if is_empty key then [] else key_element s key ∷ []
+
+-- a reference to a table by its key
+unfoldable pub reference_element : Schema → TableDesign → List ℕ
+reference_element s other =
+    codes "FOREIGN KEY (" ++ name_list s (places other.key) ++ codes ") REFERENCES " ++ quoted_name other.name
+    ++ codes " (" ++ name_list s (places other.key) ++ codes ")"
+
+-- the references to the tables at these places, in order
+abbrev pub reference_elements : Schema → List TableDesign → List ℕ → List (List ℕ)
+reference_elements s tables refs = map (λ j. unwrap_or (option_map (reference_element s) (slice_get tables j)) []) refs
+
+-- the columns, the key and the references of a table
+abbrev pub elements : Schema → List TableDesign → TableDesign → List (List ℕ)
+elements s tables table =
+    column_elements s (places table.scheme) ++ key_elements s (places table.key) ++ reference_elements s tables
+    table.refs.items
+
+-- what stands before an element on its line, behind the end of the line before, if there is one
+abbrev pub opening : Bool → List ℕ
+opening some = if some then codes ",\n  " else codes "  "
+
+-- elements, each on a line with two blanks before it, and with a comma behind each that another follows;
+-- where others stand before them, from the comma behind these on
+abbrev pub element_lines : Bool → List (List ℕ) → List ℕ
+element_lines some [] = []
+element_lines some (e ∷ es) = opening some ++ e ++ element_lines true es
+
+-- whether there are elements
+abbrev pub has_some : List (List ℕ) → Bool
+has_some [] = false
+has_some (e ∷ es) = true
+
+-- what stands before a table: a comment where its key is empty
+unfoldable pub comment : Places → List ℕ
+comment key = if is_empty key then codes "-- at most one row\n" else []
+
+-- the statement that creates a table
+unfoldable pub table_text : Schema → List TableDesign → TableDesign → List ℕ
+table_text s tables table =
+    comment (places table.key) ++ codes "CREATE TABLE " ++ quoted_name table.name ++ codes " (\n"
+    ++ element_lines false (elements s tables table) ++ codes "\n);\n"
+
+-- the statements that create the tables of a design, in order
+abbrev pub ddl_text : Schema → List TableDesign → List ℕ
+ddl_text s tables = flat_map (table_text s tables) tables

@@ -1,0 +1,18 @@
+-- Keys and references, over tables as relations.
+use Rattle.std.specs.Prelude.{◌≡◌, ℕ, true, Contains}
+use Rattle.attr_sets.specs.Places.{Places}
+use Rattle.dep_model.specs.Tuples.{Tuple, Relation}
+use Rattle.dep_model.specs.OnSchemes.{value_in, AgreeIn}
+
+-- any two rows of a table over a scheme that agree on the key are equal
+abbrev pub KeyHolds : Places → Relation → Places → Type 0
+KeyHolds scheme table key = (t u : Tuple) → Contains table t → Contains table u → AgreeIn scheme key t u → t ≡ u
+
+-- a row over a scheme and one over another scheme are equal at each place of x
+abbrev pub AgreeAcross : Places → Tuple → Places → Tuple → Places → Type 0
+AgreeAcross scheme t other u x = (k : ℕ) → x k ≡ true → value_in scheme t k ≡ value_in other u k
+
+-- for each row of a table over a scheme some row of a table over another scheme agrees with it on the key
+abbrev pub ReferenceHolds : Places → Relation → Places → Relation → Places → Type 0
+ReferenceHolds scheme table other other_table key =
+    (t : Tuple) → Contains table t → (u : Tuple) × Contains other_table u × AgreeAcross scheme t other u key

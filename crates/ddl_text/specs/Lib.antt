@@ -1,0 +1,4 @@
+pub mod Holding
+pub mod Designs
+pub mod Laws
+pub mod Ddl

@@ -1,0 +1,46 @@
+ghost use Rattle.std.specs.Prelude.{◌≡◌, ◌<◌, ◌++◌, false, IfOk, OnOk};
+ghost use Rattle.attr_sets.specs.Sets.{places};
+ghost use Rattle.dep_model.specs.Schemas.{width_of};
+ghost use Rattle.ddl_text.specs.Ddl.{column_element, column_elements, column_type, element_lines, has_some};
+
+use crate::elements::add_opening;
+use crate::name_list::add_quoted;
+use attr_sets::AttrSet;
+use dep_model::{Column, Schema, WantMemory};
+use schema_reader::add;
+
+// Adds the columns of a scheme as the first elements, and tells whether there are some.
+pub fn add_columns(text: &mut Vec<u8>, schema: &Schema, scheme: AttrSet) -> Result<bool, WantMemory>
+    ensures added { OnOk result (text.new.items
+        ≡ text.old.items ++ element_lines false (column_elements schema.now (places scheme))) }
+    ensures some { IfOk result (λ some. some ≡ has_some (column_elements schema.now (places scheme))) }
+{
+    let mut some = false;
+    for place in 0..schema.width() {
+        if scheme.has(place) {
+            add_opening(text, some)?;
+            add_column(text, schema, place)?;
+            some = true;
+        }
+    }
+    Ok(some)
+}
+
+// Adds the column of an attribute.
+fn add_column(text: &mut Vec<u8>, schema: &Schema, place: u8) -> Result<(), WantMemory>
+    requires place { place < width_of schema.now }
+    ensures added { OnOk result (text.new.items ≡ text.old.items ++ column_element schema.now place) }
+{
+    add_quoted(text, schema.name(place))?;
+    add_type(text, schema.column(place))
+}
+
+// Adds the type of a column.
+fn add_type(text: &mut Vec<u8>, column: Column) -> Result<(), WantMemory>
+    ensures added { OnOk result (text.new.items ≡ text.old.items ++ column_type column) }
+{
+    match column {
+        Column::Text => add(text, b" TEXT NOT NULL"),
+        Column::Integer => add(text, b" BIGINT NOT NULL"),
+    }
+}

@@ -1,0 +1,122 @@
+ghost use Rattle.std.specs.Prelude.{◌≡◌, ◌↔◌, ◌<◌, ◌≤◌, length, All, IsTrue, IfOk};
+ghost use Rattle.attr_sets.specs.Places.{Within};
+ghost use Rattle.attr_sets.specs.Sets.{places};
+ghost use Rattle.dep_model.specs.Schemas.{universe_of};
+ghost use Rattle.decomp_text.specs.Plans.{sets_of, IsPlanOver};
+ghost use Rattle.table_names.specs.declared.numbered.TheConstants.{MOST_TABLES};
+ghost use Rattle.ddl_text.specs.Designs.{RefersTo, AreReferences, IsTableOf, IsDesign, ReferToEarlier};
+ghost use Rattle.ddl_text.specs.Laws.{KeysHold, ReferencesHold};
+
+use crate::TableDesign;
+use attr_sets::AttrSet;
+use decomp_text::Plan;
+use dep_model::{Schema, WantMemory};
+use key_listing::one_key;
+use std::alloc::Global;
+use std::marker::Model;
+use table_names::table_name;
+
+/// Tables, of which each refers to earlier ones alone.
+#[derive(Debug, Drop)]
+pub struct DesignList {
+    tables: Vec<TableDesign>,
+}
+
+impl Model for DesignList {
+    ghost use Rattle.std.specs.Prelude.{List};
+    ghost use Rattle.ddl_text.specs.declared.table.TableDesign.{TableDesign};
+    ghost use Rattle.ddl_text.specs.Designs.{ReferToEarlier};
+
+    ghost Value = { List TableDesign };
+
+    ghost view = { λ d. d.tables.items };
+
+    ghost invariant = { λ d. ReferToEarlier d.tables.items };
+}
+
+impl DesignList {
+    /// The tables, in order.
+    pub fn tables(&self) -> &[TableDesign]
+        ensures tables { result.now ≡ self.now }
+        ensures earlier { ReferToEarlier self.now }
+    {
+        &self.tables
+    }
+}
+
+/// The tables of a plan, one for each scheme, in order. They are named `t1`, `t2` and so on. The key of a
+/// table is its scheme without each attribute, tried from the last to the first, that the rest still
+/// determines by all dependencies. It refers to each earlier table whose key lies within its scheme and is
+/// not empty.
+pub fn design(alloc: Global, schema: &Schema, plan: &Plan) -> Result<DesignList, WantMemory>
+    requires universe { IsPlanOver schema.now plan.now }
+    requires few { length (sets_of plan.now) ≤ MOST_TABLES }
+    ensures design { IfOk result (λ tables. IsDesign schema.now (sets_of plan.now) tables) }
+    ensures keys_hold { IfOk result (λ tables. KeysHold schema.now tables) }
+    ensures references_hold { IfOk result (λ tables. ReferencesHold schema.now tables) }
+{
+    let tables = tables_of(alloc, schema, plan.schemes())?;
+    Ok(DesignList { tables })
+}
+
+// The tables of these schemes.
+fn tables_of(
+    alloc: Global,
+    schema: &Schema,
+    schemes: &[AttrSet],
+) -> Result<Vec<TableDesign>, WantMemory>
+    requires within { All (λ scheme. Within (places scheme) (universe_of schema.now)) schemes.now }
+    requires few { length schemes.now ≤ MOST_TABLES }
+    ensures design { IfOk result (λ tables. IsDesign schema.now schemes.now tables.items) }
+{
+    let mut tables = Vec::new(alloc);
+    for scheme in schemes {
+        let table = table_of(alloc, schema, &tables, *scheme)?;
+        tables.push(table)?;
+    }
+    Ok(tables)
+}
+
+// The table of a scheme, behind the earlier ones.
+fn table_of(
+    alloc: Global,
+    schema: &Schema,
+    earlier: &[TableDesign],
+    scheme: AttrSet,
+) -> Result<TableDesign, WantMemory>
+    requires scheme { Within (places scheme) (universe_of schema.now) }
+    requires few { length earlier.now < MOST_TABLES }
+    ensures table { IfOk result (IsTableOf schema.now earlier.now scheme) }
+{
+    Ok(TableDesign {
+        name: table_name(earlier.len() as u32 + 1),
+        scheme,
+        key: one_key(schema, scheme),
+        refs: references(alloc, earlier, scheme)?,
+    })
+}
+
+// The places of the earlier tables that a scheme refers to.
+fn references(
+    alloc: Global,
+    earlier: &[TableDesign],
+    scheme: AttrSet,
+) -> Result<Vec<u32>, WantMemory>
+    requires few { length earlier.now < MOST_TABLES }
+    ensures refs { IfOk result (λ refs. AreReferences earlier.now (places scheme) refs.items) }
+{
+    let mut refs = Vec::new(alloc);
+    for (j, table) in earlier.iter().enumerate() {
+        if refers_to(scheme, table) {
+            refs.push(j as u32)?;
+        }
+    }
+    Ok(refs)
+}
+
+// Whether a scheme refers to a table.
+fn refers_to(scheme: AttrSet, table: &TableDesign) -> bool
+    ensures refers { IsTrue result ↔ RefersTo (places scheme) table.now }
+{
+    !table.key.is_empty() && table.key.within(scheme)
+}

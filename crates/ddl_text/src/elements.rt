@@ -1,0 +1,58 @@
+ghost use Rattle.std.specs.Prelude.{◌≡◌, ◌<◌, ◌++◌, ◌||◌, false, length, All, IfOk, OnOk};
+ghost use Rattle.attr_sets.specs.Sets.{places};
+ghost use Rattle.ddl_text.specs.Ddl.{opening, elements, element_lines, has_some, key_elements};
+
+use crate::TableDesign;
+use crate::columns::add_columns;
+use crate::name_list::add_name_list;
+use crate::references::add_references;
+use attr_sets::AttrSet;
+use dep_model::{Schema, WantMemory};
+use schema_reader::add;
+
+// Adds the columns, the key and the references of a table.
+pub fn add_elements(
+    text: &mut Vec<u8>,
+    schema: &Schema,
+    tables: &[TableDesign],
+    table: &TableDesign,
+) -> Result<(), WantMemory>
+    requires refs { All (λ j. j < length tables.now) table.now.refs.items }
+    ensures added { OnOk result (text.new.items
+        ≡ text.old.items ++ element_lines false (elements schema.now tables.now table.now)) }
+{
+    let some = add_columns(text, schema, table.scheme)?;
+    let some = add_key(text, some, schema, table.key)?;
+    add_references(text, some, schema, tables, &table.refs)
+}
+
+// Adds the key of a table, if it is not empty, and tells whether there are some elements.
+fn add_key(
+    text: &mut Vec<u8>,
+    some: bool,
+    schema: &Schema,
+    key: AttrSet,
+) -> Result<bool, WantMemory>
+    ensures added { OnOk result (text.new.items
+        ≡ text.old.items ++ element_lines some (key_elements schema.now (places key))) }
+    ensures some { IfOk result (λ more. more ≡ (some || has_some (key_elements schema.now (places key)))) }
+{
+    if key.is_empty() {
+        return Ok(some);
+    }
+    add_opening(text, some)?;
+    add(text, b"PRIMARY KEY (")?;
+    add_name_list(text, schema, key)?;
+    add(text, b")")?;
+    Ok(true)
+}
+
+// Adds what stands before an element on its line, and ends the line before, if there is one.
+pub fn add_opening(text: &mut Vec<u8>, some: bool) -> Result<(), WantMemory>
+    ensures added { OnOk result (text.new.items ≡ text.old.items ++ opening some) }
+{
+    if some {
+        add(text, b",\n")?;
+    }
+    add(text, b"  ")
+}

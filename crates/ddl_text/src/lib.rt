@@ -1,0 +1,22 @@
+//! Tables for the schemes of a plan: their names, keys and references, and these as SQL.
+//!
+//! `design` gives each scheme a table, whose key is the settled key by all dependencies, and which refers to
+//! each earlier table whose key lies within it. In the tables of every legal relation each key and each
+//! reference holds. `print_ddl` prints a design as `CREATE TABLE` statements.
+#![tactic(auto)]
+
+mod columns;
+mod designing;
+mod elements;
+mod name_list;
+mod printing;
+mod references;
+mod table;
+
+pub use designing::{DesignList, design};
+pub use printing::print_ddl;
+pub use table::TableDesign;
+pub use table_names::MOST_TABLES;
+
+#[cfg(test)]
+mod tests;

@@ -1,0 +1,42 @@
+ghost use Rattle.std.specs.Prelude.{◌≡◌, ◌<◌, ◌++◌, length, All, OnOk};
+ghost use Rattle.ddl_text.specs.Ddl.{element_lines, reference_element, reference_elements};
+
+use crate::TableDesign;
+use crate::elements::add_opening;
+use crate::name_list::{add_name_list, add_quoted};
+use dep_model::{Schema, WantMemory};
+use schema_reader::add;
+
+// Adds the references to the tables at these places, in order, where other elements stand before or not.
+pub fn add_references(
+    text: &mut Vec<u8>,
+    some: bool,
+    schema: &Schema,
+    tables: &[TableDesign],
+    refs: &[u32],
+) -> Result<(), WantMemory>
+    requires refs { All (λ j. j < length tables.now) refs.now }
+    ensures added { OnOk result (text.new.items
+        ≡ text.old.items ++ element_lines some (reference_elements schema.now tables.now refs.now)) }
+{
+    let mut some = some;
+    for j in refs {
+        add_opening(text, some)?;
+        add_reference(text, schema, &tables[*j as usize])?;
+        some = true;
+    }
+    Ok(())
+}
+
+// Adds a reference to a table by its key.
+fn add_reference(text: &mut Vec<u8>, schema: &Schema, other: &TableDesign) -> Result<(), WantMemory>
+    ensures added { OnOk result (text.new.items ≡ text.old.items ++ reference_element schema.now other.now) }
+{
+    add(text, b"FOREIGN KEY (")?;
+    add_name_list(text, schema, other.key)?;
+    add(text, b") REFERENCES ")?;
+    add_quoted(text, &other.name)?;
+    add(text, b" (")?;
+    add_name_list(text, schema, other.key)?;
+    add(text, b")")
+}

@@ -1,0 +1,14 @@
+use attr_sets::AttrSet;
+use dep_model::Name;
+
+/// A table for a scheme.
+#[derive(Debug, Drop)]
+pub struct TableDesign {
+    pub name: Name,
+    /// The attributes of its columns.
+    pub scheme: AttrSet,
+    /// A key of the scheme. Where it is empty, the table has one row at most.
+    pub key: AttrSet,
+    /// The places, from 0 and ascending, of the tables that it refers to by their keys.
+    pub refs: Vec<u32>,
+}

@@ -1,0 +1,55 @@
+-- Names of columns as a schema without dependencies, and its text.
+use Rattle.std.proofs.Common.{◌≡◌, ◌<◌, ◌≤◌, ℕ, suc, Bool, false, Option, Some, None, List, [], ◌∷◌, length, take, get_or, subst, refl, ap, sym, ◌∙◌, arith}
+use Rattle.std.proofs.lemmas.Grind.{common_steps}
+use Rattle.std.proofs.lemmas.List.{get_or-take, get_or_default, length-take-le}
+use Rattle.std.proofs.lemmas.List.Sums.{fails_before_first}
+use Rattle.std.specs.List.{list_any}
+use Rattle.std.specs.Prelude.{slice_get, position}
+use Rattle.dep_model.specs.Dependencies.{Dependency}
+use Rattle.dep_model.specs.Names.{same_name}
+use Rattle.dep_model.specs.Schemas.{columns_of, names_of, width_of}
+use Rattle.dep_model.specs.Validity.{IsSchema}
+use Rattle.dep_model.specs.declared.column.Column.{Column}
+use Rattle.dep_model.specs.declared.column.Column.TheVariants.{Text, Integer}
+use Rattle.dep_model.specs.declared.dep.Dep.{Dep}
+use Rattle.dep_model.specs.declared.schema.Schema.{Schema}
+use Rattle.fd_discovery.specs.Headers.{IsHeader, field_at}
+use Rattle.schema_grammar.specs.Printing.{declared_text, declaring_lines, is_integer}
+use Rattle.desk_cli.specs.Discoveries.{found_text}
+
+-- ---- the names of a header differ
+no_place : (p : List ℕ → Bool) (names : List (List ℕ)) (i : ℕ) (d : List ℕ) → position p names ≡ None → i < length names → p (get_or names i d) ≡ false
+no_place p names i d none low = fails_before_first p names i d (grind (arith, common_steps, none, low))
+
+names_apart : (names : List (List ℕ)) → IsHeader names → (i j : ℕ) (d : List ℕ) → i < j → j < length names → same_name (get_or names i d) (get_or names j d) ≡ false
+names_apart names header i j d before within =
+    let at = get_or names j [] in
+    let few : length (take j names) ≡ j = length-take-le j names (omega (arith, within)) in
+    let apart : same_name (get_or (take j names) i d) at ≡ false =
+    no_place (λ name. same_name name at) (take j names) i d (header.named j within).1 (omega (arith, few, before)) in
+    subst (λ (b : List ℕ). same_name (get_or names i d) b ≡ false) (get_or_default names j [] d within)
+    (subst (λ (a : List ℕ). same_name a at ≡ false) (get_or-take j names i d before) apart)
+
+pub headed_schema : (names : List (List ℕ)) (deps : List Dep) (lines : List ℕ) → IsHeader names → 0 < length names → deps ≡ [] → lines ≡ [] → IsSchema names deps lines
+headed_schema names deps lines header some none empty = record {
+  some_names = some;
+  few_names = omega (arith, header.few);
+  names_differ = names_apart names header;
+  few_deps = rw none (omega arith);
+  deps_within = rw none (λ k d l. absurd (omega arith));
+  one_line_each = ap length empty ∙ sym (ap length none);
+}
+
+-- ---- a schema of text columns
+all_text : (columns : List Column) → ((i : ℕ) → i < length columns → slice_get columns i ≡ Some Text) → list_any is_integer columns ≡ false
+all_text [] each = refl
+all_text (Text ∷ columns) each = all_text columns (λ i low. grind (arith, common_steps, each (suc i) (omega (arith, low))))
+all_text (Integer ∷ columns) each = absurd (not_both (each 0 (omega arith)))
+  where
+    not_both : Some Integer ≡ Some Text → ⊥
+    not_both e = cc
+
+pub plain_text : (s : Schema) (ds : List Dependency) → ((i : ℕ) → i < width_of s → slice_get (columns_of s) i ≡ Some Text)
+    → declared_text (columns_of s) (names_of s) ds ≡ found_text (names_of s) ds
+unfolding declared_text declaring_lines
+plain_text s ds each = rw (all_text (columns_of s) (λ i low. each i (omega (arith, low, s.typed.one_each)))) refl

@@ -1,0 +1,40 @@
+use Rattle.std.proofs.Common.{◌≡◌, inl, subst}
+use Rattle.std.specs.Prelude.{Vec}
+use Rattle.std.specs.declared.alloc.Global.{Global}
+use Rattle.chase_laws.specs.Answers.{IsClosedTableau, IsGaining}
+use Rattle.dep_model.specs.Plans.{schemes_of}
+use Rattle.dep_model.specs.Schemas.{names_of, width_of, theory_of, TypedFor}
+use Rattle.dep_model.specs.Tuples.{Tuple, Relation}
+use Rattle.tableau_chase.specs.Chases.{IfLossy}
+use Rattle.tableau_chase.specs.declared.chased.Chased.{Chased}
+use Rattle.tableau_chase.specs.declared.chased.Chased.TheVariants.{Lossless, Lossy}
+use Rattle.desk_cli.specs.declared.join.TheConstants.{MOST_TABLEAU_ROWS}
+use Rattle.desk_cli.specs.declared.status.Status.TheVariants.{No}
+use Rattle.desk_cli.specs.Answers.{Says}
+use Rattle.desk_cli.specs.Joins.{lossy_text}
+use Rattle.desk_cli.specs.Replies.{answer_of}
+use Rattle.desk_cli.proofs.join.test_loss.Goals as goal
+
+not_both : (chased : Chased) (rows : Vec Tuple Global) → chased ≡ Lossy rows → chased ≡ Lossless → ⊥
+not_both chased rows lossy lossless = cc
+
+pub returns-in-Ok-Lossy-clause-stop : goal.returns-in-Ok-Lossy-clause-stop
+returns-in-Ok-Lossy-clause-stop c = λ reply is.
+    let s = c.args.schema.now in
+    let n = width_of s in
+    let ds = theory_of s in
+    let plan = schemes_of c.args.schemes.now in
+    let lossy = c.in-Ok-Lossy in
+    inl (
+      lossy.ensures.within_limit,
+      (λ loses. not_both lossy.field-0 lossy.rows lossy.field-0-is (lossy.ensures.lossless.1 loses)),
+      (
+        lossy.rows.items,
+        record {
+          closed = subst (λ (chased : Chased). IfLossy (IsClosedTableau n ds plan MOST_TABLEAU_ROWS) chased) lossy.field-0-is lossy.ensures.closed_tableau;
+          gaining = subst (λ (chased : Chased). IfLossy (IsGaining n ds plan) chased) lossy.field-0-is lossy.ensures.gaining;
+          typed = subst (λ (chased : Chased). IfLossy (TypedFor s) chased) lossy.field-0-is lossy.ensures.typed;
+        },
+        subst (λ (rows : Relation). Says No (lossy_text (names_of s) rows) (answer_of reply)) c.deref.ensures.value (c.lossy.ensures.says reply is),
+      ),
+    )

@@ -1,0 +1,17 @@
+use Rattle.std.proofs.Common.{◌≡◌, ◌≤◌, ℕ, length, take}
+use Rattle.std.specs.Prelude.{All}
+use Rattle.dep_model.specs.Schemas.{width_of}
+use Rattle.table_join.specs.Tables.{IsTable, tables_of}
+use Rattle.desk_cli.specs.Readings.{Reading, files_in}
+use Rattle.desk_cli.specs.Rejoining.{ArePartFiles}
+use Rattle.desk_cli.proofs.rejoining.open_parts.Given as goal
+
+-- the files so far were read
+abbrev pub invariant-loop-file : goal.invariant-loop-file
+invariant-loop-file g l = record {
+  files : g.F.Shelf.files l.shelf ≡ g.F.Shelf.files l.fn.shelf;
+  later : g.F.Shelf.faults l.fn.shelf ≤ g.F.Shelf.faults l.shelf;
+  read : (r : Reading) → files_in r ≡ g.F.Shelf.files l.fn.shelf → ArePartFiles r l.schema (take l.file-index l.files) l.parts.items;
+  tables : All (IsTable (width_of l.schema)) (tables_of l.parts.items);
+  one_each : length l.parts.items ≡ l.file-index;
+}

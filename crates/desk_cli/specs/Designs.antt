@@ -1,0 +1,42 @@
+-- SQL tables of a plan.
+use Rattle.std.specs.Prelude.{◌≡◌, ℕ, List}
+use Rattle.attr_sets.specs.Places.{Places}
+use Rattle.attr_sets.specs.declared.set.AttrSet.{AttrSet}
+use Rattle.dep_model.specs.Plans.{schemes_of}
+use Rattle.dep_model.specs.declared.schema.Schema.{Schema}
+use Rattle.ddl_text.specs.declared.table.TableDesign.{TableDesign}
+use Rattle.ddl_text.specs.Ddl.{ddl_text}
+use Rattle.ddl_text.specs.Designs.{IsDesign}
+use Rattle.ddl_text.specs.Laws.{KeysHold, ReferencesHold}
+use Rattle.form_tests.specs.declared.forms.Form.{Form}
+use Rattle.desk_cli.specs.declared.status.Status.TheVariants.{Yes}
+use Rattle.desk_cli.specs.Answers.{Allowed, Says}
+use Rattle.desk_cli.specs.Decompositions.{WithPlanInForm}
+use Rattle.desk_cli.specs.Joins.{WithoutLoss}
+use Rattle.desk_cli.specs.Plans.{WithPlan}
+use Rattle.desk_cli.specs.Readings.{Reading}
+
+-- the design of a plan; in the tables of every legal relation its keys and references hold
+pub record IsSoundDesign (schema : Schema) (plan : List AttrSet) (tables : List TableDesign) : Type 0 where
+  pub design : IsDesign schema plan tables
+  pub keys_hold : KeysHold schema tables
+  pub references_hold : ReferencesHold schema tables
+
+-- yes, with the statements that create the tables of a plan
+abbrev pub WritesTables : Schema → List AttrSet → Allowed
+WritesTables schema plan answer =
+    (tables : List TableDesign) × IsSoundDesign schema plan tables × Says Yes (ddl_text schema tables) answer
+
+-- of the plan of a normal form
+abbrev pub WritesForm : Schema → Form → Allowed
+WritesForm schema form = WithPlanInForm schema form (WritesTables schema)
+
+-- of schemes, as sets of attributes
+abbrev pub WritesSchemes : Schema → List Places → Allowed
+WritesSchemes schema schemes answer =
+    (plan : List AttrSet) × (schemes_of plan ≡ schemes) × WritesTables schema plan answer
+
+-- of a plan file, where it loses nothing
+abbrev pub WritesPlan : Reading → Schema → List ℕ → Allowed
+WritesPlan r schema file =
+    WithPlan r schema file (λ schemes. WithoutLoss schema schemes (WritesSchemes schema schemes))

@@ -1,0 +1,99 @@
+-- The functional dependencies that the rows of a file obey.
+use Rattle.std.specs.Prelude.{◌≢◌, ◌⊎◌, ◌↔◌, ℕ, Bool, true, false, List, [], ◌∷◌, ◌++◌, codes, length, map}
+use Rattle.std.specs.Fmt.{decimal}
+use Rattle.attr_sets.specs.Places.{Places, below, Within}
+use Rattle.csv_rows.specs.Records.{records_of}
+use Rattle.dep_model.specs.Dependencies.{Dependency, fd, ObeysFd}
+use Rattle.dep_model.specs.Implication.{Implies}
+use Rattle.dep_model.specs.Tuples.{Relation}
+use Rattle.fd_discovery.specs.declared.headed.Headed.{Headed}
+use Rattle.fd_discovery.specs.declared.refusal.DiscoverRefusal.{DiscoverRefusal}
+use Rattle.fd_discovery.specs.declared.refusal.DiscoverRefusal.TheVariants as refusal
+use Rattle.fd_discovery.specs.Headings.{IsHeaded, IsRefused, names_under, rows_under}
+use Rattle.fd_discovery.specs.Minimal.{AreAllMinimal}
+use Rattle.schema_grammar.specs.Printing.{words_text, dependency_text, lines_text}
+use Rattle.desk_cli.specs.declared.rows.TheConstants.{MOST_CSV_BYTES}
+use Rattle.desk_cli.specs.declared.status.Status.TheVariants.{Yes, Refused}
+use Rattle.desk_cli.specs.Answers.{Allowed, Says, With}
+use Rattle.desk_cli.specs.Inputs.{FileStops}
+use Rattle.desk_cli.specs.Readings.{Reading, IsContent}
+use Rattle.desk_cli.specs.Texts.{line}
+
+-- ---- texts
+-- the number of a refusal; want of memory has none
+abbrev pub headed_refusal_number : DiscoverRefusal → ℕ
+headed_refusal_number refusal.NoHeader = 1
+headed_refusal_number refusal.TooManyColumns = 2
+headed_refusal_number (refusal.BadColumn column) = 3
+headed_refusal_number (refusal.DoubleColumn column) = 4
+headed_refusal_number (refusal.UnevenRow row) = 5
+headed_refusal_number refusal.TooManyRows = 6
+headed_refusal_number refusal.Memory = 0
+
+-- a refusal in words
+abbrev pub headed_reason_text : DiscoverRefusal → List ℕ
+headed_reason_text refusal.NoHeader = codes "no header"
+headed_reason_text refusal.TooManyColumns = codes "too many columns"
+headed_reason_text (refusal.BadColumn column) = codes "bad column " ++ decimal column
+headed_reason_text (refusal.DoubleColumn column) = codes "column " ++ decimal column ++ codes " repeated"
+headed_reason_text (refusal.UnevenRow row) = codes "row " ++ decimal row ++ codes " has the wrong length"
+headed_reason_text refusal.TooManyRows = codes "too many rows"
+headed_reason_text refusal.Memory = []
+
+-- a refusal of a file of rows under names of its own
+abbrev pub headed_refusal_text : List ℕ → DiscoverRefusal → List ℕ
+headed_refusal_text file why =
+    line (codes "refused: discover " ++ decimal (headed_refusal_number why) ++ codes " at " ++ file ++ codes ": " ++ headed_reason_text why)
+
+-- names, and dependencies over them, as a schema text
+abbrev pub found_text : List (List ℕ) → List Dependency → List ℕ
+found_text names ds = lines_text ((codes "attributes" ++ words_text names) ∷ map (dependency_text names) ds)
+
+-- ---- files
+-- the text of a file is refused so
+pub record IsRefusedHeaded (r : Reading) (name : List ℕ) (why : DiscoverRefusal) : Type 0 where
+  pub bytes : List ℕ
+  pub content : IsContent r name MOST_CSV_BYTES bytes
+  pub refused : IsRefused (records_of bytes) why
+
+-- the text of a file has a header that names columns, and these rows
+pub record IsHeadedFile (r : Reading) (name : List ℕ) (headed : Headed) : Type 0 where
+  pub bytes : List ℕ
+  pub content : IsContent r name MOST_CSV_BYTES bytes
+  pub means : IsHeaded (records_of bytes) headed
+
+-- how the reading of such a file ends a command
+abbrev pub HeadedStops : Reading → List ℕ → Allowed
+HeadedStops r name answer =
+    FileStops r name MOST_CSV_BYTES answer
+    ⊎ ((why : DiscoverRefusal) × IsRefusedHeaded r name why × Says Refused (headed_refusal_text name why) answer)
+
+-- such a file is read, and then the rest follows
+abbrev pub WithHeaded : Reading → List ℕ → (Headed → Allowed) → Allowed
+WithHeaded r name = With (HeadedStops r name) (IsHeadedFile r name)
+
+-- ---- answers
+-- exactly the minimal functional dependencies of rows, in order; they imply those that the rows obey and no other
+pub record AreRulesOf (n : ℕ) (rows : Relation) (ds : List Dependency) : Type 0 where
+  pub minimal : AreAllMinimal n rows ds
+  pub implied : (x y : Places) → Within x (below n) → Within y (below n) → Implies n ds (fd x y) ↔ ObeysFd x y rows
+
+-- yes, with these
+abbrev pub FindsRules : Headed → Allowed
+FindsRules headed answer =
+    (ds : List Dependency) × AreRulesOf (length (names_under headed)) (rows_under headed) ds
+    × Says Yes (found_text (names_under headed) ds) answer
+
+-- of the rows of a file
+abbrev pub Discovers : Reading → List ℕ → Allowed
+Discovers r file = WithHeaded r file FindsRules
+
+-- ---- replies
+-- a refusal is want of memory
+abbrev pub headed_wants_memory : DiscoverRefusal → Bool
+headed_wants_memory refusal.Memory = true
+headed_wants_memory _ = false
+
+-- a command ends with the refusal of such a file
+abbrev pub TellsHeaded : List ℕ → DiscoverRefusal → Allowed
+TellsHeaded name why answer = (why ≢ refusal.Memory) × Says Refused (headed_refusal_text name why) answer

@@ -1,0 +1,50 @@
+-- Whether a plan keeps the functional dependencies.
+use Rattle.std.specs.Prelude.{◌≡◌, ◌⊎◌, ℕ, List, ◌∷◌, ◌++◌, codes, slice_get}
+use Rattle.std.specs.List.{flat_map}
+use Rattle.attr_sets.specs.Places.{Places}
+use Rattle.attr_sets.specs.Sets.{places}
+use Rattle.csv_rows.specs.RowsText.{rows_text}
+use Rattle.dep_model.specs.Preservation.{KeepsDependencies}
+use Rattle.dep_model.specs.Schemas.{names_of, width_of, theory_of, deps_of, lines_of}
+use Rattle.dep_model.specs.TwoTuples.{two_tuples}
+use Rattle.dep_model.specs.declared.schema.Schema.{Schema}
+use Rattle.preservation.specs.declared.losing.Loss.{Loss}
+use Rattle.preservation.specs.Keeping.{LossesOf}
+use Rattle.desk_cli.specs.declared.status.Status.TheVariants.{Yes, No}
+use Rattle.desk_cli.specs.Answers.{Allowed, Says}
+use Rattle.desk_cli.specs.Legality.{line_text, dep_text}
+use Rattle.desk_cli.specs.Plans.{WithPlan}
+use Rattle.desk_cli.specs.Readings.{Reading}
+use Rattle.desk_cli.specs.Texts.{line}
+
+-- ---- texts
+abbrev pub kept_text : List ℕ
+kept_text = line (codes "every functional dependency is kept")
+
+-- a dependency that is lost, with its line
+abbrev pub loss_text : Schema → Loss → List ℕ
+loss_text schema loss =
+    line (codes "line " ++ line_text (slice_get (lines_of schema) loss.dep)
+    ++ codes ": " ++ dep_text (names_of schema) (slice_get (deps_of schema) loss.dep) ++ codes " is lost")
+
+-- the two tuples that show a loss
+abbrev pub shown_text : Schema → Loss → List ℕ
+shown_text schema loss =
+    line (codes "shown by") ++ rows_text (names_of schema) (two_tuples (width_of schema) (places loss.agreement))
+
+-- each dependency that is lost, and two tuples that show the first
+abbrev pub losses_text : Schema → Loss → List Loss → List ℕ
+losses_text schema first more = flat_map (loss_text schema) (first ∷ more) ++ shown_text schema first
+
+-- ---- answers
+-- yes exactly where a plan keeps the functional dependencies; else no, with those that it loses
+abbrev pub JudgesKeeping : Schema → List Places → Allowed
+JudgesKeeping schema plan answer =
+    (KeepsDependencies (width_of schema) (theory_of schema) plan × Says Yes kept_text answer)
+    ⊎ ((KeepsDependencies (width_of schema) (theory_of schema) plan → ⊥)
+    × ((first : Loss) × (more : List Loss) × LossesOf (width_of schema) (theory_of schema) plan (first ∷ more)
+    × Says No (losses_text schema first more) answer))
+
+-- of a plan file
+abbrev pub ChecksKeeping : Reading → Schema → List ℕ → Allowed
+ChecksKeeping r schema file = WithPlan r schema file (JudgesKeeping schema)

@@ -1,0 +1,68 @@
+-- Rows, as tables for the targets.
+use Rattle.std.specs.Prelude.{◌≡◌, ℕ, List, ◌++◌, codes, length}
+use Rattle.std.specs.Fmt.{decimal}
+use Rattle.std.specs.List.{flat_map}
+use Rattle.attr_sets.specs.Places.{Places}
+use Rattle.csv_migrate.specs.Migration.{migrated, JoinIs}
+use Rattle.dep_model.specs.Plans.{schemes_of}
+use Rattle.dep_model.specs.Schemas.{names_of, width_of, theory_of}
+use Rattle.dep_model.specs.declared.schema.Schema.{Schema}
+use Rattle.dep_model.specs.Tuples.{Relation}
+use Rattle.form_tests.specs.declared.forms.Form.{Form}
+use Rattle.form_tests.specs.declared.forms.Form.TheVariants.{Fourth}
+use Rattle.sample.specs.Sample.{sample_names, sample_theory, sample_relation}
+use Rattle.schema_grammar.specs.Printing.{words_text}
+use Rattle.targets.specs.Tables.{TableValue}
+use Rattle.desk_cli.specs.Answers.{Allowed, Gives}
+use Rattle.desk_cli.specs.Decompositions.{WithPlanInForm}
+use Rattle.desk_cli.specs.Joins.{WithoutLoss}
+use Rattle.desk_cli.specs.Legality.{WithLegal}
+use Rattle.desk_cli.specs.Plans.{WithPlan}
+use Rattle.desk_cli.specs.Readings.{Reading}
+use Rattle.desk_cli.specs.Rows.{WithRows}
+use Rattle.desk_cli.specs.Texts.{line}
+
+-- ---- texts
+-- a table: its name, how many rows it has, and its columns
+abbrev pub table_line : TableValue → List ℕ
+table_line table = line (table.name ++ codes " " ++ decimal (length table.rows) ++ codes " rows:" ++ words_text table.columns)
+
+-- how many rows were read, and the tables that they became
+abbrev pub migrated_text : Relation → List TableValue → List ℕ
+migrated_text rows tables = line (codes "read " ++ decimal (length rows) ++ codes " rows") ++ flat_map table_line tables
+
+-- ---- answers
+-- the tables of a plan hold the ordered projections of the rows, and their natural join is exactly the rows
+pub record AreTablesOf (schema : Schema) (plan : List Places) (rows : Relation) (tables : List TableValue) : Type 0 where
+  pub projections : tables ≡ migrated schema plan rows
+  pub joins : JoinIs (width_of schema) plan tables rows
+
+-- yes, with the tables of a plan, which the targets are given
+abbrev pub GivesTables : Schema → List Places → Relation → Allowed
+GivesTables schema plan rows answer =
+    (tables : List TableValue) × AreTablesOf schema plan rows tables × Gives (migrated_text rows tables) tables answer
+
+-- legal rows as tables
+abbrev pub MigratesRows : Schema → List Places → Relation → Allowed
+MigratesRows schema plan rows = WithLegal schema rows (GivesTables schema plan rows)
+
+-- the rows of a file, as tables in a normal form
+abbrev pub Migrates : Reading → Schema → Form → List ℕ → Allowed
+Migrates r schema form file =
+    WithRows r schema file (λ rows. WithPlanInForm schema form (λ plan. MigratesRows schema (schemes_of plan) rows))
+
+-- the rows of a file, as tables of the plan of another, where that loses nothing
+abbrev pub MigratesPlan : Reading → Schema → List ℕ → List ℕ → Allowed
+MigratesPlan r schema plan_file file =
+    WithPlan r schema plan_file (λ plan. WithRows r schema file (λ rows. WithoutLoss schema plan (MigratesRows schema plan rows)))
+
+-- the schema of the sample
+pub record IsSampleSchema (schema : Schema) : Type 0 where
+  pub names : names_of schema ≡ sample_names
+  pub theory : theory_of schema ≡ sample_theory
+
+-- the rows of so many invented persons, as tables in fourth normal form
+abbrev pub Samples : ℕ → Allowed
+Samples persons answer =
+    (schema : Schema) × IsSampleSchema schema
+    × WithPlanInForm schema Fourth (λ plan. MigratesRows schema (schemes_of plan) (sample_relation persons)) answer

@@ -1,0 +1,99 @@
+ghost use Rattle.std.specs.Prelude.{◌≡◌, ◌≤◌, ◌∷◌, ◌++◌, codes, slice_get, All, IfOk, OnOk};
+ghost use Rattle.std.specs.List.{flat_map};
+ghost use Rattle.attr_sets.specs.Places.{Within};
+ghost use Rattle.attr_sets.specs.Sets.{places};
+ghost use Rattle.dep_model.specs.Plans.{schemes_of};
+ghost use Rattle.dep_model.specs.Schemas.{universe_of};
+ghost use Rattle.desk_cli.specs.Keeping.{ChecksKeeping, JudgesKeeping, kept_text, loss_text, losses_text, shown_text};
+ghost use Rattle.desk_cli.specs.Readings.{Reading, Shows};
+ghost use Rattle.desk_cli.specs.Replies.{answer_of, RepliesAs};
+
+use crate::Status;
+use crate::check_rows::{put_dep, put_line};
+use crate::plan::open_plan;
+use crate::reply::{Reply, Stop};
+use crate::text::{line_of, put};
+use attr_sets::AttrSet;
+use csv_rows::print_rows;
+use dep_basis::witness;
+use dep_model::{Schema, WantMemory};
+use desk_outside::{Shelf, Word};
+use preservation::{Loss, losses};
+use std::alloc::Global;
+
+/// Whether the plan of a file keeps the functional dependencies.
+pub fn check_keeps<F: Shelf>(
+    alloc: Global,
+    shelf: &mut F,
+    schema: &Schema,
+    file: &Word,
+) -> Result<Reply, Stop>
+    ensures files { F.files shelf.new ≡ F.files shelf.old }
+    ensures later { F.faults shelf.old ≤ F.faults shelf.new }
+    ensures reply { (r : Reading) → Shows F.files F.faults F.taken shelf.old shelf.new r
+        → RepliesAs (ChecksKeeping r schema.now file.now) result }
+{
+    let plan = match open_plan(alloc, shelf, schema, file) {
+        Ok(plan) => plan,
+        Err(stop) => return Err(stop),
+    };
+    Ok(judge_keeping(alloc, schema, plan.schemes())?)
+}
+
+// Whether these schemes keep the functional dependencies.
+fn judge_keeping(alloc: Global, schema: &Schema, schemes: &[AttrSet]) -> Result<Reply, WantMemory>
+    requires within { All (λ scheme. Within (places scheme) (universe_of schema.now)) schemes.now }
+    ensures answer { IfOk result (λ reply. JudgesKeeping schema.now (schemes_of schemes.now) (answer_of reply)) }
+{
+    let losses = losses(alloc, schema, schemes)?;
+    match losses.as_slice() {
+        [] => Ok(Reply::says(
+            Status::Yes,
+            line_of(alloc, b"every functional dependency is kept", b"", b"")?,
+        )),
+        [first, ..] => Ok(Reply::says(Status::No, losses_lines(alloc, schema, *first, &losses)?)),
+    }
+}
+
+// Each dependency that is lost, and two tuples that show the first.
+fn losses_lines(
+    alloc: Global,
+    schema: &Schema,
+    first: Loss,
+    losses: &[Loss],
+) -> Result<Vec<u8>, WantMemory>
+    requires within { Within (places first.agreement) (universe_of schema.now) }
+    ensures text { IfOk result (λ text. text.items ≡ flat_map (loss_text schema.now) losses.now ++ shown_text schema.now first) }
+{
+    let mut text = Vec::new(alloc);
+    for loss in losses {
+        put(&mut text, &loss_line(alloc, schema, *loss)?)?;
+    }
+    put(&mut text, &shown_lines(alloc, schema, first)?)?;
+    Ok(text)
+}
+
+// A dependency that is lost, with its line.
+fn loss_line(alloc: Global, schema: &Schema, loss: Loss) -> Result<Vec<u8>, WantMemory>
+    ensures text { IfOk result (λ text. text.items ≡ loss_text schema.now loss) }
+{
+    let mut text = Vec::new(alloc);
+    put(&mut text, b"line ")?;
+    put_line(alloc, &mut text, schema, loss.dep as usize)?;
+    put(&mut text, b": ")?;
+    put_dep(&mut text, schema, loss.dep as usize)?;
+    put(&mut text, b" is lost")?;
+    put(&mut text, b"\n")?;
+    Ok(text)
+}
+
+// The two tuples that show a loss.
+fn shown_lines(alloc: Global, schema: &Schema, loss: Loss) -> Result<Vec<u8>, WantMemory>
+    requires within { Within (places loss.agreement) (universe_of schema.now) }
+    ensures text { IfOk result (λ text. text.items ≡ shown_text schema.now loss) }
+{
+    let rows = witness(alloc, schema, loss.agreement)?;
+    let mut text = line_of(alloc, b"shown by", b"", b"")?;
+    put(&mut text, &print_rows(alloc, schema, &rows)?)?;
+    Ok(text)
+}

@@ -1,0 +1,189 @@
+ghost use Rattle.std.specs.Prelude.{◌≡◌, ◌≤◌, ◌<◌, ◌^◌, ◌++◌, length, codes, IfOk, OnOk};
+ghost use Rattle.std.specs.Fmt.{decimal};
+ghost use Rattle.std.specs.List.{flat_map};
+ghost use Rattle.csv_migrate.specs.Tables.{table_value, values_of};
+ghost use Rattle.decomp_text.specs.Plans.{IsPlanOver, plan_of};
+ghost use Rattle.dep_model.specs.Projections.{IsLossless};
+ghost use Rattle.dep_model.specs.Schemas.{LegalFor, theory_of, width_of};
+ghost use Rattle.dep_model.specs.Tuples.{IsOver};
+ghost use Rattle.schema_grammar.specs.Printing.{words_text};
+ghost use Rattle.desk_cli.specs.Migrations.{AreTablesOf, GivesTables, Migrates, MigratesPlan, MigratesRows, migrated_text, table_line};
+ghost use Rattle.desk_cli.specs.Readings.{Reading, Shows};
+ghost use Rattle.desk_cli.specs.Replies.{answer_of, RepliesAs};
+ghost use Rattle.desk_cli.specs.Texts.{line};
+
+use crate::check_rows::test_rows;
+use crate::decomposition::plan_in_form;
+use crate::join::test_loss;
+use crate::plan::open_plan;
+use crate::reply::{Reply, Stop};
+use crate::rows::open_rows;
+use crate::text::{line_of, put};
+use csv_migrate::{Table, tables};
+use decomp_text::Plan;
+use dep_model::{Name, Row, Schema, WantMemory};
+use desk_outside::{Shelf, Word};
+use form_tests::Form;
+use itoa::Buffer;
+use std::alloc::Global;
+use table_names::MOST_TABLES;
+
+/// The rows of a file, as tables in a normal form.
+pub fn migrate_in_form<F: Shelf>(
+    alloc: Global,
+    shelf: &mut F,
+    schema: &Schema,
+    form: Form,
+    file: &Word,
+) -> Result<Reply, Stop>
+    ensures files { F.files shelf.new ≡ F.files shelf.old }
+    ensures later { F.faults shelf.old ≤ F.faults shelf.new }
+    ensures reply { (r : Reading) → Shows F.files F.faults F.taken shelf.old shelf.new r
+        → RepliesAs (Migrates r schema.now form file.now) result }
+{
+    let rows = match open_rows(alloc, shelf, schema, file) {
+        Ok(rows) => rows,
+        Err(stop) => return Err(stop),
+    };
+    let plan = match plan_in_form(alloc, schema, form) {
+        Ok(plan) => plan,
+        Err(stop) => return Err(stop),
+    };
+    migrate_rows(alloc, schema, &plan, &rows)
+}
+
+/// The rows of a file, as tables of the plan of another.
+pub fn migrate_by_plan<F: Shelf>(
+    alloc: Global,
+    shelf: &mut F,
+    schema: &Schema,
+    plan: &Word,
+    file: &Word,
+) -> Result<Reply, Stop>
+    ensures files { F.files shelf.new ≡ F.files shelf.old }
+    ensures later { F.faults shelf.old ≤ F.faults shelf.new }
+    ensures reply { (r : Reading) → Shows F.files F.faults F.taken shelf.old shelf.new r
+        → RepliesAs (MigratesPlan r schema.now plan.now file.now) result }
+{
+    let plan = match open_plan(alloc, shelf, schema, plan) {
+        Ok(plan) => plan,
+        Err(stop) => return Err(stop),
+    };
+    let rows = match open_rows(alloc, shelf, schema, file) {
+        Ok(rows) => rows,
+        Err(stop) => return Err(stop),
+    };
+    match test_loss(alloc, schema, plan.schemes()) {
+        Ok(()) => {}
+        Err(stop) => return Err(stop),
+    }
+    migrate_rows(alloc, schema, &plan, &rows)
+}
+
+/// Rows as tables of a plan that loses nothing, if they are legal.
+pub fn migrate_rows(
+    alloc: Global,
+    schema: &Schema,
+    plan: &Plan,
+    rows: &[Row],
+) -> Result<Reply, Stop>
+    requires over { IsOver (width_of schema.now) rows.now }
+    requires few { length rows.now < 2 ^ 32 }
+    requires universe { IsPlanOver schema.now plan.now }
+    requires lossless { IsLossless (width_of schema.now) (theory_of schema.now) (plan_of plan.now) }
+    ensures reply { RepliesAs (MigratesRows schema.now (plan_of plan.now) rows.now) result }
+{
+    match test_rows(alloc, schema, rows) {
+        Ok(()) => {}
+        Err(stop) => return Err(stop),
+    }
+    Ok(given(alloc, schema, plan, rows)?)
+}
+
+// Legal rows as the tables of a plan.
+fn given(alloc: Global, schema: &Schema, plan: &Plan, rows: &[Row]) -> Result<Reply, WantMemory>
+    requires over { IsOver (width_of schema.now) rows.now }
+    requires few { length rows.now < 2 ^ 32 }
+    requires universe { IsPlanOver schema.now plan.now }
+    requires lossless { IsLossless (width_of schema.now) (theory_of schema.now) (plan_of plan.now) }
+    requires legal { LegalFor schema.now rows.now }
+    ensures answer { IfOk result (λ reply. GivesTables schema.now (plan_of plan.now) rows.now (answer_of reply)) }
+{
+    let tables = tables_of(alloc, schema, plan, rows)?;
+    let text = migrated_lines(alloc, rows, &tables)?;
+    Ok(Reply::gives(text, tables))
+}
+
+// The tables of a plan. No memory holds a plan of more tables than have a name.
+fn tables_of(
+    alloc: Global,
+    schema: &Schema,
+    plan: &Plan,
+    rows: &[Row],
+) -> Result<Vec<Table>, WantMemory>
+    requires over { IsOver (width_of schema.now) rows.now }
+    requires few { length rows.now < 2 ^ 32 }
+    requires universe { IsPlanOver schema.now plan.now }
+    requires lossless { IsLossless (width_of schema.now) (theory_of schema.now) (plan_of plan.now) }
+    requires legal { LegalFor schema.now rows.now }
+    ensures tables { IfOk result (λ tables. AreTablesOf schema.now (plan_of plan.now) rows.now (values_of tables.items)) }
+{
+    if plan.schemes().len() > MOST_TABLES as usize {
+        return Err(WantMemory);
+    }
+    tables(alloc, schema, plan, rows)
+}
+
+// How many rows were read, and the tables that they became.
+fn migrated_lines(alloc: Global, rows: &[Row], tables: &[Table]) -> Result<Vec<u8>, WantMemory>
+    ensures text { IfOk result (λ text. text.items ≡ migrated_text rows.now (values_of tables.now)) }
+{
+    let mut text = read_line(alloc, rows.len())?;
+    put_tables(&mut text, tables)?;
+    Ok(text)
+}
+
+// How many rows were read.
+fn read_line(alloc: Global, rows: usize) -> Result<Vec<u8>, WantMemory>
+    ensures line { IfOk result (λ text. text.items ≡ line (codes "read " ++ decimal rows ++ codes " rows")) }
+{
+    line_of(
+        alloc,
+        b"read ",
+        Buffer::new().format(rows).as_bytes(),
+        b" rows",
+    )
+}
+
+// A line for each table, at the end of a text.
+fn put_tables(text: &mut Vec<u8>, tables: &[Table]) -> Result<(), WantMemory>
+    ensures more { OnOk result (text.new.items ≡ text.old.items ++ flat_map (λ table. table_line (table_value table)) tables.now) }
+{
+    for table in tables {
+        put_table(text, table)?;
+    }
+    Ok(())
+}
+
+// A table: its name, how many rows it has, and its columns.
+fn put_table(text: &mut Vec<u8>, table: &Table) -> Result<(), WantMemory>
+    ensures more { OnOk result (text.new.items ≡ text.old.items ++ table_line (table_value table.now)) }
+{
+    put(text, table.name.bytes())?;
+    put(text, b" ")?;
+    put(text, Buffer::new().format(table.rows.len()).as_bytes())?;
+    put(text, b" rows:")?;
+    put_names(text, &table.columns)?;
+    put(text, b"\n")
+}
+
+// Names, each after a blank, at the end of a text.
+fn put_names(text: &mut Vec<u8>, names: &[Name]) -> Result<(), WantMemory>
+    ensures more { OnOk result (text.new.items ≡ text.old.items ++ words_text names.now) }
+{
+    for name in names {
+        put(text, b" ")?;
+        put(text, name.bytes())?;
+    }
+    Ok(())
+}

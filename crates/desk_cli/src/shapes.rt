@@ -1,0 +1,214 @@
+ghost use Rattle.std.specs.Prelude.{◌≡◌, option_map};
+ghost use Rattle.desk_cli.specs.Commands.{command_form, task_form};
+ghost use Rattle.desk_cli.specs.Forms as forms;
+
+use crate::command::{Command, Task};
+use crate::persons::count_of;
+use desk_outside::Word;
+use form_tests::Form;
+
+/// The most files of a command.
+pub const MOST_FILES: usize = 64;
+
+/// The normal form that a word names.
+#[tactic(auto, unfolding(crate::specs::Forms::normal_form))]
+pub fn normal_form(word: &Word) -> Option<Form>
+    ensures form { result ≡ forms.normal_form word.now }
+{
+    match word.bytes() {
+        b"3nf" => Some(Form::Third),
+        b"bcnf" => Some(Form::Bcnf),
+        b"4nf" => Some(Form::Fourth),
+        _ => None,
+    }
+}
+
+/// No word more.
+#[tactic(auto, unfolding(crate::specs::Forms::alone))]
+pub fn alone<'a>(command: Command<'a>, words: &[Word]) -> Option<Command<'a>>
+    ensures form { option_map command_form result ≡ forms.alone (command_form command.entry) words.now }
+{
+    match words {
+        [] => Some(command),
+        _ => None,
+    }
+}
+
+/// A schema, and no word more.
+#[tactic(auto, unfolding(crate::specs::Forms::schema_alone))]
+pub fn over_schema_alone<'a>(task: Task<'a>, words: &'a [Word]) -> Option<Command<'a>>
+    ensures form { option_map command_form result ≡ forms.schema_alone (task_form task.entry) words.now }
+{
+    match words {
+        [schema] => Some(Command::OverSchema { schema, task }),
+        _ => None,
+    }
+}
+
+/// A schema and a goal.
+#[tactic(auto, unfolding(crate::specs::Forms::schema_and))]
+pub fn of_implies(words: &[Word]) -> Option<Command<'_>>
+    ensures form { option_map command_form result ≡ forms.schema_and forms.implies words.now }
+{
+    match words {
+        [schema, goal] => Some(Command::OverSchema {
+            schema,
+            task: Task::Implies { goal },
+        }),
+        _ => None,
+    }
+}
+
+/// A schema, a certificate and a goal.
+#[tactic(auto, unfolding(crate::specs::Forms::schema_and_two))]
+pub fn of_check_proof(words: &[Word]) -> Option<Command<'_>>
+    ensures form { option_map command_form result ≡ forms.schema_and_two forms.check_proof words.now }
+{
+    match words {
+        [schema, file, goal] => Some(Command::OverSchema {
+            schema,
+            task: Task::CheckProof { file, goal },
+        }),
+        _ => None,
+    }
+}
+
+/// A schema and rows.
+#[tactic(auto, unfolding(crate::specs::Forms::schema_and))]
+pub fn of_check_rows(words: &[Word]) -> Option<Command<'_>>
+    ensures form { option_map command_form result ≡ forms.schema_and forms.check_rows words.now }
+{
+    match words {
+        [schema, file] => Some(Command::OverSchema {
+            schema,
+            task: Task::CheckRows { file },
+        }),
+        _ => None,
+    }
+}
+
+/// A schema and a plan that may lose something.
+#[tactic(auto, unfolding(crate::specs::Forms::schema_and))]
+pub fn of_check_join(words: &[Word]) -> Option<Command<'_>>
+    ensures form { option_map command_form result ≡ forms.schema_and forms.check_join words.now }
+{
+    match words {
+        [schema, plan] => Some(Command::OverSchema {
+            schema,
+            task: Task::CheckJoin { plan },
+        }),
+        _ => None,
+    }
+}
+
+/// A schema and a plan whose schemes may be in a normal form.
+#[tactic(auto, unfolding(crate::specs::Forms::schema_and))]
+pub fn of_check_of_form(form: Form, words: &[Word]) -> Option<Command<'_>>
+    ensures form { option_map command_form result ≡ forms.schema_and (forms.check_form form) words.now }
+{
+    match words {
+        [schema, plan] => Some(Command::OverSchema {
+            schema,
+            task: Task::CheckForm { form, plan },
+        }),
+        _ => None,
+    }
+}
+
+/// A schema and a plan that may keep the dependencies.
+#[tactic(auto, unfolding(crate::specs::Forms::schema_and))]
+pub fn of_check_keeps(words: &[Word]) -> Option<Command<'_>>
+    ensures form { option_map command_form result ≡ forms.schema_and forms.check_keeps words.now }
+{
+    match words {
+        [schema, plan] => Some(Command::OverSchema {
+            schema,
+            task: Task::CheckKeeps { plan },
+        }),
+        _ => None,
+    }
+}
+
+/// A schema and a plan for SQL tables.
+#[tactic(auto, unfolding(crate::specs::Forms::schema_and))]
+pub fn of_ddl_plan(words: &[Word]) -> Option<Command<'_>>
+    ensures form { option_map command_form result ≡ forms.schema_and forms.ddl_plan words.now }
+{
+    match words {
+        [schema, plan] => Some(Command::OverSchema {
+            schema,
+            task: Task::DdlPlan { plan },
+        }),
+        _ => None,
+    }
+}
+
+/// A schema and rows for tables in a normal form.
+#[tactic(auto, unfolding(crate::specs::Forms::schema_and))]
+pub fn of_migrate_in_form(form: Form, words: &[Word]) -> Option<Command<'_>>
+    ensures form { option_map command_form result ≡ forms.schema_and (forms.migrate form) words.now }
+{
+    match words {
+        [schema, file] => Some(Command::OverSchema {
+            schema,
+            task: Task::Migrate { form, file },
+        }),
+        _ => None,
+    }
+}
+
+/// A schema, a plan and rows for its tables.
+#[tactic(auto, unfolding(crate::specs::Forms::schema_and_two))]
+pub fn of_migrate_plan(words: &[Word]) -> Option<Command<'_>>
+    ensures form { option_map command_form result ≡ forms.schema_and_two forms.migrate_plan words.now }
+{
+    match words {
+        [schema, plan, file] => Some(Command::OverSchema {
+            schema,
+            task: Task::MigratePlan { plan, file },
+        }),
+        _ => None,
+    }
+}
+
+/// A schema and from one to 64 files.
+#[tactic(auto, unfolding(crate::specs::Forms::schema_and_few))]
+pub fn of_rejoin(words: &[Word]) -> Option<Command<'_>>
+    ensures form { option_map command_form result ≡ forms.schema_and_few forms.rejoin words.now }
+{
+    let [schema, files @ ..] = words else {
+        return None;
+    };
+    if files.is_empty() || files.len() > MOST_FILES {
+        return None;
+    }
+    Some(Command::OverSchema {
+        schema,
+        task: Task::Rejoin { files },
+    })
+}
+
+/// A file, and no word more.
+#[tactic(auto, unfolding(crate::specs::Forms::word_alone))]
+pub fn of_discover(words: &[Word]) -> Option<Command<'_>>
+    ensures form { option_map command_form result ≡ forms.word_alone forms.discover words.now }
+{
+    match words {
+        [file] => Some(Command::Discover { file }),
+        _ => None,
+    }
+}
+
+/// How many persons, and no word more.
+#[tactic(auto, unfolding(crate::specs::Forms::persons_alone))]
+pub fn of_sample(words: &[Word]) -> Option<Command<'_>>
+    ensures form { option_map command_form result ≡ forms.persons_alone words.now }
+{
+    match words {
+        [word] => match count_of(word.bytes()) {
+            Some(persons) => Some(Command::Sample { persons }),
+            None => None,
+        },
+        _ => None,
+    }
+}

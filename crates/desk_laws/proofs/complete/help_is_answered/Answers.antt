@@ -1,0 +1,10 @@
+use Rattle.desk_laws.proofs.CompleteLaws.{help_answered, long_help_answered, short_help_answered, version_answered}
+use Rattle.desk_laws.proofs.complete.help_is_answered.Goals as goal
+
+pub returns : goal.returns
+returns c = record {
+  help = help_answered;
+  long = long_help_answered;
+  short = short_help_answered;
+  version = version_answered;
+}

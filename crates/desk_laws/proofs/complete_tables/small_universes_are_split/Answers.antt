@@ -1,0 +1,10 @@
+use Rattle.std.proofs.Common.{inl, inr, refl}
+use Rattle.form_tests.specs.declared.forms.Form.TheVariants.{Bcnf, Fourth}
+use Rattle.desk_laws.proofs.TableLaws.{small_is_splittable}
+use Rattle.desk_laws.proofs.complete_tables.small_universes_are_split.Goals as goal
+
+pub returns : goal.returns
+returns c = record {
+  bcnf = λ schema few. small_is_splittable schema Bcnf few (inl refl);
+  fourth = λ schema few. small_is_splittable schema Fourth few (inr refl);
+}

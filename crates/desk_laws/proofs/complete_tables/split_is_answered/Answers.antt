@@ -1,0 +1,10 @@
+use Rattle.form_tests.specs.declared.forms.Form.TheVariants.{Bcnf, Fourth}
+use Rattle.desk_laws.proofs.TableLaws.{split_answered, split_bcnf_asks, split_fourth_asks, split_wide_answered}
+use Rattle.desk_laws.proofs.complete_tables.split_is_answered.Goals as goal
+
+pub returns : goal.returns
+returns c = record {
+  bcnf = λ files name. split_answered files _ name Bcnf (split_bcnf_asks files name);
+  fourth = λ files name. split_answered files _ name Fourth (split_fourth_asks files name);
+  wide = split_wide_answered;
+}

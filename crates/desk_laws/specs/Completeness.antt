@@ -1,0 +1,45 @@
+-- Words that are answered, and calls in which nothing fails.
+use Rattle.std.specs.Prelude.{◌≡◌, ◌⊎◌, ℕ, List, Some}
+use Rattle.attr_sets.specs.Places.{Places}
+use Rattle.dep_model.specs.Schemas.{width_of, theory_of}
+use Rattle.dep_model.specs.declared.schema.Schema.{Schema}
+use Rattle.form_tests.specs.declared.forms.Form.{Form}
+use Rattle.form_tests.specs.declared.forms.Form.TheVariants.{Third, Bcnf, Fourth}
+use Rattle.split_forms.specs.Splitting.{IsTooWideAt, HasTooMany}
+use Rattle.desk_cli.specs.declared.decomposition.TheConstants.{MOST_SPLIT_SCHEMES}
+use Rattle.desk_outside.specs.Causes.{Rose}
+use Rattle.desk_outside.specs.Files.{Files}
+use Rattle.desk_cli.specs.declared.status.Status.{Status}
+use Rattle.desk_cli.specs.declared.status.Status.TheVariants.{Yes, No}
+use Rattle.desk_cli.specs.Answers.{Answer}
+use Rattle.desk_cli.specs.Desk.{ShelfInCall, SinkInCall}
+use Rattle.desk_cli.specs.Endings.{TargetsInCall, NoneFails}
+use Rattle.desk_cli.specs.Performs.{Answers}
+use Rattle.desk_cli.specs.Readings.{told}
+
+-- yes or no
+abbrev pub IsYesOrNo : Status → Type 0
+IsYesOrNo status = (status ≡ Yes) ⊎ (status ≡ No)
+
+-- over these files, each answer that the words may have is yes or no
+abbrev pub IsAnswered : Files → List (List ℕ) → Type 0
+IsAnswered files words = (answer : Answer) → Answers (told files) words answer → IsYesOrNo answer.status
+
+-- the shelf told that it holds these files, and no count of faults rose
+pub record FailsNowhere (files : Files) (shelf : ShelfInCall) (sink : SinkInCall) (targets : TargetsInCall)
+    : Type 0 where
+  pub holds : shelf.files ≡ Some files
+  pub reads : Rose shelf.before shelf.after → ⊥
+  pub writes : Rose sink.before sink.after → ⊥
+  pub feeds : NoneFails targets
+
+-- splitting a schema comes to no scheme that is too wide, and to no more schemes than are allowed
+pub record IsSplittable (schema : Schema) (form : Form) : Type 0 where
+  pub narrow : (scheme : Places) → IsTooWideAt (width_of schema) (theory_of schema) form MOST_SPLIT_SCHEMES scheme → ⊥
+  pub few : HasTooMany (width_of schema) (theory_of schema) form MOST_SPLIT_SCHEMES → ⊥
+
+-- a plan in a normal form is found within the limits; for third normal form there are none
+abbrev pub HasPlanInForm : Schema → Form → Type 0
+HasPlanInForm schema Third = Unit {0}
+HasPlanInForm schema Bcnf = IsSplittable schema Bcnf
+HasPlanInForm schema Fourth = IsSplittable schema Fourth

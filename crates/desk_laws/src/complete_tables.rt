@@ -1,0 +1,117 @@
+//! The same for the commands on normal forms, plans and tables.
+
+ghost use Rattle.std.specs.Prelude.{◌≡◌, ◌<◌, ◌≤◌, ℕ, true, List, [], ◌∷◌, codes, All};
+ghost use Rattle.attr_sets.specs.Places.{Places};
+ghost use Rattle.armstrong_rel.specs.Refusals.{IsFirstMvd};
+ghost use Rattle.armstrong_rel.specs.declared.refusal.TheConstants.{WIDEST_EXHIBITED};
+ghost use Rattle.dep_model.specs.Schemas.{width_of, theory_of};
+ghost use Rattle.dep_model.specs.Tuples.{Relation};
+ghost use Rattle.dep_model.specs.declared.schema.Schema.{Schema};
+ghost use Rattle.form_tests.specs.Chosen.{IsWide};
+ghost use Rattle.form_tests.specs.declared.forms.Form.TheVariants as forms;
+ghost use Rattle.desk_outside.specs.Files.{Files};
+ghost use Rattle.desk_cli.specs.Inputs.{IsSchemaFile};
+ghost use Rattle.desk_cli.specs.Joins.{IsTooLarge};
+ghost use Rattle.desk_cli.specs.Numbers.{is_count};
+ghost use Rattle.desk_cli.specs.Plans.{IsPlanFile};
+ghost use Rattle.desk_cli.specs.Readings.{told};
+ghost use Rattle.desk_cli.specs.Rows.{IsRowsFile};
+ghost use Rattle.desk_laws.specs.Completeness.{IsAnswered, HasPlanInForm};
+
+/// `check form` is answered where the schema file means a schema, the plan file a plan, and no scheme of
+/// the plan has more attributes than are tested.
+pub fn check_form_is_answered()
+    ensures third { (files : Files) (name file : List ℕ) (schema : Schema) (plan : List Places)
+        → IsSchemaFile (told files) name schema → IsPlanFile (told files) schema file plan
+        → All (λ scheme. IsWide scheme → ⊥) plan
+        → IsAnswered files (codes "check" ∷ codes "form" ∷ codes "3nf" ∷ name ∷ file ∷ []) }
+    ensures bcnf { (files : Files) (name file : List ℕ) (schema : Schema) (plan : List Places)
+        → IsSchemaFile (told files) name schema → IsPlanFile (told files) schema file plan
+        → All (λ scheme. IsWide scheme → ⊥) plan
+        → IsAnswered files (codes "check" ∷ codes "form" ∷ codes "bcnf" ∷ name ∷ file ∷ []) }
+    ensures fourth { (files : Files) (name file : List ℕ) (schema : Schema) (plan : List Places)
+        → IsSchemaFile (told files) name schema → IsPlanFile (told files) schema file plan
+        → All (λ scheme. IsWide scheme → ⊥) plan
+        → IsAnswered files (codes "check" ∷ codes "form" ∷ codes "4nf" ∷ name ∷ file ∷ []) }
+{}
+
+/// `check keeps` is answered where the schema file means a schema and the plan file a plan.
+pub fn check_keeps_is_answered()
+    ensures law { (files : Files) (name file : List ℕ) (schema : Schema) (plan : List Places)
+        → IsSchemaFile (told files) name schema → IsPlanFile (told files) schema file plan
+        → IsAnswered files (codes "check" ∷ codes "keeps" ∷ name ∷ file ∷ []) }
+{}
+
+/// `split` is answered where the schema file means a schema, and the splitting meets no limit; at any width
+/// it meets none.
+pub fn split_is_answered()
+    ensures bcnf { (files : Files) (name : List ℕ) (schema : Schema)
+        → IsSchemaFile (told files) name schema → HasPlanInForm schema forms.Bcnf
+        → IsAnswered files (codes "split" ∷ codes "bcnf" ∷ name ∷ []) }
+    ensures fourth { (files : Files) (name : List ℕ) (schema : Schema)
+        → IsSchemaFile (told files) name schema → HasPlanInForm schema forms.Fourth
+        → IsAnswered files (codes "split" ∷ codes "4nf" ∷ name ∷ []) }
+    ensures wide { (files : Files) (name : List ℕ) (schema : Schema)
+        → IsSchemaFile (told files) name schema
+        → IsAnswered files (codes "split" ∷ codes "wide-bcnf" ∷ name ∷ []) }
+{}
+
+/// `exhibit` is answered where the schema file means a schema without a multivalued dependency that is not
+/// too wide.
+pub fn exhibit_is_answered()
+    ensures law { (files : Files) (name : List ℕ) (schema : Schema)
+        → IsSchemaFile (told files) name schema
+        → ((k : ℕ) → IsFirstMvd (theory_of schema) k → ⊥) → (WIDEST_EXHIBITED < width_of schema → ⊥)
+        → IsAnswered files (codes "exhibit" ∷ name ∷ []) }
+{}
+
+/// `ddl` is answered where the schema file means a schema, and a plan in the form is found within the
+/// limits, or the plan file means a plan whose chase keeps within its limit.
+pub fn ddl_is_answered()
+    ensures third { (files : Files) (name : List ℕ) (schema : Schema)
+        → IsSchemaFile (told files) name schema → HasPlanInForm schema forms.Third
+        → IsAnswered files (codes "ddl" ∷ codes "3nf" ∷ name ∷ []) }
+    ensures bcnf { (files : Files) (name : List ℕ) (schema : Schema)
+        → IsSchemaFile (told files) name schema → HasPlanInForm schema forms.Bcnf
+        → IsAnswered files (codes "ddl" ∷ codes "bcnf" ∷ name ∷ []) }
+    ensures fourth { (files : Files) (name : List ℕ) (schema : Schema)
+        → IsSchemaFile (told files) name schema → HasPlanInForm schema forms.Fourth
+        → IsAnswered files (codes "ddl" ∷ codes "4nf" ∷ name ∷ []) }
+    ensures plan { (files : Files) (name file : List ℕ) (schema : Schema) (plan : List Places)
+        → IsSchemaFile (told files) name schema → IsPlanFile (told files) schema file plan
+        → (IsTooLarge schema plan → ⊥)
+        → IsAnswered files (codes "ddl" ∷ codes "plan" ∷ name ∷ file ∷ []) }
+{}
+
+/// `migrate` is answered where also the CSV file has rows.
+pub fn migrate_is_answered()
+    ensures third { (files : Files) (name file : List ℕ) (schema : Schema) (rows : Relation)
+        → IsSchemaFile (told files) name schema → IsRowsFile (told files) schema file rows
+        → HasPlanInForm schema forms.Third
+        → IsAnswered files (codes "migrate" ∷ codes "3nf" ∷ name ∷ file ∷ []) }
+    ensures bcnf { (files : Files) (name file : List ℕ) (schema : Schema) (rows : Relation)
+        → IsSchemaFile (told files) name schema → IsRowsFile (told files) schema file rows
+        → HasPlanInForm schema forms.Bcnf
+        → IsAnswered files (codes "migrate" ∷ codes "bcnf" ∷ name ∷ file ∷ []) }
+    ensures fourth { (files : Files) (name file : List ℕ) (schema : Schema) (rows : Relation)
+        → IsSchemaFile (told files) name schema → IsRowsFile (told files) schema file rows
+        → HasPlanInForm schema forms.Fourth
+        → IsAnswered files (codes "migrate" ∷ codes "4nf" ∷ name ∷ file ∷ []) }
+    ensures plan { (files : Files) (name plan_file file : List ℕ) (schema : Schema) (plan : List Places)
+        (rows : Relation)
+        → IsSchemaFile (told files) name schema → IsPlanFile (told files) schema plan_file plan
+        → IsRowsFile (told files) schema file rows → (IsTooLarge schema plan → ⊥)
+        → IsAnswered files (codes "migrate" ∷ codes "plan" ∷ name ∷ plan_file ∷ file ∷ []) }
+{}
+
+/// Splitting a universe of at most 12 attributes meets no limit.
+pub fn small_universes_are_split()
+    ensures bcnf { (schema : Schema) → width_of schema ≤ 12 → HasPlanInForm schema forms.Bcnf }
+    ensures fourth { (schema : Schema) → width_of schema ≤ 12 → HasPlanInForm schema forms.Fourth }
+{}
+
+/// `sample` is answered with every number of persons that it takes.
+pub fn sample_is_answered()
+    ensures law { (files : Files) (word : List ℕ) → is_count word ≡ true
+        → IsAnswered files (codes "sample" ∷ word ∷ []) }
+{}

@@ -1,0 +1,155 @@
+-- What the listed dependencies give from a set.
+use Rattle.std.proofs.Common.{inl, inr, ◌≡◌, ◌+◌, ◌<◌, ◌⊎◌, ◌||◌, ◌&&◌, not, ℕ, Bool, true, false, List, [], ◌∷◌, ◌++◌, length, get_or, take, refl, sym, ap, subst, ◌∙◌, arith}
+use Rattle.std.specs.Prelude.{Any}
+use Rattle.std.proofs.Math.Seq.{get_or-append_seam}
+use Rattle.std.proofs.lemmas.Bool.{cases_lt, cases_Bool, true≢false}
+use Rattle.std.proofs.lemmas.Bool.Decides.{nat_tests}
+use Rattle.std.proofs.lemmas.List.{length_push, get_or_append_left, take_more, map-append}
+use Rattle.std.proofs.lemmas.List.Quantifiers.{Any-push}
+use Rattle.attr_sets.specs.Places.{Places, Within, Same, below, minus, union}
+use Rattle.dep_model.specs.Dependencies.{Dependency, left_of, right_of}
+use Rattle.dep_model.specs.Deps.{dependency_of, dependencies_of}
+use Rattle.dep_model.specs.declared.dep.Dep.{Dep}
+use Rattle.fd_discovery.specs.Searching.{IsGiven, AreNotGiven}
+
+-- ---- some element is such
+pub Any-weaker : {X : Type 0} (P Q : X → Type 0) (xs : List X) → ((x : X) → P x → Q x) → Any P xs → Any Q xs
+Any-weaker P Q xs gives h = (h.0, h.1, h.2, h.3, gives h.1 h.4)
+
+pub Any-left : {X : Type 0} (P : X → Type 0) (xs : List X) (y : X) → Any P xs → Any P (xs ++ y ∷ [])
+Any-left P xs y h = (
+  h.0,
+  h.1,
+  omega (arith, h.2, length_push xs y),
+  get_or_append_left xs
+      (y ∷ []) h.1 h.0 h.2 ∙ h.3,
+  h.4,
+)
+
+pub Any-push_cases : {X : Type 0} (P : X → Type 0) (xs : List X) (y : X) → Any P (xs ++ y ∷ []) → Any P xs ⊎ P y
+Any-push_cases P xs y h = elim (cases_lt h.0 (length xs)) [
+  | inl front ↦ inl (h.0, h.1, front, sym (get_or_append_left xs (y ∷ []) h.1 h.0 front) ∙ h.3, h.4)
+  | inr last ↦
+      let at : length xs ≡ h.0 = omega (arith, h.2, length_push xs y, last) in
+      let is : y ≡ h.1 = sym (get_or-append_seam xs y [] h.1)
+      ∙ ap (λ (j : ℕ). get_or (xs ++ y ∷ []) j h.1) at ∙ h.3 in
+      inr (subst P (sym is) h.4)
+]
+
+-- ---- what is given
+-- one more is listed
+pub given_still : (ds : List Dependency) (d : Dependency) (x : Places) (a : ℕ) → IsGiven ds x a
+    → IsGiven (ds ++ d ∷ []) x a
+given_still ds d x a = Any-left (λ (e : Dependency). Within (left_of e) x × (right_of e a ≡ true)) ds d
+
+pub given_now : (ds : List Dependency) (d : Dependency) (x : Places) (a : ℕ) → Within (left_of d) x
+    → right_of d a ≡ true → IsGiven (ds ++ d ∷ []) x a
+given_now ds d x a left right = Any-push (λ (e : Dependency). Within (left_of e) x × (right_of e a ≡ true)) ds d
+    (left, right)
+
+pub given_cases : (ds : List Dependency) (d : Dependency) (x : Places) (a : ℕ) → IsGiven (ds ++ d ∷ []) x a
+    → IsGiven ds x a ⊎ (Within (left_of d) x × (right_of d a ≡ true))
+given_cases ds d x a = Any-push_cases (λ (e : Dependency). Within (left_of e) x × (right_of e a ≡ true)) ds d
+
+-- from a larger set
+pub given_more : (ds : List Dependency) (x y : Places) (a : ℕ) → Within x y → IsGiven ds x a → IsGiven ds y a
+given_more ds x y a inside = Any-weaker (λ (e : Dependency). Within (left_of e) x × (right_of e a ≡ true))
+    (λ (e : Dependency). Within (left_of e) y × (right_of e a ≡ true)) ds (λ e h. ((λ k m. inside k (h.0 k m)), h.1))
+
+-- a set and what is given from it
+pub record IsSoFar (ds : List Dependency) (x given : Places) : Type 0 where
+  pub grows : Within x given
+  pub known : (a : ℕ) → given a ≡ true → (x a ≡ true) ⊎ IsGiven ds x a
+  pub all : (a : ℕ) → IsGiven ds x a → given a ≡ true
+
+pub so_far_none : (x : Places) → IsSoFar [] x x
+so_far_none x = record {
+  grows = λ k m. m;
+  known = λ a m. inl m;
+  all = λ a h. absurd (omega (arith, h.2));
+}
+
+pub so_far_in : (ds : List Dependency) (d : Dependency) (x given more : Places) → IsSoFar ds x given
+    → Within (left_of d) x → Same more (union given (right_of d))
+    → IsSoFar (ds ++ d ∷ []) x more
+so_far_in ds d x given more old inside same = record {
+  grows = λ k m. same k ∙ left k (old.grows k m);
+  known = λ a m. elim (cases_Bool (given a)) [
+    | inl before ↦ elim (old.known a before) [
+      | inl member ↦ inl member
+      | inr was ↦ inr (given_still ds d x a was)
+    ]
+    | inr new ↦ inr (given_now ds d x a inside (added a new (sym (same a) ∙ m)))
+  ];
+  all = λ a h. elim (given_cases ds d x a h) [
+    | inl before ↦ same a ∙ left a (old.all a before)
+    | inr now ↦ same a ∙ right a now.1
+  ];
+}
+  where
+    left : (k : ℕ) → given k ≡ true → union given (right_of d) k ≡ true
+    left k m = ap (λ (b : Bool). b || right_of d k) m
+
+    right : (k : ℕ) → right_of d k ≡ true → union given (right_of d) k ≡ true
+    right k m = ap (λ (b : Bool). given k || b) m ∙ or_true (given k)
+      where
+        or_true : (b : Bool) → (b || true) ≡ true
+        or_true true = refl
+        or_true false = refl
+
+    added : (k : ℕ) → given k ≡ false → union given (right_of d) k ≡ true → right_of d k ≡ true
+    added k out m = sym (ap (λ (b : Bool). b || right_of d k) out) ∙ m
+
+pub so_far_out : (ds : List Dependency) (d : Dependency) (x given : Places) → IsSoFar ds x given
+    → (Within (left_of d) x → ⊥) → IsSoFar (ds ++ d ∷ []) x given
+so_far_out ds d x given old outside = record {
+  grows = old.grows;
+  known = λ a m. elim (old.known a m) [
+    | inl member ↦ inl member
+    | inr was ↦ inr (given_still ds d x a was)
+  ];
+  all = λ a h. elim (given_cases ds d x a h) [
+    | inl before ↦ old.all a before
+    | inr now ↦ absurd (outside now.0)
+  ];
+}
+
+pub not_given_from : (n : ℕ) (ds : List Dependency) (x given full rest : Places) → IsSoFar ds x given
+    → Same full (below n) → Same rest (minus full given) → AreNotGiven n ds x rest
+not_given_from n ds x given full rest so_far whole same = record {
+  within = λ k m. sym (whole k) ∙ first (full k) (given k) (sym (same k) ∙ m);
+  outside = λ a m. elim (cases_Bool (x a)) [
+    | inl member ↦ absurd (true≢false (sym (so_far.grows a member) ∙ second (full a) (given a) (sym (same a) ∙ m)))
+    | inr out ↦ out
+  ];
+  none = λ a m h. true≢false (sym (so_far.all a h) ∙ second (full a) (given a) (sym (same a) ∙ m));
+  rest = λ a l m out. elim (cases_Bool (given a)) [
+    | inl has ↦ elim (so_far.known a has) [
+      | inl member ↦ absurd (true≢false (sym member ∙ out))
+      | inr was ↦ was
+    ]
+    | inr lacks ↦
+        let inside : full a ≡ true = whole a ∙ grind (arith, nat_tests, l) in
+        absurd (true≢false (sym (both (full a) (given a) inside lacks) ∙ sym (same a) ∙ m))
+  ];
+}
+  where
+    first : (b c : Bool) → (b && not c) ≡ true → b ≡ true
+    first true c h = refl
+    first false c h = cc
+
+    second : (b c : Bool) → (b && not c) ≡ true → c ≡ false
+    second true true h = cc
+    second true false h = refl
+    second false c h = cc
+
+    both : (b c : Bool) → b ≡ true → c ≡ false → (b && not c) ≡ true
+    both true true h g = cc
+    both true false h g = refl
+    both false c h g = cc
+
+-- one dependency more of a list
+pub dependencies_more : (found : List Dep) (i : ℕ) (d : Dep) → i < length found
+    → dependencies_of (take (i + 1) found) ≡ dependencies_of (take i found) ++ dependency_of (get_or found i d) ∷ []
+dependencies_more found i d l = ap dependencies_of (take_more found i d l)
+    ∙ map-append dependency_of (take i found) (get_or found i d ∷ [])

@@ -1,0 +1,6 @@
+pub mod FieldLemmas
+pub mod HeadingLemmas
+pub mod OrderLemmas
+pub mod LeaderLemmas
+pub mod GivenLemmas
+pub mod SearchLemmas

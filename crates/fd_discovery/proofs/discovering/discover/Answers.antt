@@ -1,0 +1,80 @@
+use Rattle.std.proofs.Common.{ℕ, List, sym, ap, subst}
+use Rattle.attr_sets.specs.Places.{below}
+use Rattle.attr_sets.specs.Sets.{places}
+use Rattle.dep_model.specs.Dependencies.{IsWithin}
+use Rattle.dep_model.specs.Deps.{dependencies_of}
+use Rattle.dep_model.proofs.DepLemmas.{dependencies_all-to}
+use Rattle.fd_discovery.specs.Leaders.{IsTable, AreLeaders}
+use Rattle.fd_discovery.proofs.LeaderLemmas.{first_leads}
+use Rattle.fd_discovery.proofs.SearchLemmas.{search_whole, all_minimal, implied_by_rows, all_within}
+use Rattle.fd_discovery.proofs.discovering.discover.Goals as goal
+
+pub search_above-requires-clause-rows : goal.search_above-requires-clause-rows
+search_above-requires-clause-rows c =
+    let rows = c.args.rows.now in
+    let table = c.in_ok-table.ensures.table in
+    let led = first_leads rows (places c.empty-none.result) c.in_ok-leaders.leaders.items c.empty-none.ensures.members
+    (c.in_ok-leaders.ensures.items_if_clones_equal (λ y e. e)) in (
+      rows,
+      record {
+        table = subst (λ (m : ℕ). IsTable m rows c.in_ok-table.table) (sym table.width) table;
+        led = subst (λ (l : List ℕ). AreLeaders rows (places c.empty-none.result) l)
+            (sym c.deref-2.ensures.value) led;
+      },
+    )
+
+pub returns-clause-minimal : goal.returns-clause-minimal
+returns-clause-minimal c =
+    let rows = c.args.rows.now in
+    let table = c.in_ok-table.ensures.table in
+    let none = places c.empty-none.result in
+    let led = first_leads rows none c.in_ok-leaders.leaders.items c.empty-none.ensures.members
+    (c.in_ok-leaders.ensures.items_if_clones_equal (λ y e. e)) in
+    let same = subst (λ (m : ℕ). IsTable m rows c.in_ok-table.table) (sym table.width) table in
+    let found = search_whole c.in_ok-table.table.width c.args.width rows none
+    (places c.full-all.result) _ _ _ table.width c.empty-none.ensures.members c.full-all.ensures.members
+    (ap dependencies_of c.new-found.ensures.items)
+    (λ inside given start. c.in_ok-add_minimal.ensures.found rows
+    (record {
+      table = same;
+      led = subst (λ (l : List ℕ). AreLeaders rows none l)
+          (sym c.deref.ensures.value) led;
+    }) inside given start)
+    (λ added. c.in_ok-search_above.ensures.found rows
+    (record {
+      table = same;
+      led = subst (λ (l : List ℕ). AreLeaders rows none l)
+          (sym c.deref-2.ensures.value) led;
+    }) added) in
+    all_minimal c.args.width rows (dependencies_of c.search_above.new.found.items) found
+
+pub returns-clause-implied : goal.returns-clause-implied
+returns-clause-implied c =
+    let rows = c.args.rows.now in
+    let table = c.in_ok-table.ensures.table in
+    let none = places c.empty-none.result in
+    let led = first_leads rows none c.in_ok-leaders.leaders.items c.empty-none.ensures.members
+    (c.in_ok-leaders.ensures.items_if_clones_equal (λ y e. e)) in
+    let same = subst (λ (m : ℕ). IsTable m rows c.in_ok-table.table) (sym table.width) table in
+    let found = search_whole c.in_ok-table.table.width c.args.width rows none
+    (places c.full-all.result) _ _ _ table.width c.empty-none.ensures.members c.full-all.ensures.members
+    (ap dependencies_of c.new-found.ensures.items)
+    (λ inside given start. c.in_ok-add_minimal.ensures.found rows
+    (record {
+      table = same;
+      led = subst (λ (l : List ℕ). AreLeaders rows none l)
+          (sym c.deref.ensures.value) led;
+    }) inside given start)
+    (λ added. c.in_ok-search_above.ensures.found rows
+    (record {
+      table = same;
+      led = subst (λ (l : List ℕ). AreLeaders rows none l)
+          (sym c.deref-2.ensures.value) led;
+    }) added) in
+    implied_by_rows c.args.width rows (dependencies_of c.search_above.new.found.items) found c.requires.over
+
+pub returns-clause-within : goal.returns-clause-within
+returns-clause-within c =
+    let minimal = returns-clause-minimal c in
+    dependencies_all-to (IsWithin (below c.args.width)) c.search_above.new.found.items
+    (all_within c.args.width c.args.rows.now (dependencies_of c.search_above.new.found.items) minimal)

@@ -1,0 +1,24 @@
+use Rattle.std.proofs.Common.{arith, ◌≡◌, length}
+use Rattle.fd_discovery.proofs.FieldLemmas.{header_some}
+use Rattle.fd_discovery.proofs.HeadingLemmas.{header_refused, rows_refused, headed_of}
+use Rattle.fd_discovery.proofs.headed.read_headed.Goals as goal
+
+pub returns-in-Err-clause-err : goal.returns-in-Err-clause-err
+returns-in-Err-clause-err c = λ other. header_refused _ _ (c.in-Err.ensures.err _ c.open-reader.ensures.all other)
+
+pub returns-in-Ok-read_body-clause-ok : goal.returns-in-Ok-read_body-clause-ok
+returns-in-Ok-read_body-clause-ok c =
+    let read = c.in-Ok.ensures.ok _ c.open-reader.ensures.all in
+    let count : c.len.result ≡ length c.in-Ok.names.items = omega (arith, c.in-Ok.names.ok.0, c.len.ensures) in
+    headed_of _ _ _ _ read count (c.in-Ok-read_body.ensures.all read.records read.left) c.in-Ok-read_body.ensures.even
+    c.in-Ok-read_body.ensures.few
+
+pub returns-clause-err : goal.returns-clause-err
+returns-clause-err c = λ other.
+    let read = c.in-Ok.ensures.ok _ c.open-reader.ensures.all in
+    let count : c.len.result ≡ length c.in-Ok.names.items = omega (arith, c.in-Ok.names.ok.0, c.len.ensures) in
+    rows_refused _ _ _ _ _ read count (c.in-Err-read_body.ensures.err read.records read.left other)
+
+pub returns-in-Ok-read_body-clause-some : goal.returns-in-Ok-read_body-clause-some
+returns-in-Ok-read_body-clause-some c = header_some c.args.text.now c.in-Ok.names.items c.in-Ok-read_body.rows.items
+    (returns-in-Ok-read_body-clause-ok c).all

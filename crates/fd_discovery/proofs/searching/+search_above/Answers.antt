@@ -1,0 +1,143 @@
+use Rattle.std.proofs.Common.{arith, ◌≡◌, ◌<◌, ◌+◌, ℕ, List, Vec, Global, true, sym, subst}
+use Rattle.attr_sets.specs.Places.{Places, below, union}
+use Rattle.attr_sets.specs.Sets.{places}
+use Rattle.dep_model.specs.Deps.{dependencies_of}
+use Rattle.dep_model.specs.declared.dep.Dep.{Dep}
+use Rattle.fd_discovery.specs.Leaders.{AreLeaders}
+use Rattle.fd_discovery.specs.Searching.{AreFound, AreNotGiven}
+use Rattle.fd_discovery.proofs.LeaderLemmas.{leaders_with}
+use Rattle.fd_discovery.proofs.SearchLemmas.{larger_in, larger_above, found_at_larger, found_past, found_through, found_up_to}
+use Rattle.fd_discovery.proofs.searching.+search_above.Goals as goal
+use Rattle.fd_discovery.proofs.searching.+search_above.Goals.{then-not-is_empty+in_ok-finer+in_ok-add_minimal+in_ok-search_above, else-not-is_empty}
+
+pub loop-place-init : goal.loop-place-init
+loop-place-init t c = record { found = λ r led found. found_up_to _ r _ _ found }
+
+pub add_minimal-requires-clause-rows : goal.add_minimal-requires-clause-rows
+add_minimal-requires-clause-rows t c =
+    let (r, led) = c.requires.rows in
+    let low : c.loop-place.place < c.args.table.now.width = omega (arith, c.loop-place-test.true, c.requires.free) in
+    let finer_led = leaders_with _ r c.args.table.now (places c.args.set)
+    (places c.with-larger.result) c.loop-place.place c.column-codes.result.now c.index.result.now
+    c.rows-order.result.now
+    c.in_ok-finer.finer.items led.table low c.column-codes.ensures.codes c.rows-order.ensures.rows c.index.ensures
+    c.with-larger.ensures.members
+    (λ groups ordered. c.in_ok-finer.ensures.leaders r
+    (places c.args.set) c.loop-place.place led.led groups ordered) in (
+      r,
+      record {
+        table = led.table;
+        led = subst (λ (l : List ℕ). AreLeaders r (places c.with-larger.result) l)
+            (sym c.deref-then-not-is_empty.ensures.value) finer_led;
+      },
+    )
+
+pub search_above-requires : goal.search_above-requires
+search_above-requires t c =
+    let (r, led) = c.requires.rows in
+    let low : c.loop-place.place < c.args.table.now.width = omega (arith, c.loop-place-test.true, c.requires.free) in
+    let finer_led = leaders_with _ r c.args.table.now (places c.args.set)
+    (places c.with-larger.result) c.loop-place.place c.column-codes.result.now c.index.result.now
+    c.rows-order.result.now
+    c.in_ok-finer.finer.items led.table low c.column-codes.ensures.codes c.rows-order.ensures.rows c.index.ensures
+    c.with-larger.ensures.members
+    (λ groups ordered. c.in_ok-finer.ensures.leaders r
+    (places c.args.set) c.loop-place.place led.led groups ordered) in
+    let n : ℕ = c.args.table.now.width in
+    let i : ℕ = c.loop-place.place in
+    let set : Places = places c.args.set in
+    let larger : Places = places c.with-larger.result in (
+      omega (arith, c.decreases, c.loop-place-test.true),
+      (
+        c.requires.width,
+        (
+          omega (arith, low),
+          (
+            larger_in n c.args.free i set c.requires.set c.requires.above c.requires.free c.loop-place-test.true
+                larger c.with-larger.ensures.members,
+            (
+              larger_above n c.args.free i set c.requires.set c.requires.above c.requires.free c.loop-place-test.true
+                  larger c.with-larger.ensures.members,
+              (
+                r,
+                record {
+                  table = led.table;
+                  led =
+                      subst (λ (l : List ℕ). AreLeaders r larger l)
+                      (sym c.deref-then-not-is_empty-2.ensures.value) finer_led;
+                },
+              ),
+            ),
+          ),
+        ),
+      ),
+    )
+
+pub loop-place-preserved : goal.loop-place-preserved
+loop-place-preserved t c =
+    let n : ℕ = c.args.table.now.width in
+    let i : ℕ = c.loop-place.place in
+    let free : ℕ = c.args.free in
+    let set : Places = places c.args.set in
+    let larger : Places = places c.with-larger.result in
+    let wanted : Places = places c.not_given-wanted.result in
+    let old : List Dep = c.loop-place.found.items in
+    let low : i < n = omega (arith, c.loop-place-test.true, c.requires.free) in
+    let given : AreNotGiven n (dependencies_of old) larger wanted =
+    subst (λ (ds : List Dep). AreNotGiven n (dependencies_of ds) larger wanted) c.deref.ensures.value
+    c.not_given-wanted.ensures.rest in
+    elim c.if-not-is_empty.branch [
+      | then-not-is_empty+in_ok-finer+in_ok-add_minimal+in_ok-search_above w ↦ record {
+        found = λ r led start.
+            let before : AreFound n r (union set (below i)) n (dependencies_of old) =
+            c.loop-place.invariant.found r led start in
+            let finer_led = leaders_with n r c.args.table.now set larger i w.column-codes.result.now
+            w.index.result.now w.rows-order.result.now w.in_ok-finer.finer.items led.table low
+            w.column-codes.ensures.codes w.rows-order.ensures.rows w.index.ensures c.with-larger.ensures.members
+            (λ groups ordered. w.in_ok-finer.ensures.leaders r set i led.led groups ordered) in
+            let inside = larger_in n free i set c.requires.set c.requires.above c.requires.free c.loop-place-test.true
+            larger c.with-larger.ensures.members in
+            let here = found_at_larger n free i set c.requires.set c.requires.above c.requires.free
+            c.loop-place-test.true larger c.with-larger.ensures.members r (dependencies_of old) before in
+            let added = w.in_ok-add_minimal.ensures.found r
+            (record {
+              table = led.table;
+              led =
+                  subst (λ (l : List ℕ). AreLeaders r larger l)
+                  (sym w.deref-then-not-is_empty.ensures.value) finer_led;
+            }) inside given here in
+            let through = w.in_ok-search_above.ensures.found r
+            (record {
+              table = led.table;
+              led =
+                  subst (λ (l : List ℕ). AreLeaders r larger l)
+                  (sym w.deref-then-not-is_empty-2.ensures.value) finer_led;
+            }) added in
+            subst (λ (v : Vec Dep Global). AreFound n r (union set (below (i + 1))) n (dependencies_of v.items))
+            (sym w.found-is)
+            (found_through n free i set c.requires.set c.requires.above c.requires.free c.loop-place-test.true larger
+            c.with-larger.ensures.members r _ through);
+      }
+      | else-not-is_empty w ↦
+          let yes : c.is_empty.result ≡ true = grind (arith, w.if-not-is_empty.false) in
+          record {
+            found = λ r led start.
+                let before : AreFound n r (union set (below i)) n (dependencies_of old) =
+                c.loop-place.invariant.found r led start in
+                subst (λ (v : Vec Dep Global). AreFound n r (union set (below (i + 1))) n (dependencies_of v.items))
+                (sym w.found-is)
+                (found_past n free i set c.requires.set c.requires.above c.requires.free c.loop-place-test.true larger
+                c.with-larger.ensures.members r (dependencies_of old) wanted before given
+                (c.is_empty.ensures.empty.0 yes));
+          }
+    ]
+
+pub returns : goal.returns
+returns t c = record {
+  found = λ r led start.
+      let end : c.loop-place.place ≡ c.args.free =
+      omega (arith, c.loop-place-test.false, c.loop-place.auto.place-end) in
+      let all = c.loop-place.invariant.found r led start in
+      subst (λ (i : ℕ). AreFound c.args.table.now.width r (union (places c.args.set) (below i)) c.args.table.now.width
+      (dependencies_of c.loop-place.found.items)) end all;
+}

@@ -1,0 +1,5 @@
+pub mod Headers
+pub mod Headings
+pub mod Minimal
+pub mod Leaders
+pub mod Searching

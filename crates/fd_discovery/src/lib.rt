@@ -1,0 +1,26 @@
+//! The functional dependencies that given rows obey.
+//!
+//! `read_headed` gives the rows of a CSV text whose header is free, with the names of its columns, or
+//! the text's first refusal. `discover` gives exactly the minimal functional dependencies that rows
+//! obey: `X -> A` where no proper subset of X determines A (Huhtala, Kärkkäinen, Porkka and Toivonen
+//! 1999). The list implies a functional dependency between columns exactly where the rows obey it.
+#![tactic(auto)]
+
+mod columns;
+mod discovering;
+mod headed;
+mod leaders;
+mod ordering;
+mod records;
+mod refusal;
+mod searching;
+mod table;
+
+pub use discovering::discover;
+pub use headed::{Headed, MOST_HEADED_ROWS, WIDEST_HEADED, read_headed};
+pub use refusal::DiscoverRefusal;
+
+#[cfg(test)]
+mod reading_tests;
+#[cfg(test)]
+mod tests;

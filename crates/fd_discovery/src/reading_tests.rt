@@ -1,0 +1,114 @@
+use crate::{DiscoverRefusal, read_headed};
+use std::test::Fail;
+
+#[test]
+fn rows_under_their_header(rt: HostRuntime) -> Result<(), Fail> {
+    let alloc = rt.alloc();
+    let text = "\u{feff}ZIP,City\r\n\n53111,\"Bonn, West\"\n\"\",\n";
+    let headed = read_headed(alloc, text.as_bytes()).expect(&rt, "rows");
+    assert_eq!(rt; headed.names.len(), 2);
+    let want = ["ZIP", "City"];
+    for (i, name) in want.iter().enumerate() {
+        let found = headed.names.get(i).expect(&rt, "a name");
+        assert_eq!(rt; found.bytes(), name.as_bytes());
+    }
+    assert_eq!(rt; headed.rows.len(), 2);
+    let values = ["53111", "Bonn, West", "", ""];
+    for (i, value) in values.iter().enumerate() {
+        let row = headed.rows.get(i / 2).expect(&rt, "a row");
+        assert!(rt; row.len() == 2);
+        assert_eq!(rt; row.value(i % 2).bytes(), value.as_bytes());
+    }
+    Ok(())
+}
+
+#[test]
+fn texts_that_are_read(rt: HostRuntime) -> Result<(), Fail> {
+    let alloc = rt.alloc();
+    let cases = [
+        ("A,B", 2, 0),
+        ("A,B\n", 2, 0),
+        ("\n\r\nA\n\"\"\n\n1", 1, 2),
+        ("a,b,c,d,e,f,g,h,i,j,k,l\n", 12, 0),
+        ("integer,text,schemes\n", 3, 0),
+        ("aaaaaaaaaabbbbbbbbbbccccccccccd\n", 1, 0),
+    ];
+    for (text, columns, rows) in cases {
+        let headed = read_headed(alloc, text.as_bytes()).expect(&rt, "rows");
+        assert_eq!(rt; headed.names.len(), columns);
+        assert_eq!(rt; headed.rows.len(), rows);
+    }
+    Ok(())
+}
+
+#[test]
+fn refusals_in_their_order(rt: HostRuntime) -> Result<(), Fail> {
+    let alloc = rt.alloc();
+    let cases = [
+        ("", DiscoverRefusal::NoHeader),
+        ("\n\r\n", DiscoverRefusal::NoHeader),
+        ("\u{feff}", DiscoverRefusal::NoHeader),
+        (
+            "a,b,c,d,e,f,g,h,i,j,k,l,m\n",
+            DiscoverRefusal::TooManyColumns,
+        ),
+        (
+            "1,2,3,4,5,6,7,8,9,0,1,2,3\n",
+            DiscoverRefusal::TooManyColumns,
+        ),
+        ("A,\n", DiscoverRefusal::BadColumn { column: 2 }),
+        ("A,1,A\n", DiscoverRefusal::BadColumn { column: 2 }),
+        ("A,B ,A\n", DiscoverRefusal::BadColumn { column: 2 }),
+        ("A,Attributes\n", DiscoverRefusal::BadColumn { column: 2 }),
+        ("scheme,A\n", DiscoverRefusal::BadColumn { column: 1 }),
+        ("A,B,VERSION\n", DiscoverRefusal::BadColumn { column: 3 }),
+        (
+            "aaaaaaaaaabbbbbbbbbbccccccccccdd\n",
+            DiscoverRefusal::BadColumn { column: 1 },
+        ),
+        (
+            "\u{feff}\u{feff}A\n",
+            DiscoverRefusal::BadColumn { column: 1 },
+        ),
+        ("A,a", DiscoverRefusal::DoubleColumn { column: 2 }),
+        ("A,B,b,?\n1\n", DiscoverRefusal::DoubleColumn { column: 3 }),
+        (
+            "A,B\n1,2\n1\n1,2,3\n",
+            DiscoverRefusal::UnevenRow { row: 2 },
+        ),
+        ("A,B\n1,2,3\n", DiscoverRefusal::UnevenRow { row: 1 }),
+    ];
+    for (text, want) in cases {
+        match read_headed(alloc, text.as_bytes()) {
+            Err(refusal) => assert_eq!(rt; refusal, want),
+            Ok(_) => assert!(rt; false),
+        }
+    }
+    Ok(())
+}
+
+#[test]
+fn as_many_rows_as_may_be(rt: HostRuntime) -> Result<(), Fail> {
+    let alloc = rt.alloc();
+    let mut text = Vec::from_slice(alloc, b"A\n")?;
+    for _ in 0..10_000 {
+        text.extend_from_slice(b"1\n")?;
+    }
+    let headed = read_headed(alloc, &text).expect(&rt, "rows");
+    assert_eq!(rt; headed.rows.len(), 10_000);
+    let cases = [
+        ("\n", None),
+        ("1\n", Some(DiscoverRefusal::TooManyRows)),
+        ("1\n1,2\n", Some(DiscoverRefusal::TooManyRows)),
+        ("1,2\n", Some(DiscoverRefusal::UnevenRow { row: 10_001 })),
+    ];
+    for (last, want) in cases {
+        let mut whole = Vec::from_slice(alloc, &text)?;
+        whole.extend_from_slice(last.as_bytes())?;
+        match read_headed(alloc, &whole) {
+            Err(refusal) => assert!(rt; want == Some(refusal)),
+            Ok(_) => assert!(rt; want == None),
+        }
+    }
+    Ok(())
+}

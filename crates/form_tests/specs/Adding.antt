@@ -1,0 +1,11 @@
+use Rattle.std.specs.Prelude.{◌≡◌, ℕ, false, List}
+use Rattle.attr_sets.specs.Places.{Places, meet, Within}
+use Rattle.dep_model.specs.Dependencies.{Dependency}
+use Rattle.dep_model.specs.Keys.{InClosure}
+
+-- the attributes of a scheme that are not in a set add only themselves: what a left side
+-- determines beyond itself, it determines by what it has of the set
+abbrev pub AddOnlyThemselves : ℕ → List Dependency → Places → Places → Type 0
+AddOnlyThemselves n ds scheme whole =
+    (x : Places) (a : ℕ) → Within x scheme → InClosure n ds x a → x a ≡ false
+    → InClosure n ds (meet x whole) a

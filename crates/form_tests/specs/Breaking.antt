@@ -1,0 +1,34 @@
+use Rattle.std.specs.Prelude.{ℕ, List}
+use Rattle.attr_sets.specs.Places.{Places, meet, Within, IsBefore}
+use Rattle.dep_model.specs.Dependencies.{Dependency, functional_part}
+use Rattle.dep_model.specs.Keys.{IsSuperkey}
+use Rattle.dep_basis.specs.Parts.{HasTwoParts}
+use Rattle.form_tests.specs.declared.forms.Form.{Form}
+use Rattle.form_tests.specs.declared.forms.Form.TheVariants.{Third, Bcnf, Fourth}
+use Rattle.form_tests.specs.Violations.{DeterminesBeyond, DeterminesNonPrime}
+
+-- what shows that a left side which is no superkey violates a form
+abbrev pub Shows : ℕ → List Dependency → Form → Places → Places → Type 0
+Shows n ds Third scheme x = (a : ℕ) × DeterminesNonPrime n (functional_part ds) scheme x a
+Shows n ds Bcnf scheme x = (a : ℕ) × DeterminesBeyond n ds scheme x a
+Shows n ds Fourth scheme x = HasTwoParts n ds scheme x
+
+-- a left side violates Boyce-Codd or fourth form, whatever its right side
+abbrev pub Breaks : ℕ → List Dependency → Form → Places → Places → Type 0
+Breaks n ds form scheme x = (IsSuperkey n ds scheme x → ⊥) × Shows n ds form scheme x
+
+-- of the subsets of a set, x is the first that violates a form on a scheme
+pub record IsFirstBreaking (n : ℕ) (ds : List Dependency) (form : Form)
+    (scheme whole x : Places) : Type 0 where
+  pub within : Within x whole
+  pub breaks : Breaks n ds form scheme x
+  pub first : (v : Places) → Within v whole → IsBefore v x → Breaks n ds form scheme v → ⊥
+
+-- no subset of a set violates a form on a scheme
+abbrev pub NoneBreaks : ℕ → List Dependency → Form → Places → Places → Type 0
+NoneBreaks n ds form scheme whole = (x : Places) → Within x whole → Breaks n ds form scheme x → ⊥
+
+-- what violates a form does so by what it has of a set
+abbrev pub IsEnough : ℕ → List Dependency → Form → Places → Places → Type 0
+IsEnough n ds form scheme whole =
+    (x : Places) → Breaks n ds form scheme x → Breaks n ds form scheme (meet x whole)

@@ -1,0 +1,45 @@
+use Rattle.std.specs.Prelude.{◌≡◌, ℕ, ◌<◌, ◌↔◌, false, true, List}
+use Rattle.attr_sets.specs.Places.{Places, only, minus, Same, IsEmpty, IsLeastFrom}
+use Rattle.dep_model.specs.Dependencies.{Dependency, fd, functional_part}
+use Rattle.dep_model.specs.OnSchemes.{ImpliedOn}
+use Rattle.dep_model.specs.Keys.{IsSuperkey, IsPrime, IsPart}
+use Rattle.form_tests.specs.declared.forms.Form.{Form}
+use Rattle.form_tests.specs.declared.forms.Form.TheVariants.{Third, Bcnf, Fourth}
+
+-- x determines on the scheme attribute a, which lies outside it
+abbrev pub DeterminesBeyond : ℕ → List Dependency → Places → Places → ℕ → Type 0
+DeterminesBeyond n ds scheme x a = ImpliedOn n ds scheme (fd x (only a)) × (x a ≡ false)
+
+-- and this attribute is not prime
+abbrev pub DeterminesNonPrime : ℕ → List Dependency → Places → Places → ℕ → Type 0
+DeterminesNonPrime n ds scheme x a = DeterminesBeyond n ds scheme x a × (IsPrime n ds scheme a → ⊥)
+
+-- x is no superkey and determines attributes beyond it that are not prime; y is the least of them
+pub record ViolatesThird (n : ℕ) (ds : List Dependency) (scheme x y : Places) : Type 0 where
+  pub no_superkey : IsSuperkey n ds scheme x → ⊥
+  pub attribute : ℕ
+  pub determined : DeterminesNonPrime n ds scheme x attribute
+  pub least : (a : ℕ) → a < attribute → DeterminesNonPrime n ds scheme x a → ⊥
+  pub right : Same y (only attribute)
+
+-- x is no superkey and determines attributes beyond it; y has all of them
+pub record ViolatesBcnf (n : ℕ) (ds : List Dependency) (scheme x y : Places) : Type 0 where
+  pub no_superkey : IsSuperkey n ds scheme x → ⊥
+  pub some : IsEmpty y → ⊥
+  pub right : (a : ℕ) → (y a ≡ true) ↔ DeterminesBeyond n ds scheme x a
+
+-- x is no superkey and has two parts or more; y is the one with the least attribute outside x
+pub record ViolatesFourth (n : ℕ) (ds : List Dependency) (scheme x y : Places) : Type 0 where
+  pub no_superkey : IsSuperkey n ds scheme x → ⊥
+  pub part : IsPart n ds scheme x y
+  pub first : (a : ℕ) → IsLeastFrom (minus scheme x) 0 a → y a ≡ true
+  pub other : Places
+  pub other_part : IsPart n ds scheme x other
+  pub differ : Same other y → ⊥
+
+-- x violates a form on a scheme, with the right side y; third normal form goes by the functional
+-- part
+abbrev pub Violates : ℕ → List Dependency → Form → Places → Places → Places → Type 0
+Violates n ds Third scheme x y = ViolatesThird n (functional_part ds) scheme x y
+Violates n ds Bcnf scheme x y = ViolatesBcnf n ds scheme x y
+Violates n ds Fourth scheme x y = ViolatesFourth n ds scheme x y

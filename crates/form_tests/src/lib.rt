@@ -1,0 +1,24 @@
+//! Tests of normal forms: whether a scheme is in third, Boyce-Codd or fourth normal form, and the
+//! violation that shows where it is not.
+//!
+//! `violation` ranges over every left side within a scheme of at most `WIDEST_TESTED` attributes:
+//! it answers none exactly where the scheme is in the form, and else the first left side that
+//! violates it, in the order of sets, with its right side. `visible_violation` looks at the given
+//! left sides alone, at any width. `laws` has what holds of violations. No call takes memory.
+#![tactic(auto)]
+
+mod breaking;
+mod forms;
+mod kinds;
+pub mod laws;
+mod lefts;
+mod narrowing;
+mod primes;
+mod testing;
+mod third;
+
+pub use forms::{Breach, Form, TooWide, WIDEST_TESTED};
+pub use testing::{violation, visible_violation};
+
+#[cfg(test)]
+mod tests;

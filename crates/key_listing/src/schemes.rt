@@ -1,0 +1,43 @@
+ghost use Rattle.std.specs.Prelude.{◌≤◌, length, IfOk, IfErr};
+ghost use Rattle.attr_sets.specs.Places.{Within};
+ghost use Rattle.attr_sets.specs.Sets.{places};
+ghost use Rattle.dep_model.specs.Schemas.{width_of, universe_of, theory_of};
+ghost use Rattle.key_listing.specs.Listing.{AreAllKeys};
+ghost use Rattle.key_listing.specs.Refusals.{IsWideScheme, IsRefusedFor};
+
+use crate::refusal::{MOST_KEYS, SchemeKeyRefusal, WIDEST_SEARCHED};
+use crate::searching::searched_keys;
+use attr_sets::AttrSet;
+use dep_model::{Schema, WantMemory};
+use std::alloc::Global;
+
+/// All keys of a scheme by all dependencies, ascending: of two keys the greatest attribute that is in one
+/// alone decides. There are at most `MOST_KEYS`; the keys of a scheme of more than `WIDEST_SEARCHED`
+/// attributes are refused, whatever the dependencies, and then more keys than `MOST_KEYS` are.
+pub fn keys_of_scheme(
+    alloc: Global,
+    schema: &Schema,
+    scheme: AttrSet,
+) -> Result<Vec<AttrSet>, SchemeKeyRefusal>
+    requires scheme { Within (places scheme) (universe_of schema.now) }
+    ensures keys { IfOk result (λ keys.
+        AreAllKeys (width_of schema.now) (theory_of schema.now) (places scheme) keys.items) }
+    ensures few { IfOk result (λ keys. length keys.items ≤ MOST_KEYS) }
+    ensures narrow { IfOk result (λ _. IsWideScheme (places scheme) → ⊥) }
+    ensures refused { IfErr result (IsRefusedFor schema.now (places scheme)) }
+{
+    if scheme.len() > WIDEST_SEARCHED {
+        return Err(SchemeKeyRefusal::TooWide);
+    }
+    match searched_keys(alloc, schema, scheme) {
+        Err(WantMemory) => Err(SchemeKeyRefusal::Memory),
+        Ok(found) => {
+            let many = found.len() > MOST_KEYS;
+            if many {
+                Err(SchemeKeyRefusal::TooManyKeys { found })
+            } else {
+                Ok(found)
+            }
+        }
+    }
+}

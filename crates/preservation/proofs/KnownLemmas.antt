@@ -1,0 +1,97 @@
+-- What is known of the schemes of a plan: closures by all dependencies of a schema, and lists of them.
+use Rattle.std.proofs.Common.{◌≡◌, ℕ, ◌<◌, ◌↔◌, Bool, true, List, [], ◌∷◌, ◌++◌, length, take, drop}
+use Rattle.std.proofs.Common.{get_or, replicate, append-nil, arith, subst, sym, refl, ap, ◌∙◌}
+use Rattle.std.proofs.lemmas.List.Elements.{All-map}
+use Rattle.std.proofs.lemmas.List.Elements.{Contains-get_or}
+use Rattle.std.specs.Prelude.{All, Contains}
+use Rattle.std.proofs.Math.ListN.{get_or-map, set}
+use Rattle.std.proofs.Math.Seq.{map-set_same}
+use Rattle.std.proofs.lemmas.List.{length-map, take_all, drop_all}
+use Rattle.attr_sets.specs.Sets.{places}
+use Rattle.attr_sets.specs.declared.set.AttrSet.{AttrSet}
+use Rattle.dep_model.specs.Plans.{schemes_of}
+use Rattle.attr_sets.specs.Places.{Places, below, Within}
+use Rattle.dep_model.specs.Tuples.{Relation}
+use Rattle.dep_model.specs.Dependencies.{Dependency, functional_part}
+use Rattle.dep_model.specs.Keys.{InClosure}
+use Rattle.dep_model.specs.Deps.{dependencies_of, IsDepWithin}
+use Rattle.dep_model.specs.Schemas.{width_of, deps_of, theory_of, universe_of}
+use Rattle.dep_model.specs.declared.dep.Dep.{Dep}
+use Rattle.dep_model.specs.declared.schema.Schema.{Schema}
+use Rattle.fd_closure.specs.Switches.{members_on}
+use Rattle.preservation.specs.declared.inside.Inside.{Inside}
+use Rattle.preservation.specs.Insides.{IsKnown, known_schemes, known_plan}
+use Rattle.preservation.specs.Keeping.{ObeysInside}
+
+-- ---- a closure over the dependencies of a schema, all of which count
+all_members_on : (ds : List Dep) → members_on (replicate (length ds) true) ds ≡ ds
+all_members_on [] = refl
+all_members_on (d ∷ ds) = ap (λ (rest : List Dep). d ∷ rest) (all_members_on ds)
+
+-- what clause `closure` says, with the members that are on
+abbrev ClosedBy : List Dep → List Dep → Places → Places → Type 0
+ClosedBy ds members part closed = (n : ℕ) → All (IsDepWithin (below n)) ds → Within part (below n)
+    → (a : ℕ) → (closed a ≡ true) ↔ InClosure n (functional_part (dependencies_of members)) part a
+
+pub closure_over : (s : Schema) (on : List Bool) (ds : List Dep) (part closed : Places) → ds ≡ deps_of s
+    → on ≡ replicate (length (deps_of s)) true → Within part (universe_of s)
+    → ((n : ℕ) → All (IsDepWithin (below n)) ds → Within part (below n)
+    → (a : ℕ) → (closed a ≡ true) ↔ InClosure n (functional_part (dependencies_of (members_on on ds))) part a)
+    → (a : ℕ) → (closed a ≡ true) ↔ InClosure (width_of s) (functional_part (theory_of s)) part a
+closure_over s on ds part closed e all within clause =
+    let members : members_on on ds ≡ deps_of s = ap (λ (xs : List Dep). members_on on xs) e
+    ∙ ap (λ (bs : List Bool). members_on bs (deps_of s)) all ∙ all_members_on (deps_of s) in
+    let over : ClosedBy ds (deps_of s) part closed =
+    subst (λ (xs : List Dep). ClosedBy ds xs part closed) members clause in
+    over (width_of s) (subst (λ (xs : List Dep). All (IsDepWithin (universe_of s)) xs) (sym e) s.valid.deps_within)
+    within
+
+-- ---- what is known of the schemes of a plan
+pub scheme_of : (old new : List Inside) (i : ℕ) (d : Inside) → known_schemes new ≡ known_schemes old
+    → get_or (known_schemes old) i d.scheme ≡ (get_or new i d).scheme
+scheme_of old new i d same = ap (λ (schemes : List AttrSet). get_or schemes i d.scheme) (sym same)
+    ∙ get_or-map (λ (inside : Inside). inside.scheme) new i d
+
+-- the i-th of them is a scheme of the plan
+pub scheme_at : (old new : List Inside) (i : ℕ) (d : Inside) → known_schemes new ≡ known_schemes old → i < length old
+    → Contains (known_plan old) (places (get_or new i d).scheme)
+scheme_at old new i d same lt =
+    let low : i < length (known_plan old) =
+    omega (arith, lt, length-map (known_schemes old) places, length-map old (λ (inside : Inside). inside.scheme)) in
+    subst (λ (scheme : Places). Contains (known_plan old) scheme)
+    (get_or-map places (known_schemes old) i d.scheme ∙ ap places (scheme_of old new i d same))
+    (Contains-get_or (known_plan old) i (places d.scheme) low)
+
+-- something else is known of the same scheme
+pub same_schemes : (old new : List Inside) (i : ℕ) (inside d : Inside) → known_schemes new ≡ known_schemes old
+    → inside.scheme ≡ (get_or new i d).scheme → known_schemes (set new i inside) ≡ known_schemes old
+same_schemes old new i inside d same scheme =
+    map-set_same (λ (inside : Inside). inside.scheme) new i inside d scheme ∙ same
+
+-- there are as many
+pub same_length : (old new : List Inside) → known_schemes new ≡ known_schemes old → length new ≡ length old
+same_length old new same =
+    let scheme : Inside → AttrSet = (λ (inside : Inside). inside.scheme) in
+    sym (length-map new scheme) ∙ ap (λ (schemes : List AttrSet). length schemes) same ∙ length-map old scheme
+
+-- so they are put back in the place of the others
+pub put_back : (old new : List Inside) (len : ℕ) → len ≡ length old → known_schemes new ≡ known_schemes old
+    → take len (new ++ drop (length new) old) ≡ new
+put_back old new len count same =
+    let long : length new ≡ length old = same_length old new same in
+    ap (λ (rest : List Inside). take len (new ++ rest)) (drop_all (length new) old (omega (arith, long)))
+    ∙ ap (take len) (append-nil new) ∙ take_all len new (omega (arith, long, count))
+
+-- what is inside the schemes of the one is inside those of the other
+pub same_plan_obeyed : (n : ℕ) (ds : List Dependency) (old new : List Inside) (r : Relation)
+    → known_schemes new ≡ known_schemes old → ObeysInside n ds (known_plan old) r → ObeysInside n ds (known_plan new) r
+same_plan_obeyed n ds old new r same =
+    subst (λ (schemes : List AttrSet). ObeysInside n ds (schemes_of schemes) r) (sym same)
+
+-- each scheme has attributes of the universe
+pub known_within : (n : ℕ) (ds : List Dependency) (insides : List Inside) → All (IsKnown n ds) insides
+    → All (λ scheme. Within scheme (below n)) (known_plan insides)
+known_within n ds insides known =
+    All-map (λ (scheme : Places). Within scheme (below n)) places (known_schemes insides)
+    (All-map (λ (scheme : AttrSet). Within (places scheme) (below n)) (λ (inside : Inside). inside.scheme) insides
+    (λ k d l. (known k d l).universe))

@@ -1,0 +1,92 @@
+use Rattle.std.proofs.Common.{◌≡◌, ◌<◌, true, List, length, replicate, subst, sym, refl, ap, ◌∙◌}
+use Rattle.std.specs.Prelude.{All}
+use Rattle.dep_model.specs.declared.dep.Dep.{Dep}
+use Rattle.dep_model.specs.declared.dep.Dep.TheVariants.{Fd}
+use Rattle.dep_model.specs.Deps.{IsDepWithin}
+use Rattle.dep_model.specs.Plans.{schemes_of}
+use Rattle.dep_model.specs.Schemas.{deps_of, theory_of, width_of, universe_of}
+use Rattle.preservation.specs.declared.inside.Inside.{Inside}
+use Rattle.preservation.specs.Insides.{IsKnown, known_schemes}
+use Rattle.preservation.specs.Keeping.{LossesOf}
+use Rattle.preservation.proofs.KnownLemmas.{put_back}
+use Rattle.preservation.proofs.LossLemmas.{no_losses, next_kept, next_lost, all_looked_at}
+use Rattle.preservation.proofs.LossLemmas.{none_kept, kept_none, each_kept, keeps_each}
+use Rattle.preservation.proofs.losing.losses.Goals as goal
+use Rattle.preservation.proofs.losing.losses.Goals.{in-Some+in_ok-push-in-Some, in-None}
+
+abbrev nothing : Dep
+nothing = Fd (record { 0 = 0 }) (record { 0 = 0 })
+
+pub loop-k-init : goal.loop-k-init
+loop-k-init c = record {
+  losses = no_losses _ _ _ _ _ _ refl c.new-losses.ensures.items;
+  known = c.in_ok-insides.ensures.known;
+  schemes = c.in_ok-insides.ensures.schemes;
+  switches = c.insides_of.ensures.switches ∙ c.in_ok-counters.ensures.on
+      ∙ ap (λ (ds : List Dep). replicate (length ds) true) c.deps.ensures.deps;
+}
+
+pub loss_of-agreement-requires-clause-dep : goal.loss_of-agreement-requires-clause-dep
+loss_of-agreement-requires-clause-dep c =
+    let s = c.args.schema.now in
+    let ds : List Dep = c.deps-in-loop-k.result.now in
+    let same : ds ≡ deps_of s = c.deps-in-loop-k.ensures.deps in
+    let low : c.loop-k.k < length ds =
+    subst (λ (ds : List Dep). c.loop-k.k < length ds) (c.deps-k-end.ensures.deps ∙ sym same) c.loop-k-test.true in
+    let all : All (IsDepWithin (universe_of s)) ds =
+    subst (λ (ds : List Dep). All (IsDepWithin (universe_of s)) ds) (sym same) s.valid.deps_within in
+    all c.loop-k.k nothing low
+
+pub loop-k-preserved : goal.loop-k-preserved
+loop-k-preserved c =
+    let s = c.args.schema.now in
+    let n = width_of s in
+    let plan = schemes_of c.args.schemes.now in
+    let ds : List Dep = c.deps-in-loop-k.result.now in
+    let same : ds ≡ deps_of s = c.deps-in-loop-k.ensures.deps in
+    let low : c.loop-k.k < length ds =
+    subst (λ (ds : List Dep). c.loop-k.k < length ds) (c.deps-k-end.ensures.deps ∙ sym same) c.loop-k-test.true in
+    let before = c.loop-k.invariant in
+    let old = c.loop-k.insides.items in
+    let call = c.loss_of-agreement in
+    let given : c.deref_mut.result.now ≡ old = c.deref_mut.ensures.value in
+    let count : c.loop-k.insides.len ≡ length old =
+    sym c.deref_mut.ensures.len ∙ ap (λ (l : List Inside). length l) given in
+    let back = sym (put_back old call.new.insides c.loop-k.insides.len count
+    (call.ensures.schemes ∙ ap known_schemes given)) in
+    let known = subst (λ (l : List Inside). All (IsKnown n (theory_of s)) l) back call.ensures.known in
+    let schemes = subst (λ (l : List Inside). known_schemes l ≡ c.args.schemes.now) back
+    (call.ensures.schemes ∙ ap known_schemes given ∙ before.schemes) in
+    let plan_of = ap known_schemes given ∙ before.schemes in
+    let switches = call.ensures.switches ∙ before.switches in
+    elim c.match-agreement.branch [
+      | in-Some+in_ok-push-in-Some w ↦ record {
+        losses = rw w.losses-is
+            (next_lost n (deps_of s) ds plan c.loop-k.k nothing _ c.loop-k.losses.items _ same low before.losses
+            (rw plan_of at (rw w.in-Some.is at call.ensures.lost)) refl w.in_ok-push-in-Some.ensures.items);
+        known = known;
+        schemes = schemes;
+        switches = switches;
+      }
+      | in-None w ↦ record {
+        losses = rw w.losses-is
+            (next_kept n (deps_of s) ds plan c.loop-k.k nothing c.loop-k.losses.items same low before.losses
+            (rw plan_of at (rw w.in-None.is at call.ensures.kept)));
+        known = known;
+        schemes = schemes;
+        switches = switches;
+      }
+    ]
+
+pub returns-clause-keeps : goal.returns-clause-keeps
+returns-clause-keeps c =
+    let s = c.args.schema.now in
+    let n = width_of s in
+    let plan = schemes_of c.args.schemes.now in
+    let found = c.loop-k.losses.items in
+    let all : LossesOf n (theory_of s) plan found =
+    all_looked_at n (deps_of s) c.deps-k-end.result.now plan c.loop-k.k found c.deps-k-end.ensures.deps
+    c.loop-k-test.false c.loop-k.invariant.losses in (
+      (λ none. each_kept n (theory_of s) plan (none_kept n (theory_of s) plan 0 (theory_of s) found all none)),
+      (λ keeps. kept_none n (theory_of s) plan 0 (theory_of s) found all (keeps_each n (deps_of s) plan keeps)),
+    )

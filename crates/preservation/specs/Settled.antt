@@ -1,0 +1,18 @@
+-- Sets that the dependencies inside schemes do not lead out of.
+use Rattle.std.specs.Prelude.{◌≡◌, ◌↔◌, ℕ, true, List}
+use Rattle.attr_sets.specs.Places.{Places, union, Within}
+use Rattle.dep_model.specs.Dependencies.{Dependency, fd, functional_part}
+use Rattle.dep_model.specs.Implication.{Implies}
+use Rattle.dep_model.specs.TwoTuples.{two_tuples}
+use Rattle.preservation.specs.Keeping.{InKeptClosure, ObeysInside}
+
+-- what a part of c determines by the functional dependencies inside a scheme lies within e
+abbrev pub IsSettledIn : ℕ → List Dependency → Places → Places → Places → Type 0
+IsSettledIn n ds scheme c e =
+    (x y : Places) → Within (union x y) scheme → Implies n (functional_part ds) (fd x y) → Within x c → Within y e
+
+-- c is all that follows from x by the dependencies inside the schemes of a plan, and the two tuples that
+-- agree exactly on it obey these
+pub record IsKeptClosure (n : ℕ) (ds : List Dependency) (plan : List Places) (x c : Places) : Type 0 where
+  pub closure : (a : ℕ) → (c a ≡ true) ↔ InKeptClosure n ds plan x a
+  pub inside : ObeysInside n ds plan (two_tuples n c)

@@ -1,0 +1,82 @@
+ghost use Rattle.std.specs.Prelude.{◌≡◌, ◌⊎◌, All};
+ghost use Rattle.attr_sets.specs.Places.{Within};
+ghost use Rattle.attr_sets.specs.Sets.{places};
+ghost use Rattle.dep_model.specs.Dependencies.{ObeysFd};
+ghost use Rattle.dep_model.specs.Schemas.{width_of, theory_of, universe_of};
+ghost use Rattle.dep_model.specs.Tuples.{Relation};
+ghost use Rattle.fd_closure.specs.Counting.{switches_of};
+ghost use Rattle.preservation.specs.Insides.{IsKnown, known_schemes, known_plan, AreAllOn};
+ghost use Rattle.preservation.specs.Keeping.{FollowsInside, ObeysInside};
+ghost use Rattle.preservation.specs.Settled.{IsSettledIn, IsKeptClosure};
+
+use crate::inside::{Inside, inside_by};
+use attr_sets::AttrSet;
+use dep_model::Schema;
+use fd_closure::Counters;
+
+/// The attributes that follow from a set by the functional dependencies inside the schemes of a plan,
+/// of those that the functional dependencies of the schema imply (Ullman 1982): all of them, unless
+/// what is wanted is found before.
+///
+/// Two tuples that agree exactly on all of them obey all these dependencies.
+pub fn kept_closure(
+    schema: &Schema,
+    counters: &mut Counters,
+    insides: &mut [Inside],
+    from: AttrSet,
+    wanted: AttrSet,
+) -> AttrSet
+    requires on { AreAllOn schema.now counters.old }
+    requires known { All (IsKnown (width_of schema.now) (theory_of schema.now)) insides.old }
+    requires from { Within (places from) (universe_of schema.now) }
+    ensures follows { FollowsInside (width_of schema.now) (theory_of schema.now) (known_plan insides.old)
+        (places from) (places result) }
+    ensures found { Within (places wanted) (places result)
+        ⊎ IsKeptClosure (width_of schema.now) (theory_of schema.now) (known_plan insides.old)
+        (places from) (places result) }
+    ensures known { All (IsKnown (width_of schema.now) (theory_of schema.now)) insides.new }
+    ensures schemes { known_schemes insides.new ≡ known_schemes insides.old }
+    ensures switches { switches_of counters.new ≡ switches_of counters.old }
+{
+    let mut closed = from;
+    loop {
+        let more = with_schemes(schema, counters, insides, closed);
+        if more == closed {
+            return closed;
+        }
+        if wanted.within(more) {
+            return more;
+        }
+        closed = more;
+    }
+}
+
+// The set with what each scheme adds to it, where each is tried once.
+fn with_schemes(
+    schema: &Schema,
+    counters: &mut Counters,
+    insides: &mut [Inside],
+    closed: AttrSet,
+) -> AttrSet
+    requires on { AreAllOn schema.now counters.old }
+    requires known { All (IsKnown (width_of schema.now) (theory_of schema.now)) insides.old }
+    requires closed { Within (places closed) (universe_of schema.now) }
+    ensures grows { Within (places closed) (places result) }
+    ensures within { Within (places result) (universe_of schema.now) }
+    ensures kept { (r : Relation) → ObeysInside (width_of schema.now) (theory_of schema.now) (known_plan insides.old) r
+        → ObeysFd (places closed) (places result) r }
+    ensures settled { Within (places result) (places closed)
+        → All (λ scheme. IsSettledIn (width_of schema.now) (theory_of schema.now) (places scheme)
+        (places closed) (places closed)) (known_schemes insides.old) }
+    ensures known { All (IsKnown (width_of schema.now) (theory_of schema.now)) insides.new }
+    ensures schemes { known_schemes insides.new ≡ known_schemes insides.old }
+    ensures switches { switches_of counters.new ≡ switches_of counters.old }
+{
+    let mut more = closed;
+    for i in 0..insides.len() {
+        let inside = inside_by(schema, counters, insides[i], more);
+        more = more.union(inside.closed);
+        insides[i] = inside;
+    }
+    more
+}

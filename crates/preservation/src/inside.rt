@@ -1,0 +1,82 @@
+ghost use Rattle.std.specs.Prelude.{◌≡◌, All, IfOk};
+ghost use Rattle.attr_sets.specs.Places.{Within, meet};
+ghost use Rattle.attr_sets.specs.Sets.{places};
+ghost use Rattle.dep_model.specs.Schemas.{width_of, theory_of, universe_of};
+ghost use Rattle.fd_closure.specs.Counting.{switches_of};
+ghost use Rattle.preservation.specs.Insides.{IsKnown, known_schemes, AreAllOn};
+
+use attr_sets::AttrSet;
+use dep_model::{Schema, WantMemory};
+use fd_closure::{Counters, closure_with};
+use std::alloc::Global;
+
+/// What a part of a scheme determines inside it.
+///
+/// Any part between the two determines the same, so it is found anew only for others.
+#[derive(Clone, Copy, Debug)]
+pub struct Inside {
+    pub scheme: AttrSet,
+    pub part: AttrSet,
+    pub closed: AttrSet,
+}
+
+/// What nothing determines inside each scheme of a plan.
+pub fn insides_of(
+    alloc: Global,
+    schema: &Schema,
+    counters: &mut Counters,
+    schemes: &[AttrSet],
+) -> Result<Vec<Inside>, WantMemory>
+    requires on { AreAllOn schema.now counters.old }
+    requires schemes { All (λ scheme. Within (places scheme) (universe_of schema.now)) schemes.now }
+    ensures known { IfOk result (λ v. All (IsKnown (width_of schema.now) (theory_of schema.now)) v.items) }
+    ensures schemes { IfOk result (λ v. known_schemes v.items ≡ schemes.now) }
+    ensures switches { switches_of counters.new ≡ switches_of counters.old }
+{
+    let mut insides = Vec::with_capacity(alloc, schemes.len())?;
+    for scheme in schemes {
+        insides.push(inside_of(schema, counters, *scheme, AttrSet::empty()))?;
+    }
+    Ok(insides)
+}
+
+// What a part determines inside a scheme.
+fn inside_of(schema: &Schema, counters: &mut Counters, scheme: AttrSet, part: AttrSet) -> Inside
+    requires on { AreAllOn schema.now counters.old }
+    requires scheme { Within (places scheme) (universe_of schema.now) }
+    requires part { Within (places part) (places scheme) }
+    ensures known { IsKnown (width_of schema.now) (theory_of schema.now) result }
+    ensures scheme { result.scheme ≡ scheme }
+    ensures part { result.part ≡ part }
+    ensures switches { switches_of counters.new ≡ switches_of counters.old }
+{
+    let closed = closure_with(counters, schema.deps(), part).meet(scheme);
+    Inside {
+        scheme,
+        part,
+        closed,
+    }
+}
+
+/// What some part of a set determines inside a scheme, where the set has no more of the scheme.
+pub fn inside_by(
+    schema: &Schema,
+    counters: &mut Counters,
+    inside: Inside,
+    closed: AttrSet,
+) -> Inside
+    requires on { AreAllOn schema.now counters.old }
+    requires known { IsKnown (width_of schema.now) (theory_of schema.now) inside }
+    ensures known { IsKnown (width_of schema.now) (theory_of schema.now) result }
+    ensures scheme { result.scheme ≡ inside.scheme }
+    ensures part { Within (places result.part) (places closed) }
+    ensures covers { Within (meet (places closed) (places inside.scheme)) (places result.closed) }
+    ensures switches { switches_of counters.new ≡ switches_of counters.old }
+{
+    let part = closed.meet(inside.scheme);
+    if inside.part.within(part) && part.within(inside.closed) {
+        inside
+    } else {
+        inside_of(schema, counters, inside.scheme, part)
+    }
+}

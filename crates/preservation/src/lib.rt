@@ -1,0 +1,14 @@
+//! Which functional dependencies a plan keeps.
+//!
+//! `losses` names exactly the given ones that do not follow from those that they imply inside the schemes
+//! of a plan, each with two tuples that show it: these agree on exactly the attributes that follow from its
+//! left side. The set is closed scheme by scheme, and no subsets are tried (Ullman 1982).
+#![tactic(auto)]
+
+mod closing;
+mod inside;
+mod losing;
+#[cfg(test)]
+mod tests;
+
+pub use losing::{Loss, losses};

@@ -1,0 +1,81 @@
+ghost use Rattle.std.specs.Prelude.{◌≡◌, [], ◌↔◌, All, IfOk, IfSome, IfNone};
+ghost use Rattle.attr_sets.specs.Places.{Within};
+ghost use Rattle.attr_sets.specs.Sets.{places};
+ghost use Rattle.dep_model.specs.Deps.{dependency_of, IsDepWithin};
+ghost use Rattle.dep_model.specs.Plans.{schemes_of};
+ghost use Rattle.dep_model.specs.Preservation.{KeepsDependencies};
+ghost use Rattle.dep_model.specs.Schemas.{width_of, theory_of, universe_of};
+ghost use Rattle.fd_closure.specs.Counting.{switches_of};
+ghost use Rattle.preservation.specs.Insides.{IsKnown, known_schemes, known_plan, AreAllOn};
+ghost use Rattle.preservation.specs.Keeping.{IsKept, IsLostOn, LossesOf};
+
+use crate::closing::kept_closure;
+use crate::inside::{Inside, insides_of};
+use attr_sets::AttrSet;
+use dep_model::{Dep, Schema, WantMemory};
+use fd_closure::Counters;
+use std::alloc::Global;
+
+/// A functional dependency that a plan loses.
+#[derive(Clone, Copy, Debug, PartialEq, Eq)]
+pub struct Loss {
+    /// Its number among the dependencies, from 0.
+    pub dep: u16,
+    /// Two tuples that agree exactly here obey all that the plan keeps, and break the dependency.
+    pub agreement: AttrSet,
+}
+
+/// The functional dependencies that a plan loses, in the order of the file.
+pub fn losses(alloc: Global, schema: &Schema, schemes: &[AttrSet]) -> Result<Vec<Loss>, WantMemory>
+    requires schemes { All (λ scheme. Within (places scheme) (universe_of schema.now)) schemes.now }
+    ensures losses { IfOk result (λ v. LossesOf (width_of schema.now) (theory_of schema.now)
+        (schemes_of schemes.now) v.items) }
+    ensures keeps { IfOk result (λ v. (v.items ≡ [])
+        ↔ KeepsDependencies (width_of schema.now) (theory_of schema.now) (schemes_of schemes.now)) }
+{
+    let mut counters = Counters::make(alloc, schema.deps(), schema.width())?;
+    let mut insides = insides_of(alloc, schema, &mut counters, schemes)?;
+    let mut losses = Vec::new(alloc);
+    for k in 0..schema.deps().len() {
+        let agreement = loss_of(schema, &mut counters, &mut insides, schema.deps()[k]);
+        match agreement {
+            Some(agreement) => losses.push(Loss {
+                dep: k as u16,
+                agreement,
+            })?,
+            None => {}
+        }
+    }
+    Ok(losses)
+}
+
+// What two tuples agree on that show a dependency to be lost, if it is.
+fn loss_of(
+    schema: &Schema,
+    counters: &mut Counters,
+    insides: &mut [Inside],
+    dep: Dep,
+) -> Option<AttrSet>
+    requires on { AreAllOn schema.now counters.old }
+    requires known { All (IsKnown (width_of schema.now) (theory_of schema.now)) insides.old }
+    requires dep { IsDepWithin (universe_of schema.now) dep }
+    ensures lost { IfSome result (λ agreement. IsLostOn (width_of schema.now) (theory_of schema.now)
+        (known_plan insides.old) (dependency_of dep) (places agreement)) }
+    ensures kept { IfNone result (IsKept (width_of schema.now) (theory_of schema.now)
+        (known_plan insides.old) (dependency_of dep)) }
+    ensures known { All (IsKnown (width_of schema.now) (theory_of schema.now)) insides.new }
+    ensures schemes { known_schemes insides.new ≡ known_schemes insides.old }
+    ensures switches { switches_of counters.new ≡ switches_of counters.old }
+{
+    match dep {
+        Dep::Fd { lhs, rhs } => {
+            let closed = kept_closure(schema, counters, insides, lhs, rhs);
+            if rhs.within(closed) {
+                None
+            } else {
+                Some(closed)
+            }
+        }
+        Dep::Mvd { .. } => None,
+    }
+}

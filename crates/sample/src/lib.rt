@@ -1,0 +1,14 @@
+//! A large valid input that is made from a number.
+//!
+//! [`sample_schema`] has the attributes PERSON, CITY, SKILL and TONGUE: a person has one city, and the
+//! skills do not depend on the tongues. [`sample_rows`] gives the rows of so many persons, each with two
+//! skills beside two tongues; they are legal, and all different.
+#![tactic(auto)]
+
+mod rows;
+mod schema;
+#[cfg(test)]
+mod tests;
+
+pub use rows::{MOST_PERSONS, sample_rows};
+pub use schema::sample_schema;

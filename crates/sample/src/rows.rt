@@ -1,0 +1,64 @@
+ghost use Rattle.std.specs.Prelude.{◌≡◌, ◌*◌, ◌∷◌, ◌++◌, ◌<◌, ◌≤◌, length, AllPairs, IfOk, OnOk};
+ghost use Rattle.std.specs.Fmt.{decimal};
+ghost use Rattle.dep_model.specs.Implication.{IsLegal};
+ghost use Rattle.sample.specs.Sample.{person_rows, sample_relation, sample_row, sample_theory};
+
+use dep_model::{Row, Value, WantMemory};
+use itoa::Buffer;
+use std::alloc::Global;
+
+/// The most persons of a sample.
+pub const MOST_PERSONS: u32 = 25_000;
+
+/// The rows of so many persons, four each, no two of them equal. They are legal for the schema of the
+/// sample.
+pub fn sample_rows(alloc: Global, persons: u32) -> Result<Vec<Row>, WantMemory>
+    requires few { persons ≤ MOST_PERSONS }
+    ensures rows { IfOk result (λ v. v.items ≡ sample_relation persons) }
+    ensures count { IfOk result (λ v. length v.items ≡ 4 * persons) }
+    ensures differ { IfOk result (λ v. AllPairs (λ t u. t ≡ u → ⊥) v.items) }
+    ensures legal { IfOk result (λ v. IsLegal 4 sample_theory v.items) }
+{
+    let mut rows = Vec::with_capacity(alloc, persons as usize * 4)?;
+    for person in 0..persons {
+        add_person(alloc, &mut rows, person)?;
+    }
+    Ok(rows)
+}
+
+// The rows of a person, behind those of others.
+fn add_person(alloc: Global, rows: &mut Vec<Row>, person: u32) -> Result<(), WantMemory>
+    requires few { person < MOST_PERSONS }
+    ensures more { OnOk result (rows.new.items ≡ rows.old.items ++ person_rows person) }
+{
+    rows.push(row(alloc, person, 0, 0)?)?;
+    rows.push(row(alloc, person, 0, 1)?)?;
+    rows.push(row(alloc, person, 1, 0)?)?;
+    rows.push(row(alloc, person, 1, 1)?)?;
+    Ok(())
+}
+
+// The row of a person with one of the two skills and one of the two tongues.
+fn row(alloc: Global, person: u32, skill: u32, tongue: u32) -> Result<Row, WantMemory>
+    requires few { person < MOST_PERSONS }
+    requires skill { skill < 2 }
+    requires tongue { tongue < 2 }
+    ensures row { IfOk result (λ t. t ≡ sample_row person skill tongue) }
+{
+    let mut values = Vec::with_capacity(alloc, 4)?;
+    values.push(labelled(alloc, b'p', person)?)?;
+    values.push(labelled(alloc, b'c', person % 100)?)?;
+    values.push(labelled(alloc, b's', (3 * person + skill) % 50)?)?;
+    values.push(labelled(alloc, b'l', (7 * person + tongue) % 20)?)?;
+    Ok(Row::make(values))
+}
+
+// A letter, and a number in decimal.
+fn labelled(alloc: Global, letter: u8, number: u32) -> Result<Value, WantMemory>
+    ensures value { IfOk result (λ v. v ≡ letter ∷ decimal number) }
+{
+    let mut bytes = Vec::new(alloc);
+    bytes.push(letter)?;
+    bytes.extend_from_slice(Buffer::new().format(number).as_bytes())?;
+    Value::make(alloc, &bytes)
+}

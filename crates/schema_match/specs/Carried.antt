@@ -1,0 +1,30 @@
+use Rattle.std.specs.Prelude.{◌&&◌, nat_lt, ◌↔◌, false, All, option_map, unwrap_or}
+use Rattle.attr_sets.specs.Places.{Places}
+use Rattle.dep_model.specs.declared.schema.Schema.{Schema}
+use Rattle.dep_model.specs.Tuples.{Relation, IsOver}
+use Rattle.dep_model.specs.Dependencies.{Dependency, fd, mvd}
+use Rattle.dep_model.specs.Schemas.{width_of, theory_of, LegalFor, ImpliedBy}
+use Rattle.schema_match.specs.Columns.{namesake, reordered}
+
+-- a set of a schema's attributes, carried over to another by names: the attributes there that have a
+-- namesake in the set
+abbrev pub carried_set : Schema → Schema → Places → Places
+carried_set schema other x b = nat_lt b (width_of other) && unwrap_or (option_map x (namesake other schema b)) false
+
+-- a dependency of a schema, carried over to another by names
+abbrev pub carried : Schema → Schema → Dependency → Dependency
+carried schema other (fd x y) = fd (carried_set schema other x) (carried_set schema other y)
+carried schema other (mvd x y) = mvd (carried_set schema other x) (carried_set schema other y)
+
+-- a dependency of a schema follows from another: carried over by names, it is implied there
+abbrev pub FollowsFrom : Schema → Schema → Dependency → Type 0
+FollowsFrom other schema d = ImpliedBy other (carried schema other d)
+
+-- every dependency of a schema follows from another
+abbrev pub IsImpliedBy : Schema → Schema → Type 0
+IsImpliedBy other schema = All (FollowsFrom other schema) (theory_of schema)
+
+-- two schemas have the same legal relations, columns taken by their names
+abbrev pub HaveSameLegalRelations : Schema → Schema → Type 0
+HaveSameLegalRelations schema other =
+    (r : Relation) → IsOver (width_of schema) r → LegalFor schema r ↔ LegalFor other (reordered schema other r)

@@ -1,0 +1,4 @@
+pub mod Columns
+pub mod Namesakes
+pub mod Carried
+pub mod Differences

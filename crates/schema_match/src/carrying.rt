@@ -1,0 +1,46 @@
+ghost use Rattle.std.specs.Prelude.{◌≡◌, ℕ, ◌<◌, ◌≤◌, ◌↔◌, true, length, All};
+ghost use Rattle.attr_sets.specs.Sets.{places};
+ghost use Rattle.attr_sets.specs.declared.set.TheConstants.{PLACES};
+ghost use Rattle.dep_model.specs.declared.schema.Schema.{Schema};
+ghost use Rattle.dep_model.specs.Deps.{dependency_of, IsDepWithin};
+ghost use Rattle.dep_model.specs.Schemas.{universe_of};
+ghost use Rattle.schema_match.specs.Carried.{carried};
+ghost use Rattle.schema_match.specs.Namesakes.{AreNamesakes, IsNamesakeFrom};
+
+use attr_sets::AttrSet;
+use dep_model::Dep;
+
+// A dependency of a schema, carried over to another by names.
+pub fn carry(namesakes: &[u8], dep: Dep) -> Dep
+    requires few { length namesakes.now ≤ PLACES }
+    requires places { All (λ b. b < PLACES) namesakes.now }
+    ensures carried { (schema other : Schema) → AreNamesakes schema other namesakes.now
+        → IsDepWithin (universe_of schema) dep
+        → dependency_of result ≡ carried schema other (dependency_of dep) }
+{
+    match dep {
+        Dep::Fd { lhs, rhs } => Dep::Fd {
+            lhs: carry_set(namesakes, lhs),
+            rhs: carry_set(namesakes, rhs),
+        },
+        Dep::Mvd { lhs, rhs } => Dep::Mvd {
+            lhs: carry_set(namesakes, lhs),
+            rhs: carry_set(namesakes, rhs),
+        },
+    }
+}
+
+// The namesakes of a set's attributes.
+fn carry_set(namesakes: &[u8], set: AttrSet) -> AttrSet
+    requires few { length namesakes.now ≤ PLACES }
+    requires places { All (λ b. b < PLACES) namesakes.now }
+    ensures members { (b : ℕ) → (places result b ≡ true) ↔ IsNamesakeFrom namesakes.now (places set) b }
+{
+    let mut carried = AttrSet::empty();
+    for a in 0..namesakes.len() as u8 {
+        if set.has(a) {
+            carried = carried.with(namesakes[a as usize]);
+        }
+    }
+    carried
+}

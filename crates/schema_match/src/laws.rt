@@ -1,0 +1,41 @@
+//! Laws of what two schemas over the same names say. Each is a function that does nothing, whose clause
+//! is the law; so the gate asks for its proof.
+
+ghost use Rattle.std.specs.Prelude.{◌≡◌, ◌↔◌};
+ghost use Rattle.dep_model.specs.declared.schema.Schema.{Schema};
+ghost use Rattle.dep_model.specs.Tuples.{Relation, IsOver};
+ghost use Rattle.dep_model.specs.Dependencies.{Dependency, Obeys, IsWithin};
+ghost use Rattle.dep_model.specs.Schemas.{width_of, universe_of};
+ghost use Rattle.schema_match.specs.Columns.{SameNames, reordered};
+ghost use Rattle.schema_match.specs.Carried.{carried, IsImpliedBy, HaveSameLegalRelations};
+
+/// A relation whose columns are put into the order of another schema over the same names, and back, is
+/// the same relation.
+pub fn reordered_and_back()
+    ensures law { (schema other : Schema) (r : Relation) → SameNames schema other → IsOver (width_of schema) r
+        → reordered other schema (reordered schema other r) ≡ r }
+{}
+
+/// A relation obeys a dependency exactly where it obeys it with its columns in the order of another
+/// schema over the same names, and the dependency's attributes taken by their names.
+pub fn obeyed_by_names()
+    ensures law { (schema other : Schema) (d : Dependency) (r : Relation) → SameNames schema other
+        → IsWithin (universe_of schema) d
+        → Obeys (width_of schema) d r ↔ Obeys (width_of other) (carried schema other d) (reordered schema other r) }
+{}
+
+/// Two schemas over the same names of which each implies the other's dependencies have the same legal
+/// relations, columns taken by their names.
+pub fn implied_both_ways()
+    ensures law { (schema other : Schema) → SameNames schema other
+        → IsImpliedBy other schema → IsImpliedBy schema other → HaveSameLegalRelations schema other }
+{}
+
+/// Of two schemas over the same names that have the same legal relations, each implies the other's
+/// dependencies.
+pub fn same_legal_relations()
+    ensures there { (schema other : Schema) → SameNames schema other
+        → HaveSameLegalRelations schema other → IsImpliedBy other schema }
+    ensures back { (schema other : Schema) → SameNames schema other
+        → HaveSameLegalRelations schema other → IsImpliedBy schema other }
+{}

@@ -1,0 +1,4 @@
+pub mod StepLemmas
+pub mod SizeLemmas
+pub mod SplitLemmas
+pub mod WalkLemmas

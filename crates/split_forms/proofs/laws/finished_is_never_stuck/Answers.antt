@@ -1,0 +1,8 @@
+use Rattle.split_forms.proofs.SplitLemmas.{finished_not_stuck}
+use Rattle.split_forms.proofs.laws.finished_is_never_stuck.Goals as goal
+
+pub returns : goal.returns
+returns c = record {
+  law =
+      λ n ds form limit schemes scheme some split. finished_not_stuck n ds form some split schemes limit scheme;
+}

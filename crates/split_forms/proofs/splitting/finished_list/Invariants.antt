@@ -1,0 +1,15 @@
+use Rattle.std.proofs.Common.{◌+◌, ◌-◌, ◌*◌, ◌≤◌, length}
+use Rattle.dep_model.specs.Schemas.{width_of, theory_of}
+use Rattle.split_forms.specs.Outcomes.{AreTried}
+use Rattle.split_forms.proofs.WalkLemmas.{IsWalkedTo}
+use Rattle.split_forms.proofs.splitting.finished_list.Given as goal
+
+abbrev pub invariant-loop-at : goal.invariant-loop-at
+invariant-loop-at l = record {
+  walked : IsWalkedTo (width_of l.schema) (theory_of l.schema) l.form l.schemes.items l.at;
+  few : length l.schemes.items ≤ l.limit;
+  tried : AreTried (width_of l.schema) (theory_of l.schema) l.form l.tried.items;
+}
+
+abbrev pub decreases-loop-at : goal.decreases-loop-at
+decreases-loop-at l = 2 * (l.limit + 1 - length l.schemes.items) + (length l.schemes.items - l.at)

@@ -1,0 +1,4 @@
+pub mod Lists
+pub mod Splitting
+pub mod Outcomes
+pub mod Refusals

@@ -1,0 +1,19 @@
+use Rattle.std.specs.Prelude.{ℕ, List, All}
+use Rattle.attr_sets.specs.Places.{Places}
+use Rattle.attr_sets.specs.Sets.{places}
+use Rattle.dep_model.specs.Dependencies.{Dependency}
+use Rattle.form_tests.specs.declared.forms.Form.{Form}
+use Rattle.split_forms.specs.declared.outcome.Outcome.{Outcome}
+use Rattle.split_forms.specs.declared.outcome.Outcome.TheVariants.{Whole, Cut, Stuck}
+use Rattle.split_forms.specs.declared.trying.Tried.{Tried}
+use Rattle.split_forms.specs.Splitting.{StaysWhole, IsCutBy, IsStuck}
+
+-- what becomes of a scheme
+abbrev pub IsOutcome : ℕ → List Dependency → Form → Places → Outcome → Type 0
+IsOutcome n ds form scheme Whole = StaysWhole n ds form scheme
+IsOutcome n ds form scheme (Cut breach) = IsCutBy n ds form scheme (places breach.lhs) (places breach.rhs)
+IsOutcome n ds form scheme Stuck = IsStuck n ds form scheme
+
+-- schemes that were tried stand beside what became of them
+abbrev pub AreTried : ℕ → List Dependency → Form → List Tried → Type 0
+AreTried n ds form tried = All (λ one. IsOutcome n ds form (places one.scheme) one.outcome) tried

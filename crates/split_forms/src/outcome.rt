@@ -1,0 +1,37 @@
+ghost use Rattle.std.specs.Prelude.{◌≡◌};
+ghost use Rattle.attr_sets.specs.Places.{Within};
+ghost use Rattle.attr_sets.specs.Sets.{places};
+ghost use Rattle.dep_model.specs.Schemas.{width_of, universe_of, theory_of};
+ghost use Rattle.split_forms.specs.Outcomes.{IsOutcome};
+
+use attr_sets::AttrSet;
+use dep_model::Schema;
+use form_tests::{Breach, Form, violation, visible_violation};
+
+// What becomes of a scheme that is split.
+#[derive(Clone, Copy, Debug)]
+pub enum Outcome {
+    // It stays whole.
+    Whole,
+    // It is cut at a violation.
+    Cut(Breach),
+    // It has more attributes than are tested, and no given left side violates the form.
+    Stuck,
+}
+
+// Tries a scheme.
+pub fn outcome_of(schema: &Schema, form: Form, scheme: AttrSet) -> Outcome
+    requires form { form ≡ Form.Third → ⊥ }
+    requires scheme { Within (places scheme) (universe_of schema.now) }
+    ensures outcome { IsOutcome (width_of schema.now) (theory_of schema.now) form
+        (places scheme) result }
+{
+    match violation(schema, scheme, form) {
+        Ok(None) => Outcome::Whole,
+        Ok(Some(breach)) => Outcome::Cut(breach),
+        Err(_) => match visible_violation(schema, scheme, form) {
+            Some(breach) => Outcome::Cut(breach),
+            None => Outcome::Stuck,
+        },
+    }
+}

@@ -1,0 +1,54 @@
+ghost use Rattle.std.specs.Prelude.{◌≡◌, IfOk, IfSome, Any};
+ghost use Rattle.attr_sets.specs.Places.{Same, Within};
+ghost use Rattle.attr_sets.specs.Sets.{places};
+ghost use Rattle.dep_model.specs.Schemas.{width_of, universe_of, theory_of};
+ghost use Rattle.split_forms.specs.Outcomes.{IsOutcome, AreTried};
+
+use crate::outcome::{Outcome, outcome_of};
+use attr_sets::AttrSet;
+use dep_model::{Schema, WantMemory};
+use form_tests::Form;
+
+// A scheme that was tried, and what became of it.
+#[derive(Clone, Copy, Debug)]
+pub struct Tried {
+    pub scheme: AttrSet,
+    pub outcome: Outcome,
+}
+
+// What becomes of a scheme. One that was tried before is not tried again: where schemes overlap,
+// equal ones come up by the thousand.
+pub fn found_outcome(
+    schema: &Schema,
+    form: Form,
+    scheme: AttrSet,
+    tried: &mut Vec<Tried>,
+) -> Result<Outcome, WantMemory>
+    requires form { form ≡ Form.Third → ⊥ }
+    requires scheme { Within (places scheme) (universe_of schema.now) }
+    requires tried { AreTried (width_of schema.now) (theory_of schema.now) form tried.old.items }
+    ensures outcome { IfOk result
+        (IsOutcome (width_of schema.now) (theory_of schema.now) form (places scheme)) }
+    ensures tried { IfOk result (λ _.
+        AreTried (width_of schema.now) (theory_of schema.now) form tried.new.items) }
+{
+    if let Some(outcome) = earlier_outcome(tried, scheme) {
+        return Ok(outcome);
+    }
+    let outcome = outcome_of(schema, form, scheme);
+    tried.push(Tried { scheme, outcome })?;
+    Ok(outcome)
+}
+
+// What became of a scheme that was tried before.
+fn earlier_outcome(tried: &[Tried], scheme: AttrSet) -> Option<Outcome>
+    ensures tried { IfSome result (λ outcome.
+        Any (λ one. Same (places one.scheme) (places scheme) × (one.outcome ≡ outcome)) tried.now) }
+{
+    for one in tried {
+        if one.scheme == scheme {
+            return Some(one.outcome);
+        }
+    }
+    None
+}

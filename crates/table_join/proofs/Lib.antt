@@ -1,0 +1,7 @@
+pub mod ListLemmas
+pub mod ValueLemmas
+pub mod JoinLemmas
+pub mod MatchLemmas
+pub mod LentLemmas
+pub mod PartLemmas
+pub mod AnswerLemmas

@@ -1,0 +1,90 @@
+-- What `read_part` reads is a table.
+use Rattle.std.proofs.Common.{◌≡◌, ℕ, ◌+◌, ◌<◌, Bool, true, false, cond, nat_eq, List, [], ◌∷◌, ◌++◌, length, slice_index_or, Option, Some, None, Result, Ok, Err, refl, sym, ap, subst, ◌∙◌, arith}
+use Rattle.std.specs.Prelude.{All}
+use Rattle.std.proofs.lemmas.Bool.{eqb-true}
+use Rattle.std.proofs.lemmas.Bool.Decides.{nat_tests}
+use Rattle.std.proofs.lemmas.List.{length-map}
+use Rattle.std.proofs.lemmas.List.Elements.{All-nil, All-push, All-get_or}
+use Rattle.std.proofs.lemmas.List.Folds.{Any-from_list_any}
+use Rattle.std.proofs.lemmas.List.Quantifiers.{position-Some}
+use Rattle.attr_sets.specs.Places.{Places, below, Within}
+use Rattle.attr_sets.specs.Sets.{places}
+use Rattle.attr_sets.specs.declared.set.AttrSet.{AttrSet}
+use Rattle.attr_sets.proofs.PlacesLemmas.{count_below-same}
+use Rattle.csv_rows.specs.Columns.{named, column_of, columns_of, columns_from, ◌>>=◌}
+use Rattle.csv_rows.specs.Reading.{PartOf, HasScheme, TableOf, RowsUnder, value_of}
+use Rattle.csv_rows.specs.declared.refusal.RowRefusal.{RowRefusal}
+use Rattle.csv_rows.specs.declared.refusal.RowRefusal.TheVariants as refusal
+use Rattle.csv_rows.proofs.NumberingLemmas.{same_default}
+use Rattle.dep_model.specs.Names.{same_name}
+use Rattle.dep_model.specs.Projections.{members_below}
+use Rattle.dep_model.specs.Schemas.{names_of, width_of, place_named}
+use Rattle.dep_model.specs.Tuples.{Relation}
+use Rattle.dep_model.specs.declared.schema.Schema.{Schema}
+use Rattle.dep_model.proofs.SchemeLemmas.{length-members_below}
+use Rattle.table_join.specs.Tables.{IsTable}
+
+-- the attribute of a column is one that has a name
+named_low : (names : List (List ℕ)) (column a : ℕ) (before : Places) (field : List ℕ) → column_of column before
+    (place_named names field) ≡ Ok a → a < length names
+named_low names column a before field h = by (place_named names field) refl h
+  where
+    free : (t : Bool) (b : ℕ) → cond t (Err (refusal.DoubleColumn column)) (Ok b) ≡ Ok a → b ≡ a
+    free true b e = cc
+    free false b e = cc
+
+    by : (o : Option ℕ) → place_named names field ≡ o → column_of column before o ≡ Ok a → a < length names
+    by None p e = cc
+    by (Some b) p e =
+        let at = position-Some (λ (name : List ℕ). same_name name field) names b [] p in
+        subst (λ (k : ℕ). k < length names) (free (before b) b e) at.0
+
+bind_ok : {A B : Type 0} (r : Result A RowRefusal) (f : A → Result B RowRefusal) (b : B) → (r >>= f) ≡ Ok b
+    → (a : A) × (r ≡ Ok a) × (f a ≡ Ok b)
+bind_ok (Ok a) f b h = (a, refl, h)
+bind_ok (Err e) f b h = cc
+
+columns_low : (names : List (List ℕ)) (before : List ℕ) (fields : List (List ℕ)) (columns : List ℕ)
+    → columns_from names before fields ≡ Ok columns
+    → All (λ (a : ℕ). a < length names) before → All (λ (a : ℕ). a < length names) columns
+unfolding columns_from
+columns_low names before [] columns h low = let same : before ≡ columns = cc in subst
+    (All (λ (a : ℕ). a < length names)) same low
+columns_low names before (field ∷ fields) columns h low =
+    let w = bind_ok (column_of (length before + 1) (named before) (place_named names field))
+    (λ a. columns_from names (before ++ a ∷ []) fields) columns h in
+    columns_low names (before ++ w.0 ∷ []) fields columns w.2
+    (All-push (λ (a : ℕ). a < length names) before w.0 low (named_low names (length before + 1) w.0 (named before)
+    field w.1))
+
+named_within : (n : ℕ) (columns : List ℕ) → All (λ (a : ℕ). a < n) columns → Within (named columns) (below n)
+named_within n columns low a has =
+    let found = Any-from_list_any (nat_eq a) columns has in
+    let is : a ≡ found.1 = eqb-true a found.1 found.4 in
+    let there : found.1 < n = subst (λ (k : ℕ). k < n) found.3 (All-get_or (λ (k : ℕ). k < n) columns found.0
+    found.1 found.2 low) in
+    grind (arith, nat_tests, is, there)
+
+-- the part that a text holds is a table over the attributes of a schema
+pub part_is_table : (s : Schema) (text : List ℕ) (rows : Relation) (scheme : AttrSet) → PartOf s text (Ok rows)
+    → HasScheme s text scheme
+    → IsTable (width_of s) (record { scheme = places scheme; rows = rows })
+part_is_table s text rows scheme part has =
+    let names : List (List ℕ) = names_of s in
+    let n : ℕ = width_of s in
+    let columns : List ℕ = has.3 in
+    let w = subst (λ (rs : List (List (List ℕ))). TableOf s (λ header found. found ≡ columns_of names header) rs
+    (Ok rows)) has.2 part in
+    let under : RowsUnder s (Ok columns) has.1 (Ok rows) = subst (λ (r : Result (List ℕ) RowRefusal). RowsUnder s r
+    has.1 (Ok rows)) (w.1 ∙ has.4) w.2 in
+    let low = columns_low names [] has.0 columns has.4 (All-nil (λ (a : ℕ). a < length names)) in
+    record {
+      within = λ k h. named_within n columns low k (sym (has.5 k) ∙ h);
+      over = λ k d l.
+          let each = under.0.each k l in
+          ap length (same_default rows k d [] l)
+          ∙ ap length each.1
+          ∙ length-map (members_below n (named columns)) (value_of columns (slice_index_or has.1 k []))
+          ∙ length-members_below n (named columns)
+          ∙ sym (count_below-same n (places scheme) (named columns) has.5);
+    }

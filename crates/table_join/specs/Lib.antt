@@ -1,0 +1,6 @@
+pub mod Tables
+pub mod Joins
+pub mod Answers
+pub mod Lent
+pub mod Keys
+pub mod Seams

@@ -1,0 +1,219 @@
+ghost use Rattle.std.specs.Prelude.{◌≡◌, length, IfOk};
+
+use crate::{CsvTarget, MemoryTarget, SqlTarget, Target, TargetFault};
+use dep_model::{Name, Row, Value, WantMemory};
+use desk_outside::{HeldFile, MemoryFolder};
+use std::alloc::Global;
+use std::test::Fail;
+
+fn single(alloc: Global, value: &[u8]) -> Result<Row, WantMemory>
+    ensures { IfOk result (λ row. length row ≡ 1) }
+{
+    let mut values = Vec::new(alloc);
+    values.push(Value::make(alloc, value)?)?;
+    Ok(Row::make(values))
+}
+
+fn pair(alloc: Global, first: &[u8], second: &[u8]) -> Result<Row, WantMemory>
+    ensures { IfOk result (λ row. length row ≡ 2) }
+{
+    let mut values = Vec::new(alloc);
+    values.push(Value::make(alloc, first)?)?;
+    values.push(Value::make(alloc, second)?)?;
+    Ok(Row::make(values))
+}
+
+fn name(bytes: &[u8]) -> Result<Name, TargetFault> {
+    match Name::make(bytes) {
+        Some(name) => Ok(name),
+        None => Err(TargetFault::Memory),
+    }
+}
+
+// A table of one column and one row.
+fn put_table<T: Target>(
+    alloc: Global,
+    target: &mut T,
+    table: &[u8],
+    value: &[u8],
+) -> Result<(), TargetFault> {
+    let row = single(alloc, value)?;
+    target.begin_table(&name(table)?, &[name(b"A")?])?;
+    target.put_row(&row)?;
+    target.end_table()
+}
+
+// A table of two columns and two rows.
+fn put_pairs<T: Target>(alloc: Global, target: &mut T) -> Result<(), TargetFault> {
+    let first = pair(alloc, b"1", b"a,\"b\"")?;
+    let second = pair(alloc, b"O'Hara", b"\0")?;
+    target.begin_table(&name(b"t1")?, &[name(b"NAME")?, name(b"Note")?])?;
+    target.put_row(&first)?;
+    target.put_row(&second)?;
+    target.end_table()
+}
+
+// Whether the file at a place has this name and these bytes.
+fn is_file(files: Option<&[HeldFile]>, place: usize, name: &[u8], bytes: &[u8]) -> bool {
+    let Some(files) = files else {
+        return false;
+    };
+    match files.get(place) {
+        Some(file) => file.name.bytes() == name && file.bytes.as_slice() == bytes,
+        None => false,
+    }
+}
+
+fn count(files: Option<&[HeldFile]>) -> usize {
+    match files {
+        Some(files) => files.len(),
+        None => 0,
+    }
+}
+
+#[test]
+fn tables_in_memory(rt: HostRuntime) -> Result<(), Fail> {
+    let alloc = rt.alloc();
+    let mut target = MemoryTarget::make(alloc, Vec::from_slice(alloc, &[5])?);
+    assert!(rt; put_pairs(alloc, &mut target) == Ok(()));
+    // its fifth call begins a table
+    assert!(rt; put_table(alloc, &mut target, b"t2", b"x") == Err(TargetFault::Failed));
+    assert!(rt; put_table(alloc, &mut target, b"t3", b"y") == Ok(()));
+    assert_eq!(rt; target.tables().len(), 2);
+    assert!(rt; target.held_files().is_none());
+    let Some(tables) = target.held_tables() else {
+        return Err(Fail::from(WantMemory));
+    };
+    let Some(table) = tables.get(0) else {
+        return Err(Fail::from(WantMemory));
+    };
+    assert_eq!(rt; table.name.bytes(), b"t1".as_slice());
+    assert_eq!(rt; table.columns.len(), 2);
+    assert_eq!(rt; table.rows.len(), 2);
+    let Some(row) = table.rows.get(1) else {
+        return Err(Fail::from(WantMemory));
+    };
+    assert!(rt; row.len() == 2 && row.value(0).bytes() == b"O'Hara".as_slice());
+    Ok(())
+}
+
+#[test]
+fn a_table_begun_anew_is_given_up(rt: HostRuntime) -> Result<(), Fail> {
+    let alloc = rt.alloc();
+    let mut target = MemoryTarget::make(alloc, Vec::new(alloc));
+    let Ok(first) = name(b"t1") else {
+        return Err(Fail::from(WantMemory));
+    };
+    assert!(rt; target.begin_table(&first, &[]) == Ok(()));
+    assert!(rt; put_table(alloc, &mut target, b"t2", b"x") == Ok(()));
+    assert_eq!(rt; target.tables().len(), 1);
+    Ok(())
+}
+
+#[test]
+fn tables_as_csv_files(rt: HostRuntime) -> Result<(), Fail> {
+    let alloc = rt.alloc();
+    let mut target = CsvTarget::make(alloc, MemoryFolder::make(alloc, Vec::new(alloc)))?;
+    assert!(rt; put_pairs(alloc, &mut target) == Ok(()));
+    assert!(rt; put_table(alloc, &mut target, b"t2", b"") == Ok(()));
+    assert!(rt; target.held_tables().is_none());
+    assert_eq!(rt; count(target.held_files()), 2);
+    let pairs = b"NAME,Note\n1,\"a,\"\"b\"\"\"\nO'Hara,\0\n";
+    assert!(rt; is_file(target.held_files(), 0, b"t1.csv", pairs));
+    assert!(rt; is_file(target.held_files(), 1, b"t2.csv", b"A\n\"\"\n"));
+    Ok(())
+}
+
+#[test]
+fn tables_as_sql_files(rt: HostRuntime) -> Result<(), Fail> {
+    let alloc = rt.alloc();
+    let target = SqlTarget::make(alloc, MemoryFolder::make(alloc, Vec::new(alloc)))?;
+    let mut boxed: Box<dyn Target> = Box::new(alloc, target)?;
+    assert!(rt; put_pairs(alloc, &mut boxed) == Ok(()));
+    assert!(rt; boxed.held_tables().is_none());
+    assert_eq!(rt; count(boxed.held_files()), 1);
+    let pairs =
+        b"INSERT INTO \"t1\" (\"NAME\", \"Note\") VALUES ('1', 'a,\"b\"');\nINSERT INTO \"t1\" (\"NAME\", \"Note\") VALUES ('O''Hara', X'00');\n";
+    assert!(rt; is_file(boxed.held_files(), 0, b"t1.sql", pairs));
+    Ok(())
+}
+
+#[test]
+fn values_as_sql_texts(rt: HostRuntime) -> Result<(), Fail> {
+    let cases: [(&[u8], &[u8]); 9] = [
+        (b"", b"''"),
+        (b"'", b"''''"),
+        (b"a''b", b"'a''''b'"),
+        (b"K\xc3\xb6ln", b"'K\xc3\xb6ln'"),
+        (b"\"x\"\n\\", b"'\"x\"\n\\'"),
+        (b"\xff", b"X'FF'"),
+        (b"a\0", b"X'6100'"),
+        (b"'\xc3", b"X'27C3'"),
+        (b"\xed\xa0\x80", b"X'EDA080'"),
+    ];
+    for (value, text) in cases {
+        let alloc = rt.alloc();
+        let mut target = SqlTarget::make(alloc, MemoryFolder::make(alloc, Vec::new(alloc)))?;
+        assert!(rt; put_table(alloc, &mut target, b"t1", value) == Ok(()));
+        let mut line = Vec::from_slice(alloc, b"INSERT INTO \"t1\" (\"A\") VALUES (")?;
+        line.extend_from_slice(text)?;
+        line.extend_from_slice(b");\n")?;
+        assert!(rt; is_file(target.held_files(), 0, b"t1.sql", &line));
+    }
+    Ok(())
+}
+
+// A small table takes three calls of the folder: it begins a file, writes it and ends it.
+#[test]
+fn each_call_of_a_folder_may_fail(rt: HostRuntime) -> Result<(), Fail> {
+    for failing in 1..=4 {
+        let alloc = rt.alloc();
+        let folder = MemoryFolder::make(alloc, Vec::from_slice(alloc, &[failing])?);
+        let mut target = CsvTarget::make(alloc, folder)?;
+        let first = put_table(alloc, &mut target, b"t1", b"x");
+        let second = put_table(alloc, &mut target, b"t2", b"y");
+        assert!(rt; first.is_ok() == (failing == 4));
+        assert!(rt; second.is_ok() == (failing != 4));
+        assert_eq!(rt; count(target.held_files()), 1);
+        if failing == 4 {
+            assert!(rt; is_file(target.held_files(), 0, b"t1.csv", b"A\nx\n"));
+        } else {
+            assert!(rt; is_file(target.held_files(), 0, b"t2.csv", b"A\ny\n"));
+        }
+    }
+    Ok(())
+}
+
+// A table that is longer than what is gathered.
+fn put_long<T: Target>(alloc: Global, target: &mut T, value: &[u8]) -> Result<(), TargetFault> {
+    let row = single(alloc, value)?;
+    target.begin_table(&name(b"t1")?, &[name(b"A")?])?;
+    target.put_row(&row)?;
+    target.put_row(&row)?;
+    target.put_row(&row)?;
+    target.end_table()
+}
+
+// It is written in two pieces, so it takes four calls of the folder.
+#[test]
+fn what_is_gathered_is_written_out(rt: HostRuntime) -> Result<(), Fail> {
+    let alloc = rt.alloc();
+    let value = Vec::from_elem(alloc, b'x', 30_000)?;
+    let mut text = Vec::from_slice(alloc, b"A\n")?;
+    for _ in 0..3 {
+        text.extend_from_slice(&value)?;
+        text.extend_from_slice(b"\n")?;
+    }
+    for failing in 1..=5 {
+        let folder = MemoryFolder::make(alloc, Vec::from_slice(alloc, &[failing])?);
+        let mut target = CsvTarget::make(alloc, folder)?;
+        let ended = put_long(alloc, &mut target, &value);
+        assert!(rt; ended.is_ok() == (failing == 5));
+        if failing == 5 {
+            assert!(rt; is_file(target.held_files(), 0, b"t1.csv", &text));
+        } else {
+            assert_eq!(rt; count(target.held_files()), 0);
+        }
+    }
+    Ok(())
+}

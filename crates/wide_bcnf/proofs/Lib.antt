@@ -1,0 +1,4 @@
+pub mod PairLemmas
+pub mod CoreLemmas
+pub mod SplitLemmas
+pub mod OneSplit

@@ -1,0 +1,82 @@
+ghost use Rattle.std.specs.Prelude.{◌≤◌, length, IfOk, All};
+ghost use Rattle.attr_sets.specs.Places.{Within};
+ghost use Rattle.attr_sets.specs.Sets.{places};
+ghost use Rattle.dep_model.specs.Forms.{IsBcnf};
+ghost use Rattle.dep_model.specs.Plans.{schemes_of};
+ghost use Rattle.dep_model.specs.Projections.{IsLossless};
+ghost use Rattle.dep_model.specs.Schemas.{width_of, universe_of, theory_of};
+ghost use Rattle.decomp_text.specs.Plans.{sets_of, plan_of, IsPlanOver};
+ghost use Rattle.wide_bcnf.specs.Pairs.{IsFirstPair};
+ghost use Rattle.wide_bcnf.specs.WideSplits.{IsCore, IsWideSplit, IsWidePlan};
+
+use crate::pairs::{Pair, first_pair};
+use attr_sets::AttrSet;
+use decomp_text::{Plan, drop_contained};
+use dep_model::{Schema, WantMemory};
+use std::alloc::Global;
+
+/// A lossless plan of schemes in Boyce-Codd form, at any width (Tsou and Fischer 1982): the wide split
+/// of the universe, without contained schemes. Implied means by all dependencies, multivalued ones too.
+/// A scheme that is in form may have been cut.
+pub fn split_wide(alloc: Global, schema: &Schema) -> Result<Plan, WantMemory>
+    ensures universe { IfOk result (λ plan. IsPlanOver schema.now plan) }
+    ensures split { IfOk result (λ plan.
+        IsWidePlan (width_of schema.now) (theory_of schema.now) (sets_of plan)) }
+    ensures lossless { IfOk result (λ plan.
+        IsLossless (width_of schema.now) (theory_of schema.now) (plan_of plan)) }
+    ensures bcnf { IfOk result (λ plan.
+        All (IsBcnf (width_of schema.now) (theory_of schema.now)) (plan_of plan)) }
+    ensures few { IfOk result (λ plan. length (sets_of plan) ≤ width_of schema.now) }
+{
+    let schemes = wide_schemes(alloc, schema)?;
+    Ok(drop_contained(schema, Plan::make(schema, schemes)))
+}
+
+// The schemes of the wide split of the universe. What is left of a scheme has no pair before the
+// first one of the scheme, so the search goes on there.
+fn wide_schemes(alloc: Global, schema: &Schema) -> Result<Vec<AttrSet>, WantMemory>
+    ensures split { IfOk result (λ schemes. IsWideSplit (width_of schema.now) (theory_of schema.now)
+        (universe_of schema.now) (schemes_of schemes.items)) }
+{
+    let mut schemes = Vec::new(alloc);
+    let mut rest = AttrSet::full(schema.width());
+    let mut from = Pair {
+        first: 0,
+        second: 0,
+    };
+    while let Some(pair) = first_pair(schema, rest, from) {
+        let core = core_of(schema, rest, pair);
+        schemes.push(core.scheme)?;
+        rest = rest.without(core.attribute);
+        from = pair;
+    }
+    schemes.push(rest)?;
+    Ok(schemes)
+}
+
+// The core of a scheme, and the first attribute of the last pair on the way to it.
+#[derive(Clone, Copy)]
+struct Core {
+    scheme: AttrSet,
+    attribute: u8,
+}
+
+// The core of a scheme with this first pair.
+fn core_of(schema: &Schema, scheme: AttrSet, pair: Pair) -> Core
+    requires scheme { Within (places scheme) (universe_of schema.now) }
+    requires pair { IsFirstPair (width_of schema.now) (theory_of schema.now) (places scheme)
+        pair.first pair.second }
+    ensures core { IsCore (width_of schema.now) (theory_of schema.now) (places scheme)
+        (places result.scheme) result.attribute }
+{
+    let mut rest = scheme.without(pair.second);
+    let mut last = pair;
+    while let Some(next) = first_pair(schema, rest, last) {
+        rest = rest.without(next.second);
+        last = next;
+    }
+    Core {
+        scheme: rest,
+        attribute: last.first,
+    }
+}
