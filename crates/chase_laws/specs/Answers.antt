@@ -27,7 +27,8 @@ pub record IsGaining (n : ℕ) (ds : List Dependency) (plan : List Places) (r : 
   pub gained : Contains r (all_zeros n) → ⊥
 
 -- a closed tableau that is reached, as texts, its rows ascending
-pub record IsClosedTableau (n : ℕ) (ds : List Dependency) (plan : List Places) (limit : ℕ) (r : Relation) : Type 0 where
+pub record IsClosedTableau (n : ℕ) (ds : List Dependency) (plan : List Places) (limit : ℕ)
+    (r : Relation) : Type 0 where
   pub symbols : Tableau
   pub texts : r ≡ texts_of symbols
   pub reached : Reaches n ds plan symbols

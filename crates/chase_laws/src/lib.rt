@@ -16,44 +16,52 @@ ghost use Rattle.chase_laws.specs.Answers.{texts_of, IsGaining};
 
 /// What a tableau settles to does not depend on the order of the steps.
 pub fn settling_is_unique()
-    ensures law { (n : ℕ) (ds : List Dependency) (t s u : Tableau) → IsTableauOver n t → Settles ds t s → Settles ds t u → SameTableau s u }
+    ensures law { (n : ℕ) (ds : List Dependency) (t s u : Tableau) → IsTableauOver n t → Settles ds t s
+        → Settles ds t u → SameTableau s u }
 {}
 
 /// Each round has one tableau.
 pub fn rounds_are_unique()
-    ensures law { (n : ℕ) (ds : List Dependency) (plan : List Places) (round : ℕ) (t s : Tableau) → InRounds n ds plan round t → InRounds n ds plan round s → SameTableau t s }
+    ensures law { (n : ℕ) (ds : List Dependency) (plan : List Places) (round : ℕ) (t s : Tableau)
+        → InRounds n ds plan round t → InRounds n ds plan round s → SameTableau t s }
 {}
 
 /// No round comes after one whose tableau settles to one that ends the rounds.
 pub fn rounds_come_to_an_end()
-    ensures law { (n : ℕ) (ds : List Dependency) (plan : List Places) (round : ℕ) (t s : Tableau) → InRounds n ds plan round t → Settles ds t s → EndsRounds n ds s
+    ensures law { (n : ℕ) (ds : List Dependency) (plan : List Places) (round : ℕ) (t s : Tableau)
+        → InRounds n ds plan round t → Settles ds t s → EndsRounds n ds s
         → (later : ℕ) (u : Tableau) → InRounds n ds plan later u → later ≤ round }
 {}
 
 /// Where no dependency is multivalued, no tableau of the rounds has more rows than the plan has schemes.
 pub fn functional_rounds_stay_small()
-    ensures law { (n : ℕ) (ds : List Dependency) (plan : List Places) (limit : ℕ) → ((x y : Places) → Contains ds (mvd x y) → ⊥) → length plan ≤ limit
+    ensures law { (n : ℕ) (ds : List Dependency) (plan : List Places) (limit : ℕ)
+        → ((x y : Places) → Contains ds (mvd x y) → ⊥) → length plan ≤ limit
         → RoundsExceed n ds plan limit → ⊥ }
 {}
 
 /// A plan from whose tableau the row of distinguished symbols is reached is lossless.
 pub fn distinguished_row_is_lossless()
-    ensures law { (n : ℕ) (ds : List Dependency) (plan : List Places) (s : Tableau) → Covers n plan → Reaches n ds plan s → Contains s (distinguished n) → IsLossless n ds plan }
+    ensures law { (n : ℕ) (ds : List Dependency) (plan : List Places) (s : Tableau) → Covers n plan
+        → Reaches n ds plan s → Contains s (distinguished n) → IsLossless n ds plan }
 {}
 
 /// A closed tableau that is reached and lacks this row is, as texts, a legal relation that gains a tuple.
 pub fn closed_tableau_gains()
-    ensures law { (n : ℕ) (ds : List Dependency) (plan : List Places) (s : Tableau) → length plan < 2 ^ 32 → Reaches n ds plan s → IsClosed n ds s
+    ensures law { (n : ℕ) (ds : List Dependency) (plan : List Places) (s : Tableau)
+        → length plan < 2 ^ 32 → Reaches n ds plan s → IsClosed n ds s
         → (Contains s (distinguished n) → ⊥) → IsGaining n ds plan (texts_of s) }
 {}
 
 /// A plan for which a legal relation gains a tuple is not lossless.
 pub fn gaining_is_lossy()
-    ensures law { (n : ℕ) (ds : List Dependency) (plan : List Places) (s : Tableau) → IsGaining n ds plan (texts_of s) → IsLossless n ds plan → ⊥ }
+    ensures law { (n : ℕ) (ds : List Dependency) (plan : List Places) (s : Tableau)
+        → IsGaining n ds plan (texts_of s) → IsLossless n ds plan → ⊥ }
 {}
 
 /// The texts of a tableau that is reached fit columns of either type.
 pub fn texts_are_typed()
-    ensures law { (n : ℕ) (integers : Places) (ds : List Dependency) (plan : List Places) (s : Tableau) → length plan < 2 ^ 32 → Reaches n ds plan s
+    ensures law { (n : ℕ) (integers : Places) (ds : List Dependency) (plan : List Places) (s : Tableau)
+        → length plan < 2 ^ 32 → Reaches n ds plan s
         → IsTyped (columns_on n integers) (texts_of s) }
 {}

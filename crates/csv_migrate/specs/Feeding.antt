@@ -12,7 +12,8 @@ HasAll tables old new = (done : List TableValue) → old done → new (done ++ t
 
 -- the target stands for its old tables followed by the first of the new ones
 abbrev pub HasPrefix : List TableValue → Finished → Finished → Type 0
-HasPrefix tables old new = (n : ℕ) × (n ≤ length tables) × ((done : List TableValue) → old done → new (done ++ take n tables))
+HasPrefix tables old new =
+    (n : ℕ) × (n ≤ length tables) × ((done : List TableValue) → old done → new (done ++ take n tables))
 
 -- how the feeding of a target ended, with its faults before and after, and what it left; want of
 -- memory is free
@@ -22,13 +23,16 @@ Fed tables old new before after Failed = HasPrefix tables old new × Rose before
 Fed tables old new before after NoMemory = HasPrefix tables old new
 
 -- a target before and after, and the end of its feeding
-pub record FedTarget {T : Type 0} (tells : T → Bool) (finished : T → Finished) (faults : T → ℕ) (tables : List TableValue) (old new : T) (how : FeedEnd) : Type 0 where
+pub record FedTarget {T : Type 0} (tells : T → Bool) (finished : T → Finished) (faults : T → ℕ)
+    (tables : List TableValue) (old new : T) (how : FeedEnd) : Type 0 where
   pub fed : Fed tables (finished old) (finished new) (faults old) (faults new) how
   pub same : tells new ≡ tells old
   pub later : faults old ≤ faults new
 
 -- as many new values as old ones and as results, and P holds of the three at each place
-pub record AtEachPlace {S T U : Type 0} (P : S → T → U → Type 0) (xs : List S) (ys : List T) (zs : List U) : Type 0 where
+pub record AtEachPlace {S T U : Type 0} (P : S → T → U → Type 0) (xs : List S) (ys : List T)
+    (zs : List U) : Type 0 where
   pub news : length ys ≡ length xs
   pub results : length zs ≡ length xs
-  pub each : (i : ℕ) → i < length xs → (x : S) (y : T) (z : U) → P (slice_index_or xs i x) (slice_index_or ys i y) (slice_index_or zs i z)
+  pub each : (i : ℕ) → i < length xs → (x : S) (y : T) (z : U)
+      → P (slice_index_or xs i x) (slice_index_or ys i y) (slice_index_or zs i z)

@@ -32,7 +32,8 @@ pub fn feed_list<T: Target>(
     targets: &mut Vec<T>,
     tables: &[Table],
 ) -> Result<Vec<FeedEnd>, WantMemory>
-    ensures fed { IfOk result (λ ends. AtEachPlace (FedTarget T.tells T.finished T.faults (values_of tables.now))
+    ensures fed { IfOk result
+        (λ ends. AtEachPlace (FedTarget T.tells T.finished T.faults (values_of tables.now))
         targets.old.items targets.new.items ends.items) }
     ensures err { OnErr result (targets.new.items ≡ targets.old.items) }
 {
@@ -46,7 +47,8 @@ fn feed_each<T: Target>(
     tables: &[Table],
 ) -> Result<Vec<FeedEnd>, WantMemory>
     requires { length targets.old < 2 ^ 64 }
-    ensures fed { IfOk result (λ ends. AtEachPlace (FedTarget T.tells T.finished T.faults (values_of tables.now))
+    ensures fed { IfOk result
+        (λ ends. AtEachPlace (FedTarget T.tells T.finished T.faults (values_of tables.now))
         targets.old targets.new ends.items) }
     ensures err { OnErr result (targets.new ≡ targets.old) }
 {
@@ -78,7 +80,8 @@ fn feed_one<T: Target>(target: &mut T, tables: &[Table]) -> FeedEnd
 #[tactic(auto, using(crate::proofs::FeedLemmas::row_next))]
 fn feed_table<T: Target>(target: &mut T, table: &Table) -> Result<(), TargetFault>
     ensures tells { T.tells target.new ≡ T.tells target.old }
-    ensures ok { OnOk result (HasAll (table_value table.now ∷ []) (T.finished target.old) (T.finished target.new)) }
+    ensures ok { OnOk result (HasAll (table_value table.now
+        ∷ []) (T.finished target.old) (T.finished target.new)) }
     ensures keeps { OnErr result (KeepsFinished (T.finished target.old) (T.finished target.new)) }
     ensures cause { HasTargetCause (T.faults target.old) (T.faults target.new) result }
 {

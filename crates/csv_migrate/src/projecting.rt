@@ -17,7 +17,8 @@ pub fn projected(
 ) -> Result<Vec<Row>, WantMemory>
     requires narrow { All (λ t. length t ≤ PLACES) rows.now }
     requires chosen { All (λ i. i < length rows.now) chosen.now }
-    ensures rows { IfOk result (λ v. v.items ≡ map (λ i. project_tuple (places scheme) (row_at rows.now i)) chosen.now) }
+    ensures rows { IfOk result
+        (λ v. v.items ≡ map (λ i. project_tuple (places scheme) (row_at rows.now i)) chosen.now) }
 {
     let mut projections = Vec::with_capacity(alloc, chosen.len())?;
     for i in chosen {

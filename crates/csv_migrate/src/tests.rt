@@ -11,7 +11,7 @@ const TIMETABLE: &str =
 
 const ADDRESS: &str = "attributes CITY STREET ZIP\nCITY STREET -> ZIP\nZIP -> CITY\n";
 
-// A table on one line: its name, its columns, and each row behind a bar.
+// A table on one line: its name, its columns, and each row after a bar.
 fn line_of(alloc: Global, table: &Table) -> Result<Vec<u8>, WantMemory> {
     let mut line = Vec::new(alloc);
     line.extend_from_slice(table.name.bytes())?;

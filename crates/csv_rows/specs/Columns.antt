@@ -36,9 +36,11 @@ columns_of names header = columns_from names [] header
 
 -- a header in which each of n attributes has a column; else its first refusal
 abbrev pub IsHeaderOf : ℕ → List (List ℕ) → List (List ℕ) → Result (List ℕ) RowRefusal → Type 0
-IsHeaderOf n names header (Ok columns) = (columns_of names header ≡ Ok columns) × Within (below n) (named columns)
+IsHeaderOf n names header (Ok columns) =
+    (columns_of names header ≡ Ok columns) × Within (below n) (named columns)
 IsHeaderOf n names header (Err (refusal.MissingColumn a)) =
-    (columns : List ℕ) × (columns_of names header ≡ Ok columns) × IsLeastFrom (minus (below n) (named columns)) 0 a
+    (columns : List ℕ) × (columns_of names header ≡ Ok columns)
+    × IsLeastFrom (minus (below n) (named columns)) 0 a
 IsHeaderOf n names header (Err e) = columns_of names header ≡ Err e
 
 -- an attribute and its column, from 0

@@ -22,13 +22,15 @@ pub record AreNumbered {X : Type 0} (value : ℕ → X) (n : ℕ) (seen : List X
 
 -- each number below another stands before it
 abbrev pub AreInOrder : List ℕ → Type 0
-AreInOrder numbers = (i g : ℕ) → i < length numbers → g < number_at numbers i → (j : ℕ) × (j < i) × (number_at numbers j ≡ g)
+AreInOrder numbers = (i g : ℕ) → i < length numbers → g < number_at numbers i
+    → (j : ℕ) × (j < i) × (number_at numbers j ≡ g)
 
 -- rows by what they have on a set: two rows have one number exactly where they agree on it, and the
 -- numbers are given in the order of first occurrence, from 0
 pub record AreGroups (rows : Relation) (x : Places) (numbers : List ℕ) : Type 0 where
   pub one_each : length numbers ≡ length rows
-  pub equal : (i j : ℕ) → i < length rows → j < length rows → (number_at numbers i ≡ number_at numbers j) ↔ AgreeOn x (row_at rows i) (row_at rows j)
+  pub equal : (i j : ℕ) → i < length rows → j < length rows
+      → (number_at numbers i ≡ number_at numbers j) ↔ AgreeOn x (row_at rows i) (row_at rows j)
   pub in_order : AreInOrder numbers
 
 -- the first row of each number
@@ -36,4 +38,5 @@ pub record AreFirsts (numbers firsts : List ℕ) : Type 0 where
   pub each : (i : ℕ) → i < length numbers → number_at numbers i < length firsts
   pub within : (g : ℕ) → g < length firsts → number_at firsts g < length numbers
   pub number : (g : ℕ) → g < length firsts → number_at numbers (number_at firsts g) ≡ g
-  pub least : (i : ℕ) → i < length numbers → (number_at firsts (number_at numbers i) < i) ⊎ (number_at firsts (number_at numbers i) ≡ i)
+  pub least : (i : ℕ) → i < length numbers
+      → (number_at firsts (number_at numbers i) < i) ⊎ (number_at firsts (number_at numbers i) ≡ i)

@@ -42,7 +42,8 @@ RowOf s columns row fields (Ok t) =
 RowOf s columns row fields (Err (refusal.UnevenRow r)) = (r ≡ row) × (length fields ≢ length columns)
 RowOf s columns row fields (Err refusal.TooManyRows) = (length fields ≡ length columns) × (MOST_ROWS < row)
 RowOf s columns row fields (Err (refusal.NotInteger r a)) =
-    Fits columns row fields × (r ≡ row) × HasInteger s columns a × (IsIntegerText (value_of columns fields a) → ⊥)
+    Fits columns row fields × (r ≡ row) × HasInteger s columns a
+    × (IsIntegerText (value_of columns fields a) → ⊥)
     × ((b : ℕ) → b < a → HasInteger s columns b → IsIntegerText (value_of columns fields b))
 RowOf s columns row fields (Err refusal.NoHeader) = ⊥
 RowOf s columns row fields (Err (refusal.UnknownColumn c)) = ⊥
@@ -55,19 +56,24 @@ abbrev pub RowAt : Schema → List ℕ → List (List (List ℕ)) → ℕ → Re
 RowAt s columns records i result = RowOf s columns (i + 1) (slice_index_or records i []) result
 
 -- the first rows of a text are these, one for each of the first records
-pub record AreFirstRows (s : Schema) (columns : List ℕ) (records : List (List (List ℕ))) (rows : Relation) : Type 0 where
+pub record AreFirstRows (s : Schema) (columns : List ℕ) (records : List (List (List ℕ)))
+    (rows : Relation) : Type 0 where
   pub within : length rows ≤ length records
   pub each : (i : ℕ) → i < length rows → RowAt s columns records i (Ok (slice_index_or rows i []))
 
 -- what the records under a header give: a row each, or the refusal of the first that gives one
-abbrev pub RowsUnder : Schema → Result (List ℕ) RowRefusal → List (List (List ℕ)) → Result Relation RowRefusal → Type 0
+abbrev pub RowsUnder : Schema → Result (List ℕ) RowRefusal → List (List (List ℕ))
+    → Result Relation RowRefusal → Type 0
 RowsUnder s (Err e) records result = result ≡ Err e
-RowsUnder s (Ok columns) records (Ok rows) = AreFirstRows s columns records rows × (length rows ≡ length records)
+RowsUnder s (Ok columns) records (Ok rows) =
+    AreFirstRows s columns records rows × (length rows ≡ length records)
 RowsUnder s (Ok columns) records (Err e) =
-    (rows : Relation) × AreFirstRows s columns records rows × (length rows < length records) × RowAt s columns records (length rows) (Err e)
+    (rows : Relation) × AreFirstRows s columns records rows × (length rows < length records)
+    × RowAt s columns records (length rows) (Err e)
 
 -- what the records of a text give, where a header means its columns so
-abbrev pub TableOf : Schema → (List (List ℕ) → Result (List ℕ) RowRefusal → Type 0) → List (List (List ℕ)) → Result Relation RowRefusal → Type 0
+abbrev pub TableOf : Schema → (List (List ℕ) → Result (List ℕ) RowRefusal → Type 0)
+    → List (List (List ℕ)) → Result Relation RowRefusal → Type 0
 TableOf s Means [] result = result ≡ Err refusal.NoHeader
 TableOf s Means (header ∷ records) result =
     (columns : Result (List ℕ) RowRefusal) × Means header columns × RowsUnder s columns records result
@@ -78,7 +84,8 @@ RowsOf s text result = TableOf s (IsHeaderOf (width_of s) (names_of s)) (records
 
 -- the same of a text in which any of the attributes have columns
 abbrev pub PartOf : Schema → List ℕ → Result Relation RowRefusal → Type 0
-PartOf s text result = TableOf s (λ header columns. columns ≡ columns_of (names_of s) header) (records_of text) result
+PartOf s text result = TableOf s
+    (λ header columns. columns ≡ columns_of (names_of s) header) (records_of text) result
 
 -- the attributes that the header of a text names
 abbrev pub HasScheme : Schema → List ℕ → AttrSet → Type 0
@@ -87,7 +94,8 @@ HasScheme s text scheme =
     × (columns : List ℕ) × (columns_of (names_of s) header ≡ Ok columns) × Same (places scheme) (named columns)
 
 -- the header of a text was read, and the records below it are still to come
-pub record ReadsHeader (s : Schema) (rs : List (List (List ℕ))) (reader : Reader (Bor (List ℕ))) (h : Header) : Type 0 where
+pub record ReadsHeader (s : Schema) (rs : List (List (List ℕ))) (reader : Reader (Bor (List ℕ)))
+    (h : Header) : Type 0 where
   pub fields : List (List ℕ)
   pub records : List (List (List ℕ))
   pub all : rs ≡ fields ∷ records

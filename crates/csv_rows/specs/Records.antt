@@ -28,7 +28,8 @@ pub record HasLeft (reader : Reader (Bor (List ℕ))) (rs : List (List (List ℕ
 -- the next record was taken, or there was none
 abbrev pub TakesRecord : Bool → Reader (Bor (List ℕ)) → Reader (Bor (List ℕ)) → List (List ℕ) → Type 0
 TakesRecord true old new fields =
-    (rs : List (List (List ℕ))) → HasLeft old rs → (more : List (List (List ℕ))) × (rs ≡ fields ∷ more) × HasLeft new more
+    (rs : List (List (List ℕ))) → HasLeft old rs
+    → (more : List (List (List ℕ))) × (rs ≡ fields ∷ more) × HasLeft new more
 TakesRecord false old new fields = (rs : List (List (List ℕ))) → HasLeft old rs → rs ≡ []
 
 -- a failure that says nothing of the text

@@ -13,7 +13,8 @@ abbrev pub rows_text : List (List ℕ) → Relation → List ℕ
 rows_text names rows = rows_only (names ∷ rows)
 
 -- a writer with the default settings between two rows, and the text that it was given
-pub record HasWritten {W : Type 0} (contents : W → Option (List ℕ)) (w : Writer W) (text : List ℕ) : Type 0 where
+pub record HasWritten {W : Type 0} (contents : W → Option (List ℕ)) (w : Writer W) (text : List ℕ)
+    : Type 0 where
   pub setup : writer_setup w ≡ default_writer
   pub fields : fields_written w ≡ 0
   pub fresh : has_written w ≡ false
@@ -22,4 +23,5 @@ pub record HasWritten {W : Type 0} (contents : W → Option (List ℕ)) (w : Wri
 -- one row more is written
 abbrev pub WritesRow : {W : Type 0} → (W → Option (List ℕ)) → Writer W → Writer W → List (List ℕ) → Type 0
 WritesRow contents old new row =
-    (text : List ℕ) → HasWritten contents old text → HasWritten contents new (text ++ row_text default_writer row)
+    (text : List ℕ) → HasWritten contents old text
+    → HasWritten contents new (text ++ row_text default_writer row)

@@ -23,8 +23,10 @@ impl Groups {
     /// The groups of rows that agree on a set.
     pub fn of(alloc: Global, codes: &Interned, set: AttrSet) -> Result<Groups, WantMemory>
         requires within { Within (places set) (below (places_of codes.now)) }
-        ensures groups { (n : ℕ) (rows : Relation) → IsInterned n rows codes.now → IfOk result (λ g. AreGroups rows (places set) (groups_of g)) }
-        ensures firsts { (n : ℕ) (rows : Relation) → IsInterned n rows codes.now → IfOk result (λ g. AreFirsts (groups_of g) (firsts_of g)) }
+        ensures groups { (n : ℕ) (rows : Relation) → IsInterned n rows codes.now
+            → IfOk result (λ g. AreGroups rows (places set) (groups_of g)) }
+        ensures firsts { (n : ℕ) (rows : Relation) → IsInterned n rows codes.now
+            → IfOk result (λ g. AreFirsts (groups_of g) (firsts_of g)) }
     {
         let mut numbers = zeros(alloc, codes.count())?;
         for place in 0..PLACES as u8 {
@@ -65,7 +67,8 @@ fn refined(alloc: Global, groups: &[u32], codes: &[u32]) -> Result<Vec<u32>, Wan
     requires same { length groups.now ≡ length codes.now }
     requires few { length groups.now < 2 ^ 32 }
     ensures count { IfOk result (λ v. length v.items ≡ length groups.now) }
-    ensures groups { (rows : Relation) (x : Places) (k : ℕ) → AreGroups rows x groups.now → AreGroups rows (only k) codes.now
+    ensures groups { (rows : Relation) (x : Places) (k : ℕ) → AreGroups rows x groups.now
+        → AreGroups rows (only k) codes.now
         → IfOk result (λ v. AreGroups rows (union x (only k)) v.items) }
 {
     if are_zeros(groups) {
@@ -91,7 +94,10 @@ fn are_zeros(groups: &[u32]) -> bool
 fn numbered_pairs(alloc: Global, first: &[u32], second: &[u32]) -> Result<Vec<u32>, WantMemory>
     requires same { length first.now ≡ length second.now }
     requires few { length first.now < 2 ^ 32 }
-    ensures numbered { IfOk result (λ v. (seen : List (ℕ × ℕ)) × AreNumbered (λ i. (number_at first.now i, number_at second.now i)) (length first.now) seen v.items) }
+    ensures numbered { IfOk result
+        (λ v. (seen : List (ℕ × ℕ))
+        × AreNumbered (λ i. (number_at first.now i, number_at second.now i))
+        (length first.now) seen v.items) }
 {
     let mut pairs: IndexSet<(u32, u32)> = IndexSet::new(alloc);
     let mut numbers = Vec::with_capacity(alloc, first.len())?;

@@ -32,9 +32,12 @@ pub struct Header {
 impl Header {
     // The header of these fields.
     pub fn make(alloc: Global, schema: &Schema, fields: &ByteRecord) -> Result<Header, RowRefusal>
-        ensures ok { IfOk result (λ h. (columns : List ℕ) × (columns_of (names_of schema.now) (fields_of fields.now) ≡ Ok columns)
+        ensures ok { IfOk result
+            (λ h. (columns : List ℕ)
+            × (columns_of (names_of schema.now) (fields_of fields.now) ≡ Ok columns)
             × IsHeader (width_of schema.now) columns h) }
-        ensures err { IfErr result (λ e. e ≢ Memory → columns_of (names_of schema.now) (fields_of fields.now) ≡ Err e) }
+        ensures err { IfErr result
+            (λ e. e ≢ Memory → columns_of (names_of schema.now) (fields_of fields.now) ≡ Err e) }
     {
         let mut columns = Vec::new(alloc);
         let mut scheme = AttrSet::empty();
@@ -62,7 +65,8 @@ fn attribute_of(
     field: &[u8],
     column: u32,
 ) -> Result<u8, RowRefusal>
-    ensures attribute { result ≡ column_of column (places before) (place_named (names_of schema.now) field.now) }
+    ensures attribute { result
+        ≡ column_of column (places before) (place_named (names_of schema.now) field.now) }
     ensures within { IfOk result (λ a. a < width_of schema.now) }
 {
     match schema.place_of(field) {

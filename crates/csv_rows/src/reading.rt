@@ -49,7 +49,8 @@ pub fn read_header(
     schema: &Schema,
     reader: &mut Reader<&[u8]>,
 ) -> Result<Header, RowRefusal>
-    ensures ok { (rs : List (List (List ℕ))) → HasLeft reader.old rs → IfOk result (λ h. ReadsHeader schema.now rs reader.new h) }
+    ensures ok { (rs : List (List (List ℕ))) → HasLeft reader.old rs
+        → IfOk result (λ h. ReadsHeader schema.now rs reader.new h) }
     ensures err { (rs : List (List (List ℕ))) → HasLeft reader.old rs
         → IfErr result (λ e. e ≢ Memory → RefusesHeader (names_of schema.now) rs e) }
 {
@@ -69,9 +70,11 @@ pub fn read_body(
     reader: &mut Reader<&[u8]>,
 ) -> Result<Vec<Row>, RowRefusal>
     requires { (columns : List ℕ) × IsHeader (width_of schema.now) columns header.now }
-    ensures ok { (rs : List (List (List ℕ))) (columns : List ℕ) → HasLeft reader.old rs → IsHeader (width_of schema.now) columns header.now
+    ensures ok { (rs : List (List (List ℕ))) (columns : List ℕ) → HasLeft reader.old rs
+        → IsHeader (width_of schema.now) columns header.now
         → IfOk result (λ v. RowsUnder schema.now (Ok columns) rs (Ok v.items)) }
-    ensures err { (rs : List (List (List ℕ))) (columns : List ℕ) → HasLeft reader.old rs → IsHeader (width_of schema.now) columns header.now
+    ensures err { (rs : List (List (List ℕ))) (columns : List ℕ) → HasLeft reader.old rs
+        → IsHeader (width_of schema.now) columns header.now
         → IfErr result (λ e. e ≢ Memory → RowsUnder schema.now (Ok columns) rs (Err e)) }
     ensures few { IfOk result (λ v. length v.items ≤ MOST_ROWS) }
 {

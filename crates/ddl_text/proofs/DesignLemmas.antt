@@ -24,9 +24,9 @@ get_in_front [] ys j lt = absurd (omega arith)
 get_in_front (x ∷ xs) ys zero lt = refl
 get_in_front (x ∷ xs) ys (suc j) lt = get_in_front xs ys j (omega (arith, lt))
 
-get_behind : {X : Type 0} (xs : List X) (x : X) → slice_get (xs ++ x ∷ []) (length xs) ≡ Some x
-get_behind [] x = refl
-get_behind (y ∷ xs) x = get_behind xs x
+get_after : {X : Type 0} (xs : List X) (x : X) → slice_get (xs ++ x ∷ []) (length xs) ≡ Some x
+get_after [] x = refl
+get_after (y ∷ xs) x = get_after xs x
 
 -- ---- references
 -- the table at a place is one that a scheme refers to
@@ -49,7 +49,7 @@ refers_in_front scheme tables more j refers =
 
 refers_last : (scheme : Places) (tables : List TableDesign) (table : TableDesign) → RefersTo scheme table
     → RefersAt scheme (tables ++ table ∷ []) (length tables)
-refers_last scheme tables table refers = subst (IsReferred scheme) (sym (get_behind tables table)) refers
+refers_last scheme tables table refers = subst (IsReferred scheme) (sym (get_after tables table)) refers
 
 -- of the tables and one more, one of the former or the latter
 refers_cases : (scheme : Places) (tables : List TableDesign) (table : TableDesign) (j : ℕ)
@@ -63,7 +63,7 @@ refers_cases scheme tables table j refers = elim (cases_lt j (length tables)) [
       inr (
         same,
         subst (IsReferred scheme) (ap (λ (i : ℕ). slice_get (tables ++ table ∷ []) i) same
-            ∙ get_behind tables table) refers,
+            ∙ get_after tables table) refers,
       )
 ]
 
@@ -139,12 +139,12 @@ design_push s schemes tables scheme table design last = record {
   one_each = omega (arith, length_push tables table, length_push schemes scheme, design.one_each);
   each = λ k lt d t. elim (cases_lt k (length schemes)) [
     | inl before ↦
-        let behind : k < length tables = omega (arith, before, design.one_each) in
+        let after : k < length tables = omega (arith, before, design.one_each) in
         rw (
-          take-append-le k tables (table ∷ []) (omega (arith, behind)),
+          take-append-le k tables (table ∷ []) (omega (arith, after)),
           get_or_append_left schemes (scheme ∷ []) d
               k before,
-          get_or_append_left tables (table ∷ []) t k behind,
+          get_or_append_left tables (table ∷ []) t k after,
         )
         (design.each k before d t)
     | inr from_on ↦

@@ -175,7 +175,7 @@ pub one_key : (s : Schema) (key : AttrSet) → (IsEmpty (places key) → ⊥)
     → key_elements s (places key) ≡ key_element s (places key) ∷ []
 one_key s key some = ap (λ (b : Bool). if b then [] else key_element s (places key) ∷ []) (empty_fails key some)
 
--- the key as the first element or behind others
+-- the key as the first element or after others
 pub key_added : (s : Schema) (key : AttrSet) (some : Bool) (old opened t u new : List ℕ)
     → (IsEmpty (places key) → ⊥) → opened ≡ old ++ opening some
     → t ≡ opened ++ codes "PRIMARY KEY (" → u ≡ t ++ name_list s (places key) → new ≡ u ++ codes ")"

@@ -17,14 +17,15 @@ use Rattle.ddl_text.specs.declared.table.TableDesign.{TableDesign}
 abbrev pub name_list : Schema → Places → List ℕ
 name_list s x = listed quoted_name (members_from x 0 (names_of s))
 
--- what stands behind the name of a column of a type
+-- what stands after the name of a column of a type
 abbrev pub column_type : Column → List ℕ
 column_type Text = codes " TEXT NOT NULL"
 column_type Integer = codes " BIGINT NOT NULL"
 
 -- the column of an attribute
 unfoldable pub column_element : Schema → ℕ → List ℕ
-column_element s k = quoted_name (slice_index_or (names_of s) k []) ++ column_type (column_at (places s.integers) k)
+column_element s k = quoted_name (slice_index_or (names_of s) k [])
+    ++ column_type (column_at (places s.integers) k)
 
 -- the columns of a scheme, ascending
 abbrev pub column_elements : Schema → Places → List (List ℕ)
@@ -49,7 +50,8 @@ reference_element s other =
 
 -- the references to the tables at these places, in order
 abbrev pub reference_elements : Schema → List TableDesign → List ℕ → List (List ℕ)
-reference_elements s tables refs = map (λ j. unwrap_or (option_map (reference_element s) (slice_get tables j)) []) refs
+reference_elements s tables refs =
+    map (λ j. unwrap_or (option_map (reference_element s) (slice_get tables j)) []) refs
 
 -- the columns, the key and the references of a table
 abbrev pub elements : Schema → List TableDesign → TableDesign → List (List ℕ)
@@ -57,12 +59,12 @@ elements s tables table =
     column_elements s (places table.scheme) ++ key_elements s (places table.key) ++ reference_elements s tables
     table.refs.items
 
--- what stands before an element on its line, behind the end of the line before, if there is one
+-- what stands before an element on its line, after the end of the line before, if there is one
 abbrev pub opening : Bool → List ℕ
 opening some = if some then codes ",\n  " else codes "  "
 
--- elements, each on a line with two blanks before it, and with a comma behind each that another follows;
--- where others stand before them, from the comma behind these on
+-- elements, each on a line with two blanks before it, and with a comma after each that another follows;
+-- where others stand before them, from the comma after these on
 abbrev pub element_lines : Bool → List (List ℕ) → List ℕ
 element_lines some [] = []
 element_lines some (e ∷ es) = opening some ++ e ++ element_lines true es

@@ -19,8 +19,9 @@ pub record AreReferences (earlier : List TableDesign) (scheme : Places) (refs : 
   pub exactly : (j : ℕ) → Contains refs j ↔ IsSomeAnd (slice_get earlier j) (RefersTo scheme)
   pub ascending : AllPairs ◌<◌ refs
 
--- the table of a scheme, behind the earlier ones
-pub record IsTableOf (s : Schema) (earlier : List TableDesign) (scheme : AttrSet) (table : TableDesign) : Type 0 where
+-- the table of a scheme, after the earlier ones
+pub record IsTableOf (s : Schema) (earlier : List TableDesign) (scheme : AttrSet) (table : TableDesign)
+    : Type 0 where
   pub name : table.name ≡ table_name (length earlier + 1)
   pub columns : table.scheme ≡ scheme
   pub key : IsSettledKey (width_of s) (theory_of s) (places scheme) (places table.key)

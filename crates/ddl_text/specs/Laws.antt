@@ -23,4 +23,5 @@ abbrev pub ReferencesHold : Schema → List TableDesign → Type 0
 ReferencesHold s tables =
     (r : Relation) → LegalFor s r → (table other : TableDesign) (j : ℕ)
     → Contains tables table → Contains table.refs.items j → slice_get tables j ≡ Some other
-    → ReferenceHolds (places table.scheme) (rows_on table r) (places other.scheme) (rows_on other r) (places other.key)
+    → ReferenceHolds (places table.scheme) (rows_on table r) (places other.scheme) (rows_on other r)
+    (places other.key)

@@ -77,7 +77,7 @@ fn tables_of(
     Ok(tables)
 }
 
-// The table of a scheme, behind the earlier ones.
+// The table of a scheme, after the earlier ones.
 fn table_of(
     alloc: Global,
     schema: &Schema,

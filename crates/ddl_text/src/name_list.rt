@@ -21,7 +21,7 @@ pub fn add_name_list(text: &mut Vec<u8>, schema: &Schema, set: AttrSet) -> Resul
     Ok(())
 }
 
-// Adds a quoted name; behind a comma and a blank where another one stands before it.
+// Adds a quoted name; after a comma and a blank where another one stands before it.
 fn add_listed(text: &mut Vec<u8>, some: bool, name: &Name) -> Result<(), WantMemory>
     ensures added { OnOk result (text.new.items
         ≡ text.old.items ++ (if some then separator ++ quoted_name name.now else quoted_name name.now)) }

@@ -41,7 +41,8 @@ fn add_table(
     table: &TableDesign,
 ) -> Result<(), WantMemory>
     requires refs { All (λ j. j < length tables.now) table.now.refs.items }
-    ensures added { OnOk result (text.new.items ≡ text.old.items ++ table_text schema.now tables.now table.now) }
+    ensures added { OnOk result (text.new.items
+        ≡ text.old.items ++ table_text schema.now tables.now table.now) }
 {
     add_comment(text, table.key)?;
     add(text, b"CREATE TABLE ")?;

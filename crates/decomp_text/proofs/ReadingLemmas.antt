@@ -107,9 +107,9 @@ next_lines : (names : List (List ℕ)) (number : ℕ) (schemes more : List Place
 unfolding read_lines
 next_lines names number schemes more line lines ls whole read = rw whole (rw read refl)
 
-pub reads_more : (names : List (List ℕ)) (text : List ℕ) (schemes more : List Places) (number : ℕ) (rest line behind : List ℕ)
-    → Reads names text schemes number rest → CutsAt rest line behind → line_read names number schemes line ≡ Ok more → Reads names text more (number + 1) behind
-reads_more names text schemes more number rest line behind reads cut read = record {
-  same = reads.same ∙ next_lines names number schemes more line (line_texts behind) (line_texts rest) cut.lines read;
+pub reads_more : (names : List (List ℕ)) (text : List ℕ) (schemes more : List Places) (number : ℕ) (rest line after : List ℕ)
+    → Reads names text schemes number rest → CutsAt rest line after → line_read names number schemes line ≡ Ok more → Reads names text more (number + 1) after
+reads_more names text schemes more number rest line after reads cut read = record {
+  same = reads.same ∙ next_lines names number schemes more line (line_texts after) (line_texts rest) cut.lines read;
   room = omega (arith, reads.room, cut.shorter);
 }

@@ -20,7 +20,8 @@ is_spare earlier x later = list_any (lies_within x) earlier || list_any (lies_pr
 abbrev pub without_contained_after : List AttrSet → List AttrSet → List AttrSet
 without_contained_after earlier [] = []
 without_contained_after earlier (x ∷ later) =
-    if is_spare earlier x later then without_contained_after (earlier ++ x ∷ []) later else x ∷ without_contained_after (earlier ++ x ∷ []) later
+    if is_spare earlier x later then without_contained_after (earlier ++ x ∷ []) later
+    else x ∷ without_contained_after (earlier ++ x ∷ []) later
 
 -- the schemes of a list, in order, without each that lies within another different one or equals an
 -- earlier one

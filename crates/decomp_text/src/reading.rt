@@ -119,7 +119,8 @@ fn read_scheme(
     requires word { token.length ≡ length word.now }
     ensures ok { IfOk result (λ scheme. read_scheme (names_in names.now) number earlier (marked token word.now)
         (lexed Mode.Plain 0 (token.column + token.length) rest.now) ≡ Ok (places scheme)) }
-    ensures err { IfErr result (λ refusal. read_scheme (names_in names.now) number earlier (marked token word.now)
+    ensures err { IfErr result
+        (λ refusal. read_scheme (names_in names.now) number earlier (marked token word.now)
         (lexed Mode.Plain 0 (token.column + token.length) rest.now) ≡ Err refusal) }
 {
     if !is_scheme(token.kind, word) {

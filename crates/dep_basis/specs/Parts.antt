@@ -15,4 +15,5 @@ pub record HasTwoParts (n : ℕ) (ds : List Dependency) (scheme x : Places) : Ty
 abbrev pub IsParted : ℕ → List Dependency → Places → Places → Type 0
 IsParted n ds x beyond =
     ((a : ℕ) × (beyond a ≡ true) × Implies n ds (fd x (only a)))
-    ⊎ ((w : Places) × Within w (below n) × Implies n ds (mvd x w) × Meets beyond w × Meets beyond (minus beyond w))
+    ⊎ ((w : Places) × Within w (below n) × Implies n ds (mvd x w) × Meets beyond w
+    × Meets beyond (minus beyond w))

@@ -48,7 +48,8 @@ pub record AreRefined (n : ℕ) (ds : List Dependency) (x w : Places) (before af
 pub record IsRefined (ds : List Dep) (w : Places) (before after : Pieces) : Type 0 where
   pub size : length after.sets ≡ MOST_BLOCKS
   pub room : after.count ≤ before.count + count_below w PLACES
-  pub kept : (a : ℕ) → Any (λ p. places p a ≡ true) (sets_of before) → Any (λ p. places p a ≡ true) (sets_of after)
+  pub kept : (a : ℕ) → Any (λ p. places p a ≡ true) (sets_of before)
+      → Any (λ p. places p a ≡ true) (sets_of after)
   pub refined : (n : ℕ) (x : Places) → CanRefine n ds x w
       → AreRefined n (dependencies_of ds) x w (sets_of before) (sets_of after)
 

@@ -15,7 +15,8 @@ use Rattle.derivation.specs.Direct.{IsDirect}
 
 -- a tree is the functional chain of a functional dependency that the functional part alone implies
 abbrev pub IsChainIfFunctional : Schema → Dependency → Tree → Type 0
-IsChainIfFunctional s (fd x y) t = Implies (width_of s) (functional_part (theory_of s)) (fd x y) → IsFunctionalChain s x y t
+IsChainIfFunctional s (fd x y) t = Implies (width_of s) (functional_part (theory_of s)) (fd x y)
+    → IsFunctionalChain s x y t
 IsChainIfFunctional s (mvd x y) t = Unit {0}
 
 -- dependency k is the first that is d
@@ -26,7 +27,8 @@ pub record IsFirstGiven (s : Schema) (d : Dependency) (k : ℕ) : Type 0 where
 -- a tree is direct, and that of a given multivalued dependency is its first alone; nothing of a functional
 -- chain
 abbrev pub IsDirectUnlessChain : Schema → Dependency → Tree → Type 0
-IsDirectUnlessChain s (fd x y) t = (Implies (width_of s) (functional_part (theory_of s)) (fd x y) → ⊥) → IsDirect s t
+IsDirectUnlessChain s (fd x y) t = (Implies (width_of s) (functional_part (theory_of s)) (fd x y) → ⊥)
+    → IsDirect s t
 IsDirectUnlessChain s (mvd x y) t = IsDirect s t × ((k : ℕ) → IsFirstGiven s (mvd x y) k → t ≡ leaf (given k))
 
 -- a derivation is direct, unless it is a chain

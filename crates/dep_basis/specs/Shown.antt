@@ -64,4 +64,6 @@ IsCutShown s a from (Part w) = IsNextPart s a from w
 -- what is shown of attribute a at last: that it is determined, or that its block is multidetermined
 abbrev pub IsShown : Schema → Places → ℕ → Shown → Type 0
 IsShown s x a (Closed b) = IsClosedProof s x a (tree_of b.value)
-IsShown s x a (Part w) = IsPartProof s x a (places w.part) (tree_of w.deriv.value) × IsBlock (width_of s) (theory_of s) x (places w.part)
+IsShown s x a (Part w) =
+    IsPartProof s x a (places w.part) (tree_of w.deriv.value)
+    × IsBlock (width_of s) (theory_of s) x (places w.part)

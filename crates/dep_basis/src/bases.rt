@@ -37,7 +37,8 @@ pub fn basis_by(deps: &[Dep], width: u8, lhs: AttrSet) -> Blocks
 pub fn trace_basis(schema: &Schema, scheme: AttrSet, lhs: AttrSet) -> Blocks
     requires scheme { Within (places scheme) (universe_of schema.now) }
     requires lhs { Within (places lhs) (places scheme) }
-    ensures basis { IsTraceBasis (width_of schema.now) (theory_of schema.now) (places scheme) (places lhs) result }
+    ensures basis { IsTraceBasis (width_of schema.now) (theory_of schema.now) (places scheme)
+        (places lhs) result }
 {
     trace_basis_by(schema.deps(), schema.width(), scheme, lhs)
 }
@@ -78,8 +79,10 @@ pub fn closed_by(deps: &[Dep], width: u8, lhs: AttrSet) -> AttrSet
 pub fn block(schema: &Schema, lhs: AttrSet, attribute: u8) -> Option<AttrSet>
     requires lhs { Within (places lhs) (universe_of schema.now) }
     requires attribute { attribute < width_of schema.now }
-    ensures none { IsNone result ↔ InClosure (width_of schema.now) (theory_of schema.now) (places lhs) attribute }
-    ensures block { IfSome result (λ p. IsBlock (width_of schema.now) (theory_of schema.now) (places lhs) (places p)) }
+    ensures none { IsNone result
+        ↔ InClosure (width_of schema.now) (theory_of schema.now) (places lhs) attribute }
+    ensures block { IfSome result
+        (λ p. IsBlock (width_of schema.now) (theory_of schema.now) (places lhs) (places p)) }
     ensures member { IfSome result (λ p. places p attribute ≡ true) }
 {
     block_by(schema.deps(), schema.width(), lhs, attribute)

@@ -21,7 +21,7 @@ fn fd(lhs: AttrSet, rhs: AttrSet) -> Dep {
     Dep::Fd { lhs, rhs }
 }
 
-// `A -> B` and `B -> C`, behind `A ->> B`.
+// `A -> B` and `B -> C`, after `A ->> B`.
 fn two_steps(alloc: Global) -> Result<Schema, WantMemory> {
     let jump = Dep::Mvd { lhs: A, rhs: B };
     schema_of(alloc, 3, &[jump, fd(A, B), fd(B, C)])

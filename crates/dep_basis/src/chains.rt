@@ -37,9 +37,15 @@ pub fn functional_chain(
 ) -> Result<Option<Box<Deriv>>, WantMemory>
     requires lhs { Within (places lhs) (universe_of schema.now) }
     requires rhs { Within (places rhs) (universe_of schema.now) }
-    ensures some { IfOk result (λ found. IsSome found ↔ Implies (width_of schema.now) (functional_part (theory_of schema.now)) (fd (places lhs) (places rhs))) }
-    ensures chain { IfOk result (λ found. IfSome found (λ b. IsFunctionalChain schema.now (places lhs) (places rhs) (tree_of b.value))) }
-    ensures proves { IfOk result (λ found. IfSome found (λ b. Proves schema.now (tree_of b.value) (fd (places lhs) (places rhs)))) }
+    ensures some { IfOk result
+        (λ found. IsSome found ↔ Implies (width_of schema.now) (functional_part (theory_of schema.now))
+        (fd (places lhs) (places rhs))) }
+    ensures chain { IfOk result
+        (λ found. IfSome found
+        (λ b. IsFunctionalChain schema.now (places lhs) (places rhs) (tree_of b.value))) }
+    ensures proves { IfOk result
+        (λ found. IfSome found
+        (λ b. Proves schema.now (tree_of b.value) (fd (places lhs) (places rhs)))) }
     ensures few_nodes { IfOk result (λ found. IfSome found (λ b. nodes (tree_of b.value) ≤ 3 * PLACES + 3)) }
     ensures few_levels { IfOk result (λ found. IfSome found (λ b. depth (tree_of b.value) ≤ PLACES + 3)) }
 {
@@ -67,7 +73,8 @@ pub fn functional_chain(
 // The first functional dependency that leads out of a set.
 fn first_out(schema: &Schema, closed: AttrSet) -> Option<Lead>
     ensures none { IsNone result → IsSettled (functional_part (theory_of schema.now)) (places closed) }
-    ensures first { IfSome result (λ lead. IsFirstOut schema.now (places closed) lead.number (places lead.rhs)) }
+    ensures first { IfSome result
+        (λ lead. IsFirstOut schema.now (places closed) lead.number (places lead.rhs)) }
 {
     for (number, dep) in schema.deps().iter().enumerate() {
         if let Some(rhs) = right_side_out(*dep, closed) {

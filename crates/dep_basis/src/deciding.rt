@@ -42,7 +42,8 @@ pub fn decide_by(deps: &[Dep], width: u8, dep: Dep) -> Decision
     requires deps { All (IsDepWithin (below width)) deps.now }
     requires within { IsDepWithin (below width) dep }
     ensures decision { IsDecided width (dependencies_of deps.now) (dependency_of dep) result }
-    ensures implied { (result ≡ Decision.Implied) ↔ Implies width (dependencies_of deps.now) (dependency_of dep) }
+    ensures implied { (result ≡ Decision.Implied)
+        ↔ Implies width (dependencies_of deps.now) (dependency_of dep) }
 {
     match breaking_block(deps, width, dep) {
         None => Decision::Implied,

@@ -14,21 +14,25 @@ ghost use Rattle.dep_basis.specs.Parts.{HasTwoParts};
 /// Where all dependencies are functional, a left side has one block at most: all that is outside its
 /// closure (Beeri 1980).
 pub fn one_block()
-    ensures law { (n : ℕ) (ds : List Dependency) (x p : Places) → All (IsWithin (below n)) ds → functional_part ds ≡ ds → Within x (below n) → IsBlock n ds x p
+    ensures law { (n : ℕ) (ds : List Dependency) (x p : Places) → All (IsWithin (below n)) ds
+        → functional_part ds ≡ ds → Within x (below n) → IsBlock n ds x p
         → (a : ℕ) → (p a ≡ true) ↔ ((a < n) × (InClosure n ds x a → ⊥)) }
 {}
 
 /// Where all dependencies are functional, the two rows that show that a dependency is not implied agree
 /// exactly on the closure of its left side (Sagiv, Delobel, Parker and Fagin 1981).
 pub fn agrees_on_the_closure()
-    ensures law { (n : ℕ) (ds : List Dependency) (d : Dependency) (agreement : Places) → All (IsWithin (below n)) ds → functional_part ds ≡ ds → IsWithin (below n) d
+    ensures law { (n : ℕ) (ds : List Dependency) (d : Dependency) (agreement : Places)
+        → All (IsWithin (below n)) ds → functional_part ds ≡ ds → IsWithin (below n) d
         → IsBrokenBy n ds d agreement → (a : ℕ) → (agreement a ≡ true) ↔ InClosure n ds (left_of d) a }
 {}
 
 /// Each attribute is determined, or it is in a block.
 pub fn closed_or_in_a_block()
-    ensures law { (n : ℕ) (ds : List Dep) (x : Places) (a : ℕ) → n ≤ PLACES → All (IsDepWithin (below n)) ds → Within x (below n) → a < n
-        → InClosure n (dependencies_of ds) x a ⊎ ((p : Places) × IsBlock n (dependencies_of ds) x p × (p a ≡ true)) }
+    ensures law { (n : ℕ) (ds : List Dep) (x : Places) (a : ℕ) → n ≤ PLACES
+        → All (IsDepWithin (below n)) ds → Within x (below n) → a < n
+        → InClosure n (dependencies_of ds) x a
+        ⊎ ((p : Places) × IsBlock n (dependencies_of ds) x p × (p a ≡ true)) }
 {}
 
 /// An attribute in no given left side adds only itself: where `l` has all left sides, the closed set of

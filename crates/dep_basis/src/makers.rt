@@ -48,7 +48,9 @@ pub fn mreflexivity(
 // `lhs ->>` all attributes outside it.
 pub fn outside(alloc: Global, schema: &Schema, lhs: AttrSet) -> Result<Box<Deriv>, WantMemory>
     requires lhs { Within (places lhs) (universe_of schema.now) }
-    ensures proves { IfOk result (λ b. Proves schema.now (tree_of b.value) (mvd (places lhs) (minus (universe_of schema.now) (places lhs)))) }
+    ensures proves { IfOk result
+        (λ b. Proves schema.now (tree_of b.value)
+        (mvd (places lhs) (minus (universe_of schema.now) (places lhs)))) }
     ensures size { IfOk result (λ b. HasSize (tree_of b.value) 2 2) }
 {
     let from = mreflexivity(alloc, schema, lhs, lhs)?;
@@ -73,7 +75,9 @@ pub fn given_fd(
 // A given dependency of either kind, as a multivalued one.
 pub fn given_mvd(alloc: Global, schema: &Schema, k: u16, dep: Dep) -> Result<Box<Deriv>, WantMemory>
     requires given { slice_get (deps_of schema.now) k ≡ Some dep }
-    ensures proves { IfOk result (λ b. Proves schema.now (tree_of b.value) (mvd (left_of (dependency_of dep)) (right_of (dependency_of dep)))) }
+    ensures proves { IfOk result
+        (λ b. Proves schema.now (tree_of b.value)
+        (mvd (left_of (dependency_of dep)) (right_of (dependency_of dep)))) }
     ensures size { IfOk result (λ b. HasSize (tree_of b.value) 2 2) }
 {
     match dep {
@@ -98,7 +102,8 @@ pub fn moved(
     requires rhs { Within (places rhs) (universe_of schema.now) }
     requires member { places rhs attribute ≡ true }
     ensures proves { (x w v : Places) → Apart v w → w attribute ≡ true
-        → Proves schema.now (tree_of part.value) (mvd x w) → Proves schema.now (tree_of given.value) (fd v (places rhs))
+        → Proves schema.now (tree_of part.value) (mvd x w)
+        → Proves schema.now (tree_of given.value) (fd v (places rhs))
         → IfOk result (λ b. Proves schema.now (tree_of b.value) (fd x (only attribute))) }
     ensures size { (n m : ℕ) → HasSize (tree_of part.value) n m → HasSize (tree_of given.value) 1 1
         → IfOk result (λ b. HasSize (tree_of b.value) (n + 4) (m + 3)) }

@@ -18,7 +18,8 @@ use dep_model::{Dep, Schema, sides};
 pub fn has_two_parts(schema: &Schema, scheme: AttrSet, lhs: AttrSet) -> bool
     requires scheme { Within (places scheme) (universe_of schema.now) }
     requires lhs { Within (places lhs) (places scheme) }
-    ensures parts { IsTrue result ↔ HasTwoParts (width_of schema.now) (theory_of schema.now) (places scheme) (places lhs) }
+    ensures parts { IsTrue result
+        ↔ HasTwoParts (width_of schema.now) (theory_of schema.now) (places scheme) (places lhs) }
 {
     has_two_parts_by(schema.deps(), schema.width(), scheme, lhs)
 }

@@ -67,8 +67,10 @@ fn derivation_of_fd(
     requires rhs { Within (places rhs) (universe_of schema.now) }
     requires implied { ImpliedBy schema.now (fd (places lhs) (places rhs)) }
     ensures proof { IfOk result (λ b. IsProofOf schema.now (fd (places lhs) (places rhs)) (tree_of b.value)) }
-    ensures chain { IfOk result (λ b. IsChainIfFunctional schema.now (fd (places lhs) (places rhs)) (tree_of b.value)) }
-    ensures direct { IfOk result (λ b. IsDirectUnlessChain schema.now (fd (places lhs) (places rhs)) (tree_of b.value)) }
+    ensures chain { IfOk result
+        (λ b. IsChainIfFunctional schema.now (fd (places lhs) (places rhs)) (tree_of b.value)) }
+    ensures direct { IfOk result
+        (λ b. IsDirectUnlessChain schema.now (fd (places lhs) (places rhs)) (tree_of b.value)) }
 {
     match functional_chain(alloc, schema, lhs, rhs)? {
         Some(chain) => Ok(chain),
@@ -90,7 +92,8 @@ fn derivation_of_mvd(
     requires rhs { Within (places rhs) (universe_of schema.now) }
     requires implied { ImpliedBy schema.now (mvd (places lhs) (places rhs)) }
     ensures proof { IfOk result (λ b. IsProofOf schema.now (mvd (places lhs) (places rhs)) (tree_of b.value)) }
-    ensures direct { IfOk result (λ b. IsDirectUnlessChain schema.now (mvd (places lhs) (places rhs)) (tree_of b.value)) }
+    ensures direct { IfOk result
+        (λ b. IsDirectUnlessChain schema.now (mvd (places lhs) (places rhs)) (tree_of b.value)) }
 {
     match first_given(schema, lhs, rhs) {
         Some(k) => Ok(Box::new(alloc, Deriv::Given(k))?),

@@ -16,7 +16,8 @@ pub front_length : (bytes : List ℕ) (len : ℕ) → IsHeldName bytes len → l
 front_length bytes len held = length-take-le len bytes (subst (λ (n : ℕ). len ≤ n) (sym held.whole) held.within)
 
 -- the front and zeros are the whole array
-pub padded_is : (bytes : List ℕ) (len : ℕ) → IsHeldName bytes len → take len bytes ++ replicate (MOST_NAME_BYTES - length (take len bytes)) 0 ≡ bytes
+pub padded_is : (bytes : List ℕ) (len : ℕ) → IsHeldName bytes len
+    → take len bytes ++ replicate (MOST_NAME_BYTES - length (take len bytes)) 0 ≡ bytes
 padded_is bytes len held =
     ap (λ (n : ℕ). take len bytes ++ replicate (MOST_NAME_BYTES - n) 0) (front_length bytes len held)
     ∙ ap (λ (zeros : List ℕ). take len bytes ++ zeros) (sym held.rest)

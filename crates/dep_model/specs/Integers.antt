@@ -14,4 +14,5 @@ pub record IsNumeral (most : ℕ) (bytes : List ℕ) : Type 0 where
 -- numeral that does not begin with `0`
 abbrev pub IsIntegerText : List ℕ → Type 0
 IsIntegerText bytes =
-    (bytes ≡ 48 ∷ []) ⊎ IsNumeral (2 ^ 63 - 1) bytes ⊎ ((digits : List ℕ) × (bytes ≡ 45 ∷ digits) × IsNumeral (2 ^ 63) digits)
+    (bytes ≡ 48 ∷ []) ⊎ IsNumeral (2 ^ 63 - 1) bytes
+    ⊎ ((digits : List ℕ) × (bytes ≡ 45 ∷ digits) × IsNumeral (2 ^ 63) digits)

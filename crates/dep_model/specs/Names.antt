@@ -10,7 +10,8 @@ is_name_byte b = is_ascii_alphanumeric b || (b == 95)
 
 -- a letter, followed by letters, digits and `_`
 abbrev pub is_word : List ℕ → Bool
-is_word bytes = nat_lt 0 (length bytes) && is_ascii_alphabetic (slice_index bytes 0) && list_all is_name_byte bytes
+is_word bytes = nat_lt 0 (length bytes) && is_ascii_alphabetic (slice_index bytes 0)
+    && list_all is_name_byte bytes
 
 -- a word of at most `MOST_NAME_BYTES` bytes
 abbrev pub is_name : List ℕ → Bool

@@ -19,7 +19,8 @@ ObeysIn scheme (fd x y) r =
     (t u : Tuple) → Contains r t → Contains r u → AgreeIn scheme x t u → AgreeIn scheme y t u
 ObeysIn scheme (mvd x y) r =
     (t u : Tuple) → Contains r t → Contains r u → AgreeIn scheme x t u
-    → (v : Tuple) × Contains r v × AgreeIn scheme (union x y) v t × AgreeIn scheme (minus scheme (union x y)) v u
+    → (v : Tuple) × Contains r v × AgreeIn scheme (union x y) v t
+    × AgreeIn scheme (minus scheme (union x y)) v u
 
 -- a dependency lies within a scheme, and the projection of every legal relation on it obeys it
 pub record ImpliedOn (n : ℕ) (ds : List Dependency) (scheme : Places) (d : Dependency) : Type 0 where

@@ -9,5 +9,6 @@ use Rattle.dep_model.specs.Implication.{IsLegal, Implies}
 abbrev pub KeepsDependencies : ℕ → List Dependency → List Places → Type 0
 KeepsDependencies n ds plan =
     (r : Relation) → IsOver n r
-    → ((x y : Places) → Any (λ (scheme : Places). Within (union x y) scheme) plan → Implies n (functional_part ds) (fd x y) → ObeysFd x y r)
+    → ((x y : Places) → Any (λ (scheme : Places). Within (union x y) scheme) plan
+    → Implies n (functional_part ds) (fd x y) → ObeysFd x y r)
     → IsLegal n (functional_part ds) r

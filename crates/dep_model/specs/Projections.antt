@@ -38,4 +38,5 @@ Covers n plan = (k : ℕ) → k < n → Any (λ (scheme : Places). scheme k ≡ 
 -- the schemes cover the universe, and the join of a legal relation's projections has no further tuple
 pub record IsLossless (n : ℕ) (ds : List Dependency) (plan : List Places) : Type 0 where
   pub covers : Covers n plan
-  pub gains_none : (r : Relation) → IsLegal n ds r → (t : Tuple) → InJoin n plan (projections plan r) t → Contains r t
+  pub gains_none : (r : Relation) → IsLegal n ds r → (t : Tuple) → InJoin n plan (projections plan r) t
+      → Contains r t

@@ -23,7 +23,8 @@ pub fn one_tuple_obeys()
 
 /// A legal relation obeys each given dependency.
 pub fn given_dependency()
-    ensures law { (n : ℕ) (ds : List Dependency) (r : Relation) (d : Dependency) → IsLegal n ds r → Contains ds d → Obeys n d r }
+    ensures law { (n : ℕ) (ds : List Dependency) (r : Relation) (d : Dependency) → IsLegal n ds r
+        → Contains ds d → Obeys n d r }
 {}
 
 /// Reflexivity: `y` within `x` gives `x -> y`.
@@ -43,7 +44,8 @@ pub fn transitivity()
 
 /// Complementation: `x ->> y` gives `x ->>` the rest of the scheme.
 pub fn complementation()
-    ensures law { (scheme x y : Places) (r : Relation) → ObeysMvd scheme x y r → ObeysMvd scheme x (minus scheme (union x y)) r }
+    ensures law { (scheme x y : Places) (r : Relation) → ObeysMvd scheme x y r
+        → ObeysMvd scheme x (minus scheme (union x y)) r }
 {}
 
 /// Reflexivity of multivalued dependencies: `y` within `x` gives `x ->> y`.
@@ -53,13 +55,15 @@ pub fn multivalued_reflexivity()
 
 /// Augmentation of multivalued dependencies: `x ->> y` gives `xw ->> yz` for `z` within `w`.
 pub fn multivalued_augmentation()
-    ensures law { (scheme x y w z : Places) (r : Relation) → Within z w → Within w scheme → ObeysMvd scheme x y r
+    ensures law { (scheme x y w z : Places) (r : Relation) → Within z w → Within w scheme
+        → ObeysMvd scheme x y r
         → ObeysMvd scheme (union x w) (union y z) r }
 {}
 
 /// Transitivity of multivalued dependencies: `x ->> y` and `y ->> z` give `x ->> z - y`.
 pub fn multivalued_transitivity()
-    ensures law { (scheme x y z : Places) (r : Relation) → Within x scheme → Within z scheme → ObeysMvd scheme x y r → ObeysMvd scheme y z r
+    ensures law { (scheme x y z : Places) (r : Relation) → Within x scheme → Within z scheme
+        → ObeysMvd scheme x y r → ObeysMvd scheme y z r
         → ObeysMvd scheme x (minus z y) r }
 {}
 
@@ -70,13 +74,15 @@ pub fn replication()
 
 /// Coalescence: `x ->> y` and `z -> w` give `x -> w` for `w` within `y` and `z` apart from `y`.
 pub fn coalescence()
-    ensures law { (scheme x y z w : Places) (r : Relation) → Within z scheme → Within w y → Apart z y → ObeysMvd scheme x y r → ObeysFd z w r
+    ensures law { (scheme x y z w : Places) (r : Relation) → Within z scheme → Within w y → Apart z y
+        → ObeysMvd scheme x y r → ObeysFd z w r
         → ObeysFd x w r }
 {}
 
 /// The value of a tuple at a place of a scheme is found in its projection.
 pub fn value_of_projection()
-    ensures law { (scheme : Places) (t : Tuple) (k : ℕ) → scheme k ≡ true → value_in scheme (project_tuple scheme t) k ≡ value_at t k }
+    ensures law { (scheme : Places) (t : Tuple) (k : ℕ) → scheme k ≡ true
+        → value_in scheme (project_tuple scheme t) k ≡ value_at t k }
 {}
 
 /// The plan of the universe alone is lossless.
@@ -91,13 +97,15 @@ pub fn scheme_is_superkey()
 
 /// A set of a scheme's attributes that holds a superkey is one.
 pub fn superkey_grows()
-    ensures law { (n : ℕ) (ds : List Dependency) (scheme j k : Places) → Within j k → Within k scheme → IsSuperkey n ds scheme j
+    ensures law { (n : ℕ) (ds : List Dependency) (scheme j k : Places) → Within j k → Within k scheme
+        → IsSuperkey n ds scheme j
         → IsSuperkey n ds scheme k }
 {}
 
 /// The settled key of a scheme is a key.
 pub fn settled_key_is_key()
-    ensures law { (n : ℕ) (ds : List Dependency) (scheme k : Places) → Within scheme (below n) → IsSettledKey n ds scheme k → IsKey n ds scheme k }
+    ensures law { (n : ℕ) (ds : List Dependency) (scheme k : Places) → Within scheme (below n)
+        → IsSettledKey n ds scheme k → IsKey n ds scheme k }
 {}
 
 /// The two tuples of a set agree exactly on it.
@@ -108,12 +116,15 @@ pub fn two_tuples_agree()
 /// Two tuples that agree exactly on `a` obey `x -> y` exactly where `x` within `a` gives `y` within `a`
 /// (Sagiv, Delobel, Parker and Fagin 1981).
 pub fn two_tuples_functional()
-    ensures law { (n : ℕ) (a x y : Places) (t u : Tuple) → AgreeExactly n a t u → Within x (below n) → Within y (below n)
+    ensures law { (n : ℕ) (a x y : Places) (t u : Tuple) → AgreeExactly n a t u → Within x (below n)
+        → Within y (below n)
         → ObeysFd x y (t ∷ u ∷ []) ↔ (Within x a → Within y a) }
 {}
 
 /// They obey `x ->> y` exactly where it gives `y` or the rest within `a`.
 pub fn two_tuples_multivalued()
-    ensures law { (n : ℕ) (a x y : Places) (t u : Tuple) → AgreeExactly n a t u → Within x (below n) → Within y (below n)
-        → ObeysMvd (below n) x y (t ∷ u ∷ []) ↔ (Within x a → Within y a ⊎ Within (minus (below n) (union x y)) a) }
+    ensures law { (n : ℕ) (a x y : Places) (t u : Tuple) → AgreeExactly n a t u → Within x (below n)
+        → Within y (below n)
+        → ObeysMvd (below n) x y (t ∷ u ∷ [])
+        ↔ (Within x a → Within y a ⊎ Within (minus (below n) (union x y)) a) }
 {}

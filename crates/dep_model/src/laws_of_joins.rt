@@ -11,12 +11,14 @@ ghost use Rattle.dep_model.specs.Preservation.{KeepsDependencies};
 
 /// Where a list implies each member of another, what is legal for the first is legal for the second.
 pub fn legal_for_what_is_implied()
-    ensures law { (n : ℕ) (ds es : List Dependency) (r : Relation) → All (Implies n ds) es → IsLegal n ds r → IsLegal n es r }
+    ensures law { (n : ℕ) (ds es : List Dependency) (r : Relation) → All (Implies n ds) es
+        → IsLegal n ds r → IsLegal n es r }
 {}
 
 /// A relation's tuples are in the join of its projections.
 pub fn tuples_are_in_the_join()
-    ensures law { (n : ℕ) (plan : List Places) (r : Relation) (t : Tuple) → IsOver n r → Contains r t → InJoin n plan (projections plan r) t }
+    ensures law { (n : ℕ) (plan : List Places) (r : Relation) (t : Tuple) → IsOver n r → Contains r t
+        → InJoin n plan (projections plan r) t }
 {}
 
 /// The projection on a part of a scheme is the projection of the projection.
@@ -27,26 +29,31 @@ pub fn projection_of_a_projection()
 
 /// The ordered projection is the same relation as the projection, and has no tuple twice.
 pub fn ordered_projection_is_distinct()
-    ensures law { (scheme : Places) (r : Relation) → SameRelation (projection scheme r) (ordered_projection scheme r)
+    ensures law { (scheme : Places) (r : Relation)
+        → SameRelation (projection scheme r) (ordered_projection scheme r)
         × AllPairs (λ t u. t ≡ u → ⊥) (ordered_projection scheme r) }
 {}
 
 /// A plan stays lossless where a scheme is replaced by two: the sides of a multivalued dependency that
 /// is implied on it, and the scheme without the right side (Fagin 1977).
 pub fn split_is_lossless()
-    ensures law { (n : ℕ) (ds : List Dependency) (before after : List Places) (scheme x y : Places) → ImpliedOn n ds scheme (mvd x y) → Apart y x
-        → IsLossless n ds (before ++ scheme ∷ after) → IsLossless n ds (before ++ union x y ∷ minus scheme y ∷ after) }
+    ensures law { (n : ℕ) (ds : List Dependency) (before after : List Places) (scheme x y : Places)
+        → ImpliedOn n ds scheme (mvd x y) → Apart y x
+        → IsLossless n ds (before ++ scheme ∷ after)
+        → IsLossless n ds (before ++ union x y ∷ minus scheme y ∷ after) }
 {}
 
 /// A plan stays lossless where a scheme that lies within another one, or equals it, is dropped.
 pub fn contained_scheme_is_dropped()
-    ensures law { (n : ℕ) (ds : List Dependency) (before after : List Places) (scheme other : Places) → Contains (before ++ after) other → Within scheme other
+    ensures law { (n : ℕ) (ds : List Dependency) (before after : List Places) (scheme other : Places)
+        → Contains (before ++ after) other → Within scheme other
         → IsLossless n ds (before ++ scheme ∷ after) → IsLossless n ds (before ++ after) }
 {}
 
 /// A plan in which each given functional dependency lies within some scheme keeps the dependencies.
 pub fn schemes_of_the_given_keep_dependencies()
     ensures law { (n : ℕ) (ds : List Dependency) (plan : List Places)
-        → All (λ d. Any (λ (scheme : Places). Within (union (left_of d) (right_of d)) scheme) plan) (functional_part ds)
+        → All (λ d. Any (λ (scheme : Places). Within (union (left_of d) (right_of d)) scheme) plan)
+        (functional_part ds)
         → KeepsDependencies n ds plan }
 {}

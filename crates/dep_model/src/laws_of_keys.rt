@@ -10,19 +10,23 @@ ghost use Rattle.dep_model.specs.Address.{address};
 
 /// A key of a superkey of a scheme is a key of the scheme.
 pub fn key_of_a_superkey()
-    ensures law { (n : ℕ) (ds : List Dependency) (scheme s k : Places) → IsSuperkey n ds scheme s → IsKey n ds s k → IsKey n ds scheme k }
+    ensures law { (n : ℕ) (ds : List Dependency) (scheme s k : Places) → IsSuperkey n ds scheme s
+        → IsKey n ds s k → IsKey n ds scheme k }
 {}
 
 /// An attribute is prime exactly where some set is no superkey and holds a key once the attribute is
 /// added.
 pub fn prime_attribute()
     ensures law { (n : ℕ) (ds : List Dependency) (scheme : Places) (a : ℕ)
-        → IsPrime n ds scheme a ↔ ((x k : Places) × Within x scheme × (IsSuperkey n ds scheme x → ⊥) × IsKey n ds scheme k × Within k (union x (only a))) }
+        → IsPrime n ds scheme a
+        ↔ ((x k : Places) × Within x scheme × (IsSuperkey n ds scheme x → ⊥) × IsKey n ds scheme k
+        × Within k (union x (only a))) }
 {}
 
 /// A functional dependency within a part of a scheme is implied on both or on neither.
 pub fn functional_on_a_part()
-    ensures law { (n : ℕ) (ds : List Dependency) (scheme part x y : Places) → Within part scheme → Within x part → Within y part
+    ensures law { (n : ℕ) (ds : List Dependency) (scheme part x y : Places) → Within part scheme
+        → Within x part → Within y part
         → ImpliedOn n ds scheme (fd x y) ↔ ImpliedOn n ds part (fd x y) }
 {}
 
@@ -35,17 +39,20 @@ pub fn multivalued_on_a_part()
 
 /// Two parts of a left side with a common attribute are one.
 pub fn parts_are_apart()
-    ensures law { (n : ℕ) (ds : List Dependency) (scheme x p q : Places) → IsPart n ds scheme x p → IsPart n ds scheme x q → Meets p q → Same p q }
+    ensures law { (n : ℕ) (ds : List Dependency) (scheme x p q : Places) → IsPart n ds scheme x p
+        → IsPart n ds scheme x q → Meets p q → Same p q }
 {}
 
 /// Fourth normal form gives Boyce-Codd form (Fagin 1977).
 pub fn fourth_gives_bcnf()
-    ensures law { (n : ℕ) (ds : List Dependency) (scheme : Places) → Within scheme (below n) → IsFourth n ds scheme → IsBcnf n ds scheme }
+    ensures law { (n : ℕ) (ds : List Dependency) (scheme : Places) → Within scheme (below n)
+        → IsFourth n ds scheme → IsBcnf n ds scheme }
 {}
 
 /// Without multivalued dependencies Boyce-Codd form gives third normal form.
 pub fn bcnf_gives_third()
-    ensures law { (n : ℕ) (ds : List Dependency) (scheme : Places) → functional_part ds ≡ ds → IsBcnf n ds scheme → IsThird n ds scheme }
+    ensures law { (n : ℕ) (ds : List Dependency) (scheme : Places) → functional_part ds ≡ ds
+        → IsBcnf n ds scheme → IsThird n ds scheme }
 {}
 
 /// City, street and zip are in third normal form and not in Boyce-Codd form.

@@ -60,7 +60,7 @@ impl Name {
     }
 }
 
-// The bytes, and zeros behind them.
+// The bytes, and zeros after them.
 fn padded(bytes: &[u8]) -> [u8; MOST_NAME_BYTES]
     requires { length bytes.now ≤ MOST_NAME_BYTES }
     ensures padded { result ≡ bytes.now ++ replicate (MOST_NAME_BYTES - length bytes.now) 0 }

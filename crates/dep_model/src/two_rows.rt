@@ -30,7 +30,8 @@ pub fn two_rows_obey(agreement: AttrSet, width: u8, dep: Dep) -> bool
     requires width { width ≤ PLACES }
     requires agreement { Within (places agreement) (below width) }
     requires dep { IsDepWithin (below width) dep }
-    ensures obey { (t u : Tuple) → AgreeExactly width (places agreement) t u → IsTrue result ↔ Obeys width (dependency_of dep) (t ∷ u ∷ []) }
+    ensures obey { (t u : Tuple) → AgreeExactly width (places agreement) t u
+        → IsTrue result ↔ Obeys width (dependency_of dep) (t ∷ u ∷ []) }
 {
     match dep {
         Dep::Fd { lhs, rhs } => !lhs.within(agreement) || rhs.within(agreement),

@@ -31,7 +31,7 @@ first_out-one s c j k t w one other = elim (cases_eq j k) [
   | inl same ↦ (same, one_right one.lhs t other.lhs w (sym one.given ∙ ap (slice_get (theory_of s)) same ∙ other.given))
   | inr differ ↦ elim (cases_lt j k) [
     | inl before ↦ absurd (one.out.beyond (other.earlier j one.lhs t before one.given one.out.inside))
-    | inr behind ↦ absurd (other.out.beyond (one.earlier k other.lhs w (omega arith) other.given other.out.inside))
+    | inr after ↦ absurd (other.out.beyond (one.earlier k other.lhs w (omega arith) other.given other.out.inside))
   ]
 ]
 

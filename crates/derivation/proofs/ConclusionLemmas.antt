@@ -1,4 +1,4 @@
--- What a tree concludes, behind any number of nodes, is the one dependency that it proves.
+-- What a tree concludes, after any number of nodes, is the one dependency that it proves.
 use Rattle.std.proofs.Common.{◌≡◌, ℕ, ◌+◌, ◌<◌, ◌≤◌, ◌⊎◌, inl, inr, ⊎_elim, refl, sym, ◌∙◌, ap, arith}
 use Rattle.std.specs.Prelude.{Result, Ok, Err}
 use Rattle.dep_model.specs.declared.schema.Schema.{Schema}
@@ -14,7 +14,7 @@ at_node-ok : (n : ℕ) (r : Result Dependency FaultKind) (d : Dependency) → at
 at_node-ok n (Ok e) d h = cc
 at_node-ok n (Err kind) d h = cc
 
--- what comes behind a first step that gives a value
+-- what comes after a first step that gives a value
 bind_ok : {A B : Type 0} (r : Result A Fault) (f : A → Result B Fault) (y : B) → (r >>= f) ≡ Ok y → (x : A) × (r ≡ Ok x) × (f x ≡ Ok y)
 bind_ok (Ok x) f y h = (x, refl, h)
 bind_ok (Err e) f y h = cc
@@ -50,7 +50,7 @@ at_node-err : (n : ℕ) (r : Result Dependency FaultKind) (f : Fault) → at_nod
 at_node-err n (Ok e) f h = cc
 at_node-err n (Err kind) f h = let e : ◌≡◌ {A = Fault} (record { node = n; kind = kind }) f = cc in ap (λ (g : Fault). g.node) (sym e)
 
--- where the first step has the fault, or what comes behind it
+-- where the first step has the fault, or what comes after it
 bind_err : {A B : Type 0} (r : Result A Fault) (f : A → Result B Fault) (e : Fault) → (r >>= f) ≡ Err e → (r ≡ Err e) ⊎ ((x : A) × (r ≡ Ok x) × (f x ≡ Err e))
 bind_err (Ok x) f e h = inr (x, refl, h)
 bind_err (Err d) f e h = inl (cc)
@@ -66,8 +66,8 @@ concluded-fault s before (pair rule t u) f h =
     let at_pair = λ (x y : Dependency). at_node (before + nodes t + nodes u + 1) (pair_conclusion rule x y) in
     ⊎_elim
     (λ left. let inside = concluded-fault s before t f left in (inside.0, omega (arith, inside.1)))
-    (λ behind. ⊎_elim
+    (λ after. ⊎_elim
     (λ right. let inside = concluded-fault s (before + nodes t) u f right in (omega (arith, inside.0), omega (arith, inside.1)))
-    (λ here. let place = at_node-err (before + nodes t + nodes u + 1) (pair_conclusion rule behind.0 here.0) f here.2 in (omega arith, omega arith))
-    (bind_err (concluded s (before + nodes t) u) (at_pair behind.0) f behind.2))
+    (λ here. let place = at_node-err (before + nodes t + nodes u + 1) (pair_conclusion rule after.0 here.0) f here.2 in (omega arith, omega arith))
+    (bind_err (concluded s (before + nodes t) u) (at_pair after.0) f after.2))
     (bind_err (concluded s before t) (λ x. concluded s (before + nodes t) u >>= at_pair x) f h)

@@ -10,7 +10,8 @@ pub record IsFirstOut (s : Schema) (c : Places) (k : ℕ) (t : Places) : Type 0 
   pub lhs : Places
   pub given : slice_get (theory_of s) k ≡ Some (fd lhs t)
   pub out : LeadsOut c (fd lhs t)
-  pub earlier : (j : ℕ) (v w : Places) → j < k → slice_get (theory_of s) j ≡ Some (fd v w) → Within v c → Within w c
+  pub earlier : (j : ℕ) (v w : Places) → j < k → slice_get (theory_of s) j ≡ Some (fd v w) → Within v c
+      → Within w c
 
 -- a set that x is known to determine, and the tree that proves it
 pub record Stage : Type 0 where
@@ -32,7 +33,8 @@ next_stage a k t = record {
 abbrev pub Reaches : Schema → Places → Places → ℕ → Stage → Type 0
 Reaches s x y zero a = a ≡ first_stage x
 Reaches s x y (suc m) a =
-    (b : Stage) × (k : ℕ) × (t : Places) × Reaches s x y m b × (Within y b.closed → ⊥) × IsFirstOut s b.closed k t × (a ≡ next_stage b k t)
+    (b : Stage) × (k : ℕ) × (t : Places) × Reaches s x y m b × (Within y b.closed → ⊥)
+    × IsFirstOut s b.closed k t × (a ≡ next_stage b k t)
 
 -- a tree is the functional chain of x -> y: steps until y is within the set, and at last the reflexivity that leaves y
 pub record IsFunctionalChain (s : Schema) (x y : Places) (tree : Tree) : Type 0 where

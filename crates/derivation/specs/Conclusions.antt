@@ -10,7 +10,8 @@ use Rattle.derivation.specs.Table.{leaf_conclusion, step_conclusion, pair_conclu
 abbrev pub Proves : Schema → Tree → Dependency → Type 0
 Proves s (leaf rule) d = leaf_conclusion s rule ≡ Ok d
 Proves s (step rule t) d = (x : Dependency) × Proves s t x × (step_conclusion s rule x ≡ Ok d)
-Proves s (pair rule t u) d = (x y : Dependency) × Proves s t x × Proves s u y × (pair_conclusion rule x y ≡ Ok d)
+Proves s (pair rule t u) d =
+    (x y : Dependency) × Proves s t x × Proves s u y × (pair_conclusion rule x y ≡ Ok d)
 
 infixl 10 ◌>>=◌
 abbrev pub ◌>>=◌ : {A B : Type 0} → Result A Fault → (A → Result B Fault) → Result B Fault
@@ -22,7 +23,7 @@ abbrev pub at_node : ℕ → Result Dependency FaultKind → Result Dependency F
 at_node n (Ok d) = Ok d
 at_node n (Err kind) = Err (record { node = n; kind = kind })
 
--- what a tree concludes, or its first fault in post-order, behind this many nodes
+-- what a tree concludes, or its first fault in post-order, after this many nodes
 abbrev pub concluded : Schema → ℕ → Tree → Result Dependency Fault
 concluded s before (leaf rule) = at_node (before + 1) (leaf_conclusion s rule)
 concluded s before (step rule t) = do

@@ -50,7 +50,8 @@ root_of (node.TheVariants.Pair rule first second) = pair (pair_of rule) (tree_of
 abbrev pub taken_of : root.Root → Tree
 taken_of (root.TheVariants.Leaf rule) = leaf (leaf_of rule)
 taken_of (root.TheVariants.Step rule from) = step (step_of rule) (tree_of from.value)
-taken_of (root.TheVariants.Pair rule first second) = pair (pair_of rule) (tree_of first.value) (tree_of second.value)
+taken_of (root.TheVariants.Pair rule first second) =
+    pair (pair_of rule) (tree_of first.value) (tree_of second.value)
 
 -- an outcome of the code, its dependency between sets of places
 abbrev pub outcome_of : {E : Type 0} → Result Dep E → Result Dependency E

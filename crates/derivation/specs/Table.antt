@@ -20,17 +20,20 @@ leaf_conclusion s (mreflexivity x y) = if is_inside s x && is_within y x then Ok
 
 -- from x -> y: xz -> yz, and x ->> y; from x ->> y: what is neither in x nor in y, and xw ->> yz where z is within w
 abbrev pub step_conclusion : Schema → Step → Dependency → Result Dependency FaultKind
-step_conclusion s (augmentation z) (fd x y) = if is_inside s z then Ok (fd (union x z) (union y z)) else Err NotWithin
+step_conclusion s (augmentation z) (fd x y) = if is_inside s z then Ok (fd (union x z) (union y z))
+    else Err NotWithin
 step_conclusion s complementation (mvd x y) = Ok (mvd x (minus (universe_of s) (union x y)))
 step_conclusion s (maugmentation w z) (mvd x y) =
     if is_inside s w && is_within z w then Ok (mvd (union x w) (union y z)) else Err NotWithin
 step_conclusion s replication (fd x y) = Ok (mvd x y)
 step_conclusion s _ _ = Err WrongKind
 
--- from x -> y and y -> z: x -> z; from x ->> y and y ->> z: x ->> z - y; from x ->> y and z -> w: x -> w, where w is within y and z apart from y
+-- from x -> y and y -> z: x -> z; from x ->> y and y ->> z: x ->> z - y; from x ->> y and z -> w:
+-- x -> w, where w is within y and z apart from y
 abbrev pub pair_conclusion : Pair → Dependency → Dependency → Result Dependency FaultKind
 pair_conclusion transitivity (fd x y) (fd v z) = if is_same y v then Ok (fd x z) else Err MiddleDiffers
-pair_conclusion mtransitivity (mvd x y) (mvd v z) = if is_same y v then Ok (mvd x (minus z y)) else Err MiddleDiffers
+pair_conclusion mtransitivity (mvd x y) (mvd v z) = if is_same y v then Ok (mvd x (minus z y))
+    else Err MiddleDiffers
 pair_conclusion coalescence (mvd x y) (fd z w) =
     if is_within w y then (if is_apart z y then Ok (fd x w) else Err NotDisjoint) else Err NotWithin
 pair_conclusion _ _ _ = Err WrongKind

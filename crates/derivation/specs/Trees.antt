@@ -20,7 +20,7 @@ pub data Pair : Type 0 where
   mtransitivity : Pair
   coalescence : Pair
 
--- a derivation, as a tree: a rule at each node, behind its premises
+-- a derivation, as a tree: a rule at each node, after its premises
 pub data Tree : Type 0 where
   leaf : Leaf → Tree
   step : Step → Tree → Tree

@@ -85,7 +85,8 @@ pub fn unite_mvd(
 ) -> Result<Box<Deriv>, Returned>
     ensures concludes { (s : Schema) → Proves s (tree_of first.value) (mvd (places lhs) (places left))
         → Proves s (tree_of second.value) (mvd (places lhs) (places right))
-        → IfOk result (λ b. Proves s (tree_of b.value) (mvd (places lhs) (union (places left) (places right)))) }
+        → IfOk result
+        (λ b. Proves s (tree_of b.value) (mvd (places lhs) (union (places left) (places right)))) }
     ensures little_more { IfOk result (λ b.
         IsLittleMore (tree_of first.value) (tree_of second.value) (tree_of b.value)) }
     ensures returned { IfErr result (λ r. (r.first ≡ first) × (r.second ≡ second)) }

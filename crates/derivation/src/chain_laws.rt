@@ -14,21 +14,25 @@ ghost use Rattle.derivation.specs.Chains.{IsFunctionalChain};
 
 /// A dependency has one functional chain at most.
 pub fn one_chain()
-    ensures law { (s : Schema) (x y : Places) (t u : Tree) → IsFunctionalChain s x y t → IsFunctionalChain s x y u → t ≡ u }
+    ensures law { (s : Schema) (x y : Places) (t u : Tree) → IsFunctionalChain s x y t
+        → IsFunctionalChain s x y u → t ≡ u }
 {}
 
 /// The functional chain of a dependency proves it.
 pub fn chain_proves()
-    ensures law { (s : Schema) (x y : Places) (t : Tree) → Within x (universe_of s) → IsFunctionalChain s x y t → Proves s t (fd x y) }
+    ensures law { (s : Schema) (x y : Places) (t : Tree) → Within x (universe_of s)
+        → IsFunctionalChain s x y t → Proves s t (fd x y) }
 {}
 
 /// What has a functional chain is implied by the functional dependencies alone.
 pub fn chain_is_functional()
-    ensures law { (s : Schema) (x y : Places) (t : Tree) → IsFunctionalChain s x y t → Implies (width_of s) (functional_part (theory_of s)) (fd x y) }
+    ensures law { (s : Schema) (x y : Places) (t : Tree) → IsFunctionalChain s x y t
+        → Implies (width_of s) (functional_part (theory_of s)) (fd x y) }
 {}
 
 /// A functional chain has few nodes and levels.
 pub fn chain_is_small()
-    ensures nodes { (s : Schema) (x y : Places) (t : Tree) → IsFunctionalChain s x y t → nodes t ≤ 3 * PLACES + 3 }
+    ensures nodes { (s : Schema) (x y : Places) (t : Tree) → IsFunctionalChain s x y t
+        → nodes t ≤ 3 * PLACES + 3 }
     ensures levels { (s : Schema) (x y : Places) (t : Tree) → IsFunctionalChain s x y t → depth t ≤ PLACES + 3 }
 {}

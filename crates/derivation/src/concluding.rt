@@ -23,11 +23,11 @@ pub fn conclude(schema: &Schema, deriv: &Deriv) -> Result<Dep, Fault>
     ensures exact { outcome_of result ≡ concluded schema.now 0 (tree_of deriv.now) }
 {
     let mut passed = 0;
-    conclude_behind(schema, deriv, &mut passed)
+    conclude_after(schema, deriv, &mut passed)
 }
 
-// What a derivation concludes, whose nodes are numbered behind those that were passed.
-fn conclude_behind(schema: &Schema, deriv: &Deriv, passed: &mut u32) -> Result<Dep, Fault>
+// What a derivation concludes, whose nodes are numbered after those that were passed.
+fn conclude_after(schema: &Schema, deriv: &Deriv, passed: &mut u32) -> Result<Dep, Fault>
     requires room { passed.old + nodes (tree_of deriv.now) < 2 ^ 32 }
     ensures exact { outcome_of result ≡ concluded schema.now passed.old (tree_of deriv.now) }
     ensures passed { OnOk result (passed.new ≡ passed.old + nodes (tree_of deriv.now)) }
@@ -35,12 +35,12 @@ fn conclude_behind(schema: &Schema, deriv: &Deriv, passed: &mut u32) -> Result<D
     let outcome = match deriv.root() {
         Node::Leaf(rule) => leaf_conclusion(schema, rule),
         Node::Step(rule, premise) => {
-            let dep = conclude_behind(schema, premise, passed)?;
+            let dep = conclude_after(schema, premise, passed)?;
             step_conclusion(schema, rule, dep)
         }
         Node::Pair(rule, first, second) => {
-            let left = conclude_behind(schema, first, passed)?;
-            let right = conclude_behind(schema, second, passed)?;
+            let left = conclude_after(schema, first, passed)?;
+            let right = conclude_after(schema, second, passed)?;
             pair_conclusion(rule, left, right)
         }
     };

@@ -21,10 +21,12 @@ pub fn one_conclusion()
 
 /// What a tree concludes is what it proves, wherever its nodes are counted from.
 pub fn conclusion_is_proved()
-    ensures law { (s : Schema) (before : ℕ) (t : Tree) (d : Dependency) → concluded s before t ≡ Ok d ↔ Proves s t d }
+    ensures law { (s : Schema) (before : ℕ) (t : Tree) (d : Dependency)
+        → concluded s before t ≡ Ok d ↔ Proves s t d }
 {}
 
 /// The first fault of a tree is at one of its nodes.
 pub fn fault_is_inside()
-    ensures law { (s : Schema) (before : ℕ) (t : Tree) (f : Fault) → concluded s before t ≡ Err f → (before < f.node) × (f.node ≤ before + nodes t) }
+    ensures law { (s : Schema) (before : ℕ) (t : Tree) (f : Fault) → concluded s before t ≡ Err f
+        → (before < f.node) × (f.node ≤ before + nodes t) }
 {}

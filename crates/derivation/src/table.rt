@@ -91,7 +91,8 @@ pub fn step_conclusion(schema: &Schema, rule: StepRule, premise: Dep) -> Result<
 
 /// What a rule concludes from two premises.
 pub fn pair_conclusion(rule: PairRule, first: Dep, second: Dep) -> Result<Dep, FaultKind>
-    ensures exact { outcome_of result ≡ pair_conclusion (pair_of rule) (dependency_of first) (dependency_of second) }
+    ensures exact { outcome_of result
+        ≡ pair_conclusion (pair_of rule) (dependency_of first) (dependency_of second) }
 {
     match (rule, first, second) {
         (

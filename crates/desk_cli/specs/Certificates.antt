@@ -16,7 +16,8 @@ abbrev pub Checked : Schema → Tree → Dependency → Allowed
 Checked schema tree goal answer =
     (Proves schema tree goal × Says Yes (checked_text (names_of schema) goal) answer)
     ⊎ ((Proves schema tree goal → ⊥)
-    × ((concluded : Dependency) × Proves schema tree concluded × Says No (concludes_text (names_of schema) concluded goal) answer))
+    × ((concluded : Dependency) × Proves schema tree concluded
+    × Says No (concludes_text (names_of schema) concluded goal) answer))
 
 -- of a certificate file and a goal
 abbrev pub ChecksProof : Reading → Schema → List ℕ → List ℕ → Allowed

@@ -12,5 +12,6 @@ use Rattle.desk_cli.specs.Answers.{Allowed, Says}
 -- multivalued dependencies follows from the rest
 abbrev pub GivesCover : Schema → Allowed
 GivesCover schema answer =
-    (whole : List Dependency) × IsFixedWholeCover (width_of schema) (theory_of schema) whole × IsWholeCover (width_of schema) (theory_of schema) whole
+    (whole : List Dependency) × IsFixedWholeCover (width_of schema) (theory_of schema) whole
+    × IsWholeCover (width_of schema) (theory_of schema) whole
     × Says Yes (declared_text (columns_of schema) (names_of schema) whole) answer

@@ -48,7 +48,8 @@ abbrev pub SplitStops : Schema → Form → Allowed
 SplitStops schema form answer =
     ((scheme : Places) × IsTooWideAt (width_of schema) (theory_of schema) form MOST_SPLIT_SCHEMES scheme
     × Says Refused (too_wide_text (names_of schema) scheme) answer)
-    ⊎ (HasTooMany (width_of schema) (theory_of schema) form MOST_SPLIT_SCHEMES × Says Refused too_many_schemes_text answer)
+    ⊎ (HasTooMany (width_of schema) (theory_of schema) form MOST_SPLIT_SCHEMES
+    × Says Refused too_many_schemes_text answer)
 
 -- how the search for a plan in a normal form ends a command
 abbrev pub FormStops : Schema → Form → Allowed
@@ -80,4 +81,5 @@ pub record IsWideSplit (schema : Schema) (plan : List AttrSet) : Type 0 where
 -- yes, with such a plan
 abbrev pub SplitsWide : Schema → Allowed
 SplitsWide schema answer =
-    (plan : List AttrSet) × IsWideSplit schema plan × Says Yes (wide_text (names_of schema) (schemes_of plan)) answer
+    (plan : List AttrSet) × IsWideSplit schema plan
+    × Says Yes (wide_text (names_of schema) (schemes_of plan)) answer

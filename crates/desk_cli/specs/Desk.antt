@@ -40,40 +40,50 @@ shown shelf = seen shelf.files shelf.before shelf.after shelf.taken
 
 -- the sink took just the text of an ending with this status
 abbrev pub WritesWhole : SinkInCall → Endings → Status → Type 0
-WritesWhole sink endings status = (ending : Ending) × endings ending × (status ≡ ending.status) × (sink.new ≡ append_known sink.old ending.text)
+WritesWhole sink endings status =
+    (ending : Ending) × endings ending × (status ≡ ending.status)
+    × (sink.new ≡ append_known sink.old ending.text)
 
 -- writing failed: the sink's faults rose, and it took a part of the text of an ending
 abbrev pub WritesPart : SinkInCall → Endings → Status → Type 0
 WritesPart sink endings status =
-    (status ≡ CannotWrite) × Rose sink.before sink.after × ((ending : Ending) × endings ending × TookPart sink.old ending.text sink.new)
+    (status ≡ CannotWrite) × Rose sink.before sink.after
+    × ((ending : Ending) × endings ending × TookPart sink.old ending.text sink.new)
 
 -- the sink took just the text of an answer with this status, and the targets have its tables
 abbrev pub Delivers : SinkInCall → TargetsInCall → Allowed → Status → Type 0
 Delivers sink targets allowed status =
-    (answer : Answer) × allowed answer × (status ≡ answer.status) × (sink.new ≡ append_known sink.old answer.text) × HaveTables targets answer.tables
+    (answer : Answer) × allowed answer × (status ≡ answer.status)
+    × (sink.new ≡ append_known sink.old answer.text) × HaveTables targets answer.tables
 
 -- no, refused, or a file that could not be read
 abbrev pub IsNoOrStops : Status → Type 0
 IsNoOrStops status = (status ≡ No) ⊎ ((status ≡ Refused) ⊎ (status ≡ CannotRead))
 
 -- what becomes of an answer: the sink took the text that it comes to, or writing failed
-pub record Delivered (sink : SinkInCall) (targets : TargetsInCall) (answer : Answer) (result : Result Status WantMemory) : Type 0 where
-  pub ends : (status : Status) → result ≡ Ok status → WritesWhole sink (Settles targets answer) status ⊎ WritesPart sink (Settles targets answer) status
+pub record Delivered (sink : SinkInCall) (targets : TargetsInCall) (answer : Answer)
+    (result : Result Status WantMemory) : Type 0 where
+  pub ends : (status : Status) → result ≡ Ok status
+      → WritesWhole sink (Settles targets answer) status ⊎ WritesPart sink (Settles targets answer) status
   pub memory : (e : WantMemory) → result ≡ Err e → (sink.new ≡ sink.old) × LeavesTargets targets answer
   pub count : length targets.new ≡ length targets.old
   pub later : sink.before ≤ sink.after
 
-pub record Desk (words : List (List ℕ)) (shelf : ShelfInCall) (sink : SinkInCall) (targets : TargetsInCall) (result : Result Status WantMemory) : Type 0 where
+pub record Desk (words : List (List ℕ)) (shelf : ShelfInCall) (sink : SinkInCall)
+    (targets : TargetsInCall) (result : Result Status WantMemory) : Type 0 where
   -- the call ends as an answer that the words and the files allow, and the sink took the text
   pub answer : (status : Status) → result ≡ Ok status
-      → WritesWhole sink (EndsAs targets (Answers (shown shelf) words)) status ⊎ WritesPart sink (EndsAs targets (Answers (shown shelf) words)) status
+      → WritesWhole sink (EndsAs targets (Answers (shown shelf) words)) status
+      ⊎ WritesPart sink (EndsAs targets (Answers (shown shelf) words)) status
   -- where the files are told and nothing failed, it is the answer of those files, whole, with all tables
-  pub complete : (files : Files) → shelf.files ≡ Some files → (Rose shelf.before shelf.after → ⊥) → (Rose sink.before sink.after → ⊥) → NoneFails targets
+  pub complete : (files : Files) → shelf.files ≡ Some files → (Rose shelf.before shelf.after → ⊥)
+      → (Rose sink.before sink.after → ⊥) → NoneFails targets
       → (status : Status) → result ≡ Ok status → Delivers sink targets (Answers (told files) words) status
   -- only the answer yes gives tables
   pub stay : (status : Status) → result ≡ Ok status → IsNoOrStops status → targets.new ≡ targets.old
   -- on want of memory nothing was written, and the targets have a part of the tables of an answer
-  pub memory : (e : WantMemory) → result ≡ Err e → (sink.new ≡ sink.old) × Leaves targets (Answers (shown shelf) words)
+  pub memory : (e : WantMemory) → result ≡ Err e
+      → (sink.new ≡ sink.old) × Leaves targets (Answers (shown shelf) words)
   pub targets_stay : length targets.new ≡ length targets.old
   pub files_stay : shelf.files_after ≡ shelf.files
   pub reads_later : shelf.before ≤ shelf.after

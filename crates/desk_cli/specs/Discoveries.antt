@@ -43,7 +43,8 @@ headed_reason_text refusal.Memory = []
 -- a refusal of a file of rows under names of its own
 abbrev pub headed_refusal_text : List ℕ → DiscoverRefusal → List ℕ
 headed_refusal_text file why =
-    line (codes "refused: discover " ++ decimal (headed_refusal_number why) ++ codes " at " ++ file ++ codes ": " ++ headed_reason_text why)
+    line (codes "refused: discover " ++ decimal (headed_refusal_number why) ++ codes " at " ++ file
+    ++ codes ": " ++ headed_reason_text why)
 
 -- names, and dependencies over them, as a schema text
 abbrev pub found_text : List (List ℕ) → List Dependency → List ℕ
@@ -66,7 +67,8 @@ pub record IsHeadedFile (r : Reading) (name : List ℕ) (headed : Headed) : Type
 abbrev pub HeadedStops : Reading → List ℕ → Allowed
 HeadedStops r name answer =
     FileStops r name MOST_CSV_BYTES answer
-    ⊎ ((why : DiscoverRefusal) × IsRefusedHeaded r name why × Says Refused (headed_refusal_text name why) answer)
+    ⊎ ((why : DiscoverRefusal) × IsRefusedHeaded r name why
+    × Says Refused (headed_refusal_text name why) answer)
 
 -- such a file is read, and then the rest follows
 abbrev pub WithHeaded : Reading → List ℕ → (Headed → Allowed) → Allowed
@@ -76,7 +78,8 @@ WithHeaded r name = With (HeadedStops r name) (IsHeadedFile r name)
 -- exactly the minimal functional dependencies of rows, in order; they imply those that the rows obey and no other
 pub record AreRulesOf (n : ℕ) (rows : Relation) (ds : List Dependency) : Type 0 where
   pub minimal : AreAllMinimal n rows ds
-  pub implied : (x y : Places) → Within x (below n) → Within y (below n) → Implies n ds (fd x y) ↔ ObeysFd x y rows
+  pub implied : (x y : Places) → Within x (below n) → Within y (below n)
+      → Implies n ds (fd x y) ↔ ObeysFd x y rows
 
 -- yes, with these
 abbrev pub FindsRules : Headed → Allowed

@@ -31,12 +31,15 @@ pub record TargetsInCall : Type 1 where
   pub old : List T
   pub new : List T
 
-abbrev pub targets_in_call : {T : Type 0} → (T → Bool) → (T → Finished) → (T → ℕ) → List T → List T → TargetsInCall
-targets_in_call {T} tells finished faults old new = record { T = T; tells = tells; finished = finished; faults = faults; old = old; new = new }
+abbrev pub targets_in_call : {T : Type 0} → (T → Bool) → (T → Finished) → (T → ℕ) → List T → List T
+    → TargetsInCall
+targets_in_call {T} tells finished faults old new =
+    record { T = T; tells = tells; finished = finished; faults = faults; old = old; new = new }
 
 -- each target was fed these tables, and so it ended
 abbrev pub FedAs : TargetsInCall → List TableValue → List FeedEnd → Type 0
-FedAs targets tables ends = AtEachPlace (FedTarget targets.tells targets.finished targets.faults tables) targets.old targets.new ends
+FedAs targets tables ends =
+    AtEachPlace (FedTarget targets.tells targets.finished targets.faults tables) targets.old targets.new ends
 
 abbrev pub is_done : FeedEnd → Bool
 is_done Done = true
@@ -66,10 +69,12 @@ plain answer = record { status = answer.status; text = answer.text }
 -- what is told after targets ended so, none for want of memory: the answer, where all are done, and else
 -- those that failed
 abbrev pub reported : Answer → List FeedEnd → Ending
-reported answer ends = if list_all is_done ends then plain answer else record { status = TargetFailed; text = failures_text 1 ends }
+reported answer ends = if list_all is_done ends then plain answer
+    else record { status = TargetFailed; text = failures_text 1 ends }
 
 -- the answer yes gave tables to the targets, and none wanted memory
-pub record FeedsTargets (targets : TargetsInCall) (answer : Answer) (tables : List TableValue) (ending : Ending) : Type 0 where
+pub record FeedsTargets (targets : TargetsInCall) (answer : Answer) (tables : List TableValue)
+    (ending : Ending) : Type 0 where
   pub yes : answer.status ≡ Yes
   pub ends : List FeedEnd
   pub fed : FedAs targets tables ends
@@ -79,7 +84,8 @@ pub record FeedsTargets (targets : TargetsInCall) (answer : Answer) (tables : Li
 -- what an answer comes to: without tables the targets are as they were
 abbrev pub Settles : TargetsInCall → Answer → Ending → Type 0
 Settles targets answer ending =
-    MatchOption answer.tables ((targets.new ≡ targets.old) × (ending ≡ plain answer)) (λ tables. FeedsTargets targets answer tables ending)
+    MatchOption answer.tables ((targets.new ≡ targets.old) × (ending ≡ plain answer))
+    (λ tables. FeedsTargets targets answer tables ending)
 
 -- the endings of answers that are allowed
 abbrev pub EndsAs : TargetsInCall → Allowed → Endings
@@ -89,23 +95,27 @@ EndsAs targets allowed ending = (answer : Answer) × allowed answer × Settles t
 abbrev pub LeavesTargets : TargetsInCall → Answer → Type 0
 LeavesTargets targets answer =
     (targets.new ≡ targets.old)
-    ⊎ ((tables : List TableValue) × (ends : List FeedEnd) × (answer.tables ≡ Some tables) × FedAs targets tables ends)
+    ⊎ ((tables : List TableValue) × (ends : List FeedEnd) × (answer.tables ≡ Some tables)
+    × FedAs targets tables ends)
 
 -- what want of memory leaves of the targets
 abbrev pub Leaves : TargetsInCall → Allowed → Type 0
-Leaves targets allowed = (targets.new ≡ targets.old) ⊎ ((answer : Answer) × allowed answer × LeavesTargets targets answer)
+Leaves targets allowed =
+    (targets.new ≡ targets.old) ⊎ ((answer : Answer) × allowed answer × LeavesTargets targets answer)
 
 -- no target's faults rose
 abbrev pub NoneFails : TargetsInCall → Type 0
 NoneFails targets =
     (i : ℕ) → i < length targets.old → (x y : targets.T)
-    → Rose (targets.faults (slice_index_or targets.old i x)) (targets.faults (slice_index_or targets.new i y)) → ⊥
+    → Rose (targets.faults (slice_index_or targets.old i x))
+    (targets.faults (slice_index_or targets.new i y)) → ⊥
 
 -- each target stands for its old tables followed by all of these
 pub record AllHave (targets : TargetsInCall) (tables : List TableValue) : Type 0 where
   pub count : length targets.new ≡ length targets.old
   pub each : (i : ℕ) → i < length targets.old → (x y : targets.T)
-      → HasAll tables (targets.finished (slice_index_or targets.old i x)) (targets.finished (slice_index_or targets.new i y))
+      → HasAll tables (targets.finished (slice_index_or targets.old i x))
+      (targets.finished (slice_index_or targets.new i y))
 
 -- the targets have all tables of an answer; without tables they are as they were
 abbrev pub HaveTables : TargetsInCall → Option (List TableValue) → Type 0

@@ -29,5 +29,6 @@ help_text =
     ++ line (codes "desk rejoin SCHEMA CSV..              the join of the tables in files")
     ++ line (codes "desk help                             this text")
     ++ line (codes "desk --version                        the release")
-    ++ line (codes "Status: 0 yes, 1 no, 2 refused, 3 a file cannot be read, 4 the output cannot be written, 5 a target failed, 6 want of memory.")
+    ++ line (codes "Status: 0 yes, 1 no, 2 refused, 3 a file cannot be read, 4 the output cannot be written, "
+    ++ codes "5 a target failed, 6 want of memory.")
     ++ line (codes "The formats are told in docs/FORMATS.md.")

@@ -47,7 +47,8 @@ pub record IsSchemaFile (r : Reading) (name : List ℕ) (schema : Schema) : Type
 abbrev pub SchemaStops : Reading → List ℕ → Allowed
 SchemaStops r name answer =
     FileStops r name MOST_TEXT_BYTES answer
-    ⊎ ((refusal : SchemaRefusal) × IsRefusedSchema r name refusal × Says Refused (refusal_text (codes "schema") name refusal) answer)
+    ⊎ ((refusal : SchemaRefusal) × IsRefusedSchema r name refusal
+    × Says Refused (refusal_text (codes "schema") name refusal) answer)
 
 -- a schema file is read, and then the rest follows
 abbrev pub WithSchema : Reading → List ℕ → (Schema → Allowed) → Allowed
@@ -68,7 +69,8 @@ pub record IsGoal (schema : Schema) (goal : List ℕ) (dep : Dependency) : Type 
 abbrev pub GoalStops : Schema → List ℕ → Allowed
 GoalStops schema goal answer =
     ((MOST_GOAL_BYTES < length goal) × Says Refused goal_too_long_text answer)
-    ⊎ ((refusal : SchemaRefusal) × IsRefusedGoal schema goal refusal × Says Refused (goal_refusal_text refusal) answer)
+    ⊎ ((refusal : SchemaRefusal) × IsRefusedGoal schema goal refusal
+    × Says Refused (goal_refusal_text refusal) answer)
 
 -- a goal is read, and then the rest follows
 abbrev pub WithGoal : Schema → List ℕ → (Dependency → Allowed) → Allowed
@@ -76,7 +78,8 @@ WithGoal schema goal = With (GoalStops schema goal) (IsGoal schema goal)
 
 -- ---- certificates
 -- the text of a file is refused so
-pub record IsRefusedProof (r : Reading) (schema : Schema) (name : List ℕ) (refusal : LineComplaint) : Type 0 where
+pub record IsRefusedProof (r : Reading) (schema : Schema) (name : List ℕ) (refusal : LineComplaint)
+    : Type 0 where
   pub bytes : List ℕ
   pub content : IsContent r name MOST_PROOF_BYTES bytes
   pub refused : IsRefused schema bytes refusal
@@ -91,7 +94,8 @@ pub record IsProofFile (r : Reading) (schema : Schema) (name : List ℕ) (tree :
 abbrev pub ProofStops : Reading → Schema → List ℕ → Allowed
 ProofStops r schema name answer =
     FileStops r name MOST_PROOF_BYTES answer
-    ⊎ ((refusal : LineComplaint) × IsRefusedProof r schema name refusal × Says Refused (proof_refusal_text (names_of schema) name refusal) answer)
+    ⊎ ((refusal : LineComplaint) × IsRefusedProof r schema name refusal
+    × Says Refused (proof_refusal_text (names_of schema) name refusal) answer)
 
 -- a certificate file is read, and then the rest follows
 abbrev pub WithProof : Reading → Schema → List ℕ → (Tree → Allowed) → Allowed
@@ -105,9 +109,12 @@ wants_memory _ = false
 
 -- a command ends with the refusal of a text
 abbrev pub TellsRefusal : List ℕ → List ℕ → SchemaRefusal → Allowed
-TellsRefusal group name refusal answer = (refusal.kind ≢ kind.Memory) × Says Refused (refusal_text group name refusal) answer
+TellsRefusal group name refusal answer =
+    (refusal.kind ≢ kind.Memory) × Says Refused (refusal_text group name refusal) answer
 
 -- a command ends with the refusal of a certificate
 abbrev pub TellsProof : List (List ℕ) → List ℕ → ProofRefusal → Allowed
 TellsProof names name refusal answer =
-    (c : Complaint) × (complaint_of refusal.kind ≡ Some c) × Says Refused (proof_refusal_text names name (record { line = refusal.line; complaint = c })) answer
+    (c : Complaint) × (complaint_of refusal.kind ≡ Some c)
+    × Says Refused
+    (proof_refusal_text names name (record { line = refusal.line; complaint = c })) answer

@@ -27,7 +27,8 @@ zeros_text n = row_text default_writer (all_zeros n)
 
 -- a relation, and the tuple that it gains
 abbrev pub lossy_text : List (List ℕ) → Relation → List ℕ
-lossy_text names rows = line (codes "lossy") ++ rows_text names rows ++ line (codes "gains") ++ zeros_text (length names)
+lossy_text names rows =
+    line (codes "lossy") ++ rows_text names rows ++ line (codes "gains") ++ zeros_text (length names)
 
 abbrev pub too_many_rows_text : List ℕ
 too_many_rows_text = line (codes "refused: too many tableau rows")

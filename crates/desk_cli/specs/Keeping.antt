@@ -30,7 +30,8 @@ loss_text schema loss =
 -- the two tuples that show a loss
 abbrev pub shown_text : Schema → Loss → List ℕ
 shown_text schema loss =
-    line (codes "shown by") ++ rows_text (names_of schema) (two_tuples (width_of schema) (places loss.agreement))
+    line (codes "shown by")
+    ++ rows_text (names_of schema) (two_tuples (width_of schema) (places loss.agreement))
 
 -- each dependency that is lost, and two tuples that show the first
 abbrev pub losses_text : Schema → Loss → List Loss → List ℕ

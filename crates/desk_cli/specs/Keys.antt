@@ -27,13 +27,15 @@ too_many_keys_text = line (codes "refused: too many keys")
 
 -- the universe has more keys than are listed
 abbrev pub HasManyKeys : Schema → Type 0
-HasManyKeys schema = (found : List AttrSet) × AreManyKeys (width_of schema) (theory_of schema) (universe_of schema) found
+HasManyKeys schema = (found : List AttrSet)
+    × AreManyKeys (width_of schema) (theory_of schema) (universe_of schema) found
 
 -- yes, with exactly all keys of the universe, ascending; refused where the universe is too wide to be
 -- searched, or has too many keys
 abbrev pub ListsKeys : Schema → Allowed
 ListsKeys schema answer =
-    ((keys : List AttrSet) × AreAllKeys (width_of schema) (theory_of schema) (universe_of schema) keys × (length keys ≤ MOST_KEYS) × (IsTooWide schema → ⊥)
+    ((keys : List AttrSet) × AreAllKeys (width_of schema) (theory_of schema) (universe_of schema) keys
+    × (length keys ≤ MOST_KEYS) × (IsTooWide schema → ⊥)
     × Says Yes (sets_text (names_of schema) keys) answer)
     ⊎ (IsTooWide schema × Says Refused (too_wide_text (names_of schema) (universe_of schema)) answer)
     ⊎ ((IsTooWide schema → ⊥) × HasManyKeys schema × Says Refused too_many_keys_text answer)

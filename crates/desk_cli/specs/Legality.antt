@@ -45,7 +45,8 @@ offences_text schema offences = flat_map (offence_text schema) offences
 abbrev pub OffenceStops : Schema → Relation → Allowed
 OffenceStops schema rows answer =
     (LegalFor schema rows → ⊥)
-    × ((offences : List Offence) × OffencesOf (width_of schema) (theory_of schema) rows offences × Says No (offences_text schema offences) answer)
+    × ((offences : List Offence) × OffencesOf (width_of schema) (theory_of schema) rows offences
+    × Says No (offences_text schema offences) answer)
 
 -- the rows are legal, and then the rest follows
 abbrev pub WithLegal : Schema → Relation → Allowed → Allowed

@@ -25,22 +25,26 @@ use Rattle.desk_cli.specs.Texts.{line}
 -- ---- texts
 -- a table: its name, how many rows it has, and its columns
 abbrev pub table_line : TableValue → List ℕ
-table_line table = line (table.name ++ codes " " ++ decimal (length table.rows) ++ codes " rows:" ++ words_text table.columns)
+table_line table = line (table.name ++ codes " " ++ decimal (length table.rows) ++ codes " rows:"
+    ++ words_text table.columns)
 
 -- how many rows were read, and the tables that they became
 abbrev pub migrated_text : Relation → List TableValue → List ℕ
-migrated_text rows tables = line (codes "read " ++ decimal (length rows) ++ codes " rows") ++ flat_map table_line tables
+migrated_text rows tables =
+    line (codes "read " ++ decimal (length rows) ++ codes " rows") ++ flat_map table_line tables
 
 -- ---- answers
 -- the tables of a plan hold the ordered projections of the rows, and their natural join is exactly the rows
-pub record AreTablesOf (schema : Schema) (plan : List Places) (rows : Relation) (tables : List TableValue) : Type 0 where
+pub record AreTablesOf (schema : Schema) (plan : List Places) (rows : Relation)
+    (tables : List TableValue) : Type 0 where
   pub projections : tables ≡ migrated schema plan rows
   pub joins : JoinIs (width_of schema) plan tables rows
 
 -- yes, with the tables of a plan, which the targets are given
 abbrev pub GivesTables : Schema → List Places → Relation → Allowed
 GivesTables schema plan rows answer =
-    (tables : List TableValue) × AreTablesOf schema plan rows tables × Gives (migrated_text rows tables) tables answer
+    (tables : List TableValue) × AreTablesOf schema plan rows tables
+    × Gives (migrated_text rows tables) tables answer
 
 -- legal rows as tables
 abbrev pub MigratesRows : Schema → List Places → Relation → Allowed
@@ -49,12 +53,14 @@ MigratesRows schema plan rows = WithLegal schema rows (GivesTables schema plan r
 -- the rows of a file, as tables in a normal form
 abbrev pub Migrates : Reading → Schema → Form → List ℕ → Allowed
 Migrates r schema form file =
-    WithRows r schema file (λ rows. WithPlanInForm schema form (λ plan. MigratesRows schema (schemes_of plan) rows))
+    WithRows r schema file (λ rows. WithPlanInForm schema form
+    (λ plan. MigratesRows schema (schemes_of plan) rows))
 
 -- the rows of a file, as tables of the plan of another, where that loses nothing
 abbrev pub MigratesPlan : Reading → Schema → List ℕ → List ℕ → Allowed
 MigratesPlan r schema plan_file file =
-    WithPlan r schema plan_file (λ plan. WithRows r schema file (λ rows. WithoutLoss schema plan (MigratesRows schema plan rows)))
+    WithPlan r schema plan_file
+    (λ plan. WithRows r schema file (λ rows. WithoutLoss schema plan (MigratesRows schema plan rows)))
 
 -- the schema of the sample
 pub record IsSampleSchema (schema : Schema) : Type 0 where
@@ -65,4 +71,5 @@ pub record IsSampleSchema (schema : Schema) : Type 0 where
 abbrev pub Samples : ℕ → Allowed
 Samples persons answer =
     (schema : Schema) × IsSampleSchema schema
-    × WithPlanInForm schema Fourth (λ plan. MigratesRows schema (schemes_of plan) (sample_relation persons)) answer
+    × WithPlanInForm schema Fourth
+    (λ plan. MigratesRows schema (schemes_of plan) (sample_relation persons)) answer

@@ -34,7 +34,8 @@ violation_of Fourth x y = mvd x y
 -- a scheme, and what violates the form on it
 abbrev pub violated_text : List (List ℕ) → Form → Places → Places → Places → List ℕ
 violated_text names form scheme x y =
-    line (codes "scheme " ++ set_text names scheme) ++ line (codes "violated by " ++ dependency_text names (violation_of form x y))
+    line (codes "scheme " ++ set_text names scheme)
+    ++ line (codes "violated by " ++ dependency_text names (violation_of form x y))
 
 -- ---- answers
 -- a scheme does not end the test of a plan: it is narrow enough to be tested, and in the form

@@ -55,4 +55,5 @@ Performs r form.version = Says Yes version_text
 
 -- the words
 abbrev pub Answers : Reading → List (List ℕ) → Allowed
-Answers r words answer = MatchOption (form_of words) (Says Refused words_text answer) (λ form. Performs r form answer)
+Answers r words answer =
+    MatchOption (form_of words) (Says Refused words_text answer) (λ form. Performs r form answer)

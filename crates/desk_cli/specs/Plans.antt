@@ -22,14 +22,16 @@ abbrev pub plan_reason_text : List (List ℕ) → PlanRefusal → List ℕ
 plan_reason_text names (plan.Text refusal) =
     decimal refusal.span.line ++ codes ":" ++ decimal refusal.span.column ++ codes " " ++ kind_text refusal.kind
 plan_reason_text names (plan.EmptyScheme at) = decimal at ++ codes " empty scheme"
-plan_reason_text names (plan.NotCovered attribute) = codes " " ++ slice_index_or names attribute [] ++ codes " is in no scheme"
+plan_reason_text names (plan.NotCovered attribute) =
+    codes " " ++ slice_index_or names attribute [] ++ codes " is in no scheme"
 plan_reason_text names (plan.TooManySchemes at) = decimal at ++ codes " too many schemes"
 plan_reason_text names plan.Memory = []
 
 -- a refusal of a plan
 abbrev pub plan_refusal_text : List (List ℕ) → List ℕ → PlanRefusal → List ℕ
 plan_refusal_text names file refusal =
-    line (codes "refused: plan " ++ decimal (plan_refusal_number refusal) ++ codes " at " ++ file ++ codes ":" ++ plan_reason_text names refusal)
+    line (codes "refused: plan " ++ decimal (plan_refusal_number refusal) ++ codes " at " ++ file
+    ++ codes ":" ++ plan_reason_text names refusal)
 
 -- ---- plans
 -- the text of a file is refused so
@@ -48,7 +50,8 @@ pub record IsPlanFile (r : Reading) (schema : Schema) (name : List ℕ) (schemes
 abbrev pub PlanStops : Reading → Schema → List ℕ → Allowed
 PlanStops r schema name answer =
     FileStops r name MOST_PLAN_BYTES answer
-    ⊎ ((refusal : PlanRefusal) × IsRefusedPlan r schema name refusal × Says Refused (plan_refusal_text (names_of schema) name refusal) answer)
+    ⊎ ((refusal : PlanRefusal) × IsRefusedPlan r schema name refusal
+    × Says Refused (plan_refusal_text (names_of schema) name refusal) answer)
 
 -- a plan file is read, and then the rest follows
 abbrev pub WithPlan : Reading → Schema → List ℕ → (List Places → Allowed) → Allowed
@@ -62,4 +65,5 @@ is_want _ = false
 
 -- a command ends with the refusal of a plan
 abbrev pub TellsPlan : List (List ℕ) → List ℕ → PlanRefusal → Allowed
-TellsPlan names name refusal answer = (refusal ≢ plan.Memory) × Says Refused (plan_refusal_text names name refusal) answer
+TellsPlan names name refusal answer =
+    (refusal ≢ plan.Memory) × Says Refused (plan_refusal_text names name refusal) answer

@@ -41,7 +41,8 @@ complaint_text names too_many_lines = codes "too many lines"
 complaint_text names too_deep = codes "too deep"
 complaint_text names (unsound why) = codes "rule does not apply: " ++ fault_text why.kind
 complaint_text names (states_other stated concluded) =
-    codes "line states " ++ dependency_text names stated ++ codes " but concludes " ++ dependency_text names concluded
+    codes "line states " ++ dependency_text names stated ++ codes " but concludes "
+    ++ dependency_text names concluded
 complaint_text names empty_proof = codes "empty proof"
 
 -- the line, and where the line breaks the grammar its column too
@@ -52,7 +53,8 @@ place_text at _ = decimal at
 -- a refusal of a certificate
 abbrev pub proof_refusal_text : List (List ℕ) → List ℕ → LineComplaint → List ℕ
 proof_refusal_text names file refusal =
-    line (codes "refused: proof " ++ decimal (complaint_number refusal.complaint) ++ codes " at " ++ file ++ codes ":"
+    line (codes "refused: proof " ++ decimal (complaint_number refusal.complaint) ++ codes " at "
+    ++ file ++ codes ":"
     ++ place_text refusal.line refusal.complaint ++ codes " " ++ complaint_text names refusal.complaint)
 
 -- of the complaint that a refusal is, if it is one; want of memory is none
@@ -65,4 +67,5 @@ checked_text names d = line (codes "checked " ++ dependency_text names d)
 -- what a certificate concludes, and what was asked
 abbrev pub concludes_text : List (List ℕ) → Dependency → Dependency → List ℕ
 concludes_text names concluded asked =
-    line (codes "concludes " ++ dependency_text names concluded) ++ line (codes "asked " ++ dependency_text names asked)
+    line (codes "concludes " ++ dependency_text names concluded)
+    ++ line (codes "asked " ++ dependency_text names asked)

@@ -38,7 +38,8 @@ abbrev pub IsContent : Reading → List ℕ → ℕ → List ℕ → Type 0
 IsContent r name limit bytes = IsHeld (files_in r) name bytes × (length bytes ≤ limit)
 
 -- a reading tells what a shelf shows from one state to a later one
-pub record Shows {S : Type 0} (files : S → Option Files) (faults taken : S → ℕ) (old new : S) (r : Reading) : Type 0 where
+pub record Shows {S : Type 0} (files : S → Option Files) (faults taken : S → ℕ) (old new : S)
+    (r : Reading) : Type 0 where
   pub same : files_in r ≡ files old
   pub fails : Rose (faults old) (faults new) → Fails r
   pub takes : (limit : ℕ) → taken new ≡ limit + 1 → TookMore r limit

@@ -26,7 +26,8 @@ use Rattle.desk_cli.specs.Texts.{line}
 
 -- ---- texts
 abbrev pub not_covered_text : List (List ℕ) → ℕ → List ℕ
-not_covered_text names attribute = line (codes "refused: join 1: " ++ name_at names attribute ++ codes " is in no file")
+not_covered_text names attribute =
+    line (codes "refused: join 1: " ++ name_at names attribute ++ codes " is in no file")
 
 abbrev pub too_many_joined_text : ℕ → List ℕ
 too_many_joined_text after = line (codes "refused: join 2: more than 200000 rows after file " ++ decimal after)
@@ -49,7 +50,8 @@ pub record IsPartFile (r : Reading) (schema : Schema) (name : List ℕ) (part : 
 abbrev pub PartStops : Reading → Schema → List ℕ → Allowed
 PartStops r schema name answer =
     FileStops r name MOST_CSV_BYTES answer
-    ⊎ ((why : RowRefusal) × IsRefusedPart r schema name why × Says Refused (row_refusal_text (names_of schema) name why) answer)
+    ⊎ ((why : RowRefusal) × IsRefusedPart r schema name why
+    × Says Refused (row_refusal_text (names_of schema) name why) answer)
 
 -- the texts of files, one after the other
 abbrev pub ArePartFiles : Reading → Schema → List (List ℕ) → List Part → Type 0

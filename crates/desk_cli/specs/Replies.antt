@@ -10,7 +10,12 @@ use Rattle.desk_cli.specs.Endings.{Ending}
 
 -- a reply, as an answer
 abbrev pub answer_of : Reply → Answer
-answer_of reply = record { status = reply.status; text = reply.text.items; tables = option_map (λ tables. values_of tables.items) reply.tables }
+answer_of reply = record {
+  status = reply.status;
+  text = reply.text.items;
+  tables = option_map
+      (λ tables. values_of tables.items) reply.tables;
+}
 
 -- what the call ends with
 abbrev pub ending_of : End → Ending

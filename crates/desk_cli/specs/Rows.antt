@@ -45,7 +45,8 @@ row_reason_text names refusal.Memory = []
 -- a refusal of a file of rows
 abbrev pub row_refusal_text : List (List ℕ) → List ℕ → RowRefusal → List ℕ
 row_refusal_text names file why =
-    line (codes "refused: rows " ++ decimal (row_refusal_number why) ++ codes " at " ++ file ++ codes ": " ++ row_reason_text names why)
+    line (codes "refused: rows " ++ decimal (row_refusal_number why) ++ codes " at " ++ file
+    ++ codes ": " ++ row_reason_text names why)
 
 -- ---- files
 -- the text of a file is refused so
@@ -64,7 +65,8 @@ pub record IsRowsFile (r : Reading) (schema : Schema) (name : List ℕ) (rows : 
 abbrev pub RowStops : Reading → Schema → List ℕ → Allowed
 RowStops r schema name answer =
     FileStops r name MOST_CSV_BYTES answer
-    ⊎ ((why : RowRefusal) × IsRefusedRows r schema name why × Says Refused (row_refusal_text (names_of schema) name why) answer)
+    ⊎ ((why : RowRefusal) × IsRefusedRows r schema name why
+    × Says Refused (row_refusal_text (names_of schema) name why) answer)
 
 -- a file of rows is read, and then the rest follows
 abbrev pub WithRows : Reading → Schema → List ℕ → (Relation → Allowed) → Allowed

@@ -23,4 +23,5 @@ pub record IsThirdFormPlan (schema : Schema) (plan : List AttrSet) : Type 0 wher
 -- yes, with such a plan
 abbrev pub Synthesizes : Schema → Allowed
 Synthesizes schema answer =
-    (plan : List AttrSet) × IsThirdFormPlan schema plan × Says Yes (plan_text (names_of schema) (schemes_of plan)) answer
+    (plan : List AttrSet) × IsThirdFormPlan schema plan
+    × Says Yes (plan_text (names_of schema) (schemes_of plan)) answer

@@ -55,8 +55,10 @@ kind_text kind.Memory = []
 -- a refusal of a text at its place: the kind of text, its name, the line and the column
 abbrev pub refusal_text : List ℕ → List ℕ → SchemaRefusal → List ℕ
 refusal_text group name refusal =
-    line (codes "refused: " ++ group ++ codes " " ++ decimal (refusal_number refusal.kind) ++ codes " at " ++ name
-    ++ codes ":" ++ decimal refusal.span.line ++ codes ":" ++ decimal refusal.span.column ++ codes " " ++ kind_text refusal.kind)
+    line (codes "refused: " ++ group ++ codes " " ++ decimal (refusal_number refusal.kind)
+    ++ codes " at " ++ name
+    ++ codes ":" ++ decimal refusal.span.line ++ codes ":" ++ decimal refusal.span.column ++ codes " "
+    ++ kind_text refusal.kind)
 
 -- a goal is named `goal`
 abbrev pub goal_refusal_text : SchemaRefusal → List ℕ

@@ -30,7 +30,8 @@ pub fn check_proof<F: Shelf>(
 ) -> Result<Reply, Stop>
     ensures files { F.files shelf.new ≡ F.files shelf.old }
     ensures later { F.faults shelf.old ≤ F.faults shelf.new }
-    ensures reply { (r : Reading) → Shows F.files F.faults F.taken shelf.old shelf.new r → RepliesAs (ChecksProof r schema.now file.now goal.now) result }
+    ensures reply { (r : Reading) → Shows F.files F.faults F.taken shelf.old shelf.new r
+        → RepliesAs (ChecksProof r schema.now file.now goal.now) result }
 {
     let read = match open_proof(alloc, shelf, schema, file) {
         Ok(read) => read,
@@ -42,7 +43,8 @@ pub fn check_proof<F: Shelf>(
 // Whether a certificate that concludes this dependency proves a goal.
 fn compare(alloc: Global, schema: &Schema, concluded: Dep, goal: &Word) -> Result<Reply, Stop>
     requires within { IsDepWithin (universe_of schema.now) concluded }
-    ensures reply { (tree : Tree) → Proves schema.now tree (dependency_of concluded) → RepliesAs (WithGoal schema.now goal.now (Checked schema.now tree)) result }
+    ensures reply { (tree : Tree) → Proves schema.now tree (dependency_of concluded)
+        → RepliesAs (WithGoal schema.now goal.now (Checked schema.now tree)) result }
 {
     let dep = match goal_of(alloc, schema, goal) {
         Ok(dep) => dep,
@@ -55,7 +57,8 @@ fn compare(alloc: Global, schema: &Schema, concluded: Dep, goal: &Word) -> Resul
 fn checked(alloc: Global, schema: &Schema, concluded: Dep, dep: Dep) -> Result<Reply, WantMemory>
     requires concluded { IsDepWithin (universe_of schema.now) concluded }
     requires dep { IsDepWithin (universe_of schema.now) dep }
-    ensures answer { (tree : Tree) → Proves schema.now tree (dependency_of concluded) → IfOk result (λ reply. Checked schema.now tree (dependency_of dep) (answer_of reply)) }
+    ensures answer { (tree : Tree) → Proves schema.now tree (dependency_of concluded)
+        → IfOk result (λ reply. Checked schema.now tree (dependency_of dep) (answer_of reply)) }
 {
     if same_dependency(concluded, dep) {
         return Ok(Reply::says(Status::Yes, checked_line(alloc, schema, dep)?));
@@ -78,7 +81,9 @@ fn concludes_lines(
 ) -> Result<Vec<u8>, WantMemory>
     requires concluded { IsDepWithin (universe_of schema.now) concluded }
     requires asked { IsDepWithin (universe_of schema.now) asked }
-    ensures text { IfOk result (λ text. text.items ≡ concludes_text (names_of schema.now) (dependency_of concluded) (dependency_of asked)) }
+    ensures text { IfOk result
+        (λ text. text.items ≡ concludes_text (names_of schema.now) (dependency_of concluded)
+        (dependency_of asked)) }
 {
     let mut text = line_of(
         alloc,

@@ -25,7 +25,8 @@ pub fn check_rows<F: Shelf>(
 ) -> Result<Reply, Stop>
     ensures files { F.files shelf.new ≡ F.files shelf.old }
     ensures later { F.faults shelf.old ≤ F.faults shelf.new }
-    ensures reply { (r : Reading) → Shows F.files F.faults F.taken shelf.old shelf.new r → RepliesAs (ChecksRows r schema.now file.now) result }
+    ensures reply { (r : Reading) → Shows F.files F.faults F.taken shelf.old shelf.new r
+        → RepliesAs (ChecksRows r schema.now file.now) result }
 {
     let rows = match open_rows(alloc, shelf, schema, file) {
         Ok(rows) => rows,
@@ -103,7 +104,8 @@ pub fn put_line(
     schema: &Schema,
     k: usize,
 ) -> Result<(), WantMemory>
-    ensures more { OnOk result (text.new.items ≡ text.old.items ++ line_text (slice_get (lines_of schema.now) k)) }
+    ensures more { OnOk result (text.new.items
+        ≡ text.old.items ++ line_text (slice_get (lines_of schema.now) k)) }
 {
     if k < schema.deps().len() {
         put_number(alloc, text, schema.line_of(k))
@@ -114,7 +116,8 @@ pub fn put_line(
 
 /// A dependency of a schema, at the end of a text.
 pub fn put_dep(text: &mut Vec<u8>, schema: &Schema, k: usize) -> Result<(), WantMemory>
-    ensures more { OnOk result (text.new.items ≡ text.old.items ++ dep_text (names_of schema.now) (slice_get (deps_of schema.now) k)) }
+    ensures more { OnOk result (text.new.items
+        ≡ text.old.items ++ dep_text (names_of schema.now) (slice_get (deps_of schema.now) k)) }
 {
     match schema.deps().get(k) {
         Some(dep) => add_dep(text, schema, *dep),

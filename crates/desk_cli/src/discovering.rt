@@ -45,7 +45,8 @@ fn open_headed<F: Shelf>(alloc: Global, shelf: &mut F, name: &Word) -> Result<He
     ensures some { IfOk result (λ headed. 0 < length (names_under headed)) }
     ensures even { IfOk result (λ headed. IsOver (length (names_under headed)) (rows_under headed)) }
     ensures few { IfOk result (λ headed. length (rows_under headed) ≤ MOST_HEADED_ROWS) }
-    ensures stop { (r : Reading) → Shows F.files F.faults F.taken shelf.old shelf.new r → IfErr result (StopsAs (HeadedStops r name.now)) }
+    ensures stop { (r : Reading) → Shows F.files F.faults F.taken shelf.old shelf.new r
+        → IfErr result (StopsAs (HeadedStops r name.now)) }
 {
     let bytes = match open_file(alloc, shelf, name, MOST_CSV_BYTES) {
         Ok(bytes) => bytes,

@@ -32,7 +32,8 @@ pub fn exhibited(alloc: Global, schema: &Schema) -> Result<Reply, Stop>
 // Rows as CSV.
 fn shown(alloc: Global, schema: &Schema, rows: &[Row]) -> Result<Reply, WantMemory>
     requires over { IsOver (width_of schema.now) rows.now }
-    ensures says { IfOk result (λ reply. Says Status.Yes (rows_text (names_of schema.now) rows.now) (answer_of reply)) }
+    ensures says { IfOk result
+        (λ reply. Says Status.Yes (rows_text (names_of schema.now) rows.now) (answer_of reply)) }
 {
     Ok(Reply::says(Status::Yes, print_rows(alloc, schema, rows)?))
 }

@@ -33,8 +33,13 @@ pub fn settle<T: Target>(
     targets: &mut Vec<T>,
     reply: Reply,
 ) -> Result<End, WantMemory>
-    ensures ends { IfOk result (λ end. Settles (targets_in_call T.tells T.finished T.faults targets.old.items targets.new.items) (answer_of reply) (ending_of end)) }
-    ensures err { OnErr result (LeavesTargets (targets_in_call T.tells T.finished T.faults targets.old.items targets.new.items) (answer_of reply)) }
+    ensures ends { IfOk result
+        (λ end. Settles
+        (targets_in_call T.tells T.finished T.faults targets.old.items targets.new.items)
+        (answer_of reply) (ending_of end)) }
+    ensures err { OnErr result
+        (LeavesTargets (targets_in_call T.tells T.finished T.faults targets.old.items targets.new.items)
+        (answer_of reply)) }
     ensures count { length targets.new.items ≡ length targets.old.items }
 {
     let Reply {
@@ -57,9 +62,13 @@ fn hand_over<T: Target>(
     text: Vec<u8>,
     tables: &[Table],
 ) -> Result<End, WantMemory>
-    ensures ends { IfOk result (λ end. FeedsTargets (targets_in_call T.tells T.finished T.faults targets.old.items targets.new.items)
+    ensures ends { IfOk result
+        (λ end. FeedsTargets
+        (targets_in_call T.tells T.finished T.faults targets.old.items targets.new.items)
         (gives text.items (values_of tables.now)) (values_of tables.now) (ending_of end)) }
-    ensures err { OnErr result (LeavesTargets (targets_in_call T.tells T.finished T.faults targets.old.items targets.new.items) (gives text.items (values_of tables.now))) }
+    ensures err { OnErr result
+        (LeavesTargets (targets_in_call T.tells T.finished T.faults targets.old.items targets.new.items)
+        (gives text.items (values_of tables.now))) }
     ensures count { length targets.new.items ≡ length targets.old.items }
 {
     let room = Vec::with_capacity(alloc, targets.len().saturating_mul(LINE))?;
@@ -72,7 +81,8 @@ fn hand_over<T: Target>(
 fn report(text: Vec<u8>, room: Vec<u8>, ends: &[FeedEnd]) -> Result<End, WantMemory>
     requires empty { room.items ≡ [] }
     ensures memory { OnOk result (list_any wants_memory ends.now ≡ false) }
-    ensures reports { (tables : List TableValue) → IfOk result (λ end. ending_of end ≡ reported (gives text.items tables) ends.now) }
+    ensures reports { (tables : List TableValue)
+        → IfOk result (λ end. ending_of end ≡ reported (gives text.items tables) ends.now) }
 {
     if some_wants_memory(ends) {
         return Err(WantMemory);
@@ -136,7 +146,8 @@ fn put_end(text: &mut Vec<u8>, number: usize, end: FeedEnd) -> Result<(), WantMe
 
 // The line for the target of this number, at the end of a text.
 fn put_failure(text: &mut Vec<u8>, number: usize) -> Result<(), WantMemory>
-    ensures more { OnOk result (text.new.items ≡ text.old.items ++ line (codes "target " ++ decimal number ++ codes " failed")) }
+    ensures more { OnOk result (text.new.items
+        ≡ text.old.items ++ line (codes "target " ++ decimal number ++ codes " failed")) }
 {
     put(text, b"target ")?;
     put(text, Buffer::new().format(number).as_bytes())?;

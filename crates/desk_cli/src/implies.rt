@@ -53,7 +53,9 @@ fn certified(alloc: Global, schema: &Schema, deriv: &Deriv) -> Result<Reply, Wan
     requires proof { IsProof schema.now (tree_of deriv.now) }
     requires few_lines { nodes (tree_of deriv.now) ≤ MOST_NODES }
     requires few_levels { depth (tree_of deriv.now) ≤ MOST_LEVELS }
-    ensures reply { IfOk result (λ reply. Says Status.Yes (yes_text ++ canonical_certificate schema.now (tree_of deriv.now)) (answer_of reply)) }
+    ensures reply { IfOk result
+        (λ reply. Says Status.Yes (yes_text
+        ++ canonical_certificate schema.now (tree_of deriv.now)) (answer_of reply)) }
 {
     let mut text = line_of(alloc, b"yes", b"", b"")?;
     put(&mut text, &print_proof(alloc, schema, deriv)?)?;
@@ -63,7 +65,10 @@ fn certified(alloc: Global, schema: &Schema, deriv: &Deriv) -> Result<Reply, Wan
 /// `no`, and the two tuples that agree just on a set.
 fn refuted(alloc: Global, schema: &Schema, agreement: AttrSet) -> Result<Reply, WantMemory>
     requires within { Within (places agreement) (universe_of schema.now) }
-    ensures reply { IfOk result (λ reply. Says Status.No (no_text (names_of schema.now) (two_tuples (width_of schema.now) (places agreement))) (answer_of reply)) }
+    ensures reply { IfOk result
+        (λ reply. Says Status.No
+        (no_text (names_of schema.now) (two_tuples (width_of schema.now) (places agreement)))
+        (answer_of reply)) }
 {
     let rows = witness(alloc, schema, agreement)?;
     let mut text = line_of(alloc, b"no", b"", b"")?;

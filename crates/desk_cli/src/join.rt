@@ -36,7 +36,8 @@ pub fn check_join<F: Shelf>(
 ) -> Result<Reply, Stop>
     ensures files { F.files shelf.new ≡ F.files shelf.old }
     ensures later { F.faults shelf.old ≤ F.faults shelf.new }
-    ensures reply { (r : Reading) → Shows F.files F.faults F.taken shelf.old shelf.new r → RepliesAs (ChecksJoin r schema.now file.now) result }
+    ensures reply { (r : Reading) → Shows F.files F.faults F.taken shelf.old shelf.new r
+        → RepliesAs (ChecksJoin r schema.now file.now) result }
 {
     let plan = match open_plan(alloc, shelf, schema, file) {
         Ok(plan) => plan,
@@ -118,7 +119,8 @@ fn take_zeros(fields: &mut ByteRecord, width: u8) -> Result<(), WantMemory>
 
 // Writes the fields as the next row.
 fn write_row(writer: &mut Writer<Vec<u8>>, fields: &ByteRecord) -> Result<(), WantMemory>
-    ensures row { OnOk result (WritesRow ⟦<Vec<u8> as std::io::Write>⟧.contents writer.old writer.new (fields_of fields.now)) }
+    ensures row { OnOk result
+        (WritesRow ⟦<Vec<u8> as std::io::Write>⟧.contents writer.old writer.new (fields_of fields.now)) }
 {
     match writer.write_byte_record(fields) {
         Ok(()) => Ok(()),

@@ -43,7 +43,8 @@ pub fn check_keeps<F: Shelf>(
 // Whether these schemes keep the functional dependencies.
 fn judge_keeping(alloc: Global, schema: &Schema, schemes: &[AttrSet]) -> Result<Reply, WantMemory>
     requires within { All (λ scheme. Within (places scheme) (universe_of schema.now)) schemes.now }
-    ensures answer { IfOk result (λ reply. JudgesKeeping schema.now (schemes_of schemes.now) (answer_of reply)) }
+    ensures answer { IfOk result
+        (λ reply. JudgesKeeping schema.now (schemes_of schemes.now) (answer_of reply)) }
 {
     let losses = losses(alloc, schema, schemes)?;
     match losses.as_slice() {
@@ -63,7 +64,8 @@ fn losses_lines(
     losses: &[Loss],
 ) -> Result<Vec<u8>, WantMemory>
     requires within { Within (places first.agreement) (universe_of schema.now) }
-    ensures text { IfOk result (λ text. text.items ≡ flat_map (loss_text schema.now) losses.now ++ shown_text schema.now first) }
+    ensures text { IfOk result
+        (λ text. text.items ≡ flat_map (loss_text schema.now) losses.now ++ shown_text schema.now first) }
 {
     let mut text = Vec::new(alloc);
     for loss in losses {

@@ -30,7 +30,8 @@ pub fn list_keys(alloc: Global, schema: &Schema) -> Result<Reply, Stop>
 /// Sets of attributes, each on a line.
 pub fn listed(alloc: Global, schema: &Schema, sets: &[AttrSet]) -> Result<Reply, WantMemory>
     requires within { All (λ set. Within (places set) (universe_of schema.now)) sets.now }
-    ensures says { IfOk result (λ reply. Says Status.Yes (sets_text (names_of schema.now) sets.now) (answer_of reply)) }
+    ensures says { IfOk result
+        (λ reply. Says Status.Yes (sets_text (names_of schema.now) sets.now) (answer_of reply)) }
 {
     Ok(Reply::says(Status::Yes, set_lines(alloc, schema, sets)?))
 }

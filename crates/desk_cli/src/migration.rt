@@ -107,7 +107,8 @@ fn given(alloc: Global, schema: &Schema, plan: &Plan, rows: &[Row]) -> Result<Re
     requires universe { IsPlanOver schema.now plan.now }
     requires lossless { IsLossless (width_of schema.now) (theory_of schema.now) (plan_of plan.now) }
     requires legal { LegalFor schema.now rows.now }
-    ensures answer { IfOk result (λ reply. GivesTables schema.now (plan_of plan.now) rows.now (answer_of reply)) }
+    ensures answer { IfOk result
+        (λ reply. GivesTables schema.now (plan_of plan.now) rows.now (answer_of reply)) }
 {
     let tables = tables_of(alloc, schema, plan, rows)?;
     let text = migrated_lines(alloc, rows, &tables)?;
@@ -126,7 +127,8 @@ fn tables_of(
     requires universe { IsPlanOver schema.now plan.now }
     requires lossless { IsLossless (width_of schema.now) (theory_of schema.now) (plan_of plan.now) }
     requires legal { LegalFor schema.now rows.now }
-    ensures tables { IfOk result (λ tables. AreTablesOf schema.now (plan_of plan.now) rows.now (values_of tables.items)) }
+    ensures tables { IfOk result
+        (λ tables. AreTablesOf schema.now (plan_of plan.now) rows.now (values_of tables.items)) }
 {
     if plan.schemes().len() > MOST_TABLES as usize {
         return Err(WantMemory);
@@ -157,7 +159,8 @@ fn read_line(alloc: Global, rows: usize) -> Result<Vec<u8>, WantMemory>
 
 // A line for each table, at the end of a text.
 fn put_tables(text: &mut Vec<u8>, tables: &[Table]) -> Result<(), WantMemory>
-    ensures more { OnOk result (text.new.items ≡ text.old.items ++ flat_map (λ table. table_line (table_value table)) tables.now) }
+    ensures more { OnOk result (text.new.items
+        ≡ text.old.items ++ flat_map (λ table. table_line (table_value table)) tables.now) }
 {
     for table in tables {
         put_table(text, table)?;

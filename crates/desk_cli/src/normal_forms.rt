@@ -98,7 +98,10 @@ fn word_of(form: Form) -> &'static [u8]
 
 // A scheme is not in the form.
 fn violated(alloc: Global, schema: &Schema, form: Form, scheme: AttrSet, breach: Breach) -> Stop
-    ensures says { StopsAs (Says Status.No (violated_text (names_of schema.now) form (places scheme) (places breach.lhs) (places breach.rhs))) result }
+    ensures says { StopsAs
+        (Says Status.No
+        (violated_text (names_of schema.now) form (places scheme) (places breach.lhs)
+        (places breach.rhs))) result }
 {
     Stop::says(
         Status::No,
@@ -113,7 +116,9 @@ fn violated_lines(
     scheme: AttrSet,
     breach: Breach,
 ) -> Result<Vec<u8>, WantMemory>
-    ensures text { IfOk result (λ text. text.items ≡ violated_text (names_of schema.now) form (places scheme) (places breach.lhs) (places breach.rhs)) }
+    ensures text { IfOk result
+        (λ text. text.items ≡ violated_text (names_of schema.now) form (places scheme)
+        (places breach.lhs) (places breach.rhs)) }
 {
     let mut text = scheme_line(alloc, schema, scheme)?;
     put(&mut text, &breach_line(alloc, schema, form, breach)?)?;
@@ -121,7 +126,8 @@ fn violated_lines(
 }
 
 fn scheme_line(alloc: Global, schema: &Schema, scheme: AttrSet) -> Result<Vec<u8>, WantMemory>
-    ensures text { IfOk result (λ text. text.items ≡ line (codes "scheme " ++ set_text (names_of schema.now) (places scheme))) }
+    ensures text { IfOk result
+        (λ text. text.items ≡ line (codes "scheme " ++ set_text (names_of schema.now) (places scheme))) }
 {
     let mut text = Vec::new(alloc);
     put(&mut text, b"scheme ")?;

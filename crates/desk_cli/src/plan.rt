@@ -30,11 +30,13 @@ pub fn open_plan<F: Shelf>(
 ) -> Result<Plan, Stop>
     ensures files { F.files shelf.new ≡ F.files shelf.old }
     ensures later { F.faults shelf.old ≤ F.faults shelf.new }
-    ensures ok { (r : Reading) → files_in r ≡ F.files shelf.old → IfOk result (λ plan. IsPlanFile r schema.now name.now (plan_of plan)) }
+    ensures ok { (r : Reading) → files_in r ≡ F.files shelf.old
+        → IfOk result (λ plan. IsPlanFile r schema.now name.now (plan_of plan)) }
     ensures universe { IfOk result (IsPlanOver schema.now) }
     ensures few { IfOk result (λ plan. length (plan_of plan) ≤ MOST_SCHEMES) }
     ensures covers { IfOk result (λ plan. Covers (width_of schema.now) (plan_of plan)) }
-    ensures stop { (r : Reading) → Shows F.files F.faults F.taken shelf.old shelf.new r → IfErr result (StopsAs (PlanStops r schema.now name.now)) }
+    ensures stop { (r : Reading) → Shows F.files F.faults F.taken shelf.old shelf.new r
+        → IfErr result (StopsAs (PlanStops r schema.now name.now)) }
 {
     let bytes = match open_file(alloc, shelf, name, MOST_PLAN_BYTES) {
         Ok(bytes) => bytes,
@@ -123,7 +125,8 @@ fn line_reason(alloc: Global, line: u32, reason: &[u8]) -> Result<Vec<u8>, WantM
 
 // An attribute that is in no scheme.
 fn uncovered_reason(alloc: Global, schema: &Schema, attribute: u8) -> Result<Vec<u8>, WantMemory>
-    ensures text { IfOk result (λ text. text.items ≡ plan_reason_text (names_of schema.now) (refusals.NotCovered attribute)) }
+    ensures text { IfOk result
+        (λ text. text.items ≡ plan_reason_text (names_of schema.now) (refusals.NotCovered attribute)) }
 {
     let mut text = Vec::new(alloc);
     put(&mut text, b" ")?;

@@ -20,7 +20,10 @@ pub fn proof_refusal_line(
     refusal: ProofRefusal,
 ) -> Result<Vec<u8>, WantMemory>
     requires within { IsRefusalWithin (universe_of schema.now) refusal.kind }
-    ensures text { IfOk result (λ text. OfComplaint refusal.kind (λ c. text.items ≡ proof_refusal_text (names_of schema.now) name.now (record { line = refusal.line; complaint = c }))) }
+    ensures text { IfOk result
+        (λ text. OfComplaint refusal.kind
+        (λ c. text.items ≡ proof_refusal_text (names_of schema.now) name.now
+        (record { line = refusal.line; complaint = c }))) }
 {
     let mut text = Vec::new(alloc);
     put(&mut text, b"refused: proof ")?;
@@ -56,7 +59,8 @@ fn number_of(kind: ProofRefusalKind) -> u32
 
 /// The place of a refusal, at the end of a text.
 fn put_place(alloc: Global, text: &mut Vec<u8>, refusal: ProofRefusal) -> Result<(), WantMemory>
-    ensures more { OnOk result (OfComplaint refusal.kind (λ c. text.new.items ≡ text.old.items ++ place_text refusal.line c)) }
+    ensures more { OnOk result (OfComplaint refusal.kind
+        (λ c. text.new.items ≡ text.old.items ++ place_text refusal.line c)) }
 {
     match refusal.kind {
         ProofRefusalKind::BadLine(bad) => {
@@ -78,7 +82,8 @@ fn put_reason(
     kind: ProofRefusalKind,
 ) -> Result<(), WantMemory>
     requires within { IsRefusalWithin (universe_of schema.now) kind }
-    ensures more { OnOk result (OfComplaint kind (λ c. text.new.items ≡ text.old.items ++ complaint_text (names_of schema.now) c)) }
+    ensures more { OnOk result (OfComplaint kind
+        (λ c. text.new.items ≡ text.old.items ++ complaint_text (names_of schema.now) c)) }
 {
     match kind {
         ProofRefusalKind::BadLine(bad) => put(text, reason_of(bad.kind)),
@@ -111,7 +116,9 @@ fn put_states(
 ) -> Result<(), WantMemory>
     requires stated { IsDepWithin (universe_of schema.now) stated }
     requires concluded { IsDepWithin (universe_of schema.now) concluded }
-    ensures more { OnOk result (text.new.items ≡ text.old.items ++ complaint_text (names_of schema.now) (states_other (dependency_of stated) (dependency_of concluded))) }
+    ensures more { OnOk result (text.new.items
+        ≡ text.old.items ++ complaint_text (names_of schema.now)
+        (states_other (dependency_of stated) (dependency_of concluded))) }
 {
     let mut reason = Vec::new(alloc);
     put(&mut reason, b"line states ")?;

@@ -32,8 +32,10 @@ pub fn open_file<F: Shelf>(
     ensures files { F.files shelf.new ≡ F.files shelf.old }
     ensures later { F.faults shelf.old ≤ F.faults shelf.new }
     ensures within { IfOk result (λ bytes. length bytes.items ≤ limit) }
-    ensures ok { (r : Reading) → files_in r ≡ F.files shelf.old → IfOk result (λ bytes. IsContent r name.now limit bytes.items) }
-    ensures stop { (r : Reading) → Shows F.files F.faults F.taken shelf.old shelf.new r → IfErr result (StopsAs (FileStops r name.now limit)) }
+    ensures ok { (r : Reading) → files_in r ≡ F.files shelf.old
+        → IfOk result (λ bytes. IsContent r name.now limit bytes.items) }
+    ensures stop { (r : Reading) → Shows F.files F.faults F.taken shelf.old shelf.new r
+        → IfErr result (StopsAs (FileStops r name.now limit)) }
 {
     match load(alloc, shelf, name.bytes(), limit) {
         Ok(bytes) => Ok(bytes),
@@ -74,7 +76,8 @@ pub fn open_schema<F: Shelf>(alloc: Global, shelf: &mut F, name: &Word) -> Resul
     ensures files { F.files shelf.new ≡ F.files shelf.old }
     ensures later { F.faults shelf.old ≤ F.faults shelf.new }
     ensures ok { (r : Reading) → files_in r ≡ F.files shelf.old → IfOk result (IsSchemaFile r name.now) }
-    ensures stop { (r : Reading) → Shows F.files F.faults F.taken shelf.old shelf.new r → IfErr result (StopsAs (SchemaStops r name.now)) }
+    ensures stop { (r : Reading) → Shows F.files F.faults F.taken shelf.old shelf.new r
+        → IfErr result (StopsAs (SchemaStops r name.now)) }
 {
     let bytes = match open_file(alloc, shelf, name, MOST_TEXT_BYTES) {
         Ok(bytes) => bytes,
@@ -111,10 +114,13 @@ pub fn open_proof<F: Shelf>(
 ) -> Result<Concluded, Stop>
     ensures files { F.files shelf.new ≡ F.files shelf.old }
     ensures later { F.faults shelf.old ≤ F.faults shelf.new }
-    ensures ok { (r : Reading) → files_in r ≡ F.files shelf.old → IfOk result (λ read. IsProofFile r schema.now name.now (tree_of read.deriv.value)) }
-    ensures concludes { IfOk result (λ read. Proves schema.now (tree_of read.deriv.value) (dependency_of read.dep)) }
+    ensures ok { (r : Reading) → files_in r ≡ F.files shelf.old
+        → IfOk result (λ read. IsProofFile r schema.now name.now (tree_of read.deriv.value)) }
+    ensures concludes { IfOk result
+        (λ read. Proves schema.now (tree_of read.deriv.value) (dependency_of read.dep)) }
     ensures within { IfOk result (λ read. IsDepWithin (universe_of schema.now) read.dep) }
-    ensures stop { (r : Reading) → Shows F.files F.faults F.taken shelf.old shelf.new r → IfErr result (StopsAs (ProofStops r schema.now name.now)) }
+    ensures stop { (r : Reading) → Shows F.files F.faults F.taken shelf.old shelf.new r
+        → IfErr result (StopsAs (ProofStops r schema.now name.now)) }
 {
     let bytes = match open_file(alloc, shelf, name, MOST_PROOF_BYTES) {
         Ok(bytes) => bytes,

@@ -51,7 +51,8 @@ fn put_reason(
     schema: &Schema,
     refusal: RowRefusal,
 ) -> Result<(), WantMemory>
-    ensures more { OnOk result (text.new.items ≡ text.old.items ++ row_reason_text (names_of schema.now) refusal) }
+    ensures more { OnOk result (text.new.items
+        ≡ text.old.items ++ row_reason_text (names_of schema.now) refusal) }
 {
     match refusal {
         RowRefusal::NoHeader => put(text, b"no header"),
@@ -95,7 +96,9 @@ fn put_no_integer(
     row: u32,
     name: &[u8],
 ) -> Result<(), WantMemory>
-    ensures more { OnOk result (text.new.items ≡ text.old.items ++ (codes "row " ++ decimal row ++ codes ": " ++ name.now ++ codes " is no integer")) }
+    ensures more { OnOk result (text.new.items
+        ≡ text.old.items ++ (codes "row " ++ decimal row ++ codes ": " ++ name.now
+        ++ codes " is no integer")) }
 {
     let mut reason = Vec::new(alloc);
     put(&mut reason, b"row ")?;

@@ -27,11 +27,13 @@ pub fn open_rows<F: Shelf>(
 ) -> Result<Vec<Row>, Stop>
     ensures files { F.files shelf.new ≡ F.files shelf.old }
     ensures later { F.faults shelf.old ≤ F.faults shelf.new }
-    ensures ok { (r : Reading) → files_in r ≡ F.files shelf.old → IfOk result (λ rows. IsRowsFile r schema.now name.now rows.items) }
+    ensures ok { (r : Reading) → files_in r ≡ F.files shelf.old
+        → IfOk result (λ rows. IsRowsFile r schema.now name.now rows.items) }
     ensures over { IfOk result (λ rows. IsOver (width_of schema.now) rows.items) }
     ensures few { IfOk result (λ rows. length rows.items ≤ MOST_ROWS) }
     ensures typed { IfOk result (λ rows. TypedFor schema.now rows.items) }
-    ensures stop { (r : Reading) → Shows F.files F.faults F.taken shelf.old shelf.new r → IfErr result (StopsAs (RowStops r schema.now name.now)) }
+    ensures stop { (r : Reading) → Shows F.files F.faults F.taken shelf.old shelf.new r
+        → IfErr result (StopsAs (RowStops r schema.now name.now)) }
 {
     let bytes = match open_file(alloc, shelf, name, MOST_CSV_BYTES) {
         Ok(bytes) => bytes,

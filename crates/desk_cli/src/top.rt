@@ -50,9 +50,11 @@ pub fn desk<F: Shelf, K: Sink>(
     targets: &mut Vec<Box<dyn Target>>,
 ) -> Result<Status, WantMemory>
     ensures desk { Desk words.now
-        (shelf_in_call (F.files shelf.old) (F.files shelf.new) (F.faults shelf.old) (F.faults shelf.new) (F.taken shelf.new))
+        (shelf_in_call (F.files shelf.old) (F.files shelf.new) (F.faults shelf.old) (F.faults shelf.new)
+        (F.taken shelf.new))
         (sink_in_call (K.contents out.old) (K.contents out.new) (K.faults out.old) (K.faults out.new))
-        (targets_in_call ⟦<Box<dyn Target> as Target>⟧.tells ⟦<Box<dyn Target> as Target>⟧.finished ⟦<Box<dyn Target> as Target>⟧.faults targets.old.items targets.new.items)
+        (targets_in_call ⟦<Box<dyn Target> as Target>⟧.tells ⟦<Box<dyn Target> as Target>⟧.finished
+        ⟦<Box<dyn Target> as Target>⟧.faults targets.old.items targets.new.items)
         result }
 {
     desk_over(alloc, words, shelf, out, targets)
@@ -67,7 +69,8 @@ fn desk_over<F: Shelf, K: Sink, T: Target>(
     targets: &mut Vec<T>,
 ) -> Result<Status, WantMemory>
     ensures desk { Desk words.now
-        (shelf_in_call (F.files shelf.old) (F.files shelf.new) (F.faults shelf.old) (F.faults shelf.new) (F.taken shelf.new))
+        (shelf_in_call (F.files shelf.old) (F.files shelf.new) (F.faults shelf.old) (F.faults shelf.new)
+        (F.taken shelf.new))
         (sink_in_call (K.contents out.old) (K.contents out.new) (K.faults out.old) (K.faults out.new))
         (targets_in_call T.tells T.finished T.faults targets.old.items targets.new.items)
         result }
@@ -99,7 +102,8 @@ pub fn deliver<K: Sink, T: Target>(
 fn answer<F: Shelf>(alloc: Global, words: &[Word], shelf: &mut F) -> Result<Reply, WantMemory>
     ensures files { F.files shelf.new ≡ F.files shelf.old }
     ensures later { F.faults shelf.old ≤ F.faults shelf.new }
-    ensures reply { (r : Reading) → Shows F.files F.faults F.taken shelf.old shelf.new r → IfOk result (λ reply. Answers r words.now (answer_of reply)) }
+    ensures reply { (r : Reading) → Shows F.files F.faults F.taken shelf.old shelf.new r
+        → IfOk result (λ reply. Answers r words.now (answer_of reply)) }
 {
     match parse(words) {
         None => Ok(Reply::says(
@@ -119,7 +123,8 @@ fn answer<F: Shelf>(alloc: Global, words: &[Word], shelf: &mut F) -> Result<Repl
 fn perform<F: Shelf>(alloc: Global, command: Command<'_>, shelf: &mut F) -> Result<Reply, Stop>
     ensures files { F.files shelf.new ≡ F.files shelf.old }
     ensures later { F.faults shelf.old ≤ F.faults shelf.new }
-    ensures reply { (r : Reading) → Shows F.files F.faults F.taken shelf.old shelf.new r → RepliesAs (Performs r (command_form command.entry)) result }
+    ensures reply { (r : Reading) → Shows F.files F.faults F.taken shelf.old shelf.new r
+        → RepliesAs (Performs r (command_form command.entry)) result }
 {
     match command {
         Command::OverSchema { schema, task } => over_schema(alloc, shelf, schema, task),
@@ -139,7 +144,8 @@ fn over_schema<F: Shelf>(
 ) -> Result<Reply, Stop>
     ensures files { F.files shelf.new ≡ F.files shelf.old }
     ensures later { F.faults shelf.old ≤ F.faults shelf.new }
-    ensures reply { (r : Reading) → Shows F.files F.faults F.taken shelf.old shelf.new r → RepliesAs (WithSchema r file.now (λ schema. Does r schema (task_form task.entry))) result }
+    ensures reply { (r : Reading) → Shows F.files F.faults F.taken shelf.old shelf.new r
+        → RepliesAs (WithSchema r file.now (λ schema. Does r schema (task_form task.entry))) result }
 {
     let schema = match open_schema(alloc, shelf, file) {
         Ok(schema) => schema,
@@ -158,7 +164,8 @@ fn does<F: Shelf>(
 ) -> Result<Reply, Stop>
     ensures files { F.files shelf.new ≡ F.files shelf.old }
     ensures later { F.faults shelf.old ≤ F.faults shelf.new }
-    ensures reply { (r : Reading) → Shows F.files F.faults F.taken shelf.old shelf.new r → RepliesAs (Does r schema.now (task_form task.entry)) result }
+    ensures reply { (r : Reading) → Shows F.files F.faults F.taken shelf.old shelf.new r
+        → RepliesAs (Does r schema.now (task_form task.entry)) result }
 {
     match task {
         Task::Implies { goal } => implies(alloc, schema, goal),

@@ -40,7 +40,7 @@ use Rattle.desk_laws.proofs.SchemaLemmas.{AreAlike, proves_alike, spells_alike}
 use Rattle.desk_laws.proofs.StopLemmas.{schema_says, goal_says, one_content, schema_goes, proof_goes, goal_goes}
 
 -- ---- the first answer
--- what stands behind an answer yes to whether a schema implies a goal
+-- what stands after an answer yes to whether a schema implies a goal
 record SaidYes (files : Files) (schema goal text : List ℕ) : Type 0 where
   of : Schema
   bytes : List ℕ

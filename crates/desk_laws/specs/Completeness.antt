@@ -35,7 +35,8 @@ pub record FailsNowhere (files : Files) (shelf : ShelfInCall) (sink : SinkInCall
 
 -- splitting a schema comes to no scheme that is too wide, and to no more schemes than are allowed
 pub record IsSplittable (schema : Schema) (form : Form) : Type 0 where
-  pub narrow : (scheme : Places) → IsTooWideAt (width_of schema) (theory_of schema) form MOST_SPLIT_SCHEMES scheme → ⊥
+  pub narrow : (scheme : Places)
+      → IsTooWideAt (width_of schema) (theory_of schema) form MOST_SPLIT_SCHEMES scheme → ⊥
   pub few : HasTooMany (width_of schema) (theory_of schema) form MOST_SPLIT_SCHEMES → ⊥
 
 -- a plan in a normal form is found within the limits; for third normal form there are none

@@ -26,10 +26,12 @@ use targets::Target;
 /// Where nothing fails, a call whose words are answered over the files ends with yes or no, or wants
 /// memory.
 pub fn answered_calls_end<T: Target>()
-    ensures law { (words : List (List ℕ)) (files : Files) (shelf : ShelfInCall) (sink : SinkInCall) (old new : List T)
+    ensures law { (words : List (List ℕ)) (files : Files) (shelf : ShelfInCall) (sink : SinkInCall)
+        (old new : List T)
         (result : Result Status WantMemory)
         → Desk words shelf sink (targets_in_call T.tells T.finished T.faults old new) result
-        → FailsNowhere files shelf sink (targets_in_call T.tells T.finished T.faults old new) → IsAnswered files words
+        → FailsNowhere files shelf sink (targets_in_call T.tells T.finished T.faults old new)
+        → IsAnswered files words
         → (status : Status) → result ≡ Ok status → IsYesOrNo status }
 {}
 
@@ -43,7 +45,8 @@ pub fn implies_is_answered()
 /// `check proof` is answered where also the certificate file spells a tree.
 pub fn check_proof_is_answered()
     ensures law { (files : Files) (name file goal : List ℕ) (schema : Schema) (tree : Tree) (dep : Dependency)
-        → IsSchemaFile (told files) name schema → IsProofFile (told files) schema file tree → IsGoal schema goal dep
+        → IsSchemaFile (told files) name schema → IsProofFile (told files) schema file tree
+        → IsGoal schema goal dep
         → IsAnswered files (codes "check" ∷ codes "proof" ∷ name ∷ file ∷ goal ∷ []) }
 {}
 

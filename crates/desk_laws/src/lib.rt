@@ -30,6 +30,8 @@ pub use complete_tables::{
 pub fn printed_proof_is_accepted()
     ensures law { (before after : Files) (schema goal file : List ℕ) (printed : Answer)
         → Answers (told before) (codes "implies" ∷ schema ∷ goal ∷ []) printed → printed.status ≡ Yes
-        → held after schema ≡ held before schema → held after file ≡ Some printed.text → length printed.text ≤ MOST_PROOF_BYTES
-        → (answer : Answer) → Answers (told after) (codes "check" ∷ codes "proof" ∷ schema ∷ file ∷ goal ∷ []) answer → answer.status ≡ Yes }
+        → held after schema ≡ held before schema → held after file ≡ Some printed.text
+        → length printed.text ≤ MOST_PROOF_BYTES
+        → (answer : Answer) → Answers (told after) (codes "check" ∷ codes "proof" ∷ schema ∷ file ∷ goal
+        ∷ []) answer → answer.status ≡ Yes }
 {}

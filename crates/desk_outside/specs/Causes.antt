@@ -26,7 +26,8 @@ pub record HasCause {T E : Type 0} (before now : ℕ) (result : Result T E) : Ty
 
 -- The faults of a call that begins a file: the count has not fallen, and at `Failed` it rose or the
 -- shelf lacks the file. A file that is lacking is told by `Failed`, and raises no count.
-pub record HasBeginCause (files : Option Files) (name : List ℕ) (before now : ℕ) (result : Result (Unit {0}) OutsideFault) : Type 0 where
+pub record HasBeginCause (files : Option Files) (name : List ℕ) (before now : ℕ)
+    (result : Result (Unit {0}) OutsideFault) : Type 0 where
   pub later : before ≤ now
   pub failed : result ≡ Err Failed → Rose before now ⊎ IsMissing files name
   pub missing : IsMissing files name → (result ≡ Err Failed) × (now ≡ before)

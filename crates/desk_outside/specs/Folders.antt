@@ -9,7 +9,8 @@ pub record FolderContents : Type 0 where
 
 -- an empty file of this name is open
 abbrev pub with_begun : List ℕ → FolderContents → FolderContents
-with_begun name folder = record { finished = folder.finished; opened = Some (record { name = name; bytes = [] }) }
+with_begun name folder =
+    record { finished = folder.finished; opened = Some (record { name = name; bytes = [] }) }
 
 -- the file has these bytes more
 abbrev pub more_bytes : List ℕ → StoredFile → StoredFile
@@ -17,7 +18,8 @@ more_bytes bytes file = record { name = file.name; bytes = file.bytes ++ bytes }
 
 -- the open file has these bytes more
 abbrev pub with_bytes : List ℕ → FolderContents → FolderContents
-with_bytes bytes folder = record { finished = folder.finished; opened = option_map (more_bytes bytes) folder.opened }
+with_bytes bytes folder =
+    record { finished = folder.finished; opened = option_map (more_bytes bytes) folder.opened }
 
 -- the open file is the last finished one
 abbrev pub with_ended : FolderContents → FolderContents

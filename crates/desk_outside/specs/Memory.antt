@@ -17,7 +17,8 @@ pub record ShelfInMemory : Type 0 where
 
 -- nothing is begun or taken, and no call was made
 abbrev pub new_shelf : Files → List ℕ → ℕ → ShelfInMemory
-new_shelf files fails step = record { files = files; left = []; taken = 0; step = step; planned = new_plan fails }
+new_shelf files fails step =
+    record { files = files; left = []; taken = 0; step = step; planned = new_plan fails }
 
 -- a sink: the bytes taken, how many it has room for in all, how many one write takes at most, and
 -- its planned faults
@@ -29,7 +30,8 @@ pub record SinkInMemory : Type 0 where
 
 -- nothing is taken, and no call was made
 abbrev pub new_sink : ℕ → List ℕ → ℕ → SinkInMemory
-new_sink capacity fails step = record { contents = []; capacity = capacity; step = step; planned = new_plan fails }
+new_sink capacity fails step =
+    record { contents = []; capacity = capacity; step = step; planned = new_plan fails }
 
 -- how many bytes a sink has room for
 abbrev pub room : SinkInMemory → ℕ

@@ -15,5 +15,6 @@ members_on (on ∷ others) (d ∷ ds) = if on then d ∷ members_on others ds el
 -- attributes alone
 pub record Grows (ds : List Dep) (closed more : Places) : Type 0 where
   pub holds : Within closed more
-  pub within : (universe : Places) → All (IsDepWithin universe) ds → Within closed universe → Within more universe
+  pub within : (universe : Places) → All (IsDepWithin universe) ds → Within closed universe
+      → Within more universe
   pub implied : (n : ℕ) → Implies n (functional_part (dependencies_of ds)) (fd closed more)

@@ -10,20 +10,24 @@ ghost use Rattle.fd_closure.specs.KeyLists.{IsExchanged};
 
 /// A set is settled exactly where it holds its closure.
 pub fn settled_sets_are_closed()
-    ensures law { (n : ℕ) (ds : List Dependency) (c : Places) → All (IsWithin (below n)) ds → functional_part ds ≡ ds → Within c (below n)
+    ensures law { (n : ℕ) (ds : List Dependency) (c : Places) → All (IsWithin (below n)) ds
+        → functional_part ds ≡ ds → Within c (below n)
         → IsSettled ds c ↔ ((a : ℕ) → InClosure n ds c a → c a ≡ true) }
 {}
 
 /// A dependency leads out of a set that determines the universe and is not all of it.
 pub fn lead_out_of_a_superkey()
-    ensures law { (n : ℕ) (ds : List Dependency) (c : Places) (k : ℕ) → All (IsWithin (below n)) ds → functional_part ds ≡ ds → Within c (below n)
-        → Implies n ds (fd c (below n)) → k < n → c k ≡ false → (d : Dependency) × Contains ds d × LeadsOut c d }
+    ensures law { (n : ℕ) (ds : List Dependency) (c : Places) (k : ℕ) → All (IsWithin (below n)) ds
+        → functional_part ds ≡ ds → Within c (below n)
+        → Implies n ds (fd c (below n)) → k < n → c k ≡ false
+        → (d : Dependency) × Contains ds d × LeadsOut c d }
 {}
 
 /// A list of keys of the universe holds all of them where it is not empty and each key and each
 /// dependency lead to a key of the list again (Lucchesi and Osborn 1978).
 pub fn all_keys_by_exchange()
-    ensures law { (n : ℕ) (ds : List Dependency) (keys : List Places) → All (IsWithin (below n)) ds → functional_part ds ≡ ds
+    ensures law { (n : ℕ) (ds : List Dependency) (keys : List Places) → All (IsWithin (below n)) ds
+        → functional_part ds ≡ ds
         → 0 < length keys → All (IsKey n ds (below n)) keys → IsExchanged ds keys
         → (key : Places) → IsKey n ds (below n) key → Any (λ k. Same k key) keys }
 {}

@@ -36,11 +36,13 @@ pub fn exchanged_keys(alloc: Global, schema: &Schema) -> Result<Vec<AttrSet>, Wa
 fn add_exchanged(schema: &Schema, key: AttrSet, found: &mut Vec<AttrSet>) -> Result<(), WantMemory>
     requires functional { functional_part (theory_of schema.now) ≡ theory_of schema.now }
     requires key { IsKey (width_of schema.now) (theory_of schema.now) (universe_of schema.now) (places key) }
-    requires some { AreSomeKeys (width_of schema.now) (theory_of schema.now) (universe_of schema.now) found.old.items }
+    requires some { AreSomeKeys (width_of schema.now) (theory_of schema.now)
+        (universe_of schema.now) found.old.items }
     ensures some { IfOk result (λ _.
         AreSomeKeys (width_of schema.now) (theory_of schema.now) (universe_of schema.now) found.new.items) }
     ensures kept { IfOk result (λ _. take (length found.old.items) found.new.items ≡ found.old.items) }
-    ensures exchanged { IfOk result (λ _. IsExchangedUnlessMany (theory_of schema.now) found.new.items (places key)) }
+    ensures exchanged { IfOk result
+        (λ _. IsExchangedUnlessMany (theory_of schema.now) found.new.items (places key)) }
 {
     for dep in schema.deps() {
         if let Dep::Fd { lhs, rhs } = *dep {
@@ -53,8 +55,10 @@ fn add_exchanged(schema: &Schema, key: AttrSet, found: &mut Vec<AttrSet>) -> Res
 // Adds a key within a superkey, where no found one lies within it and they are not more than are listed.
 fn add_key_within(schema: &Schema, set: AttrSet, found: &mut Vec<AttrSet>) -> Result<(), WantMemory>
     requires functional { functional_part (theory_of schema.now) ≡ theory_of schema.now }
-    requires superkey { IsSuperkey (width_of schema.now) (theory_of schema.now) (universe_of schema.now) (places set) }
-    requires some { AreSomeKeys (width_of schema.now) (theory_of schema.now) (universe_of schema.now) found.old.items }
+    requires superkey { IsSuperkey (width_of schema.now) (theory_of schema.now) (universe_of schema.now)
+        (places set) }
+    requires some { AreSomeKeys (width_of schema.now) (theory_of schema.now)
+        (universe_of schema.now) found.old.items }
     ensures some { IfOk result (λ _.
         AreSomeKeys (width_of schema.now) (theory_of schema.now) (universe_of schema.now) found.new.items) }
     ensures kept { IfOk result (λ _. take (length found.old.items) found.new.items ≡ found.old.items) }

@@ -20,17 +20,21 @@ pub fn needed_attribute()
 /// scheme, multivalued dependencies among the given ones or not (for functional ones alone Saiedian and
 /// Spencer 1996).
 pub fn needless_attribute()
-    ensures law { (n : ℕ) (ds : List Dep) (scheme k : Places) (a : ℕ) → n ≤ PLACES → All (IsDepWithin (below n)) ds
-        → Within scheme (below n) → IsNeedless n (dependencies_of ds) scheme a → IsKey n (dependencies_of ds) scheme k
+    ensures law { (n : ℕ) (ds : List Dep) (scheme k : Places) (a : ℕ) → n ≤ PLACES
+        → All (IsDepWithin (below n)) ds
+        → Within scheme (below n) → IsNeedless n (dependencies_of ds) scheme a
+        → IsKey n (dependencies_of ds) scheme k
         → k a ≡ false }
 {}
 
 /// A scheme without all of its needless attributes is a superkey of the scheme, and has the same keys.
 pub fn scheme_without_needless()
-    ensures superkey { (n : ℕ) (ds : List Dep) (scheme rest : Places) → n ≤ PLACES → All (IsDepWithin (below n)) ds
+    ensures superkey { (n : ℕ) (ds : List Dep) (scheme rest : Places) → n ≤ PLACES
+        → All (IsDepWithin (below n)) ds
         → Within scheme (below n) → IsWithoutNeedless n (dependencies_of ds) scheme rest
         → IsSuperkey n (dependencies_of ds) scheme rest }
-    ensures keys { (n : ℕ) (ds : List Dep) (scheme rest k : Places) → n ≤ PLACES → All (IsDepWithin (below n)) ds
+    ensures keys { (n : ℕ) (ds : List Dep) (scheme rest k : Places) → n ≤ PLACES
+        → All (IsDepWithin (below n)) ds
         → Within scheme (below n) → IsWithoutNeedless n (dependencies_of ds) scheme rest
         → IsKey n (dependencies_of ds) scheme k ↔ IsKey n (dependencies_of ds) rest k }
 {}

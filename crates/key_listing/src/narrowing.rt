@@ -40,7 +40,8 @@ fn is_needed(schema: &Schema, scheme: AttrSet, attribute: u8) -> bool
 // Each is in no key.
 pub fn without_needless(schema: &Schema, scheme: AttrSet) -> AttrSet
     requires scheme { Within (places scheme) (universe_of schema.now) }
-    ensures rest { IsWithoutNeedless (width_of schema.now) (theory_of schema.now) (places scheme) (places result) }
+    ensures rest { IsWithoutNeedless (width_of schema.now) (theory_of schema.now) (places scheme)
+        (places result) }
 {
     let used = left_sides(schema.deps());
     let determined = closed(schema, scheme.meet(used));

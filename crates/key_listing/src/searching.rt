@@ -38,7 +38,8 @@ fn keys_with(
     needed: AttrSet,
 ) -> Result<Vec<AttrSet>, WantMemory>
     requires scheme { Within (places scheme) (universe_of schema.now) }
-    requires needed { AreInEachSuperkey (width_of schema.now) (theory_of schema.now) (places scheme) (places needed) }
+    requires needed { AreInEachSuperkey (width_of schema.now) (theory_of schema.now) (places scheme)
+        (places needed) }
     ensures keys { IfOk result (λ found.
         AreFoundKeys (width_of schema.now) (theory_of schema.now) (places scheme) found.items) }
 {

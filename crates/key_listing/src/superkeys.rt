@@ -29,7 +29,8 @@ pub fn is_superkey(schema: &Schema, scheme: AttrSet, set: AttrSet) -> bool
 /// first, is left out if the rest still determines the scheme.
 pub fn one_key(schema: &Schema, scheme: AttrSet) -> AttrSet
     requires scheme { Within (places scheme) (universe_of schema.now) }
-    ensures settled { IsSettledKey (width_of schema.now) (theory_of schema.now) (places scheme) (places result) }
+    ensures settled { IsSettledKey (width_of schema.now) (theory_of schema.now) (places scheme)
+        (places result) }
 {
     let mut key = scheme;
     for i in (0..PLACES).rev() {

@@ -37,8 +37,10 @@ pub record AreBeside (lefts rests : List ℕ) (f n : ℕ) (flags : List Bool) : 
 -- the first row of the group of a row whose rest has no flag; or no row is so
 abbrev pub IsFirstMissing : List ℕ → List ℕ → List Bool → ℕ → Option Pair → Type 0
 IsFirstMissing groups rests flags f None =
-    (i : ℕ) → i < length groups → number_at groups i ≡ number_at groups f → flag_at flags (number_at rests i) ≡ true
+    (i : ℕ) → i < length groups → number_at groups i ≡ number_at groups f
+    → flag_at flags (number_at rests i) ≡ true
 IsFirstMissing groups rests flags f (Some p) =
     (p.first ≡ f) × (p.second < length groups) × (number_at groups p.second ≡ number_at groups f)
     × (flag_at flags (number_at rests p.second) ≡ false)
-    × ((i : ℕ) → i < p.second → number_at groups i ≡ number_at groups f → flag_at flags (number_at rests i) ≡ true)
+    × ((i : ℕ) → i < p.second → number_at groups i ≡ number_at groups f
+    → flag_at flags (number_at rests i) ≡ true)

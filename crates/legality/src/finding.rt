@@ -24,7 +24,8 @@ use std::alloc::Global;
 pub fn offences(alloc: Global, schema: &Schema, rows: &[Row]) -> Result<Vec<Offence>, WantMemory>
     requires over { IsOver (width_of schema.now) rows.now }
     requires few { length rows.now < 2 ^ 32 }
-    ensures offences { IfOk result (λ v. OffencesOf (width_of schema.now) (theory_of schema.now) rows.now v.items) }
+    ensures offences { IfOk result
+        (λ v. OffencesOf (width_of schema.now) (theory_of schema.now) rows.now v.items) }
     ensures legal { IfOk result (λ v. (v.items ≡ []) ↔ LegalFor schema.now rows.now) }
 {
     let codes = Interned::intern(alloc, schema.width(), rows)?;

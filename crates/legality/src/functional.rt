@@ -75,7 +75,8 @@ fn agree(
     requires first { first < length rows.now }
     requires second { second < length rows.now }
     ensures agree { result ≡ true → AgreeOn (places set) (row_at rows.now first) (row_at rows.now second) }
-    ensures differ { result ≡ false → AgreeOn (places set) (row_at rows.now first) (row_at rows.now second) → ⊥ }
+    ensures differ { result ≡ false
+        → AgreeOn (places set) (row_at rows.now first) (row_at rows.now second) → ⊥ }
 {
     for place in 0..width {
         if set.has(place) {

@@ -41,14 +41,14 @@ return_within line = shorter (ends_with nat_eq line (13 ∷ []))
     shorter true = let size = length-take (length line - 1) line in omega arith
     shorter false = omega arith
 
-pub cuts_at : (text front behind line rest : List ℕ) (end : ℕ) → end ≡ position_or_len is_line_feed text → end < length text
-    → front ≡ take end text → behind ≡ drop end text → rest ≡ drop 1 behind → line ≡ without_return front → CutsAt text line rest
+pub cuts_at : (text front after line rest : List ℕ) (end : ℕ) → end ≡ position_or_len is_line_feed text → end < length text
+    → front ≡ take end text → after ≡ drop end text → rest ≡ drop 1 after → line ≡ without_return front → CutsAt text line rest
 unfolding line_texts
-cuts_at text front behind line rest end e h is_front is_behind is_rest is_line =
+cuts_at text front after line rest end e h is_front is_after_it is_rest is_line =
     let here : position_or_len is_line_feed text ≡ end = sym e in
     let split = slice_split_first is_line_feed text 0 (omega arith) in
     let front_is : before_first is_line_feed text ≡ front = ap (λ n. take n text) here ∙ sym is_front in
-    let rest_is : after_first is_line_feed text ≡ rest = ap (λ n. drop (n + 1) text) here ∙ (sym (drop-drop 1 end text) ∙ sym (is_rest ∙ ap (λ t. drop 1 t) is_behind)) in
+    let rest_is : after_first is_line_feed text ≡ rest = ap (λ n. drop (n + 1) text) here ∙ (sym (drop-drop 1 end text) ∙ sym (is_rest ∙ ap (λ t. drop 1 t) is_after_it)) in
     record {
       lines = rw (split, front_is, rest_is) (rw (before_others front (slice_split is_line_feed rest) (split_cons is_line_feed rest)) (rw (sym is_line) refl));
       shorter = let size : length rest ≡ length text - (end + 1) = ap length (sym rest_is ∙ ap (λ n. drop (n + 1) text) here) ∙ length-drop (end + 1) text in omega arith;

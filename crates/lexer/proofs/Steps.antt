@@ -85,15 +85,15 @@ front_fits m (b ∷ bs) h =
     (λ _. either (b ∷ bs) (b == 58 && takes_numbers m) _ _ (λ _. mark_fits (b ∷ bs) token.Colon 1 (byte_lies b bs) (λ word. cc))
     (λ _. byte_lies b bs)))))))
 
--- behind so many bytes of a piece, the tokens are those of what is left
-pub lexed_behind : (m : Mode) (skip column : ℕ) (text : List ℕ) → lexed m skip column text ≡ lexed m 0 (column + skip) (drop skip text)
+-- after so many bytes of a piece, the tokens are those of what is left
+pub lexed_after : (m : Mode) (skip column : ℕ) (text : List ℕ) → lexed m skip column text ≡ lexed m 0 (column + skip) (drop skip text)
 unfolding lexed
-lexed_behind m zero column [] = refl
-lexed_behind m (suc n) column [] = refl
-lexed_behind m zero column (b ∷ bs) = rw add-zero refl
-lexed_behind m (suc n) column (b ∷ bs) =
+lexed_after m zero column [] = refl
+lexed_after m (suc n) column [] = refl
+lexed_after m zero column (b ∷ bs) = rw add-zero refl
+lexed_after m (suc n) column (b ∷ bs) =
     let same : (column + 1) + n ≡ column + suc n = omega arith in
-    lexed_behind m n (column + 1) bs ∙ ap (λ k. lexed m 0 k (drop n bs)) same
+    lexed_after m n (column + 1) bs ∙ ap (λ k. lexed m 0 k (drop n bs)) same
 
 pub after_gap : (m : Mode) (column : ℕ) (text : List ℕ) → 0 < length text → piece.Gap ≡ front m text → lexed m 0 column text ≡ lexed m 0 (column + 1) (drop 1 text)
 unfolding lexed
@@ -120,8 +120,8 @@ at_token m column (b ∷ bs) k zero h e =
     let some : 0 < 0 = lies.0.some in absurd (omega arith)
 at_token m column (b ∷ bs) k (suc n) h e =
     let one : suc n - 1 ≡ n = omega arith in
-    let behind : lexed m n (column + 1) bs ≡ lexed m 0 (column + suc n) (drop n bs) = lexed_behind m (suc n) column (b ∷ bs) in
-    rw (← e) (rw one (ap (led_by_mark _) behind))
+    let after : lexed m n (column + 1) bs ≡ lexed m 0 (column + suc n) (drop n bs) = lexed_after m (suc n) column (b ∷ bs) in
+    rw (← e) (rw one (ap (led_by_mark _) after))
 
 pub is_some : (text : List ℕ) → false ≡ (length text == 0) → 0 < length text
 is_some text e = grind (arith, nat_tests)
@@ -145,21 +145,21 @@ is_a_word m text k n h e =
 pub flaw_lies_in : (m : Mode) (text : List ℕ) (why : Flaw) (n : ℕ) → 0 < length text → piece.Flaw why n ≡ front m text → LiesIn text n
 flaw_lies_in m text why n h e = subst (FitsPiece text) (sym e) (front_fits m text h)
 
-pub token_leads : (m : Mode) (start : ℕ) (text : List ℕ) (column : ℕ) (rest : List ℕ) (k : TokenKind) (n : ℕ) (word behind : List ℕ)
-    → IsReached m start text column rest → 0 < length rest → piece.Token k n ≡ front m rest → word ≡ take n rest → behind ≡ drop n rest
-    → Leads m (record { kind = k; column = column; length = n }) word behind (lexed m 0 start text)
-token_leads m start text column rest k n word behind reached some e is_word_here is_behind =
+pub token_leads : (m : Mode) (start : ℕ) (text : List ℕ) (column : ℕ) (rest : List ℕ) (k : TokenKind) (n : ℕ) (word after : List ℕ)
+    → IsReached m start text column rest → 0 < length rest → piece.Token k n ≡ front m rest → word ≡ take n rest → after ≡ drop n rest
+    → Leads m (record { kind = k; column = column; length = n }) word after (lexed m 0 start text)
+token_leads m start text column rest k n word after reached some e is_word_here is_after_it =
     let lies = lies_in m rest k n some e in
     record {
-      all_tokens = rw (is_word_here, is_behind) (reached.same ∙ at_token m column rest k n some e);
+      all_tokens = rw (is_word_here, is_after_it) (reached.same ∙ at_token m column rest k n some e);
       same_length = rw is_word_here (sym (length-take-le n rest lies.within));
       is_a_word = λ word. rw is_word_here (is_a_word m rest k n some e word);
     }
 
-pub token_behind : (m : Mode) (start : ℕ) (text : List ℕ) (column : ℕ) (rest : List ℕ) (k : TokenKind) (n : ℕ) (behind : List ℕ)
-    → IsReached m start text column rest → LiesIn rest n → length behind + n ≡ length rest
-    → IsBehind start text (record { kind = k; column = column; length = n }) behind
-token_behind m start text column rest k n behind reached lies size = record {
+pub token_after : (m : Mode) (start : ℕ) (text : List ℕ) (column : ℕ) (rest : List ℕ) (k : TokenKind) (n : ℕ) (after : List ℕ)
+    → IsReached m start text column rest → LiesIn rest n → length after + n ≡ length rest
+    → IsBehind start text (record { kind = k; column = column; length = n }) after
+token_after m start text column rest k n after reached lies size = record {
   from_on = reached.from_on;
   fits = omega (arith, reached.fits);
   shorter = omega (arith, reached.fits, reached.from_on, lies.some);

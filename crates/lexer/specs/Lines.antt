@@ -23,10 +23,10 @@ is_line_feed b = b == 10
 unfoldable pub line_texts : List ℕ → List (List ℕ)
 line_texts text = without_returns (slice_split is_line_feed text)
 
--- the line is the first one of the text, and the others are those of what stands behind it
-pub record CutsAt (text line behind : List ℕ) : Type 0 where
-  pub lines : line_texts text ≡ line ∷ line_texts behind
-  pub shorter : length behind < length text
+-- the line is the first one of the text, and the others are those of what stands after it
+pub record CutsAt (text line after : List ℕ) : Type 0 where
+  pub lines : line_texts text ≡ line ∷ line_texts after
+  pub shorter : length after < length text
   pub within : length line ≤ length text
 
 -- the line is the only one of the text
@@ -36,4 +36,4 @@ pub record IsLastLine (text line : List ℕ) : Type 0 where
 
 abbrev pub CutsLine : List ℕ → List ℕ → Option (Bor (List ℕ)) → Type 0
 CutsLine text line None = IsLastLine text line
-CutsLine text line (Some behind) = CutsAt text line behind.now
+CutsLine text line (Some after) = CutsAt text line after.now

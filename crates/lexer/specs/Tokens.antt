@@ -25,17 +25,17 @@ pub record Lexed : Type 0 where
 abbrev pub led_by_mark : Mark → Lexed → Lexed
 led_by_mark m l = record { marks = m ∷ l.marks; stop = l.stop }
 
--- the tokens of a text at whose front this piece stands; the tokens of what is left behind some
--- bytes more come from `behind`
+-- the tokens of a text at whose front this piece stands; the tokens of what is left after some
+-- bytes more come from `after`
 abbrev pub led_by : Piece → ℕ → List ℕ → (ℕ → Lexed) → Lexed
-led_by piece.Gap column text behind = behind 0
-led_by piece.Comment column text behind = record { marks = []; stop = None }
-led_by (piece.Token kind n) column text behind =
-    led_by_mark (record { kind = kind; column = column; word = take n text }) (behind (n - 1))
-led_by (piece.Flaw why n) column text behind =
+led_by piece.Gap column text after = after 0
+led_by piece.Comment column text after = record { marks = []; stop = None }
+led_by (piece.Token kind n) column text after =
+    led_by_mark (record { kind = kind; column = column; word = take n text }) (after (n - 1))
+led_by (piece.Flaw why n) column text after =
     record { marks = []; stop = Some (record { flaw = why; column = column; length = n }) }
 
--- the tokens of a text that begins in a column, behind so many bytes that belong to the piece before
+-- the tokens of a text that begins in a column, after so many bytes that belong to the piece before
 unfoldable pub lexed : Mode → ℕ → ℕ → List ℕ → Lexed
 lexed m skip column [] = record { marks = []; stop = None }
 lexed m zero column (b ∷ bs) =
@@ -52,7 +52,8 @@ token_of m = record { kind = m.kind; column = m.column; length = length m.word }
 
 -- the token stands in front of the others; where it is a word, its bytes form one
 pub record Leads (m : Mode) (t : Token) (word rest : List ℕ) (all : Lexed) : Type 0 where
-  pub all_tokens : all ≡ led_by_mark (record { kind = t.kind; column = t.column; word = word }) (lexed m 0 (t.column + t.length) rest)
+  pub all_tokens : all ≡ led_by_mark (record { kind = t.kind; column = t.column; word = word })
+      (lexed m 0 (t.column + t.length) rest)
   pub same_length : t.length ≡ length word
   pub is_a_word : t.kind ≡ token.Word → is_name word ≡ true
 
@@ -62,7 +63,7 @@ GoesOn m next.End all = all ≡ record { marks = []; stop = None }
 GoesOn m (next.Token t word rest) all = Leads m t word.now rest.now all
 GoesOn m (next.Stop s) all = all ≡ record { marks = []; stop = Some s }
 
--- a token stands behind the column, and takes at least one byte of the text
+-- a token stands after the column, and takes at least one byte of the text
 pub record IsBehind (column : ℕ) (text : List ℕ) (t : Token) (rest : List ℕ) : Type 0 where
   pub from_on : column ≤ t.column
   pub fits : (t.column + t.length) + length rest ≡ column + length text

@@ -13,14 +13,14 @@ pub fn without_mark(text: &[u8]) -> &[u8]
     }
 }
 
-/// The first line of a text, without its end, and what stands behind the end if there is one.
+/// The first line of a text, without its end, and what stands after the end if there is one.
 pub fn cut_line(text: &[u8]) -> (&[u8], Option<&[u8]>)
     ensures cut { CutsLine text.now result.0.now result.1 }
 {
     let end = line_length(text);
     if end < text.len() {
-        let (line, behind) = text.split_at(end);
-        (without_return(line), Some(behind.split_at(1).1))
+        let (line, after) = text.split_at(end);
+        (without_return(line), Some(after.split_at(1).1))
     } else {
         (text, None)
     }

@@ -82,7 +82,7 @@ pub struct Stop {
 pub enum Next<'a> {
     /// No token: the line ends, but for blanks and a comment.
     End,
-    /// A token, its bytes, and what stands behind it.
+    /// A token, its bytes, and what stands after it.
     Token(Token, &'a [u8], &'a [u8]),
     /// Bytes that are no token.
     Stop(Stop),
@@ -104,7 +104,7 @@ pub fn next_token(mode: Mode, column: u32, text: &[u8]) -> Next<'_>
             }
             Piece::Comment => return Next::End,
             Piece::Token(kind, length) => {
-                let (word, behind) = rest.split_at(length);
+                let (word, after) = rest.split_at(length);
                 return Next::Token(
                     Token {
                         kind,
@@ -112,7 +112,7 @@ pub fn next_token(mode: Mode, column: u32, text: &[u8]) -> Next<'_>
                         length: length as u32,
                     },
                     word,
-                    behind,
+                    after,
                 );
             }
             Piece::Flaw(flaw, length) => {

@@ -24,7 +24,7 @@ impl<'a> Cursor<'a> {
     ghost use Rattle.line_reader.specs.Views.{names_in, rest_of};
     ghost use Rattle.schema_grammar.specs.Rests.{take, expected, number, arrow, ended, side, words};
 
-    /// The next token, its bytes, and what stands behind it; `want` is what the line wants there.
+    /// The next token, its bytes, and what stands after it; `want` is what the line wants there.
     #[tactic(auto, unfolding(schema_grammar::specs::Rests::take))]
     pub fn take(self, want: What) -> Result<(Token, &'a [u8], Cursor<'a>), SchemaRefusal>
         ensures ok { IfOk result (λ x. take want (rest_of self.entry) ≡ Ok (marked x.0 x.1.now, rest_of x.2)) }
@@ -56,7 +56,8 @@ impl<'a> Cursor<'a> {
 
     /// The refusal of a token of this line in place of which the line wants something else.
     pub fn expected(self, token: Token, want: What) -> SchemaRefusal
-        ensures refusal { result ≡ refusal self.entry.line token.column token.length (SchemaRefusalKind.Expected want) }
+        ensures refusal { result
+            ≡ refusal self.entry.line token.column token.length (SchemaRefusalKind.Expected want) }
     {
         let kind = SchemaRefusalKind::Expected(want);
         SchemaRefusal::at(self.line, token.column, token.length, kind)
@@ -103,11 +104,12 @@ impl<'a> Cursor<'a> {
         }
     }
 
-    /// A side: words, or `()`. What stands behind it is the reader's next question.
+    /// A side: words, or `()`. What stands after it is the reader's next question.
     #[tactic(auto, unfolding(schema_grammar::specs::Rests::side))]
     pub fn side(self, names: &Names<'_>) -> Result<(AttrSet, Cursor<'a>), SchemaRefusal>
         requires few { length (names_in names.now) ≤ PLACES }
-        ensures ok { IfOk result (λ x. side (names_in names.now) (rest_of self.entry) ≡ Ok (places x.0, rest_of x.1)) }
+        ensures ok { IfOk result
+            (λ x. side (names_in names.now) (rest_of self.entry) ≡ Ok (places x.0, rest_of x.1)) }
         ensures within { IfOk result (λ x. Within (places x.0) (below (length (names_in names.now)))) }
         ensures err { IfErr result (λ e. side (names_in names.now) (rest_of self.entry) ≡ Err e) }
     {
@@ -126,7 +128,9 @@ impl<'a> Cursor<'a> {
     fn words(self, names: &Names<'_>, set: AttrSet) -> Result<(AttrSet, Cursor<'a>), SchemaRefusal>
         requires few { length (names_in names.now) ≤ PLACES }
         requires within { Within (places set) (below (length (names_in names.now))) }
-        ensures ok { IfOk result (λ x. words (names_in names.now) (places set) (rest_of self.entry) ≡ Ok (places x.0, rest_of x.1)) }
+        ensures ok { IfOk result
+            (λ x. words (names_in names.now) (places set) (rest_of self.entry)
+            ≡ Ok (places x.0, rest_of x.1)) }
         ensures within { IfOk result (λ x. Within (places x.0) (below (length (names_in names.now)))) }
         ensures err { IfErr result (λ e. words (names_in names.now) (places set) (rest_of self.entry) ≡ Err e) }
     {
@@ -155,7 +159,7 @@ impl<'a> Cursor<'a> {
                         mode,
                     },
                 )),
-                Next::Token(token, word, behind) => {
+                Next::Token(token, word, after) => {
                     if !is_word(token.kind) {
                         return Ok((
                             set,
@@ -172,7 +176,7 @@ impl<'a> Cursor<'a> {
                         Ok(place) => {
                             set = added(set, place);
                             column = token.column + token.length;
-                            text = behind;
+                            text = after;
                         }
                     }
                 }

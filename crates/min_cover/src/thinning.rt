@@ -89,7 +89,8 @@ pub fn add_multivalued(deps: &[Dep], others: &mut Vec<Dep>) -> Result<(), WantMe
     ensures added { IfOk result (λ _. dependencies_of others.new.items
         ≡ dependencies_of others.old.items ++ multivalued_part (dependencies_of deps.now)) }
     ensures front { IfOk result (λ _. take (length others.old.items) others.new.items ≡ others.old.items) }
-    ensures within { (n : ℕ) → All (IsDepWithin (below n)) others.old.items → All (IsDepWithin (below n)) deps.now
+    ensures within { (n : ℕ) → All (IsDepWithin (below n)) others.old.items
+        → All (IsDepWithin (below n)) deps.now
         → IfOk result (λ _. All (IsDepWithin (below n)) others.new.items) }
 {
     for dep in deps {

@@ -51,7 +51,7 @@ no_empty k other same = true≢false (sym (ap is_empty same) ∙ other)
 
 -- ---- one token
 -- what a token after the word `scheme` stands for, or what is wrong with it
-module _ (names : List (List ℕ)) (line behind : ℕ) (m : Mark) (ms : List Mark) (stop : Option Stop) where
+module _ (names : List (List ℕ)) (line after : ℕ) (m : Mark) (ms : List Mark) (stop : Option Stop) where
   pub record IsNamed (a : ℕ) : Type 0 where
     pub word : m.kind ≡ token.Word
     pub free : is_reserved format.Plain m.word ≡ false
@@ -59,7 +59,7 @@ module _ (names : List (List ℕ)) (line behind : ℕ) (m : Mark) (ms : List Mar
 
   abbrev pub Tells : Bool → Result ℕ PlanRefusal → Type 0
   Tells first (Ok a) = IsNamed a
-  Tells first (Err e) = WordComplaint names first m (plan_refusal_number e) × StandsAt line (span_at line behind (m ∷ ms) stop) (wanted_after first) 0 e
+  Tells first (Err e) = WordComplaint names first m (plan_refusal_number e) × StandsAt line (span_at line after (m ∷ ms) stop) (wanted_after first) 0 e
       × ((n : ℕ) → WordComplaint names first m n → plan_refusal_number e ≤ n)
 
   word_tells : (first : Bool) → m.kind ≡ token.Word → Tells first (of_text (at line m.column (length m.word) (looked_up format.Plain names m.word)))
@@ -125,11 +125,11 @@ pub record AreWords (names : List (List ℕ)) (first : Bool) (x : Places) (ms : 
   pub fine : (p n : ℕ) → WordsComplaint names first ms stop p n → ⊥
 
 abbrev pub WordsFit : List (List ℕ) → ℕ → Bool → Places → ℕ → List Mark → Option Stop → Result Places PlanRefusal → Type 0
-WordsFit names line first x behind ms stop (Ok y) = AreWords names first x ms stop y
-WordsFit names line first x behind ms stop (Err e) = IsFirstOf (WordsComplaint names first ms stop) (StandsAt line (span_at line behind ms stop) (wanted_after first)) e
+WordsFit names line first x after ms stop (Ok y) = AreWords names first x ms stop y
+WordsFit names line first x after ms stop (Err e) = IsFirstOf (WordsComplaint names first ms stop) (StandsAt line (span_at line after ms stop) (wanted_after first)) e
 
-named_fine : (names : List (List ℕ)) (line behind : ℕ) (first : Bool) (m : Mark) (ms : List Mark) (stop : Option Stop) (a n : ℕ) → IsNamed names line behind m ms stop a → WordComplaint names first m n → ⊥
-named_fine names line behind first m ms stop a n is h =
+named_fine : (names : List (List ℕ)) (line after : ℕ) (first : Bool) (m : Mark) (ms : List Mark) (stop : Option Stop) (a n : ℕ) → IsNamed names line after m ms stop a → WordComplaint names first m n → ⊥
+named_fine names line after first m ms stop a n is h =
     ⊎_elim
     (λ word. ⊎_elim
     (λ three. true≢false (sym three.1 ∙ is.free))
@@ -145,57 +145,57 @@ named_fine names line behind first m ms stop a n is h =
     apart e = cc
 
 -- a word, and then what follows it
-words_after : (names : List (List ℕ)) (line behind : ℕ) (first : Bool) (x : Places) (m : Mark) (ms : List Mark) (stop : Option Stop) (a : ℕ) (r : Result Places PlanRefusal)
-    → IsNamed names line behind m ms stop a → WordsFit names line false (union x (only a)) (m.column + length m.word) ms stop r → WordsFit names line first x behind (m ∷ ms) stop r
-words_after names line behind first x m ms stop a (Ok y) is fit = record {
+words_after : (names : List (List ℕ)) (line after : ℕ) (first : Bool) (x : Places) (m : Mark) (ms : List Mark) (stop : Option Stop) (a : ℕ) (r : Result Places PlanRefusal)
+    → IsNamed names line after m ms stop a → WordsFit names line false (union x (only a)) (m.column + length m.word) ms stop r → WordsFit names line first x after (m ∷ ms) stop r
+words_after names line after first x m ms stop a (Ok y) is fit = record {
   each = All-cons (IsAttribute format.Plain names) m ms (record { word = is.word; free = is.free; place = a; known = is.place }) fit.each;
   ended = fit.ended;
   some = λ _. omega arith;
   members = fit.members ∙ union-only x (named names ms) a ∙ ap (λ (z : Places). union x z) (sym (named-cons names m ms a is.place));
-  fine = later_fine (WordsComplaint names first (m ∷ ms) stop) (λ n h. named_fine names line behind first m ms stop a n is h) fit.fine;
+  fine = later_fine (WordsComplaint names first (m ∷ ms) stop) (λ n h. named_fine names line after first m ms stop a n is h) fit.fine;
 }
-words_after names line behind first x m ms stop a (Err e) is fit =
-    first_later (WordsComplaint names first (m ∷ ms) stop) (StandsAt line (span_at line behind (m ∷ ms) stop) (wanted_after first)) e
-    (λ n h. named_fine names line behind first m ms stop a n is h) fit
+words_after names line after first x m ms stop a (Err e) is fit =
+    first_later (WordsComplaint names first (m ∷ ms) stop) (StandsAt line (span_at line after (m ∷ ms) stop) (wanted_after first)) e
+    (λ n h. named_fine names line after first m ms stop a n is h) fit
 
-words_join : (names : List (List ℕ)) (line behind : ℕ) (first : Bool) (x : Places) (m : Mark) (ms : List Mark) (stop : Option Stop) (r : Result ℕ PlanRefusal)
+words_join : (names : List (List ℕ)) (line after : ℕ) (first : Bool) (x : Places) (m : Mark) (ms : List Mark) (stop : Option Stop) (r : Result ℕ PlanRefusal)
     → ((a : ℕ) → WordsFit names line false (union x (only a)) (m.column + length m.word) ms stop (read_words names line false (union x (only a)) ms stop))
-    → Tells names line behind m ms stop first r
-    → WordsFit names line first x behind (m ∷ ms) stop (and_then r (λ a. read_words names line false (union x (only a)) ms stop))
-words_join names line behind first x m ms stop (Ok a) later tells =
-    words_after names line behind first x m ms stop a (read_words names line false (union x (only a)) ms stop) tells (later a)
-words_join names line behind first x m ms stop (Err e) later tells =
-    first_here (WordsComplaint names first (m ∷ ms) stop) (StandsAt line (span_at line behind (m ∷ ms) stop) (wanted_after first)) e tells.0 tells.1 tells.2
+    → Tells names line after m ms stop first r
+    → WordsFit names line first x after (m ∷ ms) stop (and_then r (λ a. read_words names line false (union x (only a)) ms stop))
+words_join names line after first x m ms stop (Ok a) later tells =
+    words_after names line after first x m ms stop a (read_words names line false (union x (only a)) ms stop) tells (later a)
+words_join names line after first x m ms stop (Err e) later tells =
+    first_here (WordsComplaint names first (m ∷ ms) stop) (StandsAt line (span_at line after (m ∷ ms) stop) (wanted_after first)) e tells.0 tells.1 tells.2
 
-stopped_fit : (names : List (List ℕ)) (line : ℕ) (first : Bool) (behind : ℕ) (s : Stop)
-    → IsFirstOf (WordsComplaint names first [] (Some s)) (StandsAt line (span_at line behind [] (Some s)) (wanted_after first)) (plan.Text (refused_by line s))
-stopped_fit names line first behind s =
-    first_here (WordsComplaint names first [] (Some s)) (StandsAt line (span_at line behind [] (Some s)) (wanted_after first)) (plan.Text (refused_by line s))
+stopped_fit : (names : List (List ℕ)) (line : ℕ) (first : Bool) (after : ℕ) (s : Stop)
+    → IsFirstOf (WordsComplaint names first [] (Some s)) (StandsAt line (span_at line after [] (Some s)) (wanted_after first)) (plan.Text (refused_by line s))
+stopped_fit names line first after s =
+    first_here (WordsComplaint names first [] (Some s)) (StandsAt line (span_at line after [] (Some s)) (wanted_after first)) (plan.Text (refused_by line s))
     (refl, inr (s, refl, flaw_numbered s.flaw)) (refl, flaw_carries (λ w. w ≡ wanted_after first 0) s.flaw)
     (λ n h. ⊎_elim (λ ended. absurd (some_stop ended.0)) (λ flaw. flaw_least s n flaw) h.1)
   where
     some_stop : Some s ≡ None → ⊥
     some_stop e = cc
 
-pub words_fit : (names : List (List ℕ)) (line : ℕ) (first : Bool) (x : Places) (behind : ℕ) (ms : List Mark) (stop : Option Stop)
-    → WordsFit names line first x behind ms stop (read_words names line first x ms stop)
+pub words_fit : (names : List (List ℕ)) (line : ℕ) (first : Bool) (x : Places) (after : ℕ) (ms : List Mark) (stop : Option Stop)
+    → WordsFit names line first x after ms stop (read_words names line first x ms stop)
 unfolding read_words
-words_fit names line true x behind [] None =
-    first_here (WordsComplaint names true [] None) (StandsAt line (span_at line behind [] None) (wanted_after true)) (plan.EmptyScheme line)
+words_fit names line true x after [] None =
+    first_here (WordsComplaint names true [] None) (StandsAt line (span_at line after [] None) (wanted_after true)) (plan.EmptyScheme line)
     (refl, inl (refl, refl, refl)) refl
     (λ n h. ⊎_elim (λ ended. omega (arith, ended.2)) (λ flaw. absurd (no_flaw n flaw)) h.1)
-words_fit names line false x behind [] None = record {
+words_fit names line false x after [] None = record {
   each = All-nil (IsAttribute format.Plain names);
   ended = refl;
   some = λ first. absurd (false≢true first);
   members = sym (union-none x (named names []) refl);
   fine = λ p n h. ⊎_elim (λ ended. false≢true ended.1) (λ flaw. no_flaw n flaw) h.1;
 }
-words_fit names line true x behind [] (Some s) = stopped_fit names line true behind s
-words_fit names line false x behind [] (Some s) = stopped_fit names line false behind s
-words_fit names line true x behind (m ∷ ms) stop =
-    words_join names line behind true x m ms stop (attribute names line true m m.kind)
-    (λ a. words_fit names line false (union x (only a)) (m.column + length m.word) ms stop) (token_tells names line behind m ms stop true m.kind refl)
-words_fit names line false x behind (m ∷ ms) stop =
-    words_join names line behind false x m ms stop (attribute names line false m m.kind)
-    (λ a. words_fit names line false (union x (only a)) (m.column + length m.word) ms stop) (token_tells names line behind m ms stop false m.kind refl)
+words_fit names line true x after [] (Some s) = stopped_fit names line true after s
+words_fit names line false x after [] (Some s) = stopped_fit names line false after s
+words_fit names line true x after (m ∷ ms) stop =
+    words_join names line after true x m ms stop (attribute names line true m m.kind)
+    (λ a. words_fit names line false (union x (only a)) (m.column + length m.word) ms stop) (token_tells names line after m ms stop true m.kind refl)
+words_fit names line false x after (m ∷ ms) stop =
+    words_join names line after false x m ms stop (attribute names line false m m.kind)
+    (λ a. words_fit names line false (union x (only a)) (m.column + length m.word) ms stop) (token_tells names line after m ms stop false m.kind refl)

@@ -26,7 +26,9 @@ FlawComplaint stop number = (s : Stop) × (stop ≡ Some s) × (number ≡ flaw_
 -- one than the word `scheme`, or begins one scheme line too many
 abbrev pub HeadComplaint : ℕ → Mark → ℕ → Type 0
 HeadComplaint earlier m number =
-    ((is_scheme m.kind m.word ≡ false) × (((number ≡ 3) × (m.kind ≡ token.Word) × (is_reserved format.Plain m.word ≡ true)) ⊎ (number ≡ 6)))
+    ((is_scheme m.kind m.word ≡ false)
+    × (((number ≡ 3) × (m.kind ≡ token.Word) × (is_reserved format.Plain m.word ≡ true))
+    ⊎ (number ≡ 6)))
     ⊎ ((is_scheme m.kind m.word ≡ true) × (MOST_SCHEMES ≤ earlier) × (number ≡ 12))
 
 -- what is wrong with a token after the word `scheme`; `first` is whether it stands right after it
@@ -68,7 +70,8 @@ StandsAt line span want place (plan.NotCovered a) = ⊥
 StandsAt line span want place plan.Memory = ⊥
 
 -- a refusal is the complaint of the least place, and there that of the least number
-pub record IsFirstOf (Complaint : ℕ → ℕ → Type 0) (Stands : ℕ → PlanRefusal → Type 0) (e : PlanRefusal) : Type 0 where
+pub record IsFirstOf (Complaint : ℕ → ℕ → Type 0) (Stands : ℕ → PlanRefusal → Type 0) (e : PlanRefusal)
+    : Type 0 where
   pub place : ℕ
   pub complaint : Complaint place (plan_refusal_number e)
   pub there : Stands place e
@@ -112,4 +115,5 @@ pub record LeavesOut (names : List (List ℕ)) (lines : List (List ℕ)) (e : Pl
 -- a plan text over declared names is refused so
 abbrev pub RefusesPlan : List (List ℕ) → List ℕ → PlanRefusal → Type 0
 RefusesPlan names text e =
-    RefusesLines names 1 0 (line_texts (without_mark text)) e ⊎ LeavesOut names (line_texts (without_mark text)) e
+    RefusesLines names 1 0 (line_texts (without_mark text)) e
+    ⊎ LeavesOut names (line_texts (without_mark text)) e

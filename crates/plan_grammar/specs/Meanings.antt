@@ -42,7 +42,8 @@ abbrev pub MeansLines : List (List ℕ) → List (List ℕ) → List Places → 
 MeansLines names [] schemes = schemes ≡ []
 MeansLines names (line ∷ lines) schemes =
     (HasTokens (lex mode.Plain line) [] × MeansLines names lines schemes)
-    ⊎ ((x : Places) × (others : List Places) × MeansScheme names line x × MeansLines names lines others × (schemes ≡ x ∷ others))
+    ⊎ ((x : Places) × (others : List Places) × MeansScheme names line x × MeansLines names lines others
+    × (schemes ≡ x ∷ others))
 
 -- a plan text over declared names means schemes
 pub record MeansPlan (names : List (List ℕ)) (text : List ℕ) (schemes : List Places) : Type 0 where

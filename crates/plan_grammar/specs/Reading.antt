@@ -26,19 +26,22 @@ of_text (Err e) = Err (plan.Text e)
 
 -- the refusal of a token that no scheme line has there
 abbrev pub other_token : ℕ → Bool → Mark → PlanRefusal
-other_token line first m = plan.Text (refusal line m.column (length m.word) (kind.Expected (wanted_after first 0)))
+other_token line first m =
+    plan.Text (refusal line m.column (length m.word) (kind.Expected (wanted_after first 0)))
 
 -- what a token after the word `scheme` stands for
 abbrev pub attribute : List (List ℕ) → ℕ → Bool → Mark → TokenKind → Result ℕ PlanRefusal
 attribute names line first m token.Word = of_text (place names line m)
-attribute names line first m token.Empty = if first then Err (plan.EmptyScheme line) else Err (other_token line first m)
+attribute names line first m token.Empty = if first then Err (plan.EmptyScheme line)
+    else Err (other_token line first m)
 attribute names line first m token.Arrow = Err (other_token line first m)
 attribute names line first m token.DoubleArrow = Err (other_token line first m)
 attribute names line first m token.Colon = Err (other_token line first m)
 attribute names line first m (token.Number n) = Err (other_token line first m)
 
 -- the attributes after the word `scheme`, added to a set
-unfoldable pub read_words : List (List ℕ) → ℕ → Bool → Places → List Mark → Option Stop → Result Places PlanRefusal
+unfoldable pub read_words : List (List ℕ) → ℕ → Bool → Places → List Mark → Option Stop
+    → Result Places PlanRefusal
 read_words names line true x [] None = Err (plan.EmptyScheme line)
 read_words names line false x [] None = Ok x
 read_words names line first x [] (Some stop) = Err (plan.Text (refused_by line stop))
@@ -50,25 +53,30 @@ read_words_lexed names line first x l = read_words names line first x l.marks l.
 
 -- why a line can't begin with a token
 abbrev pub no_scheme : TokenKind → List ℕ → SchemaRefusalKind
-no_scheme token.Word word = if is_reserved format.Plain word then kind.ReservedName else kind.Expected what.Scheme
+no_scheme token.Word word = if is_reserved format.Plain word then kind.ReservedName
+    else kind.Expected what.Scheme
 no_scheme _ word = kind.Expected what.Scheme
 
 -- the scheme of a line that this token begins, where so many scheme lines stand before it
 abbrev pub read_scheme : List (List ℕ) → ℕ → ℕ → Mark → Lexed → Result Places PlanRefusal
 read_scheme names line earlier m l =
     if is_scheme m.kind m.word
-    then (if nat_le MOST_SCHEMES earlier then Err (plan.TooManySchemes line) else read_words_lexed names line true none l)
+    then (if nat_le MOST_SCHEMES earlier then Err (plan.TooManySchemes line)
+    else read_words_lexed names line true none l)
     else Err (plan.Text (refusal line m.column (length m.word) (no_scheme m.kind m.word)))
 
 -- the schemes with that of one line more
-unfoldable pub read_line : List (List ℕ) → ℕ → List Places → List Mark → Option Stop → Result (List Places) PlanRefusal
+unfoldable pub read_line : List (List ℕ) → ℕ → List Places → List Mark → Option Stop
+    → Result (List Places) PlanRefusal
 read_line names line schemes [] None = Ok schemes
 read_line names line schemes [] (Some stop) = Err (plan.Text (refused_by line stop))
 read_line names line schemes (m ∷ ms) stop =
-    and_then (read_scheme names line (length schemes) m (record { marks = ms; stop = stop })) (λ x. Ok (schemes ++ x ∷ []))
+    and_then (read_scheme names line (length schemes) m (record { marks = ms; stop = stop }))
+    (λ x. Ok (schemes ++ x ∷ []))
 
 -- the schemes of lines, of which the first has this number, after other schemes
 unfoldable pub read_lines : List (List ℕ) → ℕ → List Places → List (List ℕ) → Result (List Places) PlanRefusal
 read_lines names number schemes [] = Ok schemes
 read_lines names number schemes (line ∷ lines) =
-    and_then (read_line names number schemes (lex mode.Plain line).marks (lex mode.Plain line).stop) (λ more. read_lines names (number + 1) more lines)
+    and_then (read_line names number schemes (lex mode.Plain line).marks (lex mode.Plain line).stop)
+    (λ more. read_lines names (number + 1) more lines)

@@ -15,7 +15,8 @@ use schema_grammar::Format;
 
 /// Lines are read as the schemes that they mean.
 pub fn lines_are_read()
-    ensures law { (names lines : List (List ℕ)) (schemes : List Places) → read_lines names 1 [] lines ≡ Ok schemes
+    ensures law { (names lines : List (List ℕ)) (schemes : List Places)
+        → read_lines names 1 [] lines ≡ Ok schemes
         → MeansLines names lines schemes × (length schemes ≤ MOST_SCHEMES) }
 {}
 

@@ -26,7 +26,8 @@ abbrev pub InKeptClosure : ℕ → List Dependency → List Places → Places �
 InKeptClosure n ds plan x a = (a < n) × FollowsInside n ds plan x (only a)
 
 -- a relation obeys the dependencies inside the schemes, and breaks x -> y
-pub record ShowsLost (n : ℕ) (ds : List Dependency) (plan : List Places) (x y : Places) (r : Relation) : Type 0 where
+pub record ShowsLost (n : ℕ) (ds : List Dependency) (plan : List Places) (x y : Places) (r : Relation)
+    : Type 0 where
   pub inside : ObeysInside n ds plan r
   pub breaks : ObeysFd x y r → ⊥
 
@@ -38,7 +39,8 @@ IsKept n ds plan (mvd x y) = Unit {0}
 
 -- a set is all that follows from x by the dependencies inside the schemes, and the two tuples that agree
 -- exactly on it obey these and break x -> y
-pub record AgreesOnLoss (n : ℕ) (ds : List Dependency) (plan : List Places) (x y agreement : Places) : Type 0 where
+pub record AgreesOnLoss (n : ℕ) (ds : List Dependency) (plan : List Places) (x y agreement : Places)
+    : Type 0 where
   pub closure : (a : ℕ) → (agreement a ≡ true) ↔ InKeptClosure n ds plan x a
   pub shows : ShowsLost n ds plan x y (two_tuples n agreement)
 

@@ -9,7 +9,8 @@ use Rattle.preservation.specs.Keeping.{InKeptClosure, ObeysInside}
 -- what a part of c determines by the functional dependencies inside a scheme lies within e
 abbrev pub IsSettledIn : ℕ → List Dependency → Places → Places → Places → Type 0
 IsSettledIn n ds scheme c e =
-    (x y : Places) → Within (union x y) scheme → Implies n (functional_part ds) (fd x y) → Within x c → Within y e
+    (x y : Places) → Within (union x y) scheme → Implies n (functional_part ds) (fd x y) → Within x c
+    → Within y e
 
 -- c is all that follows from x by the dependencies inside the schemes of a plan, and the two tuples that
 -- agree exactly on it obey these

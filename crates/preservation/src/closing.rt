@@ -63,7 +63,8 @@ fn with_schemes(
     requires closed { Within (places closed) (universe_of schema.now) }
     ensures grows { Within (places closed) (places result) }
     ensures within { Within (places result) (universe_of schema.now) }
-    ensures kept { (r : Relation) → ObeysInside (width_of schema.now) (theory_of schema.now) (known_plan insides.old) r
+    ensures kept { (r : Relation)
+        → ObeysInside (width_of schema.now) (theory_of schema.now) (known_plan insides.old) r
         → ObeysFd (places closed) (places result) r }
     ensures settled { Within (places result) (places closed)
         → All (λ scheme. IsSettledIn (width_of schema.now) (theory_of schema.now) (places scheme)

@@ -20,7 +20,8 @@ fn schema(rt: &(impl Alloc<A = Global> + Abort), text: &[u8]) -> Schema {
 }
 
 fn are_within(schema: &Schema, schemes: &[AttrSet]) -> bool
-    ensures within { result ≡ true → All (λ scheme. Within (places scheme) (universe_of schema.now)) schemes.now }
+    ensures within { result ≡ true
+        → All (λ scheme. Within (places scheme) (universe_of schema.now)) schemes.now }
 {
     let universe = AttrSet::full(schema.width());
     schemes.iter().all(|scheme| scheme.within(universe))

@@ -24,7 +24,7 @@ use Rattle.proof_grammar.proofs.CheckedLemmas.{bind_ok, at_line-ok, read_proof_c
 use Rattle.derivation.proofs.RuleTableLemmas.{the_ok}
 use Rattle.proof_grammar.proofs.CountedLines.{counted, Counts, kind_counts, line_of_attributes}
 use Rattle.proof_grammar.proofs.DepthLemmas.{uses_first, nodes_size, no_deeper}
-use Rattle.proof_grammar.proofs.EnteredLaws.{Follows, IsEntered, used_behind, premises_early, entered_there, entered_back}
+use Rattle.proof_grammar.proofs.EnteredLaws.{Follows, IsEntered, used_after, premises_early, entered_there, entered_back}
 use Rattle.proof_grammar.proofs.FinishedLaws.{IsFinished, finished_there, finished_back}
 use Rattle.proof_grammar.proofs.LineLaws.{line_there, line_back}
 
@@ -53,14 +53,14 @@ at_end s used ts book last t follows few h = record {
 
 -- a line, and what is left
 line_more : (s : Schema) (used : ℕ → ℕ) (ts : List Tree) (text : List ℕ) (texts : List (List ℕ)) (l : Line) (u t : Tree) (next : Ledger) → MeansLine (names_of s) text l
-    → IsEntered s used ts l next u → GoesOn s (used_behind used l) (ts ++ u ∷ []) texts t → GoesOn s used ts (text ∷ texts) t
+    → IsEntered s used ts l next u → GoesOn s (used_after used l) (ts ++ u ∷ []) texts t → GoesOn s used ts (text ∷ texts) t
 line_more s used ts text texts l u t next means enters goes = record {
   more = l ∷ goes.more;
   trees = u ∷ goes.trees;
   mean = (means, goes.mean);
   nodes = (enters.node, goes.nodes);
   few = omega (arith, goes.few, length-append ts (u ∷ []));
-  done = done_same (λ n. used_behind used l n + uses n goes.more) (λ n. used n + uses n (l ∷ goes.more)) ((ts ++ u ∷ []) ++ goes.trees) (ts ++ u ∷ goes.trees) t
+  done = done_same (λ n. used_after used l n + uses n goes.more) (λ n. used n + uses n (l ∷ goes.more)) ((ts ++ u ∷ []) ++ goes.trees) (ts ++ u ∷ goes.trees) t
       (λ n. omega (arith, uses_first n l goes.more)) (append_assoc ts (u ∷ []) goes.trees) goes.done;
 }
 
@@ -68,7 +68,7 @@ in_line_ok : {A : Type 0} (r : Result A SchemaRefusal) (x : A) → in_line r ≡
 in_line_ok (Ok y) x h = cc
 in_line_ok (Err e) x h = cc
 
--- what is read of the lines behind this one
+-- what is read of the lines after this one
 abbrev ReadsOn : Schema → ℕ → List (List ℕ) → Tree → Type 0
 ReadsOn s number texts t =
     (fresh : Bool) (used : ℕ → ℕ) (ts : List Tree) (book : Ledger) → Follows s used ts book → length ts ≤ MOST_NODES → read_lines s fresh number book texts ≡ Ok t → GoesOn s used ts (counted fresh texts) t
@@ -95,7 +95,7 @@ line_there_more Certificate s fresh number used ts book text texts t next follow
     let same = the_ok {A = Bool × Ledger} {E = Complaint} (false, second.0) next second.2 in
     let left = subst (λ (n : Bool × Ledger). read_lines s n.0 (number + 1) n.1 texts ≡ Ok t) (sym same) rest in
     let room : length (ts ++ u ∷ []) ≤ MOST_NODES = omega (arith, enters.1.few_lines, length-append ts (u ∷ [])) in
-    let goes = on false (used_behind used l) (ts ++ u ∷ []) second.0 enters.1.follows room left in
+    let goes = on false (used_after used l) (ts ++ u ∷ []) second.0 enters.1.follows room left in
     subst (λ (ls : List (List ℕ)). GoesOn s used ts ls t) (sym (counts texts)) (line_more s used ts text (counted false texts) l u t second.0 means enters.1 goes)
 
 nothing_counts : (fresh : Bool) → counted fresh [] ≡ []
@@ -122,17 +122,17 @@ record CanGoOn (s : Schema) (used : ℕ → ℕ) (ts : List Tree) (more : List L
   done : IsFinished (λ n. used n + uses n more) (ts ++ us) t
 
 can_more : (s : Schema) (used : ℕ → ℕ) (ts : List Tree) (l : Line) (more : List Line) (u : Tree) (us : List Tree) (t : Tree) → CanGoOn s used ts (l ∷ more) (u ∷ us) t
-    → CanGoOn s (used_behind used l) (ts ++ u ∷ []) more us t
+    → CanGoOn s (used_after used l) (ts ++ u ∷ []) more us t
 can_more s used ts l more u us t can = record {
   nodes = can.nodes.1;
   few = omega (arith, can.few, length-append ts (u ∷ []));
   flat = λ i v h. can.flat (suc i) v h;
   once = λ n h. omega (arith, can.once n h, uses_first n l more);
-  done = done_same (λ n. used n + uses n (l ∷ more)) (λ n. used_behind used l n + uses n more) (ts ++ u ∷ us) ((ts ++ u ∷ []) ++ us) t
+  done = done_same (λ n. used n + uses n (l ∷ more)) (λ n. used_after used l n + uses n more) (ts ++ u ∷ us) ((ts ++ u ∷ []) ++ us) t
       (λ n. omega (arith, uses_first n l more)) (sym (append_assoc ts (u ∷ []) us)) can.done;
 }
 
--- what lines behind this one come to
+-- what lines after this one come to
 abbrev ReadsBack : Schema → ℕ → List (List ℕ) → Tree → Type 0
 ReadsBack s number texts t =
     (fresh : Bool) (used : ℕ → ℕ) (ts : List Tree) (book : Ledger) (more : List Line) (us : List Tree) → Follows s used ts book → MeanLines (names_of s) (counted fresh texts) more
@@ -155,10 +155,10 @@ line_back_read s number text texts t used ts book fresh (l ∷ more) [] follows 
 line_back_read s number text texts t used ts book fresh (l ∷ more) (u ∷ us) follows (means, rest) can on =
     let own = line_of_attributes s text l means in
     let room : length ts < MOST_NODES = omega (arith, can.few) in
-    let single : (n : ℕ) → 0 < n → used_behind used l n ≤ 1 = λ n h. omega (arith, can.once n h, uses_first n l more) in
+    let single : (n : ℕ) → 0 < n → used_after used l n ≤ 1 = λ n h. omega (arith, can.once n h, uses_first n l more) in
     let enters = entered_back s number used ts book l u follows own can.nodes.0 room (can.flat 0 u refl) single in
     let reads = line_back (names_of s) number text l means in
-    rw (reads, enters.1) (on false (used_behind used l) (ts ++ u ∷ []) enters.0 more us enters.2.follows rest (can_more s used ts l more u us t can))
+    rw (reads, enters.1) (on false (used_after used l) (ts ++ u ∷ []) enters.0 more us enters.2.follows rest (can_more s used ts l more u us t can))
 
 line_back_more : (k : LineKind) (s : Schema) (number : ℕ) (text : List ℕ) (texts : List (List ℕ)) (t : Tree) (used : ℕ → ℕ) (ts : List Tree) (book : Ledger) (fresh : Bool) (more : List Line)
     (us : List Tree) → Follows s used ts book → MeanLines (names_of s) (counted fresh (text ∷ texts)) more → CanGoOn s used ts more us t → Counts k fresh text → ReadsBack s (number + 1) texts t

@@ -16,7 +16,7 @@ abbrev repeated : ℕ → ℕ → ℕ
 repeated zero m = 0
 repeated (suc k) m = m + repeated k m
 
--- the trees stand behind so many others
+-- the trees stand after so many others
 abbrev used_nodes : (ℕ → ℕ) → ℕ → List Tree → ℕ
 used_nodes used n [] = 0
 used_nodes used n (t ∷ ts) = repeated (used (n + 1)) (nodes t) + used_nodes used (n + 1) ts

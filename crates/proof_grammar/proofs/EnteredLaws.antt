@@ -65,20 +65,20 @@ settled_back before l levels outcome t few_lines few_levels concludes =
     rw (lines, deep, concludes, same_self l.stated) refl
 
 -- ---- what is entered
--- the ledger behind lines that are used so often
+-- the ledger after lines that are used so often
 pub record Follows (s : Schema) (used : ℕ → ℕ) (ts : List Tree) (book : Ledger) : Type 0 where
   pub slots : AreSlots s used 0 ts book.unused
   pub fresh : (n : ℕ) → length ts ≤ n → used n ≡ 0
 
-abbrev pub used_behind : (ℕ → ℕ) → Line → ℕ → ℕ
-used_behind used l n = used n + times n (premises_of l.body)
+abbrev pub used_after : (ℕ → ℕ) → Line → ℕ → ℕ
+used_after used l n = used n + times n (premises_of l.body)
 
--- a node within the limits, behind which the ledger follows
+-- a node within the limits, after which the ledger follows
 pub record IsEntered (s : Schema) (used : ℕ → ℕ) (ts : List Tree) (l : Line) (next : Ledger) (t : Tree) : Type 0 where
   pub node : IsNode s ts l t
   pub few_lines : length ts < MOST_NODES
   pub few_levels : depth t ≤ MOST_LEVELS
-  pub follows : Follows s (used_behind used l) (ts ++ t ∷ []) next
+  pub follows : Follows s (used_after used l) (ts ++ t ∷ []) next
 
 premise_early : (ts : List Tree) (p n : ℕ) (t : Tree) → IsTreeAt ts p t → length ts < n → times n (p ∷ []) ≡ 0
 premise_early ts p n t at late =
@@ -93,15 +93,15 @@ premises_early ts l (by_step rule p) t n tree late = premise_early ts p n tree.p
 premises_early ts l (by_pair rule p q) t n tree late =
     omega (arith, times_two n p q, premise_early ts p n tree.first tree.first_earlier late, premise_early ts q n tree.second tree.second_earlier late)
 
--- the ledger behind one line more
+-- the ledger after one line more
 pushed : (s : Schema) (used : ℕ → ℕ) (ts : List Tree) (os : List (Option Opened)) (l : Line) (t : Tree) (o : Opened) (next : Ledger)
-    → ((n : ℕ) → length ts ≤ n → used n ≡ 0) → IsTreeOf ts l l.body t → AreSlots s (used_behind used l) 0 ts os → IsOpen s t o → next.unused ≡ os ++ Some o ∷ []
-    → Follows s (used_behind used l) (ts ++ t ∷ []) next
+    → ((n : ℕ) → length ts ≤ n → used n ≡ 0) → IsTreeOf ts l l.body t → AreSlots s (used_after used l) 0 ts os → IsOpen s t o → next.unused ≡ os ++ Some o ∷ []
+    → Follows s (used_after used l) (ts ++ t ∷ []) next
 pushed s used ts os l t o next fresh tree slots is e =
-    let later : (n : ℕ) → length ts < n → used_behind used l n ≡ 0 = λ n h. omega (arith, fresh n (omega (arith, h)), premises_early ts l l.body t n tree h) in
+    let later : (n : ℕ) → length ts < n → used_after used l n ≡ 0 = λ n h. omega (arith, fresh n (omega (arith, h)), premises_early ts l l.body t n tree h) in
     let longer : length (ts ++ t ∷ []) ≡ length ts + 1 = length-append ts (t ∷ []) in
     record {
-      slots = subst (AreSlots s (used_behind used l) 0 (ts ++ t ∷ [])) (sym e) (slots_push s (used_behind used l) 0 ts os t (Some o) slots (later (0 + length ts + 1) (omega arith), is));
+      slots = subst (AreSlots s (used_after used l) 0 (ts ++ t ∷ [])) (sym e) (slots_push s (used_after used l) 0 ts os t (Some o) slots (later (0 + length ts + 1) (omega arith), is));
       fresh = λ n h. later n (omega (arith, h, longer));
     }
 
@@ -146,7 +146,7 @@ entered_there s at used ts book next l follows own h =
     counted false r g = cc
 
 pub entered_back : (s : Schema) (at : ℕ) (used : ℕ → ℕ) (ts : List Tree) (book : Ledger) (l : Line) (t : Tree) → Follows s used ts book → IsLineOfAttributes l → IsNode s ts l t
-    → length ts < MOST_NODES → depth t ≤ MOST_LEVELS → ((n : ℕ) → 0 < n → used_behind used l n ≤ 1) → (next : Ledger) × (entered s at book l ≡ Ok next) × IsEntered s used ts l next t
+    → length ts < MOST_NODES → depth t ≤ MOST_LEVELS → ((n : ℕ) → 0 < n → used_after used l n ≤ 1) → (next : Ledger) × (entered s at book l ≡ Ok next) × IsEntered s used ts l next t
 unfolding entered
 entered_back s at used ts book l t follows own node few_lines few_levels once =
     let os = book.unused in

@@ -21,7 +21,7 @@ use Rattle.proof_grammar.proofs.DepthLemmas.{uses_first}
 use Rattle.proof_grammar.proofs.NodeLemmas.{uses-append}
 use Rattle.proof_grammar.proofs.SlotLemmas.{IsSlot, AreSlots, SlotAt, times, slots_size, slot_of_tree, tree_of_slot}
 use Rattle.proof_grammar.proofs.PreparedLaws.{IsLineOfAttributes}
-use Rattle.proof_grammar.proofs.EnteredLaws.{Follows, IsEntered, used_behind, entered_there}
+use Rattle.proof_grammar.proofs.EnteredLaws.{Follows, IsEntered, used_after, entered_there}
 use Rattle.proof_grammar.specs.Wrongs.{NamesNoLine, UsesTwice, NodeFault, Wrong, rank, IsFirstWrong}
 use Rattle.proof_grammar.proofs.OneTree.{tree_of_line}
 use Rattle.proof_grammar.proofs.WrongLemmas.{IsBehind, first_of, no_fault, one_of_rank}
@@ -31,8 +31,8 @@ use Rattle.proof_grammar.proofs.PreparedRefusals.{NamesNone, IsTwice, AllEarlier
 named_uses : (n : ℕ) (l : Line) → uses n (l ∷ []) ≡ times n (premises_of l.body)
 named_uses n l = uses_first n l [] ∙ omega arith
 
-behind_uses : (n : ℕ) (lines : List Line) (l : Line) → uses n (lines ++ l ∷ []) ≡ uses n lines + times n (premises_of l.body)
-behind_uses n lines l = uses-append n lines (l ∷ []) ∙ ap (λ k. uses n lines + k) (named_uses n l)
+after_uses : (n : ℕ) (lines : List Line) (l : Line) → uses n (lines ++ l ∷ []) ≡ uses n lines + times n (premises_of l.body)
+after_uses n lines l = uses-append n lines (l ∷ []) ∙ ap (λ k. uses n lines + k) (named_uses n l)
 
 names_line : (ts : List Tree) (l : Line) → NamesNone ts (premises_of l.body) → NamesNoLine ts l
 names_line ts l is = record { premise = is.premise; named = omega (arith, is.named, named_uses is.premise l); missing = is.missing }
@@ -46,12 +46,12 @@ uses_twice : (lines : List Line) (l : Line) → IsTwice (λ n. uses n lines) (pr
 uses_twice lines l is = record {
   premise = is.premise;
   named = omega (arith, is.named, named_uses is.premise l);
-  twice = omega (arith, is.twice, behind_uses is.premise lines l);
+  twice = omega (arith, is.twice, after_uses is.premise lines l);
 }
 
 not_twice : (lines : List Line) (l : Line) → AllOnce (λ n. uses n lines) (premises_of l.body) → UsesTwice lines l → ⊥
 not_twice lines l once is =
-    let few = once is.premise (omega (arith, is.named, named_uses is.premise l)) in omega (arith, few, is.twice, behind_uses is.premise lines l)
+    let few = once is.premise (omega (arith, is.named, named_uses is.premise l)) in omega (arith, few, is.twice, after_uses is.premise lines l)
 
 -- ---- a refusal is for the first complaint
 abbrev Refused : {X : Type 0} → Schema → List Line → List Tree → Line → Result X Complaint → Type 0
@@ -219,7 +219,7 @@ slot_once s used ts os n slots some within = told found.slot found.is
 entered_once : (s : Schema) (used : ℕ → ℕ) (ts : List Tree) (l : Line) (next : Ledger) (t : Tree) → IsEntered s used ts l next t → AllOnce used (premises_of l.body)
 entered_once s used ts l next t is n some =
     let within = tree_earlier ts l l.body t is.node.tree n some in
-    slot_once s (used_behind used l) (ts ++ t ∷ []) next.unused n is.follows.slots within.0 (omega (arith, within.1, length-append ts (t ∷ [])))
+    slot_once s (used_after used l) (ts ++ t ∷ []) next.unused n is.follows.slots within.0 (omega (arith, within.1, length-append ts (t ∷ [])))
 
 -- nothing is wrong with a line that is entered
 nothing_wrong : (s : Schema) (lines : List Line) (ts : List Tree) (l : Line) (next : Ledger) (t : Tree) (c : Complaint) → IsEntered s (λ n. uses n lines) ts l next t → Wrong s lines ts l c → ⊥

@@ -13,7 +13,7 @@ use Rattle.proof_grammar.proofs.NodeLemmas.{seam}
 use Rattle.proof_grammar.proofs.SlotLemmas.{IsSlot, AreSlots}
 use Rattle.proof_grammar.proofs.EnteredLaws.{Follows}
 
--- lines behind so many others are used once
+-- lines after so many others are used once
 abbrev pub AreUsed : (ℕ → ℕ) → ℕ → ℕ → Type 0
 AreUsed used n m = (k : ℕ) → n < k → k ≤ n + m → used k ≡ 1
 
@@ -83,7 +83,7 @@ pub last_tree : (t : Tree) (ts : List Tree) → HasLast (t ∷ ts)
 last_tree t [] = record { before = []; tree = t; whole = refl }
 last_tree t (u ∷ ts) = let last = last_tree u ts in record { before = t ∷ last.before; tree = last.tree; whole = ap (λ us. t ∷ us) last.whole }
 
--- what is finished behind a last slot
+-- what is finished after a last slot
 pub ends : (last : ℕ) (lines : List ℕ) (os front : List (Option Opened)) (slot : Option Opened) → os ≡ front ++ slot ∷ []
     → finished last (record { lines = lines; unused = os }) ≡ finished_at last lines (position is_some front) slot
 unfolding finished

@@ -11,7 +11,7 @@ use Rattle.proof_grammar.proofs.SlotLemmas.{IsSlot, AreSlots, slots_size}
 use Rattle.proof_grammar.proofs.EnteredLaws.{Follows}
 
 -- ---- the first open slot
--- among slots behind so many others; those before it are used once
+-- among slots after so many others; those before it are used once
 pub record IsFirstOpen (used : ℕ → ℕ) (n i size : ℕ) : Type 0 where
   pub inside : i < size
   pub unused : used (n + i + 1) ≡ 0

@@ -18,7 +18,7 @@ use Rattle.proof_grammar.specs.Meanings.{IsNumber, IsColon, IsRule, MeansLine}
 use Rattle.schema_grammar.specs.Rests.{Rest, rest_from, number, arrow, ended, side, arrow_in, is_word}
 use Rattle.proof_grammar.specs.Readers.{colon, rule_name}
 use Rattle.proof_grammar.proofs.SideLaws.{bound, ok_same, ReadsSide, side_there, NoWord, side_back}
-use Rattle.proof_grammar.proofs.TokenLaws.{Reads, behind_of, number_there, colon_there, arrow_there, rest_at, number_back, colon_back, arrow_back}
+use Rattle.proof_grammar.proofs.TokenLaws.{Reads, after_of, number_there, colon_there, arrow_there, rest_at, number_back, colon_back, arrow_back}
 use Rattle.proof_grammar.proofs.RuleLaws.{RuleEnds, rule_there, rule_back}
 
 -- ---- the dependency
@@ -80,7 +80,7 @@ dependency_back : (names : List (List ℕ)) (at from : ℕ) (marks tail : List M
 unfolding stated_dependency
 dependency_back names at from marks tail d is other =
     let left = side_back names at from is.lhs (is.arrow ∷ is.rhs ++ tail) None is.x is.left_side (arrow_other is.sign is.arrow.kind is.is_arrow) in
-    let right = side_back names at (behind_of is.arrow) is.rhs tail None is.y is.right_side other in
+    let right = side_back names at (after_of is.arrow) is.rhs tail None is.y is.right_side other in
     let whole : marks ++ tail ≡ is.lhs ++ (is.arrow ∷ is.rhs ++ tail) = ap (λ t. t ++ tail) is.whole ∙ append_assoc is.lhs (is.arrow ∷ is.rhs) tail in
     record {
       behind = right.behind;
@@ -172,12 +172,12 @@ pub line_back : (names : List (List ℕ)) (number : ℕ) (text : List ℕ) (l : 
 unfolding line ended
 line_back names at text l means =
     let rest = means.stated ++ means.second ∷ means.rule in
-    let d = dependency_back names at (behind_of means.first) means.stated (means.second ∷ means.rule) l.stated means.dependency (ap is_word means.second_colon) in
-    let r = rule_back names at (behind_of means.second) means.rule l.body means.is_rule in
+    let d = dependency_back names at (after_of means.first) means.stated (means.second ∷ means.rule) l.stated means.dependency (ap is_word means.second_colon) in
+    let r = rule_back names at (after_of means.second) means.rule l.body means.is_rule in
     ap (λ t. line names (rest_from at 1 t)) means.tokens
     ∙ rw (
       number_back at 1 l.number means.number (means.first ∷ rest) means.is_number,
-      colon_back at (behind_of means.number) means.first rest means.first_colon,
+      colon_back at (after_of means.number) means.first rest means.first_colon,
       d.read,
       colon_back at d.behind means.second means.rule means.second_colon,
       r.name,

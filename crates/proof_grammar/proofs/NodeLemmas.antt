@@ -28,7 +28,7 @@ pub seam : {X : Type 0} (xs : List X) (x : X) (ys : List X) → slice_get (xs ++
 seam [] x ys = refl
 seam (v ∷ xs) x ys = seam xs x ys
 
--- the tree behind others is at their number and 1
+-- the tree after others is at their number and 1
 pub IsTreeAt-seam : (all ts : List Tree) (t : Tree) (us : List Tree) (p : ℕ) → all ≡ ts ++ t ∷ us → p ≡ length ts + 1 → IsTreeAt all p t
 IsTreeAt-seam all ts t us p e count = record { before = length ts; number = count; tree = rw e (seam ts t us) }
 
@@ -59,7 +59,7 @@ uses_pair : (k n : ℕ) (d : Dependency) (rule : Pair) (p q : ℕ) → uses k (n
 uses_pair k n d rule p q =
     filtered_more k p (q ∷ []) (nat_eq k p) refl ∙ ap (λ m. once k p + m) (filtered_more k q [] (nat_eq k q) refl) ∙ omega arith
 
--- behind n others, lines use each of their own m but the last once, and no line else
+-- after n others, lines use each of their own m but the last once, and no line else
 pub record UseOwn (lines : List Line) (n m : ℕ) : Type 0 where
   pub own : (k : ℕ) → n < k → k < n + m → uses k lines ≡ 1
   pub below : (k : ℕ) → k ≤ n → uses k lines ≡ 0
@@ -92,7 +92,7 @@ pair_uses xs ys n a b i d rule some_a some_b first second =
     let sums : (k : ℕ) → uses k ((xs ++ ys) ++ last) ≡ (uses k xs + uses k ys) + (once k (n + a) + once k (n + a + b)) =
     λ k. uses-append k (xs ++ ys) last ∙ ap (λ r. uses k (xs ++ ys) + r) (uses_pair k i d rule (n + a) (n + a + b)) ∙ ap (λ r. r + (once k (n + a) + once k (n + a + b))) (uses-append k xs ys) in
     let whole = (xs ++ ys) ++ last in
-    let behind_first : (k : ℕ) → n + a < k → k < n + a + b + 1 → uses k whole ≡ 1 = λ k low high.
+    let after_the_first : (k : ℕ) → n + a < k → k < n + a + b + 1 → uses k whole ≡ 1 = λ k low high.
     let past : n + a ≤ k = omega arith in
     ⊎_elim
     (λ less. grind (arith, nat_tests, sums k, first.above k past, second.own k low less))
@@ -103,7 +103,7 @@ pair_uses xs ys n a b i d rule some_a some_b first second =
           (λ here. let early : k ≤ n + a = omega arith in let past : n + a ≤ k = omega arith in grind (arith, nat_tests, sums k, first.above k past, second.below k early))
           (λ sides. ⊎_elim
           (λ less. let early : k ≤ n + a = omega arith in grind (arith, nat_tests, sums k, first.own k low less, second.below k early))
-          (λ more. behind_first k more (omega arith))
+          (λ more. after_the_first k more (omega arith))
           sides)
           (cases_order k (n + a));
       below = λ k low. let early : k ≤ n + a = omega arith in grind (arith, nat_tests, sums k, first.below k low, second.below k early);

@@ -1,4 +1,4 @@
--- A certificate line behind so many others stands in one line of a text.
+-- A certificate line after so many others stands in one line of a text.
 use Rattle.std.proofs.Common.{◌≡◌, ◌<◌, ◌≤◌, ⊎_elim, ℕ, Bool, true, false, not, List, [], ◌∷◌, ◌++◌, length, refl, sym, ◌∙◌, ap, arith, length-append, append_assoc}
 use Rattle.std.specs.Prelude.{filter}
 use Rattle.std.proofs.lemmas.Bool.{cases_order}
@@ -23,7 +23,7 @@ certificate_grows xs ys =
     let spoken = λ (text : List ℕ). not (is_blank (lex mode.Numbered text)) in
     rw (filter-append spoken xs ys) (without_yes_grows (filter spoken xs) (filter spoken ys))
 
--- ---- a place behind another
+-- ---- a place after another
 record GoesBeyond (shorter longer : List (List ℕ)) (here : List ℕ) : Type 0 where
   between : List (List ℕ)
   whole : longer ≡ shorter ++ here ∷ between

@@ -190,7 +190,7 @@ answered_lines names ls are all =
     ap (λ t. line_texts (codes "yes\n" ++ t)) (lines_are names ls) ∙ lines_cut (codes "yes" ∷ ts) (refl, each_line names ls are all) in
     ap (λ lines. without_yes (filter (λ line. not (is_blank (lex mode.Numbered line))) lines)) cut ∙ yes_passed names ts ls (each_means names ls are all)
 
--- they mean the same behind the answer
+-- they mean the same after the answer
 pub answered_lines_mean : (names : List (List ℕ)) (ls : List Line) → AreNames format.Plain names → ArePrintableLines names ls
     → MeanLines names (certificate_lines (codes "yes\n" ++ lines_text names ls)) ls
 answered_lines_mean names ls are all =

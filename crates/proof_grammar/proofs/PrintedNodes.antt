@@ -12,7 +12,7 @@ use Rattle.derivation.specs.Table.{leaf_conclusion}
 use Rattle.derivation.proofs.ConclusionLemmas.{concluded-from}
 use Rattle.derivation.proofs.RuleTableLemmas.{chosen}
 use Rattle.proof_grammar.specs.Lines.{by_step, by_pair}
-use Rattle.proof_grammar.specs.Printing.{leaf_body, numbered_line, lines_behind}
+use Rattle.proof_grammar.specs.Printing.{leaf_body, numbered_line, node_lines_after}
 use Rattle.proof_grammar.specs.Spelling.{AreNodes, IsTreeOf, IsNode, AreNodesOf}
 use Rattle.proof_grammar.proofs.NodeLemmas.{AreNodes-append, IsTreeAt-seam, UseOwn, leaf_uses, step_uses, pair_uses}
 
@@ -22,32 +22,32 @@ some_nodes (step rule t) = omega arith
 some_nodes (pair rule t u) = omega arith
 
 -- ---- the lines, where the tree proves a dependency
-pub leaf_behind : (s : Schema) (n : ℕ) (rule : Leaf) (d : Dependency) → Proves s (leaf rule) d
-    → lines_behind s n (leaf rule) ≡ numbered_line (n + 1) d (leaf_body rule) ∷ []
-leaf_behind s n rule d proves = let concludes : concluded s 0 (leaf rule) ≡ Ok d = concluded-from s 0 (leaf rule) d proves in rw concludes refl
+pub leaf_after : (s : Schema) (n : ℕ) (rule : Leaf) (d : Dependency) → Proves s (leaf rule) d
+    → node_lines_after s n (leaf rule) ≡ numbered_line (n + 1) d (leaf_body rule) ∷ []
+leaf_after s n rule d proves = let concludes : concluded s 0 (leaf rule) ≡ Ok d = concluded-from s 0 (leaf rule) d proves in rw concludes refl
 
-pub step_behind : (s : Schema) (n : ℕ) (rule : Step) (t : Tree) (d : Dependency) → Proves s (step rule t) d
-    → lines_behind s n (step rule t) ≡ lines_behind s n t ++ numbered_line (n + nodes t + 1) d (by_step rule (n + nodes t)) ∷ []
-step_behind s n rule t d proves = let concludes : concluded s 0 (step rule t) ≡ Ok d = concluded-from s 0 (step rule t) d proves in rw concludes refl
+pub step_after : (s : Schema) (n : ℕ) (rule : Step) (t : Tree) (d : Dependency) → Proves s (step rule t) d
+    → node_lines_after s n (step rule t) ≡ node_lines_after s n t ++ numbered_line (n + nodes t + 1) d (by_step rule (n + nodes t)) ∷ []
+step_after s n rule t d proves = let concludes : concluded s 0 (step rule t) ≡ Ok d = concluded-from s 0 (step rule t) d proves in rw concludes refl
 
-pub pair_behind : (s : Schema) (n : ℕ) (rule : Pair) (t u : Tree) (d : Dependency) → Proves s (pair rule t u) d
-    → lines_behind s n (pair rule t u)
-    ≡ (lines_behind s n t ++ lines_behind s (n + nodes t) u) ++ numbered_line (n + nodes t + nodes u + 1) d (by_pair rule (n + nodes t) (n + nodes t + nodes u)) ∷ []
-pair_behind s n rule t u d proves = let concludes : concluded s 0 (pair rule t u) ≡ Ok d = concluded-from s 0 (pair rule t u) d proves in rw concludes refl
+pub pair_after : (s : Schema) (n : ℕ) (rule : Pair) (t u : Tree) (d : Dependency) → Proves s (pair rule t u) d
+    → node_lines_after s n (pair rule t u)
+    ≡ (node_lines_after s n t ++ node_lines_after s (n + nodes t) u) ++ numbered_line (n + nodes t + nodes u + 1) d (by_pair rule (n + nodes t) (n + nodes t + nodes u)) ∷ []
+pair_after s n rule t u d proves = let concludes : concluded s 0 (pair rule t u) ≡ Ok d = concluded-from s 0 (pair rule t u) d proves in rw concludes refl
 
 -- ---- how many
-pub printed_count : (s : Schema) (t : Tree) (d : Dependency) (n : ℕ) → Proves s t d → length (lines_behind s n t) ≡ nodes t
-printed_count s (leaf rule) d n proves = rw (leaf_behind s n rule d proves) refl
+pub printed_count : (s : Schema) (t : Tree) (d : Dependency) (n : ℕ) → Proves s t d → length (node_lines_after s n t) ≡ nodes t
+printed_count s (leaf rule) d n proves = rw (leaf_after s n rule d proves) refl
 printed_count s (step rule t) d n proves =
     let last = numbered_line (n + nodes t + 1) d (by_step rule (n + nodes t)) ∷ [] in
-    ap length (step_behind s n rule t d proves) ∙ length-append (lines_behind s n t) last ∙ ap (λ m. m + 1) (printed_count s t proves.0 n proves.1)
+    ap length (step_after s n rule t d proves) ∙ length-append (node_lines_after s n t) last ∙ ap (λ m. m + 1) (printed_count s t proves.0 n proves.1)
 printed_count s (pair rule t u) d n proves =
-    let xs = lines_behind s n t in
-    let ys = lines_behind s (n + nodes t) u in
+    let xs = node_lines_after s n t in
+    let ys = node_lines_after s (n + nodes t) u in
     let last = numbered_line (n + nodes t + nodes u + 1) d (by_pair rule (n + nodes t) (n + nodes t + nodes u)) ∷ [] in
     let first = printed_count s t proves.0 n proves.2 in
     let second = printed_count s u proves.1 (n + nodes t) proves.3 in
-    omega (arith, ap length (pair_behind s n rule t u d proves), length-append (xs ++ ys) last, length-append xs ys, first, second)
+    omega (arith, ap length (pair_after s n rule t u d proves), length-append (xs ++ ys) last, length-append xs ys, first, second)
 
 -- ---- the nodes
 -- the nodes but the root, in post-order
@@ -74,14 +74,14 @@ leaf_tree s before n (mreflexivity x y) d h =
     let states : mvd x y ≡ d = (chosen (is_within x (universe_of s) && is_within y x) NotWithin (mvd x y) d h).1 in
     ap (λ (e : Dependency). leaf (mreflexivity (left_of e) (right_of e))) states
 
--- lines numbered behind n others are the nodes of the tree, behind the n trees of these
-printed_behind : (s : Schema) (t : Tree) (d : Dependency) (n : ℕ) (before : List Tree) → length before ≡ n → Proves s t d
-    → AreNodes s before (lines_behind s n t) (below_root t ++ t ∷ [])
-printed_behind s (leaf rule) d n before count proves =
+-- lines numbered after n others are the nodes of the tree, after the n trees of these
+printed_after : (s : Schema) (t : Tree) (d : Dependency) (n : ℕ) (before : List Tree) → length before ≡ n → Proves s t d
+    → AreNodes s before (node_lines_after s n t) (below_root t ++ t ∷ [])
+printed_after s (leaf rule) d n before count proves =
     let node : IsNode s before (numbered_line (n + 1) d (leaf_body rule)) (leaf rule) =
     record { number = omega arith; tree = leaf_tree s before (n + 1) rule d proves; states = proves } in
-    rw (leaf_behind s n rule d proves) (node, tt {0})
-printed_behind s (step rule t) d n before count proves =
+    rw (leaf_after s n rule d proves) (node, tt {0})
+printed_after s (step rule t) d n before count proves =
     let last = numbered_line (n + nodes t + 1) d (by_step rule (n + nodes t)) in
     let trees = below_root t ++ t ∷ [] in
     let size = length-below_root t in
@@ -91,9 +91,9 @@ printed_behind s (step rule t) d n before count proves =
     let at = IsTreeAt-seam (before ++ trees) (before ++ below_root t) t [] (n + nodes t) (sym (append_assoc before (below_root t) (t ∷ []))) (omega arith) in
     let node : IsNode s (before ++ trees) last (step rule t) =
     record { number = omega arith; tree = record { premise = t; earlier = at; tree = refl }; states = proves } in
-    rw (step_behind s n rule t d proves)
-    (AreNodes-append s before (lines_behind s n t) trees (last ∷ []) (step rule t ∷ []) (printed_behind s t proves.0 n before count proves.1) (node, tt {0}))
-printed_behind s (pair rule t u) d n before count proves =
+    rw (step_after s n rule t d proves)
+    (AreNodes-append s before (node_lines_after s n t) trees (last ∷ []) (step rule t ∷ []) (printed_after s t proves.0 n before count proves.1) (node, tt {0}))
+printed_after s (pair rule t u) d n before count proves =
     let last = numbered_line (n + nodes t + nodes u + 1) d (by_pair rule (n + nodes t) (n + nodes t + nodes u)) in
     let ts = below_root t ++ t ∷ [] in
     let us = below_root u ++ u ∷ [] in
@@ -106,36 +106,36 @@ printed_behind s (pair rule t u) d n before count proves =
     let many = length-append before (ts ++ us) in
     let first_front = length-append before (below_root t) in
     let second_front = length-append (before ++ ts) (below_root u) in
-    let behind_first : length (before ++ ts) ≡ n + nodes t = omega arith in
+    let after_the_first : length (before ++ ts) ≡ n + nodes t = omega arith in
     let first_split : before ++ (ts ++ us) ≡ (before ++ below_root t) ++ t ∷ us = simp append_assoc in
     let second_split : before ++ (ts ++ us) ≡ ((before ++ ts) ++ below_root u) ++ u ∷ [] = simp append_assoc in
     let first_at = IsTreeAt-seam (before ++ (ts ++ us)) (before ++ below_root t) t us (n + nodes t) first_split (omega arith) in
     let second_at = IsTreeAt-seam (before ++ (ts ++ us)) ((before ++ ts) ++ below_root u) u [] (n + nodes t + nodes u) second_split (omega arith) in
     let node : IsNode s (before ++ (ts ++ us)) last (pair rule t u) =
     record { number = omega arith; tree = record { first = t; second = u; first_earlier = first_at; second_earlier = second_at; tree = refl }; states = proves } in
-    let premises = AreNodes-append s before (lines_behind s n t) ts (lines_behind s (n + nodes t) u) us (printed_behind s t proves.0 n before count proves.2) (printed_behind s u proves.1 (n + nodes t) (before ++ ts) behind_first proves.3) in
-    rw (pair_behind s n rule t u d proves)
-    (AreNodes-append s before (lines_behind s n t ++ lines_behind s (n + nodes t) u) (ts ++ us) (last ∷ []) (pair rule t u ∷ []) premises (node, tt {0}))
+    let premises = AreNodes-append s before (node_lines_after s n t) ts (node_lines_after s (n + nodes t) u) us (printed_after s t proves.0 n before count proves.2) (printed_after s u proves.1 (n + nodes t) (before ++ ts) after_the_first proves.3) in
+    rw (pair_after s n rule t u d proves)
+    (AreNodes-append s before (node_lines_after s n t ++ node_lines_after s (n + nodes t) u) (ts ++ us) (last ∷ []) (pair rule t u ∷ []) premises (node, tt {0}))
 
 -- ---- the uses
-pub printed_uses : (s : Schema) (t : Tree) (d : Dependency) (n : ℕ) → Proves s t d → UseOwn (lines_behind s n t) n (nodes t)
-printed_uses s (leaf rule) d n proves = rw (leaf_behind s n rule d proves) (leaf_uses n d rule)
+pub printed_uses : (s : Schema) (t : Tree) (d : Dependency) (n : ℕ) → Proves s t d → UseOwn (node_lines_after s n t) n (nodes t)
+printed_uses s (leaf rule) d n proves = rw (leaf_after s n rule d proves) (leaf_uses n d rule)
 printed_uses s (step rule t) d n proves =
-    rw (step_behind s n rule t d proves)
-    (step_uses (lines_behind s n t) n (nodes t) (n + nodes t + 1) d rule (some_nodes t) (printed_uses s t proves.0 n proves.1))
+    rw (step_after s n rule t d proves)
+    (step_uses (node_lines_after s n t) n (nodes t) (n + nodes t + 1) d rule (some_nodes t) (printed_uses s t proves.0 n proves.1))
 printed_uses s (pair rule t u) d n proves =
     let first = printed_uses s t proves.0 n proves.2 in
     let second = printed_uses s u proves.1 (n + nodes t) proves.3 in
-    rw (pair_behind s n rule t u d proves)
-    (pair_uses (lines_behind s n t) (lines_behind s (n + nodes t) u) n (nodes t) (nodes u) (n + nodes t + nodes u + 1) d rule (some_nodes t) (some_nodes u) first second)
+    rw (pair_after s n rule t u d proves)
+    (pair_uses (node_lines_after s n t) (node_lines_after s (n + nodes t) u) n (nodes t) (nodes u) (n + nodes t + nodes u + 1) d rule (some_nodes t) (some_nodes u) first second)
 
 -- each line is a node, and each but the last is used once
-pub printed_nodes : (s : Schema) (t : Tree) (d : Dependency) → Proves s t d → AreNodesOf s (lines_behind s 0 t) t
+pub printed_nodes : (s : Schema) (t : Tree) (d : Dependency) → Proves s t d → AreNodesOf s (node_lines_after s 0 t) t
 printed_nodes s t d proves =
     let count = printed_count s t d 0 proves in
     let each = printed_uses s t d 0 proves in
     record {
       before = below_root t;
-      nodes = printed_behind s t d 0 [] refl proves;
+      nodes = printed_after s t d 0 [] refl proves;
       used = λ k low high. each.own k low (omega (arith, count));
     }

@@ -1,4 +1,4 @@
--- What is printed of a derivation spells its tree, also behind the answer `yes`.
+-- What is printed of a derivation spells its tree, also after the answer `yes`.
 use Rattle.std.proofs.Common.{◌≡◌, ◌≤◌, ◌<◌, ◌^◌, ℕ, List, [], ◌∷◌, ◌++◌, length, arith}
 use Rattle.std.specs.Prelude.{codes}
 use Rattle.dep_model.specs.declared.schema.Schema.{Schema}
@@ -12,7 +12,7 @@ use Rattle.derivation.specs.Trees.{nodes}
 use Rattle.schema_grammar.specs.declared.format.Format.TheVariants as format
 use Rattle.schema_grammar.specs.Printed.{AreNames}
 use Rattle.proof_grammar.specs.Lines.{Body, by_given, by_reflexivity, by_mreflexivity, by_step, by_pair, Line}
-use Rattle.proof_grammar.specs.Printing.{lines_behind, canonical_certificate}
+use Rattle.proof_grammar.specs.Printing.{node_lines_after, canonical_certificate}
 use Rattle.proof_grammar.specs.Spelling.{Spells}
 use Rattle.proof_grammar.specs.Printable.{FewDigits, ArePrintableLines}
 use Rattle.proof_grammar.proofs.PrintedCertificates.{printed_lines_mean, answered_lines_mean}
@@ -35,20 +35,20 @@ small_printable s most (l ∷ ls) few (here, rest) = (
 
 -- the lines of a derivation of few nodes are printable
 lines_printable : (s : Schema) (p : Deriv) (d : Dependency) → Proves s (tree_of p) d → nodes (tree_of p) ≤ MOST_NODES
-    → ArePrintableLines (names_of s) (lines_behind s 0 (tree_of p))
+    → ArePrintableLines (names_of s) (node_lines_after s 0 (tree_of p))
 lines_printable s p d proves few =
-    small_printable s (nodes (tree_of p)) (lines_behind s 0 (tree_of p)) (omega arith) (printed_within s p d proves)
+    small_printable s (nodes (tree_of p)) (node_lines_after s 0 (tree_of p)) (omega arith) (printed_within s p d proves)
 
 pub printed_spells : (s : Schema) (p : Deriv) (d : Dependency) → AreNames format.Plain (names_of s) → Proves s (tree_of p) d → nodes (tree_of p) ≤ MOST_NODES
     → (w : Spells s (canonical_certificate s (tree_of p)) (tree_of p)) × (length w.lines ≡ nodes (tree_of p))
 printed_spells s p d are proves few =
-    let lines = lines_behind s 0 (tree_of p) in
+    let lines = node_lines_after s 0 (tree_of p) in
     let mean = printed_lines_mean (names_of s) lines are (lines_printable s p d proves few) in
     (record { lines = lines; mean = mean; nodes = printed_nodes s (tree_of p) d proves }, printed_count s (tree_of p) d 0 proves)
 
 pub answered_spells : (s : Schema) (p : Deriv) (d : Dependency) → AreNames format.Plain (names_of s) → Proves s (tree_of p) d → nodes (tree_of p) ≤ MOST_NODES
     → (w : Spells s (codes "yes\n" ++ canonical_certificate s (tree_of p)) (tree_of p)) × (length w.lines ≡ nodes (tree_of p))
 answered_spells s p d are proves few =
-    let lines = lines_behind s 0 (tree_of p) in
+    let lines = node_lines_after s 0 (tree_of p) in
     let mean = answered_lines_mean (names_of s) lines are (lines_printable s p d proves few) in
     (record { lines = lines; mean = mean; nodes = printed_nodes s (tree_of p) d proves }, printed_count s (tree_of p) d 0 proves)

@@ -26,7 +26,7 @@ use Rattle.schema_grammar.specs.Printed.{AreNames}
 use Rattle.schema_grammar.proofs.PrintedSides.{printed_side, printed_names}
 
 -- ---- a decimal
--- reads digits from the left, behind a number
+-- reads digits from the left, after a number
 abbrev read_on : ℕ → List ℕ → ℕ
 read_on value digits = fold (λ v d. v * 10 + (d - 48)) value digits
 
@@ -87,7 +87,7 @@ front_number (first ∷ others) rest e some few apart =
     let one : 1 + length others ≡ suc (length others) = omega arith in
     rw (gap, hash, digit_byte first digit) (rw (more, one) (rw (take_front others rest, digit_names_none first others digit, digits_number (first ∷ others) e some few) refl))
 
--- ---- pieces one behind another
+-- ---- pieces one after another
 abbrev pub Anything : List ℕ → Type 0
 Anything rest = Unit {0}
 

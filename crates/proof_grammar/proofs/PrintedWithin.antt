@@ -21,8 +21,8 @@ use Rattle.derivation.specs.Conclusions.{Proves}
 use Rattle.derivation.proofs.RuleTableLemmas.{some_of_ok, chosen}
 use Rattle.derivation.proofs.WithinLemmas.{StepOfAttributes, TreeOfAttributes, tree_of-attributes, conclusion_within}
 use Rattle.proof_grammar.specs.Lines.{Body, by_given, by_reflexivity, by_mreflexivity, by_step, by_pair, Line}
-use Rattle.proof_grammar.specs.Printing.{leaf_body, numbered_line, lines_behind, IsStepWithin, IsBodyWithin}
-use Rattle.proof_grammar.proofs.PrintedNodes.{leaf_behind, step_behind, pair_behind}
+use Rattle.proof_grammar.specs.Printing.{leaf_body, numbered_line, node_lines_after, IsStepWithin, IsBodyWithin}
+use Rattle.proof_grammar.proofs.PrintedNodes.{leaf_after, step_after, pair_after}
 
 -- a schema has few dependencies
 abbrev pub HasSmallGiven : Body → Type 0
@@ -96,9 +96,9 @@ step_within s (maugmentation w z) (mvd x y) d own h =
 step_within s replication x d own h = tt {0}
 
 -- ---- the lines
-pub tree_within : (s : Schema) (t : Tree) (d : Dependency) (n : ℕ) → TreeOfAttributes t → Proves s t d → AreSmallLines s (n + nodes t) (lines_behind s n t)
+pub tree_within : (s : Schema) (t : Tree) (d : Dependency) (n : ℕ) → TreeOfAttributes t → Proves s t d → AreSmallLines s (n + nodes t) (node_lines_after s n t)
 tree_within s (leaf rule) d n own proves =
-    rw (leaf_behind s n rule d proves) (leaf_small s (n + 1) rule d (conclusion_within s (leaf rule) d own proves) proves, tt {0})
+    rw (leaf_after s n rule d proves) (leaf_small s (n + 1) rule d (conclusion_within s (leaf rule) d own proves) proves, tt {0})
 tree_within s (step rule t) d n own proves =
     let most = n + (nodes t + 1) in
     let last = numbered_line (n + nodes t + 1) d (by_step rule (n + nodes t)) in
@@ -109,12 +109,12 @@ tree_within s (step rule t) d n own proves =
       premises = omega arith;
       given = tt {0};
     } in
-    let inside = lines_more s (n + nodes t) most (lines_behind s n t) (omega arith) (tree_within s t proves.0 n own.1 proves.1) in
-    rw (step_behind s n rule t d proves) (lines_append s most (lines_behind s n t) (last ∷ []) inside (small, tt {0}))
+    let inside = lines_more s (n + nodes t) most (node_lines_after s n t) (omega arith) (tree_within s t proves.0 n own.1 proves.1) in
+    rw (step_after s n rule t d proves) (lines_append s most (node_lines_after s n t) (last ∷ []) inside (small, tt {0}))
 tree_within s (pair rule t u) d n own proves =
     let most = n + (nodes t + nodes u + 1) in
-    let xs = lines_behind s n t in
-    let ys = lines_behind s (n + nodes t) u in
+    let xs = node_lines_after s n t in
+    let ys = node_lines_after s (n + nodes t) u in
     let last = numbered_line (n + nodes t + nodes u + 1) d (by_pair rule (n + nodes t) (n + nodes t + nodes u)) in
     let small : IsSmallLine s most last = record {
       stated = conclusion_within s (pair rule t u) d own proves;
@@ -125,10 +125,10 @@ tree_within s (pair rule t u) d n own proves =
     } in
     let first = lines_more s (n + nodes t) most xs (omega arith) (tree_within s t proves.0 n own.0 proves.2) in
     let second = lines_more s (n + nodes t + nodes u) most ys (omega arith) (tree_within s u proves.1 (n + nodes t) own.1 proves.3) in
-    rw (pair_behind s n rule t u d proves)
+    rw (pair_after s n rule t u d proves)
     (lines_append s most (xs ++ ys) (last ∷ []) (lines_append s most xs ys first second) (small, tt {0}))
 
 -- each line of a printed derivation is small
-pub printed_within : (s : Schema) (p : Deriv) (d : Dependency) → Proves s (tree_of p) d → AreSmallLines s (nodes (tree_of p)) (lines_behind s 0 (tree_of p))
+pub printed_within : (s : Schema) (p : Deriv) (d : Dependency) → Proves s (tree_of p) d → AreSmallLines s (nodes (tree_of p)) (node_lines_after s 0 (tree_of p))
 printed_within s p d proves =
-    lines_more s (0 + nodes (tree_of p)) (nodes (tree_of p)) (lines_behind s 0 (tree_of p)) (omega arith) (tree_within s (tree_of p) d 0 (tree_of-attributes p) proves)
+    lines_more s (0 + nodes (tree_of p)) (nodes (tree_of p)) (node_lines_after s 0 (tree_of p)) (omega arith) (tree_within s (tree_of p) d 0 (tree_of-attributes p) proves)

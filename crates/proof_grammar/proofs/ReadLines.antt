@@ -1,4 +1,4 @@
--- The reader behind some lines of a text: what they mean, and at which lines of the text they stand.
+-- The reader after some lines of a text: what they mean, and at which lines of the text they stand.
 use Rattle.std.proofs.Common.{◌≡◌, ◌<◌, ◌≤◌, ◌+◌, ◌-◌, ◌==◌, ℕ, zero, suc, Bool, true, false, cond, List, [], ◌∷◌, ◌++◌, length, Option, Some, None, Result, Ok, Err, refl, sym, ◌∙◌, ap, subst, arith, length-append, append_assoc}
 use Rattle.std.specs.Prelude.{All, nat_lt, slice_index}
 use Rattle.std.proofs.Math.Seq.{get_or-append_seam}
@@ -21,18 +21,18 @@ use Rattle.proof_grammar.specs.Texts.{at_line, read_lines}
 use Rattle.proof_grammar.proofs.CheckedLemmas.{bind_ok}
 use Rattle.proof_grammar.proofs.CountedLines.{counted, Counts}
 use Rattle.proof_grammar.proofs.DepthLemmas.{uses_first, nodes_size}
-use Rattle.proof_grammar.proofs.EnteredLaws.{Follows, IsEntered, used_behind}
+use Rattle.proof_grammar.proofs.EnteredLaws.{Follows, IsEntered, used_after}
 use Rattle.proof_grammar.proofs.NodeLemmas.{AreNodes-append, uses-append}
 use Rattle.proof_grammar.proofs.SlotLemmas.{IsSlot, slots_same, slots_size, slot_of_tree, tree_of_slot}
 use Rattle.proof_grammar.specs.Refusals.{StandsAt}
 use Rattle.proof_grammar.specs.Wrongs.{AreRead}
 
 -- ---- what is read of a line
--- the ledger behind a certificate line, behind which no `yes` may come
+-- the ledger after a certificate line, after which no `yes` may come
 abbrev pub marked : Result Ledger Complaint → Result (Bool × Ledger) Complaint
 marked r = r >>= λ next. Ok (false, next)
 
--- what is read of a line, and behind it
+-- what is read of a line, and after it
 abbrev pub read_from : Schema → ℕ → List (List ℕ) → Result (Bool × Ledger) Complaint → Result Tree LineComplaint
 read_from s number texts r = at_line number r >>= λ next. read_lines s next.0 (number + 1) next.1 texts
 
@@ -102,8 +102,8 @@ flat : (t : Tree) → depth t ≤ MOST_LEVELS → All (λ u. depth u ≤ MOST_LE
 flat t few zero d h = few
 flat t few (suc k) d h = absurd (omega (arith, h))
 
--- ---- behind some lines
--- where a certificate line behind so many others stands in a text
+-- ---- after some lines
+-- where a certificate line after so many others stands in a text
 pub record IsPlace (text : List ℕ) (at i : ℕ) : Type 0 where
   pub before : List (List ℕ)
   pub here : List ℕ
@@ -147,7 +147,7 @@ passed s text before fresh next lines trees book here behind skips =
       places = behind.places;
     }
 
--- where a certificate line counts, it stands behind those before
+-- where a certificate line counts, it stands after those before
 pub counts_here : (s : Schema) (text : List ℕ) (before : List (List ℕ)) (fresh : Bool) (lines : List Line) (trees : List Tree) (book : Ledger) (here : List ℕ)
     → IsBehind s text before fresh lines trees book → Counts Certificate fresh here → certificate_lines_of (before ++ here ∷ []) ≡ certificate_lines_of before ++ here ∷ []
 counts_here s text before fresh lines trees book here behind counts = behind.counts (here ∷ []) ∙ ap (λ (ls : List (List ℕ)). certificate_lines_of before ++ ls) (counts [])
@@ -186,11 +186,11 @@ one_more s text before fresh lines trees book here at l u next behind counts sta
     count : length lines ≡ length trees
     count = nodes_size s [] lines trees behind.read.nodes
 
-    sums : (n : ℕ) → used_behind (λ n. uses n lines) l n ≡ uses n (lines ++ l ∷ [])
+    sums : (n : ℕ) → used_after (λ n. uses n lines) l n ≡ uses n (lines ++ l ∷ [])
     sums n = omega (arith, uses-append n lines (l ∷ []), uses_first n l [])
 
     follows : Follows s (λ n. uses n (lines ++ l ∷ [])) (trees ++ u ∷ []) next
-    follows = follows_same s (used_behind (λ n. uses n lines) l) (λ n. uses n (lines ++ l ∷ [])) (trees ++ u ∷ []) next sums is.follows
+    follows = follows_same s (used_after (λ n. uses n lines) l) (λ n. uses n (lines ++ l ∷ [])) (trees ++ u ∷ []) next sums is.follows
 
     place : (i : ℕ) (b : Bool) → nat_lt i (length book.lines) ≡ b → i < length (book.lines ++ at ∷ []) → IsPlace text (slice_index (book.lines ++ at ∷ []) i) i
     place i true e h =

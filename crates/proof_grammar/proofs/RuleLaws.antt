@@ -13,10 +13,10 @@ use Rattle.proof_grammar.specs.Meanings.{IsColon, IsNumber, IsKeyword, step_name
 use Rattle.schema_grammar.specs.Rests.{Rest, number, side, is_word}
 use Rattle.proof_grammar.specs.Readers.{colon, with_word, rule_name}
 use Rattle.proof_grammar.proofs.SideLaws.{bound, ok_same, ReadsSide, side_there, side_back}
-use Rattle.proof_grammar.proofs.TokenLaws.{Reads, spelled, behind_of, number_there, colon_there, with_there, rule_name_there, rest_at, number_back, colon_back, with_back, rule_name_back}
+use Rattle.proof_grammar.proofs.TokenLaws.{Reads, spelled, after_of, number_there, colon_there, with_there, rule_name_there, rest_at, number_back, colon_back, with_back, rule_name_back}
 
 -- ---- what follows the name
--- a rule that is read behind its name, up to the end of a line
+-- a rule that is read after its name, up to the end of a line
 pub record ReadsRule (names : List (List ℕ)) (name : Mark) (r : Rest) (b : Body) (next : Rest) : Type 0 where
   pub is_rule : next.marks ≡ [] → IsRule names (name ∷ r.marks) b
   pub stop : next.stop ≡ r.stop
@@ -184,7 +184,7 @@ rule_there names r n b here there =
     }
 
 -- ---- back
--- the rest of a rule that is read behind its name
+-- the rest of a rule that is read after its name
 record BodyRead (names : List (List ℕ)) (line from : ℕ) (r : RuleName) (marks : List Mark) (b : Body) : Type 0 where
   behind : ℕ
   read : body names r (rest_at line from marks) ≡ Ok (b, rest_at line behind [])
@@ -198,36 +198,36 @@ pub record RuleRead (names : List (List ℕ)) (line from : ℕ) (marks : List Ma
   pub read : body names rule next ≡ Ok (b, rest_at line behind [])
 
 rule_made : (names : List (List ℕ)) (line from : ℕ) (r : RuleName) (m : Mark) (marks whole : List Mark) (b : Body) → whole ≡ m ∷ marks → IsKeyword (spelled r) m
-    → BodyRead names line (behind_of m) r marks b → RuleRead names line from whole b
+    → BodyRead names line (after_of m) r marks b → RuleRead names line from whole b
 rule_made names line from r m marks whole b same says rest = record {
   rule = r;
-  next = rest_at line (behind_of m) marks;
+  next = rest_at line (after_of m) marks;
   behind = rest.behind;
   name = rw same (rule_name_back line from r m marks says);
   read = rest.read;
 }
 
-one_back : (line from : ℕ) (rule : Step) (p : ℕ) (m : Mark) → IsNumber p m → one rule (rest_at line from (m ∷ [])) ≡ Ok (by_step rule p, rest_at line (behind_of m) [])
+one_back : (line from : ℕ) (rule : Step) (p : ℕ) (m : Mark) → IsNumber p m → one rule (rest_at line from (m ∷ [])) ≡ Ok (by_step rule p, rest_at line (after_of m) [])
 unfolding one
 one_back line from rule p m is = rw (number_back line from p m [] is) refl
 
-two_back : (line from : ℕ) (rule : Pair) (p q : ℕ) (m n : Mark) → IsNumber p m → IsNumber q n → two rule (rest_at line from (m ∷ n ∷ [])) ≡ Ok (by_pair rule p q, rest_at line (behind_of n) [])
+two_back : (line from : ℕ) (rule : Pair) (p q : ℕ) (m n : Mark) → IsNumber p m → IsNumber q n → two rule (rest_at line from (m ∷ n ∷ [])) ≡ Ok (by_pair rule p q, rest_at line (after_of n) [])
 unfolding two
-two_back line from rule p q m n first second = rw (number_back line from p m (n ∷ []) first, number_back line (behind_of m) q n [] second) refl
+two_back line from rule p q m n first second = rw (number_back line from p m (n ∷ []) first, number_back line (after_of m) q n [] second) refl
 
-one_read : (line from : ℕ) (rule : Step) (p : ℕ) (m : Mark) (sets : List Mark) → IsNumber p m → sets ≡ [] → one rule (rest_at line from (m ∷ sets)) ≡ Ok (by_step rule p, rest_at line (behind_of m) [])
+one_read : (line from : ℕ) (rule : Step) (p : ℕ) (m : Mark) (sets : List Mark) → IsNumber p m → sets ≡ [] → one rule (rest_at line from (m ∷ sets)) ≡ Ok (by_step rule p, rest_at line (after_of m) [])
 one_read line from rule p m sets is nothing = rw nothing (one_back line from rule p m is)
 
 augmented_back : (names : List (List ℕ)) (line from p : ℕ) (z : Places) (m : Mark) (sets : List Mark) → IsNumber p m → IsAugmented names sets z
     → BodyRead names line from rule.Augmentation (m ∷ sets) (by_step (augmentation z) p)
 unfolding body augmented
 augmented_back names line from p z m sets is has =
-    let last = side_back names line (behind_of has.keyword) has.sides [] None z has.side tt in
+    let last = side_back names line (after_of has.keyword) has.sides [] None z has.side tt in
     let same : sets ≡ has.keyword ∷ has.sides ++ [] = has.whole ∙ ap (λ t. has.keyword ∷ t) (sym (append-nil has.sides)) in
     record {
       behind = last.behind;
       read = ap (λ t. augmented names (rest_at line from (m ∷ t))) same
-          ∙ rw (number_back line from p m (has.keyword ∷ has.sides ++ []) is, with_back line (behind_of m) has.keyword (has.sides ++ []) has.says, last.read) refl;
+          ∙ rw (number_back line from p m (has.keyword ∷ has.sides ++ []) is, with_back line (after_of m) has.keyword (has.sides ++ []) has.says, last.read) refl;
     }
 
 maugmented_back : (names : List (List ℕ)) (line from p : ℕ) (w z : Places) (m : Mark) (sets : List Mark) → IsNumber p m → IsWidened names sets w z
@@ -235,15 +235,15 @@ maugmented_back : (names : List (List ℕ)) (line from p : ℕ) (w z : Places) (
 unfolding body maugmented
 maugmented_back names line from p w z m sets is has =
     let tail = has.colon ∷ has.narrow ++ [] in
-    let wide = side_back names line (behind_of has.keyword) has.wide tail None w has.wide_side (ap is_word has.is_colon) in
-    let last = side_back names line (behind_of has.colon) has.narrow [] None z has.narrow_side tt in
+    let wide = side_back names line (after_of has.keyword) has.wide tail None w has.wide_side (ap is_word has.is_colon) in
+    let last = side_back names line (after_of has.colon) has.narrow [] None z has.narrow_side tt in
     let same : sets ≡ has.keyword ∷ has.wide ++ tail = has.whole ∙ ap (λ t. has.keyword ∷ has.wide ++ has.colon ∷ t) (sym (append-nil has.narrow)) in
     record {
       behind = last.behind;
       read = ap (λ t. maugmented names (rest_at line from (m ∷ t))) same
           ∙ rw (
             number_back line from p m (has.keyword ∷ has.wide ++ tail) is,
-            with_back line (behind_of m) has.keyword (has.wide ++ tail) has.says,
+            with_back line (after_of m) has.keyword (has.wide ++ tail) has.says,
             wide.read,
             colon_back line wide.behind has.colon (has.narrow ++ []) has.is_colon,
             last.read,
@@ -254,29 +254,29 @@ pub rule_back : (names : List (List ℕ)) (line from : ℕ) (marks : List Mark) 
 unfolding body
 rule_back names line from marks (by_given k) is =
     rule_made names line from rule.Given is.name (is.place ∷ []) marks (by_given k) is.whole is.says
-    (record { behind = behind_of is.place; read = rw (number_back line (behind_of is.name) k is.place [] is.number) refl })
+    (record { behind = after_of is.place; read = rw (number_back line (after_of is.name) k is.place [] is.number) refl })
 rule_back names line from marks by_reflexivity is =
-    rule_made names line from rule.Reflexivity is.name [] marks by_reflexivity is.whole is.says (record { behind = behind_of is.name; read = refl })
+    rule_made names line from rule.Reflexivity is.name [] marks by_reflexivity is.whole is.says (record { behind = after_of is.name; read = refl })
 rule_back names line from marks by_mreflexivity is =
-    rule_made names line from rule.MReflexivity is.name [] marks by_mreflexivity is.whole is.says (record { behind = behind_of is.name; read = refl })
+    rule_made names line from rule.MReflexivity is.name [] marks by_mreflexivity is.whole is.says (record { behind = after_of is.name; read = refl })
 rule_back names line from marks (by_step (augmentation z) p) is =
     rule_made names line from rule.Augmentation is.name (is.premise ∷ is.sets) marks (by_step (augmentation z) p) is.whole is.says
-    (augmented_back names line (behind_of is.name) p z is.premise is.sets is.number is.has_sets)
+    (augmented_back names line (after_of is.name) p z is.premise is.sets is.number is.has_sets)
 rule_back names line from marks (by_step complementation p) is =
     rule_made names line from rule.Complementation is.name (is.premise ∷ is.sets) marks (by_step complementation p) is.whole is.says
-    (record { behind = behind_of is.premise; read = one_read line (behind_of is.name) complementation p is.premise is.sets is.number is.has_sets })
+    (record { behind = after_of is.premise; read = one_read line (after_of is.name) complementation p is.premise is.sets is.number is.has_sets })
 rule_back names line from marks (by_step (maugmentation w z) p) is =
     rule_made names line from rule.MAugmentation is.name (is.premise ∷ is.sets) marks (by_step (maugmentation w z) p) is.whole is.says
-    (maugmented_back names line (behind_of is.name) p w z is.premise is.sets is.number is.has_sets)
+    (maugmented_back names line (after_of is.name) p w z is.premise is.sets is.number is.has_sets)
 rule_back names line from marks (by_step replication p) is =
     rule_made names line from rule.Replication is.name (is.premise ∷ is.sets) marks (by_step replication p) is.whole is.says
-    (record { behind = behind_of is.premise; read = one_read line (behind_of is.name) replication p is.premise is.sets is.number is.has_sets })
+    (record { behind = after_of is.premise; read = one_read line (after_of is.name) replication p is.premise is.sets is.number is.has_sets })
 rule_back names line from marks (by_pair transitivity p q) is =
     rule_made names line from rule.Transitivity is.name (is.first ∷ is.second ∷ []) marks (by_pair transitivity p q) is.whole is.says
-    (record { behind = behind_of is.second; read = two_back line (behind_of is.name) transitivity p q is.first is.second is.first_number is.second_number })
+    (record { behind = after_of is.second; read = two_back line (after_of is.name) transitivity p q is.first is.second is.first_number is.second_number })
 rule_back names line from marks (by_pair mtransitivity p q) is =
     rule_made names line from rule.MTransitivity is.name (is.first ∷ is.second ∷ []) marks (by_pair mtransitivity p q) is.whole is.says
-    (record { behind = behind_of is.second; read = two_back line (behind_of is.name) mtransitivity p q is.first is.second is.first_number is.second_number })
+    (record { behind = after_of is.second; read = two_back line (after_of is.name) mtransitivity p q is.first is.second is.first_number is.second_number })
 rule_back names line from marks (by_pair coalescence p q) is =
     rule_made names line from rule.Coalescence is.name (is.first ∷ is.second ∷ []) marks (by_pair coalescence p q) is.whole is.says
-    (record { behind = behind_of is.second; read = two_back line (behind_of is.name) coalescence p q is.first is.second is.first_number is.second_number })
+    (record { behind = after_of is.second; read = two_back line (after_of is.name) coalescence p q is.first is.second is.first_number is.second_number })

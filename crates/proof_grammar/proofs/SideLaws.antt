@@ -33,7 +33,7 @@ pub ok_same : {X E : Type 0} (x y : X) (r : Result X E) → r ≡ Ok x → r ≡
 ok_same x y r here there = cc
 
 -- ---- one token
--- what is left of a line before and behind a token
+-- what is left of a line before and after a token
 pub record Takes (r : Rest) (m : Mark) (next : Rest) : Type 0 where
   pub marks : r.marks ≡ m ∷ next.marks
   pub stop : next.stop ≡ r.stop
@@ -158,7 +158,7 @@ side_there names r s e =
     told m behind takes _ is e = cc
 
 -- ---- back
--- what stands behind words is no word
+-- what stands after words is no word
 abbrev pub NoWord : List Mark → Type 0
 NoWord [] = Unit {0}
 NoWord (m ∷ ms) = is_word m.kind ≡ false

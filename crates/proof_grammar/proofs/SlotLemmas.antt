@@ -20,7 +20,7 @@ abbrev pub IsSlot : Schema → ℕ → Tree → Option Opened → Type 0
 IsSlot s used t (Some o) = (used ≡ 0) × IsOpen s t o
 IsSlot s used t None = used ≡ 1
 
--- the slots of lines behind so many others
+-- the slots of lines after so many others
 abbrev pub AreSlots : Schema → (ℕ → ℕ) → ℕ → List Tree → List (Option Opened) → Type 0
 AreSlots s used n [] [] = Unit {0}
 AreSlots s used n (t ∷ ts) (o ∷ os) = IsSlot s (used (n + 1)) t o × AreSlots s used (n + 1) ts os

@@ -74,7 +74,7 @@ end_there s text before fresh lines trees book number e cut count behind h = inr
 })
 
 -- ---- line by line
--- what is refused of the lines behind some others
+-- what is refused of the lines after some others
 abbrev RefusesOn : Schema → List ℕ → LineComplaint → ℕ → List (List ℕ) → Type 0
 RefusesOn s text e number texts =
     (before : List (List ℕ)) (fresh : Bool) (lines : List Line) (trees : List Tree) (book : Ledger) → line_texts (without_mark text) ≡ before ++ texts → number ≡ length before + 1
@@ -184,11 +184,11 @@ unfolding read_proof read_lines read_one
 at_back s text e refused =
     let stands = refused.stands in
     let here = refused.here in
-    let behind_it = here ∷ stands.after in
-    let walk = walked s text refused.before behind_it refused.lines refused.trees stands.cut refused.mean refused.read in
+    let after_it = here ∷ stands.after in
+    let walk = walked s text refused.before after_it refused.lines refused.trees stands.cut refused.mean refused.read in
     ap (read_lines s true 1 (record { lines = []; unused = [] })) stands.cut
     ∙ walk.same
-    ∙ ap (λ n. read_lines s walk.fresh n walk.book behind_it) (sym stands.number)
+    ∙ ap (λ n. read_lines s walk.fresh n walk.book after_it) (sym stands.number)
     ∙ line_refuses (line_kind walk.fresh (lex mode.Numbered here)) s text e refused.before stands.after here walk.fresh refused.lines refused.trees walk.book walk.behind stands
     (kind_counts walk.fresh here _ refl) refused.why
 

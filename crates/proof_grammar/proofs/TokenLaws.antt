@@ -126,22 +126,22 @@ rule_name_there r v e =
 abbrev pub rest_at : ℕ → ℕ → List Mark → Rest
 rest_at line behind marks = record { line = line; behind = behind; marks = marks; stop = None }
 
-abbrev pub behind_of : Mark → ℕ
-behind_of m = m.column + length m.word
+abbrev pub after_of : Mark → ℕ
+after_of m = m.column + length m.word
 
-pub number_back : (line from n : ℕ) (m : Mark) (ms : List Mark) → IsNumber n m → number (rest_at line from (m ∷ ms)) ≡ Ok (n, rest_at line (behind_of m) ms)
+pub number_back : (line from n : ℕ) (m : Mark) (ms : List Mark) → IsNumber n m → number (rest_at line from (m ∷ ms)) ≡ Ok (n, rest_at line (after_of m) ms)
 unfolding number take
 number_back line from n m ms is = rw is refl
 
-pub colon_back : (line from : ℕ) (m : Mark) (ms : List Mark) → IsColon m → colon (rest_at line from (m ∷ ms)) ≡ Ok (rest_at line (behind_of m) ms)
+pub colon_back : (line from : ℕ) (m : Mark) (ms : List Mark) → IsColon m → colon (rest_at line from (m ∷ ms)) ≡ Ok (rest_at line (after_of m) ms)
 unfolding colon take
 colon_back line from m ms is = rw is refl
 
-pub arrow_back : (line from : ℕ) (a : Sign) (m : Mark) (ms : List Mark) → arrow_in m.kind ≡ Some a → arrow (rest_at line from (m ∷ ms)) ≡ Ok (a, rest_at line (behind_of m) ms)
+pub arrow_back : (line from : ℕ) (a : Sign) (m : Mark) (ms : List Mark) → arrow_in m.kind ≡ Some a → arrow (rest_at line from (m ∷ ms)) ≡ Ok (a, rest_at line (after_of m) ms)
 unfolding arrow take
 arrow_back line from a m ms is = rw is refl
 
-pub with_back : (line from : ℕ) (m : Mark) (ms : List Mark) → IsKeyword (codes "with") m → with_word (rest_at line from (m ∷ ms)) ≡ Ok (rest_at line (behind_of m) ms)
+pub with_back : (line from : ℕ) (m : Mark) (ms : List Mark) → IsKeyword (codes "with") m → with_word (rest_at line from (m ∷ ms)) ≡ Ok (rest_at line (after_of m) ms)
 unfolding with_word take is_with
 with_back line from m ms says = rw (says.0, (bytes_eq-Decides m.word (codes "with")).1 says.1) refl
 
@@ -158,6 +158,6 @@ named_back rule.MTransitivity = refl
 named_back rule.Replication = refl
 named_back rule.Coalescence = refl
 
-pub rule_name_back : (line from : ℕ) (r : RuleName) (m : Mark) (ms : List Mark) → IsKeyword (spelled r) m → rule_name (rest_at line from (m ∷ ms)) ≡ Ok (r, rest_at line (behind_of m) ms)
+pub rule_name_back : (line from : ℕ) (r : RuleName) (m : Mark) (ms : List Mark) → IsKeyword (spelled r) m → rule_name (rest_at line from (m ∷ ms)) ≡ Ok (r, rest_at line (after_of m) ms)
 unfolding rule_name take rule_named
 rule_name_back line from r m ms says = rw (says.0, ap rule_word says.1 ∙ named_back r) refl

@@ -19,21 +19,21 @@ use Rattle.proof_grammar.specs.Spelling.{AreNodes, uses}
 use Rattle.proof_grammar.specs.Texts.{read_as, line_kind, read_one, read_lines}
 use Rattle.proof_grammar.proofs.CountedLines.{counted, Counts, kind_counts, line_of_attributes}
 use Rattle.proof_grammar.proofs.DepthLemmas.{uses_first, nodes_size}
-use Rattle.proof_grammar.proofs.EnteredLaws.{used_behind, entered_back}
+use Rattle.proof_grammar.proofs.EnteredLaws.{used_after, entered_back}
 use Rattle.proof_grammar.proofs.LineLaws.{line_back}
 use Rattle.proof_grammar.proofs.NodeLemmas.{uses-append}
 use Rattle.proof_grammar.specs.Refusals.{StandsAt}
 use Rattle.proof_grammar.specs.Wrongs.{AreRead}
 use Rattle.proof_grammar.proofs.ReadLines.{read_from, nothing_counts, IsBehind, at_start, passed, counts_here, one_more}
 
--- the reader behind the lines before, of which it read this
+-- the reader after the lines before, of which it read this
 pub record IsWalked (s : Schema) (text : List ℕ) (before after : List (List ℕ)) (lines : List Line) (trees : List Tree) (found : Result Tree LineComplaint) : Type 0 where
   pub fresh : Bool
   pub book : Ledger
   pub behind : IsBehind s text before fresh lines trees book
   pub same : found ≡ read_lines s fresh (length before + 1) book after
 
--- lines that go on behind some others
+-- lines that go on after some others
 record GoOn (s : Schema) (lines : List Line) (trees : List Tree) (more : List Line) (us : List Tree) (all : List Line) (grown : List Tree) : Type 0 where
   lines_whole : all ≡ lines ++ more
   trees_whole : grown ≡ trees ++ us
@@ -46,7 +46,7 @@ record IsUpTo (text : List ℕ) (before texts after whole : List (List ℕ)) (nu
   front : whole ≡ before ++ texts
   number_is : number ≡ length before + 1
 
--- what is walked of lines behind some others
+-- what is walked of lines after some others
 abbrev WalksOn : Schema → List ℕ → List (List ℕ) → List (List ℕ) → List Line → List Tree → ℕ → List (List ℕ) → Type 0
 WalksOn s text after whole all grown number texts =
     (before : List (List ℕ)) (fresh : Bool) (lines : List Line) (trees : List Tree) (book : Ledger) (more : List Line) (us : List Tree) → IsUpTo text before texts after whole number
@@ -107,7 +107,7 @@ walk_line s text after whole all grown number here texts before fresh lines tree
         let few = goes.read.few_levels (length trees) u inside in
         omega (arith, few, ap depth (get_or-append_seam trees u us u), ap (λ ts. depth (get_or ts (length trees) u)) goes.trees_whole)
 
-    single : (n : ℕ) → 0 < n → used_behind (λ n. uses n lines) l n ≤ 1
+    single : (n : ℕ) → 0 < n → used_after (λ n. uses n lines) l n ≤ 1
     single n low = omega (arith, goes.read.once n low, ap (uses n) goes.lines_whole, uses-append n lines (l ∷ more), uses_first n l more)
 
 walk_more : (k : LineKind) (s : Schema) (text : List ℕ) (after whole : List (List ℕ)) (all : List Line) (grown : List Tree) (number : ℕ) (here : List ℕ) (texts before : List (List ℕ))
@@ -133,7 +133,7 @@ walk s text after whole all grown number (here ∷ texts) before fresh lines tre
     walk_more (line_kind fresh (lex mode.Numbered here)) s text after whole all grown number here texts before fresh lines trees book more us up behind (kind_counts fresh here _ refl) mean goes
     (walk s text after whole all grown (number + 1) texts)
 
--- the reader behind lines of a text that are read
+-- the reader after lines of a text that are read
 pub walked : (s : Schema) (text : List ℕ) (before after : List (List ℕ)) (lines : List Line) (trees : List Tree) → line_texts (without_mark text) ≡ before ++ after
     → MeanLines (names_of s) (certificate_lines_of before) lines → AreRead s lines trees
     → IsWalked s text before after lines trees (read_lines s true 1 (record { lines = []; unused = [] }) (before ++ after))

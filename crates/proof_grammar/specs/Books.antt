@@ -39,19 +39,25 @@ open_at unused p = joined (slice_get unused (p - 1))
 abbrev pub closed : List (Option Opened) → ℕ → List (Option Opened)
 closed unused p = slice_set unused (p - 1) None
 
--- a node, with what its rule concludes, and what is unused behind its premises
+-- a node, with what its rule concludes, and what is unused after its premises
 pub record Prepared : Type 0 where
   pub levels : ℕ
   pub outcome : Result (Tree × Dependency) FaultKind
   pub unused : List (Option Opened)
 
 abbrev pub leaf_node : Schema → Leaf → List (Option Opened) → Result Prepared Complaint
-leaf_node s rule unused = Ok (record { levels = 1; outcome = with_tree (leaf rule) (leaf_conclusion s rule); unused = unused })
+leaf_node s rule unused =
+    Ok (record { levels = 1; outcome = with_tree (leaf rule) (leaf_conclusion s rule); unused = unused })
 
 abbrev pub step_node : Schema → Step → Option Opened → List (Option Opened) → Result Prepared Complaint
 step_node s rule None unused = Err used_twice
 step_node s rule (Some t) unused =
-    Ok (record { levels = t.levels + 1; outcome = with_tree (step rule t.tree) (step_conclusion s rule t.conclusion); unused = unused })
+    Ok (record {
+      levels = t.levels + 1;
+      outcome = with_tree (step rule t.tree)
+          (step_conclusion s rule t.conclusion);
+      unused = unused;
+    })
 
 abbrev pub pair_node : Pair → Option Opened → Option Opened → List (Option Opened) → Result Prepared Complaint
 pair_node rule (Some t) (Some u) unused =
@@ -63,7 +69,8 @@ pair_node rule (Some t) (Some u) unused =
 pair_node rule _ _ unused = Err used_twice
 
 abbrev pub step_of_line : Schema → Step → List (Option Opened) → ℕ → Result Prepared Complaint
-step_of_line s rule unused p = if is_earlier unused p then step_node s rule (open_at unused p) (closed unused p) else Err no_such_line
+step_of_line s rule unused p = if is_earlier unused p
+    then step_node s rule (open_at unused p) (closed unused p) else Err no_such_line
 
 abbrev pub pair_of_line : Pair → List (Option Opened) → ℕ → ℕ → Result Prepared Complaint
 pair_of_line rule unused p q =
@@ -82,7 +89,8 @@ prepared s unused stated (by_pair rule p q) = pair_of_line rule unused p q
 -- what a line concludes where its rule applies and it states that
 abbrev pub concluded_as : ℕ → Dependency → ℕ → Result (Tree × Dependency) FaultKind → Result Opened Complaint
 concluded_as n stated levels (Ok x) =
-    if same_dependency stated x.1 then Ok (record { tree = x.0; levels = levels; conclusion = x.1 }) else Err (states_other stated x.1)
+    if same_dependency stated x.1 then Ok (record { tree = x.0; levels = levels; conclusion = x.1 })
+    else Err (states_other stated x.1)
 concluded_as n stated levels (Err why) = Err (unsound (record { node = n; kind = why }))
 
 -- a node within the limits that concludes what its line states; so many lines stand before
@@ -96,7 +104,7 @@ settled before l levels outcome =
 abbrev pub add_line : ℕ → List ℕ → List (Option Opened) → Opened → Ledger
 add_line at lines unused o = record { lines = lines ++ at ∷ []; unused = unused ++ Some o ∷ [] }
 
--- the ledger behind one certificate line more
+-- the ledger after one certificate line more
 unfoldable pub entered : Schema → ℕ → Ledger → Line → Result Ledger Complaint
 entered s at book l =
     if l.number == length book.unused + 1

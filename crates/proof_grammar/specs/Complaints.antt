@@ -36,7 +36,8 @@ complaint_of kind.NeverUsed = Some never_used
 complaint_of kind.TooManyLines = Some too_many_lines
 complaint_of kind.TooDeep = Some too_deep
 complaint_of (kind.Unsound fault) = Some (unsound fault)
-complaint_of (kind.StatesOther stated concluded) = Some (states_other (dependency_of stated) (dependency_of concluded))
+complaint_of (kind.StatesOther stated concluded) =
+    Some (states_other (dependency_of stated) (dependency_of concluded))
 complaint_of kind.EmptyProof = Some empty_proof
 complaint_of kind.Memory = None
 
@@ -50,4 +51,6 @@ abbrev pub IsFound : {X : Type 0} → ProofRefusalKind → Result X Complaint �
 IsFound why found = MatchOption (complaint_of why) (Unit {0}) (λ c. found ≡ Err c)
 
 abbrev pub IsFoundAt : {X : Type 0} → ProofRefusal → Result X LineComplaint → Type 0
-IsFoundAt refusal found = MatchOption (complaint_of refusal.kind) (Unit {0}) (λ c. found ≡ Err (record { line = refusal.line; complaint = c }))
+IsFoundAt refusal found =
+    MatchOption (complaint_of refusal.kind) (Unit {0})
+    (λ c. found ≡ Err (record { line = refusal.line; complaint = c }))

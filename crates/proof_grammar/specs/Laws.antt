@@ -17,7 +17,7 @@ use Rattle.proof_grammar.specs.Complaints.{LineComplaint}
 use Rattle.proof_grammar.specs.Lines.{Line, line}
 use Rattle.proof_grammar.specs.Meanings.{MeansLine}
 use Rattle.proof_grammar.specs.Printable.{IsPrintableLine}
-use Rattle.proof_grammar.specs.Printing.{line_text, lines_behind, canonical_certificate}
+use Rattle.proof_grammar.specs.Printing.{line_text, node_lines_after, canonical_certificate}
 use Rattle.proof_grammar.specs.Refusals.{IsRefused}
 use Rattle.proof_grammar.specs.Spelling.{AreNodesOf, Spells, SpellsWithin}
 use Rattle.proof_grammar.specs.Texts.{read_proof}
@@ -38,7 +38,8 @@ abbrev pub LinesAreNodes : Type 0
 LinesAreNodes = (s : Schema) (text : List ℕ) (t : Tree) (w : Spells s text t) → length w.lines ≡ nodes t
 
 abbrev pub RefusedAsTold : Type 0
-RefusedAsTold = (s : Schema) (text : List ℕ) (e : LineComplaint) → (read_proof s text ≡ Err e) ↔ IsRefused s text e
+RefusedAsTold = (s : Schema) (text : List ℕ) (e : LineComplaint)
+    → (read_proof s text ≡ Err e) ↔ IsRefused s text e
 
 -- ---- printing
 abbrev pub PrintedLineMeans : Type 0
@@ -49,7 +50,8 @@ PrintedLineMeans =
 abbrev pub PrintedNodes : Type 0
 PrintedNodes =
     (s : Schema) (p : Deriv) (d : Dependency) → Proves s (tree_of p) d
-    → AreNodesOf s (lines_behind s 0 (tree_of p)) (tree_of p) × (length (lines_behind s 0 (tree_of p)) ≡ nodes (tree_of p))
+    → AreNodesOf s (node_lines_after s 0 (tree_of p)) (tree_of p)
+    × (length (node_lines_after s 0 (tree_of p)) ≡ nodes (tree_of p))
 
 -- what is printed of a derivation after these bytes spells its tree
 abbrev pub PrintedSpells : List ℕ → Type 0

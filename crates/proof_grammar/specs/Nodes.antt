@@ -18,7 +18,8 @@ with_tree t (Err why) = Err why
 
 -- the dependency of this number, from 1
 abbrev pub given_outcome : Schema → ℕ → Result (Tree × Dependency) FaultKind
-given_outcome s k = if k == 0 then Err NoSuchGiven else with_tree (leaf (given (k - 1))) (leaf_conclusion s (given (k - 1)))
+given_outcome s k = if k == 0 then Err NoSuchGiven
+    else with_tree (leaf (given (k - 1))) (leaf_conclusion s (given (k - 1)))
 
 -- whether two dependencies are one
 abbrev pub same_dependency : Dependency → Dependency → Bool

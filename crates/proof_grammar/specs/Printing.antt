@@ -18,7 +18,7 @@ step_word complementation = codes "complementation "
 step_word (maugmentation w z) = codes "maugmentation "
 step_word replication = codes "replication "
 
--- its sets, behind the number of the premise
+-- its sets, after the number of the premise
 abbrev pub sides_text : List (List ℕ) → Step → List ℕ
 sides_text names (augmentation z) = codes " with " ++ set_text names z
 sides_text names complementation = []
@@ -39,7 +39,8 @@ body_text names (by_step rule p) = step_word rule ++ decimal p ++ sides_text nam
 body_text names (by_pair rule p q) = pair_word rule ++ decimal p ++ codes " " ++ decimal q
 
 unfoldable pub line_text : List (List ℕ) → Line → List ℕ
-line_text names l = decimal l.number ++ codes ": " ++ dependency_text names l.stated ++ codes " : " ++ body_text names l.body ++ codes "\n"
+line_text names l = decimal l.number ++ codes ": " ++ dependency_text names l.stated ++ codes " : "
+    ++ body_text names l.body ++ codes "\n"
 
 -- ---- the lines of a tree
 -- dependencies of the schema are counted from 1
@@ -56,14 +57,15 @@ abbrev pub node_line : ℕ → Result Dependency Fault → Body → List Line
 node_line n (Ok d) body = numbered_line n d body ∷ []
 node_line n (Err fault) body = []
 
--- the nodes in post-order, numbered behind this many others
-abbrev pub lines_behind : Schema → ℕ → Tree → List Line
-lines_behind s n (leaf rule) = node_line (n + 1) (concluded s 0 (leaf rule)) (leaf_body rule)
-lines_behind s n (step rule t) =
-    lines_behind s n t ++ node_line (n + nodes t + 1) (concluded s 0 (step rule t)) (by_step rule (n + nodes t))
-lines_behind s n (pair rule t u) =
-    lines_behind s n t ++ lines_behind s (n + nodes t) u
-    ++ node_line (n + nodes t + nodes u + 1) (concluded s 0 (pair rule t u)) (by_pair rule (n + nodes t) (n + nodes t + nodes u))
+-- the nodes in post-order, numbered after this many others
+abbrev pub node_lines_after : Schema → ℕ → Tree → List Line
+node_lines_after s n (leaf rule) = node_line (n + 1) (concluded s 0 (leaf rule)) (leaf_body rule)
+node_lines_after s n (step rule t) =
+    node_lines_after s n t ++ node_line (n + nodes t + 1) (concluded s 0 (step rule t)) (by_step rule (n + nodes t))
+node_lines_after s n (pair rule t u) =
+    node_lines_after s n t ++ node_lines_after s (n + nodes t) u
+    ++ node_line (n + nodes t + nodes u + 1) (concluded s 0 (pair rule t u))
+    (by_pair rule (n + nodes t) (n + nodes t + nodes u))
 
 -- the text of lines
 abbrev pub lines_text : List (List ℕ) → List Line → List ℕ
@@ -71,7 +73,7 @@ lines_text names lines = flat_map (line_text names) lines
 
 -- the one certificate in which a tree is printed
 abbrev pub canonical_certificate : Schema → Tree → List ℕ
-canonical_certificate s t = lines_text (names_of s) (lines_behind s 0 t)
+canonical_certificate s t = lines_text (names_of s) (node_lines_after s 0 t)
 
 -- ---- what can be printed
 -- a tree proves some dependency

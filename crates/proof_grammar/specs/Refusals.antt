@@ -15,7 +15,7 @@ use Rattle.schema_grammar.specs.Rests.{rest_from}
 use Rattle.proof_grammar.specs.Spelling.{uses}
 use Rattle.proof_grammar.specs.Wrongs.{AreRead, IsFirstWrong}
 
--- a certificate line stands in this line of a text, behind those of the lines before
+-- a certificate line stands in this line of a text, after those of the lines before
 pub record StandsAt (text : List ℕ) (before : List (List ℕ)) (here : List ℕ) (at : ℕ) : Type 0 where
   pub after : List (List ℕ)
   pub cut : line_texts (without_mark text) ≡ before ++ here ∷ after
@@ -30,7 +30,8 @@ pub record IsBadLine (names : List (List ℕ)) (here : List ℕ) (at : ℕ) (c :
   pub is : c ≡ bad_line refusal
 
 -- or it means a line, with which something is wrong
-pub record IsWrongLine (s : Schema) (lines : List Line) (trees : List Tree) (here : List ℕ) (c : Complaint) : Type 0 where
+pub record IsWrongLine (s : Schema) (lines : List Line) (trees : List Tree) (here : List ℕ)
+    (c : Complaint) : Type 0 where
   pub line : Line
   pub means : MeansLine (names_of s) here line
   pub wrong : IsFirstWrong s lines trees line c
@@ -80,4 +81,6 @@ IsRefused s text e = IsRefusedAt s text e ⊎ IsUnfinished s text e
 
 -- the same of a refusal, which may be want of memory
 abbrev pub RefusesProof : Schema → List ℕ → ProofRefusal → Type 0
-RefusesProof s text e = MatchOption (complaint_of e.kind) (Unit {0}) (λ c. IsRefused s text (record { line = e.line; complaint = c }))
+RefusesProof s text e =
+    MatchOption (complaint_of e.kind) (Unit {0})
+    (λ c. IsRefused s text (record { line = e.line; complaint = c }))

@@ -51,7 +51,7 @@ pub record IsNode (s : Schema) (trees : List Tree) (l : Line) (t : Tree) : Type 
   pub tree : IsTreeOf trees l l.body t
   pub states : Proves s t l.stated
 
--- each line is a node, behind lines of these trees
+-- each line is a node, after lines of these trees
 abbrev pub AreNodes : Schema → List Tree → List Line → List Tree → Type 0
 AreNodes s before [] [] = Unit {0}
 AreNodes s before (l ∷ ls) (t ∷ ts) = IsNode s before l t × AreNodes s (before ++ t ∷ []) ls ts

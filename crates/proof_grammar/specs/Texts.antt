@@ -34,7 +34,8 @@ is_blank l = is_blank_from l.marks l.stop
 abbrev pub kind_from : Bool → List Mark → Option Stop → LineKind
 kind_from fresh [] None = Blank
 kind_from fresh [] (Some stop) = Certificate
-kind_from fresh (m ∷ ms) stop = if fresh && is_yes m.kind m.word && is_blank_from ms stop then Opening else Certificate
+kind_from fresh (m ∷ ms) stop = if fresh && is_yes m.kind m.word && is_blank_from ms stop then Opening
+    else Certificate
 
 -- what a line is; `fresh` is whether no line with a token stood before
 unfoldable pub line_kind : Bool → Lexed → LineKind
@@ -53,7 +54,7 @@ read_as Certificate s fresh number book text =
     >>= λ l. entered s number book l
     >>= λ next. Ok (false, next)
 
--- the ledger behind one line of the text more, and whether a `yes` may still come
+-- the ledger after one line of the text more, and whether a `yes` may still come
 unfoldable pub read_one : Schema → Bool → ℕ → Ledger → List ℕ → Result (Bool × Ledger) Complaint
 read_one s fresh number book text = read_as (line_kind fresh (lex mode.Numbered text)) s fresh number book text
 

@@ -1,4 +1,4 @@
--- What is wrong with a certificate line, behind lines that are nodes.
+-- What is wrong with a certificate line, after lines that are nodes.
 use Rattle.std.specs.Prelude.{◌≡◌, ◌⊎◌, ◌<◌, ◌≤◌, ℕ, ◌+◌, List, [], ◌∷◌, ◌++◌, length, All, Err}
 use Rattle.dep_model.specs.declared.schema.Schema.{Schema}
 use Rattle.dep_model.specs.Dependencies.{Dependency, left_of, right_of}
@@ -55,12 +55,15 @@ pub record PairFault (s : Schema) (trees : List Tree) (rule : Pair) (p q : ℕ) 
 
 -- no dependency has number 0, and else the table refuses one that the schema does not have
 abbrev pub GivenFault : Schema → ℕ → FaultKind → Type 0
-GivenFault s k why = ((k ≡ 0) × (why ≡ NoSuchGiven)) ⊎ ((i : ℕ) × (k ≡ i + 1) × (leaf_conclusion s (given i) ≡ Err why))
+GivenFault s k why = ((k ≡ 0) × (why ≡ NoSuchGiven))
+    ⊎ ((i : ℕ) × (k ≡ i + 1) × (leaf_conclusion s (given i) ≡ Err why))
 
 abbrev pub NodeFault : Schema → List Tree → Line → Body → FaultKind → Type 0
 NodeFault s trees l (by_given k) why = GivenFault s k why
-NodeFault s trees l by_reflexivity why = leaf_conclusion s (reflexivity (left_of l.stated) (right_of l.stated)) ≡ Err why
-NodeFault s trees l by_mreflexivity why = leaf_conclusion s (mreflexivity (left_of l.stated) (right_of l.stated)) ≡ Err why
+NodeFault s trees l by_reflexivity why =
+    leaf_conclusion s (reflexivity (left_of l.stated) (right_of l.stated)) ≡ Err why
+NodeFault s trees l by_mreflexivity why =
+    leaf_conclusion s (mreflexivity (left_of l.stated) (right_of l.stated)) ≡ Err why
 NodeFault s trees l (by_step rule p) why = StepFault s trees rule p why
 NodeFault s trees l (by_pair rule p q) why = PairFault s trees rule p q why
 
@@ -78,7 +81,7 @@ pub record StatesOther (s : Schema) (trees : List Tree) (l : Line) (concluded : 
   pub other : l.stated ≡ concluded → ⊥
 
 -- ---- what is wrong, and what comes first
--- a complaint about a line, behind lines of these trees
+-- a complaint about a line, after lines of these trees
 abbrev pub Wrong : Schema → List Line → List Tree → Line → Complaint → Type 0
 Wrong s lines trees l wrong_number = l.number ≡ length trees + 1 → ⊥
 Wrong s lines trees l no_such_line = NamesNoLine trees l
@@ -104,6 +107,7 @@ rank (states_other stated concluded) = 8
 rank never_used = 9
 rank empty_proof = 10
 
-pub record IsFirstWrong (s : Schema) (lines : List Line) (trees : List Tree) (l : Line) (c : Complaint) : Type 0 where
+pub record IsFirstWrong (s : Schema) (lines : List Line) (trees : List Tree) (l : Line) (c : Complaint)
+    : Type 0 where
   pub wrong : Wrong s lines trees l c
   pub first : (other : Complaint) → Wrong s lines trees l other → rank c ≤ rank other

@@ -69,8 +69,14 @@ impl Book {
     /// The node of a line. Its premises are taken.
     #[tactic(auto, unfolding(proof_grammar::specs::Books::prepared))]
     fn prepare(&mut self, schema: &Schema, line: &Line) -> Result<Node, ProofRefusalKind>
-        ensures ok { IfOk result (λ node. prepared schema.now (opened_all self.old.unused.items) (dependency_of line.now.stated) (body_of line.now.body) ≡ Ok (prepared_of node (opened_all self.new.unused.items))) }
-        ensures err { IfErr result (λ why. IsFound why (prepared schema.now (opened_all self.old.unused.items) (dependency_of line.now.stated) (body_of line.now.body))) }
+        ensures ok { IfOk result
+            (λ node. prepared schema.now (opened_all self.old.unused.items)
+            (dependency_of line.now.stated) (body_of line.now.body)
+            ≡ Ok (prepared_of node (opened_all self.new.unused.items))) }
+        ensures err { IfErr result
+            (λ why. IsFound why
+            (prepared schema.now (opened_all self.old.unused.items) (dependency_of line.now.stated)
+            (body_of line.now.body))) }
         ensures within { (u : Places) → IfErr result (IsRefusalWithin u) }
         ensures lines { self.new.lines.items ≡ self.old.lines.items }
         ensures length { length self.new.unused.items ≡ length self.old.unused.items }
@@ -106,8 +112,12 @@ impl Book {
         rule: StepRule,
         p: u32,
     ) -> Result<Node, ProofRefusalKind>
-        ensures ok { IfOk result (λ node. step_of_line schema.now (step_of rule) (opened_all self.old.unused.items) p ≡ Ok (prepared_of node (opened_all self.new.unused.items))) }
-        ensures err { IfErr result (λ why. IsFound why (step_of_line schema.now (step_of rule) (opened_all self.old.unused.items) p)) }
+        ensures ok { IfOk result
+            (λ node. step_of_line schema.now (step_of rule) (opened_all self.old.unused.items) p
+            ≡ Ok (prepared_of node (opened_all self.new.unused.items))) }
+        ensures err { IfErr result
+            (λ why. IsFound why
+            (step_of_line schema.now (step_of rule) (opened_all self.old.unused.items) p)) }
         ensures within { (u : Places) → IfErr result (IsRefusalWithin u) }
         ensures lines { self.new.lines.items ≡ self.old.lines.items }
         ensures length { length self.new.unused.items ≡ length self.old.unused.items }
@@ -126,8 +136,11 @@ impl Book {
 
     /// The node of a rule with two premises.
     fn prepare_pair(&mut self, rule: PairRule, p: u32, q: u32) -> Result<Node, ProofRefusalKind>
-        ensures ok { IfOk result (λ node. pair_of_line (pair_of rule) (opened_all self.old.unused.items) p q ≡ Ok (prepared_of node (opened_all self.new.unused.items))) }
-        ensures err { IfErr result (λ why. IsFound why (pair_of_line (pair_of rule) (opened_all self.old.unused.items) p q)) }
+        ensures ok { IfOk result
+            (λ node. pair_of_line (pair_of rule) (opened_all self.old.unused.items) p q
+            ≡ Ok (prepared_of node (opened_all self.new.unused.items))) }
+        ensures err { IfErr result
+            (λ why. IsFound why (pair_of_line (pair_of rule) (opened_all self.old.unused.items) p q)) }
         ensures within { (u : Places) → IfErr result (IsRefusalWithin u) }
         ensures lines { self.new.lines.items ≡ self.old.lines.items }
         ensures length { length self.new.unused.items ≡ length self.old.unused.items }
@@ -157,8 +170,10 @@ impl Book {
     ) -> Result<(), ProofRefusalKind>
         requires ledger { IsLedger schema.now (ledger_of self.old) }
         requires within { IsDepWithin (universe_of schema.now) line.now.stated }
-        ensures ok { OnOk result (entered schema.now at (ledger_of self.old) (line_of line.now) ≡ Ok (ledger_of self.new)) }
-        ensures err { IfErr result (λ why. IsFound why (entered schema.now at (ledger_of self.old) (line_of line.now))) }
+        ensures ok { OnOk result (entered schema.now at (ledger_of self.old) (line_of line.now)
+            ≡ Ok (ledger_of self.new)) }
+        ensures err { IfErr result
+            (λ why. IsFound why (entered schema.now at (ledger_of self.old) (line_of line.now))) }
         ensures within { IfErr result (IsRefusalWithin (universe_of schema.now)) }
     {
         let before = self.unused.len();
@@ -181,7 +196,9 @@ impl Book {
         dep: Dep,
     ) -> Result<(), ProofRefusalKind>
         requires { levels ≤ MOST_LEVELS }
-        ensures ok { OnOk result (ledger_of self.new ≡ add_line at self.old.lines.items (opened_all self.old.unused.items) (record { tree = tree_of deriv; levels = levels; conclusion = dependency_of dep })) }
+        ensures ok { OnOk result (ledger_of self.new
+            ≡ add_line at self.old.lines.items (opened_all self.old.unused.items)
+            (record { tree = tree_of deriv; levels = levels; conclusion = dependency_of dep })) }
         ensures err { IfErr result (λ why. why ≡ ProofRefusalKind.Memory) }
         ensures within { (u : Places) → IfErr result (IsRefusalWithin u) }
     {
@@ -196,7 +213,9 @@ impl Book {
     #[tactic(auto, unfolding(proof_grammar::specs::Books::finished))]
     pub fn finish(self, last: u32) -> Result<Concluded, ProofRefusal>
         ensures ok { IfOk result (λ x. finished last (ledger_of self) ≡ Ok (tree_of x.deriv.value)) }
-        ensures root { IfOk result (λ x. rooted (opened_all self.unused.items) ≡ Some (tree_of x.deriv.value, dependency_of x.dep)) }
+        ensures root { IfOk result
+            (λ x. rooted (opened_all self.unused.items)
+            ≡ Some (tree_of x.deriv.value, dependency_of x.dep)) }
         ensures err { IfErr result (λ e. IsFoundAt e (finished last (ledger_of self))) }
         ensures within { (u : Places) → IfErr result (λ e. IsRefusalWithin u e.kind) }
     {
@@ -225,7 +244,8 @@ impl Book {
 /// Takes the last line.
 fn take_last(unused: &mut Vec<Option<Open>>) -> Option<Open>
     ensures root { option_map opened_of result ≡ root (opened_all unused.old.items) }
-    ensures rest { opened_all unused.new.items ≡ take (length (opened_all unused.old.items) - 1) (opened_all unused.old.items) }
+    ensures rest { opened_all unused.new.items
+        ≡ take (length (opened_all unused.old.items) - 1) (opened_all unused.old.items) }
 {
     match unused.pop() {
         Some(last) => last,
@@ -249,10 +269,14 @@ fn first_open(unused: &[Option<Open>]) -> Option<usize>
 /// What a line concludes, within the limits; `before` lines stand before it.
 #[tactic(auto, unfolding(proof_grammar::specs::Books::settled))]
 fn settle(before: usize, line: &Line, node: Node) -> Result<(Deriv, Dep), ProofRefusalKind>
-    ensures ok { IfOk result (λ x. settled before (line_of line.now) node.levels (outcome_of node.outcome) ≡ Ok (record { tree = tree_of x.0; levels = node.levels; conclusion = dependency_of x.1 })) }
+    ensures ok { IfOk result
+        (λ x. settled before (line_of line.now) node.levels (outcome_of node.outcome)
+        ≡ Ok (record { tree = tree_of x.0; levels = node.levels; conclusion = dependency_of x.1 })) }
     ensures shallow { OnOk result (node.levels ≤ MOST_LEVELS) }
-    ensures err { IfErr result (λ why. IsFound why (settled before (line_of line.now) node.levels (outcome_of node.outcome))) }
-    ensures within { (u : Places) → IsDepWithin u line.now.stated → IfOk node.outcome (λ x. IsDepWithin u x.1) → IfErr result (IsRefusalWithin u) }
+    ensures err { IfErr result
+        (λ why. IsFound why (settled before (line_of line.now) node.levels (outcome_of node.outcome))) }
+    ensures within { (u : Places) → IsDepWithin u line.now.stated
+        → IfOk node.outcome (λ x. IsDepWithin u x.1) → IfErr result (IsRefusalWithin u) }
 {
     if before >= MOST_NODES as usize {
         return Err(ProofRefusalKind::TooManyLines);

@@ -57,7 +57,9 @@ pub fn read_line(names: &Names<'_>, start: Cursor<'_>) -> Result<Line, SchemaRef
 #[tactic(auto, unfolding(proof_grammar::specs::Lines::stated_dependency))]
 fn stated<'a>(names: &Names<'_>, start: Cursor<'a>) -> Result<(Dep, Cursor<'a>), SchemaRefusal>
     requires few { length (names_in names.now) ≤ PLACES }
-    ensures ok { IfOk result (λ x. stated_dependency (names_in names.now) (rest_of start.entry) ≡ Ok (dependency_of x.0, rest_of x.1)) }
+    ensures ok { IfOk result
+        (λ x. stated_dependency (names_in names.now) (rest_of start.entry)
+        ≡ Ok (dependency_of x.0, rest_of x.1)) }
     ensures within { IfOk result (λ x. IsDepWithin (below (length (names_in names.now))) x.0) }
     ensures err { IfErr result (λ e. stated_dependency (names_in names.now) (rest_of start.entry) ≡ Err e) }
 {
@@ -71,7 +73,7 @@ fn stated<'a>(names: &Names<'_>, start: Cursor<'a>) -> Result<(Dep, Cursor<'a>),
     Ok((dep, rest))
 }
 
-/// What stands behind the name of a rule.
+/// What stands after the name of a rule.
 #[tactic(auto, unfolding(proof_grammar::specs::Lines::body))]
 fn read_body<'a>(
     names: &Names<'_>,
@@ -79,7 +81,8 @@ fn read_body<'a>(
     start: Cursor<'a>,
 ) -> Result<(Body, Cursor<'a>), SchemaRefusal>
     requires few { length (names_in names.now) ≤ PLACES }
-    ensures ok { IfOk result (λ x. body (names_in names.now) name (rest_of start.entry) ≡ Ok (body_of x.0, rest_of x.1)) }
+    ensures ok { IfOk result
+        (λ x. body (names_in names.now) name (rest_of start.entry) ≡ Ok (body_of x.0, rest_of x.1)) }
     ensures err { IfErr result (λ e. body (names_in names.now) name (rest_of start.entry) ≡ Err e) }
 {
     match name {
@@ -127,7 +130,8 @@ fn augmentation<'a>(
     start: Cursor<'a>,
 ) -> Result<(Body, Cursor<'a>), SchemaRefusal>
     requires few { length (names_in names.now) ≤ PLACES }
-    ensures ok { IfOk result (λ x. augmented (names_in names.now) (rest_of start.entry) ≡ Ok (body_of x.0, rest_of x.1)) }
+    ensures ok { IfOk result
+        (λ x. augmented (names_in names.now) (rest_of start.entry) ≡ Ok (body_of x.0, rest_of x.1)) }
     ensures err { IfErr result (λ e. augmented (names_in names.now) (rest_of start.entry) ≡ Err e) }
 {
     let (premise, rest) = start.number()?;
@@ -142,7 +146,8 @@ fn maugmentation<'a>(
     start: Cursor<'a>,
 ) -> Result<(Body, Cursor<'a>), SchemaRefusal>
     requires few { length (names_in names.now) ≤ PLACES }
-    ensures ok { IfOk result (λ x. maugmented (names_in names.now) (rest_of start.entry) ≡ Ok (body_of x.0, rest_of x.1)) }
+    ensures ok { IfOk result
+        (λ x. maugmented (names_in names.now) (rest_of start.entry) ≡ Ok (body_of x.0, rest_of x.1)) }
     ensures err { IfErr result (λ e. maugmented (names_in names.now) (rest_of start.entry) ≡ Err e) }
 {
     let (premise, rest) = start.number()?;

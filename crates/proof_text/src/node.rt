@@ -73,7 +73,8 @@ fn same_sides(a: Dep, b: Dep) -> bool
 
 /// A leaf, where its rule applies.
 pub fn leaf(schema: &Schema, rule: LeafRule) -> Result<(Deriv, Dep), FaultKind>
-    ensures exact { outcome_of result ≡ with_tree (leaf (leaf_of rule)) (leaf_conclusion schema.now (leaf_of rule)) }
+    ensures exact { outcome_of result
+        ≡ with_tree (leaf (leaf_of rule)) (leaf_conclusion schema.now (leaf_of rule)) }
 {
     match leaf_conclusion(schema, rule) {
         Ok(dep) => Ok((rule.deriv(), dep)),
@@ -93,7 +94,9 @@ pub fn given(schema: &Schema, k: u32) -> Result<(Deriv, Dep), FaultKind>
 
 /// What a rule concludes from an open line.
 pub fn step(schema: &Schema, rule: StepRule, premise: Open) -> Result<(Deriv, Dep), FaultKind>
-    ensures exact { outcome_of result ≡ with_tree (step (step_of rule) (tree_of premise.deriv.value)) (step_conclusion schema.now (step_of rule) (dependency_of premise.dep)) }
+    ensures exact { outcome_of result
+        ≡ with_tree (step (step_of rule) (tree_of premise.deriv.value))
+        (step_conclusion schema.now (step_of rule) (dependency_of premise.dep)) }
 {
     match step_conclusion(schema, rule, premise.dep) {
         Ok(dep) => Ok((rule.over(premise.deriv), dep)),
@@ -103,7 +106,9 @@ pub fn step(schema: &Schema, rule: StepRule, premise: Open) -> Result<(Deriv, De
 
 /// What a rule concludes from two open lines.
 pub fn pair(rule: PairRule, first: Open, second: Open) -> Result<(Deriv, Dep), FaultKind>
-    ensures exact { outcome_of result ≡ with_tree (pair (pair_of rule) (tree_of first.deriv.value) (tree_of second.deriv.value)) (pair_conclusion (pair_of rule) (dependency_of first.dep) (dependency_of second.dep)) }
+    ensures exact { outcome_of result
+        ≡ with_tree (pair (pair_of rule) (tree_of first.deriv.value) (tree_of second.deriv.value))
+        (pair_conclusion (pair_of rule) (dependency_of first.dep) (dependency_of second.dep)) }
 {
     match pair_conclusion(rule, first.dep, second.dep) {
         Ok(dep) => Ok((rule.over(first.deriv, second.deriv), dep)),

@@ -10,7 +10,7 @@ ghost use Rattle.derivation.specs.Table.{leaf_conclusion, step_conclusion, pair_
 ghost use Rattle.derivation.specs.Conclusions.{Proves};
 ghost use Rattle.schema_grammar.specs.Printing.{set_text, dependency_text};
 ghost use Rattle.proof_text.specs.Views.{body_of, line_of};
-ghost use Rattle.proof_grammar.specs.Printing.{step_word, sides_text, pair_word, body_text, line_text, leaf_body, numbered_line, lines_behind, lines_text, canonical_certificate, IsProof, IsStepWithin, IsBodyWithin};
+ghost use Rattle.proof_grammar.specs.Printing.{step_word, sides_text, pair_word, body_text, line_text, leaf_body, numbered_line, node_lines_after, lines_text, canonical_certificate, IsProof, IsStepWithin, IsBodyWithin};
 
 use crate::line::{Body, Line};
 use attr_sets::AttrSet;
@@ -36,7 +36,7 @@ pub fn print_proof(alloc: Global, schema: &Schema, deriv: &Deriv) -> Result<Vec<
     Ok(text)
 }
 
-// Adds the lines of a derivation, whose nodes are numbered behind those that are printed, and gives
+// Adds the lines of a derivation, whose nodes are numbered after those that are printed, and gives
 // what it concludes.
 fn add_lines(
     text: &mut Vec<u8>,
@@ -47,7 +47,9 @@ fn add_lines(
 ) -> Result<Dep, WantMemory>
     requires proof { IsProof schema.now (tree_of deriv.now) }
     requires room { printed.old + nodes (tree_of deriv.now) < 2 ^ 32 }
-    ensures added { OnOk result (text.new.items ≡ text.old.items ++ lines_text (names_of schema.now) (lines_behind schema.now printed.old (tree_of deriv.now))) }
+    ensures added { OnOk result (text.new.items
+        ≡ text.old.items ++ lines_text (names_of schema.now)
+        (node_lines_after schema.now printed.old (tree_of deriv.now))) }
     ensures printed { OnOk result (printed.new ≡ printed.old + nodes (tree_of deriv.now)) }
     ensures proves { IfOk result (λ d. Proves schema.now (tree_of deriv.now) (dependency_of d)) }
 {
@@ -73,7 +75,7 @@ fn add_lines(
     }
 }
 
-// Adds the line of a node behind those that are printed, and gives what it states.
+// Adds the line of a node after those that are printed, and gives what it states.
 fn add_node(
     text: &mut Vec<u8>,
     alloc: Global,
@@ -85,7 +87,9 @@ fn add_node(
     requires stated { IsDepWithin (universe_of schema.now) stated }
     requires body { IsBodyWithin (universe_of schema.now) (body_of body) }
     requires room { printed.old + 1 < 2 ^ 32 }
-    ensures added { OnOk result (text.new.items ≡ text.old.items ++ line_text (names_of schema.now) (numbered_line (printed.old + 1) (dependency_of stated) (body_of body))) }
+    ensures added { OnOk result (text.new.items
+        ≡ text.old.items ++ line_text (names_of schema.now)
+        (numbered_line (printed.old + 1) (dependency_of stated) (body_of body))) }
     ensures printed { OnOk result (printed.new ≡ printed.old + 1) }
     ensures stated { IfOk result (λ d. d ≡ stated) }
 {
@@ -113,7 +117,8 @@ fn stated_by_leaf(schema: &Schema, rule: LeafRule) -> Dep
 // What a node with one premise states.
 fn stated_by_step(schema: &Schema, rule: StepRule, from: Dep) -> Dep
     requires some { (d : Dependency) × (step_conclusion schema.now (step_of rule) (dependency_of from) ≡ Ok d) }
-    ensures stated { step_conclusion schema.now (step_of rule) (dependency_of from) ≡ Ok (dependency_of result) }
+    ensures stated { step_conclusion schema.now (step_of rule) (dependency_of from)
+        ≡ Ok (dependency_of result) }
 {
     match step_conclusion(schema, rule, from) {
         Ok(stated) => stated,
@@ -123,8 +128,10 @@ fn stated_by_step(schema: &Schema, rule: StepRule, from: Dep) -> Dep
 
 // What a node with two premises states.
 fn stated_by_pair(rule: PairRule, first: Dep, second: Dep) -> Dep
-    requires some { (d : Dependency) × (pair_conclusion (pair_of rule) (dependency_of first) (dependency_of second) ≡ Ok d) }
-    ensures stated { pair_conclusion (pair_of rule) (dependency_of first) (dependency_of second) ≡ Ok (dependency_of result) }
+    requires some { (d : Dependency)
+        × (pair_conclusion (pair_of rule) (dependency_of first) (dependency_of second) ≡ Ok d) }
+    ensures stated { pair_conclusion (pair_of rule) (dependency_of first) (dependency_of second)
+        ≡ Ok (dependency_of result) }
 {
     match pair_conclusion(rule, first, second) {
         Ok(stated) => stated,
@@ -151,7 +158,8 @@ fn add_line(
 ) -> Result<(), WantMemory>
     requires stated { IsDepWithin (universe_of schema.now) line.now.stated }
     requires body { IsBodyWithin (universe_of schema.now) (body_of line.now.body) }
-    ensures added { OnOk result (text.new.items ≡ text.old.items ++ line_text (names_of schema.now) (line_of line.now)) }
+    ensures added { OnOk result (text.new.items
+        ≡ text.old.items ++ line_text (names_of schema.now) (line_of line.now)) }
 {
     add_number(text, alloc, line.number)?;
     add(text, b": ")?;
@@ -169,7 +177,8 @@ fn add_body(
     body: Body,
 ) -> Result<(), WantMemory>
     requires body { IsBodyWithin (universe_of schema.now) (body_of body) }
-    ensures added { OnOk result (text.new.items ≡ text.old.items ++ body_text (names_of schema.now) (body_of body)) }
+    ensures added { OnOk result (text.new.items
+        ≡ text.old.items ++ body_text (names_of schema.now) (body_of body)) }
 {
     match body {
         Body::Given(k) => {
@@ -206,7 +215,8 @@ fn add_step_word(text: &mut Vec<u8>, rule: StepRule) -> Result<(), WantMemory>
 
 fn add_sides(text: &mut Vec<u8>, schema: &Schema, rule: StepRule) -> Result<(), WantMemory>
     requires rule { IsStepWithin (universe_of schema.now) (step_of rule) }
-    ensures added { OnOk result (text.new.items ≡ text.old.items ++ sides_text (names_of schema.now) (step_of rule)) }
+    ensures added { OnOk result (text.new.items
+        ≡ text.old.items ++ sides_text (names_of schema.now) (step_of rule)) }
 {
     match rule {
         StepRule::Augmentation { by } => {

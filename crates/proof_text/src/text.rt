@@ -51,7 +51,8 @@ pub fn read_concluded(
 ) -> Result<Concluded, ProofRefusal>
     requires { length text.now ≤ MOST_PROOF_BYTES }
     ensures ok { IfOk result (λ read. SpellsWithin schema.now text.now (tree_of read.deriv.value)) }
-    ensures concludes { IfOk result (λ read. Proves schema.now (tree_of read.deriv.value) (dependency_of read.dep)) }
+    ensures concludes { IfOk result
+        (λ read. Proves schema.now (tree_of read.deriv.value) (dependency_of read.dep)) }
     ensures checked { IfOk result (λ read. IsChecked schema.now (tree_of read.deriv.value)) }
     ensures dep { IfOk result (λ read. IsDepWithin (universe_of schema.now) read.dep) }
     ensures err { IfErr result (RefusesProof schema.now text.now) }
@@ -91,8 +92,11 @@ fn read_one(
 ) -> Result<bool, ProofRefusalKind>
     requires room { 1 + length text.now < 2 ^ 32 }
     requires ledger { IsLedger schema.now (ledger_of book.old) }
-    ensures ok { IfOk result (λ still. read_one schema.now fresh number (ledger_of book.old) text.now ≡ Ok (still, ledger_of book.new)) }
-    ensures err { IfErr result (λ why. IsFound why (read_one schema.now fresh number (ledger_of book.old) text.now)) }
+    ensures ok { IfOk result
+        (λ still. read_one schema.now fresh number (ledger_of book.old) text.now
+        ≡ Ok (still, ledger_of book.new)) }
+    ensures err { IfErr result
+        (λ why. IsFound why (read_one schema.now fresh number (ledger_of book.old) text.now)) }
     ensures within { IfErr result (IsRefusalWithin (universe_of schema.now)) }
 {
     match line_kind(fresh, text) {

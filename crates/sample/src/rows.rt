@@ -26,7 +26,7 @@ pub fn sample_rows(alloc: Global, persons: u32) -> Result<Vec<Row>, WantMemory>
     Ok(rows)
 }
 
-// The rows of a person, behind those of others.
+// The rows of a person, after those of others.
 fn add_person(alloc: Global, rows: &mut Vec<Row>, person: u32) -> Result<(), WantMemory>
     requires few { person < MOST_PERSONS }
     ensures more { OnOk result (rows.new.items ≡ rows.old.items ++ person_rows person) }

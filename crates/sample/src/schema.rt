@@ -11,7 +11,8 @@ use std::alloc::Global;
 /// `attributes PERSON CITY SKILL TONGUE`, `PERSON -> CITY`, `PERSON ->> SKILL` of three lines means it.
 pub fn sample_schema(alloc: Global) -> Result<Schema, WantMemory>
     ensures names { IfOk result (λ s. names_of s ≡ sample_names) }
-    ensures columns { IfOk result (λ s. (i : ℕ) → i < width_of s → slice_get (columns_of s) i ≡ Some Column.Text) }
+    ensures columns { IfOk result
+        (λ s. (i : ℕ) → i < width_of s → slice_get (columns_of s) i ≡ Some Column.Text) }
     ensures theory { IfOk result (λ s. theory_of s ≡ sample_theory) }
     ensures lines { IfOk result (λ s. lines_of s ≡ 2 ∷ 3 ∷ []) }
 {

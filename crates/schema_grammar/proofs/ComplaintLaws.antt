@@ -20,7 +20,7 @@ use Rattle.schema_grammar.specs.Reading.{step, follow, read_goal}
 use Rattle.schema_grammar.specs.Refusals.{at, and_then, expecting, refused_by, refusal, kind_of_flaw}
 use Rattle.schema_grammar.proofs.ShapeLemmas.{Shape, at_start, shape_of, is_final, runs, StepTells, step_tells, EndTells, end_tells, final_line, line_ends, runs-one, wanted_by, wants_from, carries_nothing, begins_from, begins_to}
 
--- the grammar can't go on, behind tokens of these kinds
+-- the grammar can't go on, after tokens of these kinds
 record IsStuckFrom (pre ks : List TokenKind) (stop : Option Stop) (place : ℕ) : Type 0 where
   before : BeginsLine (pre ++ take place ks)
   here : ((place < length ks) × (BeginsLine (pre ++ take (suc place) ks) → ⊥)) ⊎ ((place ≡ length ks) × (stop ≡ None) × (IsLine (pre ++ ks) → ⊥))

@@ -29,7 +29,7 @@ use Rattle.schema_grammar.proofs.GoalLaws.{dependency-law, any_ok, stopped}
 use Rattle.schema_grammar.proofs.RefusalLemmas.{ok_at}
 use Rattle.schema_grammar.proofs.WithinLemmas.{and_then_ok}
 
--- a value behind two steps comes from one behind the first
+-- a value after two steps comes from one after the first
 pub record Steps {X Y E : Type 0} (r : Result X E) (next : X → Result Y E) (y : Y) : Type 0 where
   pub x : X
   pub first : r ≡ Ok x
@@ -79,7 +79,7 @@ unfolding declare
 name_declared f column d some m new =
     let room = leb-refuses PLACES (length d.names) new.room in rw (new.word, new.free, new.new, room) refl
 
--- names behind a declaring word are read exactly where each is a new one
+-- names after a declaring word are read exactly where each is a new one
 names_there : (f : Format) (column : Column) (line : ℕ) (d whole : Declarations) (behind : ℕ) (ms : List Mark)
     → list_names f column line d true behind ms None ≡ Ok whole → DeclareNames f column d ms whole
 unfolding list_names
@@ -167,7 +167,7 @@ dependency_back f line d m ms dep e h =
 pub has_tokens : (l : Lexed) (ms : List Mark) → l.marks ≡ ms → l.stop ≡ None → HasTokens l ms
 has_tokens l ms marks stop i = record { marks = marks i; stop = stop i }
 
--- a line is read exactly where it means what is declared behind it
+-- a line is read exactly where it means what is declared after it
 pub line_there : (f : Format) (number : ℕ) (d : Declarations) (line : List ℕ) (whole : Declarations) → read_line f number d line ≡ Ok whole → MeansTextLine f number d line whole
 unfolding read_line
 line_there f number d line whole e = told (lex mode.Plain line).marks (lex mode.Plain line).stop refl refl e

@@ -30,7 +30,7 @@ names-looked_up : (f : Format) (declared : List (List ℕ)) (word : List ℕ) (a
 unfolding looked_up
 names-looked_up f declared word a names = rw (names.free, names.place) refl
 
--- behind words of the left side: more words, an arrow, the right side
+-- after words of the left side: more words, an arrow, the right side
 record LeftRest (f : Format) (declared : List (List ℕ)) (x : Places) (ms : List Mark) (d : Dependency) : Type 0 where
   words : List Mark
   arrow : Mark
@@ -43,7 +43,7 @@ record LeftRest (f : Format) (declared : List (List ℕ)) (x : Places) (ms : Lis
   right_side : IsSide f declared rhs y
   states : d ≡ stated sign (union x (named declared words)) y
 
--- behind a left `()`: an arrow, the right side
+-- after a left `()`: an arrow, the right side
 record ArrowRest (f : Format) (declared : List (List ℕ)) (ms : List Mark) (d : Dependency) : Type 0 where
   arrow : Mark
   rhs : List Mark
@@ -54,18 +54,18 @@ record ArrowRest (f : Format) (declared : List (List ℕ)) (ms : List Mark) (d :
   right_side : IsSide f declared rhs y
   states : d ≡ stated sign none y
 
--- behind the arrow: the right side
+-- after the arrow: the right side
 record BehindRest (f : Format) (declared : List (List ℕ)) (s : Sign) (x : Places) (ms : List Mark) (d : Dependency) : Type 0 where
   y : Places
   right_side : IsSide f declared ms y
   states : d ≡ stated s x y
 
--- behind words of the right side: more words
+-- after words of the right side: more words
 record RightRest (f : Format) (declared : List (List ℕ)) (s : Sign) (x y : Places) (ms : List Mark) (d : Dependency) : Type 0 where
   each : All (IsAttribute f declared) ms
   states : d ≡ stated s x (union y (named declared ms))
 
--- behind a right `()`: nothing
+-- after a right `()`: nothing
 record EndRest (s : Sign) (x : Places) (ms : List Mark) (d : Dependency) : Type 0 where
   nothing : ms ≡ []
   states : d ≡ stated s x none

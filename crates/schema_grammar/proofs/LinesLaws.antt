@@ -31,11 +31,11 @@ first_of x y xs ys e = (cc, cc)
 pub ok_value : (x y : Declarations) (r : Result Declarations SchemaRefusal) → r ≡ Ok x → r ≡ Ok y → x ≡ y
 ok_value x y r e f = cc
 
--- a complaint behind a line that is read
-pub complaint_behind : (f : Format) (first : ℕ) (d next : Declarations) (line : List ℕ) (lines : List (List ℕ)) (l p n : ℕ) → read_line f first d line ≡ Ok next
+-- a complaint after a line that is read
+pub complaint_after : (f : Format) (first : ℕ) (d next : Declarations) (line : List ℕ) (lines : List (List ℕ)) (l p n : ℕ) → read_line f first d line ≡ Ok next
     → FitsTextLine f d first (lex mode.Plain line).marks (lex mode.Plain line).stop (Ok next)
     → LinesComplaint f first d (line ∷ lines) l p n → LinesComplaint f (first + 1) next lines l p n
-complaint_behind f first d next line lines l p n read none complaint = told complaint.before complaint.cut complaint.means complaint.stands_on
+complaint_after f first d next line lines l p n read none complaint = told complaint.before complaint.cut complaint.means complaint.stands_on
   where
     told : (before : List (List ℕ)) → line ∷ lines ≡ before ++ complaint.line ∷ complaint.after → MeansLines f first d before complaint.declared
         → l ≡ first + length before → LinesComplaint f (first + 1) next lines l p n
@@ -74,19 +74,19 @@ complaint_before f first d next line lines l p n read complaint = record {
   complaint = complaint.complaint;
 }
 
-pub lines_behind : (f : Format) (first : ℕ) (d next : Declarations) (line : List ℕ) (lines : List (List ℕ)) (res : Result Declarations SchemaRefusal) → read_line f first d line ≡ Ok next
+pub node_lines_after : (f : Format) (first : ℕ) (d next : Declarations) (line : List ℕ) (lines : List (List ℕ)) (res : Result Declarations SchemaRefusal) → read_line f first d line ≡ Ok next
     → FitsTextLine f d first (lex mode.Plain line).marks (lex mode.Plain line).stop (Ok next)
     → FitsLines f (first + 1) next lines res → FitsLines f first d (line ∷ lines) res
 unfolding complaint_before
-lines_behind f first d next line lines (Ok whole) read none fits = λ l p n complaint. fits l p n (complaint_behind f first d next line lines l p n read none complaint)
-lines_behind f first d next line lines (Err e) read none (inl found) = inl (record {
+node_lines_after f first d next line lines (Ok whole) read none fits = λ l p n complaint. fits l p n (complaint_after f first d next line lines l p n read none complaint)
+node_lines_after f first d next line lines (Err e) read none (inl found) = inl (record {
   place = found.place;
   stands = complaint_before f first d next line lines e.span.line found.place (refusal_number e.kind) read found.stands;
   carries = found.carries;
   there = found.there;
-  least = λ l p n complaint. found.least l p n (complaint_behind f first d next line lines l p n read none complaint);
+  least = λ l p n complaint. found.least l p n (complaint_after f first d next line lines l p n read none complaint);
 })
-lines_behind f first d next line lines (Err e) read none (inr empty) = inr (record {
+node_lines_after f first d next line lines (Err e) read none (inr empty) = inr (record {
   whole = empty.whole;
   means = (next, line_there f first d line next read, empty.means);
   nothing = empty.nothing;
@@ -147,5 +147,5 @@ lines-law f first d (line ∷ lines) = told (λ next. lines-law f (first + 1) ne
   where
     told : ((next : Declarations) → FitsLines f (first + 1) next lines (read_lines f (first + 1) next lines)) → (o : Result Declarations SchemaRefusal) → read_line f first d line ≡ o → FitsTextLine f d first (lex mode.Plain line).marks (lex mode.Plain line).stop o
         → FitsLines f first d (line ∷ lines) (and_then o (λ next. read_lines f (first + 1) next lines))
-    told rest (Ok next) read fits = lines_behind f first d next line lines (read_lines f (first + 1) next lines) read fits (rest next)
+    told rest (Ok next) read fits = node_lines_after f first d next line lines (read_lines f (first + 1) next lines) read fits (rest next)
     told rest (Err e) read fits = inl (line_here f first d line lines e read fits)

@@ -31,7 +31,7 @@ WordComplaint f d m number =
     × ((((number ≡ 3) × (is_reserved f m.word ≡ true)) ⊎ ((number ≡ 4) × (is_some (place_named d.names m.word) ≡ true))) ⊎ ((number ≡ 7) × (PLACES ≤ length d.names))))
     ⊎ ((number ≡ 6) × (m.kind ≡ token.Word → ⊥))
 
--- what a token behind a declaring word tells
+-- what a token after a declaring word tells
 abbrev NameTells : Format → Column → Declarations → Bool → Mark → Result Declarations SchemaRefusalKind → Type 0
 NameTells f column d some m (Ok next) = (next ≡ add_name d m.word column) × (m.kind ≡ token.Word) × ((n : ℕ) → WordComplaint f d m n → ⊥)
 NameTells f column d some m (Err why) = WordComplaint f d m (refusal_number why) × ((n : ℕ) → WordComplaint f d m n → refusal_number why ≤ n) × Carries (λ w. w ≡ wanted some) why
@@ -106,7 +106,7 @@ abbrev JudgedNames : Bool → Format → Declarations → ℕ → ℕ → List M
 JudgedNames some f d line behind words stop (Ok whole) = (p n : ℕ) → NamesFrom some f d words stop p n → ⊥
 JudgedNames some f d line behind words stop (Err e) = IsFirst (NamesFrom some f d words stop) (WantsNames some) (span_at line behind words stop) e
 
--- the complaints of a later word, seen from behind this one
+-- the complaints of a later word, seen from after this one
 name_later : (f : Format) (column : Column) (d : Declarations) (w : Mark) (words : List Mark) (p : ℕ) (m : Mark) (n : ℕ)
     → NameComplaint f d (w ∷ words) (suc p) m n → NameComplaint f (add_name d w.word column) words p m n
 name_later f column d w words p m n (inl (is, inl (inl three))) = inl (is, inl (inl three))

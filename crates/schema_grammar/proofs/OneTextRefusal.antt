@@ -22,7 +22,7 @@ use Rattle.schema_grammar.specs.Schemas.{MeansLines, LinesComplaint, IsFirstOfLi
 use Rattle.schema_grammar.specs.Texts.{read_text, number_in, is_version}
 use Rattle.schema_grammar.proofs.ComplaintLaws.{goal-complaint-law, goal_refused}
 use Rattle.schema_grammar.proofs.DeclaringLaws.{line_back}
-use Rattle.schema_grammar.proofs.LinesLaws.{line-law, complaint_behind, first_of, no_line, ok_value}
+use Rattle.schema_grammar.proofs.LinesLaws.{line-law, complaint_after, first_of, no_line, ok_value}
 use Rattle.schema_grammar.proofs.OneRefusal.{one_first, one_at_first, one_text_line, one_line_refusal, both_least, same_refusal, same_carried}
 use Rattle.schema_grammar.proofs.TextLaws.{text-law, schema_refused, two_fits, refused}
 use Rattle.schema_grammar.proofs.SchemaLaws.{schema-law}
@@ -33,9 +33,9 @@ fine_lines f first d [] whole means l p n complaint = no_line complaint.before c
 fine_lines f first d (line ∷ lines) whole (next, here, rest) l p n complaint =
     let read = line_back f first d line next here in
     let fits : FitsTextLine f d first (lex mode.Plain line).marks (lex mode.Plain line).stop (Ok next) = subst (FitsTextLine f d first (lex mode.Plain line).marks (lex mode.Plain line).stop) read (line-law f first d line) in
-    fine_lines f (first + 1) next lines whole rest l p n (complaint_behind f first d next line lines l p n read fits complaint)
+    fine_lines f (first + 1) next lines whole rest l p n (complaint_after f first d next line lines l p n read fits complaint)
 
--- two cuts of lines behind us many of them
+-- two cuts of lines after us many of them
 same_cut : (xs ys : List (List ℕ)) (x y : List ℕ) (us vs : List (List ℕ)) → xs ++ x ∷ us ≡ ys ++ y ∷ vs → length xs ≡ length ys → x ≡ y
 same_cut [] [] x y us vs e n = (first_of x y us vs e).0
 same_cut [] (z ∷ ys) x y us vs e n = absurd (omega (arith, n))
@@ -112,7 +112,7 @@ fine_version line m ms starts is p n complaint =
     rest_of : (a b : Mark) (us vs : List Mark) → a ∷ us ≡ b ∷ vs → us ≡ vs
     rest_of a b us vs e = cc
 
--- the refusals of a text with a version line, by the lines before it, its tokens, and the lines behind it
+-- the refusals of a text with a version line, by the lines before it, its tokens, and the lines after it
 abbrev RefusesAt : ℕ → List (List ℕ) → List ℕ → List (List ℕ) → List Mark → SchemaRefusal → Type 0
 RefusesAt number before version later [] e = ⊥
 RefusesAt number before version later (m ∷ ms) e =

@@ -75,7 +75,7 @@ name_lexed m column (first ∷ others) rest e apart =
     let whole = at_token m column ((first ∷ others) ++ rest) token.Word (length (first ∷ others)) (omega arith) (sym (front_name m (first ∷ others) rest e apart)) in
     whole ∙ (rw (take_front (first ∷ others) rest, drop_front (first ∷ others) rest) refl)
 
--- the tokens of words, each behind a blank
+-- the tokens of words, each after a blank
 abbrev pub word_marks : ℕ → List (List ℕ) → List Mark
 word_marks column [] = []
 word_marks column (word ∷ words) = record { kind = token.Word; column = column + 1; word = word } ∷ word_marks (column + 1 + length word) words

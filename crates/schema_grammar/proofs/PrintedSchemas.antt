@@ -34,7 +34,7 @@ use Rattle.schema_grammar.proofs.PrintedDependencies.{led_marks, nothing_left}
 use Rattle.schema_grammar.proofs.PrintedSides.{known_at, IsCutAt, cut_more}
 use Rattle.schema_grammar.proofs.PrintedTexts.{Bytes, bytes_both, words_bytes, EachBytes, lines_cut, numbers, EachWithin, dependencies_mean, each_dependency, none_found}
 
--- a word, and words each behind a blank
+-- a word, and words each after a blank
 word_line : (word : List ℕ) (words : List (List ℕ)) → is_name word ≡ true → AllNames words
     → HasTokens (lex mode.Plain (word ++ words_text words)) (record { kind = token.Word; column = 1; word = word } ∷ word_marks (1 + length word) words)
 word_line word words proper names =
@@ -192,7 +192,7 @@ unfolding declares declaring
 word_declares Text = refl
 word_declares Integer = refl
 
--- behind runs that are printed line by line
+-- after runs that are printed line by line
 abbrev with_runs : Declarations → List Run → Declarations
 with_runs d runs = record { names = d.names ++ run_names runs; columns = d.columns ++ run_columns runs; deps = d.deps; lines = d.lines }
 

@@ -118,7 +118,7 @@ EachWithin u (d ∷ ds) = IsWithin u d × EachWithin u ds
 abbrev pub with_dependencies : Declarations → List Dependency → List ℕ → Declarations
 with_dependencies d deps lines = record { names = d.names; columns = d.columns; deps = d.deps ++ deps; lines = d.lines ++ lines }
 
--- the lines of dependencies, and the empty line behind the last line feed
+-- the lines of dependencies, and the empty line after the last line feed
 pub dependencies_mean : (f : Format) (number : ℕ) (d : Declarations) (deps : List Dependency) → AreNames f d.names → EachWithin (below (length d.names)) deps
     → length d.deps + length deps ≤ MOST_DEPENDENCIES
     → MeansLines f number d (map (dependency_text d.names) deps ++ [] ∷ []) (with_dependencies d deps (numbers number deps))

@@ -9,7 +9,7 @@ use Rattle.lexer.specs.Pieces.{front}
 use Rattle.lexer.specs.Tokens.{Mark, Lexed, lexed, led_by, lex}
 use Rattle.schema_grammar.specs.Complaints.{span_at}
 
--- tokens stand one behind the other, from a column on
+-- tokens stand one after the other, from a column on
 abbrev IsRising : ℕ → List Mark → Option Stop → Type 0
 IsRising from [] None = Unit {0}
 IsRising from [] (Some s) = from ≤ s.column

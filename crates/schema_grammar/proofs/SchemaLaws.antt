@@ -21,7 +21,7 @@ use Rattle.schema_grammar.specs.Texts.{read_lines, read_version, read_typed, rea
 use Rattle.schema_grammar.proofs.BlankLemmas.{blank_plain}
 use Rattle.schema_grammar.proofs.DeclaringLaws.{steps, has_tokens, finish_there, lines_there, lines_back}
 
--- behind the word `version` stands the number 2, and nothing more
+-- after the word `version` stands the number 2, and nothing more
 pub record Numbers (ms : List Mark) (stop : Option Stop) (d : Declarations) : Type 0 where
   pub number : Mark
   pub only : ms ≡ number ∷ []

@@ -387,7 +387,7 @@ runs-one pre s k reached = runs-append at_start pre (k ∷ []) ∙ ap (λ o. bin
     last None = refl
     last (Some t) = refl
 
--- what the shape wants is wanted behind tokens that lead to it
+-- what the shape wants is wanted after tokens that lead to it
 pub wants_from : (ks : List TokenKind) (s : Shape) → runs at_start ks ≡ Some s → Wants ks (wanted_by s)
 wants_from ks at_start e = begins_from (ks ++ token.Empty ∷ []) past_empty (runs-one ks at_start token.Empty e)
 wants_from ks in_left e = begins_from (ks ++ token.Arrow ∷ []) past_arrow (runs-one ks in_left token.Arrow e)

@@ -9,7 +9,7 @@ use Rattle.schema_grammar.specs.declared.format.Format.{Format}
 use Rattle.schema_grammar.specs.Meanings.{is_at, named}
 use Rattle.schema_grammar.specs.Words.{is_reserved, looked_up, known}
 
--- more attributes behind a set
+-- more attributes after a set
 pub union-only : (x y : Places) (a : ℕ) → union (union x (only a)) y ≡ union x (union (only a) y)
 union-only x y a = Same-path _ _ (λ k. both (x k) (k == a) (y k))
   where

@@ -17,7 +17,7 @@ use Rattle.schema_grammar.specs.Schemas.{FitsLines, RefusesVersion, VersionCompl
 use Rattle.schema_grammar.specs.Texts.{read_lines, read_version, read_typed, read_opening, read_text, is_version, opened, end_version, version_number, number_in}
 use Rattle.schema_grammar.proofs.BlankLemmas.{blank_plain}
 use Rattle.schema_grammar.proofs.ComplaintLaws.{flaw_numbered, flaw_carries, no_mark, same_mark}
-use Rattle.schema_grammar.proofs.LinesLaws.{line-law, lines-law, lines_behind}
+use Rattle.schema_grammar.proofs.LinesLaws.{line-law, lines-law, node_lines_after}
 use Rattle.schema_grammar.proofs.DeclaringLaws.{has_tokens, line_back}
 use Rattle.schema_grammar.proofs.SchemaLaws.{version_there}
 
@@ -154,7 +154,7 @@ unfolding has_version_line
 blank_fits number line lines reading blank (inl (none_yet, fits)) =
     let read : read_line format.Plain number no_declaration line ≡ Ok no_declaration = line_back format.Plain number no_declaration line no_declaration (inl (inl (record { tokens = blank_plain line blank; same = refl }))) in
     let of : Result Declarations SchemaRefusal → Type 0 = λ o. FitsTextLine format.Plain no_declaration number (lex mode.Plain line).marks (lex mode.Plain line).stop o in
-    inl ((rw blank none_yet), lines_behind format.Plain number no_declaration no_declaration line lines reading read (subst of read (line-law format.Plain number no_declaration line)) fits)
+    inl ((rw blank none_yet), node_lines_after format.Plain number no_declaration no_declaration line lines reading read (subst of read (line-law format.Plain number no_declaration line)) fits)
 blank_fits number line lines reading blank (inr (typed, fits)) = inr (
   record {
     before = line ∷ typed.before;

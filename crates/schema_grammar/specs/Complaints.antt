@@ -60,7 +60,8 @@ pub record BeginsLine (ks : List TokenKind) : Type 0 where
 -- the grammar can't go on at the token, or the line's end, before which so many tokens stand
 pub record IsStuck (ks : List TokenKind) (stop : Option Stop) (place : ℕ) : Type 0 where
   pub before : BeginsLine (take place ks)
-  pub here : ((place < length ks) × (BeginsLine (take (suc place) ks) → ⊥)) ⊎ ((place ≡ length ks) × (stop ≡ None) × (IsLine ks → ⊥))
+  pub here : ((place < length ks) × (BeginsLine (take (suc place) ks) → ⊥))
+      ⊎ ((place ≡ length ks) × (stop ≡ None) × (IsLine ks → ⊥))
 
 -- what is wanted after tokens of these kinds: a side where `()` can follow, an arrow where one can, and
 -- the line's end where they are a line
@@ -97,7 +98,8 @@ Carries Wanted _ = Unit {0}
 
 -- a refusal is the complaint of the least place, and there that of the least number; a refusal 6 carries
 -- what is wanted there
-pub record IsFirst (Complaint : ℕ → ℕ → Type 0) (Wanted : ℕ → What → Type 0) (span : ℕ → Span) (e : SchemaRefusal) : Type 0 where
+pub record IsFirst (Complaint : ℕ → ℕ → Type 0) (Wanted : ℕ → What → Type 0) (span : ℕ → Span)
+    (e : SchemaRefusal) : Type 0 where
   pub place : ℕ
   pub stands : Complaint place (refusal_number e.kind)
   pub carries : Carries (Wanted place) e.kind
@@ -110,11 +112,14 @@ DependencyWants ms place = Wants (take place (kinds ms))
 
 -- a dependency line is refused by its first complaint
 abbrev pub RefusesDependency : Format → List (List ℕ) → ℕ → List Mark → Option Stop → SchemaRefusal → Type 0
-RefusesDependency f declared line ms stop e = IsFirst (DependencyComplaint f declared ms stop) (DependencyWants ms) (span_at line 1 ms stop) e
+RefusesDependency f declared line ms stop e =
+    IsFirst (DependencyComplaint f declared ms stop) (DependencyWants ms) (span_at line 1 ms stop) e
 
 -- a dependency line is refused by the first complaint, and read where there is none
-abbrev pub FitsDependency : Format → List (List ℕ) → ℕ → List Mark → Option Stop → Result Dependency SchemaRefusal → Type 0
-FitsDependency f declared line ms stop (Ok d) = (place number : ℕ) → DependencyComplaint f declared ms stop place number → ⊥
+abbrev pub FitsDependency : Format → List (List ℕ) → ℕ → List Mark → Option Stop
+    → Result Dependency SchemaRefusal → Type 0
+FitsDependency f declared line ms stop (Ok d) = (place number : ℕ)
+    → DependencyComplaint f declared ms stop place number → ⊥
 FitsDependency f declared line ms stop (Err e) = RefusesDependency f declared line ms stop e
 
 -- what is wrong with a goal over declared names
@@ -124,14 +129,15 @@ GoalComplaint declared text place number =
 
 -- a goal over declared names is refused by its first complaint
 abbrev pub RefusesGoal : List (List ℕ) → List ℕ → SchemaRefusal → Type 0
-RefusesGoal declared text e = RefusesDependency format.Plain declared 1 (lex mode.Goal text).marks (lex mode.Goal text).stop e
+RefusesGoal declared text e =
+    RefusesDependency format.Plain declared 1 (lex mode.Goal text).marks (lex mode.Goal text).stop e
 
 -- a goal is refused by the first complaint, and read where there is none
 abbrev pub FitsGoal : List (List ℕ) → List ℕ → Result Dependency SchemaRefusal → Type 0
 FitsGoal declared text reading =
     FitsDependency format.Plain declared 1 (lex mode.Goal text).marks (lex mode.Goal text).stop reading
 
--- what is wrong with the words behind a declaring word, before the last of which so many stand
+-- what is wrong with the words after a declaring word, before the last of which so many stand
 abbrev pub NameComplaint : Format → Declarations → List Mark → ℕ → Mark → ℕ → Type 0
 NameComplaint f d words place m number =
     ((m.kind ≡ token.Word)
@@ -140,11 +146,12 @@ NameComplaint f d words place m number =
     ⊎ ((number ≡ 7) × (PLACES ≤ length d.names + place))))
     ⊎ ((number ≡ 6) × (m.kind ≡ token.Word → ⊥))
 
--- what is wrong with a declaring line behind its declaring word: at a token before which words stand,
+-- what is wrong with a declaring line after its declaring word: at a token before which words stand,
 -- at the line's end where no word stands, or at bytes that are no token
 abbrev pub NamesComplaint : Format → Declarations → List Mark → Option Stop → ℕ → ℕ → Type 0
 NamesComplaint f d words stop place number =
-    (((m : Mark) × (slice_get words place ≡ Some m) × All (λ w. w.kind ≡ token.Word) (take place words) × NameComplaint f d words place m number)
+    (((m : Mark) × (slice_get words place ≡ Some m) × All (λ w. w.kind ≡ token.Word) (take place words)
+    × NameComplaint f d words place m number)
     ⊎ ((number ≡ 6) × (place ≡ 0) × (words ≡ []) × (stop ≡ None)))
     ⊎ ((s : Stop) × (stop ≡ Some s) × (place ≡ length words) × (number ≡ flaw_number s.flaw))
 
@@ -152,17 +159,21 @@ NamesComplaint f d words stop place number =
 abbrev pub AtFirst : What → ℕ → What → Type 0
 AtFirst first place w = ((place ≡ 0) × (w ≡ first)) ⊎ ((0 < place) × (w ≡ what.LineEnd))
 
--- behind a declaring word a name is wanted first
+-- after a declaring word a name is wanted first
 abbrev pub NamesWant : ℕ → What → Type 0
 NamesWant place w = AtFirst what.Name place w
 
--- the words behind a declaring word are refused by the first complaint, and read where there is none
-abbrev pub FitsNames : Format → Declarations → ℕ → ℕ → List Mark → Option Stop → Result Declarations SchemaRefusal → Type 0
-FitsNames f d line behind words stop (Ok whole) = (place number : ℕ) → NamesComplaint f d words stop place number → ⊥
-FitsNames f d line behind words stop (Err e) = IsFirst (NamesComplaint f d words stop) NamesWant (span_at line behind words stop) e
+-- the words after a declaring word are refused by the first complaint, and read where there is none
+abbrev pub FitsNames : Format → Declarations → ℕ → ℕ → List Mark → Option Stop
+    → Result Declarations SchemaRefusal → Type 0
+FitsNames f d line behind words stop (Ok whole) = (place number : ℕ)
+    → NamesComplaint f d words stop place number → ⊥
+FitsNames f d line behind words stop (Err e) =
+    IsFirst (NamesComplaint f d words stop) NamesWant (span_at line behind words stop) e
 
--- what is wrong with a line of a schema text that this token begins, behind what is declared
-abbrev pub HeadComplaint : Format → Declarations → Mark → List Mark → Option Stop → Option Column → ℕ → ℕ → Type 0
+-- what is wrong with a line of a schema text that this token begins, after what is declared
+abbrev pub HeadComplaint : Format → Declarations → Mark → List Mark → Option Stop → Option Column → ℕ
+    → ℕ → Type 0
 HeadComplaint f d m ms stop (Some column) place number =
     (later : ℕ) × (place ≡ suc later) × NamesComplaint f d ms stop later number
 HeadComplaint f d m ms stop None place number =
@@ -174,10 +185,12 @@ abbrev pub HeadWants : Mark → List Mark → Option Column → ℕ → What →
 HeadWants m ms (Some column) place what = (later : ℕ) × (place ≡ suc later) × NamesWant later what
 HeadWants m ms None place what = DependencyWants (m ∷ ms) place what
 
--- what is wrong with a line of a schema text, behind what is declared
+-- what is wrong with a line of a schema text, after what is declared
 abbrev pub TextLineComplaint : Format → Declarations → List Mark → Option Stop → ℕ → ℕ → Type 0
-TextLineComplaint f d [] stop place number = (s : Stop) × (stop ≡ Some s) × (place ≡ 0) × (number ≡ flaw_number s.flaw)
-TextLineComplaint f d (m ∷ ms) stop place number = HeadComplaint f d m ms stop (declares f m.kind m.word) place number
+TextLineComplaint f d [] stop place number =
+    (s : Stop) × (stop ≡ Some s) × (place ≡ 0) × (number ≡ flaw_number s.flaw)
+TextLineComplaint f d (m ∷ ms) stop place number =
+    HeadComplaint f d m ms stop (declares f m.kind m.word) place number
 
 -- what is wanted at a place of it
 abbrev pub TextLineWants : Format → List Mark → ℕ → What → Type 0
@@ -185,6 +198,8 @@ TextLineWants f [] place what = ⊥
 TextLineWants f (m ∷ ms) place what = HeadWants m ms (declares f m.kind m.word) place what
 
 -- a line is refused by the first complaint, and read where there is none
-abbrev pub FitsTextLine : Format → Declarations → ℕ → List Mark → Option Stop → Result Declarations SchemaRefusal → Type 0
+abbrev pub FitsTextLine : Format → Declarations → ℕ → List Mark → Option Stop
+    → Result Declarations SchemaRefusal → Type 0
 FitsTextLine f d line ms stop (Ok whole) = (place number : ℕ) → TextLineComplaint f d ms stop place number → ⊥
-FitsTextLine f d line ms stop (Err e) = IsFirst (TextLineComplaint f d ms stop) (TextLineWants f ms) (span_at line 1 ms stop) e
+FitsTextLine f d line ms stop (Err e) =
+    IsFirst (TextLineComplaint f d ms stop) (TextLineWants f ms) (span_at line 1 ms stop) e

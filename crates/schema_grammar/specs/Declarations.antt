@@ -45,17 +45,19 @@ declare f column d word =
     else if nat_le PLACES (length d.names) then Err kind.TooManyAttributes
     else Ok (add_name d word column)
 
--- what is wanted behind a declaring word where no name stands
+-- what is wanted after a declaring word where no name stands
 abbrev pub wanted : Bool → What
 wanted some = if some then what.LineEnd else what.Name
 
--- a token behind a declaring word; `some` is whether a name stood before
-abbrev pub name_step : Format → Column → Declarations → Bool → TokenKind → List ℕ → Result Declarations SchemaRefusalKind
+-- a token after a declaring word; `some` is whether a name stood before
+abbrev pub name_step : Format → Column → Declarations → Bool → TokenKind → List ℕ
+    → Result Declarations SchemaRefusalKind
 name_step f column d some token.Word word = declare f column d word
 name_step f column d some _ word = Err (kind.Expected (wanted some))
 
--- the tokens behind a declaring word
-unfoldable pub list_names : Format → Column → ℕ → Declarations → Bool → ℕ → List Mark → Option Stop → Result Declarations SchemaRefusal
+-- the tokens after a declaring word
+unfoldable pub list_names : Format → Column → ℕ → Declarations → Bool → ℕ → List Mark → Option Stop
+    → Result Declarations SchemaRefusal
 list_names f column line d true behind [] None = Ok d
 list_names f column line d false behind [] None = at line behind 0 (Err (kind.Expected what.Name))
 list_names f column line d some behind [] (Some stop) = Err (refused_by line stop)
@@ -63,7 +65,8 @@ list_names f column line d some behind (m ∷ ms) stop =
     and_then (at line m.column (length m.word) (name_step f column d some m.kind m.word))
     (λ next. list_names f column line next true (m.column + length m.word) ms stop)
 
-abbrev pub list_names_lexed : Format → Column → ℕ → Declarations → Bool → ℕ → Lexed → Result Declarations SchemaRefusal
+abbrev pub list_names_lexed : Format → Column → ℕ → Declarations → Bool → ℕ → Lexed
+    → Result Declarations SchemaRefusal
 list_names_lexed f column line d some behind l = list_names f column line d some behind l.marks l.stop
 
 -- the first token of a dependency line: what the line can't begin with comes before one dependency
@@ -74,7 +77,8 @@ begin f d k word =
     (λ next. if nat_le MOST_DEPENDENCIES (length d.deps) then Err kind.TooManyDependencies else Ok next)
 
 -- a dependency line with this first token
-unfoldable pub dependency_line : Format → ℕ → Declarations → Mark → List Mark → Option Stop → Result Declarations SchemaRefusal
+unfoldable pub dependency_line : Format → ℕ → Declarations → Mark → List Mark → Option Stop
+    → Result Declarations SchemaRefusal
 dependency_line f line d m ms stop =
     and_then (at line m.column (length m.word) (begin f d m.kind m.word))
     (λ next. and_then (follow f d.names line next (m.column + length m.word) ms stop)
@@ -88,15 +92,17 @@ abbrev pub marked : Token → List ℕ → Mark
 marked t word = record { kind = t.kind; column = t.column; word = word }
 
 -- a line whose first token is this: it declares names, or states a dependency
-abbrev pub line_from : Format → ℕ → Declarations → Mark → List Mark → Option Stop → Option Column → Result Declarations SchemaRefusal
+abbrev pub line_from : Format → ℕ → Declarations → Mark → List Mark → Option Stop → Option Column
+    → Result Declarations SchemaRefusal
 line_from f line d m ms stop (Some column) = list_names f column line d false (m.column + length m.word) ms stop
 line_from f line d m ms stop None = dependency_line f line d m ms stop
 
-abbrev pub line_of_marks : Format → ℕ → Declarations → List Mark → Option Stop → Result Declarations SchemaRefusal
+abbrev pub line_of_marks : Format → ℕ → Declarations → List Mark → Option Stop
+    → Result Declarations SchemaRefusal
 line_of_marks f line d [] None = Ok d
 line_of_marks f line d [] (Some stop) = Err (refused_by line stop)
 line_of_marks f line d (m ∷ ms) stop = line_from f line d m ms stop (declares f m.kind m.word)
 
--- what is declared behind one line more
+-- what is declared after one line more
 unfoldable pub read_line : Format → ℕ → Declarations → List ℕ → Result Declarations SchemaRefusal
 read_line f line d text = line_of_marks f line d (lex mode.Plain text).marks (lex mode.Plain text).stop

@@ -20,14 +20,16 @@ use Rattle.schema_grammar.specs.Texts.{read_lines, read_text}
 
 -- ---- goals
 abbrev pub GoalMeaning : Type 0
-GoalMeaning = (declared : List (List ℕ)) (text : List ℕ) (d : Dependency) → (read_goal declared text ≡ Ok d) ↔ MeansGoal declared text d
+GoalMeaning = (declared : List (List ℕ)) (text : List ℕ) (d : Dependency)
+    → (read_goal declared text ≡ Ok d) ↔ MeansGoal declared text d
 
 abbrev pub GoalComplaints : Type 0
 GoalComplaints = (declared : List (List ℕ)) (text : List ℕ) → FitsGoal declared text (read_goal declared text)
 
 abbrev pub GoalRefusal : Type 0
 GoalRefusal =
-    (declared : List (List ℕ)) (text : List ℕ) (e : SchemaRefusal) → (read_goal declared text ≡ Err e) ↔ RefusesGoal declared text e
+    (declared : List (List ℕ)) (text : List ℕ) (e : SchemaRefusal)
+    → (read_goal declared text ≡ Err e) ↔ RefusesGoal declared text e
 
 -- ---- schema texts
 abbrev pub SchemaMeaning : Type 0
@@ -40,7 +42,8 @@ TextLineComplaints =
 
 abbrev pub LinesComplaints : Type 0
 LinesComplaints =
-    (f : Format) (first : ℕ) (d : Declarations) (lines : List (List ℕ)) → FitsLines f first d lines (read_lines f first d lines)
+    (f : Format) (first : ℕ) (d : Declarations) (lines : List (List ℕ))
+    → FitsLines f first d lines (read_lines f first d lines)
 
 abbrev pub SchemaComplaints : Type 0
 SchemaComplaints = (text : List ℕ) → FitsSchema text (read_text text)
@@ -52,7 +55,8 @@ SchemaRefused = (text : List ℕ) (e : SchemaRefusal) → (read_text text ≡ Er
 abbrev pub PlacesRise : Type 0
 PlacesRise =
     (m : Mode) (line : ℕ) (text : List ℕ) (p q : ℕ) → p < q → q ≤ length (lex m text).marks
-    → (span_at line 1 (lex m text).marks (lex m text).stop p).column < (span_at line 1 (lex m text).marks (lex m text).stop q).column
+    → (span_at line 1 (lex m text).marks (lex m text).stop p).column <
+    (span_at line 1 (lex m text).marks (lex m text).stop q).column
 
 -- ---- printed schemas
 abbrev pub PrintedSchemaMeans : Type 0

@@ -5,7 +5,7 @@ use Rattle.dep_model.specs.declared.column.Column.{Column}
 use Rattle.dep_model.specs.declared.column.Column.TheVariants.{Text, Integer}
 use Rattle.dep_model.specs.Dependencies.{Dependency, fd, mvd}
 
--- words, each behind a blank
+-- words, each after a blank
 abbrev pub words_text : List (List ℕ) → List ℕ
 words_text words = flat_map (λ word. 32 ∷ word) words
 

@@ -31,7 +31,8 @@ step f declared reading kind word = and_then (symbol_of f declared kind word) (�
 
 -- the dependency that the tokens from here on state; `column` is the place of the line's end where
 -- no token is left
-unfoldable pub follow : Format → List (List ℕ) → ℕ → Reached → ℕ → List Mark → Option Stop → Result Dependency SchemaRefusal
+unfoldable pub follow : Format → List (List ℕ) → ℕ → Reached → ℕ → List Mark → Option Stop
+    → Result Dependency SchemaRefusal
 follow f declared line reading column [] None = at line column 0 (expecting (finished reading))
 follow f declared line reading column [] (Some stop) = Err (refused_by line stop)
 follow f declared line reading column (m ∷ ms) stop =

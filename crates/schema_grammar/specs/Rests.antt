@@ -30,7 +30,7 @@ arrow_in _ = None
 abbrev pub place : List (List ℕ) → ℕ → Mark → Result ℕ SchemaRefusal
 place names line m = at line m.column (length m.word) (looked_up format.Plain names m.word)
 
--- what is left of a line behind a column: its tokens, and where they stop
+-- what is left of a line after a column: its tokens, and where they stop
 pub record Rest : Type 0 where
   pub line : ℕ
   pub behind : ℕ
@@ -45,11 +45,12 @@ abbrev pub ◌>>=◌ : {A B E : Type 0} → Result A E → (A → Result B E) �
 (Ok x) >>= f = f x
 (Err e) >>= f = Err e
 
--- the next token, and the rest behind it
+-- the next token, and the rest after it
 abbrev pub taken : What → ℕ → ℕ → List Mark → Option Stop → Result (Mark × Rest) SchemaRefusal
 taken want line behind [] None = Err (refusal line behind 0 (kind.Expected want))
 taken want line behind [] (Some stop) = Err (refused_by line stop)
-taken want line behind (m ∷ ms) stop = Ok (m, record { line = line; behind = m.column + length m.word; marks = ms; stop = stop })
+taken want line behind (m ∷ ms) stop =
+    Ok (m, record { line = line; behind = m.column + length m.word; marks = ms; stop = stop })
 
 unfoldable pub take : What → Rest → Result (Mark × Rest) SchemaRefusal
 take want r = taken want r.line r.behind r.marks r.stop
@@ -80,11 +81,14 @@ unfoldable pub ended : Rest → Option SchemaRefusal
 ended r = ended_from r.line r.marks r.stop
 
 -- words that stand here, added to a set
-unfoldable pub words_from : List (List ℕ) → ℕ → Places → ℕ → List Mark → Option Stop → Result (Places × Rest) SchemaRefusal
-words_from names line x behind [] stop = Ok (x, record { line = line; behind = behind; marks = []; stop = stop })
+unfoldable pub words_from : List (List ℕ) → ℕ → Places → ℕ → List Mark → Option Stop
+    → Result (Places × Rest) SchemaRefusal
+words_from names line x behind [] stop =
+    Ok (x, record { line = line; behind = behind; marks = []; stop = stop })
 words_from names line x behind (m ∷ ms) stop =
     if is_word m.kind
-    then (place names line m >>= λ a. words_from names line (union x (only a)) (m.column + length m.word) ms stop)
+    then (place names line m >>= λ a. words_from names line (union x (only a))
+    (m.column + length m.word) ms stop)
     else Ok (x, record { line = line; behind = behind; marks = m ∷ ms; stop = stop })
 
 abbrev pub words : List (List ℕ) → Places → Rest → Result (Places × Rest) SchemaRefusal

@@ -47,7 +47,8 @@ pub record IsDeclaring (f : Format) (d : Declarations) (line : List ℕ) (whole 
   pub names : DeclareNames f column d words whole
 
 -- a dependency line, which no declaring word begins
-pub record IsStating (f : Format) (number : ℕ) (d : Declarations) (line : List ℕ) (whole : Declarations) : Type 0 where
+pub record IsStating (f : Format) (number : ℕ) (d : Declarations) (line : List ℕ) (whole : Declarations)
+    : Type 0 where
   pub head : Mark
   pub others : List Mark
   pub dep : Dependency
@@ -62,9 +63,10 @@ pub record IsBlank (d : Declarations) (line : List ℕ) (whole : Declarations) :
   pub tokens : HasTokens (lex mode.Plain line) []
   pub same : whole ≡ d
 
--- behind a line of this number the whole is declared
+-- after a line of this number the whole is declared
 abbrev pub MeansTextLine : Format → ℕ → Declarations → List ℕ → Declarations → Type 0
-MeansTextLine f number d line whole = (IsBlank d line whole ⊎ IsDeclaring f d line whole) ⊎ IsStating f number d line whole
+MeansTextLine f number d line whole =
+    (IsBlank d line whole ⊎ IsDeclaring f d line whole) ⊎ IsStating f number d line whole
 
 -- the same of lines, of which the first has this number
 abbrev pub MeansLines : Format → ℕ → Declarations → List (List ℕ) → Declarations → Type 0
@@ -109,11 +111,13 @@ pub record IsTypedText (lines : List (List ℕ)) (whole : Declarations) : Type 0
 -- a schema text means what it declares: one attribute at least
 pub record MeansSchema (text : List ℕ) (whole : Declarations) : Type 0 where
   pub some : 0 < length whole.names
-  pub lines : IsPlainText (line_texts (without_mark text)) whole ⊎ IsTypedText (line_texts (without_mark text)) whole
+  pub lines : IsPlainText (line_texts (without_mark text)) whole
+      ⊎ IsTypedText (line_texts (without_mark text)) whole
 
--- what is wrong with lines, of which the first has this number: on one of them, behind lines that have
+-- what is wrong with lines, of which the first has this number: on one of them, after lines that have
 -- a meaning
-pub record LinesComplaint (f : Format) (first : ℕ) (d : Declarations) (lines : List (List ℕ)) (number place why : ℕ) : Type 0 where
+pub record LinesComplaint (f : Format) (first : ℕ) (d : Declarations) (lines : List (List ℕ))
+    (number place why : ℕ) : Type 0 where
   pub before : List (List ℕ)
   pub line : List ℕ
   pub after : List (List ℕ)
@@ -125,16 +129,19 @@ pub record LinesComplaint (f : Format) (first : ℕ) (d : Declarations) (lines :
 
 -- a refusal is the complaint of the first line, there of the least place, and there of the least number;
 -- a refusal 6 carries what is wanted there
-pub record IsFirstOfLines (f : Format) (first : ℕ) (d : Declarations) (lines : List (List ℕ)) (e : SchemaRefusal) : Type 0 where
+pub record IsFirstOfLines (f : Format) (first : ℕ) (d : Declarations) (lines : List (List ℕ))
+    (e : SchemaRefusal) : Type 0 where
   pub place : ℕ
   pub stands : LinesComplaint f first d lines e.span.line place (refusal_number e.kind)
   pub carries : Carries (TextLineWants f (lex mode.Plain stands.line).marks place) e.kind
-  pub there : e.span ≡ span_at e.span.line 1 (lex mode.Plain stands.line).marks (lex mode.Plain stands.line).stop place
+  pub there : e.span ≡ span_at e.span.line 1 (lex mode.Plain stands.line).marks
+      (lex mode.Plain stands.line).stop place
   pub least : (l p n : ℕ) → LinesComplaint f first d lines l p n
       → (e.span.line < l) ⊎ ((e.span.line ≡ l) × ((place < p) ⊎ ((place ≡ p) × (refusal_number e.kind ≤ n))))
 
 -- nothing is wrong with the lines, but that they declare nothing; refused at the last of them
-pub record DeclaresNothing (f : Format) (first : ℕ) (d : Declarations) (lines : List (List ℕ)) (e : SchemaRefusal) : Type 0 where
+pub record DeclaresNothing (f : Format) (first : ℕ) (d : Declarations) (lines : List (List ℕ))
+    (e : SchemaRefusal) : Type 0 where
   pub whole : Declarations
   pub means : MeansLines f first d lines whole
   pub nothing : length whole.names ≡ 0
@@ -149,23 +156,25 @@ abbrev pub FitsLines : Format → ℕ → Declarations → List (List ℕ) → R
 FitsLines f first d lines (Ok whole) = (l p n : ℕ) → LinesComplaint f first d lines l p n → ⊥
 FitsLines f first d lines (Err e) = RefusesLines f first d lines e
 
--- what is wrong with the tokens behind the word `version`: no number, another number than 2, a token
--- behind the number, or bytes that are no token
+-- what is wrong with the tokens after the word `version`: no number, another number than 2, a token
+-- after the number, or bytes that are no token
 abbrev pub VersionComplaint : List Mark → Option Stop → ℕ → ℕ → Type 0
 VersionComplaint ms stop place why =
     ((((m : Mark) × (slice_get ms 0 ≡ Some m) × (number_in m.kind ≡ None) × (place ≡ 0) × (why ≡ 6))
     ⊎ ((ms ≡ []) × (stop ≡ None) × (place ≡ 0) × (why ≡ 6)))
-    ⊎ (((m : Mark) × (n : ℕ) × (slice_get ms 0 ≡ Some m) × (number_in m.kind ≡ Some n) × ((n == VERSION) ≡ false) × (place ≡ 0) × (why ≡ 13))
+    ⊎ (((m : Mark) × (n : ℕ) × (slice_get ms 0 ≡ Some m) × (number_in m.kind ≡ Some n)
+    × ((n == VERSION) ≡ false) × (place ≡ 0) × (why ≡ 13))
     ⊎ ((m : Mark) × (slice_get ms 1 ≡ Some m) × (place ≡ 1) × (why ≡ 6))))
     ⊎ ((s : Stop) × (stop ≡ Some s) × (place ≡ length ms) × (why ≡ flaw_number s.flaw))
 
--- behind the word `version` a number is wanted first
+-- after the word `version` a number is wanted first
 abbrev pub VersionWants : ℕ → What → Type 0
 VersionWants place w = AtFirst what.Number place w
 
 -- a version line is refused by its first complaint
 abbrev pub RefusesVersion : ℕ → ℕ → List Mark → Option Stop → SchemaRefusal → Type 0
-RefusesVersion line behind ms stop e = IsFirst (VersionComplaint ms stop) VersionWants (span_at line behind ms stop) e
+RefusesVersion line behind ms stop e =
+    IsFirst (VersionComplaint ms stop) VersionWants (span_at line behind ms stop) e
 
 -- a version line is refused by the first complaint, and read where there is none
 abbrev pub FitsVersion : ℕ → ℕ → List Mark → Option Stop → Result Declarations SchemaRefusal → Type 0
@@ -187,8 +196,10 @@ pub record HasVersionLine (lines : List (List ℕ)) : Type 0 where
 -- it is refused at its version line, or by its later lines
 abbrev pub RefusesTyped : (number : ℕ) (lines : List (List ℕ)) → HasVersionLine lines → SchemaRefusal → Type 0
 RefusesTyped number lines text e =
-    RefusesVersion (length text.before + number) (text.head.column + length text.head.word) text.others (lex mode.Numbered text.version).stop e
-    ⊎ (IsVersionLine text.version × RefusesLines format.Typed (length text.before + number + 1) no_declaration text.later e)
+    RefusesVersion (length text.before + number) (text.head.column + length text.head.word) text.others
+    (lex mode.Numbered text.version).stop e
+    ⊎ (IsVersionLine text.version
+    × RefusesLines format.Typed (length text.before + number + 1) no_declaration text.later e)
 
 -- a text is refused by its first complaint, or as declaring nothing
 abbrev pub RefusesText : ℕ → List (List ℕ) → SchemaRefusal → Type 0
@@ -203,7 +214,8 @@ RefusesSchema text e = RefusesText 1 (line_texts (without_mark text)) e
 abbrev pub IsFineText : ℕ → List (List ℕ) → Declarations → Type 0
 IsFineText number lines whole =
     ((has_version_line lines ≡ false) × FitsLines format.Plain number no_declaration lines (Ok whole))
-    ⊎ ((text : HasVersionLine lines) × IsVersionLine text.version × FitsLines format.Typed (length text.before + number + 1) no_declaration text.later (Ok whole))
+    ⊎ ((text : HasVersionLine lines) × IsVersionLine text.version
+    × FitsLines format.Typed (length text.before + number + 1) no_declaration text.later (Ok whole))
 
 -- a text is refused by the first complaint, or as declaring nothing, and read where there is neither
 abbrev pub FitsText : ℕ → List (List ℕ) → Result Declarations SchemaRefusal → Type 0

@@ -27,9 +27,10 @@ finish last d = if length d.names == 0 then Err (refusal last 1 0 kind.NoAttribu
 -- what lines declare, of which the first has this number
 unfoldable pub read_lines : Format → ℕ → Declarations → List (List ℕ) → Result Declarations SchemaRefusal
 read_lines f number d [] = finish (number - 1) d
-read_lines f number d (line ∷ lines) = and_then (read_line f number d line) (λ next. read_lines f (number + 1) next lines)
+read_lines f number d (line ∷ lines) =
+    and_then (read_line f number d line) (λ next. read_lines f (number + 1) next lines)
 
--- behind the number of a version line no token stands
+-- after the number of a version line no token stands
 abbrev pub end_version : ℕ → List Mark → Option Stop → Result Declarations SchemaRefusal
 end_version line [] None = Ok no_declaration
 end_version line [] (Some stop) = Err (refused_by line stop)
@@ -44,14 +45,14 @@ number_in token.DoubleArrow = None
 number_in token.Empty = None
 number_in token.Colon = None
 
--- the first token behind the word `version` is the number 2
+-- the first token after the word `version` is the number 2
 abbrev pub version_number : ℕ → Mark → List Mark → Option Stop → Option ℕ → Result Declarations SchemaRefusal
 version_number line m ms stop None = Err (refusal line m.column (length m.word) (kind.Expected what.Number))
 version_number line m ms stop (Some n) =
     if n == VERSION then end_version line ms stop
     else Err (refusal line m.column (length m.word) kind.UnknownVersion)
 
--- what stands behind the word `version` in its line
+-- what stands after the word `version` in its line
 unfoldable pub read_version : ℕ → ℕ → List Mark → Option Stop → Result Declarations SchemaRefusal
 read_version line behind [] None = Err (refusal line behind 0 (kind.Expected what.Number))
 read_version line behind [] (Some stop) = Err (refused_by line stop)
@@ -63,7 +64,7 @@ end_version_lexed line l = end_version line l.marks l.stop
 abbrev pub read_version_lexed : ℕ → ℕ → Lexed → Result Declarations SchemaRefusal
 read_version_lexed line behind l = read_version line behind l.marks l.stop
 
--- what a text declares from behind the word `version` on
+-- what a text declares from after the word `version` on
 abbrev pub read_typed : ℕ → List (List ℕ) → ℕ → Lexed → Result Declarations SchemaRefusal
 read_typed number lines behind l =
     and_then (read_version_lexed number behind l) (λ d. read_lines format.Typed (number + 1) d lines)
@@ -77,9 +78,10 @@ is_version token.DoubleArrow word = false
 is_version token.Empty word = false
 is_version token.Colon word = false
 
--- what a line and those behind it declare, where no token stands before them; `later` is what those
--- behind it declare alone
-abbrev pub opened : ℕ → List ℕ → List (List ℕ) → Result Declarations SchemaRefusal → List Mark → Option Stop → Result Declarations SchemaRefusal
+-- what a line and those after it declare, where no token stands before them; `later` is what those
+-- after it declare alone
+abbrev pub opened : ℕ → List ℕ → List (List ℕ) → Result Declarations SchemaRefusal → List Mark
+    → Option Stop → Result Declarations SchemaRefusal
 opened number line lines later [] None = later
 opened number line lines later [] (Some stop) = read_lines format.Plain number no_declaration (line ∷ lines)
 opened number line lines later (m ∷ ms) stop =
@@ -91,7 +93,8 @@ opened number line lines later (m ∷ ms) stop =
 unfoldable pub read_opening : ℕ → List (List ℕ) → Result Declarations SchemaRefusal
 read_opening number [] = finish (number - 1) no_declaration
 read_opening number (line ∷ lines) =
-    opened number line lines (read_opening (number + 1) lines) (lex mode.Numbered line).marks (lex mode.Numbered line).stop
+    opened number line lines (read_opening (number + 1) lines) (lex mode.Numbered line).marks
+    (lex mode.Numbered line).stop
 
 -- what a schema text declares, or its refusal
 unfoldable pub read_text : List ℕ → Result Declarations SchemaRefusal

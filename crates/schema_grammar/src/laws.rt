@@ -44,7 +44,7 @@ pub fn lines_complaint()
     ensures law { LinesComplaints }
 {}
 
-/// A schema text is refused at its version line, or by the first complaint of the lines behind it, and
+/// A schema text is refused at its version line, or by the first complaint of the lines after it, and
 /// one without a version line by the first complaint of its lines. Where it is read it has no complaint.
 pub fn schema_complaint()
     ensures law { SchemaComplaints }

@@ -9,7 +9,8 @@ use Rattle.schema_match.specs.Columns.{namesake, reordered}
 -- a set of a schema's attributes, carried over to another by names: the attributes there that have a
 -- namesake in the set
 abbrev pub carried_set : Schema → Schema → Places → Places
-carried_set schema other x b = nat_lt b (width_of other) && unwrap_or (option_map x (namesake other schema b)) false
+carried_set schema other x b =
+    nat_lt b (width_of other) && unwrap_or (option_map x (namesake other schema b)) false
 
 -- a dependency of a schema, carried over to another by names
 abbrev pub carried : Schema → Schema → Dependency → Dependency

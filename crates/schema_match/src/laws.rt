@@ -21,7 +21,8 @@ pub fn reordered_and_back()
 pub fn obeyed_by_names()
     ensures law { (schema other : Schema) (d : Dependency) (r : Relation) → SameNames schema other
         → IsWithin (universe_of schema) d
-        → Obeys (width_of schema) d r ↔ Obeys (width_of other) (carried schema other d) (reordered schema other r) }
+        → Obeys (width_of schema) d r
+        ↔ Obeys (width_of other) (carried schema other d) (reordered schema other r) }
 {}
 
 /// Two schemas over the same names of which each implies the other's dependencies have the same legal

@@ -16,15 +16,15 @@ rest_text false words = side_text words
 pub record PrintsSet (names : List (List ℕ)) (x : Places) (before text : List ℕ) (some : Bool) (place : ℕ) : Type 0 where
   pub same : text ++ rest_text some (members_from x place (drop place names)) ≡ before ++ set_text names x
 
--- what stands behind a name of this type
-abbrev pub behind_text : Column → List Column → List (List ℕ) → List ℕ
-behind_text c [] names = 10 ∷ []
-behind_text c (d ∷ ds) [] = 10 ∷ []
-behind_text c (d ∷ ds) (name ∷ names) =
-    cond (same_column c d) (32 ∷ name) (10 ∷ (type_word d ++ 32 ∷ name)) ++ behind_text d ds names
+-- what stands after a name of this type
+abbrev pub after_text : Column → List Column → List (List ℕ) → List ℕ
+after_text c [] names = 10 ∷ []
+after_text c (d ∷ ds) [] = 10 ∷ []
+after_text c (d ∷ ds) (name ∷ names) =
+    cond (same_column c d) (32 ∷ name) (10 ∷ (type_word d ++ 32 ∷ name)) ++ after_text d ds names
 
 pub record PrintsRuns (columns : List Column) (names : List (List ℕ)) (before text : List ℕ) (last : Column) (place : ℕ) : Type 0 where
-  pub same : text ++ behind_text last (drop place columns) (drop place names) ≡ before ++ lines_text (map run_line (runs_of columns names))
+  pub same : text ++ after_text last (drop place columns) (drop place names) ≡ before ++ lines_text (map run_line (runs_of columns names))
 
 pub get_at : {X : Type 0} (xs : List X) (i : ℕ) (x : X) → slice_get xs i ≡ Some x → get_or xs i x ≡ x
 get_at [] i x e = cc
@@ -72,7 +72,7 @@ pub set_ends_none : (names : List (List ℕ)) (x : Places) (before text next : L
     → next ≡ text ++ codes "()" → next ≡ before ++ set_text names x
 set_ends_none names x before text next k prints h added = let rest = past_end names k h in let old = prints.same in added ∙ (rw rest at old)
 
--- runs whose first one has this type, and what stands behind its word in the text
+-- runs whose first one has this type, and what stands after its word in the text
 record IsLed (c : Column) (rest : List ℕ) (runs : List Run) : Type 0 where
   names : List (List ℕ)
   others : List Run
@@ -103,15 +103,15 @@ cond_append true x y z = refl
 cond_append false x y z = refl
 
 runs_led : (c : Column) (name : List ℕ) (columns : List Column) (names : List (List ℕ))
-    → IsLed c ((32 ∷ name) ++ behind_text c columns names) (in_front c name (runs_of columns names))
+    → IsLed c ((32 ∷ name) ++ after_text c columns names) (in_front c name (runs_of columns names))
 runs_led c name [] names = alone c name
 runs_led c name (d ∷ columns) [] = alone c name
 runs_led c name (d ∷ columns) (next ∷ names) =
-    let led = joined c d name ((32 ∷ next) ++ behind_text d columns names) (runs_of (d ∷ columns) (next ∷ names)) (runs_led d next columns names) in
-    let same = cond_append (same_column c d) (32 ∷ next) (10 ∷ (type_word d ++ 32 ∷ next)) (behind_text d columns names) in
-    let far : (10 ∷ (type_word d ++ 32 ∷ next)) ++ behind_text d columns names ≡ 10 ∷ (type_word d ++ ((32 ∷ next) ++ behind_text d columns names)) = simp append_assoc in
+    let led = joined c d name ((32 ∷ next) ++ after_text d columns names) (runs_of (d ∷ columns) (next ∷ names)) (runs_led d next columns names) in
+    let same = cond_append (same_column c d) (32 ∷ next) (10 ∷ (type_word d ++ 32 ∷ next)) (after_text d columns names) in
+    let far : (10 ∷ (type_word d ++ 32 ∷ next)) ++ after_text d columns names ≡ 10 ∷ (type_word d ++ ((32 ∷ next) ++ after_text d columns names)) = simp append_assoc in
     let of : List ℕ → Type 0 = λ rest. IsLed c ((32 ∷ name) ++ rest) (in_front c name (runs_of (d ∷ columns) (next ∷ names))) in
-    subst of (ap (λ t. cond (same_column c d) ((32 ∷ next) ++ behind_text d columns names) t) (sym far) ∙ sym same) led
+    subst of (ap (λ t. cond (same_column c d) ((32 ∷ next) ++ after_text d columns names) t) (sym far) ∙ sym same) led
 
 led_text : (c : Column) (rest : List ℕ) (runs : List Run) → IsLed c rest runs → lines_text (map run_line runs) ≡ type_word c ++ rest
 led_text c rest runs led = rw led.whole (simp (append_assoc, led.text))
@@ -123,7 +123,7 @@ runs_begin (d ∷ columns) [] before text c name first_type first_name added = c
 runs_begin (d ∷ columns) (first ∷ names) before text c name first_type first_name added =
     let type_is : d ≡ c = cc in
     let name_is : first ≡ name = cc in
-    let whole = led_text d ((32 ∷ first) ++ behind_text d columns names) (runs_of (d ∷ columns) (first ∷ names)) (runs_led d first columns names) in
+    let whole = led_text d ((32 ∷ first) ++ after_text d columns names) (runs_of (d ∷ columns) (first ∷ names)) (runs_led d first columns names) in
     record { same = rw (whole, added, type_is, name_is) (simp append_assoc) }
 
 pub runs_more : (columns : List Column) (names : List (List ℕ)) (before text next : List ℕ) (last c : Column) (k : ℕ) (name : List ℕ)

@@ -21,7 +21,7 @@ reached_of (stage.Behind s x) = behind s (places x)
 reached_of (stage.Right s x y) = right s (places x) (places y)
 reached_of (stage.RightEmpty s x) = right_empty s (places x)
 
--- the lines behind a line end
+-- the lines after a line end
 abbrev pub lines_after : Option (Bor (List ℕ)) → List (List ℕ)
 lines_after None = []
 lines_after (Some after) = line_texts after.now

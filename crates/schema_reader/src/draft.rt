@@ -45,7 +45,8 @@ impl Draft {
         requires few { length (drafted self.old).names ≤ PLACES }
         requires room { 1 + length text.now < 2 ^ 32 }
         ensures ok { OnOk result (read_line format line (drafted self.old) text.now ≡ Ok (drafted self.new)) }
-        ensures err { IfErr result (λ refusal. Refuses refusal (read_line format line (drafted self.old) text.now)) }
+        ensures err { IfErr result
+            (λ refusal. Refuses refusal (read_line format line (drafted self.old) text.now)) }
     {
         match next_token(Mode::Plain, 1, text) {
             Next::End => Ok(()),
@@ -60,7 +61,7 @@ impl Draft {
         }
     }
 
-    /// Reads the names behind a declaring word.
+    /// Reads the names after a declaring word.
     fn list_names(
         &mut self,
         format: Format,
@@ -70,8 +71,13 @@ impl Draft {
         text: &[u8],
     ) -> Result<(), SchemaRefusal>
         requires room { behind + length text.now < 2 ^ 32 }
-        ensures ok { OnOk result (list_names_lexed format column line (drafted self.old) false behind (lexed Mode.Plain 0 behind text.now) ≡ Ok (drafted self.new)) }
-        ensures err { IfErr result (λ refusal. Refuses refusal (list_names_lexed format column line (drafted self.old) false behind (lexed Mode.Plain 0 behind text.now))) }
+        ensures ok { OnOk result
+            (list_names_lexed format column line (drafted self.old) false behind
+            (lexed Mode.Plain 0 behind text.now) ≡ Ok (drafted self.new)) }
+        ensures err { IfErr result
+            (λ refusal. Refuses refusal
+            (list_names_lexed format column line (drafted self.old) false behind
+            (lexed Mode.Plain 0 behind text.now))) }
     {
         let mut some = false;
         let mut behind = behind;
@@ -107,7 +113,7 @@ impl Draft {
         }
     }
 
-    /// Takes one token behind a declaring word; `some` is whether a name stood before.
+    /// Takes one token after a declaring word; `some` is whether a name stood before.
     fn name_step(
         &mut self,
         format: Format,
@@ -117,8 +123,11 @@ impl Draft {
         word: &[u8],
     ) -> Result<(), SchemaRefusalKind>
         requires { kind ≡ TokenKind.Word → is_name word.now ≡ true }
-        ensures ok { OnOk result (name_step format column (drafted self.old) some kind word.now ≡ Ok (drafted self.new)) }
-        ensures err { IfErr result (λ why. RefusesAs why (name_step format column (drafted self.old) some kind word.now ≡ Err why)) }
+        ensures ok { OnOk result (name_step format column (drafted self.old) some kind word.now
+            ≡ Ok (drafted self.new)) }
+        ensures err { IfErr result
+            (λ why. RefusesAs why (name_step format column (drafted self.old) some kind word.now
+            ≡ Err why)) }
     {
         match kind {
             TokenKind::Word => self.declare(format, column, word),
@@ -136,7 +145,8 @@ impl Draft {
     ) -> Result<(), SchemaRefusalKind>
         requires { is_name word.now ≡ true }
         ensures ok { OnOk result (declare format column (drafted self.old) word.now ≡ Ok (drafted self.new)) }
-        ensures err { IfErr result (λ why. RefusesAs why (declare format column (drafted self.old) word.now ≡ Err why)) }
+        ensures err { IfErr result
+            (λ why. RefusesAs why (declare format column (drafted self.old) word.now ≡ Err why)) }
     {
         if is_reserved(format, word) {
             return Err(SchemaRefusalKind::ReservedName);
@@ -171,8 +181,13 @@ impl Draft {
         requires few { length (drafted self.old).names ≤ PLACES }
         requires room { token.column + token.length + length rest.now < 2 ^ 32 }
         requires word { token.length ≡ length word.now }
-        ensures ok { OnOk result (dependency_lexed format line (drafted self.old) (marked token word.now) (lexed Mode.Plain 0 (token.column + token.length) rest.now) ≡ Ok (drafted self.new)) }
-        ensures err { IfErr result (λ refusal. Refuses refusal (dependency_lexed format line (drafted self.old) (marked token word.now) (lexed Mode.Plain 0 (token.column + token.length) rest.now))) }
+        ensures ok { OnOk result
+            (dependency_lexed format line (drafted self.old) (marked token word.now)
+            (lexed Mode.Plain 0 (token.column + token.length) rest.now) ≡ Ok (drafted self.new)) }
+        ensures err { IfErr result
+            (λ refusal. Refuses refusal
+            (dependency_lexed format line (drafted self.old) (marked token word.now)
+            (lexed Mode.Plain 0 (token.column + token.length) rest.now))) }
     {
         let stage = match self.begin(format, token.kind, word) {
             Ok(stage) => stage,
@@ -200,7 +215,8 @@ impl Draft {
         word: &[u8],
     ) -> Result<Stage, SchemaRefusalKind>
         requires { length (drafted self.now).names ≤ PLACES }
-        ensures ok { IfOk result (λ stage. begin format (drafted self.now) kind word.now ≡ Ok (reached_of stage)) }
+        ensures ok { IfOk result
+            (λ stage. begin format (drafted self.now) kind word.now ≡ Ok (reached_of stage)) }
         ensures err { IfErr result (λ why. begin format (drafted self.now) kind word.now ≡ Err why) }
     {
         let stage = step(
@@ -217,7 +233,8 @@ impl Draft {
     }
 
     fn add_dependency(&mut self, dep: Dep, line: u32) -> Result<(), SchemaRefusalKind>
-        ensures ok { OnOk result (drafted self.new ≡ add_dependency (drafted self.old) (dependency_of dep) line) }
+        ensures ok { OnOk result (drafted self.new
+            ≡ add_dependency (drafted self.old) (dependency_of dep) line) }
         ensures err { IfErr result (λ why. why ≡ SchemaRefusalKind.Memory) }
     {
         self.deps.push(dep)?;

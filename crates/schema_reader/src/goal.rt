@@ -52,8 +52,12 @@ pub fn follow(
 ) -> Result<Dep, SchemaRefusal>
     requires few { length (names_in names.now) ≤ PLACES }
     requires room { column + length text.now < 2 ^ 32 }
-    ensures ok { IfOk result (λ dep. follow_lexed format (names_in names.now) line (reached_of stage) column (lexed mode 0 column text.now) ≡ Ok (dependency_of dep)) }
-    ensures err { IfErr result (λ refusal. follow_lexed format (names_in names.now) line (reached_of stage) column (lexed mode 0 column text.now) ≡ Err refusal) }
+    ensures ok { IfOk result
+        (λ dep. follow_lexed format (names_in names.now) line (reached_of stage) column
+        (lexed mode 0 column text.now) ≡ Ok (dependency_of dep)) }
+    ensures err { IfErr result
+        (λ refusal. follow_lexed format (names_in names.now) line (reached_of stage) column
+        (lexed mode 0 column text.now) ≡ Err refusal) }
 {
     let mut stage = stage;
     let mut column = column;
@@ -83,8 +87,10 @@ pub fn follow(
 
 /// The dependency that is read where the line ends.
 fn end_line(line: u32, stage: Stage, column: u32) -> Result<Dep, SchemaRefusal>
-    ensures ok { IfOk result (λ dep. at line column 0 (expecting (finished (reached_of stage))) ≡ Ok (dependency_of dep)) }
-    ensures err { IfErr result (λ refusal. at line column 0 (expecting (finished (reached_of stage))) ≡ Err refusal) }
+    ensures ok { IfOk result
+        (λ dep. at line column 0 (expecting (finished (reached_of stage))) ≡ Ok (dependency_of dep)) }
+    ensures err { IfErr result
+        (λ refusal. at line column 0 (expecting (finished (reached_of stage))) ≡ Err refusal) }
 {
     match finish(stage) {
         Ok(dep) => Ok(dep),
@@ -102,8 +108,11 @@ pub fn step(
     word: &[u8],
 ) -> Result<Stage, SchemaRefusalKind>
     requires { length (names_in names.now) ≤ PLACES }
-    ensures ok { IfOk result (λ next. step format (names_in names.now) (reached_of stage) kind word.now ≡ Ok (reached_of next)) }
-    ensures err { IfErr result (λ why. step format (names_in names.now) (reached_of stage) kind word.now ≡ Err why) }
+    ensures ok { IfOk result
+        (λ next. step format (names_in names.now) (reached_of stage) kind word.now
+        ≡ Ok (reached_of next)) }
+    ensures err { IfErr result
+        (λ why. step format (names_in names.now) (reached_of stage) kind word.now ≡ Err why) }
 {
     let symbol = symbol_of(names, format, kind, word)?;
     match turn(stage, symbol) {

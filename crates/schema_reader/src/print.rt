@@ -13,7 +13,9 @@ use std::alloc::Global;
 /// The schema in the one form: the lines that declare its attributes, and a line for each dependency.
 /// Where no name is reserved and the text is short enough to be read, it means the same schema.
 pub fn print_schema(alloc: Global, schema: &Schema) -> Result<Vec<u8>, WantMemory>
-    ensures text { IfOk result (λ text. text.items ≡ declared_text (columns_of schema.now) (names_of schema.now) (theory_of schema.now)) }
+    ensures text { IfOk result
+        (λ text. text.items ≡ declared_text (columns_of schema.now) (names_of schema.now)
+        (theory_of schema.now)) }
 {
     print_deps(alloc, schema, schema.deps())
 }
@@ -22,7 +24,9 @@ pub fn print_schema(alloc: Global, schema: &Schema) -> Result<Vec<u8>, WantMemor
 #[tactic(auto, unfolding(schema_grammar::specs::Printing::declared_text))]
 pub fn print_deps(alloc: Global, schema: &Schema, deps: &[Dep]) -> Result<Vec<u8>, WantMemory>
     requires { All (IsDepWithin (universe_of schema.now)) deps.now }
-    ensures text { IfOk result (λ text. text.items ≡ declared_text (columns_of schema.now) (names_of schema.now) (dependencies_of deps.now)) }
+    ensures text { IfOk result
+        (λ text. text.items ≡ declared_text (columns_of schema.now) (names_of schema.now)
+        (dependencies_of deps.now)) }
 {
     let mut text = Vec::new(alloc);
     add_declarations(&mut text, schema)?;
@@ -36,7 +40,8 @@ pub fn print_deps(alloc: Global, schema: &Schema, deps: &[Dep]) -> Result<Vec<u8
 /// The dependency, without a line end.
 pub fn print_dep(alloc: Global, schema: &Schema, dep: Dep) -> Result<Vec<u8>, WantMemory>
     requires { IsDepWithin (universe_of schema.now) dep }
-    ensures text { IfOk result (λ text. text.items ≡ dependency_text (names_of schema.now) (dependency_of dep)) }
+    ensures text { IfOk result
+        (λ text. text.items ≡ dependency_text (names_of schema.now) (dependency_of dep)) }
 {
     let mut text = Vec::new(alloc);
     add_dep(&mut text, schema, dep)?;
@@ -72,7 +77,8 @@ pub fn add_number(text: &mut Vec<u8>, alloc: Global, number: u32) -> Result<(), 
 /// Adds a dependency to a text, without a line end.
 #[tactic(auto, unfolding(schema_grammar::specs::Printing::dependency_text))]
 pub fn add_dep(text: &mut Vec<u8>, schema: &Schema, dep: Dep) -> Result<(), WantMemory>
-    ensures added { OnOk result (text.new.items ≡ text.old.items ++ dependency_text (names_of schema.now) (dependency_of dep)) }
+    ensures added { OnOk result (text.new.items
+        ≡ text.old.items ++ dependency_text (names_of schema.now) (dependency_of dep)) }
 {
     match dep {
         Dep::Fd { lhs, rhs } => add_sides(text, schema, lhs, b" -> ", rhs),
@@ -87,7 +93,9 @@ fn add_sides(
     arrow: &[u8],
     rhs: AttrSet,
 ) -> Result<(), WantMemory>
-    ensures added { OnOk result (text.new.items ≡ text.old.items ++ (set_text (names_of schema.now) (places lhs) ++ arrow.now ++ set_text (names_of schema.now) (places rhs))) }
+    ensures added { OnOk result (text.new.items
+        ≡ text.old.items ++ (set_text (names_of schema.now) (places lhs) ++ arrow.now
+        ++ set_text (names_of schema.now) (places rhs))) }
 {
     add_set(text, schema, lhs)?;
     add(text, arrow)?;
@@ -96,7 +104,8 @@ fn add_sides(
 
 /// Adds the names of a set's members to a text, or `()`.
 pub fn add_set(text: &mut Vec<u8>, schema: &Schema, set: AttrSet) -> Result<(), WantMemory>
-    ensures added { OnOk result (text.new.items ≡ text.old.items ++ set_text (names_of schema.now) (places set)) }
+    ensures added { OnOk result (text.new.items
+        ≡ text.old.items ++ set_text (names_of schema.now) (places set)) }
 {
     let mut some = false;
     for place in 0..schema.width() {
@@ -108,9 +117,10 @@ pub fn add_set(text: &mut Vec<u8>, schema: &Schema, set: AttrSet) -> Result<(), 
     if some { Ok(()) } else { add(text, b"()") }
 }
 
-/// A name; behind a blank where another one stands before it.
+/// A name; after a blank where another one stands before it.
 fn add_member(text: &mut Vec<u8>, some: bool, name: &[u8]) -> Result<(), WantMemory>
-    ensures added { OnOk result (text.new.items ≡ text.old.items ++ (if some then 32 ∷ name.now else name.now)) }
+    ensures added { OnOk result (text.new.items
+        ≡ text.old.items ++ (if some then 32 ∷ name.now else name.now)) }
 {
     if some {
         add(text, b" ")?;
@@ -120,7 +130,8 @@ fn add_member(text: &mut Vec<u8>, some: bool, name: &[u8]) -> Result<(), WantMem
 
 #[tactic(auto, unfolding(schema_grammar::specs::Printing::declaring_lines))]
 fn add_declarations(text: &mut Vec<u8>, schema: &Schema) -> Result<(), WantMemory>
-    ensures added { OnOk result (text.new.items ≡ text.old.items ++ lines_text (declaring_lines (columns_of schema.now) (names_of schema.now))) }
+    ensures added { OnOk result (text.new.items
+        ≡ text.old.items ++ lines_text (declaring_lines (columns_of schema.now) (names_of schema.now))) }
 {
     if has_integers(schema) {
         add(text, b"version 2\n")?;
@@ -152,7 +163,7 @@ fn is_integer(column: Column) -> bool
     }
 }
 
-/// Each name behind a blank.
+/// Each name after a blank.
 fn add_names(text: &mut Vec<u8>, schema: &Schema) -> Result<(), WantMemory>
     ensures added { OnOk result (text.new.items ≡ text.old.items ++ words_text (names_of schema.now)) }
 {
@@ -165,27 +176,31 @@ fn add_names(text: &mut Vec<u8>, schema: &Schema) -> Result<(), WantMemory>
 
 /// A line for each run of neighbouring columns of one type.
 fn add_runs(text: &mut Vec<u8>, schema: &Schema) -> Result<(), WantMemory>
-    ensures added { OnOk result (text.new.items ≡ text.old.items ++ lines_text (map run_line (runs_of (columns_of schema.now) (names_of schema.now)))) }
+    ensures added { OnOk result (text.new.items
+        ≡ text.old.items ++ lines_text
+        (map run_line (runs_of (columns_of schema.now) (names_of schema.now)))) }
 {
     let mut last = schema.column(0);
     add_typed(text, last, schema.name(0).bytes())?;
     for place in 1..schema.width() {
         let column = schema.column(place);
         let name = schema.name(place).bytes();
-        add_behind(text, last, column, name)?;
+        add_after(text, last, column, name)?;
         last = column;
     }
     add(text, b"\n")
 }
 
-/// An attribute behind one with a column of type `last`: in the same line where it has the same type.
-fn add_behind(
+/// An attribute after one with a column of type `last`: in the same line where it has the same type.
+fn add_after(
     text: &mut Vec<u8>,
     last: Column,
     column: Column,
     name: &[u8],
 ) -> Result<(), WantMemory>
-    ensures added { OnOk result (text.new.items ≡ text.old.items ++ (if same_column last column then 32 ∷ name.now else 10 ∷ (type_word column ++ 32 ∷ name.now))) }
+    ensures added { OnOk result (text.new.items
+        ≡ text.old.items ++ (if same_column last column then 32 ∷ name.now else 10
+        ∷ (type_word column ++ 32 ∷ name.now))) }
 {
     if is_integer(column) == is_integer(last) {
         add(text, b" ")?;

@@ -23,7 +23,8 @@ pub fn read_schema(alloc: Global, text: &[u8]) -> Result<Schema, SchemaRefusal>
     requires { length text.now ≤ MOST_TEXT_BYTES }
     ensures ok { IfOk result (λ schema. MeansSchema text.now (declarations_of schema)) }
     ensures err { IfErr result (λ refusal. RefusesAs refusal.kind (RefusesSchema text.now refusal)) }
-    ensures free { IfOk result (λ schema. All (λ name. is_reserved Format.Plain name ≡ false) (names_of schema)) }
+    ensures free { IfOk result
+        (λ schema. All (λ name. is_reserved Format.Plain name ≡ false) (names_of schema)) }
 {
     let draft = match read_opening(alloc, without_mark(text)) {
         Ok(draft) => draft,
@@ -68,7 +69,7 @@ fn read_opening(alloc: Global, text: &[u8]) -> Result<Draft, SchemaRefusal>
     }
 }
 
-/// Reads a text from behind the word `version`.
+/// Reads a text from after the word `version`.
 fn read_typed(
     alloc: Global,
     number: u32,
@@ -78,8 +79,13 @@ fn read_typed(
 ) -> Result<Draft, SchemaRefusal>
     requires room { behind + length others.now < 2 ^ 32 }
     requires lines { AreFew number after }
-    ensures ok { IfOk result (λ draft. read_typed number (lines_after after.entry) behind (lexed Mode.Numbered 0 behind others.now) ≡ Ok (drafted draft)) }
-    ensures err { IfErr result (λ refusal. Refuses refusal (read_typed number (lines_after after.entry) behind (lexed Mode.Numbered 0 behind others.now))) }
+    ensures ok { IfOk result
+        (λ draft. read_typed number (lines_after after.entry) behind
+        (lexed Mode.Numbered 0 behind others.now) ≡ Ok (drafted draft)) }
+    ensures err { IfErr result
+        (λ refusal. Refuses refusal
+        (read_typed number (lines_after after.entry) behind
+        (lexed Mode.Numbered 0 behind others.now))) }
 {
     match read_version(number, behind, others) {
         Err(refusal) => Err(refusal),
@@ -90,11 +96,14 @@ fn read_typed(
     }
 }
 
-/// Reads a line from behind the word `version`: the number 2, and nothing more.
+/// Reads a line from after the word `version`: the number 2, and nothing more.
 fn read_version(line: u32, behind: u32, text: &[u8]) -> Result<(), SchemaRefusal>
     requires { behind + length text.now < 2 ^ 32 }
-    ensures ok { OnOk result (read_version_lexed line behind (lexed Mode.Numbered 0 behind text.now) ≡ Ok no_declaration) }
-    ensures err { IfErr result (λ refusal. read_version_lexed line behind (lexed Mode.Numbered 0 behind text.now) ≡ Err refusal) }
+    ensures ok { OnOk result (read_version_lexed line behind (lexed Mode.Numbered 0 behind text.now)
+        ≡ Ok no_declaration) }
+    ensures err { IfErr result
+        (λ refusal. read_version_lexed line behind (lexed Mode.Numbered 0 behind text.now)
+        ≡ Err refusal) }
 {
     match next_token(Mode::Numbered, behind, text) {
         Next::End => {
@@ -132,8 +141,10 @@ fn number_in(kind: TokenKind) -> Option<u32>
 /// Reads the rest of a version line, in which no token may stand.
 fn end_version(line: u32, behind: u32, text: &[u8]) -> Result<(), SchemaRefusal>
     requires { behind + length text.now < 2 ^ 32 }
-    ensures ok { OnOk result (end_version_lexed line (lexed Mode.Numbered 0 behind text.now) ≡ Ok no_declaration) }
-    ensures err { IfErr result (λ refusal. end_version_lexed line (lexed Mode.Numbered 0 behind text.now) ≡ Err refusal) }
+    ensures ok { OnOk result (end_version_lexed line (lexed Mode.Numbered 0 behind text.now)
+        ≡ Ok no_declaration) }
+    ensures err { IfErr result
+        (λ refusal. end_version_lexed line (lexed Mode.Numbered 0 behind text.now) ≡ Err refusal) }
 {
     match next_token(Mode::Numbered, behind, text) {
         Next::End => Ok(()),
@@ -164,8 +175,10 @@ fn read_lines(
     text: &[u8],
 ) -> Result<Draft, SchemaRefusal>
     requires { number + length text.now < 2 ^ 31 }
-    ensures ok { IfOk result (λ draft. read_lines format number no_declaration (line_texts text.now) ≡ Ok (drafted draft)) }
-    ensures err { IfErr result (λ refusal. Refuses refusal (read_lines format number no_declaration (line_texts text.now))) }
+    ensures ok { IfOk result
+        (λ draft. read_lines format number no_declaration (line_texts text.now) ≡ Ok (drafted draft)) }
+    ensures err { IfErr result
+        (λ refusal. Refuses refusal (read_lines format number no_declaration (line_texts text.now))) }
 {
     let mut draft = Draft::new(alloc);
     let mut number = number;

@@ -30,7 +30,8 @@ IsNextList n ds form schemes after = IsSplitStep (StaysWhole n ds form) (IsCutBy
 
 -- any number of steps lead from the universe to a list
 abbrev pub ReachedList : ℕ → List Dependency → Form → List Places → Type 0
-ReachedList n ds form schemes = (count : ℕ) × ReachedIn n (StaysWhole n ds form) (IsCutBy n ds form) count schemes
+ReachedList n ds form schemes =
+    (count : ℕ) × ReachedIn n (StaysWhole n ds form) (IsCutBy n ds form) count schemes
 
 -- a reached list in which all schemes stay whole
 pub record FinishedList (n : ℕ) (ds : List Dependency) (form : Form) (schemes : List Places) : Type 0 where

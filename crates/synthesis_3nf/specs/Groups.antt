@@ -9,7 +9,8 @@ use Rattle.dep_model.specs.Dependencies.{Dependency, left_of, right_of}
 abbrev pub left_sides_after : List Places → List Dependency → List Places
 left_sides_after earlier [] = []
 left_sides_after earlier (d ∷ later) =
-    if list_any (λ x. is_same x (left_of d)) earlier then left_sides_after earlier later else left_of d ∷ left_sides_after (earlier ++ left_of d ∷ []) later
+    if list_any (λ x. is_same x (left_of d)) earlier then left_sides_after earlier later
+    else left_of d ∷ left_sides_after (earlier ++ left_of d ∷ []) later
 
 -- the scheme of a left side: it, and what the dependencies of the list with this left side determine
 abbrev pub group_scheme : List Dependency → Places → Places

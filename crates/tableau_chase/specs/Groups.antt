@@ -12,11 +12,13 @@ pub record AreLeaders (x : Places) (rows : Tableau) (leaders : List ℕ) : Type 
   pub one_each : length leaders ≡ length rows
   pub first : (i : ℕ) → i < length rows → slice_index leaders i ≤ i
   pub agree : (i : ℕ) → i < length rows → SymbolsAgree x (row_at rows (slice_index leaders i)) (row_at rows i)
-  pub same : (i j : ℕ) → i < length rows → j < length rows → SymbolsAgree x (row_at rows i) (row_at rows j) → slice_index leaders i ≡ slice_index leaders j
+  pub same : (i j : ℕ) → i < length rows → j < length rows
+      → SymbolsAgree x (row_at rows i) (row_at rows j) → slice_index leaders i ≡ slice_index leaders j
 
 -- at each place, only rows that it leads, and of these all that lead others by the second list
 pub record AreFollowers (leaders seconds : List ℕ) (groups : List (List ℕ)) : Type 0 where
   pub one_each : length groups ≡ length leaders
   pub each : (g : ℕ) → All (λ j. j < length leaders) (slice_index_or groups g [])
   pub led : (g : ℕ) → All (λ j. slice_index leaders j ≡ g) (slice_index_or groups g [])
-  pub all : (j : ℕ) → j < length leaders → slice_index seconds j ≡ j → Contains (slice_index_or groups (slice_index leaders j) []) j
+  pub all : (j : ℕ) → j < length leaders → slice_index seconds j ≡ j
+      → Contains (slice_index_or groups (slice_index leaders j) []) j

@@ -29,8 +29,10 @@ pub record AddsAll (P : SymbolRow → Type 0) (t s : Tableau) : Type 0 where
 
 -- each tableau that has all rows of a first one, and all with a property, has more than so many
 abbrev pub Overflows : (SymbolRow → Type 0) → ℕ → Tableau → Type 0
-Overflows P limit t = (s : Tableau) → ((row : SymbolRow) → Contains t row → Contains s row) → ((row : SymbolRow) → P row → Contains s row) → HasMoreThan limit s
+Overflows P limit t = (s : Tableau) → ((row : SymbolRow) → Contains t row → Contains s row)
+    → ((row : SymbolRow) → P row → Contains s row) → HasMoreThan limit s
 
 -- the rows that one row of a tableau gives with others at some places
 abbrev pub IsExchangedWith : ℕ → Places → Tableau → ℕ → List ℕ → SymbolRow → Type 0
-IsExchangedWith n z t first seconds row = (j : ℕ) × Contains seconds j × (row ≡ exchanged n z (row_at t first) (row_at t j))
+IsExchangedWith n z t first seconds row =
+    (j : ℕ) × Contains seconds j × (row ≡ exchanged n z (row_at t first) (row_at t j))

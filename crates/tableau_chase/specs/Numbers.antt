@@ -12,5 +12,8 @@ pub record IsFirstPlace (keys : List (List ℕ)) (key : List ℕ) (number : ℕ)
 
 -- the numbers of the keys of a list: the first place of each
 pub record IsNumbering (keys : List (List ℕ)) (numbers : RowNumbers) : Type 0 where
-  pub sound : (q : Vec ℕ Global) (number : ℕ) → get (λ x y. pointwise nat_eq x.items y.items) numbers.firsts q ≡ Some number → IsFirstPlace keys q.items number
-  pub complete : (q : Vec ℕ Global) → Contains keys q.items → IsSome (get (λ x y. pointwise nat_eq x.items y.items) numbers.firsts q)
+  pub sound : (q : Vec ℕ Global) (number : ℕ)
+      → get (λ x y. pointwise nat_eq x.items y.items) numbers.firsts q ≡ Some number
+      → IsFirstPlace keys q.items number
+  pub complete : (q : Vec ℕ Global) → Contains keys q.items
+      → IsSome (get (λ x y. pointwise nat_eq x.items y.items) numbers.firsts q)

@@ -23,8 +23,10 @@ pub fn plan_pool(
     requires width { width ≤ PLACES }
     requires few { length schemes.now < 2 ^ 32 }
     ensures pool { IfOk result (IsPool limit) }
-    ensures same { IfOk result (λ pool. SameTableau (plan_tableau width (plan_of schemes.now)) pool.rows.items) }
-    ensures too_many { result ≡ Err ChaseRefusal.TooManyRows → HasMoreThan limit (plan_tableau width (plan_of schemes.now)) }
+    ensures same { IfOk result
+        (λ pool. SameTableau (plan_tableau width (plan_of schemes.now)) pool.rows.items) }
+    ensures too_many { result ≡ Err ChaseRefusal.TooManyRows
+        → HasMoreThan limit (plan_tableau width (plan_of schemes.now)) }
 {
     let mut pool = Pool::new(alloc, limit);
     for i in 0..schemes.len() {

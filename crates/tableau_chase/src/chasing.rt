@@ -27,13 +27,21 @@ pub fn chase(
 ) -> Result<Chased, ChaseRefusal>
     requires few { length schemes.now < 2 ^ 32 }
     requires cover { Covers (width_of schema.now) (plan_of schemes.now) }
-    ensures too_many_rows { result ≡ Err ChaseRefusal.TooManyRows → RoundsExceed (width_of schema.now) (theory_of schema.now) (plan_of schemes.now) limit }
-    ensures within_limit { OnOk result (RoundsExceed (width_of schema.now) (theory_of schema.now) (plan_of schemes.now) limit → ⊥) }
-    ensures lossless { IfOk result (λ chased. (chased ≡ Chased.Lossless) ↔ IsLossless (width_of schema.now) (theory_of schema.now) (plan_of schemes.now)) }
-    ensures closed_tableau { IfOk result (IfLossy (IsClosedTableau (width_of schema.now) (theory_of schema.now) (plan_of schemes.now) limit)) }
-    ensures gaining { IfOk result (IfLossy (IsGaining (width_of schema.now) (theory_of schema.now) (plan_of schemes.now))) }
+    ensures too_many_rows { result ≡ Err ChaseRefusal.TooManyRows
+        → RoundsExceed (width_of schema.now) (theory_of schema.now) (plan_of schemes.now) limit }
+    ensures within_limit { OnOk result
+        (RoundsExceed (width_of schema.now) (theory_of schema.now) (plan_of schemes.now) limit → ⊥) }
+    ensures lossless { IfOk result
+        (λ chased. (chased ≡ Chased.Lossless)
+        ↔ IsLossless (width_of schema.now) (theory_of schema.now) (plan_of schemes.now)) }
+    ensures closed_tableau { IfOk result
+        (IfLossy (IsClosedTableau (width_of schema.now) (theory_of schema.now)
+        (plan_of schemes.now) limit)) }
+    ensures gaining { IfOk result
+        (IfLossy (IsGaining (width_of schema.now) (theory_of schema.now) (plan_of schemes.now))) }
     ensures typed { IfOk result (IfLossy (TypedFor schema.now)) }
-    ensures never_too_many { functional_part (theory_of schema.now) ≡ theory_of schema.now → length schemes.now ≤ limit → result ≡ Err ChaseRefusal.TooManyRows → ⊥ }
+    ensures never_too_many { functional_part (theory_of schema.now) ≡ theory_of schema.now
+        → length schemes.now ≤ limit → result ≡ Err ChaseRefusal.TooManyRows → ⊥ }
 {
     let width = schema.width();
     let deps = schema.deps();

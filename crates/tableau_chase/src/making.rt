@@ -30,7 +30,9 @@ pub fn add_next(
     requires pool { IsPool limit pool.old }
     requires over { IsTableauOver width pool.old.rows.items }
     ensures pool { OnOk result (IsPool limit pool.new) }
-    ensures next { OnOk result (AddsAll (IsMadeOf width (dependencies_of deps.now) pool.old.rows.items) pool.old.rows.items pool.new.rows.items) }
+    ensures next { OnOk result
+        (AddsAll (IsMadeOf width
+        (dependencies_of deps.now) pool.old.rows.items) pool.old.rows.items pool.new.rows.items) }
     ensures too_many { result ≡ Err ChaseRefusal.TooManyRows
         → Overflows (IsMadeOf width (dependencies_of deps.now) pool.old.rows.items) limit pool.old.rows.items }
 {
@@ -58,9 +60,12 @@ fn add_made(
     requires count { count ≤ length pool.old.rows.items }
     requires over { IsTableauOver width (take count pool.old.rows.items) }
     ensures pool { OnOk result (IsPool limit pool.new) }
-    ensures made { OnOk result (AddsAll (IsMadeFrom width (dependency_of dep) (take count pool.old.rows.items)) pool.old.rows.items pool.new.rows.items) }
+    ensures made { OnOk result
+        (AddsAll (IsMadeFrom width (dependency_of dep)
+        (take count pool.old.rows.items)) pool.old.rows.items pool.new.rows.items) }
     ensures too_many { result ≡ Err ChaseRefusal.TooManyRows
-        → Overflows (IsMadeFrom width (dependency_of dep) (take count pool.old.rows.items)) limit pool.old.rows.items }
+        → Overflows (IsMadeFrom width (dependency_of dep)
+        (take count pool.old.rows.items)) limit pool.old.rows.items }
 {
     match dep {
         Dep::Fd { lhs: _, rhs: _ } => Ok(()),
@@ -83,9 +88,12 @@ fn add_products(
     requires count { count ≤ length pool.old.rows.items }
     requires over { IsTableauOver width (take count pool.old.rows.items) }
     ensures pool { OnOk result (IsPool limit pool.new) }
-    ensures made { OnOk result (AddsAll (IsExchanged width (places lhs) (places rhs) (take count pool.old.rows.items)) pool.old.rows.items pool.new.rows.items) }
+    ensures made { OnOk result
+        (AddsAll (IsExchanged width (places lhs) (places rhs)
+        (take count pool.old.rows.items)) pool.old.rows.items pool.new.rows.items) }
     ensures too_many { result ≡ Err ChaseRefusal.TooManyRows
-        → Overflows (IsExchanged width (places lhs) (places rhs) (take count pool.old.rows.items)) limit pool.old.rows.items }
+        → Overflows (IsExchanged width (places lhs) (places rhs)
+        (take count pool.old.rows.items)) limit pool.old.rows.items }
 {
     let both = lhs.union(rhs);
     let rest = AttrSet::full(width).minus(both).union(lhs);
@@ -122,9 +130,12 @@ fn add_exchanged(
     requires seconds { All (λ j. j < length pool.old.rows.items) seconds.now }
     requires seconds_over { All (λ j. length (row_at pool.old.rows.items j) ≡ width) seconds.now }
     ensures pool { OnOk result (IsPool limit pool.new) }
-    ensures made { OnOk result (AddsAll (IsExchangedWith width (places on) pool.old.rows.items first seconds.now) pool.old.rows.items pool.new.rows.items) }
+    ensures made { OnOk result
+        (AddsAll (IsExchangedWith width
+        (places on) pool.old.rows.items first seconds.now) pool.old.rows.items pool.new.rows.items) }
     ensures too_many { result ≡ Err ChaseRefusal.TooManyRows
-        → Overflows (IsExchangedWith width (places on) pool.old.rows.items first seconds.now) limit pool.old.rows.items }
+        → Overflows (IsExchangedWith width
+        (places on) pool.old.rows.items first seconds.now) limit pool.old.rows.items }
 {
     for k in 0..seconds.len() {
         let second = seconds[k] as usize;

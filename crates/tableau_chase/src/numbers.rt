@@ -27,7 +27,8 @@ impl RowNumbers {
     /// The number of a list of symbols; a new one has the next number from now on.
     pub fn number(&mut self, symbols: Vec<u32>, next: u32) -> Result<u32, WantMemory>
         ensures known { (keys : List (List ℕ)) → IsNumbering keys self.old → length keys ≡ next
-            → IfOk result (λ number. number ≢ next → IsFirstPlace keys symbols.items number × IsNumbering keys self.new) }
+            → IfOk result (λ number. number ≢ next
+            → IsFirstPlace keys symbols.items number × IsNumbering keys self.new) }
         ensures fresh { (keys : List (List ℕ)) → IsNumbering keys self.old → length keys ≡ next
             → IfOk result (λ number. number ≡ next → Contains keys symbols.items → ⊥) }
         ensures grown { (keys : List (List ℕ)) → IsNumbering keys self.old → length keys ≡ next

@@ -50,7 +50,9 @@ fn take_steps(
     requires few { length rows.old < 2 ^ 32 }
     ensures changes { IfOk result (λ changed. Changes (dependencies_of deps.now) changed rows.old rows.new) }
     ensures keeps { OnOk result (KeepsRows rows.old rows.new) }
-    ensures obeyed { IfOk result (λ changed. changed ≡ false → (x y : Places) → Contains (dependencies_of deps.now) (fd x y) → AgreesBy x y rows.old) }
+    ensures obeyed { IfOk result
+        (λ changed. changed ≡ false → (x y : Places) → Contains (dependencies_of deps.now) (fd x y)
+        → AgreesBy x y rows.old) }
 {
     let mut changed = false;
     for dep in deps {

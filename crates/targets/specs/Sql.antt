@@ -36,7 +36,9 @@ sql_value value =
 
 -- the front of each line of a table
 abbrev pub sql_head : List ℕ → List (List ℕ) → List ℕ
-sql_head name columns = codes "INSERT INTO " ++ quoted_name name ++ codes " (" ++ listed quoted_name columns ++ codes ") VALUES ("
+sql_head name columns =
+    codes "INSERT INTO " ++ quoted_name name ++ codes " (" ++ listed quoted_name columns
+    ++ codes ") VALUES ("
 
 -- a row after this front
 abbrev pub sql_row : List ℕ → Tuple → List ℕ

@@ -26,7 +26,8 @@ AddsRow row old new = (table : TableValue) → old table → new (with_row row t
 
 -- the open table is the last finished one
 abbrev pub FinishesTable : Finished → Opened → Finished → Type 0
-FinishesTable old part new = (done : List TableValue) (table : TableValue) → old done → part table → new (done ++ table ∷ [])
+FinishesTable old part new = (done : List TableValue) (table : TableValue) → old done → part table
+    → new (done ++ table ∷ [])
 
 -- a call's faults: the count has not fallen, and at `Failed` it rose
 pub record HasTargetCause {T : Type 0} (before now : ℕ) (result : Result T TargetFault) : Type 0 where

@@ -50,7 +50,8 @@ pub trait Target: Drop {
     fn end_table(&mut self) -> Result<(), TargetFault>
         requires is_open { IsSome (width self.old) }
         ensures tells { tells self.new ≡ tells self.old }
-        ensures finishes { OnOk result (FinishesTable (finished self.old) (opened self.old) (finished self.new)) }
+        ensures finishes { OnOk result
+            (FinishesTable (finished self.old) (opened self.old) (finished self.new)) }
         ensures keeps { OnErr result (KeepsFinished (finished self.old) (finished self.new)) }
         ensures width { width self.new ≡ None }
         ensures cause { HasTargetCause (faults self.old) (faults self.new) result };

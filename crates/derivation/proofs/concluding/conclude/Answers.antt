@@ -24,20 +24,20 @@ pub returns-clause-proves : goal.returns-clause-proves
 returns-clause-proves c =
     let s = c.args.schema.now in
     let t = tree_of c.args.deriv.now in
-    of_proved (Proves s t) s t c.conclude_behind.result c.conclude_behind.ensures.exact (λ d proves. proves)
+    of_proved (Proves s t) s t c.conclude_after.result c.conclude_after.ensures.exact (λ d proves. proves)
 
 pub returns-clause-only : goal.returns-clause-only
-returns-clause-only c d proves = c.conclude_behind.ensures.exact ∙ concluded-from c.args.schema.now 0 (tree_of c.args.deriv.now) d proves
+returns-clause-only c d proves = c.conclude_after.ensures.exact ∙ concluded-from c.args.schema.now 0 (tree_of c.args.deriv.now) d proves
 
 pub returns-clause-sound : goal.returns-clause-sound
 returns-clause-sound c =
     let s = c.args.schema.now in
     let t = tree_of c.args.deriv.now in
-    of_proved (ImpliedBy s) s t c.conclude_behind.result c.conclude_behind.ensures.exact (sound s t)
+    of_proved (ImpliedBy s) s t c.conclude_after.result c.conclude_after.ensures.exact (sound s t)
 
 pub returns-clause-within : goal.returns-clause-within
 returns-clause-within c =
     let s = c.args.schema.now in
     let t = tree_of c.args.deriv.now in
-    of_proved (IsWithin (universe_of s)) s t c.conclude_behind.result c.conclude_behind.ensures.exact
+    of_proved (IsWithin (universe_of s)) s t c.conclude_after.result c.conclude_after.ensures.exact
     (λ d. conclusion_within s t d (tree_of-attributes c.args.deriv.now))

@@ -1,6 +1,6 @@
 use Rattle.std.proofs.Common.{arith, sym, ◌∙◌, ap, ◌+◌}
 use Rattle.lexer.specs.Tokens.{lexed}
-use Rattle.lexer.proofs.Steps.{is_some, is_none, after_gap, at_comment, at_end, at_flaw, lies_in, flaw_lies_in, token_leads, token_behind}
+use Rattle.lexer.proofs.Steps.{is_some, is_none, after_gap, at_comment, at_end, at_flaw, lies_in, flaw_lies_in, token_leads, token_after}
 use Rattle.lexer.proofs.token.next_token.Goals as goal
 
 pub pieces-preserved : goal.pieces-preserved
@@ -40,4 +40,4 @@ returns-in-Token-clause-exact c =
 pub returns-in-Token-clause-advances : goal.returns-in-Token-clause-advances
 returns-in-Token-clause-advances c =
     let lies = lies_in _ _ _ _ (is_some _ c.pieces-test.ensures) c.in-Token.ensures.exact in
-    token_behind _ _ _ _ _ _ _ _ c.pieces.invariant lies c.split_at-in-Token.ensures.back_len
+    token_after _ _ _ _ _ _ _ _ c.pieces.invariant lies c.split_at-in-Token.ensures.back_len

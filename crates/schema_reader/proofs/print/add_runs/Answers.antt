@@ -11,4 +11,4 @@ loop-place-init c =
 pub loop-place-preserved : goal.loop-place-preserved
 loop-place-preserved c =
     runs_more (columns_of c.args.schema.now) (names_of c.args.schema.now) _ _ _ _ _ c.loop-place.place _ c.loop-place.invariant
-    c.column-column.ensures.column (c.name-in-loop-place.ensures.name ∙ ap Some (sym c.bytes-name.ensures.value)) c.in_ok-add_behind.ensures.added
+    c.column-column.ensures.column (c.name-in-loop-place.ensures.name ∙ ap Some (sym c.bytes-name.ensures.value)) c.in_ok-add_after.ensures.added

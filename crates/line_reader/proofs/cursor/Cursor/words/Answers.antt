@@ -25,7 +25,7 @@ pub words-preserved : goal.words-preserved
 words-preserved c = record {
   same = c.words.invariant.same
       ∙ words_more _ _ _ _ _ _ _ _ _ _ c.in-Token.ensures.exact (sym c.is_word.ensures.exact ∙ c.if-not-is_word.false) c.in-Ok.ensures.ok
-      ∙ ap (λ (x : Places). words (names_in c.args.names.now) x (rest_from c.args.self.line (c.in-Token.token.column + c.in-Token.token.length) (lexed c.args.self.mode 0 (c.in-Token.token.column + c.in-Token.token.length) c.in-Token.behind.now))) (sym c.added-set.ensures.members);
+      ∙ ap (λ (x : Places). words (names_in c.args.names.now) x (rest_from c.args.self.line (c.in-Token.token.column + c.in-Token.token.length) (lexed c.args.self.mode 0 (c.in-Token.token.column + c.in-Token.token.length) c.in-Token.after.now))) (sym c.added-set.ensures.members);
   room = omega (arith, c.words.invariant.room, c.in-Token.ensures.advances.fits);
   within = λ k m. grind (arith, nat_tests, c.words.invariant.within k, ap (λ (x : Places). x k) c.added-set.ensures.members, m, c.in-Ok.ensures.inside);
 }
