@@ -4,3 +4,4 @@ pub mod OrderLemmas
 pub mod LeaderLemmas
 pub mod GivenLemmas
 pub mod SearchLemmas
+pub mod UniqueHeaded

@@ -9,6 +9,7 @@
 mod columns;
 mod discovering;
 mod headed;
+mod laws;
 mod leaders;
 mod ordering;
 mod records;
@@ -18,6 +19,7 @@ mod table;
 
 pub use discovering::discover;
 pub use headed::{Headed, MOST_HEADED_ROWS, WIDEST_HEADED, read_headed};
+pub use laws::one_reading;
 pub use refusal::DiscoverRefusal;
 
 #[cfg(test)]

@@ -1,0 +1,20 @@
+//! The law of what texts under a free header mean.
+
+ghost use Rattle.std.specs.Prelude.{◌≡◌, List, ℕ};
+ghost use Rattle.csv_rows.specs.Records.{records_of};
+ghost use Rattle.fd_discovery.specs.declared.headed.Headed.{Headed};
+ghost use Rattle.fd_discovery.specs.declared.refusal.DiscoverRefusal.{DiscoverRefusal};
+ghost use Rattle.fd_discovery.specs.Headings.{IsHeaded, IsRefused, names_under, rows_under};
+
+/// A text has one header with its rows, or one refusal: never two lists of names or of rows, never two
+/// refusals, and never both.
+pub fn one_reading()
+    ensures names { (text : List ℕ) (one other : Headed) → IsHeaded (records_of text) one
+        → IsHeaded (records_of text) other → names_under one ≡ names_under other }
+    ensures rows { (text : List ℕ) (one other : Headed) → IsHeaded (records_of text) one
+        → IsHeaded (records_of text) other → rows_under one ≡ rows_under other }
+    ensures refusal { (text : List ℕ) (one other : DiscoverRefusal) → IsRefused (records_of text) one
+        → IsRefused (records_of text) other → one ≡ other }
+    ensures never_both { (text : List ℕ) (headed : Headed) (why : DiscoverRefusal)
+        → IsHeaded (records_of text) headed → IsRefused (records_of text) why → ⊥ }
+{}
