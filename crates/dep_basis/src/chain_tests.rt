@@ -3,12 +3,12 @@ ghost use Rattle.derivation.specs.Trees.{nodes};
 ghost use Rattle.derivation.specs.Derivs.{tree_of};
 
 use crate::functional_chain;
-use crate::tests::schema_of;
 use attr_sets::AttrSet;
 use dep_model::{Dep, Schema, WantMemory};
 use derivation::{Deriv, LeafRule, Node, PairRule, StepRule, depth, nodes};
 use std::alloc::Global;
 use std::test::Fail;
+use test_schemas::{NoSchema, schema_of};
 
 // The attributes A, B and C.
 const A: AttrSet = AttrSet(1);
@@ -22,7 +22,7 @@ fn fd(lhs: AttrSet, rhs: AttrSet) -> Dep {
 }
 
 // `A -> B` and `B -> C`, after `A ->> B`.
-fn two_steps(alloc: Global) -> Result<Schema, WantMemory> {
+fn two_steps(alloc: Global) -> Result<Schema, NoSchema> {
     let jump = Dep::Mvd { lhs: A, rhs: B };
     schema_of(alloc, 3, &[jump, fd(A, B), fd(B, C)])
 }

@@ -1,90 +1,10 @@
-ghost use Rattle.std.specs.Prelude.{◌≡◌, ◌≤◌, ◌<◌, false, length, IsTrue, IfOk, All, AllPairs};
-ghost use Rattle.attr_sets.specs.Sets.{places};
-ghost use Rattle.dep_model.specs.Names.{same_name};
-ghost use Rattle.dep_model.specs.Deps.{IsDepWithin};
-ghost use Rattle.dep_model.specs.Schemas.{width_of};
-
 use super::*;
 use attr_sets::AttrSet;
-use dep_model::{Dep, Name, Schema, WantMemory};
+use dep_model::Dep;
 use std::alloc::Global;
+use std::process::Abort;
 use std::test::Fail;
-
-fn fd(lhs: u128, rhs: u128) -> Dep {
-    Dep::Fd {
-        lhs: AttrSet(lhs),
-        rhs: AttrSet(rhs),
-    }
-}
-
-fn mvd(lhs: u128, rhs: u128) -> Dep {
-    Dep::Mvd {
-        lhs: AttrSet(lhs),
-        rhs: AttrSet(rhs),
-    }
-}
-
-fn are_within(deps: &[Dep], universe: AttrSet) -> bool
-    ensures within { IsTrue result → All (IsDepWithin (places universe)) deps.now }
-{
-    for dep in deps {
-        if !is_within(*dep, universe) {
-            return false;
-        }
-    }
-    true
-}
-
-fn is_within(dep: Dep, universe: AttrSet) -> bool
-    ensures within { IsTrue result → IsDepWithin (places universe) dep }
-{
-    match dep {
-        Dep::Fd { lhs, rhs } | Dep::Mvd { lhs, rhs } => {
-            lhs.within(universe) && rhs.within(universe)
-        }
-    }
-}
-
-fn differs_from_all(names: &[Name], name: &Name) -> bool
-    ensures differs { IsTrue result → All (λ other. same_name other name.now ≡ false) names.now }
-{
-    for other in names {
-        if other.same(name) {
-            return false;
-        }
-    }
-    true
-}
-
-// The names `Aa`, `Ab` and so on.
-fn names_of(alloc: Global, width: u8) -> Result<Vec<Name>, WantMemory>
-    requires few { width ≤ 128 }
-    ensures count { IfOk result (λ names. length names.items ≡ width) }
-    ensures differ { IfOk result (λ names. AllPairs (λ a b. same_name a b ≡ false) names.items) }
-{
-    let mut names = Vec::new(alloc);
-    for i in 0..width {
-        let Some(name) = Name::make(&[b'A' + i / 16, b'a' + i % 16]) else {
-            return Err(WantMemory);
-        };
-        if !differs_from_all(&names, &name) {
-            return Err(WantMemory);
-        }
-        names.push(name)?;
-    }
-    Ok(names)
-}
-
-fn schema_of(alloc: Global, width: u8, deps: &[Dep]) -> Result<Schema, WantMemory>
-    ensures width { IfOk result (λ schema. width_of schema ≡ width) }
-{
-    if width == 0 || width > 128 || deps.len() > 256 || !are_within(deps, AttrSet::full(width)) {
-        return Err(WantMemory);
-    }
-    let names = names_of(alloc, width)?;
-    let lines = vec![in alloc; 1u32; deps.len()]?;
-    Ok(Schema::make(names, Vec::from_slice(alloc, deps)?, lines))
-}
+use test_schemas::{NoSchema, fd, mvd, schema_of};
 
 // `lhs` and `rhs` as a violation.
 fn breach(lhs: u128, rhs: u128) -> Option<Breach> {
@@ -101,11 +21,11 @@ fn found(
     deps: &[Dep],
     scheme: u128,
     form: Form,
-) -> Result<Result<Option<Breach>, TooWide>, WantMemory> {
+) -> Result<Result<Option<Breach>, TooWide>, NoSchema> {
     let schema = schema_of(alloc, width, deps)?;
     let scheme = AttrSet(scheme);
     if !scheme.within(AttrSet::full(schema.width())) {
-        return Err(WantMemory);
+        return Err(NoSchema::Unfit);
     }
     Ok(violation(&schema, scheme, form))
 }
@@ -117,14 +37,14 @@ fn visible(
     deps: &[Dep],
     scheme: u128,
     form: Form,
-) -> Result<Option<Breach>, WantMemory> {
+) -> Result<Option<Breach>, NoSchema> {
     let schema = schema_of(alloc, width, deps)?;
     let scheme = AttrSet(scheme);
     if !scheme.within(AttrSet::full(schema.width())) {
-        return Err(WantMemory);
+        return Err(NoSchema::Unfit);
     }
     match form {
-        Form::Third => Err(WantMemory),
+        Form::Third => Err(NoSchema::Unfit),
         Form::Bcnf | Form::Fourth => Ok(visible_violation(&schema, scheme, form)),
     }
 }
@@ -139,8 +59,25 @@ type Row<'a> = (
     Option<Breach>,
 );
 
+fn is_found(found: Result<Option<Breach>, TooWide>, expected: Option<Breach>) -> bool {
+    match (found, expected) {
+        (Ok(None), None) => true,
+        (Ok(Some(one)), Some(other)) => one == other,
+        _ => false,
+    }
+}
+
+fn check(rt: &(impl Alloc<A = Global> + Abort), row: Row) -> Result<(), Fail> {
+    let (width, deps, scheme, third, bcnf, fourth) = row;
+    let alloc = rt.alloc();
+    assert!(rt; is_found(found(alloc, width, deps, scheme, Form::Third)?, third));
+    assert!(rt; is_found(found(alloc, width, deps, scheme, Form::Bcnf)?, bcnf));
+    assert!(rt; is_found(found(alloc, width, deps, scheme, Form::Fourth)?, fourth));
+    Ok(())
+}
+
 #[test]
-fn finds_the_chosen_violation(rt: HostRuntime) -> Result<(), Fail> {
+fn finds_the_violations_of_addresses_and_timetables(rt: HostRuntime) -> Result<(), Fail> {
     // COURSE TEACHER HOUR ROOM STUDENT GRADE
     let timetable = [
         fd(1, 2),
@@ -150,7 +87,7 @@ fn finds_the_chosen_violation(rt: HostRuntime) -> Result<(), Fail> {
         fd(20, 8),
         mvd(1, 12),
     ];
-    let rows: [Row; 17] = [
+    let rows: [Row; 3] = [
         // CITY STREET -> ZIP, ZIP -> CITY: CITY is prime
         (
             3,
@@ -164,6 +101,16 @@ fn finds_the_chosen_violation(rt: HostRuntime) -> Result<(), Fail> {
         (6, &timetable, 63, breach(1, 2), breach(1, 2), breach(1, 2)),
         // without TEACHER: COURSE HOUR -> ROOM, which is not given, and COURSE ->> HOUR ROOM
         (6, &timetable, 61, breach(5, 8), breach(5, 8), breach(1, 12)),
+    ];
+    for row in rows {
+        check(&rt, row)?;
+    }
+    Ok(())
+}
+
+#[test]
+fn finds_no_violation_but_by_an_empty_left_side(rt: HostRuntime) -> Result<(), Fail> {
+    let rows: [Row; 4] = [
         // no dependency
         (20, &[], 1_048_575, None, None, None),
         // one attribute, determined by nothing or by the empty set
@@ -171,6 +118,16 @@ fn finds_the_chosen_violation(rt: HostRuntime) -> Result<(), Fail> {
         (1, &[fd(0, 1)], 1, None, None, None),
         // () -> A
         (2, &[fd(0, 1)], 3, breach(0, 1), breach(0, 1), breach(0, 1)),
+    ];
+    for row in rows {
+        check(&rt, row)?;
+    }
+    Ok(())
+}
+
+#[test]
+fn finds_violations_that_are_not_given(rt: HostRuntime) -> Result<(), Fail> {
+    let rows: [Row; 3] = [
         // A -> B, B C -> D on A C D E: A C -> D, which is not given
         (
             5,
@@ -197,6 +154,16 @@ fn finds_the_chosen_violation(rt: HostRuntime) -> Result<(), Fail> {
             breach(1, 2),
             breach(1, 2),
         ),
+    ];
+    for row in rows {
+        check(&rt, row)?;
+    }
+    Ok(())
+}
+
+#[test]
+fn finds_the_part_of_the_least_attribute(rt: HostRuntime) -> Result<(), Fail> {
+    let rows: [Row; 3] = [
         // A -> C on A B C D: the part with B is B D
         (
             4,
@@ -210,6 +177,16 @@ fn finds_the_chosen_violation(rt: HostRuntime) -> Result<(), Fail> {
         (5, &[mvd(1, 10)], 31, None, None, breach(1, 10)),
         // A -> B C D E: a superkey
         (5, &[fd(1, 30)], 31, None, None, None),
+    ];
+    for row in rows {
+        check(&rt, row)?;
+    }
+    Ok(())
+}
+
+#[test]
+fn finds_violations_beside_prime_attributes(rt: HostRuntime) -> Result<(), Fail> {
+    let rows: [Row; 4] = [
         // A -> B, A -> C, C -> A on A B C D: B is the least that is not prime
         (
             4,
@@ -247,21 +224,10 @@ fn finds_the_chosen_violation(rt: HostRuntime) -> Result<(), Fail> {
             breach(1, 6),
         ),
     ];
-    for (width, deps, scheme, third, bcnf, fourth) in rows {
-        let alloc = rt.alloc();
-        assert!(rt; is_found(found(alloc, width, deps, scheme, Form::Third)?, third));
-        assert!(rt; is_found(found(alloc, width, deps, scheme, Form::Bcnf)?, bcnf));
-        assert!(rt; is_found(found(alloc, width, deps, scheme, Form::Fourth)?, fourth));
+    for row in rows {
+        check(&rt, row)?;
     }
     Ok(())
-}
-
-fn is_found(found: Result<Option<Breach>, TooWide>, expected: Option<Breach>) -> bool {
-    match (found, expected) {
-        (Ok(None), None) => true,
-        (Ok(Some(one)), Some(other)) => one == other,
-        _ => false,
-    }
 }
 
 #[test]

@@ -1,92 +1,13 @@
-ghost use Rattle.std.specs.Prelude.{◌≡◌, ◌≤◌, ◌<◌, true, false, length, IsTrue, IfOk, All, AllPairs, Any};
-ghost use Rattle.attr_sets.specs.Sets.{places};
-ghost use Rattle.dep_model.specs.Names.{same_name};
-ghost use Rattle.dep_model.specs.Deps.{IsDepWithin};
-ghost use Rattle.dep_model.specs.Schemas.{width_of};
+ghost use Rattle.std.specs.Prelude.{◌≡◌, ◌≤◌, ◌<◌, true, IsTrue, Any};
 ghost use Rattle.dep_model.specs.Projections.{Covers};
 ghost use Rattle.tableau_chase.specs.Chases.{plan_of};
 
 use crate::{ChaseRefusal, Chased, chase};
 use attr_sets::AttrSet;
-use dep_model::{Dep, Name, Row, Schema, WantMemory};
+use dep_model::{Row, Schema, WantMemory};
 use std::alloc::Global;
 use std::test::Fail;
-
-fn fd(lhs: u128, rhs: u128) -> Dep {
-    Dep::Fd {
-        lhs: AttrSet(lhs),
-        rhs: AttrSet(rhs),
-    }
-}
-
-fn mvd(lhs: u128, rhs: u128) -> Dep {
-    Dep::Mvd {
-        lhs: AttrSet(lhs),
-        rhs: AttrSet(rhs),
-    }
-}
-
-fn is_within(dep: Dep, universe: AttrSet) -> bool
-    ensures within { IsTrue result → IsDepWithin (places universe) dep }
-{
-    match dep {
-        Dep::Fd { lhs, rhs } | Dep::Mvd { lhs, rhs } => {
-            lhs.within(universe) && rhs.within(universe)
-        }
-    }
-}
-
-fn are_within(deps: &[Dep], universe: AttrSet) -> bool
-    ensures within { IsTrue result → All (IsDepWithin (places universe)) deps.now }
-{
-    for dep in deps {
-        if !is_within(*dep, universe) {
-            return false;
-        }
-    }
-    true
-}
-
-fn differs_from_all(names: &[Name], name: &Name) -> bool
-    ensures differs { IsTrue result → All (λ other. same_name other name.now ≡ false) names.now }
-{
-    for other in names {
-        if other.same(name) {
-            return false;
-        }
-    }
-    true
-}
-
-// The names `Aa`, `Ab` and so on.
-fn names_of(alloc: Global, width: u8) -> Result<Vec<Name>, WantMemory>
-    requires few { width ≤ 128 }
-    ensures count { IfOk result (λ names. length names.items ≡ width) }
-    ensures differ { IfOk result (λ names. AllPairs (λ a b. same_name a b ≡ false) names.items) }
-{
-    let mut names = Vec::new(alloc);
-    for i in 0..width {
-        let Some(name) = Name::make(&[b'A' + i / 16, b'a' + i % 16]) else {
-            return Err(WantMemory);
-        };
-        if !differs_from_all(&names, &name) {
-            return Err(WantMemory);
-        }
-        names.push(name)?;
-    }
-    Ok(names)
-}
-
-fn schema_of(alloc: Global, width: u8, deps: &[Dep]) -> Result<Schema, WantMemory>
-    ensures width { IfOk result (λ schema. width_of schema ≡ width) }
-{
-    if width == 0 || width > 128 || deps.len() > 256 || !are_within(deps, AttrSet::full(width)) {
-        return Err(WantMemory);
-    }
-    let names = names_of(alloc, width)?;
-    let lines = vec![in alloc; 1u32; deps.len()]?;
-    Ok(Schema::make(names, Vec::from_slice(alloc, deps)?, lines))
-}
+use test_schemas::{fd, mvd, schema_of};
 
 // What the chase says, as a text: the rows of a lossy plan, one a line.
 fn told(
