@@ -55,10 +55,18 @@ fn plans_are_printed_in_one_form(rt: HostRuntime) -> Result<(), Fail> {
     Ok(())
 }
 
+fn check(rt: &(impl Alloc<A = Global> + Abort), text: &[u8], want: PlanRefusal) {
+    let schema = schema(rt, b"attributes CITY STREET ZIP");
+    assert!(rt; text.len() <= MOST_PLAN_BYTES);
+    match read_plan(rt.alloc(), &schema, text) {
+        Ok(_) => panic!(rt; "{text:?} is read"),
+        Err(refusal) => assert!(rt; refusal == want, "{text:?}: {refusal:?}"),
+    }
+}
+
 #[test]
 fn a_plan_is_refused_at_its_first_fault(rt: HostRuntime) {
-    let schema = schema(&rt, b"attributes CITY STREET ZIP");
-    let table: [(&[u8], PlanRefusal); 16] = [
+    let table: [(&[u8], PlanRefusal); 8] = [
         (b"", PlanRefusal::NotCovered { attribute: 0 }),
         (b"scheme CITY ZIP", PlanRefusal::NotCovered { attribute: 1 }),
         (b"scheme", PlanRefusal::EmptyScheme { line: 1 }),
@@ -67,6 +75,27 @@ fn a_plan_is_refused_at_its_first_fault(rt: HostRuntime) {
             PlanRefusal::EmptyScheme { line: 2 },
         ),
         (b"scheme () CITY", PlanRefusal::EmptyScheme { line: 1 }),
+        (
+            b"\nscheme TOWN",
+            refusal(2, 8, 4, SchemaRefusalKind::UnknownName),
+        ),
+        (
+            b"scheme CITY 7",
+            refusal(1, 13, 1, SchemaRefusalKind::BadName),
+        ),
+        (
+            b"scheme $",
+            refusal(1, 8, 1, SchemaRefusalKind::StrangeByte),
+        ),
+    ];
+    for (text, want) in table {
+        check(&rt, text, want);
+    }
+}
+
+#[test]
+fn a_plan_line_is_refused_at_its_first_fault(rt: HostRuntime) {
+    let table: [(&[u8], PlanRefusal); 8] = [
         (
             b"scheme -> CITY",
             refusal(1, 8, 2, SchemaRefusalKind::Expected(What::Name)),
@@ -99,25 +128,9 @@ fn a_plan_is_refused_at_its_first_fault(rt: HostRuntime) {
             b"scheme CITY scheme",
             refusal(1, 13, 6, SchemaRefusalKind::ReservedName),
         ),
-        (
-            b"\nscheme TOWN",
-            refusal(2, 8, 4, SchemaRefusalKind::UnknownName),
-        ),
-        (
-            b"scheme CITY 7",
-            refusal(1, 13, 1, SchemaRefusalKind::BadName),
-        ),
-        (
-            b"scheme $",
-            refusal(1, 8, 1, SchemaRefusalKind::StrangeByte),
-        ),
     ];
     for (text, want) in table {
-        assert!(rt; text.len() <= MOST_PLAN_BYTES);
-        match read_plan(rt.alloc(), &schema, text) {
-            Ok(_) => panic!(rt; "{text:?} is read"),
-            Err(refusal) => assert!(rt; refusal == want, "{text:?}: {refusal:?}"),
-        }
+        check(&rt, text, want);
     }
 }
 
