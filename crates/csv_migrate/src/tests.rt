@@ -1,15 +1,37 @@
 use crate::{Table, tables};
 use csv_rows::read_rows;
-use decomp_text::read_plan;
+use decomp_text::{MOST_PLAN_BYTES, read_plan};
 use dep_model::WantMemory;
-use schema_reader::read_schema;
+use schema_reader::{MOST_TEXT_BYTES, read_schema};
 use std::alloc::Global;
+use std::process::Abort;
 use std::test::Fail;
 
-const TIMETABLE: &str =
-    "attributes COURSE TEACHER HOUR ROOM STUDENT GRADE\nCOURSE -> TEACHER\nHOUR ROOM -> COURSE\nHOUR TEACHER -> ROOM\nCOURSE STUDENT -> GRADE\nHOUR STUDENT -> ROOM\nCOURSE ->> HOUR ROOM\n";
+const TIMETABLE: &str = "attributes COURSE TEACHER HOUR ROOM STUDENT GRADE
+COURSE -> TEACHER
+HOUR ROOM -> COURSE
+HOUR TEACHER -> ROOM
+COURSE STUDENT -> GRADE
+HOUR STUDENT -> ROOM
+COURSE ->> HOUR ROOM
+";
+
+const TIMETABLE_ROWS: &str = "COURSE,TEACHER,HOUR,ROOM,STUDENT,GRADE
+db,Ada,mon,r1,Max,1
+db,Ada,wed,r2,Max,1
+db,Ada,mon,r1,Eva,2
+db,Ada,wed,r2,Eva,2
+os,Bo,tue,r1,Max,2
+";
 
 const ADDRESS: &str = "attributes CITY STREET ZIP\nCITY STREET -> ZIP\nZIP -> CITY\n";
+
+const ADDRESS_ROWS: &str = "ZIP,CITY,STREET
+53111,\"Bonn, West\",Markt
+53111,\"Bonn, West\",Markt
+53115,Bonn,Allee
+53111,\"Bonn, West\",Hof
+";
 
 // A table on one line: its name, its columns, and each row after a bar.
 fn line_of(alloc: Global, table: &Table) -> Result<Vec<u8>, WantMemory> {
@@ -29,14 +51,38 @@ fn line_of(alloc: Global, table: &Table) -> Result<Vec<u8>, WantMemory> {
     Ok(line)
 }
 
+// A schema, a plan, rows, and each table as a line.
+type Case<'a> = (&'a str, &'a str, &'a str, &'a [&'a str]);
+
+fn check(rt: &(impl Alloc<A = Global> + Abort), case: Case) -> Result<(), Fail> {
+    let (schema, plan, text, want) = case;
+    let alloc = rt.alloc();
+    assert!(rt; schema.len() <= MOST_TEXT_BYTES);
+    let schema = read_schema(alloc, schema.as_bytes()).expect(rt, "a schema");
+    assert!(rt; plan.len() <= MOST_PLAN_BYTES);
+    let plan = read_plan(alloc, &schema, plan.as_bytes()).expect(rt, "a plan");
+    let rows = read_rows(alloc, &schema, text.as_bytes()).expect(rt, "rows");
+    assert!(rt; rows.len() < 10);
+    assert!(rt; plan.schemes().len() < 10);
+    let made = tables(alloc, &schema, &plan, &rows)?;
+    assert_eq!(rt; made.len(), want.len());
+    for (table, want) in made.iter().zip(want.iter()) {
+        let line = line_of(alloc, table)?;
+        assert_eq!(rt; line.as_slice(), want.as_bytes());
+    }
+    for (table, scheme) in made.iter().zip(plan.schemes().iter()) {
+        assert_eq!(rt; table.scheme, *scheme);
+    }
+    Ok(())
+}
+
 #[test]
 fn tables_of_rows(rt: HostRuntime) -> Result<(), Fail> {
-    let alloc = rt.alloc();
-    let cases: [(&str, &str, &str, &[&str]); 6] = [
+    let cases: [Case; 3] = [
         (
             TIMETABLE,
             "scheme COURSE TEACHER\nscheme COURSE HOUR ROOM\nscheme COURSE STUDENT GRADE\n",
-            "COURSE,TEACHER,HOUR,ROOM,STUDENT,GRADE\ndb,Ada,mon,r1,Max,1\ndb,Ada,wed,r2,Max,1\ndb,Ada,mon,r1,Eva,2\ndb,Ada,wed,r2,Eva,2\nos,Bo,tue,r1,Max,2\n",
+            TIMETABLE_ROWS,
             &[
                 "t1 COURSE TEACHER|<db<Ada|<os<Bo",
                 "t2 COURSE HOUR ROOM|<db<mon<r1|<db<wed<r2|<os<tue<r1",
@@ -46,7 +92,7 @@ fn tables_of_rows(rt: HostRuntime) -> Result<(), Fail> {
         (
             ADDRESS,
             "scheme CITY ZIP\nscheme STREET ZIP\n",
-            "ZIP,CITY,STREET\n53111,\"Bonn, West\",Markt\n53111,\"Bonn, West\",Markt\n53115,Bonn,Allee\n53111,\"Bonn, West\",Hof\n",
+            ADDRESS_ROWS,
             &[
                 "t1 CITY ZIP|<Bonn, West<53111|<Bonn<53115",
                 "t2 STREET ZIP|<Markt<53111|<Allee<53115|<Hof<53111",
@@ -58,6 +104,16 @@ fn tables_of_rows(rt: HostRuntime) -> Result<(), Fail> {
             "ZIP,CITY,STREET\n",
             &["t1 CITY ZIP", "t2 STREET ZIP"],
         ),
+    ];
+    for case in cases {
+        check(&rt, case)?;
+    }
+    Ok(())
+}
+
+#[test]
+fn tables_of_any_plan_and_rows(rt: HostRuntime) -> Result<(), Fail> {
+    let cases: [Case; 3] = [
         ("attributes A\n", "scheme A\n", "A\n\"\"\n\n", &["t1 A|<"]),
         (
             "attributes A B\n",
@@ -77,21 +133,8 @@ fn tables_of_rows(rt: HostRuntime) -> Result<(), Fail> {
             &["t1 A|<1|<2", "t2 B|<2|<1"],
         ),
     ];
-    for (schema, plan, text, want) in cases {
-        let schema = read_schema(alloc, schema.as_bytes()).expect(&rt, "a schema");
-        let plan = read_plan(alloc, &schema, plan.as_bytes()).expect(&rt, "a plan");
-        let rows = read_rows(alloc, &schema, text.as_bytes()).expect(&rt, "rows");
-        assert!(rt; rows.len() < 10);
-        assert!(rt; plan.schemes().len() < 10);
-        let made = tables(alloc, &schema, &plan, &rows)?;
-        assert_eq!(rt; made.len(), want.len());
-        for (table, want) in made.iter().zip(want.iter()) {
-            let line = line_of(alloc, table)?;
-            assert_eq!(rt; line.as_slice(), want.as_bytes());
-        }
-        for (table, scheme) in made.iter().zip(plan.schemes().iter()) {
-            assert_eq!(rt; table.scheme, *scheme);
-        }
+    for case in cases {
+        check(&rt, case)?;
     }
     Ok(())
 }
