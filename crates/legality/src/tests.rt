@@ -3,6 +3,23 @@ use csv_rows::read_rows;
 use schema_reader::read_schema;
 use std::test::Fail;
 
+const TIMETABLE: &str = "attributes COURSE TEACHER HOUR ROOM STUDENT GRADE
+COURSE -> TEACHER
+HOUR ROOM -> COURSE
+HOUR TEACHER -> ROOM
+COURSE STUDENT -> GRADE
+HOUR STUDENT -> ROOM
+COURSE ->> HOUR ROOM
+";
+
+const TIMETABLE_ROWS: &str = "COURSE,TEACHER,HOUR,ROOM,STUDENT,GRADE
+db,Ada,mon,r1,Max,1
+db,Ada,wed,r2,Max,1
+db,Ada,mon,r1,Eva,2
+db,Ada,wed,r2,Eva,2
+os,Bo,tue,r1,Max,2
+";
+
 fn offence(dep: u16, first: u32, second: u32) -> Offence {
     Offence { dep, first, second }
 }
@@ -10,12 +27,10 @@ fn offence(dep: u16, first: u32, second: u32) -> Offence {
 #[test]
 fn least_pairs(rt: HostRuntime) -> Result<(), Fail> {
     let alloc = rt.alloc();
-    let timetable =
-        "attributes COURSE TEACHER HOUR ROOM STUDENT GRADE\nCOURSE -> TEACHER\nHOUR ROOM -> COURSE\nHOUR TEACHER -> ROOM\nCOURSE STUDENT -> GRADE\nHOUR STUDENT -> ROOM\nCOURSE ->> HOUR ROOM\n";
     let cases: [(&str, &str, &[Offence]); 8] = [
         (
-            timetable,
-            "COURSE,TEACHER,HOUR,ROOM,STUDENT,GRADE\ndb,Ada,mon,r1,Max,1\ndb,Ada,wed,r2,Max,1\ndb,Ada,mon,r1,Eva,2\ndb,Ada,wed,r2,Eva,2\nos,Bo,tue,r1,Max,2\n",
+            TIMETABLE,
+            TIMETABLE_ROWS,
             &[],
         ),
         (
