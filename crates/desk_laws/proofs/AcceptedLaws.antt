@@ -26,7 +26,6 @@ use Rattle.proof_grammar.specs.Printing.{canonical_certificate}
 use Rattle.proof_grammar.specs.Spelling.{SpellsWithin}
 use Rattle.proof_grammar.proofs.OneTree.{one_tree}
 use Rattle.proof_grammar.proofs.PrintedSpells.{answered_spells}
-use Rattle.desk_cli.specs.declared.status.Status.{Status}
 use Rattle.desk_cli.specs.declared.status.Status.TheVariants.{Yes, No}
 use Rattle.desk_cli.specs.Answers.{Answer}
 use Rattle.desk_cli.specs.Certificates.{Checked}

@@ -1,6 +1,6 @@
 -- Where the inputs of a command have their meaning, it answers yes or no.
-use Rattle.std.proofs.Common.{◌≡◌, ◌≤◌, ◌<◌, ◌+◌, ℕ, false, List, [], ◌∷◌, length, Some, Result, Ok, Err, inl, inr, sym, ap, ◌∙◌, subst, arith}
-use Rattle.std.specs.Prelude.{◌⊎◌, codes, slice_get, Any}
+use Rattle.std.proofs.Common.{◌≡◌, ◌<◌, ◌+◌, ℕ, false, List, [], ◌∷◌, length, Some, Result, Ok, Err, inl, inr, sym, ap, ◌∙◌, subst, arith}
+use Rattle.std.specs.Prelude.{codes, slice_get, Any}
 use Rattle.attr_sets.specs.Places.{Places, below}
 use Rattle.attr_sets.specs.declared.set.AttrSet.{AttrSet}
 use Rattle.dep_model.specs.Dependencies.{Dependency, is_fd}
@@ -18,11 +18,9 @@ use Rattle.schema_grammar.specs.Meanings.{MeansGoal}
 use Rattle.schema_grammar.specs.Schemas.{MeansSchema}
 use Rattle.schema_grammar.specs.Texts.{declarations_of}
 use Rattle.schema_grammar.proofs.SchemaLaws.{schema-law}
-use Rattle.schema_reader.specs.declared.text.TheConstants.{MOST_TEXT_BYTES}
-use Rattle.proof_text.specs.declared.text.TheConstants.{MOST_PROOF_BYTES}
 use Rattle.proof_grammar.specs.Spelling.{SpellsWithin}
 use Rattle.csv_rows.specs.Columns.{IsHeaderOf}
-use Rattle.csv_rows.specs.Reading.{tuple_of, RowOf, AreFirstRows, TableOf, RowsOf}
+use Rattle.csv_rows.specs.Reading.{tuple_of, RowOf, TableOf, RowsOf}
 use Rattle.csv_rows.specs.Records.{records_of}
 use Rattle.csv_rows.specs.declared.refusal.RowRefusal.{RowRefusal}
 use Rattle.csv_rows.proofs.UniqueRows.{table_same, whole_header_same}
@@ -163,16 +161,25 @@ row_alike s r columns row fields t same (fits, is, typed) = (
   (λ a has. typed a (has.0, subst (λ (types : List Column). slice_get types a ≡ Some Integer) (sym (types_same s r same)) has.1)),
 )
 
-table_alike : (s r : Schema) (records : List (List (List ℕ))) (rows : Relation) → AreSame s r
-    → TableOf s (IsHeaderOf (width_of s) (names_of s)) records (Ok rows)
-    → TableOf r (IsHeaderOf (width_of r) (names_of r)) records (Ok rows)
-table_alike s r [] rows same is = cc
-table_alike s r (header ∷ records) rows same (Err e, means, under) = cc
-table_alike s r (header ∷ records) rows same (Ok columns, means, under) = (
+-- what the records of a text give, where a header with columns means the same of both schemas
+pub table_alike : (s r : Schema) (Means Also : List (List ℕ) → Result (List ℕ) RowRefusal → Type 0)
+    (records : List (List (List ℕ))) (rows : Relation) → AreSame s r
+    → ((header : List (List ℕ)) (columns : List ℕ) → Means header (Ok columns) → Also header (Ok columns))
+    → TableOf s Means records (Ok rows) → TableOf r Also records (Ok rows)
+table_alike s r Means Also [] rows same moves is = cc
+table_alike s r Means Also (header ∷ records) rows same moves (Err e, means, under) = cc
+table_alike s r Means Also (header ∷ records) rows same moves (Ok columns, means, under) = (
   Ok columns,
-  subst (λ (names : List (List ℕ)). IsHeaderOf (length names) names header (Ok columns)) (names_same s r same) means,
+  moves header columns means,
   (record { within = under.0.within; each = λ i less. row_alike s r columns (i + 1) _ _ same (under.0.each i less) }, under.1),
 )
+
+rows_alike : (s r : Schema) (text : List ℕ) (rows : Relation) → AreSame s r → RowsOf s text (Ok rows)
+    → RowsOf r text (Ok rows)
+rows_alike s r text rows same is =
+    table_alike s r (IsHeaderOf (width_of s) (names_of s)) (IsHeaderOf (width_of r) (names_of r)) (records_of text) rows same
+    (λ header columns means. subst (λ (names : List (List ℕ)). IsHeaderOf (length names) names header (Ok columns)) (names_same s r same) means)
+    is
 
 rows_or_refusal : (r : Schema) (text : List ℕ) (rows : Relation) (why : RowRefusal) → RowsOf r text (Ok rows)
     → RowsOf r text (Err why) → ⊥
@@ -191,7 +198,7 @@ after_rows files s r name rows rest answer same file go (inl (inl stop)) =
 after_rows files s r name rows rest answer same file go (inl (inr (why, is, says))) =
     let here : RowsOf r file.bytes (Err why) =
     subst (λ (b : List ℕ). RowsOf r b (Err why)) (one_content files name is.bytes file.bytes is.content.0 file.content.0) is.refused in
-    absurd (rows_or_refusal r file.bytes rows why (table_alike s r (records_of file.bytes) rows same file.means) here)
+    absurd (rows_or_refusal r file.bytes rows why (rows_alike s r file.bytes rows same file.means) here)
 after_rows files s r name rows rest answer same file go (inr (x, is, more)) = go x more
 
 judged : (r : Schema) (rows : Relation) (answer : Answer) → Judged r rows answer → IsYesOrNo answer.status

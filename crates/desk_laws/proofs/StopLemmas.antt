@@ -1,5 +1,5 @@
 -- No way to stop says yes, and where a text has its meaning nothing stops.
-use Rattle.std.proofs.Common.{◌≡◌, ◌≤◌, ℕ, List, length, Some, Ok, inl, inr, sym, ap, ◌∙◌, subst, arith, Option, Err, Result}
+use Rattle.std.proofs.Common.{◌≡◌, ◌≤◌, ℕ, List, length, Some, Ok, inl, inr, sym, ap, ◌∙◌, subst, arith, Option, Err}
 use Rattle.std.specs.Prelude.{IsSomeAnd, ◌<◌}
 use Rattle.dep_model.specs.declared.schema.Schema.{Schema}
 use Rattle.dep_model.specs.Dependencies.{Dependency}
@@ -21,7 +21,6 @@ use Rattle.proof_grammar.specs.Spelling.{SpellsWithin}
 use Rattle.proof_grammar.specs.Texts.{read_proof}
 use Rattle.proof_grammar.proofs.TextRefusals.{refused_back}
 use Rattle.proof_grammar.proofs.CertificateLaws.{spelled_back}
-use Rattle.desk_cli.specs.declared.status.Status.{Status}
 use Rattle.desk_cli.specs.declared.status.Status.TheVariants.{Yes, Refused, CannotRead}
 use Rattle.desk_cli.specs.Readings.{Reading, told}
 use Rattle.desk_cli.specs.Answers.{Answer}

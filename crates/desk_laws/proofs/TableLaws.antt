@@ -1,5 +1,5 @@
 -- Where the inputs of a command on forms, plans or tables have their meaning, it answers yes or no.
-use Rattle.std.proofs.Common.{◌≡◌, ◌<◌, ◌≤◌, ◌-◌, ◌^◌, ◌⊎◌, ℕ, true, Some, List, [], ◌∷◌, ◌++◌, length, inl, inr, sym, ap, refl, subst, ◌∙◌, arith}
+use Rattle.std.proofs.Common.{◌≡◌, ◌<◌, ◌≤◌, ◌-◌, ◌^◌, ◌⊎◌, ℕ, true, List, [], ◌∷◌, length, inl, inr, sym, ap, refl, subst, ◌∙◌, arith}
 use Rattle.std.specs.Prelude.{codes, All, Contains}
 use Rattle.std.proofs.lemmas.List.Elements.{All-contains, Contains-append_right}
 use Rattle.std.proofs.Math.Nat.{pow-le-pow_right}
@@ -11,7 +11,7 @@ use Rattle.armstrong_rel.specs.Refusals.{IsFirstMvd}
 use Rattle.armstrong_rel.specs.declared.refusal.TheConstants.{WIDEST_EXHIBITED}
 use Rattle.dep_model.specs.Dependencies.{Dependency}
 use Rattle.dep_model.specs.Plans.{schemes_of}
-use Rattle.dep_model.specs.Schemas.{names_of, width_of, theory_of}
+use Rattle.dep_model.specs.Schemas.{width_of, theory_of}
 use Rattle.dep_model.specs.Tuples.{Relation}
 use Rattle.dep_model.specs.declared.schema.Schema.{Schema}
 use Rattle.form_tests.specs.Chosen.{IsWide}
@@ -35,7 +35,7 @@ use Rattle.desk_cli.specs.Migrations.{GivesTables, MigratesRows, Samples}
 use Rattle.desk_cli.specs.Numbers.{is_count}
 use Rattle.lexer.specs.Bytes.{number_of}
 use Rattle.sample.specs.Sample.{sample_relation}
-use Rattle.desk_cli.specs.NormalForms.{JudgesForm, form_word}
+use Rattle.desk_cli.specs.NormalForms.{JudgesForm}
 use Rattle.desk_cli.specs.Performs.{Answers, Performs, Does}
 use Rattle.desk_cli.specs.Plans.{WithPlan, IsPlanFile}
 use Rattle.desk_cli.specs.Readings.{told}

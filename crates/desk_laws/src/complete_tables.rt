@@ -4,17 +4,26 @@ ghost use Rattle.std.specs.Prelude.{◌≡◌, ◌<◌, ◌≤◌, ℕ, true, Li
 ghost use Rattle.attr_sets.specs.Places.{Places};
 ghost use Rattle.armstrong_rel.specs.Refusals.{IsFirstMvd};
 ghost use Rattle.armstrong_rel.specs.declared.refusal.TheConstants.{WIDEST_EXHIBITED};
+ghost use Rattle.csv_rows.specs.declared.part.Part.{Part};
+ghost use Rattle.dep_model.specs.Projections.{Covers};
 ghost use Rattle.dep_model.specs.Schemas.{width_of, theory_of};
 ghost use Rattle.dep_model.specs.Tuples.{Relation};
 ghost use Rattle.dep_model.specs.declared.schema.Schema.{Schema};
+ghost use Rattle.fd_discovery.specs.declared.headed.Headed.{Headed};
 ghost use Rattle.form_tests.specs.Chosen.{IsWide};
 ghost use Rattle.form_tests.specs.declared.forms.Form.TheVariants as forms;
+ghost use Rattle.table_join.specs.Answers.{IsWithinLimit};
+ghost use Rattle.table_join.specs.Tables.{tables_of, plan_of};
 ghost use Rattle.desk_outside.specs.Files.{Files};
+ghost use Rattle.desk_cli.specs.declared.rejoining.TheConstants.{MOST_JOINED_ROWS};
+ghost use Rattle.desk_cli.specs.Discoveries.{IsHeadedFile};
+ghost use Rattle.desk_cli.specs.Forms.{are_few};
 ghost use Rattle.desk_cli.specs.Inputs.{IsSchemaFile};
 ghost use Rattle.desk_cli.specs.Joins.{IsTooLarge};
 ghost use Rattle.desk_cli.specs.Numbers.{is_count};
 ghost use Rattle.desk_cli.specs.Plans.{IsPlanFile};
 ghost use Rattle.desk_cli.specs.Readings.{told};
+ghost use Rattle.desk_cli.specs.Rejoining.{ArePartFiles};
 ghost use Rattle.desk_cli.specs.Rows.{IsRowsFile};
 ghost use Rattle.desk_laws.specs.Completeness.{IsAnswered, HasPlanInForm};
 
@@ -114,4 +123,21 @@ pub fn small_universes_are_split()
 pub fn sample_is_answered()
     ensures law { (files : Files) (word : List ℕ) → is_count word ≡ true
         → IsAnswered files (codes "sample" ∷ word ∷ []) }
+{}
+
+/// `discover` is answered where the CSV file has a header that names its columns, and rows under it.
+pub fn discover_is_answered()
+    ensures law { (files : Files) (file : List ℕ) (headed : Headed) → IsHeadedFile (told files) file headed
+        → IsAnswered files (codes "discover" ∷ file ∷ []) }
+{}
+
+/// `rejoin` is answered where the schema file means a schema, from one to 64 files are tables, each
+/// attribute has a column in one of them, and the joins of the first tables keep within their limit.
+pub fn rejoin_is_answered()
+    ensures law { (files : Files) (name : List ℕ) (names : List (List ℕ)) (schema : Schema) (parts : List Part)
+        → IsSchemaFile (told files) name schema → are_few names ≡ true
+        → ArePartFiles (told files) schema names parts
+        → Covers (width_of schema) (plan_of (tables_of parts))
+        → IsWithinLimit (width_of schema) MOST_JOINED_ROWS (tables_of parts)
+        → IsAnswered files (codes "rejoin" ∷ name ∷ names) }
 {}

@@ -21,8 +21,9 @@ pub use complete::{
     synthesize_is_answered,
 };
 pub use complete_tables::{
-    check_form_is_answered, check_keeps_is_answered, ddl_is_answered, exhibit_is_answered,
-    migrate_is_answered, sample_is_answered, small_universes_are_split, split_is_answered,
+    check_form_is_answered, check_keeps_is_answered, ddl_is_answered, discover_is_answered,
+    exhibit_is_answered, migrate_is_answered, rejoin_is_answered, sample_is_answered,
+    small_universes_are_split, split_is_answered,
 };
 
 /// What `implies` prints after yes, kept in a file, is accepted by `check proof` for the same schema and

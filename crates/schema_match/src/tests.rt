@@ -1,6 +1,27 @@
 use crate::{differences, missing};
-use schema_reader::read_schema;
+use schema_reader::{MOST_TEXT_BYTES, read_schema};
+use std::alloc::Global;
+use std::process::Abort;
 use std::test::Fail;
+
+const TIMETABLE: &str = "attributes COURSE TEACHER HOUR ROOM STUDENT GRADE
+COURSE -> TEACHER
+HOUR ROOM -> COURSE
+HOUR TEACHER -> ROOM
+COURSE STUDENT -> GRADE
+HOUR STUDENT -> ROOM
+COURSE ->> HOUR ROOM
+";
+
+// The same with its columns turned round, and the other side of its multivalued dependency.
+const TURNED_TIMETABLE: &str = "attributes GRADE STUDENT ROOM HOUR TEACHER COURSE
+COURSE -> TEACHER
+HOUR ROOM -> COURSE
+HOUR TEACHER -> ROOM
+COURSE STUDENT -> GRADE
+HOUR STUDENT -> ROOM
+COURSE ->> STUDENT GRADE
+";
 
 #[test]
 fn names_that_are_missing(rt: HostRuntime) -> Result<(), Fail> {
@@ -25,13 +46,27 @@ fn names_that_are_missing(rt: HostRuntime) -> Result<(), Fail> {
     Ok(())
 }
 
+// Two schemas over the same names, and the dependencies of each that do not follow from the other.
+type Case<'a> = (&'a str, &'a str, &'a [u16], &'a [u16]);
+
+fn check(rt: &(impl Alloc<A = Global> + Abort), case: Case) -> Result<(), Fail> {
+    let (schema, other, there, back) = case;
+    let alloc = rt.alloc();
+    assert!(rt; schema.len() <= MOST_TEXT_BYTES);
+    let schema = read_schema(alloc, schema.as_bytes()).expect(rt, "a schema");
+    assert!(rt; other.len() <= MOST_TEXT_BYTES);
+    let other = read_schema(alloc, other.as_bytes()).expect(rt, "a schema");
+    assert!(rt; missing(&schema, &other).is_none());
+    assert!(rt; missing(&other, &schema).is_none());
+    assert_eq!(rt; differences(alloc, &schema, &other)?.as_slice(), there);
+    assert_eq!(rt; differences(alloc, &other, &schema)?.as_slice(), back);
+    Ok(())
+}
+
 #[test]
 fn dependencies_that_do_not_follow(rt: HostRuntime) -> Result<(), Fail> {
-    let alloc = rt.alloc();
     let chain = "attributes A B C\nA -> B\nB -> C\n";
-    let timetable =
-        "attributes COURSE TEACHER HOUR ROOM STUDENT GRADE\nCOURSE -> TEACHER\nHOUR ROOM -> COURSE\nHOUR TEACHER -> ROOM\nCOURSE STUDENT -> GRADE\nHOUR STUDENT -> ROOM\nCOURSE ->> HOUR ROOM\n";
-    let cases: [(&str, &str, &[u16], &[u16]); 10] = [
+    let cases: [Case; 10] = [
         // the columns in another order, in another spelling, and another cover
         (chain, "attributes c b a\na -> b c\nb -> c\n", &[], &[]),
         (chain, "attributes A B C\nA -> B\n", &[1], &[]),
@@ -66,8 +101,8 @@ fn dependencies_that_do_not_follow(rt: HostRuntime) -> Result<(), Fail> {
             &[],
         ),
         (
-            timetable,
-            "attributes GRADE STUDENT ROOM HOUR TEACHER COURSE\nCOURSE -> TEACHER\nHOUR ROOM -> COURSE\nHOUR TEACHER -> ROOM\nCOURSE STUDENT -> GRADE\nHOUR STUDENT -> ROOM\nCOURSE ->> STUDENT GRADE\n",
+            TIMETABLE,
+            TURNED_TIMETABLE,
             &[],
             &[],
         ),
@@ -79,13 +114,8 @@ fn dependencies_that_do_not_follow(rt: HostRuntime) -> Result<(), Fail> {
             &[1],
         ),
     ];
-    for (schema, other, there, back) in cases {
-        let schema = read_schema(alloc, schema.as_bytes()).expect(&rt, "a schema");
-        let other = read_schema(alloc, other.as_bytes()).expect(&rt, "a schema");
-        assert!(rt; missing(&schema, &other).is_none());
-        assert!(rt; missing(&other, &schema).is_none());
-        assert_eq!(rt; differences(alloc, &schema, &other)?.as_slice(), there);
-        assert_eq!(rt; differences(alloc, &other, &schema)?.as_slice(), back);
+    for case in cases {
+        check(&rt, case)?;
     }
     Ok(())
 }

@@ -1,0 +1,192 @@
+-- Where the files of `discover` and `rejoin` have their meaning, these commands answer yes or no.
+use Rattle.std.proofs.Common.{◌≡◌, ◌≤◌, ◌<◌, ℕ, true, zero, suc, Some, None, Result, Ok, Err, List, [], ◌∷◌, length, inl, inr, refl, sym, ap, subst, ◌∙◌, arith}
+use Rattle.std.specs.Prelude.{codes, slice_get}
+use Rattle.attr_sets.proofs.PlacesLemmas.{Same-path}
+use Rattle.attr_sets.specs.Places.{Places, Same}
+use Rattle.attr_sets.specs.Sets.{places}
+use Rattle.csv_rows.specs.Columns.{named, columns_of}
+use Rattle.csv_rows.specs.Records.{records_of}
+use Rattle.csv_rows.specs.Reading.{PartOf, HasScheme}
+use Rattle.csv_rows.specs.declared.part.Part.{Part}
+use Rattle.csv_rows.specs.declared.refusal.RowRefusal.{RowRefusal}
+use Rattle.csv_rows.proofs.UniqueRows.{table_same, part_header_same}
+use Rattle.dep_model.specs.Projections.{Covers}
+use Rattle.dep_model.specs.Schemas.{names_of, width_of}
+use Rattle.dep_model.specs.Tuples.{Relation}
+use Rattle.dep_model.specs.declared.schema.Schema.{Schema}
+use Rattle.fd_discovery.proofs.UniqueHeaded.{never_both}
+use Rattle.fd_discovery.specs.Headings.{IsRefused}
+use Rattle.fd_discovery.specs.declared.headed.Headed.{Headed}
+use Rattle.table_join.specs.Answers.{IsWithinLimit}
+use Rattle.table_join.specs.Tables.{Table, table_of, tables_of, plan_of}
+use Rattle.desk_outside.specs.Files.{Files}
+use Rattle.desk_cli.specs.declared.rejoining.TheConstants.{MOST_JOINED_ROWS}
+use Rattle.desk_cli.specs.declared.rows.TheConstants.{MOST_CSV_BYTES}
+use Rattle.desk_cli.specs.Answers.{Answer, Allowed}
+use Rattle.desk_cli.specs.Discoveries.{IsHeadedFile, WithHeaded, FindsRules, Discovers}
+use Rattle.desk_cli.specs.Forms.{form_of, form_over_schema, schema_and_few, word_alone, are_few}
+use Rattle.desk_cli.specs.Inputs.{WithSchema, IsSchemaFile}
+use Rattle.desk_cli.specs.Performs.{Answers, Performs, Does}
+use Rattle.desk_cli.specs.Readings.{told}
+use Rattle.desk_cli.specs.Rejoining.{IsPartFile, ArePartFiles, PartStops, WithParts, JoinsTables, Rejoins}
+use Rattle.desk_laws.specs.Completeness.{IsYesOrNo, IsAnswered}
+use Rattle.desk_laws.proofs.CompleteLaws.{AreSame, names_same, table_alike, after_schema}
+use Rattle.desk_laws.proofs.StopLemmas.{one_content, file_goes}
+
+-- ---- rows under a free header
+after_headed : (files : Files) (name : List ℕ) (h : Headed) (rest : Headed → Allowed) (answer : Answer)
+    → IsHeadedFile (told files) name h → ((k : Headed) → rest k answer → IsYesOrNo answer.status)
+    → WithHeaded (told files) name rest answer → IsYesOrNo answer.status
+after_headed files name h rest answer file go (inl (inl stop)) =
+    absurd (file_goes files name file.bytes MOST_CSV_BYTES answer file.content.0 file.content.1 stop)
+after_headed files name h rest answer file go (inl (inr (why, is, says))) =
+    let here : IsRefused (records_of file.bytes) why =
+    subst (λ (b : List ℕ). IsRefused (records_of b) why)
+    (one_content files name is.bytes file.bytes is.content.0 file.content.0) is.refused in
+    absurd (never_both (records_of file.bytes) h why file.means here)
+after_headed files name h rest answer file go (inr (k, is, more)) = go k more
+
+discover_asks : (files : Files) (file : List ℕ) (answer : Answer)
+    → Answers (told files) (codes "discover" ∷ file ∷ []) answer → Discovers (told files) file answer
+unfolding form_of word_alone Performs
+discover_asks files file answer answered = answered
+
+pub discover_answered : (files : Files) (file : List ℕ) (headed : Headed) → IsHeadedFile (told files) file headed
+    → IsAnswered files (codes "discover" ∷ file ∷ [])
+discover_answered files file headed is answer answered =
+    after_headed files file headed FindsRules answer is (λ k found. inl (ap (λ (a : Answer). a.status) found.2))
+    (discover_asks files file answer answered)
+
+-- ---- tables of some columns
+part_alike : (s r : Schema) (text : List ℕ) (rows : Relation) → AreSame s r → PartOf s text (Ok rows)
+    → PartOf r text (Ok rows)
+part_alike s r text rows same is =
+    table_alike s r (λ header columns. columns ≡ columns_of (names_of s) header)
+    (λ header columns. columns ≡ columns_of (names_of r) header) (records_of text) rows same
+    (λ header columns means. subst (λ (names : List (List ℕ)). Ok columns ≡ columns_of names header) (names_same s r same) means)
+    is
+
+part_reading : (s : Schema) (text : List ℕ) (one other : Result Relation RowRefusal) → PartOf s text one
+    → PartOf s text other → one ≡ other
+part_reading s text one other p q =
+    table_same s (λ header columns. columns ≡ columns_of (names_of s) header) (part_header_same s)
+    (records_of text) one other p q
+
+-- what a file means for one schema, it means for another with the same declarations
+part_means : (files : Files) (s r : Schema) (name : List ℕ) (p : Part) (bytes : List ℕ) → AreSame s r
+    → (is : IsPartFile (told files) s name p) → is.bytes ≡ bytes → PartOf r bytes (Ok p.rows.items)
+part_means files s r name p bytes same is here =
+    subst (λ (b : List ℕ). PartOf r b (Ok p.rows.items)) here
+    (part_alike s r is.bytes p.rows.items same is.means)
+
+part_goes : (files : Files) (s r : Schema) (name : List ℕ) (p : Part) (answer : Answer) → AreSame s r
+    → IsPartFile (told files) s name p → PartStops (told files) r name answer → ⊥
+part_goes files s r name p answer same is (inl stop) =
+    file_goes files name is.bytes MOST_CSV_BYTES answer is.content.0 is.content.1 stop
+part_goes files s r name p answer same is (inr (why, refused, says)) =
+    let here = one_content files name is.bytes refused.bytes is.content.0 refused.content.0 in
+    let both : ◌≡◌ {A = Result Relation RowRefusal} (Ok p.rows.items) (Err why) =
+    part_reading r refused.bytes (Ok p.rows.items) (Err why)
+    (part_means files s r name p refused.bytes same is here) refused.refused in
+    cc
+
+-- the columns of a text
+one_scheme : (s r : Schema) (text : List ℕ) (x y : Places) → AreSame s r
+    → (header others : List (List ℕ)) (records rest : List (List (List ℕ))) (columns others_columns : List ℕ)
+    → records_of text ≡ header ∷ records → records_of text ≡ others ∷ rest
+    → columns_of (names_of s) header ≡ Ok columns → columns_of (names_of r) others ≡ Ok others_columns
+    → Same x (named columns) → Same y (named others_columns) → x ≡ y
+one_scheme s r text x y same header others records rest columns others_columns all also means too one two =
+    let heads : header ≡ others = let both = sym all ∙ also in cc in
+    let moved : columns_of (names_of r) others ≡ Ok columns =
+    subst (λ (names : List (List ℕ)). columns_of names others ≡ Ok columns) (names_same s r same)
+    (subst (λ (h : List (List ℕ)). columns_of (names_of s) h ≡ Ok columns) heads means) in
+    let columns_same : columns ≡ others_columns = let both = sym moved ∙ too in cc in
+    Same-path x y (λ k. one k ∙ ap (λ (cs : List ℕ). named cs k) columns_same ∙ sym (two k))
+
+-- tuples over a scheme
+abbrev with_scheme : Places → Relation → Table
+with_scheme x rows = record { scheme = x; rows = rows }
+
+one_table : (files : Files) (s r : Schema) (name : List ℕ) (p q : Part) → AreSame s r
+    → IsPartFile (told files) s name p → IsPartFile (told files) r name q → table_of p ≡ table_of q
+one_table files s r name p q same is also =
+    let here = one_content files name is.bytes also.bytes is.content.0 also.content.0 in
+    let both : ◌≡◌ {A = Result Relation RowRefusal} (Ok p.rows.items) (Ok q.rows.items) =
+    part_reading r also.bytes (Ok p.rows.items) (Ok q.rows.items)
+    (part_means files s r name p also.bytes same is here) also.means in
+    let rows : p.rows.items ≡ q.rows.items = cc in
+    let (header, records, all, columns, means, one) =
+    subst (λ (b : List ℕ). HasScheme s b p.scheme) here is.columns in
+    let (others, rest, all_also, more, means_also, two) = also.columns in
+    let scheme : places p.scheme ≡ places q.scheme =
+    one_scheme s r also.bytes (places p.scheme) (places q.scheme) same header others records rest columns more all
+    all_also means means_also one two in
+    ap (λ (x : Places). with_scheme x p.rows.items) scheme ∙ ap (λ (r : Relation). with_scheme (places q.scheme) r) rows
+
+tables_alike : (files : Files) (s r : Schema) (names : List (List ℕ)) (ps qs : List Part) → AreSame s r
+    → ArePartFiles (told files) s names ps → ArePartFiles (told files) r names qs → tables_of ps ≡ tables_of qs
+tables_alike files s r [] [] [] same are also = refl
+tables_alike files s r [] [] (q ∷ qs) same are also = absurd also
+tables_alike files s r [] (p ∷ ps) qs same are also = absurd are
+tables_alike files s r (name ∷ names) [] qs same are also = absurd are
+tables_alike files s r (name ∷ names) (p ∷ ps) [] same are also = absurd also
+tables_alike files s r (name ∷ names) (p ∷ ps) (q ∷ qs) same are also =
+    ap (λ (t : Table). t ∷ tables_of ps) (one_table files s r name p q same are.0 also.0)
+    ∙ ap (λ (ts : List Table). table_of q ∷ ts) (tables_alike files s r names ps qs same are.1 also.1)
+
+-- the part of a file that stands among the names
+part_at : (files : Files) (s : Schema) (names : List (List ℕ)) (ps : List Part) (i : ℕ) (name : List ℕ)
+    → ArePartFiles (told files) s names ps → slice_get names i ≡ Some name
+    → (p : Part) × IsPartFile (told files) s name p
+part_at files s [] ps i name are stands = let never : None ≡ Some name = stands in cc
+part_at files s (first ∷ names) [] i name are stands = absurd are
+part_at files s (first ∷ names) (p ∷ ps) zero name are stands =
+    let here : first ≡ name = let both : Some first ≡ Some name = stands in cc in
+    (p, subst (λ (n : List ℕ). IsPartFile (told files) s n p) here are.0)
+part_at files s (first ∷ names) (p ∷ ps) (suc i) name are stands = part_at files s names ps i name are.1 stands
+
+after_parts : (files : Files) (s r : Schema) (names : List (List ℕ)) (ps : List Part) (rest : List Part → Allowed)
+    (answer : Answer)
+    → AreSame s r → ArePartFiles (told files) s names ps
+    → ((qs : List Part) → tables_of ps ≡ tables_of qs → rest qs answer → IsYesOrNo answer.status)
+    → WithParts (told files) r names rest answer → IsYesOrNo answer.status
+after_parts files s r names ps rest answer same are go (inl (first, stop)) =
+    let (p, is) = part_at files s names ps first.place first.name are first.stands in
+    absurd (part_goes files s r first.name p answer same is stop)
+after_parts files s r names ps rest answer same are go (inr (qs, also, more)) =
+    go qs (tables_alike files s r names ps qs same are also) more
+
+-- ---- the join
+joins_tables : (n : ℕ) (r : Schema) (tables : List Table) (answer : Answer) → width_of r ≡ n
+    → Covers n (plan_of tables) → IsWithinLimit n MOST_JOINED_ROWS tables → JoinsTables r tables answer
+    → IsYesOrNo answer.status
+joins_tables n r tables answer width covers small (inl (rows, is, says)) = inl (ap (λ (a : Answer). a.status) says)
+joins_tables n r tables answer width covers small (inr (inl (a, first, says))) =
+    absurd (first.uncovered (covers a (omega (arith, width, first.within))))
+joins_tables n r tables answer width covers small (inr (inr (k, large, says))) =
+    let few = subst (λ (m : ℕ). IsWithinLimit m MOST_JOINED_ROWS tables) (sym width) small in
+    absurd (over_and_under _ MOST_JOINED_ROWS (few k large.1.some large.1.among) large.1.beyond)
+  where
+    over_and_under : (m most : ℕ) → m ≤ most → most < m → ⊥
+    over_and_under m most few many = omega (arith, few, many)
+
+rejoin_asks : (files : Files) (name : List ℕ) (names : List (List ℕ)) (answer : Answer) → are_few names ≡ true
+    → Answers (told files) (codes "rejoin" ∷ name ∷ names) answer
+    → WithSchema (told files) name (λ r. Rejoins (told files) r names) answer
+unfolding form_of form_over_schema schema_and_few Performs Does
+rejoin_asks files name names answer few answered = (rw few at answered)
+
+pub rejoin_answered : (files : Files) (name : List ℕ) (names : List (List ℕ)) (schema : Schema) (parts : List Part)
+    → IsSchemaFile (told files) name schema → are_few names ≡ true → ArePartFiles (told files) schema names parts
+    → Covers (width_of schema) (plan_of (tables_of parts))
+    → IsWithinLimit (width_of schema) MOST_JOINED_ROWS (tables_of parts)
+    → IsAnswered files (codes "rejoin" ∷ name ∷ names)
+rejoin_answered files name names schema parts file few are covers small answer answered =
+    after_schema files name schema (λ r. Rejoins (told files) r names) answer file
+    (λ r same more. after_parts files schema r names parts (λ qs. JoinsTables r (tables_of qs)) answer same are
+    (λ qs is found. joins_tables (width_of schema) r (tables_of qs) answer
+    (ap (λ (ns : List (List ℕ)). length ns) (sym (names_same schema r same)))
+    (subst (λ (ts : List Table). Covers (width_of schema) (plan_of ts)) is covers)
+    (subst (λ (ts : List Table). IsWithinLimit (width_of schema) MOST_JOINED_ROWS ts) is small) found) more)
+    (rejoin_asks files name names answer few answered)

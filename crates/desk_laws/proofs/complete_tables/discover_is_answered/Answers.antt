@@ -1,0 +1,5 @@
+use Rattle.desk_laws.proofs.FileLaws.{discover_answered}
+use Rattle.desk_laws.proofs.complete_tables.discover_is_answered.Goals as goal
+
+pub returns : goal.returns
+returns c = record { law = discover_answered }
