@@ -63,7 +63,8 @@ part_alike : (s r : Schema) (text : List ℕ) (rows : Relation) → AreSame s r 
 part_alike s r text rows same is =
     table_alike s r (λ header columns. columns ≡ columns_of (names_of s) header)
     (λ header columns. columns ≡ columns_of (names_of r) header) (records_of text) rows same
-    (λ header columns means. subst (λ (names : List (List ℕ)). Ok columns ≡ columns_of names header) (names_same s r same) means)
+    (λ header columns means. subst (λ (names : List (List ℕ)). Ok columns ≡ columns_of names header)
+    (names_same s r same) means)
     is
 
 part_reading : (s : Schema) (text : List ℕ) (one other : Result Relation RowRefusal) → PartOf s text one

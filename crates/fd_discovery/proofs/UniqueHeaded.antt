@@ -1,7 +1,6 @@
 -- The records of a text have one header with its rows, or one refusal.
 use Rattle.std.proofs.Common.{inl, inr, ◌≡◌, ◌≢◌, ◌+◌, ◌<◌, ◌≤◌, ◌⊎◌, ℕ, true, false, List, [], ◌∷◌, length, take, refl, sym, ap, subst, ◌∙◌, arith, None}
 use Rattle.std.proofs.lemmas.Bool.{cases_lt, true≢false}
-use Rattle.csv_rows.specs.Numberings.{row_at}
 use Rattle.dep_model.specs.Schemas.{place_named}
 use Rattle.dep_model.specs.Tuples.{Relation, IsOver}
 use Rattle.fd_discovery.specs.Headers.{is_column_name, NamesColumn, RefusesColumn, field_at, IsHeader, RefusesField, RefusesHeader}
@@ -52,9 +51,11 @@ column_same before field column e f p q =
 
 field_same : (header : List (List ℕ)) (e f : DiscoverRefusal) → RefusesField header e → RefusesField header f → e ≡ f
 field_same header e f p q = elim (cases_lt p.at q.at) [
-  | inl before ↦ absurd (named_not_refused (take p.at header) (field_at header p.at) (p.at + 1) e (q.before p.at before) p.refused)
+  | inl before ↦ absurd
+      (named_not_refused (take p.at header) (field_at header p.at) (p.at + 1) e (q.before p.at before) p.refused)
   | inr on ↦ elim (cases_lt q.at p.at) [
-    | inl before ↦ absurd (named_not_refused (take q.at header) (field_at header q.at) (q.at + 1) f (p.before q.at before) q.refused)
+    | inl before ↦ absurd
+        (named_not_refused (take q.at header) (field_at header q.at) (q.at + 1) f (p.before q.at before) q.refused)
     | inr here ↦
         let one : q.at ≡ p.at = omega (arith, on, here) in
         column_same (take p.at header) (field_at header p.at) (p.at + 1) e f p.refused
@@ -121,15 +122,16 @@ rows_not_refused n rows e over few p = by (seen_rows n rows e p)
     by (inr (is, many)) = few_not_many (length rows) MOST_HEADED_ROWS few many.many
 
 -- ---- records
-pub refused_same : (records : List (List (List ℕ))) (e f : DiscoverRefusal) → IsRefused records e → IsRefused records f → e ≡ f
+pub refused_same : (records : List (List (List ℕ))) (e f : DiscoverRefusal) → IsRefused records e
+    → IsRefused records f → e ≡ f
 refused_same [] e f p q = p ∙ sym q
 refused_same (header ∷ rows) e f (inl p) (inl q) = header_same header e f p q
 refused_same (header ∷ rows) e f (inl p) (inr q) = absurd (header_not_refused header e q.0 p)
 refused_same (header ∷ rows) e f (inr p) (inl q) = absurd (header_not_refused header f p.0 q)
 refused_same (header ∷ rows) e f (inr p) (inr q) = under_same (length header) rows e f p.1 q.1
 
-not_refused : (names : List (List ℕ)) (rows : Relation) (e : DiscoverRefusal) → IsHeader names → IsOver (length names) rows
-    → length rows ≤ MOST_HEADED_ROWS → IsRefused (names ∷ rows) e → ⊥
+not_refused : (names : List (List ℕ)) (rows : Relation) (e : DiscoverRefusal) → IsHeader names
+    → IsOver (length names) rows → length rows ≤ MOST_HEADED_ROWS → IsRefused (names ∷ rows) e → ⊥
 not_refused names rows e header even few (inl p) = header_not_refused names e header p
 not_refused names rows e header even few (inr p) = rows_not_refused (length names) rows e even few p.1
 

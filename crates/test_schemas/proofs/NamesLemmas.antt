@@ -55,7 +55,9 @@ names_differ i j before last = false_from_ne_true (same_name (attribute_name i) 
     equal same =
         let at_i = lower i (omega (arith, before, last)) in
         let at_j = lower j last in
-        let lowered = (bytes_eq-Decides (str_to_ascii_lowercase (attribute_name i)) (str_to_ascii_lowercase (attribute_name j))).0 same in
+        let lowered =
+        (bytes_eq-Decides (str_to_ascii_lowercase (attribute_name i))
+        (str_to_ascii_lowercase (attribute_name j))).0 same in
         let digits : decimal (i + 1) ≡ decimal (j + 1) =
         ap (λ (bytes : List ℕ). drop 1 bytes) (sym at_i ∙ lowered ∙ at_j) in
         let one : i + 1 ≡ j + 1 =
@@ -71,4 +73,5 @@ attribute_names_differ n few i j d before within =
     let second : get_or (attribute_names n) j d ≡ attribute_name j =
     get_or-map-range_with_len attribute_name 0 n j j d low (omega arith) in
     subst (λ (x : List ℕ). same_name x (get_or (attribute_names n) j d) ≡ false) (sym first)
-    (subst (λ (y : List ℕ). same_name (attribute_name i) y ≡ false) (sym second) (names_differ i j before (omega arith)))
+    (subst (λ (y : List ℕ). same_name (attribute_name i) y ≡ false) (sym second)
+    (names_differ i j before (omega arith)))

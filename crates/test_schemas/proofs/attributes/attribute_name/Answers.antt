@@ -7,4 +7,5 @@ use Rattle.test_schemas.proofs.attributes.attribute_name.Goals as goal
 pub unwrap-requires : goal.unwrap-requires
 unwrap-requires c =
     let bytes : c.as_bytes.result.now ≡ attribute_name c.args.i = c.as_bytes.ensures.value ∙ c.in_ok-text.ensures.ok in
-    c.make.ensures.some.1 (subst (λ (l : List ℕ). IsTrue (is_name l)) (sym bytes) (is_attribute_name c.args.i c.requires.place))
+    c.make.ensures.some.1
+    (subst (λ (l : List ℕ). IsTrue (is_name l)) (sym bytes) (is_attribute_name c.args.i c.requires.place))

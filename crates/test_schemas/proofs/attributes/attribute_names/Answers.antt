@@ -6,6 +6,7 @@ use Rattle.test_schemas.proofs.attributes.attribute_names.Goals as goal
 pub loop-i-preserved : goal.loop-i-preserved
 loop-i-preserved c =
     let more = map-range_with_len_more attribute_name 0 c.loop-i.i c.loop-i.i (omega arith) in
-    c.in_ok-push.ensures.items ∙ ap (λ (names : List (List ℕ)). names ++ c.in_ok-attribute_name.field-0 ∷ []) c.loop-i.invariant
+    c.in_ok-push.ensures.items
+    ∙ ap (λ (names : List (List ℕ)). names ++ c.in_ok-attribute_name.field-0 ∷ []) c.loop-i.invariant
     ∙ ap (λ (name : List ℕ). attribute_names c.loop-i.i ++ name ∷ []) c.in_ok-attribute_name.ensures.name
     ∙ sym more

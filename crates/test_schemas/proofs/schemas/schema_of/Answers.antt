@@ -26,7 +26,8 @@ make-requires c =
       schema = record {
         some_names = omega (arith, count, fit.some_names);
         few_names = omega (arith, count, fit.few_names);
-        names_differ = subst (λ (xs : List (List ℕ)). AllPairs (λ a b. same_name a b ≡ false) xs) (sym made) (attribute_names_differ c.args.width fit.few_names);
+        names_differ = subst (λ (xs : List (List ℕ)). AllPairs (λ a b. same_name a b ≡ false) xs) (sym made)
+            (attribute_names_differ c.args.width fit.few_names);
         few_deps = omega (arith, ap (λ (ds : List Dep). length ds) same, fit.few_deps);
         deps_within = subst (λ (ds : List Dep). All (IsDepWithin (below (length names))) ds) (sym same)
             (subst (λ (n : ℕ). All (IsDepWithin (below n)) c.args.deps.now) (sym count) fit.deps_within);
