@@ -39,9 +39,21 @@ COURSE STUDENT -> GRADE
 HOUR STUDENT -> ROOM
 COURSE ->> HOUR ROOM";
 
+// A schema, a plan, and the text of its tables.
+type Case<'a> = (&'a [u8], &'a [u8], &'a [u8]);
+
+fn check(rt: &(impl Alloc<A = Global> + Abort), case: Case) -> Result<(), Fail> {
+    let (text, plan, printed) = case;
+    let schema = schema(rt, text);
+    let tables = designed(rt, &schema, plan);
+    let ddl = print_ddl(rt.alloc(), &schema, &tables)?;
+    assert!(rt; ddl.as_slice() == printed, "{text:?} {plan:?}: {ddl:?}");
+    Ok(())
+}
+
 #[test]
-fn prints_tables_with_keys_and_references(rt: HostRuntime) -> Result<(), Fail> {
-    let table: [(&[u8], &[u8], &[u8]); 9] = [
+fn prints_references_to_earlier_tables(rt: HostRuntime) -> Result<(), Fail> {
+    let cases: [Case; 2] = [
         (
             ADDRESS,
             b"scheme CITY ZIP\nscheme STREET ZIP",
@@ -74,6 +86,16 @@ CREATE TABLE \"t2\" (
 );
 ",
         ),
+    ];
+    for case in cases {
+        check(&rt, case)?;
+    }
+    Ok(())
+}
+
+#[test]
+fn prints_no_reference_to_an_empty_key(rt: HostRuntime) -> Result<(), Fail> {
+    let cases: [Case; 2] = [
         (
             b"attributes A\n() -> A",
             b"scheme A",
@@ -98,6 +120,16 @@ CREATE TABLE \"t2\" (
 );
 ",
         ),
+    ];
+    for case in cases {
+        check(&rt, case)?;
+    }
+    Ok(())
+}
+
+#[test]
+fn prints_the_types_of_columns(rt: HostRuntime) -> Result<(), Fail> {
+    let cases: [Case; 1] = [
         (
             b"version 2\ninteger ID\ntext NAME\nID -> NAME",
             b"scheme ID NAME",
@@ -108,6 +140,16 @@ CREATE TABLE \"t2\" (
 );
 ",
         ),
+    ];
+    for case in cases {
+        check(&rt, case)?;
+    }
+    Ok(())
+}
+
+#[test]
+fn prints_two_references_to_a_table(rt: HostRuntime) -> Result<(), Fail> {
+    let cases: [Case; 1] = [
         (
             TIMETABLE,
             b"scheme COURSE TEACHER\nscheme COURSE HOUR ROOM\nscheme COURSE STUDENT GRADE",
@@ -132,6 +174,16 @@ CREATE TABLE \"t3\" (
 );
 ",
         ),
+    ];
+    for case in cases {
+        check(&rt, case)?;
+    }
+    Ok(())
+}
+
+#[test]
+fn prints_two_references_of_a_table(rt: HostRuntime) -> Result<(), Fail> {
+    let cases: [Case; 1] = [
         // two references, one by a key of two attributes
         (
             b"version 2\ninteger A B\ntext C D E\nA B -> C\nD -> E",
@@ -157,6 +209,16 @@ CREATE TABLE \"t3\" (
 );
 ",
         ),
+    ];
+    for case in cases {
+        check(&rt, case)?;
+    }
+    Ok(())
+}
+
+#[test]
+fn prints_the_settled_key(rt: HostRuntime) -> Result<(), Fail> {
+    let cases: [Case; 2] = [
         // a key that follows from both kinds of dependencies together
         (
             b"attributes A B C\nA ->> B\nC -> B",
@@ -192,11 +254,8 @@ CREATE TABLE \"t2\" (
 ",
         ),
     ];
-    for (text, plan, printed) in table {
-        let schema = schema(&rt, text);
-        let tables = designed(&rt, &schema, plan);
-        let ddl = print_ddl(rt.alloc(), &schema, &tables)?;
-        assert!(rt; ddl.as_slice() == printed, "{text:?} {plan:?}: {ddl:?}");
+    for case in cases {
+        check(&rt, case)?;
     }
     Ok(())
 }
