@@ -1,8 +1,8 @@
-ghost use Rattle.std.specs.Prelude.{◌≡◌, All, IfOk};
+ghost use Rattle.std.specs.Prelude.{◌≡◌, ◌++◌, All, IfOk, OnOk};
 ghost use Rattle.attr_sets.specs.Places.{Within};
 ghost use Rattle.attr_sets.specs.Sets.{places};
 ghost use Rattle.dep_model.specs.Schemas.{names_of, universe_of};
-ghost use Rattle.desk_cli.specs.Bases.{GivesBasis, TellsBasis, basis_text};
+ghost use Rattle.desk_cli.specs.Bases.{GivesBasis, TellsBasis, basis_text, blocks_text};
 ghost use Rattle.desk_cli.specs.Replies.{answer_of, RepliesAs};
 
 use crate::Status;
@@ -53,8 +53,18 @@ fn basis_lines(
 {
     let mut text = Vec::new(alloc);
     put_set_line(&mut text, schema, b"closure ", closed)?;
-    for block in blocks {
-        put_set_line(&mut text, schema, b"block ", *block)?;
-    }
+    put_blocks(&mut text, schema, blocks)?;
     Ok(text)
+}
+
+// A line for each block, at the end of a text.
+fn put_blocks(text: &mut Vec<u8>, schema: &Schema, blocks: &[AttrSet]) -> Result<(), WantMemory>
+    requires within { All (λ block. Within (places block) (universe_of schema.now)) blocks.now }
+    ensures more { OnOk result (text.new.items
+        ≡ text.old.items ++ blocks_text (names_of schema.now) blocks.now) }
+{
+    for block in blocks {
+        put_set_line(text, schema, b"block ", *block)?;
+    }
+    Ok(())
 }

@@ -3,7 +3,7 @@ ghost use Rattle.attr_sets.specs.Places.{Within};
 ghost use Rattle.attr_sets.specs.Sets.{places};
 ghost use Rattle.dep_model.specs.Plans.{schemes_of};
 ghost use Rattle.dep_model.specs.Schemas.{names_of, universe_of};
-ghost use Rattle.desk_cli.specs.Keys.{EndsKeys, HasKeys, ListsKeysOfPlan, TellsKeys, keyed_text};
+ghost use Rattle.desk_cli.specs.Keys.{EndsKeys, HasKeys, ListsKeysOfPlan, TellsKeys, keyed_text, keys_text};
 ghost use Rattle.desk_cli.specs.Readings.{Reading, Shows};
 ghost use Rattle.desk_cli.specs.Replies.{RepliesAs, StopsAs};
 
@@ -80,6 +80,14 @@ fn put_keyed(
         ++ keyed_text (names_of schema.now) (record { scheme = places scheme; keys = keys.now })) }
 {
     put_set_line(text, schema, b"scheme ", scheme)?;
+    put_keys(text, schema, keys)
+}
+
+// A line for each key, at the end of a text.
+fn put_keys(text: &mut Vec<u8>, schema: &Schema, keys: &[AttrSet]) -> Result<(), WantMemory>
+    requires within { All (λ key. Within (places key) (universe_of schema.now)) keys.now }
+    ensures more { OnOk result (text.new.items ≡ text.old.items ++ keys_text (names_of schema.now) keys.now) }
+{
     for key in keys {
         put_set_line(text, schema, b"key ", *key)?;
     }
