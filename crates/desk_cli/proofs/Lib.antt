@@ -10,4 +10,5 @@ pub mod LossLemmas
 pub mod PartLemmas
 pub mod FormLemmas
 pub mod KeyLemmas
+pub mod SamenessLemmas
 pub mod EndingLemmas

@@ -1,4 +1,4 @@
-ghost use Rattle.std.specs.Prelude.{◌≡◌, ◌≤◌, ◌++◌, IfOk, IfErr, OnOk};
+ghost use Rattle.std.specs.Prelude.{◌≡◌, ◌≤◌, ◌↔◌, ◌++◌, [], IsTrue, IfOk, IfErr, OnOk};
 ghost use Rattle.desk_cli.specs.Answers.{Says};
 ghost use Rattle.desk_cli.specs.Readings.{Reading, Shows};
 ghost use Rattle.desk_cli.specs.Replies.{answer_of, RepliesAs, StopsAs};
@@ -115,13 +115,20 @@ fn compare(
 {
     let of_schema = differences(alloc, schema, other)?;
     let of_other = differences(alloc, other, schema)?;
-    if of_schema.is_empty() && of_other.is_empty() {
+    if are_none(&of_schema, &of_other) {
         return Ok(Reply::says(Status::Yes, line_of(alloc, b"equivalent", b"", b"")?));
     }
     let mut text = line_of(alloc, b"different", b"", b"")?;
     put_differences(alloc, &mut text, schema, file, other_file, &of_schema)?;
     put_differences(alloc, &mut text, other, other_file, file, &of_other)?;
     Ok(Reply::says(Status::No, text))
+}
+
+// Whether neither schema has a difference.
+fn are_none(of_schema: &[u16], of_other: &[u16]) -> bool
+    ensures none { IsTrue result ↔ ((of_schema.now ≡ []) × (of_other.now ≡ [])) }
+{
+    of_schema.is_empty() && of_other.is_empty()
 }
 
 // A line for each dependency of a file that does not follow from the other, at the end of a text.
