@@ -1,5 +1,5 @@
 -- The forms that begin a line are those by which its reading goes on.
-use Rattle.std.proofs.Common.{◌≡◌, ◌+◌, inl, inr, ⊎_elim, ℕ, zero, suc, Bool, true, false, List, [], ◌∷◌, ◌++◌, Option, Some, None, Ok, Err, Result, refl, sym, ◌∙◌, ap, subst}
+use Rattle.std.proofs.Common.{◌≡◌, inl, inr, ⊎_elim, ℕ, zero, suc, true, false, List, [], ◌∷◌, ◌++◌, Option, Some, None, Ok, Err, Result, refl, sym, ◌∙◌, ap, subst}
 use Rattle.std.specs.Prelude.{codes, map}
 use Rattle.dep_model.specs.Schemas.{place_named}
 use Rattle.lexer.specs.declared.token.Stop.{Stop}
@@ -8,8 +8,6 @@ use Rattle.lexer.specs.declared.token.TokenKind.TheVariants as token
 use Rattle.lexer.specs.Tokens.{Mark}
 use Rattle.schema_grammar.specs.declared.format.Format.TheVariants as format
 use Rattle.schema_grammar.specs.declared.refusal.SchemaRefusal.{SchemaRefusal}
-use Rattle.schema_grammar.specs.declared.refusal.What.{What}
-use Rattle.schema_grammar.specs.declared.refusal.What.TheVariants as what
 use Rattle.schema_grammar.specs.Complaints.{ComplainsOfWord}
 use Rattle.schema_grammar.specs.Words.{is_reserved}
 use Rattle.proof_grammar.specs.declared.rule_name.RuleName.{RuleName}
@@ -18,7 +16,7 @@ use Rattle.proof_grammar.specs.Lines.{Line, line}
 use Rattle.proof_grammar.specs.LineComplaints.{Form, form_of, word_form, forms, a_number, a_colon, an_arrow, an_empty, a_with, a_rule, a_word, IsLine, BeginsLine, TakesNames, Wants}
 use Rattle.proof_grammar.specs.Tokens.{is_with, rule_word}
 use Rattle.proof_grammar.proofs.FormShapes.{Side, lhs, rhs, by, wide, narrow, Shape, at_start, past_number, at_side, past_words, past_empty, at_rule, at_premise, at_with, at_end, Ends, bind, completion, completed, is_final, runs, runs-append, runs-one, takes_words, turn, wanted_by}
-use Rattle.proof_grammar.proofs.JudgedLines.{Judged, OnShape, TokenWrong, Wrong}
+use Rattle.proof_grammar.proofs.JudgedLines.{Judged, OnShape, TokenWrong}
 use Rattle.proof_grammar.proofs.JudgedRules.{line_judged}
 use Rattle.proof_grammar.proofs.LineLaws.{line_reads, marks_read}
 use Rattle.proof_grammar.proofs.TokenLaws.{spelled, named_back, rest_at}

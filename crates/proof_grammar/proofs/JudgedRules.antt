@@ -1,21 +1,20 @@
 -- A certificate line is read, or refused by its first complaint.
-use Rattle.std.proofs.Common.{◌≡◌, ℕ, List, Option, Ok, Err, Result, refl, sym, subst}
-use Rattle.attr_sets.specs.Places.{Places}
+use Rattle.std.proofs.Common.{ℕ, List, Option, Result, refl, sym, subst}
 use Rattle.dep_model.specs.Dependencies.{Dependency}
 use Rattle.derivation.specs.Trees.{Step, augmentation, complementation, maugmentation, replication, Pair, transitivity, mtransitivity, coalescence}
 use Rattle.lexer.specs.declared.token.Stop.{Stop}
 use Rattle.lexer.specs.Tokens.{Mark}
 use Rattle.schema_grammar.specs.declared.refusal.SchemaRefusal.{SchemaRefusal}
-use Rattle.schema_grammar.specs.Rests.{Rest, ◌>>=◌, number, arrow, ended, side}
+use Rattle.schema_grammar.specs.Rests.{Rest, ◌>>=◌, number, arrow, side}
 use Rattle.schema_grammar.specs.Grammar as grammar
 use Rattle.proof_grammar.specs.declared.rule_name.RuleName.{RuleName}
 use Rattle.proof_grammar.specs.declared.rule_name.RuleName.TheVariants as rule
-use Rattle.proof_grammar.specs.Lines.{Body, by_given, by_reflexivity, by_mreflexivity, by_step, by_pair, Line, one, two, augmented, maugmented, body, stated_dependency, unless, line}
-use Rattle.proof_grammar.specs.Readers.{colon, with_word, rule_name}
-use Rattle.proof_grammar.proofs.FormShapes.{Side, lhs, rhs, by, wide, narrow, nothing, second, sets, Shape, at_start, at_side, at_rule, at_premise, at_end, named}
+use Rattle.proof_grammar.specs.Lines.{Body, by_given, by_reflexivity, by_mreflexivity, by_step, by_pair, Line, one, two, augmented, maugmented, body, stated_dependency, line}
+use Rattle.proof_grammar.specs.Readers.{colon, with_word}
+use Rattle.proof_grammar.proofs.FormShapes.{lhs, rhs, by, wide, narrow, nothing, second, sets, Shape, at_start, at_side, at_rule, at_premise, at_end, named}
 use Rattle.proof_grammar.proofs.JudgedLines.{Judged}
 use Rattle.proof_grammar.proofs.JudgedSides.{side_judged}
-use Rattle.proof_grammar.proofs.JudgedTokens.{left_at, assoc, PastSide, FollowsIf, Halts, start_judged, premise_judged, arrow_judged, closing_judged, colon_judged, with_judged, rule_judged, end_halts, side_halts, end_judged}
+use Rattle.proof_grammar.proofs.JudgedTokens.{left_at, assoc, PastSide, Halts, start_judged, premise_judged, arrow_judged, closing_judged, colon_judged, with_judged, rule_judged, end_halts, side_halts, end_judged}
 
 -- a reading is judged as the same one with its steps in a row
 in_row : {A B : Type 0} (s : Shape) (names : List (List ℕ)) (at behind : ℕ) (ms : List Mark) (stop : Option Stop) (m : Result A SchemaRefusal) (f : A → Result B SchemaRefusal) (g : B → Result Line SchemaRefusal)

@@ -1,5 +1,5 @@
 -- A side of a certificate line is read, or the line is refused there by its first complaint.
-use Rattle.std.proofs.Common.{◌≡◌, ◌≤◌, ◌+◌, inl, inr, ⊎_elim, ℕ, Bool, true, false, cond, List, [], ◌∷◌, length, Option, Some, None, Ok, Err, Result, refl, sym, ◌∙◌, ap, subst, arith}
+use Rattle.std.proofs.Common.{◌≡◌, ◌≤◌, ◌+◌, inl, inr, ℕ, Bool, true, false, cond, List, [], ◌∷◌, length, Option, Some, None, Ok, Err, Result, refl, sym, ◌∙◌, ap, subst, arith}
 use Rattle.std.proofs.lemmas.Bool.{true≢false}
 use Rattle.attr_sets.specs.Places.{Places, only, none, union}
 use Rattle.dep_model.specs.Schemas.{place_named}
@@ -11,16 +11,15 @@ use Rattle.schema_grammar.specs.declared.format.Format.TheVariants as format
 use Rattle.schema_grammar.specs.declared.refusal.SchemaRefusal.{SchemaRefusal}
 use Rattle.schema_grammar.specs.declared.refusal.SchemaRefusalKind.TheVariants as kind
 use Rattle.schema_grammar.specs.declared.refusal.What.TheVariants as what
-use Rattle.schema_grammar.specs.Complaints.{ComplainsOfWord, span_at}
+use Rattle.schema_grammar.specs.Complaints.{span_at}
 use Rattle.schema_grammar.specs.Refusals.{at, refusal}
 use Rattle.schema_grammar.specs.Rests.{Rest, ◌>>=◌, place, take, words_from, side, side_from, is_word}
 use Rattle.schema_grammar.specs.Words.{is_reserved, looked_up, known}
-use Rattle.proof_grammar.specs.declared.rule_name.RuleName.{RuleName}
 use Rattle.proof_grammar.specs.Lines.{Line}
-use Rattle.proof_grammar.specs.LineComplaints.{Form, form_of, word_form, a_with, a_rule, a_word}
+use Rattle.proof_grammar.specs.LineComplaints.{Form, form_of}
 use Rattle.proof_grammar.proofs.FormShapes.{Side, within, begun, closing, Shape, at_side, past_words, past_empty, turn, takes_words}
 use Rattle.proof_grammar.proofs.JudgedLines.{IsRight, Judged, Wrong, ShapeWants, first_here, goes_on, stuck_here, end_here, flaw_here}
-use Rattle.proof_grammar.proofs.JudgedTokens.{left_at, assoc, form, not_word, within_word, NextCloses, PastSide}
+use Rattle.proof_grammar.proofs.JudgedTokens.{left_at, assoc, form, not_word, within_word, PastSide}
 use Rattle.proof_grammar.proofs.SideLaws.{word_is}
 
 -- ---- a word

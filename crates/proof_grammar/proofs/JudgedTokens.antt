@@ -1,31 +1,25 @@
 -- Each token of a certificate line is read, or the line is refused there by its first complaint.
-use Rattle.std.proofs.Common.{◌≡◌, ◌+◌, inl, inr, ℕ, zero, suc, Bool, true, false, cond, List, [], ◌∷◌, length, Option, Some, None, Ok, Err, Result, refl, sym, ◌∙◌, ap, subst, arith}
+use Rattle.std.proofs.Common.{◌≡◌, ◌+◌, inl, inr, ℕ, zero, suc, Bool, true, false, cond, List, [], ◌∷◌, length, Option, Some, None, Ok, Err, Result, refl, sym, ◌∙◌, ap, subst}
 use Rattle.std.proofs.lemmas.Bool.{true≢false}
 use Rattle.std.specs.Prelude.{codes, ok_or}
-use Rattle.std.specs.Str.{bytes_eq}
 use Rattle.std.proofs.lemmas.Slice.Eq.{bytes_eq-Decides}
 use Rattle.lexer.specs.declared.token.Stop.{Stop}
 use Rattle.lexer.specs.declared.token.TokenKind.{TokenKind}
 use Rattle.lexer.specs.declared.token.TokenKind.TheVariants as token
 use Rattle.lexer.specs.Tokens.{Mark}
-use Rattle.schema_grammar.specs.declared.format.Format.TheVariants as format
 use Rattle.schema_grammar.specs.declared.refusal.SchemaRefusal.{SchemaRefusal}
-use Rattle.schema_grammar.specs.declared.refusal.SchemaRefusalKind.TheVariants as kind
 use Rattle.schema_grammar.specs.declared.refusal.What.{What}
 use Rattle.schema_grammar.specs.declared.refusal.What.TheVariants as what
 use Rattle.schema_grammar.specs.declared.symbol.Sign.{Sign}
-use Rattle.schema_grammar.specs.Complaints.{ComplainsOfWord}
-use Rattle.schema_grammar.specs.Refusals.{refusal}
 use Rattle.schema_grammar.specs.Rests.{Rest, ◌>>=◌, take, taken, expected, number, arrow, arrow_in, ended, is_word}
 use Rattle.schema_grammar.specs.Texts.{number_in}
 use Rattle.proof_grammar.specs.declared.rule_name.RuleName.{RuleName}
 use Rattle.proof_grammar.specs.Lines.{Line, unless}
-use Rattle.proof_grammar.specs.LineComplaints.{Form, form_of, word_form, a_number, a_colon, an_arrow, an_empty, a_with, a_rule, a_word}
+use Rattle.proof_grammar.specs.LineComplaints.{Form, form_of, word_form}
 use Rattle.proof_grammar.specs.Readers.{colon, with_word, rule_name}
 use Rattle.proof_grammar.specs.Tokens.{is_colon, is_with, rule_named, rule_word}
-use Rattle.proof_grammar.proofs.FormShapes.{Side, After, past_arrow, past_colon, within, lhs, rhs, by, wide, narrow, Shape, at_start, past_number, at_side, past_words, past_empty, at_rule, at_premise, at_with, at_end, closing, named, past_premise, turn, is_last, is_final, takes_words, wanted_after, wanted_by}
+use Rattle.proof_grammar.proofs.FormShapes.{Side, After, past_arrow, past_colon, within, lhs, rhs, Shape, at_start, past_number, at_side, past_words, at_rule, at_premise, at_with, at_end, closing, named, past_premise, turn, is_last, is_final, takes_words, wanted_after, wanted_by}
 use Rattle.proof_grammar.proofs.JudgedLines.{IsRight, Judged, Wrong, goes_on, stuck_here, end_here, flaw_here}
-use Rattle.proof_grammar.proofs.SideLaws.{NoWord}
 
 -- what is left of a line
 abbrev pub left_at : ℕ → ℕ → List Mark → Option Stop → Rest

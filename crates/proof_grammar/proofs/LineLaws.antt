@@ -14,7 +14,7 @@ use Rattle.schema_grammar.specs.declared.format.Format.TheVariants as format
 use Rattle.schema_grammar.specs.Grammar as grammar
 use Rattle.schema_grammar.specs.Meanings.{IsArrow, IsDependency}
 use Rattle.proof_grammar.specs.Lines.{Body, Line, body, stated_dependency, unless, line}
-use Rattle.proof_grammar.specs.Meanings.{IsNumber, IsColon, IsRule, IsCertificateLine, MeansLine}
+use Rattle.proof_grammar.specs.Meanings.{IsNumber, IsColon, IsCertificateLine, MeansLine}
 use Rattle.schema_grammar.specs.Rests.{Rest, rest_from, number, arrow, ended, side, arrow_in, is_word}
 use Rattle.proof_grammar.specs.Readers.{colon, rule_name}
 use Rattle.proof_grammar.proofs.SideLaws.{bound, ok_same, ReadsSide, side_there, NoWord, side_back}

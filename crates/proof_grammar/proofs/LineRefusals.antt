@@ -1,23 +1,22 @@
 -- A line of a certificate is refused exactly by its first complaint.
 use Rattle.std.specs.Prelude.{◌↔◌, slice_get}
-use Rattle.std.proofs.Common.{◌≡◌, ◌<◌, ◌≤◌, ◌+◌, ◌⊎◌, inl, inr, ⊎_elim, ℕ, zero, suc, Bool, true, false, List, [], ◌∷◌, ◌++◌, length, take, Option, Some, None, Ok, Err, Result, refl, sym, ◌∙◌, ap, subst, arith}
+use Rattle.std.proofs.Common.{◌≡◌, ◌<◌, ◌⊎◌, inl, inr, ℕ, zero, suc, Bool, true, false, List, [], ◌∷◌, length, take, Option, Some, None, Ok, Err, Result, refl, sym, ◌∙◌, ap, subst, arith}
 use Rattle.std.proofs.lemmas.List.{take_all}
 use Rattle.lexer.specs.declared.token.Mode.TheVariants as mode
 use Rattle.lexer.specs.declared.token.Stop.{Stop}
 use Rattle.lexer.specs.Tokens.{Mark, lex}
 use Rattle.schema_grammar.specs.declared.format.Format.TheVariants as format
 use Rattle.schema_grammar.specs.declared.refusal.SchemaRefusal.{SchemaRefusal}
-use Rattle.schema_grammar.specs.declared.refusal.Span.{Span}
 use Rattle.schema_grammar.specs.declared.refusal.What.{What}
 use Rattle.schema_grammar.specs.declared.refusal.What.TheVariants as what
-use Rattle.schema_grammar.specs.Complaints.{ComplainsOfWord, IsFirst, refusal_number, span_at}
+use Rattle.schema_grammar.specs.Complaints.{ComplainsOfWord, refusal_number, span_at}
 use Rattle.schema_grammar.specs.Rests.{rest_from}
 use Rattle.schema_grammar.proofs.ComplaintLaws.{Carries-map, same_mark}
 use Rattle.schema_grammar.proofs.OneRefusal.{OneWant, one_first}
 use Rattle.proof_grammar.specs.declared.rule_name.RuleName.TheVariants as rule
 use Rattle.proof_grammar.specs.Lines.{Line, line}
-use Rattle.proof_grammar.specs.LineComplaints.{Form, form_of, forms, a_number, a_colon, an_arrow, an_empty, a_with, a_rule, a_word, IsLine, BeginsLine, IsStuck, SideComplaint, TokensComplaint, Wants, TokensWant, RefusesTokens, RefusesLine}
-use Rattle.proof_grammar.proofs.FormLines.{begins_from, begins_on, begins_to, final_line, line_ends, names_taken, same_shape, takes_names, wants_from, word_taken}
+use Rattle.proof_grammar.specs.LineComplaints.{Form, forms, a_number, a_colon, an_arrow, an_empty, a_with, a_rule, a_word, IsLine, BeginsLine, IsStuck, SideComplaint, TokensComplaint, Wants, TokensWant, RefusesTokens, RefusesLine}
+use Rattle.proof_grammar.proofs.FormLines.{begins_from, begins_on, begins_to, final_line, line_ends, same_shape, takes_names, wants_from, word_taken}
 use Rattle.proof_grammar.proofs.FormShapes.{Side, lhs, rhs, by, wide, narrow, Shape, at_start, past_number, at_side, past_words, past_empty, at_rule, at_premise, at_with, at_end, bind, is_final, is_last, past_arrow, past_colon, runs, takes_words, turn, wanted_after, wanted_by}
 use Rattle.proof_grammar.proofs.JudgedLines.{Judged, OnShape, ShapeWants, TokenWrong, Wrong}
 use Rattle.proof_grammar.proofs.JudgedRules.{line_judged}
