@@ -80,7 +80,8 @@ a_is_name : IsName (codes "a")
 unfolding is_reserved
 a_is_name = record { free = refl; place = _; known = refl }
 
-no_complaint : (word : List ℕ) (n : ℕ) → IsName word → ComplainsOfWord format.Plain all_words (sample_of token.Word word) n → ⊥
+no_complaint : (word : List ℕ) (n : ℕ) → IsName word
+    → ComplainsOfWord format.Plain all_words (sample_of token.Word word) n → ⊥
 no_complaint word n is (kind, inl three) = let wrong : false ≡ true = sym is.free ∙ three.1 in cc
 no_complaint word n is (kind, inr five) = let wrong : Some is.place ≡ None = sym is.known ∙ five.1 in cc
 
@@ -94,7 +95,8 @@ sample_right (a_rule r) n complaint = no_complaint (spelled r) n (rule_is_name r
 sample_right a_word n complaint = no_complaint (codes "a") n a_is_name complaint
 
 -- nothing is wrong with samples that lead to an end
-sample_fine : (s : Shape) (fs : List Form) (last : Shape) (p n : ℕ) → runs s fs ≡ Some last → is_final last ≡ true → TokenWrong s all_words (map sample fs) None p n → ⊥
+sample_fine : (s : Shape) (fs : List Form) (last : Shape) (p n : ℕ) → runs s fs ≡ Some last → is_final last ≡ true
+    → TokenWrong s all_words (map sample fs) None p n → ⊥
 sample_fine s [] last zero n leads final h =
     let same : s ≡ last = cc in
     let wrong : false ≡ true = sym h.2 ∙ ap is_final same ∙ final in cc
@@ -107,7 +109,8 @@ sample_fine s (f ∷ fs) last (suc p) n leads final h =
     told (turn s f) (subst (λ (g : Form). OnShape (turn s g) (λ t. TokenWrong t all_words (map sample fs) None p n)) (sample_form f) h) leads
     (λ t on. sample_fine t fs last p n on final)
   where
-    told : (o : Option Shape) → OnShape o (λ t. TokenWrong t all_words (map sample fs) None p n) → bind o (λ t. runs t fs) ≡ Some last
+    told : (o : Option Shape) → OnShape o (λ t. TokenWrong t all_words (map sample fs) None p n)
+        → bind o (λ t. runs t fs) ≡ Some last
         → ((t : Shape) → runs t fs ≡ Some last → TokenWrong t all_words (map sample fs) None p n → ⊥) → ⊥
     told None wrong on rest = wrong
     told (Some t) wrong on rest = rest t on wrong
@@ -116,7 +119,8 @@ sample_fine s (f ∷ fs) last (suc p) n leads final h =
 pub final_line : (fs : List Form) (s : Shape) → runs at_start fs ≡ Some s → is_final s ≡ true → IsLine fs
 final_line fs s leads final = told (line all_words (rest_at 1 1 (map sample fs))) refl (line_judged all_words 1 1 (map sample fs) None)
   where
-    told : (r : Result Line SchemaRefusal) → line all_words (rest_at 1 1 (map sample fs)) ≡ r → Judged at_start all_words 1 1 (map sample fs) None r → IsLine fs
+    told : (r : Result Line SchemaRefusal) → line all_words (rest_at 1 1 (map sample fs)) ≡ r
+        → Judged at_start all_words 1 1 (map sample fs) None r → IsLine fs
     told (Ok l) read judged =
         let reads = line_reads all_words (rest_at 1 1 (map sample fs)) l read in
         record { names = all_words; marks = map sample fs; line = l; same_forms = sample_forms fs; is_line = reads.is_line }
@@ -154,7 +158,8 @@ begins_to fs begins =
     let ends = line_ends (fs ++ begins.rest) begins.line in
     told (runs at_start fs) ends.last refl (sym (runs-append at_start fs begins.rest) ∙ ends.leads)
   where
-    told : (o : Option Shape) (last : Shape) → runs at_start fs ≡ o → bind o (λ t. runs t begins.rest) ≡ Some last → Leads fs
+    told : (o : Option Shape) (last : Shape) → runs at_start fs ≡ o → bind o (λ t. runs t begins.rest) ≡ Some last
+        → Leads fs
     told None last same e = cc
     told (Some s) last same e = record { shape = s; leads = same }
 
@@ -170,7 +175,8 @@ begins_on fs f begins =
     let there = begins_to (fs ++ f ∷ []) begins in
     told there.shape (runs at_start fs) refl (sym (runs-append at_start fs (f ∷ [])) ∙ there.leads)
   where
-    told : (next : Shape) (o : Option Shape) → runs at_start fs ≡ o → bind o (λ t. runs t (f ∷ [])) ≡ Some next → LeadsOn fs f
+    told : (next : Shape) (o : Option Shape) → runs at_start fs ≡ o → bind o (λ t. runs t (f ∷ [])) ≡ Some next
+        → LeadsOn fs f
     told next None same e = cc
     told next (Some s) same e = record { shape = s; next = next; leads = same; on = one (turn s f) e }
       where
@@ -178,7 +184,8 @@ begins_on fs f begins =
         one None h = h
         one (Some t) h = h
 
-pub on_begins : (fs : List Form) (f : Form) (s t : Shape) → runs at_start fs ≡ Some s → turn s f ≡ Some t → BeginsLine (fs ++ f ∷ [])
+pub on_begins : (fs : List Form) (f : Form) (s t : Shape) → runs at_start fs ≡ Some s → turn s f ≡ Some t
+    → BeginsLine (fs ++ f ∷ [])
 on_begins fs f s t leads on = begins_from (fs ++ f ∷ []) t (runs-one fs s f leads ∙ on)
 
 pub same_shape : (s t : Shape) (o : Option Shape) → o ≡ Some s → o ≡ Some t → s ≡ t
@@ -217,7 +224,8 @@ no_names : (fs : List Form) (s : Shape) → runs at_start fs ≡ Some s → take
 no_names fs s leads none takes = let wrong : true ≡ false = sym (names_taken fs s leads takes) ∙ none in cc
 
 -- ---- what is wanted
-side_wants : (k : Side) (fs : List Form) (s : Shape) → runs at_start fs ≡ Some s → turn s an_arrow ≡ turn (past_empty k) an_arrow → turn s a_colon ≡ turn (past_empty k) a_colon
+side_wants : (k : Side) (fs : List Form) (s : Shape) → runs at_start fs ≡ Some s
+    → turn s an_arrow ≡ turn (past_empty k) an_arrow → turn s a_colon ≡ turn (past_empty k) a_colon
     → (is_final (past_empty k) ≡ true → is_final s ≡ true) → Wants fs (wanted_by (past_empty k))
 side_wants lhs fs s leads arrow colon last = on_begins fs an_arrow s (at_side rhs) leads arrow
 side_wants rhs fs s leads arrow colon last = on_begins fs a_colon s at_rule leads colon

@@ -149,7 +149,8 @@ runs-append s (f ∷ fs) gs = told (λ t. runs-append t fs gs) (turn s f)
     told rest (Some t) = rest t
 
 -- one token more
-pub runs-one : (fs : List Form) (s : Shape) (f : Form) → runs at_start fs ≡ Some s → runs at_start (fs ++ f ∷ []) ≡ turn s f
+pub runs-one : (fs : List Form) (s : Shape) (f : Form) → runs at_start fs ≡ Some s
+    → runs at_start (fs ++ f ∷ []) ≡ turn s f
 runs-one fs s f reached = runs-append at_start fs (f ∷ []) ∙ ap (λ o. bind o (λ t. runs t (f ∷ []))) reached ∙ last (turn s f)
   where
     last : (o : Option Shape) → bind o (λ t. Some t) ≡ o

@@ -16,7 +16,8 @@ use Rattle.proof_grammar.proofs.FormShapes.{Shape, Ends, bind, is_final, runs, t
 
 -- ---- first complaints
 -- the first complaint stands here
-pub first_here : (Complaint : ℕ → ℕ → Type 0) (Wanted : ℕ → What → Type 0) (span : ℕ → Span) (e : SchemaRefusal) → Complaint 0 (refusal_number e.kind) → Carries (Wanted 0) e.kind
+pub first_here : (Complaint : ℕ → ℕ → Type 0) (Wanted : ℕ → What → Type 0) (span : ℕ → Span) (e : SchemaRefusal)
+    → Complaint 0 (refusal_number e.kind) → Carries (Wanted 0) e.kind
     → e.span ≡ span 0 → ((n : ℕ) → Complaint 0 n → refusal_number e.kind ≤ n) → IsFirst Complaint Wanted span e
 first_here Complaint Wanted span e stands carries there small = record { place = 0; stands = stands; carries = carries; there = there; least = least }
   where
@@ -26,7 +27,8 @@ first_here Complaint Wanted span e stands carries there small = record { place =
 
 -- nothing is wrong here, and the first complaint is that of the rest
 pub first_later : (Complaint Rest : ℕ → ℕ → Type 0) (Wanted RestWanted : ℕ → What → Type 0) (span rest : ℕ → Span) (e : SchemaRefusal) → ((n : ℕ) → Complaint 0 n → ⊥)
-    → ((p n : ℕ) → Complaint (suc p) n → Rest p n) → ((p n : ℕ) → Rest p n → Complaint (suc p) n) → ((p : ℕ) (w : What) → RestWanted p w → Wanted (suc p) w)
+    → ((p n : ℕ) → Complaint (suc p) n → Rest p n) → ((p n : ℕ) → Rest p n → Complaint (suc p) n)
+    → ((p : ℕ) (w : What) → RestWanted p w → Wanted (suc p) w)
     → ((p : ℕ) → rest p ≡ span (suc p)) → IsFirst Rest RestWanted rest e → IsFirst Complaint Wanted span e
 first_later Complaint Rest Wanted RestWanted span rest e fine later earlier wants spans first = record {
   place = suc first.place;
@@ -36,7 +38,8 @@ first_later Complaint Rest Wanted RestWanted span rest e fine later earlier want
   least = least;
 }
   where
-    least : (p n : ℕ) → Complaint p n → (suc first.place < p) ⊎ ((suc first.place ≡ p) × (refusal_number e.kind ≤ n))
+    least : (p n : ℕ) → Complaint p n
+        → (suc first.place < p) ⊎ ((suc first.place ≡ p) × (refusal_number e.kind ≤ n))
     least zero n h = absurd (fine n h)
     least (suc p) n h = ⊎_elim (λ less. inl (omega (arith, less))) (λ same. inr (ap suc same.0, same.1)) (first.least p n (later p n h))
 
@@ -84,20 +87,24 @@ some_on o t P goes h = subst (λ (x : Option Shape). OnShape x P) (sym goes) h
 abbrev pub IsRight : Shape → List (List ℕ) → Mark → Type 0
 IsRight s names m = (n : ℕ) → takes_words s ≡ true → ComplainsOfWord format.Plain names m n → ⊥
 
-fine_here : (s t : Shape) (names : List (List ℕ)) (m : Mark) (ms : List Mark) (stop : Option Stop) → turn s (form m) ≡ Some t → IsRight s names m → (n : ℕ) → Wrong s names (m ∷ ms) stop 0 n → ⊥
+fine_here : (s t : Shape) (names : List (List ℕ)) (m : Mark) (ms : List Mark) (stop : Option Stop)
+    → turn s (form m) ≡ Some t → IsRight s names m → (n : ℕ) → Wrong s names (m ∷ ms) stop 0 n → ⊥
 fine_here s t names m ms stop goes right n (inl (inl word)) = right n word.0 word.1
 fine_here s t names m ms stop goes right n (inl (inr six)) = let wrong : Some t ≡ None = sym goes ∙ six.1 in cc
 fine_here s t names m ms stop goes right n (inr flaw) = let end : 0 ≡ length (m ∷ ms) = flaw.2 in absurd (omega arith)
 
-wrong_later : (s t : Shape) (names : List (List ℕ)) (m : Mark) (ms : List Mark) (stop : Option Stop) → turn s (form m) ≡ Some t → (p n : ℕ) → Wrong s names (m ∷ ms) stop (suc p) n → Wrong t names ms stop p n
+wrong_later : (s t : Shape) (names : List (List ℕ)) (m : Mark) (ms : List Mark) (stop : Option Stop)
+    → turn s (form m) ≡ Some t → (p n : ℕ) → Wrong s names (m ∷ ms) stop (suc p) n → Wrong t names ms stop p n
 wrong_later s t names m ms stop goes p n (inl here) = inl (on_some (turn s (form m)) t (λ u. TokenWrong u names ms stop p n) goes here)
 wrong_later s t names m ms stop goes p n (inr (flaw, is, place, number)) = inr (flaw, is, (omega arith), number)
 
-wrong_earlier : (s t : Shape) (names : List (List ℕ)) (m : Mark) (ms : List Mark) (stop : Option Stop) → turn s (form m) ≡ Some t → (p n : ℕ) → Wrong t names ms stop p n → Wrong s names (m ∷ ms) stop (suc p) n
+wrong_earlier : (s t : Shape) (names : List (List ℕ)) (m : Mark) (ms : List Mark) (stop : Option Stop)
+    → turn s (form m) ≡ Some t → (p n : ℕ) → Wrong t names ms stop p n → Wrong s names (m ∷ ms) stop (suc p) n
 wrong_earlier s t names m ms stop goes p n (inl here) = inl (some_on (turn s (form m)) t (λ u. TokenWrong u names ms stop p n) goes here)
 wrong_earlier s t names m ms stop goes p n (inr (flaw, is, place, number)) = inr (flaw, is, (omega arith), number)
 
-wants_later : (s t : Shape) (m : Mark) (ms : List Mark) → turn s (form m) ≡ Some t → (p : ℕ) (w : What) → ShapeWants t ms p w → ShapeWants s (m ∷ ms) (suc p) w
+wants_later : (s t : Shape) (m : Mark) (ms : List Mark) → turn s (form m) ≡ Some t → (p : ℕ) (w : What)
+    → ShapeWants t ms p w → ShapeWants s (m ∷ ms) (suc p) w
 wants_later s t m ms goes p w wants = record {
   shape = wants.shape;
   reached = ap (λ o. bind o (λ u. runs u (take p (forms ms)))) goes ∙ wants.reached;
@@ -135,7 +142,8 @@ stuck_here s names line behind m ms stop w cannot right wants =
     small n (inr flaw) = let end : 0 ≡ length (m ∷ ms) = flaw.2 in absurd (omega arith)
 
 -- the line's end at which it can't
-pub end_here : (s : Shape) (names : List (List ℕ)) (line behind : ℕ) (w : What) → is_final s ≡ false → w ≡ wanted_by s
+pub end_here : (s : Shape) (names : List (List ℕ)) (line behind : ℕ) (w : What) → is_final s ≡ false
+    → w ≡ wanted_by s
     → Judged s names line behind [] None (Err (refusal line behind 0 (kind.Expected w)))
 end_here s names line behind w open_end wants =
     first_here (Wrong s names [] None) (ShapeWants s []) (span_at line behind [] None) (refusal line behind 0 (kind.Expected w))
@@ -146,7 +154,8 @@ end_here s names line behind w open_end wants =
     small n (inr flaw) = cc
 
 -- bytes that are no token
-pub flaw_here : (s : Shape) (names : List (List ℕ)) (line behind : ℕ) (stop : Stop) → Judged s names line behind [] (Some stop) (Err (refused_by line stop))
+pub flaw_here : (s : Shape) (names : List (List ℕ)) (line behind : ℕ) (stop : Stop)
+    → Judged s names line behind [] (Some stop) (Err (refused_by line stop))
 flaw_here s names line behind stop =
     first_here (Wrong s names [] (Some stop)) (ShapeWants s []) (span_at line behind [] (Some stop)) (refused_by line stop)
     (inr (stop, refl, refl, flaw_numbered stop.flaw)) (flaw_carries (ShapeWants s [] 0) stop.flaw) refl small

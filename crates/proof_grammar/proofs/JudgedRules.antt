@@ -5,16 +5,16 @@ use Rattle.derivation.specs.Trees.{Step, augmentation, complementation, maugment
 use Rattle.lexer.specs.declared.token.Stop.{Stop}
 use Rattle.lexer.specs.Tokens.{Mark}
 use Rattle.schema_grammar.specs.declared.refusal.SchemaRefusal.{SchemaRefusal}
-use Rattle.schema_grammar.specs.Rests.{Rest, ◌>>=◌, number, arrow, side}
+use Rattle.schema_grammar.specs.Rests.{Rest, ◌>>=◌, take, number, arrow, side}
 use Rattle.schema_grammar.specs.Grammar as grammar
 use Rattle.proof_grammar.specs.declared.rule_name.RuleName.{RuleName}
 use Rattle.proof_grammar.specs.declared.rule_name.RuleName.TheVariants as rule
-use Rattle.proof_grammar.specs.Lines.{Body, by_given, by_reflexivity, by_mreflexivity, by_step, by_pair, Line, one, two, augmented, maugmented, body, stated_dependency, line}
+use Rattle.proof_grammar.specs.Lines.{Body, by_given, by_reflexivity, by_mreflexivity, by_step, by_pair, Line, one, two, augmented, maugmented, body, stated_dependency, unless, line, line_from}
 use Rattle.proof_grammar.specs.Readers.{colon, with_word}
 use Rattle.proof_grammar.proofs.FormShapes.{lhs, rhs, by, wide, narrow, nothing, second, sets, Shape, at_start, at_side, at_rule, at_premise, at_end, named}
 use Rattle.proof_grammar.proofs.JudgedLines.{Judged}
 use Rattle.proof_grammar.proofs.JudgedSides.{side_judged}
-use Rattle.proof_grammar.proofs.JudgedTokens.{left_at, assoc, PastSide, Halts, start_judged, premise_judged, arrow_judged, closing_judged, colon_judged, with_judged, rule_judged, end_halts, side_halts, end_judged}
+use Rattle.proof_grammar.proofs.JudgedTokens.{left_at, assoc, PastSide, Halts, first_judged, premise_judged, arrow_judged, closing_judged, colon_judged, with_judged, rule_judged, end_halts, side_halts, end_judged}
 
 -- a reading is judged as the same one with its steps in a row
 in_row : {A B : Type 0} (s : Shape) (names : List (List ℕ)) (at behind : ℕ) (ms : List Mark) (stop : Option Stop) (m : Result A SchemaRefusal) (f : A → Result B SchemaRefusal) (g : B → Result Line SchemaRefusal)
@@ -25,7 +25,8 @@ in_row s names at behind ms stop m f g judged = subst (Judged s names at behind 
 -- what follows the rule, from any column
 abbrev FollowsRule : List (List ℕ) → ℕ → Option Stop → (Body × Rest → Result Line SchemaRefusal) → Type 0
 FollowsRule names at stop f =
-    (b : Body) (s : Shape) (behind : ℕ) (ms : List Mark) → Halts s names ms → Judged s names at behind ms stop (f (b, left_at at behind ms stop))
+    (b : Body) (s : Shape) (behind : ℕ) (ms : List Mark) → Halts s names ms
+        → Judged s names at behind ms stop (f (b, left_at at behind ms stop))
 
 one_judged : (r : Step) (names : List (List ℕ)) (at behind : ℕ) (ms : List Mark) (stop : Option Stop) (f : Body × Rest → Result Line SchemaRefusal) → FollowsRule names at stop f
     → Judged (at_premise nothing) names at behind ms stop (one r (left_at at behind ms stop) >>= f)
@@ -93,9 +94,11 @@ body_judged rule.MTransitivity names at behind ms stop f follows = two_judged mt
 body_judged rule.Coalescence names at behind ms stop f follows = two_judged coalescence names at behind ms stop f follows
 
 -- ---- the dependency
-abbrev FollowsDependency : List (List ℕ) → ℕ → Option Stop → (Dependency × Rest → Result Line SchemaRefusal) → Type 0
+abbrev FollowsDependency : List (List ℕ) → ℕ → Option Stop → (Dependency × Rest → Result Line SchemaRefusal)
+    → Type 0
 FollowsDependency names at stop f =
-    (d : Dependency) (s : Shape) (behind : ℕ) (ms : List Mark) → PastSide rhs s names ms → Judged s names at behind ms stop (f (d, left_at at behind ms stop))
+    (d : Dependency) (s : Shape) (behind : ℕ) (ms : List Mark) → PastSide rhs s names ms
+        → Judged s names at behind ms stop (f (d, left_at at behind ms stop))
 
 dependency_judged : (names : List (List ℕ)) (at behind : ℕ) (ms : List Mark) (stop : Option Stop) (f : Dependency × Rest → Result Line SchemaRefusal) → FollowsDependency names at stop f
     → Judged (at_side lhs) names at behind ms stop (stated_dependency names (left_at at behind ms stop) >>= f)
@@ -109,10 +112,11 @@ dependency_judged names at behind ms stop f follows =
     (side_judged rhs names at to ks stop _ (λ y u last ls end. follows (grammar.stated a x y) u last ls end))))))
 
 -- ---- the line
-pub line_judged : (names : List (List ℕ)) (at behind : ℕ) (ms : List Mark) (stop : Option Stop) → Judged at_start names at behind ms stop (line names (left_at at behind ms stop))
-unfolding line
+pub line_judged : (names : List (List ℕ)) (at behind : ℕ) (ms : List Mark) (stop : Option Stop)
+    → Judged at_start names at behind ms stop (line names (left_at at behind ms stop))
+unfolding line line_from take
 line_judged names at behind ms stop =
-    start_judged names at behind ms stop _
+    first_judged names at behind ms stop _
     (λ n a ks. colon_judged names at a ks stop _
     (λ b bs. dependency_judged names at b bs stop _
     (λ d s c cs past. closing_judged rhs s at_rule names at c cs stop _ refl refl refl refl past

@@ -46,12 +46,14 @@ name_here s names line behind m ms stop false free takes word unknown =
     small n (inl (inr six)) = omega (arith, six.0)
     small n (inr flaw) = let end : 0 ≡ length (m ∷ ms) = flaw.2 in absurd (omega arith)
 
-known_right : (s : Shape) (names : List (List ℕ)) (m : Mark) (a : ℕ) → is_reserved format.Plain m.word ≡ false → place_named names m.word ≡ Some a → IsRight s names m
+known_right : (s : Shape) (names : List (List ℕ)) (m : Mark) (a : ℕ) → is_reserved format.Plain m.word ≡ false
+    → place_named names m.word ≡ Some a → IsRight s names m
 known_right s names m a free place n on (word, inl three) = true≢false (sym three.1 ∙ free)
 known_right s names m a free place n on (word, inr five) = let wrong : Some a ≡ None = sym place ∙ five.1 in cc
 
 word_judged : (s t : Shape) (names : List (List ℕ)) (line behind : ℕ) (m : Mark) (ms : List Mark) (stop : Option Stop) (g : ℕ → Result Line SchemaRefusal) → m.kind ≡ token.Word → takes_words s ≡ true
-    → turn s (form m) ≡ Some t → ((a : ℕ) → Judged t names line (m.column + length m.word) ms stop (g a)) → Judged s names line behind (m ∷ ms) stop (place names line m >>= g)
+    → turn s (form m) ≡ Some t → ((a : ℕ) → Judged t names line (m.column + length m.word) ms stop (g a))
+    → Judged s names line behind (m ∷ ms) stop (place names line m >>= g)
 unfolding looked_up
 word_judged s t names line behind m ms stop g word takes on rest = told (is_reserved format.Plain m.word) (place_named names m.word) refl refl
   where
@@ -63,14 +65,18 @@ word_judged s t names line behind m ms stop g word takes on rest = told (is_rese
 
 -- ---- a side
 -- what follows a side, from any column
-abbrev pub FollowsSide : Side → List (List ℕ) → ℕ → Option Stop → (Places × Rest → Result Line SchemaRefusal) → Type 0
+abbrev pub FollowsSide : Side → List (List ℕ) → ℕ → Option Stop → (Places × Rest → Result Line SchemaRefusal)
+    → Type 0
 FollowsSide k names line stop f =
-    (x : Places) (s : Shape) (behind : ℕ) (ms : List Mark) → PastSide k s names ms → Judged s names line behind ms stop (f (x, left_at line behind ms stop))
+    (x : Places) (s : Shape) (behind : ℕ) (ms : List Mark) → PastSide k s names ms
+        → Judged s names line behind ms stop (f (x, left_at line behind ms stop))
 
-word_stays : (k : Side) (other : Form → Option Shape) (m : Mark) → m.kind ≡ token.Word → within k (form m) (other (form m)) ≡ Some (past_words k)
+word_stays : (k : Side) (other : Form → Option Shape) (m : Mark) → m.kind ≡ token.Word
+    → within k (form m) (other (form m)) ≡ Some (past_words k)
 word_stays k other m word = ap (λ (kd : TokenKind). within k (form_of kd m.word) (other (form_of kd m.word))) word ∙ within_word k other _ _
 
-other_leaves : (k : Side) (kd : TokenKind) (word : List ℕ) (other : Option Shape) → is_word kd ≡ false → within k (form_of kd word) other ≡ other
+other_leaves : (k : Side) (kd : TokenKind) (word : List ℕ) (other : Option Shape) → is_word kd ≡ false
+    → within k (form_of kd word) other ≡ other
 other_leaves k token.Word word other no_word = cc
 other_leaves k (token.Number n) word other no_word = refl
 other_leaves k token.Arrow word other no_word = refl
@@ -79,7 +85,8 @@ other_leaves k token.Empty word other no_word = refl
 other_leaves k token.Colon word other no_word = refl
 
 -- after words no word stands
-words_past : (k : Side) (names : List (List ℕ)) (m : Mark) (ms : List Mark) → is_word m.kind ≡ false → PastSide k (past_words k) names (m ∷ ms)
+words_past : (k : Side) (names : List (List ℕ)) (m : Mark) (ms : List Mark) → is_word m.kind ≡ false
+    → PastSide k (past_words k) names (m ∷ ms)
 words_past k names m ms other = record {
   wants = refl;
   final = refl;
@@ -110,7 +117,8 @@ words_judged k names line x behind (m ∷ ms) stop f follows =
     told false is rest = follows x (past_words k) behind (m ∷ ms) (words_past k names m ms is)
 
 -- a token with which no side begins
-no_side_here : (k : Side) (names : List (List ℕ)) (line behind : ℕ) (m : Mark) (ms : List Mark) (stop : Option Stop) → is_word m.kind ≡ false → turn (at_side k) (form m) ≡ None
+no_side_here : (k : Side) (names : List (List ℕ)) (line behind : ℕ) (m : Mark) (ms : List Mark) (stop : Option Stop)
+    → is_word m.kind ≡ false → turn (at_side k) (form m) ≡ None
     → Judged (at_side k) names line behind (m ∷ ms) stop (Err (refusal line m.column (length m.word) (kind.Expected what.Side)))
 no_side_here k names line behind m ms stop other cannot = stuck_here (at_side k) names line behind m ms stop what.Side cannot (not_word (at_side k) names m other) refl
 
@@ -124,7 +132,8 @@ side_judged k names line behind (m ∷ ms) stop f follows = told m.kind refl
     leads : (kd : TokenKind) → m.kind ≡ kd → turn (at_side k) (form m) ≡ turn (at_side k) (form_of kd m.word)
     leads kd is = ap (λ (t : TokenKind). turn (at_side k) (form_of t m.word)) is
 
-    told : (kd : TokenKind) → m.kind ≡ kd → Judged (at_side k) names line behind (m ∷ ms) stop (side_from names m (left_at line (m.column + length m.word) ms stop) kd >>= f)
+    told : (kd : TokenKind) → m.kind ≡ kd
+        → Judged (at_side k) names line behind (m ∷ ms) stop (side_from names m (left_at line (m.column + length m.word) ms stop) kd >>= f)
     told token.Word is =
         subst (Judged (at_side k) names line behind (m ∷ ms) stop)
         (sym (assoc (place names line m) (λ a. words_from names line (only a) (m.column + length m.word) ms stop) f))

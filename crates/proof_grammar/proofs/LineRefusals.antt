@@ -50,7 +50,8 @@ end_wanted by last = refl
 end_wanted wide last = cc
 end_wanted narrow last = refl
 
-number_at : (fs : List Form) (s t : Shape) → runs at_start fs ≡ Some s → turn s a_number ≡ Some t → WantedAt fs what.Number
+number_at : (fs : List Form) (s t : Shape) → runs at_start fs ≡ Some s → turn s a_number ≡ Some t
+    → WantedAt fs what.Number
 number_at fs at_start t leads on = record { shape = at_start; reached = leads; is = refl }
 number_at fs (at_premise a) t leads on = record { shape = at_premise a; reached = leads; is = refl }
 number_at fs past_number t leads on = cc
@@ -61,7 +62,8 @@ number_at fs at_rule t leads on = cc
 number_at fs (at_with k) t leads on = cc
 number_at fs at_end t leads on = cc
 
-colon_at : (fs : List Form) (s t : Shape) → runs at_start fs ≡ Some s → turn s a_colon ≡ Some t → WantedAt fs what.Colon
+colon_at : (fs : List Form) (s t : Shape) → runs at_start fs ≡ Some s → turn s a_colon ≡ Some t
+    → WantedAt fs what.Colon
 colon_at fs past_number t leads on = record { shape = past_number; reached = leads; is = refl }
 colon_at fs (past_words k) t leads on = record { shape = past_words k; reached = leads; is = colon_wanted k t on }
 colon_at fs (past_empty k) t leads on = record { shape = past_empty k; reached = leads; is = colon_wanted k t on }
@@ -72,7 +74,8 @@ colon_at fs (at_premise a) t leads on = cc
 colon_at fs (at_with k) t leads on = cc
 colon_at fs at_end t leads on = cc
 
-arrow_at : (fs : List Form) (s t : Shape) → runs at_start fs ≡ Some s → turn s an_arrow ≡ Some t → WantedAt fs what.Arrow
+arrow_at : (fs : List Form) (s t : Shape) → runs at_start fs ≡ Some s → turn s an_arrow ≡ Some t
+    → WantedAt fs what.Arrow
 arrow_at fs (past_words k) t leads on = record { shape = past_words k; reached = leads; is = arrow_wanted k t on }
 arrow_at fs (past_empty k) t leads on = record { shape = past_empty k; reached = leads; is = arrow_wanted k t on }
 arrow_at fs at_start t leads on = cc
@@ -83,7 +86,8 @@ arrow_at fs (at_premise a) t leads on = cc
 arrow_at fs (at_with k) t leads on = cc
 arrow_at fs at_end t leads on = cc
 
-side_at : (fs : List Form) (s t : Shape) → runs at_start fs ≡ Some s → turn s an_empty ≡ Some t → WantedAt fs what.Side
+side_at : (fs : List Form) (s t : Shape) → runs at_start fs ≡ Some s → turn s an_empty ≡ Some t
+    → WantedAt fs what.Side
 side_at fs (at_side k) t leads on = record { shape = at_side k; reached = leads; is = refl }
 side_at fs at_start t leads on = cc
 side_at fs past_number t leads on = cc
@@ -94,7 +98,8 @@ side_at fs (at_premise a) t leads on = cc
 side_at fs (at_with k) t leads on = cc
 side_at fs at_end t leads on = cc
 
-with_at : (fs : List Form) (s t : Shape) → runs at_start fs ≡ Some s → (takes_words s ≡ true → ⊥) → turn s a_with ≡ Some t → WantedAt fs what.With
+with_at : (fs : List Form) (s t : Shape) → runs at_start fs ≡ Some s → (takes_words s ≡ true → ⊥)
+    → turn s a_with ≡ Some t → WantedAt fs what.With
 with_at fs (at_with k) t leads none on = record { shape = at_with k; reached = leads; is = refl }
 with_at fs (at_side k) t leads none on = absurd (none refl)
 with_at fs (past_words k) t leads none on = absurd (none refl)
@@ -105,7 +110,8 @@ with_at fs at_rule t leads none on = cc
 with_at fs (at_premise a) t leads none on = cc
 with_at fs at_end t leads none on = cc
 
-rule_at : (fs : List Form) (s t : Shape) → runs at_start fs ≡ Some s → (takes_words s ≡ true → ⊥) → turn s (a_rule rule.Given) ≡ Some t → WantedAt fs what.Rule
+rule_at : (fs : List Form) (s t : Shape) → runs at_start fs ≡ Some s → (takes_words s ≡ true → ⊥)
+    → turn s (a_rule rule.Given) ≡ Some t → WantedAt fs what.Rule
 rule_at fs at_rule t leads none on = record { shape = at_rule; reached = leads; is = refl }
 rule_at fs (at_side k) t leads none on = absurd (none refl)
 rule_at fs (past_words k) t leads none on = absurd (none refl)
@@ -169,7 +175,8 @@ why_later s t names m ms stop p n u goes (inr (six, inl (less, none))) =
     inr (six, inl ((omega arith), sym (ap (λ o. bind o (λ v. runs v (take (suc p) (forms ms)))) goes) ∙ none))
 why_later s t names m ms stop p n u goes (inr (six, inr (same, ended, open_end))) = inr (six, inr ((omega arith), ended, open_end))
 
-place_there : (s : Shape) (names : List (List ℕ)) (ms : List Mark) (stop : Option Stop) (p n : ℕ) → TokenWrong s names ms stop p n → AtPlace s names ms stop p n
+place_there : (s : Shape) (names : List (List ℕ)) (ms : List Mark) (stop : Option Stop) (p n : ℕ)
+    → TokenWrong s names ms stop p n → AtPlace s names ms stop p n
 place_there s names [] stop zero n h = record { shape = s; reached = refl; why = inr (h.0, inr (refl, h.1, h.2)) }
 place_there s names [] stop (suc p) n h = absurd h
 place_there s names (m ∷ ms) stop zero n (inl word) = record { shape = s; reached = refl; why = inl (m, refl, word.0, word.1) }
@@ -180,7 +187,8 @@ place_there s names (m ∷ ms) stop zero n (inr six) = record {
 }
 place_there s names (m ∷ ms) stop (suc p) n h = told (turn s (form m)) refl h (λ t. place_there t names ms stop p n)
   where
-    told : (o : Option Shape) → turn s (form m) ≡ o → OnShape o (λ t. TokenWrong t names ms stop p n) → ((t : Shape) → TokenWrong t names ms stop p n → AtPlace t names ms stop p n)
+    told : (o : Option Shape) → turn s (form m) ≡ o → OnShape o (λ t. TokenWrong t names ms stop p n)
+        → ((t : Shape) → TokenWrong t names ms stop p n → AtPlace t names ms stop p n)
         → AtPlace s names (m ∷ ms) stop (suc p) n
     told None goes h rest = absurd h
     told (Some t) goes h rest =
@@ -201,7 +209,8 @@ only_one (Some t) e = cc
 no_mark : (m : Mark) (p : ℕ) → slice_get [] p ≡ Some m → ⊥
 no_mark m p e = cc
 
-place_back : (s : Shape) (names : List (List ℕ)) (ms : List Mark) (stop : Option Stop) (p n : ℕ) (t : Shape) → runs s (take p (forms ms)) ≡ Some t → Why s names ms stop p n t → TokenWrong s names ms stop p n
+place_back : (s : Shape) (names : List (List ℕ)) (ms : List Mark) (stop : Option Stop) (p n : ℕ) (t : Shape)
+    → runs s (take p (forms ms)) ≡ Some t → Why s names ms stop p n t → TokenWrong s names ms stop p n
 place_back s names [] stop p n t reached (inl (m, is, takes, word)) = absurd (no_mark m p is)
 place_back s names [] stop p n t reached (inr (six, inl (less, none))) = absurd (omega arith)
 place_back s names [] stop zero n t reached (inr (six, inr (same, ended, open_end))) =
@@ -222,14 +231,16 @@ place_back s names (m ∷ ms) stop (suc p) n t reached why = told (turn s (form 
 all_taken : (p : ℕ) (fs : List Form) → p ≡ length fs → take p fs ≡ fs
 all_taken p fs same = take_all p fs (omega arith)
 
-complaint_there : (names : List (List ℕ)) (ms : List Mark) (stop : Option Stop) (p n : ℕ) → Wrong at_start names ms stop p n → TokensComplaint names ms stop p n
+complaint_there : (names : List (List ℕ)) (ms : List Mark) (stop : Option Stop) (p n : ℕ)
+    → Wrong at_start names ms stop p n → TokensComplaint names ms stop p n
 complaint_there names ms stop p n (inr flaw) = inr flaw
 complaint_there names ms stop p n (inl h) = let at = place_there at_start names ms stop p n h in inl (told at.shape at.reached at.why)
   where
     fs : List Form
     fs = forms ms
 
-    told : (s : Shape) → runs at_start (take p fs) ≡ Some s → Why at_start names ms stop p n s → SideComplaint names ms p n ⊎ ((n ≡ 6) × IsStuck fs stop p)
+    told : (s : Shape) → runs at_start (take p fs) ≡ Some s → Why at_start names ms stop p n s
+        → SideComplaint names ms p n ⊎ ((n ≡ 6) × IsStuck fs stop p)
     told s reached (inl (m, is, takes, word)) = inl (m, is, takes_names (take p fs) s reached takes, word)
     told s reached (inr (six, inl (less, none))) = inr (six, record { before = begins_from (take p fs) s reached; here = inl (less, cannot) })
       where
@@ -244,7 +255,8 @@ complaint_there names ms stop p n (inl h) = let at = place_there at_start names 
             let one = same_shape s ends.last (runs at_start fs) here ends.leads in
             let wrong : false ≡ true = sym open_end ∙ ap is_final one ∙ ends.final in cc
 
-complaint_back : (names : List (List ℕ)) (ms : List Mark) (stop : Option Stop) (p n : ℕ) → TokensComplaint names ms stop p n → Wrong at_start names ms stop p n
+complaint_back : (names : List (List ℕ)) (ms : List Mark) (stop : Option Stop) (p n : ℕ)
+    → TokensComplaint names ms stop p n → Wrong at_start names ms stop p n
 complaint_back names ms stop p n (inr flaw) = inr flaw
 complaint_back names ms stop p n (inl (inl (m, is, takes, word))) =
     let on = begins_on (take p (forms ms)) a_word takes in
@@ -274,7 +286,8 @@ complaint_back names ms stop p n (inl (inr (six, stuck))) =
 shape_wants : (ms : List Mark) (p : ℕ) (w : What) → ShapeWants at_start ms p w → TokensWant ms p w
 shape_wants ms p w wants = subst (Wants (take p (forms ms))) (sym wants.is) (wants_from (take p (forms ms)) wants.shape wants.reached)
 
-first_there : (names : List (List ℕ)) (at : ℕ) (ms : List Mark) (stop : Option Stop) (e : SchemaRefusal) → Judged at_start names at 1 ms stop (Err e) → RefusesTokens names at ms stop e
+first_there : (names : List (List ℕ)) (at : ℕ) (ms : List Mark) (stop : Option Stop) (e : SchemaRefusal)
+    → Judged at_start names at 1 ms stop (Err e) → RefusesTokens names at ms stop e
 first_there names at ms stop e first = record {
   place = first.place;
   stands = complaint_there names ms stop first.place (refusal_number e.kind) first.stands;
@@ -283,10 +296,12 @@ first_there names at ms stop e first = record {
   least = λ p n complaint. first.least p n (complaint_back names ms stop p n complaint);
 }
 
-tokens_there : (names : List (List ℕ)) (at : ℕ) (ms : List Mark) (stop : Option Stop) (e : SchemaRefusal) → line names (left_at at 1 ms stop) ≡ Err e → RefusesTokens names at ms stop e
+tokens_there : (names : List (List ℕ)) (at : ℕ) (ms : List Mark) (stop : Option Stop) (e : SchemaRefusal)
+    → line names (left_at at 1 ms stop) ≡ Err e → RefusesTokens names at ms stop e
 tokens_there names at ms stop e is = first_there names at ms stop e (subst (Judged at_start names at 1 ms stop) is (line_judged names at 1 ms stop))
 
-tokens_back : (names : List (List ℕ)) (at : ℕ) (ms : List Mark) (stop : Option Stop) (e : SchemaRefusal) → RefusesTokens names at ms stop e → line names (left_at at 1 ms stop) ≡ Err e
+tokens_back : (names : List (List ℕ)) (at : ℕ) (ms : List Mark) (stop : Option Stop) (e : SchemaRefusal)
+    → RefusesTokens names at ms stop e → line names (left_at at 1 ms stop) ≡ Err e
 tokens_back names at ms stop e refuses = told (line names (left_at at 1 ms stop)) (line_judged names at 1 ms stop)
   where
     told : (r : Result Line SchemaRefusal) → Judged at_start names at 1 ms stop r → r ≡ Err e
@@ -295,11 +310,14 @@ tokens_back names at ms stop e refuses = told (line names (left_at at 1 ms stop)
         ap (λ (g : SchemaRefusal). Err g)
         (one_first (TokensComplaint names ms stop) (TokensWant ms) (span_at at 1 ms stop) f e (λ p. one_want (take p (forms ms))) (first_there names at ms stop f judged) refuses)
 
-pub line_refuses : (names : List (List ℕ)) (number : ℕ) (text : List ℕ) (e : SchemaRefusal) → line names (rest_from number 1 (lex mode.Numbered text)) ≡ Err e → RefusesLine names number text e
+pub line_refuses : (names : List (List ℕ)) (number : ℕ) (text : List ℕ) (e : SchemaRefusal)
+    → line names (rest_from number 1 (lex mode.Numbered text)) ≡ Err e → RefusesLine names number text e
 line_refuses names number text e is = tokens_there names number (lex mode.Numbered text).marks (lex mode.Numbered text).stop e is
 
-pub refuses_line : (names : List (List ℕ)) (number : ℕ) (text : List ℕ) (e : SchemaRefusal) → RefusesLine names number text e → line names (rest_from number 1 (lex mode.Numbered text)) ≡ Err e
+pub refuses_line : (names : List (List ℕ)) (number : ℕ) (text : List ℕ) (e : SchemaRefusal)
+    → RefusesLine names number text e → line names (rest_from number 1 (lex mode.Numbered text)) ≡ Err e
 refuses_line names number text e refuses = tokens_back names number (lex mode.Numbered text).marks (lex mode.Numbered text).stop e refuses
 
-pub refusal_law : (names : List (List ℕ)) (number : ℕ) (text : List ℕ) (e : SchemaRefusal) → (line names (rest_from number 1 (lex mode.Numbered text)) ≡ Err e) ↔ RefusesLine names number text e
+pub refusal_law : (names : List (List ℕ)) (number : ℕ) (text : List ℕ) (e : SchemaRefusal)
+    → (line names (rest_from number 1 (lex mode.Numbered text)) ≡ Err e) ↔ RefusesLine names number text e
 refusal_law names number text e = (line_refuses names number text e, refuses_line names number text e)
