@@ -36,8 +36,10 @@ sample a_word = sample_of token.Word (codes "a")
 
 abbrev all_words : List (List ℕ)
 all_words =
-    codes "a" ∷ codes "with" ∷ codes "given" ∷ codes "reflexivity" ∷ codes "augmentation" ∷ codes "transitivity" ∷ codes "complementation"
-    ∷ codes "mreflexivity" ∷ codes "maugmentation" ∷ codes "mtransitivity" ∷ codes "replication" ∷ codes "coalescence" ∷ []
+    codes "a" ∷ codes "with" ∷ codes "given" ∷ codes "reflexivity" ∷ codes "augmentation" ∷ codes "transitivity"
+    ∷ codes "complementation"
+    ∷ codes "mreflexivity" ∷ codes "maugmentation" ∷ codes "mtransitivity" ∷ codes "replication"
+    ∷ codes "coalescence" ∷ []
 
 sample_form : (f : Form) → form_of (sample f).kind (sample f).word ≡ f
 unfolding is_with rule_word
@@ -106,7 +108,8 @@ sample_fine s (f ∷ fs) last zero n leads final (inr six) =
     let cannot : turn s f ≡ None = sym (ap (turn s) (sample_form f)) ∙ six.1 in
     let wrong : None ≡ Some last = sym (ap (λ o. bind o (λ t. runs t fs)) cannot) ∙ leads in cc
 sample_fine s (f ∷ fs) last (suc p) n leads final h =
-    told (turn s f) (subst (λ (g : Form). OnShape (turn s g) (λ t. TokenWrong t all_words (map sample fs) None p n)) (sample_form f) h) leads
+    told (turn s f) (subst (λ (g : Form). OnShape (turn s g) (λ t. TokenWrong t all_words (map sample fs) None p n))
+    (sample_form f) h) leads
     (λ t on. sample_fine t fs last p n on final)
   where
     told : (o : Option Shape) → OnShape o (λ t. TokenWrong t all_words (map sample fs) None p n)
@@ -117,13 +120,21 @@ sample_fine s (f ∷ fs) last (suc p) n leads final h =
 
 -- ---- lines
 pub final_line : (fs : List Form) (s : Shape) → runs at_start fs ≡ Some s → is_final s ≡ true → IsLine fs
-final_line fs s leads final = told (line all_words (rest_at 1 1 (map sample fs))) refl (line_judged all_words 1 1 (map sample fs) None)
+final_line fs s leads final = told (line all_words (rest_at 1 1 (map sample fs))) refl
+    (line_judged all_words 1 1 (map sample fs) None)
   where
     told : (r : Result Line SchemaRefusal) → line all_words (rest_at 1 1 (map sample fs)) ≡ r
         → Judged at_start all_words 1 1 (map sample fs) None r → IsLine fs
     told (Ok l) read judged =
         let reads = line_reads all_words (rest_at 1 1 (map sample fs)) l read in
-        record { names = all_words; marks = map sample fs; line = l; same_forms = sample_forms fs; is_line = reads.is_line }
+        record {
+          names = all_words;
+          marks = map sample fs;
+          line = l;
+          same_forms = sample_forms fs;
+          is_line =
+              reads.is_line;
+        }
     told (Err e) read judged =
         absurd (⊎_elim
         (λ wrong. sample_fine at_start fs s judged.place _ leads final wrong)
@@ -137,7 +148,8 @@ pub line_ends : (fs : List Form) → IsLine fs → Ends at_start fs
 line_ends fs is =
     let read = marks_read is.names 1 1 is.marks is.line is.is_line in
     let judged = line_judged is.names 1 1 is.marks None in
-    let ok : Judged at_start is.names 1 1 is.marks None (Ok is.line) = subst (Judged at_start is.names 1 1 is.marks None) read judged in
+    let ok : Judged at_start is.names 1 1 is.marks None (Ok is.line) =
+    subst (Judged at_start is.names 1 1 is.marks None) read judged in
     subst (Ends at_start) is.same_forms ok.0
 
 pub begins_from : (fs : List Form) (s : Shape) → runs at_start fs ≡ Some s → BeginsLine fs
@@ -145,7 +157,8 @@ begins_from fs s leads =
     let more = completed s in
     record {
       rest = completion s;
-      line = final_line (fs ++ completion s) more.last (runs-append at_start fs (completion s) ∙ ap (λ o. bind o (λ t. runs t (completion s))) leads ∙ more.leads) more.final;
+      line = final_line (fs ++ completion s) more.last (runs-append at_start fs (completion s)
+          ∙ ap (λ o. bind o (λ t. runs t (completion s))) leads ∙ more.leads) more.final;
     }
 
 -- where forms that begin a line lead
@@ -241,5 +254,9 @@ wants_from fs (past_words k) leads = side_wants k fs (past_words k) leads refl r
 wants_from fs (past_empty k) leads = side_wants k fs (past_empty k) leads refl refl (λ last. last)
 wants_from fs at_rule leads = (on_begins fs (a_rule rule.Given) at_rule _ leads refl, no_names fs at_rule leads refl)
 wants_from fs (at_premise a) leads = on_begins fs a_number (at_premise a) _ leads refl
-wants_from fs (at_with k) leads = (on_begins fs a_with (at_with k) (at_side k) leads refl, no_names fs (at_with k) leads refl)
+wants_from fs (at_with k) leads = (
+  on_begins fs a_with (at_with k) (at_side k) leads refl,
+  no_names fs
+      (at_with k) leads refl,
+)
 wants_from fs at_end leads = final_line fs at_end leads refl

@@ -151,7 +151,8 @@ runs-append s (f ∷ fs) gs = told (λ t. runs-append t fs gs) (turn s f)
 -- one token more
 pub runs-one : (fs : List Form) (s : Shape) (f : Form) → runs at_start fs ≡ Some s
     → runs at_start (fs ++ f ∷ []) ≡ turn s f
-runs-one fs s f reached = runs-append at_start fs (f ∷ []) ∙ ap (λ o. bind o (λ t. runs t (f ∷ []))) reached ∙ last (turn s f)
+runs-one fs s f reached = runs-append at_start fs (f ∷ []) ∙ ap (λ o. bind o (λ t. runs t (f ∷ []))) reached ∙ last
+    (turn s f)
   where
     last : (o : Option Shape) → bind o (λ t. Some t) ≡ o
     last None = refl
@@ -198,15 +199,35 @@ words_completed narrow = record { last = past_words narrow; leads = refl; final 
 first_completed : (a : After) → Ends (past_premise a) (past_first a)
 first_completed nothing = record { last = at_end; leads = refl; final = refl }
 first_completed second = record { last = at_end; leads = refl; final = refl }
-first_completed (sets k) = let rest = side_completed k in record { last = rest.last; leads = rest.leads; final = rest.final }
+first_completed (sets k) = let rest = side_completed k in record {
+  last = rest.last;
+  leads = rest.leads;
+  final =
+      rest.final;
+}
 
 pub completed : (s : Shape) → Ends s (completion s)
 completed at_start = record { last = at_end; leads = refl; final = refl }
 completed past_number = record { last = at_end; leads = refl; final = refl }
-completed (at_side k) = let rest = side_completed k in record { last = rest.last; leads = rest.leads; final = rest.final }
+completed (at_side k) = let rest = side_completed k in record {
+  last = rest.last;
+  leads = rest.leads;
+  final =
+      rest.final;
+}
 completed (past_words k) = words_completed k
 completed (past_empty k) = side_completed k
 completed at_rule = record { last = at_end; leads = refl; final = refl }
-completed (at_premise a) = let rest = first_completed a in record { last = rest.last; leads = rest.leads; final = rest.final }
-completed (at_with k) = let rest = side_completed k in record { last = rest.last; leads = rest.leads; final = rest.final }
+completed (at_premise a) = let rest = first_completed a in record {
+  last = rest.last;
+  leads = rest.leads;
+  final =
+      rest.final;
+}
+completed (at_with k) = let rest = side_completed k in record {
+  last = rest.last;
+  leads = rest.leads;
+  final =
+      rest.final;
+}
 completed at_end = record { last = at_end; leads = refl; final = refl }

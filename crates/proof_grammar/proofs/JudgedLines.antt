@@ -19,14 +19,22 @@ use Rattle.proof_grammar.proofs.FormShapes.{Shape, Ends, bind, is_final, runs, t
 pub first_here : (Complaint : ℕ → ℕ → Type 0) (Wanted : ℕ → What → Type 0) (span : ℕ → Span) (e : SchemaRefusal)
     → Complaint 0 (refusal_number e.kind) → Carries (Wanted 0) e.kind
     → e.span ≡ span 0 → ((n : ℕ) → Complaint 0 n → refusal_number e.kind ≤ n) → IsFirst Complaint Wanted span e
-first_here Complaint Wanted span e stands carries there small = record { place = 0; stands = stands; carries = carries; there = there; least = least }
+first_here Complaint Wanted span e stands carries there small = record {
+  place = 0;
+  stands = stands;
+  carries =
+      carries;
+  there = there;
+  least = least;
+}
   where
     least : (p n : ℕ) → Complaint p n → (0 < p) ⊎ ((0 ≡ p) × (refusal_number e.kind ≤ n))
     least zero n h = inr (refl, small n h)
     least (suc p) n h = inl (omega arith)
 
 -- nothing is wrong here, and the first complaint is that of the rest
-pub first_later : (Complaint Rest : ℕ → ℕ → Type 0) (Wanted RestWanted : ℕ → What → Type 0) (span rest : ℕ → Span) (e : SchemaRefusal) → ((n : ℕ) → Complaint 0 n → ⊥)
+pub first_later : (Complaint Rest : ℕ → ℕ → Type 0) (Wanted RestWanted : ℕ → What → Type 0) (span rest : ℕ → Span)
+    (e : SchemaRefusal) → ((n : ℕ) → Complaint 0 n → ⊥)
     → ((p n : ℕ) → Complaint (suc p) n → Rest p n) → ((p n : ℕ) → Rest p n → Complaint (suc p) n)
     → ((p : ℕ) (w : What) → RestWanted p w → Wanted (suc p) w)
     → ((p : ℕ) → rest p ≡ span (suc p)) → IsFirst Rest RestWanted rest e → IsFirst Complaint Wanted span e
@@ -41,7 +49,8 @@ first_later Complaint Rest Wanted RestWanted span rest e fine later earlier want
     least : (p n : ℕ) → Complaint p n
         → (suc first.place < p) ⊎ ((suc first.place ≡ p) × (refusal_number e.kind ≤ n))
     least zero n h = absurd (fine n h)
-    least (suc p) n h = ⊎_elim (λ less. inl (omega (arith, less))) (λ same. inr (ap suc same.0, same.1)) (first.least p n (later p n h))
+    least (suc p) n h = ⊎_elim (λ less. inl (omega (arith, less))) (λ same. inr (ap suc same.0, same.1))
+        (first.least p n (later p n h))
 
 -- ---- what is wrong, by shapes
 abbrev pub OnShape : Option Shape → (Shape → Type 0) → Type 0
@@ -53,8 +62,10 @@ abbrev pub TokenWrong : Shape → List (List ℕ) → List Mark → Option Stop 
 TokenWrong s names [] stop zero n = (n ≡ 6) × (stop ≡ None) × (is_final s ≡ false)
 TokenWrong s names [] stop (suc p) n = ⊥
 TokenWrong s names (m ∷ ms) stop zero n =
-    ((takes_words s ≡ true) × ComplainsOfWord format.Plain names m n) ⊎ ((n ≡ 6) × (turn s (form_of m.kind m.word) ≡ None))
-TokenWrong s names (m ∷ ms) stop (suc p) n = OnShape (turn s (form_of m.kind m.word)) (λ t. TokenWrong t names ms stop p n)
+    ((takes_words s ≡ true) × ComplainsOfWord format.Plain names m n) ⊎
+    ((n ≡ 6) × (turn s (form_of m.kind m.word) ≡ None))
+TokenWrong s names (m ∷ ms) stop (suc p) n = OnShape (turn s (form_of m.kind m.word))
+    (λ t. TokenWrong t names ms stop p n)
 
 abbrev pub Flawed : List Mark → Option Stop → ℕ → ℕ → Type 0
 Flawed ms stop p n = (s : Stop) × (stop ≡ Some s) × (p ≡ length ms) × (n ≡ flaw_number s.flaw)
@@ -70,8 +81,10 @@ pub record ShapeWants (s : Shape) (ms : List Mark) (p : ℕ) (w : What) : Type 0
 
 -- what a reading says of the tokens from here on
 abbrev pub Judged : Shape → List (List ℕ) → ℕ → ℕ → List Mark → Option Stop → Result Line SchemaRefusal → Type 0
-Judged s names line behind ms stop (Ok l) = Ends s (forms ms) × (stop ≡ None) × ((p n : ℕ) → Wrong s names ms stop p n → ⊥)
-Judged s names line behind ms stop (Err e) = IsFirst (Wrong s names ms stop) (ShapeWants s ms) (span_at line behind ms stop) e
+Judged s names line behind ms stop (Ok l) = Ends s (forms ms) × (stop ≡ None) ×
+    ((p n : ℕ) → Wrong s names ms stop p n → ⊥)
+Judged s names line behind ms stop (Err e) = IsFirst (Wrong s names ms stop) (ShapeWants s ms)
+    (span_at line behind ms stop) e
 
 -- ---- one token later
 abbrev form : Mark → Form
@@ -95,12 +108,14 @@ fine_here s t names m ms stop goes right n (inr flaw) = let end : 0 ≡ length (
 
 wrong_later : (s t : Shape) (names : List (List ℕ)) (m : Mark) (ms : List Mark) (stop : Option Stop)
     → turn s (form m) ≡ Some t → (p n : ℕ) → Wrong s names (m ∷ ms) stop (suc p) n → Wrong t names ms stop p n
-wrong_later s t names m ms stop goes p n (inl here) = inl (on_some (turn s (form m)) t (λ u. TokenWrong u names ms stop p n) goes here)
+wrong_later s t names m ms stop goes p n (inl here) =
+    inl (on_some (turn s (form m)) t (λ u. TokenWrong u names ms stop p n) goes here)
 wrong_later s t names m ms stop goes p n (inr (flaw, is, place, number)) = inr (flaw, is, (omega arith), number)
 
 wrong_earlier : (s t : Shape) (names : List (List ℕ)) (m : Mark) (ms : List Mark) (stop : Option Stop)
     → turn s (form m) ≡ Some t → (p n : ℕ) → Wrong t names ms stop p n → Wrong s names (m ∷ ms) stop (suc p) n
-wrong_earlier s t names m ms stop goes p n (inl here) = inl (some_on (turn s (form m)) t (λ u. TokenWrong u names ms stop p n) goes here)
+wrong_earlier s t names m ms stop goes p n (inl here) =
+    inl (some_on (turn s (form m)) t (λ u. TokenWrong u names ms stop p n) goes here)
 wrong_earlier s t names m ms stop goes p n (inr (flaw, is, place, number)) = inr (flaw, is, (omega arith), number)
 
 wants_later : (s t : Shape) (m : Mark) (ms : List Mark) → turn s (form m) ≡ Some t → (p : ℕ) (w : What)
@@ -112,10 +127,16 @@ wants_later s t m ms goes p w wants = record {
 }
 
 -- a token by which the reading goes on
-pub goes_on : (s t : Shape) (names : List (List ℕ)) (line behind : ℕ) (m : Mark) (ms : List Mark) (stop : Option Stop) (r : Result Line SchemaRefusal) → turn s (form m) ≡ Some t → IsRight s names m
+pub goes_on : (s t : Shape) (names : List (List ℕ)) (line behind : ℕ) (m : Mark) (ms : List Mark)
+    (stop : Option Stop) (r : Result Line SchemaRefusal) → turn s (form m) ≡ Some t → IsRight s names m
     → Judged t names line (m.column + length m.word) ms stop r → Judged s names line behind (m ∷ ms) stop r
 goes_on s t names line behind m ms stop (Ok l) goes right rest = (
-  record { last = rest.0.last; leads = ap (λ o. bind o (λ u. runs u (forms ms))) goes ∙ rest.0.leads; final = rest.0.final },
+  record {
+    last = rest.0.last;
+    leads = ap (λ o. bind o (λ u. runs u (forms ms))) goes ∙ rest.0.leads;
+    final =
+        rest.0.final;
+  },
   rest.1,
   none,
 )
@@ -124,16 +145,20 @@ goes_on s t names line behind m ms stop (Ok l) goes right rest = (
     none zero n h = fine_here s t names m ms stop goes right n h
     none (suc p) n h = rest.2 p n (wrong_later s t names m ms stop goes p n h)
 goes_on s t names line behind m ms stop (Err e) goes right rest =
-    first_later (Wrong s names (m ∷ ms) stop) (Wrong t names ms stop) (ShapeWants s (m ∷ ms)) (ShapeWants t ms) (span_at line behind (m ∷ ms) stop)
-    (span_at line (m.column + length m.word) ms stop) e (fine_here s t names m ms stop goes right) (wrong_later s t names m ms stop goes) (wrong_earlier s t names m ms stop goes)
+    first_later (Wrong s names (m ∷ ms) stop) (Wrong t names ms stop) (ShapeWants s (m ∷ ms)) (ShapeWants t ms)
+    (span_at line behind (m ∷ ms) stop)
+    (span_at line (m.column + length m.word) ms stop) e (fine_here s t names m ms stop goes right)
+    (wrong_later s t names m ms stop goes) (wrong_earlier s t names m ms stop goes)
     (wants_later s t m ms goes) (λ p. refl) rest
 
 -- ---- the reading ends here
 -- a token at which the grammar can't go on
-pub stuck_here : (s : Shape) (names : List (List ℕ)) (line behind : ℕ) (m : Mark) (ms : List Mark) (stop : Option Stop) (w : What) → turn s (form m) ≡ None → IsRight s names m → w ≡ wanted_by s
+pub stuck_here : (s : Shape) (names : List (List ℕ)) (line behind : ℕ) (m : Mark) (ms : List Mark)
+    (stop : Option Stop) (w : What) → turn s (form m) ≡ None → IsRight s names m → w ≡ wanted_by s
     → Judged s names line behind (m ∷ ms) stop (Err (refusal line m.column (length m.word) (kind.Expected w)))
 stuck_here s names line behind m ms stop w cannot right wants =
-    first_here (Wrong s names (m ∷ ms) stop) (ShapeWants s (m ∷ ms)) (span_at line behind (m ∷ ms) stop) (refusal line m.column (length m.word) (kind.Expected w))
+    first_here (Wrong s names (m ∷ ms) stop) (ShapeWants s (m ∷ ms)) (span_at line behind (m ∷ ms) stop)
+    (refusal line m.column (length m.word) (kind.Expected w))
     (inl (inr (refl, cannot))) (record { shape = s; reached = refl; is = wants }) refl small
   where
     small : (n : ℕ) → Wrong s names (m ∷ ms) stop 0 n → 6 ≤ n
@@ -146,7 +171,8 @@ pub end_here : (s : Shape) (names : List (List ℕ)) (line behind : ℕ) (w : Wh
     → w ≡ wanted_by s
     → Judged s names line behind [] None (Err (refusal line behind 0 (kind.Expected w)))
 end_here s names line behind w open_end wants =
-    first_here (Wrong s names [] None) (ShapeWants s []) (span_at line behind [] None) (refusal line behind 0 (kind.Expected w))
+    first_here (Wrong s names [] None) (ShapeWants s []) (span_at line behind [] None)
+    (refusal line behind 0 (kind.Expected w))
     (inl (refl, refl, open_end)) (record { shape = s; reached = refl; is = wants }) refl small
   where
     small : (n : ℕ) → Wrong s names [] None 0 n → 6 ≤ n
@@ -157,7 +183,8 @@ end_here s names line behind w open_end wants =
 pub flaw_here : (s : Shape) (names : List (List ℕ)) (line behind : ℕ) (stop : Stop)
     → Judged s names line behind [] (Some stop) (Err (refused_by line stop))
 flaw_here s names line behind stop =
-    first_here (Wrong s names [] (Some stop)) (ShapeWants s []) (span_at line behind [] (Some stop)) (refused_by line stop)
+    first_here (Wrong s names [] (Some stop)) (ShapeWants s []) (span_at line behind [] (Some stop))
+    (refused_by line stop)
     (inr (stop, refl, refl, flaw_numbered stop.flaw)) (flaw_carries (ShapeWants s [] 0) stop.flaw) refl small
   where
     inside : (t : Stop) → Some stop ≡ Some t → stop ≡ t

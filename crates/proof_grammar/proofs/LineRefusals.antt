@@ -138,8 +138,10 @@ wanted_at fs what.Number h = let on = begins_on fs a_number h in number_at fs on
 wanted_at fs what.Colon h = let on = begins_on fs a_colon h in colon_at fs on.shape on.next on.leads on.on
 wanted_at fs what.Arrow h = let on = begins_on fs an_arrow h in arrow_at fs on.shape on.next on.leads on.on
 wanted_at fs what.Side h = let on = begins_on fs an_empty h in side_at fs on.shape on.next on.leads on.on
-wanted_at fs what.With h = let on = begins_on fs a_with h.0 in with_at fs on.shape on.next on.leads (λ takes. h.1 (takes_names fs on.shape on.leads takes)) on.on
-wanted_at fs what.Rule h = let on = begins_on fs (a_rule rule.Given) h.0 in rule_at fs on.shape on.next on.leads (λ takes. h.1 (takes_names fs on.shape on.leads takes)) on.on
+wanted_at fs what.With h = let on = begins_on fs a_with h.0 in with_at fs on.shape on.next on.leads
+    (λ takes. h.1 (takes_names fs on.shape on.leads takes)) on.on
+wanted_at fs what.Rule h = let on = begins_on fs (a_rule rule.Given) h.0 in rule_at fs on.shape on.next on.leads
+    (λ takes. h.1 (takes_names fs on.shape on.leads takes)) on.on
 wanted_at fs what.LineEnd h = let ends = line_ends fs h in end_at fs ends.last ends.leads ends.final
 wanted_at fs what.Name h = absurd h
 wanted_at fs what.Scheme h = absurd h
@@ -148,7 +150,8 @@ one_want : (fs : List Form) → OneWant (Wants fs)
 one_want fs w v h g =
     let first = wanted_at fs w h in
     let again = wanted_at fs v g in
-    first.is ∙ ap wanted_by (same_shape first.shape again.shape (runs at_start fs) first.reached again.reached) ∙ sym again.is
+    first.is ∙ ap wanted_by (same_shape first.shape again.shape (runs at_start fs) first.reached again.reached)
+    ∙ sym again.is
 
 -- ---- what is wrong at a place, by the shape that is reached there
 abbrev Why : Shape → List (List ℕ) → List Mark → Option Stop → ℕ → ℕ → Shape → Type 0
@@ -163,23 +166,32 @@ record AtPlace (s : Shape) (names : List (List ℕ)) (ms : List Mark) (stop : Op
   reached : runs s (take p (forms ms)) ≡ Some shape
   why : Why s names ms stop p n shape
 
-why_earlier : (s t : Shape) (names : List (List ℕ)) (m : Mark) (ms : List Mark) (stop : Option Stop) (p n : ℕ) (u : Shape) → turn s (form m) ≡ Some t → Why t names ms stop p n u → Why s names (m ∷ ms) stop (suc p) n u
+why_earlier : (s t : Shape) (names : List (List ℕ)) (m : Mark) (ms : List Mark) (stop : Option Stop) (p n : ℕ)
+    (u : Shape) → turn s (form m) ≡ Some t → Why t names ms stop p n u → Why s names (m ∷ ms) stop (suc p) n u
 why_earlier s t names m ms stop p n u goes (inl word) = inl word
 why_earlier s t names m ms stop p n u goes (inr (six, inl (less, none))) =
     inr (six, inl ((omega arith), ap (λ o. bind o (λ v. runs v (take (suc p) (forms ms)))) goes ∙ none))
-why_earlier s t names m ms stop p n u goes (inr (six, inr (same, ended, open_end))) = inr (six, inr ((omega arith), ended, open_end))
+why_earlier s t names m ms stop p n u goes (inr (six, inr (same, ended, open_end))) =
+    inr (six, inr ((omega arith), ended, open_end))
 
-why_later : (s t : Shape) (names : List (List ℕ)) (m : Mark) (ms : List Mark) (stop : Option Stop) (p n : ℕ) (u : Shape) → turn s (form m) ≡ Some t → Why s names (m ∷ ms) stop (suc p) n u → Why t names ms stop p n u
+why_later : (s t : Shape) (names : List (List ℕ)) (m : Mark) (ms : List Mark) (stop : Option Stop) (p n : ℕ)
+    (u : Shape) → turn s (form m) ≡ Some t → Why s names (m ∷ ms) stop (suc p) n u → Why t names ms stop p n u
 why_later s t names m ms stop p n u goes (inl word) = inl word
 why_later s t names m ms stop p n u goes (inr (six, inl (less, none))) =
     inr (six, inl ((omega arith), sym (ap (λ o. bind o (λ v. runs v (take (suc p) (forms ms)))) goes) ∙ none))
-why_later s t names m ms stop p n u goes (inr (six, inr (same, ended, open_end))) = inr (six, inr ((omega arith), ended, open_end))
+why_later s t names m ms stop p n u goes (inr (six, inr (same, ended, open_end))) =
+    inr (six, inr ((omega arith), ended, open_end))
 
 place_there : (s : Shape) (names : List (List ℕ)) (ms : List Mark) (stop : Option Stop) (p n : ℕ)
     → TokenWrong s names ms stop p n → AtPlace s names ms stop p n
 place_there s names [] stop zero n h = record { shape = s; reached = refl; why = inr (h.0, inr (refl, h.1, h.2)) }
 place_there s names [] stop (suc p) n h = absurd h
-place_there s names (m ∷ ms) stop zero n (inl word) = record { shape = s; reached = refl; why = inl (m, refl, word.0, word.1) }
+place_there s names (m ∷ ms) stop zero n (inl word) = record {
+  shape = s;
+  reached = refl;
+  why =
+      inl (m, refl, word.0, word.1);
+}
 place_there s names (m ∷ ms) stop zero n (inr six) = record {
   shape = s;
   reached = refl;
@@ -217,13 +229,20 @@ place_back s names [] stop zero n t reached (inr (six, inr (same, ended, open_en
     (six, ended, subst (λ (u : Shape). is_final u ≡ false) (sym (inside s t reached)) open_end)
 place_back s names [] stop (suc p) n t reached (inr (six, inr (same, ended, open_end))) = absurd (omega arith)
 place_back s names (m ∷ ms) stop zero n t reached (inl (k, is, takes, word)) =
-    inl (subst (λ (u : Shape). takes_words u ≡ true) (sym (inside s t reached)) takes, subst (λ (x : Mark). ComplainsOfWord format.Plain names x n) (sym (same_mark m ms k is)) word)
-place_back s names (m ∷ ms) stop zero n t reached (inr (six, inl (less, none))) = inr (six, only_one (turn s (form m)) none)
+    inl (
+      subst (λ (u : Shape). takes_words u ≡ true) (sym (inside s t reached)) takes,
+      subst
+          (λ (x : Mark). ComplainsOfWord format.Plain names x n) (sym (same_mark m ms k is)) word,
+    )
+place_back s names (m ∷ ms) stop zero n t reached (inr (six, inl (less, none))) =
+    inr (six, only_one (turn s (form m)) none)
 place_back s names (m ∷ ms) stop zero n t reached (inr (six, inr (same, ended, open_end))) = absurd (omega arith)
-place_back s names (m ∷ ms) stop (suc p) n t reached why = told (turn s (form m)) refl reached (λ u. place_back u names ms stop p n t)
+place_back s names (m ∷ ms) stop (suc p) n t reached why = told (turn s (form m)) refl reached
+    (λ u. place_back u names ms stop p n t)
   where
     told : (o : Option Shape) → turn s (form m) ≡ o → bind o (λ u. runs u (take p (forms ms))) ≡ Some t
-        → ((u : Shape) → runs u (take p (forms ms)) ≡ Some t → Why u names ms stop p n t → TokenWrong u names ms stop p n) → OnShape o (λ u. TokenWrong u names ms stop p n)
+        → ((u : Shape) → runs u (take p (forms ms)) ≡ Some t → Why u names ms stop p n t
+        → TokenWrong u names ms stop p n) → OnShape o (λ u. TokenWrong u names ms stop p n)
     told None goes on rest = cc
     told (Some u) goes on rest = rest u on (why_later s u names m ms stop p n t goes why)
 
@@ -234,7 +253,8 @@ all_taken p fs same = take_all p fs (omega arith)
 complaint_there : (names : List (List ℕ)) (ms : List Mark) (stop : Option Stop) (p n : ℕ)
     → Wrong at_start names ms stop p n → TokensComplaint names ms stop p n
 complaint_there names ms stop p n (inr flaw) = inr flaw
-complaint_there names ms stop p n (inl h) = let at = place_there at_start names ms stop p n h in inl (told at.shape at.reached at.why)
+complaint_there names ms stop p n (inl h) = let at = place_there at_start names ms stop p n h in
+    inl (told at.shape at.reached at.why)
   where
     fs : List Form
     fs = forms ms
@@ -242,11 +262,14 @@ complaint_there names ms stop p n (inl h) = let at = place_there at_start names 
     told : (s : Shape) → runs at_start (take p fs) ≡ Some s → Why at_start names ms stop p n s
         → SideComplaint names ms p n ⊎ ((n ≡ 6) × IsStuck fs stop p)
     told s reached (inl (m, is, takes, word)) = inl (m, is, takes_names (take p fs) s reached takes, word)
-    told s reached (inr (six, inl (less, none))) = inr (six, record { before = begins_from (take p fs) s reached; here = inl (less, cannot) })
+    told s reached (inr (six, inl (less, none))) =
+        inr (six, record { before = begins_from (take p fs) s reached; here = inl (less, cannot) })
       where
         cannot : BeginsLine (take (suc p) fs) → ⊥
-        cannot begins = let there = begins_to (take (suc p) fs) begins in let wrong : None ≡ Some there.shape = sym none ∙ there.leads in cc
-    told s reached (inr (six, inr (same, ended, open_end))) = inr (six, record { before = begins_from (take p fs) s reached; here = inr (same, ended, cannot) })
+        cannot begins = let there = begins_to (take (suc p) fs) begins in let wrong : None ≡ Some there.shape =
+            sym none ∙ there.leads in cc
+    told s reached (inr (six, inr (same, ended, open_end))) =
+        inr (six, record { before = begins_from (take p fs) s reached; here = inr (same, ended, cannot) })
       where
         cannot : IsLine fs → ⊥
         cannot is =
@@ -263,14 +286,16 @@ complaint_back names ms stop p n (inl (inl (m, is, takes, word))) =
     inl (place_back at_start names ms stop p n on.shape on.leads (inl (m, is, word_taken on.shape on.next on.on, word)))
 complaint_back names ms stop p n (inl (inr (six, stuck))) =
     let there = begins_to (take p (forms ms)) stuck.before in
-    inl (place_back at_start names ms stop p n there.shape there.leads (inr (six, told there.shape there.leads stuck.here)))
+    inl (place_back at_start names ms stop p n there.shape there.leads
+    (inr (six, told there.shape there.leads stuck.here)))
   where
     fs : List Form
     fs = forms ms
 
     told : (s : Shape) → runs at_start (take p fs) ≡ Some s
         → ((p < length fs) × (BeginsLine (take (suc p) fs) → ⊥)) ⊎ ((p ≡ length fs) × (stop ≡ None) × (IsLine fs → ⊥))
-        → ((p < length fs) × (runs at_start (take (suc p) fs) ≡ None)) ⊎ ((p ≡ length fs) × (stop ≡ None) × (is_final s ≡ false))
+        → ((p < length fs) × (runs at_start (take (suc p) fs) ≡ None)) ⊎
+        ((p ≡ length fs) × (stop ≡ None) × (is_final s ≡ false))
     told s reached (inl (less, cannot)) = inl (less, nowhere (runs at_start (take (suc p) fs)) refl)
       where
         nowhere : (o : Option Shape) → runs at_start (take (suc p) fs) ≡ o → o ≡ None
@@ -284,39 +309,46 @@ complaint_back names ms stop p n (inl (inr (six, stuck))) =
 
 -- ---- the laws
 shape_wants : (ms : List Mark) (p : ℕ) (w : What) → ShapeWants at_start ms p w → TokensWant ms p w
-shape_wants ms p w wants = subst (Wants (take p (forms ms))) (sym wants.is) (wants_from (take p (forms ms)) wants.shape wants.reached)
+shape_wants ms p w wants = subst (Wants (take p (forms ms))) (sym wants.is)
+    (wants_from (take p (forms ms)) wants.shape wants.reached)
 
 first_there : (names : List (List ℕ)) (at : ℕ) (ms : List Mark) (stop : Option Stop) (e : SchemaRefusal)
     → Judged at_start names at 1 ms stop (Err e) → RefusesTokens names at ms stop e
 first_there names at ms stop e first = record {
   place = first.place;
   stands = complaint_there names ms stop first.place (refusal_number e.kind) first.stands;
-  carries = Carries-map (ShapeWants at_start ms first.place) (TokensWant ms first.place) (shape_wants ms first.place) e.kind first.carries;
+  carries = Carries-map (ShapeWants at_start ms first.place) (TokensWant ms first.place)
+      (shape_wants ms first.place) e.kind first.carries;
   there = first.there;
   least = λ p n complaint. first.least p n (complaint_back names ms stop p n complaint);
 }
 
 tokens_there : (names : List (List ℕ)) (at : ℕ) (ms : List Mark) (stop : Option Stop) (e : SchemaRefusal)
     → line names (left_at at 1 ms stop) ≡ Err e → RefusesTokens names at ms stop e
-tokens_there names at ms stop e is = first_there names at ms stop e (subst (Judged at_start names at 1 ms stop) is (line_judged names at 1 ms stop))
+tokens_there names at ms stop e is = first_there names at ms stop e (subst (Judged at_start names at 1 ms stop) is
+    (line_judged names at 1 ms stop))
 
 tokens_back : (names : List (List ℕ)) (at : ℕ) (ms : List Mark) (stop : Option Stop) (e : SchemaRefusal)
     → RefusesTokens names at ms stop e → line names (left_at at 1 ms stop) ≡ Err e
 tokens_back names at ms stop e refuses = told (line names (left_at at 1 ms stop)) (line_judged names at 1 ms stop)
   where
     told : (r : Result Line SchemaRefusal) → Judged at_start names at 1 ms stop r → r ≡ Err e
-    told (Ok l) judged = absurd (judged.2 refuses.place (refusal_number e.kind) (complaint_back names ms stop refuses.place (refusal_number e.kind) refuses.stands))
+    told (Ok l) judged = absurd (judged.2 refuses.place (refusal_number e.kind)
+        (complaint_back names ms stop refuses.place (refusal_number e.kind) refuses.stands))
     told (Err f) judged =
         ap (λ (g : SchemaRefusal). Err g)
-        (one_first (TokensComplaint names ms stop) (TokensWant ms) (span_at at 1 ms stop) f e (λ p. one_want (take p (forms ms))) (first_there names at ms stop f judged) refuses)
+        (one_first (TokensComplaint names ms stop) (TokensWant ms) (span_at at 1 ms stop) f e
+        (λ p. one_want (take p (forms ms))) (first_there names at ms stop f judged) refuses)
 
 pub line_refuses : (names : List (List ℕ)) (number : ℕ) (text : List ℕ) (e : SchemaRefusal)
     → line names (rest_from number 1 (lex mode.Numbered text)) ≡ Err e → RefusesLine names number text e
-line_refuses names number text e is = tokens_there names number (lex mode.Numbered text).marks (lex mode.Numbered text).stop e is
+line_refuses names number text e is = tokens_there names number (lex mode.Numbered text).marks
+    (lex mode.Numbered text).stop e is
 
 pub refuses_line : (names : List (List ℕ)) (number : ℕ) (text : List ℕ) (e : SchemaRefusal)
     → RefusesLine names number text e → line names (rest_from number 1 (lex mode.Numbered text)) ≡ Err e
-refuses_line names number text e refuses = tokens_back names number (lex mode.Numbered text).marks (lex mode.Numbered text).stop e refuses
+refuses_line names number text e refuses = tokens_back names number (lex mode.Numbered text).marks
+    (lex mode.Numbered text).stop e refuses
 
 pub refusal_law : (names : List (List ℕ)) (number : ℕ) (text : List ℕ) (e : SchemaRefusal)
     → (line names (rest_from number 1 (lex mode.Numbered text)) ≡ Err e) ↔ RefusesLine names number text e
