@@ -26,14 +26,15 @@ impl Guide {
     }
 }
 
-// The slot of a word, ASCII case aside: the bit that is set is the one by which a small letter differs
-// from its capital, and digits have it.
+// The slot of a word, ASCII case aside.
 fn slot(word: &[u8]) -> usize
     ensures inside { result < SLOTS }
 {
     let mut hash: u32 = 0;
     for byte in word {
-        hash = hash.wrapping_mul(33).wrapping_add(u32::from(*byte | 32));
+        hash = hash
+            .wrapping_mul(33)
+            .wrapping_add(u32::from(byte.to_ascii_lowercase()));
     }
     hash as usize % SLOTS
 }
