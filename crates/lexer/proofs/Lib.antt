@@ -1,3 +1,4 @@
 pub mod Cuts
 pub mod Digits
+mod Runs
 pub mod Steps

@@ -1,8 +1,10 @@
 ghost use Rattle.std.specs.Prelude.{◌≡◌, IsTrue};
 ghost use Rattle.std.specs.Char.{is_ascii_digit};
 ghost use Rattle.std.specs.List.{list_all};
-ghost use Rattle.dep_model.specs.Names.{is_name_byte};
+ghost use Rattle.dep_model.specs.Names.{is_name, is_name_byte};
 ghost use Rattle.lexer.specs.Bytes.{is_gap, is_number, number_of, run_length};
+
+use dep_model::MOST_NAME_BYTES;
 
 /// Whether a byte only separates tokens: a blank, a tab or a comma.
 pub fn is_gap(byte: u8) -> bool
@@ -23,6 +25,14 @@ pub fn run_length(text: &[u8]) -> usize
     ensures length { result ≡ run_length text.now }
 {
     text.iter().take_while(|byte| is_run(**byte)).count()
+}
+
+/// Whether a run is a name: a letter in front, and not too many bytes.
+pub fn is_name(run: &[u8]) -> bool
+    requires run { IsTrue (list_all is_name_byte run.now) }
+    ensures name { result ≡ is_name run.now }
+{
+    !run.is_empty() && run[0].is_ascii_alphabetic() && run.len() <= MOST_NAME_BYTES
 }
 
 /// Whether a run is a number: 1 to 9 digits.

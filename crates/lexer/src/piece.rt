@@ -1,9 +1,10 @@
-ghost use Rattle.std.specs.Prelude.{◌≡◌, ◌<◌, ◌≤◌, length};
+ghost use Rattle.std.specs.Prelude.{◌≡◌, ◌<◌, ◌≤◌, length, IsTrue};
+ghost use Rattle.std.specs.List.{list_all};
+ghost use Rattle.dep_model.specs.Names.{is_name_byte};
 ghost use Rattle.lexer.specs.Pieces.{front, run_piece};
 
-use crate::bytes::{is_gap, is_number, is_run, number_of, run_length};
+use crate::bytes::{is_gap, is_name, is_number, is_run, number_of, run_length};
 use crate::token::{Flaw, Mode, TokenKind};
-use dep_model::Name;
 
 /// What stands at the front of a text.
 #[derive(Clone, Copy)]
@@ -47,9 +48,10 @@ pub fn front(mode: Mode, text: &[u8]) -> Piece
 /// What a whole run of letters, digits and `_` is.
 #[tactic(auto, unfolding(crate::specs::Pieces::run_piece))]
 fn run_piece(mode: Mode, run: &[u8]) -> Piece
+    requires run { IsTrue (list_all is_name_byte run.now) }
     ensures exact { result ≡ run_piece mode run.now }
 {
-    if Name::make(run).is_some() {
+    if is_name(run) {
         Piece::Token(TokenKind::Word, run.len())
     } else if mode.takes_numbers() && is_number(run) {
         Piece::Token(TokenKind::Number(number_of(run)), run.len())

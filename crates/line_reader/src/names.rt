@@ -1,4 +1,5 @@
-ghost use Rattle.std.specs.Prelude.{◌≡◌, ◌<◌, ◌≤◌, length, IfOk, IfErr, Ok, Err};
+ghost use Rattle.std.specs.Prelude.{◌≡◌, ◌<◌, ◌≤◌, ◌↔◌, length, IsTrue, IfOk, IfErr, Ok, Err};
+ghost use Rattle.std.specs.Str.{str_to_ascii_lowercase};
 ghost use Rattle.dep_model.specs.Schemas.{names_of, place_named};
 ghost use Rattle.schema_grammar.specs.Declarations.{marked};
 ghost use Rattle.schema_grammar.specs.Rests.{place};
@@ -71,10 +72,18 @@ fn place_of(names: &Names<'_>, word: &[u8]) -> Option<u8>
 fn guessed(schema: &Schema, word: &[u8], guess: u8) -> Option<u8>
     ensures place { result ≡ place_named (names_of schema.now) word.now }
 {
-    if guess < schema.width() && schema.name(guess).bytes().eq_ignore_ascii_case(word) {
+    if guess < schema.width() && is_spelled(schema.name(guess).bytes(), word) {
         return Some(guess);
     }
     schema.place_of(word)
+}
+
+/// Whether a name is the word, ASCII case aside. Most words are spelled as their names were declared.
+fn is_spelled(name: &[u8], word: &[u8]) -> bool
+    ensures same { IsTrue result
+        ↔ (str_to_ascii_lowercase name.now ≡ str_to_ascii_lowercase word.now) }
+{
+    name == word || name.eq_ignore_ascii_case(word)
 }
 
 /// The place of the first name that a word is.

@@ -126,10 +126,10 @@ rule_of_attributes s ms (by_pair rule p q) is = tt
 
 pub line_of_attributes : (s : Schema) (text : List ℕ) (l : Line) → MeansLine (names_of s) text l → IsLineOfAttributes l
 line_of_attributes s text l means =
-    let d = means.dependency in
+    let d = means.is_line.dependency in
     let sides = stated_sides d.sign d.x d.y l.stated d.states in
     record {
       left = subst OfAttributes (sym sides.0) (of_attributes s d.lhs d.x d.left_side);
       right = subst OfAttributes (sym sides.1) (of_attributes s d.rhs d.y d.right_side);
-      body = rule_of_attributes s means.rule l.body means.is_rule;
+      body = rule_of_attributes s means.is_line.rule l.body means.is_line.is_rule;
     }

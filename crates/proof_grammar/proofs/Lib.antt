@@ -7,7 +7,14 @@ pub mod EnteredLaws
 pub mod EnteredRefusals
 pub mod FinishedLaws
 pub mod FinishedRefusals
+pub mod JudgedLines
+pub mod JudgedSides
+pub mod JudgedRules
+pub mod JudgedTokens
 pub mod LineLaws
+pub mod LineRefusals
+pub mod FormLines
+pub mod FormShapes
 pub mod NodeLemmas
 pub mod OneTree
 pub mod PlaceLemmas

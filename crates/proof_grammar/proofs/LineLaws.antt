@@ -1,5 +1,5 @@
 -- A line of a certificate is read exactly where the grammar has one.
-use Rattle.std.specs.Prelude.{◌↔◌}
+use Rattle.std.specs.Prelude.{◌↔◌, ok_or}
 use Rattle.std.proofs.Common.{◌≡◌, ℕ, false, List, [], ◌∷◌, ◌++◌, Option, Some, None, Ok, refl, sym, ◌∙◌, ap, subst, append_assoc}
 use Rattle.attr_sets.specs.Places.{Places}
 use Rattle.dep_model.specs.Dependencies.{Dependency}
@@ -8,17 +8,19 @@ use Rattle.lexer.specs.declared.token.Stop.{Stop}
 use Rattle.lexer.specs.declared.token.TokenKind.{TokenKind}
 use Rattle.lexer.specs.declared.token.TokenKind.TheVariants as token
 use Rattle.lexer.specs.Tokens.{Mark, lex}
+use Rattle.schema_grammar.specs.declared.refusal.What.TheVariants as what
 use Rattle.schema_grammar.specs.declared.symbol.Sign.{Sign}
+use Rattle.schema_grammar.specs.Texts.{number_in}
 use Rattle.schema_grammar.specs.declared.symbol.Sign.TheVariants as sign
 use Rattle.schema_grammar.specs.declared.format.Format.TheVariants as format
 use Rattle.schema_grammar.specs.Grammar as grammar
 use Rattle.schema_grammar.specs.Meanings.{IsArrow, IsDependency}
-use Rattle.proof_grammar.specs.Lines.{Body, Line, body, stated_dependency, unless, line}
-use Rattle.proof_grammar.specs.Meanings.{IsNumber, IsColon, IsRule, MeansLine}
-use Rattle.schema_grammar.specs.Rests.{Rest, rest_from, number, arrow, ended, side, arrow_in, is_word}
+use Rattle.proof_grammar.specs.Lines.{Body, Line, body, stated_dependency, unless, line, line_from}
+use Rattle.proof_grammar.specs.Meanings.{IsNumber, IsColon, IsCertificateLine, MeansLine}
+use Rattle.schema_grammar.specs.Rests.{Rest, rest_from, take, expected, number, arrow, ended, side, arrow_in, is_word}
 use Rattle.proof_grammar.specs.Readers.{colon, rule_name}
 use Rattle.proof_grammar.proofs.SideLaws.{bound, ok_same, ReadsSide, side_there, NoWord, side_back}
-use Rattle.proof_grammar.proofs.TokenLaws.{Reads, after_of, number_there, colon_there, arrow_there, rest_at, number_back, colon_back, arrow_back}
+use Rattle.proof_grammar.proofs.TokenLaws.{Reads, after_of, number_there, colon_there, arrow_there, rest_at, colon_back, arrow_back}
 use Rattle.proof_grammar.proofs.RuleLaws.{RuleEnds, rule_there, rule_back}
 
 -- ---- the dependency
@@ -104,85 +106,75 @@ unless_there {X} r x y e = told r.marks r.stop refl refl e
     told [] (Some stop) here there e = cc
     told (m ∷ ms) stop here there e = cc
 
--- what a line's tokens make
-record ReadsLine (names : List (List ℕ)) (start : Rest) (l : Line) : Type 0 where
-  number : Mark
-  first : Mark
-  stated : List Mark
-  second : Mark
-  rule : List Mark
-  marks : start.marks ≡ number ∷ first ∷ stated ++ second ∷ rule
-  stop : start.stop ≡ None
-  is_number : IsNumber l.number number
-  first_colon : IsColon first
-  dependency : IsDependency format.Plain names stated l.stated
-  second_colon : IsColon second
-  is_rule : IsRule names rule l.body
+-- a line that is read
+pub record ReadsLine (names : List (List ℕ)) (start : Rest) (l : Line) : Type 0 where
+  pub is_line : IsCertificateLine names start.marks l
+  pub stop : start.stop ≡ None
 
 line_made : (names : List (List ℕ)) (start a b c d last : Rest) (n : ℕ) (s : Dependency) (body : Body) → Reads (IsNumber n) start a → Reads IsColon a b → ReadsDependency names b s c → Reads IsColon c d
     → RuleEnds names d body last → Ends last → ReadsLine names start (record { number = n; stated = s; body = body })
 line_made names start a b c d last n s body number first dependency second rule end = record {
-  number = number.mark;
-  first = first.mark;
-  stated = dependency.marks;
-  second = second.mark;
-  rule = d.marks;
-  marks = number.takes.marks ∙ ap (λ t. number.mark ∷ t) (first.takes.marks ∙ ap (λ t. first.mark ∷ t) (dependency.whole ∙ ap (λ t. dependency.marks ++ t) second.takes.marks));
+  is_line = record {
+    number = number.mark;
+    first = first.mark;
+    stated = dependency.marks;
+    second = second.mark;
+    rule = d.marks;
+    whole = number.takes.marks ∙ ap (λ t. number.mark ∷ t) (first.takes.marks ∙ ap (λ t. first.mark ∷ t) (dependency.whole ∙ ap (λ t. dependency.marks ++ t) second.takes.marks));
+    is_number = number.holds;
+    first_colon = first.holds;
+    dependency = dependency.is;
+    second_colon = second.holds;
+    is_rule = rule.is_rule end.marks;
+  };
   stop = sym (rule.stop ∙ second.takes.stop ∙ dependency.stop ∙ first.takes.stop ∙ number.takes.stop) ∙ end.stop;
-  is_number = number.holds;
-  first_colon = first.holds;
-  dependency = dependency.is;
-  second_colon = second.holds;
-  is_rule = rule.is_rule end.marks;
 }
 
-line_reads : (names : List (List ℕ)) (start : Rest) (l : Line) → line names start ≡ Ok l → ReadsLine names start l
-unfolding line
+number_read : (start : Rest) (t : Mark × Rest) (n : ℕ) → take what.Number start ≡ Ok t
+    → ok_or (number_in t.0.kind) (expected what.Number t.0 t.1) ≡ Ok n → number start ≡ Ok (n, t.1)
+unfolding number
+number_read start t n takes is = rw (takes, is) refl
+
+pub line_reads : (names : List (List ℕ)) (start : Rest) (l : Line) → line names start ≡ Ok l → ReadsLine names start l
+unfolding line line_from
 line_reads names start l e =
-    let n = bound (number start) _ l e in
-    let a = bound (colon n.value.1) _ l n.goes_on in
+    let t = bound (take what.Number start) _ l e in
+    let n = bound (ok_or (number_in t.value.0.kind) (expected what.Number t.value.0 t.value.1)) _ l t.goes_on in
+    let a = bound (colon t.value.1) _ l n.goes_on in
     let d = bound (stated_dependency names a.value) _ l a.goes_on in
     let b = bound (colon d.value.1) _ l d.goes_on in
     let r = bound (rule_name b.value) _ l b.goes_on in
     let x = bound (body names r.value.0 r.value.1) _ l r.goes_on in
-    let end = unless_there x.value.1 (record { number = n.value.0; stated = d.value.0; body = x.value.0 }) l x.goes_on in
+    let end = unless_there x.value.1 (record { number = n.value; stated = d.value.0; body = x.value.0 }) l x.goes_on in
     subst (ReadsLine names start) end.0
-    (line_made names start n.value.1 a.value d.value.1 b.value x.value.1 n.value.0 d.value.0 x.value.0
-    (number_there start n.value n.is) (colon_there n.value.1 a.value a.is) (dependency_there names a.value d.value d.is) (colon_there d.value.1 b.value b.is)
+    (line_made names start t.value.1 a.value d.value.1 b.value x.value.1 n.value d.value.0 x.value.0
+    (number_there start (n.value, t.value.1) (number_read start t.value n.value t.is n.is)) (colon_there t.value.1 a.value a.is) (dependency_there names a.value d.value d.is) (colon_there d.value.1 b.value b.is)
     (rule_there names b.value r.value x.value r.is x.is) end.1)
 
 pub line_there : (names : List (List ℕ)) (number : ℕ) (text : List ℕ) (l : Line) → line names (rest_from number 1 (lex mode.Numbered text)) ≡ Ok l → MeansLine names text l
 line_there names number text l e =
     let reads = line_reads names (rest_from number 1 (lex mode.Numbered text)) l e in
-    record {
-      number = reads.number;
-      first = reads.first;
-      stated = reads.stated;
-      second = reads.second;
-      rule = reads.rule;
-      tokens = λ i. record { marks = reads.marks i; stop = reads.stop i };
-      is_number = reads.is_number;
-      first_colon = reads.first_colon;
-      dependency = reads.dependency;
-      second_colon = reads.second_colon;
-      is_rule = reads.is_rule;
-    }
+    record { marks = (lex mode.Numbered text).marks; tokens = λ i. record { marks = (lex mode.Numbered text).marks; stop = reads.stop i }; is_line = reads.is_line }
 
-pub line_back : (names : List (List ℕ)) (number : ℕ) (text : List ℕ) (l : Line) → MeansLine names text l → line names (rest_from number 1 (lex mode.Numbered text)) ≡ Ok l
-unfolding line ended
-line_back names at text l means =
-    let rest = means.stated ++ means.second ∷ means.rule in
-    let d = dependency_back names at (after_of means.first) means.stated (means.second ∷ means.rule) l.stated means.dependency (ap is_word means.second_colon) in
-    let r = rule_back names at (after_of means.second) means.rule l.body means.is_rule in
-    ap (λ t. line names (rest_from at 1 t)) means.tokens
+-- tokens that are a line are read as it, from any column
+pub marks_read : (names : List (List ℕ)) (at from : ℕ) (ms : List Mark) (l : Line) → IsCertificateLine names ms l → line names (rest_at at from ms) ≡ Ok l
+unfolding line line_from take ended
+marks_read names at from ms l is =
+    let rest = is.stated ++ is.second ∷ is.rule in
+    let d = dependency_back names at (after_of is.first) is.stated (is.second ∷ is.rule) l.stated is.dependency (ap is_word is.second_colon) in
+    let r = rule_back names at (after_of is.second) is.rule l.body is.is_rule in
+    ap (λ t. line names (rest_at at from t)) is.whole
     ∙ rw (
-      number_back at 1 l.number means.number (means.first ∷ rest) means.is_number,
-      colon_back at (after_of means.number) means.first rest means.first_colon,
+      is.is_number,
+      colon_back at (after_of is.number) is.first rest is.first_colon,
       d.read,
-      colon_back at d.behind means.second means.rule means.second_colon,
+      colon_back at d.behind is.second is.rule is.second_colon,
       r.name,
       r.read,
     ) refl
+
+pub line_back : (names : List (List ℕ)) (number : ℕ) (text : List ℕ) (l : Line) → MeansLine names text l → line names (rest_from number 1 (lex mode.Numbered text)) ≡ Ok l
+line_back names at text l means = ap (λ t. line names (rest_from at 1 t)) means.tokens ∙ marks_read names at 1 means.marks l means.is_line
 
 pub line_law : (names : List (List ℕ)) (number : ℕ) (text : List ℕ) (l : Line) → (line names (rest_from number 1 (lex mode.Numbered text)) ≡ Ok l) ↔ MeansLine names text l
 line_law names number text l = (line_there names number text l, line_back names number text l)

@@ -20,9 +20,9 @@ use Rattle.schema_grammar.proofs.PrintedLexing.{AllNames, name_lexed}
 use Rattle.schema_grammar.proofs.PrintedSides.{printed_names}
 use Rattle.schema_grammar.proofs.PrintedTexts.{Bytes, bytes_both, words_bytes, EachBytes, lines_cut, each_dependency, is_line_byte}
 use Rattle.proof_grammar.specs.Lines.{Body, by_given, by_reflexivity, by_mreflexivity, by_step, by_pair, Line}
-use Rattle.proof_grammar.specs.Meanings.{certificate_lines, without_yes, is_yes_alone, MeansLine, MeanLines}
+use Rattle.proof_grammar.specs.Meanings.{certificate_lines, without_yes, is_yes_alone, is_yes_from, MeansLine, MeanLines}
 use Rattle.proof_grammar.specs.Printing.{step_word, sides_text, pair_word, body_text, line_text, lines_text}
-use Rattle.proof_grammar.specs.Texts.{is_blank, is_yes}
+use Rattle.proof_grammar.specs.Texts.{is_blank, is_blank_from, is_yes}
 use Rattle.proof_grammar.specs.Printable.{FewDigits, IsPrintableLine, ArePrintableLines}
 use Rattle.proof_grammar.proofs.PrintedTokens.{decimal_is}
 use Rattle.proof_grammar.proofs.PrintedLines.{printed, line_text_is, printed_means}
@@ -128,11 +128,11 @@ no_mark names (l ∷ ls) (here, rest) = unmarked (lines_text names (l ∷ ls)) (
 
 -- ---- the lines that count
 means_not_blank : (names : List (List ℕ)) (text : List ℕ) (l : Line) → MeansLine names text l → is_blank (lex mode.Numbered text) ≡ false
-means_not_blank names text l means = ap is_blank means.tokens
+means_not_blank names text l means = ap is_blank means.tokens ∙ ap (λ ms. is_blank_from ms None) means.is_line.whole
 
 means_not_yes : (names : List (List ℕ)) (text : List ℕ) (l : Line) → MeansLine names text l → is_yes_alone (lex mode.Numbered text) ≡ false
 unfolding is_yes
-means_not_yes names text l means = ap is_yes_alone means.tokens ∙ (rw means.is_number refl)
+means_not_yes names text l means = ap is_yes_alone means.tokens ∙ ap (λ ms. is_yes_from ms None) means.is_line.whole ∙ (rw means.is_line.is_number refl)
 
 each_means : (names : List (List ℕ)) (ls : List Line) → AreNames format.Plain names → ArePrintableLines names ls → MeanLines names (map (printed names) ls) ls
 each_means names [] are all = tt

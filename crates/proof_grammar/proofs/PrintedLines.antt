@@ -180,17 +180,21 @@ printed_means names l are is =
     let whole : Lexes Apart (printed names l) 1 (number ∷ colon ∷ ((stated.marks ++ second ∷ []) ++ body.marks)) body.end =
     lexes_both Anything Apart (((decimal l.number ++ codes ": ") ++ dependency_text names l.stated) ++ codes " : ") (body_text names l.body) 1 _ _ _ _ c body.lexes (λ rest apart. tt {0}) in
     record {
-      number = number;
-      first = colon;
-      stated = stated.marks;
-      second = second;
-      rule = body.marks;
+      marks = number ∷ colon ∷ stated.marks ++ second ∷ body.marks;
       tokens = lexed_whole (printed names l) _ body.end whole ∙ ap (λ ms. record { marks = number ∷ colon ∷ ms; stop = None }) (append_assoc stated.marks (second ∷ []) body.marks);
-      is_number = refl;
-      first_colon = refl;
-      dependency = stated.dependency;
-      second_colon = refl;
-      is_rule = body.is_rule;
+      is_line = record {
+        number = number;
+        first = colon;
+        stated = stated.marks;
+        second = second;
+        rule = body.marks;
+        whole = refl;
+        is_number = refl;
+        first_colon = refl;
+        dependency = stated.dependency;
+        second_colon = refl;
+        is_rule = body.is_rule;
+      };
     }
 
 pub printed_line-law : (names : List (List ℕ)) (l : Line) → AreNames format.Plain names → IsPrintableLine names l

@@ -67,7 +67,7 @@ place_back : (names : List (List ℕ)) (line : ℕ) (m : Mark) (attribute : IsAt
 unfolding looked_up
 place_back names line m attribute = rw (attribute.free, attribute.known) refl
 
-word_is : (k : TokenKind) → is_word k ≡ true → k ≡ token.Word
+pub word_is : (k : TokenKind) → is_word k ≡ true → k ≡ token.Word
 word_is token.Word e = refl
 word_is _ e = cc
 

@@ -24,6 +24,7 @@ use Rattle.proof_grammar.proofs.CountedLines.{counted, Counts, kind_counts, line
 use Rattle.proof_grammar.proofs.DepthLemmas.{nodes_size}
 use Rattle.proof_grammar.proofs.EnteredLaws.{entered_there}
 use Rattle.proof_grammar.proofs.LineLaws.{line_there, line_back}
+use Rattle.proof_grammar.proofs.LineRefusals as refusals
 use Rattle.proof_grammar.proofs.PreparedLaws.{IsLineOfAttributes}
 use Rattle.proof_grammar.proofs.SlotLemmas.{AreSlots}
 use Rattle.proof_grammar.specs.Refusals.{StandsAt, IsBadLine, IsWrongLine, IsRefusedAt, IsEmptyProof, IsNeverUsed, IsUnfinished, IsRefused, RefusesProof}
@@ -108,7 +109,7 @@ line_refused Certificate s text e number here texts before fresh lines trees boo
           trees = trees;
           mean = behind.mean;
           read = behind.read;
-          why = inl (record { refusal = refusal; grammar = grammar; is = refl });
+          why = inl (record { refusal = refusal; grammar = refusals.line_refuses (names_of s) number here refusal grammar; is = refl });
         }))
     told (Ok l) grammar g = by_line (entered s number book l) refl g
       where
@@ -172,7 +173,7 @@ line_refuses Blank s text e before after here fresh lines trees book behind stan
 line_refuses Opening s text e before after here fresh lines trees book behind stands counts why =
     absurd (not_passed s text before here e.line fresh lines trees book behind stands (counts []))
 line_refuses Certificate s text e before after here fresh lines trees book behind stands counts (inl bad) =
-    rw bad.grammar (ap (λ c. Err (complaint_at e.line c)) (sym bad.is))
+    rw (refusals.refuses_line (names_of s) e.line here bad.refusal bad.grammar) (ap (λ c. Err (complaint_at e.line c)) (sym bad.is))
 line_refuses Certificate s text e before after here fresh lines trees book behind stands counts (inr wrong) =
     let own = line_of_attributes s here wrong.line wrong.means in
     let reads = line_back (names_of s) e.line here wrong.line wrong.means in

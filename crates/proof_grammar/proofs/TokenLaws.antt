@@ -145,7 +145,7 @@ pub with_back : (line from : ℕ) (m : Mark) (ms : List Mark) → IsKeyword (cod
 unfolding with_word take is_with
 with_back line from m ms says = rw (says.0, (bytes_eq-Decides m.word (codes "with")).1 says.1) refl
 
-named_back : (r : RuleName) → rule_word (spelled r) ≡ Some r
+pub named_back : (r : RuleName) → rule_word (spelled r) ≡ Some r
 unfolding rule_word
 named_back rule.Given = refl
 named_back rule.Reflexivity = refl

@@ -1,10 +1,8 @@
-use Rattle.std.specs.Prelude.{ℕ, ◌+◌, ◌-◌, ◌==◌, Bool, ◌&&◌, if◌then◌else◌, nat_lt, nat_le, List, [], ◌∷◌, ◌++◌, length, map, take, slice_get, slice_set, slice_index, position, Option, None, Some, option_map, is_some, Result, Ok, Err, max}
+use Rattle.std.specs.Prelude.{ℕ, ◌+◌, ◌-◌, ◌==◌, Bool, ◌&&◌, if◌then◌else◌, nat_lt, nat_le, List, [], ◌∷◌, ◌++◌, length, take, slice_get, slice_set, slice_index, position, Option, None, Some, option_map, is_some, Result, Ok, Err, max}
 use Rattle.dep_model.specs.declared.schema.Schema.{Schema}
 use Rattle.dep_model.specs.Dependencies.{Dependency, left_of, right_of}
-use Rattle.dep_model.specs.Deps.{dependency_of}
 use Rattle.derivation.specs.declared.fault.FaultKind.{FaultKind}
 use Rattle.derivation.specs.Trees.{Tree, leaf, step, pair, reflexivity, mreflexivity, Step, Pair, Leaf}
-use Rattle.derivation.specs.Derivs.{tree_of}
 use Rattle.derivation.specs.Table.{leaf_conclusion, step_conclusion, pair_conclusion}
 use Rattle.derivation.specs.declared.measures.TheConstants.{MOST_NODES, MOST_LEVELS}
 use Rattle.proof_grammar.specs.Complaints.{Complaint, LineComplaint, wrong_number, no_such_line, used_twice, never_used, too_many_lines, too_deep, unsound, states_other, empty_proof}

@@ -3,6 +3,7 @@ pub mod Checked
 pub mod Complaints
 pub mod Laws
 pub mod Ledgers
+pub mod LineComplaints
 pub mod Lines
 pub mod Meanings
 pub mod Nodes

@@ -1,14 +1,14 @@
-use Rattle.std.specs.Prelude.{ℕ, List, Option, Some, None, Result, Ok, Err}
-use Rattle.attr_sets.specs.Places.{Places}
-use Rattle.dep_model.specs.Dependencies.{Dependency, fd, mvd}
-use Rattle.dep_model.specs.Deps.{dependency_of}
+use Rattle.std.specs.Prelude.{ℕ, List, Option, Some, None, Result, Ok, Err, ok_or}
+use Rattle.dep_model.specs.Dependencies.{Dependency}
 use Rattle.derivation.specs.Trees.{Step, augmentation, maugmentation, complementation, replication, Pair, transitivity, mtransitivity, coalescence}
-use Rattle.derivation.specs.Derivs.{step_of, pair_of}
+use Rattle.lexer.specs.Tokens.{Mark}
 use Rattle.schema_grammar.specs.declared.refusal.SchemaRefusal.{SchemaRefusal}
+use Rattle.schema_grammar.specs.declared.refusal.What.TheVariants as what
 use Rattle.proof_grammar.specs.declared.rule_name.RuleName.{RuleName}
 use Rattle.proof_grammar.specs.declared.rule_name.RuleName.TheVariants as rule
 use Rattle.schema_grammar.specs.Grammar as grammar
-use Rattle.schema_grammar.specs.Rests.{Rest, ◌>>=◌, number, arrow, ended, side}
+use Rattle.schema_grammar.specs.Rests.{Rest, ◌>>=◌, take, expected, number, arrow, ended, side}
+use Rattle.schema_grammar.specs.Texts.{number_in}
 use Rattle.proof_grammar.specs.Readers.{colon, with_word, rule_name}
 
 -- what a line says of its dependency: the rule, and the lines of its premises
@@ -79,13 +79,16 @@ abbrev pub unless : {A : Type 0} → Option SchemaRefusal → A → Result A Sch
 unless None x = Ok x
 unless (Some e) x = Err e
 
--- number, `:`, a dependency, `:`, the rule
-unfoldable pub line : List (List ℕ) → Rest → Result Line SchemaRefusal
-line names start = do
-  n ← number start
-  c ← colon n.1
+-- what follows the first token, which is a number: `:`, a dependency, `:`, the rule
+unfoldable pub line_from : List (List ℕ) → Mark → Rest → Result Line SchemaRefusal
+line_from names m rest = do
+  n ← ok_or (number_in m.kind) (expected what.Number m rest)
+  c ← colon rest
   d ← stated_dependency names c
   e ← colon d.1
   r ← rule_name e
   b ← body names r.0 r.1
-  unless (ended b.1) (record { number = n.0; stated = d.0; body = b.0 })
+  unless (ended b.1) (record { number = n; stated = d.0; body = b.0 })
+
+unfoldable pub line : List (List ℕ) → Rest → Result Line SchemaRefusal
+line names start = take what.Number start >>= λ t. line_from names t.0 t.1

@@ -125,18 +125,24 @@ IsRule names ms (by_step rule p) = IsStep names ms rule p
 IsRule names ms (by_pair rule p q) = IsPair ms rule p q
 
 -- number, `:`, a dependency, `:`, the rule
-pub record MeansLine (names : List (List ℕ)) (text : List ℕ) (l : Line) : Type 0 where
+pub record IsCertificateLine (names : List (List ℕ)) (ms : List Mark) (l : Line) : Type 0 where
   pub number : Mark
   pub first : Mark
   pub stated : List Mark
   pub second : Mark
   pub rule : List Mark
-  pub tokens : HasTokens (lex mode.Numbered text) (number ∷ first ∷ stated ++ second ∷ rule)
+  pub whole : ms ≡ number ∷ first ∷ stated ++ second ∷ rule
   pub is_number : IsNumber l.number number
   pub first_colon : IsColon first
   pub dependency : IsDependency format.Plain names stated l.stated
   pub second_colon : IsColon second
   pub is_rule : IsRule names rule l.body
+
+-- a text has the tokens of a line
+pub record MeansLine (names : List (List ℕ)) (text : List ℕ) (l : Line) : Type 0 where
+  pub marks : List Mark
+  pub tokens : HasTokens (lex mode.Numbered text) marks
+  pub is_line : IsCertificateLine names marks l
 
 -- each text means its line
 abbrev pub MeanLines : List (List ℕ) → List (List ℕ) → List Line → Type 0

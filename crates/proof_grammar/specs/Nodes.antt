@@ -1,14 +1,10 @@
 use Rattle.std.specs.Prelude.{ℕ, ◌==◌, ◌-◌, Bool, false, ◌&&◌, if◌then◌else◌, Result, Ok, Err}
 use Rattle.attr_sets.specs.Sets.{is_same}
-use Rattle.dep_model.specs.declared.dep.Dep.{Dep}
 use Rattle.dep_model.specs.declared.schema.Schema.{Schema}
 use Rattle.dep_model.specs.Dependencies.{Dependency, fd, mvd}
-use Rattle.dep_model.specs.Deps.{dependency_of}
-use Rattle.derivation.specs.declared.deriv.Deriv.{Deriv}
 use Rattle.derivation.specs.declared.fault.FaultKind.{FaultKind}
 use Rattle.derivation.specs.declared.fault.FaultKind.TheVariants.{NoSuchGiven}
 use Rattle.derivation.specs.Trees.{Tree, leaf, given}
-use Rattle.derivation.specs.Derivs.{tree_of}
 use Rattle.derivation.specs.Table.{leaf_conclusion}
 
 -- a tree with what its root concludes

@@ -1,17 +1,15 @@
 -- Why a certificate is refused, and at which line of the text.
-use Rattle.std.specs.Prelude.{◌≡◌, ◌⊎◌, ◌<◌, ℕ, ◌+◌, List, [], ◌∷◌, ◌++◌, length, Err, MatchOption}
+use Rattle.std.specs.Prelude.{◌≡◌, ◌⊎◌, ◌<◌, ℕ, ◌+◌, List, [], ◌∷◌, ◌++◌, length, MatchOption}
 use Rattle.dep_model.specs.declared.schema.Schema.{Schema}
 use Rattle.dep_model.specs.Schemas.{names_of}
 use Rattle.derivation.specs.Trees.{Tree}
-use Rattle.lexer.specs.declared.token.Mode.TheVariants as mode
 use Rattle.lexer.specs.Lines.{line_texts, without_mark}
-use Rattle.lexer.specs.Tokens.{lex}
 use Rattle.schema_grammar.specs.declared.refusal.SchemaRefusal.{SchemaRefusal}
 use Rattle.proof_grammar.specs.declared.refusal.ProofRefusal.{ProofRefusal}
 use Rattle.proof_grammar.specs.Complaints.{Complaint, LineComplaint, bad_line, never_used, empty_proof, complaint_of}
-use Rattle.proof_grammar.specs.Lines.{Line, line}
+use Rattle.proof_grammar.specs.LineComplaints.{RefusesLine}
+use Rattle.proof_grammar.specs.Lines.{Line}
 use Rattle.proof_grammar.specs.Meanings.{certificate_lines_of, certificate_lines, MeansLine, MeanLines}
-use Rattle.schema_grammar.specs.Rests.{rest_from}
 use Rattle.proof_grammar.specs.Spelling.{uses}
 use Rattle.proof_grammar.specs.Wrongs.{AreRead, IsFirstWrong}
 
@@ -23,10 +21,10 @@ pub record StandsAt (text : List ℕ) (before : List (List ℕ)) (here : List �
   pub counts : certificate_lines_of (before ++ here ∷ []) ≡ certificate_lines_of before ++ here ∷ []
 
 -- ---- at a line
--- the grammar refuses the line
+-- the line breaks the grammar: it is refused by its first complaint
 pub record IsBadLine (names : List (List ℕ)) (here : List ℕ) (at : ℕ) (c : Complaint) : Type 0 where
   pub refusal : SchemaRefusal
-  pub grammar : line names (rest_from at 1 (lex mode.Numbered here)) ≡ Err refusal
+  pub grammar : RefusesLine names at here refusal
   pub is : c ≡ bad_line refusal
 
 -- or it means a line, with which something is wrong

@@ -2,11 +2,17 @@
 //! function that does nothing, whose clause is the law; so the gate asks for its proof.
 
 ghost use Rattle.std.specs.Prelude.{[], codes};
-ghost use Rattle.proof_grammar.specs.Laws.{LineMeaning, PrintedLineMeans, PrintedNodes, SpelledIsRead, OneTree, LinesAreNodes, RefusedAsTold, PrintedSpells, PrintedIsRead};
+ghost use Rattle.proof_grammar.specs.Laws.{LineMeaning, LineRefusal, PrintedLineMeans, PrintedNodes, SpelledIsRead, OneTree, LinesAreNodes, RefusedAsTold, PrintedSpells, PrintedIsRead};
 
 /// A line of a certificate is read as a value exactly where it means that value, by its grammar.
 pub fn line_meaning()
     ensures law { LineMeaning }
+{}
+
+/// A line of a certificate is refused so exactly where its first complaint is that: the one of the least
+/// place, and there of the least number. So it has one refusal at most, and none where it means a line.
+pub fn line_refusal()
+    ensures law { LineRefusal }
 {}
 
 /// What is printed of a line, but for its line feed, means the line. Its sets are of declared

@@ -3,16 +3,18 @@ ghost use Rattle.attr_sets.specs.Places.{below};
 ghost use Rattle.dep_model.specs.Deps.{dependency_of, IsDepWithin};
 ghost use Rattle.derivation.specs.Derivs.{step_of, pair_of};
 ghost use Rattle.line_reader.specs.Views.{names_in, rest_of};
-ghost use Rattle.proof_grammar.specs.Lines.{body, line, stated_dependency, one, two, augmented, maugmented};
+ghost use Rattle.schema_grammar.specs.Declarations.{marked};
+ghost use Rattle.proof_grammar.specs.Lines.{body, line_from, stated_dependency, one, two, augmented, maugmented};
 ghost use Rattle.proof_text.specs.Views.{body_of, line_of};
 
 use crate::words::{colon, rule_name, with_word};
 use attr_sets::PLACES;
 use dep_model::Dep;
 use derivation::{PairRule, StepRule};
+use lexer::{Token, TokenKind};
 use line_reader::{Cursor, Names};
 use proof_grammar::RuleName;
-use schema_grammar::{SchemaRefusal, Sign};
+use schema_grammar::{SchemaRefusal, Sign, What};
 
 /// What a line says of its dependency: the rule, and the lines of its premises.
 #[derive(Clone, Copy, Debug)]
@@ -33,15 +35,26 @@ pub struct Line {
     pub body: Body,
 }
 
-/// A whole line.
-#[tactic(auto, unfolding(proof_grammar::specs::Lines::line))]
-pub fn read_line(names: &Names<'_>, start: Cursor<'_>) -> Result<Line, SchemaRefusal>
+/// A line of which this is the first token, and what is left after it.
+#[tactic(auto, unfolding(proof_grammar::specs::Lines::line_from))]
+pub fn read_line(
+    names: &Names<'_>,
+    first: Token,
+    word: &[u8],
+    rest: Cursor<'_>,
+) -> Result<Line, SchemaRefusal>
     requires few { length (names_in names.now) ≤ PLACES }
-    ensures ok { IfOk result (λ x. line (names_in names.now) (rest_of start.entry) ≡ Ok (line_of x)) }
+    requires length { first.length ≡ length word.now }
+    ensures ok { IfOk result
+        (λ x. line_from (names_in names.now) (marked first word.now) (rest_of rest.entry)
+        ≡ Ok (line_of x)) }
     ensures within { IfOk result (λ x. IsDepWithin (below (length (names_in names.now))) x.stated) }
-    ensures err { IfErr result (λ e. line (names_in names.now) (rest_of start.entry) ≡ Err e) }
+    ensures err { IfErr result
+        (λ e. line_from (names_in names.now) (marked first word.now) (rest_of rest.entry) ≡ Err e) }
 {
-    let (number, rest) = start.number()?;
+    let TokenKind::Number(number) = first.kind else {
+        return Err(rest.expected(first, What::Number));
+    };
     let (stated, rest) = stated(names, colon(rest)?)?;
     let (name, rest) = rule_name(colon(rest)?)?;
     let (body, rest) = read_body(names, name, rest)?;

@@ -1,5 +1,5 @@
 ghost use Rattle.std.specs.Prelude.{◌≡◌, ◌+◌, ◌<◌, ◌≤◌, ◌^◌, length, IfOk, IfErr, Ok, Err};
-ghost use Rattle.lexer.specs.Tokens.{lexed, lex};
+ghost use Rattle.lexer.specs.Tokens.{lexed};
 ghost use Rattle.derivation.specs.Derivs.{tree_of};
 ghost use Rattle.dep_model.specs.Schemas.{universe_of};
 ghost use Rattle.proof_grammar.specs.Ledgers.{IsLedger};
@@ -10,7 +10,7 @@ ghost use Rattle.proof_grammar.specs.Refusals.{RefusesProof};
 ghost use Rattle.proof_grammar.specs.Spelling.{SpellsWithin};
 ghost use Rattle.proof_grammar.specs.Checked.{IsChecked};
 ghost use Rattle.proof_grammar.specs.Complaints.{IsFound, IsRefusalWithin};
-ghost use Rattle.proof_grammar.specs.Texts.{is_yes, is_blank, line_kind, read_one};
+ghost use Rattle.proof_grammar.specs.Texts.{is_yes, is_blank, read_one};
 
 use crate::book::Book;
 use crate::line::read_line;
@@ -19,7 +19,8 @@ use dep_model::Schema;
 use derivation::Deriv;
 use lexer::{Mode, Next, TokenKind, cut_line, next_token, without_mark};
 use line_reader::{Cursor, Guide, Names};
-use proof_grammar::{LineKind, ProofRefusal, ProofRefusalKind};
+use proof_grammar::{ProofRefusal, ProofRefusalKind};
+use schema_grammar::SchemaRefusal;
 use std::alloc::Global;
 
 /// The most bytes of a certificate.
@@ -80,7 +81,7 @@ pub fn read_concluded(
 }
 
 /// Reads one line of the text. Whether a `yes` may still come is told and answered.
-#[tactic(auto, unfolding(proof_grammar::specs::Texts::read_one))]
+#[tactic(auto, unfolding(proof_grammar::specs::Texts::read_one, proof_grammar::specs::Texts::line_kind, proof_grammar::specs::Lines::line, schema_grammar::specs::Rests::take))]
 fn read_one(
     alloc: Global,
     schema: &Schema,
@@ -99,42 +100,29 @@ fn read_one(
         (λ why. IsFound why (read_one schema.now fresh number (ledger_of book.old) text.now)) }
     ensures within { IfErr result (IsRefusalWithin (universe_of schema.now)) }
 {
-    match line_kind(fresh, text) {
-        LineKind::Blank => Ok(fresh),
-        LineKind::Opening => Ok(false),
-        LineKind::Certificate => {
-            let start = Cursor {
+    match next_token(Mode::Numbered, 1, text) {
+        Next::End => Ok(fresh),
+        Next::Stop(stop) => {
+            let refusal = SchemaRefusal::by(number, stop);
+            Err(ProofRefusalKind::BadLine(refusal))
+        }
+        Next::Token(first, word, rest) => {
+            let column = first.column + first.length;
+            if fresh && is_yes(first.kind, word) && is_blank(column, rest) {
+                return Ok(false);
+            }
+            let rest = Cursor {
                 line: number,
-                column: 1,
-                text,
+                column,
+                text: rest,
                 mode: Mode::Numbered,
             };
-            match read_line(&Names::Guided(schema, guide), start) {
+            match read_line(&Names::Guided(schema, guide), first, word, rest) {
                 Err(refusal) => Err(ProofRefusalKind::BadLine(refusal)),
                 Ok(line) => {
                     book.enter(alloc, schema, number, &line)?;
                     Ok(false)
                 }
-            }
-        }
-    }
-}
-
-/// What a line is.
-#[tactic(auto, unfolding(proof_grammar::specs::Texts::line_kind))]
-fn line_kind(fresh: bool, text: &[u8]) -> LineKind
-    requires { 1 + length text.now < 2 ^ 32 }
-    ensures exact { result ≡ line_kind fresh (lex Mode.Numbered text.now) }
-{
-    match next_token(Mode::Numbered, 1, text) {
-        Next::End => LineKind::Blank,
-        Next::Stop(_) => LineKind::Certificate,
-        Next::Token(token, word, rest) => {
-            let behind = token.column + token.length;
-            if fresh && is_yes(token.kind, word) && is_blank(behind, rest) {
-                LineKind::Opening
-            } else {
-                LineKind::Certificate
             }
         }
     }

@@ -1,0 +1,108 @@
+-- What is wrong with a line of a certificate by its grammar, and how the grammar refuses the line.
+use Rattle.std.specs.Prelude.{◌≡◌, ◌<◌, ◌⊎◌, ℕ, suc, Bool, true, false, List, [], ◌∷◌, ◌++◌, length, take, map, Option, Some, None, slice_get}
+use Rattle.lexer.specs.declared.token.Mode.TheVariants as mode
+use Rattle.lexer.specs.declared.token.Stop.{Stop}
+use Rattle.lexer.specs.declared.token.TokenKind.{TokenKind}
+use Rattle.lexer.specs.declared.token.TokenKind.TheVariants as token
+use Rattle.lexer.specs.Tokens.{Mark, lex}
+use Rattle.schema_grammar.specs.declared.format.Format.TheVariants as format
+use Rattle.schema_grammar.specs.declared.refusal.SchemaRefusal.{SchemaRefusal}
+use Rattle.schema_grammar.specs.declared.refusal.What.{What}
+use Rattle.schema_grammar.specs.declared.refusal.What.TheVariants as what
+use Rattle.schema_grammar.specs.Complaints.{ComplainsOfWord, IsFirst, flaw_number, span_at}
+use Rattle.proof_grammar.specs.declared.rule_name.RuleName.{RuleName}
+use Rattle.proof_grammar.specs.declared.rule_name.RuleName.TheVariants as rule
+use Rattle.proof_grammar.specs.Lines.{Line}
+use Rattle.proof_grammar.specs.Meanings.{IsCertificateLine}
+use Rattle.proof_grammar.specs.Tokens.{is_with, rule_word}
+
+-- ---- the forms of tokens
+-- a token but for the value of a number, the arrow, and the letters of a word that the grammar does not have
+pub data Form : Type 0 where
+  a_number : Form
+  a_colon : Form
+  an_arrow : Form
+  an_empty : Form
+  a_with : Form
+  a_rule : RuleName → Form
+  a_word : Form
+
+-- a word that is the name of a rule, or else may be `with`
+abbrev pub word_form : Option RuleName → Bool → Form
+word_form (Some r) with = a_rule r
+word_form None true = a_with
+word_form None false = a_word
+
+abbrev pub form_of : TokenKind → List ℕ → Form
+form_of token.Word word = word_form (rule_word word) (is_with token.Word word)
+form_of (token.Number n) word = a_number
+form_of token.Colon word = a_colon
+form_of token.Arrow word = an_arrow
+form_of token.DoubleArrow word = an_arrow
+form_of token.Empty word = an_empty
+
+abbrev pub forms : List Mark → List Form
+forms ms = map (λ m. form_of m.kind m.word) ms
+
+-- tokens of these forms are a line over some names
+pub record IsLine (fs : List Form) : Type 0 where
+  pub names : List (List ℕ)
+  pub marks : List Mark
+  pub line : Line
+  pub same_forms : forms marks ≡ fs
+  pub is_line : IsCertificateLine names marks line
+
+-- a line begins with tokens of these forms
+pub record BeginsLine (fs : List Form) : Type 0 where
+  pub rest : List Form
+  pub line : IsLine (fs ++ rest)
+
+-- ---- what is wrong
+-- after tokens of these forms any word can follow: it stands in a side
+abbrev pub TakesNames : List Form → Type 0
+TakesNames fs = BeginsLine (fs ++ a_word ∷ [])
+
+-- the grammar can't go on at the token, or the line's end, before which so many tokens stand
+pub record IsStuck (fs : List Form) (stop : Option Stop) (place : ℕ) : Type 0 where
+  pub before : BeginsLine (take place fs)
+  pub here : ((place < length fs) × (BeginsLine (take (suc place) fs) → ⊥))
+      ⊎ ((place ≡ length fs) × (stop ≡ None) × (IsLine fs → ⊥))
+
+-- a word of a side is reserved, or no name is it
+abbrev pub SideComplaint : List (List ℕ) → List Mark → ℕ → ℕ → Type 0
+SideComplaint names ms place number =
+    (m : Mark) × (slice_get ms place ≡ Some m) × TakesNames (take place (forms ms))
+    × ComplainsOfWord format.Plain names m number
+
+-- what is wrong with tokens at a place, before which so many of them stand
+abbrev pub TokensComplaint : List (List ℕ) → List Mark → Option Stop → ℕ → ℕ → Type 0
+TokensComplaint names ms stop place number =
+    (SideComplaint names ms place number ⊎ ((number ≡ 6) × IsStuck (forms ms) stop place))
+    ⊎ ((s : Stop) × (stop ≡ Some s) × (place ≡ length ms) × (number ≡ flaw_number s.flaw))
+
+-- what is wanted after tokens of these forms: a side where `()` can follow, the line's end where they are a
+-- line, and any other token where it can follow; a word of the grammar, though, where no other word can
+abbrev pub Wants : List Form → What → Type 0
+Wants fs what.Number = BeginsLine (fs ++ a_number ∷ [])
+Wants fs what.Colon = BeginsLine (fs ++ a_colon ∷ [])
+Wants fs what.Side = BeginsLine (fs ++ an_empty ∷ [])
+Wants fs what.Arrow = BeginsLine (fs ++ an_arrow ∷ [])
+Wants fs what.With = BeginsLine (fs ++ a_with ∷ []) × (TakesNames fs → ⊥)
+Wants fs what.Rule = BeginsLine (fs ++ a_rule rule.Given ∷ []) × (TakesNames fs → ⊥)
+Wants fs what.LineEnd = IsLine fs
+Wants fs _ = ⊥
+
+-- ---- the refusal
+-- what is wanted at a place
+abbrev pub TokensWant : List Mark → ℕ → What → Type 0
+TokensWant ms place = Wants (take place (forms ms))
+
+-- a line of tokens is refused by its first complaint
+abbrev pub RefusesTokens : List (List ℕ) → ℕ → List Mark → Option Stop → SchemaRefusal → Type 0
+RefusesTokens names line ms stop e =
+    IsFirst (TokensComplaint names ms stop) (TokensWant ms) (span_at line 1 ms stop) e
+
+-- the line of this number of a certificate's text is refused so
+abbrev pub RefusesLine : List (List ℕ) → ℕ → List ℕ → SchemaRefusal → Type 0
+RefusesLine names line text e =
+    RefusesTokens names line (lex mode.Numbered text).marks (lex mode.Numbered text).stop e
