@@ -26,15 +26,14 @@ impl Guide {
     }
 }
 
-// The slot of a word, ASCII case aside.
+// The slot of a word, ASCII case aside: by one bit a small letter differs from its capital, and digits
+// have it.
 fn slot(word: &[u8]) -> usize
     ensures inside { result < SLOTS }
 {
     let mut hash: u32 = 0;
     for byte in word {
-        hash = hash
-            .wrapping_mul(33)
-            .wrapping_add(u32::from(byte.to_ascii_lowercase()));
+        hash = hash.wrapping_mul(33) ^ u32::from(*byte | 32);
     }
     hash as usize % SLOTS
 }

@@ -21,14 +21,17 @@ pub enum Names<'a> {
     Guided(&'a Schema, &'a Guide),
 }
 
+// The fewest bytes of a reserved word.
+const FEWEST_RESERVED: usize = 4;
+
 /// The attribute that a word of a side stands for.
-#[tactic(auto, unfolding(schema_grammar::specs::Words::looked_up))]
+#[tactic(auto, using(crate::proofs::NameLemmas::short_is_free), unfolding(schema_grammar::specs::Words::looked_up))]
 pub fn look_up(names: &Names<'_>, format: Format, word: &[u8]) -> Result<u8, SchemaRefusalKind>
     requires { length (names_in names.now) ≤ PLACES }
     ensures exact { result ≡ looked_up format (names_in names.now) word.now }
     ensures declared { IfOk result (λ place. place < length (names_in names.now)) }
 {
-    if is_reserved(format, word) {
+    if word.len() >= FEWEST_RESERVED && is_reserved(format, word) {
         return Err(SchemaRefusalKind::ReservedName);
     }
     match place_of(names, word) {
