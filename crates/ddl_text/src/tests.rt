@@ -129,18 +129,16 @@ CREATE TABLE \"t2\" (
 
 #[test]
 fn prints_the_types_of_columns(rt: HostRuntime) -> Result<(), Fail> {
-    let cases: [Case; 1] = [
-        (
-            b"version 2\ninteger ID\ntext NAME\nID -> NAME",
-            b"scheme ID NAME",
-            b"CREATE TABLE \"t1\" (
+    let cases: [Case; 1] = [(
+        b"version 2\ninteger ID\ntext NAME\nID -> NAME",
+        b"scheme ID NAME",
+        b"CREATE TABLE \"t1\" (
   \"ID\" BIGINT NOT NULL,
   \"NAME\" TEXT NOT NULL,
   PRIMARY KEY (\"ID\")
 );
 ",
-        ),
-    ];
+    )];
     for case in cases {
         check(&rt, case)?;
     }
@@ -149,11 +147,10 @@ fn prints_the_types_of_columns(rt: HostRuntime) -> Result<(), Fail> {
 
 #[test]
 fn prints_two_references_to_a_table(rt: HostRuntime) -> Result<(), Fail> {
-    let cases: [Case; 1] = [
-        (
-            TIMETABLE,
-            b"scheme COURSE TEACHER\nscheme COURSE HOUR ROOM\nscheme COURSE STUDENT GRADE",
-            b"CREATE TABLE \"t1\" (
+    let cases: [Case; 1] = [(
+        TIMETABLE,
+        b"scheme COURSE TEACHER\nscheme COURSE HOUR ROOM\nscheme COURSE STUDENT GRADE",
+        b"CREATE TABLE \"t1\" (
   \"COURSE\" TEXT NOT NULL,
   \"TEACHER\" TEXT NOT NULL,
   PRIMARY KEY (\"COURSE\")
@@ -173,8 +170,7 @@ CREATE TABLE \"t3\" (
   FOREIGN KEY (\"COURSE\") REFERENCES \"t1\" (\"COURSE\")
 );
 ",
-        ),
-    ];
+    )];
     for case in cases {
         check(&rt, case)?;
     }

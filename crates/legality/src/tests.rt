@@ -28,11 +28,7 @@ fn offence(dep: u16, first: u32, second: u32) -> Offence {
 fn least_pairs(rt: HostRuntime) -> Result<(), Fail> {
     let alloc = rt.alloc();
     let cases: [(&str, &str, &[Offence]); 8] = [
-        (
-            TIMETABLE,
-            TIMETABLE_ROWS,
-            &[],
-        ),
+        (TIMETABLE, TIMETABLE_ROWS, &[]),
         (
             "attributes A B C D\nA -> B\nA ->> C\n",
             "A,B,C,D\np,1,x,k\nq,1,x,k\nr,1,x,k\nr,1,y,m\nq,2,x,k\n",

@@ -100,12 +100,7 @@ fn dependencies_that_do_not_follow(rt: HostRuntime) -> Result<(), Fail> {
             &[],
             &[],
         ),
-        (
-            TIMETABLE,
-            TURNED_TIMETABLE,
-            &[],
-            &[],
-        ),
+        (TIMETABLE, TURNED_TIMETABLE, &[], &[]),
         // a dependency without a left side
         (
             "attributes A B\n() -> A\nA -> A\n",

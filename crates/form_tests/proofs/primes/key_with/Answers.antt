@@ -1,5 +1,5 @@
 use Rattle.std.proofs.Common.{◌≡◌, List, sym, subst, ◌∙◌, inl, inr, arith}
-use Rattle.std.proofs.lemmas.Bool.{false≢true, or_cases}
+use Rattle.std.proofs.lemmas.Bool.{true≢false, false≢true, or_cases}
 use Rattle.std.proofs.lemmas.Bool.Decides.{nat_tests}
 use Rattle.std.specs.Prelude.{All, Option}
 use Rattle.attr_sets.specs.declared.set.AttrSet.{AttrSet}
@@ -35,8 +35,8 @@ is_turned-requires-clause-set c k m =
     beside_in n fs (places c.args.scheme) (places c.args.whole) free rest c.args.attribute c.requires.scheme c.requires.added c.without-free.ensures.members is (places c.in-Some.set) c.requires.whole before.within k
     (sym (c.union-before.ensures.members k) ∙ m)
 
-pub returns-then-is_turned-clause-key : goal.returns-then-is_turned-clause-key
-returns-then-is_turned-clause-key c =
+pub returns-then-is_turned : goal.returns-then-is_turned
+returns-then-is_turned c =
     let s = c.args.schema.now in
     let n = width_of s in
     let fs = functional_part (theory_of s) in
@@ -57,31 +57,13 @@ returns-then-is_turned-clause-key c =
     let within : All (IsDepWithin (below n)) c.deps.result.now = subst (λ (es : List Dep). All (IsDepWithin (below n)) es) (sym c.deps.ensures.deps) s.valid.deps_within in
     let settled = subst (λ (es : List Dep). IsSettledKey n (functional_part (dependencies_of es)) (places c.with.result) (places c.functional_key.result)) c.deps.ensures.deps
     (c.functional_key.ensures.settled n within with_low) in
-    turned_key n fs scheme set (places c.with.result) (places c.functional_key.result) a c.requires.scheme set_in (c.is_turned.ensures.turned.0 c.if-is_turned.true) c.with.ensures.members settled
-
-pub returns-then-is_turned-clause-member : goal.returns-then-is_turned-clause-member
-returns-then-is_turned-clause-member c =
-    let s = c.args.schema.now in
-    let n = width_of s in
-    let fs = functional_part (theory_of s) in
-    let scheme = places c.args.scheme in
-    let rest = places c.without-rest.result in
-    let free = places c.without-free.result in
-    let a = c.args.attribute in
-    let P = λ (y : Places). IsTurned n fs scheme (union y rest) a in
-    let before = subst (λ (o : Option AttrSet). IsSearched P free o) c.in-Some.is c.loop-next.invariant in
-    let is : Same rest (minus (minus scheme (places c.args.whole)) (only a)) = λ j. grind (arith, c.without-rest.ensures.members j, c.minus.ensures.members j) in
-    let inside = beside_in n fs scheme (places c.args.whole) free rest a c.requires.scheme c.requires.added c.without-free.ensures.members is (places c.in-Some.set) c.requires.whole before.within in
-    let set = places c.union-before.result in
-    let set_in : Within set scheme = λ k m. inside k (sym (c.union-before.ensures.members k) ∙ m) in
-    let with_low : Within (places c.with.result) (below n) = λ k m. elim (or_cases (set k) (only a k) (sym (c.with.ensures.members k) ∙ m)) [
-      | inl in_set ↦ c.requires.scheme k (set_in k in_set)
-      | inr is_a ↦ c.requires.scheme k (grind (arith, nat_tests, is_a, c.requires.attribute))
-    ] in
-    let within : All (IsDepWithin (below n)) c.deps.result.now = subst (λ (es : List Dep). All (IsDepWithin (below n)) es) (sym c.deps.ensures.deps) s.valid.deps_within in
-    let settled = subst (λ (es : List Dep). IsSettledKey n (functional_part (dependencies_of es)) (places c.with.result) (places c.functional_key.result)) c.deps.ensures.deps
-    (c.functional_key.ensures.settled n within with_low) in
-    turned_member n fs scheme set (places c.with.result) (places c.functional_key.result) a c.requires.scheme set_in (c.is_turned.ensures.turned.0 c.if-is_turned.true) c.with.ensures.members settled
+    let turned = c.is_turned.ensures.turned.0 c.if-is_turned.true in
+    let key = places c.functional_key.result in
+    record {
+      none = λ never. absurd (true≢false never);
+      key = turned_key n fs scheme set (places c.with.result) key a c.requires.scheme set_in turned c.with.ensures.members settled;
+      member = turned_member n fs scheme set (places c.with.result) key a c.requires.scheme set_in turned c.with.ensures.members settled;
+    }
 
 pub next_subset-next-requires : goal.next_subset-next-requires
 next_subset-next-requires c =
