@@ -13,7 +13,7 @@ use Rattle.schema_grammar.specs.Words.{is_reserved}
 use Rattle.proof_grammar.specs.declared.rule_name.RuleName.{RuleName}
 use Rattle.proof_grammar.specs.declared.rule_name.RuleName.TheVariants as rule
 use Rattle.proof_grammar.specs.Lines.{Line, line}
-use Rattle.proof_grammar.specs.LineComplaints.{Form, form_of, word_form, forms, a_number, a_colon, an_arrow, an_empty, a_with, a_rule, a_word, IsLine, BeginsLine, TakesNames, Wants}
+use Rattle.proof_grammar.specs.LineComplaints.{Form, form_of, word_form, forms, a_number, a_colon, an_arrow, an_empty, a_with, a_rule, a_word, AreLine, BeginLine, TakesNames, FormsWant}
 use Rattle.proof_grammar.specs.Tokens.{is_with, rule_word}
 use Rattle.proof_grammar.proofs.FormShapes.{Side, lhs, rhs, by, wide, narrow, Shape, at_start, past_number, at_side, past_words, past_empty, at_rule, at_premise, at_with, at_end, Ends, bind, completion, completed, is_final, runs, runs-append, runs-one, takes_words, turn, wanted_by}
 use Rattle.proof_grammar.proofs.JudgedLines.{Judged, OnShape, TokenWrong}
@@ -119,12 +119,12 @@ sample_fine s (f ∷ fs) last (suc p) n leads final h =
     told (Some t) wrong on rest = rest t on wrong
 
 -- ---- lines
-pub final_line : (fs : List Form) (s : Shape) → runs at_start fs ≡ Some s → is_final s ≡ true → IsLine fs
+pub final_line : (fs : List Form) (s : Shape) → runs at_start fs ≡ Some s → is_final s ≡ true → AreLine fs
 final_line fs s leads final = told (line all_words (rest_at 1 1 (map sample fs))) refl
     (line_judged all_words 1 1 (map sample fs) None)
   where
     told : (r : Result Line SchemaRefusal) → line all_words (rest_at 1 1 (map sample fs)) ≡ r
-        → Judged at_start all_words 1 1 (map sample fs) None r → IsLine fs
+        → Judged at_start all_words 1 1 (map sample fs) None r → AreLine fs
     told (Ok l) read judged =
         let reads = line_reads all_words (rest_at 1 1 (map sample fs)) l read in
         record {
@@ -144,7 +144,7 @@ final_line fs s leads final = told (line all_words (rest_at 1 1 (map sample fs))
         no_stop : (t : Stop) → None ≡ Some t → ⊥
         no_stop t e = cc
 
-pub line_ends : (fs : List Form) → IsLine fs → Ends at_start fs
+pub line_ends : (fs : List Form) → AreLine fs → Ends at_start fs
 line_ends fs is =
     let read = marks_read is.names 1 1 is.marks is.line is.is_line in
     let judged = line_judged is.names 1 1 is.marks None in
@@ -152,7 +152,7 @@ line_ends fs is =
     subst (Judged at_start is.names 1 1 is.marks None) read judged in
     subst (Ends at_start) is.same_forms ok.0
 
-pub begins_from : (fs : List Form) (s : Shape) → runs at_start fs ≡ Some s → BeginsLine fs
+pub begins_from : (fs : List Form) (s : Shape) → runs at_start fs ≡ Some s → BeginLine fs
 begins_from fs s leads =
     let more = completed s in
     record {
@@ -166,7 +166,7 @@ pub record Leads (fs : List Form) : Type 0 where
   pub shape : Shape
   pub leads : runs at_start fs ≡ Some shape
 
-pub begins_to : (fs : List Form) → BeginsLine fs → Leads fs
+pub begins_to : (fs : List Form) → BeginLine fs → Leads fs
 begins_to fs begins =
     let ends = line_ends (fs ++ begins.rest) begins.line in
     told (runs at_start fs) ends.last refl (sym (runs-append at_start fs begins.rest) ∙ ends.leads)
@@ -183,7 +183,7 @@ pub record LeadsOn (fs : List Form) (f : Form) : Type 0 where
   pub leads : runs at_start fs ≡ Some shape
   pub on : turn shape f ≡ Some next
 
-pub begins_on : (fs : List Form) (f : Form) → BeginsLine (fs ++ f ∷ []) → LeadsOn fs f
+pub begins_on : (fs : List Form) (f : Form) → BeginLine (fs ++ f ∷ []) → LeadsOn fs f
 begins_on fs f begins =
     let there = begins_to (fs ++ f ∷ []) begins in
     told there.shape (runs at_start fs) refl (sym (runs-append at_start fs (f ∷ [])) ∙ there.leads)
@@ -198,7 +198,7 @@ begins_on fs f begins =
         one (Some t) h = h
 
 pub on_begins : (fs : List Form) (f : Form) (s t : Shape) → runs at_start fs ≡ Some s → turn s f ≡ Some t
-    → BeginsLine (fs ++ f ∷ [])
+    → BeginLine (fs ++ f ∷ [])
 on_begins fs f s t leads on = begins_from (fs ++ f ∷ []) t (runs-one fs s f leads ∙ on)
 
 pub same_shape : (s t : Shape) (o : Option Shape) → o ≡ Some s → o ≡ Some t → s ≡ t
@@ -239,14 +239,14 @@ no_names fs s leads none takes = let wrong : true ≡ false = sym (names_taken f
 -- ---- what is wanted
 side_wants : (k : Side) (fs : List Form) (s : Shape) → runs at_start fs ≡ Some s
     → turn s an_arrow ≡ turn (past_empty k) an_arrow → turn s a_colon ≡ turn (past_empty k) a_colon
-    → (is_final (past_empty k) ≡ true → is_final s ≡ true) → Wants fs (wanted_by (past_empty k))
+    → (is_final (past_empty k) ≡ true → is_final s ≡ true) → FormsWant fs (wanted_by (past_empty k))
 side_wants lhs fs s leads arrow colon last = on_begins fs an_arrow s (at_side rhs) leads arrow
 side_wants rhs fs s leads arrow colon last = on_begins fs a_colon s at_rule leads colon
 side_wants by fs s leads arrow colon last = final_line fs s leads (last refl)
 side_wants wide fs s leads arrow colon last = on_begins fs a_colon s (at_side narrow) leads colon
 side_wants narrow fs s leads arrow colon last = final_line fs s leads (last refl)
 
-pub wants_from : (fs : List Form) (s : Shape) → runs at_start fs ≡ Some s → Wants fs (wanted_by s)
+pub wants_from : (fs : List Form) (s : Shape) → runs at_start fs ≡ Some s → FormsWant fs (wanted_by s)
 wants_from fs at_start leads = on_begins fs a_number at_start past_number leads refl
 wants_from fs past_number leads = on_begins fs a_colon past_number (at_side lhs) leads refl
 wants_from fs (at_side k) leads = on_begins fs an_empty (at_side k) (past_empty k) leads refl

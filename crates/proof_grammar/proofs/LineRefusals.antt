@@ -15,7 +15,7 @@ use Rattle.schema_grammar.proofs.ComplaintLaws.{Carries-map, same_mark}
 use Rattle.schema_grammar.proofs.OneRefusal.{OneWant, one_first}
 use Rattle.proof_grammar.specs.declared.rule_name.RuleName.TheVariants as rule
 use Rattle.proof_grammar.specs.Lines.{Line, line}
-use Rattle.proof_grammar.specs.LineComplaints.{Form, forms, a_number, a_colon, an_arrow, an_empty, a_with, a_rule, a_word, IsLine, BeginsLine, IsStuck, SideComplaint, TokensComplaint, Wants, TokensWant, RefusesTokens, RefusesLine}
+use Rattle.proof_grammar.specs.LineComplaints.{Form, forms, a_number, a_colon, an_arrow, an_empty, a_with, a_rule, a_word, AreLine, BeginLine, CannotGoOn, SideComplaint, TokensComplaint, FormsWant, TokensWant, RefusesTokens, RefusesCertificateLine}
 use Rattle.proof_grammar.proofs.FormLines.{begins_from, begins_on, begins_to, final_line, line_ends, same_shape, takes_names, wants_from, word_taken}
 use Rattle.proof_grammar.proofs.FormShapes.{Side, lhs, rhs, by, wide, narrow, Shape, at_start, past_number, at_side, past_words, past_empty, at_rule, at_premise, at_with, at_end, bind, is_final, is_last, past_arrow, past_colon, runs, takes_words, turn, wanted_after, wanted_by}
 use Rattle.proof_grammar.proofs.JudgedLines.{Judged, OnShape, ShapeWants, TokenWrong, Wrong}
@@ -133,7 +133,7 @@ end_at fs at_rule leads final = cc
 end_at fs (at_premise a) leads final = cc
 end_at fs (at_with k) leads final = cc
 
-wanted_at : (fs : List Form) (w : What) → Wants fs w → WantedAt fs w
+wanted_at : (fs : List Form) (w : What) → FormsWant fs w → WantedAt fs w
 wanted_at fs what.Number h = let on = begins_on fs a_number h in number_at fs on.shape on.next on.leads on.on
 wanted_at fs what.Colon h = let on = begins_on fs a_colon h in colon_at fs on.shape on.next on.leads on.on
 wanted_at fs what.Arrow h = let on = begins_on fs an_arrow h in arrow_at fs on.shape on.next on.leads on.on
@@ -146,7 +146,7 @@ wanted_at fs what.LineEnd h = let ends = line_ends fs h in end_at fs ends.last e
 wanted_at fs what.Name h = absurd h
 wanted_at fs what.Scheme h = absurd h
 
-one_want : (fs : List Form) → OneWant (Wants fs)
+one_want : (fs : List Form) → OneWant (FormsWant fs)
 one_want fs w v h g =
     let first = wanted_at fs w h in
     let again = wanted_at fs v g in
@@ -260,18 +260,18 @@ complaint_there names ms stop p n (inl h) = let at = place_there at_start names 
     fs = forms ms
 
     told : (s : Shape) → runs at_start (take p fs) ≡ Some s → Why at_start names ms stop p n s
-        → SideComplaint names ms p n ⊎ ((n ≡ 6) × IsStuck fs stop p)
+        → SideComplaint names ms p n ⊎ ((n ≡ 6) × CannotGoOn fs stop p)
     told s reached (inl (m, is, takes, word)) = inl (m, is, takes_names (take p fs) s reached takes, word)
     told s reached (inr (six, inl (less, none))) =
         inr (six, record { before = begins_from (take p fs) s reached; here = inl (less, cannot) })
       where
-        cannot : BeginsLine (take (suc p) fs) → ⊥
+        cannot : BeginLine (take (suc p) fs) → ⊥
         cannot begins = let there = begins_to (take (suc p) fs) begins in let wrong : None ≡ Some there.shape =
             sym none ∙ there.leads in cc
     told s reached (inr (six, inr (same, ended, open_end))) =
         inr (six, record { before = begins_from (take p fs) s reached; here = inr (same, ended, cannot) })
       where
-        cannot : IsLine fs → ⊥
+        cannot : AreLine fs → ⊥
         cannot is =
             let ends = line_ends fs is in
             let here : runs at_start fs ≡ Some s = sym (ap (runs at_start) (all_taken p fs same)) ∙ reached in
@@ -293,7 +293,7 @@ complaint_back names ms stop p n (inl (inr (six, stuck))) =
     fs = forms ms
 
     told : (s : Shape) → runs at_start (take p fs) ≡ Some s
-        → ((p < length fs) × (BeginsLine (take (suc p) fs) → ⊥)) ⊎ ((p ≡ length fs) × (stop ≡ None) × (IsLine fs → ⊥))
+        → ((p < length fs) × (BeginLine (take (suc p) fs) → ⊥)) ⊎ ((p ≡ length fs) × (stop ≡ None) × (AreLine fs → ⊥))
         → ((p < length fs) × (runs at_start (take (suc p) fs) ≡ None)) ⊎
         ((p ≡ length fs) × (stop ≡ None) × (is_final s ≡ false))
     told s reached (inl (less, cannot)) = inl (less, nowhere (runs at_start (take (suc p) fs)) refl)
@@ -309,7 +309,7 @@ complaint_back names ms stop p n (inl (inr (six, stuck))) =
 
 -- ---- the laws
 shape_wants : (ms : List Mark) (p : ℕ) (w : What) → ShapeWants at_start ms p w → TokensWant ms p w
-shape_wants ms p w wants = subst (Wants (take p (forms ms))) (sym wants.is)
+shape_wants ms p w wants = subst (FormsWant (take p (forms ms))) (sym wants.is)
     (wants_from (take p (forms ms)) wants.shape wants.reached)
 
 first_there : (names : List (List ℕ)) (at : ℕ) (ms : List Mark) (stop : Option Stop) (e : SchemaRefusal)
@@ -341,15 +341,15 @@ tokens_back names at ms stop e refuses = told (line names (left_at at 1 ms stop)
         (λ p. one_want (take p (forms ms))) (first_there names at ms stop f judged) refuses)
 
 pub line_refuses : (names : List (List ℕ)) (number : ℕ) (text : List ℕ) (e : SchemaRefusal)
-    → line names (rest_from number 1 (lex mode.Numbered text)) ≡ Err e → RefusesLine names number text e
+    → line names (rest_from number 1 (lex mode.Numbered text)) ≡ Err e → RefusesCertificateLine names number text e
 line_refuses names number text e is = tokens_there names number (lex mode.Numbered text).marks
     (lex mode.Numbered text).stop e is
 
 pub refuses_line : (names : List (List ℕ)) (number : ℕ) (text : List ℕ) (e : SchemaRefusal)
-    → RefusesLine names number text e → line names (rest_from number 1 (lex mode.Numbered text)) ≡ Err e
+    → RefusesCertificateLine names number text e → line names (rest_from number 1 (lex mode.Numbered text)) ≡ Err e
 refuses_line names number text e refuses = tokens_back names number (lex mode.Numbered text).marks
     (lex mode.Numbered text).stop e refuses
 
 pub refusal_law : (names : List (List ℕ)) (number : ℕ) (text : List ℕ) (e : SchemaRefusal)
-    → (line names (rest_from number 1 (lex mode.Numbered text)) ≡ Err e) ↔ RefusesLine names number text e
+    → (line names (rest_from number 1 (lex mode.Numbered text)) ≡ Err e) ↔ RefusesCertificateLine names number text e
 refusal_law names number text e = (line_refuses names number text e, refuses_line names number text e)

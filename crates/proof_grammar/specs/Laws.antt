@@ -15,7 +15,7 @@ use Rattle.schema_grammar.specs.declared.refusal.SchemaRefusal.{SchemaRefusal}
 use Rattle.schema_grammar.specs.Printed.{AreNames}
 use Rattle.schema_grammar.specs.Rests.{rest_from}
 use Rattle.proof_grammar.specs.Complaints.{LineComplaint}
-use Rattle.proof_grammar.specs.LineComplaints.{RefusesLine}
+use Rattle.proof_grammar.specs.LineComplaints.{RefusesCertificateLine}
 use Rattle.proof_grammar.specs.Lines.{Line, line}
 use Rattle.proof_grammar.specs.Meanings.{MeansLine}
 use Rattle.proof_grammar.specs.Printable.{IsPrintableLine}
@@ -33,7 +33,7 @@ LineMeaning =
 abbrev pub LineRefusal : Type 0
 LineRefusal =
     (names : List (List ℕ)) (number : ℕ) (text : List ℕ) (e : SchemaRefusal)
-    → (line names (rest_from number 1 (lex mode.Numbered text)) ≡ Err e) ↔ RefusesLine names number text e
+    → (line names (rest_from number 1 (lex mode.Numbered text)) ≡ Err e) ↔ RefusesCertificateLine names number text e
 
 abbrev pub SpelledIsRead : Type 0
 SpelledIsRead = (s : Schema) (text : List ℕ) (t : Tree) → (read_proof s text ≡ Ok t) ↔ SpellsWithin s text t

@@ -45,28 +45,28 @@ abbrev pub forms : List Mark → List Form
 forms ms = map (λ m. form_of m.kind m.word) ms
 
 -- tokens of these forms are a line over some names
-pub record IsLine (fs : List Form) : Type 0 where
+pub record AreLine (fs : List Form) : Type 0 where
   pub names : List (List ℕ)
   pub marks : List Mark
   pub line : Line
   pub same_forms : forms marks ≡ fs
   pub is_line : IsCertificateLine names marks line
 
--- a line begins with tokens of these forms
-pub record BeginsLine (fs : List Form) : Type 0 where
+-- tokens of these forms begin a line
+pub record BeginLine (fs : List Form) : Type 0 where
   pub rest : List Form
-  pub line : IsLine (fs ++ rest)
+  pub line : AreLine (fs ++ rest)
 
 -- ---- what is wrong
 -- after tokens of these forms any word can follow: it stands in a side
 abbrev pub TakesNames : List Form → Type 0
-TakesNames fs = BeginsLine (fs ++ a_word ∷ [])
+TakesNames fs = BeginLine (fs ++ a_word ∷ [])
 
 -- the grammar can't go on at the token, or the line's end, before which so many tokens stand
-pub record IsStuck (fs : List Form) (stop : Option Stop) (place : ℕ) : Type 0 where
-  pub before : BeginsLine (take place fs)
-  pub here : ((place < length fs) × (BeginsLine (take (suc place) fs) → ⊥))
-      ⊎ ((place ≡ length fs) × (stop ≡ None) × (IsLine fs → ⊥))
+pub record CannotGoOn (fs : List Form) (stop : Option Stop) (place : ℕ) : Type 0 where
+  pub before : BeginLine (take place fs)
+  pub here : ((place < length fs) × (BeginLine (take (suc place) fs) → ⊥))
+      ⊎ ((place ≡ length fs) × (stop ≡ None) × (AreLine fs → ⊥))
 
 -- a word of a side is reserved, or no name is it
 abbrev pub SideComplaint : List (List ℕ) → List Mark → ℕ → ℕ → Type 0
@@ -77,25 +77,25 @@ SideComplaint names ms place number =
 -- what is wrong with tokens at a place, before which so many of them stand
 abbrev pub TokensComplaint : List (List ℕ) → List Mark → Option Stop → ℕ → ℕ → Type 0
 TokensComplaint names ms stop place number =
-    (SideComplaint names ms place number ⊎ ((number ≡ 6) × IsStuck (forms ms) stop place))
+    (SideComplaint names ms place number ⊎ ((number ≡ 6) × CannotGoOn (forms ms) stop place))
     ⊎ ((s : Stop) × (stop ≡ Some s) × (place ≡ length ms) × (number ≡ flaw_number s.flaw))
 
 -- what is wanted after tokens of these forms: a side where `()` can follow, the line's end where they are a
 -- line, and any other token where it can follow; a word of the grammar, though, where no other word can
-abbrev pub Wants : List Form → What → Type 0
-Wants fs what.Number = BeginsLine (fs ++ a_number ∷ [])
-Wants fs what.Colon = BeginsLine (fs ++ a_colon ∷ [])
-Wants fs what.Side = BeginsLine (fs ++ an_empty ∷ [])
-Wants fs what.Arrow = BeginsLine (fs ++ an_arrow ∷ [])
-Wants fs what.With = BeginsLine (fs ++ a_with ∷ []) × (TakesNames fs → ⊥)
-Wants fs what.Rule = BeginsLine (fs ++ a_rule rule.Given ∷ []) × (TakesNames fs → ⊥)
-Wants fs what.LineEnd = IsLine fs
-Wants fs _ = ⊥
+abbrev pub FormsWant : List Form → What → Type 0
+FormsWant fs what.Number = BeginLine (fs ++ a_number ∷ [])
+FormsWant fs what.Colon = BeginLine (fs ++ a_colon ∷ [])
+FormsWant fs what.Side = BeginLine (fs ++ an_empty ∷ [])
+FormsWant fs what.Arrow = BeginLine (fs ++ an_arrow ∷ [])
+FormsWant fs what.With = BeginLine (fs ++ a_with ∷ []) × (TakesNames fs → ⊥)
+FormsWant fs what.Rule = BeginLine (fs ++ a_rule rule.Given ∷ []) × (TakesNames fs → ⊥)
+FormsWant fs what.LineEnd = AreLine fs
+FormsWant fs _ = ⊥
 
 -- ---- the refusal
 -- what is wanted at a place
 abbrev pub TokensWant : List Mark → ℕ → What → Type 0
-TokensWant ms place = Wants (take place (forms ms))
+TokensWant ms place = FormsWant (take place (forms ms))
 
 -- a line of tokens is refused by its first complaint
 abbrev pub RefusesTokens : List (List ℕ) → ℕ → List Mark → Option Stop → SchemaRefusal → Type 0
@@ -103,6 +103,6 @@ RefusesTokens names line ms stop e =
     IsFirst (TokensComplaint names ms stop) (TokensWant ms) (span_at line 1 ms stop) e
 
 -- the line of this number of a certificate's text is refused so
-abbrev pub RefusesLine : List (List ℕ) → ℕ → List ℕ → SchemaRefusal → Type 0
-RefusesLine names line text e =
+abbrev pub RefusesCertificateLine : List (List ℕ) → ℕ → List ℕ → SchemaRefusal → Type 0
+RefusesCertificateLine names line text e =
     RefusesTokens names line (lex mode.Numbered text).marks (lex mode.Numbered text).stop e

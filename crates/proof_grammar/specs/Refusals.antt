@@ -7,7 +7,7 @@ use Rattle.lexer.specs.Lines.{line_texts, without_mark}
 use Rattle.schema_grammar.specs.declared.refusal.SchemaRefusal.{SchemaRefusal}
 use Rattle.proof_grammar.specs.declared.refusal.ProofRefusal.{ProofRefusal}
 use Rattle.proof_grammar.specs.Complaints.{Complaint, LineComplaint, bad_line, never_used, empty_proof, complaint_of}
-use Rattle.proof_grammar.specs.LineComplaints.{RefusesLine}
+use Rattle.proof_grammar.specs.LineComplaints.{RefusesCertificateLine}
 use Rattle.proof_grammar.specs.Lines.{Line}
 use Rattle.proof_grammar.specs.Meanings.{certificate_lines_of, certificate_lines, MeansLine, MeanLines}
 use Rattle.proof_grammar.specs.Spelling.{uses}
@@ -24,7 +24,7 @@ pub record StandsAt (text : List ℕ) (before : List (List ℕ)) (here : List �
 -- the line breaks the grammar: it is refused by its first complaint
 pub record IsBadLine (names : List (List ℕ)) (here : List ℕ) (at : ℕ) (c : Complaint) : Type 0 where
   pub refusal : SchemaRefusal
-  pub grammar : RefusesLine names at here refusal
+  pub grammar : RefusesCertificateLine names at here refusal
   pub is : c ≡ bad_line refusal
 
 -- or it means a line, with which something is wrong
