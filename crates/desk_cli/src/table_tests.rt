@@ -9,6 +9,7 @@ use csv_migrate::Table;
 use dep_model::{Name, Row, Value, WantMemory};
 use desk_outside::{HeldFile, MemoryFolder, MemorySink};
 use std::alloc::Global;
+use std::process::Abort;
 use std::test::Fail;
 use targets::{CsvTarget, HeldTable, MemoryTarget, SqlTarget, Target, TargetFault};
 
@@ -180,11 +181,39 @@ fn a_target_wants_memory(rt: HostRuntime) -> Result<(), Fail> {
     Ok(())
 }
 
-// The files of a folder, and one that fails at its first call.
-#[test]
-fn files_are_written(rt: HostRuntime) -> Result<(), Fail> {
-    let alloc = rt.alloc();
-    let mut sink = MemorySink::make(alloc, 1000, Vec::new(alloc))?;
+const FIRST_SQL: &str = "INSERT INTO \"t1\" (\"A\") VALUES ('x');
+INSERT INTO \"t1\" (\"A\") VALUES ('O''Hara');
+";
+
+const SECOND_SQL: &str = "INSERT INTO \"t2\" (\"A\") VALUES ('');
+INSERT INTO \"t2\" (\"A\") VALUES ('a,b');
+INSERT INTO \"t2\" (\"A\") VALUES (X'FF');
+";
+
+const THIRD_SQL: &str = "INSERT INTO \"t3\" (\"A\") VALUES ('1');
+INSERT INTO \"t3\" (\"A\") VALUES ('2');
+INSERT INTO \"t3\" (\"A\") VALUES (X'3300');
+";
+
+// The files of a target have these texts.
+fn check_files(
+    rt: &impl Abort,
+    target: Option<&Box<dyn Target>>,
+    wanted: [(&[u8], &[u8]); 3],
+) -> Result<(), Fail> {
+    let Some(held) = target.and_then(|target| target.held_files()) else {
+        return Err(Fail::from(WantMemory));
+    };
+    assert_eq!(rt; held.len(), wanted.len());
+    for (file, (name, bytes)) in held.iter().zip(wanted) {
+        assert_eq!(rt; file.name.bytes(), name);
+        assert_eq!(rt; file.bytes.as_slice(), bytes);
+    }
+    Ok(())
+}
+
+// Targets over folders in memory, of which the first fails at its first call.
+fn file_targets(alloc: Global) -> Result<Vec<Box<dyn Target>>, WantMemory> {
     let mut targets: Vec<Box<dyn Target>> = Vec::new(alloc);
     let first = MemoryFolder::make(alloc, Vec::from_slice(alloc, &[1])?);
     targets.push(Box::new(alloc, CsvTarget::make(alloc, first)?)?)?;
@@ -192,49 +221,38 @@ fn files_are_written(rt: HostRuntime) -> Result<(), Fail> {
     targets.push(Box::new(alloc, CsvTarget::make(alloc, second)?)?)?;
     let third = MemoryFolder::make(alloc, Vec::new(alloc));
     targets.push(Box::new(alloc, SqlTarget::make(alloc, third)?)?)?;
+    Ok(targets)
+}
+
+#[test]
+fn files_are_written(rt: HostRuntime) -> Result<(), Fail> {
+    let alloc = rt.alloc();
+    let mut sink = MemorySink::make(alloc, 1000, Vec::new(alloc))?;
+    let mut targets = file_targets(alloc)?;
     let status = deliver(alloc, reply(alloc)?, &mut sink, &mut targets)?;
     assert!(rt; status == Status::TargetFailed);
     assert_eq!(rt; sink.taken(), b"target 1 failed\n".as_slice());
-    let wanted: [(usize, &[(&[u8], &[u8])]); 3] = [
-        (0, &[]),
-        (
-            1,
-            &[
-                (b"t1.csv", b"A\nx\nO'Hara\n"),
-                (b"t2.csv", b"A\n\"\"\n\"a,b\"\n\xff\n"),
-                (b"t3.csv", b"A\n1\n2\n3\0\n"),
-            ],
-        ),
-        (
-            2,
-            &[
-                (
-                    b"t1.sql",
-                    b"INSERT INTO \"t1\" (\"A\") VALUES ('x');\nINSERT INTO \"t1\" (\"A\") VALUES ('O''Hara');\n",
-                ),
-                (
-                    b"t2.sql",
-                    b"INSERT INTO \"t2\" (\"A\") VALUES ('');\nINSERT INTO \"t2\" (\"A\") VALUES ('a,b');\nINSERT INTO \"t2\" (\"A\") VALUES (X'FF');\n",
-                ),
-                (
-                    b"t3.sql",
-                    b"INSERT INTO \"t3\" (\"A\") VALUES ('1');\nINSERT INTO \"t3\" (\"A\") VALUES ('2');\nINSERT INTO \"t3\" (\"A\") VALUES (X'3300');\n",
-                ),
-            ],
-        ),
-    ];
-    for (place, files) in wanted {
-        let Some(target) = targets.get(place) else {
-            return Err(Fail::from(WantMemory));
-        };
-        let Some(held) = target.held_files() else {
-            return Err(Fail::from(WantMemory));
-        };
-        assert_eq!(rt; held.len(), files.len());
-        for (file, (name, bytes)) in held.iter().zip(files) {
-            assert_eq!(rt; file.name.bytes(), *name);
-            assert_eq!(rt; file.bytes.as_slice(), *bytes);
-        }
-    }
-    Ok(())
+    let none = targets
+        .first()
+        .and_then(|target| target.held_files())
+        .map_or(1, |files| files.len());
+    assert_eq!(rt; none, 0);
+    check_files(
+        &rt,
+        targets.get(1),
+        [
+            (b"t1.csv", b"A\nx\nO'Hara\n"),
+            (b"t2.csv", b"A\n\"\"\n\"a,b\"\n\xff\n"),
+            (b"t3.csv", b"A\n1\n2\n3\0\n"),
+        ],
+    )?;
+    check_files(
+        &rt,
+        targets.get(2),
+        [
+            (b"t1.sql", FIRST_SQL.as_bytes()),
+            (b"t2.sql", SECOND_SQL.as_bytes()),
+            (b"t3.sql", THIRD_SQL.as_bytes()),
+        ],
+    )
 }

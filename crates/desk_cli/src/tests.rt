@@ -2,6 +2,7 @@ use crate::{Status, desk};
 use dep_model::WantMemory;
 use desk_outside::{HeldFile, MemoryShelf, MemorySink, Word};
 use std::alloc::Global;
+use std::process::Abort;
 use std::test::Fail;
 use targets::{MemoryTarget, Target};
 
@@ -59,9 +60,23 @@ fn call(
     Ok((status, sink))
 }
 
+// What a call over the shelf answers.
+fn check(
+    rt: &(impl Alloc<A = Global> + Abort),
+    case: (&[&[u8]], Status, &[u8]),
+) -> Result<(), Fail> {
+    let (words, status, text) = case;
+    let alloc = rt.alloc();
+    let mut shelf = slow_shelf(alloc, &[])?;
+    let (ended, sink) = call(alloc, words, &mut shelf, 1000)?;
+    assert!(rt; ended == status, "{words:?}");
+    assert_eq!(rt; sink.taken(), text);
+    Ok(())
+}
+
 #[test]
 fn answers_over_objects_in_memory(rt: HostRuntime) -> Result<(), Fail> {
-    let cases: [(&[&[u8]], Status, &[u8]); 8] = [
+    let cases: [(&[&[u8]], Status, &[u8]); 5] = [
         (&[b"implies", b"s", b"A -> C"], Status::Yes, YES),
         (&[b"implies", b"s", b"C -> A"], Status::No, NO),
         (&[b"implies", b"s", b"() ->> A"], Status::No, MULTIVALUED),
@@ -75,28 +90,25 @@ fn answers_over_objects_in_memory(rt: HostRuntime) -> Result<(), Fail> {
             Status::CannotRead,
             b"cannot read t\n",
         ),
-        (
-            &[],
-            Status::Refused,
-            b"refused: the words form no command\n",
-        ),
-        (
-            &[b"implies", b"s"],
-            Status::Refused,
-            b"refused: the words form no command\n",
-        ),
-        (
-            &[b"check", b"proof", b"s", b"p"],
-            Status::Refused,
-            b"refused: the words form no command\n",
-        ),
     ];
-    for (words, status, text) in cases {
-        let alloc = rt.alloc();
-        let mut shelf = slow_shelf(alloc, &[])?;
-        let (ended, sink) = call(alloc, words, &mut shelf, 1000)?;
-        assert!(rt; ended == status, "{words:?}");
-        assert_eq!(rt; sink.taken(), text);
+    for case in cases {
+        check(&rt, case)?;
+    }
+    Ok(())
+}
+
+#[test]
+fn words_that_form_no_command(rt: HostRuntime) -> Result<(), Fail> {
+    let cases: [&[&[u8]]; 3] = [&[], &[b"implies", b"s"], &[b"check", b"proof", b"s", b"p"]];
+    for words in cases {
+        check(
+            &rt,
+            (
+                words,
+                Status::Refused,
+                b"refused: the words form no command\n",
+            ),
+        )?;
     }
     Ok(())
 }
