@@ -1,0 +1,2 @@
+mod BreachLemmas
+pub mod JoinedLemmas

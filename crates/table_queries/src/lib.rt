@@ -1,0 +1,44 @@
+//! Queries over one table, as terms, and what they give over a relation: its values on a set of attributes,
+//! values beside more than one other, natural joins and differences.
+//!
+//! `breaches_of` is the query for the tuples that break a dependency, `join_of` the natural join of the tables
+//! of a plan. The laws say what these give. Each is a function that does nothing, whose clause is the law; so
+//! the gate asks for its proof.
+#![tactic(auto)]
+
+ghost use Rattle.std.specs.Prelude.{◌≡◌, ◌<◌, ◌≤◌, ◌↔◌, ℕ, List, map, Contains, MatchOption};
+ghost use Rattle.attr_sets.specs.declared.set.TheConstants.{PLACES};
+ghost use Rattle.attr_sets.specs.Places.{Places, below};
+ghost use Rattle.dep_model.specs.Tuples.{Tuple, Relation, IsOver};
+ghost use Rattle.dep_model.specs.Dependencies.{Dependency, IsWithin, Obeys};
+ghost use Rattle.dep_model.specs.Implication.{IsLegal};
+ghost use Rattle.dep_model.specs.Projections.{ordered_projection, IsLossless};
+ghost use Rattle.table_queries.specs.Queries.{StoredTable, breaches_of, values_on, join_of, lacking, exceeding};
+ghost use Rattle.table_queries.specs.Meanings.{IsGiven, GivesNone};
+
+/// The query of a dependency gives no tuple over a relation exactly where the relation obeys it, and every
+/// relation obeys a dependency that has none.
+pub fn breaches_tell_a_dependency()
+    ensures law { (n : ℕ) (d : Dependency) (r : Relation) → n ≤ PLACES → IsWithin (below n) d → IsOver n r
+        → MatchOption (breaches_of n d) (Obeys n d r) (λ q. GivesNone n q r ↔ Obeys n d r) }
+{}
+
+/// The values of a relation on a scheme are its ordered projection.
+pub fn values_are_the_projection()
+    ensures law { (n : ℕ) (scheme : Places) (r : Relation) (u : Tuple) → IsOver n r
+        → IsGiven n (values_on scheme) r u ↔ Contains (ordered_projection scheme r) u }
+{}
+
+/// The join of the tables of a lossless plan gives the tuples of every legal relation, and no others.
+pub fn join_gives_the_relation()
+    ensures law { (n : ℕ) (ds : List Dependency) (tables : List StoredTable) (r : Relation) → 0 < n
+        → IsLossless n ds (map (λ table. table.scheme) tables) → IsLegal n ds r
+        → (t : Tuple) → IsGiven n (join_of tables) r t ↔ Contains r t }
+{}
+
+/// So a legal relation lacks nothing of a view on that join, and the view nothing of the relation.
+pub fn no_difference_is_left()
+    ensures law { (n : ℕ) (ds : List Dependency) (name : List ℕ) (tables : List StoredTable) (r : Relation)
+        → 0 < n → IsLossless n ds (map (λ table. table.scheme) tables) → IsLegal n ds r
+        → GivesNone n (lacking name tables) r × GivesNone n (exceeding name tables) r }
+{}
