@@ -1,2 +1,2 @@
-mod BreachLemmas
+pub mod BreachLemmas
 pub mod JoinedLemmas
