@@ -1,4 +1,4 @@
--- The first scheme of a plan that does not pass the test of a form.
+-- The first scheme of a plan that does not pass a test.
 use Rattle.std.proofs.Common.{◌≡◌, ◌<◌, ◌+◌, ℕ, List, [], ◌∷◌, ◌++◌, length, map, take, drop, get_or, sym, refl, ap, ◌∙◌}
 use Rattle.std.proofs.lemmas.List.{take-append-drop, at_drop_more}
 use Rattle.std.proofs.lemmas.List.Elements.{All-map}
@@ -7,21 +7,19 @@ use Rattle.attr_sets.specs.Places.{Places}
 use Rattle.attr_sets.specs.Sets.{places}
 use Rattle.attr_sets.specs.declared.set.AttrSet.{AttrSet}
 use Rattle.dep_model.specs.Plans.{schemes_of}
-use Rattle.dep_model.specs.declared.schema.Schema.{Schema}
-use Rattle.form_tests.specs.declared.forms.Form.{Form}
-use Rattle.desk_cli.specs.NormalForms.{PassesForm, IsFirstFailing}
+use Rattle.desk_cli.specs.Plans.{IsFirstFailing}
 
 map_append : (xs ys : List AttrSet) → schemes_of (xs ++ ys) ≡ schemes_of xs ++ schemes_of ys
 map_append [] ys = refl
 map_append (x ∷ xs) ys = ap (λ (l : List Places). places x ∷ l) (map_append xs ys)
 
-pub first_failing : (schema : Schema) (form : Form) (schemes : List AttrSet) (i : ℕ) (d : AttrSet) → i < length schemes
-    → All (λ scheme. PassesForm schema form (places scheme)) (take i schemes)
-    → IsFirstFailing schema form (schemes_of schemes) (places (get_or schemes i d))
-first_failing schema form schemes i d low passed = record {
+pub first_failing : (Passes : Places → Type 0) (schemes : List AttrSet) (i : ℕ) (d : AttrSet) → i < length schemes
+    → All (λ scheme. Passes (places scheme)) (take i schemes)
+    → IsFirstFailing Passes (schemes_of schemes) (places (get_or schemes i d))
+first_failing Passes schemes i d low passed = record {
   earlier = schemes_of (take i schemes);
   later = schemes_of (drop (i + 1) schemes);
   list = ap schemes_of (sym (take-append-drop i schemes) ∙ at_drop_more (λ (l : List AttrSet). take i schemes ++ l) schemes i d low)
       ∙ map_append (take i schemes) (get_or schemes i d ∷ drop (i + 1) schemes);
-  passed = All-map (PassesForm schema form) places (take i schemes) passed;
+  passed = All-map Passes places (take i schemes) passed;
 }

@@ -9,4 +9,6 @@ pub mod MigrationLemmas
 pub mod LossLemmas
 pub mod PartLemmas
 pub mod FormLemmas
+pub mod KeyLemmas
+pub mod SamenessLemmas
 pub mod EndingLemmas

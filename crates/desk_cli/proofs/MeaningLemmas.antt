@@ -11,7 +11,9 @@ use Rattle.schema_grammar.specs.declared.refusal.SchemaRefusalKind.TheVariants a
 use Rattle.schema_grammar.specs.Complaints.{RefusesGoal}
 use Rattle.schema_grammar.specs.Refusals.{RefusesAs}
 use Rattle.schema_grammar.specs.Schemas.{RefusesSchema}
+use Rattle.schema_grammar.specs.Sets.{RefusesSet}
 use Rattle.schema_reader.specs.declared.goal.TheConstants.{MOST_GOAL_BYTES}
+use Rattle.schema_reader.specs.declared.set.TheConstants.{MOST_SET_BYTES}
 use Rattle.schema_reader.specs.declared.text.TheConstants.{MOST_TEXT_BYTES}
 use Rattle.proof_grammar.specs.declared.refusal.ProofRefusal.{ProofRefusal}
 use Rattle.proof_grammar.specs.declared.refusal.ProofRefusalKind.{ProofRefusalKind}
@@ -24,7 +26,7 @@ use Rattle.plan_grammar.specs.Refusals.{RefusesPlanAs}
 use Rattle.plan_grammar.specs.declared.refusal.PlanRefusal.{PlanRefusal}
 use Rattle.plan_grammar.specs.declared.refusal.PlanRefusal.TheVariants as plan
 use Rattle.desk_cli.specs.declared.reply.Stop.{Stop}
-use Rattle.desk_cli.specs.Inputs.{GoalStops, SchemaStops, ProofStops, wants_memory, TellsRefusal, TellsProof}
+use Rattle.desk_cli.specs.Inputs.{GoalStops, SetStops, SchemaStops, ProofStops, wants_memory, TellsRefusal, TellsProof}
 use Rattle.desk_cli.specs.Plans.{PlanStops, TellsPlan, is_want}
 use Rattle.desk_cli.specs.ProofTexts.{OfComplaint}
 use Rattle.desk_cli.specs.Readings.{Reading, IsContent}
@@ -53,6 +55,11 @@ schema_stop r name bytes refusal stop content refuses tells = λ reply is.
 pub goal_stop : (s : Schema) (goal : List ℕ) (refusal : SchemaRefusal) (stop : Stop) → length goal ≤ MOST_GOAL_BYTES
     → RefusesGoal (names_of s) goal refusal → StopsAs (TellsRefusal (codes "goal") (codes "goal") refusal) stop → StopsAs (GoalStops s goal) stop
 goal_stop s goal refusal stop few refuses tells = λ reply is.
+    let told = tells reply is in inr (refusal, record { few = few; refused = refuses }, told.1)
+
+pub set_stop : (s : Schema) (set : List ℕ) (refusal : SchemaRefusal) (stop : Stop) → length set ≤ MOST_SET_BYTES
+    → RefusesSet (names_of s) set refusal → StopsAs (TellsRefusal (codes "set") (codes "set") refusal) stop → StopsAs (SetStops s set) stop
+set_stop s set refusal stop few refuses tells = λ reply is.
     let told = tells reply is in inr (refusal, record { few = few; refused = refuses }, told.1)
 
 pub proof_stop : (r : Reading) (s : Schema) (name bytes : List ℕ) (refusal : ProofRefusal) (stop : Stop) → IsContent r name MOST_PROOF_BYTES bytes

@@ -21,10 +21,16 @@ pub data Task : Type 0 where
   check_form : NormalForm → List ℕ → Task
   -- whether the plan of a file keeps the functional dependencies
   check_keeps : List ℕ → Task
+  -- whether it, in the first file, says the same as the schema of a second file
+  check_same : List ℕ → List ℕ → Task
   -- its cover
   cover : Task
+  -- what a set of attributes determines, and its blocks
+  basis : List ℕ → Task
   -- its keys
   keys : Task
+  -- the keys of the schemes of the plan of a file
+  keys_of_plan : List ℕ → Task
   -- a plan in third normal form
   synthesize : Task
   -- a plan in Boyce-Codd or fourth normal form
@@ -72,6 +78,11 @@ schema_and task _ = None
 unfoldable pub schema_and_two : (List ℕ → List ℕ → Task) → List (List ℕ) → Option Form
 schema_and_two task (schema ∷ first ∷ second ∷ []) = Some (over_schema schema (task first second))
 schema_and_two task _ = None
+
+-- two schemas
+unfoldable pub two_schemas : (List ℕ → List ℕ → Task) → List (List ℕ) → Option Form
+two_schemas task (schema ∷ other ∷ []) = Some (over_schema schema (task schema other))
+two_schemas task _ = None
 
 -- from one to 64 words
 abbrev pub are_few : List (List ℕ) → Bool
@@ -121,7 +132,14 @@ after_check (what ∷ rest) =
     else if bytes_eq what (codes "join") then schema_and check_join rest
     else if bytes_eq what (codes "form") then after_check_form rest
     else if bytes_eq what (codes "keeps") then schema_and check_keeps rest
+    else if bytes_eq what (codes "same") then two_schemas check_same rest
     else None
+
+-- after `keys`
+unfoldable pub after_keys : List (List ℕ) → Option Form
+after_keys (schema ∷ []) = Some (over_schema schema keys)
+after_keys (schema ∷ plan ∷ []) = Some (over_schema schema (keys_of_plan plan))
+after_keys _ = None
 
 -- after `split`
 unfoldable pub after_split : List (List ℕ) → Option Form
@@ -152,7 +170,8 @@ form_over_schema verb rest =
     if bytes_eq verb (codes "implies") then schema_and implies rest
     else if bytes_eq verb (codes "check") then after_check rest
     else if bytes_eq verb (codes "cover") then schema_alone cover rest
-    else if bytes_eq verb (codes "keys") then schema_alone keys rest
+    else if bytes_eq verb (codes "basis") then schema_and basis rest
+    else if bytes_eq verb (codes "keys") then after_keys rest
     else if bytes_eq verb (codes "synthesize") then schema_alone synthesize rest
     else if bytes_eq verb (codes "split") then after_split rest
     else if bytes_eq verb (codes "exhibit") then schema_alone exhibit rest

@@ -1,10 +1,12 @@
--- How a schema, a goal and a certificate are read, and how their reading ends a command.
+-- How a schema, a goal, a set and a certificate are read, and how their reading ends a command.
 use Rattle.std.specs.Prelude.{◌≡◌, ◌≢◌, ◌⊎◌, ℕ, Bool, true, false, ◌<◌, ◌≤◌, List, length, codes, Some}
+use Rattle.attr_sets.specs.Places.{Places}
 use Rattle.dep_model.specs.Dependencies.{Dependency}
 use Rattle.dep_model.specs.Schemas.{names_of}
 use Rattle.dep_model.specs.declared.schema.Schema.{Schema}
 use Rattle.derivation.specs.Trees.{Tree}
 use Rattle.schema_reader.specs.declared.goal.TheConstants.{MOST_GOAL_BYTES}
+use Rattle.schema_reader.specs.declared.set.TheConstants.{MOST_SET_BYTES}
 use Rattle.schema_reader.specs.declared.text.TheConstants.{MOST_TEXT_BYTES}
 use Rattle.schema_grammar.specs.declared.refusal.SchemaRefusal.{SchemaRefusal}
 use Rattle.schema_grammar.specs.declared.refusal.SchemaRefusalKind.{SchemaRefusalKind}
@@ -12,6 +14,7 @@ use Rattle.schema_grammar.specs.declared.refusal.SchemaRefusalKind.TheVariants a
 use Rattle.schema_grammar.specs.Complaints.{RefusesGoal}
 use Rattle.schema_grammar.specs.Meanings.{MeansGoal}
 use Rattle.schema_grammar.specs.Schemas.{MeansSchema, RefusesSchema}
+use Rattle.schema_grammar.specs.Sets.{MeansSet, RefusesSet}
 use Rattle.schema_grammar.specs.Texts.{declarations_of}
 use Rattle.proof_text.specs.declared.text.TheConstants.{MOST_PROOF_BYTES}
 use Rattle.proof_grammar.specs.declared.refusal.ProofRefusal.{ProofRefusal}
@@ -22,7 +25,7 @@ use Rattle.desk_cli.specs.declared.status.Status.TheVariants.{Refused, CannotRea
 use Rattle.desk_cli.specs.Answers.{Allowed, Says, With}
 use Rattle.desk_cli.specs.ProofTexts.{proof_refusal_text}
 use Rattle.desk_cli.specs.Readings.{Reading, CannotBeRead, IsTooLong, IsContent}
-use Rattle.desk_cli.specs.Texts.{cannot_read_text, too_long_text, goal_too_long_text, refusal_text, goal_refusal_text}
+use Rattle.desk_cli.specs.Texts.{cannot_read_text, too_long_text, goal_too_long_text, set_too_long_text, refusal_text, goal_refusal_text, set_refusal_text}
 
 -- how the reading of a file of at most so many bytes ends a command
 abbrev pub FileStops : Reading → List ℕ → ℕ → Allowed
@@ -75,6 +78,28 @@ GoalStops schema goal answer =
 -- a goal is read, and then the rest follows
 abbrev pub WithGoal : Schema → List ℕ → (Dependency → Allowed) → Allowed
 WithGoal schema goal = With (GoalStops schema goal) (IsGoal schema goal)
+
+-- ---- sets
+-- a set is refused so
+pub record IsRefusedSet (schema : Schema) (set : List ℕ) (refusal : SchemaRefusal) : Type 0 where
+  pub few : length set ≤ MOST_SET_BYTES
+  pub refused : RefusesSet (names_of schema) set refusal
+
+-- a text means this set of attributes
+pub record IsSetText (schema : Schema) (set : List ℕ) (x : Places) : Type 0 where
+  pub few : length set ≤ MOST_SET_BYTES
+  pub means : MeansSet (names_of schema) set x
+
+-- how the reading of a set ends a command
+abbrev pub SetStops : Schema → List ℕ → Allowed
+SetStops schema set answer =
+    ((MOST_SET_BYTES < length set) × Says Refused set_too_long_text answer)
+    ⊎ ((refusal : SchemaRefusal) × IsRefusedSet schema set refusal
+    × Says Refused (set_refusal_text refusal) answer)
+
+-- a set is read, and then the rest follows
+abbrev pub WithSet : Schema → List ℕ → (Places → Allowed) → Allowed
+WithSet schema set = With (SetStops schema set) (IsSetText schema set)
 
 -- ---- certificates
 -- the text of a file is refused so

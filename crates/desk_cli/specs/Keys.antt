@@ -1,5 +1,5 @@
--- The keys of a schema.
-use Rattle.std.specs.Prelude.{◌⊎◌, ℕ, ◌≤◌, List, ◌++◌, length, codes}
+-- The keys of a schema, and of the schemes of a plan.
+use Rattle.std.specs.Prelude.{◌≡◌, ◌⊎◌, ℕ, ◌≤◌, List, ◌++◌, length, codes, map, All}
 use Rattle.std.specs.List.{flat_map}
 use Rattle.attr_sets.specs.Places.{Places}
 use Rattle.attr_sets.specs.declared.set.AttrSet.{AttrSet}
@@ -9,10 +9,12 @@ use Rattle.dep_model.specs.declared.schema.Schema.{Schema}
 use Rattle.schema_grammar.specs.Printing.{set_text}
 use Rattle.key_listing.specs.declared.refusal.TheConstants.{MOST_KEYS}
 use Rattle.key_listing.specs.Listing.{AreAllKeys, AreManyKeys}
-use Rattle.key_listing.specs.Refusals.{IsTooWide}
+use Rattle.key_listing.specs.Refusals.{IsTooWide, IsWideScheme}
 use Rattle.desk_cli.specs.declared.status.Status.TheVariants.{Yes, Refused}
 use Rattle.desk_cli.specs.Answers.{Allowed, Says}
-use Rattle.desk_cli.specs.Texts.{line}
+use Rattle.desk_cli.specs.Plans.{IsFirstFailing, WithPlan}
+use Rattle.desk_cli.specs.Readings.{Reading}
+use Rattle.desk_cli.specs.Texts.{line, set_line}
 
 -- a line for each set
 abbrev pub sets_text : List (List ℕ) → List AttrSet → List ℕ
@@ -39,3 +41,46 @@ ListsKeys schema answer =
     × Says Yes (sets_text (names_of schema) keys) answer)
     ⊎ (IsTooWide schema × Says Refused (too_wide_text (names_of schema) (universe_of schema)) answer)
     ⊎ ((IsTooWide schema → ⊥) × HasManyKeys schema × Says Refused too_many_keys_text answer)
+
+-- ---- the schemes of a plan
+-- a scheme, and keys of it
+pub record KeyedScheme : Type 0 where
+  pub scheme : Places
+  pub keys : List AttrSet
+
+-- a line for each key
+abbrev pub keys_text : List (List ℕ) → List AttrSet → List ℕ
+keys_text names keys = flat_map (λ key. set_line (codes "key ") names (places key)) keys
+
+-- a scheme, and then its keys
+abbrev pub keyed_text : List (List ℕ) → KeyedScheme → List ℕ
+keyed_text names keyed = set_line (codes "scheme ") names keyed.scheme ++ keys_text names keyed.keys
+
+-- exactly all keys of a scheme, ascending; it is narrow enough to be searched, and has no more than are listed
+pub record HasKeys (schema : Schema) (keyed : KeyedScheme) : Type 0 where
+  pub narrow : IsWideScheme keyed.scheme → ⊥
+  pub keys : AreAllKeys (width_of schema) (theory_of schema) keyed.scheme keyed.keys
+  pub few : length keyed.keys ≤ MOST_KEYS
+
+-- the keys of a scheme are listed
+abbrev pub IsListed : Schema → Places → Type 0
+IsListed schema scheme = (keys : List AttrSet) × HasKeys schema (record { scheme = scheme; keys = keys })
+
+-- a scheme ends the command: it is too wide, or narrow with more keys than are listed
+abbrev pub EndsKeys : Schema → Places → Allowed
+EndsKeys schema scheme answer =
+    (IsWideScheme scheme × Says Refused (too_wide_text (names_of schema) scheme) answer)
+    ⊎ ((IsWideScheme scheme → ⊥)
+    × ((found : List AttrSet) × AreManyKeys (width_of schema) (theory_of schema) scheme found
+    × Says Refused too_many_keys_text answer))
+
+-- yes, with the keys of each scheme in order; refused at the first scheme that ends the command
+abbrev pub TellsKeys : Schema → List Places → Allowed
+TellsKeys schema plan answer =
+    ((listed : List KeyedScheme) × (map (λ keyed. keyed.scheme) listed ≡ plan) × All (HasKeys schema) listed
+    × Says Yes (flat_map (keyed_text (names_of schema)) listed) answer)
+    ⊎ ((scheme : Places) × IsFirstFailing (IsListed schema) plan scheme × EndsKeys schema scheme answer)
+
+-- of a plan file
+abbrev pub ListsKeysOfPlan : Reading → Schema → List ℕ → Allowed
+ListsKeysOfPlan r schema file = WithPlan r schema file (TellsKeys schema)

@@ -11,9 +11,11 @@ pub mod Help
 pub mod Numbers
 pub mod Forms
 pub mod Covering
+pub mod Bases
+pub mod Sameness
+pub mod Plans
 pub mod Keys
 pub mod Synthesis
-pub mod Plans
 pub mod Joins
 pub mod NormalForms
 pub mod Keeping

@@ -1,5 +1,5 @@
 -- Whether the schemes of a plan are in a normal form.
-use Rattle.std.specs.Prelude.{◌≡◌, ◌⊎◌, ℕ, List, ◌∷◌, ◌++◌, codes, All}
+use Rattle.std.specs.Prelude.{◌⊎◌, ℕ, List, ◌++◌, codes, All}
 use Rattle.attr_sets.specs.Places.{Places}
 use Rattle.dep_model.specs.Dependencies.{Dependency, fd, mvd}
 use Rattle.dep_model.specs.Schemas.{names_of, width_of, theory_of}
@@ -11,7 +11,7 @@ use Rattle.schema_grammar.specs.Printing.{set_text, dependency_text}
 use Rattle.desk_cli.specs.declared.status.Status.TheVariants.{Yes, No, Refused}
 use Rattle.desk_cli.specs.Answers.{Allowed, Says}
 use Rattle.desk_cli.specs.Keys.{too_wide_text}
-use Rattle.desk_cli.specs.Plans.{WithPlan}
+use Rattle.desk_cli.specs.Plans.{IsFirstFailing, WithPlan}
 use Rattle.desk_cli.specs.Readings.{Reading}
 use Rattle.desk_cli.specs.Texts.{line}
 
@@ -51,19 +51,12 @@ EndsForm schema form scheme answer =
     × ((x : Places) × (y : Places) × IsChosenViolation (width_of schema) (theory_of schema) form scheme x y
     × Says No (violated_text (names_of schema) form scheme x y) answer))
 
--- the first scheme of a plan that does not pass
-pub record IsFirstFailing (schema : Schema) (form : Form) (plan : List Places) (scheme : Places) : Type 0 where
-  pub earlier : List Places
-  pub later : List Places
-  pub list : plan ≡ earlier ++ scheme ∷ later
-  pub passed : All (PassesForm schema form) earlier
-
 -- yes exactly where every scheme passes; else the first that does not decides: refused where it is too
 -- wide, and no, with what violates the form, where it is not
 abbrev pub JudgesForm : Schema → Form → List Places → Allowed
 JudgesForm schema form plan answer =
     (All (PassesForm schema form) plan × Says Yes (in_form_text form) answer)
-    ⊎ ((scheme : Places) × IsFirstFailing schema form plan scheme × EndsForm schema form scheme answer)
+    ⊎ ((scheme : Places) × IsFirstFailing (PassesForm schema form) plan scheme × EndsForm schema form scheme answer)
 
 -- of a plan file
 abbrev pub ChecksForm : Reading → Schema → Form → List ℕ → Allowed

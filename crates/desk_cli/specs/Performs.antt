@@ -3,6 +3,7 @@ use Rattle.std.specs.Prelude.{ℕ, List, MatchOption}
 use Rattle.dep_model.specs.declared.schema.Schema.{Schema}
 use Rattle.desk_cli.specs.declared.status.Status.TheVariants.{Yes, Refused}
 use Rattle.desk_cli.specs.Answers.{Allowed, Says}
+use Rattle.desk_cli.specs.Bases.{GivesBasis}
 use Rattle.desk_cli.specs.Certificates.{ChecksProof}
 use Rattle.desk_cli.specs.Covering.{GivesCover}
 use Rattle.desk_cli.specs.Decompositions.{Splits, SplitsWide}
@@ -16,12 +17,13 @@ use Rattle.desk_cli.specs.Implication.{Implies}
 use Rattle.desk_cli.specs.Inputs.{WithSchema}
 use Rattle.desk_cli.specs.Joins.{ChecksJoin}
 use Rattle.desk_cli.specs.Keeping.{ChecksKeeping}
-use Rattle.desk_cli.specs.Keys.{ListsKeys}
+use Rattle.desk_cli.specs.Keys.{ListsKeys, ListsKeysOfPlan}
 use Rattle.desk_cli.specs.Legality.{ChecksRows}
 use Rattle.desk_cli.specs.Migrations.{Migrates, MigratesPlan, Samples}
 use Rattle.desk_cli.specs.NormalForms.{ChecksForm}
 use Rattle.desk_cli.specs.Readings.{Reading}
 use Rattle.desk_cli.specs.Rejoining.{Rejoins}
+use Rattle.desk_cli.specs.Sameness.{ChecksSame}
 use Rattle.desk_cli.specs.Synthesis.{Synthesizes}
 use Rattle.desk_cli.specs.Texts.{words_text}
 
@@ -33,8 +35,11 @@ Does r schema (form.check_rows file) = ChecksRows r schema file
 Does r schema (form.check_join plan) = ChecksJoin r schema plan
 Does r schema (form.check_form normal plan) = ChecksForm r schema normal plan
 Does r schema (form.check_keeps plan) = ChecksKeeping r schema plan
+Does r schema (form.check_same file other) = ChecksSame r schema file other
 Does r schema form.cover = GivesCover schema
+Does r schema (form.basis set) = GivesBasis schema set
 Does r schema form.keys = ListsKeys schema
+Does r schema (form.keys_of_plan plan) = ListsKeysOfPlan r schema plan
 Does r schema form.synthesize = Synthesizes schema
 Does r schema (form.split normal) = Splits schema normal
 Does r schema form.split_wide = SplitsWide schema

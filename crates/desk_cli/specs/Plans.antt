@@ -1,5 +1,5 @@
 -- How a plan is read, and how its reading ends a command.
-use Rattle.std.specs.Prelude.{◌≢◌, ◌⊎◌, ℕ, Bool, true, false, List, [], ◌++◌, codes, slice_index_or}
+use Rattle.std.specs.Prelude.{◌≡◌, ◌≢◌, ◌⊎◌, ℕ, Bool, true, false, List, [], ◌∷◌, ◌++◌, codes, slice_index_or, All}
 use Rattle.std.specs.Fmt.{decimal}
 use Rattle.attr_sets.specs.Places.{Places}
 use Rattle.dep_model.specs.Schemas.{names_of}
@@ -52,6 +52,13 @@ PlanStops r schema name answer =
     FileStops r name MOST_PLAN_BYTES answer
     ⊎ ((refusal : PlanRefusal) × IsRefusedPlan r schema name refusal
     × Says Refused (plan_refusal_text (names_of schema) name refusal) answer)
+
+-- the first scheme of a plan that does not pass a test
+pub record IsFirstFailing (Passes : Places → Type 0) (plan : List Places) (scheme : Places) : Type 0 where
+  pub earlier : List Places
+  pub later : List Places
+  pub list : plan ≡ earlier ++ scheme ∷ later
+  pub passed : All Passes earlier
 
 -- a plan file is read, and then the rest follows
 abbrev pub WithPlan : Reading → Schema → List ℕ → (List Places → Allowed) → Allowed

@@ -1,18 +1,24 @@
 -- The texts that are printed.
 use Rattle.std.specs.Prelude.{ℕ, List, [], ◌∷◌, ◌++◌, codes}
 use Rattle.std.specs.Fmt.{decimal}
+use Rattle.attr_sets.specs.Places.{Places}
 use Rattle.schema_grammar.specs.declared.refusal.What.{What}
 use Rattle.schema_grammar.specs.declared.refusal.What.TheVariants as what
 use Rattle.schema_grammar.specs.declared.refusal.SchemaRefusalKind.{SchemaRefusalKind}
 use Rattle.schema_grammar.specs.declared.refusal.SchemaRefusalKind.TheVariants as kind
 use Rattle.schema_grammar.specs.declared.refusal.SchemaRefusal.{SchemaRefusal}
 use Rattle.schema_grammar.specs.Complaints.{refusal_number}
+use Rattle.schema_grammar.specs.Printing.{set_text}
 use Rattle.csv_rows.specs.RowsText.{rows_text}
 use Rattle.dep_model.specs.Tuples.{Relation}
 
 -- a line of a text
 abbrev pub line : List ℕ → List ℕ
 line text = text ++ 10 ∷ []
+
+-- a line of a word and a set of attributes
+abbrev pub set_line : List ℕ → List (List ℕ) → Places → List ℕ
+set_line word names set = line (word ++ set_text names set)
 
 abbrev pub words_text : List ℕ
 words_text = line (codes "refused: the words form no command")
@@ -25,6 +31,9 @@ too_long_text name = line (codes "refused: " ++ name ++ codes " is too long")
 
 abbrev pub goal_too_long_text : List ℕ
 goal_too_long_text = line (codes "refused: goal is too long")
+
+abbrev pub set_too_long_text : List ℕ
+set_too_long_text = line (codes "refused: set is too long")
 
 -- what the grammar wants
 abbrev pub what_text : What → List ℕ
@@ -63,6 +72,10 @@ refusal_text group name refusal =
 -- a goal is named `goal`
 abbrev pub goal_refusal_text : SchemaRefusal → List ℕ
 goal_refusal_text refusal = refusal_text (codes "goal") (codes "goal") refusal
+
+-- and a set `set`
+abbrev pub set_refusal_text : SchemaRefusal → List ℕ
+set_refusal_text refusal = refusal_text (codes "set") (codes "set") refusal
 
 abbrev pub yes_text : List ℕ
 yes_text = line (codes "yes")

@@ -22,10 +22,16 @@ pub enum Task<'a> {
     CheckForm { form: Form, plan: &'a Word },
     /// Whether the plan of a file keeps the functional dependencies.
     CheckKeeps { plan: &'a Word },
+    /// Whether it, in the first file, says the same as the schema of a second file.
+    CheckSame { file: &'a Word, other: &'a Word },
     /// What says the same, with nothing that can be left out.
     Cover,
+    /// What a set of attributes determines, and its blocks.
+    Basis { set: &'a Word },
     /// All its keys.
     Keys,
+    /// The keys of the schemes of the plan of a file.
+    KeysOfPlan { plan: &'a Word },
     /// A plan in third normal form.
     Synthesize,
     /// A plan in Boyce-Codd or fourth normal form.
@@ -99,8 +105,11 @@ fn over_schema<'a>(verb: &Word, rest: &'a [Word]) -> Option<Command<'a>>
     if verb.bytes() == b"cover".as_slice() {
         return over_schema_alone(Task::Cover, rest);
     }
+    if verb.bytes() == b"basis".as_slice() {
+        return of_basis(rest);
+    }
     if verb.bytes() == b"keys".as_slice() {
-        return over_schema_alone(Task::Keys, rest);
+        return of_keys(rest);
     }
     if verb.bytes() == b"synthesize".as_slice() {
         return over_schema_alone(Task::Synthesize, rest);
@@ -137,6 +146,7 @@ fn of_check(words: &[Word]) -> Option<Command<'_>>
         b"join" => of_check_join(rest),
         b"form" => of_check_form(rest),
         b"keeps" => of_check_keeps(rest),
+        b"same" => of_check_same(rest),
         _ => None,
     }
 }

@@ -13,8 +13,11 @@ desk check rows SCHEMA CSV            whether the rows in CSV are legal, and whi
 desk check join SCHEMA PLAN           whether the plan in PLAN loses nothing
 desk check form FORM SCHEMA PLAN      whether each scheme of the plan is in the form: 3nf, bcnf or 4nf
 desk check keeps SCHEMA PLAN          whether the plan keeps the functional dependencies
+desk check same SCHEMA OTHER          whether two schemas over the same names say the same
 desk cover SCHEMA                     what says the same, with nothing that can be left out
+desk basis SCHEMA SET                 what the set of attributes determines, and the blocks of the others
 desk keys SCHEMA                      all keys
+desk keys SCHEMA PLAN                 all keys of each scheme of the plan
 desk synthesize SCHEMA                a plan in third normal form
 desk split bcnf SCHEMA                a plan in Boyce-Codd normal form
 desk split 4nf SCHEMA                 a plan in fourth normal form

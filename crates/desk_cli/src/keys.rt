@@ -1,14 +1,15 @@
-ghost use Rattle.std.specs.Prelude.{◌≡◌, ◌≤◌, All, IfOk, length};
+ghost use Rattle.std.specs.Prelude.{◌≡◌, ◌≤◌, ◌++◌, All, IfOk, OnOk, length};
 ghost use Rattle.attr_sets.specs.Places.{Within};
 ghost use Rattle.attr_sets.specs.Sets.{places};
 ghost use Rattle.dep_model.specs.Schemas.{names_of, universe_of};
 ghost use Rattle.desk_cli.specs.Answers.{Says};
 ghost use Rattle.desk_cli.specs.Keys.{ListsKeys, sets_text, too_wide_text, too_many_keys_text};
 ghost use Rattle.desk_cli.specs.Replies.{answer_of, RepliesAs, StopsAs};
+ghost use Rattle.desk_cli.specs.Texts.{set_line};
 
 use crate::Status;
 use crate::reply::{Reply, Stop};
-use crate::text::line_of;
+use crate::text::{line_of, put};
 use attr_sets::AttrSet;
 use dep_model::{Schema, WantMemory};
 use key_listing::{KeyRefusal, keys};
@@ -48,8 +49,24 @@ fn set_lines(alloc: Global, schema: &Schema, sets: &[AttrSet]) -> Result<Vec<u8>
     Ok(text)
 }
 
-// There are more keys than are listed.
-fn too_many_keys(alloc: Global) -> Stop
+/// A word and a set, on a line at the end of a text.
+pub fn put_set_line(
+    text: &mut Vec<u8>,
+    schema: &Schema,
+    word: &[u8],
+    set: AttrSet,
+) -> Result<(), WantMemory>
+    requires within { Within (places set) (universe_of schema.now) }
+    ensures more { OnOk result (text.new.items
+        ≡ text.old.items ++ set_line word.now (names_of schema.now) (places set)) }
+{
+    put(text, word)?;
+    add_set(text, schema, set)?;
+    put(text, b"\n")
+}
+
+/// There are more keys than are listed.
+pub fn too_many_keys(alloc: Global) -> Stop
     ensures says { StopsAs (Says Status.Refused too_many_keys_text) result }
 {
     Stop::says(Status::Refused, too_many_keys_line(alloc))

@@ -6,6 +6,7 @@
 //! has its cause, and that where nothing fails the answer is the one that the theory fixes.
 #![tactic(auto)]
 
+mod bases;
 mod check_proof;
 mod check_rows;
 mod command;
@@ -32,7 +33,10 @@ mod rejoining;
 mod reply;
 mod row_refusals;
 mod rows;
+mod sameness;
 mod sampling;
+mod scheme_keys;
+mod set;
 mod shapes;
 mod status;
 mod synthesis;

@@ -129,6 +129,55 @@ pub fn of_check_keeps(words: &[Word]) -> Option<Command<'_>>
     }
 }
 
+/// Two schemas.
+#[tactic(auto, unfolding(crate::specs::Forms::two_schemas))]
+pub fn of_check_same(words: &[Word]) -> Option<Command<'_>>
+    ensures form { option_map command_form result ≡ forms.two_schemas forms.check_same words.now }
+{
+    match words {
+        [schema, other] => Some(Command::OverSchema {
+            schema,
+            task: Task::CheckSame {
+                file: schema,
+                other,
+            },
+        }),
+        _ => None,
+    }
+}
+
+/// A schema and a set.
+#[tactic(auto, unfolding(crate::specs::Forms::schema_and))]
+pub fn of_basis(words: &[Word]) -> Option<Command<'_>>
+    ensures form { option_map command_form result ≡ forms.schema_and forms.basis words.now }
+{
+    match words {
+        [schema, set] => Some(Command::OverSchema {
+            schema,
+            task: Task::Basis { set },
+        }),
+        _ => None,
+    }
+}
+
+/// A schema, or a schema and a plan.
+#[tactic(auto, unfolding(crate::specs::Forms::after_keys))]
+pub fn of_keys(words: &[Word]) -> Option<Command<'_>>
+    ensures form { option_map command_form result ≡ forms.after_keys words.now }
+{
+    match words {
+        [schema] => Some(Command::OverSchema {
+            schema,
+            task: Task::Keys,
+        }),
+        [schema, plan] => Some(Command::OverSchema {
+            schema,
+            task: Task::KeysOfPlan { plan },
+        }),
+        _ => None,
+    }
+}
+
 /// A schema and a plan for SQL tables.
 #[tactic(auto, unfolding(crate::specs::Forms::schema_and))]
 pub fn of_ddl_plan(words: &[Word]) -> Option<Command<'_>>

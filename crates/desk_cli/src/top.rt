@@ -8,6 +8,7 @@ ghost use Rattle.desk_cli.specs.Readings.{Reading, Shows};
 ghost use Rattle.desk_cli.specs.Replies.{answer_of, RepliesAs};
 
 use crate::Status;
+use crate::bases::give_basis;
 use crate::check_proof::check_proof;
 use crate::check_rows::check_rows;
 use crate::command::{Command, Task, parse};
@@ -27,7 +28,9 @@ use crate::normal_forms::check_form;
 use crate::read::open_schema;
 use crate::rejoining::rejoin;
 use crate::reply::{Reply, Stop};
+use crate::sameness::check_same;
 use crate::sampling::migrate_sample;
+use crate::scheme_keys::list_keys_of_plan;
 use crate::synthesis::synthesized;
 use crate::text::line_of;
 use dep_model::{Schema, WantMemory};
@@ -174,8 +177,11 @@ fn does<F: Shelf>(
         Task::CheckJoin { plan } => check_join(alloc, shelf, schema, plan),
         Task::CheckForm { form, plan } => check_form(alloc, shelf, schema, form, plan),
         Task::CheckKeeps { plan } => check_keeps(alloc, shelf, schema, plan),
+        Task::CheckSame { file, other } => check_same(alloc, shelf, schema, file, other),
         Task::Cover => cover(alloc, schema),
+        Task::Basis { set } => give_basis(alloc, schema, set),
         Task::Keys => list_keys(alloc, schema),
+        Task::KeysOfPlan { plan } => list_keys_of_plan(alloc, shelf, schema, plan),
         Task::Synthesize => synthesized(alloc, schema),
         Task::Split { form } => split_in_form(alloc, schema, form),
         Task::SplitWide => split_by_pairs(alloc, schema),

@@ -43,7 +43,7 @@ use Rattle.desk_cli.specs.Certificates.{Checked}
 use Rattle.desk_cli.specs.Covering.{GivesCover}
 use Rattle.desk_cli.specs.Desk.{Desk, ShelfInCall, SinkInCall}
 use Rattle.desk_cli.specs.Endings.{TargetsInCall}
-use Rattle.desk_cli.specs.Forms.{form_of, after_check, schema_alone, schema_and, schema_and_two, alone, form_over_schema}
+use Rattle.desk_cli.specs.Forms.{form_of, after_check, schema_alone, schema_and, schema_and_two, alone, form_over_schema, after_keys}
 use Rattle.desk_cli.specs.Implication.{Decided}
 use Rattle.desk_cli.specs.Inputs.{WithSchema, WithProof, WithGoal, IsSchemaFile, IsGoal, IsProofFile}
 use Rattle.desk_cli.specs.Joins.{JudgesJoin, IsTooLarge}
@@ -299,7 +299,7 @@ lists_keys r answer narrow few (inr (inr (fits, many, says))) = absurd (few many
 
 keys_asks : (files : Files) (name : List ℕ) (answer : Answer) → Answers (told files) (codes "keys" ∷ name ∷ []) answer
     → WithSchema (told files) name ListsKeys answer
-unfolding form_of form_over_schema schema_alone Performs Does
+unfolding form_of form_over_schema after_keys Performs Does
 keys_asks files name answer answered = answered
 
 pub keys_answered : (files : Files) (name : List ℕ) (schema : Schema) → IsSchemaFile (told files) name schema

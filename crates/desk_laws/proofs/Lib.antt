@@ -3,3 +3,4 @@ pub mod SchemaLemmas
 pub mod StopLemmas
 pub mod CompleteLaws
 pub mod TableLaws
+pub mod QuestionLaws

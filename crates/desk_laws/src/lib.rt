@@ -5,6 +5,7 @@
 #![tactic(auto)]
 
 mod complete;
+mod complete_questions;
 mod complete_tables;
 
 ghost use Rattle.std.specs.Prelude.{◌≡◌, ◌≤◌, ℕ, List, [], ◌∷◌, length, Some, codes};
@@ -19,6 +20,9 @@ pub use complete::{
     answered_calls_end, check_join_is_answered, check_proof_is_answered, check_rows_is_answered,
     cover_is_answered, help_is_answered, implies_is_answered, keys_is_answered,
     synthesize_is_answered,
+};
+pub use complete_questions::{
+    basis_is_answered, check_same_is_answered, keys_of_plan_is_answered,
 };
 pub use complete_tables::{
     check_form_is_answered, check_keeps_is_answered, ddl_is_answered, exhibit_is_answered,

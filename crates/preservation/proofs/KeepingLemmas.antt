@@ -98,6 +98,12 @@ settled_exactly n ds plan x c universe within grows follows inside a = (
       (kept.1 (two_tuples n c) inside) grows a (grind (arith, nat_tests))),
 )
 
+-- all that follows from a set follows from it
+pub kept_follows : (n : ℕ) (ds : List Dependency) (plan : List Places) (x c : Places) → IsKeptClosure n ds plan x c
+    → FollowsInside n ds plan x c
+kept_follows n ds plan x c all r inside t u t_in u_in agree k m =
+    ((all.closure k).0 m).1 r inside t u t_in u_in agree k (grind (arith, nat_tests))
+
 -- ---- what a closure decides
 pub holds_follows : (n : ℕ) (ds : List Dependency) (plan : List Places) (x y c : Places)
     → FollowsInside n ds plan x c → Within y c → FollowsInside n ds plan x y
@@ -127,6 +133,12 @@ shows_lost n ds plan x y c x_in y_in inside closure beyond = record {
             (λ r obeyed t u t_in u_in agree j h. agree j (grind (arith, nat_tests, h, m))),
           )));
     }
+
+-- a search that does not find y has found all
+pub lacking_all : (n : ℕ) (ds : List Dependency) (plan : List Places) (x y c : Places)
+    → Within y c ⊎ IsKeptClosure n ds plan x c → (Within y c → ⊥) → IsKeptClosure n ds plan x c
+lacking_all n ds plan x y c (inl within) beyond = absurd (beyond within)
+lacking_all n ds plan x y c (inr all) beyond = all
 
 -- so where a search does not find y, it has found all that shows the loss
 pub lacking_lost : (n : ℕ) (ds : List Dependency) (plan : List Places) (x y c : Places) → Within x (below n)

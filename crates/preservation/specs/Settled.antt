@@ -4,7 +4,9 @@ use Rattle.attr_sets.specs.Places.{Places, union, Within}
 use Rattle.dep_model.specs.Dependencies.{Dependency, fd, functional_part}
 use Rattle.dep_model.specs.Implication.{Implies}
 use Rattle.dep_model.specs.TwoTuples.{two_tuples}
+use Rattle.attr_sets.specs.Sets.{places}
 use Rattle.preservation.specs.Keeping.{InKeptClosure, ObeysInside}
+use Rattle.preservation.specs.declared.closing.Closed.{Closed}
 
 -- what a part of c determines by the functional dependencies inside a scheme lies within e
 abbrev pub IsSettledIn : ℕ → List Dependency → Places → Places → Places → Type 0
@@ -17,3 +19,7 @@ IsSettledIn n ds scheme c e =
 pub record IsKeptClosure (n : ℕ) (ds : List Dependency) (plan : List Places) (x c : Places) : Type 0 where
   pub closure : (a : ℕ) → (c a ≡ true) ↔ InKeptClosure n ds plan x a
   pub inside : ObeysInside n ds plan (two_tuples n c)
+
+-- what is told of a left side is all that follows from it
+abbrev pub IsClosed : ℕ → List Dependency → List Places → Closed → Type 0
+IsClosed n ds plan told = IsKeptClosure n ds plan (places told.from) (places told.closed)

@@ -1,4 +1,4 @@
-ghost use Rattle.std.specs.Prelude.{◌≡◌, ◌⊎◌, All};
+ghost use Rattle.std.specs.Prelude.{◌≡◌, ◌⊎◌, All, IfSome};
 ghost use Rattle.attr_sets.specs.Places.{Within};
 ghost use Rattle.attr_sets.specs.Sets.{places};
 ghost use Rattle.dep_model.specs.Dependencies.{ObeysFd};
@@ -7,12 +7,50 @@ ghost use Rattle.dep_model.specs.Tuples.{Relation};
 ghost use Rattle.fd_closure.specs.Counting.{switches_of};
 ghost use Rattle.preservation.specs.Insides.{IsKnown, known_schemes, known_plan, AreAllOn};
 ghost use Rattle.preservation.specs.Keeping.{FollowsInside, ObeysInside};
-ghost use Rattle.preservation.specs.Settled.{IsSettledIn, IsKeptClosure};
+ghost use Rattle.preservation.specs.Settled.{IsClosed, IsSettledIn, IsKeptClosure};
 
 use crate::inside::{Inside, inside_by};
 use attr_sets::AttrSet;
 use dep_model::Schema;
 use fd_closure::Counters;
+
+/// A left side, and all that follows from it by the dependencies inside the schemes of a plan.
+#[derive(Clone, Copy, Debug)]
+pub struct Closed {
+    pub from: AttrSet,
+    pub closed: AttrSet,
+}
+
+/// The same as `kept_closure`, which is not asked again for the left side of which all was found last.
+pub fn closure_after(
+    schema: &Schema,
+    counters: &mut Counters,
+    insides: &mut [Inside],
+    last: Option<Closed>,
+    from: AttrSet,
+    wanted: AttrSet,
+) -> AttrSet
+    requires on { AreAllOn schema.now counters.old }
+    requires known { All (IsKnown (width_of schema.now) (theory_of schema.now)) insides.old }
+    requires last { IfSome last
+        (IsClosed (width_of schema.now) (theory_of schema.now) (known_plan insides.old)) }
+    requires from { Within (places from) (universe_of schema.now) }
+    ensures follows { FollowsInside (width_of schema.now) (theory_of schema.now) (known_plan insides.old)
+        (places from) (places result) }
+    ensures found { Within (places wanted) (places result)
+        ⊎ IsKeptClosure (width_of schema.now) (theory_of schema.now) (known_plan insides.old)
+        (places from) (places result) }
+    ensures known { All (IsKnown (width_of schema.now) (theory_of schema.now)) insides.new }
+    ensures schemes { known_schemes insides.new ≡ known_schemes insides.old }
+    ensures switches { switches_of counters.new ≡ switches_of counters.old }
+{
+    if let Some(told) = last {
+        if told.from == from {
+            return told.closed;
+        }
+    }
+    kept_closure(schema, counters, insides, from, wanted)
+}
 
 /// The attributes that follow from a set by the functional dependencies inside the schemes of a plan,
 /// of those that the functional dependencies of the schema imply (Ullman 1982): all of them, unless

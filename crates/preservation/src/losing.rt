@@ -8,8 +8,9 @@ ghost use Rattle.dep_model.specs.Schemas.{width_of, theory_of, universe_of};
 ghost use Rattle.fd_closure.specs.Counting.{switches_of};
 ghost use Rattle.preservation.specs.Insides.{IsKnown, known_schemes, known_plan, AreAllOn};
 ghost use Rattle.preservation.specs.Keeping.{IsKept, IsLostOn, LossesOf};
+ghost use Rattle.preservation.specs.Settled.{IsClosed};
 
-use crate::closing::kept_closure;
+use crate::closing::{Closed, closure_after};
 use crate::inside::{Inside, insides_of};
 use attr_sets::AttrSet;
 use dep_model::{Dep, Schema, WantMemory};
@@ -36,31 +37,40 @@ pub fn losses(alloc: Global, schema: &Schema, schemes: &[AttrSet]) -> Result<Vec
     let mut counters = Counters::make(alloc, schema.deps(), schema.width())?;
     let mut insides = insides_of(alloc, schema, &mut counters, schemes)?;
     let mut losses = Vec::new(alloc);
+    let mut last = None;
     for k in 0..schema.deps().len() {
-        let agreement = loss_of(schema, &mut counters, &mut insides, schema.deps()[k]);
-        match agreement {
-            Some(agreement) => losses.push(Loss {
-                dep: k as u16,
-                agreement,
-            })?,
+        let loss = loss_of(schema, &mut counters, &mut insides, last, schema.deps()[k]);
+        match loss {
+            Some(told) => {
+                losses.push(Loss {
+                    dep: k as u16,
+                    agreement: told.closed,
+                })?;
+                last = Some(told);
+            }
             None => {}
         }
     }
     Ok(losses)
 }
 
-// What two tuples agree on that show a dependency to be lost, if it is.
+// All that follows from the left side of a dependency, if it is lost: two tuples that agree on it show this.
 fn loss_of(
     schema: &Schema,
     counters: &mut Counters,
     insides: &mut [Inside],
+    last: Option<Closed>,
     dep: Dep,
-) -> Option<AttrSet>
+) -> Option<Closed>
     requires on { AreAllOn schema.now counters.old }
     requires known { All (IsKnown (width_of schema.now) (theory_of schema.now)) insides.old }
+    requires last { IfSome last
+        (IsClosed (width_of schema.now) (theory_of schema.now) (known_plan insides.old)) }
     requires dep { IsDepWithin (universe_of schema.now) dep }
-    ensures lost { IfSome result (λ agreement. IsLostOn (width_of schema.now) (theory_of schema.now)
-        (known_plan insides.old) (dependency_of dep) (places agreement)) }
+    ensures lost { IfSome result (λ told. IsLostOn (width_of schema.now) (theory_of schema.now)
+        (known_plan insides.old) (dependency_of dep) (places told.closed)) }
+    ensures all { IfSome result
+        (IsClosed (width_of schema.now) (theory_of schema.now) (known_plan insides.old)) }
     ensures kept { IfNone result (IsKept (width_of schema.now) (theory_of schema.now)
         (known_plan insides.old) (dependency_of dep)) }
     ensures known { All (IsKnown (width_of schema.now) (theory_of schema.now)) insides.new }
@@ -69,11 +79,11 @@ fn loss_of(
 {
     match dep {
         Dep::Fd { lhs, rhs } => {
-            let closed = kept_closure(schema, counters, insides, lhs, rhs);
+            let closed = closure_after(schema, counters, insides, last, lhs, rhs);
             if rhs.within(closed) {
                 None
             } else {
-                Some(closed)
+                Some(Closed { from: lhs, closed })
             }
         }
         Dep::Mvd { .. } => None,

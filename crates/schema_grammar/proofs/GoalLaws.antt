@@ -31,7 +31,7 @@ unfolding looked_up
 names-looked_up f declared word a names = rw (names.free, names.place) refl
 
 -- after words of the left side: more words, an arrow, the right side
-record LeftRest (f : Format) (declared : List (List ℕ)) (x : Places) (ms : List Mark) (d : Dependency) : Type 0 where
+pub record LeftRest (f : Format) (declared : List (List ℕ)) (x : Places) (ms : List Mark) (d : Dependency) : Type 0 where
   words : List Mark
   arrow : Mark
   rhs : List Mark
@@ -44,7 +44,7 @@ record LeftRest (f : Format) (declared : List (List ℕ)) (x : Places) (ms : Lis
   states : d ≡ stated sign (union x (named declared words)) y
 
 -- after a left `()`: an arrow, the right side
-record ArrowRest (f : Format) (declared : List (List ℕ)) (ms : List Mark) (d : Dependency) : Type 0 where
+pub record ArrowRest (f : Format) (declared : List (List ℕ)) (ms : List Mark) (d : Dependency) : Type 0 where
   arrow : Mark
   rhs : List Mark
   y : Places
@@ -55,23 +55,23 @@ record ArrowRest (f : Format) (declared : List (List ℕ)) (ms : List Mark) (d :
   states : d ≡ stated sign none y
 
 -- after the arrow: the right side
-record BehindRest (f : Format) (declared : List (List ℕ)) (s : Sign) (x : Places) (ms : List Mark) (d : Dependency) : Type 0 where
-  y : Places
-  right_side : IsSide f declared ms y
-  states : d ≡ stated s x y
+pub record BehindRest (f : Format) (declared : List (List ℕ)) (s : Sign) (x : Places) (ms : List Mark) (d : Dependency) : Type 0 where
+  pub y : Places
+  pub right_side : IsSide f declared ms y
+  pub states : d ≡ stated s x y
 
 -- after words of the right side: more words
-record RightRest (f : Format) (declared : List (List ℕ)) (s : Sign) (x y : Places) (ms : List Mark) (d : Dependency) : Type 0 where
+pub record RightRest (f : Format) (declared : List (List ℕ)) (s : Sign) (x y : Places) (ms : List Mark) (d : Dependency) : Type 0 where
   each : All (IsAttribute f declared) ms
   states : d ≡ stated s x (union y (named declared ms))
 
 -- after a right `()`: nothing
-record EndRest (s : Sign) (x : Places) (ms : List Mark) (d : Dependency) : Type 0 where
+pub record EndRest (s : Sign) (x : Places) (ms : List Mark) (d : Dependency) : Type 0 where
   nothing : ms ≡ []
   states : d ≡ stated s x none
 
 -- what is left of a line makes the dependency, so far as it is read
-abbrev Rest : Format → List (List ℕ) → Reached → List Mark → Dependency → Type 0
+abbrev pub Rest : Format → List (List ℕ) → Reached → List Mark → Dependency → Type 0
 Rest f declared start ms d = IsDependency f declared ms d
 Rest f declared (left x) ms d = LeftRest f declared x ms d
 Rest f declared left_empty ms d = ArrowRest f declared ms d
@@ -253,7 +253,7 @@ token_makes f declared line from (right_empty s x) (token.Number n) column word 
 token_makes f declared line from (right_empty s x) token.Colon column word ms d rest e = absurd (no_value _ d e)
 
 -- the tokens that are read make the dependency
-marks_make : (f : Format) (declared : List (List ℕ)) (line from : ℕ) (r : Reached) (ms : List Mark) (d : Dependency)
+pub marks_make : (f : Format) (declared : List (List ℕ)) (line from : ℕ) (r : Reached) (ms : List Mark) (d : Dependency)
     → follow f declared line r from ms None ≡ Ok d → Rest f declared r ms d
 unfolding follow
 marks_make f declared line from r [] d e = end_makes f declared line from r d e
@@ -280,7 +280,7 @@ right_read f declared line s x y from (m ∷ ms) each =
     ∙ right_read f declared line s x (union y (only here.place)) (m.column + length m.word) ms there
     ∙ ap (λ z. Ok (stated s x z)) (union-only y (named declared ms) here.place ∙ ap (union y) (sym (named-cons declared m ms here.place here.known)))
 
-side_read : (f : Format) (declared : List (List ℕ)) (line : ℕ) (s : Sign) (x y : Places) (from : ℕ) (ms : List Mark) → IsSide f declared ms y
+pub side_read : (f : Format) (declared : List (List ℕ)) (line : ℕ) (s : Sign) (x y : Places) (from : ℕ) (ms : List Mark) → IsSide f declared ms y
     → follow f declared line (behind s x) from ms None ≡ Ok (stated s x y)
 unfolding follow step finished turn
 side_read f declared line s x y from ms (inl empty) = rw (empty.alone, empty.nothing) refl

@@ -16,6 +16,7 @@ pub mod PrintedTexts
 pub mod RefusalLemmas
 pub mod RiseLemmas
 pub mod SchemaLaws
+pub mod SetLaws
 pub mod ShapeLemmas
 pub mod SideLemmas
 pub mod SoundLemmas

@@ -1,5 +1,6 @@
 -- The laws that tie the reading of a text to what it means, and what printed schemas mean.
 use Rattle.std.specs.Prelude.{◌≡◌, ◌<◌, ◌≤◌, ◌↔◌, ℕ, List, length, Ok, Err}
+use Rattle.attr_sets.specs.Places.{Places}
 use Rattle.dep_model.specs.declared.schema.Schema.{Schema}
 use Rattle.dep_model.specs.Dependencies.{Dependency}
 use Rattle.dep_model.specs.Schemas.{names_of, columns_of, theory_of}
@@ -16,6 +17,7 @@ use Rattle.schema_grammar.specs.Printed.{AreNames}
 use Rattle.schema_grammar.specs.Printing.{declared_text}
 use Rattle.schema_grammar.specs.Reading.{read_goal}
 use Rattle.schema_grammar.specs.Schemas.{FitsLines, FitsSchema, MeansSchema, RefusesSchema}
+use Rattle.schema_grammar.specs.Sets.{FitsSet, MeansSet, RefusesSet, read_set}
 use Rattle.schema_grammar.specs.Texts.{read_lines, read_text}
 
 -- ---- goals
@@ -30,6 +32,19 @@ abbrev pub GoalRefusal : Type 0
 GoalRefusal =
     (declared : List (List ℕ)) (text : List ℕ) (e : SchemaRefusal)
     → (read_goal declared text ≡ Err e) ↔ RefusesGoal declared text e
+
+-- ---- sets
+abbrev pub SetMeaning : Type 0
+SetMeaning =
+    (declared : List (List ℕ)) (text : List ℕ) (x : Places) → (read_set declared text ≡ Ok x) ↔ MeansSet declared text x
+
+abbrev pub SetComplaints : Type 0
+SetComplaints = (declared : List (List ℕ)) (text : List ℕ) → FitsSet declared text (read_set declared text)
+
+abbrev pub SetRefusal : Type 0
+SetRefusal =
+    (declared : List (List ℕ)) (text : List ℕ) (e : SchemaRefusal)
+    → (read_set declared text ≡ Err e) ↔ RefusesSet declared text e
 
 -- ---- schema texts
 abbrev pub SchemaMeaning : Type 0

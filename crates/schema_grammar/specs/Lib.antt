@@ -9,6 +9,7 @@ pub mod Reading
 pub mod Refusals
 pub mod Rests
 pub mod Schemas
+pub mod Sets
 pub mod Texts
 pub mod TokenLists
 pub mod Words

@@ -1,7 +1,7 @@
 //! The grammar, tied to the readers. Each is a function that does nothing, whose clause is the law; so
 //! the gate asks for its proof.
 
-ghost use Rattle.schema_grammar.specs.Laws.{GoalMeaning, GoalComplaints, GoalRefusal, SchemaRefused, SchemaMeaning, TextLineComplaints, LinesComplaints, SchemaComplaints, PlacesRise, PrintedSchemaMeans, DeclaredNames};
+ghost use Rattle.schema_grammar.specs.Laws.{GoalMeaning, GoalComplaints, GoalRefusal, SetMeaning, SetComplaints, SetRefusal, SchemaRefused, SchemaMeaning, TextLineComplaints, LinesComplaints, SchemaComplaints, PlacesRise, PrintedSchemaMeans, DeclaredNames};
 
 /// A goal is read as a dependency exactly where it means that dependency; so it means one at most.
 pub fn goal_meaning()
@@ -18,6 +18,23 @@ pub fn goal_complaint()
 /// none where it means a dependency.
 pub fn goal_refusal()
     ensures law { GoalRefusal }
+{}
+
+/// A set is read as these attributes exactly where it means them; so it means one set at most.
+pub fn set_meaning()
+    ensures law { SetMeaning }
+{}
+
+/// A set is refused by its first complaint, and has none where it is read; so it has a meaning or a
+/// complaint, never both.
+pub fn set_complaint()
+    ensures law { SetComplaints }
+{}
+
+/// A set is refused so exactly where the definition refuses it so; so it has one refusal at most, and
+/// none where it means a set.
+pub fn set_refusal()
+    ensures law { SetRefusal }
 {}
 
 /// A schema text is refused so exactly where the definition refuses it so; so it has one refusal at most,

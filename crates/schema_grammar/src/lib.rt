@@ -1,4 +1,4 @@
-//! What schema texts and goals mean, and how they are refused: the grammar, which readers promise.
+//! What schema texts, goals and sets mean, and how they are refused: the grammar, which readers promise.
 //!
 //! A text means what it declares, or it has complaints, and is refused by the first of them: that of the
 //! first line, there of the first place, and there of the least number. Beside these definitions stands a
@@ -15,6 +15,7 @@ pub use format::{Format, VERSION};
 pub use laws::{
     declared_names, goal_complaint, goal_meaning, goal_refusal, line_complaint, lines_complaint,
     places_rise, printed_schema_means, schema_complaint, schema_meaning, schema_refusal,
+    set_complaint, set_meaning, set_refusal,
 };
 pub use refusal::{SchemaRefusal, SchemaRefusalKind, Span, What};
 pub use symbol::{Sign, Symbol};

@@ -1,12 +1,13 @@
-//! Schema texts and goals, read by their grammar and printed in one form.
+//! Schema texts, goals and sets, read by their grammar and printed in one form.
 //!
-//! `read_schema` and `read_goal` give the value that a text means, or refuse it at the first place
-//! where it goes wrong, and there for the reason of the least number.
+//! `read_schema`, `read_goal` and `read_set` give the value that a text means, or refuse it at the first
+//! place where it goes wrong, and there for the reason of the least number.
 #![tactic(auto)]
 
 mod draft;
 mod goal;
 mod print;
+mod set;
 mod stage;
 mod text;
 mod token_list;
@@ -18,6 +19,7 @@ pub use print::{
     add, add_dep, add_number, add_set, print_dep, print_deps, print_schema, print_set,
 };
 pub use schema_grammar::{SchemaRefusal, SchemaRefusalKind, Span, What};
+pub use set::{MOST_SET_BYTES, read_set};
 pub use text::{MOST_TEXT_BYTES, read_schema};
 pub use token_list::tokens;
 

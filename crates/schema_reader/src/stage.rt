@@ -2,7 +2,8 @@ ghost use Rattle.std.specs.Prelude.{◌≡◌, ◌<◌, IfOk, IfErr, Ok, Err};
 ghost use Rattle.attr_sets.specs.Places.{only, union, none};
 ghost use Rattle.attr_sets.specs.Sets.{places};
 ghost use Rattle.dep_model.specs.Deps.{dependency_of};
-ghost use Rattle.schema_grammar.specs.Grammar.{turn, finished, stated, IsPlaced};
+ghost use Rattle.schema_grammar.specs.Grammar.{behind, turn, finished, stated, IsPlaced};
+ghost use Rattle.schema_grammar.specs.declared.symbol.Sign.TheVariants as sign;
 ghost use Rattle.schema_reader.specs.Views.{reached_of};
 
 use attr_sets::{AttrSet, PLACES};
@@ -23,6 +24,13 @@ pub enum Stage {
     Right(Sign, AttrSet, AttrSet),
     /// Behind a right `()`.
     RightEmpty(Sign, AttrSet),
+}
+
+/// After `() ->`.
+pub fn after_arrow() -> Stage
+    ensures reached { reached_of result ≡ behind sign.Functional none }
+{
+    Stage::Behind(Sign::Functional, AttrSet::empty())
 }
 
 /// Where a token leads.

@@ -1,6 +1,6 @@
 use crate::{
-    MOST_GOAL_BYTES, MOST_TEXT_BYTES, SchemaRefusal, SchemaRefusalKind, Span, TokenKind, What,
-    print_dep, print_schema, print_set, read_goal, read_schema, tokens,
+    MOST_GOAL_BYTES, MOST_SET_BYTES, MOST_TEXT_BYTES, SchemaRefusal, SchemaRefusalKind, Span,
+    TokenKind, What, print_dep, print_schema, print_set, read_goal, read_schema, read_set, tokens,
 };
 use SchemaRefusalKind::{
     BadName, DoubleName, Expected, NoAttributes, ReservedName, StrangeByte, TooManyAttributes,
@@ -292,6 +292,55 @@ fn goals_are_refused_at_their_place(rt: HostRuntime) {
         match read_goal(&schema, goal) {
             Ok(_) => panic!(rt; "{goal:?} is read"),
             Err(refusal) => assert!(rt; refusal == want, "{goal:?}: {refusal:?}"),
+        }
+    }
+}
+
+#[test]
+fn sets_are_read_by_the_schema(rt: HostRuntime) -> Result<(), Fail> {
+    let schema = schema(&rt, b"attributes A B C\nA -> B\nB -> C\n");
+    let table: [(&[u8], &[u8]); 5] = [
+        (b"()", b"()"),
+        (b"B", b"B"),
+        (b"A,", b"A"),
+        (b"  c b\tB ", b"B C"),
+        (b"a,b,c", b"A B C"),
+    ];
+    for (set, want) in table {
+        assert!(rt; set.len() <= MOST_SET_BYTES);
+        match read_set(&schema, set) {
+            Ok(set) => {
+                let printed = print_set(rt.alloc(), &schema, set)?;
+                assert_eq!(rt; printed.as_slice(), want);
+            }
+            Err(refusal) => panic!(rt; "{set:?} is refused: {refusal:?}"),
+        }
+    }
+    Ok(())
+}
+
+#[test]
+fn sets_are_refused_at_their_place(rt: HostRuntime) {
+    let schema = schema(&rt, b"attributes A B C\nA -> B\nB -> C\n");
+    let table: [(&[u8], SchemaRefusal); 12] = [
+        (b"", refusal(1, 1, 0, Expected(What::Side))),
+        (b"  ", refusal(1, 1, 0, Expected(What::Side))),
+        (b"-> A", refusal(1, 1, 2, Expected(What::Side))),
+        (b"A ->", refusal(1, 3, 2, Expected(What::LineEnd))),
+        (b"A () B", refusal(1, 3, 2, Expected(What::LineEnd))),
+        (b"() ()", refusal(1, 4, 2, Expected(What::LineEnd))),
+        (b"() A", refusal(1, 4, 1, Expected(What::LineEnd))),
+        (b"() Z", refusal(1, 4, 1, UnknownName)),
+        (b"() scheme", refusal(1, 4, 6, ReservedName)),
+        (b"A D", refusal(1, 3, 1, UnknownName)),
+        (b"A 1", refusal(1, 3, 1, BadName)),
+        (b"A # why", refusal(1, 3, 1, StrangeByte)),
+    ];
+    for (set, want) in table {
+        assert!(rt; set.len() <= MOST_SET_BYTES);
+        match read_set(&schema, set) {
+            Ok(_) => panic!(rt; "{set:?} is read"),
+            Err(refusal) => assert!(rt; refusal == want, "{set:?}: {refusal:?}"),
         }
     }
 }

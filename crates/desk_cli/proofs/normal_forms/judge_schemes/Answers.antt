@@ -21,7 +21,7 @@ pub returns-in-Err : goal.returns-in-Err
 returns-in-Err c = record {
   reply = λ reply is. inr (
     places (get_or c.args.schemes.now c.loop-scheme.scheme-index nothing),
-    first_failing c.args.schema.now c.args.form c.args.schemes.now c.loop-scheme.scheme-index nothing c.loop-scheme-test.true c.loop-scheme.invariant.passed,
+    first_failing (PassesForm c.args.schema.now c.args.form) c.args.schemes.now c.loop-scheme.scheme-index nothing c.loop-scheme-test.true c.loop-scheme.invariant.passed,
     c.in-Err.ensures.ends reply is,
   );
 }

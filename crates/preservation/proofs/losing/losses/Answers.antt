@@ -24,10 +24,11 @@ loop-k-init c = record {
   schemes = c.in_ok-insides.ensures.schemes;
   switches = c.insides_of.ensures.switches ∙ c.in_ok-counters.ensures.on
       ∙ ap (λ (ds : List Dep). replicate (length ds) true) c.deps.ensures.deps;
+  last = tt;
 }
 
-pub loss_of-agreement-requires-clause-dep : goal.loss_of-agreement-requires-clause-dep
-loss_of-agreement-requires-clause-dep c =
+pub loss_of-loss-requires-clause-dep : goal.loss_of-loss-requires-clause-dep
+loss_of-loss-requires-clause-dep c =
     let s = c.args.schema.now in
     let ds : List Dep = c.deps-in-loop-k.result.now in
     let same : ds ≡ deps_of s = c.deps-in-loop-k.ensures.deps in
@@ -48,7 +49,7 @@ loop-k-preserved c =
     subst (λ (ds : List Dep). c.loop-k.k < length ds) (c.deps-k-end.ensures.deps ∙ sym same) c.loop-k-test.true in
     let before = c.loop-k.invariant in
     let old = c.loop-k.insides.items in
-    let call = c.loss_of-agreement in
+    let call = c.loss_of-loss in
     let given : c.deref_mut.result.now ≡ old = c.deref_mut.ensures.value in
     let count : c.loop-k.insides.len ≡ length old =
     sym c.deref_mut.ensures.len ∙ ap (λ (l : List Inside). length l) given in
@@ -59,7 +60,7 @@ loop-k-preserved c =
     (call.ensures.schemes ∙ ap known_schemes given ∙ before.schemes) in
     let plan_of = ap known_schemes given ∙ before.schemes in
     let switches = call.ensures.switches ∙ before.switches in
-    elim c.match-agreement.branch [
+    elim c.match-loss.branch [
       | in-Some+in_ok-push-in-Some w ↦ record {
         losses = rw w.losses-is
             (next_lost n (deps_of s) ds plan c.loop-k.k nothing _ c.loop-k.losses.items _ same low before.losses
@@ -67,6 +68,7 @@ loop-k-preserved c =
         known = known;
         schemes = schemes;
         switches = switches;
+        last = rw w.last-is (rw plan_of at (rw w.in-Some.is at call.ensures.all));
       }
       | in-None w ↦ record {
         losses = rw w.losses-is
@@ -75,6 +77,7 @@ loop-k-preserved c =
         known = known;
         schemes = schemes;
         switches = switches;
+        last = rw w.last-is before.last;
       }
     ]
 

@@ -1,0 +1,62 @@
+use Rattle.std.proofs.Common.{◌≡◌, ◌<◌, ◌++◌, ℕ, List, inl, inr, length, get_or, take, take_all, sym, subst, ap, ◌∙◌, arith}
+use Rattle.std.proofs.lemmas.List.Elements.{All-weaker}
+use Rattle.std.specs.Prelude.{All}
+use Rattle.attr_sets.specs.declared.set.AttrSet.{AttrSet}
+use Rattle.attr_sets.specs.Places.{Within}
+use Rattle.attr_sets.specs.Sets.{places}
+use Rattle.dep_model.specs.Keys.{IsKey}
+use Rattle.dep_model.specs.Schemas.{names_of, width_of, theory_of, universe_of}
+use Rattle.desk_cli.specs.Answers.{Says}
+use Rattle.desk_cli.specs.Keys.{IsListed, keyed_text}
+use Rattle.desk_cli.specs.Replies.{answer_of}
+use Rattle.desk_cli.specs.declared.status.Status.TheVariants.{Yes}
+use Rattle.desk_cli.proofs.FormLemmas.{first_failing}
+use Rattle.desk_cli.proofs.KeyLemmas.{Told, told_nothing, told_more, keyed}
+use Rattle.desk_cli.proofs.scheme_keys.tell_keys.Goals as goal
+
+abbrev nothing : AttrSet
+nothing = record { 0 = 0 }
+
+pub loop-scheme-init : goal.loop-scheme-init
+loop-scheme-init c = told_nothing c.args.schema.now c.new-text.result.items c.new-text.ensures.items
+
+pub put_keyed-requires-clause-keys : goal.put_keyed-requires-clause-keys
+put_keyed-requires-clause-keys c =
+    let s = c.args.schema.now in
+    let i = c.loop-scheme.scheme-index in
+    subst (λ (keys : List AttrSet). All (λ (k : AttrSet). Within (places k) (universe_of s)) keys) (sym c.deref.ensures.value)
+    (All-weaker (λ (k : AttrSet). IsKey (width_of s) (theory_of s) (places (get_or c.args.schemes.now i nothing)) (places k)) (λ (k : AttrSet). Within (places k) (universe_of s))
+    (λ k key a m. c.requires.within i nothing c.loop-scheme-test.true a (key.superkey.within.0 a m)) c.in-Ok.keys.items c.in-Ok.ensures.ok.keys.each)
+
+pub loop-scheme-preserved : goal.loop-scheme-preserved
+loop-scheme-preserved c =
+    let s = c.args.schema.now in
+    let i = c.loop-scheme.scheme-index in
+    told_more s c.args.schemes.now i nothing c.in-Ok.keys.items c.loop-scheme.text.items c.put_keyed.new.text.items c.loop-scheme.invariant c.loop-scheme-test.true c.in-Ok.ensures.ok
+    (c.in_ok-put_keyed.ensures.more ∙ ap (λ (keys : List AttrSet). c.loop-scheme.text.items ++ keyed_text (names_of s) (keyed (get_or c.args.schemes.now i nothing) keys)) c.deref.ensures.value)
+
+pub returns-in-Err : goal.returns-in-Err
+returns-in-Err c =
+    let i = c.loop-scheme.scheme-index in
+    record {
+      reply = λ reply is. inr (
+        places (get_or c.args.schemes.now i nothing),
+        first_failing (IsListed c.args.schema.now) c.args.schemes.now i nothing c.loop-scheme-test.true c.loop-scheme.invariant.passed,
+        c.in-Err.ensures.ends reply is,
+      );
+    }
+
+pub returns : goal.returns
+returns c =
+    let s = c.args.schema.now in
+    let text = c.loop-scheme.text.items in
+    let told : Told s c.args.schemes.now text =
+    subst (λ (schemes : List AttrSet). Told s schemes text) (take_all c.loop-scheme.scheme-index c.args.schemes.now c.loop-scheme-test.false) c.loop-scheme.invariant in
+    record {
+      reply = inl (
+        told.listed,
+        told.schemes_are,
+        told.keys,
+        subst (λ (t : List ℕ). Says Yes t (answer_of c.says.result)) told.is c.says.ensures.says,
+      );
+    }

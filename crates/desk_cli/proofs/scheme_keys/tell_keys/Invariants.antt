@@ -1,0 +1,7 @@
+use Rattle.std.proofs.Common.{take}
+use Rattle.desk_cli.proofs.KeyLemmas.{Told}
+use Rattle.desk_cli.proofs.scheme_keys.tell_keys.Given as goal
+
+-- the schemes so far were told with their keys
+abbrev pub invariant-loop-scheme : goal.invariant-loop-scheme
+invariant-loop-scheme l = Told l.schema (take l.scheme-index l.schemes) l.text.items

@@ -1,0 +1,5 @@
+use Rattle.desk_laws.proofs.QuestionLaws.{same_answered}
+use Rattle.desk_laws.proofs.complete_questions.check_same_is_answered.Goals as goal
+
+pub returns : goal.returns
+returns c = record { law = same_answered }

@@ -1,0 +1,49 @@
+use Rattle.std.proofs.Common.{◌≡◌, ◌∙◌, ℕ, List, sym, subst, ap, Result, Ok, Err}
+use Rattle.attr_sets.specs.Places.{Places, Within}
+use Rattle.attr_sets.specs.Sets.{places}
+use Rattle.dep_model.specs.Dependencies.{Dependency, IsWithin, right_of}
+use Rattle.dep_model.specs.Deps.{dependency_of}
+use Rattle.dep_model.specs.Schemas.{universe_of, names_of}
+use Rattle.lexer.specs.declared.token.Mode.TheVariants as mode
+use Rattle.lexer.specs.Tokens.{lex}
+use Rattle.schema_grammar.specs.declared.format.Format.TheVariants as format
+use Rattle.schema_grammar.specs.declared.refusal.SchemaRefusal.{SchemaRefusal}
+use Rattle.schema_grammar.specs.Grammar.{Reached}
+use Rattle.schema_grammar.specs.Reading.{follow_lexed}
+use Rattle.schema_grammar.specs.Refusals.{and_then}
+use Rattle.schema_grammar.specs.Sets.{MeansSet}
+use Rattle.schema_grammar.proofs.RefusalLemmas.{ok_at}
+use Rattle.schema_grammar.proofs.SetLaws.{set-law, set_refused}
+use Rattle.schema_grammar.proofs.WithinLemmas.{follow_within}
+use Rattle.schema_reader.specs.Views.{reached_of}
+use Rattle.schema_reader.proofs.set.read_set.Goals as goal
+
+-- what is read of the text from where the reading begins, and the set of it
+abbrev reading : List (List ℕ) → List ℕ → Reached → Result Dependency SchemaRefusal
+reading names text r = follow_lexed format.Plain names 1 r 1 (lex mode.Goal text)
+
+abbrev set_in : Result Dependency SchemaRefusal → Result Places SchemaRefusal
+set_in o = and_then o (λ d. Ok (right_of d))
+
+pub returns-in-Ok : goal.returns-in-Ok
+returns-in-Ok c =
+    let names = names_of c.args.schema.now in
+    let text = c.args.text.now in
+    let d = dependency_of c.in-Ok.dep in
+    let begun = ap (reading names text) (sym c.after_arrow.ensures.reached) in
+    let read = ap set_in (begun ∙ c.in-Ok.ensures.ok) in
+    let inside : IsWithin (universe_of c.args.schema.now) d =
+    ok_at (IsWithin (universe_of c.args.schema.now)) (reading names text (reached_of c.after_arrow.result)) d c.in-Ok.ensures.ok (follow_within _ names _ _ _ _ _ (rw c.after_arrow.ensures.reached (λ k e. cc))) in
+    let same = sym c.sides.ensures.right in
+    record {
+      ok = subst (MeansSet names text) same ((set-law names text (right_of d)).0 read);
+      err = tt;
+      within = subst (λ (x : Places). Within x (universe_of c.args.schema.now)) same inside.1;
+    }
+
+pub returns-in-Err : goal.returns-in-Err
+returns-in-Err c =
+    let names = names_of c.args.schema.now in
+    let text = c.args.text.now in
+    let begun = ap (reading names text) (sym c.after_arrow.ensures.reached) in
+    record { ok = tt; within = tt; err = set_refused names text c.in-Err.refusal (ap set_in (begun ∙ c.in-Err.ensures.err)) }

@@ -1,0 +1,41 @@
+ghost use Rattle.std.specs.Prelude.{◌≡◌, ◌≤◌, length, IfOk, IfErr};
+ghost use Rattle.attr_sets.specs.Places.{Within};
+ghost use Rattle.attr_sets.specs.Sets.{places};
+ghost use Rattle.dep_model.specs.Schemas.{names_of, universe_of};
+ghost use Rattle.schema_grammar.specs.Sets.{MeansSet, RefusesSet};
+
+use crate::goal::follow;
+use crate::stage::after_arrow;
+use attr_sets::AttrSet;
+use dep_model::{Schema, sides};
+use lexer::Mode;
+use line_reader::Names;
+use schema_grammar::{Format, SchemaRefusal};
+
+/// The most bytes of a set.
+pub const MOST_SET_BYTES: usize = 16_384;
+
+/// The attributes of the schema that a text means, or its first complaint. The set is one line, with the
+/// tokens of a goal, and is read as the right side of one. It takes no memory.
+pub fn read_set(schema: &Schema, text: &[u8]) -> Result<AttrSet, SchemaRefusal>
+    requires { length text.now ≤ MOST_SET_BYTES }
+    ensures ok { IfOk result (λ set. MeansSet (names_of schema.now) text.now (places set)) }
+    ensures err { IfErr result (RefusesSet (names_of schema.now) text.now) }
+    ensures within { IfOk result (λ set. Within (places set) (universe_of schema.now)) }
+{
+    match follow(
+        &Names::Of(schema),
+        Format::Plain,
+        Mode::Goal,
+        1,
+        after_arrow(),
+        1,
+        text,
+    ) {
+        Ok(dep) => {
+            let (_, set) = sides(dep);
+            Ok(set)
+        }
+        Err(refusal) => Err(refusal),
+    }
+}
