@@ -4,3 +4,4 @@ pub mod StopLemmas
 pub mod CompleteLaws
 pub mod TableLaws
 pub mod QuestionLaws
+pub mod ScriptLaws
