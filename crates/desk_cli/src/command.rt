@@ -157,15 +157,25 @@ fn of_check(words: &[Word]) -> Option<Command<'_>>
     let [what, rest @ ..] = words else {
         return None;
     };
-    match what.bytes() {
-        b"proof" => of_check_proof(rest),
-        b"rows" => of_check_rows(rest),
-        b"join" => of_check_join(rest),
-        b"form" => of_check_form(rest),
-        b"keeps" => of_check_keeps(rest),
-        b"same" => of_check_same(rest),
-        _ => None,
+    if what.bytes() == b"proof".as_slice() {
+        return of_check_proof(rest);
     }
+    if what.bytes() == b"rows".as_slice() {
+        return of_check_rows(rest);
+    }
+    if what.bytes() == b"join".as_slice() {
+        return of_check_join(rest);
+    }
+    if what.bytes() == b"form".as_slice() {
+        return of_check_form(rest);
+    }
+    if what.bytes() == b"keeps".as_slice() {
+        return of_check_keeps(rest);
+    }
+    if what.bytes() == b"same".as_slice() {
+        return of_check_same(rest);
+    }
+    None
 }
 
 // After `check form`.

@@ -144,30 +144,34 @@ fn put_differences(
         ≡ text.old.items ++ differences_text schema.now file.now other_file.now numbers.now) }
 {
     for number in numbers {
-        put_difference(alloc, text, schema, file, other_file, *number)?;
+        put(
+            text,
+            &difference_line(alloc, schema, file, other_file, *number)?,
+        )?;
     }
     Ok(())
 }
 
-// A dependency of a file that does not follow from the other, on a line at the end of a text.
-fn put_difference(
+// A dependency of a file that does not follow from the other.
+fn difference_line(
     alloc: Global,
-    text: &mut Vec<u8>,
     schema: &Schema,
     file: &Word,
     other_file: &Word,
     number: u16,
-) -> Result<(), WantMemory>
-    ensures more { OnOk result (text.new.items
-        ≡ text.old.items ++ difference_text schema.now file.now other_file.now number) }
+) -> Result<Vec<u8>, WantMemory>
+    ensures text { IfOk result
+        (λ text. text.items ≡ difference_text schema.now file.now other_file.now number) }
 {
-    put(text, b"line ")?;
-    put_line(alloc, text, schema, number as usize)?;
-    put(text, b" of ")?;
-    put(text, file.bytes())?;
-    put(text, b": ")?;
-    put_dep(text, schema, number as usize)?;
-    put(text, b" does not follow from ")?;
-    put(text, other_file.bytes())?;
-    put(text, b"\n")
+    let mut text = Vec::new(alloc);
+    put(&mut text, b"line ")?;
+    put_line(alloc, &mut text, schema, number as usize)?;
+    put(&mut text, b" of ")?;
+    put(&mut text, file.bytes())?;
+    put(&mut text, b": ")?;
+    put_dep(&mut text, schema, number as usize)?;
+    put(&mut text, b" does not follow from ")?;
+    put(&mut text, other_file.bytes())?;
+    put(&mut text, b"\n")?;
+    Ok(text)
 }
