@@ -25,12 +25,12 @@ abbrev pub bad_name_text : List ℕ
 bad_name_text = line (codes "refused: bad table name")
 
 -- how the name of a table ends a command: where it is none
-abbrev pub NameStops : List ℕ → Allowed
-NameStops name answer = (IsTrue (is_table_name name) → ⊥) × Says Refused bad_name_text answer
+abbrev pub TableNameStops : List ℕ → Allowed
+TableNameStops name answer = (IsTrue (is_table_name name) → ⊥) × Says Refused bad_name_text answer
 
 -- a word names a table, and then the rest follows
 abbrev pub WithTableName : List ℕ → Allowed → Allowed
-WithTableName name = Unless (NameStops name) (IsTrue (is_table_name name))
+WithTableName name = Unless (TableNameStops name) (IsTrue (is_table_name name))
 
 -- ---- checking
 -- over a relation, the queries for the rules give nothing exactly where it is legal

@@ -4,7 +4,7 @@ ghost use Rattle.table_scripts.specs.Naming.{is_table_name};
 ghost use Rattle.desk_cli.specs.Answers.{Says};
 ghost use Rattle.desk_cli.specs.Readings.{Reading, Shows};
 ghost use Rattle.desk_cli.specs.Replies.{answer_of, RepliesAs, StopsAs};
-ghost use Rattle.desk_cli.specs.Scripts.{AsksTable, MakesTables, NameStops, ScriptsCheck, ScriptsMigration, ScriptsMigrationByPlan, bad_name_text};
+ghost use Rattle.desk_cli.specs.Scripts.{AsksTable, MakesTables, TableNameStops, ScriptsCheck, ScriptsMigration, ScriptsMigrationByPlan, bad_name_text};
 
 use crate::Status;
 use crate::decomposition::plan_in_form;
@@ -82,7 +82,7 @@ pub fn script_migration_by_plan<F: Shelf>(
 // Whether a word names a table.
 fn test_name(alloc: Global, name: &Word) -> Result<(), Stop>
     ensures ok { IfOk result (λ _. IsTrue (is_table_name name.now)) }
-    ensures stop { IfErr result (StopsAs (NameStops name.now)) }
+    ensures stop { IfErr result (StopsAs (TableNameStops name.now)) }
 {
     if is_table_name(name.bytes()) {
         return Ok(());

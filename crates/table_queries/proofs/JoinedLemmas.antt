@@ -90,10 +90,10 @@ attributes_in n (first ∷ tables) table k h m = ⊎_elim
     (λ later. later_attributes n (stored first) tables table k later m)
     (Contains-cases first tables table h)
 
-abbrev schemes : List StoredTable → List Places
+abbrev pub schemes : List StoredTable → List Places
 schemes tables = map (λ table. table.scheme) tables
 
-all_attributes : (n : ℕ) (tables : List StoredTable) → Covers n (schemes tables) → (k : ℕ) → k < n → attributes_of n (join_of tables) k ≡ true
+pub all_attributes : (n : ℕ) (tables : List StoredTable) → Covers n (schemes tables) → (k : ℕ) → k < n → attributes_of n (join_of tables) k ≡ true
 all_attributes n tables covers k low =
     let has = covers k low in
     let found = map-member (λ (table : StoredTable). table.scheme) tables has.1 (has.0, has.2, has.3) in

@@ -1,6 +1,6 @@
 -- What a query gives over a relation.
 use Rattle.std.specs.Prelude.{◌≡◌, ℕ, length, Contains}
-use Rattle.attr_sets.specs.Places.{Places}
+use Rattle.attr_sets.specs.Places.{Places, Same}
 use Rattle.dep_model.specs.Tuples.{Tuple, Relation, AgreeOn}
 use Rattle.dep_model.specs.Projections.{project_tuple, projection}
 use Rattle.table_queries.specs.Queries.{Query, whole, values_on, several, join, except, kept, attributes_of}
@@ -32,3 +32,12 @@ pub record IsGiven (n : ℕ) (q : Query) (r : Relation) (u : Tuple) : Type 0 whe
 -- it gives no tuple
 abbrev pub GivesNone : ℕ → Query → Relation → Type 0
 GivesNone n q r = (u : Tuple) → IsGiven n q r u → ⊥
+
+-- the two sides of each difference have the same attributes
+abbrev pub IsEven : ℕ → Query → Type 0
+IsEven n whole = Unit {0}
+IsEven n (values_on x) = Unit {0}
+IsEven n (several x y) = Unit {0}
+IsEven n (join p q) = IsEven n p × IsEven n q
+IsEven n (except p q) = IsEven n p × IsEven n q × Same (attributes_of n p) (attributes_of n q)
+IsEven n (kept name q) = IsEven n q

@@ -6,15 +6,31 @@
 //! the gate asks for its proof.
 #![tactic(auto)]
 
-ghost use Rattle.std.specs.Prelude.{◌≡◌, ◌<◌, ◌≤◌, ◌↔◌, ℕ, List, map, Contains, MatchOption};
+ghost use Rattle.std.specs.Prelude.{◌≡◌, ◌<◌, ◌≤◌, ◌↔◌, ℕ, List, length, map, Contains, MatchOption, ⊤};
 ghost use Rattle.attr_sets.specs.declared.set.TheConstants.{PLACES};
-ghost use Rattle.attr_sets.specs.Places.{Places, below};
-ghost use Rattle.dep_model.specs.Tuples.{Tuple, Relation, IsOver};
+ghost use Rattle.attr_sets.specs.Places.{Places, below, Within};
+ghost use Rattle.dep_model.specs.Tuples.{Tuple, Relation, AgreeOn, IsOver};
 ghost use Rattle.dep_model.specs.Dependencies.{Dependency, IsWithin, Obeys};
 ghost use Rattle.dep_model.specs.Implication.{IsLegal};
-ghost use Rattle.dep_model.specs.Projections.{ordered_projection, IsLossless};
-ghost use Rattle.table_queries.specs.Queries.{StoredTable, breaches_of, values_on, join_of, lacking, exceeding};
-ghost use Rattle.table_queries.specs.Meanings.{IsGiven, GivesNone};
+ghost use Rattle.dep_model.specs.Projections.{ordered_projection, Covers, IsLossless};
+ghost use Rattle.table_queries.specs.Queries.{Query, StoredTable, attributes_of, breaches_of, values_on, join_of, lacking, exceeding};
+ghost use Rattle.table_queries.specs.Meanings.{Gives, IsEven, IsGiven, GivesNone};
+
+/// What a query gives of a tuple hangs on the values of the query's own attributes alone.
+pub fn own_values_decide()
+    ensures law { (n : ℕ) (q : Query) (r : Relation) (t u : Tuple) → IsEven n q → length t ≡ n → length u ≡ n
+        → AgreeOn (attributes_of n q) t u → Gives q r t → Gives q r u }
+{}
+
+/// The queries of the rules and the differences of a plan are of this kind.
+pub fn queries_are_even()
+    ensures rules { (n : ℕ) (d : Dependency) → IsWithin (below n) d
+        → MatchOption (breaches_of n d) ⊤ (λ q. IsEven n q) }
+    ensures plans { (n : ℕ) (name : List ℕ) (tables : List StoredTable)
+        → ((table : StoredTable) → Contains tables table → Within table.scheme (below n))
+        → Covers n (map (λ table. table.scheme) tables)
+        → IsEven n (lacking name tables) × IsEven n (exceeding name tables) }
+{}
 
 /// The query of a dependency gives no tuple over a relation exactly where the relation obeys it, and every
 /// relation obeys a dependency that has none.
