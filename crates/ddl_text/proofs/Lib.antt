@@ -1,3 +1,3 @@
 mod DesignLemmas
 mod HoldingLemmas
-mod TextLemmas
+pub mod TextLemmas

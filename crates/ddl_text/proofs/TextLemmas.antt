@@ -140,7 +140,7 @@ pub name_is : (s : Schema) (k : ℕ) (name : List ℕ) → slice_get (names_of s
     → get_or (names_of s) k [] ≡ name
 name_is s k name at = get_or_from_slice_get (names_of s) k name [] at
 
-column_is : (s : Schema) (k : ℕ) (column : Column) → k < width_of s → slice_get (columns_of s) k ≡ Some column
+pub column_is : (s : Schema) (k : ℕ) (column : Column) → k < width_of s → slice_get (columns_of s) k ≡ Some column
     → column ≡ column_at (places s.integers) k
 column_is s k column lt at =
     sym (get_or_from_slice_get (columns_of s) k column column at)

@@ -14,6 +14,7 @@ mod references;
 mod table;
 
 pub use designing::{DesignList, design};
+pub use name_list::{add_name_list, add_quoted};
 pub use printing::print_ddl;
 pub use table::TableDesign;
 pub use table_names::MOST_TABLES;

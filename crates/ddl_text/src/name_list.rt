@@ -7,7 +7,7 @@ use attr_sets::AttrSet;
 use dep_model::{Name, Schema, WantMemory};
 use schema_reader::add;
 
-// Adds the quoted names of a set's attributes, ascending, with a comma and a blank between.
+/// Adds the quoted names of a set's attributes, ascending, with a comma and a blank between.
 pub fn add_name_list(text: &mut Vec<u8>, schema: &Schema, set: AttrSet) -> Result<(), WantMemory>
     ensures added { OnOk result (text.new.items ≡ text.old.items ++ name_list schema.now (places set)) }
 {
@@ -32,7 +32,7 @@ fn add_listed(text: &mut Vec<u8>, some: bool, name: &Name) -> Result<(), WantMem
     add_quoted(text, name)
 }
 
-// Adds a name in double quotes.
+/// Adds a name in double quotes.
 pub fn add_quoted(text: &mut Vec<u8>, name: &Name) -> Result<(), WantMemory>
     ensures added { OnOk result (text.new.items ≡ text.old.items ++ quoted_name name.now) }
 {

@@ -27,6 +27,11 @@ task_form (task.DdlPlan plan) = form.ddl_plan plan.now
 task_form (task.Migrate normal file) = form.migrate normal file.now
 task_form (task.MigratePlan plan file) = form.migrate_plan plan.now file.now
 task_form (task.Rejoin files) = form.rejoin files.now
+task_form (task.SqlCheck name) = form.sql_check name.now
+task_form (task.SqlMigrate normal name) = form.sql_migrate normal name.now
+task_form (task.SqlMigratePlan plan name) = form.sql_migrate_plan plan.now name.now
+task_form (task.Draw normal) = form.draw normal
+task_form (task.DrawPlan plan) = form.draw_plan plan.now
 
 abbrev pub command_form : Command → form.Form
 command_form (OverSchema schema task) = form.over_schema schema.now (task_form task)

@@ -49,6 +49,16 @@ pub data Task : Type 0 where
   migrate_plan : List ℕ → List ℕ → Task
   -- the natural join of the tables of files
   rejoin : List (List ℕ) → Task
+  -- queries for what breaks each rule in a table of this name
+  sql_check : List ℕ → Task
+  -- statements that make the tables of a normal form from a table of this name
+  sql_migrate : NormalForm → List ℕ → Task
+  -- statements that make the tables of the plan of a file from a table of this name
+  sql_migrate_plan : List ℕ → List ℕ → Task
+  -- a picture of the tables of a normal form
+  draw : NormalForm → Task
+  -- a picture of the tables of the plan of a file
+  draw_plan : List ℕ → Task
 
 -- a command
 pub data Form : Type 0 where
@@ -164,6 +174,28 @@ after_migrate (what ∷ rest) =
     if bytes_eq what (codes "plan") then schema_and_two migrate_plan rest
     else option_and_then (λ form. schema_and (migrate form) rest) (normal_form what)
 
+-- after `sql migrate`
+unfoldable pub after_sql_migrate : List (List ℕ) → Option Form
+after_sql_migrate [] = None
+after_sql_migrate (what ∷ rest) =
+    if bytes_eq what (codes "plan") then schema_and_two sql_migrate_plan rest
+    else option_and_then (λ form. schema_and (sql_migrate form) rest) (normal_form what)
+
+-- after `sql`
+unfoldable pub after_sql : List (List ℕ) → Option Form
+after_sql [] = None
+after_sql (what ∷ rest) =
+    if bytes_eq what (codes "check") then schema_and sql_check rest
+    else if bytes_eq what (codes "migrate") then after_sql_migrate rest
+    else None
+
+-- after `draw`
+unfoldable pub after_draw : List (List ℕ) → Option Form
+after_draw [] = None
+after_draw (what ∷ rest) =
+    if bytes_eq what (codes "plan") then schema_and draw_plan rest
+    else option_and_then (λ form. schema_alone (draw form) rest) (normal_form what)
+
 -- what is asked of a schema
 unfoldable pub form_over_schema : List ℕ → List (List ℕ) → Option Form
 form_over_schema verb rest =
@@ -178,6 +210,8 @@ form_over_schema verb rest =
     else if bytes_eq verb (codes "ddl") then after_ddl rest
     else if bytes_eq verb (codes "migrate") then after_migrate rest
     else if bytes_eq verb (codes "rejoin") then schema_and_few rejoin rest
+    else if bytes_eq verb (codes "sql") then after_sql rest
+    else if bytes_eq verb (codes "draw") then after_draw rest
     else None
 
 -- the command that the words form, if they form one

@@ -30,6 +30,11 @@ help_text =
     ++ line (codes "desk sample N                         the tables of N invented persons")
     ++ line (codes "desk discover CSV                     the functional dependencies that the rows in CSV obey")
     ++ line (codes "desk rejoin SCHEMA CSV..              the join of the tables in files")
+    ++ line (codes "desk sql check SCHEMA TABLE           queries for the rows of TABLE in a database that break each rule")
+    ++ line (codes "desk sql migrate FORM SCHEMA TABLE    statements that make the tables in the form from TABLE")
+    ++ line (codes "desk sql migrate plan SCHEMA PLAN TABLE  the same of the plan")
+    ++ line (codes "desk draw FORM SCHEMA                 a picture of the tables in the form, for Graphviz")
+    ++ line (codes "desk draw plan SCHEMA PLAN            the same of the plan")
     ++ line (codes "desk help                             this text")
     ++ line (codes "desk --version                        the release")
     ++ line (codes "Status: 0 yes, 1 no, 2 refused, 3 a file cannot be read, 4 the output cannot be written, "

@@ -21,6 +21,8 @@ pub mod NormalForms
 pub mod Keeping
 pub mod Decompositions
 pub mod Designs
+pub mod Scripts
+pub mod Drawings
 pub mod Migrations
 pub mod Exhibits
 pub mod Discoveries

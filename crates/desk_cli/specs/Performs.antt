@@ -9,6 +9,7 @@ use Rattle.desk_cli.specs.Covering.{GivesCover}
 use Rattle.desk_cli.specs.Decompositions.{Splits, SplitsWide}
 use Rattle.desk_cli.specs.Designs.{WritesForm, WritesPlan}
 use Rattle.desk_cli.specs.Discoveries.{Discovers}
+use Rattle.desk_cli.specs.Drawings.{DrawsForm, DrawsPlan}
 use Rattle.desk_cli.specs.Exhibits.{Exhibits}
 use Rattle.desk_cli.specs.Forms as form
 use Rattle.desk_cli.specs.Forms.{Form, Task, form_of}
@@ -24,6 +25,7 @@ use Rattle.desk_cli.specs.NormalForms.{ChecksForm}
 use Rattle.desk_cli.specs.Readings.{Reading}
 use Rattle.desk_cli.specs.Rejoining.{Rejoins}
 use Rattle.desk_cli.specs.Sameness.{ChecksSame}
+use Rattle.desk_cli.specs.Scripts.{ScriptsCheck, ScriptsMigration, ScriptsMigrationByPlan}
 use Rattle.desk_cli.specs.Synthesis.{Synthesizes}
 use Rattle.desk_cli.specs.Texts.{words_text}
 
@@ -49,6 +51,11 @@ Does r schema (form.ddl_plan plan) = WritesPlan r schema plan
 Does r schema (form.migrate normal file) = Migrates r schema normal file
 Does r schema (form.migrate_plan plan file) = MigratesPlan r schema plan file
 Does r schema (form.rejoin files) = Rejoins r schema files
+Does r schema (form.sql_check name) = ScriptsCheck schema name
+Does r schema (form.sql_migrate normal name) = ScriptsMigration schema normal name
+Does r schema (form.sql_migrate_plan plan name) = ScriptsMigrationByPlan r schema plan name
+Does r schema (form.draw normal) = DrawsForm schema normal
+Does r schema (form.draw_plan plan) = DrawsPlan r schema plan
 
 -- a command
 unfoldable pub Performs : Reading → Form → Allowed

@@ -4,6 +4,7 @@ ghost use Rattle.desk_cli.specs.Forms.{after_check, after_check_form, after_ddl,
 
 use crate::persons::Persons;
 use crate::shapes::*;
+use crate::table_shapes::{of_draw, of_sql};
 use desk_outside::Word;
 use form_tests::Form;
 
@@ -50,6 +51,16 @@ pub enum Task<'a> {
     MigratePlan { plan: &'a Word, file: &'a Word },
     /// The natural join of the tables of files.
     Rejoin { files: &'a [Word] },
+    /// Queries for what breaks each rule in a table of this name.
+    SqlCheck { name: &'a Word },
+    /// Statements that make the tables of a normal form from a table of this name.
+    SqlMigrate { form: Form, name: &'a Word },
+    /// Statements that make the tables of the plan of a file from a table of this name.
+    SqlMigratePlan { plan: &'a Word, name: &'a Word },
+    /// A picture of the tables of a normal form.
+    Draw { form: Form },
+    /// A picture of the tables of the plan of a file.
+    DrawPlan { plan: &'a Word },
 }
 
 /// A command.
@@ -128,6 +139,12 @@ fn over_schema<'a>(verb: &Word, rest: &'a [Word]) -> Option<Command<'a>>
     }
     if verb.bytes() == b"rejoin".as_slice() {
         return of_rejoin(rest);
+    }
+    if verb.bytes() == b"sql".as_slice() {
+        return of_sql(rest);
+    }
+    if verb.bytes() == b"draw".as_slice() {
+        return of_draw(rest);
     }
     None
 }

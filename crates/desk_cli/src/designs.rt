@@ -60,8 +60,8 @@ fn written(alloc: Global, schema: &Schema, plan: &Plan) -> Result<Reply, WantMem
     Ok(Reply::says(Status::Yes, print_ddl(alloc, schema, &tables)?))
 }
 
-// The design of a plan. No memory holds a plan of more tables than have a name.
-fn designed(alloc: Global, schema: &Schema, plan: &Plan) -> Result<DesignList, WantMemory>
+/// The design of a plan. No memory holds a plan of more tables than have a name.
+pub fn designed(alloc: Global, schema: &Schema, plan: &Plan) -> Result<DesignList, WantMemory>
     requires universe { IsPlanOver schema.now plan.now }
     ensures sound { IfOk result (λ tables. IsSoundDesign schema.now (sets_of plan.now) tables) }
 {

@@ -30,6 +30,11 @@ desk migrate plan SCHEMA PLAN CSV     the same as tables of the plan
 desk sample N                         the tables of N invented persons
 desk discover CSV                     the functional dependencies that the rows in CSV obey
 desk rejoin SCHEMA CSV..              the join of the tables in files
+desk sql check SCHEMA TABLE           queries for the rows of TABLE in a database that break each rule
+desk sql migrate FORM SCHEMA TABLE    statements that make the tables in the form from TABLE
+desk sql migrate plan SCHEMA PLAN TABLE  the same of the plan
+desk draw FORM SCHEMA                 a picture of the tables in the form, for Graphviz
+desk draw plan SCHEMA PLAN            the same of the plan
 desk help                             this text
 desk --version                        the release
 Status: 0 yes, 1 no, 2 refused, 3 a file cannot be read, 4 the output cannot be written, 5 a target failed, 6 want of memory.

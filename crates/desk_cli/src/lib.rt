@@ -14,6 +14,7 @@ mod cover;
 mod decomposition;
 mod designs;
 mod discovering;
+mod drawings;
 mod exhibits;
 mod finish;
 mod goal;
@@ -36,10 +37,12 @@ mod rows;
 mod sameness;
 mod sampling;
 mod scheme_keys;
+mod scripts;
 mod set;
 mod shapes;
 mod status;
 mod synthesis;
+mod table_shapes;
 #[cfg(test)]
 mod table_tests;
 #[cfg(test)]

@@ -16,6 +16,7 @@ use crate::cover::cover;
 use crate::decomposition::{split_by_pairs, split_in_form};
 use crate::designs::{write_form, write_plan};
 use crate::discovering::discovered;
+use crate::drawings::{draw_form, draw_plan};
 use crate::exhibits::exhibited;
 use crate::finish::settle;
 use crate::help::{help, version};
@@ -31,6 +32,7 @@ use crate::reply::{Reply, Stop};
 use crate::sameness::check_same;
 use crate::sampling::migrate_sample;
 use crate::scheme_keys::list_keys_of_plan;
+use crate::scripts::{script_check, script_migration, script_migration_by_plan};
 use crate::synthesis::synthesized;
 use crate::text::line_of;
 use dep_model::{Schema, WantMemory};
@@ -191,5 +193,12 @@ fn does<F: Shelf>(
         Task::Migrate { form, file } => migrate_in_form(alloc, shelf, schema, form, file),
         Task::MigratePlan { plan, file } => migrate_by_plan(alloc, shelf, schema, plan, file),
         Task::Rejoin { files } => rejoin(alloc, shelf, schema, files),
+        Task::SqlCheck { name } => script_check(alloc, schema, name),
+        Task::SqlMigrate { form, name } => script_migration(alloc, schema, form, name),
+        Task::SqlMigratePlan { plan, name } => {
+            script_migration_by_plan(alloc, shelf, schema, plan, name)
+        }
+        Task::Draw { form } => draw_form(alloc, schema, form),
+        Task::DrawPlan { plan } => draw_plan(alloc, shelf, schema, plan),
     }
 }

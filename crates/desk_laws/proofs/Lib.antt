@@ -5,3 +5,4 @@ pub mod CompleteLaws
 pub mod TableLaws
 pub mod FileLaws
 pub mod QuestionLaws
+pub mod ScriptLaws

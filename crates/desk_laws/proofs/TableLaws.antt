@@ -51,7 +51,7 @@ split_goes s r form answer same can (inl (scheme, wide, says)) =
 split_goes s r form answer same can (inr (many, says)) =
     can.few (subst (λ (d : Declarations). HasTooMany (length d.names) d.deps form MOST_SPLIT_SCHEMES) (sym same) many)
 
-after_form : (s r : Schema) (form : Form) (rest : List AttrSet → Allowed) (answer : Answer) → AreSame s r → HasPlanInForm s form
+pub after_form : (s r : Schema) (form : Form) (rest : List AttrSet → Allowed) (answer : Answer) → AreSame s r → HasPlanInForm s form
     → ((plan : List AttrSet) → rest plan answer → IsYesOrNo answer.status) → WithPlanInForm r form rest answer → IsYesOrNo answer.status
 after_form s r Third rest answer same can go (inl stop) = absurd stop
 after_form s r Bcnf rest answer same can go (inl stop) = absurd (split_goes s r Bcnf answer same can stop)
@@ -60,7 +60,7 @@ after_form s r Third rest answer same can go (inr (plan, is, more)) = go plan mo
 after_form s r Bcnf rest answer same can go (inr (plan, is, more)) = go plan more
 after_form s r Fourth rest answer same can go (inr (plan, is, more)) = go plan more
 
-after_loss : (s r : Schema) (p plan : List Places) (rest : Allowed) (answer : Answer) → AreSame s r → p ≡ plan → (IsTooLarge s plan → ⊥)
+pub after_loss : (s r : Schema) (p plan : List Places) (rest : Allowed) (answer : Answer) → AreSame s r → p ≡ plan → (IsTooLarge s plan → ⊥)
     → (rest answer → IsYesOrNo answer.status) → WithoutLoss r p rest answer → IsYesOrNo answer.status
 after_loss s r p plan rest answer same is small go (inl (inl (fits, lossy, found))) = inr (ap (λ (a : Answer). a.status) found.2)
 after_loss s r p plan rest answer same is small go (inl (inr (large, says))) = absurd (small_same s r p plan same is small large)

@@ -6,6 +6,7 @@
 
 mod complete;
 mod complete_questions;
+mod complete_scripts;
 mod complete_tables;
 
 ghost use Rattle.std.specs.Prelude.{◌≡◌, ◌≤◌, ℕ, List, [], ◌∷◌, length, Some, codes};
@@ -22,6 +23,7 @@ pub use complete::{
     synthesize_is_answered,
 };
 pub use complete_questions::{basis_is_answered, check_same_is_answered, keys_of_plan_is_answered};
+pub use complete_scripts::{draw_is_answered, sql_check_is_answered, sql_migrate_is_answered};
 pub use complete_tables::{
     check_form_is_answered, check_keeps_is_answered, ddl_is_answered, discover_is_answered,
     exhibit_is_answered, migrate_is_answered, rejoin_is_answered, sample_is_answered,

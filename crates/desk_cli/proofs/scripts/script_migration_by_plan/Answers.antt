@@ -1,0 +1,42 @@
+use Rattle.std.proofs.Common.{inl, inr, refl, List, sym, subst}
+use Rattle.attr_sets.specs.declared.set.AttrSet.{AttrSet}
+use Rattle.decomp_text.specs.Plans.{plan_of, sets_of}
+use Rattle.dep_model.specs.Plans.{schemes_of}
+use Rattle.dep_model.specs.Projections.{Covers}
+use Rattle.dep_model.specs.Schemas.{width_of}
+use Rattle.desk_cli.specs.Joins.{IsShownLossless, LossStops}
+use Rattle.desk_cli.specs.Replies.{answer_of}
+use Rattle.desk_cli.proofs.scripts.script_migration_by_plan.Goals as goal
+
+pub test_loss-requires-clause-covers : goal.test_loss-requires-clause-covers
+test_loss-requires-clause-covers g c =
+    subst (λ (schemes : List AttrSet). Covers (width_of c.args.schema.now) (schemes_of schemes)) (sym c.schemes.ensures.schemes) c.in-Ok.ensures.covers
+
+pub returns-in-Err-test_name-clause-reply : goal.returns-in-Err-test_name-clause-reply
+returns-in-Err-test_name-clause-reply g c = λ r shows reply is.
+    inr (plan_of c.in-Ok.plan, c.in-Ok.ensures.ok r shows.same, inl (c.in-Err-test_name.ensures.stop reply is))
+
+pub returns-in-Err-test_loss-clause-reply : goal.returns-in-Err-test_loss-clause-reply
+returns-in-Err-test_loss-clause-reply g c = λ r shows reply is.
+    inr (
+      plan_of c.in-Ok.plan,
+      c.in-Ok.ensures.ok r shows.same,
+      inr (
+        c.in-Ok-test_name.ensures.ok,
+        inl (subst (λ (schemes : List AttrSet). LossStops c.args.schema.now (schemes_of schemes) (answer_of reply)) c.schemes.ensures.schemes (c.in-Err-test_loss.ensures.stop reply is)),
+      ),
+    )
+
+pub returns-clause-reply : goal.returns-clause-reply
+returns-clause-reply g c = λ r shows.
+    inr (
+      plan_of c.in-Ok.plan,
+      c.in-Ok.ensures.ok r shows.same,
+      inr (
+        c.in-Ok-test_name.ensures.ok,
+        inr (
+          subst (λ (schemes : List AttrSet). IsShownLossless c.args.schema.now (schemes_of schemes)) c.schemes.ensures.schemes c.in-Ok-test_loss.ensures.ok,
+          (sets_of c.in-Ok.plan, refl, c.in_ok-made.ensures.answer),
+        ),
+      ),
+    )

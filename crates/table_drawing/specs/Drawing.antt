@@ -1,0 +1,53 @@
+-- A design as a Graphviz text.
+use Rattle.std.specs.Prelude.{ℕ, Bool, if◌then◌else◌, List, [], ◌++◌, codes, slice_get, slice_index_or, unwrap_or, option_map}
+use Rattle.std.specs.List.{flat_map}
+use Rattle.attr_sets.specs.Places.{Places}
+use Rattle.attr_sets.specs.Sets.{places}
+use Rattle.dep_model.specs.declared.schema.Schema.{Schema}
+use Rattle.dep_model.specs.Projections.{members_below}
+use Rattle.dep_model.specs.Schemas.{names_of, width_of}
+use Rattle.schema_grammar.specs.Printing.{set_text}
+use Rattle.ddl_text.specs.declared.table.TableDesign.{TableDesign}
+
+-- a name, underlined where it is in the key
+unfoldable pub marked_text : Bool → List ℕ → List ℕ
+marked_text in_key name = if in_key then codes "<U>" ++ name ++ codes "</U>" else name
+
+-- the row of an attribute
+unfoldable pub row_text : Schema → Places → ℕ → List ℕ
+row_text s key k =
+    codes "<TR><TD ALIGN=\"LEFT\">" ++ marked_text (key k) (slice_index_or (names_of s) k [])
+    ++ codes "</TD></TR>"
+
+-- the rows of a scheme, ascending
+abbrev pub rows_text : Schema → Places → Places → List ℕ
+rows_text s scheme key = flat_map (row_text s key) (members_below (width_of s) scheme)
+
+-- the node of a table: its name, and a row for each attribute
+unfoldable pub node_text : Schema → TableDesign → List ℕ
+node_text s table =
+    codes "  " ++ table.name
+    ++ codes " [label=<<TABLE BORDER=\"0\" CELLBORDER=\"1\" CELLSPACING=\"0\"><TR><TD BGCOLOR=\"lightgrey\"><B>"
+    ++ table.name ++ codes "</B></TD></TR>" ++ rows_text s (places table.scheme) (places table.key)
+    ++ codes "</TABLE>>];\n"
+
+-- the edge from a table to another, with the key of that one
+unfoldable pub edge_text : Schema → TableDesign → TableDesign → List ℕ
+edge_text s table other =
+    codes "  " ++ table.name ++ codes " -> " ++ other.name ++ codes " [label=\""
+    ++ set_text (names_of s) (places other.key) ++ codes "\"];\n"
+
+-- the edges from a table to those at these places, in order
+abbrev pub edges_to : Schema → List TableDesign → TableDesign → List ℕ → List ℕ
+edges_to s tables table refs =
+    flat_map (λ j. unwrap_or (option_map (edge_text s table) (slice_get tables j)) []) refs
+
+-- the edges from a table to those that it refers to
+abbrev pub edges_text : Schema → List TableDesign → TableDesign → List ℕ
+edges_text s tables table = edges_to s tables table table.refs.items
+
+-- a design: a node for each table, and then the edges of each
+abbrev pub drawing_text : Schema → List TableDesign → List ℕ
+drawing_text s tables =
+    codes "digraph tables {\n  rankdir=LR;\n  node [shape=plaintext];\n" ++ flat_map (node_text s) tables
+    ++ flat_map (edges_text s tables) tables ++ codes "}\n"

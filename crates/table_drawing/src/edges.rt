@@ -1,0 +1,66 @@
+ghost use Rattle.std.specs.Prelude.{◌≡◌, ◌<◌, ◌++◌, length, All, IfOk, OnOk};
+ghost use Rattle.std.specs.List.{flat_map};
+ghost use Rattle.ddl_text.specs.Designs.{ReferToEarlier};
+ghost use Rattle.table_drawing.specs.Drawing.{edge_text, edges_to, edges_text};
+
+use ddl_text::TableDesign;
+use dep_model::{Schema, WantMemory};
+use schema_reader::{add, add_set};
+use std::alloc::Global;
+
+// Adds the edges of these tables.
+pub fn add_edges(
+    alloc: Global,
+    text: &mut Vec<u8>,
+    schema: &Schema,
+    tables: &[TableDesign],
+) -> Result<(), WantMemory>
+    requires earlier { ReferToEarlier tables.now }
+    ensures added { OnOk result (text.new.items
+        ≡ text.old.items ++ flat_map (edges_text schema.now tables.now) tables.now) }
+{
+    for table in tables {
+        add_edges_to(alloc, text, schema, tables, table, &table.refs)?;
+    }
+    Ok(())
+}
+
+// Adds the edges from a table to those at these places, in order.
+fn add_edges_to(
+    alloc: Global,
+    text: &mut Vec<u8>,
+    schema: &Schema,
+    tables: &[TableDesign],
+    table: &TableDesign,
+    refs: &[u32],
+) -> Result<(), WantMemory>
+    requires refs { All (λ j. j < length tables.now) refs.now }
+    ensures added { OnOk result (text.new.items
+        ≡ text.old.items ++ edges_to schema.now tables.now table.now refs.now) }
+{
+    for j in refs {
+        add(text, &edge(alloc, schema, table, &tables[*j as usize])?)?;
+    }
+    Ok(())
+}
+
+// The edge from a table to another.
+#[tactic(auto, unfolding(crate::specs::Drawing::edge_text))]
+fn edge(
+    alloc: Global,
+    schema: &Schema,
+    table: &TableDesign,
+    other: &TableDesign,
+) -> Result<Vec<u8>, WantMemory>
+    ensures text { IfOk result (λ text. text.items ≡ edge_text schema.now table.now other.now) }
+{
+    let mut text = Vec::new(alloc);
+    add(&mut text, b"  ")?;
+    add(&mut text, table.name.bytes())?;
+    add(&mut text, b" -> ")?;
+    add(&mut text, other.name.bytes())?;
+    add(&mut text, b" [label=\"")?;
+    add_set(&mut text, schema, other.key)?;
+    add(&mut text, b"\"];\n")?;
+    Ok(text)
+}

@@ -1,0 +1,91 @@
+ghost use Rattle.std.specs.Prelude.{◌≡◌, ◌<◌, ◌++◌, IfOk, OnOk};
+ghost use Rattle.std.specs.List.{flat_map};
+ghost use Rattle.attr_sets.specs.Sets.{places};
+ghost use Rattle.dep_model.specs.Schemas.{width_of};
+ghost use Rattle.table_drawing.specs.Drawing.{marked_text, row_text, rows_text, node_text};
+
+use attr_sets::AttrSet;
+use ddl_text::TableDesign;
+use dep_model::{Schema, WantMemory};
+use schema_reader::add;
+use std::alloc::Global;
+
+// Adds the nodes of these tables.
+pub fn add_nodes(
+    alloc: Global,
+    text: &mut Vec<u8>,
+    schema: &Schema,
+    tables: &[TableDesign],
+) -> Result<(), WantMemory>
+    ensures added { OnOk result (text.new.items ≡ text.old.items ++ flat_map (node_text schema.now) tables.now) }
+{
+    for table in tables {
+        add(text, &node(alloc, schema, table)?)?;
+    }
+    Ok(())
+}
+
+// The node of a table.
+#[tactic(auto, unfolding(crate::specs::Drawing::node_text))]
+fn node(alloc: Global, schema: &Schema, table: &TableDesign) -> Result<Vec<u8>, WantMemory>
+    ensures text { IfOk result (λ text. text.items ≡ node_text schema.now table.now) }
+{
+    let mut text = Vec::new(alloc);
+    add(&mut text, b"  ")?;
+    add(&mut text, table.name.bytes())?;
+    add(
+        &mut text,
+        b" [label=<<TABLE BORDER=\"0\" CELLBORDER=\"1\" CELLSPACING=\"0\"><TR><TD BGCOLOR=\"lightgrey\"><B>",
+    )?;
+    add(&mut text, table.name.bytes())?;
+    add(&mut text, b"</B></TD></TR>")?;
+    add_rows(alloc, &mut text, schema, table.scheme, table.key)?;
+    add(&mut text, b"</TABLE>>];\n")?;
+    Ok(text)
+}
+
+// Adds the rows of a scheme, ascending.
+fn add_rows(
+    alloc: Global,
+    text: &mut Vec<u8>,
+    schema: &Schema,
+    scheme: AttrSet,
+    key: AttrSet,
+) -> Result<(), WantMemory>
+    ensures added { OnOk result (text.new.items
+        ≡ text.old.items ++ rows_text schema.now (places scheme) (places key)) }
+{
+    for place in 0..schema.width() {
+        if scheme.has(place) {
+            add(text, &row(alloc, schema, key, place)?)?;
+        }
+    }
+    Ok(())
+}
+
+// The row of an attribute.
+#[tactic(auto, unfolding(crate::specs::Drawing::row_text))]
+fn row(alloc: Global, schema: &Schema, key: AttrSet, place: u8) -> Result<Vec<u8>, WantMemory>
+    requires place { place < width_of schema.now }
+    ensures text { IfOk result (λ text. text.items ≡ row_text schema.now (places key) place) }
+{
+    let mut text = Vec::new(alloc);
+    add(&mut text, b"<TR><TD ALIGN=\"LEFT\">")?;
+    add_marked(&mut text, schema.name(place).bytes(), key.has(place))?;
+    add(&mut text, b"</TD></TR>")?;
+    Ok(text)
+}
+
+// Adds a name, underlined where it is in the key.
+#[tactic(auto, unfolding(crate::specs::Drawing::marked_text))]
+fn add_marked(text: &mut Vec<u8>, name: &[u8], in_key: bool) -> Result<(), WantMemory>
+    ensures added { OnOk result (text.new.items ≡ text.old.items ++ marked_text in_key name.now) }
+{
+    if in_key {
+        add(text, b"<U>")?;
+        add(text, name)?;
+        add(text, b"</U>")
+    } else {
+        add(text, name)
+    }
+}

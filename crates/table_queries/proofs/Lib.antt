@@ -1,0 +1,3 @@
+pub mod BreachLemmas
+mod EvenLemmas
+pub mod JoinedLemmas

@@ -1,0 +1,5 @@
+use Rattle.table_queries.proofs.BreachLemmas.{breaches_tell}
+use Rattle.table_queries.proofs.breaches_tell_a_dependency.Goals as goal
+
+pub returns : goal.returns
+returns c = record { law = breaches_tell }

@@ -1,0 +1,5 @@
+use Rattle.table_queries.proofs.JoinedLemmas.{join_given}
+use Rattle.table_queries.proofs.join_gives_the_relation.Goals as goal
+
+pub returns : goal.returns
+returns c = record { law = join_given }

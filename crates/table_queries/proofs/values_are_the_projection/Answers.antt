@@ -1,0 +1,5 @@
+use Rattle.table_queries.proofs.JoinedLemmas.{values_given}
+use Rattle.table_queries.proofs.values_are_the_projection.Goals as goal
+
+pub returns : goal.returns
+returns c = record { law = values_given }

@@ -1,0 +1,43 @@
+-- What a query gives over a relation.
+use Rattle.std.specs.Prelude.{◌≡◌, ℕ, length, Contains}
+use Rattle.attr_sets.specs.Places.{Places, Same}
+use Rattle.dep_model.specs.Tuples.{Tuple, Relation, AgreeOn}
+use Rattle.dep_model.specs.Projections.{project_tuple, projection}
+use Rattle.table_queries.specs.Queries.{Query, whole, values_on, several, join, except, kept, attributes_of}
+
+-- two tuples of a relation agree with a tuple on x, and not with one another on y
+pub record IsBeside (x y : Places) (r : Relation) (t u v : Tuple) : Type 0 where
+  pub first : Contains r u
+  pub second : Contains r v
+  pub first_agrees : AgreeOn x u t
+  pub second_agrees : AgreeOn x v t
+  pub differ : AgreeOn y u v → ⊥
+
+-- a query over a relation gives the values that a tuple has on the query's attributes
+abbrev pub Gives : Query → Relation → Tuple → Type 0
+Gives whole r t = Contains r t
+Gives (values_on x) r t = Contains (projection x r) (project_tuple x t)
+Gives (several x y) r t = (u v : Tuple) × IsBeside x y r t u v
+Gives (join p q) r t = Gives p r t × Gives q r t
+Gives (except p q) r t = Gives p r t × (Gives q r t → ⊥)
+Gives (kept name q) r t = Gives q r t
+
+-- a tuple over its own attributes is one of those that a query gives, over a relation of n attributes
+pub record IsGiven (n : ℕ) (q : Query) (r : Relation) (u : Tuple) : Type 0 where
+  pub tuple : Tuple
+  pub over : length tuple ≡ n
+  pub gives : Gives q r tuple
+  pub values : u ≡ project_tuple (attributes_of n q) tuple
+
+-- it gives no tuple
+abbrev pub GivesNone : ℕ → Query → Relation → Type 0
+GivesNone n q r = (u : Tuple) → IsGiven n q r u → ⊥
+
+-- the two sides of each difference have the same attributes
+abbrev pub IsEven : ℕ → Query → Type 0
+IsEven n whole = Unit {0}
+IsEven n (values_on x) = Unit {0}
+IsEven n (several x y) = Unit {0}
+IsEven n (join p q) = IsEven n p × IsEven n q
+IsEven n (except p q) = IsEven n p × IsEven n q × Same (attributes_of n p) (attributes_of n q)
+IsEven n (kept name q) = IsEven n q

@@ -1,0 +1,76 @@
+-- Queries over one table, as terms, and the queries of the rules and of a plan.
+use Rattle.std.specs.Prelude.{ℕ, ◌||◌, Option, Some, None, List, [], ◌∷◌, if◌then◌else◌}
+use Rattle.attr_sets.specs.Places.{Places, below, none, union, minus}
+use Rattle.attr_sets.specs.Sets.{is_within}
+use Rattle.dep_model.specs.Dependencies.{Dependency, fd, mvd}
+
+-- a query over one table
+pub data Query : Type 0 where
+  -- the table
+  whole : Query
+  -- the table's values on a set of attributes
+  values_on : Places → Query
+  -- those values on the first set that stand beside more than one value on the second
+  several : Places → Places → Query
+  -- the natural join of two queries
+  join : Query → Query → Query
+  -- what the first query gives and the second, which has the same attributes, does not
+  except : Query → Query → Query
+  -- what a query gives, kept under a name as a table or a view
+  kept : List ℕ → Query → Query
+
+-- the attributes of what a query gives, where the table has the places below n
+abbrev pub attributes_of : ℕ → Query → Places
+attributes_of n whole = below n
+attributes_of n (values_on x) = x
+attributes_of n (several x y) = x
+attributes_of n (join p q) = union (attributes_of n p) (attributes_of n q)
+attributes_of n (except p q) = attributes_of n p
+attributes_of n (kept name q) = attributes_of n q
+
+-- ---- rules
+-- what breaks x -> y: values of x beside more than one value of xy
+abbrev pub breaches_of_fd : Places → Places → Option Query
+breaches_of_fd x y = if is_within y x then None else Some (several x (union x y))
+
+-- what breaks x ->> y: what the join of the parts on xy, and on x and the rest, has beyond the table
+abbrev pub breaches_of_mvd : ℕ → Places → Places → Option Query
+breaches_of_mvd n x y =
+    if is_within y x || is_within (below n) (union x y) then None
+    else Some (except (join (values_on (union x y)) (values_on (union x (minus (below n) (union x y))))) whole)
+
+-- the query for what breaks a dependency; none where every relation obeys it
+abbrev pub breaches_of : ℕ → Dependency → Option Query
+breaches_of n (fd x y) = breaches_of_fd x y
+breaches_of n (mvd x y) = breaches_of_mvd n x y
+
+-- ---- plans
+-- a table of a plan, by its name and its scheme
+pub record StoredTable : Type 0 where
+  pub name : List ℕ
+  pub scheme : Places
+
+-- what a table of a plan holds
+abbrev pub rows_of : StoredTable → Query
+rows_of table = values_on table.scheme
+
+-- the same, under its name
+abbrev pub stored : StoredTable → Query
+stored table = kept table.name (rows_of table)
+
+-- a query joined with tables, one after the other
+abbrev pub joined_with : Query → List StoredTable → Query
+joined_with q [] = q
+joined_with q (table ∷ tables) = joined_with (join q (stored table)) tables
+
+-- the natural join of the tables of a plan
+abbrev pub join_of : List StoredTable → Query
+join_of [] = values_on none
+join_of (table ∷ tables) = joined_with (stored table) tables
+
+-- what the table has beyond a view on the join, and the view beyond the table
+abbrev pub lacking : List ℕ → List StoredTable → Query
+lacking name tables = except whole (kept name (join_of tables))
+
+abbrev pub exceeding : List ℕ → List StoredTable → Query
+exceeding name tables = except (kept name (join_of tables)) whole

@@ -1,0 +1,98 @@
+-- Lists of items: one more at the end.
+use Rattle.std.proofs.Common.{◌≡◌, ◌<◌, ◌≤◌, ◌+◌, ℕ, zero, suc, Bool, true, false, List, [], ◌∷◌, ◌++◌, length, get_or, take, drop, take_all, map, refl, sym, ap, ◌∙◌, append-nil, append_assoc, add-one, arith}
+use Rattle.std.specs.Prelude.{◌-◌, if◌then◌else◌, codes, nat_lt}
+use Rattle.std.specs.List.{flat_map, zip}
+use Rattle.std.proofs.lemmas.List.{take_more, flat_map_more, length-drop}
+use Rattle.std.proofs.lemmas.Bool.Decides.{nat_tests}
+use Rattle.attr_sets.specs.Places.{Places}
+use Rattle.dep_model.specs.Projections.{members_below}
+use Rattle.dep_model.proofs.SchemeLemmas.{members_below-member, members_below-outside}
+use Rattle.targets.specs.Sql.{separator, listed}
+use Rattle.table_scripts.specs.Checking.{null_test, null_tests}
+
+-- whether a list has an item
+abbrev pub has_item : {X : Type 0} → List X → Bool
+has_item [] = false
+has_item (x ∷ xs) = true
+
+has_pushed : {X : Type 0} (xs : List X) (x : X) → has_item (xs ++ x ∷ []) ≡ true
+has_pushed [] x = refl
+has_pushed (y ∷ xs) x = refl
+
+-- a text with one item more
+pub item_more : {X : Type 0} (f : X → List ℕ) (old text next piece : List ℕ) (xs more : List X) (x : X)
+    → text ≡ old ++ flat_map f xs → piece ≡ f x → next ≡ text ++ piece → more ≡ xs ++ x ∷ []
+    → next ≡ old ++ flat_map f more
+item_more {X} f old text next piece xs more x so_far is added pushed =
+    added ∙ ap (λ (t : List ℕ). t ++ piece) so_far ∙ ap (λ (p : List ℕ). old ++ flat_map f xs ++ p) is
+    ∙ flat_map_more f old xs x ∙ ap (λ (ys : List X). old ++ flat_map f ys) (sym pushed)
+
+-- ---- columns
+listed_push : {X : Type 0} (f : X → List ℕ) (xs : List X) (x : X)
+    → listed f (xs ++ x ∷ []) ≡ listed f xs ++ (if has_item xs then separator ++ f x else f x)
+listed_push f [] x = append-nil (f x)
+listed_push f (y ∷ xs) x = sym (flat_map_more (λ z. separator ++ f z) (f y) xs x)
+
+pub listed_more : (f : ℕ → List ℕ) (x : Places) (n : ℕ) (some : Bool) (text next piece : List ℕ) → x n ≡ true
+    → text ≡ listed f (members_below n x) → some ≡ has_item (members_below n x) → piece ≡ f n
+    → next ≡ text ++ (if some then separator ++ piece else piece)
+    → next ≡ listed f (members_below (n + 1) x)
+listed_more f x n some text next piece inside so_far is_some is added =
+    added ∙ ap (λ (t : List ℕ). t ++ (if some then separator ++ piece else piece)) so_far
+    ∙ ap (λ (p : List ℕ). listed f (members_below n x) ++ (if some then separator ++ p else p)) is
+    ∙ ap (λ (b : Bool). listed f (members_below n x) ++ (if b then separator ++ f n else f n)) is_some
+    ∙ sym (listed_push f (members_below n x) n)
+    ∙ ap (listed f) (sym (rw add-one (members_below-member n x inside)))
+
+pub some_more : (x : Places) (n : ℕ) → x n ≡ true → true ≡ has_item (members_below (n + 1) x)
+some_more x n inside =
+    sym (ap (λ (ks : List ℕ). has_item ks) (rw add-one (members_below-member n x inside)) ∙ has_pushed (members_below n x) n)
+
+pub members_passed : (x : Places) (n : ℕ) → x n ≡ false → members_below (n + 1) x ≡ members_below n x
+members_passed x n outside = rw add-one (members_below-outside n x outside)
+
+-- ---- missing values
+null_push : (xs : List (List ℕ)) (x : List ℕ)
+    → null_tests (xs ++ x ∷ []) ≡ null_tests xs ++ (if has_item xs then codes " OR " ++ null_test x else null_test x)
+null_push [] x = append-nil (null_test x)
+null_push (y ∷ xs) x = sym (flat_map_more (λ z. codes " OR " ++ null_test z) (null_test y) xs x)
+
+has_front : (names : List (List ℕ)) (n : ℕ) → n < length names → has_item (take n names) ≡ nat_lt 0 n
+has_front names zero lt = refl
+has_front [] (suc n) lt = absurd (omega (arith, lt))
+has_front (name ∷ names) (suc n) lt = let some : nat_lt 0 (suc n) ≡ true = grind (arith, nat_tests) in sym some
+
+pub null_more : (names : List (List ℕ)) (n : ℕ) (text next piece : List ℕ) → n < length names
+    → text ≡ null_tests (take n names) → piece ≡ null_test (get_or names n [])
+    → next ≡ text ++ (if nat_lt 0 n then codes " OR " ++ piece else piece)
+    → next ≡ null_tests (take (n + 1) names)
+null_more names n text next piece lt so_far is added =
+    added ∙ ap (λ (t : List ℕ). t ++ (if nat_lt 0 n then codes " OR " ++ piece else piece)) so_far
+    ∙ ap (λ (p : List ℕ). null_tests (take n names) ++ (if nat_lt 0 n then codes " OR " ++ p else p)) is
+    ∙ ap (λ (b : Bool). null_tests (take n names) ++ (if b then codes " OR " ++ null_test (get_or names n []) else null_test (get_or names n []))) (sym (has_front names n lt))
+    ∙ sym (null_push (take n names) (get_or names n []))
+    ∙ ap null_tests (sym (take_more names n [] lt))
+
+-- ---- pairs
+abbrev single : {K X : Type 0} → K → X → List (K × X)
+single k x = (k, x) ∷ []
+
+pub zip_more : {K X : Type 0} (ks : List K) (xs : List X) (i : ℕ) (k : K) (x : X) → i < length ks → i < length xs
+    → k ≡ get_or ks i k → x ≡ get_or xs i x → take (i + 1) (zip ks xs) ≡ take i (zip ks xs) ++ (k, x) ∷ []
+zip_more [] xs i k x a b is_k is_x = absurd (omega (arith, a))
+zip_more (k' ∷ ks) [] i k x a b is_k is_x = absurd (omega (arith, b))
+zip_more (k' ∷ ks) (x' ∷ xs) zero k x a b is_k is_x =
+    ap (λ (p : _). single p x') (sym is_k) ∙ ap (λ (y : _). single k y) (sym is_x)
+zip_more (k' ∷ ks) (x' ∷ xs) (suc i) k x a b is_k is_x =
+    let next : suc i + 1 ≡ suc (i + 1) = omega arith in
+    rw next (ap (λ (pairs : List _). (k', x') ∷ pairs) (zip_more ks xs i k x (omega (arith, a)) (omega (arith, b)) is_k is_x))
+
+pub zip_all : {K X : Type 0} (ks : List K) (xs : List X) (i : ℕ) → length xs ≤ i → take i (zip ks xs) ≡ zip ks xs
+zip_all [] xs i long = take_all i [] (omega arith)
+zip_all (k ∷ ks) [] i long = take_all i [] (omega arith)
+zip_all (k ∷ ks) (x ∷ xs) zero long = absurd (omega (arith, long))
+zip_all (k ∷ ks) (x ∷ xs) (suc i) long = ap (λ (pairs : List _). (k, x) ∷ pairs) (zip_all ks xs i (omega (arith, long)))
+
+-- ---- the rest of a list
+pub rest_slice : {X : Type 0} (xs : List X) (k : ℕ) → take (length xs - k) (drop k xs) ≡ drop k xs
+rest_slice xs k = take_all (length xs - k) (drop k xs) (omega (arith, length-drop k xs))

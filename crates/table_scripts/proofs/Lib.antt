@@ -1,0 +1,5 @@
+mod ItemLemmas
+mod JoiningLemmas
+mod NamingLemmas
+mod PieceLemmas
+mod ScriptLemmas

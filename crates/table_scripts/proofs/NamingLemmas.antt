@@ -1,0 +1,147 @@
+-- The parts of a name: the first one and the rest, and all of them in double quotes.
+use Rattle.std.proofs.Common.{◌≡◌, ◌<◌, ◌+◌, ◌≤◌, ◌≢◌, ℕ, zero, suc, Bool, true, false, cond, not, ◌&&◌, ◌==◌, List, [], ◌∷◌, ◌++◌, length, take, drop, refl, sym, ap, ◌∙◌, inl, inr, append_assoc, append-nil, arith}
+use Rattle.std.proofs.lemmas.Bool.{cases_Bool, true≢false}
+use Rattle.std.proofs.lemmas.Bool.Decides.{nat_tests}
+use Rattle.std.specs.Prelude.{◌-◌, if◌then◌else◌, codes, nat_le, slice_index_or}
+use Rattle.std.specs.List.{flat_map, list_all, position_or_len}
+use Rattle.targets.specs.Sql.{quoted_name}
+use Rattle.table_scripts.specs.Naming.{in_front, parts_of, is_part, is_taken, last_of, are_parts, dotted, parted, quoted_table}
+
+abbrev pub is_dot : ℕ → Bool
+is_dot b = b == 46
+
+-- ---- the first part and the rest
+pub no_dot : (bytes : List ℕ) → position_or_len is_dot bytes ≡ length bytes → parts_of bytes ≡ bytes ∷ []
+no_dot [] e = refl
+no_dot (b ∷ bytes) e = elim (cases_Bool (b == 46)) [
+  | inl dot ↦
+      let first : position_or_len is_dot (b ∷ bytes) ≡ 0 = ap (λ (d : Bool). cond (not d) (1 + position_or_len is_dot bytes) 0) dot in
+      absurd (omega (arith, e, first))
+  | inr other ↦
+      let later : position_or_len is_dot (b ∷ bytes) ≡ 1 + position_or_len is_dot bytes = ap (λ (d : Bool). cond (not d) (1 + position_or_len is_dot bytes) 0) other in
+      let rest = no_dot bytes (omega (arith, e, later)) in
+      ap (λ (d : Bool). if d then [] ∷ parts_of bytes else in_front b (parts_of bytes)) other
+      ∙ ap (in_front b) rest
+]
+
+pub at_dot : (bytes : List ℕ) (n : ℕ) → n ≡ position_or_len is_dot bytes → n < length bytes
+    → parts_of bytes ≡ take n bytes ∷ parts_of (drop (n + 1) bytes)
+at_dot [] n e lt = absurd (omega (arith, lt))
+at_dot (b ∷ bytes) n e lt = elim (cases_Bool (b == 46)) [
+  | inl dot ↦
+      let first : n ≡ 0 = e ∙ ap (λ (d : Bool). cond (not d) (1 + position_or_len is_dot bytes) 0) dot in
+      ap (λ (d : Bool). if d then [] ∷ parts_of bytes else in_front b (parts_of bytes)) dot
+      ∙ sym (ap (λ (m : ℕ). take m (b ∷ bytes) ∷ parts_of (drop (m + 1) (b ∷ bytes))) first)
+  | inr other ↦
+      let m = position_or_len is_dot bytes in
+      let later' : n ≡ 1 + m = e ∙ ap (λ (d : Bool). cond (not d) (1 + m) 0) other in
+      let later : n ≡ suc m = omega (arith, later') in
+      let short : m < length bytes = omega (arith, lt, later) in
+      let next : suc m + 1 ≡ suc (m + 1) = omega arith in
+      ap (λ (d : Bool). if d then [] ∷ parts_of bytes else in_front b (parts_of bytes)) other
+      ∙ ap (in_front b) (at_dot bytes m refl short)
+      ∙ sym (ap (λ (k : ℕ). take k (b ∷ bytes) ∷ parts_of (drop (k + 1) (b ∷ bytes))) later
+      ∙ ap (λ (k : ℕ). (b ∷ take m bytes) ∷ parts_of (drop k (b ∷ bytes))) next)
+]
+
+-- a name has a part
+pub first_part : (bytes : List ℕ) → (part : List ℕ) × (parts : List (List ℕ)) × (parts_of bytes ≡ part ∷ parts)
+first_part [] = ([], [], refl)
+first_part (b ∷ bytes) = elim (cases_Bool (b == 46)) [
+  | inl dot ↦ ([], parts_of bytes, ap (λ (d : Bool). if d then [] ∷ parts_of bytes else in_front b (parts_of bytes)) dot)
+  | inr other ↦
+      let rest = first_part bytes in
+      (b ∷ rest.0, rest.1, ap (λ (d : Bool). if d then [] ∷ parts_of bytes else in_front b (parts_of bytes)) other ∙ ap (in_front b) rest.2)
+]
+
+-- ---- the tests
+turned : (a b c d : Bool) → (a && (b && c) && d) ≡ (b && (a && c && d))
+turned true true c d = refl
+turned true false c d = refl
+turned false true c d = refl
+turned false false c d = refl
+
+pub one_part : (most : ℕ) (part : List ℕ) → are_parts (suc most) (part ∷ []) ≡ (is_part part && not (is_taken part))
+one_part most part = grind (arith, nat_tests)
+
+pub more_parts : (most : ℕ) (part other : List ℕ) (parts : List (List ℕ))
+    → are_parts (suc most) (part ∷ other ∷ parts) ≡ (is_part part && are_parts most (other ∷ parts))
+more_parts most part other parts =
+    let last : last_of (part ∷ other ∷ parts) ≡ last_of (other ∷ parts) = let e : suc (suc (length parts)) - 1 ≡ suc (suc (length parts) - 1) = omega arith in ap (λ (i : ℕ). slice_index_or (part ∷ other ∷ parts) i []) e in
+    let count : nat_le (suc (suc (length parts))) (suc most) ≡ nat_le (suc (length parts)) most = grind (arith, nat_tests) in
+    ap (λ (l : List ℕ). nat_le (suc (suc (length parts))) (suc most) && list_all is_part (part ∷ other ∷ parts) && not (is_taken l)) last
+    ∙ ap (λ (b : Bool). b && list_all is_part (part ∷ other ∷ parts) && not (is_taken (last_of (other ∷ parts)))) count
+    ∙ turned (nat_le (suc (length parts)) most) (is_part part) (list_all is_part (other ∷ parts)) (not (is_taken (last_of (other ∷ parts))))
+
+and_none : (b : Bool) → (b && false) ≡ false
+and_none true = refl
+and_none false = refl
+
+no_parts : (part : List ℕ) (parts : List (List ℕ)) → are_parts 0 (part ∷ parts) ≡ false
+no_parts part parts =
+    let none : nat_le (suc (length parts)) 0 ≡ false = grind (arith, nat_tests) in
+    ap (λ (b : Bool). b && list_all is_part (part ∷ parts) && not (is_taken (last_of (part ∷ parts)))) none
+
+pub end_parts : (most : ℕ) (bytes : List ℕ) → position_or_len is_dot bytes ≡ length bytes
+    → are_parts (suc most) (parts_of bytes) ≡ (is_part bytes && not (is_taken bytes))
+end_parts most bytes e = ap (are_parts (suc most)) (no_dot bytes e) ∙ one_part most bytes
+
+within_length : (bytes : List ℕ) → position_or_len is_dot bytes ≤ length bytes
+within_length [] = omega arith
+within_length (b ∷ bytes) = elim (cases_Bool (b == 46)) [
+  | inl dot ↦
+      let first : position_or_len is_dot (b ∷ bytes) ≡ 0 = ap (λ (d : Bool). cond (not d) (1 + position_or_len is_dot bytes) 0) dot in
+      omega (arith, first)
+  | inr other ↦
+      let later : position_or_len is_dot (b ∷ bytes) ≡ 1 + position_or_len is_dot bytes = ap (λ (d : Bool). cond (not d) (1 + position_or_len is_dot bytes) 0) other in
+      omega (arith, later, within_length bytes)
+]
+
+pub cut_parts : (most : ℕ) (bytes : List ℕ) (n : ℕ) → n ≡ position_or_len is_dot bytes → (n ≡ length bytes → ⊥)
+    → are_parts (suc most) (parts_of bytes) ≡ (is_part (take n bytes) && are_parts most (parts_of (drop (n + 1) bytes)))
+cut_parts most bytes n e apart =
+    let differ : n ≢ length bytes = apart in
+    let short : n < length bytes = omega (arith, e, differ, within_length bytes) in
+    let rest = first_part (drop (n + 1) bytes) in
+    ap (are_parts (suc most)) (at_dot bytes n e short)
+    ∙ ap (λ (parts : List (List ℕ)). are_parts (suc most) (take n bytes ∷ parts)) rest.2
+    ∙ more_parts most (take n bytes) rest.0 rest.1
+    ∙ ap (λ (parts : List (List ℕ)). is_part (take n bytes) && are_parts most parts) (sym rest.2)
+
+pub cut_none : (bytes : List ℕ) (n : ℕ) → n ≡ position_or_len is_dot bytes → (n ≡ length bytes → ⊥) → are_parts 1 (parts_of bytes) ≡ false
+cut_none bytes n e apart =
+    let rest = first_part (drop (n + 1) bytes) in
+    cut_parts 0 bytes n e apart
+    ∙ ap (λ (parts : List (List ℕ)). is_part (take n bytes) && are_parts 0 parts) rest.2
+    ∙ ap (λ (b : Bool). is_part (take n bytes) && b) (no_parts rest.0 rest.1)
+    ∙ and_none (is_part (take n bytes))
+
+-- ---- in double quotes
+more_dotted : (part : List ℕ) (parts : List (List ℕ)) → flat_map (λ other. 46 ∷ quoted_name other) (part ∷ parts) ≡ 46 ∷ dotted (part ∷ parts)
+more_dotted part parts = refl
+
+front_dotted : (b : ℕ) (part : List ℕ) (parts : List (List ℕ)) (rest : List ℕ) → dotted (part ∷ parts) ≡ 34 ∷ rest
+    → dotted ((b ∷ part) ∷ parts) ≡ 34 ∷ b ∷ rest
+front_dotted b part parts rest e = ap (λ (text : List ℕ). 34 ∷ b ∷ drop 1 text) e
+
+pub dotted_is : (bytes : List ℕ) → dotted (parts_of bytes) ≡ 34 ∷ (flat_map parted bytes ++ 34 ∷ [])
+dotted_is [] = refl
+dotted_is (b ∷ bytes) =
+    let some = first_part bytes in
+    let rest : dotted (some.0 ∷ some.1) ≡ 34 ∷ (flat_map parted bytes ++ 34 ∷ []) = ap dotted (sym some.2) ∙ dotted_is bytes in
+    elim (cases_Bool (b == 46)) [
+      | inl dot ↦
+          ap (λ (d : Bool). dotted (if d then [] ∷ parts_of bytes else in_front b (parts_of bytes))) dot
+          ∙ ap (λ (parts : List (List ℕ)). dotted ([] ∷ parts)) some.2
+          ∙ ap (λ (text : List ℕ). 34 ∷ 34 ∷ 46 ∷ text) rest
+          ∙ sym (ap (λ (d : Bool). 34 ∷ ((if d then codes "\".\"" else b ∷ []) ++ flat_map parted bytes ++ 34 ∷ [])) dot)
+      | inr other ↦
+          ap (λ (d : Bool). dotted (if d then [] ∷ parts_of bytes else in_front b (parts_of bytes))) other
+          ∙ ap (λ (parts : List (List ℕ)). dotted (in_front b parts)) some.2
+          ∙ front_dotted b some.0 some.1 (flat_map parted bytes ++ 34 ∷ []) rest
+          ∙ sym (ap (λ (d : Bool). 34 ∷ ((if d then codes "\".\"" else b ∷ []) ++ flat_map parted bytes ++ 34 ∷ [])) other)
+    ]
+
+pub quoted_is : (bytes : List ℕ) → quoted_table bytes ≡ 34 ∷ (flat_map parted bytes ++ 34 ∷ [])
+unfolding quoted_table
+quoted_is bytes = dotted_is bytes

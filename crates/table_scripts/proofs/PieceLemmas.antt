@@ -1,0 +1,76 @@
+-- Texts of queries, from those of their pieces.
+use Rattle.std.proofs.Common.{◌≡◌, ◌<◌, ℕ, Bool, true, false, ◌||◌, Option, Some, None, List, [], ◌++◌, sym, ap, ◌∙◌}
+use Rattle.std.specs.Prelude.{if◌then◌else◌, codes, slice_get}
+use Rattle.attr_sets.specs.declared.set.AttrSet.{AttrSet}
+use Rattle.attr_sets.specs.Places.{Places, below, union, minus, Same, IsEmpty}
+use Rattle.attr_sets.specs.Sets.{places, is_within}
+use Rattle.attr_sets.proofs.PlacesLemmas.{Same-path}
+use Rattle.dep_model.specs.declared.column.Column.{Column}
+use Rattle.dep_model.specs.declared.schema.Schema.{Schema}
+use Rattle.dep_model.specs.Columns.{column_at}
+use Rattle.dep_model.specs.Schemas.{names_of, width_of, columns_of}
+use Rattle.ddl_text.specs.Ddl.{name_list, is_empty}
+use Rattle.ddl_text.proofs.TextLemmas.{name_is, column_is, empty_passes, empty_fails}
+use Rattle.table_queries.specs.Queries.{Query, whole, values_on, several, join, except, breaches_of_fd, breaches_of_mvd}
+use Rattle.table_scripts.specs.QueryTexts.{column_text, column_item, select_text, derived_text, except_text, link_text, grouped_text, counted_text, values_text, several_text, query_text}
+use Rattle.table_scripts.specs.Checking.{breaches_text}
+
+-- ---- columns
+pub item_is : (s : Schema) (k : ℕ) (name : List ℕ) (column : Column) → k < width_of s
+    → slice_get (names_of s) k ≡ Some name → slice_get (columns_of s) k ≡ Some column → column_text column name ≡ column_item s k
+unfolding column_item
+item_is s k name column lt named typed =
+    ap (λ (c : Column). column_text c name) (column_is s k column lt typed)
+    ∙ ap (λ (n : List ℕ). column_text (column_at (places s.integers) k) n) (sym (name_is s k name named))
+
+-- ---- joins
+pub link_crosswise : (s : Schema) (shared : Places) (source : List ℕ) → IsEmpty shared → codes " CROSS JOIN " ++ source ≡ link_text s shared source
+unfolding link_text
+link_crosswise s shared source empty =
+    sym (ap (λ (b : Bool). if b then codes " CROSS JOIN " ++ source else codes " JOIN " ++ source ++ codes " USING (" ++ name_list s shared ++ codes ")") (empty_passes shared empty))
+
+pub link_using : (s : Schema) (shared : AttrSet) (source : List ℕ) → (IsEmpty (places shared) → ⊥)
+    → codes " JOIN " ++ source ++ codes " USING (" ++ name_list s (places shared) ++ codes ")" ≡ link_text s (places shared) source
+unfolding link_text
+link_using s shared source some =
+    sym (ap (λ (b : Bool). if b then codes " CROSS JOIN " ++ source else codes " JOIN " ++ source ++ codes " USING (" ++ name_list s (places shared) ++ codes ")") (empty_fails shared some))
+
+-- ---- several values
+pub several_counted : (s : Schema) (t : List ℕ) (x y : Places) → IsEmpty x → counted_text (values_text s t y) ≡ several_text s t x y
+several_counted s t x y empty =
+    sym (ap (λ (b : Bool). if b then counted_text (values_text s t y) else grouped_text (name_list s x) (values_text s t y)) (empty_passes x empty))
+
+pub several_grouped : (s : Schema) (t : List ℕ) (x : AttrSet) (y : Places) → (IsEmpty (places x) → ⊥)
+    → grouped_text (name_list s (places x)) (values_text s t y) ≡ several_text s t (places x) y
+several_grouped s t x y some =
+    sym (ap (λ (b : Bool). if b then counted_text (values_text s t y) else grouped_text (name_list s (places x)) (values_text s t y)) (empty_fails x some))
+
+-- ---- rules
+abbrev pub line_of : List ℕ → List ℕ
+line_of query = codes "\n" ++ query ++ codes ";\n"
+
+pub fd_text : (s : Schema) (t : List ℕ) (x y both : Places) → is_within y x ≡ false → Same both (union x y)
+    → line_of (several_text s t x both) ≡ breaches_text s t (breaches_of_fd x y)
+fd_text s t x y both beyond same =
+    ap (λ (z : Places). line_of (several_text s t x z)) (Same-path both (union x y) same)
+    ∙ sym (ap (λ (b : Bool). breaches_text s t (if b then None else Some (several x (union x y)))) beyond)
+
+abbrev pub beyond_of : Places → Places → Query
+beyond_of left right = except (join (values_on left) (values_on right)) whole
+
+pub mvd_text : (s : Schema) (t : List ℕ) (x y universe both outside rest : Places) → Same universe (below (width_of s)) → Same both (union x y)
+    → Same outside (minus universe both) → Same rest (union x outside) → is_within y x ≡ false → is_within universe both ≡ false
+    → line_of (query_text s t (beyond_of both rest)) ≡ breaches_text s t (breaches_of_mvd (width_of s) x y)
+mvd_text s t x y universe both outside rest is_universe is_both is_outside is_rest beyond some =
+    let n = width_of s in
+    let to_universe = Same-path universe (below n) is_universe in
+    let to_both = Same-path both (union x y) is_both in
+    let to_rest : rest ≡ union x (minus (below n) (union x y)) =
+    Same-path rest (union x outside) is_rest ∙ ap (λ (z : Places). union x z) (Same-path outside (minus universe both) is_outside
+    ∙ ap (λ (z : Places). minus z both) to_universe ∙ ap (λ (z : Places). minus (below n) z) to_both) in
+    let not_all : is_within (below n) (union x y) ≡ false =
+    ap (λ (z : Places). is_within (below n) z) (sym to_both) ∙ ap (λ (z : Places). is_within z both) (sym to_universe) ∙ some in
+    ap (λ (z : Places). line_of (query_text s t (beyond_of z rest))) to_both
+    ∙ ap (λ (z : Places). line_of (query_text s t (beyond_of (union x y) z))) to_rest
+    ∙ sym (ap (λ (b : Bool). breaches_text s t (if b || is_within (below n) (union x y) then None else Some (beyond_of (union x y) (union x (minus (below n) (union x y)))))) beyond
+    ∙ ap (λ (b : Bool). breaches_text s t (if b then None else Some (beyond_of (union x y) (union x (minus (below n) (union x y)))))) not_all)

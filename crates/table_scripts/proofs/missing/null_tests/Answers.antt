@@ -1,0 +1,15 @@
+use Rattle.std.proofs.Common.{◌<◌, ℕ, ◌∙◌, length, sym, ap, arith}
+use Rattle.dep_model.specs.Schemas.{names_of}
+use Rattle.ddl_text.proofs.TextLemmas.{name_is}
+use Rattle.table_scripts.specs.Checking.{null_test}
+use Rattle.table_scripts.proofs.ItemLemmas.{null_more}
+use Rattle.table_scripts.proofs.missing.null_tests.Goals as goal
+
+pub loop-place-preserved : goal.loop-place-preserved
+loop-place-preserved c =
+    let s = c.args.schema.now in
+    let n = c.loop-place.place in
+    let lt : n < length (names_of s) = omega (arith, c.loop-place-test.true, c.width-place-end.ensures.count) in
+    null_more (names_of s) n c.loop-place.text.items c.add_test.new.text.items c.deref.result.now lt c.loop-place.invariant
+    (c.deref.ensures.value ∙ c.in_ok-null_test.ensures.text ∙ ap null_test (sym (name_is s n c.name.result.now c.name.ensures.name)))
+    c.in_ok-add_test.ensures.added

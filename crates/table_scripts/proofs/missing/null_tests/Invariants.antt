@@ -1,0 +1,8 @@
+use Rattle.std.proofs.Common.{◌≡◌, take}
+use Rattle.dep_model.specs.Schemas.{names_of}
+use Rattle.table_scripts.specs.Checking.{null_tests}
+use Rattle.table_scripts.proofs.missing.null_tests.Given as goal
+
+-- the tests of the columns so far
+abbrev pub invariant-loop-place : goal.invariant-loop-place
+invariant-loop-place l = l.text.items ≡ null_tests (take l.place (names_of l.schema))

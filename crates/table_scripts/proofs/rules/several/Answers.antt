@@ -1,0 +1,27 @@
+use Rattle.std.proofs.Common.{List, ℕ, ◌≡◌, sym, subst, ap, ◌∙◌}
+use Rattle.std.proofs.lemmas.Bool.{true≢false}
+use Rattle.std.specs.Prelude.{IfOk}
+use Rattle.attr_sets.specs.Places.{IsEmpty}
+use Rattle.attr_sets.specs.Sets.{places}
+use Rattle.ddl_text.specs.Ddl.{name_list}
+use Rattle.table_scripts.specs.QueryTexts.{counted_text, grouped_text}
+use Rattle.table_scripts.proofs.PieceLemmas.{several_counted, several_grouped}
+use Rattle.table_scripts.proofs.rules.several.Goals as goal
+
+pub returns-then-is_empty : goal.returns-then-is_empty
+returns-then-is_empty c = record {
+  text = subst (λ (t : List ℕ). IfOk c.counted.result (λ text. text.items ≡ t))
+      (ap counted_text (c.deref.ensures.value ∙ c.in_ok-values.ensures.text)
+      ∙ several_counted c.args.schema.now c.args.table.now (places c.args.lhs) (places c.args.both) (c.is_empty.ensures.empty.0 c.if-is_empty.true))
+      c.counted.ensures.text;
+}
+
+pub returns : goal.returns
+returns c = record {
+  text = subst (λ (t : List ℕ). IfOk c.grouped.result (λ text. text.items ≡ t))
+      (ap (λ (names : List ℕ). grouped_text names c.deref-else-is_empty-2.result.now) (c.deref-else-is_empty.ensures.value ∙ c.in_ok-names.ensures.text)
+      ∙ ap (grouped_text (name_list c.args.schema.now (places c.args.lhs))) (c.deref-else-is_empty-2.ensures.value ∙ c.in_ok-values.ensures.text)
+      ∙ several_grouped c.args.schema.now c.args.table.now c.args.lhs (places c.args.both)
+      (λ (empty : IsEmpty (places c.args.lhs)). true≢false (sym (c.is_empty.ensures.empty.1 empty) ∙ c.if-is_empty.false)))
+      c.grouped.ensures.text;
+}

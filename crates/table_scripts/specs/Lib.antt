@@ -1,0 +1,4 @@
+pub mod Naming
+pub mod QueryTexts
+pub mod Checking
+pub mod Migrating

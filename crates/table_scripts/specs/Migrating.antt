@@ -1,0 +1,74 @@
+-- The script that makes the tables of a plan from the user's table.
+use Rattle.std.specs.Prelude.{◌≡◌, ◌↔◌, ℕ, List, [], ◌∷◌, ◌++◌, map, codes, All, Contains}
+use Rattle.std.specs.List.{flat_map}
+use Rattle.attr_sets.specs.Sets.{places}
+use Rattle.dep_model.specs.declared.schema.Schema.{Schema}
+use Rattle.dep_model.specs.Projections.{ordered_projection, IsLossless}
+use Rattle.dep_model.specs.Schemas.{width_of, theory_of, LegalFor}
+use Rattle.dep_model.specs.Tuples.{Tuple, Relation}
+use Rattle.ddl_text.specs.declared.table.TableDesign.{TableDesign}
+use Rattle.ddl_text.specs.Ddl.{ddl_text, name_list}
+use Rattle.table_queries.specs.Queries.{Query, StoredTable, rows_of, join_of, lacking, exceeding}
+use Rattle.table_queries.specs.Meanings.{IsGiven, GivesNone}
+use Rattle.table_scripts.specs.QueryTexts.{query_text}
+use Rattle.targets.specs.Sql.{quoted_name}
+
+-- a table of a design, by its name and its scheme
+abbrev pub stored_of : TableDesign → StoredTable
+stored_of table = record { name = table.name; scheme = places table.scheme }
+
+abbrev pub stored_tables : List TableDesign → List StoredTable
+stored_tables tables = map stored_of tables
+
+-- the name of the view
+abbrev pub view_name : List ℕ
+view_name = codes "joined"
+
+-- ---- texts
+-- a query as a statement, in a line
+unfoldable pub statement_text : List ℕ → List ℕ
+statement_text query = query ++ codes ";\n"
+
+-- the statement that fills a table
+unfoldable pub fill_text : Schema → List ℕ → TableDesign → List ℕ
+fill_text s table design =
+    codes "INSERT INTO " ++ quoted_name design.name ++ codes " (" ++ name_list s (places design.scheme)
+    ++ codes ") " ++ statement_text (query_text s table (rows_of (stored_of design)))
+
+-- the view on the join of the tables
+unfoldable pub view_text : Schema → List ℕ → List TableDesign → List ℕ
+view_text s table designs =
+    codes "CREATE VIEW " ++ quoted_name view_name ++ codes " AS "
+    ++ statement_text (query_text s table (join_of (stored_tables designs)))
+
+-- what tells whether the view is the table
+unfoldable pub differences_text : Schema → List ℕ → List TableDesign → List ℕ
+differences_text s table designs =
+    codes "-- rows of the table that the view lacks: none\n"
+    ++ statement_text (query_text s table (lacking view_name (stored_tables designs)))
+    ++ codes "-- rows of the view that the table lacks: none\n"
+    ++ statement_text (query_text s table (exceeding view_name (stored_tables designs)))
+
+abbrev pub migrate_text : Schema → List ℕ → List TableDesign → List ℕ
+migrate_text s table designs =
+    ddl_text s designs ++ flat_map (fill_text s table) designs ++ view_text s table designs
+    ++ differences_text s table designs
+
+-- ---- what the queries give
+-- what fills each table is its ordered projection
+abbrev pub FillsTables : Schema → List TableDesign → Type 0
+FillsTables s designs =
+    (r : Relation) → LegalFor s r → (design : TableDesign) → Contains designs design
+    → (u : Tuple) → IsGiven (width_of s) (rows_of (stored_of design)) r u
+    ↔ Contains (ordered_projection (places design.scheme) r) u
+
+-- where the plan loses nothing, the view on a legal relation is this relation, and neither lacks a row
+pub record ViewIs (s : Schema) (designs : List TableDesign) (r : Relation) : Type 0 where
+  pub rows : (t : Tuple) → IsGiven (width_of s) (join_of (stored_tables designs)) r t ↔ Contains r t
+  pub table_lacks : GivesNone (width_of s) (exceeding view_name (stored_tables designs)) r
+  pub view_lacks : GivesNone (width_of s) (lacking view_name (stored_tables designs)) r
+
+abbrev pub ViewIsTable : Schema → List TableDesign → Type 0
+ViewIsTable s designs =
+    IsLossless (width_of s) (theory_of s) (map (λ design. places design.scheme) designs)
+    → (r : Relation) → LegalFor s r → ViewIs s designs r

@@ -1,0 +1,57 @@
+-- The name of a user's table.
+use Rattle.std.specs.Prelude.{ℕ, Bool, ◌&&◌, ◌||◌, ◌==◌, ◌-◌, not, nat_lt, nat_le, if◌then◌else◌, List, [], ◌∷◌, ◌++◌, length, take, drop, codes, slice_index, slice_index_or}
+use Rattle.std.specs.Char.{is_ascii_alphabetic, is_ascii_digit}
+use Rattle.std.specs.List.{flat_map, list_all}
+use Rattle.dep_model.specs.Names.{is_name_byte, same_name}
+use Rattle.targets.specs.Sql.{quoted_name}
+use Rattle.table_scripts.specs.declared.naming.TheConstants.{MOST_PARTS, MOST_PART_BYTES}
+
+-- a byte in front of the first part
+abbrev pub in_front : ℕ → List (List ℕ) → List (List ℕ)
+in_front b [] = (b ∷ []) ∷ []
+in_front b (part ∷ parts) = (b ∷ part) ∷ parts
+
+-- the parts of a name, with a dot between two
+abbrev pub parts_of : List ℕ → List (List ℕ)
+parts_of [] = [] ∷ []
+parts_of (b ∷ bytes) = if b == 46 then [] ∷ parts_of bytes else in_front b (parts_of bytes)
+
+-- a letter or `_`, followed by letters, digits and `_`, at most `MOST_PART_BYTES` bytes
+abbrev pub is_part : List ℕ → Bool
+is_part bytes =
+    nat_lt 0 (length bytes)
+    && (is_ascii_alphabetic (slice_index bytes 0) || (slice_index bytes 0 == 95))
+    && list_all is_name_byte bytes && nat_le (length bytes) MOST_PART_BYTES
+
+-- `t` and a number, in any case
+abbrev pub is_numbered : List ℕ → Bool
+is_numbered bytes =
+    nat_lt 1 (length bytes) && same_name (take 1 bytes) (codes "t") && list_all is_ascii_digit (drop 1 bytes)
+
+-- a name that a script gives to a table or a view
+abbrev pub is_taken : List ℕ → Bool
+is_taken bytes = same_name bytes (codes "joined") || is_numbered bytes
+
+abbrev pub last_of : List (List ℕ) → List ℕ
+last_of parts = slice_index_or parts (length parts - 1) []
+
+-- at most so many parts, of which the last is no name that a script gives
+abbrev pub are_parts : ℕ → List (List ℕ) → Bool
+are_parts most parts = nat_le (length parts) most && list_all is_part parts && not (is_taken (last_of parts))
+
+-- from one to `MOST_PARTS` parts
+unfoldable pub is_table_name : List ℕ → Bool
+is_table_name bytes = are_parts MOST_PARTS (parts_of bytes)
+
+-- parts in double quotes, with a dot between two
+abbrev pub dotted : List (List ℕ) → List ℕ
+dotted [] = []
+dotted (part ∷ parts) = quoted_name part ++ flat_map (λ other. 46 ∷ quoted_name other) parts
+
+-- a byte of a name in double quotes: a dot ends one part and begins the next
+abbrev pub parted : ℕ → List ℕ
+parted b = if b == 46 then codes "\".\"" else b ∷ []
+
+-- a table, by its name
+unfoldable pub quoted_table : List ℕ → List ℕ
+quoted_table bytes = dotted (parts_of bytes)

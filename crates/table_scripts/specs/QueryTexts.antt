@@ -1,0 +1,114 @@
+-- Queries as SQL, over a table whose columns are the attributes of a schema.
+use Rattle.std.specs.Prelude.{ℕ, if◌then◌else◌, List, [], ◌++◌, codes, slice_index_or}
+use Rattle.attr_sets.specs.Places.{Places, meet}
+use Rattle.attr_sets.specs.Sets.{places}
+use Rattle.dep_model.specs.declared.column.Column.{Column}
+use Rattle.dep_model.specs.declared.column.Column.TheVariants.{Text, Integer}
+use Rattle.dep_model.specs.declared.schema.Schema.{Schema}
+use Rattle.dep_model.specs.Columns.{column_at}
+use Rattle.dep_model.specs.Projections.{members_below}
+use Rattle.dep_model.specs.Schemas.{names_of, width_of, universe_of}
+use Rattle.ddl_text.specs.Ddl.{is_empty, name_list}
+use Rattle.table_queries.specs.Queries.{Query, whole, values_on, several, join, except, kept, attributes_of}
+use Rattle.targets.specs.Sql.{quoted_name, listed}
+
+-- ---- columns
+-- a column of the table: an integer one is cast, and keeps its name
+unfoldable pub column_text : Column → List ℕ → List ℕ
+column_text Text name = quoted_name name
+column_text Integer name = codes "CAST(" ++ quoted_name name ++ codes " AS BIGINT) AS " ++ quoted_name name
+
+-- the column of an attribute
+unfoldable pub column_item : Schema → ℕ → List ℕ
+column_item s k = column_text (column_at (places s.integers) k) (slice_index_or (names_of s) k [])
+
+-- the columns of a set's attributes, ascending, with a comma and a blank between
+abbrev pub column_list : Schema → Places → List ℕ
+column_list s x = listed (column_item s) (members_below (width_of s) x)
+
+-- ---- pieces
+-- what is selected, and from what
+unfoldable pub select_text : List ℕ → List ℕ → List ℕ
+select_text columns source = codes "SELECT " ++ columns ++ codes " FROM " ++ source
+
+-- each of the values once
+unfoldable pub distinct_text : List ℕ → List ℕ → List ℕ
+distinct_text columns source = codes "SELECT DISTINCT " ++ columns ++ codes " FROM " ++ source
+
+-- a query as a source of rows, under an alias
+unfoldable pub derived_text : List ℕ → List ℕ → List ℕ
+derived_text query alias = codes "(" ++ query ++ codes ") AS " ++ alias
+
+unfoldable pub except_text : List ℕ → List ℕ → List ℕ
+except_text first second = first ++ codes " EXCEPT " ++ second
+
+-- what comes after a source where another is joined to it: by the attributes that both have, or each
+-- row with each where they have none
+unfoldable pub link_text : Schema → Places → List ℕ → List ℕ
+link_text s shared source =
+    if is_empty shared then codes " CROSS JOIN " ++ source
+    else codes " JOIN " ++ source ++ codes " USING (" ++ name_list s shared ++ codes ")"
+
+-- the values of columns that stand beside more than one row of a query
+unfoldable pub grouped_text : List ℕ → List ℕ → List ℕ
+grouped_text columns query =
+    codes "SELECT " ++ columns ++ codes " FROM (" ++ query ++ codes ") AS d GROUP BY " ++ columns
+    ++ codes " HAVING COUNT(*) > 1"
+
+-- how many rows a query gives, where they are more than one
+unfoldable pub counted_text : List ℕ → List ℕ
+counted_text query =
+    codes "SELECT n FROM (SELECT COUNT(*) AS n FROM (" ++ query ++ codes ") AS d) AS c WHERE n > 1"
+
+-- ---- queries
+-- the table's values on a set
+abbrev pub values_text : Schema → List ℕ → Places → List ℕ
+values_text s table x = distinct_text (column_list s x) table
+
+-- the values on a set that stand beside more than one on another
+abbrev pub several_text : Schema → List ℕ → Places → Places → List ℕ
+several_text s table x y =
+    if is_empty x then counted_text (values_text s table y)
+    else grouped_text (name_list s x) (values_text s table y)
+
+-- where a query stands: by itself, or on either side of a join
+pub data Stand : Type 0 where
+  alone : Stand
+  left : Stand
+  right : Stand
+
+-- a query that is taken from under an alias
+abbrev pub aliased : Stand → List ℕ → List ℕ
+aliased alone query = query
+aliased left query = derived_text query (codes "l")
+aliased right query = derived_text query (codes "r")
+
+-- a source that has a name
+abbrev pub named : Stand → List ℕ → List ℕ → List ℕ
+named alone columns source = select_text columns source
+named left columns source = source
+named right columns source = source
+
+-- sources side by side, to which more can be joined
+abbrev pub linked : Stand → List ℕ → List ℕ → List ℕ
+linked alone columns sources = select_text columns sources
+linked left columns sources = sources
+linked right columns sources = derived_text (select_text columns sources) (codes "r")
+
+abbrev pub text_at : Schema → List ℕ → Stand → Query → List ℕ
+text_at s table stand whole = aliased stand (select_text (column_list s (universe_of s)) table)
+text_at s table stand (values_on x) = aliased stand (values_text s table x)
+text_at s table stand (several x y) = aliased stand (several_text s table x y)
+text_at s table stand (join p q) =
+    linked stand (name_list s (attributes_of (width_of s) (join p q)))
+    (text_at s table left p
+    ++ link_text s (meet (attributes_of (width_of s) p) (attributes_of (width_of s) q))
+    (text_at s table right q))
+text_at s table stand (except p q) =
+    aliased stand (except_text (text_at s table alone p) (text_at s table alone q))
+text_at s table stand (kept name q) =
+    named stand (name_list s (attributes_of (width_of s) q)) (quoted_name name)
+
+-- a query, over a table of this name
+abbrev pub query_text : Schema → List ℕ → Query → List ℕ
+query_text s table q = text_at s table alone q

@@ -1,0 +1,53 @@
+ghost use Rattle.std.specs.Prelude.{◌≡◌, ◌↔◌, ◌++◌, IsTrue, IfOk, OnOk};
+ghost use Rattle.dep_model.specs.Schemas.{width_of, LegalFor};
+ghost use Rattle.dep_model.specs.Tuples.{Relation, IsOver};
+ghost use Rattle.table_scripts.specs.Naming.{is_table_name, quoted_table};
+ghost use Rattle.table_scripts.specs.Checking.{check_text, rules_text, NothingBreaks};
+
+use crate::missing::missing;
+use crate::naming::quote_table;
+use crate::rules::rule;
+use dep_model::{Schema, WantMemory};
+use schema_reader::add;
+use std::alloc::Global;
+
+/// A script that asks a table for the rows in which a value is missing, and for what breaks each rule of a
+/// schema. Over a relation its queries for the rules give nothing exactly where the relation is legal.
+pub fn check_script(alloc: Global, schema: &Schema, table: &[u8]) -> Result<Vec<u8>, WantMemory>
+    requires name { IsTrue (is_table_name table.now) }
+    ensures text { IfOk result (λ text. text.items ≡ check_text schema.now (quoted_table table.now)) }
+    ensures tells { (r : Relation) → IsOver (width_of schema.now) r
+        → LegalFor schema.now r ↔ NothingBreaks schema.now r }
+{
+    checking(alloc, schema, table)
+}
+
+// The text of the script.
+fn checking(alloc: Global, schema: &Schema, table: &[u8]) -> Result<Vec<u8>, WantMemory>
+    ensures text { IfOk result (λ text. text.items ≡ check_text schema.now (quoted_table table.now)) }
+{
+    let table = quote_table(alloc, table)?;
+    let mut text = Vec::new(alloc);
+    add(
+        &mut text,
+        b"-- where all rules hold, no query gives a row\n-- no value is missing\n",
+    )?;
+    add(&mut text, &missing(alloc, schema, &table)?)?;
+    add_rules(alloc, &mut text, schema, &table)?;
+    Ok(text)
+}
+
+// Adds each rule, in the order of the file.
+fn add_rules(
+    alloc: Global,
+    text: &mut Vec<u8>,
+    schema: &Schema,
+    table: &[u8],
+) -> Result<(), WantMemory>
+    ensures added { OnOk result (text.new.items ≡ text.old.items ++ rules_text schema.now table.now) }
+{
+    for (k, dep) in schema.deps().iter().enumerate() {
+        add(text, &rule(alloc, schema, table, schema.line_of(k), *dep)?)?;
+    }
+    Ok(())
+}

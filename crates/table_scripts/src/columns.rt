@@ -1,0 +1,95 @@
+ghost use Rattle.std.specs.Prelude.{◌≡◌, ◌<◌, ◌++◌, if◌then◌else◌, IfOk, OnOk};
+ghost use Rattle.attr_sets.specs.Sets.{places};
+ghost use Rattle.dep_model.specs.Schemas.{width_of, universe_of};
+ghost use Rattle.ddl_text.specs.Ddl.{name_list};
+ghost use Rattle.targets.specs.Sql.{separator, quoted_name};
+ghost use Rattle.table_scripts.specs.QueryTexts.{column_text, column_item, column_list};
+
+use attr_sets::AttrSet;
+use ddl_text::{add_name_list, add_quoted};
+use dep_model::{Column, Name, Schema, WantMemory};
+use schema_reader::add;
+use std::alloc::Global;
+
+// The quoted names of a set's attributes.
+pub fn names(alloc: Global, schema: &Schema, set: AttrSet) -> Result<Vec<u8>, WantMemory>
+    ensures text { IfOk result (λ text. text.items ≡ name_list schema.now (places set)) }
+{
+    let mut text = Vec::new(alloc);
+    add_name_list(&mut text, schema, set)?;
+    Ok(text)
+}
+
+// The quoted names of all attributes.
+pub fn all_names(alloc: Global, schema: &Schema) -> Result<Vec<u8>, WantMemory>
+    ensures text { IfOk result (λ text. text.items ≡ name_list schema.now (universe_of schema.now)) }
+{
+    names(alloc, schema, AttrSet::full(schema.width()))
+}
+
+// The columns of a set's attributes, with a comma and a blank between.
+pub fn columns(alloc: Global, schema: &Schema, set: AttrSet) -> Result<Vec<u8>, WantMemory>
+    ensures text { IfOk result (λ text. text.items ≡ column_list schema.now (places set)) }
+{
+    let mut text = Vec::new(alloc);
+    let mut some = false;
+    for place in 0..schema.width() {
+        if set.has(place) {
+            add_listed(&mut text, some, &item(alloc, schema, place)?)?;
+            some = true;
+        }
+    }
+    Ok(text)
+}
+
+// Adds an item; after a comma and a blank where another one stands before it.
+fn add_listed(text: &mut Vec<u8>, some: bool, item: &[u8]) -> Result<(), WantMemory>
+    ensures added { OnOk result (text.new.items
+        ≡ text.old.items ++ (if some then separator ++ item.now else item.now)) }
+{
+    if some {
+        add(text, b", ")?;
+    }
+    add(text, item)
+}
+
+// The column of an attribute.
+fn item(alloc: Global, schema: &Schema, place: u8) -> Result<Vec<u8>, WantMemory>
+    requires place { place < width_of schema.now }
+    ensures text { IfOk result (λ text. text.items ≡ column_item schema.now place) }
+{
+    column(alloc, schema.column(place), schema.name(place))
+}
+
+// A column of a type.
+#[tactic(auto, unfolding(crate::specs::QueryTexts::column_text))]
+fn column(alloc: Global, column: Column, name: &Name) -> Result<Vec<u8>, WantMemory>
+    ensures text { IfOk result (λ text. text.items ≡ column_text column name.now) }
+{
+    match column {
+        Column::Text => quoted(alloc, name),
+        Column::Integer => cast(alloc, name),
+    }
+}
+
+// A name in double quotes.
+pub fn quoted(alloc: Global, name: &Name) -> Result<Vec<u8>, WantMemory>
+    ensures text { IfOk result (λ text. text.items ≡ quoted_name name.now) }
+{
+    let mut text = Vec::new(alloc);
+    add_quoted(&mut text, name)?;
+    Ok(text)
+}
+
+// A column that is cast, and keeps its name.
+#[tactic(auto, unfolding(crate::specs::QueryTexts::column_text))]
+fn cast(alloc: Global, name: &Name) -> Result<Vec<u8>, WantMemory>
+    ensures text { IfOk result (λ text. text.items ≡ column_text Column.Integer name.now) }
+{
+    let mut text = Vec::new(alloc);
+    add(&mut text, b"CAST(")?;
+    add_quoted(&mut text, name)?;
+    add(&mut text, b" AS BIGINT) AS ")?;
+    add_quoted(&mut text, name)?;
+    Ok(text)
+}

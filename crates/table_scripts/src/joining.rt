@@ -1,0 +1,69 @@
+ghost use Rattle.std.specs.Prelude.{◌≡◌, ℕ, IfOk};
+ghost use Rattle.attr_sets.specs.Places.{Same};
+ghost use Rattle.attr_sets.specs.Sets.{places};
+ghost use Rattle.dep_model.specs.Schemas.{width_of};
+ghost use Rattle.table_queries.specs.Queries.{attributes_of, join_of, joined_with, stored};
+ghost use Rattle.table_scripts.specs.QueryTexts.{left, text_at, query_text};
+ghost use Rattle.table_scripts.specs.Migrating.{stored_of, stored_tables};
+
+use crate::columns::{names, quoted};
+use crate::pieces::{link, select};
+use crate::rules::values;
+use attr_sets::AttrSet;
+use ddl_text::TableDesign;
+use dep_model::{Schema, WantMemory};
+use schema_reader::add;
+use std::alloc::Global;
+
+// The natural join of the tables of a design.
+pub fn joined(
+    alloc: Global,
+    schema: &Schema,
+    table: &[u8],
+    designs: &[TableDesign],
+) -> Result<Vec<u8>, WantMemory>
+    ensures text { IfOk result (λ text. text.items
+        ≡ query_text schema.now table.now (join_of (stored_tables designs.now))) }
+{
+    if designs.is_empty() {
+        return values(alloc, schema, table, AttrSet::empty());
+    }
+    let columns = names(alloc, schema, attributes(designs))?;
+    let sources = side_by_side(alloc, schema, table, &designs[0], &designs[1..])?;
+    select(alloc, &columns, &sources)
+}
+
+// The attributes of the tables of a design together.
+pub fn attributes(designs: &[TableDesign]) -> AttrSet
+    ensures attributes { (n : ℕ) → Same (places result) (attributes_of n (join_of (stored_tables designs.now))) }
+{
+    let mut set = AttrSet::empty();
+    for design in designs {
+        set = set.union(design.scheme);
+    }
+    set
+}
+
+// Tables side by side, each joined to those before it.
+fn side_by_side(
+    alloc: Global,
+    schema: &Schema,
+    table: &[u8],
+    first: &TableDesign,
+    more: &[TableDesign],
+) -> Result<Vec<u8>, WantMemory>
+    ensures text { IfOk result (λ text. text.items
+        ≡ text_at schema.now table.now left (joined_with (stored (stored_of first.now)) (stored_tables more.now))) }
+{
+    let mut text = quoted(alloc, &first.name)?;
+    let mut seen = first.scheme;
+    for design in more {
+        let source = quoted(alloc, &design.name)?;
+        add(
+            &mut text,
+            &link(alloc, schema, seen.meet(design.scheme), &source)?,
+        )?;
+        seen = seen.union(design.scheme);
+    }
+    Ok(text)
+}

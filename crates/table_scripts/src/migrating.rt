@@ -1,0 +1,162 @@
+ghost use Rattle.std.specs.Prelude.{◌≡◌, ◌++◌, IsTrue, IfOk, OnOk};
+ghost use Rattle.std.specs.List.{flat_map};
+ghost use Rattle.table_queries.specs.Queries.{lacking, exceeding, kept, join_of};
+ghost use Rattle.table_scripts.specs.Naming.{is_table_name, quoted_table};
+ghost use Rattle.table_scripts.specs.QueryTexts.{query_text};
+ghost use Rattle.table_scripts.specs.Migrating.{migrate_text, statement_text, fill_text, view_text, view_name, differences_text, stored_tables, FillsTables, ViewIsTable};
+
+use crate::columns::names;
+use crate::joining::{attributes, joined};
+use crate::naming::quote_table;
+use crate::pieces::{except, select};
+use crate::rules::{values, whole};
+use ddl_text::{DesignList, TableDesign, add_quoted, print_ddl};
+use dep_model::{Schema, WantMemory};
+use schema_reader::add;
+use std::alloc::Global;
+
+/// A script that makes the tables of a design and fills them from a table, makes a view on their join, and
+/// compares the two. Over a legal relation each table holds its ordered projection, and where the plan loses
+/// nothing the view is the relation.
+pub fn migrate_script(
+    alloc: Global,
+    schema: &Schema,
+    design: &DesignList,
+    table: &[u8],
+) -> Result<Vec<u8>, WantMemory>
+    requires name { IsTrue (is_table_name table.now) }
+    ensures text { IfOk result
+        (λ text. text.items ≡ migrate_text schema.now (quoted_table table.now) design.now) }
+    ensures fills { FillsTables schema.now design.now }
+    ensures view { ViewIsTable schema.now design.now }
+{
+    migrating(alloc, schema, design, table)
+}
+
+// The text of the script.
+fn migrating(
+    alloc: Global,
+    schema: &Schema,
+    design: &DesignList,
+    table: &[u8],
+) -> Result<Vec<u8>, WantMemory>
+    ensures text { IfOk result
+        (λ text. text.items ≡ migrate_text schema.now (quoted_table table.now) design.now) }
+{
+    let table = quote_table(alloc, table)?;
+    let mut text = print_ddl(alloc, schema, design)?;
+    add_fills(alloc, &mut text, schema, &table, design.tables())?;
+    add(&mut text, &view(alloc, schema, &table, design.tables())?)?;
+    add(
+        &mut text,
+        &differences(alloc, schema, &table, design.tables())?,
+    )?;
+    Ok(text)
+}
+
+// Adds the statements that fill these tables.
+fn add_fills(
+    alloc: Global,
+    text: &mut Vec<u8>,
+    schema: &Schema,
+    table: &[u8],
+    designs: &[TableDesign],
+) -> Result<(), WantMemory>
+    ensures added { OnOk result (text.new.items
+        ≡ text.old.items ++ flat_map (fill_text schema.now table.now) designs.now) }
+{
+    for design in designs {
+        add(text, &fill(alloc, schema, table, design)?)?;
+    }
+    Ok(())
+}
+
+// The statement that fills a table.
+#[tactic(auto, unfolding(crate::specs::Migrating::fill_text))]
+fn fill(
+    alloc: Global,
+    schema: &Schema,
+    table: &[u8],
+    design: &TableDesign,
+) -> Result<Vec<u8>, WantMemory>
+    ensures text { IfOk result (λ text. text.items ≡ fill_text schema.now table.now design.now) }
+{
+    let mut text = Vec::new(alloc);
+    add(&mut text, b"INSERT INTO ")?;
+    add_quoted(&mut text, &design.name)?;
+    add(&mut text, b" (")?;
+    add(&mut text, &names(alloc, schema, design.scheme)?)?;
+    add(&mut text, b") ")?;
+    add_statement(&mut text, &values(alloc, schema, table, design.scheme)?)?;
+    Ok(text)
+}
+
+// Adds a query as a statement.
+#[tactic(auto, unfolding(crate::specs::Migrating::statement_text))]
+fn add_statement(text: &mut Vec<u8>, query: &[u8]) -> Result<(), WantMemory>
+    ensures added { OnOk result (text.new.items ≡ text.old.items ++ statement_text query.now) }
+{
+    add(text, query)?;
+    add(text, b";\n")
+}
+
+// The view on the join of the tables.
+#[tactic(auto, unfolding(crate::specs::Migrating::view_text))]
+fn view(
+    alloc: Global,
+    schema: &Schema,
+    table: &[u8],
+    designs: &[TableDesign],
+) -> Result<Vec<u8>, WantMemory>
+    ensures text { IfOk result (λ text. text.items ≡ view_text schema.now table.now designs.now) }
+{
+    let mut text = Vec::new(alloc);
+    add(&mut text, b"CREATE VIEW ")?;
+    add(&mut text, b"\"joined\"")?;
+    add(&mut text, b" AS ")?;
+    add_statement(&mut text, &joined(alloc, schema, table, designs)?)?;
+    Ok(text)
+}
+
+// What tells whether the view is the table.
+#[tactic(auto, unfolding(crate::specs::Migrating::differences_text))]
+fn differences(
+    alloc: Global,
+    schema: &Schema,
+    table: &[u8],
+    designs: &[TableDesign],
+) -> Result<Vec<u8>, WantMemory>
+    ensures text { IfOk result (λ text. text.items ≡ differences_text schema.now table.now designs.now) }
+{
+    let whole = whole(alloc, schema, table)?;
+    let view = of_view(alloc, schema, table, designs)?;
+    let mut text = Vec::new(alloc);
+    add(
+        &mut text,
+        b"-- rows of the table that the view lacks: none\n",
+    )?;
+    add_statement(&mut text, &except(alloc, &whole, &view)?)?;
+    add(
+        &mut text,
+        b"-- rows of the view that the table lacks: none\n",
+    )?;
+    add_statement(&mut text, &except(alloc, &view, &whole)?)?;
+    Ok(text)
+}
+
+// The rows of the view.
+fn of_view(
+    alloc: Global,
+    schema: &Schema,
+    table: &[u8],
+    designs: &[TableDesign],
+) -> Result<Vec<u8>, WantMemory>
+    ensures text { IfOk result (λ text. text.items
+        ≡ query_text schema.now table.now (kept view_name (join_of (stored_tables designs.now)))) }
+{
+    select(
+        alloc,
+        &names(alloc, schema, attributes(designs))?,
+        b"\"joined\"",
+    )
+}

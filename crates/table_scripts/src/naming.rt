@@ -1,0 +1,129 @@
+ghost use Rattle.std.specs.Prelude.{◌≡◌, ◌==◌, ◌++◌, ◌&&◌, ◌||◌, not, IfOk, OnOk};
+ghost use Rattle.std.specs.List.{list_all, position_or_len};
+ghost use Rattle.std.specs.Char.{is_ascii_alphabetic, is_ascii_digit};
+ghost use Rattle.dep_model.specs.Names.{is_name_byte};
+ghost use Rattle.table_scripts.specs.Naming.{parts_of, is_part, is_numbered, is_taken, are_parts, is_table_name, quoted_table, parted};
+
+use dep_model::WantMemory;
+use schema_reader::add;
+use std::alloc::Global;
+
+/// The most parts of the name of a table.
+pub const MOST_PARTS: usize = 3;
+
+/// The most bytes of a part.
+pub const MOST_PART_BYTES: usize = 63;
+
+/// Whether the bytes name a table: from one to `MOST_PARTS` parts with a dot between two, each a letter or `_`
+/// and then letters, digits and `_`. The last part is no name that a script gives: neither `joined` nor `t`
+/// and digits. So a name brings nothing into a script but itself.
+#[tactic(auto, unfolding(crate::specs::Naming::is_table_name))]
+pub fn is_table_name(bytes: &[u8]) -> bool
+    ensures name { result ≡ is_table_name bytes.now }
+{
+    let end = part_end(bytes);
+    if end == bytes.len() {
+        return is_last_part(bytes);
+    }
+    is_part(&bytes[..end]) && are_two_parts(&bytes[end + 1..])
+}
+
+// Whether the bytes are at most two parts.
+fn are_two_parts(bytes: &[u8]) -> bool
+    ensures parts { result ≡ are_parts 2 (parts_of bytes.now) }
+{
+    let end = part_end(bytes);
+    if end == bytes.len() {
+        return is_last_part(bytes);
+    }
+    is_part(&bytes[..end]) && is_one_part(&bytes[end + 1..])
+}
+
+// Whether the bytes are one part.
+fn is_one_part(bytes: &[u8]) -> bool
+    ensures parts { result ≡ are_parts 1 (parts_of bytes.now) }
+{
+    part_end(bytes) == bytes.len() && is_last_part(bytes)
+}
+
+// Where the first part ends: before a dot, or with the bytes.
+fn part_end(bytes: &[u8]) -> usize
+    ensures end { result ≡ position_or_len (λ b. b == 46) bytes.now }
+{
+    bytes.iter().take_while(|b| **b != b'.').count()
+}
+
+// Whether bytes without a dot can be the last part.
+fn is_last_part(bytes: &[u8]) -> bool
+    ensures part { result ≡ (is_part bytes.now && not (is_taken bytes.now)) }
+{
+    is_part(bytes) && !is_taken(bytes)
+}
+
+// Whether the bytes are a part.
+fn is_part(bytes: &[u8]) -> bool
+    ensures part { result ≡ is_part bytes.now }
+{
+    !bytes.is_empty()
+        && begins_part(bytes[0])
+        && are_name_bytes(bytes)
+        && bytes.len() <= MOST_PART_BYTES
+}
+
+fn begins_part(byte: u8) -> bool
+    ensures begins { result ≡ (is_ascii_alphabetic byte || (byte == 95)) }
+{
+    byte.is_ascii_alphabetic() || byte == b'_'
+}
+
+fn are_name_bytes(bytes: &[u8]) -> bool
+    ensures all { result ≡ list_all is_name_byte bytes.now }
+{
+    bytes
+        .iter()
+        .all(|b| b.is_ascii_alphanumeric() || *b == b'_')
+}
+
+// Whether a script gives this name itself.
+fn is_taken(bytes: &[u8]) -> bool
+    ensures taken { result ≡ is_taken bytes.now }
+{
+    bytes.eq_ignore_ascii_case(b"joined") || is_numbered(bytes)
+}
+
+// Whether the bytes are `t` and a number.
+fn is_numbered(bytes: &[u8]) -> bool
+    ensures numbered { result ≡ is_numbered bytes.now }
+{
+    bytes.len() > 1 && bytes[..1].eq_ignore_ascii_case(b"t") && are_digits(&bytes[1..])
+}
+
+fn are_digits(bytes: &[u8]) -> bool
+    ensures all { result ≡ list_all is_ascii_digit bytes.now }
+{
+    bytes.iter().all(|b| b.is_ascii_digit())
+}
+
+// The parts of a name in double quotes.
+pub fn quote_table(alloc: Global, bytes: &[u8]) -> Result<Vec<u8>, WantMemory>
+    ensures text { IfOk result (λ text. text.items ≡ quoted_table bytes.now) }
+{
+    let mut text = Vec::new(alloc);
+    add(&mut text, b"\"")?;
+    for byte in bytes {
+        add_unquoted_dot(&mut text, *byte)?;
+    }
+    add(&mut text, b"\"")?;
+    Ok(text)
+}
+
+// Adds a byte between double quotes; a dot is put outside of them.
+fn add_unquoted_dot(text: &mut Vec<u8>, byte: u8) -> Result<(), WantMemory>
+    ensures added { OnOk result (text.new.items ≡ text.old.items ++ parted byte) }
+{
+    if byte == b'.' {
+        add(text, b"\".\"")
+    } else {
+        add(text, &[byte])
+    }
+}

@@ -1,0 +1,128 @@
+ghost use Rattle.std.specs.Prelude.{◌≡◌, ◌++◌, codes, IfOk};
+ghost use Rattle.attr_sets.specs.Sets.{places};
+ghost use Rattle.table_scripts.specs.QueryTexts.{select_text, distinct_text, derived_text, except_text, link_text, grouped_text, counted_text};
+
+use crate::columns::names;
+use attr_sets::AttrSet;
+use dep_model::{Schema, WantMemory};
+use schema_reader::add;
+use std::alloc::Global;
+
+// What is selected, and from what.
+#[tactic(auto, unfolding(crate::specs::QueryTexts::select_text))]
+pub fn select(alloc: Global, columns: &[u8], source: &[u8]) -> Result<Vec<u8>, WantMemory>
+    ensures text { IfOk result (λ text. text.items ≡ select_text columns.now source.now) }
+{
+    let mut text = Vec::new(alloc);
+    add(&mut text, b"SELECT ")?;
+    add(&mut text, columns)?;
+    add(&mut text, b" FROM ")?;
+    add(&mut text, source)?;
+    Ok(text)
+}
+
+// Each of the values once.
+#[tactic(auto, unfolding(crate::specs::QueryTexts::distinct_text))]
+pub fn distinct(alloc: Global, columns: &[u8], source: &[u8]) -> Result<Vec<u8>, WantMemory>
+    ensures text { IfOk result (λ text. text.items ≡ distinct_text columns.now source.now) }
+{
+    let mut text = Vec::new(alloc);
+    add(&mut text, b"SELECT DISTINCT ")?;
+    add(&mut text, columns)?;
+    add(&mut text, b" FROM ")?;
+    add(&mut text, source)?;
+    Ok(text)
+}
+
+// A query as a source of rows, under an alias.
+#[tactic(auto, unfolding(crate::specs::QueryTexts::derived_text))]
+pub fn derived(alloc: Global, query: &[u8], alias: &[u8]) -> Result<Vec<u8>, WantMemory>
+    ensures text { IfOk result (λ text. text.items ≡ derived_text query.now alias.now) }
+{
+    let mut text = Vec::new(alloc);
+    add(&mut text, b"(")?;
+    add(&mut text, query)?;
+    add(&mut text, b") AS ")?;
+    add(&mut text, alias)?;
+    Ok(text)
+}
+
+// What the first query gives and the second does not.
+#[tactic(auto, unfolding(crate::specs::QueryTexts::except_text))]
+pub fn except(alloc: Global, first: &[u8], second: &[u8]) -> Result<Vec<u8>, WantMemory>
+    ensures text { IfOk result (λ text. text.items ≡ except_text first.now second.now) }
+{
+    let mut text = Vec::new(alloc);
+    add(&mut text, first)?;
+    add(&mut text, b" EXCEPT ")?;
+    add(&mut text, second)?;
+    Ok(text)
+}
+
+// What comes after a source where another is joined to it.
+pub fn link(
+    alloc: Global,
+    schema: &Schema,
+    shared: AttrSet,
+    source: &[u8],
+) -> Result<Vec<u8>, WantMemory>
+    ensures text { IfOk result (λ text. text.items ≡ link_text schema.now (places shared) source.now) }
+{
+    if shared.is_empty() {
+        crosswise(alloc, source)
+    } else {
+        using(alloc, source, &names(alloc, schema, shared)?)
+    }
+}
+
+// Each row with each of another source.
+fn crosswise(alloc: Global, source: &[u8]) -> Result<Vec<u8>, WantMemory>
+    ensures text { IfOk result (λ text. text.items ≡ codes " CROSS JOIN " ++ source.now) }
+{
+    let mut text = Vec::new(alloc);
+    add(&mut text, b" CROSS JOIN ")?;
+    add(&mut text, source)?;
+    Ok(text)
+}
+
+// Joined by these columns.
+fn using(alloc: Global, source: &[u8], columns: &[u8]) -> Result<Vec<u8>, WantMemory>
+    ensures text { IfOk result
+        (λ text. text.items ≡ codes " JOIN " ++ source.now ++ codes " USING (" ++ columns.now ++ codes ")") }
+{
+    let mut text = Vec::new(alloc);
+    add(&mut text, b" JOIN ")?;
+    add(&mut text, source)?;
+    add(&mut text, b" USING (")?;
+    add(&mut text, columns)?;
+    add(&mut text, b")")?;
+    Ok(text)
+}
+
+// The values of columns that stand beside more than one row of a query.
+#[tactic(auto, unfolding(crate::specs::QueryTexts::grouped_text))]
+pub fn grouped(alloc: Global, columns: &[u8], query: &[u8]) -> Result<Vec<u8>, WantMemory>
+    ensures text { IfOk result (λ text. text.items ≡ grouped_text columns.now query.now) }
+{
+    let mut text = Vec::new(alloc);
+    add(&mut text, b"SELECT ")?;
+    add(&mut text, columns)?;
+    add(&mut text, b" FROM (")?;
+    add(&mut text, query)?;
+    add(&mut text, b") AS d GROUP BY ")?;
+    add(&mut text, columns)?;
+    add(&mut text, b" HAVING COUNT(*) > 1")?;
+    Ok(text)
+}
+
+// How many rows a query gives, where they are more than one.
+#[tactic(auto, unfolding(crate::specs::QueryTexts::counted_text))]
+pub fn counted(alloc: Global, query: &[u8]) -> Result<Vec<u8>, WantMemory>
+    ensures text { IfOk result (λ text. text.items ≡ counted_text query.now) }
+{
+    let mut text = Vec::new(alloc);
+    add(&mut text, b"SELECT n FROM (SELECT COUNT(*) AS n FROM (")?;
+    add(&mut text, query)?;
+    add(&mut text, b") AS d) AS c WHERE n > 1")?;
+    Ok(text)
+}

@@ -1,0 +1,113 @@
+use crate::{check_script, is_table_name, migrate_script};
+use ddl_text::{DesignList, MOST_TABLES, design};
+use decomp_text::{MOST_PLAN_BYTES, read_plan};
+use dep_model::Schema;
+use schema_reader::{MOST_TEXT_BYTES, read_schema};
+use std::alloc::Global;
+use std::process::Abort;
+use std::test::Fail;
+
+fn schema(rt: &(impl Alloc<A = Global> + Abort), text: &[u8]) -> Schema {
+    assert!(rt; text.len() <= MOST_TEXT_BYTES);
+    match read_schema(rt.alloc(), text) {
+        Ok(schema) => schema,
+        Err(refusal) => panic!(rt; "{text:?} is refused: {refusal:?}"),
+    }
+}
+
+fn designed(rt: &(impl Alloc<A = Global> + Abort), schema: &Schema, text: &[u8]) -> DesignList {
+    assert!(rt; text.len() <= MOST_PLAN_BYTES);
+    match read_plan(rt.alloc(), schema, text) {
+        Ok(plan) => {
+            assert!(rt; plan.schemes().len() <= MOST_TABLES as usize);
+            match design(rt.alloc(), schema, &plan) {
+                Ok(tables) => tables,
+                Err(_) => panic!(rt; "no memory"),
+            }
+        }
+        Err(refusal) => panic!(rt; "{text:?} is refused: {refusal:?}"),
+    }
+}
+
+#[test]
+fn names_of_tables(rt: HostRuntime) {
+    let table: [(&[u8], bool); 16] = [
+        (b"public.addresses", true),
+        (b"_x", true),
+        (b"a.b.c", true),
+        (b"t", true),
+        (b"t1.x", true),
+        (b"joined.t1x", true),
+        (b"a.b.c.d", false),
+        (b"", false),
+        (b"a..b", false),
+        (b".a", false),
+        (b"a.", false),
+        (b"1a", false),
+        (b"a;b", false),
+        (b"Joined", false),
+        (b"main.T12", false),
+        (b"a\"b", false),
+    ];
+    for (name, wanted) in table {
+        assert_eq!(rt; is_table_name(name), wanted);
+    }
+}
+
+#[test]
+fn asks_for_what_breaks_a_rule(rt: HostRuntime) -> Result<(), Fail> {
+    let schema = schema(
+        &rt,
+        b"version 2\ninteger ID\ntext NAME\ninteger AGE\nID -> NAME AGE\nNAME ->> AGE\n() -> AGE\nID -> ID",
+    );
+    let name = b"main.people";
+    assert!(rt; is_table_name(name));
+    let script = check_script(rt.alloc(), &schema, name)?;
+    let wanted = b"-- where all rules hold, no query gives a row
+-- no value is missing
+SELECT \"ID\", \"NAME\", \"AGE\" FROM \"main\".\"people\" WHERE \"ID\" IS NULL OR \"NAME\" IS NULL OR \"AGE\" IS NULL;
+-- line 5: ID -> NAME AGE
+SELECT \"ID\" FROM (SELECT DISTINCT CAST(\"ID\" AS BIGINT) AS \"ID\", \"NAME\", CAST(\"AGE\" AS BIGINT) AS \"AGE\" FROM \"main\".\"people\") AS d GROUP BY \"ID\" HAVING COUNT(*) > 1;
+-- line 6: NAME ->> AGE
+SELECT \"ID\", \"NAME\", \"AGE\" FROM (SELECT DISTINCT \"NAME\", CAST(\"AGE\" AS BIGINT) AS \"AGE\" FROM \"main\".\"people\") AS l JOIN (SELECT DISTINCT CAST(\"ID\" AS BIGINT) AS \"ID\", \"NAME\" FROM \"main\".\"people\") AS r USING (\"NAME\") EXCEPT SELECT CAST(\"ID\" AS BIGINT) AS \"ID\", \"NAME\", CAST(\"AGE\" AS BIGINT) AS \"AGE\" FROM \"main\".\"people\";
+-- line 7: () -> AGE
+SELECT n FROM (SELECT COUNT(*) AS n FROM (SELECT DISTINCT CAST(\"AGE\" AS BIGINT) AS \"AGE\" FROM \"main\".\"people\") AS d) AS c WHERE n > 1;
+-- line 8: ID -> ID holds always
+";
+    assert!(rt; script.as_slice() == wanted, "{script:?}");
+    Ok(())
+}
+
+#[test]
+fn makes_tables_from_a_table(rt: HostRuntime) -> Result<(), Fail> {
+    let schema = schema(&rt, b"attributes A B C\nA ->> B\n() ->> A");
+    let tables = designed(&rt, &schema, b"scheme A\nscheme B C\nscheme A B");
+    assert!(rt; is_table_name(b"r"));
+    let script = migrate_script(rt.alloc(), &schema, &tables, b"r")?;
+    let wanted = b"CREATE TABLE \"t1\" (
+  \"A\" TEXT NOT NULL,
+  PRIMARY KEY (\"A\")
+);
+CREATE TABLE \"t2\" (
+  \"B\" TEXT NOT NULL,
+  \"C\" TEXT NOT NULL,
+  PRIMARY KEY (\"B\", \"C\")
+);
+CREATE TABLE \"t3\" (
+  \"A\" TEXT NOT NULL,
+  \"B\" TEXT NOT NULL,
+  PRIMARY KEY (\"A\", \"B\"),
+  FOREIGN KEY (\"A\") REFERENCES \"t1\" (\"A\")
+);
+INSERT INTO \"t1\" (\"A\") SELECT DISTINCT \"A\" FROM \"r\";
+INSERT INTO \"t2\" (\"B\", \"C\") SELECT DISTINCT \"B\", \"C\" FROM \"r\";
+INSERT INTO \"t3\" (\"A\", \"B\") SELECT DISTINCT \"A\", \"B\" FROM \"r\";
+CREATE VIEW \"joined\" AS SELECT \"A\", \"B\", \"C\" FROM \"t1\" CROSS JOIN \"t2\" JOIN \"t3\" USING (\"A\", \"B\");
+-- rows of the table that the view lacks: none
+SELECT \"A\", \"B\", \"C\" FROM \"r\" EXCEPT SELECT \"A\", \"B\", \"C\" FROM \"joined\";
+-- rows of the view that the table lacks: none
+SELECT \"A\", \"B\", \"C\" FROM \"joined\" EXCEPT SELECT \"A\", \"B\", \"C\" FROM \"r\";
+";
+    assert!(rt; script.as_slice() == wanted, "{script:?}");
+    Ok(())
+}
