@@ -1,9 +1,13 @@
+use Rattle.std.proofs.Common.{inl}
 use Rattle.derivation.specs.Derivs.{tree_of}
 use Rattle.derivation.specs.Trees.{Tree}
 use Rattle.desk_cli.specs.Certificates.{Checked}
 use Rattle.desk_cli.specs.Inputs.{ProofStops, IsProofFile, WithGoal}
 use Rattle.desk_cli.proofs.StepLemmas.{found}
 use Rattle.desk_cli.proofs.check_proof.check_proof.Goals as goal
+
+pub returns-in-Err-clause-reply : goal.returns-in-Err-clause-reply
+returns-in-Err-clause-reply g c = λ r shows reply is. inl (c.in-Err.ensures.stop r shows reply is)
 
 pub returns-clause-reply : goal.returns-clause-reply
 returns-clause-reply g c = λ r shows.
