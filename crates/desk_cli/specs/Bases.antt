@@ -24,8 +24,8 @@ abbrev pub basis_text : List (List ℕ) → Places → List AttrSet → List ℕ
 basis_text names closed blocks = set_line (codes "closure ") names closed ++ blocks_text names blocks
 
 -- ---- answers
--- yes, with the dependency basis of a set: its closed set by all dependencies, and exactly its blocks, in the
--- order of their least attributes
+-- yes, with the dependency basis of a set: its closed set by all dependencies, and exactly its blocks,
+-- in the order of their least attributes
 abbrev pub TellsBasis : Schema → Places → Allowed
 TellsBasis schema x answer =
     (found : Blocks) × IsBasis (width_of schema) (theory_of schema) x found

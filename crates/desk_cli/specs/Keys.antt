@@ -56,7 +56,8 @@ keys_text names keys = flat_map (λ key. set_line (codes "key ") names (places k
 abbrev pub keyed_text : List (List ℕ) → KeyedScheme → List ℕ
 keyed_text names keyed = set_line (codes "scheme ") names keyed.scheme ++ keys_text names keyed.keys
 
--- exactly all keys of a scheme, ascending; it is narrow enough to be searched, and has no more than are listed
+-- exactly all keys of a scheme, ascending; it is narrow enough to be searched, and has no more than are
+-- listed
 pub record HasKeys (schema : Schema) (keyed : KeyedScheme) : Type 0 where
   pub narrow : IsWideScheme keyed.scheme → ⊥
   pub keys : AreAllKeys (width_of schema) (theory_of schema) keyed.scheme keyed.keys
@@ -77,7 +78,8 @@ EndsKeys schema scheme answer =
 -- yes, with the keys of each scheme in order; refused at the first scheme that ends the command
 abbrev pub TellsKeys : Schema → List Places → Allowed
 TellsKeys schema plan answer =
-    ((listed : List KeyedScheme) × (map (λ keyed. keyed.scheme) listed ≡ plan) × All (HasKeys schema) listed
+    ((listed : List KeyedScheme)
+    × (map (λ keyed. keyed.scheme) listed ≡ plan) × All (HasKeys schema) listed
     × Says Yes (flat_map (keyed_text (names_of schema)) listed) answer)
     ⊎ ((scheme : Places) × IsFirstFailing (IsListed schema) plan scheme × EndsKeys schema scheme answer)
 

@@ -56,7 +56,8 @@ EndsForm schema form scheme answer =
 abbrev pub JudgesForm : Schema → Form → List Places → Allowed
 JudgesForm schema form plan answer =
     (All (PassesForm schema form) plan × Says Yes (in_form_text form) answer)
-    ⊎ ((scheme : Places) × IsFirstFailing (PassesForm schema form) plan scheme × EndsForm schema form scheme answer)
+    ⊎ ((scheme : Places) × IsFirstFailing (PassesForm schema form) plan scheme
+    × EndsForm schema form scheme answer)
 
 -- of a plan file
 abbrev pub ChecksForm : Reading → Schema → Form → List ℕ → Allowed

@@ -59,15 +59,15 @@ WithSameNames schema other file other_file =
     Unless (NameStops schema other file other_file) (SameNames schema other)
 
 -- ---- answers
--- each implies the dependencies of the other; so they have the same legal relations, columns taken by their
--- names
+-- each implies the dependencies of the other; so they have the same legal relations, columns taken by
+-- their names
 pub record SayTheSame (schema other : Schema) : Type 0 where
   pub there : IsImpliedBy other schema
   pub back : IsImpliedBy schema other
   pub legal : HaveSameLegalRelations schema other
 
--- these are the dependencies of each that do not follow from the other, of which there is one; so they have
--- not the same legal relations
+-- these are the dependencies of each that do not follow from the other, of which there is one; so they
+-- have not the same legal relations
 pub record Differ (schema other : Schema) (of_schema of_other : List ℕ) : Type 0 where
   pub there : AreDifferences schema other of_schema
   pub back : AreDifferences other schema of_other

@@ -72,10 +72,10 @@ tells s r p plan answer same is narrow few (inl (listed, schemes, keys, says)) =
 tells s r p plan answer same is narrow few (inr (scheme, first, inl (wide, says))) =
     let at = in_plan plan first.earlier first.later scheme (sym is ∙ first.list) in
     absurd (All-contains (λ (x : Places). IsWideScheme x → ⊥) plan scheme narrow at wide)
-tells s r p plan answer same is narrow few (inr (scheme, first, inr (fits, found, many, says))) =
+tells s r p plan answer same is narrow few (inr (scheme, first, inr (fits, more))) =
     let at = in_plan plan first.earlier first.later scheme (sym is ∙ first.list) in
-    absurd (All-contains (HasFewKeys s) plan scheme few at found
-    (subst (λ (d : Declarations). AreManyKeys (length d.names) d.deps scheme found) (sym same) many))
+    absurd (All-contains (HasFewKeys s) plan scheme few at more.0
+    (subst (λ (d : Declarations). AreManyKeys (length d.names) d.deps scheme more.0) (sym same) more.1))
 
 keys_asks : (files : Files) (name file : List ℕ) (answer : Answer)
     → Answers (told files) (codes "keys" ∷ name ∷ file ∷ []) answer

@@ -22,9 +22,7 @@ pub use complete::{
     cover_is_answered, help_is_answered, implies_is_answered, keys_is_answered,
     synthesize_is_answered,
 };
-pub use complete_questions::{
-    basis_is_answered, check_same_is_answered, keys_of_plan_is_answered,
-};
+pub use complete_questions::{basis_is_answered, check_same_is_answered, keys_of_plan_is_answered};
 pub use complete_scripts::{draw_is_answered, sql_check_is_answered, sql_migrate_is_answered};
 pub use complete_tables::{
     check_form_is_answered, check_keeps_is_answered, ddl_is_answered, exhibit_is_answered,
