@@ -38,8 +38,13 @@ fn draws_tables_and_references(rt: HostRuntime) -> Result<(), Fail> {
             b"digraph tables {
   rankdir=LR;
   node [shape=plaintext];
-  t1 [label=<<TABLE BORDER=\"0\" CELLBORDER=\"1\" CELLSPACING=\"0\"><TR><TD BGCOLOR=\"lightgrey\"><B>t1</B></TD></TR><TR><TD ALIGN=\"LEFT\">CITY</TD></TR><TR><TD ALIGN=\"LEFT\"><U>ZIP</U></TD></TR></TABLE>>];
-  t2 [label=<<TABLE BORDER=\"0\" CELLBORDER=\"1\" CELLSPACING=\"0\"><TR><TD BGCOLOR=\"lightgrey\"><B>t2</B></TD></TR><TR><TD ALIGN=\"LEFT\"><U>STREET</U></TD></TR><TR><TD ALIGN=\"LEFT\"><U>ZIP</U></TD></TR></TABLE>>];
+  t1 [label=<<TABLE BORDER=\"0\" CELLBORDER=\"1\" CELLSPACING=\"0\"><TR><TD \
+                BGCOLOR=\"lightgrey\"><B>t1</B></TD></TR><TR><TD \
+                ALIGN=\"LEFT\">CITY</TD></TR><TR><TD ALIGN=\"LEFT\"><U>ZIP</U></TD></TR></TABLE>>];
+  t2 [label=<<TABLE BORDER=\"0\" CELLBORDER=\"1\" CELLSPACING=\"0\"><TR><TD \
+                BGCOLOR=\"lightgrey\"><B>t2</B></TD></TR><TR><TD \
+                ALIGN=\"LEFT\"><U>STREET</U></TD></TR><TR><TD \
+                ALIGN=\"LEFT\"><U>ZIP</U></TD></TR></TABLE>>];
   t2 -> t1 [label=\"ZIP\"];
 }
 ",
@@ -51,7 +56,8 @@ fn draws_tables_and_references(rt: HostRuntime) -> Result<(), Fail> {
             b"digraph tables {
   rankdir=LR;
   node [shape=plaintext];
-  t1 [label=<<TABLE BORDER=\"0\" CELLBORDER=\"1\" CELLSPACING=\"0\"><TR><TD BGCOLOR=\"lightgrey\"><B>t1</B></TD></TR><TR><TD ALIGN=\"LEFT\">A</TD></TR></TABLE>>];
+  t1 [label=<<TABLE BORDER=\"0\" CELLBORDER=\"1\" CELLSPACING=\"0\"><TR><TD \
+                BGCOLOR=\"lightgrey\"><B>t1</B></TD></TR><TR><TD ALIGN=\"LEFT\">A</TD></TR></TABLE>>];
 }
 ",
         ),
