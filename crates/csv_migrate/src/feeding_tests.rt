@@ -67,12 +67,14 @@ fn the_second_target_fails_at_each_call(rt: HostRuntime) -> Result<(), Fail> {
     Ok(())
 }
 
-// A target that wants memory at each call.
+// A target that wants memory at each call. It has no open table, though it could be made with one.
 #[derive(Drop)]
-struct Forgetful;
+struct Forgetful {
+    columns: Option<usize>,
+}
 
 impl Target for Forgetful {
-    ghost use Rattle.std.specs.Prelude.{Bool, false, None, ⊤};
+    ghost use Rattle.std.specs.Prelude.{Bool, false, ⊤};
 
     ghost tells = { λ _. false };
 
@@ -80,19 +82,22 @@ impl Target for Forgetful {
 
     ghost opened = { λ _ _. ⊤ };
 
-    ghost width = { λ _. None };
+    ghost width = { λ target. target.columns };
 
     ghost faults = { λ _. 0 };
 
     fn begin_table(&mut self, _name: &Name, _columns: &[Name]) -> Result<(), TargetFault> {
+        self.columns = None;
         Err(TargetFault::Memory)
     }
 
     fn put_row(&mut self, _row: &Row) -> Result<(), TargetFault> {
+        self.columns = None;
         Err(TargetFault::Memory)
     }
 
     fn end_table(&mut self) -> Result<(), TargetFault> {
+        self.columns = None;
         Err(TargetFault::Memory)
     }
 
@@ -112,7 +117,7 @@ fn each_target_has_an_end_of_its_own(rt: HostRuntime) -> Result<(), Fail> {
     let mut targets: Vec<Box<dyn Target>> = Vec::new(alloc);
     let failing = MemoryTarget::make(alloc, Vec::from_slice(alloc, &[1])?);
     targets.push(Box::new(alloc, failing)?)?;
-    targets.push(Box::new(alloc, Forgetful)?)?;
+    targets.push(Box::new(alloc, Forgetful { columns: None })?)?;
     let whole = MemoryTarget::make(alloc, Vec::new(alloc));
     targets.push(Box::new(alloc, whole)?)?;
     let ends = feed(alloc, &mut targets, &made)?;

@@ -1,4 +1,4 @@
-ghost use Rattle.std.specs.Prelude.{◌≡◌, ⊤, false, length, None, IfOk};
+ghost use Rattle.std.specs.Prelude.{◌≡◌, ⊤, false, length, IfOk};
 ghost use Rattle.dep_model.specs.Tuples.{IsOver};
 
 use crate::Status;
@@ -125,9 +125,11 @@ fn no_targets_are_fed(rt: HostRuntime) -> Result<(), Fail> {
     Ok(())
 }
 
-// A target that never has memory.
+// A target that never has memory. It has no open table, though it could be made with one.
 #[derive(Drop)]
-struct WithoutMemory;
+struct WithoutMemory {
+    columns: Option<usize>,
+}
 
 impl Target for WithoutMemory {
     ghost tells = { λ _. false };
@@ -136,19 +138,22 @@ impl Target for WithoutMemory {
 
     ghost opened = { λ _ _. ⊤ };
 
-    ghost width = { λ _. None };
+    ghost width = { λ target. target.columns };
 
     ghost faults = { λ _. 0 };
 
     fn begin_table(&mut self, _name: &Name, _columns: &[Name]) -> Result<(), TargetFault> {
+        self.columns = None;
         Err(TargetFault::Memory)
     }
 
     fn put_row(&mut self, _row: &Row) -> Result<(), TargetFault> {
+        self.columns = None;
         Err(TargetFault::Memory)
     }
 
     fn end_table(&mut self) -> Result<(), TargetFault> {
+        self.columns = None;
         Err(TargetFault::Memory)
     }
 
@@ -168,7 +173,7 @@ fn a_target_wants_memory(rt: HostRuntime) -> Result<(), Fail> {
     let mut sink = MemorySink::make(alloc, 1000, Vec::new(alloc))?;
     let mut targets: Vec<Box<dyn Target>> = Vec::new(alloc);
     targets.push(Box::new(alloc, failing(alloc, &[])?)?)?;
-    targets.push(Box::new(alloc, WithoutMemory)?)?;
+    targets.push(Box::new(alloc, WithoutMemory { columns: None })?)?;
     targets.push(Box::new(alloc, failing(alloc, &[7])?)?)?;
     let ended = deliver(alloc, reply(alloc)?, &mut sink, &mut targets);
     assert!(rt; ended.is_err());
@@ -212,8 +217,11 @@ fn check_files(
     Ok(())
 }
 
-// Targets over folders in memory, of which the first fails at its first call.
-fn file_targets(alloc: Global) -> Result<Vec<Box<dyn Target>>, WantMemory> {
+#[test]
+fn files_are_written(rt: HostRuntime) -> Result<(), Fail> {
+    let alloc = rt.alloc();
+    let mut sink = MemorySink::make(alloc, 1000, Vec::new(alloc))?;
+    // the folder of the first fails at its first call
     let mut targets: Vec<Box<dyn Target>> = Vec::new(alloc);
     let first = MemoryFolder::make(alloc, Vec::from_slice(alloc, &[1])?);
     targets.push(Box::new(alloc, CsvTarget::make(alloc, first)?)?)?;
@@ -221,14 +229,6 @@ fn file_targets(alloc: Global) -> Result<Vec<Box<dyn Target>>, WantMemory> {
     targets.push(Box::new(alloc, CsvTarget::make(alloc, second)?)?)?;
     let third = MemoryFolder::make(alloc, Vec::new(alloc));
     targets.push(Box::new(alloc, SqlTarget::make(alloc, third)?)?)?;
-    Ok(targets)
-}
-
-#[test]
-fn files_are_written(rt: HostRuntime) -> Result<(), Fail> {
-    let alloc = rt.alloc();
-    let mut sink = MemorySink::make(alloc, 1000, Vec::new(alloc))?;
-    let mut targets = file_targets(alloc)?;
     let status = deliver(alloc, reply(alloc)?, &mut sink, &mut targets)?;
     assert!(rt; status == Status::TargetFailed);
     assert_eq!(rt; sink.taken(), b"target 1 failed\n".as_slice());
