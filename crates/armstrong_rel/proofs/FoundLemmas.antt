@@ -4,7 +4,7 @@ use Rattle.std.specs.Prelude.{All, AllPairs, Contains}
 use Rattle.std.proofs.lemmas.Bool.{cases_eq, lt-ltb, ltb-true}
 use Rattle.std.proofs.Math.Seq.{get_or-append_seam}
 use Rattle.std.proofs.lemmas.List.{get_or-map, get_or_append_left, length-map, length_push}
-use Rattle.std.proofs.lemmas.List.Elements.{All-nil, All-push, All-weaker, All-map, Contains-append_left, Contains-push}
+use Rattle.std.proofs.lemmas.List.Elements.{All-push, All-weaker, All-map, Contains-append_left, Contains-push}
 use Rattle.std.proofs.lemmas.List.Quantifiers.{all_pairs_push}
 use Rattle.attr_sets.specs.Places.{Places, below, Within, Same, IsBefore}
 use Rattle.attr_sets.specs.Sets.{places}
@@ -70,14 +70,6 @@ pub record AreFound (n : ℕ) (ds : List Dependency) (count : ℕ) (sets : List 
   pub all : (s : AttrSet) → s.0 < count → IsIrreducible n ds (places s) → Contains sets s
   pub low : All (λ (s : AttrSet). s.0 < count) sets
   pub ascending : AllPairs (λ x y. IsBefore (places x) (places y)) sets
-
-pub found_none : (n : ℕ) (ds : List Dependency) → AreFound n ds 0 []
-found_none n ds = record {
-  each = All-nil (λ (s : AttrSet). IsIrreducible n ds (places s));
-  all = λ s lt irreducible. absurd (omega arith);
-  low = All-nil (λ (s : AttrSet). s.0 < 0);
-  ascending = λ i j d before l. absurd (omega (arith, l));
-}
 
 low_more : (count : ℕ) (sets : List AttrSet) → All (λ (s : AttrSet). s.0 < count) sets
     → All (λ (s : AttrSet). s.0 < count + 1) sets

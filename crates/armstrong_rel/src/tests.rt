@@ -1,17 +1,7 @@
 use crate::{ExhibitRefusal, exhibit};
-use dep_model::{Row, Schema};
+use dep_model::Row;
 use schema_reader::{MOST_TEXT_BYTES, read_schema};
-use std::alloc::Global;
-use std::process::Abort;
 use std::test::Fail;
-
-fn schema(rt: &(impl Alloc<A = Global> + Abort), text: &[u8]) -> Schema {
-    assert!(rt; text.len() <= MOST_TEXT_BYTES);
-    match read_schema(rt.alloc(), text) {
-        Ok(schema) => schema,
-        Err(refusal) => panic!(rt; "{text:?} is refused: {refusal:?}"),
-    }
-}
 
 // Adds the values of a row, with commas between them and a line's end.
 fn add_line(text: &mut Vec<u8>, row: &Row) -> Result<(), Fail> {
@@ -46,7 +36,8 @@ fn shows_the_irreducible_closed_sets(rt: HostRuntime) -> Result<(), Fail> {
         (b"attributes A B", b"0,0\n0,1\n2,0\n"),
     ];
     for (text, printed) in table {
-        let schema = schema(&rt, text);
+        assert!(rt; text.len() <= MOST_TEXT_BYTES);
+        let schema = read_schema(rt.alloc(), text).expect(&rt, "a schema");
         match exhibit(rt.alloc(), &schema) {
             Ok(rows) => {
                 let mut again = Vec::new(rt.alloc());
@@ -71,7 +62,8 @@ fn tells_the_first_multivalued_dependency(rt: HostRuntime) {
         ),
     ];
     for (text, first) in table {
-        let schema = schema(&rt, text);
+        assert!(rt; text.len() <= MOST_TEXT_BYTES);
+        let schema = read_schema(rt.alloc(), text).expect(&rt, "a schema");
         match exhibit(rt.alloc(), &schema) {
             Err(ExhibitRefusal::NotFunctional { dep }) => assert_eq!(rt; dep, first),
             _ => panic!(rt; "another answer"),

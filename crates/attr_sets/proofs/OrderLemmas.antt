@@ -1,8 +1,7 @@
 -- The order of sets by their numbers is the order by the greatest place in which they differ.
 use Rattle.std.proofs.Common.{◌≡◌, ℕ, zero, suc, ◌/◌, ◌^◌, ◌<◌, ◌≤◌, Bool, true, false, pow-suc, refl, sym, ap, ◌∙◌, ◌⊎◌, inl, inr, ⊎_elim, arith}
-use Rattle.std.specs.Bool.{Decides}
 use Rattle.std.specs.Int.{bit_at}
-use Rattle.std.specs.Ordering.{is_lt, nat_cmp, MatchOrdering}
+use Rattle.std.specs.Ordering.{nat_cmp, MatchOrdering}
 use Rattle.std.specs.Cmp.{ranks}
 use Rattle.std.specs.declared.cmp.Ordering.{Ordering}
 use Rattle.std.specs.declared.cmp.Ordering.TheVariants.{Less, Equal, Greater}
@@ -73,13 +72,6 @@ before_from_lt a b b_fits less =
           (cases_lt k PLACES),
       λ j more. grind (arith, nat_tests, h.3 j more),
     )
-
--- what `a < b` tells of two sets
-pub lt-decides : (a b : AttrSet) → a.0 < 2 ^ PLACES → b.0 < 2 ^ PLACES → Decides (is_lt (nat_cmp a.0 b.0)) (IsBefore (places a) (places b))
-lt-decides a b a_fits b_fits = (
-  λ less. before_from_lt a b b_fits (grind (arith, nat_tests, less)),
-  λ before. let less = lt_from_before a b a_fits b_fits before in grind (arith, nat_tests, less),
-)
 
 in_each_order : {P Q R P' Q' R' : Type 0} (o : Ordering) → (P → P') → (Q → Q') → (R → R') → MatchOrdering o P Q R → MatchOrdering o P' Q' R'
 in_each_order Less less equal greater h = less h

@@ -25,9 +25,6 @@ pub same_number : (a b : AttrSet) → a.0 < 2 ^ PLACES → b.0 < 2 ^ PLACES → 
 unfolding places
 same_number a b a_fits b_fits same = same_from_has_bit PLACES a.0 b.0 a_fits b_fits same
 
-pub same_set : (a b : AttrSet) → a.0 < 2 ^ PLACES → b.0 < 2 ^ PLACES → Same (places a) (places b) → a ≡ b
-same_set a b a_fits b_fits same = let from_number : ℕ → AttrSet = λ n. record { 0 = n } in ap from_number (same_number a b a_fits b_fits same)
-
 -- each set of places below the width is that of some set of attributes
 pub set_of_places : (x : Places) → Within x (below PLACES) → (s : AttrSet) × (s.0 < 2 ^ PLACES) × (places s ≡ x)
 unfolding places
@@ -84,9 +81,6 @@ all_below-false zero x fails = absurd (true≢false fails)
 all_below-false (suc n) x fails =
     ⊎_elim (λ earlier. let found = all_below-false n x earlier in (found.0, omega (arith, found.1), found.2)) (λ last. (n, omega arith, last)) (and_cases (all_below n x) (x n) fails)
 
-pub tell_member : (x : Places) (k : ℕ) → (x k ≡ true) ⊎ (x k ≡ false)
-tell_member x k = cases_Bool (x k)
-
 -- some member lies below n, or none does
 pub tell_some : (n : ℕ) (x : Places) → ((k : ℕ) × (k < n) × (x k ≡ true)) ⊎ ((k : ℕ) → k < n → x k ≡ false)
 tell_some n x =
@@ -118,17 +112,6 @@ tell_apart n x y low =
     (λ none. inr (λ k member. grind (arith, none k, member)))
     (tell_empty n (meet x y) (λ k member. low k (grind (arith, member))))
 
--- one of x and y has a member that the other has not, or they have the same
-pub tell_same : (n : ℕ) (x y : Places) → Within x (below n) → Within y (below n) → ((k : ℕ) × (k < n) × (x k ≢ y k)) ⊎ Same x y
-tell_same n x y x_low y_low =
-    ⊎_elim
-    (λ found. inl (found.0, found.1, λ same. true≢false (sym found.2 ∙ same ∙ found.3)))
-    (λ there. ⊎_elim
-    (λ found. inl (found.0, found.1, λ same. true≢false (sym found.2 ∙ sym same ∙ found.3)))
-    (λ back. inr (Same-within x y there back))
-    (tell_within n y x y_low))
-    (tell_within n x y x_low)
-
 least_below : (n : ℕ) (x : Places) (from : ℕ) → ((i : ℕ) × (i < n) × IsLeastFrom x from i) ⊎ ((k : ℕ) → from ≤ k → k < n → x k ≡ false)
 least_below zero x from = inr (λ k on lt. absurd (omega arith))
 least_below (suc n) x from = ⊎_elim (λ found. inl (found.0, omega (arith, found.1), found.2)) next (least_below n x from)
@@ -158,11 +141,6 @@ is_within-true x y low passes k member =
 pub is_within-from : (x y : Places) → Within x y → is_within x y ≡ true
 is_within-from x y within = all_below-from PLACES (λ j. not (x j) || y j) (λ k lt. grind (arith, within k))
 
-pub is_within-false : (x y : Places) → is_within x y ≡ false → (k : ℕ) × (k < PLACES) × (x k ≡ true) × (y k ≡ false)
-is_within-false x y fails =
-    let found = all_below-false PLACES (λ j. not (x j) || y j) fails in
-    (found.0, found.1, grind (arith, found.2), grind (arith, found.2))
-
 pub is_within-not : (x y : Places) → Within x (below PLACES) → (Within x y → ⊥) → is_within x y ≡ false
 is_within-not x y low not_within = false_from_ne_true (is_within x y) (λ passes. not_within (is_within-true x y low passes))
 
@@ -178,12 +156,6 @@ pub is_same-from : (x y : Places) → Same x y → is_same x y ≡ true
 is_same-from x y same =
     and_from (is_within x y) (is_within y x) (is_within-from x y (Within-same x y same)) (is_within-from y x (Within-same y x (Same-sym x y same)))
 
-pub is_same-false : (x y : Places) → is_same x y ≡ false → (Same x y → ⊥)
-is_same-false x y fails same = true≢false (sym (is_same-from x y same) ∙ fails)
-
-pub is_same-not : (x y : Places) → Within x (below PLACES) → Within y (below PLACES) → (Same x y → ⊥) → is_same x y ≡ false
-is_same-not x y x_low y_low differ = false_from_ne_true (is_same x y) (λ passes. differ (is_same-true x y x_low y_low passes))
-
 pub is_same-decides : (x y : Places) → Within x (below PLACES) → Within y (below PLACES) → Decides (is_same x y) (Same x y)
 is_same-decides x y x_low y_low = (is_same-true x y x_low y_low, is_same-from x y)
 
@@ -194,11 +166,6 @@ is_apart-true x y low passes k member =
 
 pub is_apart-from : (x y : Places) → Apart x y → is_apart x y ≡ true
 is_apart-from x y apart = all_below-from PLACES (λ j. not (x j && y j)) (λ k lt. grind (arith, apart k))
-
-pub is_apart-false : (x y : Places) → is_apart x y ≡ false → Meets x y
-is_apart-false x y fails =
-    let found = all_below-false PLACES (λ j. not (x j && y j)) fails in
-    (found.0, grind (arith, found.2), grind (arith, found.2))
 
 pub is_apart-not : (x y : Places) → Within x (below PLACES) → Meets x y → is_apart x y ≡ false
 is_apart-not x y low common =
@@ -271,9 +238,6 @@ count_below-pos zero x k lt member = absurd (omega arith)
 count_below-pos (suc n) x k lt member =
     ⊎_elim (λ (last : k ≡ n). grind (arith, ap x last, member)) (λ (other : k ≡ n → ⊥). grind (arith, count_below-pos n x k (omega arith) member)) (cases_eq k n)
 
-pub count_below-zero : (n : ℕ) (x : Places) → count_below x n ≡ 0 → (k : ℕ) → k < n → x k ≡ false
-count_below-zero n x zero_count k lt = false_from_ne_true (x k) (λ member. omega (arith, count_below-pos n x k lt member))
-
 -- the places below m, of which all are below n
 pub count_below-below : (n m : ℕ) → m ≤ n → count_below (below m) n ≡ m
 unfolding count_below
@@ -331,7 +295,3 @@ count_below-low (suc n) m x low few =
     (λ (all : m ≡ suc n). ap (count_below x) (sym all))
     (λ (other : m ≡ suc n → ⊥). let before = count_below-low n m x low (omega arith) in grind (arith, nat_tests, before, low n))
     (cases_eq m (suc n))
-
--- a set of places below m has at most m members
-pub count_below-few : (n m : ℕ) (x : Places) → Within x (below m) → m ≤ n → count_below x n ≤ m
-count_below-few n m x low few = omega (arith, count_below-low n m x low few, count_below-le m x)

@@ -1,35 +1,22 @@
 use crate::{FeedEnd, Table, feed, feed_list, tables};
 use csv_rows::read_rows;
 use decomp_text::read_plan;
-use dep_model::{Name, Row};
-use desk_outside::HeldFile;
 use schema_reader::read_schema;
 use std::alloc::Global;
 use std::process::Abort;
 use std::test::Fail;
-use targets::{HeldTable, MemoryTarget, Target, TargetFault};
+use targets::{MemoryTarget, Target};
+use test_targets::WithoutMemory;
 
 // Three tables, of two, three and three rows.
 fn three_tables(rt: &(impl Alloc<A = Global> + Abort)) -> Vec<Table> {
     let alloc = rt.alloc();
-    let schema = match read_schema(alloc, b"attributes A B C") {
-        Ok(schema) => schema,
-        Err(_) => panic!(rt; "no schema"),
-    };
-    let plan = match read_plan(alloc, &schema, b"scheme A\nscheme B\nscheme A C\n") {
-        Ok(plan) => plan,
-        Err(_) => panic!(rt; "no plan"),
-    };
-    let rows = match read_rows(alloc, &schema, b"A,B,C\n1,x,k\n2,y,k\n2,z,k\n2,x,m\n") {
-        Ok(rows) => rows,
-        Err(_) => panic!(rt; "no rows"),
-    };
+    let schema = read_schema(alloc, b"attributes A B C").expect(rt, "a schema");
+    let plan = read_plan(alloc, &schema, b"scheme A\nscheme B\nscheme A C\n").expect(rt, "a plan");
+    let rows = read_rows(alloc, &schema, b"A,B,C\n1,x,k\n2,y,k\n2,z,k\n2,x,m\n").expect(rt, "rows");
     assert!(rt; rows.len() == 4);
     assert!(rt; plan.schemes().len() == 3);
-    match tables(alloc, &schema, &plan, &rows) {
-        Ok(tables) => tables,
-        Err(_) => panic!(rt; "no tables"),
-    }
+    tables(alloc, &schema, &plan, &rows).expect(rt, "tables")
 }
 
 // The calls of a table are its begin, one for each row, and its end: 4 of the first table, 5 of each other.
@@ -67,49 +54,6 @@ fn the_second_target_fails_at_each_call(rt: HostRuntime) -> Result<(), Fail> {
     Ok(())
 }
 
-// A target that wants memory at each call. It has no open table, though it could be made with one.
-#[derive(Drop)]
-struct Forgetful {
-    columns: Option<usize>,
-}
-
-impl Target for Forgetful {
-    ghost use Rattle.std.specs.Prelude.{Bool, false, ⊤};
-
-    ghost tells = { λ _. false };
-
-    ghost finished = { λ _ _. ⊤ };
-
-    ghost opened = { λ _ _. ⊤ };
-
-    ghost width = { λ target. target.columns };
-
-    ghost faults = { λ _. 0 };
-
-    fn begin_table(&mut self, _name: &Name, _columns: &[Name]) -> Result<(), TargetFault> {
-        self.columns = None;
-        Err(TargetFault::Memory)
-    }
-
-    fn put_row(&mut self, _row: &Row) -> Result<(), TargetFault> {
-        self.columns = None;
-        Err(TargetFault::Memory)
-    }
-
-    fn end_table(&mut self) -> Result<(), TargetFault> {
-        self.columns = None;
-        Err(TargetFault::Memory)
-    }
-
-    fn held_tables(&self) -> Option<&[HeldTable]> {
-        None
-    }
-
-    fn held_files(&self) -> Option<&[HeldFile]> {
-        None
-    }
-}
-
 #[test]
 fn each_target_has_an_end_of_its_own(rt: HostRuntime) -> Result<(), Fail> {
     let alloc = rt.alloc();
@@ -117,7 +61,7 @@ fn each_target_has_an_end_of_its_own(rt: HostRuntime) -> Result<(), Fail> {
     let mut targets: Vec<Box<dyn Target>> = Vec::new(alloc);
     let failing = MemoryTarget::make(alloc, Vec::from_slice(alloc, &[1])?);
     targets.push(Box::new(alloc, failing)?)?;
-    targets.push(Box::new(alloc, Forgetful { columns: None })?)?;
+    targets.push(Box::new(alloc, WithoutMemory::make())?)?;
     let whole = MemoryTarget::make(alloc, Vec::new(alloc));
     targets.push(Box::new(alloc, whole)?)?;
     let ends = feed(alloc, &mut targets, &made)?;

@@ -50,19 +50,6 @@ at_last numbers n r size = ap (λ (j : ℕ). number_at (numbers ++ r ∷ []) j) 
 at_end : (i n : ℕ) → i < n + 1 → n ≤ i → n ≡ i
 at_end i n l m = omega (arith, l, m)
 
-pub numbered_none : {X : Type 0} (value : ℕ → X) (seen : List X) (numbers : List ℕ) → seen ≡ [] → numbers ≡ [] → AreNumbered value 0 seen numbers
-numbered_none value seen numbers e f = record {
-  one_each = ap length f;
-  few = omega (arith, ap length e);
-  read = λ i l. absurd (omega (arith, l));
-  once = λ g h v a b. absurd (empty g v (ap (λ (xs : List _). slice_get xs g) (sym e) ∙ a));
-  used = λ g l. absurd (omega (arith, l, ap length e));
-  in_order = λ i g l. absurd (omega (arith, l));
-}
-  where
-    empty : {X : Type 0} (g : ℕ) (v : X) → slice_get [] g ≡ Some v → ⊥
-    empty g v h = cc
-
 pub numbered_more : {X : Type 0} (value : ℕ → X) (n : ℕ) (seen after : List X) (numbers : List ℕ) (r : ℕ) → AreNumbered value n seen numbers → Gets (value n) seen after r
     → AreNumbered value (n + 1) after (numbers ++ r ∷ [])
 numbered_more {X} value n seen after numbers r old gets = elim gets.number [
@@ -228,20 +215,6 @@ same_groups rows x y groups same g = record {
   in_order = g.in_order;
 }
 
-pub no_places : (rows : Relation) (groups : List ℕ) → length groups ≡ length rows → ((i : ℕ) → number_at groups i ≡ 0) → AreGroups rows none groups
-no_places rows groups size zeros = record {
-  one_each = size;
-  equal = λ i j li lj. ((λ e m has. absurd (true≢false (sym has))), (λ a. zeros i ∙ sym (zeros j)));
-  in_order = λ i g li l. absurd (omega (arith, l, zeros i));
-}
-
--- a number is one that was seen, or the next one
-pub gets_small : {X : Type 0} (v : X) (seen after : List X) (r : ℕ) → Gets v seen after r → r ≤ length seen
-gets_small v seen after r g = elim g.number [
-  | inl old ↦ omega (arith, slice_get_within seen r v old.1)
-  | inr new ↦ omega (arith, new.1)
-]
-
 pub same_default : {X : Type 0} (xs : List X) (i : ℕ) (d e : X) → i < length xs → get_or xs i d ≡ get_or xs i e
 same_default [] i d e l = absurd (omega (arith, l))
 same_default (x ∷ xs) zero d e l = refl
@@ -361,14 +334,6 @@ pub record FirstsBefore (numbers : List ℕ) (i : ℕ) (firsts : List ℕ) : Typ
   pub within : (g : ℕ) → g < length firsts → number_at firsts g < i
   pub number : (g : ℕ) → g < length firsts → number_at numbers (number_at firsts g) ≡ g
   pub least : (j : ℕ) → j < i → (number_at firsts (number_at numbers j) < j) ⊎ (number_at firsts (number_at numbers j) ≡ j)
-
-pub no_firsts : (numbers firsts : List ℕ) → firsts ≡ [] → FirstsBefore numbers 0 firsts
-no_firsts numbers firsts e = record {
-  each = λ j l. absurd (omega (arith, l));
-  within = λ g l. absurd (omega (arith, l, ap length e));
-  number = λ g l. absurd (omega (arith, l, ap length e));
-  least = λ j l. absurd (omega (arith, l));
-}
 
 -- a row of a new number
 pub new_first : (numbers firsts items : List ℕ) (i : ℕ) → FirstsBefore numbers i firsts → number_at numbers i ≡ length firsts → items ≡ firsts ++ i ∷ [] → FirstsBefore numbers (i + 1) items

@@ -268,16 +268,6 @@ pub record Progress (s : Schema) (columns : List ℕ) (rs : List (List (List ℕ
   pub left : HasLeft reader rest
   pub first : AreFirstRows s columns rs rows
 
-pub progress_none : (s : Schema) (columns : List ℕ) (rs : List (List (List ℕ))) (reader : Reader (Bor (List ℕ))) (rows : Relation) → rows ≡ [] → HasLeft reader rs → Progress s columns rs reader rows
-progress_none s columns rs reader rows e left = subst (λ (r : Relation). Progress s columns rs reader r) (sym e) (record {
-  taken = [];
-  rest = rs;
-  all = refl;
-  as_many = refl;
-  left = left;
-  first = record { within = omega arith; each = λ i l. absurd (omega (arith, l)) };
-})
-
 -- the record that was taken stands at the next place
 next_at : (rs taken more : List (List (List ℕ))) (fields : List (List ℕ)) (n : ℕ) → rs ≡ taken ++ fields ∷ more → length taken ≡ n
     → (n < length rs) × (slice_index_or rs n [] ≡ fields)

@@ -67,16 +67,6 @@ refers_cases scheme tables table j refers = elim (cases_lt j (length tables)) [
       )
 ]
 
-pub references_none : (scheme : Places) → AreReferences [] scheme []
-references_none scheme = record {
-  exactly = λ j. (
-    λ has. absurd (omega (arith, has.1)),
-    λ (refers : RefersAt scheme [] j). absurd
-        (omega (arith, refers_within scheme [] j refers)),
-  );
-  ascending = λ i j d lt l. absurd (omega (arith, l));
-}
-
 references_push : (tables : List TableDesign) (table : TableDesign) (scheme : Places) (refs : List ℕ)
     → AreReferences tables scheme refs → RefersTo scheme table
     → AreReferences (tables ++ table ∷ []) scheme (refs ++ length tables ∷ [])
@@ -129,8 +119,6 @@ references_passed tables i d scheme refs lt are not = rw (take_more tables i d l
     (references_same (take i tables) (get_or tables i d) scheme refs are not)
 
 -- ---- tables
-pub design_none : (s : Schema) → IsDesign s [] []
-design_none s = record { one_each = refl; each = λ k lt scheme table. absurd (omega (arith, lt)) }
 
 design_push : (s : Schema) (schemes : List AttrSet) (tables : List TableDesign) (scheme : AttrSet)
     (table : TableDesign) → IsDesign s schemes tables → IsTableOf s tables scheme table
@@ -164,11 +152,6 @@ pub design_more : (s : Schema) (schemes : List AttrSet) (i : ℕ) (d : AttrSet) 
     → IsTableOf s tables (get_or schemes i d) table → IsDesign s (take (i + 1) schemes) (tables ++ table ∷ [])
 design_more s schemes i d tables table lt design last = rw (take_more schemes i d lt)
     (design_push s (take i schemes) tables (get_or schemes i d) table design last)
-
--- as many tables as schemes
-pub design_long : (s : Schema) (schemes : List AttrSet) (i : ℕ) (tables : List TableDesign) → i ≤ length schemes
-    → IsDesign s (take i schemes) tables → length tables ≡ i
-design_long s schemes i tables le design = design.one_each ∙ length-take-le i schemes le
 
 -- ---- each table of a design
 table_at : (s : Schema) (schemes : List AttrSet) (tables : List TableDesign) (k : ℕ) (table : TableDesign)

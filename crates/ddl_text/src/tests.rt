@@ -1,32 +1,21 @@
 use crate::{DesignList, MOST_TABLES, design, print_ddl};
 use attr_sets::AttrSet;
 use decomp_text::{MOST_PLAN_BYTES, Plan, read_plan};
-use dep_model::Schema;
+use dep_model::{Schema, WantMemory};
 use schema_reader::{MOST_TEXT_BYTES, read_schema};
 use std::alloc::Global;
 use std::process::Abort;
 use std::test::Fail;
 
-fn schema(rt: &(impl Alloc<A = Global> + Abort), text: &[u8]) -> Schema {
-    assert!(rt; text.len() <= MOST_TEXT_BYTES);
-    match read_schema(rt.alloc(), text) {
-        Ok(schema) => schema,
-        Err(refusal) => panic!(rt; "{text:?} is refused: {refusal:?}"),
-    }
-}
-
-fn designed(rt: &(impl Alloc<A = Global> + Abort), schema: &Schema, text: &[u8]) -> DesignList {
+fn designed(
+    rt: &(impl Alloc<A = Global> + Abort),
+    schema: &Schema,
+    text: &[u8],
+) -> Result<DesignList, WantMemory> {
     assert!(rt; text.len() <= MOST_PLAN_BYTES);
-    match read_plan(rt.alloc(), schema, text) {
-        Ok(plan) => {
-            assert!(rt; plan.schemes().len() <= MOST_TABLES as usize);
-            match design(rt.alloc(), schema, &plan) {
-                Ok(tables) => tables,
-                Err(_) => panic!(rt; "no memory"),
-            }
-        }
-        Err(refusal) => panic!(rt; "{text:?} is refused: {refusal:?}"),
-    }
+    let plan = read_plan(rt.alloc(), schema, text).expect(rt, "a plan");
+    assert!(rt; plan.schemes().len() <= MOST_TABLES as usize);
+    design(rt.alloc(), schema, &plan)
 }
 
 const ADDRESS: &[u8] = b"attributes CITY STREET ZIP\nCITY STREET -> ZIP\nZIP -> CITY";
@@ -44,8 +33,9 @@ type Case<'a> = (&'a [u8], &'a [u8], &'a [u8]);
 
 fn check(rt: &(impl Alloc<A = Global> + Abort), case: Case) -> Result<(), Fail> {
     let (text, plan, printed) = case;
-    let schema = schema(rt, text);
-    let tables = designed(rt, &schema, plan);
+    assert!(rt; text.len() <= MOST_TEXT_BYTES);
+    let schema = read_schema(rt.alloc(), text).expect(rt, "a schema");
+    let tables = designed(rt, &schema, plan)?;
     let ddl = print_ddl(rt.alloc(), &schema, &tables)?;
     assert!(rt; ddl.as_slice() == printed, "{text:?} {plan:?}: {ddl:?}");
     Ok(())
@@ -258,9 +248,10 @@ CREATE TABLE \"t2\" (
 
 #[test]
 fn tables_of_a_timetable(rt: HostRuntime) {
-    let schema = schema(&rt, TIMETABLE);
+    assert!(rt; TIMETABLE.len() <= MOST_TEXT_BYTES);
+    let schema = read_schema(rt.alloc(), TIMETABLE).expect(&rt, "a schema");
     let plan = b"scheme COURSE TEACHER\nscheme COURSE HOUR ROOM\nscheme COURSE STUDENT GRADE";
-    let tables = designed(&rt, &schema, plan);
+    let tables = designed(&rt, &schema, plan)?;
     // the name, the attributes, the key and the references of each table
     let want: [(&[u8], u128, u128, &[u32]); 3] = [
         (b"t1", 0b000011, 0b000001, &[]),

@@ -14,12 +14,6 @@ use Rattle.plan_grammar.specs.Reading.{attribute, read_words, read_words_lexed, 
 use Rattle.plan_grammar.specs.Refusals.{RefusesPlanAs}
 
 -- ---- want of memory
-pub as_from : (e : PlanRefusal) (P : Type 0) → P → RefusesPlanAs e P
-as_from (plan.Text t) P h = h
-as_from (plan.EmptyScheme line) P h = h
-as_from (plan.NotCovered a) P h = h
-as_from (plan.TooManySchemes line) P h = h
-as_from plan.Memory P h = tt
 
 pub as_map : (e : PlanRefusal) (P Q : Type 0) → (P → Q) → RefusesPlanAs e P → RefusesPlanAs e Q
 as_map (plan.Text t) P Q f h = f h
@@ -70,12 +64,6 @@ pub line_stopped : (names : List (List ℕ)) (number : ℕ) (schemes : List Plac
     → read_line names number schemes l.marks l.stop ≡ Err (plan.Text (refused_by number stop))
 unfolding read_line
 line_stopped names number schemes stop l e = rw e refl
-
-pub scheme_refused : (names : List (List ℕ)) (number : ℕ) (schemes : List Places) (t : Token) (word rest : List ℕ) (l : Lexed) (earlier : ℕ) (e : PlanRefusal) → Leads mode.Plain t word rest l
-    → earlier ≡ length schemes → read_scheme names number earlier (marked t word) (lexed mode.Plain 0 (t.column + t.length) rest) ≡ Err e
-    → read_line names number schemes l.marks l.stop ≡ Err e
-unfolding read_line
-scheme_refused names number schemes t word rest l earlier e leads count is = rw (leads.all_tokens, sym count, is) refl
 
 pub scheme_added : (names : List (List ℕ)) (number : ℕ) (schemes : List Places) (t : Token) (word rest : List ℕ) (l : Lexed) (earlier : ℕ) (x : Places) → Leads mode.Plain t word rest l
     → earlier ≡ length schemes → read_scheme names number earlier (marked t word) (lexed mode.Plain 0 (t.column + t.length) rest) ≡ Ok x

@@ -1,18 +1,9 @@
 use crate::{MOST_PLAN_BYTES, PlanRefusal, drop_contained, print_plan, read_plan};
-use dep_model::Schema;
 use schema_grammar::{SchemaRefusal, SchemaRefusalKind, Span, What};
-use schema_reader::{MOST_TEXT_BYTES, read_schema};
+use schema_reader::read_schema;
 use std::alloc::Global;
 use std::process::Abort;
 use std::test::Fail;
-
-fn schema(rt: &(impl Alloc<A = Global> + Abort), text: &[u8]) -> Schema {
-    assert!(rt; text.len() <= MOST_TEXT_BYTES);
-    match read_schema(rt.alloc(), text) {
-        Ok(schema) => schema,
-        Err(refusal) => panic!(rt; "{text:?} is refused: {refusal:?}"),
-    }
-}
 
 fn refusal(line: u32, column: u32, length: u32, kind: SchemaRefusalKind) -> PlanRefusal {
     PlanRefusal::Text(SchemaRefusal {
@@ -27,7 +18,7 @@ fn refusal(line: u32, column: u32, length: u32, kind: SchemaRefusalKind) -> Plan
 
 #[test]
 fn plans_are_printed_in_one_form(rt: HostRuntime) -> Result<(), Fail> {
-    let schema = schema(&rt, b"attributes CITY STREET ZIP");
+    let schema = read_schema(rt.alloc(), b"attributes CITY STREET ZIP").expect(&rt, "a schema");
     let table: [(&[u8], &[u8]); 3] = [
         (
             b"scheme CITY ZIP\nscheme STREET ZIP\n",
@@ -56,7 +47,7 @@ fn plans_are_printed_in_one_form(rt: HostRuntime) -> Result<(), Fail> {
 }
 
 fn check(rt: &(impl Alloc<A = Global> + Abort), text: &[u8], want: PlanRefusal) {
-    let schema = schema(rt, b"attributes CITY STREET ZIP");
+    let schema = read_schema(rt.alloc(), b"attributes CITY STREET ZIP").expect(rt, "a schema");
     assert!(rt; text.len() <= MOST_PLAN_BYTES);
     match read_plan(rt.alloc(), &schema, text) {
         Ok(_) => panic!(rt; "{text:?} is read"),
@@ -145,7 +136,7 @@ fn lines(alloc: Global, count: u32) -> Result<Vec<u8>, Fail> {
 
 #[test]
 fn a_plan_text_has_256_schemes_at_most(rt: HostRuntime) -> Result<(), Fail> {
-    let schema = schema(&rt, b"attributes A");
+    let schema = read_schema(rt.alloc(), b"attributes A").expect(&rt, "a schema");
     let most = lines(rt.alloc(), 256)?;
     assert!(rt; most.len() <= MOST_PLAN_BYTES);
     match read_plan(rt.alloc(), &schema, &most) {

@@ -69,15 +69,6 @@ given_implied_at n ds k d lt r legal = legal-to n ds r legal k d lt
 told_kept : (n : ℕ) (ds : List Dependency) (x : Places) (before after : List AttrSet) (a : ℕ) → (Any (HasAttribute a) before → Any (HasAttribute a) after) → IsTold n ds x before a → IsTold n ds x after a
 told_kept n ds x before after a kept told = ⊎_elim (λ closed. inl closed) (λ one. inr (kept one)) told
 
--- nothing is in an empty piece
-pub none_refined : (ds : List Dep) (w : Places) (found : Pieces) → length found.sets ≡ 128 → IsEmpty w → IsRefined ds w found found
-none_refined ds w found size none = record {
-  size = size;
-  room = omega arith;
-  kept = λ a h. h;
-  refined = λ n x can. record { each = λ h. h; told = λ a m. absurd (true≢false (sym m ∙ none a)) };
-}
-
 -- a piece that nothing cuts is a block
 pub block_refined : (ds : List Dep) (piece : AttrSet) (before after : Pieces) → length after.sets ≡ 128 → sets_of after ≡ sets_of before ++ piece ∷ [] → after.count ≡ before.count + 1
     → 0 < count_below (places piece) PLACES → (IsEmpty (places piece) → ⊥) → All (LeavesWhole (places piece) (places piece)) (dependencies_of ds) → IsRefined ds (places piece) before after

@@ -136,11 +136,6 @@ pub LeavesWhole-meets : (p q : Places) (d : Dependency) → Meets (left_of d) p 
 LeavesWhole-meets p q (fd v t) common = λ apart. absurd (true≢false (sym common.2 ∙ apart common.0 common.1))
 LeavesWhole-meets p q (mvd v t) common = λ apart. absurd (true≢false (sym common.2 ∙ apart common.0 common.1))
 
--- a right side that is apart
-pub LeavesWhole-apart : (p q : Places) (d : Dependency) → Apart q (right_of d) → LeavesWhole p q d
-LeavesWhole-apart p q (fd v t) out = λ _. out
-LeavesWhole-apart p q (mvd v t) out = λ _. inl out
-
 -- a larger set on the left, a smaller one on the right
 pub LeavesWhole-kept : (p more q less : Places) (d : Dependency) → Within p more → Within less q → LeavesWhole p q d → LeavesWhole more less d
 LeavesWhole-kept p more q less (fd v t) grows falls whole = λ apart k m. whole (λ (j : ℕ) h. grind (arith, apart j h, grows j)) k (falls k m)

@@ -8,7 +8,3 @@ use Rattle.dep_model.specs.Implication.{IsLegal, Implies}
 -- what is legal for a list is legal for one of which it implies each member
 pub legal_for_implied : (n : ℕ) (ds es : List Dependency) (r : Relation) → All (Implies n ds) es → IsLegal n ds r → IsLegal n es r
 legal_for_implied n ds es r implied legal = record { over = legal.over; obeys = λ k d l. implied k d l r legal }
-
--- so it implies what that list implies
-pub implied_by_implied : (n : ℕ) (ds es : List Dependency) (d : Dependency) → All (Implies n ds) es → Implies n es d → Implies n ds d
-implied_by_implied n ds es d implied follows r legal = follows r (legal_for_implied n ds es r implied legal)

@@ -133,22 +133,3 @@ mvd_meet_obeyed scheme x y z r first second t u t_in u_in agree =
         | inr out ↦ w.3 k (grind (arith, m, out))
       ]),
     )
-
--- x ->> y and x ->> z give x ->> what y has beyond z
-pub mvd_minus_obeyed : (scheme x y z : Places) (r : Relation) → Within y scheme → ObeysMvd scheme x y r → ObeysMvd scheme x z r → ObeysMvd scheme x (minus y z) r
-mvd_minus_obeyed scheme x y z r y_in first second t u t_in u_in agree =
-    let v = first t u t_in u_in agree in
-    let w = second u v.0 u_in v.1 (λ (k : ℕ) m. sym (v.2 k (grind (arith, m)) ∙ agree k m)) in (
-      w.0,
-      w.1,
-      (λ (k : ℕ) m. elim (cases_Bool (x k)) [
-        | inl in_x ↦ w.2 k (grind (arith, in_x)) ∙ sym (agree k in_x)
-        | inr out ↦
-            let in_y : y k ≡ true = grind (arith, m, out) in
-            w.3 k (grind (arith, m, out, y_in k in_y)) ∙ v.2 k (grind (arith, in_y))
-      ]),
-      (λ (k : ℕ) m. elim (cases_Bool (z k)) [
-        | inl in_z ↦ w.2 k (grind (arith, in_z))
-        | inr out ↦ w.3 k (grind (arith, m, out)) ∙ v.3 k (grind (arith, m, out))
-      ]),
-    )

@@ -5,7 +5,7 @@ use Rattle.attr_sets.proofs.PlacesLemmas.{Same-path, is_within-from, is_same-fro
 use Rattle.dep_model.specs.declared.schema.Schema.{Schema}
 use Rattle.dep_model.specs.Dependencies.{fd, mvd}
 use Rattle.dep_model.specs.Schemas.{universe_of}
-use Rattle.derivation.specs.Trees.{reflexivity, mreflexivity, augmentation, complementation, maugmentation, replication, transitivity, mtransitivity, coalescence, Tree, leaf, step, pair}
+use Rattle.derivation.specs.Trees.{reflexivity, mreflexivity, augmentation, complementation, maugmentation, transitivity, mtransitivity, coalescence, Tree, leaf, step, pair}
 use Rattle.derivation.specs.Conclusions.{Proves}
 
 -- ---- the same sets, told otherwise
@@ -35,9 +35,6 @@ complementation_proves s t x y proves = (mvd x y, proves, refl)
 
 pub maugmentation_proves : (s : Schema) (t : Tree) (x y w z : Places) → Within w (universe_of s) → Within z w → Proves s t (mvd x y) → Proves s (step (maugmentation w z) t) (mvd (union x w) (union y z))
 maugmentation_proves s t x y w z inside within proves = (mvd x y, proves, rw (is_within-from w (universe_of s) inside, is_within-from z w within) refl)
-
-pub replication_proves : (s : Schema) (t : Tree) (x y : Places) → Proves s t (fd x y) → Proves s (step replication t) (mvd x y)
-replication_proves s t x y proves = (fd x y, proves, refl)
 
 -- ---- two premises
 pub transitivity_proves : (s : Schema) (t u : Tree) (x y v z : Places) → Same y v → Proves s t (fd x y) → Proves s u (fd v z) → Proves s (pair transitivity t u) (fd x z)

@@ -7,8 +7,8 @@ use Rattle.dep_model.specs.Dependencies.{Dependency}
 use Rattle.dep_model.specs.Deps.{dependency_of}
 use Rattle.derivation.specs.declared.fault.FaultKind.{FaultKind}
 use Rattle.derivation.specs.declared.shortening.Concluded.{Concluded}
-use Rattle.derivation.specs.Trees.{Leaf, Step, Pair, Tree, leaf, step, pair, nodes, depth}
-use Rattle.derivation.specs.Table.{leaf_conclusion, step_conclusion, pair_conclusion}
+use Rattle.derivation.specs.Trees.{Step, Pair, Tree, leaf, step, pair, nodes, depth}
+use Rattle.derivation.specs.Table.{step_conclusion, pair_conclusion}
 use Rattle.derivation.specs.Derivs.{tree_of, outcome_of}
 use Rattle.derivation.specs.Conclusions.{Proves}
 use Rattle.derivation.specs.Direct.{IsBelow, IsIn, NoneBelow, IsDirect}
@@ -82,9 +82,6 @@ least_direct s t result direct least =
     least.part
 
 -- ---- what a rule concludes from what its premises conclude
-pub leaf_only : (s : Schema) (rule : Leaf) (r : Result Dep FaultKind) (o : Option Dep) → outcome_of r ≡ leaf_conclusion s rule → ((d : Dep) → r ≡ Ok d → o ≡ Some d) → ((k : FaultKind) → r ≡ Err k → o ≡ None) → ConcludesOnly s (leaf rule) o
-leaf_only s rule (Ok e) o exact is not = rw (is e refl) (sym exact)
-leaf_only s rule (Err k) o exact is not = rw (not k refl) (λ d proves. cc)
 
 pub step_only : (s : Schema) (rule : Step) (t : Tree) (from : Dep) (r : Result Dep FaultKind) (o : Option Dep) → ConcludesOnly s t (Some from) → outcome_of r ≡ step_conclusion s rule (dependency_of from)
     → ((d : Dep) → r ≡ Ok d → o ≡ Some d) → ((k : FaultKind) → r ≡ Err k → o ≡ None) → ConcludesOnly s (step rule t) o

@@ -1,5 +1,5 @@
 -- What the whole call ends with, by the answer of a command.
-use Rattle.std.proofs.Common.{◌≡◌, ◌⊎◌, inl, inr, ℕ, zero, suc, ◌<◌, ◌≤◌, arith, Bool, true, false, if◌then◌else◌, List, [], ◌∷◌, ◌++◌, ◌+◌, length, get_or, drop, Option, Some, None, Ok, Err, Result, refl, sym, ap, ◌∙◌, subst, append_assoc, append-nil}
+use Rattle.std.proofs.Common.{◌≡◌, ◌⊎◌, inl, inr, ℕ, zero, suc, ◌<◌, ◌≤◌, arith, Bool, true, false, if◌then◌else◌, List, [], ◌∷◌, ◌++◌, ◌+◌, length, get_or, drop, Option, Some, None, Result, refl, sym, ap, ◌∙◌, subst, append_assoc, append-nil}
 use Rattle.std.specs.Prelude.{MatchOption}
 use Rattle.std.proofs.lemmas.List.{drop_more, drop_all}
 use Rattle.std.specs.List.{list_any, list_all}
@@ -153,20 +153,3 @@ desk_delivered words shelf sink targets answer result seen_so told_so delivered 
     stays : (status : Status) → IsNoOrStops status → WritesWhole sink (Settles targets answer) status ⊎ WritesPart sink (Settles targets answer) status → targets.new ≡ targets.old
     stays status other (inl (ending, settles, same, written)) = untouched targets answer ending answer.tables settles (subst IsNoOrStops same other)
     stays status other (inr (cannot, rose, part)) = absurd (not_written status cannot other)
-
--- no answer for want of memory
-pub desk_memory : (words : List (List ℕ)) (shelf : ShelfInCall) (sink : SinkInCall) (targets : TargetsInCall) (e : WantMemory)
-    → sink.new ≡ sink.old → targets.new ≡ targets.old → sink.before ≤ sink.after → shelf.files_after ≡ shelf.files → shelf.before ≤ shelf.after → Desk words shelf sink targets (Err e)
-desk_memory words shelf sink targets e same kept writes files reads = record {
-  answer = λ status is. absurd (no_status status is);
-  complete = λ fs are calm calm_sink calm_targets status is. absurd (no_status status is);
-  stay = λ status is other. kept;
-  memory = λ other is. (same, inl kept);
-  targets_stay = ap length kept;
-  files_stay = files;
-  reads_later = reads;
-  writes_later = writes;
-}
-  where
-    no_status : (status : Status) → Err e ≡ Ok status → ⊥
-    no_status status is = cc

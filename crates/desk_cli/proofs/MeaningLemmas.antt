@@ -1,5 +1,5 @@
 -- The refusal of a text ends a command as the answers say.
-use Rattle.std.proofs.Common.{◌≢◌, ◌≤◌, ◌≡◌, inr, ℕ, List, length, Option, Some, None, Ok, Err, Result, false, refl, sym, ap, ◌∙◌, subst}
+use Rattle.std.proofs.Common.{◌≢◌, ◌≤◌, ◌≡◌, inr, ℕ, List, Option, Some, None, Ok, Err, Result, false, refl, sym, ap, ◌∙◌, subst}
 use Rattle.std.proofs.lemmas.Bool.{false≢true}
 use Rattle.std.specs.Prelude.{⊤, MatchOption, is_none, IfOk, codes}
 use Rattle.dep_model.specs.declared.schema.Schema.{Schema}
@@ -8,12 +8,8 @@ use Rattle.dep_model.specs.declared.memory.WantMemory.{WantMemory}
 use Rattle.schema_grammar.specs.declared.refusal.SchemaRefusal.{SchemaRefusal}
 use Rattle.schema_grammar.specs.declared.refusal.SchemaRefusalKind.{SchemaRefusalKind}
 use Rattle.schema_grammar.specs.declared.refusal.SchemaRefusalKind.TheVariants as kind
-use Rattle.schema_grammar.specs.Complaints.{RefusesGoal}
 use Rattle.schema_grammar.specs.Refusals.{RefusesAs}
 use Rattle.schema_grammar.specs.Schemas.{RefusesSchema}
-use Rattle.schema_grammar.specs.Sets.{RefusesSet}
-use Rattle.schema_reader.specs.declared.goal.TheConstants.{MOST_GOAL_BYTES}
-use Rattle.schema_reader.specs.declared.set.TheConstants.{MOST_SET_BYTES}
 use Rattle.schema_reader.specs.declared.text.TheConstants.{MOST_TEXT_BYTES}
 use Rattle.proof_grammar.specs.declared.refusal.ProofRefusal.{ProofRefusal}
 use Rattle.proof_grammar.specs.declared.refusal.ProofRefusalKind.{ProofRefusalKind}
@@ -26,7 +22,7 @@ use Rattle.plan_grammar.specs.Refusals.{RefusesPlanAs}
 use Rattle.plan_grammar.specs.declared.refusal.PlanRefusal.{PlanRefusal}
 use Rattle.plan_grammar.specs.declared.refusal.PlanRefusal.TheVariants as plan
 use Rattle.desk_cli.specs.declared.reply.Stop.{Stop}
-use Rattle.desk_cli.specs.Inputs.{GoalStops, SetStops, SchemaStops, ProofStops, wants_memory, TellsRefusal, TellsProof}
+use Rattle.desk_cli.specs.Inputs.{SchemaStops, ProofStops, wants_memory, TellsRefusal, TellsProof}
 use Rattle.desk_cli.specs.Plans.{PlanStops, TellsPlan, is_want}
 use Rattle.desk_cli.specs.ProofTexts.{OfComplaint}
 use Rattle.desk_cli.specs.Readings.{Reading, IsContent}
@@ -51,16 +47,6 @@ pub schema_stop : (r : Reading) (name bytes : List ℕ) (refusal : SchemaRefusal
 schema_stop r name bytes refusal stop content refuses tells = λ reply is.
     let told = tells reply is in
     inr (refusal, record { bytes = bytes; content = content; refused = of_text refusal.kind (RefusesSchema bytes refusal) told.0 refuses }, told.1)
-
-pub goal_stop : (s : Schema) (goal : List ℕ) (refusal : SchemaRefusal) (stop : Stop) → length goal ≤ MOST_GOAL_BYTES
-    → RefusesGoal (names_of s) goal refusal → StopsAs (TellsRefusal (codes "goal") (codes "goal") refusal) stop → StopsAs (GoalStops s goal) stop
-goal_stop s goal refusal stop few refuses tells = λ reply is.
-    let told = tells reply is in inr (refusal, record { few = few; refused = refuses }, told.1)
-
-pub set_stop : (s : Schema) (set : List ℕ) (refusal : SchemaRefusal) (stop : Stop) → length set ≤ MOST_SET_BYTES
-    → RefusesSet (names_of s) set refusal → StopsAs (TellsRefusal (codes "set") (codes "set") refusal) stop → StopsAs (SetStops s set) stop
-set_stop s set refusal stop few refuses tells = λ reply is.
-    let told = tells reply is in inr (refusal, record { few = few; refused = refuses }, told.1)
 
 pub proof_stop : (r : Reading) (s : Schema) (name bytes : List ℕ) (refusal : ProofRefusal) (stop : Stop) → IsContent r name MOST_PROOF_BYTES bytes
     → RefusesProof s bytes refusal → StopsAs (TellsProof (names_of s) name refusal) stop → StopsAs (ProofStops r s name) stop

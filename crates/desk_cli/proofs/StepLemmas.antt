@@ -4,7 +4,7 @@ use Rattle.desk_outside.specs.Causes.{Rose}
 use Rattle.desk_outside.specs.Files.{Files}
 use Rattle.desk_cli.specs.declared.reply.Reply.{Reply}
 use Rattle.desk_cli.specs.declared.reply.Stop.{Stop}
-use Rattle.desk_cli.specs.Answers.{Answer, Allowed, With, Unless}
+use Rattle.desk_cli.specs.Answers.{Allowed, With, Unless}
 use Rattle.desk_cli.specs.Readings.{Reading, told, seen, Shows}
 use Rattle.desk_cli.specs.Replies.{StopsAs, RepliesAs}
 
@@ -27,9 +27,6 @@ pub told_shows : {S : Type 0} (files : S → Option Files) (faults taken : S →
 told_shows files faults taken old new fs are calm = record { same = sym are; fails = calm; takes = λ limit took. tt }
 
 -- ---- ways to stop
--- what is allowed in one way is allowed in another
-pub stops_more : (less more : Allowed) (stop : Stop) → ((answer : Answer) → less answer → more answer) → StopsAs less stop → StopsAs more stop
-stops_more less more stop grows stops reply is = grows _ (stops reply is)
 
 -- ---- steps
 -- a step that stops ends the command

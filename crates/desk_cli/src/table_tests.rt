@@ -1,4 +1,4 @@
-ghost use Rattle.std.specs.Prelude.{◌≡◌, ⊤, false, length, IfOk};
+ghost use Rattle.std.specs.Prelude.{◌≡◌, length, IfOk};
 ghost use Rattle.dep_model.specs.Tuples.{IsOver};
 
 use crate::Status;
@@ -7,11 +7,12 @@ use crate::top::deliver;
 use attr_sets::AttrSet;
 use csv_migrate::Table;
 use dep_model::{Name, Row, Value, WantMemory};
-use desk_outside::{HeldFile, MemoryFolder, MemorySink};
+use desk_outside::{MemoryFolder, MemorySink};
 use std::alloc::Global;
 use std::process::Abort;
 use std::test::Fail;
-use targets::{CsvTarget, HeldTable, MemoryTarget, SqlTarget, Target, TargetFault};
+use targets::{CsvTarget, MemoryTarget, SqlTarget, Target};
+use test_targets::WithoutMemory;
 
 const READ: &[u8] = b"read 3 rows\n";
 
@@ -125,47 +126,6 @@ fn no_targets_are_fed(rt: HostRuntime) -> Result<(), Fail> {
     Ok(())
 }
 
-// A target that never has memory. It has no open table, though it could be made with one.
-#[derive(Drop)]
-struct WithoutMemory {
-    columns: Option<usize>,
-}
-
-impl Target for WithoutMemory {
-    ghost tells = { λ _. false };
-
-    ghost finished = { λ _ _. ⊤ };
-
-    ghost opened = { λ _ _. ⊤ };
-
-    ghost width = { λ target. target.columns };
-
-    ghost faults = { λ _. 0 };
-
-    fn begin_table(&mut self, _name: &Name, _columns: &[Name]) -> Result<(), TargetFault> {
-        self.columns = None;
-        Err(TargetFault::Memory)
-    }
-
-    fn put_row(&mut self, _row: &Row) -> Result<(), TargetFault> {
-        self.columns = None;
-        Err(TargetFault::Memory)
-    }
-
-    fn end_table(&mut self) -> Result<(), TargetFault> {
-        self.columns = None;
-        Err(TargetFault::Memory)
-    }
-
-    fn held_tables(&self) -> Option<&[HeldTable]> {
-        None
-    }
-
-    fn held_files(&self) -> Option<&[HeldFile]> {
-        None
-    }
-}
-
 // Want of memory of a target comes before the failure of another, and the others are fed.
 #[test]
 fn a_target_wants_memory(rt: HostRuntime) -> Result<(), Fail> {
@@ -173,7 +133,7 @@ fn a_target_wants_memory(rt: HostRuntime) -> Result<(), Fail> {
     let mut sink = MemorySink::make(alloc, 1000, Vec::new(alloc))?;
     let mut targets: Vec<Box<dyn Target>> = Vec::new(alloc);
     targets.push(Box::new(alloc, failing(alloc, &[])?)?)?;
-    targets.push(Box::new(alloc, WithoutMemory { columns: None })?)?;
+    targets.push(Box::new(alloc, WithoutMemory::make())?)?;
     targets.push(Box::new(alloc, failing(alloc, &[7])?)?)?;
     let ended = deliver(alloc, reply(alloc)?, &mut sink, &mut targets);
     assert!(rt; ended.is_err());

@@ -1,9 +1,9 @@
 -- Pieces of an open file, as writes move them.
-use Rattle.std.proofs.Common.{◌≡◌, ℕ, ◌+◌, ◌-◌, List, [], ◌++◌, length, take, drop, Option, None, Some, option_map, refl, ap, sym, ◌∙◌, append_assoc, append-nil}
+use Rattle.std.proofs.Common.{◌≡◌, ℕ, ◌+◌, ◌-◌, List, [], ◌++◌, length, take, drop, Option, None, Some, option_map, refl, ap, sym, ◌∙◌, append_assoc}
 use Rattle.std.proofs.Math.Seq.{take-add}
 use Rattle.std.proofs.lemmas.List.{take_rest}
 use Rattle.desk_outside.specs.Files.{StoredFile}
-use Rattle.desk_outside.specs.Folders.{FolderContents, with_bytes, with_none_open}
+use Rattle.desk_outside.specs.Folders.{FolderContents, with_bytes}
 
 -- one piece and then another
 pub with_bytes-append : (known : Option FolderContents) (xs ys : List ℕ) → option_map (with_bytes ys) (option_map (with_bytes xs) known) ≡ option_map (with_bytes (xs ++ ys)) known
@@ -13,20 +13,6 @@ with_bytes-append (Some folder) xs ys = ap Some (in_folder folder.opened)
     in_folder : (opened : Option StoredFile) → with_bytes ys (with_bytes xs (record { finished = folder.finished; opened = opened })) ≡ with_bytes (xs ++ ys) (record { finished = folder.finished; opened = opened })
     in_folder None = refl
     in_folder (Some file) = ap (λ (bytes : List ℕ). record { finished = folder.finished; opened = Some (record { name = file.name; bytes = bytes }) }) (append_assoc file.bytes xs ys)
-
--- no byte more
-pub with_bytes-nil : (known : Option FolderContents) → option_map (with_bytes []) known ≡ known
-with_bytes-nil None = refl
-with_bytes-nil (Some folder) = ap Some (in_folder folder.opened)
-  where
-    in_folder : (opened : Option StoredFile) → with_bytes [] (record { finished = folder.finished; opened = opened }) ≡ record { finished = folder.finished; opened = opened }
-    in_folder None = refl
-    in_folder (Some file) = ap (λ (bytes : List ℕ). record { finished = folder.finished; opened = Some (record { name = file.name; bytes = bytes }) }) (append-nil file.bytes)
-
--- a file that is given up, after a piece or not
-pub none_open-bytes : (known : Option FolderContents) (xs : List ℕ) → option_map with_none_open (option_map (with_bytes xs) known) ≡ option_map with_none_open known
-none_open-bytes None xs = refl
-none_open-bytes (Some folder) xs = refl
 
 -- after the first m bytes the next n, from the front of the rest
 pub with_bytes-take : (old middle new : Option FolderContents) (xs : List ℕ) (m n : ℕ) → middle ≡ option_map (with_bytes (take m xs)) old → new ≡ option_map (with_bytes (take n (take (length xs - m) (drop m xs)))) middle → new ≡ option_map (with_bytes (take (m + n) xs)) old

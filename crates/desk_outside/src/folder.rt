@@ -1,4 +1,4 @@
-ghost use Rattle.std.specs.Prelude.{◌≡◌, ℕ, Bool, false, ◌<◌, ◌≤◌, length, take, Option, Some, is_ok, IsTrue, IfOk, IfSome, OnOk, OnErr};
+ghost use Rattle.std.specs.Prelude.{◌≡◌, ℕ, Bool, false, ◌<◌, ◌≤◌, length, take, Option, Some, is_ok, is_some, IsTrue, IfOk, IfSome, OnOk, OnErr};
 ghost use Rattle.std.specs.Option.{option_map};
 ghost use Rattle.desk_outside.specs.Causes.{HasOutsideCause};
 ghost use Rattle.desk_outside.specs.Files.{files_of};
@@ -48,8 +48,9 @@ pub trait Folder: Drop {
         ensures is_open { is_open self.new ≡ false }
         ensures cause { HasOutsideCause (faults self.old) (faults self.new) result };
 
-    /// The finished files, of a folder that shows them.
+    /// The finished files, of a folder that tells them.
     fn shown(&self) -> Option<&[HeldFile]>
+        ensures told { is_some result ≡ is_some (contents self.now) }
         ensures shown { IfSome result (λ files.
             option_map (λ folder. folder.finished) (contents self.now) ≡ Some (files_of files.now)) };
 }

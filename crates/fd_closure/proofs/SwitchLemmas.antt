@@ -12,7 +12,7 @@ use Rattle.dep_model.specs.Tuples.{Relation}
 use Rattle.dep_model.specs.Dependencies.{Dependency, ObeysFd, functional_part, left_of, right_of}
 use Rattle.dep_model.specs.Deps.{IfFd, dependencies_of, IsDepWithin}
 use Rattle.dep_model.proofs.DepLemmas.{functional_all-from, functional_legal-to}
-use Rattle.dep_model.proofs.RuleLemmas.{reflexivity_obeyed, transitivity_obeyed}
+use Rattle.dep_model.proofs.RuleLemmas.{transitivity_obeyed}
 use Rattle.fd_closure.specs.Settled.{IsSettled}
 use Rattle.fd_closure.specs.Switches.{members_on, Grows}
 
@@ -50,12 +50,6 @@ pub member_on : (on : List Bool) (ds : List Dep) → length on ≡ length ds →
 member_on on ds same = members_on-to (Contains (members_on on ds)) on ds same (All-contains_itself (members_on on ds))
 
 -- ---- sets that grow
-pub grows-itself : (ds : List Dep) (c : Places) → Grows ds c c
-grows-itself ds c = record {
-  holds = λ k m. m;
-  within = λ universe within c_in. c_in;
-  implied = λ n r legal. reflexivity_obeyed c c r (λ k m. m);
-}
 
 pub grows-further : (ds : List Dep) (c d e : Places) → Grows ds c d → Grows ds d e → Grows ds c e
 grows-further ds c d e first second = record {

@@ -67,10 +67,6 @@ pub record TakesRows (rs : List (List (List ℕ))) (reader : Reader (Bor (List �
   pub all : rs ≡ rows ++ rest
   pub left : HasLeft reader rest
 
-pub takes_no_row : (rs : List (List (List ℕ))) (reader : Reader (Bor (List ℕ))) (rows : Relation) → rows ≡ []
-    → HasLeft reader rs → TakesRows rs reader rows
-takes_no_row rs reader rows e left = record { rest = rs; all = ap (λ (l : Relation). l ++ rs) (sym e); left = left }
-
 pub takes_row : (rs : List (List (List ℕ))) (old new : Reader (Bor (List ℕ))) (b : Bool) (fields : List (List ℕ))
     (rows : Relation) (t : Tuple)
     → TakesRows rs old rows → b ≡ true → TakesRecord b old new fields → t ≡ fields → TakesRows rs new (rows ++ t ∷ [])

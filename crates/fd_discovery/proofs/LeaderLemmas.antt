@@ -85,19 +85,6 @@ pub record Refines (n m : ℕ) (lead code row : ℕ → ℕ) (p : ℕ) (latest f
   pub upto : (q : ℕ) → q < p → code (row q) ≤ code (latest (lead (row q)))
   pub ahead : (q s : ℕ) → q < p → p ≤ s → s < m → code (latest (lead (row q))) ≤ code (row s)
 
-pub refines_none : (n m : ℕ) (lead code row latest finer : ℕ → ℕ)
-    → ((i : ℕ) → i < n → lead (latest (lead i)) ≡ lead i) → Refines n m lead code row 0 latest finer
-refines_none n m lead code row latest finer leads = record {
-  latest_leads = leads;
-  within = λ q l. absurd (omega (arith, l));
-  leads = λ q l. absurd (omega (arith, l));
-  numbered = λ q l. absurd (omega (arith, l));
-  same = λ q s l k. absurd (omega (arith, l));
-  current = λ q l. absurd (omega (arith, l));
-  upto = λ q l. absurd (omega (arith, l));
-  ahead = λ q s l. absurd (omega (arith, l));
-}
-
 -- one row more. Its leader's latest row is then the row itself, or stays where it has the row's number
 module _ (n m : ℕ) (lead code row : ℕ → ℕ) (p : ℕ) (latest finer : ℕ → ℕ)
     (old : Refines n m lead code row p latest finer)
@@ -317,18 +304,6 @@ all_refined r x k leaders codes order latest finer p led groups ordered refined 
     place i l =
         let at = ordered.all i (omega (arith, l, groups.one_each)) in
         (at.0, omega (arith, at.1, end), at.2)
-
--- at first the leaders themselves are the latest rows
-pub refines_start : (r : Relation) (x : Places) (leaders codes order latest finer : List ℕ) → AreLeaders r x leaders
-    → latest ≡ leaders
-    → Refines (length leaders) (length order) (number_at leaders) (number_at codes) (number_at order) 0
-    (number_at latest) (number_at finer)
-refines_start r x leaders codes order latest finer led is =
-    refines_none (length leaders) (length order) (number_at leaders) (number_at codes) (number_at order)
-    (number_at latest) (number_at finer)
-    (λ i l. let l' : i < length r = omega (arith, l, led.one_each) in
-    ap (λ (s : List ℕ). number_at leaders (number_at s (number_at leaders i))) is
-    ∙ ap (number_at leaders) (leads_itself r x leaders led i l') ∙ leads_itself r x leaders led i l')
 
 -- all rows agree on nothing, so the first row leads them
 pub first_leads : (r : Relation) (x : Places) (leaders : List ℕ) → IsEmpty x → leaders ≡ replicate (length r) 0

@@ -39,12 +39,6 @@ breaks_from n ds Fourth scheme x y low other v =
     let k = fourth_rest n ds scheme x y low v in
     (v.no_superkey, parts_two n ds scheme x y v.other low v.part v.other_part (λ inside. true≢false (sym (inside k.0 k.1) ∙ k.2)))
 
--- and lies within the scheme
-pub breaks_in : (n : ℕ) (ds : List Dependency) (form : Form) (scheme x : Places) → Breaks n ds form scheme x → Within x scheme
-breaks_in n ds Third scheme x b = b.1.1.0.0.within.0
-breaks_in n ds Bcnf scheme x b = b.1.1.0.within.0
-breaks_in n ds Fourth scheme x b = b.1.implied.within.0
-
 -- ---- Boyce-Codd form and fourth form
 -- what determines some of the rest, and not all, has two parts
 pub bcnf_two : (n : ℕ) (ds : List Dependency) (scheme x : Places) → Within scheme (below n) → Breaks n ds Bcnf scheme x → HasTwoParts n ds scheme x

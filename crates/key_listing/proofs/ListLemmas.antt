@@ -2,7 +2,7 @@
 use Rattle.std.proofs.Common.{◌≡◌, ℕ, ◌+◌, ◌<◌, ◌≤◌, ◌⊎◌, List, [], ◌∷◌, ◌++◌, length, get_or, map, take, refl, sym, ◌∙◌, subst, ap, ⊎_elim, inl, inr, arith}
 use Rattle.std.proofs.lemmas.Bool.{cases_eq, cases_order, true≢false}
 use Rattle.std.proofs.lemmas.List.Elements.{All-more}
-use Rattle.std.proofs.lemmas.List.{get_or-take, get_or_default, length-take, length_push, length-map, get_or-map, get_or_append_left, take-take, take_all, take_at}
+use Rattle.std.proofs.lemmas.List.{get_or-take, get_or_default, length-take, length_push, length-map, get_or-map, get_or_append_left, take-take, take_all}
 use Rattle.std.proofs.lemmas.List.Edits.{swapped_from_swap, length-swap}
 use Rattle.std.proofs.lemmas.List.Sorted.{IsPermutation-keeps, Contains-permutation}
 use Rattle.std.specs.Prelude.{All, AllPairs, Any, Contains, Option, Some, None, IsNone, IfSome}
@@ -45,9 +45,6 @@ grows_again {X = X} xs ys zs first second =
 
 pub grows_none : {X : Type 0} (xs : List X) → take (length xs) xs ≡ xs
 grows_none xs = take_all (length xs) xs (omega arith)
-
-pub grows_push : {X : Type 0} (xs : List X) (y : X) → take (length xs) (xs ++ y ∷ []) ≡ xs
-grows_push xs y = take_at xs (y ∷ []) (length xs) refl
 
 -- ---- any two differ
 -- a relation that goes both ways holds of any two places

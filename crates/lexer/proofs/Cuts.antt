@@ -1,3 +1,4 @@
+-- A text is cut into lines as the definition cuts it.
 use Rattle.std.proofs.Common.{◌≡◌, ◌<◌, ◌≤◌, ◌+◌, ◌-◌, ℕ, Bool, true, false, not, cond, List, [], ◌∷◌, length, take, drop, get_or, arith, ap, sym, ◌∙◌, refl, nat_eq, length-drop}
 use Rattle.std.proofs.lemmas.List.Elements.{All-from_get_or}
 use Rattle.std.proofs.lemmas.List.Sums.{prefix_len_passes}

@@ -1,3 +1,4 @@
+-- One token at a time leads through the tokens of a line.
 use Rattle.std.proofs.Common.{◌≡◌, ◌<◌, ◌≤◌, ◌+◌, ◌-◌, ℕ, zero, suc, Bool, true, false, cond, None, Some, List, [], ◌∷◌, length, take, drop, nat_eq, arith, add-zero, sym, ◌∙◌, ap, subst, refl, length-append, lit<, ◌==◌, ◌&&◌}
 use Rattle.std.proofs.lemmas.Bool.Decides.{Decides-eqb, nat_tests}
 use Rattle.std.proofs.lemmas.List.Folds.{length-prefix_len}
@@ -14,7 +15,7 @@ use Rattle.lexer.specs.declared.token.TokenKind.TheVariants as token
 use Rattle.dep_model.specs.Names.{is_name, is_name_byte}
 use Rattle.lexer.specs.Bytes.{is_gap, is_number, number_of, run_length}
 use Rattle.lexer.specs.Pieces.{front, run_piece, takes_numbers, takes_comments}
-use Rattle.lexer.specs.Tokens.{lexed, led_by_mark, Leads, IsBehind}
+use Rattle.lexer.specs.Tokens.{lexed, led_by_mark, Leads, StandsAfter}
 
 -- only gaps stand before what is left of the text
 pub record IsReached (m : Mode) (start : ℕ) (text : List ℕ) (column : ℕ) (rest : List ℕ) : Type 0 where
@@ -158,7 +159,7 @@ token_leads m start text column rest k n word after reached some e is_word_here 
 
 pub token_after : (m : Mode) (start : ℕ) (text : List ℕ) (column : ℕ) (rest : List ℕ) (k : TokenKind) (n : ℕ) (after : List ℕ)
     → IsReached m start text column rest → LiesIn rest n → length after + n ≡ length rest
-    → IsBehind start text (record { kind = k; column = column; length = n }) after
+    → StandsAfter start text (record { kind = k; column = column; length = n }) after
 token_after m start text column rest k n after reached lies size = record {
   from_on = reached.from_on;
   fits = omega (arith, reached.fits);

@@ -64,12 +64,12 @@ GoesOn m (next.Token t word rest) all = Leads m t word.now rest.now all
 GoesOn m (next.Stop s) all = all ≡ record { marks = []; stop = Some s }
 
 -- a token stands after the column, and takes at least one byte of the text
-pub record IsBehind (column : ℕ) (text : List ℕ) (t : Token) (rest : List ℕ) : Type 0 where
+pub record StandsAfter (column : ℕ) (text : List ℕ) (t : Token) (rest : List ℕ) : Type 0 where
   pub from_on : column ≤ t.column
   pub fits : (t.column + t.length) + length rest ≡ column + length text
   pub shorter : length rest < length text
 
 abbrev pub Advances : ℕ → List ℕ → Next → Type 0
 Advances column text next.End = Unit {0}
-Advances column text (next.Token t word rest) = IsBehind column text t rest.now
+Advances column text (next.Token t word rest) = StandsAfter column text t rest.now
 Advances column text (next.Stop s) = Unit {0}

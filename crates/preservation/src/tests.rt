@@ -13,10 +13,7 @@ use std::test::Fail;
 
 fn schema(rt: &(impl Alloc<A = Global> + Abort), text: &[u8]) -> Schema {
     assert!(rt; text.len() <= MOST_TEXT_BYTES);
-    match read_schema(rt.alloc(), text) {
-        Ok(schema) => schema,
-        Err(refusal) => panic!(rt; "{text:?} is refused: {refusal:?}"),
-    }
+    read_schema(rt.alloc(), text).expect(rt, "a schema")
 }
 
 fn are_within(schema: &Schema, schemes: &[AttrSet]) -> bool

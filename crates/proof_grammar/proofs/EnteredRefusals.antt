@@ -24,7 +24,7 @@ use Rattle.proof_grammar.proofs.PreparedLaws.{IsLineOfAttributes}
 use Rattle.proof_grammar.proofs.EnteredLaws.{Follows, IsEntered, used_after, entered_there}
 use Rattle.proof_grammar.specs.Wrongs.{NamesNoLine, UsesTwice, NodeFault, Wrong, rank, IsFirstWrong}
 use Rattle.proof_grammar.proofs.OneTree.{tree_of_line}
-use Rattle.proof_grammar.proofs.WrongLemmas.{IsBehind, first_of, no_fault, one_of_rank}
+use Rattle.proof_grammar.proofs.WrongLemmas.{NoneOfLowerRank, first_of, no_fault, one_of_rank}
 use Rattle.proof_grammar.proofs.PreparedRefusals.{NamesNone, IsTwice, AllEarlier, AllOnce, one_earlier, two_earlier, IsOutcome, Prepares, prepares}
 
 -- ---- the premises of a line, as its uses
@@ -60,15 +60,15 @@ Refused s lines ts l (Err c) = IsFirstWrong s lines ts l c
 
 bind_refused : {A B : Type 0} (s : Schema) (lines : List Line) (ts : List Tree) (l : Line) (r : Result A Complaint) (f : A → Result B Complaint) → Refused s lines ts l r
     → ((x : A) → r ≡ Ok x → Refused s lines ts l (f x)) → Refused s lines ts l (r >>= f)
-bind_refused s lines ts l (Ok x) f first behind = behind x refl
-bind_refused s lines ts l (Err c) f first behind = first
+bind_refused s lines ts l (Ok x) f first afterwards = afterwards x refl
+bind_refused s lines ts l (Err c) f first afterwards = first
 
-first_wrong : (s : Schema) (lines : List Line) (ts : List Tree) (l : Line) (c : Complaint) → Wrong s lines ts l c → IsBehind s lines ts l (rank c) → IsFirstWrong s lines ts l c
-first_wrong s lines ts l c wrong behind = record { wrong = wrong; first = first_of s lines ts l (rank c) behind }
+first_wrong : (s : Schema) (lines : List Line) (ts : List Tree) (l : Line) (c : Complaint) → Wrong s lines ts l c → NoneOfLowerRank s lines ts l (rank c) → IsFirstWrong s lines ts l c
+first_wrong s lines ts l c wrong afterwards = record { wrong = wrong; first = first_of s lines ts l (rank c) afterwards }
 
 -- what is asked of a later complaint alone
 later : {A : Type 0} (j k : ℕ) → k ≤ j → j < k → A
-later j k before behind = let none : ⊥ = omega (arith, before, behind) in absurd none
+later j k before afterwards = let none : ⊥ = omega (arith, before, afterwards) in absurd none
 
 -- ---- what is settled
 settled_refused : (s : Schema) (lines : List Line) (ts : List Tree) (l : Line) (p : Prepared) → l.number ≡ length ts + 1 → AllEarlier ts (premises_of l.body)
@@ -76,9 +76,9 @@ settled_refused : (s : Schema) (lines : List Line) (ts : List Tree) (l : Line) (
 unfolding settled
 settled_refused s lines ts l p number earlier once is = limits (nat_le MOST_NODES (length ts)) (nat_lt MOST_LEVELS p.levels) refl refl
   where
-    behind : (k : ℕ) → 4 < k → k < 9 → (5 < k → length ts < MOST_NODES) → (6 < k → p.levels ≤ MOST_LEVELS) → (7 < k → (why : FaultKind) → NodeFault s ts l l.body why → ⊥)
-        → IsBehind s lines ts l k
-    behind k low high few_lines few_levels sound = record {
+    afterwards : (k : ℕ) → 4 < k → k < 9 → (5 < k → length ts < MOST_NODES) → (6 < k → p.levels ≤ MOST_LEVELS) → (7 < k → (why : FaultKind) → NodeFault s ts l l.body why → ⊥)
+        → NoneOfLowerRank s lines ts l k
+    afterwards k low high few_lines few_levels sound = record {
       low = omega (arith, low);
       high = high;
       number = λ h. number;
@@ -96,23 +96,23 @@ settled_refused s lines ts l p number earlier once is = limits (nat_le MOST_NODE
         let gives = is.gives u d concludes in
         let differ : l.stated ≡ d → ⊥ = λ e. let is_same : same_dependency l.stated d ≡ true = subst (λ x. same_dependency l.stated x ≡ true) e (same_self l.stated) in cc in
         first_wrong s lines ts l (states_other l.stated d) (refl, record { tree = u; is = gives.0; proves = gives.1; other = differ })
-        (behind 8 (omega arith) (omega arith) (λ h. few_lines) (λ h. few_levels) (λ h why fault. no_fault s ts l l.body u d why gives.0 gives.1 fault))
+        (afterwards 8 (omega arith) (omega arith) (λ h. few_lines) (λ h. few_levels) (λ h why fault. no_fault s ts l l.body u d why gives.0 gives.1 fault))
 
     concluded : (r : Result (Tree × Dependency) FaultKind) → length ts < MOST_NODES → p.levels ≤ MOST_LEVELS → p.outcome ≡ r → Refused s lines ts l (concluded_as l.number l.stated p.levels r)
     concluded (Ok x) few_lines few_levels concludes = other x.0 x.1 (same_dependency l.stated x.1) few_lines few_levels concludes refl
     concluded (Err why) few_lines few_levels concludes =
         first_wrong s lines ts l (unsound (record { node = l.number; kind = why })) (refl, is.fails why concludes)
-        (behind 7 (omega arith) (omega arith) (λ h. few_lines) (λ h. few_levels) (later 7 7 (omega arith)))
+        (afterwards 7 (omega arith) (omega arith) (λ h. few_lines) (λ h. few_levels) (later 7 7 (omega arith)))
 
     limits : (a b : Bool) → nat_le MOST_NODES (length ts) ≡ a → nat_lt MOST_LEVELS p.levels ≡ b
         → Refused s lines ts l (cond a (Err too_many_lines) (cond b (Err too_deep) (concluded_as l.number l.stated p.levels p.outcome)))
     limits true b many deep =
-        first_wrong s lines ts l too_many_lines (grind (arith, nat_tests, many)) (behind 5 (omega arith) (omega arith) (later 5 5 (omega arith)) (later 6 5 (omega arith)) (later 7 5 (omega arith)))
+        first_wrong s lines ts l too_many_lines (grind (arith, nat_tests, many)) (afterwards 5 (omega arith) (omega arith) (later 5 5 (omega arith)) (later 6 5 (omega arith)) (later 7 5 (omega arith)))
     limits false true many deep =
         let over : MOST_LEVELS < p.levels = grind (arith, nat_tests, deep) in
         let tree = is.deep over in
         first_wrong s lines ts l too_deep (record { tree = tree.0; is = tree.1; deep = omega (arith, over, is.levels tree.0 tree.1) })
-        (behind 6 (omega arith) (omega arith) (λ h. grind (arith, nat_tests, many)) (later 6 6 (omega arith)) (later 7 6 (omega arith)))
+        (afterwards 6 (omega arith) (omega arith) (λ h. grind (arith, nat_tests, many)) (later 6 6 (omega arith)) (later 7 6 (omega arith)))
     limits false false many deep = concluded p.outcome (grind (arith, nat_tests, many)) (grind (arith, nat_tests, deep)) refl
 
 -- ---- what is entered
@@ -157,17 +157,17 @@ outcome_refused s at lines ts book l follows own = told (l.number == length book
     settle : Prepared → Result Opened Complaint
     settle p = settled (length book.unused) l p.levels p.outcome
 
-    behind : l.number ≡ length ts + 1 → (r : Result Prepared Complaint) → Prepares s (λ n. uses n lines) ts l r
+    afterwards : l.number ≡ length ts + 1 → (r : Result Prepared Complaint) → Prepares s (λ n. uses n lines) ts l r
         → Refused s lines ts l (r >>= λ p. settle p >>= λ o. Ok (add_line at book.lines p.unused o))
-    behind number (Err c) why = complaint_first s lines ts l c number why
-    behind number (Ok p) is =
+    afterwards number (Err c) why = complaint_first s lines ts l c number why
+    afterwards number (Ok p) is =
         let settles : Refused s lines ts l (settle p) =
         subst (λ n. Refused s lines ts l (settled n l p.levels p.outcome)) (sym size) (settled_refused s lines ts l p number is.0 is.1 is.2) in
         bind_refused s lines ts l (settle p) (λ o. Ok (add_line at book.lines p.unused o)) settles (λ o e. tt)
 
     told : (b : Bool) → (l.number == length book.unused + 1) ≡ b
         → Refused s lines ts l (cond b (prepared s book.unused l.stated l.body >>= λ p. settle p >>= λ o. Ok (add_line at book.lines p.unused o)) (Err wrong_number))
-    told true e = behind (grind (arith, nat_tests, e, size)) (prepared s book.unused l.stated l.body) (prepares s (λ n. uses n lines) ts book.unused l follows.slots own)
+    told true e = afterwards (grind (arith, nat_tests, e, size)) (prepared s book.unused l.stated l.body) (prepares s (λ n. uses n lines) ts book.unused l follows.slots own)
     told false e = first_wrong s lines ts l wrong_number (λ is. grind (arith, nat_tests, e, size, is)) (record {
       low = omega arith;
       high = omega arith;

@@ -81,10 +81,10 @@ pub record ShapeWants (s : Shape) (ms : List Mark) (p : ℕ) (w : What) : Type 0
 
 -- what a reading says of the tokens from here on
 abbrev pub Judged : Shape → List (List ℕ) → ℕ → ℕ → List Mark → Option Stop → Result Line SchemaRefusal → Type 0
-Judged s names line behind ms stop (Ok l) = Ends s (forms ms) × (stop ≡ None) ×
+Judged s names line next_column ms stop (Ok l) = Ends s (forms ms) × (stop ≡ None) ×
     ((p n : ℕ) → Wrong s names ms stop p n → ⊥)
-Judged s names line behind ms stop (Err e) = IsFirst (Wrong s names ms stop) (ShapeWants s ms)
-    (span_at line behind ms stop) e
+Judged s names line next_column ms stop (Err e) = IsFirst (Wrong s names ms stop) (ShapeWants s ms)
+    (span_at line next_column ms stop) e
 
 -- ---- one token later
 abbrev form : Mark → Form
@@ -127,10 +127,10 @@ wants_later s t m ms goes p w wants = record {
 }
 
 -- a token by which the reading goes on
-pub goes_on : (s t : Shape) (names : List (List ℕ)) (line behind : ℕ) (m : Mark) (ms : List Mark)
+pub goes_on : (s t : Shape) (names : List (List ℕ)) (line next_column : ℕ) (m : Mark) (ms : List Mark)
     (stop : Option Stop) (r : Result Line SchemaRefusal) → turn s (form m) ≡ Some t → IsRight s names m
-    → Judged t names line (m.column + length m.word) ms stop r → Judged s names line behind (m ∷ ms) stop r
-goes_on s t names line behind m ms stop (Ok l) goes right rest = (
+    → Judged t names line (m.column + length m.word) ms stop r → Judged s names line next_column (m ∷ ms) stop r
+goes_on s t names line next_column m ms stop (Ok l) goes right rest = (
   record {
     last = rest.0.last;
     leads = ap (λ o. bind o (λ u. runs u (forms ms))) goes ∙ rest.0.leads;
@@ -144,20 +144,20 @@ goes_on s t names line behind m ms stop (Ok l) goes right rest = (
     none : (p n : ℕ) → Wrong s names (m ∷ ms) stop p n → ⊥
     none zero n h = fine_here s t names m ms stop goes right n h
     none (suc p) n h = rest.2 p n (wrong_later s t names m ms stop goes p n h)
-goes_on s t names line behind m ms stop (Err e) goes right rest =
+goes_on s t names line next_column m ms stop (Err e) goes right rest =
     first_later (Wrong s names (m ∷ ms) stop) (Wrong t names ms stop) (ShapeWants s (m ∷ ms)) (ShapeWants t ms)
-    (span_at line behind (m ∷ ms) stop)
+    (span_at line next_column (m ∷ ms) stop)
     (span_at line (m.column + length m.word) ms stop) e (fine_here s t names m ms stop goes right)
     (wrong_later s t names m ms stop goes) (wrong_earlier s t names m ms stop goes)
     (wants_later s t m ms goes) (λ p. refl) rest
 
 -- ---- the reading ends here
 -- a token at which the grammar can't go on
-pub stuck_here : (s : Shape) (names : List (List ℕ)) (line behind : ℕ) (m : Mark) (ms : List Mark)
+pub stuck_here : (s : Shape) (names : List (List ℕ)) (line next_column : ℕ) (m : Mark) (ms : List Mark)
     (stop : Option Stop) (w : What) → turn s (form m) ≡ None → IsRight s names m → w ≡ wanted_by s
-    → Judged s names line behind (m ∷ ms) stop (Err (refusal line m.column (length m.word) (kind.Expected w)))
-stuck_here s names line behind m ms stop w cannot right wants =
-    first_here (Wrong s names (m ∷ ms) stop) (ShapeWants s (m ∷ ms)) (span_at line behind (m ∷ ms) stop)
+    → Judged s names line next_column (m ∷ ms) stop (Err (refusal line m.column (length m.word) (kind.Expected w)))
+stuck_here s names line next_column m ms stop w cannot right wants =
+    first_here (Wrong s names (m ∷ ms) stop) (ShapeWants s (m ∷ ms)) (span_at line next_column (m ∷ ms) stop)
     (refusal line m.column (length m.word) (kind.Expected w))
     (inl (inr (refl, cannot))) (record { shape = s; reached = refl; is = wants }) refl small
   where
@@ -167,12 +167,12 @@ stuck_here s names line behind m ms stop w cannot right wants =
     small n (inr flaw) = let end : 0 ≡ length (m ∷ ms) = flaw.2 in absurd (omega arith)
 
 -- the line's end at which it can't
-pub end_here : (s : Shape) (names : List (List ℕ)) (line behind : ℕ) (w : What) → is_final s ≡ false
+pub end_here : (s : Shape) (names : List (List ℕ)) (line next_column : ℕ) (w : What) → is_final s ≡ false
     → w ≡ wanted_by s
-    → Judged s names line behind [] None (Err (refusal line behind 0 (kind.Expected w)))
-end_here s names line behind w open_end wants =
-    first_here (Wrong s names [] None) (ShapeWants s []) (span_at line behind [] None)
-    (refusal line behind 0 (kind.Expected w))
+    → Judged s names line next_column [] None (Err (refusal line next_column 0 (kind.Expected w)))
+end_here s names line next_column w open_end wants =
+    first_here (Wrong s names [] None) (ShapeWants s []) (span_at line next_column [] None)
+    (refusal line next_column 0 (kind.Expected w))
     (inl (refl, refl, open_end)) (record { shape = s; reached = refl; is = wants }) refl small
   where
     small : (n : ℕ) → Wrong s names [] None 0 n → 6 ≤ n
@@ -180,10 +180,10 @@ end_here s names line behind w open_end wants =
     small n (inr flaw) = cc
 
 -- bytes that are no token
-pub flaw_here : (s : Shape) (names : List (List ℕ)) (line behind : ℕ) (stop : Stop)
-    → Judged s names line behind [] (Some stop) (Err (refused_by line stop))
-flaw_here s names line behind stop =
-    first_here (Wrong s names [] (Some stop)) (ShapeWants s []) (span_at line behind [] (Some stop))
+pub flaw_here : (s : Shape) (names : List (List ℕ)) (line next_column : ℕ) (stop : Stop)
+    → Judged s names line next_column [] (Some stop) (Err (refused_by line stop))
+flaw_here s names line next_column stop =
+    first_here (Wrong s names [] (Some stop)) (ShapeWants s []) (span_at line next_column [] (Some stop))
     (refused_by line stop)
     (inr (stop, refl, refl, flaw_numbered stop.flaw)) (flaw_carries (ShapeWants s [] 0) stop.flaw) refl small
   where

@@ -17,54 +17,54 @@ use Rattle.proof_grammar.proofs.JudgedSides.{side_judged}
 use Rattle.proof_grammar.proofs.JudgedTokens.{left_at, assoc, PastSide, Halts, first_judged, premise_judged, arrow_judged, closing_judged, colon_judged, with_judged, rule_judged, end_halts, side_halts, end_judged}
 
 -- a reading is judged as the same one with its steps in a row
-in_row : {A B : Type 0} (s : Shape) (names : List (List ℕ)) (at behind : ℕ) (ms : List Mark) (stop : Option Stop)
+in_row : {A B : Type 0} (s : Shape) (names : List (List ℕ)) (at next_column : ℕ) (ms : List Mark) (stop : Option Stop)
     (m : Result A SchemaRefusal) (f : A → Result B SchemaRefusal) (g : B → Result Line SchemaRefusal)
-    → Judged s names at behind ms stop (m >>= λ x. f x >>= g) → Judged s names at behind ms stop ((m >>= f) >>= g)
-in_row s names at behind ms stop m f g judged = subst (Judged s names at behind ms stop) (sym (assoc m f g)) judged
+    → Judged s names at next_column ms stop (m >>= λ x. f x >>= g) → Judged s names at next_column ms stop ((m >>= f) >>= g)
+in_row s names at next_column ms stop m f g judged = subst (Judged s names at next_column ms stop) (sym (assoc m f g)) judged
 
 -- ---- the rule
 -- what follows the rule, from any column
 abbrev FollowsRule : List (List ℕ) → ℕ → Option Stop → (Body × Rest → Result Line SchemaRefusal) → Type 0
 FollowsRule names at stop f =
-    (b : Body) (s : Shape) (behind : ℕ) (ms : List Mark) → Halts s names ms
-    → Judged s names at behind ms stop (f (b, left_at at behind ms stop))
+    (b : Body) (s : Shape) (next_column : ℕ) (ms : List Mark) → Halts s names ms
+    → Judged s names at next_column ms stop (f (b, left_at at next_column ms stop))
 
-one_judged : (r : Step) (names : List (List ℕ)) (at behind : ℕ) (ms : List Mark) (stop : Option Stop)
+one_judged : (r : Step) (names : List (List ℕ)) (at next_column : ℕ) (ms : List Mark) (stop : Option Stop)
     (f : Body × Rest → Result Line SchemaRefusal) → FollowsRule names at stop f
-    → Judged (at_premise nothing) names at behind ms stop (one r (left_at at behind ms stop) >>= f)
+    → Judged (at_premise nothing) names at next_column ms stop (one r (left_at at next_column ms stop) >>= f)
 unfolding one
-one_judged r names at behind ms stop f follows =
-    in_row (at_premise nothing) names at behind ms stop (number (left_at at behind ms stop)) _ f
-    (premise_judged nothing names at behind ms stop _ (λ p from ns. follows (by_step r p) at_end from ns
+one_judged r names at next_column ms stop f follows =
+    in_row (at_premise nothing) names at next_column ms stop (number (left_at at next_column ms stop)) _ f
+    (premise_judged nothing names at next_column ms stop _ (λ p from ns. follows (by_step r p) at_end from ns
     (end_halts names ns)))
 
-given_judged : (names : List (List ℕ)) (at behind : ℕ) (ms : List Mark) (stop : Option Stop)
+given_judged : (names : List (List ℕ)) (at next_column : ℕ) (ms : List Mark) (stop : Option Stop)
     (f : Body × Rest → Result Line SchemaRefusal) → FollowsRule names at stop f
-    → Judged (at_premise nothing) names at behind ms stop (body names rule.Given (left_at at behind ms stop) >>= f)
+    → Judged (at_premise nothing) names at next_column ms stop (body names rule.Given (left_at at next_column ms stop) >>= f)
 unfolding body
-given_judged names at behind ms stop f follows =
-    in_row (at_premise nothing) names at behind ms stop (number (left_at at behind ms stop)) _ f
-    (premise_judged nothing names at behind ms stop _ (λ k from ns. follows (by_given k) at_end from ns
+given_judged names at next_column ms stop f follows =
+    in_row (at_premise nothing) names at next_column ms stop (number (left_at at next_column ms stop)) _ f
+    (premise_judged nothing names at next_column ms stop _ (λ k from ns. follows (by_given k) at_end from ns
     (end_halts names ns)))
 
-two_judged : (r : Pair) (names : List (List ℕ)) (at behind : ℕ) (ms : List Mark) (stop : Option Stop)
+two_judged : (r : Pair) (names : List (List ℕ)) (at next_column : ℕ) (ms : List Mark) (stop : Option Stop)
     (f : Body × Rest → Result Line SchemaRefusal) → FollowsRule names at stop f
-    → Judged (at_premise second) names at behind ms stop (two r (left_at at behind ms stop) >>= f)
+    → Judged (at_premise second) names at next_column ms stop (two r (left_at at next_column ms stop) >>= f)
 unfolding two
-two_judged r names at behind ms stop f follows =
-    in_row (at_premise second) names at behind ms stop (number (left_at at behind ms stop)) _ f
-    (premise_judged second names at behind ms stop _
+two_judged r names at next_column ms stop f follows =
+    in_row (at_premise second) names at next_column ms stop (number (left_at at next_column ms stop)) _ f
+    (premise_judged second names at next_column ms stop _
     (λ p from ns. in_row (at_premise nothing) names at from ns stop (number (left_at at from ns stop)) _ f
     (premise_judged nothing names at from ns stop _ (λ q to ks. follows (by_pair r p q) at_end to ks
     (end_halts names ks)))))
 
-augmented_judged : (names : List (List ℕ)) (at behind : ℕ) (ms : List Mark) (stop : Option Stop)
+augmented_judged : (names : List (List ℕ)) (at next_column : ℕ) (ms : List Mark) (stop : Option Stop)
     (f : Body × Rest → Result Line SchemaRefusal) → FollowsRule names at stop f
-    → Judged (at_premise (sets by)) names at behind ms stop (augmented names (left_at at behind ms stop) >>= f)
+    → Judged (at_premise (sets by)) names at next_column ms stop (augmented names (left_at at next_column ms stop) >>= f)
 unfolding augmented
-augmented_judged names at behind ms stop f follows =
-    in_row (at_premise (sets by)) names at behind ms stop (number (left_at at behind ms stop)) _ f
-    (premise_judged (sets by) names at behind ms stop _
+augmented_judged names at next_column ms stop f follows =
+    in_row (at_premise (sets by)) names at next_column ms stop (number (left_at at next_column ms stop)) _ f
+    (premise_judged (sets by) names at next_column ms stop _
     (λ p from ns. in_row _ names at from ns stop (with_word (left_at at from ns stop)) _ f
     (with_judged by names at from ns stop _
     (λ to ks. in_row _ names at to ks stop (side names (left_at at to ks stop)) _ f
@@ -72,13 +72,13 @@ augmented_judged names at behind ms stop f follows =
     (λ z s last ls past. follows (by_step (augmentation z) p) s last ls
     (side_halts by s names ls refl refl refl refl past)))))))
 
-maugmented_judged : (names : List (List ℕ)) (at behind : ℕ) (ms : List Mark) (stop : Option Stop)
+maugmented_judged : (names : List (List ℕ)) (at next_column : ℕ) (ms : List Mark) (stop : Option Stop)
     (f : Body × Rest → Result Line SchemaRefusal) → FollowsRule names at stop f
-    → Judged (at_premise (sets wide)) names at behind ms stop (maugmented names (left_at at behind ms stop) >>= f)
+    → Judged (at_premise (sets wide)) names at next_column ms stop (maugmented names (left_at at next_column ms stop) >>= f)
 unfolding maugmented
-maugmented_judged names at behind ms stop f follows =
-    in_row (at_premise (sets wide)) names at behind ms stop (number (left_at at behind ms stop)) _ f
-    (premise_judged (sets wide) names at behind ms stop _
+maugmented_judged names at next_column ms stop f follows =
+    in_row (at_premise (sets wide)) names at next_column ms stop (number (left_at at next_column ms stop)) _ f
+    (premise_judged (sets wide) names at next_column ms stop _
     (λ p from ns. in_row _ names at from ns stop (with_word (left_at at from ns stop)) _ f
     (with_judged wide names at from ns stop _
     (λ to ks. in_row _ names at to ks stop (side names (left_at at to ks stop)) _ f
@@ -90,53 +90,53 @@ maugmented_judged names at behind ms stop f follows =
     (λ z u last ts end. follows (by_step (maugmentation w z) p) u last ts
     (side_halts narrow u names ts refl refl refl refl end)))))))))))
 
-body_judged : (r : RuleName) (names : List (List ℕ)) (at behind : ℕ) (ms : List Mark) (stop : Option Stop)
+body_judged : (r : RuleName) (names : List (List ℕ)) (at next_column : ℕ) (ms : List Mark) (stop : Option Stop)
     (f : Body × Rest → Result Line SchemaRefusal) → FollowsRule names at stop f
-    → Judged (named r) names at behind ms stop (body names r (left_at at behind ms stop) >>= f)
+    → Judged (named r) names at next_column ms stop (body names r (left_at at next_column ms stop) >>= f)
 unfolding body
-body_judged rule.Given names at behind ms stop f follows = given_judged names at behind ms stop f follows
-body_judged rule.Reflexivity names at behind ms stop f follows = follows by_reflexivity at_end behind ms
+body_judged rule.Given names at next_column ms stop f follows = given_judged names at next_column ms stop f follows
+body_judged rule.Reflexivity names at next_column ms stop f follows = follows by_reflexivity at_end next_column ms
     (end_halts names ms)
-body_judged rule.MReflexivity names at behind ms stop f follows = follows by_mreflexivity at_end behind ms
+body_judged rule.MReflexivity names at next_column ms stop f follows = follows by_mreflexivity at_end next_column ms
     (end_halts names ms)
-body_judged rule.Augmentation names at behind ms stop f follows = augmented_judged names at behind ms stop f follows
-body_judged rule.MAugmentation names at behind ms stop f follows = maugmented_judged names at behind ms stop f follows
-body_judged rule.Complementation names at behind ms stop f follows =
-    one_judged complementation names at behind ms stop f follows
-body_judged rule.Replication names at behind ms stop f follows =
-    one_judged replication names at behind ms stop f follows
-body_judged rule.Transitivity names at behind ms stop f follows =
-    two_judged transitivity names at behind ms stop f follows
-body_judged rule.MTransitivity names at behind ms stop f follows =
-    two_judged mtransitivity names at behind ms stop f follows
-body_judged rule.Coalescence names at behind ms stop f follows =
-    two_judged coalescence names at behind ms stop f follows
+body_judged rule.Augmentation names at next_column ms stop f follows = augmented_judged names at next_column ms stop f follows
+body_judged rule.MAugmentation names at next_column ms stop f follows = maugmented_judged names at next_column ms stop f follows
+body_judged rule.Complementation names at next_column ms stop f follows =
+    one_judged complementation names at next_column ms stop f follows
+body_judged rule.Replication names at next_column ms stop f follows =
+    one_judged replication names at next_column ms stop f follows
+body_judged rule.Transitivity names at next_column ms stop f follows =
+    two_judged transitivity names at next_column ms stop f follows
+body_judged rule.MTransitivity names at next_column ms stop f follows =
+    two_judged mtransitivity names at next_column ms stop f follows
+body_judged rule.Coalescence names at next_column ms stop f follows =
+    two_judged coalescence names at next_column ms stop f follows
 
 -- ---- the dependency
 abbrev FollowsDependency : List (List ℕ) → ℕ → Option Stop → (Dependency × Rest → Result Line SchemaRefusal)
     → Type 0
 FollowsDependency names at stop f =
-    (d : Dependency) (s : Shape) (behind : ℕ) (ms : List Mark) → PastSide rhs s names ms
-    → Judged s names at behind ms stop (f (d, left_at at behind ms stop))
+    (d : Dependency) (s : Shape) (next_column : ℕ) (ms : List Mark) → PastSide rhs s names ms
+    → Judged s names at next_column ms stop (f (d, left_at at next_column ms stop))
 
-dependency_judged : (names : List (List ℕ)) (at behind : ℕ) (ms : List Mark) (stop : Option Stop)
+dependency_judged : (names : List (List ℕ)) (at next_column : ℕ) (ms : List Mark) (stop : Option Stop)
     (f : Dependency × Rest → Result Line SchemaRefusal) → FollowsDependency names at stop f
-    → Judged (at_side lhs) names at behind ms stop (stated_dependency names (left_at at behind ms stop) >>= f)
+    → Judged (at_side lhs) names at next_column ms stop (stated_dependency names (left_at at next_column ms stop) >>= f)
 unfolding stated_dependency
-dependency_judged names at behind ms stop f follows =
-    in_row (at_side lhs) names at behind ms stop (side names (left_at at behind ms stop)) _ f
-    (side_judged lhs names at behind ms stop _
+dependency_judged names at next_column ms stop f follows =
+    in_row (at_side lhs) names at next_column ms stop (side names (left_at at next_column ms stop)) _ f
+    (side_judged lhs names at next_column ms stop _
     (λ x s from ns past. in_row s names at from ns stop (arrow (left_at at from ns stop)) _ f
     (arrow_judged s names at from ns stop _ past
     (λ a to ks. in_row (at_side rhs) names at to ks stop (side names (left_at at to ks stop)) _ f
     (side_judged rhs names at to ks stop _ (λ y u last ls end. follows (grammar.stated a x y) u last ls end))))))
 
 -- ---- the line
-pub line_judged : (names : List (List ℕ)) (at behind : ℕ) (ms : List Mark) (stop : Option Stop)
-    → Judged at_start names at behind ms stop (line names (left_at at behind ms stop))
+pub line_judged : (names : List (List ℕ)) (at next_column : ℕ) (ms : List Mark) (stop : Option Stop)
+    → Judged at_start names at next_column ms stop (line names (left_at at next_column ms stop))
 unfolding line line_from take
-line_judged names at behind ms stop =
-    first_judged names at behind ms stop _
+line_judged names at next_column ms stop =
+    first_judged names at next_column ms stop _
     (λ n a ks. colon_judged names at a ks stop _
     (λ b bs. dependency_judged names at b bs stop _
     (λ d s c cs past. closing_judged rhs s at_rule names at c cs stop _ refl refl refl refl past

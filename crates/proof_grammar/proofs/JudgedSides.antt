@@ -24,13 +24,13 @@ use Rattle.proof_grammar.proofs.SideLaws.{word_is}
 
 -- ---- a word
 -- a word that is no name
-name_here : (s : Shape) (names : List (List ℕ)) (line behind : ℕ) (m : Mark) (ms : List Mark) (stop : Option Stop)
+name_here : (s : Shape) (names : List (List ℕ)) (line next_column : ℕ) (m : Mark) (ms : List Mark) (stop : Option Stop)
     (b : Bool) → is_reserved format.Plain m.word ≡ b → takes_words s ≡ true
     → m.kind ≡ token.Word → (b ≡ false → place_named names m.word ≡ None)
-    → Judged s names line behind (m ∷ ms) stop
+    → Judged s names line next_column (m ∷ ms) stop
     (Err (refusal line m.column (length m.word) (cond b kind.ReservedName kind.UnknownName)))
-name_here s names line behind m ms stop true reserved takes word unknown =
-    first_here (Wrong s names (m ∷ ms) stop) (ShapeWants s (m ∷ ms)) (span_at line behind (m ∷ ms) stop)
+name_here s names line next_column m ms stop true reserved takes word unknown =
+    first_here (Wrong s names (m ∷ ms) stop) (ShapeWants s (m ∷ ms)) (span_at line next_column (m ∷ ms) stop)
     (refusal line m.column (length m.word) kind.ReservedName)
     (inl (inl (takes, (word, inl (refl, reserved))))) tt refl small
   where
@@ -39,8 +39,8 @@ name_here s names line behind m ms stop true reserved takes word unknown =
     small n (inl (inl (on, (is, inr five)))) = omega (arith, five.0)
     small n (inl (inr six)) = omega (arith, six.0)
     small n (inr flaw) = let end : 0 ≡ length (m ∷ ms) = flaw.2 in absurd (omega arith)
-name_here s names line behind m ms stop false free takes word unknown =
-    first_here (Wrong s names (m ∷ ms) stop) (ShapeWants s (m ∷ ms)) (span_at line behind (m ∷ ms) stop)
+name_here s names line next_column m ms stop false free takes word unknown =
+    first_here (Wrong s names (m ∷ ms) stop) (ShapeWants s (m ∷ ms)) (span_at line next_column (m ∷ ms) stop)
     (refusal line m.column (length m.word) kind.UnknownName)
     (inl (inl (takes, (word, inr (refl, unknown refl))))) tt refl small
   where
@@ -55,21 +55,21 @@ known_right : (s : Shape) (names : List (List ℕ)) (m : Mark) (a : ℕ) → is_
 known_right s names m a free place n on (word, inl three) = true≢false (sym three.1 ∙ free)
 known_right s names m a free place n on (word, inr five) = let wrong : Some a ≡ None = sym place ∙ five.1 in cc
 
-word_judged : (s t : Shape) (names : List (List ℕ)) (line behind : ℕ) (m : Mark) (ms : List Mark)
+word_judged : (s t : Shape) (names : List (List ℕ)) (line next_column : ℕ) (m : Mark) (ms : List Mark)
     (stop : Option Stop) (g : ℕ → Result Line SchemaRefusal) → m.kind ≡ token.Word → takes_words s ≡ true
     → turn s (form m) ≡ Some t → ((a : ℕ) → Judged t names line (m.column + length m.word) ms stop (g a))
-    → Judged s names line behind (m ∷ ms) stop (place names line m >>= g)
+    → Judged s names line next_column (m ∷ ms) stop (place names line m >>= g)
 unfolding looked_up
-word_judged s t names line behind m ms stop g word takes on rest = told (is_reserved format.Plain m.word)
+word_judged s t names line next_column m ms stop g word takes on rest = told (is_reserved format.Plain m.word)
     (place_named names m.word) refl refl
   where
     told : (b : Bool) (o : Option ℕ) → is_reserved format.Plain m.word ≡ b → place_named names m.word ≡ o
-        → Judged s names line behind (m ∷ ms) stop
+        → Judged s names line next_column (m ∷ ms) stop
         (at line m.column (length m.word) (cond b (Err kind.ReservedName) (known o)) >>= g)
-    told true o reserved named = name_here s names line behind m ms stop true reserved takes word
+    told true o reserved named = name_here s names line next_column m ms stop true reserved takes word
         (λ wrong. absurd (true≢false wrong))
-    told false None free named = name_here s names line behind m ms stop false free takes word (λ _. named)
-    told false (Some a) free named = goes_on s t names line behind m ms stop (g a) on
+    told false None free named = name_here s names line next_column m ms stop false free takes word (λ _. named)
+    told false (Some a) free named = goes_on s t names line next_column m ms stop (g a) on
         (known_right s names m a free named) (rest a)
 
 -- ---- a side
@@ -77,8 +77,8 @@ word_judged s t names line behind m ms stop g word takes on rest = told (is_rese
 abbrev pub FollowsSide : Side → List (List ℕ) → ℕ → Option Stop → (Places × Rest → Result Line SchemaRefusal)
     → Type 0
 FollowsSide k names line stop f =
-    (x : Places) (s : Shape) (behind : ℕ) (ms : List Mark) → PastSide k s names ms
-    → Judged s names line behind ms stop (f (x, left_at line behind ms stop))
+    (x : Places) (s : Shape) (next_column : ℕ) (ms : List Mark) → PastSide k s names ms
+    → Judged s names line next_column ms stop (f (x, left_at line next_column ms stop))
 
 word_stays : (k : Side) (other : Form → Option Shape) (m : Mark) → m.kind ≡ token.Word
     → within k (form m) (other (form m)) ≡ Some (past_words k)
@@ -113,64 +113,64 @@ empty_past k names (m ∷ ms) = record {
       (refl, λ n on word. let wrong : false ≡ true = on in cc);
 }
 
-words_judged : (k : Side) (names : List (List ℕ)) (line : ℕ) (x : Places) (behind : ℕ) (ms : List Mark)
+words_judged : (k : Side) (names : List (List ℕ)) (line : ℕ) (x : Places) (next_column : ℕ) (ms : List Mark)
     (stop : Option Stop) (f : Places × Rest → Result Line SchemaRefusal) → FollowsSide k names line stop f
-    → Judged (past_words k) names line behind ms stop (words_from names line x behind ms stop >>= f)
+    → Judged (past_words k) names line next_column ms stop (words_from names line x next_column ms stop >>= f)
 unfolding words_from
-words_judged k names line x behind [] stop f follows = follows x (past_words k) behind []
+words_judged k names line x next_column [] stop f follows = follows x (past_words k) next_column []
     (record { wants = refl; final = refl; closes = tt })
-words_judged k names line x behind (m ∷ ms) stop f follows =
+words_judged k names line x next_column (m ∷ ms) stop f follows =
     told (is_word m.kind) refl (λ a. words_judged k names line (union x (only a))
     (m.column + length m.word) ms stop f follows)
   where
     told : (b : Bool) → is_word m.kind ≡ b
         → ((a : ℕ) → Judged (past_words k) names line (m.column + length m.word) ms stop
         (words_from names line (union x (only a)) (m.column + length m.word) ms stop >>= f))
-        → Judged (past_words k) names line behind (m ∷ ms) stop
+        → Judged (past_words k) names line next_column (m ∷ ms) stop
         (cond b (place names line m >>= λ a. words_from names line (union x (only a))
-        (m.column + length m.word) ms stop) (Ok (x, left_at line behind (m ∷ ms) stop)) >>= f)
+        (m.column + length m.word) ms stop) (Ok (x, left_at line next_column (m ∷ ms) stop)) >>= f)
     told true is rest =
         let word = word_is m.kind is in
-        subst (Judged (past_words k) names line behind (m ∷ ms) stop)
+        subst (Judged (past_words k) names line next_column (m ∷ ms) stop)
         (sym (assoc (place names line m) (λ a. words_from names line (union x (only a))
         (m.column + length m.word) ms stop) f))
-        (word_judged (past_words k) (past_words k) names line behind m ms stop _ word refl
+        (word_judged (past_words k) (past_words k) names line next_column m ms stop _ word refl
         (word_stays k (closing k) m word) rest)
-    told false is rest = follows x (past_words k) behind (m ∷ ms) (words_past k names m ms is)
+    told false is rest = follows x (past_words k) next_column (m ∷ ms) (words_past k names m ms is)
 
 -- a token with which no side begins
-no_side_here : (k : Side) (names : List (List ℕ)) (line behind : ℕ) (m : Mark) (ms : List Mark) (stop : Option Stop)
+no_side_here : (k : Side) (names : List (List ℕ)) (line next_column : ℕ) (m : Mark) (ms : List Mark) (stop : Option Stop)
     → is_word m.kind ≡ false → turn (at_side k) (form m) ≡ None
-    → Judged (at_side k) names line behind (m ∷ ms) stop
+    → Judged (at_side k) names line next_column (m ∷ ms) stop
     (Err (refusal line m.column (length m.word) (kind.Expected what.Side)))
-no_side_here k names line behind m ms stop other cannot = stuck_here
-    (at_side k) names line behind m ms stop what.Side cannot (not_word (at_side k) names m other) refl
+no_side_here k names line next_column m ms stop other cannot = stuck_here
+    (at_side k) names line next_column m ms stop what.Side cannot (not_word (at_side k) names m other) refl
 
-pub side_judged : (k : Side) (names : List (List ℕ)) (line behind : ℕ) (ms : List Mark) (stop : Option Stop)
+pub side_judged : (k : Side) (names : List (List ℕ)) (line next_column : ℕ) (ms : List Mark) (stop : Option Stop)
     (f : Places × Rest → Result Line SchemaRefusal) → FollowsSide k names line stop f
-    → Judged (at_side k) names line behind ms stop (side names (left_at line behind ms stop) >>= f)
+    → Judged (at_side k) names line next_column ms stop (side names (left_at line next_column ms stop) >>= f)
 unfolding side take
-side_judged k names line behind [] None f follows = end_here (at_side k) names line behind what.Side refl refl
-side_judged k names line behind [] (Some stop) f follows = flaw_here (at_side k) names line behind stop
-side_judged k names line behind (m ∷ ms) stop f follows = told m.kind refl
+side_judged k names line next_column [] None f follows = end_here (at_side k) names line next_column what.Side refl refl
+side_judged k names line next_column [] (Some stop) f follows = flaw_here (at_side k) names line next_column stop
+side_judged k names line next_column (m ∷ ms) stop f follows = told m.kind refl
   where
     leads : (kd : TokenKind) → m.kind ≡ kd → turn (at_side k) (form m) ≡ turn (at_side k) (form_of kd m.word)
     leads kd is = ap (λ (t : TokenKind). turn (at_side k) (form_of t m.word)) is
 
     told : (kd : TokenKind) → m.kind ≡ kd
-        → Judged (at_side k) names line behind (m ∷ ms) stop
+        → Judged (at_side k) names line next_column (m ∷ ms) stop
         (side_from names m (left_at line (m.column + length m.word) ms stop) kd >>= f)
     told token.Word is =
-        subst (Judged (at_side k) names line behind (m ∷ ms) stop)
+        subst (Judged (at_side k) names line next_column (m ∷ ms) stop)
         (sym (assoc (place names line m) (λ a. words_from names line (only a) (m.column + length m.word) ms stop) f))
-        (word_judged (at_side k) (past_words k) names line behind m ms stop _ is refl (word_stays k (begun k) m is)
+        (word_judged (at_side k) (past_words k) names line next_column m ms stop _ is refl (word_stays k (begun k) m is)
         (λ a. words_judged k names line (only a) (m.column + length m.word) ms stop f follows))
     told token.Empty is =
-        goes_on (at_side k) (past_empty k) names line behind m ms stop
+        goes_on (at_side k) (past_empty k) names line next_column m ms stop
         (f (none, left_at line (m.column + length m.word) ms stop)) (leads token.Empty is)
         (not_word (at_side k) names m (ap is_word is)) (follows none (past_empty k) (m.column + length m.word) ms
         (empty_past k names ms))
-    told (token.Number n) is = no_side_here k names line behind m ms stop (ap is_word is) (leads (token.Number n) is)
-    told token.Arrow is = no_side_here k names line behind m ms stop (ap is_word is) (leads token.Arrow is)
-    told token.DoubleArrow is = no_side_here k names line behind m ms stop (ap is_word is) (leads token.DoubleArrow is)
-    told token.Colon is = no_side_here k names line behind m ms stop (ap is_word is) (leads token.Colon is)
+    told (token.Number n) is = no_side_here k names line next_column m ms stop (ap is_word is) (leads (token.Number n) is)
+    told token.Arrow is = no_side_here k names line next_column m ms stop (ap is_word is) (leads token.Arrow is)
+    told token.DoubleArrow is = no_side_here k names line next_column m ms stop (ap is_word is) (leads token.DoubleArrow is)
+    told token.Colon is = no_side_here k names line next_column m ms stop (ap is_word is) (leads token.Colon is)

@@ -23,7 +23,7 @@ use Rattle.proof_grammar.proofs.JudgedLines.{IsRight, Judged, Wrong, goes_on, st
 
 -- what is left of a line
 abbrev pub left_at : ℕ → ℕ → List Mark → Option Stop → Rest
-left_at line behind ms stop = record { line = line; behind = behind; marks = ms; stop = stop }
+left_at line next_column ms stop = record { line = line; next_column = next_column; marks = ms; stop = stop }
 
 pub assoc : {A B C E : Type 0} (m : Result A E) (f : A → Result B E) (g : B → Result C E)
     → (m >>= f) >>= g ≡ m >>= (λ x. f x >>= g)
@@ -47,28 +47,28 @@ NextGoes s names found t (m ∷ ms) = GoesAs t (found m) (turn s (form m)) × Is
 -- what follows a token, from any column
 abbrev pub Follows : {X : Type 0} → List (List ℕ) → ℕ → Option Stop → (X → Shape)
     → (X × Rest → Result Line SchemaRefusal) → Type 0
-Follows {X} names line stop t f = (x : X) (behind : ℕ) (ms : List Mark) → Judged (t x) names line behind ms stop
-    (f (x, left_at line behind ms stop))
+Follows {X} names line stop t f = (x : X) (next_column : ℕ) (ms : List Mark) → Judged (t x) names line next_column ms stop
+    (f (x, left_at line next_column ms stop))
 
 -- a reader of one token
-pub value_judged : {X : Type 0} (s : Shape) (names : List (List ℕ)) (line behind : ℕ) (ms : List Mark)
+pub value_judged : {X : Type 0} (s : Shape) (names : List (List ℕ)) (line next_column : ℕ) (ms : List Mark)
     (stop : Option Stop) (want : What) (found : Mark → Option X) (t : X → Shape)
     (f : X × Rest → Result Line SchemaRefusal) → want ≡ wanted_by s → is_final s ≡ false
     → NextGoes s names found t ms → Follows names line stop t f
-    → Judged s names line behind ms stop
-    ((taken want line behind ms stop >>= λ u. ok_or (found u.0) (expected want u.0 u.1) >>= λ x. Ok (x, u.1)) >>= f)
-value_judged {X} s names line behind [] None want found t f wants open_end goes follows =
-    end_here s names line behind want open_end wants
-value_judged {X} s names line behind [] (Some stop) want found t f wants open_end goes follows =
-    flaw_here s names line behind stop
-value_judged {X} s names line behind (m ∷ ms) stop want found t f wants open_end goes follows = told (found m) goes.0
+    → Judged s names line next_column ms stop
+    ((taken want line next_column ms stop >>= λ u. ok_or (found u.0) (expected want u.0 u.1) >>= λ x. Ok (x, u.1)) >>= f)
+value_judged {X} s names line next_column [] None want found t f wants open_end goes follows =
+    end_here s names line next_column want open_end wants
+value_judged {X} s names line next_column [] (Some stop) want found t f wants open_end goes follows =
+    flaw_here s names line next_column stop
+value_judged {X} s names line next_column (m ∷ ms) stop want found t f wants open_end goes follows = told (found m) goes.0
   where
     told : (o : Option X) → GoesAs t o (turn s (form m))
-        → Judged s names line behind (m ∷ ms) stop
+        → Judged s names line next_column (m ∷ ms) stop
         ((ok_or o (expected want m (left_at line (m.column + length m.word) ms stop)) >>= λ x. Ok
         (x, left_at line (m.column + length m.word) ms stop)) >>= f)
-    told None cannot = stuck_here s names line behind m ms stop want cannot goes.1 wants
-    told (Some x) on = goes_on s (t x) names line behind m ms stop
+    told None cannot = stuck_here s names line next_column m ms stop want cannot goes.1 wants
+    told (Some x) on = goes_on s (t x) names line next_column m ms stop
         (f (x, left_at line (m.column + length m.word) ms stop)) on goes.1 (follows x (m.column + length m.word) ms)
 
 -- the same of one that tests it
@@ -81,26 +81,26 @@ NextGoesIf s names test t [] = Unit {0}
 NextGoesIf s names test t (m ∷ ms) = GoesIf t (test m) (turn s (form m)) × IsRight s names m
 
 abbrev pub FollowsIf : List (List ℕ) → ℕ → Option Stop → Shape → (Rest → Result Line SchemaRefusal) → Type 0
-FollowsIf names line stop t f = (behind : ℕ) (ms : List Mark) → Judged t names line behind ms stop
-    (f (left_at line behind ms stop))
+FollowsIf names line stop t f = (next_column : ℕ) (ms : List Mark) → Judged t names line next_column ms stop
+    (f (left_at line next_column ms stop))
 
-pub test_judged : (s : Shape) (names : List (List ℕ)) (line behind : ℕ) (ms : List Mark) (stop : Option Stop)
+pub test_judged : (s : Shape) (names : List (List ℕ)) (line next_column : ℕ) (ms : List Mark) (stop : Option Stop)
     (want : What) (test : Mark → Bool) (t : Shape)
     (f : Rest → Result Line SchemaRefusal) → want ≡ wanted_by s → is_final s ≡ false → NextGoesIf s names test t ms
     → FollowsIf names line stop t f
-    → Judged s names line behind ms stop
-    ((taken want line behind ms stop >>= λ u. cond (test u.0) (Ok u.1) (Err (expected want u.0 u.1))) >>= f)
-test_judged s names line behind [] None want test t f wants open_end goes follows =
-    end_here s names line behind want open_end wants
-test_judged s names line behind [] (Some stop) want test t f wants open_end goes follows =
-    flaw_here s names line behind stop
-test_judged s names line behind (m ∷ ms) stop want test t f wants open_end goes follows = told (test m) goes.0
+    → Judged s names line next_column ms stop
+    ((taken want line next_column ms stop >>= λ u. cond (test u.0) (Ok u.1) (Err (expected want u.0 u.1))) >>= f)
+test_judged s names line next_column [] None want test t f wants open_end goes follows =
+    end_here s names line next_column want open_end wants
+test_judged s names line next_column [] (Some stop) want test t f wants open_end goes follows =
+    flaw_here s names line next_column stop
+test_judged s names line next_column (m ∷ ms) stop want test t f wants open_end goes follows = told (test m) goes.0
   where
     told : (b : Bool) → GoesIf t b (turn s (form m))
-        → Judged s names line behind (m ∷ ms) stop (cond b (Ok (left_at line (m.column + length m.word) ms stop))
+        → Judged s names line next_column (m ∷ ms) stop (cond b (Ok (left_at line (m.column + length m.word) ms stop))
         (Err (expected want m (left_at line (m.column + length m.word) ms stop))) >>= f)
-    told false cannot = stuck_here s names line behind m ms stop want cannot goes.1 wants
-    told true on = goes_on s t names line behind m ms stop
+    told false cannot = stuck_here s names line next_column m ms stop want cannot goes.1 wants
+    told true on = goes_on s t names line next_column m ms stop
         (f (left_at line (m.column + length m.word) ms stop)) on goes.1 (follows (m.column + length m.word) ms)
 
 -- ---- shapes that take one token
@@ -172,14 +172,14 @@ abbrev with_rest : Rest → ℕ → Result (ℕ × Rest) SchemaRefusal
 with_rest r n = Ok (n, r)
 
 -- the first token, and what follows it
-pub first_judged : (names : List (List ℕ)) (line behind : ℕ) (ms : List Mark) (stop : Option Stop)
+pub first_judged : (names : List (List ℕ)) (line next_column : ℕ) (ms : List Mark) (stop : Option Stop)
     (g : ℕ → Rest → Result Line SchemaRefusal)
     → Follows names line stop (λ n. past_number) (λ x. g x.0 x.1)
-    → Judged at_start names line behind ms stop (taken what.Number line behind ms stop >>= λ t. ok_or
+    → Judged at_start names line next_column ms stop (taken what.Number line next_column ms stop >>= λ t. ok_or
     (number_in t.0.kind) (expected what.Number t.0 t.1) >>= λ n. g n t.1)
-first_judged names line behind ms stop g follows =
-    subst (Judged at_start names line behind ms stop) (in_one_row (taken what.Number line behind ms stop))
-    (value_judged at_start names line behind ms stop what.Number (λ m. number_in m.kind) (λ n. past_number)
+first_judged names line next_column ms stop g follows =
+    subst (Judged at_start names line next_column ms stop) (in_one_row (taken what.Number line next_column ms stop))
+    (value_judged at_start names line next_column ms stop what.Number (λ m. number_in m.kind) (λ n. past_number)
     (λ x. g x.0 x.1) refl refl (start_next names ms) follows)
   where
     found : (t : Mark × Rest) (r : Result ℕ SchemaRefusal)
@@ -193,12 +193,12 @@ first_judged names line behind ms stop g follows =
     in_one_row (Ok t) = found t (ok_or (number_in t.0.kind) (expected what.Number t.0 t.1))
     in_one_row (Err e) = refl
 
-pub premise_judged : (a : After) (names : List (List ℕ)) (line behind : ℕ) (ms : List Mark) (stop : Option Stop)
+pub premise_judged : (a : After) (names : List (List ℕ)) (line next_column : ℕ) (ms : List Mark) (stop : Option Stop)
     (f : ℕ × Rest → Result Line SchemaRefusal) → Follows names line stop (λ n. past_premise a) f
-    → Judged (at_premise a) names line behind ms stop (number (left_at line behind ms stop) >>= f)
+    → Judged (at_premise a) names line next_column ms stop (number (left_at line next_column ms stop) >>= f)
 unfolding number take
-premise_judged a names line behind ms stop f follows =
-    value_judged (at_premise a) names line behind ms stop what.Number (λ m. number_in m.kind)
+premise_judged a names line next_column ms stop f follows =
+    value_judged (at_premise a) names line next_column ms stop what.Number (λ m. number_in m.kind)
     (λ n. past_premise a) f refl refl (premise_next a names ms) follows
 
 -- ---- after a side
@@ -243,22 +243,22 @@ closed_arrow s names (m ∷ ms) closes =
     let of : Option Shape → Type 0 = λ o. GoesAs (λ a. at_side rhs) (arrow_in m.kind) o in
     (subst of (sym closes.0) (arrow_closes m.kind m.word), closes.1)
 
-pub arrow_judged : (s : Shape) (names : List (List ℕ)) (line behind : ℕ) (ms : List Mark) (stop : Option Stop)
+pub arrow_judged : (s : Shape) (names : List (List ℕ)) (line next_column : ℕ) (ms : List Mark) (stop : Option Stop)
     (f : Sign × Rest → Result Line SchemaRefusal) → PastSide lhs s names ms
     → Follows names line stop (λ a. at_side rhs) f
-    → Judged s names line behind ms stop (arrow (left_at line behind ms stop) >>= f)
+    → Judged s names line next_column ms stop (arrow (left_at line next_column ms stop) >>= f)
 unfolding arrow take
-arrow_judged s names line behind ms stop f past follows =
-    value_judged s names line behind ms stop what.Arrow (λ m. arrow_in m.kind)
+arrow_judged s names line next_column ms stop f past follows =
+    value_judged s names line next_column ms stop what.Arrow (λ m. arrow_in m.kind)
     (λ a. at_side rhs) f past.wants past.final (closed_arrow s names ms past.closes) follows
 
-pub closing_judged : (k : Side) (s t : Shape) (names : List (List ℕ)) (line behind : ℕ) (ms : List Mark)
+pub closing_judged : (k : Side) (s t : Shape) (names : List (List ℕ)) (line next_column : ℕ) (ms : List Mark)
     (stop : Option Stop) (f : Rest → Result Line SchemaRefusal) → past_colon k ≡ Some t → past_arrow k ≡ None
     → wanted_after k ≡ what.Colon → is_last k ≡ false → PastSide k s names ms → FollowsIf names line stop t f
-    → Judged s names line behind ms stop (colon (left_at line behind ms stop) >>= f)
+    → Judged s names line next_column ms stop (colon (left_at line next_column ms stop) >>= f)
 unfolding colon take
-closing_judged k s t names line behind ms stop f on other wants more past follows =
-    test_judged s names line behind ms stop what.Colon (λ m. is_colon m.kind) t f (sym wants ∙ past.wants)
+closing_judged k s t names line next_column ms stop f on other wants more past follows =
+    test_judged s names line next_column ms stop what.Colon (λ m. is_colon m.kind) t f (sym wants ∙ past.wants)
     (past.final ∙ more) (closed_colon k s t names ms on other past.closes) follows
 
 -- ---- the first colon, and the words of the grammar
@@ -276,12 +276,12 @@ colon_next : (names : List (List ℕ)) (ms : List Mark)
 colon_next names [] = tt
 colon_next names (m ∷ ms) = (number_colon m.kind m.word, no_side past_number names m refl)
 
-pub colon_judged : (names : List (List ℕ)) (line behind : ℕ) (ms : List Mark) (stop : Option Stop)
+pub colon_judged : (names : List (List ℕ)) (line next_column : ℕ) (ms : List Mark) (stop : Option Stop)
     (f : Rest → Result Line SchemaRefusal) → FollowsIf names line stop (at_side lhs) f
-    → Judged past_number names line behind ms stop (colon (left_at line behind ms stop) >>= f)
+    → Judged past_number names line next_column ms stop (colon (left_at line next_column ms stop) >>= f)
 unfolding colon take
-colon_judged names line behind ms stop f follows =
-    test_judged past_number names line behind ms stop what.Colon (λ m. is_colon m.kind) (at_side lhs) f refl refl
+colon_judged names line next_column ms stop f follows =
+    test_judged past_number names line next_column ms stop what.Colon (λ m. is_colon m.kind) (at_side lhs) f refl refl
     (colon_next names ms) follows
 
 no_rule : (word : List ℕ) (r : RuleName) → is_with token.Word word ≡ true → rule_word word ≡ Some r → ⊥
@@ -317,12 +317,12 @@ with_next : (k : Side) (names : List (List ℕ)) (ms : List Mark)
 with_next k names [] = tt
 with_next k names (m ∷ ms) = (with_goes k m.kind m.word, no_side (at_with k) names m refl)
 
-pub with_judged : (k : Side) (names : List (List ℕ)) (line behind : ℕ) (ms : List Mark) (stop : Option Stop)
+pub with_judged : (k : Side) (names : List (List ℕ)) (line next_column : ℕ) (ms : List Mark) (stop : Option Stop)
     (f : Rest → Result Line SchemaRefusal) → FollowsIf names line stop (at_side k) f
-    → Judged (at_with k) names line behind ms stop (with_word (left_at line behind ms stop) >>= f)
+    → Judged (at_with k) names line next_column ms stop (with_word (left_at line next_column ms stop) >>= f)
 unfolding with_word take
-with_judged k names line behind ms stop f follows =
-    test_judged (at_with k) names line behind ms stop what.With (λ m. is_with m.kind m.word) (at_side k) f refl refl
+with_judged k names line next_column ms stop f follows =
+    test_judged (at_with k) names line next_column ms stop what.With (λ m. is_with m.kind m.word) (at_side k) f refl refl
     (with_next k names ms) follows
 
 rule_word_goes : (o : Option RuleName) (b : Bool) → GoesAs named o (turn at_rule (word_form o b))
@@ -344,12 +344,12 @@ rule_next : (names : List (List ℕ)) (ms : List Mark)
 rule_next names [] = tt
 rule_next names (m ∷ ms) = (rule_goes m.kind m.word, no_side at_rule names m refl)
 
-pub rule_judged : (names : List (List ℕ)) (line behind : ℕ) (ms : List Mark) (stop : Option Stop)
+pub rule_judged : (names : List (List ℕ)) (line next_column : ℕ) (ms : List Mark) (stop : Option Stop)
     (f : RuleName × Rest → Result Line SchemaRefusal) → Follows names line stop named f
-    → Judged at_rule names line behind ms stop (rule_name (left_at line behind ms stop) >>= f)
+    → Judged at_rule names line next_column ms stop (rule_name (left_at line next_column ms stop) >>= f)
 unfolding rule_name take
-rule_judged names line behind ms stop f follows =
-    value_judged at_rule names line behind ms stop what.Rule (λ m. rule_named m.kind m.word) named f refl refl
+rule_judged names line next_column ms stop f follows =
+    value_judged at_rule names line next_column ms stop what.Rule (λ m. rule_named m.kind m.word) named f refl refl
     (rule_next names ms) follows
 
 -- ---- the line's end
@@ -403,16 +403,16 @@ side_halts k s names ms no_colon no_arrow wants last past = record {
     next [] closes = tt
     next (m ∷ ns) closes = (closes.0 ∙ last_nowhere k m.kind m.word no_colon no_arrow, closes.1)
 
-pub end_judged : (s : Shape) (names : List (List ℕ)) (line behind : ℕ) (ms : List Mark) (stop : Option Stop)
+pub end_judged : (s : Shape) (names : List (List ℕ)) (line next_column : ℕ) (ms : List Mark) (stop : Option Stop)
     (l : Line) → Halts s names ms
-    → Judged s names line behind ms stop (unless (ended (left_at line behind ms stop)) l)
+    → Judged s names line next_column ms stop (unless (ended (left_at line next_column ms stop)) l)
 unfolding ended
-end_judged s names line behind [] None l halts = (record { last = s; leads = refl; final = halts.final }, refl, none)
+end_judged s names line next_column [] None l halts = (record { last = s; leads = refl; final = halts.final }, refl, none)
   where
     none : (p n : ℕ) → Wrong s names [] None p n → ⊥
     none zero n (inl six) = true≢false (sym halts.final ∙ six.2)
     none (suc p) n (inl more) = more
     none p n (inr flaw) = let wrong : None ≡ Some flaw.0 = flaw.1 in cc
-end_judged s names line behind [] (Some stop) l halts = flaw_here s names line behind stop
-end_judged s names line behind (m ∷ ms) stop l halts =
-    stuck_here s names line behind m ms stop what.LineEnd halts.none.0 halts.none.1 halts.wants
+end_judged s names line next_column [] (Some stop) l halts = flaw_here s names line next_column stop
+end_judged s names line next_column (m ∷ ms) stop l halts =
+    stuck_here s names line next_column m ms stop what.LineEnd halts.none.0 halts.none.1 halts.wants

@@ -75,8 +75,8 @@ dependency_there names r d e =
     (dependency_made names r x.value.1 a.value.1 _ _ _ _ (side_there names r x.value x.is) (arrow_there x.value.1 a.value a.is) (side_there names a.value.1 y.value y.is))
 
 record DependencyRead (names : List (List ℕ)) (at from : ℕ) (marks tail : List Mark) (d : Dependency) : Type 0 where
-  behind : ℕ
-  read : stated_dependency names (rest_at at from (marks ++ tail)) ≡ Ok (d, rest_at at behind tail)
+  next_column : ℕ
+  read : stated_dependency names (rest_at at from (marks ++ tail)) ≡ Ok (d, rest_at at next_column tail)
 
 dependency_back : (names : List (List ℕ)) (at from : ℕ) (marks tail : List Mark) (d : Dependency) → IsDependency format.Plain names marks d → NoWord tail → DependencyRead names at from marks tail d
 unfolding stated_dependency
@@ -85,10 +85,10 @@ dependency_back names at from marks tail d is other =
     let right = side_back names at (after_of is.arrow) is.rhs tail None is.y is.right_side other in
     let whole : marks ++ tail ≡ is.lhs ++ (is.arrow ∷ is.rhs ++ tail) = ap (λ t. t ++ tail) is.whole ∙ append_assoc is.lhs (is.arrow ∷ is.rhs) tail in
     record {
-      behind = right.behind;
+      next_column = right.next_column;
       read = ap (λ t. stated_dependency names (rest_at at from t)) whole
-          ∙ rw (left.read, arrow_back at left.behind is.sign is.arrow (is.rhs ++ tail) (is_arrow_in is.sign is.arrow.kind is.is_arrow), right.read)
-          (ap (λ z. Ok (z, rest_at at right.behind tail)) (sym is.states));
+          ∙ rw (left.read, arrow_back at left.next_column is.sign is.arrow (is.rhs ++ tail) (is_arrow_in is.sign is.arrow.kind is.is_arrow), right.read)
+          (ap (λ z. Ok (z, rest_at at right.next_column tail)) (sym is.states));
     }
 
 -- ---- the line
@@ -101,7 +101,7 @@ unless_there : {X : Type 0} (r : Rest) (x y : X) → unless (ended r) x ≡ Ok y
 unfolding ended
 unless_there {X} r x y e = told r.marks r.stop refl refl e
   where
-    told : (ms : List Mark) (stop : Option Stop) → r.marks ≡ ms → r.stop ≡ stop → unless (ended (record { line = r.line; behind = r.behind; marks = ms; stop = stop })) x ≡ Ok y → (x ≡ y) × Ends r
+    told : (ms : List Mark) (stop : Option Stop) → r.marks ≡ ms → r.stop ≡ stop → unless (ended (record { line = r.line; next_column = r.next_column; marks = ms; stop = stop })) x ≡ Ok y → (x ≡ y) × Ends r
     told [] None here there e = (cc, record { marks = here; stop = there })
     told [] (Some stop) here there e = cc
     told (m ∷ ms) stop here there e = cc
@@ -168,7 +168,7 @@ marks_read names at from ms l is =
       is.is_number,
       colon_back at (after_of is.number) is.first rest is.first_colon,
       d.read,
-      colon_back at d.behind is.second is.rule is.second_colon,
+      colon_back at d.next_column is.second is.rule is.second_colon,
       r.name,
       r.read,
     ) refl

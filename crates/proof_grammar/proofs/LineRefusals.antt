@@ -15,7 +15,7 @@ use Rattle.schema_grammar.proofs.ComplaintLaws.{Carries-map, same_mark}
 use Rattle.schema_grammar.proofs.OneRefusal.{OneWant, one_first}
 use Rattle.proof_grammar.specs.declared.rule_name.RuleName.TheVariants as rule
 use Rattle.proof_grammar.specs.Lines.{Line, line}
-use Rattle.proof_grammar.specs.LineComplaints.{Form, forms, a_number, a_colon, an_arrow, an_empty, a_with, a_rule, a_word, AreLine, BeginLine, CannotGoOn, SideComplaint, TokensComplaint, FormsWant, TokensWant, RefusesTokens, RefusesCertificateLine}
+use Rattle.proof_grammar.specs.LineComplaints.{Form, forms, a_number, a_colon, an_arrow, an_empty, a_with, a_rule, a_word, AreLine, BeginLine, CannotGoOn, SideWordComplaint, TokensComplaint, FormsWant, TokensWant, RefusesTokens, RefusesCertificateLine}
 use Rattle.proof_grammar.proofs.FormLines.{begins_from, begins_on, begins_to, final_line, line_ends, same_shape, takes_names, wants_from, word_taken}
 use Rattle.proof_grammar.proofs.FormShapes.{Side, lhs, rhs, by, wide, narrow, Shape, at_start, past_number, at_side, past_words, past_empty, at_rule, at_premise, at_with, at_end, bind, is_final, is_last, past_arrow, past_colon, runs, takes_words, turn, wanted_after, wanted_by}
 use Rattle.proof_grammar.proofs.JudgedLines.{Judged, OnShape, ShapeWants, TokenWrong, Wrong}
@@ -260,7 +260,7 @@ complaint_there names ms stop p n (inl h) = let at = place_there at_start names 
     fs = forms ms
 
     told : (s : Shape) → runs at_start (take p fs) ≡ Some s → Why at_start names ms stop p n s
-        → SideComplaint names ms p n ⊎ ((n ≡ 6) × CannotGoOn fs stop p)
+        → SideWordComplaint names ms p n ⊎ ((n ≡ 6) × CannotGoOn fs stop p)
     told s reached (inl (m, is, takes, word)) = inl (m, is, takes_names (take p fs) s reached takes, word)
     told s reached (inr (six, inl (less, none))) =
         inr (six, record { before = begins_from (take p fs) s reached; here = inl (less, cannot) })

@@ -50,16 +50,16 @@ prints_sets names (maugmentation w z) column are within =
     let wide = side_marks at (members_from w 0 names) in
     let mid = side_end at (members_from w 0 names) in
     let colon = colon_mark (mid + 1) in
-    let behind = mid + 1 + 1 + 1 in
-    let narrow = side_marks behind (members_from z 0 names) in
+    let next_column = mid + 1 + 1 + 1 in
+    let narrow = side_marks next_column (members_from z 0 names) in
     let first : Lexes Apart (codes " with " ++ set_text names w) column (keyword ∷ wide) mid =
     lexes_both Anything Apart (codes " with ") (set_text names w) column _ _ _ _ (lexes_with column) (lexes_set names w at are) (λ rest apart. tt {0}) in
-    let second : Lexes Anything ((codes " with " ++ set_text names w) ++ codes " : ") column ((keyword ∷ wide) ++ colon ∷ []) behind =
+    let second : Lexes Anything ((codes " with " ++ set_text names w) ++ codes " : ") column ((keyword ∷ wide) ++ colon ∷ []) next_column =
     lexes_both Apart Anything (codes " with " ++ set_text names w) (codes " : ") column _ _ _ _ first (lexes_spaced_colon mid) (λ rest any. refl) in
     record {
       marks = _;
       end = _;
-      lexes = lexes_both Anything Apart ((codes " with " ++ set_text names w) ++ codes " : ") (set_text names z) column _ _ _ _ second (lexes_set names z behind are) (λ rest apart. tt {0});
+      lexes = lexes_both Anything Apart ((codes " with " ++ set_text names w) ++ codes " : ") (set_text names z) column _ _ _ _ second (lexes_set names z next_column are) (λ rest apart. tt {0});
       has_sets = record {
         keyword = keyword;
         wide = wide;
@@ -69,7 +69,7 @@ prints_sets names (maugmentation w z) column are within =
         says = (refl, refl);
         wide_side = printed_side format.Plain names w at are within.0;
         is_colon = refl;
-        narrow_side = printed_side format.Plain names z behind are within.1;
+        narrow_side = printed_side format.Plain names z next_column are within.1;
       };
       apart = λ rest apart. refl;
     }

@@ -165,14 +165,14 @@ lexes_double : (column : ℕ) → Lexes Anything (codes " ->> ") column (double_
 lexes_double column = record { lexes = λ rest any. double_arrow_lexed mode.Numbered column rest }
 
 -- a set, an arrow, a set
-sides_lexed : (names : List (List ℕ)) (x y : Places) (arrow : List ℕ) (column behind : ℕ) (mark : Mark) → AreNames format.Plain names
-    → Lexes Anything arrow (side_end column (members_from x 0 names)) (mark ∷ []) behind → ((rest : List ℕ) → Apart (arrow ++ rest))
-    → Lexes Apart ((set_text names x ++ arrow) ++ set_text names y) column ((side_marks column (members_from x 0 names) ++ mark ∷ []) ++ side_marks behind (members_from y 0 names))
-    (side_end behind (members_from y 0 names))
-sides_lexed names x y arrow column behind mark are lexes meets =
+sides_lexed : (names : List (List ℕ)) (x y : Places) (arrow : List ℕ) (column next_column : ℕ) (mark : Mark) → AreNames format.Plain names
+    → Lexes Anything arrow (side_end column (members_from x 0 names)) (mark ∷ []) next_column → ((rest : List ℕ) → Apart (arrow ++ rest))
+    → Lexes Apart ((set_text names x ++ arrow) ++ set_text names y) column ((side_marks column (members_from x 0 names) ++ mark ∷ []) ++ side_marks next_column (members_from y 0 names))
+    (side_end next_column (members_from y 0 names))
+sides_lexed names x y arrow column next_column mark are lexes meets =
     lexes_both Anything Apart (set_text names x ++ arrow) (set_text names y) column _ _ _ _
     (lexes_both Apart Anything (set_text names x) arrow column _ _ _ _ (lexes_set names x column are) lexes (λ rest any. meets rest))
-    (lexes_set names y behind are) (λ rest apart. tt {0})
+    (lexes_set names y next_column are) (λ rest apart. tt {0})
 
 -- the tokens of a printed dependency
 pub record PrintsDependency (names : List (List ℕ)) (d : Dependency) (column : ℕ) : Type 0 where

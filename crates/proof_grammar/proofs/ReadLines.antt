@@ -110,7 +110,7 @@ pub record IsPlace (text : List ℕ) (at i : ℕ) : Type 0 where
   pub stands : StandsAt text before here at
   pub count : length (certificate_lines_of before) ≡ i
 
-pub record IsBehind (s : Schema) (text : List ℕ) (before : List (List ℕ)) (fresh : Bool) (lines : List Line) (trees : List Tree) (book : Ledger) : Type 0 where
+pub record HasReadLines (s : Schema) (text : List ℕ) (before : List (List ℕ)) (fresh : Bool) (lines : List Line) (trees : List Tree) (book : Ledger) : Type 0 where
   pub counts : (more : List (List ℕ)) → certificate_lines_of (before ++ more) ≡ certificate_lines_of before ++ counted fresh more
   pub mean : MeanLines (names_of s) (certificate_lines_of before) lines
   pub read : AreRead s lines trees
@@ -118,7 +118,7 @@ pub record IsBehind (s : Schema) (text : List ℕ) (before : List (List ℕ)) (f
   pub size : length book.lines ≡ length trees
   pub places : (i : ℕ) → i < length book.lines → IsPlace text (slice_index book.lines i) i
 
-pub at_start : (s : Schema) (text : List ℕ) → IsBehind s text [] true [] [] (record { lines = []; unused = [] })
+pub at_start : (s : Schema) (text : List ℕ) → HasReadLines s text [] true [] [] (record { lines = []; unused = [] })
 at_start s text = record {
   counts = λ more. refl;
   mean = tt;
@@ -130,47 +130,47 @@ at_start s text = record {
 
 -- a line that does not count
 pub passed : (s : Schema) (text : List ℕ) (before : List (List ℕ)) (fresh next : Bool) (lines : List Line) (trees : List Tree) (book : Ledger) (here : List ℕ)
-    → IsBehind s text before fresh lines trees book → ((more : List (List ℕ)) → counted fresh (here ∷ more) ≡ counted next more) → IsBehind s text (before ++ here ∷ []) next lines trees book
-passed s text before fresh next lines trees book here behind skips =
+    → HasReadLines s text before fresh lines trees book → ((more : List (List ℕ)) → counted fresh (here ∷ more) ≡ counted next more) → HasReadLines s text (before ++ here ∷ []) next lines trees book
+passed s text before fresh next lines trees book here afterwards skips =
     let so_far = certificate_lines_of before in
     let same : certificate_lines_of (before ++ here ∷ []) ≡ so_far =
-    behind.counts (here ∷ []) ∙ ap (λ (ls : List (List ℕ)). so_far ++ ls) (skips [] ∙ nothing_counts next) ∙ append-nil so_far in
+    afterwards.counts (here ∷ []) ∙ ap (λ (ls : List (List ℕ)). so_far ++ ls) (skips [] ∙ nothing_counts next) ∙ append-nil so_far in
     record {
       counts = λ more. ap certificate_lines_of (append_assoc before (here ∷ []) more)
-          ∙ behind.counts (here ∷ more)
+          ∙ afterwards.counts (here ∷ more)
           ∙ ap (λ (ls : List (List ℕ)). so_far ++ ls) (skips more)
           ∙ ap (λ (ls : List (List ℕ)). ls ++ counted next more) (sym same);
-      mean = subst (λ (ls : List (List ℕ)). MeanLines (names_of s) ls lines) (sym same) behind.mean;
-      read = behind.read;
-      follows = behind.follows;
-      size = behind.size;
-      places = behind.places;
+      mean = subst (λ (ls : List (List ℕ)). MeanLines (names_of s) ls lines) (sym same) afterwards.mean;
+      read = afterwards.read;
+      follows = afterwards.follows;
+      size = afterwards.size;
+      places = afterwards.places;
     }
 
 -- where a certificate line counts, it stands after those before
 pub counts_here : (s : Schema) (text : List ℕ) (before : List (List ℕ)) (fresh : Bool) (lines : List Line) (trees : List Tree) (book : Ledger) (here : List ℕ)
-    → IsBehind s text before fresh lines trees book → Counts Certificate fresh here → certificate_lines_of (before ++ here ∷ []) ≡ certificate_lines_of before ++ here ∷ []
-counts_here s text before fresh lines trees book here behind counts = behind.counts (here ∷ []) ∙ ap (λ (ls : List (List ℕ)). certificate_lines_of before ++ ls) (counts [])
+    → HasReadLines s text before fresh lines trees book → Counts Certificate fresh here → certificate_lines_of (before ++ here ∷ []) ≡ certificate_lines_of before ++ here ∷ []
+counts_here s text before fresh lines trees book here afterwards counts = afterwards.counts (here ∷ []) ∙ ap (λ (ls : List (List ℕ)). certificate_lines_of before ++ ls) (counts [])
 
 -- a line is entered
 pub one_more : (s : Schema) (text : List ℕ) (before : List (List ℕ)) (fresh : Bool) (lines : List Line) (trees : List Tree) (book : Ledger) (here : List ℕ) (at : ℕ) (l : Line) (u : Tree)
-    (next : Ledger) → IsBehind s text before fresh lines trees book → Counts Certificate fresh here → StandsAt text before here at → MeansLine (names_of s) here l
-    → entered s at book l ≡ Ok next → IsEntered s (λ n. uses n lines) trees l next u → IsBehind s text (before ++ here ∷ []) false (lines ++ l ∷ []) (trees ++ u ∷ []) next
-one_more s text before fresh lines trees book here at l u next behind counts stands means enter is = record {
+    (next : Ledger) → HasReadLines s text before fresh lines trees book → Counts Certificate fresh here → StandsAt text before here at → MeansLine (names_of s) here l
+    → entered s at book l ≡ Ok next → IsEntered s (λ n. uses n lines) trees l next u → HasReadLines s text (before ++ here ∷ []) false (lines ++ l ∷ []) (trees ++ u ∷ []) next
+one_more s text before fresh lines trees book here at l u next afterwards counts stands means enter is = record {
   counts = λ more. ap certificate_lines_of (append_assoc before (here ∷ []) more)
-      ∙ behind.counts (here ∷ more)
+      ∙ afterwards.counts (here ∷ more)
       ∙ ap (λ (ls : List (List ℕ)). so_far ++ ls) (counts more)
       ∙ sym (append_assoc so_far (here ∷ []) (counted false more))
       ∙ ap (λ (ls : List (List ℕ)). ls ++ counted false more) (sym whole);
-  mean = subst (λ (ls : List (List ℕ)). MeanLines (names_of s) ls (lines ++ l ∷ [])) (sym whole) (mean_more (names_of s) so_far lines here l behind.mean means);
+  mean = subst (λ (ls : List (List ℕ)). MeanLines (names_of s) ls (lines ++ l ∷ [])) (sym whole) (mean_more (names_of s) so_far lines here l afterwards.mean means);
   read = record {
-    nodes = AreNodes-append s [] lines trees (l ∷ []) (u ∷ []) behind.read.nodes (is.node, tt);
+    nodes = AreNodes-append s [] lines trees (l ∷ []) (u ∷ []) afterwards.read.nodes (is.node, tt);
     once = λ n low. follows_once s (λ n. uses n (lines ++ l ∷ [])) (trees ++ u ∷ []) next n follows low;
     few_lines = omega (arith, is.few_lines, count, length-append lines (l ∷ []));
-    few_levels = All-append (λ t. depth t ≤ MOST_LEVELS) trees (u ∷ []) behind.read.few_levels (flat u is.few_levels);
+    few_levels = All-append (λ t. depth t ≤ MOST_LEVELS) trees (u ∷ []) afterwards.read.few_levels (flat u is.few_levels);
   };
   follows = follows;
-  size = ap length adds ∙ omega (arith, length-append book.lines (at ∷ []), length-append trees (u ∷ []), behind.size);
+  size = ap length adds ∙ omega (arith, length-append book.lines (at ∷ []), length-append trees (u ∷ []), afterwards.size);
   places = subst (λ (ls : List ℕ). (i : ℕ) → i < length ls → IsPlace text (slice_index ls i) i) (sym adds) (λ i h. place i (nat_lt i (length book.lines)) refl h);
 }
   where
@@ -178,13 +178,13 @@ one_more s text before fresh lines trees book here at l u next behind counts sta
     so_far = certificate_lines_of before
 
     whole : certificate_lines_of (before ++ here ∷ []) ≡ so_far ++ here ∷ []
-    whole = counts_here s text before fresh lines trees book here behind counts
+    whole = counts_here s text before fresh lines trees book here afterwards counts
 
     adds : next.lines ≡ book.lines ++ at ∷ []
     adds = entered_adds s at book next l enter
 
     count : length lines ≡ length trees
-    count = nodes_size s [] lines trees behind.read.nodes
+    count = nodes_size s [] lines trees afterwards.read.nodes
 
     sums : (n : ℕ) → used_after (λ n. uses n lines) l n ≡ uses n (lines ++ l ∷ [])
     sums n = omega (arith, uses-append n lines (l ∷ []), uses_first n l [])
@@ -195,9 +195,9 @@ one_more s text before fresh lines trees book here at l u next behind counts sta
     place : (i : ℕ) (b : Bool) → nat_lt i (length book.lines) ≡ b → i < length (book.lines ++ at ∷ []) → IsPlace text (slice_index (book.lines ++ at ∷ []) i) i
     place i true e h =
         let inside : i < length book.lines = grind (arith, nat_tests, e) in
-        subst (λ (n : ℕ). IsPlace text n i) (sym (get_or_append_left book.lines (at ∷ []) 0 i inside)) (behind.places i inside)
+        subst (λ (n : ℕ). IsPlace text n i) (sym (get_or_append_left book.lines (at ∷ []) 0 i inside)) (afterwards.places i inside)
     place i false e h =
         let last : length book.lines ≡ i = grind (arith, nat_tests, e, h, length-append book.lines (at ∷ [])) in
         let value : slice_index (book.lines ++ at ∷ []) i ≡ at = sym (ap (slice_index (book.lines ++ at ∷ [])) last) ∙ get_or-append_seam book.lines at [] 0 in
         subst (λ (n : ℕ). IsPlace text n i) (sym value)
-        (record { before = before; here = here; stands = stands; count = omega (arith, mean_size (names_of s) so_far lines behind.mean, count, behind.size, last) })
+        (record { before = before; here = here; stands = stands; count = omega (arith, mean_size (names_of s) so_far lines afterwards.mean, count, afterwards.size, last) })

@@ -186,23 +186,23 @@ rule_there names r n b here there =
 -- ---- back
 -- the rest of a rule that is read after its name
 record BodyRead (names : List (List ℕ)) (line from : ℕ) (r : RuleName) (marks : List Mark) (b : Body) : Type 0 where
-  behind : ℕ
-  read : body names r (rest_at line from marks) ≡ Ok (b, rest_at line behind [])
+  next_column : ℕ
+  read : body names r (rest_at line from marks) ≡ Ok (b, rest_at line next_column [])
 
 -- a rule that is read from a column
 pub record RuleRead (names : List (List ℕ)) (line from : ℕ) (marks : List Mark) (b : Body) : Type 0 where
   pub rule : RuleName
   pub next : Rest
-  pub behind : ℕ
+  pub next_column : ℕ
   pub name : rule_name (rest_at line from marks) ≡ Ok (rule, next)
-  pub read : body names rule next ≡ Ok (b, rest_at line behind [])
+  pub read : body names rule next ≡ Ok (b, rest_at line next_column [])
 
 rule_made : (names : List (List ℕ)) (line from : ℕ) (r : RuleName) (m : Mark) (marks whole : List Mark) (b : Body) → whole ≡ m ∷ marks → IsKeyword (spelled r) m
     → BodyRead names line (after_of m) r marks b → RuleRead names line from whole b
 rule_made names line from r m marks whole b same says rest = record {
   rule = r;
   next = rest_at line (after_of m) marks;
-  behind = rest.behind;
+  next_column = rest.next_column;
   name = rw same (rule_name_back line from r m marks says);
   read = rest.read;
 }
@@ -225,7 +225,7 @@ augmented_back names line from p z m sets is has =
     let last = side_back names line (after_of has.keyword) has.sides [] None z has.side tt in
     let same : sets ≡ has.keyword ∷ has.sides ++ [] = has.whole ∙ ap (λ t. has.keyword ∷ t) (sym (append-nil has.sides)) in
     record {
-      behind = last.behind;
+      next_column = last.next_column;
       read = ap (λ t. augmented names (rest_at line from (m ∷ t))) same
           ∙ rw (number_back line from p m (has.keyword ∷ has.sides ++ []) is, with_back line (after_of m) has.keyword (has.sides ++ []) has.says, last.read) refl;
     }
@@ -239,13 +239,13 @@ maugmented_back names line from p w z m sets is has =
     let last = side_back names line (after_of has.colon) has.narrow [] None z has.narrow_side tt in
     let same : sets ≡ has.keyword ∷ has.wide ++ tail = has.whole ∙ ap (λ t. has.keyword ∷ has.wide ++ has.colon ∷ t) (sym (append-nil has.narrow)) in
     record {
-      behind = last.behind;
+      next_column = last.next_column;
       read = ap (λ t. maugmented names (rest_at line from (m ∷ t))) same
           ∙ rw (
             number_back line from p m (has.keyword ∷ has.wide ++ tail) is,
             with_back line (after_of m) has.keyword (has.wide ++ tail) has.says,
             wide.read,
-            colon_back line wide.behind has.colon (has.narrow ++ []) has.is_colon,
+            colon_back line wide.next_column has.colon (has.narrow ++ []) has.is_colon,
             last.read,
           ) refl;
     }
@@ -254,29 +254,29 @@ pub rule_back : (names : List (List ℕ)) (line from : ℕ) (marks : List Mark) 
 unfolding body
 rule_back names line from marks (by_given k) is =
     rule_made names line from rule.Given is.name (is.place ∷ []) marks (by_given k) is.whole is.says
-    (record { behind = after_of is.place; read = rw (number_back line (after_of is.name) k is.place [] is.number) refl })
+    (record { next_column = after_of is.place; read = rw (number_back line (after_of is.name) k is.place [] is.number) refl })
 rule_back names line from marks by_reflexivity is =
-    rule_made names line from rule.Reflexivity is.name [] marks by_reflexivity is.whole is.says (record { behind = after_of is.name; read = refl })
+    rule_made names line from rule.Reflexivity is.name [] marks by_reflexivity is.whole is.says (record { next_column = after_of is.name; read = refl })
 rule_back names line from marks by_mreflexivity is =
-    rule_made names line from rule.MReflexivity is.name [] marks by_mreflexivity is.whole is.says (record { behind = after_of is.name; read = refl })
+    rule_made names line from rule.MReflexivity is.name [] marks by_mreflexivity is.whole is.says (record { next_column = after_of is.name; read = refl })
 rule_back names line from marks (by_step (augmentation z) p) is =
     rule_made names line from rule.Augmentation is.name (is.premise ∷ is.sets) marks (by_step (augmentation z) p) is.whole is.says
     (augmented_back names line (after_of is.name) p z is.premise is.sets is.number is.has_sets)
 rule_back names line from marks (by_step complementation p) is =
     rule_made names line from rule.Complementation is.name (is.premise ∷ is.sets) marks (by_step complementation p) is.whole is.says
-    (record { behind = after_of is.premise; read = one_read line (after_of is.name) complementation p is.premise is.sets is.number is.has_sets })
+    (record { next_column = after_of is.premise; read = one_read line (after_of is.name) complementation p is.premise is.sets is.number is.has_sets })
 rule_back names line from marks (by_step (maugmentation w z) p) is =
     rule_made names line from rule.MAugmentation is.name (is.premise ∷ is.sets) marks (by_step (maugmentation w z) p) is.whole is.says
     (maugmented_back names line (after_of is.name) p w z is.premise is.sets is.number is.has_sets)
 rule_back names line from marks (by_step replication p) is =
     rule_made names line from rule.Replication is.name (is.premise ∷ is.sets) marks (by_step replication p) is.whole is.says
-    (record { behind = after_of is.premise; read = one_read line (after_of is.name) replication p is.premise is.sets is.number is.has_sets })
+    (record { next_column = after_of is.premise; read = one_read line (after_of is.name) replication p is.premise is.sets is.number is.has_sets })
 rule_back names line from marks (by_pair transitivity p q) is =
     rule_made names line from rule.Transitivity is.name (is.first ∷ is.second ∷ []) marks (by_pair transitivity p q) is.whole is.says
-    (record { behind = after_of is.second; read = two_back line (after_of is.name) transitivity p q is.first is.second is.first_number is.second_number })
+    (record { next_column = after_of is.second; read = two_back line (after_of is.name) transitivity p q is.first is.second is.first_number is.second_number })
 rule_back names line from marks (by_pair mtransitivity p q) is =
     rule_made names line from rule.MTransitivity is.name (is.first ∷ is.second ∷ []) marks (by_pair mtransitivity p q) is.whole is.says
-    (record { behind = after_of is.second; read = two_back line (after_of is.name) mtransitivity p q is.first is.second is.first_number is.second_number })
+    (record { next_column = after_of is.second; read = two_back line (after_of is.name) mtransitivity p q is.first is.second is.first_number is.second_number })
 rule_back names line from marks (by_pair coalescence p q) is =
     rule_made names line from rule.Coalescence is.name (is.first ∷ is.second ∷ []) marks (by_pair coalescence p q) is.whole is.says
-    (record { behind = after_of is.second; read = two_back line (after_of is.name) coalescence p q is.first is.second is.first_number is.second_number })
+    (record { next_column = after_of is.second; read = two_back line (after_of is.name) coalescence p q is.first is.second is.first_number is.second_number })

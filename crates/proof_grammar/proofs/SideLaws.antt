@@ -42,7 +42,7 @@ pub take_there : (want : What) (r : Rest) (t : Mark × Rest) → take want r ≡
 unfolding take
 take_there want r t e = told r.marks r.stop refl refl e
   where
-    told : (ms : List Mark) (stop : Option Stop) → r.marks ≡ ms → r.stop ≡ stop → taken want r.line r.behind ms stop ≡ Ok t → Takes r t.0 t.1
+    told : (ms : List Mark) (stop : Option Stop) → r.marks ≡ ms → r.stop ≡ stop → taken want r.line r.next_column ms stop ≡ Ok t → Takes r t.0 t.1
     told [] None here there e = cc
     told [] (Some stop) here there e = cc
     told (m ∷ ms) stop here there e =
@@ -90,15 +90,15 @@ words_none names acc r x next e =
       same_stop = sym (ap (λ (u : Places × Rest). u.1.stop) same);
     }
 
-words_there : (names : List (List ℕ)) (line : ℕ) (acc : Places) (behind : ℕ) (marks : List Mark) (stop : Option Stop) (x : Places) (next : Rest)
-    → words_from names line acc behind marks stop ≡ Ok (x, next) → ReadsWords names acc marks stop x next
+words_there : (names : List (List ℕ)) (line : ℕ) (acc : Places) (next_column : ℕ) (marks : List Mark) (stop : Option Stop) (x : Places) (next : Rest)
+    → words_from names line acc next_column marks stop ≡ Ok (x, next) → ReadsWords names acc marks stop x next
 unfolding words_from
-words_there names line acc behind [] stop x next e = words_none names acc _ x next e
-words_there names line acc behind (m ∷ ms) stop x next e =
+words_there names line acc next_column [] stop x next e = words_none names acc _ x next e
+words_there names line acc next_column (m ∷ ms) stop x next e =
     told (is_word m.kind) refl e (λ a. words_there names line (union acc (only a)) (m.column + length m.word) ms stop x next)
   where
     told : (b : Bool) → is_word m.kind ≡ b
-        → cond b (place names line m >>= λ a. words_from names line (union acc (only a)) (m.column + length m.word) ms stop) (Ok (acc, record { line = line; behind = behind; marks = m ∷ ms; stop = stop })) ≡ Ok (x, next)
+        → cond b (place names line m >>= λ a. words_from names line (union acc (only a)) (m.column + length m.word) ms stop) (Ok (acc, record { line = line; next_column = next_column; marks = m ∷ ms; stop = stop })) ≡ Ok (x, next)
         → ((a : ℕ) → words_from names line (union acc (only a)) (m.column + length m.word) ms stop ≡ Ok (x, next) → ReadsWords names (union acc (only a)) ms stop x next)
         → ReadsWords names acc (m ∷ ms) stop x next
     told true is e more =
@@ -127,11 +127,11 @@ side_there names r s e =
     let first = bound (take what.Side r) _ s e in
     told first.value.0 first.value.1 (take_there what.Side r first.value first.is) first.value.0.kind refl first.goes_on
   where
-    told : (m : Mark) (behind : Rest) → Takes r m behind → (k : TokenKind) → m.kind ≡ k → side_from names m behind k ≡ Ok s → ReadsSide names r s.0 s.1
-    told m behind takes token.Word is e =
-        let here = bound (place names behind.line m) _ s e in
-        let names_it = place_there names behind.line m here.value here.is in
-        let rest = words_there names behind.line (only here.value) behind.behind behind.marks behind.stop s.0 s.1 here.goes_on in
+    told : (m : Mark) (next_column : Rest) → Takes r m next_column → (k : TokenKind) → m.kind ≡ k → side_from names m next_column k ≡ Ok s → ReadsSide names r s.0 s.1
+    told m next_column takes token.Word is e =
+        let here = bound (place names next_column.line m) _ s e in
+        let names_it = place_there names next_column.line m here.value here.is in
+        let rest = words_there names next_column.line (only here.value) next_column.next_column next_column.marks next_column.stop s.0 s.1 here.goes_on in
         record {
           marks = m ∷ rest.words;
           whole = takes.marks ∙ ap (λ t. m ∷ t) rest.whole;
@@ -142,7 +142,7 @@ side_there names r s e =
           });
           stop = rest.same_stop ∙ takes.stop;
         }
-    told m behind takes token.Empty is e =
+    told m next_column takes token.Empty is e =
         let same = ok_same _ s _ refl e in
         record {
           marks = m ∷ [];
@@ -155,7 +155,7 @@ side_there names r s e =
           });
           stop = sym (ap (λ (u : Places × Rest). u.1.stop) same) ∙ takes.stop;
         }
-    told m behind takes _ is e = cc
+    told m next_column takes _ is e = cc
 
 -- ---- back
 -- what stands after words is no word
@@ -164,11 +164,11 @@ NoWord [] = Unit {0}
 NoWord (m ∷ ms) = is_word m.kind ≡ false
 
 record WordsRead (names : List (List ℕ)) (line : ℕ) (acc : Places) (from : ℕ) (words tail : List Mark) (stop : Option Stop) (x : Places) : Type 0 where
-  behind : ℕ
-  read : words_from names line acc from (words ++ tail) stop ≡ Ok (x, record { line = line; behind = behind; marks = tail; stop = stop })
+  next_column : ℕ
+  read : words_from names line acc from (words ++ tail) stop ≡ Ok (x, record { line = line; next_column = next_column; marks = tail; stop = stop })
 
 words_end : (names : List (List ℕ)) (line : ℕ) (acc : Places) (from : ℕ) (tail : List Mark) (stop : Option Stop) → NoWord tail
-    → words_from names line acc from tail stop ≡ Ok (acc, record { line = line; behind = from; marks = tail; stop = stop })
+    → words_from names line acc from tail stop ≡ Ok (acc, record { line = line; next_column = from; marks = tail; stop = stop })
 unfolding words_from
 words_end names line acc from [] stop other = refl
 words_end names line acc from (m ∷ ms) stop other = rw other refl
@@ -182,8 +182,8 @@ words_back : (names : List (List ℕ)) (line : ℕ) (acc : Places) (from : ℕ) 
     → WordsRead names line acc from words tail stop (union acc (named names words))
 unfolding words_from
 words_back names line acc from [] tail stop each other = record {
-  behind = from;
-  read = words_end names line acc from tail stop other ∙ ap (λ (x : Places). Ok (x, record { line = line; behind = from; marks = tail; stop = stop })) (sym (union-none acc (named names []) refl));
+  next_column = from;
+  read = words_end names line acc from tail stop other ∙ ap (λ (x : Places). Ok (x, record { line = line; next_column = from; marks = tail; stop = stop })) (sym (union-none acc (named names []) refl));
 }
 words_back names line acc from (m ∷ words) tail stop each other =
     let here : IsAttribute format.Plain names m = All-head (IsAttribute format.Plain names) m words each in
@@ -191,24 +191,24 @@ words_back names line acc from (m ∷ words) tail stop each other =
     let rest = words_back names line (union acc (only here.place)) (m.column + length m.word) words tail stop there other in
     let members = union-only acc (named names words) here.place ∙ ap (union acc) (sym (named-cons names m words here.place here.known)) in
     record {
-      behind = rest.behind;
-      read = word_back names line acc from m (words ++ tail) stop here ∙ rest.read ∙ ap (λ (x : Places). Ok (x, record { line = line; behind = rest.behind; marks = tail; stop = stop })) members;
+      next_column = rest.next_column;
+      read = word_back names line acc from m (words ++ tail) stop here ∙ rest.read ∙ ap (λ (x : Places). Ok (x, record { line = line; next_column = rest.next_column; marks = tail; stop = stop })) members;
     }
 
 -- a side that is read from a column
 pub record SideRead (names : List (List ℕ)) (line from : ℕ) (marks tail : List Mark) (stop : Option Stop) (x : Places) : Type 0 where
-  pub behind : ℕ
-  pub read : side names (record { line = line; behind = from; marks = marks ++ tail; stop = stop }) ≡ Ok (x, record { line = line; behind = behind; marks = tail; stop = stop })
+  pub next_column : ℕ
+  pub read : side names (record { line = line; next_column = from; marks = marks ++ tail; stop = stop }) ≡ Ok (x, record { line = line; next_column = next_column; marks = tail; stop = stop })
 
 side_begun : (names : List (List ℕ)) (line from : ℕ) (m : Mark) (ms : List Mark) (stop : Option Stop) (attribute : IsAttribute format.Plain names m)
-    → side names (record { line = line; behind = from; marks = m ∷ ms; stop = stop }) ≡ words_from names line (only attribute.place) (m.column + length m.word) ms stop
+    → side names (record { line = line; next_column = from; marks = m ∷ ms; stop = stop }) ≡ words_from names line (only attribute.place) (m.column + length m.word) ms stop
 unfolding side take
 side_begun names line from m ms stop attribute = rw (attribute.word, place_back names line m attribute) refl
 
 pub side_back : (names : List (List ℕ)) (line from : ℕ) (marks tail : List Mark) (stop : Option Stop) (x : Places) → IsSide format.Plain names marks x → NoWord tail
     → SideRead names line from marks tail stop x
 unfolding side take
-side_back names line from marks tail stop x (inl empty) other = record { behind = empty.column + length empty.bytes; read = rw (empty.alone, empty.nothing) refl }
+side_back names line from marks tail stop x (inl empty) other = record { next_column = empty.column + length empty.bytes; read = rw (empty.alone, empty.nothing) refl }
 side_back names line from [] tail stop x (inr words) other = let some : 0 < 0 = words.some in absurd (omega arith)
 side_back names line from (m ∷ marks) tail stop x (inr words) other =
     let here : IsAttribute format.Plain names m = All-head (IsAttribute format.Plain names) m marks words.each in
@@ -216,6 +216,6 @@ side_back names line from (m ∷ marks) tail stop x (inr words) other =
     let rest = words_back names line (only here.place) (m.column + length m.word) marks tail stop there other in
     let members = sym (named-cons names m marks here.place here.known) ∙ sym words.members in
     record {
-      behind = rest.behind;
-      read = side_begun names line from m (marks ++ tail) stop here ∙ rest.read ∙ ap (λ (z : Places). Ok (z, record { line = line; behind = rest.behind; marks = tail; stop = stop })) members;
+      next_column = rest.next_column;
+      read = side_begun names line from m (marks ++ tail) stop here ∙ rest.read ∙ ap (λ (z : Places). Ok (z, record { line = line; next_column = rest.next_column; marks = tail; stop = stop })) members;
     }

@@ -30,7 +30,7 @@ use Rattle.proof_grammar.proofs.SlotLemmas.{AreSlots}
 use Rattle.proof_grammar.specs.Refusals.{StandsAt, IsBadLine, IsWrongLine, IsRefusedAt, IsEmptyProof, IsNeverUsed, IsUnfinished, IsRefused, RefusesProof}
 use Rattle.proof_grammar.proofs.EnteredRefusals.{entered_refused, refused_entered}
 use Rattle.proof_grammar.proofs.PlaceLemmas.{same_place}
-use Rattle.proof_grammar.proofs.ReadLines.{marked, read_from, nothing_counts, IsBehind, at_start, passed, counts_here, one_more}
+use Rattle.proof_grammar.proofs.ReadLines.{marked, read_from, nothing_counts, HasReadLines, at_start, passed, counts_here, one_more}
 use Rattle.proof_grammar.proofs.WalkedLines.{walked}
 
 -- ---- at the end
@@ -40,10 +40,10 @@ no_lines s (l ∷ ls) [] nodes none = absurd nodes
 no_lines s (l ∷ ls) (t ∷ ts) nodes none = cc
 
 never_there : (s : Schema) (text : List ℕ) (before : List (List ℕ)) (fresh : Bool) (lines : List Line) (trees : List Tree) (book : Ledger) (e : LineComplaint)
-    → IsBehind s text before fresh lines trees book → IsFirstUnused (λ n. uses n lines) (length trees) book.lines e → IsNeverUsed text lines e
-never_there s text before fresh lines trees book e behind first =
-    let count = nodes_size s [] lines trees behind.read.nodes in
-    let place = behind.places first.at (omega (arith, first.inside, behind.size)) in
+    → HasReadLines s text before fresh lines trees book → IsFirstUnused (λ n. uses n lines) (length trees) book.lines e → IsNeverUsed text lines e
+never_there s text before fresh lines trees book e afterwards first =
+    let count = nodes_size s [] lines trees afterwards.read.nodes in
+    let place = afterwards.places first.at (omega (arith, first.inside, afterwards.size)) in
     record {
       number = first.at + 1;
       some = omega arith;
@@ -58,20 +58,20 @@ never_there s text before fresh lines trees book e behind first =
     }
 
 end_there : (s : Schema) (text : List ℕ) (before : List (List ℕ)) (fresh : Bool) (lines : List Line) (trees : List Tree) (book : Ledger) (number : ℕ) (e : LineComplaint)
-    → line_texts (without_mark text) ≡ before → number ≡ length before + 1 → IsBehind s text before fresh lines trees book → finished (number - 1) book ≡ Err e → IsRefused s text e
-end_there s text before fresh lines trees book number e cut count behind h = inr (record {
+    → line_texts (without_mark text) ≡ before → number ≡ length before + 1 → HasReadLines s text before fresh lines trees book → finished (number - 1) book ≡ Err e → IsRefused s text e
+end_there s text before fresh lines trees book number e cut count afterwards h = inr (record {
   lines = lines;
   trees = trees;
-  mean = subst (λ (ls : List (List ℕ)). MeanLines (names_of s) (certificate_lines_of ls) lines) (sym cut) behind.mean;
-  read = behind.read;
+  mean = subst (λ (ls : List (List ℕ)). MeanLines (names_of s) (certificate_lines_of ls) lines) (sym cut) afterwards.mean;
+  read = afterwards.read;
   why = ⊎_elim
       (λ none. inl (record {
-        none = no_lines s lines trees behind.read.nodes none.0;
+        none = no_lines s lines trees afterwards.read.nodes none.0;
         at = ap (λ (c : LineComplaint). c.line) none.1 ∙ omega (arith, count, ap length cut);
         is = ap (λ (c : LineComplaint). c.complaint) none.1;
       }))
-      (λ first. inr (never_there s text before fresh lines trees book e behind first))
-      (finished_refused s (λ n. uses n lines) trees book (number - 1) e behind.follows h);
+      (λ first. inr (never_there s text before fresh lines trees book e afterwards first))
+      (finished_refused s (λ n. uses n lines) trees book (number - 1) e afterwards.follows h);
 })
 
 -- ---- line by line
@@ -79,23 +79,23 @@ end_there s text before fresh lines trees book number e cut count behind h = inr
 abbrev RefusesOn : Schema → List ℕ → LineComplaint → ℕ → List (List ℕ) → Type 0
 RefusesOn s text e number texts =
     (before : List (List ℕ)) (fresh : Bool) (lines : List Line) (trees : List Tree) (book : Ledger) → line_texts (without_mark text) ≡ before ++ texts → number ≡ length before + 1
-    → IsBehind s text before fresh lines trees book → read_lines s fresh number book texts ≡ Err e → IsRefused s text e
+    → HasReadLines s text before fresh lines trees book → read_lines s fresh number book texts ≡ Err e → IsRefused s text e
 
 line_refused : (k : LineKind) (s : Schema) (text : List ℕ) (e : LineComplaint) (number : ℕ) (here : List ℕ) (texts before : List (List ℕ)) (fresh : Bool) (lines : List Line) (trees : List Tree)
-    (book : Ledger) → line_texts (without_mark text) ≡ before ++ here ∷ texts → number ≡ length before + 1 → IsBehind s text before fresh lines trees book → Counts k fresh here
+    (book : Ledger) → line_texts (without_mark text) ≡ before ++ here ∷ texts → number ≡ length before + 1 → HasReadLines s text before fresh lines trees book → Counts k fresh here
     → RefusesOn s text e (number + 1) texts
     → read_from s number texts (read_as k s fresh number book here) ≡ Err e → IsRefused s text e
-line_refused Blank s text e number here texts before fresh lines trees book cut count behind counts on h =
+line_refused Blank s text e number here texts before fresh lines trees book cut count afterwards counts on h =
     on (before ++ here ∷ []) fresh lines trees book (cut ∙ sym (append_assoc before (here ∷ []) texts)) (omega (arith, count, length-append before (here ∷ [])))
-    (passed s text before fresh fresh lines trees book here behind counts) h
-line_refused Opening s text e number here texts before fresh lines trees book cut count behind counts on h =
+    (passed s text before fresh fresh lines trees book here afterwards counts) h
+line_refused Opening s text e number here texts before fresh lines trees book cut count afterwards counts on h =
     on (before ++ here ∷ []) false lines trees book (cut ∙ sym (append_assoc before (here ∷ []) texts)) (omega (arith, count, length-append before (here ∷ [])))
-    (passed s text before fresh false lines trees book here behind counts) h
-line_refused Certificate s text e number here texts before fresh lines trees book cut count behind counts on h =
+    (passed s text before fresh false lines trees book here afterwards counts) h
+line_refused Certificate s text e number here texts before fresh lines trees book cut count afterwards counts on h =
     told (line (names_of s) (rest_from number 1 (lex mode.Numbered here))) refl h
   where
     stands : StandsAt text before here number
-    stands = record { after = texts; cut = cut; number = count; counts = counts_here s text before fresh lines trees book here behind counts }
+    stands = record { after = texts; cut = cut; number = count; counts = counts_here s text before fresh lines trees book here afterwards counts }
 
     told : (r : Result Line SchemaRefusal) → line (names_of s) (rest_from number 1 (lex mode.Numbered here)) ≡ r
         → read_from s number texts (in_line r >>= λ l. marked (entered s number book l)) ≡ Err e → IsRefused s text e
@@ -107,8 +107,8 @@ line_refused Certificate s text e number here texts before fresh lines trees boo
           stands = stands;
           lines = lines;
           trees = trees;
-          mean = behind.mean;
-          read = behind.read;
+          mean = afterwards.mean;
+          read = afterwards.read;
           why = inl (record { refusal = refusal; grammar = refusals.line_refuses (names_of s) number here refusal grammar; is = refl });
         }))
     told (Ok l) grammar g = by_line (entered s number book l) refl g
@@ -129,22 +129,22 @@ line_refused Certificate s text e number here texts before fresh lines trees boo
               stands = stands;
               lines = lines;
               trees = trees;
-              mean = behind.mean;
-              read = behind.read;
-              why = inr (record { line = l; means = means; wrong = entered_refused s number lines trees book l c behind.follows own enter });
+              mean = afterwards.mean;
+              read = afterwards.read;
+              why = inr (record { line = l; means = means; wrong = entered_refused s number lines trees book l c afterwards.follows own enter });
             }))
         by_line (Ok next) enter f =
-            let enters = entered_there s number (λ n. uses n lines) trees book next l behind.follows own enter in
+            let enters = entered_there s number (λ n. uses n lines) trees book next l afterwards.follows own enter in
             on (before ++ here ∷ []) false (lines ++ l ∷ []) (trees ++ enters.0 ∷ []) next (cut ∙ sym (append_assoc before (here ∷ []) texts))
             (omega (arith, count, length-append before (here ∷ [])))
-            (one_more s text before fresh lines trees book here number l enters.0 next behind counts stands means enter enters.1) f
+            (one_more s text before fresh lines trees book here number l enters.0 next afterwards counts stands means enter enters.1) f
 
 lines_refused : (s : Schema) (text : List ℕ) (e : LineComplaint) (number : ℕ) (texts : List (List ℕ)) → RefusesOn s text e number texts
 unfolding read_lines read_one
-lines_refused s text e number [] before fresh lines trees book cut count behind h =
-    end_there s text before fresh lines trees book number e (cut ∙ append-nil before) count behind h
-lines_refused s text e number (here ∷ texts) before fresh lines trees book cut count behind h =
-    line_refused (line_kind fresh (lex mode.Numbered here)) s text e number here texts before fresh lines trees book cut count behind (kind_counts fresh here _ refl)
+lines_refused s text e number [] before fresh lines trees book cut count afterwards h =
+    end_there s text before fresh lines trees book number e (cut ∙ append-nil before) count afterwards h
+lines_refused s text e number (here ∷ texts) before fresh lines trees book cut count afterwards h =
+    line_refused (line_kind fresh (lex mode.Numbered here)) s text e number here texts before fresh lines trees book cut count afterwards (kind_counts fresh here _ refl)
     (lines_refused s text e (number + 1) texts) h
 
 -- what is refused goes wrong so
@@ -155,29 +155,29 @@ refused_there s text e h = lines_refused s text e 1 (line_texts (without_mark te
 -- ---- from what goes wrong
 -- a line that stands in a text counts
 not_passed : (s : Schema) (text : List ℕ) (before : List (List ℕ)) (here : List ℕ) (at : ℕ) (fresh : Bool) (lines : List Line) (trees : List Tree) (book : Ledger)
-    → IsBehind s text before fresh lines trees book → StandsAt text before here at → counted fresh (here ∷ []) ≡ [] → ⊥
-not_passed s text before here at fresh lines trees book behind stands none =
+    → HasReadLines s text before fresh lines trees book → StandsAt text before here at → counted fresh (here ∷ []) ≡ [] → ⊥
+not_passed s text before here at fresh lines trees book afterwards stands none =
     omega (
       arith,
-      ap length (sym stands.counts ∙ behind.counts (here ∷ [])),
+      ap length (sym stands.counts ∙ afterwards.counts (here ∷ [])),
       length-append (certificate_lines_of before) (here ∷ []),
       length-append (certificate_lines_of before) (counted fresh (here ∷ [])),
       ap length none,
     )
 
 line_refuses : (k : LineKind) (s : Schema) (text : List ℕ) (e : LineComplaint) (before after : List (List ℕ)) (here : List ℕ) (fresh : Bool) (lines : List Line) (trees : List Tree)
-    (book : Ledger) → IsBehind s text before fresh lines trees book → StandsAt text before here e.line → Counts k fresh here
+    (book : Ledger) → HasReadLines s text before fresh lines trees book → StandsAt text before here e.line → Counts k fresh here
     → IsBadLine (names_of s) here e.line e.complaint ⊎ IsWrongLine s lines trees here e.complaint → read_from s e.line after (read_as k s fresh e.line book here) ≡ Err e
-line_refuses Blank s text e before after here fresh lines trees book behind stands counts why =
-    absurd (not_passed s text before here e.line fresh lines trees book behind stands (counts [] ∙ nothing_counts fresh))
-line_refuses Opening s text e before after here fresh lines trees book behind stands counts why =
-    absurd (not_passed s text before here e.line fresh lines trees book behind stands (counts []))
-line_refuses Certificate s text e before after here fresh lines trees book behind stands counts (inl bad) =
+line_refuses Blank s text e before after here fresh lines trees book afterwards stands counts why =
+    absurd (not_passed s text before here e.line fresh lines trees book afterwards stands (counts [] ∙ nothing_counts fresh))
+line_refuses Opening s text e before after here fresh lines trees book afterwards stands counts why =
+    absurd (not_passed s text before here e.line fresh lines trees book afterwards stands (counts []))
+line_refuses Certificate s text e before after here fresh lines trees book afterwards stands counts (inl bad) =
     rw (refusals.refuses_line (names_of s) e.line here bad.refusal bad.grammar) (ap (λ c. Err (complaint_at e.line c)) (sym bad.is))
-line_refuses Certificate s text e before after here fresh lines trees book behind stands counts (inr wrong) =
+line_refuses Certificate s text e before after here fresh lines trees book afterwards stands counts (inr wrong) =
     let own = line_of_attributes s here wrong.line wrong.means in
     let reads = line_back (names_of s) e.line here wrong.line wrong.means in
-    let refuses = refused_entered s e.line lines trees book wrong.line e.complaint behind.follows own wrong.wrong in
+    let refuses = refused_entered s e.line lines trees book wrong.line e.complaint afterwards.follows own wrong.wrong in
     rw (reads, refuses) refl
 
 at_back : (s : Schema) (text : List ℕ) (e : LineComplaint) → IsRefusedAt s text e → read_proof s text ≡ Err e
@@ -190,7 +190,7 @@ at_back s text e refused =
     ap (read_lines s true 1 (record { lines = []; unused = [] })) stands.cut
     ∙ walk.same
     ∙ ap (λ n. read_lines s walk.fresh n walk.book after_it) (sym stands.number)
-    ∙ line_refuses (line_kind walk.fresh (lex mode.Numbered here)) s text e refused.before stands.after here walk.fresh refused.lines refused.trees walk.book walk.behind stands
+    ∙ line_refuses (line_kind walk.fresh (lex mode.Numbered here)) s text e refused.before stands.after here walk.fresh refused.lines refused.trees walk.book walk.afterwards stands
     (kind_counts walk.fresh here _ refl) refused.why
 
 no_trees : (s : Schema) (lines : List Line) (trees : List Tree) → AreNodes s [] lines trees → lines ≡ [] → trees ≡ []
@@ -199,20 +199,20 @@ no_trees s [] (t ∷ ts) nodes none = absurd nodes
 no_trees s (l ∷ ls) (t ∷ ts) nodes none = cc
 
 end_refuses : (s : Schema) (text : List ℕ) (e : LineComplaint) (whole : List (List ℕ)) (fresh : Bool) (lines : List Line) (trees : List Tree) (book : Ledger)
-    → line_texts (without_mark text) ≡ whole → IsBehind s text whole fresh lines trees book → IsEmptyProof text lines e ⊎ IsNeverUsed text lines e → finished (length whole + 1 - 1) book ≡ Err e
-end_refuses s text e whole fresh lines trees book cut behind (inl empty) =
-    let none = no_trees s lines trees behind.read.nodes empty.none in
-    let slots = subst (λ (ts : List Tree). AreSlots s (λ n. uses n lines) 0 ts book.unused) none behind.follows.slots in
+    → line_texts (without_mark text) ≡ whole → HasReadLines s text whole fresh lines trees book → IsEmptyProof text lines e ⊎ IsNeverUsed text lines e → finished (length whole + 1 - 1) book ≡ Err e
+end_refuses s text e whole fresh lines trees book cut afterwards (inl empty) =
+    let none = no_trees s lines trees afterwards.read.nodes empty.none in
+    let slots = subst (λ (ts : List Tree). AreSlots s (λ n. uses n lines) 0 ts book.unused) none afterwards.follows.slots in
     let at : length whole + 1 - 1 ≡ e.line = omega (arith, empty.at, ap length cut) in
     none_finished s (λ n. uses n lines) (length whole + 1 - 1) book.lines book.unused slots ∙ (λ i. Err (complaint_at (at i) (sym empty.is i)))
-end_refuses s text e whole fresh lines trees book cut behind (inr never) =
-    let count = nodes_size s [] lines trees behind.read.nodes in
+end_refuses s text e whole fresh lines trees book cut afterwards (inr never) =
+    let count = nodes_size s [] lines trees afterwards.read.nodes in
     let i = never.number - 1 in
     let number : i + 1 ≡ never.number = omega (arith, never.some) in
-    let place = behind.places i (omega (arith, never.not_last, never.some, count, behind.size)) in
+    let place = afterwards.places i (omega (arith, never.not_last, never.some, count, afterwards.size)) in
     let at : slice_index book.lines i ≡ e.line =
     same_place text place.before never.before place.here never.here (slice_index book.lines i) e.line place.stands never.stands (omega (arith, place.count, never.is_number)) in
-    refused_finished s (λ n. uses n lines) trees book (length whole + 1 - 1) e behind.follows
+    refused_finished s (λ n. uses n lines) trees book (length whole + 1 - 1) e afterwards.follows
     (record {
       at = i;
       inside = omega (arith, never.not_last, number, count);
@@ -229,7 +229,7 @@ end_back s text e refused =
     let walk = walked s text whole [] refused.lines refused.trees cut refused.mean refused.read in
     ap (read_lines s true 1 (record { lines = []; unused = [] })) cut
     ∙ walk.same
-    ∙ end_refuses s text e whole walk.fresh refused.lines refused.trees walk.book refl walk.behind refused.why
+    ∙ end_refuses s text e whole walk.fresh refused.lines refused.trees walk.book refl walk.afterwards refused.why
 
 -- what goes wrong so is refused
 pub refused_back : (s : Schema) (text : List ℕ) (e : LineComplaint) → IsRefused s text e → read_proof s text ≡ Err e

@@ -47,9 +47,9 @@ reads_test want test r next e =
     let t = bound (take want r) _ next e in
     told t.value.0 t.value.1 (take_there want r t.value t.is) (test t.value.0) refl t.goes_on
   where
-    told : (m : Mark) (behind : Rest) → Takes r m behind → (b : Bool) → test m ≡ b → cond b (Ok behind) (Err (expected want m behind)) ≡ Ok next → Reads (λ m. test m ≡ true) r next
-    told m behind takes true is e = record { mark = m; takes = subst (λ (u : Rest). Takes r m u) (ok_same _ next _ refl e) takes; holds = is }
-    told m behind takes false is e = cc
+    told : (m : Mark) (afterwards : Rest) → Takes r m afterwards → (b : Bool) → test m ≡ b → cond b (Ok afterwards) (Err (expected want m afterwards)) ≡ Ok next → Reads (λ m. test m ≡ true) r next
+    told m afterwards takes true is e = record { mark = m; takes = subst (λ (u : Rest). Takes r m u) (ok_same _ next _ refl e) takes; holds = is }
+    told m afterwards takes false is e = cc
 
 number_kind : (n : ℕ) (k : TokenKind) → number_in k ≡ Some n → k ≡ token.Number n
 number_kind n (token.Number m) e = let same : m ≡ n = cc in ap token.Number same
@@ -124,7 +124,7 @@ rule_name_there r v e =
 -- ---- back
 -- what is left of a line that ends with its tokens
 abbrev pub rest_at : ℕ → ℕ → List Mark → Rest
-rest_at line behind marks = record { line = line; behind = behind; marks = marks; stop = None }
+rest_at line afterwards marks = record { line = line; afterwards = afterwards; marks = marks; stop = None }
 
 abbrev pub after_of : Mark → ℕ
 after_of m = m.column + length m.word

@@ -24,13 +24,13 @@ use Rattle.proof_grammar.proofs.LineLaws.{line_back}
 use Rattle.proof_grammar.proofs.NodeLemmas.{uses-append}
 use Rattle.proof_grammar.specs.Refusals.{StandsAt}
 use Rattle.proof_grammar.specs.Wrongs.{AreRead}
-use Rattle.proof_grammar.proofs.ReadLines.{read_from, nothing_counts, IsBehind, at_start, passed, counts_here, one_more}
+use Rattle.proof_grammar.proofs.ReadLines.{read_from, nothing_counts, HasReadLines, at_start, passed, counts_here, one_more}
 
 -- the reader after the lines before, of which it read this
 pub record IsWalked (s : Schema) (text : List ℕ) (before after : List (List ℕ)) (lines : List Line) (trees : List Tree) (found : Result Tree LineComplaint) : Type 0 where
   pub fresh : Bool
   pub book : Ledger
-  pub behind : IsBehind s text before fresh lines trees book
+  pub afterwards : HasReadLines s text before fresh lines trees book
   pub same : found ≡ read_lines s fresh (length before + 1) book after
 
 -- lines that go on after some others
@@ -50,7 +50,7 @@ record IsUpTo (text : List ℕ) (before texts after whole : List (List ℕ)) (nu
 abbrev WalksOn : Schema → List ℕ → List (List ℕ) → List (List ℕ) → List Line → List Tree → ℕ → List (List ℕ) → Type 0
 WalksOn s text after whole all grown number texts =
     (before : List (List ℕ)) (fresh : Bool) (lines : List Line) (trees : List Tree) (book : Ledger) (more : List Line) (us : List Tree) → IsUpTo text before texts after whole number
-    → IsBehind s text before fresh lines trees book → MeanLines (names_of s) (counted fresh texts) more → GoOn s lines trees more us all grown
+    → HasReadLines s text before fresh lines trees book → MeanLines (names_of s) (counted fresh texts) more → GoOn s lines trees more us all grown
     → IsWalked s text whole after all grown (read_lines s fresh number book (texts ++ after))
 
 up_to_more : (text : List ℕ) (before : List (List ℕ)) (here : List ℕ) (texts after whole : List (List ℕ)) (number : ℕ) → IsUpTo text before (here ∷ texts) after whole number
@@ -63,37 +63,37 @@ up_to_more text before here texts after whole number up = record {
 
 -- nothing is left
 walk_end : (s : Schema) (text : List ℕ) (after whole : List (List ℕ)) (all : List Line) (grown : List Tree) (number : ℕ) (before : List (List ℕ)) (fresh : Bool) (lines : List Line)
-    (trees : List Tree) (book : Ledger) (more : List Line) (us : List Tree) → IsUpTo text before [] after whole number → IsBehind s text before fresh lines trees book
+    (trees : List Tree) (book : Ledger) (more : List Line) (us : List Tree) → IsUpTo text before [] after whole number → HasReadLines s text before fresh lines trees book
     → MeanLines (names_of s) [] more → GoOn s lines trees more us all grown → IsWalked s text whole after all grown (read_lines s fresh number book after)
-walk_end s text after whole all grown number before fresh lines trees book [] [] up behind mean goes =
+walk_end s text after whole all grown number before fresh lines trees book [] [] up afterwards mean goes =
     let same_lines : lines ≡ all = sym (goes.lines_whole ∙ append-nil lines) in
     let same_trees : trees ≡ grown = sym (goes.trees_whole ∙ append-nil trees) in
     let same_front : before ≡ whole = sym (up.front ∙ append-nil before) in
     let of : List (List ℕ) → List Line → List Tree → Type 0 = λ b ls ts. IsWalked s text b after ls ts (read_lines s fresh number book after) in
-    let start : of before lines trees = record { fresh = fresh; book = book; behind = behind; same = ap (λ n. read_lines s fresh n book after) up.number_is } in
+    let start : of before lines trees = record { fresh = fresh; book = book; afterwards = afterwards; same = ap (λ n. read_lines s fresh n book after) up.number_is } in
     subst (λ b. of b all grown) same_front (subst (λ ts. of before all ts) same_trees (subst (λ ls. of before ls trees) same_lines start))
-walk_end s text after whole all grown number before fresh lines trees book [] (u ∷ us) up behind mean goes = absurd goes.nodes
-walk_end s text after whole all grown number before fresh lines trees book (l ∷ more) us up behind mean goes = absurd mean
+walk_end s text after whole all grown number before fresh lines trees book [] (u ∷ us) up afterwards mean goes = absurd goes.nodes
+walk_end s text after whole all grown number before fresh lines trees book (l ∷ more) us up afterwards mean goes = absurd mean
 
 -- a line that counts
 walk_line : (s : Schema) (text : List ℕ) (after whole : List (List ℕ)) (all : List Line) (grown : List Tree) (number : ℕ) (here : List ℕ) (texts before : List (List ℕ)) (fresh : Bool)
     (lines : List Line) (trees : List Tree) (book : Ledger) (more : List Line) (us : List Tree) → IsUpTo text before (here ∷ texts) after whole number
-    → IsBehind s text before fresh lines trees book → Counts Certificate fresh here → MeanLines (names_of s) (here ∷ counted false texts) more → GoOn s lines trees more us all grown
+    → HasReadLines s text before fresh lines trees book → Counts Certificate fresh here → MeanLines (names_of s) (here ∷ counted false texts) more → GoOn s lines trees more us all grown
     → WalksOn s text after whole all grown (number + 1) texts → IsWalked s text whole after all grown (read_from s number (texts ++ after) (read_as Certificate s fresh number book here))
-walk_line s text after whole all grown number here texts before fresh lines trees book [] us up behind counts mean goes on = absurd mean
-walk_line s text after whole all grown number here texts before fresh lines trees book (l ∷ more) [] up behind counts mean goes on = absurd goes.nodes
-walk_line s text after whole all grown number here texts before fresh lines trees book (l ∷ more) (u ∷ us) up behind counts (means, rest) goes on =
+walk_line s text after whole all grown number here texts before fresh lines trees book [] us up afterwards counts mean goes on = absurd mean
+walk_line s text after whole all grown number here texts before fresh lines trees book (l ∷ more) [] up afterwards counts mean goes on = absurd goes.nodes
+walk_line s text after whole all grown number here texts before fresh lines trees book (l ∷ more) (u ∷ us) up afterwards counts (means, rest) goes on =
     let own = line_of_attributes s here l means in
-    let count = nodes_size s [] lines trees behind.read.nodes in
+    let count = nodes_size s [] lines trees afterwards.read.nodes in
     let room : length trees < MOST_NODES = omega (arith, goes.read.few_lines, ap length goes.lines_whole, length-append lines (l ∷ more), count) in
-    let enters = entered_back s number (λ n. uses n lines) trees book l u behind.follows own goes.nodes.0 room deep single in
+    let enters = entered_back s number (λ n. uses n lines) trees book l u afterwards.follows own goes.nodes.0 room deep single in
     let next = enters.0 in
     let stands : StandsAt text before here number =
-    record { after = texts ++ after; cut = up.cut; number = up.number_is; counts = counts_here s text before fresh lines trees book here behind counts } in
+    record { after = texts ++ after; cut = up.cut; number = up.number_is; counts = counts_here s text before fresh lines trees book here afterwards counts } in
     let reads = line_back (names_of s) number here l means in
     rw (reads, enters.1)
     (on (before ++ here ∷ []) false (lines ++ l ∷ []) (trees ++ u ∷ []) next more us (up_to_more text before here texts after whole number up)
-    (one_more s text before fresh lines trees book here number l u next behind counts stands means enters.1 enters.2) rest
+    (one_more s text before fresh lines trees book here number l u next afterwards counts stands means enters.1 enters.2) rest
     (record {
       lines_whole = goes.lines_whole ∙ sym (append_assoc lines (l ∷ []) more);
       trees_whole = goes.trees_whole ∙ sym (append_assoc trees (u ∷ []) us);
@@ -112,25 +112,25 @@ walk_line s text after whole all grown number here texts before fresh lines tree
 
 walk_more : (k : LineKind) (s : Schema) (text : List ℕ) (after whole : List (List ℕ)) (all : List Line) (grown : List Tree) (number : ℕ) (here : List ℕ) (texts before : List (List ℕ))
     (fresh : Bool) (lines : List Line) (trees : List Tree) (book : Ledger) (more : List Line) (us : List Tree) → IsUpTo text before (here ∷ texts) after whole number
-    → IsBehind s text before fresh lines trees book → Counts k fresh here → MeanLines (names_of s) (counted fresh (here ∷ texts)) more → GoOn s lines trees more us all grown
+    → HasReadLines s text before fresh lines trees book → Counts k fresh here → MeanLines (names_of s) (counted fresh (here ∷ texts)) more → GoOn s lines trees more us all grown
     → WalksOn s text after whole all grown (number + 1) texts → IsWalked s text whole after all grown (read_from s number (texts ++ after) (read_as k s fresh number book here))
-walk_more Blank s text after whole all grown number here texts before fresh lines trees book more us up behind counts mean goes on =
-    on (before ++ here ∷ []) fresh lines trees book more us (up_to_more text before here texts after whole number up) (passed s text before fresh fresh lines trees book here behind counts)
+walk_more Blank s text after whole all grown number here texts before fresh lines trees book more us up afterwards counts mean goes on =
+    on (before ++ here ∷ []) fresh lines trees book more us (up_to_more text before here texts after whole number up) (passed s text before fresh fresh lines trees book here afterwards counts)
     (subst (λ (ls : List (List ℕ)). MeanLines (names_of s) ls more) (counts texts) mean) goes
-walk_more Opening s text after whole all grown number here texts before fresh lines trees book more us up behind counts mean goes on =
-    on (before ++ here ∷ []) false lines trees book more us (up_to_more text before here texts after whole number up) (passed s text before fresh false lines trees book here behind counts)
+walk_more Opening s text after whole all grown number here texts before fresh lines trees book more us up afterwards counts mean goes on =
+    on (before ++ here ∷ []) false lines trees book more us (up_to_more text before here texts after whole number up) (passed s text before fresh false lines trees book here afterwards counts)
     (subst (λ (ls : List (List ℕ)). MeanLines (names_of s) ls more) (counts texts) mean) goes
-walk_more Certificate s text after whole all grown number here texts before fresh lines trees book more us up behind counts mean goes on =
-    walk_line s text after whole all grown number here texts before fresh lines trees book more us up behind counts
+walk_more Certificate s text after whole all grown number here texts before fresh lines trees book more us up afterwards counts mean goes on =
+    walk_line s text after whole all grown number here texts before fresh lines trees book more us up afterwards counts
     (subst (λ (ls : List (List ℕ)). MeanLines (names_of s) ls more) (counts texts) mean) goes on
 
 walk : (s : Schema) (text : List ℕ) (after whole : List (List ℕ)) (all : List Line) (grown : List Tree) (number : ℕ) (texts : List (List ℕ)) → WalksOn s text after whole all grown number texts
 unfolding read_lines read_one
-walk s text after whole all grown number [] before fresh lines trees book more us up behind mean goes =
-    walk_end s text after whole all grown number before fresh lines trees book more us up behind
+walk s text after whole all grown number [] before fresh lines trees book more us up afterwards mean goes =
+    walk_end s text after whole all grown number before fresh lines trees book more us up afterwards
     (subst (λ (ls : List (List ℕ)). MeanLines (names_of s) ls more) (nothing_counts fresh) mean) goes
-walk s text after whole all grown number (here ∷ texts) before fresh lines trees book more us up behind mean goes =
-    walk_more (line_kind fresh (lex mode.Numbered here)) s text after whole all grown number here texts before fresh lines trees book more us up behind (kind_counts fresh here _ refl) mean goes
+walk s text after whole all grown number (here ∷ texts) before fresh lines trees book more us up afterwards mean goes =
+    walk_more (line_kind fresh (lex mode.Numbered here)) s text after whole all grown number here texts before fresh lines trees book more us up afterwards (kind_counts fresh here _ refl) mean goes
     (walk s text after whole all grown (number + 1) texts)
 
 -- the reader after lines of a text that are read

@@ -27,7 +27,7 @@ bound j k none = told (nat_lt j k) refl
     told false e = grind (arith, nat_tests, e)
 
 -- no complaint of a smaller rank holds
-pub record IsBehind (s : Schema) (lines : List Line) (trees : List Tree) (l : Line) (k : ℕ) : Type 0 where
+pub record NoneOfLowerRank (s : Schema) (lines : List Line) (trees : List Tree) (l : Line) (k : ℕ) : Type 0 where
   pub low : 1 < k
   pub high : k < 9
   pub number : 2 < k → l.number ≡ length trees + 1
@@ -37,17 +37,17 @@ pub record IsBehind (s : Schema) (lines : List Line) (trees : List Tree) (l : Li
   pub few_levels : 6 < k → IsTooDeep trees l → ⊥
   pub sound : 7 < k → (why : FaultKind) → NodeFault s trees l l.body why → ⊥
 
-pub first_of : (s : Schema) (lines : List Line) (trees : List Tree) (l : Line) (k : ℕ) → IsBehind s lines trees l k → (other : Complaint) → Wrong s lines trees l other → k ≤ rank other
-first_of s lines trees l k behind (bad_line e) wrong = absurd wrong
-first_of s lines trees l k behind wrong_number wrong = bound 2 k (λ h. wrong (behind.number h))
-first_of s lines trees l k behind no_such_line wrong = bound 3 k (λ h. behind.named h wrong)
-first_of s lines trees l k behind used_twice wrong = bound 4 k (λ h. behind.twice h wrong)
-first_of s lines trees l k behind too_many_lines wrong = bound 5 k (λ h. omega (arith, wrong, behind.few_lines h))
-first_of s lines trees l k behind too_deep wrong = bound 6 k (λ h. behind.few_levels h wrong)
-first_of s lines trees l k behind (unsound fault) wrong = bound 7 k (λ h. behind.sound h fault.kind wrong.1)
-first_of s lines trees l k behind (states_other stated concluded) wrong = omega (arith, behind.high)
-first_of s lines trees l k behind never_used wrong = absurd wrong
-first_of s lines trees l k behind empty_proof wrong = absurd wrong
+pub first_of : (s : Schema) (lines : List Line) (trees : List Tree) (l : Line) (k : ℕ) → NoneOfLowerRank s lines trees l k → (other : Complaint) → Wrong s lines trees l other → k ≤ rank other
+first_of s lines trees l k afterwards (bad_line e) wrong = absurd wrong
+first_of s lines trees l k afterwards wrong_number wrong = bound 2 k (λ h. wrong (afterwards.number h))
+first_of s lines trees l k afterwards no_such_line wrong = bound 3 k (λ h. afterwards.named h wrong)
+first_of s lines trees l k afterwards used_twice wrong = bound 4 k (λ h. afterwards.twice h wrong)
+first_of s lines trees l k afterwards too_many_lines wrong = bound 5 k (λ h. omega (arith, wrong, afterwards.few_lines h))
+first_of s lines trees l k afterwards too_deep wrong = bound 6 k (λ h. afterwards.few_levels h wrong)
+first_of s lines trees l k afterwards (unsound fault) wrong = bound 7 k (λ h. afterwards.sound h fault.kind wrong.1)
+first_of s lines trees l k afterwards (states_other stated concluded) wrong = omega (arith, afterwards.high)
+first_of s lines trees l k afterwards never_used wrong = absurd wrong
+first_of s lines trees l k afterwards empty_proof wrong = absurd wrong
 
 -- ---- the rule table gives one answer
 one_answer : (r : Result Dependency FaultKind) (d : Dependency) (why : FaultKind) → r ≡ Ok d → r ≡ Err why → ⊥

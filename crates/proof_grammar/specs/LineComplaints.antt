@@ -69,15 +69,15 @@ pub record CannotGoOn (fs : List Form) (stop : Option Stop) (place : ℕ) : Type
       ⊎ ((place ≡ length fs) × (stop ≡ None) × (AreLine fs → ⊥))
 
 -- a word of a side is reserved, or no name is it
-abbrev pub SideComplaint : List (List ℕ) → List Mark → ℕ → ℕ → Type 0
-SideComplaint names ms place number =
+abbrev pub SideWordComplaint : List (List ℕ) → List Mark → ℕ → ℕ → Type 0
+SideWordComplaint names ms place number =
     (m : Mark) × (slice_get ms place ≡ Some m) × TakesNames (take place (forms ms))
     × ComplainsOfWord format.Plain names m number
 
 -- what is wrong with tokens at a place, before which so many of them stand
 abbrev pub TokensComplaint : List (List ℕ) → List Mark → Option Stop → ℕ → ℕ → Type 0
 TokensComplaint names ms stop place number =
-    (SideComplaint names ms place number ⊎ ((number ≡ 6) × CannotGoOn (forms ms) stop place))
+    (SideWordComplaint names ms place number ⊎ ((number ≡ 6) × CannotGoOn (forms ms) stop place))
     ⊎ ((s : Stop) × (stop ≡ Some s) × (place ≡ length ms) × (number ≡ flaw_number s.flaw))
 
 -- what is wanted after tokens of these forms: a side where `()` can follow, the line's end where they are a

@@ -20,11 +20,9 @@ use Rattle.derivation.proofs.ConclusionLemmas.{concluded-from, Proves-one}
 use Rattle.derivation.proofs.RuleTableLemmas.{chosen}
 use Rattle.derivation.proofs.WithinLemmas.{tree_of-attributes, conclusion_within}
 use Rattle.proof_grammar.specs.Lines.{by_step, by_pair, Line}
-use Rattle.proof_grammar.specs.Printing.{line_text, leaf_body, numbered_line, node_lines_after, lines_text, IsProof, IsStepWithin}
+use Rattle.proof_grammar.specs.Printing.{line_text, numbered_line, node_lines_after, lines_text, IsProof, IsStepWithin}
 
 -- ---- what a node proves, by its premises
-pub leaf_states : (s : Schema) (t : Tree) (rule : Leaf) → t ≡ leaf rule → IsProof s t → (d : Dependency) × (leaf_conclusion s rule ≡ Ok d)
-leaf_states s t rule e proof = subst (IsProof s) e proof
 
 pub leaf_proves : (s : Schema) (t : Tree) (rule : Leaf) (d : Dependency) → t ≡ leaf rule → leaf_conclusion s rule ≡ Ok d → Proves s t d
 leaf_proves s t rule d e states = subst (λ (v : Tree). Proves s v d) (sym e) states
@@ -84,12 +82,6 @@ lines_text-append names (x ∷ xs) ys = ap (λ t. line_text names x ++ t) (lines
 -- lines, and one more
 line_more : (names : List (List ℕ)) (xs : List Line) (x : Line) → lines_text names (xs ++ x ∷ []) ≡ lines_text names xs ++ line_text names x
 line_more names xs x = lines_text-append names xs (x ∷ []) ∙ ap (λ t. lines_text names xs ++ t) (append-nil (line_text names x))
-
-pub leaf_lines : (s : Schema) (t : Tree) (rule : Leaf) (d : Dependency) (n : ℕ) → t ≡ leaf rule → Proves s t d
-    → lines_text (names_of s) (node_lines_after s n t) ≡ line_text (names_of s) (numbered_line (n + 1) d (leaf_body rule))
-leaf_lines s t rule d n e proves =
-    let concludes : concluded s 0 (leaf rule) ≡ Ok d = concluded-from s 0 (leaf rule) d (subst (λ (v : Tree). Proves s v d) e proves) in
-    rw (e, concludes) (append-nil (line_text (names_of s) (numbered_line (n + 1) d (leaf_body rule))))
 
 pub step_lines : (s : Schema) (t : Tree) (rule : Step) (u : Tree) (d : Dependency) (n : ℕ) → t ≡ step rule u → Proves s t d
     → lines_text (names_of s) (node_lines_after s n t) ≡ lines_text (names_of s) (node_lines_after s n u) ++ line_text (names_of s) (numbered_line (n + nodes u + 1) d (by_step rule (n + nodes u)))

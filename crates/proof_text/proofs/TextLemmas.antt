@@ -45,10 +45,10 @@ pub last_read : (s : Schema) (fresh still : Bool) (number : ℕ) (book next : Le
 unfolding read_lines
 last_read s fresh still number book next line ls whole h = let back : number + 1 - 1 ≡ number = omega arith in rw whole (rw h (rw back refl))
 
-pub reads_more : (s : Schema) (text : List ℕ) (fresh still : Bool) (number : ℕ) (book next : Ledger) (rest line behind : List ℕ)
-    → Reads s text fresh number book rest → CutsAt rest line behind → read_one s fresh number book line ≡ Ok (still, next) → Reads s text still (number + 1) next behind
-reads_more s text fresh still number book next rest line behind reads cut read = record {
-  same = reads.same ∙ line_read s fresh still number book next line (line_texts behind) (line_texts rest) cut.lines read;
+pub reads_more : (s : Schema) (text : List ℕ) (fresh still : Bool) (number : ℕ) (book next : Ledger) (rest line afterwards : List ℕ)
+    → Reads s text fresh number book rest → CutsAt rest line afterwards → read_one s fresh number book line ≡ Ok (still, next) → Reads s text still (number + 1) next afterwards
+reads_more s text fresh still number book next rest line afterwards reads cut read = record {
+  same = reads.same ∙ line_read s fresh still number book next line (line_texts afterwards) (line_texts rest) cut.lines read;
   room = omega (arith, reads.room, cut.shorter);
   ledger = read_one_keeps s fresh number book line (still, next) reads.ledger read;
 }

@@ -42,12 +42,6 @@ rows_counted from (suc n) =
 pub row_count : (n : ℕ) → length (sample_relation n) ≡ 4 * n
 row_count n = rows_counted 0 n
 
--- the four rows of a person
-pub four_rows : (old : Relation) (i : ℕ)
-    → (((old ++ sample_row i 0 0 ∷ []) ++ sample_row i 0 1 ∷ []) ++ sample_row i 1 0 ∷ []) ++ sample_row i 1 1 ∷ []
-    ≡ old ++ person_rows i
-four_rows old i = simp append_assoc
-
 -- ---- which rows there are
 record IsRow (from end : ℕ) (t : Tuple) : Type 0 where
   person : ℕ

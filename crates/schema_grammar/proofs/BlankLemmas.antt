@@ -1,3 +1,4 @@
+-- Which lines have no token.
 use Rattle.std.proofs.Common.{◌≡◌, ℕ, ◌+◌, zero, suc, Bool, true, false, cond, ◌==◌, ◌&&◌, List, [], ◌∷◌, take, nat_eq, None, Some, refl, sym, ◌∙◌, ap, arith}
 use Rattle.std.specs.List.{starts_with}
 use Rattle.dep_model.specs.Names.{is_name, is_name_byte}

@@ -1,3 +1,4 @@
+-- A dependency is read where nothing is wrong, or refused by its first complaint.
 use Rattle.std.proofs.Common.{◌≡◌, ◌<◌, ◌≤◌, ◌+◌, ◌⊎◌, inl, inr, ℕ, zero, suc, true, false, List, [], ◌∷◌, ◌++◌, length, take, Option, Some, None, Ok, Err, Result, refl, sym, ◌∙◌, ap, subst, arith, append_assoc}
 use Rattle.std.specs.List.{slice_get}
 use Rattle.std.proofs.lemmas.List.{append-nil}
@@ -37,8 +38,8 @@ abbrev WantsFrom : List TokenKind → List Mark → ℕ → What → Type 0
 WantsFrom pre ms place = Wants (pre ++ take place (kinds ms))
 
 abbrev Judged : List TokenKind → Format → List (List ℕ) → ℕ → ℕ → List Mark → Option Stop → Result Dependency SchemaRefusal → Type 0
-Judged pre f declared line behind ms stop (Ok d) = (p n : ℕ) → ComplaintFrom pre f declared ms stop p n → ⊥
-Judged pre f declared line behind ms stop (Err e) = IsFirst (ComplaintFrom pre f declared ms stop) (WantsFrom pre ms) (span_at line behind ms stop) e
+Judged pre f declared line next_column ms stop (Ok d) = (p n : ℕ) → ComplaintFrom pre f declared ms stop p n → ⊥
+Judged pre f declared line next_column ms stop (Err e) = IsFirst (ComplaintFrom pre f declared ms stop) (WantsFrom pre ms) (span_at line next_column ms stop) e
 
 -- one token later
 later_kinds : (pre : List TokenKind) (k : TokenKind) (ks : List TokenKind) → (pre ++ k ∷ []) ++ ks ≡ pre ++ k ∷ ks
@@ -73,15 +74,15 @@ complaint_earlier pre f declared m ms stop p n (inl (inr (six, stuck))) = inl (i
 complaint_earlier pre f declared m ms stop p n (inr (s, is, same, number)) = inr (s, is, (omega arith), number)
 
 -- where nothing is wrong with a token, the first complaint is that of the rest
-judge_later : (pre : List TokenKind) (f : Format) (declared : List (List ℕ)) (line behind : ℕ) (m : Mark) (ms : List Mark) (stop : Option Stop) (res : Result Dependency SchemaRefusal)
+judge_later : (pre : List TokenKind) (f : Format) (declared : List (List ℕ)) (line next_column : ℕ) (m : Mark) (ms : List Mark) (stop : Option Stop) (res : Result Dependency SchemaRefusal)
     → ((n : ℕ) → ComplaintFrom pre f declared (m ∷ ms) stop 0 n → ⊥) → Judged (pre ++ m.kind ∷ []) f declared line (m.column + length m.word) ms stop res
-    → Judged pre f declared line behind (m ∷ ms) stop res
-judge_later pre f declared line behind m ms stop (Ok d) fine rest = λ p n complaint. none p n complaint
+    → Judged pre f declared line next_column (m ∷ ms) stop res
+judge_later pre f declared line next_column m ms stop (Ok d) fine rest = λ p n complaint. none p n complaint
   where
     none : (p n : ℕ) → ComplaintFrom pre f declared (m ∷ ms) stop p n → ⊥
     none zero n complaint = fine n complaint
     none (suc p) n complaint = rest p n (complaint_later pre f declared m ms stop p n complaint)
-judge_later pre f declared line behind m ms stop (Err e) fine rest = record {
+judge_later pre f declared line next_column m ms stop (Err e) fine rest = record {
   place = suc rest.place;
   stands = complaint_earlier pre f declared m ms stop rest.place (refusal_number e.kind) rest.stands;
   carries = subst (λ (ks : List TokenKind). Carries (Wants ks) e.kind) (later_kinds pre m.kind (take rest.place (kinds ms))) rest.carries;
@@ -125,8 +126,8 @@ abbrev no_stop : Option Stop
 no_stop = None
 
 -- at the end of the tokens
-judge_stop : (pre : List TokenKind) (f : Format) (declared : List (List ℕ)) (line behind : ℕ) (s : Stop) → Judged pre f declared line behind [] (Some s) (Err (refused_by line s))
-judge_stop pre f declared line behind s = record {
+judge_stop : (pre : List TokenKind) (f : Format) (declared : List (List ℕ)) (line next_column : ℕ) (s : Stop) → Judged pre f declared line next_column [] (Some s) (Err (refused_by line s))
+judge_stop pre f declared line next_column s = record {
   place = 0;
   stands = inr (s, refl, refl, flaw_numbered s.flaw);
   carries = flaw_carries (WantsFrom pre [] 0) s.flaw;
@@ -148,9 +149,9 @@ judge_stop pre f declared line behind s = record {
         inside : Some s ≡ Some t → s ≡ t
         inside eq = cc
 
-judge_end : (pre : List TokenKind) (f : Format) (declared : List (List ℕ)) (line behind : ℕ) (r : Reached) (o : Result Dependency What) → EndTells r o
-    → runs at_start pre ≡ Some (shape_of r) → Judged pre f declared line behind [] None (at line behind 0 (expecting o))
-judge_end pre f declared line behind r (Ok d) final reached = λ p n complaint. none p n complaint
+judge_end : (pre : List TokenKind) (f : Format) (declared : List (List ℕ)) (line next_column : ℕ) (r : Reached) (o : Result Dependency What) → EndTells r o
+    → runs at_start pre ≡ Some (shape_of r) → Judged pre f declared line next_column [] None (at line next_column 0 (expecting o))
+judge_end pre f declared line next_column r (Ok d) final reached = λ p n complaint. none p n complaint
   where
     ends : IsLine (pre ++ [])
     ends = subst IsLine (sym (append-nil pre)) (final_line pre (shape_of r) reached final)
@@ -163,7 +164,7 @@ judge_end pre f declared line behind r (Ok d) final reached = λ p n complaint. 
         told (inl (less, cannot)) = absurd (omega arith)
         told (inr (same, stop, cannot)) = cannot ends
     none p n (inr (t, is, same, number)) = cc
-judge_end pre f declared line behind r (Err w) (open_end, wants) reached = record {
+judge_end pre f declared line next_column r (Err w) (open_end, wants) reached = record {
   place = 0;
   stands = inl (inr (refl, record { before = subst BeginsLine (sym (append-nil pre)) (begins_from pre (shape_of r) reached); here = inr (refl, refl, cannot) }));
   carries = subst (λ (ks : List TokenKind). Wants ks w) (sym (append-nil pre)) (subst (Wants pre) (sym wants) (wants_from pre (shape_of r) reached));
@@ -205,9 +206,9 @@ fine_token pre f declared s m ms stop reached word n (inl (inr (six, stuck))) = 
 fine_token pre f declared s m ms stop reached word n (inr (t, is, same, number)) = absurd (omega arith)
 
 -- what is wrong with a token by which the reading ends
-judge_token : (pre : List TokenKind) (f : Format) (declared : List (List ℕ)) (line behind : ℕ) (r : Reached) (m : Mark) (ms : List Mark) (stop : Option Stop) (why : SchemaRefusalKind)
-    → runs at_start pre ≡ Some (shape_of r) → StepTells f declared r m (Err why) → Judged pre f declared line behind (m ∷ ms) stop (Err (refusal line m.column (length m.word) why))
-judge_token pre f declared line behind r m ms stop why reached (inl (stands, less, small)) = record {
+judge_token : (pre : List TokenKind) (f : Format) (declared : List (List ℕ)) (line next_column : ℕ) (r : Reached) (m : Mark) (ms : List Mark) (stop : Option Stop) (why : SchemaRefusalKind)
+    → runs at_start pre ≡ Some (shape_of r) → StepTells f declared r m (Err why) → Judged pre f declared line next_column (m ∷ ms) stop (Err (refusal line m.column (length m.word) why))
+judge_token pre f declared line next_column r m ms stop why reached (inl (stands, less, small)) = record {
   place = 0;
   stands = inl (inl (m, refl, stands));
   carries = carries_nothing (WantsFrom pre (m ∷ ms) 0) why (word_number stands);
@@ -225,7 +226,7 @@ judge_token pre f declared line behind r m ms stop why reached (inl (stands, les
     least zero n (inl (inr (six, stuck))) = inr (refl, omega arith)
     least zero n (inr (t, is, same, number)) = absurd (omega arith)
     least (suc p) n complaint = inl (omega arith)
-judge_token pre f declared line behind r m ms stop why reached (inr (six, cannot, word, wants)) = record {
+judge_token pre f declared line next_column r m ms stop why reached (inr (six, cannot, word, wants)) = record {
   place = 0;
   stands = inl (inr (six, record { before = subst BeginsLine (sym (append-nil pre)) (begins_from pre (shape_of r) reached); here = inl ((omega arith), stuck) }));
   carries = subst (Carries (Wants (pre ++ []))) (sym wants) (subst (λ (ks : List TokenKind). Wants ks (wanted_by (shape_of r))) (sym (append-nil pre)) (wants_from pre (shape_of r) reached));
@@ -245,21 +246,21 @@ judge_token pre f declared line behind r m ms stop why reached (inr (six, cannot
     least zero n (inr (t, is, same, number)) = absurd (omega arith)
     least (suc p) n complaint = inl (omega arith)
 
-judge : (f : Format) (declared : List (List ℕ)) (line : ℕ) (ms : List Mark) (stop : Option Stop) (pre : List TokenKind) (r : Reached) (behind : ℕ)
-    → runs at_start pre ≡ Some (shape_of r) → Judged pre f declared line behind ms stop (follow f declared line r behind ms stop)
+judge : (f : Format) (declared : List (List ℕ)) (line : ℕ) (ms : List Mark) (stop : Option Stop) (pre : List TokenKind) (r : Reached) (next_column : ℕ)
+    → runs at_start pre ≡ Some (shape_of r) → Judged pre f declared line next_column ms stop (follow f declared line r next_column ms stop)
 unfolding follow
-judge f declared line [] None pre r behind reached = judge_end pre f declared line behind r (finished r) (end_tells r) reached
-judge f declared line [] (Some s) pre r behind reached = judge_stop pre f declared line behind s
-judge f declared line (m ∷ ms) stop pre r behind reached =
+judge f declared line [] None pre r next_column reached = judge_end pre f declared line next_column r (finished r) (end_tells r) reached
+judge f declared line [] (Some s) pre r next_column reached = judge_stop pre f declared line next_column s
+judge f declared line (m ∷ ms) stop pre r next_column reached =
     told (step f declared r m.kind m.word) (step_tells f declared r m) (λ next there. judge f declared line ms stop (pre ++ m.kind ∷ []) next (m.column + length m.word) there)
   where
     told : (o : Result Reached SchemaRefusalKind) → StepTells f declared r m o
         → ((next : Reached) → runs at_start (pre ++ m.kind ∷ []) ≡ Some (shape_of next) → Judged (pre ++ m.kind ∷ []) f declared line (m.column + length m.word) ms stop (follow f declared line next (m.column + length m.word) ms stop))
-        → Judged pre f declared line behind (m ∷ ms) stop (and_then (at line m.column (length m.word) o) (λ next. follow f declared line next (m.column + length m.word) ms stop))
+        → Judged pre f declared line next_column (m ∷ ms) stop (and_then (at line m.column (length m.word) o) (λ next. follow f declared line next (m.column + length m.word) ms stop))
     told (Ok next) tells rest =
         let there = runs-one pre (shape_of r) m.kind reached ∙ tells.0 in
-        judge_later pre f declared line behind m ms stop (follow f declared line next (m.column + length m.word) ms stop) (fine_token pre f declared (shape_of next) m ms stop there tells.1) (rest next there)
-    told (Err why) tells rest = judge_token pre f declared line behind r m ms stop why reached tells
+        judge_later pre f declared line next_column m ms stop (follow f declared line next (m.column + length m.word) ms stop) (fine_token pre f declared (shape_of next) m ms stop there tells.1) (rest next there)
+    told (Err why) tells rest = judge_token pre f declared line next_column r m ms stop why reached tells
 
 to_line : (f : Format) (declared : List (List ℕ)) (ms : List Mark) (stop : Option Stop) (p n : ℕ) → ComplaintFrom [] f declared ms stop p n → DependencyComplaint f declared ms stop p n
 to_line f declared ms stop p n (inl (inl word)) = inl (inl word)

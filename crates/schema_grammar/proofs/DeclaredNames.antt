@@ -1,3 +1,4 @@
+-- The names that a schema text declares are names.
 use Rattle.std.proofs.Common.{◌≡◌, ◌<◌, ◌+◌, ◌-◌, inl, inr, ◌⊎◌, ℕ, zero, suc, true, List, [], ◌∷◌, length, refl, sym, subst, arith, Ok}
 use Rattle.std.specs.List.{All}
 use Rattle.std.specs.Result.{IfOk}
@@ -26,12 +27,12 @@ use Rattle.schema_grammar.specs.Printed.{AreNames}
 abbrev pub IsProper : Mark → Type 0
 IsProper m = m.kind ≡ token.Word → is_name m.word ≡ true
 
-led_proper : (m : Mode) (column : ℕ) (text : List ℕ) (behind : ℕ → Lexed) (p : Piece) → 0 < length text → p ≡ front m text
-    → ((n : ℕ) → All IsProper (behind n).marks) → All IsProper (led_by p column text behind).marks
-led_proper m column text behind piece.Gap some e later = later 0
-led_proper m column text behind piece.Comment some e later = All-nil IsProper
-led_proper m column text behind (piece.Token k n) some e later = All-cons IsProper _ _ (is_a_word m text k n some e) (later (n - 1))
-led_proper m column text behind (piece.Flaw why n) some e later = All-nil IsProper
+led_proper : (m : Mode) (column : ℕ) (text : List ℕ) (afterwards : ℕ → Lexed) (p : Piece) → 0 < length text → p ≡ front m text
+    → ((n : ℕ) → All IsProper (afterwards n).marks) → All IsProper (led_by p column text afterwards).marks
+led_proper m column text afterwards piece.Gap some e later = later 0
+led_proper m column text afterwards piece.Comment some e later = All-nil IsProper
+led_proper m column text afterwards (piece.Token k n) some e later = All-cons IsProper _ _ (is_a_word m text k n some e) (later (n - 1))
+led_proper m column text afterwards (piece.Flaw why n) some e later = All-nil IsProper
 
 pub lexed_proper : (m : Mode) (skip column : ℕ) (text : List ℕ) → All IsProper (lexed m skip column text).marks
 unfolding lexed

@@ -1,3 +1,4 @@
+-- A declaring line is read as what it means.
 use Rattle.std.proofs.Common.{◌≡◌, ◌<◌, ◌+◌, ◌-◌, inl, inr, ℕ, Bool, true, false, cond, List, [], ◌∷◌, length, Option, Some, None, Ok, Err, Result, refl, sym, ◌∙◌, ap, arith, ◌==◌}
 use Rattle.std.specs.Option.{is_some}
 use Rattle.std.specs.Result.{IfOk}
@@ -80,53 +81,53 @@ name_declared f column d some m new =
     let room = leb-refuses PLACES (length d.names) new.room in rw (new.word, new.free, new.new, room) refl
 
 -- names after a declaring word are read exactly where each is a new one
-names_there : (f : Format) (column : Column) (line : ℕ) (d whole : Declarations) (behind : ℕ) (ms : List Mark)
-    → list_names f column line d true behind ms None ≡ Ok whole → DeclareNames f column d ms whole
+names_there : (f : Format) (column : Column) (line : ℕ) (d whole : Declarations) (next_column : ℕ) (ms : List Mark)
+    → list_names f column line d true next_column ms None ≡ Ok whole → DeclareNames f column d ms whole
 unfolding list_names
-names_there f column line d whole behind [] e = cc
-names_there f column line d whole behind (m ∷ ms) e =
+names_there f column line d whole next_column [] e = cc
+names_there f column line d whole next_column (m ∷ ms) e =
     let two = steps (at line m.column (length m.word) (name_step f column d true m.kind m.word)) _ whole e in
     let first = declares_name f column d two.x true m (placed line m.column (length m.word) _ two.x two.first) in
     let rest : list_names f column line (add_name d m.word column) true (m.column + length m.word) ms None ≡ Ok whole
     = ap (λ n. list_names f column line n true (m.column + length m.word) ms None) (sym first.1) ∙ two.second in
     (first.0, names_there f column line (add_name d m.word column) whole (m.column + length m.word) ms rest)
 
-names_back : (f : Format) (column : Column) (line : ℕ) (d whole : Declarations) (behind : ℕ) (ms : List Mark)
-    → DeclareNames f column d ms whole → list_names f column line d true behind ms None ≡ Ok whole
+names_back : (f : Format) (column : Column) (line : ℕ) (d whole : Declarations) (next_column : ℕ) (ms : List Mark)
+    → DeclareNames f column d ms whole → list_names f column line d true next_column ms None ≡ Ok whole
 unfolding list_names
-names_back f column line d whole behind [] e = cc
-names_back f column line d whole behind (m ∷ ms) (new, rest) =
+names_back f column line d whole next_column [] e = cc
+names_back f column line d whole next_column (m ∷ ms) (new, rest) =
     let first = name_declared f column d true m new in
     rw first (names_back f column line (add_name d m.word column) whole (m.column + length m.word) ms rest)
 
-first_there : (f : Format) (column : Column) (line : ℕ) (d whole : Declarations) (behind : ℕ) (ms : List Mark)
-    → list_names f column line d false behind ms None ≡ Ok whole → (0 < length ms) × DeclareNames f column d ms whole
+first_there : (f : Format) (column : Column) (line : ℕ) (d whole : Declarations) (next_column : ℕ) (ms : List Mark)
+    → list_names f column line d false next_column ms None ≡ Ok whole → (0 < length ms) × DeclareNames f column d ms whole
 unfolding list_names
-first_there f column line d whole behind [] e = cc
-first_there f column line d whole behind (m ∷ ms) e =
+first_there f column line d whole next_column [] e = cc
+first_there f column line d whole next_column (m ∷ ms) e =
     let two = steps (at line m.column (length m.word) (name_step f column d false m.kind m.word)) _ whole e in
     let first = declares_name f column d two.x false m (placed line m.column (length m.word) _ two.x two.first) in
     let rest : list_names f column line (add_name d m.word column) true (m.column + length m.word) ms None ≡ Ok whole
     = ap (λ n. list_names f column line n true (m.column + length m.word) ms None) (sym first.1) ∙ two.second in
     (omega arith, (first.0, names_there f column line (add_name d m.word column) whole (m.column + length m.word) ms rest))
 
-first_back : (f : Format) (column : Column) (line : ℕ) (d whole : Declarations) (behind : ℕ) (ms : List Mark)
-    → 0 < length ms → DeclareNames f column d ms whole → list_names f column line d false behind ms None ≡ Ok whole
+first_back : (f : Format) (column : Column) (line : ℕ) (d whole : Declarations) (next_column : ℕ) (ms : List Mark)
+    → 0 < length ms → DeclareNames f column d ms whole → list_names f column line d false next_column ms None ≡ Ok whole
 unfolding list_names
-first_back f column line d whole behind [] some e = absurd (omega arith)
-first_back f column line d whole behind (m ∷ ms) some (new, rest) =
+first_back f column line d whole next_column [] some e = absurd (omega arith)
+first_back f column line d whole next_column (m ∷ ms) some (new, rest) =
     let first = name_declared f column d false m new in
     rw first (names_back f column line (add_name d m.word column) whole (m.column + length m.word) ms rest)
 
-names_stopped : (f : Format) (column : Column) (line : ℕ) (d : Declarations) (some : Bool) (behind : ℕ) (ms : List Mark) (stop : Stop)
-    → IfOk (list_names f column line d some behind ms (Some stop)) (λ _. ⊥)
+names_stopped : (f : Format) (column : Column) (line : ℕ) (d : Declarations) (some : Bool) (next_column : ℕ) (ms : List Mark) (stop : Stop)
+    → IfOk (list_names f column line d some next_column ms (Some stop)) (λ _. ⊥)
 unfolding list_names
-names_stopped f column line d true behind [] stop = tt
-names_stopped f column line d false behind [] stop = tt
-names_stopped f column line d true behind (m ∷ ms) stop =
+names_stopped f column line d true next_column [] stop = tt
+names_stopped f column line d false next_column [] stop = tt
+names_stopped f column line d true next_column (m ∷ ms) stop =
     and_then_ok (λ _. Unit {0}) (λ _. ⊥) _ _ (any_ok (at line m.column (length m.word) (name_step f column d true m.kind m.word)))
     (λ next _. names_stopped f column line next true (m.column + length m.word) ms stop)
-names_stopped f column line d false behind (m ∷ ms) stop =
+names_stopped f column line d false next_column (m ∷ ms) stop =
     and_then_ok (λ _. Unit {0}) (λ _. ⊥) _ _ (any_ok (at line m.column (length m.word) (name_step f column d false m.kind m.word)))
     (λ next _. names_stopped f column line next true (m.column + length m.word) ms stop)
 

@@ -1,3 +1,4 @@
+-- A goal is read exactly where the grammar has its dependency.
 use Rattle.std.proofs.Common.{◌≡◌, ◌<◌, ◌+◌, inl, inr, ℕ, List, [], ◌∷◌, ◌++◌, length, Option, Some, None, Ok, Err, Result, refl, sym, ◌∙◌, ap, arith}
 use Rattle.std.specs.List.{All}
 use Rattle.std.specs.Result.{IfOk}
@@ -20,7 +21,7 @@ use Rattle.schema_grammar.specs.declared.symbol.Sign.TheVariants as sign
 use Rattle.schema_grammar.specs.declared.symbol.Symbol.TheVariants as symbol
 use Rattle.schema_grammar.specs.declared.format.Format.{Format}
 use Rattle.schema_grammar.specs.declared.format.Format.TheVariants as format
-use Rattle.schema_grammar.specs.Grammar.{Reached, start, left, left_empty, behind, right, right_empty, turn, finished, stated}
+use Rattle.schema_grammar.specs.Grammar.{Reached, start, left, left_empty, after_sign, right, right_empty, turn, finished, stated}
 use Rattle.schema_grammar.specs.Meanings.{HasTokens, named, IsAttribute, IsSide, IsArrow, IsDependency, MeansGoal}
 use Rattle.schema_grammar.specs.Reading.{step, follow, follow_lexed, read_goal}
 use Rattle.schema_grammar.specs.Refusals.{at, and_then, expecting}
@@ -55,7 +56,7 @@ pub record ArrowRest (f : Format) (declared : List (List ℕ)) (ms : List Mark) 
   states : d ≡ stated sign none y
 
 -- after the arrow: the right side
-pub record BehindRest (f : Format) (declared : List (List ℕ)) (s : Sign) (x : Places) (ms : List Mark) (d : Dependency) : Type 0 where
+pub record AfterSignRest (f : Format) (declared : List (List ℕ)) (s : Sign) (x : Places) (ms : List Mark) (d : Dependency) : Type 0 where
   pub y : Places
   pub right_side : IsSide f declared ms y
   pub states : d ≡ stated s x y
@@ -75,7 +76,7 @@ abbrev pub Rest : Format → List (List ℕ) → Reached → List Mark → Depen
 Rest f declared start ms d = IsDependency f declared ms d
 Rest f declared (left x) ms d = LeftRest f declared x ms d
 Rest f declared left_empty ms d = ArrowRest f declared ms d
-Rest f declared (behind s x) ms d = BehindRest f declared s x ms d
+Rest f declared (after_sign s x) ms d = AfterSignRest f declared s x ms d
 Rest f declared (right s x y) ms d = RightRest f declared s x y ms d
 Rest f declared (right_empty s x) ms d = EndRest s x ms d
 
@@ -108,7 +109,7 @@ unfolding finished
 end_makes f declared line column start d e = cc
 end_makes f declared line column (left x) d e = cc
 end_makes f declared line column left_empty d e = cc
-end_makes f declared line column (behind s x) d e = cc
+end_makes f declared line column (after_sign s x) d e = cc
 end_makes f declared line column (right s x y) d e = record {
   each = All-nil (IsAttribute f declared);
   states = let same : d ≡ stated s x y = cc in same ∙ ap (stated s x) (sym (union-none y (named declared []) refl));
@@ -175,7 +176,7 @@ token_makes f declared line from (left x) token.Word column word ms d rest e =
           ∙ ap (union x) (sym (named-cons declared (mark token.Word column word) more.words reads.a reads.names.place)));
     }
 token_makes f declared line from (left x) token.Arrow column word ms d rest e =
-    let more : BehindRest f declared sign.Functional x ms d = rest (behind sign.Functional x) e in
+    let more : AfterSignRest f declared sign.Functional x ms d = rest (after_sign sign.Functional x) e in
     record {
       words = [];
       arrow = mark token.Arrow column word;
@@ -189,7 +190,7 @@ token_makes f declared line from (left x) token.Arrow column word ms d rest e =
       states = more.states ∙ ap (λ z. stated sign.Functional z more.y) (sym (union-none x (named declared []) refl));
     }
 token_makes f declared line from (left x) token.DoubleArrow column word ms d rest e =
-    let more : BehindRest f declared sign.Multivalued x ms d = rest (behind sign.Multivalued x) e in
+    let more : AfterSignRest f declared sign.Multivalued x ms d = rest (after_sign sign.Multivalued x) e in
     record {
       words = [];
       arrow = mark token.DoubleArrow column word;
@@ -208,29 +209,29 @@ token_makes f declared line from (left x) token.Colon column word ms d rest e = 
 token_makes f declared line from left_empty token.Word column word ms d rest e =
     let reads = reads_word f declared line left_empty from column word ms d e in absurd (no_value _ d reads.goes_on)
 token_makes f declared line from left_empty token.Arrow column word ms d rest e =
-    let more : BehindRest f declared sign.Functional none ms d = rest (behind sign.Functional none) e in
+    let more : AfterSignRest f declared sign.Functional none ms d = rest (after_sign sign.Functional none) e in
     record { arrow = mark token.Arrow column word; rhs = ms; y = more.y; sign = sign.Functional; whole = refl; is_arrow = refl; right_side = more.right_side; states = more.states }
 token_makes f declared line from left_empty token.DoubleArrow column word ms d rest e =
-    let more : BehindRest f declared sign.Multivalued none ms d = rest (behind sign.Multivalued none) e in
+    let more : AfterSignRest f declared sign.Multivalued none ms d = rest (after_sign sign.Multivalued none) e in
     record { arrow = mark token.DoubleArrow column word; rhs = ms; y = more.y; sign = sign.Multivalued; whole = refl; is_arrow = refl; right_side = more.right_side; states = more.states }
 token_makes f declared line from left_empty token.Empty column word ms d rest e = absurd (no_value _ d e)
 token_makes f declared line from left_empty (token.Number n) column word ms d rest e = absurd (no_value _ d e)
 token_makes f declared line from left_empty token.Colon column word ms d rest e = absurd (no_value _ d e)
-token_makes f declared line from (behind s x) token.Word column word ms d rest e =
-    let reads = reads_word f declared line (behind s x) from column word ms d e in
+token_makes f declared line from (after_sign s x) token.Word column word ms d rest e =
+    let reads = reads_word f declared line (after_sign s x) from column word ms d e in
     let more : RightRest f declared s x (only reads.a) ms d = rest (right s x (only reads.a)) reads.goes_on in
     record {
       y = named declared (mark token.Word column word ∷ ms);
       right_side = inr (record { some = omega arith; each = All-cons (IsAttribute f declared) _ _ (attribute f declared column word reads.a reads.names) more.each; members = refl });
       states = more.states ∙ ap (stated s x) (sym (named-cons declared (mark token.Word column word) ms reads.a reads.names.place));
     }
-token_makes f declared line from (behind s x) token.Empty column word ms d rest e =
+token_makes f declared line from (after_sign s x) token.Empty column word ms d rest e =
     let more : EndRest s x ms d = rest (right_empty s x) e in
     record { y = none; right_side = inl (record { column = column; bytes = word; alone = ap (λ t. mark token.Empty column word ∷ t) more.nothing; nothing = refl }); states = more.states }
-token_makes f declared line from (behind s x) token.Arrow column word ms d rest e = absurd (no_value _ d e)
-token_makes f declared line from (behind s x) token.DoubleArrow column word ms d rest e = absurd (no_value _ d e)
-token_makes f declared line from (behind s x) (token.Number n) column word ms d rest e = absurd (no_value _ d e)
-token_makes f declared line from (behind s x) token.Colon column word ms d rest e = absurd (no_value _ d e)
+token_makes f declared line from (after_sign s x) token.Arrow column word ms d rest e = absurd (no_value _ d e)
+token_makes f declared line from (after_sign s x) token.DoubleArrow column word ms d rest e = absurd (no_value _ d e)
+token_makes f declared line from (after_sign s x) (token.Number n) column word ms d rest e = absurd (no_value _ d e)
+token_makes f declared line from (after_sign s x) token.Colon column word ms d rest e = absurd (no_value _ d e)
 token_makes f declared line from (right s x y) token.Word column word ms d rest e =
     let reads = reads_word f declared line (right s x y) from column word ms d e in
     let more : RightRest f declared s x (union y (only reads.a)) ms d = rest (right s x (union y (only reads.a))) reads.goes_on in
@@ -281,25 +282,25 @@ right_read f declared line s x y from (m ∷ ms) each =
     ∙ ap (λ z. Ok (stated s x z)) (union-only y (named declared ms) here.place ∙ ap (union y) (sym (named-cons declared m ms here.place here.known)))
 
 pub side_read : (f : Format) (declared : List (List ℕ)) (line : ℕ) (s : Sign) (x y : Places) (from : ℕ) (ms : List Mark) → IsSide f declared ms y
-    → follow f declared line (behind s x) from ms None ≡ Ok (stated s x y)
+    → follow f declared line (after_sign s x) from ms None ≡ Ok (stated s x y)
 unfolding follow step finished turn
 side_read f declared line s x y from ms (inl empty) = rw (empty.alone, empty.nothing) refl
 side_read f declared line s x y from [] (inr words) = let some : 0 < 0 = words.some in absurd (omega arith)
 side_read f declared line s x y from (m ∷ ms) (inr words) =
     let here : IsAttribute f declared m = All-head (IsAttribute f declared) m ms words.each in
     let there : All (IsAttribute f declared) ms = All-tail (IsAttribute f declared) m ms words.each in
-    word_read f declared line (behind s x) from m ms None here
+    word_read f declared line (after_sign s x) from m ms None here
     ∙ right_read f declared line s x (only here.place) (m.column + length m.word) ms there
     ∙ ap (λ z. Ok (stated s x z)) (sym (named-cons declared m ms here.place here.known) ∙ sym words.members)
 
 arrow_read : (f : Format) (declared : List (List ℕ)) (line : ℕ) (s : Sign) (x : Places) (from : ℕ) (m : Mark) (ms : List Mark) → IsArrow s m.kind
-    → follow f declared line (left x) from (m ∷ ms) None ≡ follow f declared line (behind s x) (m.column + length m.word) ms None
+    → follow f declared line (left x) from (m ∷ ms) None ≡ follow f declared line (after_sign s x) (m.column + length m.word) ms None
 unfolding follow step turn
 arrow_read f declared line sign.Functional x from m ms e = rw e refl
 arrow_read f declared line sign.Multivalued x from m ms e = rw e refl
 
 empty_arrow_read : (f : Format) (declared : List (List ℕ)) (line : ℕ) (s : Sign) (from : ℕ) (m : Mark) (ms : List Mark) → IsArrow s m.kind
-    → follow f declared line left_empty from (m ∷ ms) None ≡ follow f declared line (behind s none) (m.column + length m.word) ms None
+    → follow f declared line left_empty from (m ∷ ms) None ≡ follow f declared line (after_sign s none) (m.column + length m.word) ms None
 unfolding follow step turn
 empty_arrow_read f declared line sign.Functional from m ms e = rw e refl
 empty_arrow_read f declared line sign.Multivalued from m ms e = rw e refl

@@ -1,3 +1,4 @@
+-- Lines of a schema text, one after the other, are read or refused at the first bad one.
 use Rattle.std.proofs.Common.{◌≡◌, ◌<◌, ◌≤◌, ◌+◌, ◌-◌, ◌⊎◌, inl, inr, ℕ, zero, suc, Bool, true, false, cond, List, [], ◌∷◌, ◌++◌, length, Some, None, Ok, Err, Result, refl, sym, ◌∙◌, ap, subst, arith, ◌==◌}
 use Rattle.std.proofs.lemmas.Bool.Decides.{nat_tests}
 use Rattle.lexer.specs.declared.token.Mode.TheVariants as mode
@@ -19,11 +20,11 @@ unfolding read_line
 line-law f number d text = text-line-law f d number (lex mode.Plain text).marks (lex mode.Plain text).stop
 
 -- the line of a refusal is that of its line's number
-span-line : (line behind : ℕ) (ms : List Mark) (stop : _) (p : ℕ) → (span_at line behind ms stop p).line ≡ line
-span-line line behind [] None p = refl
-span-line line behind [] (Some s) p = refl
-span-line line behind (m ∷ ms) stop zero = refl
-span-line line behind (m ∷ ms) stop (suc p) = span-line line (m.column + length m.word) ms stop p
+span-line : (line next_column : ℕ) (ms : List Mark) (stop : _) (p : ℕ) → (span_at line next_column ms stop p).line ≡ line
+span-line line next_column [] None p = refl
+span-line line next_column [] (Some s) p = refl
+span-line line next_column (m ∷ ms) stop zero = refl
+span-line line next_column (m ∷ ms) stop (suc p) = span-line line (m.column + length m.word) ms stop p
 
 pub first_of : {X : Type 0} (x y : X) (xs ys : List X) → x ∷ xs ≡ y ∷ ys → (x ≡ y) × (xs ≡ ys)
 first_of x y xs ys e = (cc, cc)

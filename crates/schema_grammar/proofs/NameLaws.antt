@@ -1,3 +1,4 @@
+-- A list of names is read where nothing is wrong, or refused by its first complaint.
 use Rattle.std.proofs.Common.{◌≡◌, ◌<◌, ◌≤◌, ◌+◌, ◌⊎◌, inl, inr, ℕ, zero, suc, Bool, true, false, cond, List, [], ◌∷◌, ◌++◌, length, take, Option, Some, None, Ok, Err, Result, refl, sym, ◌∙◌, ap, subst, arith, append_assoc, length-append}
 use Rattle.std.specs.Prelude.{map, nat_le}
 use Rattle.std.specs.List.{slice_get, All}
@@ -103,8 +104,8 @@ WantsNames some zero w = w ≡ wanted some
 WantsNames some (suc place) w = w ≡ what.LineEnd
 
 abbrev JudgedNames : Bool → Format → Declarations → ℕ → ℕ → List Mark → Option Stop → Result Declarations SchemaRefusal → Type 0
-JudgedNames some f d line behind words stop (Ok whole) = (p n : ℕ) → NamesFrom some f d words stop p n → ⊥
-JudgedNames some f d line behind words stop (Err e) = IsFirst (NamesFrom some f d words stop) (WantsNames some) (span_at line behind words stop) e
+JudgedNames some f d line next_column words stop (Ok whole) = (p n : ℕ) → NamesFrom some f d words stop p n → ⊥
+JudgedNames some f d line next_column words stop (Err e) = IsFirst (NamesFrom some f d words stop) (WantsNames some) (span_at line next_column words stop) e
 
 -- the complaints of a later word, seen from after this one
 name_later : (f : Format) (column : Column) (d : Declarations) (w : Mark) (words : List Mark) (p : ℕ) (m : Mark) (n : ℕ)
@@ -159,17 +160,17 @@ from_earlier some f column d w words stop p n word (inl (inl (m, is, before, com
 from_earlier some f column d w words stop p n word (inl (inr (six, place, none, no_stop, wrong))) = cc
 from_earlier some f column d w words stop p n word (inr (s, is, place, number)) = inr (s, is, (omega arith), number)
 
-names_later : (some : Bool) (f : Format) (column : Column) (d : Declarations) (line behind : ℕ) (w : Mark) (words : List Mark) (stop : Option Stop) (res : Result Declarations SchemaRefusal)
+names_later : (some : Bool) (f : Format) (column : Column) (d : Declarations) (line next_column : ℕ) (w : Mark) (words : List Mark) (stop : Option Stop) (res : Result Declarations SchemaRefusal)
     → w.kind ≡ token.Word → ((n : ℕ) → WordComplaint f d w n → ⊥) → JudgedNames true f (add_name d w.word column) line (w.column + length w.word) words stop res
-    → JudgedNames some f d line behind (w ∷ words) stop res
-names_later some f column d line behind w words stop (Ok whole) word fine rest = λ p n complaint. none p n complaint
+    → JudgedNames some f d line next_column (w ∷ words) stop res
+names_later some f column d line next_column w words stop (Ok whole) word fine rest = λ p n complaint. none p n complaint
   where
     none : (p n : ℕ) → NamesFrom some f d (w ∷ words) stop p n → ⊥
     none zero n (inl (inl (m, is, before, complaint))) = fine n (name_first f d w words m n (same_mark w words m is) complaint)
     none zero n (inl (inr (six, place, nothing, stop_none, none_before))) = cc
     none zero n (inr (s, is, place, number)) = absurd (omega arith)
     none (suc p) n complaint = rest p n (from_later some f column d w words stop p n complaint)
-names_later some f column d line behind w words stop (Err e) word fine rest = record {
+names_later some f column d line next_column w words stop (Err e) word fine rest = record {
   place = suc rest.place;
   stands = from_earlier some f column d w words stop rest.place (refusal_number e.kind) word rest.stands;
   carries = wants_earlier rest.place e.kind rest.carries;
@@ -191,9 +192,9 @@ names_later some f column d line behind w words stop (Err e) word fine rest = re
     least zero n (inr (s, is, place, number)) = absurd (omega arith)
     least (suc p) n complaint = shift p n (rest.least p n (from_later some f column d w words stop p n complaint))
 
-names_here : (some : Bool) (f : Format) (column : Column) (d : Declarations) (line behind : ℕ) (w : Mark) (words : List Mark) (stop : Option Stop) (why : SchemaRefusalKind)
-    → NameTells f column d some w (Err why) → JudgedNames some f d line behind (w ∷ words) stop (Err (refusal line w.column (length w.word) why))
-names_here some f column d line behind w words stop why (stands, less, wants) = record {
+names_here : (some : Bool) (f : Format) (column : Column) (d : Declarations) (line next_column : ℕ) (w : Mark) (words : List Mark) (stop : Option Stop) (why : SchemaRefusalKind)
+    → NameTells f column d some w (Err why) → JudgedNames some f d line next_column (w ∷ words) stop (Err (refusal line w.column (length w.word) why))
+names_here some f column d line next_column w words stop why (stands, less, wants) = record {
   place = 0;
   stands = inl (inl (w, refl, All-nil (λ v. v.kind ≡ token.Word), first_name f d w words (refusal_number why) stands));
   carries = wants;
@@ -207,8 +208,8 @@ names_here some f column d line behind w words stop why (stands, less, wants) = 
     least zero n (inr (s, is, place, number)) = absurd (omega arith)
     least (suc p) n complaint = inl (omega arith)
 
-names_stop : (some : Bool) (f : Format) (d : Declarations) (line behind : ℕ) (s : Stop) → JudgedNames some f d line behind [] (Some s) (Err (refused_by line s))
-names_stop some f d line behind s = record { place = 0; stands = inr (s, refl, refl, flaw_numbered s.flaw); carries = flaw_carries (WantsNames some 0) s.flaw; there = refl; least = least }
+names_stop : (some : Bool) (f : Format) (d : Declarations) (line next_column : ℕ) (s : Stop) → JudgedNames some f d line next_column [] (Some s) (Err (refused_by line s))
+names_stop some f d line next_column s = record { place = 0; stands = inr (s, refl, refl, flaw_numbered s.flaw); carries = flaw_carries (WantsNames some 0) s.flaw; there = refl; least = least }
   where
     inside : (t : Stop) → Some s ≡ Some t → s ≡ t
     inside t eq = cc
@@ -220,46 +221,46 @@ names_stop some f d line behind s = record { place = 0; stands = inr (s, refl, r
         let flaws : s.flaw ≡ t.flaw = ap (λ x. x.flaw) (inside t is) in
         inr (sym place, (let numbers = flaw_numbered s.flaw in let again = ap flaw_number flaws in omega arith))
 
-names_done : (f : Format) (d : Declarations) (line behind : ℕ) → JudgedNames true f d line behind [] None (Ok d)
-names_done f d line behind = λ p n complaint. none p n complaint
+names_done : (f : Format) (d : Declarations) (line next_column : ℕ) → JudgedNames true f d line next_column [] None (Ok d)
+names_done f d line next_column = λ p n complaint. none p n complaint
   where
     none : (p n : ℕ) → NamesFrom true f d [] None p n → ⊥
     none p n (inl (inl (m, is, before, complaint))) = no_mark m p is
     none p n (inl (inr (six, place, nothing, stop_none, none_before))) = cc
     none p n (inr (t, is, place, number)) = cc
 
-names_missing : (f : Format) (d : Declarations) (line behind : ℕ) → JudgedNames false f d line behind [] None (Err (refusal line behind 0 (kind.Expected what.Name)))
-names_missing f d line behind = record { place = 0; stands = inl (inr (refl, refl, refl, refl, refl)); carries = refl; there = refl; least = least }
+names_missing : (f : Format) (d : Declarations) (line next_column : ℕ) → JudgedNames false f d line next_column [] None (Err (refusal line next_column 0 (kind.Expected what.Name)))
+names_missing f d line next_column = record { place = 0; stands = inl (inr (refl, refl, refl, refl, refl)); carries = refl; there = refl; least = least }
   where
     least : (p n : ℕ) → NamesFrom false f d [] None p n → (0 < p) ⊎ ((0 ≡ p) × (6 ≤ n))
     least p n (inl (inl (m, is, before, complaint))) = absurd (no_mark m p is)
     least p n (inl (inr (six, place, nothing, stop_none, none_before))) = inr (sym place, omega arith)
     least p n (inr (t, is, place, number)) = cc
 
-names_token : (some : Bool) (f : Format) (column : Column) (d : Declarations) (line behind : ℕ) (w : Mark) (words : List Mark) (stop : Option Stop) (o : Result Declarations SchemaRefusalKind)
+names_token : (some : Bool) (f : Format) (column : Column) (d : Declarations) (line next_column : ℕ) (w : Mark) (words : List Mark) (stop : Option Stop) (o : Result Declarations SchemaRefusalKind)
     → NameTells f column d some w o → ((next : Declarations) → JudgedNames true f next line (w.column + length w.word) words stop (list_names f column line next true (w.column + length w.word) words stop))
-    → JudgedNames some f d line behind (w ∷ words) stop (and_then (at line w.column (length w.word) o) (λ next. list_names f column line next true (w.column + length w.word) words stop))
-names_token some f column d line behind w words stop (Ok next) (same, word, fine) rest =
+    → JudgedNames some f d line next_column (w ∷ words) stop (and_then (at line w.column (length w.word) o) (λ next. list_names f column line next true (w.column + length w.word) words stop))
+names_token some f column d line next_column w words stop (Ok next) (same, word, fine) rest =
     let of : Declarations → Type 0 = λ x. JudgedNames true f x line (w.column + length w.word) words stop (list_names f column line next true (w.column + length w.word) words stop) in
-    names_later some f column d line behind w words stop (list_names f column line next true (w.column + length w.word) words stop) word fine (subst of same (rest next))
-names_token some f column d line behind w words stop (Err why) tells rest = names_here some f column d line behind w words stop why tells
+    names_later some f column d line next_column w words stop (list_names f column line next true (w.column + length w.word) words stop) word fine (subst of same (rest next))
+names_token some f column d line next_column w words stop (Err why) tells rest = names_here some f column d line next_column w words stop why tells
 
-judge_names : (f : Format) (column : Column) (line : ℕ) (words : List Mark) (stop : Option Stop) (some : Bool) (d : Declarations) (behind : ℕ)
-    → JudgedNames some f d line behind words stop (list_names f column line d some behind words stop)
+judge_names : (f : Format) (column : Column) (line : ℕ) (words : List Mark) (stop : Option Stop) (some : Bool) (d : Declarations) (next_column : ℕ)
+    → JudgedNames some f d line next_column words stop (list_names f column line d some next_column words stop)
 unfolding list_names
-judge_names f column line [] None true d behind = names_done f d line behind
-judge_names f column line [] None false d behind = names_missing f d line behind
-judge_names f column line [] (Some s) true d behind = names_stop true f d line behind s
-judge_names f column line [] (Some s) false d behind = names_stop false f d line behind s
-judge_names f column line (w ∷ words) stop true d behind =
-    names_token true f column d line behind w words stop (name_step f column d true w.kind w.word) (name_tells f column d true w) (λ next. judge_names f column line words stop true next (w.column + length w.word))
-judge_names f column line (w ∷ words) stop false d behind =
-    names_token false f column d line behind w words stop (name_step f column d false w.kind w.word) (name_tells f column d false w) (λ next. judge_names f column line words stop true next (w.column + length w.word))
+judge_names f column line [] None true d next_column = names_done f d line next_column
+judge_names f column line [] None false d next_column = names_missing f d line next_column
+judge_names f column line [] (Some s) true d next_column = names_stop true f d line next_column s
+judge_names f column line [] (Some s) false d next_column = names_stop false f d line next_column s
+judge_names f column line (w ∷ words) stop true d next_column =
+    names_token true f column d line next_column w words stop (name_step f column d true w.kind w.word) (name_tells f column d true w) (λ next. judge_names f column line words stop true next (w.column + length w.word))
+judge_names f column line (w ∷ words) stop false d next_column =
+    names_token false f column d line next_column w words stop (name_step f column d false w.kind w.word) (name_tells f column d false w) (λ next. judge_names f column line words stop true next (w.column + length w.word))
 
 -- a declaring line is refused by its first complaint, and read where there is none
-pub names-law : (f : Format) (column : Column) (d : Declarations) (line behind : ℕ) (words : List Mark) (stop : Option Stop)
-    → FitsNames f d line behind words stop (list_names f column line d false behind words stop)
-names-law f column d line behind words stop = fits (list_names f column line d false behind words stop) (judge_names f column line words stop false d behind)
+pub names-law : (f : Format) (column : Column) (d : Declarations) (line next_column : ℕ) (words : List Mark) (stop : Option Stop)
+    → FitsNames f d line next_column words stop (list_names f column line d false next_column words stop)
+names-law f column d line next_column words stop = fits (list_names f column line d false next_column words stop) (judge_names f column line words stop false d next_column)
   where
     to : (p n : ℕ) → NamesFrom false f d words stop p n → NamesComplaint f d words stop p n
     to p n (inl (inl word)) = inl (inl word)
@@ -278,6 +279,6 @@ names-law f column d line behind words stop = fits (list_names f column line d f
     carries : (p : ℕ) (why : SchemaRefusalKind) → Carries (WantsNames false p) why → Carries (NamesWant p) why
     carries p = Carries-map (WantsNames false p) (NamesWant p) (wants p)
 
-    fits : (res : Result Declarations SchemaRefusal) → JudgedNames false f d line behind words stop res → FitsNames f d line behind words stop res
+    fits : (res : Result Declarations SchemaRefusal) → JudgedNames false f d line next_column words stop res → FitsNames f d line next_column words stop res
     fits (Ok whole) none = λ p n complaint. none p n (from p n complaint)
     fits (Err e) first = record { place = first.place; stands = to first.place (refusal_number e.kind) first.stands; carries = carries first.place e.kind first.carries; there = first.there; least = λ p n complaint. first.least p n (from p n complaint) }

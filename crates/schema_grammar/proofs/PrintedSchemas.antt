@@ -1,3 +1,4 @@
+-- What is printed of a schema means it.
 use Rattle.std.proofs.Common.{◌≡◌, ◌<◌, ◌≤◌, ◌+◌, inl, inr, ℕ, suc, Bool, true, false, cond, List, [], ◌∷◌, ◌++◌, length, get_or, None, Some, refl, sym, ◌∙◌, ap, subst, arith, append_assoc, length-append}
 use Rattle.std.specs.Prelude.{codes, map}
 use Rattle.std.specs.List.{All, list_any, flat_map, Contains}
@@ -202,9 +203,6 @@ cut_run names before words rest place cut = record {
   whole = cut.whole ∙ sym (append_assoc before words rest);
   size = length-append before words ∙ ap (λ k. k + length words) cut.size;
 }
-
-front_cut : (names before words rest : List (List ℕ)) (place : ℕ) → names ≡ before ++ (words ++ rest) → length before ≡ place → length words ≤ length names
-front_cut names before words rest place e size = let whole : length names ≡ length before + (length words + length rest) = ap length e ∙ length-append before (words ++ rest) ∙ ap (λ k. length before + k) (length-append words rest) in omega arith
 
 -- words in front of others are declared one by one as well
 declare_front : (column : Column) (d : Declarations) (names words rest : List (List ℕ)) (at place : ℕ) → AreNames format.Typed names → IsCutAt names d.names (words ++ rest) place → length names ≤ PLACES

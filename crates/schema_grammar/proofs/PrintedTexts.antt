@@ -1,3 +1,4 @@
+-- A printed text is cut into the lines that were printed.
 use Rattle.std.proofs.Common.{◌≡◌, ◌≤◌, ◌+◌, ◌-◌, inl, inr, ℕ, zero, suc, Bool, true, false, ◌==◌, ◌&&◌, not, List, [], ◌∷◌, ◌++◌, length, drop, get_or, None, refl, ◌∙◌, ap, subst, arith, append_assoc, length-append, nat_eq}
 use lib.Pointwise.{pointwise}
 use Rattle.std.specs.Prelude.{codes, map, nat_lt}

@@ -1,3 +1,4 @@
+-- How a clause on what is read or refused carries over from a part to the whole.
 use Rattle.std.proofs.Common.{◌≡◌, ◌∙◌, ℕ, Result, Ok, Err, sym, subst}
 use Rattle.std.specs.Result.{IfOk, IfErr, OnOk}
 use Rattle.schema_grammar.specs.declared.refusal.SchemaRefusal.{SchemaRefusal}

@@ -1,3 +1,4 @@
+-- The tokens of a line stand at columns that rise.
 use Rattle.std.proofs.Common.{◌≡◌, ◌<◌, ◌≤◌, ◌+◌, ◌-◌, ℕ, zero, suc, List, [], ◌∷◌, length, take, Option, Some, None, refl, subst, arith}
 use Rattle.std.proofs.lemmas.List.{length-take-le}
 use Rattle.lexer.proofs.Steps.{LiesIn, lies_in}
@@ -21,18 +22,18 @@ rising_earlier from to [] (Some s) h r = omega arith
 rising_earlier from to (m ∷ ms) stop h (first, some, rest) = ((omega arith), some, rest)
 
 -- the tokens at whose front this piece stands
-piece_rises : (m : Mode) (p : Piece) (column : ℕ) (text : List ℕ) (behind : ℕ → Lexed) → 0 < length text → p ≡ front m text
-    → ((skip : ℕ) → IsRising (column + 1 + skip) (behind skip).marks (behind skip).stop) → IsRising (column + 0) (led_by p column text behind).marks (led_by p column text behind).stop
-piece_rises m piece.Gap column text behind some is rest = rising_earlier (column + 0) (column + 1 + 0) (behind 0).marks (behind 0).stop (omega arith) (rest 0)
-piece_rises m piece.Comment column text behind some is rest = tt
-piece_rises m (piece.Token k n) column text behind some is rest =
+piece_rises : (m : Mode) (p : Piece) (column : ℕ) (text : List ℕ) (afterwards : ℕ → Lexed) → 0 < length text → p ≡ front m text
+    → ((skip : ℕ) → IsRising (column + 1 + skip) (afterwards skip).marks (afterwards skip).stop) → IsRising (column + 0) (led_by p column text afterwards).marks (led_by p column text afterwards).stop
+piece_rises m piece.Gap column text afterwards some is rest = rising_earlier (column + 0) (column + 1 + 0) (afterwards 0).marks (afterwards 0).stop (omega arith) (rest 0)
+piece_rises m piece.Comment column text afterwards some is rest = tt
+piece_rises m (piece.Token k n) column text afterwards some is rest =
     let lies : LiesIn text n = lies_in m text k n some is in
     let has_some : 0 < n = lies.some in
     let size : length (take n text) ≡ n = length-take-le n text lies.within in
     let same : column + 1 + (n - 1) ≡ column + length (take n text) = omega arith in
-    let of : ℕ → Type 0 = λ c. IsRising c (behind (n - 1)).marks (behind (n - 1)).stop in
+    let of : ℕ → Type 0 = λ c. IsRising c (afterwards (n - 1)).marks (afterwards (n - 1)).stop in
     ((omega arith), (omega arith), subst of same (rest (n - 1)))
-piece_rises m (piece.Flaw why n) column text behind some is rest = omega arith
+piece_rises m (piece.Flaw why n) column text afterwards some is rest = omega arith
 
 lexed_rises : (m : Mode) (skip column : ℕ) (text : List ℕ) → IsRising (column + skip) (lexed m skip column text).marks (lexed m skip column text).stop
 unfolding lexed
@@ -45,20 +46,20 @@ lexed_rises m (suc n) column (b ∷ bs) =
     let of : ℕ → Type 0 = λ c. IsRising c (lexed m n (column + 1) bs).marks (lexed m n (column + 1) bs).stop in
     subst of same (lexed_rises m n (column + 1) bs)
 
-from_on : (line behind : ℕ) (ms : List Mark) (stop : Option Stop) (q : ℕ) → IsRising behind ms stop → q ≤ length ms → behind ≤ (span_at line behind ms stop q).column
-from_on line behind [] None q rising h = omega arith
-from_on line behind [] (Some s) q rising h = rising
-from_on line behind (m ∷ ms) stop zero rising h = rising.0
-from_on line behind (m ∷ ms) stop (suc q) rising h =
+from_on : (line afterwards : ℕ) (ms : List Mark) (stop : Option Stop) (q : ℕ) → IsRising afterwards ms stop → q ≤ length ms → afterwards ≤ (span_at line afterwards ms stop q).column
+from_on line afterwards [] None q rising h = omega arith
+from_on line afterwards [] (Some s) q rising h = rising
+from_on line afterwards (m ∷ ms) stop zero rising h = rising.0
+from_on line afterwards (m ∷ ms) stop (suc q) rising h =
     let next = from_on line (m.column + length m.word) ms stop q rising.2 (omega arith) in let first = rising.0 in omega arith
 
-spans_rise : (line behind : ℕ) (ms : List Mark) (stop : Option Stop) (p q : ℕ) → IsRising behind ms stop → p < q → q ≤ length ms
-    → (span_at line behind ms stop p).column < (span_at line behind ms stop q).column
-spans_rise line behind [] stop p q rising h g = absurd (omega arith)
-spans_rise line behind (m ∷ ms) stop p zero rising h g = absurd (omega arith)
-spans_rise line behind (m ∷ ms) stop zero (suc q) rising h g =
+spans_rise : (line afterwards : ℕ) (ms : List Mark) (stop : Option Stop) (p q : ℕ) → IsRising afterwards ms stop → p < q → q ≤ length ms
+    → (span_at line afterwards ms stop p).column < (span_at line afterwards ms stop q).column
+spans_rise line afterwards [] stop p q rising h g = absurd (omega arith)
+spans_rise line afterwards (m ∷ ms) stop p zero rising h g = absurd (omega arith)
+spans_rise line afterwards (m ∷ ms) stop zero (suc q) rising h g =
     let next = from_on line (m.column + length m.word) ms stop q rising.2 (omega arith) in let some = rising.1 in omega arith
-spans_rise line behind (m ∷ ms) stop (suc p) (suc q) rising h g = spans_rise line (m.column + length m.word) ms stop p q rising.2 (omega arith) (omega arith)
+spans_rise line afterwards (m ∷ ms) stop (suc p) (suc q) rising h g = spans_rise line (m.column + length m.word) ms stop p q rising.2 (omega arith) (omega arith)
 
 -- a later place of a line stands in a greater column
 pub places-law : (m : Mode) (line : ℕ) (text : List ℕ) (p q : ℕ) → p < q → q ≤ length (lex m text).marks

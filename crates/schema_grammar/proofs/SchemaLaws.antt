@@ -1,3 +1,4 @@
+-- A schema text is read exactly where it means the schema.
 use Rattle.std.proofs.Common.{◌≡◌, ◌<◌, ◌+◌, ◌-◌, ◌⊎◌, inl, inr, ℕ, suc, Bool, true, false, cond, List, [], ◌∷◌, ◌++◌, length, Option, Some, None, Ok, Err, refl, sym, ◌∙◌, ap, subst, arith, ◌==◌}
 use Rattle.std.specs.List.{All}
 use Rattle.std.specs.Prelude.{◌↔◌}
@@ -29,11 +30,11 @@ pub record Numbers (ms : List Mark) (stop : Option Stop) (d : Declarations) : Ty
   pub is_number : number.kind ≡ token.Number VERSION
   pub nothing : d ≡ no_declaration
 
-pub version_there : (line behind : ℕ) (ms : List Mark) (stop : Option Stop) (d : Declarations) → read_version line behind ms stop ≡ Ok d → Numbers ms stop d
+pub version_there : (line next_column : ℕ) (ms : List Mark) (stop : Option Stop) (d : Declarations) → read_version line next_column ms stop ≡ Ok d → Numbers ms stop d
 unfolding read_version
-version_there line behind [] None d e = cc
-version_there line behind [] (Some s) d e = cc
-version_there line behind (m ∷ ms) stop d e = told m.kind refl e
+version_there line next_column [] None d e = cc
+version_there line next_column [] (Some s) d e = cc
+version_there line next_column (m ∷ ms) stop d e = told m.kind refl e
   where
     ends : (others : List Mark) (o : Option Stop) → ms ≡ others → stop ≡ o → m.kind ≡ token.Number VERSION → end_version line others o ≡ Ok d → Numbers (m ∷ ms) stop d
     ends [] None none same is e = record { number = m; only = ap (λ t. m ∷ t) none; ends = same; is_number = is; nothing = cc }

@@ -18,19 +18,19 @@ use Rattle.schema_grammar.specs.declared.refusal.What.TheVariants as what
 use Rattle.schema_grammar.specs.declared.symbol.Sign.TheVariants as sign
 use Rattle.schema_grammar.specs.declared.format.Format.TheVariants as format
 use Rattle.schema_grammar.specs.Complaints.{Carries, ComplainsOfWord, IsFirst, refusal_number, flaw_number, span_at}
-use Rattle.schema_grammar.specs.Grammar.{Reached, behind, finished}
+use Rattle.schema_grammar.specs.Grammar.{Reached, after_sign, finished}
 use Rattle.schema_grammar.specs.Meanings.{IsSide}
 use Rattle.schema_grammar.specs.Reading.{step, follow, follow_lexed}
 use Rattle.schema_grammar.specs.Refusals.{at, and_then, expecting, refused_by, refusal, kind_of_flaw}
 use Rattle.schema_grammar.specs.Sets.{MeansSet, BeginsEmpty, SideComplaint, SetWants, FitsSet, RefusesSet, read_set}
 use Rattle.schema_grammar.proofs.ComplaintLaws.{flaw_numbered, flaw_carries, Carries-map, no_mark, same_mark}
-use Rattle.schema_grammar.proofs.GoalLaws.{BehindRest, marks_make, side_read, no_stop}
+use Rattle.schema_grammar.proofs.GoalLaws.{AfterSignRest, marks_make, side_read, no_stop}
 use Rattle.schema_grammar.proofs.OneRefusal.{one_first, one_at_first}
 use Rattle.schema_grammar.proofs.ShapeLemmas.{Shape, past_arrow, in_right, past_end, shape_of, turn_shape, is_final, wanted_by, StepTells, step_tells, EndTells, end_tells, carries_nothing}
 
 -- ---- what a set means
 abbrev from_arrow : Reached
-from_arrow = behind sign.Functional none
+from_arrow = after_sign sign.Functional none
 
 abbrev set_of : Result Dependency SchemaRefusal → Result Places SchemaRefusal
 set_of r = and_then r (λ d. Ok (right_of d))
@@ -54,7 +54,7 @@ set-law declared text x = (there, back)
         let whole = no_stop format.Plain declared 1 from_arrow 1 (lex mode.Goal text) given.dep given.read in
         let here : follow_lexed format.Plain declared 1 from_arrow 1 (record { marks = (lex mode.Goal text).marks; stop = None }) ≡ Ok given.dep =
         ap (follow_lexed format.Plain declared 1 from_arrow 1) (sym whole) ∙ given.read in
-        let more : BehindRest format.Plain declared sign.Functional none (lex mode.Goal text).marks given.dep = marks_make format.Plain declared 1 1 from_arrow _ given.dep here in
+        let more : AfterSignRest format.Plain declared sign.Functional none (lex mode.Goal text).marks given.dep = marks_make format.Plain declared 1 1 from_arrow _ given.dep here in
         let same : more.y ≡ x = sym (ap right_of more.states) ∙ given.is in
         record { marks = (lex mode.Goal text).marks; tokens = whole; side = subst (IsSide format.Plain declared (lex mode.Goal text).marks) same more.right_side }
 

@@ -1,3 +1,4 @@
+-- How far a dependency is read, by the kinds of its tokens.
 use Rattle.std.proofs.Common.{◌≡◌, ◌≤◌, ◌+◌, ◌⊎◌, inl, inr, ℕ, Bool, true, false, cond, List, [], ◌∷◌, ◌++◌, length, Option, Some, None, Ok, Err, Result, refl, sym, ◌∙◌, ap, subst, arith, lit≤}
 use Rattle.std.specs.Prelude.{map}
 use Rattle.dep_model.specs.Dependencies.{Dependency}
@@ -15,7 +16,7 @@ use Rattle.schema_grammar.specs.declared.refusal.What.{What}
 use Rattle.schema_grammar.specs.declared.refusal.What.TheVariants as what
 use Rattle.schema_grammar.specs.declared.symbol.Symbol.{Symbol}
 use Rattle.schema_grammar.specs.Complaints.{IsLine, BeginsLine, Wants, Carries, ComplainsOfWord, kinds, refusal_number}
-use Rattle.schema_grammar.specs.Grammar.{Reached, start, left, left_empty, behind, right, right_empty, turn, finished}
+use Rattle.schema_grammar.specs.Grammar.{Reached, start, left, left_empty, after_sign, right, right_empty, turn, finished}
 use Rattle.schema_grammar.specs.Reading.{step, follow}
 use Rattle.schema_grammar.specs.Refusals.{at, and_then, expecting}
 use Rattle.schema_grammar.specs.Words.{is_reserved, looked_up, known}
@@ -34,7 +35,7 @@ abbrev pub shape_of : Reached → Shape
 shape_of start = at_start
 shape_of (left x) = in_left
 shape_of left_empty = past_empty
-shape_of (behind s x) = past_arrow
+shape_of (after_sign s x) = past_arrow
 shape_of (right s x y) = in_right
 shape_of (right_empty s x) = past_end
 
@@ -112,7 +113,7 @@ unfolding turn
 turned-Word a start = refl
 turned-Word a (left x) = refl
 turned-Word a left_empty = refl
-turned-Word a (behind s x) = refl
+turned-Word a (after_sign s x) = refl
 turned-Word a (right s x y) = refl
 turned-Word a (right_empty s x) = refl
 
@@ -121,7 +122,7 @@ unfolding turn
 turned-Arrow start = refl
 turned-Arrow (left x) = refl
 turned-Arrow left_empty = refl
-turned-Arrow (behind s x) = refl
+turned-Arrow (after_sign s x) = refl
 turned-Arrow (right s x y) = refl
 turned-Arrow (right_empty s x) = refl
 
@@ -130,7 +131,7 @@ unfolding turn
 turned-DoubleArrow start = refl
 turned-DoubleArrow (left x) = refl
 turned-DoubleArrow left_empty = refl
-turned-DoubleArrow (behind s x) = refl
+turned-DoubleArrow (after_sign s x) = refl
 turned-DoubleArrow (right s x y) = refl
 turned-DoubleArrow (right_empty s x) = refl
 
@@ -139,7 +140,7 @@ unfolding turn
 turned-Empty start = refl
 turned-Empty (left x) = refl
 turned-Empty left_empty = refl
-turned-Empty (behind s x) = refl
+turned-Empty (after_sign s x) = refl
 turned-Empty (right s x y) = refl
 turned-Empty (right_empty s x) = refl
 
@@ -148,7 +149,7 @@ unfolding turn
 turned-Number n start = refl
 turned-Number n (left x) = refl
 turned-Number n left_empty = refl
-turned-Number n (behind s x) = refl
+turned-Number n (after_sign s x) = refl
 turned-Number n (right s x y) = refl
 turned-Number n (right_empty s x) = refl
 
@@ -157,7 +158,7 @@ unfolding turn
 turned-Colon start = refl
 turned-Colon (left x) = refl
 turned-Colon left_empty = refl
-turned-Colon (behind s x) = refl
+turned-Colon (after_sign s x) = refl
 turned-Colon (right s x y) = refl
 turned-Colon (right_empty s x) = refl
 
@@ -180,10 +181,10 @@ turn_wants left_empty (symbol.Attribute a) = refl
 turn_wants left_empty (symbol.Arrow s) = tt
 turn_wants left_empty symbol.Empty = refl
 turn_wants left_empty symbol.Other = refl
-turn_wants (behind s x) (symbol.Attribute a) = tt
-turn_wants (behind s x) (symbol.Arrow t) = refl
-turn_wants (behind s x) symbol.Empty = tt
-turn_wants (behind s x) symbol.Other = refl
+turn_wants (after_sign s x) (symbol.Attribute a) = tt
+turn_wants (after_sign s x) (symbol.Arrow t) = refl
+turn_wants (after_sign s x) symbol.Empty = tt
+turn_wants (after_sign s x) symbol.Other = refl
 turn_wants (right s x y) (symbol.Attribute a) = tt
 turn_wants (right s x y) (symbol.Arrow t) = refl
 turn_wants (right s x y) symbol.Empty = refl
@@ -259,7 +260,7 @@ unfolding finished
 end_tells start = (refl, refl)
 end_tells (left x) = (refl, refl)
 end_tells left_empty = (refl, refl)
-end_tells (behind s x) = (refl, refl)
+end_tells (after_sign s x) = (refl, refl)
 end_tells (right s x y) = refl
 end_tells (right_empty s x) = refl
 

@@ -1,3 +1,4 @@
+-- What is declared is sound: names differ, and columns fit their format.
 use Rattle.std.proofs.Common.{◌≡◌, ◌<◌, ◌≤◌, ◌+◌, ◌-◌, ℕ, Bool, true, false, cond, List, [], ◌∷◌, ◌++◌, length, Option, Some, None, Ok, Err, Result, refl, sym, ◌∙◌, ap, subst, arith, length-append, get_or, ◌⊎◌, inl, inr, lt-ltb, ltb-true, not, ◌||◌, if◌then◌else◌, ◌==◌}
 use Rattle.std.specs.List.{All, AllPairs, Contains, position_or_len}
 use Rattle.std.specs.Str.{bytes_eq}
@@ -154,17 +155,17 @@ name_step_sound f column d some token.DoubleArrow word h sound = tt
 name_step_sound f column d some token.Empty word h sound = tt
 name_step_sound f column d some token.Colon word h sound = tt
 
-list_sound : (f : Format) (column : Column) (line : ℕ) (d : Declarations) (some : Bool) (behind : ℕ) (ms : List Mark) (stop : Option Stop)
-    → FitsColumn f column → IsSound f d → IfOk (list_names f column line d some behind ms stop) (IsSound f)
+list_sound : (f : Format) (column : Column) (line : ℕ) (d : Declarations) (some : Bool) (next_column : ℕ) (ms : List Mark) (stop : Option Stop)
+    → FitsColumn f column → IsSound f d → IfOk (list_names f column line d some next_column ms stop) (IsSound f)
 unfolding list_names
-list_sound f column line d true behind [] None h sound = sound
-list_sound f column line d false behind [] None h sound = tt
-list_sound f column line d true behind [] (Some stop) h sound = tt
-list_sound f column line d false behind [] (Some stop) h sound = tt
-list_sound f column line d true behind (m ∷ ms) stop h sound =
+list_sound f column line d true next_column [] None h sound = sound
+list_sound f column line d false next_column [] None h sound = tt
+list_sound f column line d true next_column [] (Some stop) h sound = tt
+list_sound f column line d false next_column [] (Some stop) h sound = tt
+list_sound f column line d true next_column (m ∷ ms) stop h sound =
     and_then_ok (IsSound f) (IsSound f) _ _ (at_ok (IsSound f) line m.column (length m.word) _ (name_step_sound f column d true m.kind m.word h sound))
     (λ next better. list_sound f column line next true (m.column + length m.word) ms stop h better)
-list_sound f column line d false behind (m ∷ ms) stop h sound =
+list_sound f column line d false next_column (m ∷ ms) stop h sound =
     and_then_ok (IsSound f) (IsSound f) _ _ (at_ok (IsSound f) line m.column (length m.word) _ (name_step_sound f column d false m.kind m.word h sound))
     (λ next better. list_sound f column line next true (m.column + length m.word) ms stop h better)
 
@@ -264,15 +265,15 @@ number_empty : (line : ℕ) (m : Mark) (ms : List Mark) (stop : Option Stop) (n 
 number_empty line m ms stop None = tt
 number_empty line m ms stop (Some n) = elim (n == VERSION) as (λ b. IfOk (if b then end_version line ms stop else Err (refusal line m.column (length m.word) kind.UnknownVersion)) (λ d. d ≡ no_declaration)) [ true ↦ end_empty line ms stop | false ↦ tt ]
 
-version_empty : (line behind : ℕ) (ms : List Mark) (stop : Option Stop) → IfOk (read_version line behind ms stop) (λ d. d ≡ no_declaration)
+version_empty : (line next_column : ℕ) (ms : List Mark) (stop : Option Stop) → IfOk (read_version line next_column ms stop) (λ d. d ≡ no_declaration)
 unfolding read_version
-version_empty line behind [] None = tt
-version_empty line behind [] (Some stop) = tt
-version_empty line behind (m ∷ ms) stop = number_empty line m ms stop (number_in m.kind)
+version_empty line next_column [] None = tt
+version_empty line next_column [] (Some stop) = tt
+version_empty line next_column (m ∷ ms) stop = number_empty line m ms stop (number_in m.kind)
 
-typed_whole : (number : ℕ) (lines : List (List ℕ)) (behind : ℕ) (l : Lexed) → IfOk (read_typed number lines behind l) IsWhole
-typed_whole number lines behind l =
-    and_then_ok (λ d. d ≡ no_declaration) IsWhole _ _ (version_empty number behind l.marks l.stop)
+typed_whole : (number : ℕ) (lines : List (List ℕ)) (next_column : ℕ) (l : Lexed) → IfOk (read_typed number lines next_column l) IsWhole
+typed_whole number lines next_column l =
+    and_then_ok (λ d. d ≡ no_declaration) IsWhole _ _ (version_empty number next_column l.marks l.stop)
     (λ d nothing. lines_whole format.Typed (number + 1) d lines (subst (IsSound format.Typed) (sym nothing) (nothing_sound format.Typed)))
 
 opened_whole : (number : ℕ) (line : List ℕ) (lines : List (List ℕ)) (later : Result Declarations SchemaRefusal) (ms : List Mark) (stop : Option Stop)

@@ -1,3 +1,4 @@
+-- A schema text is read where nothing is wrong, or refused by its first complaint.
 use Rattle.std.proofs.Common.{◌≡◌, ◌<◌, ◌≤◌, ◌+◌, ◌⊎◌, inl, inr, ℕ, suc, Bool, true, false, cond, List, [], ◌∷◌, length, Option, Some, None, Ok, Err, Result, refl, sym, ◌∙◌, ap, subst, arith, ◌==◌}
 use Rattle.std.proofs.lemmas.List.Elements.{All-cons, All-nil}
 use Rattle.lexer.specs.declared.token.Mode.TheVariants as mode
@@ -47,8 +48,8 @@ other_number m k n i same some other yes_here none_here =
     let equal = one_number m k n i same some other in
     let wrong : true ≡ false = sym yes_here ∙ ap (λ v. v == VERSION) equal ∙ none_here in cc
 
-missing_fits : (line behind : ℕ) → FitsVersion line behind [] None (Err (refusal line behind 0 (kind.Expected what.Number)))
-missing_fits line behind = record { place = 0; stands = inl (inl (inr (refl, refl, refl, refl))); carries = inl (refl, refl); there = refl; least = least }
+missing_fits : (line next_column : ℕ) → FitsVersion line next_column [] None (Err (refusal line next_column 0 (kind.Expected what.Number)))
+missing_fits line next_column = record { place = 0; stands = inl (inl (inr (refl, refl, refl, refl))); carries = inl (refl, refl); there = refl; least = least }
   where
     least : (p n : ℕ) → VersionComplaint [] None p n → (0 < p) ⊎ ((0 ≡ p) × (6 ≤ n))
     least p n (inl (inl (inl (m, is, none, place, six)))) = absurd (no_mark m 0 is)
@@ -65,8 +66,8 @@ flaw_least s t n is why =
     inside : Some s ≡ Some t → s ≡ t
     inside eq = cc
 
-stop_fits : (line behind : ℕ) (s : Stop) → FitsVersion line behind [] (Some s) (Err (refused_by line s))
-stop_fits line behind s = record { place = 0; stands = inr (s, refl, refl, flaw_numbered s.flaw); carries = flaw_carries (VersionWants 0) s.flaw; there = refl; least = least }
+stop_fits : (line next_column : ℕ) (s : Stop) → FitsVersion line next_column [] (Some s) (Err (refused_by line s))
+stop_fits line next_column s = record { place = 0; stands = inr (s, refl, refl, flaw_numbered s.flaw); carries = flaw_carries (VersionWants 0) s.flaw; there = refl; least = least }
   where
     least : (p n : ℕ) → VersionComplaint [] (Some s) p n → (0 < p) ⊎ ((0 ≡ p) × (refusal_number (kind_of_flaw s.flaw) ≤ n))
     least p n (inl (inl (inl (m, is, none, place, six)))) = absurd (no_mark m 0 is)
@@ -75,9 +76,9 @@ stop_fits line behind s = record { place = 0; stands = inr (s, refl, refl, flaw_
     least p n (inl (inr (inr (m, is, place, six)))) = absurd (no_mark m 1 is)
     least p n (inr (t, is, place, why)) = inr (sym place, flaw_least s t n is why)
 
-word_fits : (line behind : ℕ) (m : Mark) (ms : List Mark) (stop : Option Stop) → number_in m.kind ≡ None
-    → FitsVersion line behind (m ∷ ms) stop (Err (refusal line m.column (length m.word) (kind.Expected what.Number)))
-word_fits line behind m ms stop none = record { place = 0; stands = inl (inl (inl (m, refl, none, refl, refl))); carries = inl (refl, refl); there = refl; least = least }
+word_fits : (line next_column : ℕ) (m : Mark) (ms : List Mark) (stop : Option Stop) → number_in m.kind ≡ None
+    → FitsVersion line next_column (m ∷ ms) stop (Err (refusal line m.column (length m.word) (kind.Expected what.Number)))
+word_fits line next_column m ms stop none = record { place = 0; stands = inl (inl (inl (m, refl, none, refl, refl))); carries = inl (refl, refl); there = refl; least = least }
   where
     least : (p n : ℕ) → VersionComplaint (m ∷ ms) stop p n → (0 < p) ⊎ ((0 ≡ p) × (6 ≤ n))
     least p n (inl (inl (inl (k, is, none_here, place, six)))) = inr (sym place, omega arith)
@@ -86,9 +87,9 @@ word_fits line behind m ms stop none = record { place = 0; stands = inl (inl (in
     least p n (inl (inr (inr (k, is, place, six)))) = inl (omega arith)
     least p n (inr (t, is, place, why)) = inl (omega arith)
 
-unknown_fits : (line behind : ℕ) (m : Mark) (ms : List Mark) (stop : Option Stop) (i : ℕ) → number_in m.kind ≡ Some i → (i == VERSION) ≡ false
-    → FitsVersion line behind (m ∷ ms) stop (Err (refusal line m.column (length m.word) kind.UnknownVersion))
-unknown_fits line behind m ms stop i some other = record { place = 0; stands = inl (inr (inl (m, i, refl, some, other, refl, refl))); carries = tt; there = refl; least = least }
+unknown_fits : (line next_column : ℕ) (m : Mark) (ms : List Mark) (stop : Option Stop) (i : ℕ) → number_in m.kind ≡ Some i → (i == VERSION) ≡ false
+    → FitsVersion line next_column (m ∷ ms) stop (Err (refusal line m.column (length m.word) kind.UnknownVersion))
+unknown_fits line next_column m ms stop i some other = record { place = 0; stands = inl (inr (inl (m, i, refl, some, other, refl, refl))); carries = tt; there = refl; least = least }
   where
     none : (k : Mark) → m ∷ ms ≡ [] → ⊥
     none k e = cc
@@ -100,9 +101,9 @@ unknown_fits line behind m ms stop i some other = record { place = 0; stands = i
     least p n (inl (inr (inr (k, is, place, six)))) = inl (omega arith)
     least p n (inr (t, is, place, why)) = inl (omega arith)
 
-pub two_fits : (line behind : ℕ) (m : Mark) (ms : List Mark) (stop : Option Stop) (i : ℕ) → number_in m.kind ≡ Some i → (i == VERSION) ≡ true
-    → FitsVersion line behind (m ∷ ms) stop (end_version line ms stop)
-two_fits line behind m [] None i some two = λ p n complaint. none p n complaint
+pub two_fits : (line next_column : ℕ) (m : Mark) (ms : List Mark) (stop : Option Stop) (i : ℕ) → number_in m.kind ≡ Some i → (i == VERSION) ≡ true
+    → FitsVersion line next_column (m ∷ ms) stop (end_version line ms stop)
+two_fits line next_column m [] None i some two = λ p n complaint. none p n complaint
   where
     none : (p n : ℕ) → VersionComplaint (m ∷ []) None p n → ⊥
     none p n (inl (inl (inl (k, is, none_here, place, six)))) = no_number m k i (same_mark m [] k is) some none_here
@@ -110,7 +111,7 @@ two_fits line behind m [] None i some two = λ p n complaint. none p n complaint
     none p n (inl (inr (inl (k, j, is, some_here, other_here, place, why)))) = other_number m k i j (same_mark m [] k is) some some_here two other_here
     none p n (inl (inr (inr (k, is, place, six)))) = no_mark k 0 is
     none p n (inr (t, is, place, why)) = no_stop t is
-two_fits line behind m [] (Some s) i some two = record { place = 1; stands = inr (s, refl, refl, flaw_numbered s.flaw); carries = flaw_carries (VersionWants 1) s.flaw; there = refl; least = least }
+two_fits line next_column m [] (Some s) i some two = record { place = 1; stands = inr (s, refl, refl, flaw_numbered s.flaw); carries = flaw_carries (VersionWants 1) s.flaw; there = refl; least = least }
   where
     none : m ∷ [] ≡ [] → ⊥
     none e = cc
@@ -121,7 +122,7 @@ two_fits line behind m [] (Some s) i some two = record { place = 1; stands = inr
     least p n (inl (inr (inl (k, j, is, some_here, other_here, place, why)))) = absurd (other_number m k i j (same_mark m [] k is) some some_here two other_here)
     least p n (inl (inr (inr (k, is, place, six)))) = absurd (no_mark k 0 is)
     least p n (inr (t, is, place, why)) = inr (sym place, flaw_least s t n is why)
-two_fits line behind m (k ∷ ks) stop i some two = record { place = 1; stands = inl (inr (inr (k, refl, refl, refl))); carries = inr ((omega arith), refl); there = refl; least = least }
+two_fits line next_column m (k ∷ ks) stop i some two = record { place = 1; stands = inl (inr (inr (k, refl, refl, refl))); carries = inr ((omega arith), refl); there = refl; least = least }
   where
     none : m ∷ k ∷ ks ≡ [] → ⊥
     none e = cc
@@ -133,19 +134,19 @@ two_fits line behind m (k ∷ ks) stop i some two = record { place = 1; stands =
     least p n (inl (inr (inr (x, is, place, six)))) = inr (sym place, omega arith)
     least p n (inr (t, is, place, why)) = inl (omega arith)
 
-version_fits : (line behind : ℕ) (ms : List Mark) (stop : Option Stop) → FitsVersion line behind ms stop (read_version line behind ms stop)
+version_fits : (line next_column : ℕ) (ms : List Mark) (stop : Option Stop) → FitsVersion line next_column ms stop (read_version line next_column ms stop)
 unfolding read_version
-version_fits line behind [] None = missing_fits line behind
-version_fits line behind [] (Some s) = stop_fits line behind s
-version_fits line behind (m ∷ ms) stop = told (number_in m.kind) refl
+version_fits line next_column [] None = missing_fits line next_column
+version_fits line next_column [] (Some s) = stop_fits line next_column s
+version_fits line next_column (m ∷ ms) stop = told (number_in m.kind) refl
   where
     two : (i : ℕ) (b : Bool) → number_in m.kind ≡ Some i → (i == VERSION) ≡ b
-        → FitsVersion line behind (m ∷ ms) stop (cond b (end_version line ms stop) (Err (refusal line m.column (length m.word) kind.UnknownVersion)))
-    two i true some is = two_fits line behind m ms stop i some is
-    two i false some is = unknown_fits line behind m ms stop i some is
+        → FitsVersion line next_column (m ∷ ms) stop (cond b (end_version line ms stop) (Err (refusal line m.column (length m.word) kind.UnknownVersion)))
+    two i true some is = two_fits line next_column m ms stop i some is
+    two i false some is = unknown_fits line next_column m ms stop i some is
 
-    told : (o : Option ℕ) → number_in m.kind ≡ o → FitsVersion line behind (m ∷ ms) stop (version_number line m ms stop o)
-    told None is = word_fits line behind m ms stop is
+    told : (o : Option ℕ) → number_in m.kind ≡ o → FitsVersion line next_column (m ∷ ms) stop (version_number line m ms stop o)
+    told None is = word_fits line next_column m ms stop is
     told (Some i) is = two i (i == VERSION) is refl
 
 blank_fits : (number : ℕ) (line : List ℕ) (lines : List (List ℕ)) (reading : Result Declarations SchemaRefusal) → HasTokens (lex mode.Numbered line) []

@@ -1,3 +1,4 @@
+-- Sets that are read lie within the universe.
 use Rattle.std.proofs.Common.{subst, ◌≡◌, ◌<◌, ◌+◌, ℕ, Bool, true, false, cond, List, [], ◌∷◌, length, Option, Some, None, Ok, Err, Result, refl, ◌∙◌, ap, ◌||◌, ◌==◌, lt-ltb}
 use Rattle.std.specs.Result.{IfOk}
 use Rattle.std.specs.Option.{IfSome}
@@ -19,7 +20,7 @@ use Rattle.schema_grammar.specs.declared.symbol.Sign.TheVariants as sign
 use Rattle.schema_grammar.specs.declared.symbol.Symbol.{Symbol}
 use Rattle.schema_grammar.specs.declared.symbol.Symbol.TheVariants as symbol
 use Rattle.schema_grammar.specs.declared.format.Format.{Format}
-use Rattle.schema_grammar.specs.Grammar.{Reached, start, left, left_empty, behind, right, right_empty, turn, finished, stated}
+use Rattle.schema_grammar.specs.Grammar.{Reached, start, left, left_empty, after_sign, right, right_empty, turn, finished, stated}
 use Rattle.schema_grammar.specs.Refusals.{at, expecting, and_then}
 use Rattle.schema_grammar.specs.Reading.{follow, step}
 use Rattle.schema_grammar.specs.Words.{is_reserved, looked_up, known}
@@ -29,7 +30,7 @@ abbrev pub IsReadingWithin : Places → Reached → Type 0
 IsReadingWithin u start = Unit {0}
 IsReadingWithin u (left x) = Within x u
 IsReadingWithin u left_empty = Unit {0}
-IsReadingWithin u (behind s x) = Within x u
+IsReadingWithin u (after_sign s x) = Within x u
 IsReadingWithin u (right s x y) = Within x u × Within y u
 IsReadingWithin u (right_empty s x) = Within x u
 
@@ -66,10 +67,10 @@ turn_within u left_empty (symbol.Attribute a) h g = tt
 turn_within u left_empty (symbol.Arrow s) h g = none_within u
 turn_within u left_empty symbol.Empty h g = tt
 turn_within u left_empty symbol.Other h g = tt
-turn_within u (behind s x) (symbol.Attribute a) h g = (h, only_within u a g)
-turn_within u (behind s x) (symbol.Arrow t) h g = tt
-turn_within u (behind s x) symbol.Empty h g = h
-turn_within u (behind s x) symbol.Other h g = tt
+turn_within u (after_sign s x) (symbol.Attribute a) h g = (h, only_within u a g)
+turn_within u (after_sign s x) (symbol.Arrow t) h g = tt
+turn_within u (after_sign s x) symbol.Empty h g = h
+turn_within u (after_sign s x) symbol.Other h g = tt
 turn_within u (right s x y) (symbol.Attribute a) h g = (h.0, union_within u y a h.1 g)
 turn_within u (right s x y) (symbol.Arrow t) h g = tt
 turn_within u (right s x y) symbol.Empty h g = tt
@@ -88,7 +89,7 @@ unfolding finished
 finished_within u start h = tt
 finished_within u (left x) h = tt
 finished_within u left_empty h = tt
-finished_within u (behind s x) h = tt
+finished_within u (after_sign s x) h = tt
 finished_within u (right s x y) h = stated_within u s x y h.0 h.1
 finished_within u (right_empty s x) h = stated_within u s x none h (none_within u)
 

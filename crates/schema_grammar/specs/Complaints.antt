@@ -86,10 +86,10 @@ DependencyComplaint f declared ms stop place number =
 
 -- where a place is in the text
 abbrev pub span_at : ℕ → ℕ → List Mark → Option Stop → ℕ → Span
-span_at line behind [] None place = record { line = line; column = behind; length = 0 }
-span_at line behind [] (Some s) place = record { line = line; column = s.column; length = s.length }
-span_at line behind (m ∷ ms) stop zero = record { line = line; column = m.column; length = length m.word }
-span_at line behind (m ∷ ms) stop (suc place) = span_at line (m.column + length m.word) ms stop place
+span_at line next_column [] None place = record { line = line; column = next_column; length = 0 }
+span_at line next_column [] (Some s) place = record { line = line; column = s.column; length = s.length }
+span_at line next_column (m ∷ ms) stop zero = record { line = line; column = m.column; length = length m.word }
+span_at line next_column (m ∷ ms) stop (suc place) = span_at line (m.column + length m.word) ms stop place
 
 -- a refusal 6 carries what is wanted
 abbrev pub Carries : (What → Type 0) → SchemaRefusalKind → Type 0
@@ -121,11 +121,6 @@ abbrev pub FitsDependency : Format → List (List ℕ) → ℕ → List Mark →
 FitsDependency f declared line ms stop (Ok d) = (place number : ℕ)
     → DependencyComplaint f declared ms stop place number → ⊥
 FitsDependency f declared line ms stop (Err e) = RefusesDependency f declared line ms stop e
-
--- what is wrong with a goal over declared names
-abbrev pub GoalComplaint : List (List ℕ) → List ℕ → ℕ → ℕ → Type 0
-GoalComplaint declared text place number =
-    DependencyComplaint format.Plain declared (lex mode.Goal text).marks (lex mode.Goal text).stop place number
 
 -- a goal over declared names is refused by its first complaint
 abbrev pub RefusesGoal : List (List ℕ) → List ℕ → SchemaRefusal → Type 0
@@ -166,10 +161,10 @@ NamesWant place w = AtFirst what.Name place w
 -- the words after a declaring word are refused by the first complaint, and read where there is none
 abbrev pub FitsNames : Format → Declarations → ℕ → ℕ → List Mark → Option Stop
     → Result Declarations SchemaRefusal → Type 0
-FitsNames f d line behind words stop (Ok whole) = (place number : ℕ)
+FitsNames f d line next_column words stop (Ok whole) = (place number : ℕ)
     → NamesComplaint f d words stop place number → ⊥
-FitsNames f d line behind words stop (Err e) =
-    IsFirst (NamesComplaint f d words stop) NamesWant (span_at line behind words stop) e
+FitsNames f d line next_column words stop (Err e) =
+    IsFirst (NamesComplaint f d words stop) NamesWant (span_at line next_column words stop) e
 
 -- what is wrong with a line of a schema text that this token begins, after what is declared
 abbrev pub HeadComplaint : Format → Declarations → Mark → List Mark → Option Stop → Option Column → ℕ

@@ -58,16 +58,16 @@ name_step f column d some _ word = Err (kind.Expected (wanted some))
 -- the tokens after a declaring word
 unfoldable pub list_names : Format → Column → ℕ → Declarations → Bool → ℕ → List Mark → Option Stop
     → Result Declarations SchemaRefusal
-list_names f column line d true behind [] None = Ok d
-list_names f column line d false behind [] None = at line behind 0 (Err (kind.Expected what.Name))
-list_names f column line d some behind [] (Some stop) = Err (refused_by line stop)
-list_names f column line d some behind (m ∷ ms) stop =
+list_names f column line d true next_column [] None = Ok d
+list_names f column line d false next_column [] None = at line next_column 0 (Err (kind.Expected what.Name))
+list_names f column line d some next_column [] (Some stop) = Err (refused_by line stop)
+list_names f column line d some next_column (m ∷ ms) stop =
     and_then (at line m.column (length m.word) (name_step f column d some m.kind m.word))
     (λ next. list_names f column line next true (m.column + length m.word) ms stop)
 
 abbrev pub list_names_lexed : Format → Column → ℕ → Declarations → Bool → ℕ → Lexed
     → Result Declarations SchemaRefusal
-list_names_lexed f column line d some behind l = list_names f column line d some behind l.marks l.stop
+list_names_lexed f column line d some next_column l = list_names f column line d some next_column l.marks l.stop
 
 -- the first token of a dependency line: what the line can't begin with comes before one dependency
 -- too many

@@ -15,7 +15,7 @@ pub data Reached : Type 0 where
   start : Reached
   left : Places → Reached
   left_empty : Reached
-  behind : Sign → Places → Reached
+  after_sign : Sign → Places → Reached
   right : Sign → Places → Places → Reached
   right_empty : Sign → Places → Reached
 
@@ -32,13 +32,13 @@ turn start (symbol.Attribute a) = Ok (left (only a))
 turn start symbol.Empty = Ok left_empty
 turn start _ = Err what.Side
 turn (left x) (symbol.Attribute a) = Ok (left (union x (only a)))
-turn (left x) (symbol.Arrow s) = Ok (behind s x)
+turn (left x) (symbol.Arrow s) = Ok (after_sign s x)
 turn (left x) _ = Err what.Arrow
-turn left_empty (symbol.Arrow s) = Ok (behind s none)
+turn left_empty (symbol.Arrow s) = Ok (after_sign s none)
 turn left_empty _ = Err what.Arrow
-turn (behind s x) (symbol.Attribute a) = Ok (right s x (only a))
-turn (behind s x) symbol.Empty = Ok (right_empty s x)
-turn (behind s x) _ = Err what.Side
+turn (after_sign s x) (symbol.Attribute a) = Ok (right s x (only a))
+turn (after_sign s x) symbol.Empty = Ok (right_empty s x)
+turn (after_sign s x) _ = Err what.Side
 turn (right s x y) (symbol.Attribute a) = Ok (right s x (union y (only a)))
 turn (right s x y) _ = Err what.LineEnd
 turn (right_empty s x) _ = Err what.LineEnd
@@ -52,6 +52,6 @@ unfoldable pub finished : Reached → Result Dependency What
 finished start = Err what.Side
 finished (left x) = Err what.Arrow
 finished left_empty = Err what.Arrow
-finished (behind s x) = Err what.Side
+finished (after_sign s x) = Err what.Side
 finished (right s x y) = Ok (stated s x y)
 finished (right_empty s x) = Ok (stated s x none)

@@ -33,12 +33,12 @@ place names line m = at line m.column (length m.word) (looked_up format.Plain na
 -- what is left of a line after a column: its tokens, and where they stop
 pub record Rest : Type 0 where
   pub line : ℕ
-  pub behind : ℕ
+  pub next_column : ℕ
   pub marks : List Mark
   pub stop : Option Stop
 
 abbrev pub rest_from : ℕ → ℕ → Lexed → Rest
-rest_from line behind l = record { line = line; behind = behind; marks = l.marks; stop = l.stop }
+rest_from line next_column l = record { line = line; next_column = next_column; marks = l.marks; stop = l.stop }
 
 infixl 10 ◌>>=◌
 abbrev pub ◌>>=◌ : {A B E : Type 0} → Result A E → (A → Result B E) → Result B E
@@ -47,13 +47,13 @@ abbrev pub ◌>>=◌ : {A B E : Type 0} → Result A E → (A → Result B E) �
 
 -- the next token, and the rest after it
 abbrev pub taken : What → ℕ → ℕ → List Mark → Option Stop → Result (Mark × Rest) SchemaRefusal
-taken want line behind [] None = Err (refusal line behind 0 (kind.Expected want))
-taken want line behind [] (Some stop) = Err (refused_by line stop)
-taken want line behind (m ∷ ms) stop =
-    Ok (m, record { line = line; behind = m.column + length m.word; marks = ms; stop = stop })
+taken want line next_column [] None = Err (refusal line next_column 0 (kind.Expected want))
+taken want line next_column [] (Some stop) = Err (refused_by line stop)
+taken want line next_column (m ∷ ms) stop =
+    Ok (m, record { line = line; next_column = m.column + length m.word; marks = ms; stop = stop })
 
 unfoldable pub take : What → Rest → Result (Mark × Rest) SchemaRefusal
-take want r = taken want r.line r.behind r.marks r.stop
+take want r = taken want r.line r.next_column r.marks r.stop
 
 -- the refusal of a token where something else is wanted
 abbrev pub expected : What → Mark → Rest → SchemaRefusal
@@ -83,16 +83,16 @@ ended r = ended_from r.line r.marks r.stop
 -- words that stand here, added to a set
 unfoldable pub words_from : List (List ℕ) → ℕ → Places → ℕ → List Mark → Option Stop
     → Result (Places × Rest) SchemaRefusal
-words_from names line x behind [] stop =
-    Ok (x, record { line = line; behind = behind; marks = []; stop = stop })
-words_from names line x behind (m ∷ ms) stop =
+words_from names line x next_column [] stop =
+    Ok (x, record { line = line; next_column = next_column; marks = []; stop = stop })
+words_from names line x next_column (m ∷ ms) stop =
     if is_word m.kind
     then (place names line m >>= λ a. words_from names line (union x (only a))
     (m.column + length m.word) ms stop)
-    else Ok (x, record { line = line; behind = behind; marks = m ∷ ms; stop = stop })
+    else Ok (x, record { line = line; next_column = next_column; marks = m ∷ ms; stop = stop })
 
 abbrev pub words : List (List ℕ) → Places → Rest → Result (Places × Rest) SchemaRefusal
-words names x r = words_from names r.line x r.behind r.marks r.stop
+words names x r = words_from names r.line x r.next_column r.marks r.stop
 
 -- a side that begins with this token
 abbrev pub side_from : List (List ℕ) → Mark → Rest → TokenKind → Result (Places × Rest) SchemaRefusal

@@ -173,13 +173,13 @@ VersionWants place w = AtFirst what.Number place w
 
 -- a version line is refused by its first complaint
 abbrev pub RefusesVersion : ℕ → ℕ → List Mark → Option Stop → SchemaRefusal → Type 0
-RefusesVersion line behind ms stop e =
-    IsFirst (VersionComplaint ms stop) VersionWants (span_at line behind ms stop) e
+RefusesVersion line next_column ms stop e =
+    IsFirst (VersionComplaint ms stop) VersionWants (span_at line next_column ms stop) e
 
 -- a version line is refused by the first complaint, and read where there is none
 abbrev pub FitsVersion : ℕ → ℕ → List Mark → Option Stop → Result Declarations SchemaRefusal → Type 0
-FitsVersion line behind ms stop (Ok d) = (place why : ℕ) → VersionComplaint ms stop place why → ⊥
-FitsVersion line behind ms stop (Err e) = RefusesVersion line behind ms stop e
+FitsVersion line next_column ms stop (Ok d) = (place why : ℕ) → VersionComplaint ms stop place why → ⊥
+FitsVersion line next_column ms stop (Err e) = RefusesVersion line next_column ms stop e
 
 -- a text whose first token is the word `version`
 pub record HasVersionLine (lines : List (List ℕ)) : Type 0 where

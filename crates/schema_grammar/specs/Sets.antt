@@ -14,7 +14,7 @@ use Rattle.schema_grammar.specs.declared.refusal.What.{What}
 use Rattle.schema_grammar.specs.declared.refusal.What.TheVariants as what
 use Rattle.schema_grammar.specs.declared.symbol.Sign.TheVariants as sign
 use Rattle.schema_grammar.specs.Complaints.{ComplainsOfWord, IsFirst, AtFirst, flaw_number, span_at}
-use Rattle.schema_grammar.specs.Grammar.{behind}
+use Rattle.schema_grammar.specs.Grammar.{after_sign}
 use Rattle.schema_grammar.specs.Meanings.{HasTokens, IsSide}
 use Rattle.schema_grammar.specs.Reading.{follow_lexed}
 use Rattle.schema_grammar.specs.Refusals.{and_then}
@@ -68,5 +68,5 @@ FitsSet declared text (Err e) = RefusesSet declared text e
 -- the set that a text states over declared names, or its refusal: it is read as what follows `() ->`
 abbrev pub read_set : List (List ℕ) → List ℕ → Result Places SchemaRefusal
 read_set declared text =
-    and_then (follow_lexed format.Plain declared 1 (behind sign.Functional none) 1 (lex mode.Goal text))
+    and_then (follow_lexed format.Plain declared 1 (after_sign sign.Functional none) 1 (lex mode.Goal text))
     (λ d. Ok (right_of d))

@@ -54,20 +54,20 @@ version_number line m ms stop (Some n) =
 
 -- what stands after the word `version` in its line
 unfoldable pub read_version : ℕ → ℕ → List Mark → Option Stop → Result Declarations SchemaRefusal
-read_version line behind [] None = Err (refusal line behind 0 (kind.Expected what.Number))
-read_version line behind [] (Some stop) = Err (refused_by line stop)
-read_version line behind (m ∷ ms) stop = version_number line m ms stop (number_in m.kind)
+read_version line next_column [] None = Err (refusal line next_column 0 (kind.Expected what.Number))
+read_version line next_column [] (Some stop) = Err (refused_by line stop)
+read_version line next_column (m ∷ ms) stop = version_number line m ms stop (number_in m.kind)
 
 abbrev pub end_version_lexed : ℕ → Lexed → Result Declarations SchemaRefusal
 end_version_lexed line l = end_version line l.marks l.stop
 
 abbrev pub read_version_lexed : ℕ → ℕ → Lexed → Result Declarations SchemaRefusal
-read_version_lexed line behind l = read_version line behind l.marks l.stop
+read_version_lexed line next_column l = read_version line next_column l.marks l.stop
 
 -- what a text declares from after the word `version` on
 abbrev pub read_typed : ℕ → List (List ℕ) → ℕ → Lexed → Result Declarations SchemaRefusal
-read_typed number lines behind l =
-    and_then (read_version_lexed number behind l) (λ d. read_lines format.Typed (number + 1) d lines)
+read_typed number lines next_column l =
+    and_then (read_version_lexed number next_column l) (λ d. read_lines format.Typed (number + 1) d lines)
 
 -- whether the first token of a text makes its line a version line
 unfoldable pub is_version : TokenKind → List ℕ → Bool

@@ -1,9 +1,9 @@
 -- Namesakes, and the sets that they make of a schema's sets.
 use Rattle.std.proofs.Common.{◌≡◌, ℕ, ◌+◌, ◌<◌, ◌↔◌, inl, inr, true, false, List, [], ◌∷◌, ◌++◌, length, get_or}
-use Rattle.std.proofs.Common.{Some, refl, sym, ◌∙◌, ap, ⊎_elim, arith}
-use Rattle.std.specs.Prelude.{All, slice_index_or, ◌==◌}
+use Rattle.std.proofs.Common.{Some, sym, ◌∙◌, ap, ⊎_elim, arith}
+use Rattle.std.specs.Prelude.{slice_index_or, ◌==◌}
 use Rattle.std.proofs.lemmas.Grind.{common_steps}
-use Rattle.std.proofs.lemmas.List.{get_or_append_left, get_or_default}
+use Rattle.std.proofs.lemmas.List.{get_or_append_left}
 use Rattle.std.proofs.lemmas.Bool.{cases_eq, eqb-true, eq-eqb, or_cases, false≢true}
 use Rattle.std.proofs.lemmas.Option.{same_Some}
 use Rattle.attr_sets.specs.Places.{Places, Within, only, union, Same}
@@ -20,9 +20,6 @@ pub record AreNamesakesTo (schema other : Schema) (n : ℕ) (namesakes : List �
   pub one_each : length namesakes ≡ n
   pub named : (a : ℕ) → a < n
       → place_named (names_of other) (attribute_name schema a) ≡ Some (slice_index_or namesakes a 0)
-
-pub namesakes_none : (schema other : Schema) → AreNamesakesTo schema other 0 []
-namesakes_none schema other = record { one_each = refl; named = λ a lt. absurd (omega arith) }
 
 pub namesakes_more : (schema other : Schema) (n : ℕ) (namesakes : List ℕ) (b : ℕ)
     → AreNamesakesTo schema other n namesakes
@@ -41,17 +38,6 @@ namesakes_more schema other n namesakes b before e = record {
       before.named a (omega (arith, lt, other_one)) ∙ ap (λ (k : ℕ). Some k) (sym read))
       (cases_eq a n);
 }
-
--- each is an attribute of the other schema
-pub namesakes_inside : (schema other : Schema) (namesakes : List ℕ) → AreNamesakes schema other namesakes
-    → All (λ b. b < width_of other) namesakes
-namesakes_inside schema other namesakes are a d lt =
-    let inside : a < width_of schema = omega (arith, lt, are.one_each) in
-    let place : place_named (names_of other) (attribute_name schema a) ≡ Some (get_or namesakes a 0) =
-    are.named a inside in
-    let within = (place_named_is (names_of other) (attribute_name schema a) (get_or namesakes a 0) place).0 in
-    let same : get_or namesakes a d ≡ get_or namesakes a 0 = get_or_default namesakes a d 0 lt in
-    omega (arith, within, same)
 
 -- ---- the set of namesakes is the set that is carried over
 pub carried_set-is : (schema other : Schema) (namesakes : List ℕ) (x p : Places)
@@ -84,9 +70,6 @@ carried_set-is schema other namesakes x p are low members =
 -- ---- the namesakes of the first members
 abbrev pub IsNamesakeTo : ℕ → List ℕ → Places → ℕ → Type 0
 IsNamesakeTo n namesakes x b = (a : ℕ) × (a < n) × (x a ≡ true) × (slice_index_or namesakes a 0 ≡ b)
-
-pub no_namesake : (namesakes : List ℕ) (x : Places) (b : ℕ) → IsNamesakeTo 0 namesakes x b → ⊥
-no_namesake namesakes x b h = omega (arith, h.1)
 
 -- the next attribute is a member
 pub namesake_member : (n : ℕ) (namesakes : List ℕ) (x p q : Places) (c : ℕ) → x n ≡ true

@@ -26,13 +26,6 @@ pub record AreDifferencesTo (schema other : Schema) (n : ℕ) (numbers : List �
       → Contains numbers k ⊎ FollowsFrom other schema d
   pub ascending : AllPairs (λ j k. j < k) numbers
 
-pub differences_none : (schema other : Schema) → AreDifferencesTo schema other 0 []
-differences_none schema other = record {
-  each = λ k h. absurd (omega (arith, h.1));
-  all = λ k d lt e. absurd (omega arith);
-  ascending = λ i j d lt inside. absurd (omega arith);
-}
-
 same_dependency : (d e : Dependency) → Some d ≡ Some e → d ≡ e
 same_dependency d e same = same_Some d e same
 

@@ -1,3 +1,4 @@
+-- A dependency line, from its first token on.
 use Rattle.std.proofs.Common.{◌≡◌, ◌+◌, ℕ, List, length, Ok, Err, refl, sym}
 use Rattle.dep_model.specs.Dependencies.{Dependency}
 use Rattle.lexer.specs.declared.token.Token.{Token}

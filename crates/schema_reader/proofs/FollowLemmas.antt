@@ -1,3 +1,4 @@
+-- To follow what is left of a dependency is to follow the whole.
 use Rattle.std.proofs.Common.{◌≡◌, ◌<◌, ◌+◌, ◌^◌, ℕ, List, [], length, Some, None, Ok, Err, refl, sym}
 use Rattle.lexer.specs.declared.token.Mode.{Mode}
 use Rattle.lexer.specs.declared.token.Stop.{Stop}

@@ -1,9 +1,10 @@
+-- What is printed so far of a set or of a declaring line, and what is still to print.
 use Rattle.std.proofs.Common.{◌≡◌, ◌<◌, ◌≤◌, ◌+◌, ℕ, zero, suc, Bool, true, false, cond, List, [], ◌∷◌, ◌++◌, length, take, drop, refl, sym, ◌∙◌, ap, subst, arith, append_assoc, add-one, drop-cons, get_or, Some}
 use Rattle.std.specs.List.{slice_get, list_any}
 use Rattle.std.proofs.lemmas.List.Folds.{list_any_at, list_any_more}
 use Rattle.std.proofs.lemmas.Option.{slice_get_within}
 use Rattle.std.proofs.lemmas.List.{append-nil}
-use Rattle.std.specs.Prelude.{map, codes}
+use Rattle.std.specs.Prelude.{map}
 use Rattle.attr_sets.specs.Places.{Places}
 use Rattle.dep_model.specs.declared.column.Column.{Column}
 use Rattle.schema_grammar.specs.Printing.{words_text, members_from, side_text, set_text, runs_of, in_front, run_line, lines_text, type_word, same_column, is_integer, Run}
@@ -63,14 +64,6 @@ set_inside names x before text next true more k name prints here within added is
 set_inside names x before text next false more k name prints here within added is_more = record {
   same = let rest = at_place names k name here in let inside : x k ≡ true = sym within in let old = prints.same in rw (added, is_more) (rw append_assoc (rw (rest, inside) at old));
 }
-
-pub set_ends_some : (names : List (List ℕ)) (x : Places) (before text : List ℕ) (k : ℕ) → PrintsSet names x before text true k → length names ≤ k
-    → text ≡ before ++ set_text names x
-set_ends_some names x before text k prints h = let rest = past_end names k h in let old = prints.same in sym (append-nil text) ∙ (rw rest at old)
-
-pub set_ends_none : (names : List (List ℕ)) (x : Places) (before text next : List ℕ) (k : ℕ) → PrintsSet names x before text false k → length names ≤ k
-    → next ≡ text ++ codes "()" → next ≡ before ++ set_text names x
-set_ends_none names x before text next k prints h added = let rest = past_end names k h in let old = prints.same in added ∙ (rw rest at old)
 
 -- runs whose first one has this type, and what stands after its word in the text
 record IsLed (c : Column) (rest : List ℕ) (runs : List Run) : Type 0 where
@@ -138,11 +131,6 @@ pub names_more : (names : List (List ℕ)) (text next whole : List ℕ) (k : ℕ
     → slice_get names k ≡ Some name → next ≡ text ++ 32 ∷ name → next ++ words_text (drop (k + 1) names) ≡ whole
 names_more names text next whole k name old here added =
     let rest = at_place names k name here in rw added (rw append_assoc (rw rest at old))
-
-pub runs_end : (columns : List Column) (names : List (List ℕ)) (before text next : List ℕ) (last : Column) (k : ℕ)
-    → PrintsRuns columns names before text last k → length columns ≤ k → next ≡ text ++ 10 ∷ []
-    → next ≡ before ++ lines_text (map run_line (runs_of columns names))
-runs_end columns names before text next last k prints h added = let rest = past_end columns k h in let old = prints.same in added ∙ (rw rest at old)
 
 pub any_at : (columns : List Column) (k : ℕ) (c : Column) → slice_get columns k ≡ Some c → true ≡ is_integer c → true ≡ list_any is_integer columns
 any_at columns k c here e = sym (list_any_at is_integer columns k c (slice_get_within columns k c here) (ap is_integer (get_at columns k c here) ∙ sym e))

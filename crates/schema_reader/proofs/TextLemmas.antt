@@ -1,3 +1,4 @@
+-- To read the lines that are left is to read the whole text.
 use Rattle.std.proofs.Common.{◌≡◌, ◌<◌, ◌≤◌, ◌+◌, ◌-◌, ◌^◌, ℕ, true, false, List, [], ◌∷◌, length, Option, Some, None, Ok, Err, refl, sym, ◌∙◌, ap, arith, subst, ◌≢◌, ◌==◌}
 use Rattle.attr_sets.specs.declared.set.TheConstants.{PLACES}
 use Rattle.lexer.specs.declared.token.Mode.TheVariants as mode
@@ -57,12 +58,12 @@ pub line_read : (f : Format) (number : ℕ) (d next : Declarations) (line : List
 unfolding read_lines
 line_read f number d next line lines ls whole h = rw whole (rw h refl)
 
-pub reads_more : (f : Format) (first : ℕ) (text : List ℕ) (d next : Declarations) (number : ℕ) (rest line behind : List ℕ)
-    → Reads f first text d number rest → CutsAt rest line behind → read_line f number d line ≡ Ok next → Reads f first text next (number + 1) behind
-reads_more f first text d next number rest line behind reads cut read =
+pub reads_more : (f : Format) (first : ℕ) (text : List ℕ) (d next : Declarations) (number : ℕ) (rest line afterwards : List ℕ)
+    → Reads f first text d number rest → CutsAt rest line afterwards → read_line f number d line ≡ Ok next → Reads f first text next (number + 1) afterwards
+reads_more f first text d next number rest line afterwards reads cut read =
     let better : IsSound f next = ok_at (IsSound f) _ next read (line_sound f number d line reads.sound) in
     record {
-      same = reads.same ∙ line_read f number d next line (line_texts behind) (line_texts rest) cut.lines read;
+      same = reads.same ∙ line_read f number d next line (line_texts afterwards) (line_texts rest) cut.lines read;
       sound = better;
       few = better.few_names;
       room = omega (arith, reads.room, cut.shorter);
@@ -100,49 +101,37 @@ pub version_opening : (number : ℕ) (line : List ℕ) (lines ls : List (List �
 unfolding read_opening
 version_opening number line lines ls t word rest whole leads version = rw whole (rw (leads.all_tokens, version) (rw (sym leads.same_length) refl))
 
-pub version_missing : (line behind : ℕ) (l : Lexed) → l ≡ record { marks = []; stop = None }
-    → read_version_lexed line behind l ≡ Err (refusal line behind 0 (kind.Expected what.Number))
+pub version_missing : (line afterwards : ℕ) (l : Lexed) → l ≡ record { marks = []; stop = None }
+    → read_version_lexed line afterwards l ≡ Err (refusal line afterwards 0 (kind.Expected what.Number))
 unfolding read_version
-version_missing line behind l e = rw e refl
+version_missing line afterwards l e = rw e refl
 
-pub version_stopped : (line behind : ℕ) (stop : Stop) (l : Lexed) → l ≡ record { marks = []; stop = Some stop }
-    → read_version_lexed line behind l ≡ Err (refused_by line stop)
+pub version_stopped : (line afterwards : ℕ) (stop : Stop) (l : Lexed) → l ≡ record { marks = []; stop = Some stop }
+    → read_version_lexed line afterwards l ≡ Err (refused_by line stop)
 unfolding read_version
-version_stopped line behind stop l e = rw e refl
+version_stopped line afterwards stop l e = rw e refl
 
-pub version_no_number : (line behind : ℕ) (t : Token) (word rest : List ℕ) (l : Lexed) → Leads mode.Numbered t word rest l
-    → number_in t.kind ≡ None → read_version_lexed line behind l ≡ Err (refusal line t.column t.length (kind.Expected what.Number))
+pub version_no_number : (line afterwards : ℕ) (t : Token) (word rest : List ℕ) (l : Lexed) → Leads mode.Numbered t word rest l
+    → number_in t.kind ≡ None → read_version_lexed line afterwards l ≡ Err (refusal line t.column t.length (kind.Expected what.Number))
 unfolding read_version
-version_no_number line behind t word rest l leads none = rw (leads.all_tokens, none, leads.same_length) refl
+version_no_number line afterwards t word rest l leads none = rw (leads.all_tokens, none, leads.same_length) refl
 
-pub version_unknown : (line behind : ℕ) (t : Token) (word rest : List ℕ) (n : ℕ) (l : Lexed) → Leads mode.Numbered t word rest l
-    → number_in t.kind ≡ Some n → n ≢ VERSION → read_version_lexed line behind l ≡ Err (refusal line t.column t.length kind.UnknownVersion)
+pub version_unknown : (line afterwards : ℕ) (t : Token) (word rest : List ℕ) (n : ℕ) (l : Lexed) → Leads mode.Numbered t word rest l
+    → number_in t.kind ≡ Some n → n ≢ VERSION → read_version_lexed line afterwards l ≡ Err (refusal line t.column t.length kind.UnknownVersion)
 unfolding read_version
-version_unknown line behind t word rest n l leads some other =
+version_unknown line afterwards t word rest n l leads some other =
     let differs : (n == VERSION) ≡ false = grind (arith, nat_tests) in rw (leads.all_tokens, some, differs, leads.same_length) refl
 
-pub version_known : (line behind : ℕ) (t : Token) (word rest : List ℕ) (n : ℕ) (l : Lexed) → Leads mode.Numbered t word rest l
-    → number_in t.kind ≡ Some n → n ≡ VERSION → read_version_lexed line behind l ≡ end_version_lexed line (lexed mode.Numbered 0 (t.column + t.length) rest)
+pub version_known : (line afterwards : ℕ) (t : Token) (word rest : List ℕ) (n : ℕ) (l : Lexed) → Leads mode.Numbered t word rest l
+    → number_in t.kind ≡ Some n → n ≡ VERSION → read_version_lexed line afterwards l ≡ end_version_lexed line (lexed mode.Numbered 0 (t.column + t.length) rest)
 unfolding read_version
-version_known line behind t word rest n l leads some same =
+version_known line afterwards t word rest n l leads some same =
     let equal : (n == VERSION) ≡ true = grind (arith, nat_tests) in rw (leads.all_tokens, some, equal) refl
 
-pub version_more : (line : ℕ) (t : Token) (word rest : List ℕ) (l : Lexed) → Leads mode.Numbered t word rest l
-    → end_version_lexed line l ≡ Err (refusal line t.column t.length (kind.Expected what.LineEnd))
-version_more line t word rest l leads = rw (leads.all_tokens, leads.same_length) refl
-
-pub typed_refused : (number : ℕ) (lines : List (List ℕ)) (behind : ℕ) (l : Lexed) (e : SchemaRefusal) → read_version_lexed number behind l ≡ Err e
-    → read_typed number lines behind l ≡ Err e
-typed_refused number lines behind l e h = rw h refl
-
-pub typed_read : (number : ℕ) (lines : List (List ℕ)) (behind : ℕ) (l : Lexed) (d : Declarations) → read_version_lexed number behind l ≡ Ok d
-    → read_typed number lines behind l ≡ read_lines format.Typed (number + 1) d lines
-typed_read number lines behind l d h = rw h refl
-
-pub typed_end : (number behind : ℕ) (l : Lexed) (d : Declarations) → read_version_lexed number behind l ≡ Ok d
-    → read_typed number [] behind l ≡ finish number d
+pub typed_end : (number afterwards : ℕ) (l : Lexed) (d : Declarations) → read_version_lexed number afterwards l ≡ Ok d
+    → read_typed number [] afterwards l ≡ finish number d
 unfolding read_lines
-typed_end number behind l d h = let back : number + 1 - 1 ≡ number = omega arith in rw h (rw back refl)
+typed_end number afterwards l d h = let back : number + 1 - 1 ≡ number = omega arith in rw h (rw back refl)
 
 pub declared_as : (s : Schema) (d : Declarations) (deps : List Dep) → names_of s ≡ d.names → columns_of s ≡ d.columns → deps_of s ≡ deps
     → lines_of s ≡ d.lines → d.deps ≡ dependencies_of deps → declarations_of s ≡ d
@@ -150,9 +139,9 @@ declared_as s d deps names columns same lines of =
     let theory : theory_of s ≡ d.deps = ap dependencies_of same ∙ sym of in
     λ i. record { names = names i; columns = columns i; deps = theory i; lines = lines i }
 
-pub opens_more : (text : List ℕ) (number : ℕ) (rest line behind : List ℕ) → Opens text number rest → CutsAt rest line behind
-    → lex mode.Numbered line ≡ record { marks = []; stop = None } → Opens text (number + 1) behind
-opens_more text number rest line behind opens cut blank = record {
-  same = opens.same ∙ blank_line number line (line_texts behind) (line_texts rest) cut.lines blank;
+pub opens_more : (text : List ℕ) (number : ℕ) (rest line afterwards : List ℕ) → Opens text number rest → CutsAt rest line afterwards
+    → lex mode.Numbered line ≡ record { marks = []; stop = None } → Opens text (number + 1) afterwards
+opens_more text number rest line afterwards opens cut blank = record {
+  same = opens.same ∙ blank_line number line (line_texts afterwards) (line_texts rest) cut.lines blank;
   room = omega (arith, opens.room, cut.shorter);
 }

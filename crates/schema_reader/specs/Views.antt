@@ -5,7 +5,7 @@ use Rattle.attr_sets.specs.Sets.{places}
 use Rattle.dep_model.specs.Deps.{dependencies_of}
 use Rattle.lexer.specs.Lines.{line_texts}
 use Rattle.schema_grammar.specs.Declarations.{Declarations}
-use Rattle.schema_grammar.specs.Grammar.{Reached, start, left, left_empty, behind, right, right_empty}
+use Rattle.schema_grammar.specs.Grammar.{Reached, start, left, left_empty, after_sign, right, right_empty}
 use Rattle.schema_reader.specs.declared.draft.Draft.{Draft}
 use Rattle.schema_reader.specs.declared.stage.Stage.{Stage}
 use Rattle.schema_reader.specs.declared.stage.Stage.TheVariants as stage
@@ -17,7 +17,7 @@ abbrev pub reached_of : Stage → Reached
 reached_of stage.Start = start
 reached_of (stage.Left x) = left (places x)
 reached_of stage.LeftEmpty = left_empty
-reached_of (stage.Behind s x) = behind s (places x)
+reached_of (stage.AfterSign s x) = after_sign s (places x)
 reached_of (stage.Right s x y) = right s (places x) (places y)
 reached_of (stage.RightEmpty s x) = right_empty s (places x)
 

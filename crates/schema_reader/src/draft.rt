@@ -52,9 +52,9 @@ impl Draft {
             Next::End => Ok(()),
             Next::Stop(stop) => Err(SchemaRefusal::by(line, stop)),
             Next::Token(token, word, rest) => {
-                let behind = token.column + token.length;
+                let next_column = token.column + token.length;
                 match declares(format, token.kind, word) {
-                    Some(column) => self.list_names(format, column, line, behind, rest),
+                    Some(column) => self.list_names(format, column, line, next_column, rest),
                     None => self.read_dependency(format, line, token, word, rest),
                 }
             }
@@ -67,30 +67,30 @@ impl Draft {
         format: Format,
         column: Column,
         line: u32,
-        behind: u32,
+        next_column: u32,
         text: &[u8],
     ) -> Result<(), SchemaRefusal>
-        requires room { behind + length text.now < 2 ^ 32 }
+        requires room { next_column + length text.now < 2 ^ 32 }
         ensures ok { OnOk result
-            (list_names_lexed format column line (drafted self.old) false behind
-            (lexed Mode.Plain 0 behind text.now) ≡ Ok (drafted self.new)) }
+            (list_names_lexed format column line (drafted self.old) false next_column
+            (lexed Mode.Plain 0 next_column text.now) ≡ Ok (drafted self.new)) }
         ensures err { IfErr result
             (λ refusal. Refuses refusal
-            (list_names_lexed format column line (drafted self.old) false behind
-            (lexed Mode.Plain 0 behind text.now))) }
+            (list_names_lexed format column line (drafted self.old) false next_column
+            (lexed Mode.Plain 0 next_column text.now))) }
     {
         let mut some = false;
-        let mut behind = behind;
+        let mut next_column = next_column;
         let mut rest = text;
         'names: loop {
-            match next_token(Mode::Plain, behind, rest) {
+            match next_token(Mode::Plain, next_column, rest) {
                 Next::End => {
                     return if some {
                         Ok(())
                     } else {
                         Err(SchemaRefusal::at(
                             line,
-                            behind,
+                            next_column,
                             0,
                             SchemaRefusalKind::Expected(What::Name),
                         ))
@@ -104,7 +104,7 @@ impl Draft {
                         }
                         Ok(()) => {
                             some = true;
-                            behind = token.column + token.length;
+                            next_column = token.column + token.length;
                             rest = others;
                         }
                     }
@@ -193,15 +193,15 @@ impl Draft {
             Ok(stage) => stage,
             Err(kind) => return Err(SchemaRefusal::at(line, token.column, token.length, kind)),
         };
-        let behind = token.column + token.length;
+        let next_column = token.column + token.length;
         let names = Names::Listed(&self.names);
-        let dep = match follow(&names, format, Mode::Plain, line, stage, behind, rest) {
+        let dep = match follow(&names, format, Mode::Plain, line, stage, next_column, rest) {
             Ok(dep) => dep,
             Err(refusal) => return Err(refusal),
         };
         match self.add_dependency(dep, line) {
             Ok(()) => Ok(()),
-            Err(kind) => Err(SchemaRefusal::at(line, behind, 0, kind)),
+            Err(kind) => Err(SchemaRefusal::at(line, next_column, 0, kind)),
         }
     }
 

@@ -66,7 +66,7 @@ pub fn follow(
         match next_token(mode, column, rest) {
             Next::End => return end_line(line, stage, column),
             Next::Stop(stop) => return Err(SchemaRefusal::by(line, stop)),
-            Next::Token(token, word, behind) => {
+            Next::Token(token, word, others) => {
                 match step(names, format, stage, token.kind, word) {
                     Err(kind) => return Err(SchemaRefusal::at(
                         line,
@@ -77,7 +77,7 @@ pub fn follow(
                     Ok(next) => {
                         stage = next;
                         column = token.column + token.length;
-                        rest = behind;
+                        rest = others;
                     }
                 }
             }

@@ -2,7 +2,7 @@ ghost use Rattle.std.specs.Prelude.{◌≡◌, ◌<◌, IfOk, IfErr, Ok, Err};
 ghost use Rattle.attr_sets.specs.Places.{only, union, none};
 ghost use Rattle.attr_sets.specs.Sets.{places};
 ghost use Rattle.dep_model.specs.Deps.{dependency_of};
-ghost use Rattle.schema_grammar.specs.Grammar.{behind, turn, finished, stated, IsPlaced};
+ghost use Rattle.schema_grammar.specs.Grammar.{after_sign, turn, finished, stated, IsPlaced};
 ghost use Rattle.schema_grammar.specs.declared.symbol.Sign.TheVariants as sign;
 ghost use Rattle.schema_reader.specs.Views.{reached_of};
 
@@ -14,23 +14,23 @@ use schema_grammar::{Sign, Symbol, What};
 #[derive(Clone, Copy)]
 pub enum Stage {
     Start,
-    /// Behind words of the left side.
+    /// After words of the left side.
     Left(AttrSet),
-    /// Behind a left `()`.
+    /// After a left `()`.
     LeftEmpty,
-    /// Behind the arrow.
-    Behind(Sign, AttrSet),
-    /// Behind words of the right side.
+    /// After the arrow.
+    AfterSign(Sign, AttrSet),
+    /// After words of the right side.
     Right(Sign, AttrSet, AttrSet),
-    /// Behind a right `()`.
+    /// After a right `()`.
     RightEmpty(Sign, AttrSet),
 }
 
 /// After `() ->`.
 pub fn after_arrow() -> Stage
-    ensures reached { reached_of result ≡ behind sign.Functional none }
+    ensures reached { reached_of result ≡ after_sign sign.Functional none }
 {
-    Stage::Behind(Sign::Functional, AttrSet::empty())
+    Stage::AfterSign(Sign::Functional, AttrSet::empty())
 }
 
 /// Where a token leads.
@@ -45,15 +45,15 @@ pub fn turn(stage: Stage, symbol: Symbol) -> Result<Stage, What>
         (Stage::Start, Symbol::Empty) => Ok(Stage::LeftEmpty),
         (Stage::Start, _) => Err(What::Side),
         (Stage::Left(lhs), Symbol::Attribute(place)) => Ok(Stage::Left(added(lhs, place))),
-        (Stage::Left(lhs), Symbol::Arrow(sign)) => Ok(Stage::Behind(sign, lhs)),
+        (Stage::Left(lhs), Symbol::Arrow(sign)) => Ok(Stage::AfterSign(sign, lhs)),
         (Stage::Left(_), _) => Err(What::Arrow),
-        (Stage::LeftEmpty, Symbol::Arrow(sign)) => Ok(Stage::Behind(sign, no_place())),
+        (Stage::LeftEmpty, Symbol::Arrow(sign)) => Ok(Stage::AfterSign(sign, no_place())),
         (Stage::LeftEmpty, _) => Err(What::Arrow),
-        (Stage::Behind(sign, lhs), Symbol::Attribute(place)) => {
+        (Stage::AfterSign(sign, lhs), Symbol::Attribute(place)) => {
             Ok(Stage::Right(sign, lhs, single(place)))
         }
-        (Stage::Behind(sign, lhs), Symbol::Empty) => Ok(Stage::RightEmpty(sign, lhs)),
-        (Stage::Behind(_, _), _) => Err(What::Side),
+        (Stage::AfterSign(sign, lhs), Symbol::Empty) => Ok(Stage::RightEmpty(sign, lhs)),
+        (Stage::AfterSign(_, _), _) => Err(What::Side),
         (Stage::Right(sign, lhs, rhs), Symbol::Attribute(place)) => {
             Ok(Stage::Right(sign, lhs, added(rhs, place)))
         }
@@ -69,7 +69,7 @@ pub fn finish(stage: Stage) -> Result<Dep, What>
     ensures err { IfErr result (λ what. finished (reached_of stage) ≡ Err what) }
 {
     match stage {
-        Stage::Start | Stage::Behind(_, _) => Err(What::Side),
+        Stage::Start | Stage::AfterSign(_, _) => Err(What::Side),
         Stage::Left(_) | Stage::LeftEmpty => Err(What::Arrow),
         Stage::Right(sign, lhs, rhs) => Ok(dependency(sign, lhs, rhs)),
         Stage::RightEmpty(sign, lhs) => Ok(dependency(sign, lhs, no_place())),

@@ -73,21 +73,21 @@ fn read_opening(alloc: Global, text: &[u8]) -> Result<Draft, SchemaRefusal>
 fn read_typed(
     alloc: Global,
     number: u32,
-    behind: u32,
+    next_column: u32,
     others: &[u8],
     after: Option<&[u8]>,
 ) -> Result<Draft, SchemaRefusal>
-    requires room { behind + length others.now < 2 ^ 32 }
+    requires room { next_column + length others.now < 2 ^ 32 }
     requires lines { AreFew number after }
     ensures ok { IfOk result
-        (λ draft. read_typed number (lines_after after.entry) behind
-        (lexed Mode.Numbered 0 behind others.now) ≡ Ok (drafted draft)) }
+        (λ draft. read_typed number (lines_after after.entry) next_column
+        (lexed Mode.Numbered 0 next_column others.now) ≡ Ok (drafted draft)) }
     ensures err { IfErr result
         (λ refusal. Refuses refusal
-        (read_typed number (lines_after after.entry) behind
-        (lexed Mode.Numbered 0 behind others.now))) }
+        (read_typed number (lines_after after.entry) next_column
+        (lexed Mode.Numbered 0 next_column others.now))) }
 {
-    match read_version(number, behind, others) {
+    match read_version(number, next_column, others) {
         Err(refusal) => Err(refusal),
         Ok(()) => match after {
             None => finish(number, Draft::new(alloc)),
@@ -97,18 +97,18 @@ fn read_typed(
 }
 
 /// Reads a line from after the word `version`: the number 2, and nothing more.
-fn read_version(line: u32, behind: u32, text: &[u8]) -> Result<(), SchemaRefusal>
-    requires { behind + length text.now < 2 ^ 32 }
-    ensures ok { OnOk result (read_version_lexed line behind (lexed Mode.Numbered 0 behind text.now)
+fn read_version(line: u32, next_column: u32, text: &[u8]) -> Result<(), SchemaRefusal>
+    requires { next_column + length text.now < 2 ^ 32 }
+    ensures ok { OnOk result (read_version_lexed line next_column (lexed Mode.Numbered 0 next_column text.now)
         ≡ Ok no_declaration) }
     ensures err { IfErr result
-        (λ refusal. read_version_lexed line behind (lexed Mode.Numbered 0 behind text.now)
+        (λ refusal. read_version_lexed line next_column (lexed Mode.Numbered 0 next_column text.now)
         ≡ Err refusal) }
 {
-    match next_token(Mode::Numbered, behind, text) {
+    match next_token(Mode::Numbered, next_column, text) {
         Next::End => {
             let kind = SchemaRefusalKind::Expected(What::Number);
-            Err(SchemaRefusal::at(line, behind, 0, kind))
+            Err(SchemaRefusal::at(line, next_column, 0, kind))
         }
         Next::Stop(stop) => Err(SchemaRefusal::by(line, stop)),
         Next::Token(token, _, rest) => match number_in(token.kind) {
@@ -139,14 +139,14 @@ fn number_in(kind: TokenKind) -> Option<u32>
 }
 
 /// Reads the rest of a version line, in which no token may stand.
-fn end_version(line: u32, behind: u32, text: &[u8]) -> Result<(), SchemaRefusal>
-    requires { behind + length text.now < 2 ^ 32 }
-    ensures ok { OnOk result (end_version_lexed line (lexed Mode.Numbered 0 behind text.now)
+fn end_version(line: u32, next_column: u32, text: &[u8]) -> Result<(), SchemaRefusal>
+    requires { next_column + length text.now < 2 ^ 32 }
+    ensures ok { OnOk result (end_version_lexed line (lexed Mode.Numbered 0 next_column text.now)
         ≡ Ok no_declaration) }
     ensures err { IfErr result
-        (λ refusal. end_version_lexed line (lexed Mode.Numbered 0 behind text.now) ≡ Err refusal) }
+        (λ refusal. end_version_lexed line (lexed Mode.Numbered 0 next_column text.now) ≡ Err refusal) }
 {
-    match next_token(Mode::Numbered, behind, text) {
+    match next_token(Mode::Numbered, next_column, text) {
         Next::End => Ok(()),
         Next::Stop(stop) => Err(SchemaRefusal::by(line, stop)),
         Next::Token(token, _, _) => {

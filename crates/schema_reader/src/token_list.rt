@@ -21,13 +21,13 @@ pub fn tokens(alloc: Global, line: &[u8], proof: bool) -> Result<Vec<Token>, Sch
         match next_token(mode, column, rest) {
             Next::End => return Ok(tokens),
             Next::Stop(stop) => return Err(SchemaRefusal::by(1, stop)),
-            Next::Token(token, _, behind) => {
+            Next::Token(token, _, others) => {
                 if tokens.push(token).is_err() {
                     let kind = SchemaRefusalKind::Memory;
                     return Err(SchemaRefusal::at(1, token.column, token.length, kind));
                 }
                 column = token.column + token.length;
-                rest = behind;
+                rest = others;
             }
         }
     }

@@ -16,10 +16,7 @@ const LIMIT: u32 = 4_096;
 
 fn schema(rt: &(impl Alloc<A = Global> + Abort), text: &[u8]) -> Schema {
     assert!(rt; text.len() <= MOST_TEXT_BYTES);
-    match read_schema(rt.alloc(), text) {
-        Ok(schema) => schema,
-        Err(refusal) => panic!(rt; "{text:?} is refused: {refusal:?}"),
-    }
+    read_schema(rt.alloc(), text).expect(rt, "a schema")
 }
 
 // Splits a schema to Boyce-Codd form, or to fourth form.

@@ -1,18 +1,7 @@
 use crate::synthesize;
 use decomp_text::print_plan;
-use dep_model::Schema;
 use schema_reader::{MOST_TEXT_BYTES, read_schema};
-use std::alloc::Global;
-use std::process::Abort;
 use std::test::Fail;
-
-fn schema(rt: &(impl Alloc<A = Global> + Abort), text: &[u8]) -> Schema {
-    assert!(rt; text.len() <= MOST_TEXT_BYTES);
-    match read_schema(rt.alloc(), text) {
-        Ok(schema) => schema,
-        Err(refusal) => panic!(rt; "{text:?} is refused: {refusal:?}"),
-    }
-}
 
 #[test]
 fn groups_by_left_side(rt: HostRuntime) -> Result<(), Fail> {
@@ -40,7 +29,8 @@ fn groups_by_left_side(rt: HostRuntime) -> Result<(), Fail> {
         (b"attributes A B\nA ->> B", b"scheme A B\n"),
     ];
     for (text, printed) in table {
-        let schema = schema(&rt, text);
+        assert!(rt; text.len() <= MOST_TEXT_BYTES);
+        let schema = read_schema(rt.alloc(), text).expect(&rt, "a schema");
         let plan = synthesize(rt.alloc(), &schema)?;
         let again = print_plan(rt.alloc(), &schema, &plan);
         match again {

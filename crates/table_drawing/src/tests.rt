@@ -1,32 +1,21 @@
 use crate::draw;
 use ddl_text::{DesignList, MOST_TABLES, design};
 use decomp_text::{MOST_PLAN_BYTES, read_plan};
-use dep_model::Schema;
+use dep_model::{Schema, WantMemory};
 use schema_reader::{MOST_TEXT_BYTES, read_schema};
 use std::alloc::Global;
 use std::process::Abort;
 use std::test::Fail;
 
-fn schema(rt: &(impl Alloc<A = Global> + Abort), text: &[u8]) -> Schema {
-    assert!(rt; text.len() <= MOST_TEXT_BYTES);
-    match read_schema(rt.alloc(), text) {
-        Ok(schema) => schema,
-        Err(refusal) => panic!(rt; "{text:?} is refused: {refusal:?}"),
-    }
-}
-
-fn designed(rt: &(impl Alloc<A = Global> + Abort), schema: &Schema, text: &[u8]) -> DesignList {
+fn designed(
+    rt: &(impl Alloc<A = Global> + Abort),
+    schema: &Schema,
+    text: &[u8],
+) -> Result<DesignList, WantMemory> {
     assert!(rt; text.len() <= MOST_PLAN_BYTES);
-    match read_plan(rt.alloc(), schema, text) {
-        Ok(plan) => {
-            assert!(rt; plan.schemes().len() <= MOST_TABLES as usize);
-            match design(rt.alloc(), schema, &plan) {
-                Ok(tables) => tables,
-                Err(_) => panic!(rt; "no memory"),
-            }
-        }
-        Err(refusal) => panic!(rt; "{text:?} is refused: {refusal:?}"),
-    }
+    let plan = read_plan(rt.alloc(), schema, text).expect(rt, "a plan");
+    assert!(rt; plan.schemes().len() <= MOST_TABLES as usize);
+    design(rt.alloc(), schema, &plan)
 }
 
 #[test]
@@ -63,8 +52,9 @@ fn draws_tables_and_references(rt: HostRuntime) -> Result<(), Fail> {
         ),
     ];
     for (text, plan, wanted) in table {
-        let schema = schema(&rt, text);
-        let tables = designed(&rt, &schema, plan);
+        assert!(rt; text.len() <= MOST_TEXT_BYTES);
+        let schema = read_schema(rt.alloc(), text).expect(&rt, "a schema");
+        let tables = designed(&rt, &schema, plan)?;
         let drawn = draw(rt.alloc(), &schema, &tables)?;
         assert!(rt; drawn.as_slice() == wanted, "{text:?} {plan:?}: {drawn:?}");
     }

@@ -1,7 +1,7 @@
 -- The join of the tables of a plan: its text and its attributes, one table more at the end.
 use Rattle.std.proofs.Common.{◌≡◌, ◌<◌, ◌+◌, ℕ, Bool, ◌||◌, List, [], ◌∷◌, ◌++◌, length, get_or, take, drop, map, refl, sym, ap, ◌∙◌, arith}
 use Rattle.std.proofs.lemmas.List.{take_more, map-append}
-use Rattle.attr_sets.specs.Places.{Places, none, union, meet, Same}
+use Rattle.attr_sets.specs.Places.{Places, union, meet, Same}
 use Rattle.attr_sets.specs.Sets.{places}
 use Rattle.attr_sets.proofs.PlacesLemmas.{Same-path}
 use Rattle.dep_model.specs.declared.schema.Schema.{Schema}
@@ -9,7 +9,7 @@ use Rattle.dep_model.specs.Schemas.{width_of}
 use Rattle.ddl_text.specs.declared.table.TableDesign.{TableDesign}
 use Rattle.ddl_text.specs.Ddl.{name_list}
 use Rattle.table_queries.specs.Queries.{Query, StoredTable, join, stored, attributes_of, joined_with, join_of}
-use Rattle.table_scripts.specs.QueryTexts.{alone, left, text_at, select_text, link_text, values_text}
+use Rattle.table_scripts.specs.QueryTexts.{alone, left, text_at, select_text, link_text}
 use Rattle.table_scripts.specs.Migrating.{stored_of, stored_tables}
 use Rattle.targets.specs.Sql.{quoted_name}
 
@@ -93,11 +93,6 @@ sources_more s t first designs i design seen shared text next piece source lt at
 pub split_first : (designs : List TableDesign) (d : TableDesign) → 0 < length designs → designs ≡ get_or designs 0 d ∷ drop 1 designs
 split_first [] d some = absurd (omega (arith, some))
 split_first (first ∷ designs) d some = refl
-
-pub none_joined : (s : Schema) (t : List ℕ) (designs : List TableDesign) (x : Places) → length designs ≡ 0 → Same x none
-    → values_text s t x ≡ text_at s t alone (join_of (stored_tables designs))
-none_joined s t [] x empty is = ap (values_text s t) (Same-path x none is)
-none_joined s t (design ∷ designs) x empty is = absurd (omega (arith, empty))
 
 pub all_joined : (s : Schema) (t : List ℕ) (designs : List TableDesign) (first : TableDesign) (set : Places) → 0 < length designs
     → first ≡ get_or designs 0 first → Same set (attributes_of (width_of s) (join_of (stored_tables designs)))

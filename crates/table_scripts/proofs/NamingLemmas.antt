@@ -4,7 +4,6 @@ use Rattle.std.proofs.lemmas.Bool.{cases_Bool, true≢false}
 use Rattle.std.proofs.lemmas.Bool.Decides.{nat_tests}
 use Rattle.std.specs.Prelude.{◌-◌, if◌then◌else◌, codes, nat_le, slice_index_or}
 use Rattle.std.specs.List.{flat_map, list_all, position_or_len}
-use Rattle.targets.specs.Sql.{quoted_name}
 use Rattle.table_scripts.specs.Naming.{in_front, parts_of, is_part, is_taken, last_of, are_parts, dotted, parted, quoted_table}
 
 abbrev pub is_dot : ℕ → Bool
@@ -117,8 +116,6 @@ cut_none bytes n e apart =
     ∙ and_none (is_part (take n bytes))
 
 -- ---- in double quotes
-more_dotted : (part : List ℕ) (parts : List (List ℕ)) → flat_map (λ other. 46 ∷ quoted_name other) (part ∷ parts) ≡ 46 ∷ dotted (part ∷ parts)
-more_dotted part parts = refl
 
 front_dotted : (b : ℕ) (part : List ℕ) (parts : List (List ℕ)) (rest : List ℕ) → dotted (part ∷ parts) ≡ 34 ∷ rest
     → dotted ((b ∷ part) ∷ parts) ≡ 34 ∷ b ∷ rest

@@ -1,32 +1,21 @@
 use crate::{check_script, is_table_name, migrate_script};
 use ddl_text::{DesignList, MOST_TABLES, design};
 use decomp_text::{MOST_PLAN_BYTES, read_plan};
-use dep_model::Schema;
-use schema_reader::{MOST_TEXT_BYTES, read_schema};
+use dep_model::{Schema, WantMemory};
+use schema_reader::read_schema;
 use std::alloc::Global;
 use std::process::Abort;
 use std::test::Fail;
 
-fn schema(rt: &(impl Alloc<A = Global> + Abort), text: &[u8]) -> Schema {
-    assert!(rt; text.len() <= MOST_TEXT_BYTES);
-    match read_schema(rt.alloc(), text) {
-        Ok(schema) => schema,
-        Err(refusal) => panic!(rt; "{text:?} is refused: {refusal:?}"),
-    }
-}
-
-fn designed(rt: &(impl Alloc<A = Global> + Abort), schema: &Schema, text: &[u8]) -> DesignList {
+fn designed(
+    rt: &(impl Alloc<A = Global> + Abort),
+    schema: &Schema,
+    text: &[u8],
+) -> Result<DesignList, WantMemory> {
     assert!(rt; text.len() <= MOST_PLAN_BYTES);
-    match read_plan(rt.alloc(), schema, text) {
-        Ok(plan) => {
-            assert!(rt; plan.schemes().len() <= MOST_TABLES as usize);
-            match design(rt.alloc(), schema, &plan) {
-                Ok(tables) => tables,
-                Err(_) => panic!(rt; "no memory"),
-            }
-        }
-        Err(refusal) => panic!(rt; "{text:?} is refused: {refusal:?}"),
-    }
+    let plan = read_plan(rt.alloc(), schema, text).expect(rt, "a plan");
+    assert!(rt; plan.schemes().len() <= MOST_TABLES as usize);
+    design(rt.alloc(), schema, &plan)
 }
 
 #[test]
@@ -86,8 +75,10 @@ SELECT n FROM (SELECT COUNT(*) AS n FROM (SELECT DISTINCT CAST(\"AGE\" AS BIGINT
 
 #[test]
 fn makes_tables_from_a_table(rt: HostRuntime) -> Result<(), Fail> {
-    let schema = schema(&rt, b"attributes A B C\nA ->> B\n() ->> A");
-    let tables = designed(&rt, &schema, b"scheme A\nscheme B C\nscheme A B");
+    let schema = read_schema(rt.alloc(), b"attributes A B C\nA ->> B\n() ->> A").expect(
+        &rt, "a schema",
+    );
+    let tables = designed(&rt, &schema, b"scheme A\nscheme B C\nscheme A B")?;
     assert!(rt; is_table_name(b"r"));
     let script = migrate_script(rt.alloc(), &schema, &tables, b"r")?;
     let wanted = b"CREATE TABLE \"t1\" (

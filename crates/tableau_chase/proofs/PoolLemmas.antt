@@ -1,6 +1,6 @@
 -- Pools: a row more, and one row too many.
 use Rattle.std.proofs.Common.{◌≡◌, ℕ, ◌+◌, ◌<◌, ◌≤◌, suc, ◌⊎◌, List, [], ◌∷◌, ◌++◌, length, take, drop, get_or, sym, ap, subst, ◌∙◌, inl, inr, ⊎_elim, arith, length-append, append_assoc}
-use Rattle.std.proofs.lemmas.List.{get_or_default, length_push, take-append-drop, append-nil, get_or_append_left}
+use Rattle.std.proofs.lemmas.List.{length_push, take-append-drop, append-nil, get_or_append_left}
 use Rattle.std.proofs.lemmas.List.Elements.{All-push, Contains-get_or, Contains-append_left, Contains-push, Contains-push_cases}
 use Rattle.std.proofs.lemmas.List.Quantifiers.{all_pairs_push}
 use Rattle.std.specs.Prelude.{Contains, AllPairs}
@@ -8,16 +8,12 @@ use Rattle.attr_sets.specs.Places.{Places}
 use Rattle.chase_laws.specs.Tableaux.{SymbolRow, Tableau, SameTableau, scheme_row, scheme_rows}
 use Rattle.chase_laws.specs.Rounds.{HasMoreThan}
 use Rattle.tableau_chase.specs.Groups.{row_at}
-use Rattle.tableau_chase.specs.Numbers.{IsFirstPlace}
 use Rattle.tableau_chase.specs.Pools.{IsAdded, Extends}
 use Rattle.tableau_chase.specs.Making.{AddsAll, Overflows}
 
 pub differ_push : (rows : Tableau) (row : SymbolRow) → AllPairs (λ p q. p ≡ q → ⊥) rows → (Contains rows row → ⊥) → AllPairs (λ p q. p ≡ q → ⊥) (rows ++ row ∷ [])
 differ_push rows row differ fresh =
     all_pairs_push (λ (p q : SymbolRow). p ≡ q → ⊥) rows row differ (λ k d l e. fresh (subst (λ (r : SymbolRow). Contains rows r) e (Contains-get_or rows k d l)))
-
-pub known_row : (rows : Tableau) (row : SymbolRow) (number : ℕ) → IsFirstPlace rows row number → Contains rows row
-known_row rows row number at = (number, at.low, get_or_default rows number row [] at.low ∙ at.here)
 
 -- ---- a row is added
 pub added_into : (t : Tableau) (row : SymbolRow) (s : Tableau) → IsAdded t row s → Contains s row
@@ -107,9 +103,6 @@ overflow_here P Q limit t m row weaker here before differ fresh full s old made 
 pub overflow_after : (P Q R : SymbolRow → Type 0) (limit : ℕ) (t m : Tableau) → ((p : SymbolRow) → P p → R p) → ((p : SymbolRow) → Q p → R p) → AddsAll P t m → Overflows Q limit m → Overflows R limit t
 overflow_after P Q R limit t m from_p from_q one over s old made =
     over s (λ p h. ⊎_elim (old p) (λ q. made p (from_p p q)) (one.sound p h)) (λ p h. made p (from_q p h))
-
-pub overflow_like : (P Q : SymbolRow → Type 0) (limit : ℕ) (t : Tableau) → ((p : SymbolRow) → P p → Q p) → Overflows P limit t → Overflows Q limit t
-overflow_like P Q limit t to over s old made = over s old (λ p h. made p (to p h))
 
 -- ---- the rows of a plan
 scheme_rows-append : (n i : ℕ) (front rest : List Places) → scheme_rows n i (front ++ rest) ≡ scheme_rows n i front ++ scheme_rows n (i + length front) rest

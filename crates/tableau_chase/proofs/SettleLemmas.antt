@@ -1,8 +1,8 @@
 -- The loop that settles a tableau.
-use Rattle.std.proofs.Common.{◌≡◌, ℕ, ◌+◌, ◌<◌, ◌≤◌, zero, suc, Bool, true, false, cond, List, [], ◌∷◌, length, get_or, refl, sym, ap, subst, ◌∙◌, ⊎_elim, arith}
+use Rattle.std.proofs.Common.{◌≡◌, ℕ, ◌+◌, ◌<◌, ◌≤◌, zero, suc, Bool, true, false, cond, List, [], ◌∷◌, length, refl, sym, ap, subst, ◌∙◌, ⊎_elim, arith}
 use Rattle.std.proofs.lemmas.Bool.{true≢false}
 use Rattle.std.proofs.lemmas.List.{get_or_default}
-use Rattle.std.proofs.lemmas.List.Elements.{All-contains, Contains-get_or}
+use Rattle.std.proofs.lemmas.List.Elements.{All-contains}
 use Rattle.std.specs.Prelude.{Contains}
 use Rattle.attr_sets.specs.Places.{Places}
 use Rattle.dep_model.specs.Dependencies.{Dependency, fd}
@@ -42,9 +42,6 @@ most_total t row h k = omega (arith, symbol-le row k, row-le t row h)
 
 pub each_over : (n : ℕ) (t : Tableau) → IsTableauOver n t → Each (HasLength n) t
 each_over n t over row h = All-contains (HasLength n) t row over h
-
-pub over_each : (n : ℕ) (t : Tableau) → Each (HasLength n) t → IsTableauOver n t
-over_each n t each k d l = each (get_or t k d) (Contains-get_or t k d l)
 
 -- ---- what holds when the loop comes round
 pub record IsSettling (n : ℕ) (ds : List Dependency) (t s : Tableau) (changed : Bool) : Type 0 where

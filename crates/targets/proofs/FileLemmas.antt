@@ -68,3 +68,8 @@ sql_adds known table row head bytes head_is is open_is =
     (ap (λ (more : List ℕ). flat_map (sql_row (sql_head table.name table.columns)) table.rows ++ more) (is ∙ ap (λ (h : List ℕ). sql_row h row) head_is)
     ∙ flat_map_more (sql_row (sql_head table.name table.columns)) [] table.rows row))
     open_is
+
+-- ---- what the calls of a target over a folder need
+pub ruleset csv_steps = (csv_opens, csv_adds, finishes, keeps_begun, keeps_bytes, keeps_closed)
+
+pub ruleset sql_steps = (sql_opens, sql_adds, finishes, keeps_begun, keeps_bytes, keeps_closed)

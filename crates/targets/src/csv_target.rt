@@ -39,7 +39,7 @@ impl<G: Folder> CsvTarget<G> {
     }
 }
 
-#[tactic(auto, using(crate::proofs::FileLemmas::csv_opens, crate::proofs::FileLemmas::csv_adds, crate::proofs::FileLemmas::finishes, crate::proofs::FileLemmas::keeps_begun, crate::proofs::FileLemmas::keeps_bytes, crate::proofs::FileLemmas::keeps_closed))]
+#[tactic(auto, using(crate::proofs::FileLemmas::csv_steps))]
 impl<G: Folder> Target for CsvTarget<G> {
     ghost use Rattle.targets.specs.Csv.{csv_file};
     ghost use Rattle.targets.specs.FileTables.{FilesAre, OpenIs};
@@ -87,6 +87,7 @@ impl<G: Folder> Target for CsvTarget<G> {
     }
 
     fn held_files(&self) -> Option<&[HeldFile]>
+        ensures told { is_some result ≡ is_some (G.contents self.now.folder.folder) }
         ensures shown { IfSome result (λ files.
             option_map (λ folder. folder.finished) (G.contents self.now.folder.folder) ≡ Some (files_of files.now)) }
     {

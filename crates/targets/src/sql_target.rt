@@ -40,7 +40,7 @@ impl<G: Folder> SqlTarget<G> {
     }
 }
 
-#[tactic(auto, using(crate::proofs::FileLemmas::sql_opens, crate::proofs::FileLemmas::sql_adds, crate::proofs::FileLemmas::finishes, crate::proofs::FileLemmas::keeps_begun, crate::proofs::FileLemmas::keeps_bytes, crate::proofs::FileLemmas::keeps_closed))]
+#[tactic(auto, using(crate::proofs::FileLemmas::sql_steps))]
 impl<G: Folder> Target for SqlTarget<G> {
     ghost use Rattle.targets.specs.Sql.{sql_head, sql_file};
     ghost use Rattle.targets.specs.FileTables.{FilesAre, OpenIs};
@@ -88,6 +88,7 @@ impl<G: Folder> Target for SqlTarget<G> {
     }
 
     fn held_files(&self) -> Option<&[HeldFile]>
+        ensures told { is_some result ≡ is_some (G.contents self.now.folder.folder) }
         ensures shown { IfSome result (λ files.
             option_map (λ folder. folder.finished) (G.contents self.now.folder.folder) ≡ Some (files_of files.now)) }
     {

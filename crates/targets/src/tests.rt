@@ -132,8 +132,9 @@ fn tables_as_sql_files(rt: HostRuntime) -> Result<(), Fail> {
     assert!(rt; put_pairs(alloc, &mut boxed) == Ok(()));
     assert!(rt; boxed.held_tables().is_none());
     assert_eq!(rt; count(boxed.held_files()), 1);
-    let pairs =
-        b"INSERT INTO \"t1\" (\"NAME\", \"Note\") VALUES ('1', 'a,\"b\"');\nINSERT INTO \"t1\" (\"NAME\", \"Note\") VALUES ('O''Hara', X'00');\n";
+    let pairs = b"INSERT INTO \"t1\" (\"NAME\", \"Note\") VALUES ('1', 'a,\"b\"');
+INSERT INTO \"t1\" (\"NAME\", \"Note\") VALUES ('O''Hara', X'00');
+";
     assert!(rt; is_file(boxed.held_files(), 0, b"t1.sql", pairs));
     Ok(())
 }

@@ -9,7 +9,7 @@ use Rattle.attr_sets.specs.Sets.{places}
 use Rattle.attr_sets.proofs.PlacesLemmas.{Same-path, places_below, count_below-lt}
 use Rattle.dep_model.specs.Dependencies.{Dependency, fd}
 use Rattle.dep_model.specs.Implication.{Implies}
-use Rattle.wide_bcnf.specs.Pairs.{HasPair, IsFirstPair, NoneBefore}
+use Rattle.wide_bcnf.specs.Pairs.{IsFirstPair, NoneBefore}
 use Rattle.wide_bcnf.specs.WideSplits.{LeavesOut, ShrinksTo, IsCore}
 use Rattle.wide_bcnf.proofs.PairLemmas.{none_before_first, none_before_part}
 
@@ -65,16 +65,6 @@ pub way_none_before : (n : ℕ) (ds : List Dependency) (scheme rest : Places) (a
 way_none_before n ds scheme rest a b way =
     none_before_part n ds way.before rest a b (λ (k : ℕ) m. let e = way.left k in grind (arith, e, m))
     (none_before_first n ds way.before a b way.pair)
-
-pub way_ends : (n : ℕ) (ds : List Dependency) (scheme rest : Places) (a b : ℕ) → IsOnTheWay n ds scheme rest a b
-    → (HasPair n ds rest → ⊥) → IsCore n ds scheme rest a
-way_ends n ds scheme rest a b way none = record {
-  steps = way.steps;
-  before = way.before;
-  shrinks = way.shrinks;
-  last = record { second = b; pair = way.pair; rest = way.left };
-  ends = none;
-}
 
 same_rest : (before q one other : Bool) → q ≡ (before && not other) → (before && not (one || other)) ≡ (q && not one)
 same_rest true true true true e = refl

@@ -99,12 +99,6 @@ none_past n ds scheme a b low past before has =
     let first = ltb-true has.0 n (low has.0 has.2.first) in
     ⊎_elim (λ (later : a < has.0). omega arith) (λ same. omega (arith, same.0)) (before has.0 has.1 has.2)
 
-pub none_before_zero : (n : ℕ) (ds : List Dependency) (scheme : Places) → NoneBefore n ds scheme 0 0
-none_before_zero n ds scheme c d pair = elim (cases_eq c 0) [
-  | inl same ↦ inr (same, omega arith)
-  | inr other ↦ inl (omega arith)
-]
-
 pub none_before_first : (n : ℕ) (ds : List Dependency) (scheme : Places) (a b : ℕ) → IsFirstPair n ds scheme a b
     → NoneBefore n ds scheme a b
 none_before_first n ds scheme a b first c d pair = elim (cases_eq c a) [

@@ -1,18 +1,7 @@
 use crate::split_wide;
 use decomp_text::print_plan;
-use dep_model::Schema;
 use schema_reader::{MOST_TEXT_BYTES, read_schema};
-use std::alloc::Global;
-use std::process::Abort;
 use std::test::Fail;
-
-fn schema(rt: &(impl Alloc<A = Global> + Abort), text: &[u8]) -> Schema {
-    assert!(rt; text.len() <= MOST_TEXT_BYTES);
-    match read_schema(rt.alloc(), text) {
-        Ok(schema) => schema,
-        Err(refusal) => panic!(rt; "{text:?} is refused: {refusal:?}"),
-    }
-}
 
 #[test]
 fn splits_by_pairs(rt: HostRuntime) -> Result<(), Fail> {
@@ -59,7 +48,8 @@ fn splits_by_pairs(rt: HostRuntime) -> Result<(), Fail> {
         ),
     ];
     for (text, printed) in table {
-        let schema = schema(&rt, text);
+        assert!(rt; text.len() <= MOST_TEXT_BYTES);
+        let schema = read_schema(rt.alloc(), text).expect(&rt, "a schema");
         let plan = split_wide(rt.alloc(), &schema)?;
         let again = print_plan(rt.alloc(), &schema, &plan)?;
         assert!(rt; again.as_slice() == printed, "{text:?}: {again:?}");

@@ -1,0 +1,67 @@
+ghost use Rattle.std.specs.Prelude.{◌≡◌, false, None, Err, ⊤};
+ghost use Rattle.targets.specs.declared.fault.TargetFault.TheVariants.{Memory};
+
+use dep_model::{Name, Row};
+use desk_outside::HeldFile;
+use targets::{HeldTable, Target, TargetFault};
+
+/// A target that wants memory at each call. What it holds it does not tell.
+#[derive(Drop)]
+pub struct WithoutMemory {
+    // a contract that no call can meet is refused: a table could be open
+    columns: Option<usize>,
+}
+
+impl WithoutMemory {
+    /// One without an open table.
+    pub fn make() -> WithoutMemory
+        ensures closed { result.columns ≡ None }
+    {
+        WithoutMemory { columns: None }
+    }
+}
+
+impl Target for WithoutMemory {
+    ghost tells = { λ _. false };
+
+    ghost finished = { λ _ _. ⊤ };
+
+    ghost opened = { λ _ _. ⊤ };
+
+    ghost width = { λ target. target.columns };
+
+    ghost faults = { λ _. 0 };
+
+    fn begin_table(&mut self, _name: &Name, _columns: &[Name]) -> Result<(), TargetFault>
+        ensures memory { result ≡ Err Memory }
+    {
+        self.columns = None;
+        Err(TargetFault::Memory)
+    }
+
+    fn put_row(&mut self, _row: &Row) -> Result<(), TargetFault>
+        ensures memory { result ≡ Err Memory }
+    {
+        self.columns = None;
+        Err(TargetFault::Memory)
+    }
+
+    fn end_table(&mut self) -> Result<(), TargetFault>
+        ensures memory { result ≡ Err Memory }
+    {
+        self.columns = None;
+        Err(TargetFault::Memory)
+    }
+
+    fn held_tables(&self) -> Option<&[HeldTable]>
+        ensures none { result ≡ None }
+    {
+        None
+    }
+
+    fn held_files(&self) -> Option<&[HeldFile]>
+        ensures none { result ≡ None }
+    {
+        None
+    }
+}
