@@ -19,7 +19,7 @@ abbrev pub IsFunctional : Schema → Type 0
 IsFunctional s = functional_part (theory_of s) ≡ theory_of s
 
 -- why a schema has no exhibit; want of memory says nothing
-abbrev pub IsRefused : Schema → ExhibitRefusal → Type 0
-IsRefused s (NotFunctional dep) = IsFirstMvd (theory_of s) dep
-IsRefused s TooWide = IsFunctional s × (WIDEST_EXHIBITED < width_of s)
-IsRefused s Memory = Unit {0}
+abbrev pub IsRefusedExhibit : Schema → ExhibitRefusal → Type 0
+IsRefusedExhibit s (NotFunctional dep) = IsFirstMvd (theory_of s) dep
+IsRefusedExhibit s TooWide = IsFunctional s × (WIDEST_EXHIBITED < width_of s)
+IsRefusedExhibit s Memory = Unit {0}

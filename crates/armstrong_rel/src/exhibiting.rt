@@ -2,7 +2,7 @@ ghost use Rattle.std.specs.Prelude.{◌≡◌, ◌≤◌, IfOk, IfErr};
 ghost use Rattle.dep_model.specs.Schemas.{width_of, theory_of, LegalFor, TypedFor};
 ghost use Rattle.armstrong_rel.specs.declared.refusal.TheConstants.{WIDEST_EXHIBITED};
 ghost use Rattle.armstrong_rel.specs.Exhibits.{IsExhibit, IsArmstrong};
-ghost use Rattle.armstrong_rel.specs.Refusals.{IsFunctional, IsRefused};
+ghost use Rattle.armstrong_rel.specs.Refusals.{IsFunctional, IsRefusedExhibit};
 
 use crate::closures::closures;
 use crate::irreducible::irreducible_sets;
@@ -25,7 +25,7 @@ pub fn exhibit(alloc: Global, schema: &Schema) -> Result<Vec<Row>, ExhibitRefusa
     ensures typed { IfOk result (λ rows. TypedFor schema.now rows.items) }
     ensures functional { IfOk result (λ _. IsFunctional schema.now) }
     ensures narrow { IfOk result (λ _. width_of schema.now ≤ WIDEST_EXHIBITED) }
-    ensures refused { IfErr result (IsRefused schema.now) }
+    ensures refused { IfErr result (IsRefusedExhibit schema.now) }
 {
     if let Some(k) = first_mvd(schema.deps()) {
         return Err(ExhibitRefusal::NotFunctional { dep: k as u16 });

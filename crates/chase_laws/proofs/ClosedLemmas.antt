@@ -26,8 +26,8 @@ use Rattle.dep_model.proofs.ListLemmas.{map-member, Contains-map}
 use Rattle.dep_model.proofs.TwoTupleLemmas.{length-all_zeros, value_at-all_zeros}
 use Rattle.dep_model.proofs.ColumnLemmas.{length-columns_on}
 use Rattle.chase_laws.specs.Tableaux.{SymbolRow, Tableau, symbol_at, SymbolsAgree, distinguished}
-use Rattle.chase_laws.specs.Steps.{exchanged, IsClosed, IsSettled}
-use Rattle.chase_laws.specs.Rounds.{Reaches}
+use Rattle.chase_laws.specs.Steps.{exchanged, IsClosed, IsSettledTableau}
+use Rattle.chase_laws.specs.Rounds.{ReachesTableau}
 use Rattle.chase_laws.specs.Answers.{texts_of, IsGaining}
 use Rattle.chase_laws.proofs.TableauLemmas.{same_rows, symbol_at_past, length-distinguished, symbol_at-distinguished, length-exchanged, symbol_at-exchanged, tell_row, cons_here, cons_later, Same-refl}
 use Rattle.chase_laws.proofs.KeptLemmas.{Each, HasLength, HasZerosOn, reached-over, reached-most, reached-zeros}
@@ -44,7 +44,7 @@ value_at-texts_past : (row : SymbolRow) (k : ℕ) → length row ≤ k → value
 value_at-texts_past row k past = get_or_past (map decimal row) k [] (omega (arith, length-texts row, past))
 
 -- ---- closed tableaux
-closed_settled : (n : ℕ) (ds : List Dependency) (s : Tableau) → IsClosed n ds s → IsSettled ds s
+closed_settled : (n : ℕ) (ds : List Dependency) (s : Tableau) → IsClosed n ds s → IsSettledTableau ds s
 closed_settled n ds s closed u step = closed u (inl step)
 
 pub closed_exchanged : (n : ℕ) (ds : List Dependency) (s : Tableau) (x y : Places) (p q : SymbolRow) → IsClosed n ds s → Contains ds (mvd x y) → Contains s p → Contains s q → SymbolsAgree x p q
@@ -155,7 +155,7 @@ zeros_in n s over small h =
     subst (λ (row : SymbolRow). Contains s row) same p.1
 
 -- ---- the theorem
-pub closed_gaining : (n : ℕ) (ds : List Dependency) (plan : List Places) (s : Tableau) → length plan < 2 ^ 32 → Reaches n ds plan s → IsClosed n ds s → (Contains s (distinguished n) → ⊥) → IsGaining n ds plan (texts_of s)
+pub closed_gaining : (n : ℕ) (ds : List Dependency) (plan : List Places) (s : Tableau) → length plan < 2 ^ 32 → ReachesTableau n ds plan s → IsClosed n ds s → (Contains s (distinguished n) → ⊥) → IsGaining n ds plan (texts_of s)
 closed_gaining n ds plan s few reached closed lacks =
     let over = reached-over n ds plan s reached in
     let small : (row : SymbolRow) (k : ℕ) → Contains s row → symbol_at row k < 2 ^ 64 = λ (row : SymbolRow) (k : ℕ) h. omega (arith, few, reached-most n ds plan s reached row h k) in
@@ -190,7 +190,7 @@ decimal_integer v few = elim (cases_eq v 0) [
       }))
 ]
 
-pub reached_typed : (n : ℕ) (integers : Places) (ds : List Dependency) (plan : List Places) (s : Tableau) → length plan < 2 ^ 32 → Reaches n ds plan s → IsTyped (columns_on n integers) (texts_of s)
+pub reached_typed : (n : ℕ) (integers : Places) (ds : List Dependency) (plan : List Places) (s : Tableau) → length plan < 2 ^ 32 → ReachesTableau n ds plan s → IsTyped (columns_on n integers) (texts_of s)
 reached_typed n integers ds plan s few reached i d l k is_integer =
     let p = map-member (map decimal) s (get_or (texts_of s) i d) (Contains-get_or (texts_of s) i d l) in
     let low : k < n = omega (arith, slice_get_within (columns_on n integers) k Integer is_integer, length-columns_on n integers) in

@@ -10,7 +10,7 @@ use Rattle.attr_sets.proofs.PlacesLemmas.{count_below-within, count_below-lt}
 use Rattle.dep_model.specs.Dependencies.{Dependency}
 use Rattle.dep_model.proofs.ListLemmas.{map-member}
 use Rattle.chase_laws.specs.Tableaux.{SymbolRow, Tableau, SameTableau, symbol_at}
-use Rattle.chase_laws.specs.Steps.{replaced_in, IsFdStep, IsFunctionalStep, LeadsIn, Leads}
+use Rattle.chase_laws.specs.Steps.{replaced_in, IsFdStep, IsFunctionalStep, LeadsIn, LeadsTo}
 use Rattle.chase_laws.specs.Rounds.{IsMadeOf, IsNext}
 use Rattle.chase_laws.proofs.TableauLemmas.{symbol_at_past, symbol_at-exchanged, symbol_at-replaced_in, change, change_hit, change_miss, change_other, cons_cases, cons_here, cons_later}
 use Rattle.chase_laws.proofs.KeptLemmas.{Each, HasLength, HasAtMost, over-functional, most-functional}
@@ -178,7 +178,7 @@ weigh_same limit less more a b le lt few =
     let up : less * (limit + 1) ≤ more * (limit + 1) = mul-le-mul_right (limit + 1) le in
     omega (arith, up, lt, few)
 
-pub round_lowers : (n most limit : ℕ) (ds : List Dependency) (t s u : Tableau) → Each (HasLength n) t → Each (HasAtMost most) t → Leads (IsFunctionalStep ds) t s → IsNext n ds s u
+pub round_lowers : (n most limit : ℕ) (ds : List Dependency) (t s u : Tableau) → Each (HasLength n) t → Each (HasAtMost most) t → LeadsTo (IsFunctionalStep ds) t s → IsNext n ds s u
     → AllPairs (λ p q. p ≡ q → ⊥) t → length s < length u → length u ≤ limit → what_is_left n most limit u < what_is_left n most limit t
 unfolding what_is_left
 round_lowers n most limit ds t s u over low leads next differ grows few =

@@ -7,7 +7,7 @@ use Rattle.dep_model.specs.Dependencies.{Dependency}
 use Rattle.dep_model.proofs.ListLemmas.{map-member, Contains-map}
 use Rattle.chase_laws.specs.Tableaux.{SymbolRow, Tableau, SameTableau, symbol_at, scheme_row, scheme_rows, plan_tableau}
 use Rattle.chase_laws.specs.Steps.{replaced_in, exchanged, IsFdStep, IsMvdStep, IsFunctionalStep, IsStep, LeadsIn}
-use Rattle.chase_laws.specs.Rounds.{Reaches}
+use Rattle.chase_laws.specs.Rounds.{ReachesTableau}
 use Rattle.chase_laws.proofs.TableauLemmas.{symbol_at_past, length-scheme_row, symbol_at-scheme_row, length-exchanged, symbol_at-exchanged, length-replaced_in, replaced_le, cons_cases, cons_here, cons_later}
 
 -- ---- any number of steps
@@ -105,10 +105,10 @@ plan_most n i most (scheme ∷ plan) le row h =
     (cons_cases (scheme_row n scheme i) (scheme_rows n (suc i) plan) row h)
 
 -- what is reached has n symbols a row, each at most the number of schemes
-pub reached-over : (n : ℕ) (ds : List Dependency) (plan : List Places) (t : Tableau) → Reaches n ds plan t → Each (HasLength n) t
+pub reached-over : (n : ℕ) (ds : List Dependency) (plan : List Places) (t : Tableau) → ReachesTableau n ds plan t → Each (HasLength n) t
 reached-over n ds plan t reached = over-leads n ds reached.0 (plan_tableau n plan) t reached.1 (plan_over n 1 plan)
 
-pub reached-most : (n : ℕ) (ds : List Dependency) (plan : List Places) (t : Tableau) → Reaches n ds plan t → Each (HasAtMost (length plan)) t
+pub reached-most : (n : ℕ) (ds : List Dependency) (plan : List Places) (t : Tableau) → ReachesTableau n ds plan t → Each (HasAtMost (length plan)) t
 reached-most n ds plan t reached = most-leads n (length plan) ds reached.0 (plan_tableau n plan) t reached.1 (plan_most n 1 (length plan) plan (omega arith))
 
 -- ---- each scheme's row: distinguished on the scheme
@@ -149,6 +149,6 @@ plan_zeros n i (first ∷ plan) scheme h = ⊎_elim
     (w.0, cons_later (scheme_row n first i) (scheme_rows n (suc i) plan) w.0 w.1, w.2))
     (cons_cases first plan scheme h)
 
-pub reached-zeros : (n : ℕ) (ds : List Dependency) (plan : List Places) (t : Tableau) → Reaches n ds plan t → (scheme : Places) → Contains plan scheme → HasZerosOn scheme t
+pub reached-zeros : (n : ℕ) (ds : List Dependency) (plan : List Places) (t : Tableau) → ReachesTableau n ds plan t → (scheme : Places) → Contains plan scheme → HasZerosOn scheme t
 reached-zeros n ds plan t reached scheme given =
     kept (IsStep n ds) (HasZerosOn scheme) (zeros_same scheme) (zeros_step n ds scheme) reached.0 (plan_tableau n plan) t reached.1 (plan_zeros n 1 plan scheme given)

@@ -7,8 +7,8 @@ use Rattle.attr_sets.specs.Places.{Places, union}
 use Rattle.attr_sets.proofs.PlacesLemmas.{tell_some}
 use Rattle.dep_model.specs.Dependencies.{Dependency, fd, mvd}
 use Rattle.chase_laws.specs.Tableaux.{SymbolRow, Tableau, SameTableau, symbol_at, SymbolsAgree, distinguished, plan_tableau, scheme_rows}
-use Rattle.chase_laws.specs.Steps.{exchanged, replaced, IsFunctionalStep, IsMultivaluedStep, IsStep, IsClosed, IsSettled, LeadsIn, Leads}
-use Rattle.chase_laws.specs.Rounds.{Settles, IsMadeOf, IsNext, EndsRounds, InRounds, HasMoreThan, RoundsExceed}
+use Rattle.chase_laws.specs.Steps.{exchanged, replaced, IsFunctionalStep, IsMultivaluedStep, IsStep, IsClosed, IsSettledTableau, LeadsIn, LeadsTo}
+use Rattle.chase_laws.specs.Rounds.{SettlesTo, IsMadeOf, IsNext, EndsRounds, InRounds, HasMoreThan, RoundsExceed}
 use Rattle.chase_laws.proofs.TableauLemmas.{rows_tell, symbol_at_past, cons_cases, cons_here, cons_later, Same-sym, Same-trans, Same-replaced, Same-cons, length-exchanged}
 use Rattle.chase_laws.proofs.KeptLemmas.{Each, HasLength, Each-same, over-functional, plan_over}
 use Rattle.chase_laws.proofs.SettlingLemmas.{settling_unique}
@@ -96,7 +96,7 @@ rounds_unique n ds plan (suc round) t t' h h' =
     next_same n ds h.1 h'.1 t t' settled h.5 h'.5
 
 -- where a round's tableau settles to one that ends the rounds, there is no later one
-pub rounds_end : (n : ℕ) (ds : List Dependency) (plan : List Places) (round : ℕ) (t s : Tableau) → InRounds n ds plan round t → Settles ds t s → EndsRounds n ds s → (later : ℕ) (u : Tableau) → InRounds n ds plan later u → later ≤ round
+pub rounds_end : (n : ℕ) (ds : List Dependency) (plan : List Places) (round : ℕ) (t s : Tableau) → InRounds n ds plan round t → SettlesTo ds t s → EndsRounds n ds s → (later : ℕ) (u : Tableau) → InRounds n ds plan later u → later ≤ round
 rounds_end n ds plan round t s here settles ends later u h = elim (cases_lt round later) [
   | inr le ↦ le
   | inl lt ↦ absurd (after later u h lt)
@@ -149,7 +149,7 @@ no_more limit t s same few more =
     absurd (omega (arith, few, more.many, differ_le more.rows s more.differ (λ (k : ℕ) (d : SymbolRow) l. (same (get_or more.rows k d)).0 (more.each k d l))))
 
 -- ---- without a multivalued dependency
-pub functional_closed : (n : ℕ) (ds : List Dependency) (t : Tableau) → ((x y : Places) → Contains ds (mvd x y) → ⊥) → IsSettled ds t → IsClosed n ds t
+pub functional_closed : (n : ℕ) (ds : List Dependency) (t : Tableau) → ((x y : Places) → Contains ds (mvd x y) → ⊥) → IsSettledTableau ds t → IsClosed n ds t
 functional_closed n ds t none settled s (inl step) = settled s step
 functional_closed n ds t none settled s (inr step) = none step.lhs step.rhs step.given
 
@@ -331,12 +331,12 @@ functional_leads_join ds (suc more) t m s count one other =
     (suc w.0, (other.0, w.1, other.2))
 
 -- any number, after any number
-pub functional_leads : (ds : List Dependency) (more : ℕ) (t m s : Tableau) (count : ℕ) → LeadsIn (IsFunctionalStep ds) count t m → LeadsIn (IsFunctionalStep ds) more m s → Leads (IsFunctionalStep ds) t s
+pub functional_leads : (ds : List Dependency) (more : ℕ) (t m s : Tableau) (count : ℕ) → LeadsIn (IsFunctionalStep ds) count t m → LeadsIn (IsFunctionalStep ds) more m s → LeadsTo (IsFunctionalStep ds) t s
 functional_leads ds zero t m s count one other = (count, functional_leads_end ds count t m s one other)
 functional_leads ds (suc more) t m s count one other = let w = functional_leads_join ds more t m s count one other in (suc w.0, w.1)
 
 -- steps by functional dependencies are steps
-pub reaches_settled : (n : ℕ) (ds : List Dependency) (more count : ℕ) (t m s : Tableau) → LeadsIn (IsStep n ds) count t m → LeadsIn (IsFunctionalStep ds) more m s → Leads (IsStep n ds) t s
+pub reaches_settled : (n : ℕ) (ds : List Dependency) (more count : ℕ) (t m s : Tableau) → LeadsIn (IsStep n ds) count t m → LeadsIn (IsFunctionalStep ds) more m s → LeadsTo (IsStep n ds) t s
 reaches_settled n ds zero count t m s one other = (count, step_leads_end n ds count t m s one other)
 reaches_settled n ds (suc more) count t m s one other =
     let w = reaches_settled n ds more count t m other.0 one other.1 in

@@ -8,13 +8,13 @@ use Rattle.attr_sets.specs.Places.{Places}
 use Rattle.dep_model.specs.Dependencies.{Dependency, fd}
 use Rattle.dep_model.proofs.ListLemmas.{map-member, Contains-map}
 use Rattle.chase_laws.specs.Tableaux.{SymbolRow, Tableau, SameTableau, symbol_at, SymbolsAgree}
-use Rattle.chase_laws.specs.Steps.{replaced_in, replaced, IsFdStep, IsFunctionalStep, IsSettled, LeadsIn}
-use Rattle.chase_laws.specs.Rounds.{Settles}
+use Rattle.chase_laws.specs.Steps.{replaced_in, replaced, IsFdStep, IsFunctionalStep, IsSettledTableau, LeadsIn}
+use Rattle.chase_laws.specs.Rounds.{SettlesTo}
 use Rattle.chase_laws.proofs.TableauLemmas.{same_rows, symbol_at_past, length-replaced_in, change, change_hit, change_miss, change_other, symbol_at-replaced_in, Same-refl, Same-trans}
 use Rattle.chase_laws.proofs.KeptLemmas.{Each, HasLength}
 
 -- ---- a settled tableau obeys each functional dependency
-pub settled_agrees : (ds : List Dependency) (t : Tableau) (x y : Places) (p q : SymbolRow) → IsSettled ds t → Contains ds (fd x y) → Contains t p → Contains t q → SymbolsAgree x p q → SymbolsAgree y p q
+pub settled_agrees : (ds : List Dependency) (t : Tableau) (x y : Places) (p q : SymbolRow) → IsSettledTableau ds t → Contains ds (fd x y) → Contains t p → Contains t q → SymbolsAgree x p q → SymbolsAgree y p q
 settled_agrees ds t x y p q settled given p_in q_in agree k m = elim (cases_order (symbol_at p k) (symbol_at q k)) [
   | inl same ↦ same
   | inr differ ↦ elim differ [
@@ -34,13 +34,13 @@ settled_agrees ds t x y p q settled given p_in q_in agree k m = elim (cases_orde
 ]
 
 -- and one that obeys each is settled
-pub settled_from : (ds : List Dependency) (t : Tableau) → ((x y : Places) (p q : SymbolRow) → Contains ds (fd x y) → Contains t p → Contains t q → SymbolsAgree x p q → SymbolsAgree y p q) → IsSettled ds t
+pub settled_from : (ds : List Dependency) (t : Tableau) → ((x y : Places) (p q : SymbolRow) → Contains ds (fd x y) → Contains t p → Contains t q → SymbolsAgree x p q → SymbolsAgree y p q) → IsSettledTableau ds t
 settled_from ds t obeys s step =
     let same = obeys step.lhs step.rhs step.step.first step.step.second step.given step.step.first_in step.step.second_in step.step.agree step.step.place step.step.member in
     absurd (omega (arith, same, step.step.differ))
 
 -- equal tableaux are settled alike
-pub settled-same : (ds : List Dependency) (t s : Tableau) → SameTableau t s → IsSettled ds t → IsSettled ds s
+pub settled-same : (ds : List Dependency) (t s : Tableau) → SameTableau t s → IsSettledTableau ds t → IsSettledTableau ds s
 settled-same ds t s same settled = settled_from ds s (λ x y p q given p_in q_in agree. settled_agrees ds t x y p q settled given ((same p).1 p_in) ((same q).1 q_in) agree)
 
 -- ---- renamings of symbols
@@ -169,7 +169,7 @@ renaming n ds (suc count) t s over leads =
 
 -- ---- uniqueness
 -- a renaming to a settled tableau respects the dependencies
-settled_respects : (n : ℕ) (ds : List Dependency) (t s : Tableau) (f : ℕ → ℕ → ℕ) → Each (HasLength n) t → IsRenaming n ds t s f → IsSettled ds s → Respects ds t f
+settled_respects : (n : ℕ) (ds : List Dependency) (t s : Tableau) (f : ℕ → ℕ → ℕ) → Each (HasLength n) t → IsRenaming n ds t s f → IsSettledTableau ds s → Respects ds t f
 settled_respects n ds t s f over is settled x y p q given p_in q_in agree k in_y = elim (cases_lt k n) [
   | inr past ↦ ap (λ (v : ℕ). f k v) (symbol_at_past p k (omega (arith, over p p_in, past)) ∙ sym (symbol_at_past q k (omega (arith, over q q_in, past))))
   | inl low ↦
@@ -193,7 +193,7 @@ within_other n ds t s u f g to_s to_u same row h =
     subst (λ (r : SymbolRow). Contains u r) equal (to_u.from p.0 p.1)
 
 -- settled tableaux that steps by functional dependencies lead to are the same
-pub settling_unique : (n : ℕ) (ds : List Dependency) (t t' s s' : Tableau) → Each (HasLength n) t → SameTableau t t' → Settles ds t s → Settles ds t' s' → SameTableau s s'
+pub settling_unique : (n : ℕ) (ds : List Dependency) (t t' s s' : Tableau) → Each (HasLength n) t → SameTableau t t' → SettlesTo ds t s → SettlesTo ds t' s' → SameTableau s s'
 settling_unique n ds t t' s s' over same one other =
     let f = renaming n ds one.leads.0 t s over one.leads.1 in
     let g = renaming n ds other.leads.0 t s' over (leads_start (IsFunctionalStep ds) other.leads.0 t t' s' same other.leads.1) in

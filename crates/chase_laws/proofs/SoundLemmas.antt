@@ -17,7 +17,7 @@ use Rattle.dep_model.proofs.ListLemmas.{map-member}
 use Rattle.dep_model.proofs.SchemeLemmas.{value_in-project_tuple}
 use Rattle.chase_laws.specs.Tableaux.{SymbolRow, Tableau, symbol_at, SymbolsAgree, distinguished, scheme_row, scheme_rows, plan_tableau}
 use Rattle.chase_laws.specs.Steps.{replaced_in, exchanged, IsFunctionalStep, IsMultivaluedStep, IsStep}
-use Rattle.chase_laws.specs.Rounds.{Reaches}
+use Rattle.chase_laws.specs.Rounds.{ReachesTableau}
 use Rattle.chase_laws.proofs.TableauLemmas.{symbol_at_past, symbol_at-distinguished, length-scheme_row, symbol_at-scheme_row, symbol_at-exchanged, length-exchanged, length-replaced_in, replaced_image, cons_cases}
 use Rattle.chase_laws.proofs.KeptLemmas.{kept, Each, Each-same, Each-fd, Each-mvd}
 
@@ -152,7 +152,7 @@ start_images n v ds r t legal at_zero i (scheme ∷ plan) (u ∷ us) at_later al
     (cons_cases (scheme_row n scheme i) (scheme_rows n (suc i) plan) row h)
 
 -- ---- the theorem
-gained_in : (n : ℕ) (ds : List Dependency) (plan : List Places) (s : Tableau) → Reaches n ds plan s → Contains s (distinguished n) → (r : Relation) → IsLegal n ds r → (t : Tuple)
+gained_in : (n : ℕ) (ds : List Dependency) (plan : List Places) (s : Tableau) → ReachesTableau n ds plan s → Contains s (distinguished n) → (r : Relation) → IsLegal n ds r → (t : Tuple)
     → InJoin n plan (projections plan r) t → Contains r t
 gained_in n ds plan s reached given r legal t joined =
     let us = stand r t plan joined.in_each in
@@ -163,5 +163,5 @@ gained_in n ds plan s reached given r legal t joined =
     value_at-image n v (distinguished n) k l ∙ ap (λ (i : ℕ). v k i) (symbol_at-distinguished n k l) ∙ valuation-zero t us.0 k) in
     subst (λ (u : Tuple). Contains r u) same (all (distinguished n) given).1
 
-pub lossless_from_distinguished : (n : ℕ) (ds : List Dependency) (plan : List Places) (s : Tableau) → Covers n plan → Reaches n ds plan s → Contains s (distinguished n) → IsLossless n ds plan
+pub lossless_from_distinguished : (n : ℕ) (ds : List Dependency) (plan : List Places) (s : Tableau) → Covers n plan → ReachesTableau n ds plan s → Contains s (distinguished n) → IsLossless n ds plan
 lossless_from_distinguished n ds plan s covers reached given = record { covers = covers; gains_none = gained_in n ds plan s reached given }

@@ -10,7 +10,7 @@ use Rattle.dep_model.specs.Projections.{InJoin, projections}
 use Rattle.dep_model.specs.TwoTuples.{all_zeros}
 use Rattle.chase_laws.specs.Tableaux.{SymbolRow, Tableau}
 use Rattle.chase_laws.specs.Steps.{IsClosed}
-use Rattle.chase_laws.specs.Rounds.{Reaches}
+use Rattle.chase_laws.specs.Rounds.{ReachesTableau}
 
 -- a tableau as a relation: each symbol as a decimal text
 abbrev pub texts_of : Tableau → Relation
@@ -31,7 +31,7 @@ pub record IsClosedTableau (n : ℕ) (ds : List Dependency) (plan : List Places)
     (r : Relation) : Type 0 where
   pub symbols : Tableau
   pub texts : r ≡ texts_of symbols
-  pub reached : Reaches n ds plan symbols
+  pub reached : ReachesTableau n ds plan symbols
   pub closed : IsClosed n ds symbols
   pub few : length symbols ≤ limit
   pub ascending : AllPairs RowBefore symbols

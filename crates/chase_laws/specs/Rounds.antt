@@ -2,16 +2,16 @@ use Rattle.std.specs.Prelude.{◌≡◌, ℕ, ◌<◌, ◌↔◌, ◌⊎◌, zer
 use Rattle.attr_sets.specs.Places.{Places, union}
 use Rattle.dep_model.specs.Dependencies.{Dependency, mvd}
 use Rattle.chase_laws.specs.Tableaux.{SymbolRow, Tableau, SameTableau, SymbolsAgree, distinguished, plan_tableau}
-use Rattle.chase_laws.specs.Steps.{exchanged, IsFunctionalStep, IsStep, IsClosed, IsSettled, Leads}
+use Rattle.chase_laws.specs.Steps.{exchanged, IsFunctionalStep, IsStep, IsClosed, IsSettledTableau, LeadsTo}
 
 -- a tableau that comes from the plan's by any number of steps in any order
-abbrev pub Reaches : ℕ → List Dependency → List Places → Tableau → Type 0
-Reaches n ds plan t = Leads (IsStep n ds) (plan_tableau n plan) t
+abbrev pub ReachesTableau : ℕ → List Dependency → List Places → Tableau → Type 0
+ReachesTableau n ds plan t = LeadsTo (IsStep n ds) (plan_tableau n plan) t
 
 -- steps by functional dependencies lead from one tableau to the other, and none changes that
-pub record Settles (ds : List Dependency) (t s : Tableau) : Type 0 where
-  pub leads : Leads (IsFunctionalStep ds) t s
-  pub settled : IsSettled ds s
+pub record SettlesTo (ds : List Dependency) (t s : Tableau) : Type 0 where
+  pub leads : LeadsTo (IsFunctionalStep ds) t s
+  pub settled : IsSettledTableau ds s
 
 -- a row that one step by a multivalued dependency makes of two rows
 pub record IsMadeOf (n : ℕ) (ds : List Dependency) (t : Tableau) (row : SymbolRow) : Type 0 where
@@ -39,7 +39,7 @@ EndsRounds n ds t = Contains t (distinguished n) ⊎ IsClosed n ds t
 abbrev pub InRounds : ℕ → List Dependency → List Places → ℕ → Tableau → Type 0
 InRounds n ds plan zero t = SameTableau (plan_tableau n plan) t
 InRounds n ds plan (suc round) t =
-    (before settled : Tableau) × InRounds n ds plan round before × Settles ds before settled
+    (before settled : Tableau) × InRounds n ds plan round before × SettlesTo ds before settled
     × (EndsRounds n ds settled → ⊥) × IsNext n ds settled t
 
 -- there are more than so many rows in a tableau, equal ones counted once

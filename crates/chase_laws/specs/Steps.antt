@@ -63,8 +63,8 @@ abbrev pub IsClosed : ℕ → List Dependency → Tableau → Type 0
 IsClosed n ds t = (s : Tableau) → IsStep n ds t s → ⊥
 
 -- no step by a functional dependency changes the tableau
-abbrev pub IsSettled : List Dependency → Tableau → Type 0
-IsSettled ds t = (s : Tableau) → IsFunctionalStep ds t s → ⊥
+abbrev pub IsSettledTableau : List Dependency → Tableau → Type 0
+IsSettledTableau ds t = (s : Tableau) → IsFunctionalStep ds t s → ⊥
 
 -- so many steps of a kind lead from one tableau to the other
 abbrev pub LeadsIn : (Tableau → Tableau → Type 0) → ℕ → Tableau → Tableau → Type 0
@@ -72,5 +72,5 @@ LeadsIn Step zero t s = SameTableau t s
 LeadsIn Step (suc count) t s = (m : Tableau) × LeadsIn Step count t m × Step m s
 
 -- any number of steps, in any order
-abbrev pub Leads : (Tableau → Tableau → Type 0) → Tableau → Tableau → Type 0
-Leads Step t s = (count : ℕ) × LeadsIn Step count t s
+abbrev pub LeadsTo : (Tableau → Tableau → Type 0) → Tableau → Tableau → Type 0
+LeadsTo Step t s = (count : ℕ) × LeadsIn Step count t s

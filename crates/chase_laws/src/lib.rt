@@ -11,13 +11,13 @@ ghost use Rattle.dep_model.specs.Columns.{columns_on, IsTyped};
 ghost use Rattle.dep_model.specs.Projections.{Covers, IsLossless};
 ghost use Rattle.chase_laws.specs.Tableaux.{Tableau, SameTableau, IsTableauOver, distinguished};
 ghost use Rattle.chase_laws.specs.Steps.{IsClosed};
-ghost use Rattle.chase_laws.specs.Rounds.{Reaches, Settles, EndsRounds, InRounds, RoundsExceed};
+ghost use Rattle.chase_laws.specs.Rounds.{ReachesTableau, SettlesTo, EndsRounds, InRounds, RoundsExceed};
 ghost use Rattle.chase_laws.specs.Answers.{texts_of, IsGaining};
 
 /// What a tableau settles to does not depend on the order of the steps.
 pub fn settling_is_unique()
-    ensures law { (n : ℕ) (ds : List Dependency) (t s u : Tableau) → IsTableauOver n t → Settles ds t s
-        → Settles ds t u → SameTableau s u }
+    ensures law { (n : ℕ) (ds : List Dependency) (t s u : Tableau) → IsTableauOver n t → SettlesTo ds t s
+        → SettlesTo ds t u → SameTableau s u }
 {}
 
 /// Each round has one tableau.
@@ -29,7 +29,7 @@ pub fn rounds_are_unique()
 /// No round comes after one whose tableau settles to one that ends the rounds.
 pub fn rounds_come_to_an_end()
     ensures law { (n : ℕ) (ds : List Dependency) (plan : List Places) (round : ℕ) (t s : Tableau)
-        → InRounds n ds plan round t → Settles ds t s → EndsRounds n ds s
+        → InRounds n ds plan round t → SettlesTo ds t s → EndsRounds n ds s
         → (later : ℕ) (u : Tableau) → InRounds n ds plan later u → later ≤ round }
 {}
 
@@ -43,13 +43,13 @@ pub fn functional_rounds_stay_small()
 /// A plan from whose tableau the row of distinguished symbols is reached is lossless.
 pub fn distinguished_row_is_lossless()
     ensures law { (n : ℕ) (ds : List Dependency) (plan : List Places) (s : Tableau) → Covers n plan
-        → Reaches n ds plan s → Contains s (distinguished n) → IsLossless n ds plan }
+        → ReachesTableau n ds plan s → Contains s (distinguished n) → IsLossless n ds plan }
 {}
 
 /// A closed tableau that is reached and lacks this row is, as texts, a legal relation that gains a tuple.
 pub fn closed_tableau_gains()
     ensures law { (n : ℕ) (ds : List Dependency) (plan : List Places) (s : Tableau)
-        → length plan < 2 ^ 32 → Reaches n ds plan s → IsClosed n ds s
+        → length plan < 2 ^ 32 → ReachesTableau n ds plan s → IsClosed n ds s
         → (Contains s (distinguished n) → ⊥) → IsGaining n ds plan (texts_of s) }
 {}
 
@@ -62,6 +62,6 @@ pub fn gaining_is_lossy()
 /// The texts of a tableau that is reached fit columns of either type.
 pub fn texts_are_typed()
     ensures law { (n : ℕ) (integers : Places) (ds : List Dependency) (plan : List Places) (s : Tableau)
-        → length plan < 2 ^ 32 → Reaches n ds plan s
+        → length plan < 2 ^ 32 → ReachesTableau n ds plan s
         → IsTyped (columns_on n integers) (texts_of s) }
 {}

@@ -14,7 +14,7 @@ use Rattle.schema_reader.specs.declared.text.TheConstants.{MOST_TEXT_BYTES}
 use Rattle.proof_grammar.specs.declared.refusal.ProofRefusal.{ProofRefusal}
 use Rattle.proof_grammar.specs.declared.refusal.ProofRefusalKind.{ProofRefusalKind}
 use Rattle.proof_grammar.specs.Complaints.{Complaint, LineComplaint, complaint_of}
-use Rattle.proof_grammar.specs.Refusals.{IsRefused, RefusesProof}
+use Rattle.proof_grammar.specs.Refusals.{IsRefusedCertificate, RefusesProof}
 use Rattle.proof_text.specs.declared.text.TheConstants.{MOST_PROOF_BYTES}
 use Rattle.decomp_text.specs.declared.reading.TheConstants.{MOST_PLAN_BYTES}
 use Rattle.plan_grammar.specs.Complaints.{RefusesPlan}
@@ -52,7 +52,7 @@ pub proof_stop : (r : Reading) (s : Schema) (name bytes : List ℕ) (refusal : P
     → RefusesProof s bytes refusal → StopsAs (TellsProof (names_of s) name refusal) stop → StopsAs (ProofStops r s name) stop
 proof_stop r s name bytes refusal stop content refuses tells = λ reply is.
     let told = tells reply is in
-    let of : Option Complaint → Type 0 = λ o. MatchOption o (Unit {0}) (λ c. IsRefused s bytes (record { line = refusal.line; complaint = c })) in
+    let of : Option Complaint → Type 0 = λ o. MatchOption o (Unit {0}) (λ c. IsRefusedCertificate s bytes (record { line = refusal.line; complaint = c })) in
     let e : LineComplaint = record { line = refusal.line; complaint = told.0 } in
     inr (e, record { bytes = bytes; content = content; refused = subst of told.1 refuses }, told.2)
 

@@ -13,7 +13,7 @@ use Rattle.dep_model.specs.declared.column.Column.{Column}
 use Rattle.dep_model.specs.declared.column.Column.TheVariants.{Text, Integer}
 use Rattle.dep_model.specs.declared.dep.Dep.{Dep}
 use Rattle.dep_model.specs.declared.schema.Schema.{Schema}
-use Rattle.fd_discovery.specs.Headers.{IsHeader, field_at}
+use Rattle.fd_discovery.specs.Headers.{IsColumnHeader, field_at}
 use Rattle.schema_grammar.specs.Printing.{declared_text, declaring_lines, is_integer}
 use Rattle.desk_cli.specs.Discoveries.{found_text}
 
@@ -21,7 +21,7 @@ use Rattle.desk_cli.specs.Discoveries.{found_text}
 no_place : (p : List ℕ → Bool) (names : List (List ℕ)) (i : ℕ) (d : List ℕ) → position p names ≡ None → i < length names → p (get_or names i d) ≡ false
 no_place p names i d none low = fails_before_first p names i d (grind (arith, common_steps, none, low))
 
-names_apart : (names : List (List ℕ)) → IsHeader names → (i j : ℕ) (d : List ℕ) → i < j → j < length names → same_name (get_or names i d) (get_or names j d) ≡ false
+names_apart : (names : List (List ℕ)) → IsColumnHeader names → (i j : ℕ) (d : List ℕ) → i < j → j < length names → same_name (get_or names i d) (get_or names j d) ≡ false
 names_apart names header i j d before within =
     let at = get_or names j [] in
     let few : length (take j names) ≡ j = length-take-le j names (omega (arith, within)) in
@@ -30,7 +30,7 @@ names_apart names header i j d before within =
     subst (λ (b : List ℕ). same_name (get_or names i d) b ≡ false) (get_or_default names j [] d within)
     (subst (λ (a : List ℕ). same_name a at ≡ false) (get_or-take j names i d before) apart)
 
-pub headed_schema : (names : List (List ℕ)) (deps : List Dep) (lines : List ℕ) → IsHeader names → 0 < length names → deps ≡ [] → lines ≡ [] → IsSchema names deps lines
+pub headed_schema : (names : List (List ℕ)) (deps : List Dep) (lines : List ℕ) → IsColumnHeader names → 0 < length names → deps ≡ [] → lines ≡ [] → IsSchema names deps lines
 headed_schema names deps lines header some none empty = record {
   some_names = some;
   few_names = omega (arith, header.few);

@@ -33,7 +33,7 @@ task_form (task.SqlMigratePlan plan name) = form.sql_migrate_plan plan.now name.
 task_form (task.Draw normal) = form.draw normal
 task_form (task.DrawPlan plan) = form.draw_plan plan.now
 
-abbrev pub command_form : Command → form.Form
+abbrev pub command_form : Command → form.CommandForm
 command_form (OverSchema schema task) = form.over_schema schema.now (task_form task)
 command_form (Discover file) = form.discover file.now
 command_form (Sample persons) = form.sample persons.number

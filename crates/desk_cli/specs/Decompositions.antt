@@ -12,7 +12,7 @@ use Rattle.form_tests.specs.declared.forms.Form.TheVariants.{Third, Bcnf, Fourth
 use Rattle.form_tests.specs.Chosen.{IsInForm}
 use Rattle.plan_grammar.specs.Printing.{plan_text}
 use Rattle.split_forms.specs.Refusals.{IsWithinLimits}
-use Rattle.split_forms.specs.Splitting.{IsSplitPlan, IsTooWideAt, HasTooMany}
+use Rattle.split_forms.specs.Splitting.{IsSplitPlan, IsTooWideAt, HasTooManySchemes}
 use Rattle.wide_bcnf.specs.WideSplits.{IsWidePlan}
 use Rattle.desk_cli.specs.declared.decomposition.TheConstants.{MOST_SPLIT_SCHEMES}
 use Rattle.desk_cli.specs.declared.status.Status.TheVariants.{Yes, Refused}
@@ -48,7 +48,7 @@ abbrev pub SplitStops : Schema → Form → Allowed
 SplitStops schema form answer =
     ((scheme : Places) × IsTooWideAt (width_of schema) (theory_of schema) form MOST_SPLIT_SCHEMES scheme
     × Says Refused (too_wide_text (names_of schema) scheme) answer)
-    ⊎ (HasTooMany (width_of schema) (theory_of schema) form MOST_SPLIT_SCHEMES
+    ⊎ (HasTooManySchemes (width_of schema) (theory_of schema) form MOST_SPLIT_SCHEMES
     × Says Refused too_many_schemes_text answer)
 
 -- how the search for a plan in a normal form ends a command

@@ -9,7 +9,7 @@ use Rattle.dep_model.specs.Tuples.{Relation}
 use Rattle.fd_discovery.specs.declared.headed.Headed.{Headed}
 use Rattle.fd_discovery.specs.declared.refusal.DiscoverRefusal.{DiscoverRefusal}
 use Rattle.fd_discovery.specs.declared.refusal.DiscoverRefusal.TheVariants as refusal
-use Rattle.fd_discovery.specs.Headings.{IsHeaded, IsRefused, names_under, rows_under}
+use Rattle.fd_discovery.specs.Headings.{IsHeaded, IsRefusedDiscovery, names_under, rows_under}
 use Rattle.fd_discovery.specs.Minimal.{AreAllMinimal}
 use Rattle.schema_grammar.specs.Printing.{words_text, dependency_text, lines_text}
 use Rattle.desk_cli.specs.declared.rows.TheConstants.{MOST_CSV_BYTES}
@@ -55,7 +55,7 @@ found_text names ds = lines_text ((codes "attributes" ++ words_text names) ∷ m
 pub record IsRefusedHeaded (r : Reading) (name : List ℕ) (why : DiscoverRefusal) : Type 0 where
   pub bytes : List ℕ
   pub content : IsContent r name MOST_CSV_BYTES bytes
-  pub refused : IsRefused (records_of bytes) why
+  pub refused : IsRefusedDiscovery (records_of bytes) why
 
 -- the text of a file has a header that names columns, and these rows
 pub record IsHeadedFile (r : Reading) (name : List ℕ) (headed : Headed) : Type 0 where

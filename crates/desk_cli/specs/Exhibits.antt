@@ -2,7 +2,7 @@
 use Rattle.std.specs.Prelude.{◌⊎◌, ◌≤◌, ℕ, List, ◌++◌, codes, slice_get}
 use Rattle.armstrong_rel.specs.declared.refusal.ExhibitRefusal.TheVariants.{NotFunctional, TooWide}
 use Rattle.armstrong_rel.specs.Exhibits.{IsExhibit, IsArmstrong}
-use Rattle.armstrong_rel.specs.Refusals.{IsFunctional, IsRefused}
+use Rattle.armstrong_rel.specs.Refusals.{IsFunctional, IsRefusedExhibit}
 use Rattle.armstrong_rel.specs.declared.refusal.TheConstants.{WIDEST_EXHIBITED}
 use Rattle.csv_rows.specs.RowsText.{rows_text}
 use Rattle.dep_model.specs.Schemas.{names_of, width_of, theory_of, lines_of, universe_of}
@@ -32,5 +32,5 @@ pub record IsExample (schema : Schema) (rows : Relation) : Type 0 where
 abbrev pub Exhibits : Schema → Allowed
 Exhibits schema answer =
     ((rows : Relation) × IsExample schema rows × Says Yes (rows_text (names_of schema) rows) answer)
-    ⊎ (((dep : ℕ) × IsRefused schema (NotFunctional dep) × Says Refused (multivalued_text schema dep) answer)
-    ⊎ (IsRefused schema TooWide × Says Refused (too_wide_text (names_of schema) (universe_of schema)) answer))
+    ⊎ (((dep : ℕ) × IsRefusedExhibit schema (NotFunctional dep) × Says Refused (multivalued_text schema dep) answer)
+    ⊎ (IsRefusedExhibit schema TooWide × Says Refused (too_wide_text (names_of schema) (universe_of schema)) answer))

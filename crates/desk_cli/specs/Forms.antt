@@ -61,36 +61,36 @@ pub data Task : Type 0 where
   draw_plan : List ℕ → Task
 
 -- a command
-pub data Form : Type 0 where
+pub data CommandForm : Type 0 where
   -- a schema file, and what is asked of it
-  over_schema : List ℕ → Task → Form
+  over_schema : List ℕ → Task → CommandForm
   -- the functional dependencies that the rows of a file obey
-  discover : List ℕ → Form
+  discover : List ℕ → CommandForm
   -- so many invented persons, as tables in fourth normal form
-  sample : ℕ → Form
+  sample : ℕ → CommandForm
   -- the commands, in a few lines
-  help : Form
+  help : CommandForm
   -- the number of the release
-  version : Form
+  version : CommandForm
 
 -- ---- words after those of a command
 -- a schema alone
-unfoldable pub schema_alone : Task → List (List ℕ) → Option Form
+unfoldable pub schema_alone : Task → List (List ℕ) → Option CommandForm
 schema_alone task (schema ∷ []) = Some (over_schema schema task)
 schema_alone task _ = None
 
 -- a schema and one word more
-unfoldable pub schema_and : (List ℕ → Task) → List (List ℕ) → Option Form
+unfoldable pub schema_and : (List ℕ → Task) → List (List ℕ) → Option CommandForm
 schema_and task (schema ∷ word ∷ []) = Some (over_schema schema (task word))
 schema_and task _ = None
 
 -- a schema and two words more
-unfoldable pub schema_and_two : (List ℕ → List ℕ → Task) → List (List ℕ) → Option Form
+unfoldable pub schema_and_two : (List ℕ → List ℕ → Task) → List (List ℕ) → Option CommandForm
 schema_and_two task (schema ∷ first ∷ second ∷ []) = Some (over_schema schema (task first second))
 schema_and_two task _ = None
 
 -- two schemas
-unfoldable pub two_schemas : (List ℕ → List ℕ → Task) → List (List ℕ) → Option Form
+unfoldable pub two_schemas : (List ℕ → List ℕ → Task) → List (List ℕ) → Option CommandForm
 two_schemas task (schema ∷ other ∷ []) = Some (over_schema schema (task schema other))
 two_schemas task _ = None
 
@@ -99,17 +99,17 @@ abbrev pub are_few : List (List ℕ) → Bool
 are_few words = nat_lt 0 (length words) && nat_lt (length words) 65
 
 -- a schema and from one to 64 words more
-unfoldable pub schema_and_few : (List (List ℕ) → Task) → List (List ℕ) → Option Form
+unfoldable pub schema_and_few : (List (List ℕ) → Task) → List (List ℕ) → Option CommandForm
 schema_and_few task [] = None
 schema_and_few task (schema ∷ words) = if are_few words then Some (over_schema schema (task words)) else None
 
 -- one word
-unfoldable pub word_alone : (List ℕ → Form) → List (List ℕ) → Option Form
+unfoldable pub word_alone : (List ℕ → CommandForm) → List (List ℕ) → Option CommandForm
 word_alone form (word ∷ []) = Some (form word)
 word_alone form _ = None
 
 -- no word
-unfoldable pub alone : Form → List (List ℕ) → Option Form
+unfoldable pub alone : CommandForm → List (List ℕ) → Option CommandForm
 alone form [] = Some form
 alone form _ = None
 
@@ -123,18 +123,18 @@ normal_form word =
     else None
 
 -- so many persons
-unfoldable pub persons_alone : List (List ℕ) → Option Form
+unfoldable pub persons_alone : List (List ℕ) → Option CommandForm
 persons_alone (word ∷ []) = if is_count word then Some (sample (number_of word)) else None
 persons_alone _ = None
 
 -- ---- the words of a command
 -- after `check form`
-unfoldable pub after_check_form : List (List ℕ) → Option Form
+unfoldable pub after_check_form : List (List ℕ) → Option CommandForm
 after_check_form [] = None
 after_check_form (what ∷ rest) = option_and_then (λ form. schema_and (check_form form) rest) (normal_form what)
 
 -- after `check`
-unfoldable pub after_check : List (List ℕ) → Option Form
+unfoldable pub after_check : List (List ℕ) → Option CommandForm
 after_check [] = None
 after_check (what ∷ rest) =
     if bytes_eq what (codes "proof") then schema_and_two check_proof rest
@@ -146,13 +146,13 @@ after_check (what ∷ rest) =
     else None
 
 -- after `keys`
-unfoldable pub after_keys : List (List ℕ) → Option Form
+unfoldable pub after_keys : List (List ℕ) → Option CommandForm
 after_keys (schema ∷ []) = Some (over_schema schema keys)
 after_keys (schema ∷ plan ∷ []) = Some (over_schema schema (keys_of_plan plan))
 after_keys _ = None
 
 -- after `split`
-unfoldable pub after_split : List (List ℕ) → Option Form
+unfoldable pub after_split : List (List ℕ) → Option CommandForm
 after_split [] = None
 after_split (what ∷ rest) =
     if bytes_eq what (codes "bcnf") then schema_alone (split Bcnf) rest
@@ -161,28 +161,28 @@ after_split (what ∷ rest) =
     else None
 
 -- after `ddl`
-unfoldable pub after_ddl : List (List ℕ) → Option Form
+unfoldable pub after_ddl : List (List ℕ) → Option CommandForm
 after_ddl [] = None
 after_ddl (what ∷ rest) =
     if bytes_eq what (codes "plan") then schema_and ddl_plan rest
     else option_and_then (λ form. schema_alone (ddl form) rest) (normal_form what)
 
 -- after `migrate`
-unfoldable pub after_migrate : List (List ℕ) → Option Form
+unfoldable pub after_migrate : List (List ℕ) → Option CommandForm
 after_migrate [] = None
 after_migrate (what ∷ rest) =
     if bytes_eq what (codes "plan") then schema_and_two migrate_plan rest
     else option_and_then (λ form. schema_and (migrate form) rest) (normal_form what)
 
 -- after `sql migrate`
-unfoldable pub after_sql_migrate : List (List ℕ) → Option Form
+unfoldable pub after_sql_migrate : List (List ℕ) → Option CommandForm
 after_sql_migrate [] = None
 after_sql_migrate (what ∷ rest) =
     if bytes_eq what (codes "plan") then schema_and_two sql_migrate_plan rest
     else option_and_then (λ form. schema_and (sql_migrate form) rest) (normal_form what)
 
 -- after `sql`
-unfoldable pub after_sql : List (List ℕ) → Option Form
+unfoldable pub after_sql : List (List ℕ) → Option CommandForm
 after_sql [] = None
 after_sql (what ∷ rest) =
     if bytes_eq what (codes "check") then schema_and sql_check rest
@@ -190,14 +190,14 @@ after_sql (what ∷ rest) =
     else None
 
 -- after `draw`
-unfoldable pub after_draw : List (List ℕ) → Option Form
+unfoldable pub after_draw : List (List ℕ) → Option CommandForm
 after_draw [] = None
 after_draw (what ∷ rest) =
     if bytes_eq what (codes "plan") then schema_and draw_plan rest
     else option_and_then (λ form. schema_alone (draw form) rest) (normal_form what)
 
 -- what is asked of a schema
-unfoldable pub form_over_schema : List ℕ → List (List ℕ) → Option Form
+unfoldable pub form_over_schema : List ℕ → List (List ℕ) → Option CommandForm
 form_over_schema verb rest =
     if bytes_eq verb (codes "implies") then schema_and implies rest
     else if bytes_eq verb (codes "check") then after_check rest
@@ -215,7 +215,7 @@ form_over_schema verb rest =
     else None
 
 -- the command that the words form, if they form one
-unfoldable pub form_of : List (List ℕ) → Option Form
+unfoldable pub form_of : List (List ℕ) → Option CommandForm
 form_of [] = None
 form_of (verb ∷ rest) =
     if bytes_eq verb (codes "discover") then word_alone discover rest

@@ -29,5 +29,5 @@ Decided schema goal answer =
     × Says No (no_text (names_of schema) (two_tuples (width_of schema) agreement)) answer))
 
 -- of a goal
-abbrev pub Implies : Schema → List ℕ → Allowed
-Implies schema goal = WithGoal schema goal (Decided schema)
+abbrev pub DecidesGoal : Schema → List ℕ → Allowed
+DecidesGoal schema goal = WithGoal schema goal (Decided schema)

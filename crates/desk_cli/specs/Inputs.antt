@@ -20,7 +20,7 @@ use Rattle.proof_text.specs.declared.text.TheConstants.{MOST_PROOF_BYTES}
 use Rattle.proof_grammar.specs.declared.refusal.ProofRefusal.{ProofRefusal}
 use Rattle.proof_grammar.specs.Complaints.{LineComplaint, Complaint, complaint_of}
 use Rattle.proof_grammar.specs.Spelling.{SpellsWithin}
-use Rattle.proof_grammar.specs.Refusals.{IsRefused}
+use Rattle.proof_grammar.specs.Refusals.{IsRefusedCertificate}
 use Rattle.desk_cli.specs.declared.status.Status.TheVariants.{Refused, CannotRead}
 use Rattle.desk_cli.specs.Answers.{Allowed, Says, With}
 use Rattle.desk_cli.specs.ProofTexts.{proof_refusal_text}
@@ -107,7 +107,7 @@ pub record IsRefusedProof (r : Reading) (schema : Schema) (name : List ℕ) (ref
     : Type 0 where
   pub bytes : List ℕ
   pub content : IsContent r name MOST_PROOF_BYTES bytes
-  pub refused : IsRefused schema bytes refusal
+  pub refused : IsRefusedCertificate schema bytes refusal
 
 -- the text of a file spells this tree, within the limits of a certificate
 pub record IsProofFile (r : Reading) (schema : Schema) (name : List ℕ) (tree : Tree) : Type 0 where

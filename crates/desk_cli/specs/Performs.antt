@@ -12,9 +12,9 @@ use Rattle.desk_cli.specs.Discoveries.{Discovers}
 use Rattle.desk_cli.specs.Drawings.{DrawsForm, DrawsPlan}
 use Rattle.desk_cli.specs.Exhibits.{Exhibits}
 use Rattle.desk_cli.specs.Forms as form
-use Rattle.desk_cli.specs.Forms.{Form, Task, form_of}
+use Rattle.desk_cli.specs.Forms.{CommandForm, Task, form_of}
 use Rattle.desk_cli.specs.Help.{help_text, version_text}
-use Rattle.desk_cli.specs.Implication.{Implies}
+use Rattle.desk_cli.specs.Implication.{DecidesGoal}
 use Rattle.desk_cli.specs.Inputs.{WithSchema}
 use Rattle.desk_cli.specs.Joins.{ChecksJoin}
 use Rattle.desk_cli.specs.Keeping.{ChecksKeeping}
@@ -31,7 +31,7 @@ use Rattle.desk_cli.specs.Texts.{words_text}
 
 -- what is asked of a schema
 unfoldable pub Does : Reading → Schema → Task → Allowed
-Does r schema (form.implies goal) = Implies schema goal
+Does r schema (form.implies goal) = DecidesGoal schema goal
 Does r schema (form.check_proof file goal) = ChecksProof r schema file goal
 Does r schema (form.check_rows file) = ChecksRows r schema file
 Does r schema (form.check_join plan) = ChecksJoin r schema plan
@@ -58,7 +58,7 @@ Does r schema (form.draw normal) = DrawsForm schema normal
 Does r schema (form.draw_plan plan) = DrawsPlan r schema plan
 
 -- a command
-unfoldable pub Performs : Reading → Form → Allowed
+unfoldable pub Performs : Reading → CommandForm → Allowed
 Performs r (form.over_schema file task) = WithSchema r file (λ schema. Does r schema task)
 Performs r (form.discover file) = Discovers r file
 Performs r (form.sample persons) = Samples persons

@@ -12,7 +12,7 @@ use Rattle.dep_model.specs.Schemas.{names_of, width_of, theory_of}
 use Rattle.dep_model.specs.Tuples.{Relation}
 use Rattle.dep_model.specs.declared.schema.Schema.{Schema}
 use Rattle.table_join.specs.declared.refusal.JoinRefusal.TheVariants.{NotCovered, TooManyRows}
-use Rattle.table_join.specs.Answers.{IsNaturalJoin, GivesBack, IsWithinLimit, Refuses}
+use Rattle.table_join.specs.Answers.{IsNaturalJoin, GivesBack, IsWithinLimit, RefusesJoin}
 use Rattle.table_join.specs.Joins.{join_of}
 use Rattle.table_join.specs.Tables.{Table, tables_of, plan_of}
 use Rattle.desk_cli.specs.declared.rejoining.TheConstants.{MOST_JOINED_ROWS}
@@ -88,9 +88,9 @@ pub record IsJoinOf (schema : Schema) (tables : List Table) (rows : Relation) : 
 abbrev pub JoinsTables : Schema → List Table → Allowed
 JoinsTables schema tables answer =
     ((rows : Relation) × IsJoinOf schema tables rows × Says Yes (rows_text (names_of schema) rows) answer)
-    ⊎ (((a : ℕ) × Refuses (width_of schema) MOST_JOINED_ROWS tables (NotCovered a)
+    ⊎ (((a : ℕ) × RefusesJoin (width_of schema) MOST_JOINED_ROWS tables (NotCovered a)
     × Says Refused (not_covered_text (names_of schema) a) answer)
-    ⊎ ((k : ℕ) × Refuses (width_of schema) MOST_JOINED_ROWS tables (TooManyRows k)
+    ⊎ ((k : ℕ) × RefusesJoin (width_of schema) MOST_JOINED_ROWS tables (TooManyRows k)
     × Says Refused (too_many_joined_text k) answer))
 
 -- of files

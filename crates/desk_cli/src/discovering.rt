@@ -2,7 +2,7 @@ ghost use Rattle.std.specs.Prelude.{◌≡◌, ◌≤◌, ◌++◌, ◌<◌, len
 ghost use Rattle.attr_sets.specs.Places.{below};
 ghost use Rattle.dep_model.specs.Deps.{dependencies_of, IsDepWithin};
 ghost use Rattle.dep_model.specs.Tuples.{IsOver};
-ghost use Rattle.fd_discovery.specs.Headers.{IsHeader};
+ghost use Rattle.fd_discovery.specs.Headers.{IsColumnHeader};
 ghost use Rattle.fd_discovery.specs.Headings.{names_under, rows_under};
 ghost use Rattle.fd_discovery.specs.declared.headed.TheConstants.{MOST_HEADED_ROWS};
 ghost use Rattle.desk_cli.specs.Answers.{Says};
@@ -41,7 +41,7 @@ fn open_headed<F: Shelf>(alloc: Global, shelf: &mut F, name: &Word) -> Result<He
     ensures files { F.files shelf.new ≡ F.files shelf.old }
     ensures later { F.faults shelf.old ≤ F.faults shelf.new }
     ensures ok { (r : Reading) → files_in r ≡ F.files shelf.old → IfOk result (IsHeadedFile r name.now) }
-    ensures header { IfOk result (λ headed. IsHeader (names_under headed)) }
+    ensures header { IfOk result (λ headed. IsColumnHeader (names_under headed)) }
     ensures some { IfOk result (λ headed. 0 < length (names_under headed)) }
     ensures even { IfOk result (λ headed. IsOver (length (names_under headed)) (rows_under headed)) }
     ensures few { IfOk result (λ headed. length (rows_under headed) ≤ MOST_HEADED_ROWS) }
@@ -60,7 +60,7 @@ fn open_headed<F: Shelf>(alloc: Global, shelf: &mut F, name: &Word) -> Result<He
 
 // The minimal functional dependencies of rows, under the names of their columns.
 fn found(alloc: Global, headed: Headed) -> Result<Reply, WantMemory>
-    requires header { IsHeader (names_under headed) }
+    requires header { IsColumnHeader (names_under headed) }
     requires some { 0 < length (names_under headed) }
     requires even { IsOver (length (names_under headed)) (rows_under headed) }
     requires few { length (rows_under headed) ≤ MOST_HEADED_ROWS }
@@ -73,7 +73,7 @@ fn found(alloc: Global, headed: Headed) -> Result<Reply, WantMemory>
 
 // Names, and dependencies over them, as a schema text.
 fn rule_lines(alloc: Global, names: Vec<Name>, deps: &[Dep]) -> Result<Vec<u8>, WantMemory>
-    requires header { IsHeader names.items }
+    requires header { IsColumnHeader names.items }
     requires within { All (IsDepWithin (below (length names.items))) deps.now }
     requires some { 0 < length names.items }
     ensures text { IfOk result (λ text. text.items ≡ found_text names.items (dependencies_of deps.now)) }

@@ -8,7 +8,7 @@ ghost use Rattle.derivation.specs.Trees.{nodes, depth};
 ghost use Rattle.derivation.specs.Derivs.{tree_of};
 ghost use Rattle.proof_grammar.specs.Printing.{canonical_certificate, IsProof};
 ghost use Rattle.desk_cli.specs.Answers.{Says};
-ghost use Rattle.desk_cli.specs.Implication.{Decided, Implies};
+ghost use Rattle.desk_cli.specs.Implication.{Decided, DecidesGoal};
 ghost use Rattle.desk_cli.specs.Replies.{answer_of, RepliesAs};
 ghost use Rattle.desk_cli.specs.Texts.{yes_text, no_text};
 
@@ -28,7 +28,7 @@ use std::alloc::Global;
 /// Whether a schema implies a goal: `yes` with a certificate, or `no` with two tuples that obey the
 /// schema and break the goal.
 pub fn implies(alloc: Global, schema: &Schema, goal: &Word) -> Result<Reply, Stop>
-    ensures reply { RepliesAs (Implies schema.now goal.now) result }
+    ensures reply { RepliesAs (DecidesGoal schema.now goal.now) result }
 {
     let dep = match goal_of(alloc, schema, goal) {
         Ok(dep) => dep,

@@ -15,7 +15,7 @@ use Rattle.dep_model.specs.Schemas.{names_of, width_of}
 use Rattle.dep_model.specs.Tuples.{Relation}
 use Rattle.dep_model.specs.declared.schema.Schema.{Schema}
 use Rattle.fd_discovery.proofs.UniqueHeaded.{never_both}
-use Rattle.fd_discovery.specs.Headings.{IsRefused}
+use Rattle.fd_discovery.specs.Headings.{IsRefusedDiscovery}
 use Rattle.fd_discovery.specs.declared.headed.Headed.{Headed}
 use Rattle.table_join.specs.Answers.{IsWithinLimit}
 use Rattle.table_join.specs.Tables.{Table, table_of, tables_of, plan_of}
@@ -40,8 +40,8 @@ after_headed : (files : Files) (name : List ℕ) (h : Headed) (rest : Headed →
 after_headed files name h rest answer file go (inl (inl stop)) =
     absurd (file_goes files name file.bytes MOST_CSV_BYTES answer file.content.0 file.content.1 stop)
 after_headed files name h rest answer file go (inl (inr (why, is, says))) =
-    let here : IsRefused (records_of file.bytes) why =
-    subst (λ (b : List ℕ). IsRefused (records_of b) why)
+    let here : IsRefusedDiscovery (records_of file.bytes) why =
+    subst (λ (b : List ℕ). IsRefusedDiscovery (records_of b) why)
     (one_content files name is.bytes file.bytes is.content.0 file.content.0) is.refused in
     absurd (never_both (records_of file.bytes) h why file.means here)
 after_headed files name h rest answer file go (inr (k, is, more)) = go k more

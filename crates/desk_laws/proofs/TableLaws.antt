@@ -19,7 +19,7 @@ use Rattle.form_tests.specs.declared.forms.Form.{Form}
 use Rattle.form_tests.specs.declared.forms.Form.TheVariants.{Third, Bcnf, Fourth}
 use Rattle.schema_grammar.specs.Declarations.{Declarations}
 use Rattle.split_forms.proofs.SplitLemmas.{too_many_short}
-use Rattle.split_forms.specs.Splitting.{IsTooWideAt, HasTooMany}
+use Rattle.split_forms.specs.Splitting.{IsTooWideAt, HasTooManySchemes}
 use Rattle.desk_outside.specs.Files.{Files}
 use Rattle.desk_cli.specs.declared.decomposition.TheConstants.{MOST_SPLIT_SCHEMES}
 use Rattle.desk_cli.specs.Answers.{Answer, Allowed}
@@ -49,7 +49,7 @@ split_goes : (s r : Schema) (form : Form) (answer : Answer) → AreSame s r → 
 split_goes s r form answer same can (inl (scheme, wide, says)) =
     can.narrow scheme (subst (λ (d : Declarations). IsTooWideAt (length d.names) d.deps form MOST_SPLIT_SCHEMES scheme) (sym same) wide)
 split_goes s r form answer same can (inr (many, says)) =
-    can.few (subst (λ (d : Declarations). HasTooMany (length d.names) d.deps form MOST_SPLIT_SCHEMES) (sym same) many)
+    can.few (subst (λ (d : Declarations). HasTooManySchemes (length d.names) d.deps form MOST_SPLIT_SCHEMES) (sym same) many)
 
 pub after_form : (s r : Schema) (form : Form) (rest : List AttrSet → Allowed) (answer : Answer) → AreSame s r → HasPlanInForm s form
     → ((plan : List AttrSet) → rest plan answer → IsYesOrNo answer.status) → WithPlanInForm r form rest answer → IsYesOrNo answer.status
@@ -102,7 +102,7 @@ example s r answer same functional narrow (inr (inr (wide, says))) =
 
 -- ---- small universes
 -- over at most 12 attributes splitting meets no limit
-small_split : (n : ℕ) (ds : List Dependency) (form : Form) → 0 < n → n ≤ 12 → (form ≡ Third → ⊥) → HasTooMany n ds form MOST_SPLIT_SCHEMES → ⊥
+small_split : (n : ℕ) (ds : List Dependency) (form : Form) → 0 < n → n ≤ 12 → (form ≡ Third → ⊥) → HasTooManySchemes n ds form MOST_SPLIT_SCHEMES → ⊥
 small_split n ds form some few other many =
     let short : MOST_SPLIT_SCHEMES < 2 ^ (n - 1) = too_many_short n ds form some other MOST_SPLIT_SCHEMES many in
     let bound : n - 1 ≤ 11 = omega (arith, few) in

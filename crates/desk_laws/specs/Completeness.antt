@@ -5,7 +5,7 @@ use Rattle.dep_model.specs.Schemas.{width_of, theory_of}
 use Rattle.dep_model.specs.declared.schema.Schema.{Schema}
 use Rattle.form_tests.specs.declared.forms.Form.{Form}
 use Rattle.form_tests.specs.declared.forms.Form.TheVariants.{Third, Bcnf, Fourth}
-use Rattle.split_forms.specs.Splitting.{IsTooWideAt, HasTooMany}
+use Rattle.split_forms.specs.Splitting.{IsTooWideAt, HasTooManySchemes}
 use Rattle.desk_cli.specs.declared.decomposition.TheConstants.{MOST_SPLIT_SCHEMES}
 use Rattle.desk_outside.specs.Causes.{Rose}
 use Rattle.desk_outside.specs.Files.{Files}
@@ -37,7 +37,7 @@ pub record FailsNowhere (files : Files) (shelf : ShelfInCall) (sink : SinkInCall
 pub record IsSplittable (schema : Schema) (form : Form) : Type 0 where
   pub narrow : (scheme : Places)
       → IsTooWideAt (width_of schema) (theory_of schema) form MOST_SPLIT_SCHEMES scheme → ⊥
-  pub few : HasTooMany (width_of schema) (theory_of schema) form MOST_SPLIT_SCHEMES → ⊥
+  pub few : HasTooManySchemes (width_of schema) (theory_of schema) form MOST_SPLIT_SCHEMES → ⊥
 
 -- a plan in a normal form is found within the limits; for third normal form there are none
 abbrev pub HasPlanInForm : Schema → Form → Type 0

@@ -10,7 +10,7 @@ use Rattle.attr_sets.specs.Places.{Places, Within, Same, below, minus, union}
 use Rattle.dep_model.specs.Dependencies.{Dependency, left_of, right_of}
 use Rattle.dep_model.specs.Deps.{dependency_of, dependencies_of}
 use Rattle.dep_model.specs.declared.dep.Dep.{Dep}
-use Rattle.fd_discovery.specs.Searching.{IsGiven, AreNotGiven}
+use Rattle.fd_discovery.specs.Searching.{IsGivenFrom, AreNotGiven}
 
 -- ---- some element is such
 pub Any-weaker : {X : Type 0} (P Q : X → Type 0) (xs : List X) → ((x : X) → P x → Q x) → Any P xs → Any Q xs
@@ -38,29 +38,29 @@ Any-push_cases P xs y h = elim (cases_lt h.0 (length xs)) [
 
 -- ---- what is given
 -- one more is listed
-pub given_still : (ds : List Dependency) (d : Dependency) (x : Places) (a : ℕ) → IsGiven ds x a
-    → IsGiven (ds ++ d ∷ []) x a
+pub given_still : (ds : List Dependency) (d : Dependency) (x : Places) (a : ℕ) → IsGivenFrom ds x a
+    → IsGivenFrom (ds ++ d ∷ []) x a
 given_still ds d x a = Any-left (λ (e : Dependency). Within (left_of e) x × (right_of e a ≡ true)) ds d
 
 pub given_now : (ds : List Dependency) (d : Dependency) (x : Places) (a : ℕ) → Within (left_of d) x
-    → right_of d a ≡ true → IsGiven (ds ++ d ∷ []) x a
+    → right_of d a ≡ true → IsGivenFrom (ds ++ d ∷ []) x a
 given_now ds d x a left right = Any-push (λ (e : Dependency). Within (left_of e) x × (right_of e a ≡ true)) ds d
     (left, right)
 
-pub given_cases : (ds : List Dependency) (d : Dependency) (x : Places) (a : ℕ) → IsGiven (ds ++ d ∷ []) x a
-    → IsGiven ds x a ⊎ (Within (left_of d) x × (right_of d a ≡ true))
+pub given_cases : (ds : List Dependency) (d : Dependency) (x : Places) (a : ℕ) → IsGivenFrom (ds ++ d ∷ []) x a
+    → IsGivenFrom ds x a ⊎ (Within (left_of d) x × (right_of d a ≡ true))
 given_cases ds d x a = Any-push_cases (λ (e : Dependency). Within (left_of e) x × (right_of e a ≡ true)) ds d
 
 -- from a larger set
-pub given_more : (ds : List Dependency) (x y : Places) (a : ℕ) → Within x y → IsGiven ds x a → IsGiven ds y a
+pub given_more : (ds : List Dependency) (x y : Places) (a : ℕ) → Within x y → IsGivenFrom ds x a → IsGivenFrom ds y a
 given_more ds x y a inside = Any-weaker (λ (e : Dependency). Within (left_of e) x × (right_of e a ≡ true))
     (λ (e : Dependency). Within (left_of e) y × (right_of e a ≡ true)) ds (λ e h. ((λ k m. inside k (h.0 k m)), h.1))
 
 -- a set and what is given from it
 pub record IsSoFar (ds : List Dependency) (x given : Places) : Type 0 where
   pub grows : Within x given
-  pub known : (a : ℕ) → given a ≡ true → (x a ≡ true) ⊎ IsGiven ds x a
-  pub all : (a : ℕ) → IsGiven ds x a → given a ≡ true
+  pub known : (a : ℕ) → given a ≡ true → (x a ≡ true) ⊎ IsGivenFrom ds x a
+  pub all : (a : ℕ) → IsGivenFrom ds x a → given a ≡ true
 
 pub so_far_none : (x : Places) → IsSoFar [] x x
 so_far_none x = record {

@@ -9,8 +9,8 @@ use Rattle.csv.specs.declared.reader.Reader.{Reader}
 use Rattle.csv_rows.specs.Records.{HasLeft, TakesRecord}
 use Rattle.csv_rows.specs.Numberings.{row_at}
 use Rattle.dep_model.specs.Tuples.{Tuple, Relation, IsOver}
-use Rattle.fd_discovery.specs.Headers.{IsHeader, RefusesHeader}
-use Rattle.fd_discovery.specs.Headings.{AreEven, RefusesRows, ReadsNames, RefusesNames, IsHeaded, IsRefused, names_under, rows_under}
+use Rattle.fd_discovery.specs.Headers.{IsColumnHeader, RefusesColumnHeader}
+use Rattle.fd_discovery.specs.Headings.{AreEven, RefusesRows, ReadsNames, RefusesNames, IsHeaded, IsRefusedDiscovery, names_under, rows_under}
 use Rattle.fd_discovery.specs.declared.headed.Headed.{Headed}
 use Rattle.fd_discovery.specs.declared.headed.TheConstants.{MOST_HEADED_ROWS}
 use Rattle.fd_discovery.specs.declared.refusal.DiscoverRefusal.{DiscoverRefusal}
@@ -34,21 +34,21 @@ taken_none old new fields b rs is takes left =
 pub names_read : {T : Type 0} (names : T → List (List ℕ)) (old new : Reader (Bor (List ℕ))) (fields : List (List ℕ))
     (b : Bool) (r : Result T DiscoverRefusal) (rs : List (List (List ℕ)))
     → b ≡ true → TakesRecord b old new fields → HasLeft old rs
-    → IfOk r (λ v. names v ≡ fields) → IfOk r (λ _. IsHeader fields) → IfOk r (λ v. ReadsNames rs new (names v))
+    → IfOk r (λ v. names v ≡ fields) → IfOk r (λ _. IsColumnHeader fields) → IfOk r (λ v. ReadsNames rs new (names v))
 names_read names old new fields b (Err e) rs is takes left all header = tt
 names_read names old new fields b (Ok v) rs is takes left all header =
     let (more, whole, rest) = taken_one old new fields b rs is takes left in
     record {
       records = more;
       all = whole ∙ ap (λ (f : List (List ℕ)). f ∷ more) (sym all);
-      header = subst IsHeader (sym all) header;
+      header = subst IsColumnHeader (sym all) header;
       left = rest;
     }
 
 pub names_refused : {T : Type 0} (old new : Reader (Bor (List ℕ))) (fields : List (List ℕ)) (b : Bool)
     (r : Result T DiscoverRefusal) (rs : List (List (List ℕ)))
     → b ≡ true → TakesRecord b old new fields → HasLeft old rs
-    → IfErr r (λ e. e ≢ refusal.Memory → RefusesHeader fields e)
+    → IfErr r (λ e. e ≢ refusal.Memory → RefusesColumnHeader fields e)
     → IfErr r (λ e. e ≢ refusal.Memory → RefusesNames rs e)
 names_refused old new fields b (Ok v) rs is takes left refused = tt
 names_refused old new fields b (Err e) rs is takes left refused =
@@ -137,15 +137,15 @@ pub over_more : (n : ℕ) (rows : Relation) (t : Tuple) → IsOver n rows → le
 over_more n rows t even fits = All-push (λ (u : Tuple). length u ≡ n) rows t even fits
 
 -- the whole text
-pub header_refused : (rs : List (List (List ℕ))) (e : DiscoverRefusal) → RefusesNames rs e → IsRefused rs e
+pub header_refused : (rs : List (List (List ℕ))) (e : DiscoverRefusal) → RefusesNames rs e → IsRefusedDiscovery rs e
 header_refused [] e h = h
 header_refused (header ∷ records) e h = inl h
 
 pub rows_refused : (rs : List (List (List ℕ))) (reader : Reader (Bor (List ℕ))) (names : List (List ℕ)) (n : ℕ)
     (e : DiscoverRefusal)
-    → (read : ReadsNames rs reader names) → n ≡ length names → RefusesRows n read.records e → IsRefused rs e
+    → (read : ReadsNames rs reader names) → n ≡ length names → RefusesRows n read.records e → IsRefusedDiscovery rs e
 rows_refused rs reader names n e read count refused =
-    subst (λ (l : List (List (List ℕ))). IsRefused l e) (sym read.all)
+    subst (λ (l : List (List (List ℕ))). IsRefusedDiscovery l e) (sym read.all)
     (inr (read.header, subst (λ (m : ℕ). RefusesRows m read.records e) count refused))
 
 pub headed_of : (rs : List (List (List ℕ))) (reader : Reader (Bor (List ℕ))) (h : Headed) (n : ℕ)

@@ -11,7 +11,7 @@ use Rattle.dep_model.specs.Tuples.{Tuple, Relation, AgreeOn, value_at}
 use Rattle.dep_model.specs.Dependencies.{ObeysFd}
 use Rattle.csv_rows.specs.Numberings.{row_at, number_at, AreGroups}
 use Rattle.csv_rows.specs.Interning.{codes_at}
-use Rattle.fd_discovery.specs.Leaders.{AreLeaders, IsOrderOf, IsTable, order_at}
+use Rattle.fd_discovery.specs.Leaders.{AreLeaders, IsOrderOf, IsTableOfRows, order_at}
 use Rattle.fd_discovery.specs.declared.table.Table.{Table}
 
 -- agreement on two sets
@@ -339,14 +339,14 @@ orders_more P orders order n size old new k l = elim (cases_lt k n) [
 ]
 
 -- what the table has of a column
-pub column_groups : (n : ℕ) (r : Relation) (t : Table) (place : ℕ) (codes : List ℕ) → IsTable n r t → place < n
+pub column_groups : (n : ℕ) (r : Relation) (t : Table) (place : ℕ) (codes : List ℕ) → IsTableOfRows n r t → place < n
     → codes ≡ codes_at t.codes place → AreGroups r (only place) codes
 column_groups n r t place codes table low is =
     subst (λ (l : List ℕ). AreGroups r (only place) l) (sym is) (table.codes.codes place low)
 
 -- the leaders on a set with one place more
 pub leaders_with : (n : ℕ) (r : Relation) (t : Table) (set larger : Places) (place : ℕ)
-    (codes row order finer : List ℕ) → IsTable n r t → place < n
+    (codes row order finer : List ℕ) → IsTableOfRows n r t → place < n
     → codes ≡ codes_at t.codes place → order ≡ row → row ≡ slice_index_or t.orders.items place row
     → Same larger (union set (only place))
     → (AreGroups r (only place) codes → IsOrderOf codes order → AreLeaders r (union set (only place)) finer)

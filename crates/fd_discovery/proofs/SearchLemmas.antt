@@ -13,7 +13,7 @@ use Rattle.dep_model.specs.Dependencies.{Dependency, fd, left_of, right_of, Obey
 use Rattle.dep_model.specs.Implication.{IsLegal, Implies}
 use Rattle.dep_model.proofs.RuleLemmas.{fd_weaker_obeyed}
 use Rattle.fd_discovery.specs.Minimal.{IsMinimalWithin, IsMinimalFd, Precedes, AreAllMinimal}
-use Rattle.fd_discovery.specs.Searching.{IsGiven, AreNotGiven, IsTried, IsFound, AreFound}
+use Rattle.fd_discovery.specs.Searching.{IsGivenFrom, AreNotGiven, IsTried, IsFoundBefore, AreFound}
 use Rattle.fd_discovery.proofs.GivenLemmas.{given_still, given_now, given_cases, given_more}
 
 -- ---- the order of attributes and of sets
@@ -58,8 +58,8 @@ subset_up_to n x y low inside = elim (tell_before n x y (λ k m. low k (inside k
 pub record AreAdded (n : ℕ) (r : Relation) (y wanted : Places) (a : ℕ) (ds : List Dependency) : Type 0 where
   pub found : AreFound n r y a ds
   pub outside : (b : ℕ) → wanted b ≡ true → y b ≡ false
-  pub none : (b : ℕ) → a ≤ b → wanted b ≡ true → IsGiven ds y b → ⊥
-  pub rest : (b : ℕ) → b < n → wanted b ≡ false → y b ≡ false → IsGiven ds y b
+  pub none : (b : ℕ) → a ≤ b → wanted b ≡ true → IsGivenFrom ds y b → ⊥
+  pub rest : (b : ℕ) → b < n → wanted b ≡ false → y b ≡ false → IsGivenFrom ds y b
 
 pub added_none : (n : ℕ) (r : Relation) (y wanted : Places) (ds : List Dependency) → AreFound n r y 0 ds
     → AreNotGiven n ds y wanted → AreAdded n r y wanted 0 ds
@@ -76,17 +76,17 @@ tried_more y x a b tried = elim tried [
   | inr same ↦ inr (same.0, omega (arith, same.1))
 ]
 
-found_more : (n : ℕ) (r : Relation) (y : Places) (a : ℕ) (d : Dependency) → IsFound n r y a d
-    → IsFound n r y (a + 1) d
+found_more : (n : ℕ) (r : Relation) (y : Places) (a : ℕ) (d : Dependency) → IsFoundBefore n r y a d
+    → IsFoundBefore n r y (a + 1) d
 found_more n r y a d (x, b, is, minimal, tried) = (x, b, is, minimal, tried_more y x a b tried)
 
 module _ (n : ℕ) (r : Relation) (y wanted : Places) (a : ℕ) (ds : List Dependency) (y_in : Within y (below n))
     (a_in : a < n) (old : AreAdded n r y wanted a ds) where
   -- nothing is to be added where the attribute is given already, or the rows do not obey the dependency
-  found_same : ((x : Places) → Same x y → x a ≡ false → ObeysFd x (only a) r → IsGiven ds x a)
+  found_same : ((x : Places) → Same x y → x a ≡ false → ObeysFd x (only a) r → IsGivenFrom ds x a)
       → AreFound n r y (a + 1) ds
   found_same here = record {
-    each = All-weaker (IsFound n r y a) (IsFound n r y (a + 1)) (λ d. found_more n r y a d) ds old.found.each;
+    each = All-weaker (IsFoundBefore n r y a) (IsFoundBefore n r y (a + 1)) (λ d. found_more n r y a d) ds old.found.each;
     ascending = old.found.ascending;
     given = λ x b x_in b_in out tried obeys. elim tried [
       | inl before ↦ old.found.given x b x_in b_in out (inl before) obeys
@@ -94,13 +94,13 @@ module _ (n : ℕ) (r : Relation) (y wanted : Places) (a : ℕ) (ds : List Depen
         | inl less ↦ old.found.given x b x_in b_in out (inr (same.0, less)) obeys
         | inr last ↦
             let at : a ≡ b = omega (arith, same.1, last) in
-            subst (λ (c : ℕ). IsGiven ds x c) at
+            subst (λ (c : ℕ). IsGivenFrom ds x c) at
             (here x same.0 (ap x at ∙ out) (subst (λ (c : ℕ). ObeysFd x (only c) r) (sym at) obeys))
       ]
     ];
   }
 
-  added_same : ((x : Places) → Same x y → x a ≡ false → ObeysFd x (only a) r → IsGiven ds x a)
+  added_same : ((x : Places) → Same x y → x a ≡ false → ObeysFd x (only a) r → IsGivenFrom ds x a)
       → AreAdded n r y wanted (a + 1) ds
   added_same here = record {
     found = found_same here;
@@ -146,7 +146,7 @@ module _ (n : ℕ) (r : Relation) (y wanted : Places) (a : ℕ) (ds : List Depen
           | inr out ↦ out
         ]
 
-    precedes_new : (d : Dependency) → IsFound n r y a d → Precedes d (fd y (only a))
+    precedes_new : (d : Dependency) → IsFoundBefore n r y a d → Precedes d (fd y (only a))
     precedes_new d (x, b, is, minimal, tried) =
         subst (λ (e : Dependency). Precedes e (fd y (only a))) (sym is) (elim tried [
           | inl before ↦ inl before
@@ -156,8 +156,8 @@ module _ (n : ℕ) (r : Relation) (y wanted : Places) (a : ℕ) (ds : List Depen
     pub added_new : AreAdded n r y wanted (a + 1) (ds ++ fd y (only a) ∷ [])
     added_new = record {
       found = record {
-        each = All-push (IsFound n r y (a + 1)) ds (fd y (only a))
-            (All-weaker (IsFound n r y a) (IsFound n r y (a + 1)) (λ d. found_more n r y a d) ds old.found.each)
+        each = All-push (IsFoundBefore n r y (a + 1)) ds (fd y (only a))
+            (All-weaker (IsFoundBefore n r y a) (IsFoundBefore n r y (a + 1)) (λ d. found_more n r y a d) ds old.found.each)
             (y, a, refl, new_minimal, inr ((λ k. refl), omega arith));
         ascending = all_pairs_push Precedes ds (fd y (only a)) old.found.ascending
             (λ k d l. precedes_new (get_or ds k d) (old.found.each k d l));
@@ -189,7 +189,7 @@ added_all n r y wanted a ds end added = subst (λ (m : ℕ). AreFound n r y m ds
 pub found_next : (n : ℕ) (r : Relation) (x y : Places) (ds : List Dependency) → Within x (below n)
     → IsNextSubset (below n) x y → AreFound n r x n ds → AreFound n r y 0 ds
 found_next n r x y ds x_in next found = record {
-  each = All-weaker (IsFound n r x n) (IsFound n r y 0) (λ d h. moved d h) ds found.each;
+  each = All-weaker (IsFoundBefore n r x n) (IsFoundBefore n r y 0) (λ d h. moved d h) ds found.each;
   ascending = found.ascending;
   given = λ v a v_in a_in out tried obeys. elim tried [
     | inl before ↦ elim (next_subset-before n (below n) x y v (λ k m. m) x_in next v_in before) [
@@ -200,7 +200,7 @@ found_next n r x y ds x_in next found = record {
   ];
 }
   where
-    moved : (d : Dependency) → IsFound n r x n d → IsFound n r y 0 d
+    moved : (d : Dependency) → IsFoundBefore n r x n d → IsFoundBefore n r y 0 d
     moved d (v, a, is, minimal, tried) = (
       v,
       a,
@@ -315,7 +315,7 @@ module _ (n free i : ℕ) (set : Places) (set_in : Within set (below n)) (above 
   -- where every attribute is given from the set with i, the sets up to the last that holds it are passed over
   module _ (r : Relation) (ds : List Dependency) (wanted : Places) (found : AreFound n r (union set (below i)) n ds)
       (given : AreNotGiven n ds larger wanted) (empty : IsEmpty wanted) where
-    given_above : (v : Places) (a : ℕ) → Within larger v → a < n → v a ≡ false → IsGiven ds v a
+    given_above : (v : Places) (a : ℕ) → Within larger v → a < n → v a ≡ false → IsGivenFrom ds v a
     given_above v a inside a_in out = given_more ds larger v a inside
         (given.rest a a_in (empty a) (without (larger a) refl))
       where
@@ -323,7 +323,7 @@ module _ (n free i : ℕ) (set : Places) (set_in : Within set (below n)) (above 
         without true e = absurd (true≢false (sym (inside a e) ∙ out))
         without false e = e
 
-    moved : (d : Dependency) → IsFound n r larger 0 d → IsFound n r (union set (below (i + 1))) n d
+    moved : (d : Dependency) → IsFoundBefore n r larger 0 d → IsFoundBefore n r (union set (below (i + 1))) n d
     moved d (v, a, is, minimal, tried) = (
       v,
       a,
@@ -339,7 +339,7 @@ module _ (n free i : ℕ) (set : Places) (set_in : Within set (below n)) (above 
     found_past =
         let at = found_at_larger r ds found in
         record {
-          each = All-weaker (IsFound n r larger 0) (IsFound n r (union set (below (i + 1))) n) moved ds at.each;
+          each = All-weaker (IsFoundBefore n r larger 0) (IsFoundBefore n r (union set (below (i + 1))) n) moved ds at.each;
           ascending = at.ascending;
           given = λ v a v_in a_in out tried obeys.
               let up : IsUpTo v (union set (below (i + 1))) =
@@ -404,7 +404,7 @@ search_whole w n r set all ds added whole width empty full nothing first rest =
 
 -- what gives an attribute is listed, and minimal
 giver : (n : ℕ) (r : Relation) (y : Places) (b : ℕ) (ds : List Dependency) (x : Places) (a : ℕ) → AreFound n r y b ds
-    → IsGiven ds x a
+    → IsGivenFrom ds x a
     → (v : Places) × Contains ds (fd v (only a)) × Within v x × IsMinimalWithin n r v a
 giver n r y b ds x a found (k, d, l, is_d, gives) =
     let (v, c, is, minimal, tried) = found.each k d l in
@@ -419,14 +419,14 @@ giver n r y b ds x a found (k, d, l, is_d, gives) =
 
 module _ (n : ℕ) (r : Relation) (ds : List Dependency) (found : AreFound n r (below n) n ds) where
   -- all that the rows obey is given
-  all_given : (x : Places) (a : ℕ) → Within x (below n) → a < n → x a ≡ false → ObeysFd x (only a) r → IsGiven ds x a
+  all_given : (x : Places) (a : ℕ) → Within x (below n) → a < n → x a ≡ false → ObeysFd x (only a) r → IsGivenFrom ds x a
   all_given x a x_in a_in out obeys =
       found.given x a x_in a_in out (elim (subset_up_to n x (below n) (λ k m. m) x_in)
       [ inl same ↦ inr (same, a_in) | inr before ↦ inl before ]) obeys
 
   pub all_minimal : AreAllMinimal n r ds
   all_minimal = record {
-    each = All-weaker (IsFound n r (below n) n) (IsMinimalFd n r) (λ d h. (h.0, h.1, h.2, h.3)) ds found.each;
+    each = All-weaker (IsFoundBefore n r (below n) n) (IsMinimalFd n r) (λ d h. (h.0, h.1, h.2, h.3)) ds found.each;
     all = λ x a m.
         let (v, listed, inside, minimal) = giver n r (below n) n ds x a found
         (all_given x a m.left m.right m.minimal.outside m.minimal.obeys) in
@@ -439,7 +439,7 @@ module _ (n : ℕ) (r : Relation) (ds : List Dependency) (found : AreFound n r (
   legal : IsOver n r → IsLegal n ds r
   legal over = record {
     over = over;
-    obeys = All-weaker (IsFound n r (below n) n) (λ d. Obeys n d r)
+    obeys = All-weaker (IsFoundBefore n r (below n) n) (λ d. Obeys n d r)
         (λ d h. subst (λ (e : Dependency). Obeys n e r) (sym h.2) h.3.minimal.obeys) ds found.each;
   }
 

@@ -3,8 +3,8 @@ use Rattle.std.proofs.Common.{inl, inr, ◌≡◌, ◌≢◌, ◌+◌, ◌<◌, 
 use Rattle.std.proofs.lemmas.Bool.{cases_lt, true≢false}
 use Rattle.dep_model.specs.Schemas.{place_named}
 use Rattle.dep_model.specs.Tuples.{Relation, IsOver}
-use Rattle.fd_discovery.specs.Headers.{is_column_name, NamesColumn, RefusesColumn, field_at, IsHeader, RefusesField, RefusesHeader}
-use Rattle.fd_discovery.specs.Headings.{IsHeaded, IsRefused, RefusesRows, HasUneven, HasTooMany, names_under, rows_under}
+use Rattle.fd_discovery.specs.Headers.{is_column_name, NamesColumn, RefusesColumn, field_at, IsColumnHeader, RefusesField, RefusesColumnHeader}
+use Rattle.fd_discovery.specs.Headings.{IsHeaded, IsRefusedDiscovery, RefusesRows, HasUneven, HasTooManyRows, names_under, rows_under}
 use Rattle.fd_discovery.specs.declared.headed.Headed.{Headed}
 use Rattle.fd_discovery.specs.declared.headed.TheConstants.{MOST_HEADED_ROWS, WIDEST_HEADED}
 use Rattle.fd_discovery.specs.declared.refusal.DiscoverRefusal.{DiscoverRefusal}
@@ -64,13 +64,13 @@ field_same header e f p q = elim (cases_lt p.at q.at) [
 ]
 
 -- ---- headers
-header_same : (header : List (List ℕ)) (e f : DiscoverRefusal) → RefusesHeader header e → RefusesHeader header f → e ≡ f
+header_same : (header : List (List ℕ)) (e f : DiscoverRefusal) → RefusesColumnHeader header e → RefusesColumnHeader header f → e ≡ f
 header_same header e f (inl p) (inl q) = p.0 ∙ sym q.0
 header_same header e f (inl p) (inr q) = absurd (few_not_many (length header) WIDEST_HEADED q.few p.1)
 header_same header e f (inr p) (inl q) = absurd (few_not_many (length header) WIDEST_HEADED p.few q.1)
 header_same header e f (inr p) (inr q) = field_same header e f p q
 
-header_not_refused : (header : List (List ℕ)) (e : DiscoverRefusal) → IsHeader header → RefusesHeader header e → ⊥
+header_not_refused : (header : List (List ℕ)) (e : DiscoverRefusal) → IsColumnHeader header → RefusesColumnHeader header e → ⊥
 header_not_refused header e is (inl p) = few_not_many (length header) WIDEST_HEADED is.few p.1
 header_not_refused header e is (inr p) =
     named_not_refused (take p.at header) (field_at header p.at) (p.at + 1) e (is.named p.at p.within) p.refused
@@ -80,7 +80,7 @@ header_not_refused header e is (inr p) =
 abbrev SeenRows : ℕ → Relation → DiscoverRefusal → Type 0
 SeenRows n rows e =
     ((row : ℕ) × (e ≡ refusal.UnevenRow row) × HasUneven n rows row)
-    ⊎ ((e ≡ refusal.TooManyRows) × HasTooMany n rows)
+    ⊎ ((e ≡ refusal.TooManyRows) × HasTooManyRows n rows)
 
 seen_rows : (n : ℕ) (rows : Relation) (e : DiscoverRefusal) → RefusesRows n rows e → SeenRows n rows e
 seen_rows n rows (refusal.UnevenRow row) p = inl (row, refl, p)
@@ -100,7 +100,7 @@ uneven_same n rows one other p q = elim (cases_lt p.at q.at) [
   ]
 ]
 
-uneven_or_many : (n : ℕ) (rows : Relation) (row : ℕ) → HasUneven n rows row → HasTooMany n rows → ⊥
+uneven_or_many : (n : ℕ) (rows : Relation) (row : ℕ) → HasUneven n rows row → HasTooManyRows n rows → ⊥
 uneven_or_many n rows row p q = p.other (q.even p.at (omega (arith, p.few)))
 
 under_same : (n : ℕ) (rows : Relation) (e f : DiscoverRefusal) → RefusesRows n rows e → RefusesRows n rows f → e ≡ f
@@ -122,24 +122,24 @@ rows_not_refused n rows e over few p = by (seen_rows n rows e p)
     by (inr (is, many)) = few_not_many (length rows) MOST_HEADED_ROWS few many.many
 
 -- ---- records
-pub refused_same : (records : List (List (List ℕ))) (e f : DiscoverRefusal) → IsRefused records e
-    → IsRefused records f → e ≡ f
+pub refused_same : (records : List (List (List ℕ))) (e f : DiscoverRefusal) → IsRefusedDiscovery records e
+    → IsRefusedDiscovery records f → e ≡ f
 refused_same [] e f p q = p ∙ sym q
 refused_same (header ∷ rows) e f (inl p) (inl q) = header_same header e f p q
 refused_same (header ∷ rows) e f (inl p) (inr q) = absurd (header_not_refused header e q.0 p)
 refused_same (header ∷ rows) e f (inr p) (inl q) = absurd (header_not_refused header f p.0 q)
 refused_same (header ∷ rows) e f (inr p) (inr q) = under_same (length header) rows e f p.1 q.1
 
-not_refused : (names : List (List ℕ)) (rows : Relation) (e : DiscoverRefusal) → IsHeader names
-    → IsOver (length names) rows → length rows ≤ MOST_HEADED_ROWS → IsRefused (names ∷ rows) e → ⊥
+not_refused : (names : List (List ℕ)) (rows : Relation) (e : DiscoverRefusal) → IsColumnHeader names
+    → IsOver (length names) rows → length rows ≤ MOST_HEADED_ROWS → IsRefusedDiscovery (names ∷ rows) e → ⊥
 not_refused names rows e header even few (inl p) = header_not_refused names e header p
 not_refused names rows e header even few (inr p) = rows_not_refused (length names) rows e even few p.1
 
 pub never_both : (records : List (List (List ℕ))) (h : Headed) (e : DiscoverRefusal) → IsHeaded records h
-    → IsRefused records e → ⊥
+    → IsRefusedDiscovery records e → ⊥
 never_both records h e is p =
     not_refused (names_under h) (rows_under h) e is.header is.even is.few
-    (subst (λ (rs : List (List (List ℕ))). IsRefused rs e) is.all p)
+    (subst (λ (rs : List (List (List ℕ))). IsRefusedDiscovery rs e) is.all p)
 
 pub names_same : (records : List (List (List ℕ))) (one other : Headed) → IsHeaded records one → IsHeaded records other
     → names_under one ≡ names_under other

@@ -35,7 +35,7 @@ abbrev pub NameColumns : List (List ℕ) → ℕ → Type 0
 NameColumns header n = (i : ℕ) → i < n → NamesColumn (take i header) (field_at header i)
 
 -- a header: different names of few columns
-pub record IsHeader (header : List (List ℕ)) : Type 0 where
+pub record IsColumnHeader (header : List (List ℕ)) : Type 0 where
   pub few : length header ≤ WIDEST_HEADED
   pub named : NameColumns header (length header)
 
@@ -48,6 +48,6 @@ pub record RefusesField (header : List (List ℕ)) (e : DiscoverRefusal) : Type 
   pub refused : RefusesColumn (take at header) (field_at header at) (at + 1) e
 
 -- why a record is no header: it is too wide, or a field of it is refused
-abbrev pub RefusesHeader : List (List ℕ) → DiscoverRefusal → Type 0
-RefusesHeader header e =
+abbrev pub RefusesColumnHeader : List (List ℕ) → DiscoverRefusal → Type 0
+RefusesColumnHeader header e =
     ((e ≡ refusal.TooManyColumns) × (WIDEST_HEADED < length header)) ⊎ RefusesField header e

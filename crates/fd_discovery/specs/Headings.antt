@@ -4,7 +4,7 @@ use Rattle.csv.specs.declared.reader.Reader.{Reader}
 use Rattle.csv_rows.specs.Records.{HasLeft}
 use Rattle.csv_rows.specs.Numberings.{row_at}
 use Rattle.dep_model.specs.Tuples.{Relation, IsOver}
-use Rattle.fd_discovery.specs.Headers.{IsHeader, RefusesHeader}
+use Rattle.fd_discovery.specs.Headers.{IsColumnHeader, RefusesColumnHeader}
 use Rattle.fd_discovery.specs.declared.headed.Headed.{Headed}
 use Rattle.fd_discovery.specs.declared.headed.TheConstants.{MOST_HEADED_ROWS}
 use Rattle.fd_discovery.specs.declared.refusal.DiscoverRefusal.{DiscoverRefusal}
@@ -21,7 +21,7 @@ rows_under h = h.rows.items
 -- the records of a text are a header, which names the columns, and below it the rows
 pub record IsHeaded (records : List (List (List ℕ))) (h : Headed) : Type 0 where
   pub all : records ≡ names_under h ∷ rows_under h
-  pub header : IsHeader (names_under h)
+  pub header : IsColumnHeader (names_under h)
   pub even : IsOver (length (names_under h)) (rows_under h)
   pub few : length (rows_under h) ≤ MOST_HEADED_ROWS
 
@@ -39,14 +39,14 @@ pub record HasUneven (n : ℕ) (rows : Relation) (row : ℕ) : Type 0 where
   pub other : length (row_at rows at) ≢ n
 
 -- there are more than the most rows, and they and the one after them are as long as the header
-pub record HasTooMany (n : ℕ) (rows : Relation) : Type 0 where
+pub record HasTooManyRows (n : ℕ) (rows : Relation) : Type 0 where
   pub many : MOST_HEADED_ROWS < length rows
   pub even : AreEven n rows (MOST_HEADED_ROWS + 1)
 
 -- why the records below a header of n fields are no rows
 abbrev pub RefusesRows : ℕ → Relation → DiscoverRefusal → Type 0
 RefusesRows n rows (refusal.UnevenRow row) = HasUneven n rows row
-RefusesRows n rows refusal.TooManyRows = HasTooMany n rows
+RefusesRows n rows refusal.TooManyRows = HasTooManyRows n rows
 RefusesRows n rows refusal.NoHeader = ⊥
 RefusesRows n rows refusal.TooManyColumns = ⊥
 RefusesRows n rows (refusal.BadColumn c) = ⊥
@@ -54,19 +54,19 @@ RefusesRows n rows (refusal.DoubleColumn c) = ⊥
 RefusesRows n rows refusal.Memory = ⊥
 
 -- why the records of a text are no rows under a header
-abbrev pub IsRefused : List (List (List ℕ)) → DiscoverRefusal → Type 0
-IsRefused [] e = e ≡ refusal.NoHeader
-IsRefused (header ∷ rows) e = RefusesHeader header e ⊎ (IsHeader header × RefusesRows (length header) rows e)
+abbrev pub IsRefusedDiscovery : List (List (List ℕ)) → DiscoverRefusal → Type 0
+IsRefusedDiscovery [] e = e ≡ refusal.NoHeader
+IsRefusedDiscovery (header ∷ rows) e = RefusesColumnHeader header e ⊎ (IsColumnHeader header × RefusesRows (length header) rows e)
 
 -- the header of a text was read, and the records below it are still to come
 pub record ReadsNames (rs : List (List (List ℕ))) (reader : Reader (Bor (List ℕ)))
     (names : List (List ℕ)) : Type 0 where
   pub records : List (List (List ℕ))
   pub all : rs ≡ names ∷ records
-  pub header : IsHeader names
+  pub header : IsColumnHeader names
   pub left : HasLeft reader records
 
 -- there is no header, or it is refused
 abbrev pub RefusesNames : List (List (List ℕ)) → DiscoverRefusal → Type 0
 RefusesNames [] e = e ≡ refusal.NoHeader
-RefusesNames (header ∷ records) e = RefusesHeader header e
+RefusesNames (header ∷ records) e = RefusesColumnHeader header e

@@ -25,7 +25,7 @@ abbrev pub order_at : Table → ℕ → List ℕ
 order_at t k = slice_index_or t.orders.items k []
 
 -- rows of this width: the number of each value, and for each column the order of the rows by it
-pub record IsTable (n : ℕ) (r : Relation) (t : Table) : Type 0 where
+pub record IsTableOfRows (n : ℕ) (r : Relation) (t : Table) : Type 0 where
   pub width : t.width ≡ n
   pub codes : IsInterned n r t.codes
   pub orders : (k : ℕ) → k < n → IsOrderOf (codes_at t.codes k) (order_at t k)
@@ -33,7 +33,7 @@ pub record IsTable (n : ℕ) (r : Relation) (t : Table) : Type 0 where
 
 -- a table of rows, and their leaders on a set
 pub record AreLed (r : Relation) (t : Table) (x : Places) (leaders : List ℕ) : Type 0 where
-  pub table : IsTable t.width r t
+  pub table : IsTableOfRows t.width r t
   pub led : AreLeaders r x leaders
 
 -- the first n numbers of a list, each with its place

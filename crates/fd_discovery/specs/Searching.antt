@@ -7,30 +7,30 @@ use Rattle.dep_model.specs.declared.dep.Dep.{Dep}
 use Rattle.fd_discovery.specs.Minimal.{IsMinimalWithin, Precedes}
 
 -- a listed dependency gives attribute a from x: its left side lies within x
-abbrev pub IsGiven : List Dependency → Places → ℕ → Type 0
-IsGiven ds x a = Any (λ d. Within (left_of d) x × (right_of d a ≡ true)) ds
+abbrev pub IsGivenFrom : List Dependency → Places → ℕ → Type 0
+IsGivenFrom ds x a = Any (λ d. Within (left_of d) x × (right_of d a ≡ true)) ds
 
 -- the attributes outside x that no listed dependency gives from x
 pub record AreNotGiven (n : ℕ) (ds : List Dependency) (x wanted : Places) : Type 0 where
   pub within : Within wanted (below n)
   pub outside : (a : ℕ) → wanted a ≡ true → x a ≡ false
-  pub none : (a : ℕ) → wanted a ≡ true → IsGiven ds x a → ⊥
-  pub rest : (a : ℕ) → a < n → wanted a ≡ false → x a ≡ false → IsGiven ds x a
+  pub none : (a : ℕ) → wanted a ≡ true → IsGivenFrom ds x a → ⊥
+  pub rest : (a : ℕ) → a < n → wanted a ≡ false → x a ≡ false → IsGivenFrom ds x a
 
 -- x -> a is tried before y -> b: sets ascending, then attributes ascending
 abbrev pub IsTried : Places → ℕ → Places → ℕ → Type 0
 IsTried y b x a = IsBefore x y ⊎ (Same x y × (a < b))
 
 -- a listed dependency is one of the minimal ones that were tried before y -> b
-abbrev pub IsFound : ℕ → Relation → Places → ℕ → Dependency → Type 0
-IsFound n r y b d = (x : Places) × (a : ℕ) × (d ≡ fd x (only a)) × IsMinimalWithin n r x a × IsTried y b x a
+abbrev pub IsFoundBefore : ℕ → Relation → Places → ℕ → Dependency → Type 0
+IsFoundBefore n r y b d = (x : Places) × (a : ℕ) × (d ≡ fd x (only a)) × IsMinimalWithin n r x a × IsTried y b x a
 
 -- minimal dependencies that were tried before y -> b. They give all that the rows obey of what was tried
 pub record AreFound (n : ℕ) (r : Relation) (y : Places) (b : ℕ) (ds : List Dependency) : Type 0 where
-  pub each : All (IsFound n r y b) ds
+  pub each : All (IsFoundBefore n r y b) ds
   pub ascending : AllPairs Precedes ds
   pub given : (x : Places) (a : ℕ) → Within x (below n) → a < n → x a ≡ false → IsTried y b x a
-      → ObeysFd x (only a) r → IsGiven ds x a
+      → ObeysFd x (only a) r → IsGivenFrom ds x a
 
 -- the same, where all attributes of the sets before y were tried; and where those of y were too
 abbrev pub AreFoundBefore : ℕ → Relation → Places → List Dep → Type 0

@@ -1,6 +1,6 @@
 ghost use Rattle.std.specs.Prelude.{◌≡◌, ◌≢◌, ◌<◌, ◌≤◌, ◌^◌, ℕ, List, length, map, IfOk, IfErr};
 ghost use Rattle.csv.specs.Records.{fields_of};
-ghost use Rattle.fd_discovery.specs.Headers.{NamesColumn, RefusesColumn, IsHeader, RefusesHeader};
+ghost use Rattle.fd_discovery.specs.Headers.{NamesColumn, RefusesColumn, IsColumnHeader, RefusesColumnHeader};
 ghost use Rattle.fd_discovery.specs.declared.refusal.DiscoverRefusal.TheVariants.{Memory};
 
 use crate::DiscoverRefusal;
@@ -15,8 +15,8 @@ use std::alloc::Global;
 // The names that a header gives its columns.
 pub fn column_names(alloc: Global, fields: &ByteRecord) -> Result<Vec<Name>, DiscoverRefusal>
     ensures names { IfOk result (λ names. names.items ≡ fields_of fields.now) }
-    ensures header { IfOk result (λ _. IsHeader (fields_of fields.now)) }
-    ensures err { IfErr result (λ e. e ≢ Memory → RefusesHeader (fields_of fields.now) e) }
+    ensures header { IfOk result (λ _. IsColumnHeader (fields_of fields.now)) }
+    ensures err { IfErr result (λ e. e ≢ Memory → RefusesColumnHeader (fields_of fields.now) e) }
 {
     if fields.len() > WIDEST_HEADED as usize {
         return Err(DiscoverRefusal::TooManyColumns);

@@ -2,7 +2,7 @@ ghost use Rattle.std.specs.Prelude.{◌≡◌, ◌≢◌, ◌<◌, ◌≤◌, �
 ghost use Rattle.csv.specs.Records.{fields_of};
 ghost use Rattle.csv_rows.specs.Records.{records_of, HasLeft};
 ghost use Rattle.dep_model.specs.Tuples.{IsOver};
-ghost use Rattle.fd_discovery.specs.Headings.{IsHeaded, IsRefused, names_under, RefusesRows, ReadsNames, RefusesNames};
+ghost use Rattle.fd_discovery.specs.Headings.{IsHeaded, IsRefusedDiscovery, names_under, RefusesRows, ReadsNames, RefusesNames};
 ghost use Rattle.fd_discovery.specs.declared.refusal.DiscoverRefusal.TheVariants.{Memory};
 
 use crate::DiscoverRefusal;
@@ -34,7 +34,7 @@ pub struct Headed {
 pub fn read_headed(alloc: Global, text: &[u8]) -> Result<Headed, DiscoverRefusal>
     ensures ok { IfOk result (λ headed. IsHeaded (records_of text.now) headed) }
     ensures some { IfOk result (λ headed. 0 < length (names_under headed)) }
-    ensures err { IfErr result (λ e. e ≢ Memory → IsRefused (records_of text.now) e) }
+    ensures err { IfErr result (λ e. e ≢ Memory → IsRefusedDiscovery (records_of text.now) e) }
 {
     let mut reader = open(alloc, text);
     let names = match read_names(alloc, &mut reader) {

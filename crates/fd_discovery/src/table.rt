@@ -1,7 +1,7 @@
 ghost use Rattle.std.specs.Prelude.{◌≡◌, ◌<◌, ◌≤◌, ◌^◌, ℕ, length, IfOk};
 ghost use Rattle.csv_rows.specs.Interning.{codes_at, places_of};
 ghost use Rattle.dep_model.specs.Tuples.{IsOver};
-ghost use Rattle.fd_discovery.specs.Leaders.{IsTable, order_at};
+ghost use Rattle.fd_discovery.specs.Leaders.{IsTableOfRows, order_at};
 
 use crate::ordering::RowOrder;
 use csv_rows::Interned;
@@ -21,7 +21,7 @@ impl Table {
     pub fn make(alloc: Global, width: u8, rows: &[Row]) -> Result<Table, WantMemory>
         requires over { IsOver width rows.now }
         requires few { length rows.now < 2 ^ 32 }
-        ensures table { IfOk result (λ table. IsTable width rows.now table) }
+        ensures table { IfOk result (λ table. IsTableOfRows width rows.now table) }
     {
         let codes = Interned::intern(alloc, width, rows)?;
         let mut orders = Vec::with_capacity(alloc, width as usize)?;

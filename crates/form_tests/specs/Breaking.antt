@@ -8,14 +8,14 @@ use Rattle.form_tests.specs.declared.forms.Form.TheVariants.{Third, Bcnf, Fourth
 use Rattle.form_tests.specs.Violations.{DeterminesBeyond, DeterminesNonPrime}
 
 -- what shows that a left side which is no superkey violates a form
-abbrev pub Shows : ℕ → List Dependency → Form → Places → Places → Type 0
-Shows n ds Third scheme x = (a : ℕ) × DeterminesNonPrime n (functional_part ds) scheme x a
-Shows n ds Bcnf scheme x = (a : ℕ) × DeterminesBeyond n ds scheme x a
-Shows n ds Fourth scheme x = HasTwoParts n ds scheme x
+abbrev pub ShowsViolation : ℕ → List Dependency → Form → Places → Places → Type 0
+ShowsViolation n ds Third scheme x = (a : ℕ) × DeterminesNonPrime n (functional_part ds) scheme x a
+ShowsViolation n ds Bcnf scheme x = (a : ℕ) × DeterminesBeyond n ds scheme x a
+ShowsViolation n ds Fourth scheme x = HasTwoParts n ds scheme x
 
 -- a left side violates Boyce-Codd or fourth form, whatever its right side
 abbrev pub Breaks : ℕ → List Dependency → Form → Places → Places → Type 0
-Breaks n ds form scheme x = (IsSuperkey n ds scheme x → ⊥) × Shows n ds form scheme x
+Breaks n ds form scheme x = (IsSuperkey n ds scheme x → ⊥) × ShowsViolation n ds form scheme x
 
 -- of the subsets of a set, x is the first that violates a form on a scheme
 pub record IsFirstBreaking (n : ℕ) (ds : List Dependency) (form : Form)

@@ -16,11 +16,11 @@ abbrev pub IsTooWide : Schema → Type 0
 IsTooWide s = Any (λ d. is_fd d ≡ false) (theory_of s) × (WIDEST_SEARCHED < width_of s)
 
 -- why the keys of a schema are not listed
-abbrev pub IsRefused : Schema → KeyRefusal → Type 0
-IsRefused s (TooManyKeys found) =
+abbrev pub IsRefusedListing : Schema → KeyRefusal → Type 0
+IsRefusedListing s (TooManyKeys found) =
     (IsTooWide s → ⊥) × AreManyKeys (width_of s) (theory_of s) (universe_of s) found.items
-IsRefused s TooWide = IsTooWide s
-IsRefused s Memory = IsTooWide s → ⊥
+IsRefusedListing s TooWide = IsTooWide s
+IsRefusedListing s Memory = IsTooWide s → ⊥
 
 -- a scheme has more attributes than are searched
 abbrev pub IsWideScheme : Places → Type 0

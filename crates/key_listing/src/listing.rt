@@ -1,7 +1,7 @@
 ghost use Rattle.std.specs.Prelude.{◌≤◌, ◌↔◌, length, IsTrue, IfOk, IfErr};
 ghost use Rattle.dep_model.specs.Schemas.{width_of, universe_of, theory_of};
 ghost use Rattle.key_listing.specs.Listing.{AreAllKeys, AreFoundKeys};
-ghost use Rattle.key_listing.specs.Refusals.{IsTooWide, IsRefused};
+ghost use Rattle.key_listing.specs.Refusals.{IsTooWide, IsRefusedListing};
 
 use crate::exchanging::exchanged_keys;
 use crate::kinds::is_functional;
@@ -19,7 +19,7 @@ pub fn keys(alloc: Global, schema: &Schema) -> Result<Vec<AttrSet>, KeyRefusal>
         AreAllKeys (width_of schema.now) (theory_of schema.now) (universe_of schema.now) keys.items) }
     ensures few { IfOk result (λ keys. length keys.items ≤ MOST_KEYS) }
     ensures narrow { IfOk result (λ _. IsTooWide schema.now → ⊥) }
-    ensures refused { IfErr result (IsRefused schema.now) }
+    ensures refused { IfErr result (IsRefusedListing schema.now) }
 {
     if is_too_wide(schema) {
         return Err(KeyRefusal::TooWide);

@@ -13,7 +13,7 @@ use Rattle.dep_model.specs.declared.dep.Dep.{Dep}
 use Rattle.csv_rows.specs.Numberings.{row_at}
 use Rattle.legality.specs.declared.offence.Offence.{Offence}
 use Rattle.legality.specs.declared.pair.Pair.{Pair}
-use Rattle.legality.specs.Answers.{IsAnswer}
+use Rattle.legality.specs.Answers.{IsLeastOffence}
 use Rattle.legality.specs.Offences.{BreaksAt, IsLeastPair, IsOffence, OffencesFrom}
 use Rattle.legality.proofs.PairLemmas.{member_of}
 
@@ -50,26 +50,26 @@ dep_within n w deps ds k d e f all l =
     subst (λ (m : ℕ). IsDepWithin (below m) (get_or ds k d)) (sym f) (subst (λ (xs : List Dep). IsDepWithin (below n) (get_or xs k d)) (sym e) (all k d low))
 
 answer_known : (n w : ℕ) (r : Relation) (deps ds : List Dep) (k : ℕ) (d : Dep) (least : Option Pair) → ds ≡ deps → w ≡ n
-    → IsAnswer w r (dependency_of (get_or ds k d)) least → IsAnswer n r (dependency_of (get_or deps k d)) least
+    → IsLeastOffence w r (dependency_of (get_or ds k d)) least → IsLeastOffence n r (dependency_of (get_or deps k d)) least
 answer_known n w r deps ds k d least e f h =
-    subst (λ (xs : List Dep). IsAnswer n r (dependency_of (get_or xs k d)) least) e (subst (λ (m : ℕ). IsAnswer m r (dependency_of (get_or ds k d)) least) f h)
+    subst (λ (xs : List Dep). IsLeastOffence n r (dependency_of (get_or xs k d)) least) e (subst (λ (m : ℕ). IsLeastOffence m r (dependency_of (get_or ds k d)) least) f h)
 
 -- the next dependency is obeyed
 pub next_obeyed : (n w : ℕ) (r : Relation) (deps ds : List Dep) (k : ℕ) (d : Dep) (least : Option Pair) (os : List Offence) → ds ≡ deps → w ≡ n → k < length ds
-    → OffencesFrom n r 0 (take k (dependencies_of deps)) os → IsAnswer w r (dependency_of (get_or ds k d)) least → least ≡ None → OffencesFrom n r 0 (take (k + 1) (dependencies_of deps)) os
+    → OffencesFrom n r 0 (take k (dependencies_of deps)) os → IsLeastOffence w r (dependency_of (get_or ds k d)) least → least ≡ None → OffencesFrom n r 0 (take (k + 1) (dependencies_of deps)) os
 next_obeyed n w r deps ds k d least os e f l old answer is =
     let low : k < length deps = subst (λ (xs : List Dep). k < length xs) e l in
-    let obeys : Obeys n (dependency_of (get_or deps k d)) r = subst (λ (q : Option Pair). IsAnswer n r (dependency_of (get_or deps k d)) q) is (answer_known n w r deps ds k d least e f answer) in
+    let obeys : Obeys n (dependency_of (get_or deps k d)) r = subst (λ (q : Option Pair). IsLeastOffence n r (dependency_of (get_or deps k d)) q) is (answer_known n w r deps ds k d least e f answer) in
     subst (λ (l : List Dependency). OffencesFrom n r 0 l os) (sym (theory_next deps k d low)) (obeyed_more n r 0 (take k (dependencies_of deps)) os (dependency_of (get_or deps k d)) old obeys)
 
 -- the next dependency is broken
 pub next_broken : (n w : ℕ) (r : Relation) (deps ds : List Dep) (k : ℕ) (d : Dep) (least : Option Pair) (p : Pair) (o : Offence) (os new : List Offence) → ds ≡ deps → w ≡ n → k < length ds
-    → OffencesFrom n r 0 (take k (dependencies_of deps)) os → IsAnswer w r (dependency_of (get_or ds k d)) least → least ≡ Some p
+    → OffencesFrom n r 0 (take k (dependencies_of deps)) os → IsLeastOffence w r (dependency_of (get_or ds k d)) least → least ≡ Some p
     → o.dep ≡ k → o.first ≡ p.first + 1 → o.second ≡ p.second + 1 → new ≡ os ++ o ∷ [] → OffencesFrom n r 0 (take (k + 1) (dependencies_of deps)) new
 next_broken n w r deps ds k d least p o os new e f l old answer is number first second pushed =
     let low : k < length deps = subst (λ (xs : List Dep). k < length xs) e l in
     let pair : IsLeastPair n r (dependency_of (get_or deps k d)) p.first p.second =
-    subst (λ (q : Option Pair). IsAnswer n r (dependency_of (get_or deps k d)) q) is (answer_known n w r deps ds k d least e f answer) in
+    subst (λ (q : Option Pair). IsLeastOffence n r (dependency_of (get_or deps k d)) q) is (answer_known n w r deps ds k d least e f answer) in
     let before : k ≤ length (dependencies_of deps) = omega (arith, low, length-map deps dependency_of) in
     let place : k ≡ 0 + length (take k (dependencies_of deps)) = omega (arith, length-take-le k (dependencies_of deps) before) in
     subst (λ (l : List Dependency). OffencesFrom n r 0 l new) (sym (theory_next deps k d low))

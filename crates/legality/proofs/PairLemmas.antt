@@ -9,8 +9,8 @@ use Rattle.csv_rows.specs.Numberings.{row_at, number_at, AreGroups, AreFirsts}
 use Rattle.csv_rows.specs.Interning.{IsInterned, codes_at, count_of}
 use Rattle.csv_rows.specs.declared.interned.Interned.{Interned}
 use Rattle.csv_rows.proofs.NumberingLemmas.{same_default}
-use Rattle.legality.specs.Offences.{Breaks, BreaksAt, IsLeastPair}
-use Rattle.legality.specs.Answers.{IsAnswer}
+use Rattle.legality.specs.Offences.{PairBreaks, BreaksAt, IsLeastPair}
+use Rattle.legality.specs.Answers.{IsLeastOffence}
 use Rattle.legality.specs.declared.pair.Pair.{Pair}
 
 -- a member stands at a place, and what stands at a place is a member
@@ -106,7 +106,7 @@ leads_more r y lead i (Some p) new q l first second differs none kept replaced =
 
 -- all rows looked at
 pub functional_answer : (n : ℕ) (r : Relation) (x y : Places) (numbers firsts : List ℕ) (least : Option Pair) → AreGroups r x numbers → AreFirsts numbers firsts
-    → Leads r y (leader numbers firsts) (length r) least → IsAnswer n r (fd x y) least
+    → Leads r y (leader numbers firsts) (length r) least → IsLeastOffence n r (fd x y) least
 unfolding Leads
 functional_answer n r x y numbers firsts None g f l = λ t u ht hu a.
     let (i, li, ti) = place_of r t ht in

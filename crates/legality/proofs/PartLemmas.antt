@@ -10,8 +10,8 @@ use Rattle.dep_model.specs.Tuples.{Tuple, Relation, AgreeOn, value_at}
 use Rattle.dep_model.specs.Dependencies.{Dependency, fd, mvd, Obeys}
 use Rattle.csv_rows.specs.Numberings.{row_at, number_at, AreGroups, AreFirsts}
 use Rattle.csv_rows.proofs.NumberingLemmas.{zeros_at}
-use Rattle.legality.specs.Offences.{Breaks, BreaksAt, IsLeastPair}
-use Rattle.legality.specs.Answers.{IsAnswer}
+use Rattle.legality.specs.Offences.{PairBreaks, BreaksAt, IsLeastPair}
+use Rattle.legality.specs.Answers.{IsLeastOffence}
 use Rattle.legality.specs.Parts.{part_count, ArePartCounts, IsFirstShort, flag_at, AreBeside, IsFirstMissing}
 use Rattle.legality.specs.declared.pair.Pair.{Pair}
 use Rattle.legality.proofs.CountLemmas.{start_count, matched, other_number}
@@ -198,7 +198,7 @@ module _ (n : ℕ) (r : Relation) (x y : Places) (g fg l fl z fz a fa : List ℕ
 
   -- the first row that is short of parts, and the first whose rest is missing beside it
   pub first_short : (wanted present : List ℕ) (flags : List Bool) (f : ℕ) (o : Option Pair) → ArePartCounts g fg fz wanted → ArePartCounts l fl fa present
-      → IsFirstShort g wanted l present (Some f) → AreBeside l z f (length l) flags → IsFirstMissing g z flags f o → IsAnswer n r (mvd x y) o
+      → IsFirstShort g wanted l present (Some f) → AreBeside l z f (length l) flags → IsFirstMissing g z flags f o → IsLeastOffence n r (mvd x y) o
   first_short wanted present flags f None w p (lf, less, before) beside missing =
       let fl' : f < length r = omega (arith, lf, k.left.one_each) in
       absurd (short f fl'

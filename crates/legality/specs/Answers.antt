@@ -5,6 +5,6 @@ use Rattle.legality.specs.Offences.{IsLeastPair}
 use Rattle.legality.specs.declared.pair.Pair.{Pair}
 
 -- the least pair that breaks a dependency, or none where the rows obey it
-abbrev pub IsAnswer : ℕ → Relation → Dependency → Option Pair → Type 0
-IsAnswer n r d None = Obeys n d r
-IsAnswer n r d (Some p) = IsLeastPair n r d p.first p.second
+abbrev pub IsLeastOffence : ℕ → Relation → Dependency → Option Pair → Type 0
+IsLeastOffence n r d None = Obeys n d r
+IsLeastOffence n r d (Some p) = IsLeastPair n r d p.first p.second

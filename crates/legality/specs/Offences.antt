@@ -7,15 +7,15 @@ use Rattle.legality.specs.declared.offence.Offence.{Offence}
 
 -- two tuples in this order break a dependency: they agree on x and not on y, or they agree on x and
 -- no tuple agrees with the first on x and y and with the second on the rest
-abbrev pub Breaks : ℕ → Relation → Dependency → Tuple → Tuple → Type 0
-Breaks n r (fd x y) t u = AgreeOn x t u × (AgreeOn y t u → ⊥)
-Breaks n r (mvd x y) t u =
+abbrev pub PairBreaks : ℕ → Relation → Dependency → Tuple → Tuple → Type 0
+PairBreaks n r (fd x y) t u = AgreeOn x t u × (AgreeOn y t u → ⊥)
+PairBreaks n r (mvd x y) t u =
     AgreeOn x t u
     × ((v : Tuple) → Contains r v → AgreeOn (union x y) v t → AgreeOn (minus (below n) (union x y)) v u → ⊥)
 
 -- the rows at two places, from 0, break a dependency
 abbrev pub BreaksAt : ℕ → Relation → Dependency → ℕ → ℕ → Type 0
-BreaksAt n r d i j = (i < length r) × (j < length r) × Breaks n r d (row_at r i) (row_at r j)
+BreaksAt n r d i j = (i < length r) × (j < length r) × PairBreaks n r d (row_at r i) (row_at r j)
 
 -- of all pairs of rows that break a dependency this is the least, by its first row, then by its second
 pub record IsLeastPair (n : ℕ) (r : Relation) (d : Dependency) (i j : ℕ) : Type 0 where

@@ -5,7 +5,7 @@ ghost use Rattle.dep_model.specs.Deps.{IsDepWithin, dependency_of};
 ghost use Rattle.dep_model.specs.Schemas.{LegalFor, theory_of, width_of};
 ghost use Rattle.dep_model.specs.Tuples.{IsOver};
 ghost use Rattle.legality.specs.Offences.{OffencesOf};
-ghost use Rattle.legality.specs.Answers.{IsAnswer};
+ghost use Rattle.legality.specs.Answers.{IsLeastOffence};
 
 use crate::functional::least_functional_pair;
 use crate::multivalued::least_multivalued_pair;
@@ -66,7 +66,7 @@ fn least_pair(
     requires width { width ≤ PLACES }
     requires codes { IsInterned width rows.now codes.now }
     requires dep { IsDepWithin (below width) dep }
-    ensures pair { IfOk result (λ least. IsAnswer width rows.now (dependency_of dep) least) }
+    ensures pair { IfOk result (λ least. IsLeastOffence width rows.now (dependency_of dep) least) }
 {
     match dep {
         Dep::Fd { lhs, rhs } => least_functional_pair(alloc, rows, width, codes, lhs, rhs),

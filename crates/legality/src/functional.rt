@@ -5,7 +5,7 @@ ghost use Rattle.csv_rows.specs.Interning.{IsInterned};
 ghost use Rattle.csv_rows.specs.Numberings.{row_at};
 ghost use Rattle.dep_model.specs.Dependencies.{fd};
 ghost use Rattle.dep_model.specs.Tuples.{AgreeOn};
-ghost use Rattle.legality.specs.Answers.{IsAnswer};
+ghost use Rattle.legality.specs.Answers.{IsLeastOffence};
 ghost use Rattle.legality.specs.declared.pair.Pair.{Pair};
 
 use crate::pair::Pair;
@@ -28,7 +28,7 @@ pub fn least_functional_pair(
     requires codes { IsInterned width rows.now codes.now }
     requires lhs { Within (places lhs) (below width) }
     requires rhs { Within (places rhs) (below width) }
-    ensures pair { IfOk result (λ least. IsAnswer width rows.now (fd (places lhs) (places rhs)) least) }
+    ensures pair { IfOk result (λ least. IsLeastOffence width rows.now (fd (places lhs) (places rhs)) least) }
 {
     let groups = Groups::of(alloc, codes, lhs)?;
     let mut least = None;

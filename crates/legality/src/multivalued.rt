@@ -4,7 +4,7 @@ ghost use Rattle.attr_sets.specs.Sets.{places};
 ghost use Rattle.csv_rows.specs.Interning.{IsInterned, firsts_of, groups_of};
 ghost use Rattle.csv_rows.specs.Numberings.{AreFirsts};
 ghost use Rattle.dep_model.specs.Dependencies.{mvd};
-ghost use Rattle.legality.specs.Answers.{IsAnswer};
+ghost use Rattle.legality.specs.Answers.{IsLeastOffence};
 ghost use Rattle.legality.specs.Parts.{AreBelow, AreBeside, ArePartCounts, IsFirstMissing, IsFirstShort};
 
 use crate::pair::Pair;
@@ -28,7 +28,7 @@ pub fn least_multivalued_pair(
     requires codes { IsInterned width rows.now codes.now }
     requires lhs { Within (places lhs) (below width) }
     requires rhs { Within (places rhs) (below width) }
-    ensures pair { IfOk result (λ least. IsAnswer width rows.now (mvd (places lhs) (places rhs)) least) }
+    ensures pair { IfOk result (λ least. IsLeastOffence width rows.now (mvd (places lhs) (places rhs)) least) }
 {
     let universe = AttrSet::full(width);
     let sides = lhs.union(rhs);

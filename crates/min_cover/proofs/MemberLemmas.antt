@@ -17,7 +17,7 @@ use Rattle.dep_model.specs.Projections.{members_below}
 use Rattle.dep_model.proofs.RuleLemmas.{fd_weaker_obeyed}
 use Rattle.dep_model.proofs.ListLemmas.{Contains-map}
 use Rattle.dep_model.proofs.SchemeLemmas.{length-members_below, members_below-at}
-use Rattle.min_cover.specs.Members.{members_of, kept_beside, IsShortLeft, IsShortened, AreShortened}
+use Rattle.min_cover.specs.Members.{members_of, kept_beside, IsShortLeft, IsShortenedDependency, AreShortened}
 
 -- ---- the members of a set, ascending
 pub members_none : (x : Places) → members_below 0 x ≡ []
@@ -105,10 +105,10 @@ short_needed n ds x y short i is member implied =
 -- ---- the list of them
 -- one more
 pub shortened_more : (n : ℕ) (ds firsts : List Dependency) (members : List Dep) (d : Dependency) (e : Dep) → AreShortened n ds firsts members
-    → IsShortened n ds d (dependency_of e) → IsDepWithin (below n) e → is_fd (dependency_of e) ≡ true → AreShortened n ds (firsts ++ d ∷ []) (members ++ e ∷ [])
+    → IsShortenedDependency n ds d (dependency_of e) → IsDepWithin (below n) e → is_fd (dependency_of e) ≡ true → AreShortened n ds (firsts ++ d ∷ []) (members ++ e ∷ [])
 shortened_more n ds firsts members d e before short within functional = record {
-  short = subst (λ (es : List Dependency). AllZip (IsShortened n ds) (firsts ++ d ∷ []) es) (sym (map_push dependency_of members e))
-      (AllZip-push (IsShortened n ds) firsts (dependencies_of members) d (dependency_of e) before.short short);
+  short = subst (λ (es : List Dependency). AllZip (IsShortenedDependency n ds) (firsts ++ d ∷ []) es) (sym (map_push dependency_of members e))
+      (AllZip-push (IsShortenedDependency n ds) firsts (dependencies_of members) d (dependency_of e) before.short short);
   within = All-push (IsDepWithin (below n)) members e before.within within;
   functional = All-push (λ (f : Dep). is_fd (dependency_of f) ≡ true) members e before.functional functional;
 }

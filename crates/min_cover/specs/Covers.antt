@@ -4,7 +4,7 @@ use Rattle.attr_sets.specs.Places.{Places, only, minus}
 use Rattle.dep_model.specs.Tuples.{Relation}
 use Rattle.dep_model.specs.Dependencies.{Dependency, fd, is_fd, functional_part, left_of, right_of}
 use Rattle.dep_model.specs.Implication.{IsLegal, Implies}
-use Rattle.min_cover.specs.Members.{members_of, IsShortened}
+use Rattle.min_cover.specs.Members.{members_of, IsShortenedDependency}
 
 -- what is left where, from the first dependency to the last, each is left out exactly where those kept
 -- before it together with all after it imply it
@@ -18,7 +18,7 @@ IsThinned n kept (d ∷ later) rest =
 -- shortened, without those that the others imply
 pub record IsFixedCover (n : ℕ) (ds cover : List Dependency) : Type 0 where
   pub members : List Dependency
-  pub shortened : AllZip (IsShortened n ds) (flat_map (members_of n) ds) members
+  pub shortened : AllZip (IsShortenedDependency n ds) (flat_map (members_of n) ds) members
   pub thinned : IsThinned n [] members cover
 
 -- the multivalued dependencies of a list

@@ -26,12 +26,12 @@ pub record IsShortLeft (n : ℕ) (ds : List Dependency) (x y short : Places) : T
       → (short i ≡ false) ↔ Implies n (functional_part ds) (fd (kept_beside x short i) y)
 
 -- e is d with its left side shortened
-abbrev pub IsShortened : ℕ → List Dependency → Dependency → Dependency → Type 0
-IsShortened n ds d e =
+abbrev pub IsShortenedDependency : ℕ → List Dependency → Dependency → Dependency → Type 0
+IsShortenedDependency n ds d e =
     (short : Places) × (e ≡ fd short (right_of d)) × IsShortLeft n ds (left_of d) (right_of d) short
 
 -- functional dependencies within n places, one for each of a list, with its left side shortened
 pub record AreShortened (n : ℕ) (ds firsts : List Dependency) (members : List Dep) : Type 0 where
-  pub short : AllZip (IsShortened n ds) firsts (dependencies_of members)
+  pub short : AllZip (IsShortenedDependency n ds) firsts (dependencies_of members)
   pub within : All (IsDepWithin (below n)) members
   pub functional : All (λ d. is_fd (dependency_of d) ≡ true) members

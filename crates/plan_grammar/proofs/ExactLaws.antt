@@ -23,9 +23,9 @@ use Rattle.schema_grammar.proofs.OneRefusal.{both_least, same_carried, same_refu
 use Rattle.plan_grammar.specs.declared.refusal.PlanRefusal.{PlanRefusal}
 use Rattle.plan_grammar.specs.declared.refusal.PlanRefusal.TheVariants as plan
 use Rattle.plan_grammar.specs.declared.refusal.TheConstants.{MOST_SCHEMES}
-use Rattle.plan_grammar.specs.Meanings.{IsSchemeLine, MeansScheme, MeansLines, MeansPlan}
+use Rattle.plan_grammar.specs.Meanings.{IsSchemeLine, MeansScheme, MeansSchemeLines, MeansPlan}
 use Rattle.plan_grammar.specs.Refusals.{plan_refusal_number}
-use Rattle.plan_grammar.specs.Complaints.{WordComplaint, WordsComplaint, LineComplaint, StandsAt, IsFirstOf, IsFine, RefusesLines, schemes_in, wanted, uncovered, RefusesPlan}
+use Rattle.plan_grammar.specs.Complaints.{WordComplaint, WordsComplaint, SchemeLineComplaint, SpansPlace, IsFirstOf, IsFine, RefusesSchemeLines, schemes_in, wanted, uncovered, RefusesPlan}
 use Rattle.plan_grammar.proofs.FirstLemmas.{later_fine, no_flaw}
 
 -- ---- one refusal
@@ -55,7 +55,7 @@ not_twelve kind.NoAttributes e = omega (arith, e)
 not_twelve kind.UnknownVersion e = omega (arith, e)
 not_twelve kind.Memory e = omega (arith, e)
 
-same_there : (line : ℕ) (span : ℕ → Span) (want : ℕ → What) (p : ℕ) (e f : PlanRefusal) → StandsAt line span want p e → StandsAt line span want p f → plan_refusal_number e ≡ plan_refusal_number f → e ≡ f
+same_there : (line : ℕ) (span : ℕ → Span) (want : ℕ → What) (p : ℕ) (e f : PlanRefusal) → SpansPlace line span want p e → SpansPlace line span want p f → plan_refusal_number e ≡ plan_refusal_number f → e ≡ f
 same_there line span want p (plan.Text a) (plan.Text b) first second same =
     ap (λ (t : SchemaRefusal). plan.Text t)
     (same_refusal a b (first.0 ∙ sym second.0) (same_carried (λ w. w ≡ want p) a b (λ w v h g. h ∙ sym g) first.1 second.1 same))
@@ -77,15 +77,15 @@ same_there line span want p (plan.NotCovered a) f first second same = absurd fir
 same_there line span want p plan.Memory f first second same = absurd first
 
 one_first : (Complaint : ℕ → ℕ → Type 0) (line : ℕ) (span : ℕ → Span) (want : ℕ → What) (e f : PlanRefusal)
-    → IsFirstOf Complaint (StandsAt line span want) e → IsFirstOf Complaint (StandsAt line span want) f → e ≡ f
+    → IsFirstOf Complaint (SpansPlace line span want) e → IsFirstOf Complaint (SpansPlace line span want) f → e ≡ f
 one_first Complaint line span want e f first second =
     let same = both_least first.place second.place (plan_refusal_number e) (plan_refusal_number f) (first.least second.place (plan_refusal_number f) second.complaint) (second.least first.place (plan_refusal_number e) first.complaint) in
-    same_there line span want first.place e f first.there (subst (λ (p : ℕ). StandsAt line span want p f) (sym same.0) second.there) same.1
+    same_there line span want first.place e f first.there (subst (λ (p : ℕ). SpansPlace line span want p f) (sym same.0) second.there) same.1
 
-pub one_refusal : (names : List (List ℕ)) (number earlier : ℕ) (lines : List (List ℕ)) (e f : PlanRefusal) → RefusesLines names number earlier lines e → RefusesLines names number earlier lines f → e ≡ f
+pub one_refusal : (names : List (List ℕ)) (number earlier : ℕ) (lines : List (List ℕ)) (e f : PlanRefusal) → RefusesSchemeLines names number earlier lines e → RefusesSchemeLines names number earlier lines f → e ≡ f
 one_refusal names number earlier [] e f first second = absurd first
 one_refusal names number earlier (line ∷ lines) e f (inl first) (inl second) =
-    one_first (LineComplaint names earlier (lex mode.Plain line).marks (lex mode.Plain line).stop) number (span_at number 1 (lex mode.Plain line).marks (lex mode.Plain line).stop) wanted e f first second
+    one_first (SchemeLineComplaint names earlier (lex mode.Plain line).marks (lex mode.Plain line).stop) number (span_at number 1 (lex mode.Plain line).marks (lex mode.Plain line).stop) wanted e f first second
 one_refusal names number earlier (line ∷ lines) e f (inl first) (inr second) = absurd (second.0 first.place (plan_refusal_number e) first.complaint)
 one_refusal names number earlier (line ∷ lines) e f (inr first) (inl second) = absurd (first.0 second.place (plan_refusal_number f) second.complaint)
 one_refusal names number earlier (line ∷ lines) e f (inr first) (inr second) =
@@ -106,7 +106,7 @@ one_scheme names line x y first second =
     let words : first.scheme.words ≡ second.scheme.words = cc in
     first.scheme.members ∙ ap (λ (ws : List Mark). named names ws) words ∙ sym second.scheme.members
 
-pub one_meaning : (names : List (List ℕ)) (lines : List (List ℕ)) (xs ys : List Places) → MeansLines names lines xs → MeansLines names lines ys → xs ≡ ys
+pub one_meaning : (names : List (List ℕ)) (lines : List (List ℕ)) (xs ys : List Places) → MeansSchemeLines names lines xs → MeansSchemeLines names lines ys → xs ≡ ys
 one_meaning names [] xs ys first second = first ∙ sym second
 one_meaning names (line ∷ lines) xs ys (inl first) (inl second) = one_meaning names lines xs ys first.1 second.1
 one_meaning names (line ∷ lines) xs ys (inl first) (inr second) = absurd (blank_scheme names line second.0 first.0 second.2)
@@ -138,25 +138,25 @@ words_fine names first (m ∷ ms) each some p n h =
 scheme_fine : (names : List (List ℕ)) (earlier : ℕ) (ms : List Mark) (x : Places) → IsSchemeLine names ms x → earlier < MOST_SCHEMES → IsFine names earlier ms None
 scheme_fine names earlier ms x is room =
     subst (λ (ns : List Mark). IsFine names earlier ns None) (sym is.whole)
-    (later_fine (LineComplaint names earlier (is.head ∷ is.words) None)
+    (later_fine (SchemeLineComplaint names earlier (is.head ∷ is.words) None)
     (λ n h. ⊎_elim (λ other. true≢false (sym is.scheme ∙ other.0)) (λ many. omega (arith, many.1, room)) h)
     (words_fine names true is.words is.each (λ _. is.some)))
 
-pub never_both : (names : List (List ℕ)) (number earlier : ℕ) (lines : List (List ℕ)) (xs : List Places) (e : PlanRefusal) → MeansLines names lines xs → earlier + length xs ≤ MOST_SCHEMES
-    → RefusesLines names number earlier lines e → ⊥
+pub never_both : (names : List (List ℕ)) (number earlier : ℕ) (lines : List (List ℕ)) (xs : List Places) (e : PlanRefusal) → MeansSchemeLines names lines xs → earlier + length xs ≤ MOST_SCHEMES
+    → RefusesSchemeLines names number earlier lines e → ⊥
 never_both names number earlier [] xs e means few refused = refused
 never_both names number earlier (line ∷ lines) xs e (inl blank) few (inl first) =
-    no_flaw (plan_refusal_number e) (subst (λ (l : Lexed). LineComplaint names earlier l.marks l.stop first.place (plan_refusal_number e)) blank.0 first.complaint).1
+    no_flaw (plan_refusal_number e) (subst (λ (l : Lexed). SchemeLineComplaint names earlier l.marks l.stop first.place (plan_refusal_number e)) blank.0 first.complaint).1
 never_both names number earlier (line ∷ lines) xs e (inl blank) few (inr later) =
     let same : earlier + schemes_in (lex mode.Plain line).marks ≡ earlier = ap (λ (l : Lexed). earlier + schemes_in l.marks) blank.0 ∙ zero_more earlier in
-    never_both names (number + 1) earlier lines xs e blank.1 few (subst (λ (n : ℕ). RefusesLines names (number + 1) n lines e) same later.1)
+    never_both names (number + 1) earlier lines xs e blank.1 few (subst (λ (n : ℕ). RefusesSchemeLines names (number + 1) n lines e) same later.1)
   where
     zero_more : (n : ℕ) → n + 0 ≡ n
     zero_more n = omega arith
 never_both names number earlier (line ∷ lines) xs e (inr adds) few (inl first) =
     let count : length xs ≡ suc (length adds.1) = ap (λ (zs : List Places). length zs) adds.4 in
     scheme_fine names earlier adds.2.marks adds.0 adds.2.scheme (omega (arith, few, count)) first.place (plan_refusal_number e)
-    (subst (λ (l : Lexed). LineComplaint names earlier l.marks l.stop first.place (plan_refusal_number e)) adds.2.tokens first.complaint)
+    (subst (λ (l : Lexed). SchemeLineComplaint names earlier l.marks l.stop first.place (plan_refusal_number e)) adds.2.tokens first.complaint)
 never_both names number earlier (line ∷ lines) xs e (inr adds) few (inr later) =
     let count : length xs ≡ suc (length adds.1) = ap (λ (zs : List Places). length zs) adds.4 in
     let one : schemes_in (lex mode.Plain line).marks ≡ 1 = ap (λ (l : Lexed). schemes_in l.marks) adds.2.tokens ∙ ap (λ (ms : List Mark). schemes_in ms) adds.2.scheme.whole in

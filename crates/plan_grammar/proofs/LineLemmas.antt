@@ -22,8 +22,8 @@ use Rattle.schema_grammar.proofs.ComplaintLaws.{flaw_numbered, flaw_carries}
 use Rattle.plan_grammar.specs.declared.refusal.PlanRefusal.{PlanRefusal}
 use Rattle.plan_grammar.specs.declared.refusal.PlanRefusal.TheVariants as plan
 use Rattle.plan_grammar.specs.declared.refusal.TheConstants.{MOST_SCHEMES}
-use Rattle.plan_grammar.specs.Meanings.{is_scheme, IsSchemeLine, MeansLines}
-use Rattle.plan_grammar.specs.Complaints.{HeadComplaint, LineComplaint, StandsAt, IsFine, RefusesLine, RefusesLines, schemes_in, wanted}
+use Rattle.plan_grammar.specs.Meanings.{is_scheme, IsSchemeLine, MeansSchemeLines}
+use Rattle.plan_grammar.specs.Complaints.{FirstTokenComplaint, SchemeLineComplaint, SpansPlace, IsFine, RefusesLine, RefusesSchemeLines, schemes_in, wanted}
 use Rattle.plan_grammar.specs.Reading.{no_scheme, read_words, read_line, read_lines}
 use Rattle.plan_grammar.proofs.FirstLemmas.{first_here, first_later, later_fine, no_flaw, flaw_least}
 use Rattle.plan_grammar.proofs.WordLemmas.{WordsFit, words_fit}
@@ -48,11 +48,11 @@ LineFits names line schemes ms stop (Err e) = RefusesLine names line (length sch
 
 -- why a line can't begin with a token
 record IsOther (earlier : ℕ) (m : Mark) (why : SchemaRefusalKind) : Type 0 where
-  complaint : HeadComplaint earlier m (refusal_number why)
+  complaint : FirstTokenComplaint earlier m (refusal_number why)
   carries : Carries (λ w. w ≡ wanted 0) why
-  least : (n : ℕ) → HeadComplaint earlier m n → refusal_number why ≤ n
+  least : (n : ℕ) → FirstTokenComplaint earlier m n → refusal_number why ≤ n
 
-head_least : (earlier : ℕ) (m : Mark) (low n : ℕ) → is_scheme m.kind m.word ≡ false → (low ≤ 6) → ((m.kind ≡ token.Word) → is_reserved format.Plain m.word ≡ true → low ≤ 3) → HeadComplaint earlier m n → low ≤ n
+head_least : (earlier : ℕ) (m : Mark) (low n : ℕ) → is_scheme m.kind m.word ≡ false → (low ≤ 6) → ((m.kind ≡ token.Word) → is_reserved format.Plain m.word ≡ true → low ≤ 3) → FirstTokenComplaint earlier m n → low ≤ n
 head_least earlier m low n other most reserved h =
     ⊎_elim
     (λ not_scheme. ⊎_elim (λ three. omega (arith, reserved three.1 three.2, three.0)) (λ six. omega (arith, most, six)) not_scheme.1)
@@ -84,10 +84,10 @@ other_kind earlier m token.Colon is other = other_six earlier m other (λ word _
 other_kind earlier m (token.Number n) is other = other_six earlier m other (λ word _. (let wrong : token.Number n ≡ token.Word = sym is ∙ word in cc))
 
 -- the first token of a scheme line for which there is room
-head_fine : (earlier : ℕ) (m : Mark) (n : ℕ) → is_scheme m.kind m.word ≡ true → earlier < MOST_SCHEMES → HeadComplaint earlier m n → ⊥
+head_fine : (earlier : ℕ) (m : Mark) (n : ℕ) → is_scheme m.kind m.word ≡ true → earlier < MOST_SCHEMES → FirstTokenComplaint earlier m n → ⊥
 head_fine earlier m n is room h = ⊎_elim (λ other. true≢false (sym is ∙ other.0)) (λ many. omega (arith, many.1, room)) h
 
-head_many : (earlier : ℕ) (m : Mark) (n : ℕ) → is_scheme m.kind m.word ≡ true → HeadComplaint earlier m n → 12 ≤ n
+head_many : (earlier : ℕ) (m : Mark) (n : ℕ) → is_scheme m.kind m.word ≡ true → FirstTokenComplaint earlier m n → 12 ≤ n
 head_many earlier m n is h = ⊎_elim (λ other. absurd (true≢false (sym is ∙ other.0))) (λ many. omega (arith, many.2)) h
 
 scheme_read : (names : List (List ℕ)) (line : ℕ) (schemes : List Places) (m : Mark) (ms : List Mark) (stop : Option Stop) (r : Result Places PlanRefusal)
@@ -102,10 +102,10 @@ scheme_read names line schemes m ms stop (Ok x) is room fit = record {
     added = refl;
     room = room;
   });
-  fine = later_fine (LineComplaint names (length schemes) (m ∷ ms) stop) (λ n h. head_fine (length schemes) m n is room h) fit.fine;
+  fine = later_fine (SchemeLineComplaint names (length schemes) (m ∷ ms) stop) (λ n h. head_fine (length schemes) m n is room h) fit.fine;
 }
 scheme_read names line schemes m ms stop (Err e) is room fit =
-    first_later (LineComplaint names (length schemes) (m ∷ ms) stop) (StandsAt line (span_at line 1 (m ∷ ms) stop) wanted) e
+    first_later (SchemeLineComplaint names (length schemes) (m ∷ ms) stop) (SpansPlace line (span_at line 1 (m ∷ ms) stop) wanted) e
     (λ n h. head_fine (length schemes) m n is room h) fit
 
 head_fit : (names : List (List ℕ)) (line : ℕ) (schemes : List Places) (m : Mark) (ms : List Mark) (stop : Option Stop) (b l : Bool)
@@ -114,14 +114,14 @@ head_fit : (names : List (List ℕ)) (line : ℕ) (schemes : List Places) (m : M
     (cond b (cond l (Err (plan.TooManySchemes line)) (read_words names line true none ms stop)) (Err (plan.Text (refusal line m.column (length m.word) (no_scheme m.kind m.word)))))
     (λ x. Ok (schemes ++ x ∷ [])))
 head_fit names line schemes m ms stop true true is many =
-    first_here (LineComplaint names (length schemes) (m ∷ ms) stop) (StandsAt line (span_at line 1 (m ∷ ms) stop) wanted) (plan.TooManySchemes line)
+    first_here (SchemeLineComplaint names (length schemes) (m ∷ ms) stop) (SpansPlace line (span_at line 1 (m ∷ ms) stop) wanted) (plan.TooManySchemes line)
     (inr (is, leb-true MOST_SCHEMES (length schemes) many, refl)) refl (λ n h. head_many (length schemes) m n is h)
 head_fit names line schemes m ms stop true false is few =
     scheme_read names line schemes m ms stop (read_words names line true none ms stop) is (leb-false MOST_SCHEMES (length schemes) few)
     (words_fit names line true none (m.column + length m.word) ms stop)
 head_fit names line schemes m ms stop false l other few =
     let told = other_kind (length schemes) m m.kind refl other in
-    first_here (LineComplaint names (length schemes) (m ∷ ms) stop) (StandsAt line (span_at line 1 (m ∷ ms) stop) wanted)
+    first_here (SchemeLineComplaint names (length schemes) (m ∷ ms) stop) (SpansPlace line (span_at line 1 (m ∷ ms) stop) wanted)
     (plan.Text (refusal line m.column (length m.word) (no_scheme m.kind m.word))) told.complaint (refl, told.carries) told.least
 
 pub line_fits : (names : List (List ℕ)) (line : ℕ) (schemes : List Places) (ms : List Mark) (stop : Option Stop)
@@ -129,7 +129,7 @@ pub line_fits : (names : List (List ℕ)) (line : ℕ) (schemes : List Places) (
 unfolding read_line
 line_fits names line schemes [] None = record { ended = refl; adds = inl (refl, refl); fine = λ p n h. no_flaw n h.1 }
 line_fits names line schemes [] (Some s) =
-    first_here (LineComplaint names (length schemes) [] (Some s)) (StandsAt line (span_at line 1 [] (Some s)) wanted) (plan.Text (refused_by line s))
+    first_here (SchemeLineComplaint names (length schemes) [] (Some s)) (SpansPlace line (span_at line 1 [] (Some s)) wanted) (plan.Text (refused_by line s))
     (refl, (s, refl, flaw_numbered s.flaw)) (refl, flaw_carries (λ w. w ≡ wanted 0) s.flaw) (λ n h. flaw_least s n h.1)
 line_fits names line schemes (m ∷ ms) stop =
     head_fit names line schemes m ms stop (is_scheme m.kind m.word) (nat_le MOST_SCHEMES (length schemes)) refl refl
@@ -138,13 +138,13 @@ line_fits names line schemes (m ∷ ms) stop =
 -- the lines mean the schemes that they add
 pub record AreRead (names : List (List ℕ)) (schemes : List Places) (lines : List (List ℕ)) (whole : List Places) : Type 0 where
   pub others : List Places
-  pub means : MeansLines names lines others
+  pub means : MeansSchemeLines names lines others
   pub added : whole ≡ schemes ++ others
   pub few : length schemes ≤ MOST_SCHEMES → length whole ≤ MOST_SCHEMES
 
 abbrev pub LinesFit : List (List ℕ) → ℕ → List Places → List (List ℕ) → Result (List Places) PlanRefusal → Type 0
 LinesFit names number schemes lines (Ok whole) = AreRead names schemes lines whole
-LinesFit names number schemes lines (Err e) = RefusesLines names number (length schemes) lines e
+LinesFit names number schemes lines (Err e) = RefusesSchemeLines names number (length schemes) lines e
 
 lexed_is : (l : Lexed) (ms : List Mark) → l.marks ≡ ms → l.stop ≡ None → HasTokens l ms
 lexed_is l ms marks ended = λ i. record { marks = marks i; stop = ended i }
@@ -167,7 +167,7 @@ lines_after names number schemes line lines more (Ok whole) read fit =
     })
     read.adds
 lines_after names number schemes line lines more (Err e) read fit =
-    inr (read.fine, subst (λ (n : ℕ). RefusesLines names (number + 1) n lines e) count fit)
+    inr (read.fine, subst (λ (n : ℕ). RefusesSchemeLines names (number + 1) n lines e) count fit)
   where
     count : length more ≡ length schemes + schemes_in (lex mode.Plain line).marks
     count = ⊎_elim
@@ -193,10 +193,10 @@ lines_fit names number schemes (line ∷ lines) =
     (λ more. lines_fit names (number + 1) more lines) (line_fits names number schemes (lex mode.Plain line).marks (lex mode.Plain line).stop)
 
 -- so what is read of a text is what its lines mean
-pub read_means : (names : List (List ℕ)) (lines : List (List ℕ)) (whole : List Places) → read_lines names 1 [] lines ≡ Ok whole → MeansLines names lines whole × (length whole ≤ MOST_SCHEMES)
+pub read_means : (names : List (List ℕ)) (lines : List (List ℕ)) (whole : List Places) → read_lines names 1 [] lines ≡ Ok whole → MeansSchemeLines names lines whole × (length whole ≤ MOST_SCHEMES)
 read_means names lines whole is =
     let fit : AreRead names [] lines whole = subst (λ (r : Result (List Places) PlanRefusal). LinesFit names 1 [] lines r) is (lines_fit names 1 [] lines) in
-    (subst (λ (xs : List Places). MeansLines names lines xs) (sym fit.added) fit.means, fit.few (omega arith))
+    (subst (λ (xs : List Places). MeansSchemeLines names lines xs) (sym fit.added) fit.means, fit.few (omega arith))
 
-pub refused_refuses : (names : List (List ℕ)) (lines : List (List ℕ)) (e : PlanRefusal) → read_lines names 1 [] lines ≡ Err e → RefusesLines names 1 0 lines e
+pub refused_refuses : (names : List (List ℕ)) (lines : List (List ℕ)) (e : PlanRefusal) → read_lines names 1 [] lines ≡ Err e → RefusesSchemeLines names 1 0 lines e
 refused_refuses names lines e is = subst (λ (r : Result (List Places) PlanRefusal). LinesFit names 1 [] lines r) is (lines_fit names 1 [] lines)

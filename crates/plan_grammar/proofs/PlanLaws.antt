@@ -10,7 +10,7 @@ use Rattle.lexer.specs.Tokens.{Mark}
 use Rattle.schema_grammar.specs.declared.format.Format.TheVariants as format
 use Rattle.schema_grammar.specs.Meanings.{IsAttribute, is_at, named}
 use Rattle.schema_grammar.proofs.WithinLemmas.{place_named_within}
-use Rattle.plan_grammar.specs.Meanings.{IsSchemeLine, MeansLines}
+use Rattle.plan_grammar.specs.Meanings.{IsSchemeLine, MeansSchemeLines}
 
 at_within : (n : ℕ) (o : Option ℕ) (k : ℕ) → IfSome o (λ a. a < n) → is_at o k ≡ true → k < n
 at_within n None k low here = absurd (false≢true here)
@@ -38,7 +38,7 @@ named_some names (m ∷ ms) some each empty =
 line_some : (names : List (List ℕ)) (ms : List Mark) (x : Places) → IsSchemeLine names ms x → IsEmpty x → ⊥
 line_some names ms x is empty = named_some names is.words is.some is.each (λ k. sym (ap (λ (y : Places). y k) is.members) ∙ empty k)
 
-pub lines_within : (names : List (List ℕ)) (lines : List (List ℕ)) (schemes : List Places) → MeansLines names lines schemes → All (λ x. Within x (below (length names))) schemes
+pub lines_within : (names : List (List ℕ)) (lines : List (List ℕ)) (schemes : List Places) → MeansSchemeLines names lines schemes → All (λ x. Within x (below (length names))) schemes
 lines_within names [] schemes is = subst (λ (xs : List Places). All (λ x. Within x (below (length names))) xs) (sym is) (All-nil (λ (x : Places). Within x (below (length names))))
 lines_within names (line ∷ lines) schemes is =
     ⊎_elim
@@ -47,7 +47,7 @@ lines_within names (line ∷ lines) schemes is =
     (All-cons (λ (x : Places). Within x (below (length names))) adds.0 adds.1 (line_within names adds.2.marks adds.0 adds.2.scheme) (lines_within names lines adds.1 adds.3)))
     is
 
-pub lines_some : (names : List (List ℕ)) (lines : List (List ℕ)) (schemes : List Places) → MeansLines names lines schemes → All (λ x. IsEmpty x → ⊥) schemes
+pub lines_some : (names : List (List ℕ)) (lines : List (List ℕ)) (schemes : List Places) → MeansSchemeLines names lines schemes → All (λ x. IsEmpty x → ⊥) schemes
 lines_some names [] schemes is = subst (λ (xs : List Places). All (λ x. IsEmpty x → ⊥) xs) (sym is) (All-nil (λ (x : Places). IsEmpty x → ⊥))
 lines_some names (line ∷ lines) schemes is =
     ⊎_elim

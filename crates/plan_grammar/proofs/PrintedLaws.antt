@@ -19,7 +19,7 @@ use Rattle.schema_grammar.proofs.PrintedLexing.{AllNames, Apart, word_marks, wor
 use Rattle.schema_grammar.proofs.PrintedSides.{printed_side, printed_names}
 use Rattle.schema_grammar.proofs.PrintedTexts.{bytes_both, words_bytes, EachBytes, lines_cut}
 use Rattle.plan_grammar.specs.declared.refusal.TheConstants.{MOST_SCHEMES}
-use Rattle.plan_grammar.specs.Meanings.{is_scheme, MeansScheme, MeansLines, MeansPlan}
+use Rattle.plan_grammar.specs.Meanings.{is_scheme, MeansScheme, MeansSchemeLines, MeansPlan}
 use Rattle.plan_grammar.specs.Printing.{scheme_text, plan_text}
 
 -- a word, and words each after a blank
@@ -79,7 +79,7 @@ scheme_means names x are within some =
     }
 
 lines_mean : (names : List (List ℕ)) (schemes : List Places) → AreNames format.Plain names → All (λ x. Within x (below (length names))) schemes → All (λ x. IsEmpty x → ⊥) schemes
-    → MeansLines names (map (scheme_text names) schemes ++ [] ∷ []) schemes
+    → MeansSchemeLines names (map (scheme_text names) schemes ++ [] ∷ []) schemes
 lines_mean names [] are within some = inl (nothing_left mode.Plain 1, refl)
 lines_mean names (x ∷ schemes) are within some =
     inr (
@@ -101,7 +101,7 @@ no_mark names (x ∷ schemes) = refl
 
 pub printed_plan_means : (names : List (List ℕ)) (schemes : List Places) → AreNames format.Plain names → IsPlan (length names) schemes → length schemes ≤ MOST_SCHEMES → MeansPlan names (plan_text names schemes) schemes
 printed_plan_means names schemes are plan few = record {
-  lines = subst (λ (lines : List (List ℕ)). MeansLines names lines schemes)
+  lines = subst (λ (lines : List (List ℕ)). MeansSchemeLines names lines schemes)
       (sym (ap (λ (text : List ℕ). line_texts text) (no_mark names schemes) ∙ lines_cut (map (scheme_text names) schemes) (each_bytes names schemes are)))
       (lines_mean names schemes are plan.within plan.some);
   few = few;

@@ -20,7 +20,7 @@ use Rattle.schema_grammar.proofs.SideLemmas.{union-only, union-none, named-cons}
 use Rattle.plan_grammar.specs.declared.refusal.PlanRefusal.{PlanRefusal}
 use Rattle.plan_grammar.specs.declared.refusal.PlanRefusal.TheVariants as plan
 use Rattle.plan_grammar.specs.Refusals.{plan_refusal_number}
-use Rattle.plan_grammar.specs.Complaints.{WordComplaint, WordsComplaint, StandsAt, IsFirstOf, wanted_after}
+use Rattle.plan_grammar.specs.Complaints.{WordComplaint, WordsComplaint, SpansPlace, IsFirstOf, wanted_after}
 use Rattle.plan_grammar.specs.Reading.{of_text, other_token, attribute, read_words}
 use Rattle.plan_grammar.proofs.FirstLemmas.{first_here, first_later, later_fine, no_flaw, flaw_least}
 
@@ -59,7 +59,7 @@ module _ (names : List (List ℕ)) (line after : ℕ) (m : Mark) (ms : List Mark
 
   abbrev pub Tells : Bool → Result ℕ PlanRefusal → Type 0
   Tells first (Ok a) = IsNamed a
-  Tells first (Err e) = WordComplaint names first m (plan_refusal_number e) × StandsAt line (span_at line after (m ∷ ms) stop) (wanted_after first) 0 e
+  Tells first (Err e) = WordComplaint names first m (plan_refusal_number e) × SpansPlace line (span_at line after (m ∷ ms) stop) (wanted_after first) 0 e
       × ((n : ℕ) → WordComplaint names first m n → plan_refusal_number e ≤ n)
 
   word_tells : (first : Bool) → m.kind ≡ token.Word → Tells first (of_text (at line m.column (length m.word) (looked_up format.Plain names m.word)))
@@ -126,7 +126,7 @@ pub record AreWords (names : List (List ℕ)) (first : Bool) (x : Places) (ms : 
 
 abbrev pub WordsFit : List (List ℕ) → ℕ → Bool → Places → ℕ → List Mark → Option Stop → Result Places PlanRefusal → Type 0
 WordsFit names line first x after ms stop (Ok y) = AreWords names first x ms stop y
-WordsFit names line first x after ms stop (Err e) = IsFirstOf (WordsComplaint names first ms stop) (StandsAt line (span_at line after ms stop) (wanted_after first)) e
+WordsFit names line first x after ms stop (Err e) = IsFirstOf (WordsComplaint names first ms stop) (SpansPlace line (span_at line after ms stop) (wanted_after first)) e
 
 named_fine : (names : List (List ℕ)) (line after : ℕ) (first : Bool) (m : Mark) (ms : List Mark) (stop : Option Stop) (a n : ℕ) → IsNamed names line after m ms stop a → WordComplaint names first m n → ⊥
 named_fine names line after first m ms stop a n is h =
@@ -155,7 +155,7 @@ words_after names line after first x m ms stop a (Ok y) is fit = record {
   fine = later_fine (WordsComplaint names first (m ∷ ms) stop) (λ n h. named_fine names line after first m ms stop a n is h) fit.fine;
 }
 words_after names line after first x m ms stop a (Err e) is fit =
-    first_later (WordsComplaint names first (m ∷ ms) stop) (StandsAt line (span_at line after (m ∷ ms) stop) (wanted_after first)) e
+    first_later (WordsComplaint names first (m ∷ ms) stop) (SpansPlace line (span_at line after (m ∷ ms) stop) (wanted_after first)) e
     (λ n h. named_fine names line after first m ms stop a n is h) fit
 
 words_join : (names : List (List ℕ)) (line after : ℕ) (first : Bool) (x : Places) (m : Mark) (ms : List Mark) (stop : Option Stop) (r : Result ℕ PlanRefusal)
@@ -165,12 +165,12 @@ words_join : (names : List (List ℕ)) (line after : ℕ) (first : Bool) (x : Pl
 words_join names line after first x m ms stop (Ok a) later tells =
     words_after names line after first x m ms stop a (read_words names line false (union x (only a)) ms stop) tells (later a)
 words_join names line after first x m ms stop (Err e) later tells =
-    first_here (WordsComplaint names first (m ∷ ms) stop) (StandsAt line (span_at line after (m ∷ ms) stop) (wanted_after first)) e tells.0 tells.1 tells.2
+    first_here (WordsComplaint names first (m ∷ ms) stop) (SpansPlace line (span_at line after (m ∷ ms) stop) (wanted_after first)) e tells.0 tells.1 tells.2
 
 stopped_fit : (names : List (List ℕ)) (line : ℕ) (first : Bool) (after : ℕ) (s : Stop)
-    → IsFirstOf (WordsComplaint names first [] (Some s)) (StandsAt line (span_at line after [] (Some s)) (wanted_after first)) (plan.Text (refused_by line s))
+    → IsFirstOf (WordsComplaint names first [] (Some s)) (SpansPlace line (span_at line after [] (Some s)) (wanted_after first)) (plan.Text (refused_by line s))
 stopped_fit names line first after s =
-    first_here (WordsComplaint names first [] (Some s)) (StandsAt line (span_at line after [] (Some s)) (wanted_after first)) (plan.Text (refused_by line s))
+    first_here (WordsComplaint names first [] (Some s)) (SpansPlace line (span_at line after [] (Some s)) (wanted_after first)) (plan.Text (refused_by line s))
     (refl, inr (s, refl, flaw_numbered s.flaw)) (refl, flaw_carries (λ w. w ≡ wanted_after first 0) s.flaw)
     (λ n h. ⊎_elim (λ ended. absurd (some_stop ended.0)) (λ flaw. flaw_least s n flaw) h.1)
   where
@@ -181,7 +181,7 @@ pub words_fit : (names : List (List ℕ)) (line : ℕ) (first : Bool) (x : Place
     → WordsFit names line first x after ms stop (read_words names line first x ms stop)
 unfolding read_words
 words_fit names line true x after [] None =
-    first_here (WordsComplaint names true [] None) (StandsAt line (span_at line after [] None) (wanted_after true)) (plan.EmptyScheme line)
+    first_here (WordsComplaint names true [] None) (SpansPlace line (span_at line after [] None) (wanted_after true)) (plan.EmptyScheme line)
     (refl, inl (refl, refl, refl)) refl
     (λ n h. ⊎_elim (λ ended. omega (arith, ended.2)) (λ flaw. absurd (no_flaw n flaw)) h.1)
 words_fit names line false x after [] None = record {

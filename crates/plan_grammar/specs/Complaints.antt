@@ -15,7 +15,7 @@ use Rattle.schema_grammar.specs.Words.{is_reserved}
 use Rattle.plan_grammar.specs.declared.refusal.PlanRefusal.{PlanRefusal}
 use Rattle.plan_grammar.specs.declared.refusal.PlanRefusal.TheVariants as plan
 use Rattle.plan_grammar.specs.declared.refusal.TheConstants.{MOST_SCHEMES}
-use Rattle.plan_grammar.specs.Meanings.{is_scheme, MeansLines}
+use Rattle.plan_grammar.specs.Meanings.{is_scheme, MeansSchemeLines}
 use Rattle.plan_grammar.specs.Refusals.{plan_refusal_number}
 
 -- bytes that are no token
@@ -24,8 +24,8 @@ FlawComplaint stop number = (s : Stop) × (stop ≡ Some s) × (number ≡ flaw_
 
 -- what is wrong with the first token of a line, before which so many scheme lines stand: it is another
 -- one than the word `scheme`, or begins one scheme line too many
-abbrev pub HeadComplaint : ℕ → Mark → ℕ → Type 0
-HeadComplaint earlier m number =
+abbrev pub FirstTokenComplaint : ℕ → Mark → ℕ → Type 0
+FirstTokenComplaint earlier m number =
     ((is_scheme m.kind m.word ≡ false)
     × (((number ≡ 3) × (m.kind ≡ token.Word) × (is_reserved format.Plain m.word ≡ true))
     ⊎ (number ≡ 6)))
@@ -46,10 +46,10 @@ WordsComplaint names first (m ∷ ms) stop zero number = WordComplaint names fir
 WordsComplaint names first (m ∷ ms) stop (suc place) number = WordsComplaint names false ms stop place number
 
 -- what is wrong with a line at a place, before which so many of its tokens stand
-abbrev pub LineComplaint : List (List ℕ) → ℕ → List Mark → Option Stop → ℕ → ℕ → Type 0
-LineComplaint names earlier [] stop place number = (place ≡ 0) × FlawComplaint stop number
-LineComplaint names earlier (m ∷ ms) stop zero number = HeadComplaint earlier m number
-LineComplaint names earlier (m ∷ ms) stop (suc place) number = WordsComplaint names true ms stop place number
+abbrev pub SchemeLineComplaint : List (List ℕ) → ℕ → List Mark → Option Stop → ℕ → ℕ → Type 0
+SchemeLineComplaint names earlier [] stop place number = (place ≡ 0) × FlawComplaint stop number
+SchemeLineComplaint names earlier (m ∷ ms) stop zero number = FirstTokenComplaint earlier m number
+SchemeLineComplaint names earlier (m ∷ ms) stop (suc place) number = WordsComplaint names true ms stop place number
 
 -- what a refusal 6 carries at a place after the word `scheme`
 abbrev pub wanted_after : Bool → ℕ → What
@@ -62,12 +62,12 @@ wanted zero = what.Scheme
 wanted (suc place) = wanted_after true place
 
 -- a refusal stands at a place of a line
-abbrev pub StandsAt : ℕ → (ℕ → Span) → (ℕ → What) → ℕ → PlanRefusal → Type 0
-StandsAt line span want place (plan.Text e) = (e.span ≡ span place) × Carries (λ w. w ≡ want place) e.kind
-StandsAt line span want place (plan.EmptyScheme l) = l ≡ line
-StandsAt line span want place (plan.TooManySchemes l) = l ≡ line
-StandsAt line span want place (plan.NotCovered a) = ⊥
-StandsAt line span want place plan.Memory = ⊥
+abbrev pub SpansPlace : ℕ → (ℕ → Span) → (ℕ → What) → ℕ → PlanRefusal → Type 0
+SpansPlace line span want place (plan.Text e) = (e.span ≡ span place) × Carries (λ w. w ≡ want place) e.kind
+SpansPlace line span want place (plan.EmptyScheme l) = l ≡ line
+SpansPlace line span want place (plan.TooManySchemes l) = l ≡ line
+SpansPlace line span want place (plan.NotCovered a) = ⊥
+SpansPlace line span want place plan.Memory = ⊥
 
 -- a refusal is the complaint of the least place, and there that of the least number
 pub record IsFirstOf (Complaint : ℕ → ℕ → Type 0) (Stands : ℕ → PlanRefusal → Type 0) (e : PlanRefusal)
@@ -80,11 +80,11 @@ pub record IsFirstOf (Complaint : ℕ → ℕ → Type 0) (Stands : ℕ → Plan
 -- a line is refused by its first complaint
 abbrev pub RefusesLine : List (List ℕ) → ℕ → ℕ → List Mark → Option Stop → PlanRefusal → Type 0
 RefusesLine names line earlier ms stop e =
-    IsFirstOf (LineComplaint names earlier ms stop) (StandsAt line (span_at line 1 ms stop) wanted) e
+    IsFirstOf (SchemeLineComplaint names earlier ms stop) (SpansPlace line (span_at line 1 ms stop) wanted) e
 
 -- nothing is wrong with it
 abbrev pub IsFine : List (List ℕ) → ℕ → List Mark → Option Stop → Type 0
-IsFine names earlier ms stop = (place number : ℕ) → LineComplaint names earlier ms stop place number → ⊥
+IsFine names earlier ms stop = (place number : ℕ) → SchemeLineComplaint names earlier ms stop place number → ⊥
 
 -- how many scheme lines a line is with which nothing is wrong
 abbrev pub schemes_in : List Mark → ℕ
@@ -92,12 +92,12 @@ schemes_in [] = 0
 schemes_in (m ∷ ms) = 1
 
 -- lines, of which the first has this number, are refused by the first line with which something is wrong
-abbrev pub RefusesLines : List (List ℕ) → ℕ → ℕ → List (List ℕ) → PlanRefusal → Type 0
-RefusesLines names number earlier [] e = ⊥
-RefusesLines names number earlier (line ∷ lines) e =
+abbrev pub RefusesSchemeLines : List (List ℕ) → ℕ → ℕ → List (List ℕ) → PlanRefusal → Type 0
+RefusesSchemeLines names number earlier [] e = ⊥
+RefusesSchemeLines names number earlier (line ∷ lines) e =
     RefusesLine names number earlier (lex mode.Plain line).marks (lex mode.Plain line).stop e
     ⊎ (IsFine names earlier (lex mode.Plain line).marks (lex mode.Plain line).stop
-    × RefusesLines names (number + 1) (earlier + schemes_in (lex mode.Plain line).marks) lines e)
+    × RefusesSchemeLines names (number + 1) (earlier + schemes_in (lex mode.Plain line).marks) lines e)
 
 -- the attributes that are in no scheme
 abbrev pub uncovered : ℕ → List Places → Places
@@ -106,7 +106,7 @@ uncovered n schemes k = below n k && not (list_any (λ scheme. scheme k) schemes
 -- the lines mean schemes, and this is the least attribute that is in none
 pub record LeavesOut (names : List (List ℕ)) (lines : List (List ℕ)) (e : PlanRefusal) : Type 0 where
   pub schemes : List Places
-  pub means : MeansLines names lines schemes
+  pub means : MeansSchemeLines names lines schemes
   pub few : length schemes ≤ MOST_SCHEMES
   pub attribute : ℕ
   pub least : IsLeastFrom (uncovered (length names) schemes) 0 attribute
@@ -115,5 +115,5 @@ pub record LeavesOut (names : List (List ℕ)) (lines : List (List ℕ)) (e : Pl
 -- a plan text over declared names is refused so
 abbrev pub RefusesPlan : List (List ℕ) → List ℕ → PlanRefusal → Type 0
 RefusesPlan names text e =
-    RefusesLines names 1 0 (line_texts (without_mark text)) e
+    RefusesSchemeLines names 1 0 (line_texts (without_mark text)) e
     ⊎ LeavesOut names (line_texts (without_mark text)) e

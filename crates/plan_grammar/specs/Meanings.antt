@@ -38,15 +38,15 @@ pub record MeansScheme (names : List (List ℕ)) (line : List ℕ) (x : Places) 
   pub scheme : IsSchemeLine names marks x
 
 -- lines mean the schemes of their scheme lines, in order; the others have no tokens
-abbrev pub MeansLines : List (List ℕ) → List (List ℕ) → List Places → Type 0
-MeansLines names [] schemes = schemes ≡ []
-MeansLines names (line ∷ lines) schemes =
-    (HasTokens (lex mode.Plain line) [] × MeansLines names lines schemes)
-    ⊎ ((x : Places) × (others : List Places) × MeansScheme names line x × MeansLines names lines others
+abbrev pub MeansSchemeLines : List (List ℕ) → List (List ℕ) → List Places → Type 0
+MeansSchemeLines names [] schemes = schemes ≡ []
+MeansSchemeLines names (line ∷ lines) schemes =
+    (HasTokens (lex mode.Plain line) [] × MeansSchemeLines names lines schemes)
+    ⊎ ((x : Places) × (others : List Places) × MeansScheme names line x × MeansSchemeLines names lines others
     × (schemes ≡ x ∷ others))
 
 -- a plan text over declared names means schemes
 pub record MeansPlan (names : List (List ℕ)) (text : List ℕ) (schemes : List Places) : Type 0 where
-  pub lines : MeansLines names (line_texts (without_mark text)) schemes
+  pub lines : MeansSchemeLines names (line_texts (without_mark text)) schemes
   pub few : length schemes ≤ MOST_SCHEMES
   pub covers : Covers (length names) schemes

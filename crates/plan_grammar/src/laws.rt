@@ -4,8 +4,8 @@ ghost use Rattle.std.specs.Prelude.{◌≡◌, ◌≤◌, ℕ, List, [], length,
 ghost use Rattle.attr_sets.specs.Places.{Places};
 ghost use Rattle.dep_model.specs.Plans.{IsPlan};
 ghost use Rattle.schema_grammar.specs.Printed.{AreNames};
-ghost use Rattle.plan_grammar.specs.Complaints.{RefusesLines, RefusesPlan};
-ghost use Rattle.plan_grammar.specs.Meanings.{MeansLines, MeansPlan};
+ghost use Rattle.plan_grammar.specs.Complaints.{RefusesSchemeLines, RefusesPlan};
+ghost use Rattle.plan_grammar.specs.Meanings.{MeansSchemeLines, MeansPlan};
 ghost use Rattle.plan_grammar.specs.Printing.{plan_text};
 ghost use Rattle.plan_grammar.specs.Reading.{read_lines};
 ghost use Rattle.plan_grammar.specs.declared.refusal.PlanRefusal.{PlanRefusal};
@@ -17,13 +17,13 @@ use schema_grammar::Format;
 pub fn lines_are_read()
     ensures law { (names lines : List (List ℕ)) (schemes : List Places)
         → read_lines names 1 [] lines ≡ Ok schemes
-        → MeansLines names lines schemes × (length schemes ≤ MOST_SCHEMES) }
+        → MeansSchemeLines names lines schemes × (length schemes ≤ MOST_SCHEMES) }
 {}
 
 /// Lines are refused by their first complaint.
 pub fn lines_are_refused()
     ensures law { (names lines : List (List ℕ)) (refusal : PlanRefusal)
-        → read_lines names 1 [] lines ≡ Err refusal → RefusesLines names 1 0 lines refusal }
+        → read_lines names 1 [] lines ≡ Err refusal → RefusesSchemeLines names 1 0 lines refusal }
 {}
 
 /// What is printed of a plan means its schemes, where no name is reserved.

@@ -21,5 +21,5 @@ pub record IsKeptClosure (n : ℕ) (ds : List Dependency) (plan : List Places) (
   pub inside : ObeysInside n ds plan (two_tuples n c)
 
 -- what is told of a left side is all that follows from it
-abbrev pub IsClosed : ℕ → List Dependency → List Places → Closed → Type 0
-IsClosed n ds plan told = IsKeptClosure n ds plan (places told.from) (places told.closed)
+abbrev pub TellsKeptClosure : ℕ → List Dependency → List Places → Closed → Type 0
+TellsKeptClosure n ds plan told = IsKeptClosure n ds plan (places told.from) (places told.closed)

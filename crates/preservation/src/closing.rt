@@ -7,7 +7,7 @@ ghost use Rattle.dep_model.specs.Tuples.{Relation};
 ghost use Rattle.fd_closure.specs.Counting.{switches_of};
 ghost use Rattle.preservation.specs.Insides.{IsKnown, known_schemes, known_plan, AreAllOn};
 ghost use Rattle.preservation.specs.Keeping.{FollowsInside, ObeysInside};
-ghost use Rattle.preservation.specs.Settled.{IsClosed, IsSettledIn, IsKeptClosure};
+ghost use Rattle.preservation.specs.Settled.{TellsKeptClosure, IsSettledIn, IsKeptClosure};
 
 use crate::inside::{Inside, inside_by};
 use attr_sets::AttrSet;
@@ -33,7 +33,7 @@ pub fn closure_after(
     requires on { AreAllOn schema.now counters.old }
     requires known { All (IsKnown (width_of schema.now) (theory_of schema.now)) insides.old }
     requires last { IfSome last
-        (IsClosed (width_of schema.now) (theory_of schema.now) (known_plan insides.old)) }
+        (TellsKeptClosure (width_of schema.now) (theory_of schema.now) (known_plan insides.old)) }
     requires from { Within (places from) (universe_of schema.now) }
     ensures follows { FollowsInside (width_of schema.now) (theory_of schema.now) (known_plan insides.old)
         (places from) (places result) }

@@ -8,7 +8,7 @@ ghost use Rattle.dep_model.specs.Schemas.{width_of, theory_of, universe_of};
 ghost use Rattle.fd_closure.specs.Counting.{switches_of};
 ghost use Rattle.preservation.specs.Insides.{IsKnown, known_schemes, known_plan, AreAllOn};
 ghost use Rattle.preservation.specs.Keeping.{IsKept, IsLostOn, LossesOf};
-ghost use Rattle.preservation.specs.Settled.{IsClosed};
+ghost use Rattle.preservation.specs.Settled.{TellsKeptClosure};
 
 use crate::closing::{Closed, closure_after};
 use crate::inside::{Inside, insides_of};
@@ -65,12 +65,12 @@ fn loss_of(
     requires on { AreAllOn schema.now counters.old }
     requires known { All (IsKnown (width_of schema.now) (theory_of schema.now)) insides.old }
     requires last { IfSome last
-        (IsClosed (width_of schema.now) (theory_of schema.now) (known_plan insides.old)) }
+        (TellsKeptClosure (width_of schema.now) (theory_of schema.now) (known_plan insides.old)) }
     requires dep { IsDepWithin (universe_of schema.now) dep }
     ensures lost { IfSome result (λ told. IsLostOn (width_of schema.now) (theory_of schema.now)
         (known_plan insides.old) (dependency_of dep) (places told.closed)) }
     ensures all { IfSome result
-        (IsClosed (width_of schema.now) (theory_of schema.now) (known_plan insides.old)) }
+        (TellsKeptClosure (width_of schema.now) (theory_of schema.now) (known_plan insides.old)) }
     ensures kept { IfNone result (IsKept (width_of schema.now) (theory_of schema.now)
         (known_plan insides.old) (dependency_of dep)) }
     ensures known { All (IsKnown (width_of schema.now) (theory_of schema.now)) insides.new }

@@ -13,7 +13,7 @@ use Rattle.schema_grammar.specs.Words.{is_reserved}
 use Rattle.proof_grammar.specs.declared.rule_name.RuleName.{RuleName}
 use Rattle.proof_grammar.specs.declared.rule_name.RuleName.TheVariants as rule
 use Rattle.proof_grammar.specs.Lines.{Line, line}
-use Rattle.proof_grammar.specs.LineComplaints.{Form, form_of, word_form, forms, a_number, a_colon, an_arrow, an_empty, a_with, a_rule, a_word, AreLine, BeginLine, TakesNames, FormsWant}
+use Rattle.proof_grammar.specs.LineComplaints.{TokenForm, token_form, word_form, forms, a_number, a_colon, an_arrow, an_empty, a_with, a_rule, a_word, AreLine, BeginLine, TakesNames, FormsWant}
 use Rattle.proof_grammar.specs.Tokens.{is_with, rule_word}
 use Rattle.proof_grammar.proofs.FormShapes.{Side, lhs, rhs, by, wide, narrow, Shape, at_start, past_number, at_side, past_words, past_empty, at_rule, at_premise, at_with, at_end, Ends, bind, completion, completed, is_final, runs, runs-append, runs-one, takes_words, turn, wanted_by}
 use Rattle.proof_grammar.proofs.JudgedLines.{Judged, OnShape, TokenWrong}
@@ -25,7 +25,7 @@ use Rattle.proof_grammar.proofs.TokenLaws.{spelled, named_back, rest_at}
 abbrev sample_of : TokenKind → List ℕ → Mark
 sample_of k word = record { kind = k; column = 0; word = word }
 
-abbrev sample : Form → Mark
+abbrev sample : TokenForm → Mark
 sample a_number = sample_of (token.Number 0) []
 sample a_colon = sample_of token.Colon []
 sample an_arrow = sample_of token.Arrow []
@@ -41,7 +41,7 @@ all_words =
     ∷ codes "mreflexivity" ∷ codes "maugmentation" ∷ codes "mtransitivity" ∷ codes "replication"
     ∷ codes "coalescence" ∷ []
 
-sample_form : (f : Form) → form_of (sample f).kind (sample f).word ≡ f
+sample_form : (f : TokenForm) → token_form (sample f).kind (sample f).word ≡ f
 unfolding is_with rule_word
 sample_form a_number = refl
 sample_form a_colon = refl
@@ -51,7 +51,7 @@ sample_form a_with = refl
 sample_form (a_rule r) = ap (λ o. word_form o (is_with token.Word (spelled r))) (named_back r)
 sample_form a_word = refl
 
-sample_forms : (fs : List Form) → forms (map sample fs) ≡ fs
+sample_forms : (fs : List TokenForm) → forms (map sample fs) ≡ fs
 sample_forms [] = refl
 sample_forms (f ∷ fs) = (λ i. sample_form f i ∷ sample_forms fs i)
 
@@ -87,7 +87,7 @@ no_complaint : (word : List ℕ) (n : ℕ) → IsName word
 no_complaint word n is (kind, inl three) = let wrong : false ≡ true = sym is.free ∙ three.1 in cc
 no_complaint word n is (kind, inr five) = let wrong : Some is.place ≡ None = sym is.known ∙ five.1 in cc
 
-sample_right : (f : Form) (n : ℕ) → ComplainsOfWord format.Plain all_words (sample f) n → ⊥
+sample_right : (f : TokenForm) (n : ℕ) → ComplainsOfWord format.Plain all_words (sample f) n → ⊥
 sample_right a_number n complaint = let wrong : token.Number 0 ≡ token.Word = complaint.0 in cc
 sample_right a_colon n complaint = let wrong : token.Colon ≡ token.Word = complaint.0 in cc
 sample_right an_arrow n complaint = let wrong : token.Arrow ≡ token.Word = complaint.0 in cc
@@ -97,7 +97,7 @@ sample_right (a_rule r) n complaint = no_complaint (spelled r) n (rule_is_name r
 sample_right a_word n complaint = no_complaint (codes "a") n a_is_name complaint
 
 -- nothing is wrong with samples that lead to an end
-sample_fine : (s : Shape) (fs : List Form) (last : Shape) (p n : ℕ) → runs s fs ≡ Some last → is_final last ≡ true
+sample_fine : (s : Shape) (fs : List TokenForm) (last : Shape) (p n : ℕ) → runs s fs ≡ Some last → is_final last ≡ true
     → TokenWrong s all_words (map sample fs) None p n → ⊥
 sample_fine s [] last zero n leads final h =
     let same : s ≡ last = cc in
@@ -108,7 +108,7 @@ sample_fine s (f ∷ fs) last zero n leads final (inr six) =
     let cannot : turn s f ≡ None = sym (ap (turn s) (sample_form f)) ∙ six.1 in
     let wrong : None ≡ Some last = sym (ap (λ o. bind o (λ t. runs t fs)) cannot) ∙ leads in cc
 sample_fine s (f ∷ fs) last (suc p) n leads final h =
-    told (turn s f) (subst (λ (g : Form). OnShape (turn s g) (λ t. TokenWrong t all_words (map sample fs) None p n))
+    told (turn s f) (subst (λ (g : TokenForm). OnShape (turn s g) (λ t. TokenWrong t all_words (map sample fs) None p n))
     (sample_form f) h) leads
     (λ t on. sample_fine t fs last p n on final)
   where
@@ -119,7 +119,7 @@ sample_fine s (f ∷ fs) last (suc p) n leads final h =
     told (Some t) wrong on rest = rest t on wrong
 
 -- ---- lines
-pub final_line : (fs : List Form) (s : Shape) → runs at_start fs ≡ Some s → is_final s ≡ true → AreLine fs
+pub final_line : (fs : List TokenForm) (s : Shape) → runs at_start fs ≡ Some s → is_final s ≡ true → AreLine fs
 final_line fs s leads final = told (line all_words (rest_at 1 1 (map sample fs))) refl
     (line_judged all_words 1 1 (map sample fs) None)
   where
@@ -144,7 +144,7 @@ final_line fs s leads final = told (line all_words (rest_at 1 1 (map sample fs))
         no_stop : (t : Stop) → None ≡ Some t → ⊥
         no_stop t e = cc
 
-pub line_ends : (fs : List Form) → AreLine fs → Ends at_start fs
+pub line_ends : (fs : List TokenForm) → AreLine fs → Ends at_start fs
 line_ends fs is =
     let read = marks_read is.names 1 1 is.marks is.line is.is_line in
     let judged = line_judged is.names 1 1 is.marks None in
@@ -152,7 +152,7 @@ line_ends fs is =
     subst (Judged at_start is.names 1 1 is.marks None) read judged in
     subst (Ends at_start) is.same_forms ok.0
 
-pub begins_from : (fs : List Form) (s : Shape) → runs at_start fs ≡ Some s → BeginLine fs
+pub begins_from : (fs : List TokenForm) (s : Shape) → runs at_start fs ≡ Some s → BeginLine fs
 begins_from fs s leads =
     let more = completed s in
     record {
@@ -162,11 +162,11 @@ begins_from fs s leads =
     }
 
 -- where forms that begin a line lead
-pub record Leads (fs : List Form) : Type 0 where
+pub record Leads (fs : List TokenForm) : Type 0 where
   pub shape : Shape
   pub leads : runs at_start fs ≡ Some shape
 
-pub begins_to : (fs : List Form) → BeginLine fs → Leads fs
+pub begins_to : (fs : List TokenForm) → BeginLine fs → Leads fs
 begins_to fs begins =
     let ends = line_ends (fs ++ begins.rest) begins.line in
     told (runs at_start fs) ends.last refl (sym (runs-append at_start fs begins.rest) ∙ ends.leads)
@@ -177,13 +177,13 @@ begins_to fs begins =
     told (Some s) last same e = record { shape = s; leads = same }
 
 -- and where one form more leads
-pub record LeadsOn (fs : List Form) (f : Form) : Type 0 where
+pub record LeadsOn (fs : List TokenForm) (f : TokenForm) : Type 0 where
   pub shape : Shape
   pub next : Shape
   pub leads : runs at_start fs ≡ Some shape
   pub on : turn shape f ≡ Some next
 
-pub begins_on : (fs : List Form) (f : Form) → BeginLine (fs ++ f ∷ []) → LeadsOn fs f
+pub begins_on : (fs : List TokenForm) (f : TokenForm) → BeginLine (fs ++ f ∷ []) → LeadsOn fs f
 begins_on fs f begins =
     let there = begins_to (fs ++ f ∷ []) begins in
     told there.shape (runs at_start fs) refl (sym (runs-append at_start fs (f ∷ [])) ∙ there.leads)
@@ -197,7 +197,7 @@ begins_on fs f begins =
         one None h = h
         one (Some t) h = h
 
-pub on_begins : (fs : List Form) (f : Form) (s t : Shape) → runs at_start fs ≡ Some s → turn s f ≡ Some t
+pub on_begins : (fs : List TokenForm) (f : TokenForm) (s t : Shape) → runs at_start fs ≡ Some s → turn s f ≡ Some t
     → BeginLine (fs ++ f ∷ [])
 on_begins fs f s t leads on = begins_from (fs ++ f ∷ []) t (runs-one fs s f leads ∙ on)
 
@@ -205,7 +205,7 @@ pub same_shape : (s t : Shape) (o : Option Shape) → o ≡ Some s → o ≡ Som
 same_shape s t o here there = cc
 
 -- ---- words of a side
-pub takes_names : (fs : List Form) (s : Shape) → runs at_start fs ≡ Some s → takes_words s ≡ true → TakesNames fs
+pub takes_names : (fs : List TokenForm) (s : Shape) → runs at_start fs ≡ Some s → takes_words s ≡ true → TakesNames fs
 takes_names fs (at_side k) leads takes = on_begins fs a_word (at_side k) (past_words k) leads refl
 takes_names fs (past_words k) leads takes = on_begins fs a_word (past_words k) (past_words k) leads refl
 takes_names fs at_start leads takes = cc
@@ -227,17 +227,17 @@ word_taken (at_premise a) t on = cc
 word_taken (at_with k) t on = cc
 word_taken at_end t on = cc
 
-pub names_taken : (fs : List Form) (s : Shape) → runs at_start fs ≡ Some s → TakesNames fs → takes_words s ≡ true
+pub names_taken : (fs : List TokenForm) (s : Shape) → runs at_start fs ≡ Some s → TakesNames fs → takes_words s ≡ true
 names_taken fs s leads takes =
     let there = begins_on fs a_word takes in
     let same = same_shape there.shape s (runs at_start fs) there.leads leads in
     subst (λ (t : Shape). takes_words t ≡ true) same (word_taken there.shape there.next there.on)
 
-no_names : (fs : List Form) (s : Shape) → runs at_start fs ≡ Some s → takes_words s ≡ false → TakesNames fs → ⊥
+no_names : (fs : List TokenForm) (s : Shape) → runs at_start fs ≡ Some s → takes_words s ≡ false → TakesNames fs → ⊥
 no_names fs s leads none takes = let wrong : true ≡ false = sym (names_taken fs s leads takes) ∙ none in cc
 
 -- ---- what is wanted
-side_wants : (k : Side) (fs : List Form) (s : Shape) → runs at_start fs ≡ Some s
+side_wants : (k : Side) (fs : List TokenForm) (s : Shape) → runs at_start fs ≡ Some s
     → turn s an_arrow ≡ turn (past_empty k) an_arrow → turn s a_colon ≡ turn (past_empty k) a_colon
     → (is_final (past_empty k) ≡ true → is_final s ≡ true) → FormsWant fs (wanted_by (past_empty k))
 side_wants lhs fs s leads arrow colon last = on_begins fs an_arrow s (at_side rhs) leads arrow
@@ -246,7 +246,7 @@ side_wants by fs s leads arrow colon last = final_line fs s leads (last refl)
 side_wants wide fs s leads arrow colon last = on_begins fs a_colon s (at_side narrow) leads colon
 side_wants narrow fs s leads arrow colon last = final_line fs s leads (last refl)
 
-pub wants_from : (fs : List Form) (s : Shape) → runs at_start fs ≡ Some s → FormsWant fs (wanted_by s)
+pub wants_from : (fs : List TokenForm) (s : Shape) → runs at_start fs ≡ Some s → FormsWant fs (wanted_by s)
 wants_from fs at_start leads = on_begins fs a_number at_start past_number leads refl
 wants_from fs past_number leads = on_begins fs a_colon past_number (at_side lhs) leads refl
 wants_from fs (at_side k) leads = on_begins fs an_empty (at_side k) (past_empty k) leads refl

@@ -4,7 +4,7 @@ use Rattle.schema_grammar.specs.declared.refusal.What.{What}
 use Rattle.schema_grammar.specs.declared.refusal.What.TheVariants as what
 use Rattle.proof_grammar.specs.declared.rule_name.RuleName.{RuleName}
 use Rattle.proof_grammar.specs.declared.rule_name.RuleName.TheVariants as rule
-use Rattle.proof_grammar.specs.LineComplaints.{Form, a_number, a_colon, an_arrow, an_empty, a_with, a_rule, a_word}
+use Rattle.proof_grammar.specs.LineComplaints.{TokenForm, a_number, a_colon, an_arrow, an_empty, a_with, a_rule, a_word}
 
 -- the sides of a line: those of its dependency, that of an augmentation, and those of a wide one
 pub data Side : Type 0 where
@@ -41,19 +41,19 @@ past_colon rhs = Some at_rule
 past_colon wide = Some (at_side narrow)
 past_colon _ = None
 
-abbrev pub closing : Side → Form → Option Shape
+abbrev pub closing : Side → TokenForm → Option Shape
 closing k an_arrow = past_arrow k
 closing k a_colon = past_colon k
 closing k _ = None
 
 -- where a token in a side leads
-abbrev pub within : Side → Form → Option Shape → Option Shape
+abbrev pub within : Side → TokenForm → Option Shape → Option Shape
 within k a_with other = Some (past_words k)
 within k (a_rule r) other = Some (past_words k)
 within k a_word other = Some (past_words k)
 within k _ other = other
 
-abbrev pub begun : Side → Form → Option Shape
+abbrev pub begun : Side → TokenForm → Option Shape
 begun k an_empty = Some (past_empty k)
 begun k _ = None
 
@@ -75,7 +75,7 @@ past_premise second = at_premise nothing
 past_premise (sets k) = at_with k
 
 -- where a token of a form leads
-abbrev pub turn : Shape → Form → Option Shape
+abbrev pub turn : Shape → TokenForm → Option Shape
 turn at_start a_number = Some past_number
 turn past_number a_colon = Some (at_side lhs)
 turn (at_side k) f = within k f (begun k f)
@@ -129,17 +129,17 @@ bind None f = None
 bind (Some s) f = f s
 
 -- where tokens of some forms lead
-abbrev pub runs : Shape → List Form → Option Shape
+abbrev pub runs : Shape → List TokenForm → Option Shape
 runs s [] = Some s
 runs s (f ∷ fs) = bind (turn s f) (λ t. runs t fs)
 
 -- they lead to an end of the line
-pub record Ends (s : Shape) (fs : List Form) : Type 0 where
+pub record Ends (s : Shape) (fs : List TokenForm) : Type 0 where
   pub last : Shape
   pub leads : runs s fs ≡ Some last
   pub final : is_final last ≡ true
 
-pub runs-append : (s : Shape) (fs gs : List Form) → runs s (fs ++ gs) ≡ bind (runs s fs) (λ t. runs t gs)
+pub runs-append : (s : Shape) (fs gs : List TokenForm) → runs s (fs ++ gs) ≡ bind (runs s fs) (λ t. runs t gs)
 runs-append s [] gs = refl
 runs-append s (f ∷ fs) gs = told (λ t. runs-append t fs gs) (turn s f)
   where
@@ -149,7 +149,7 @@ runs-append s (f ∷ fs) gs = told (λ t. runs-append t fs gs) (turn s f)
     told rest (Some t) = rest t
 
 -- one token more
-pub runs-one : (fs : List Form) (s : Shape) (f : Form) → runs at_start fs ≡ Some s
+pub runs-one : (fs : List TokenForm) (s : Shape) (f : TokenForm) → runs at_start fs ≡ Some s
     → runs at_start (fs ++ f ∷ []) ≡ turn s f
 runs-one fs s f reached = runs-append at_start fs (f ∷ []) ∙ ap (λ o. bind o (λ t. runs t (f ∷ []))) reached ∙ last
     (turn s f)
@@ -159,19 +159,19 @@ runs-one fs s f reached = runs-append at_start fs (f ∷ []) ∙ ap (λ o. bind 
     last (Some t) = refl
 
 -- ---- how a line may go on
-abbrev past_side : Side → List Form
+abbrev past_side : Side → List TokenForm
 past_side lhs = an_arrow ∷ an_empty ∷ a_colon ∷ a_rule rule.Reflexivity ∷ []
 past_side rhs = a_colon ∷ a_rule rule.Reflexivity ∷ []
 past_side by = []
 past_side wide = a_colon ∷ an_empty ∷ []
 past_side narrow = []
 
-abbrev past_first : After → List Form
+abbrev past_first : After → List TokenForm
 past_first nothing = []
 past_first second = a_number ∷ []
 past_first (sets k) = a_with ∷ an_empty ∷ past_side k
 
-abbrev pub completion : Shape → List Form
+abbrev pub completion : Shape → List TokenForm
 completion at_start = a_number ∷ a_colon ∷ an_empty ∷ past_side lhs
 completion past_number = a_colon ∷ an_empty ∷ past_side lhs
 completion (at_side k) = an_empty ∷ past_side k

@@ -11,7 +11,7 @@ use Rattle.schema_grammar.specs.Complaints.{ComplainsOfWord, Carries, IsFirst, f
 use Rattle.schema_grammar.specs.Refusals.{refusal, refused_by, kind_of_flaw}
 use Rattle.schema_grammar.proofs.ComplaintLaws.{Carries-map, flaw_carries, flaw_numbered}
 use Rattle.proof_grammar.specs.Lines.{Line}
-use Rattle.proof_grammar.specs.LineComplaints.{Form, form_of, forms}
+use Rattle.proof_grammar.specs.LineComplaints.{TokenForm, token_form, forms}
 use Rattle.proof_grammar.proofs.FormShapes.{Shape, Ends, bind, is_final, runs, takes_words, turn, wanted_by}
 
 -- ---- first complaints
@@ -63,8 +63,8 @@ TokenWrong s names [] stop zero n = (n ≡ 6) × (stop ≡ None) × (is_final s 
 TokenWrong s names [] stop (suc p) n = ⊥
 TokenWrong s names (m ∷ ms) stop zero n =
     ((takes_words s ≡ true) × ComplainsOfWord format.Plain names m n) ⊎
-    ((n ≡ 6) × (turn s (form_of m.kind m.word) ≡ None))
-TokenWrong s names (m ∷ ms) stop (suc p) n = OnShape (turn s (form_of m.kind m.word))
+    ((n ≡ 6) × (turn s (token_form m.kind m.word) ≡ None))
+TokenWrong s names (m ∷ ms) stop (suc p) n = OnShape (turn s (token_form m.kind m.word))
     (λ t. TokenWrong t names ms stop p n)
 
 abbrev pub Flawed : List Mark → Option Stop → ℕ → ℕ → Type 0
@@ -87,8 +87,8 @@ Judged s names line next_column ms stop (Err e) = IsFirst (Wrong s names ms stop
     (span_at line next_column ms stop) e
 
 -- ---- one token later
-abbrev form : Mark → Form
-form m = form_of m.kind m.word
+abbrev form : Mark → TokenForm
+form m = token_form m.kind m.word
 
 on_some : (o : Option Shape) (t : Shape) (P : Shape → Type 0) → o ≡ Some t → OnShape o P → P t
 on_some o t P goes h = subst (λ (x : Option Shape). OnShape x P) goes h

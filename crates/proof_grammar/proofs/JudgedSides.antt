@@ -16,7 +16,7 @@ use Rattle.schema_grammar.specs.Refusals.{at, refusal}
 use Rattle.schema_grammar.specs.Rests.{Rest, ◌>>=◌, place, take, words_from, side, side_from, is_word}
 use Rattle.schema_grammar.specs.Words.{is_reserved, looked_up, known}
 use Rattle.proof_grammar.specs.Lines.{Line}
-use Rattle.proof_grammar.specs.LineComplaints.{Form, form_of}
+use Rattle.proof_grammar.specs.LineComplaints.{TokenForm, token_form}
 use Rattle.proof_grammar.proofs.FormShapes.{Side, within, begun, closing, Shape, at_side, past_words, past_empty, turn, takes_words}
 use Rattle.proof_grammar.proofs.JudgedLines.{IsRight, Judged, Wrong, ShapeWants, first_here, goes_on, stuck_here, end_here, flaw_here}
 use Rattle.proof_grammar.proofs.JudgedTokens.{left_at, assoc, form, not_word, within_word, PastSide}
@@ -80,13 +80,13 @@ FollowsSide k names line stop f =
     (x : Places) (s : Shape) (next_column : ℕ) (ms : List Mark) → PastSide k s names ms
     → Judged s names line next_column ms stop (f (x, left_at line next_column ms stop))
 
-word_stays : (k : Side) (other : Form → Option Shape) (m : Mark) → m.kind ≡ token.Word
+word_stays : (k : Side) (other : TokenForm → Option Shape) (m : Mark) → m.kind ≡ token.Word
     → within k (form m) (other (form m)) ≡ Some (past_words k)
-word_stays k other m word = ap (λ (kd : TokenKind). within k (form_of kd m.word) (other (form_of kd m.word))) word
+word_stays k other m word = ap (λ (kd : TokenKind). within k (token_form kd m.word) (other (token_form kd m.word))) word
     ∙ within_word k other _ _
 
 other_leaves : (k : Side) (kd : TokenKind) (word : List ℕ) (other : Option Shape) → is_word kd ≡ false
-    → within k (form_of kd word) other ≡ other
+    → within k (token_form kd word) other ≡ other
 other_leaves k token.Word word other no_word = cc
 other_leaves k (token.Number n) word other no_word = refl
 other_leaves k token.Arrow word other no_word = refl
@@ -154,8 +154,8 @@ side_judged k names line next_column [] None f follows = end_here (at_side k) na
 side_judged k names line next_column [] (Some stop) f follows = flaw_here (at_side k) names line next_column stop
 side_judged k names line next_column (m ∷ ms) stop f follows = told m.kind refl
   where
-    leads : (kd : TokenKind) → m.kind ≡ kd → turn (at_side k) (form m) ≡ turn (at_side k) (form_of kd m.word)
-    leads kd is = ap (λ (t : TokenKind). turn (at_side k) (form_of t m.word)) is
+    leads : (kd : TokenKind) → m.kind ≡ kd → turn (at_side k) (form m) ≡ turn (at_side k) (token_form kd m.word)
+    leads kd is = ap (λ (t : TokenKind). turn (at_side k) (token_form t m.word)) is
 
     told : (kd : TokenKind) → m.kind ≡ kd
         → Judged (at_side k) names line next_column (m ∷ ms) stop

@@ -15,7 +15,7 @@ use Rattle.schema_grammar.specs.Rests.{Rest, ◌>>=◌, take, taken, expected, n
 use Rattle.schema_grammar.specs.Texts.{number_in}
 use Rattle.proof_grammar.specs.declared.rule_name.RuleName.{RuleName}
 use Rattle.proof_grammar.specs.Lines.{Line, unless}
-use Rattle.proof_grammar.specs.LineComplaints.{Form, form_of, word_form}
+use Rattle.proof_grammar.specs.LineComplaints.{TokenForm, token_form, word_form}
 use Rattle.proof_grammar.specs.Readers.{colon, with_word, rule_name}
 use Rattle.proof_grammar.specs.Tokens.{is_colon, is_with, rule_named, rule_word}
 use Rattle.proof_grammar.proofs.FormShapes.{Side, After, past_arrow, past_colon, within, lhs, rhs, Shape, at_start, past_number, at_side, past_words, at_rule, at_premise, at_with, at_end, closing, named, past_premise, turn, is_last, is_final, takes_words, wanted_after, wanted_by}
@@ -30,8 +30,8 @@ pub assoc : {A B C E : Type 0} (m : Result A E) (f : A → Result B E) (g : B �
 assoc (Ok x) f g = refl
 assoc (Err e) f g = refl
 
-abbrev pub form : Mark → Form
-form m = form_of m.kind m.word
+abbrev pub form : Mark → TokenForm
+form m = token_form m.kind m.word
 
 -- ---- readers of one token
 -- a token leads where what it stands for does, and nowhere where it stands for nothing
@@ -133,7 +133,7 @@ closing_word k (Some r) b = refl
 closing_word k None true = refl
 closing_word k None false = refl
 
-pub within_word : (k : Side) (other : Form → Option Shape) (o : Option RuleName) (b : Bool)
+pub within_word : (k : Side) (other : TokenForm → Option Shape) (o : Option RuleName) (b : Bool)
     → within k (word_form o b) (other (word_form o b)) ≡ Some (past_words k)
 within_word k other (Some r) b = refl
 within_word k other None true = refl
@@ -141,7 +141,7 @@ within_word k other None false = refl
 
 -- ---- numbers
 start_number : (kd : TokenKind) (word : List ℕ)
-    → GoesAs (λ n. past_number) (number_in kd) (turn at_start (form_of kd word))
+    → GoesAs (λ n. past_number) (number_in kd) (turn at_start (token_form kd word))
 start_number (token.Number n) word = refl
 start_number token.Word word = start_word _ _
 start_number token.Arrow word = refl
@@ -150,7 +150,7 @@ start_number token.Empty word = refl
 start_number token.Colon word = refl
 
 premise_number : (a : After) (kd : TokenKind) (word : List ℕ)
-    → GoesAs (λ n. past_premise a) (number_in kd) (turn (at_premise a) (form_of kd word))
+    → GoesAs (λ n. past_premise a) (number_in kd) (turn (at_premise a) (token_form kd word))
 premise_number a (token.Number n) word = refl
 premise_number a token.Word word = premise_word a _ _
 premise_number a token.Arrow word = refl
@@ -213,7 +213,7 @@ pub record PastSide (k : Side) (s : Shape) (names : List (List ℕ)) (ms : List 
   pub closes : NextCloses k s names ms
 
 colon_closes : (k : Side) (t : Shape) (kd : TokenKind) (word : List ℕ) → past_colon k ≡ Some t → past_arrow k ≡ None
-    → GoesIf t (is_colon kd) (closing k (form_of kd word))
+    → GoesIf t (is_colon kd) (closing k (token_form kd word))
 colon_closes k t token.Colon word on other = on
 colon_closes k t (token.Number n) word on other = refl
 colon_closes k t token.Word word on other = closing_word k _ _
@@ -222,7 +222,7 @@ colon_closes k t token.DoubleArrow word on other = other
 colon_closes k t token.Empty word on other = refl
 
 arrow_closes : (kd : TokenKind) (word : List ℕ)
-    → GoesAs (λ a. at_side rhs) (arrow_in kd) (closing lhs (form_of kd word))
+    → GoesAs (λ a. at_side rhs) (arrow_in kd) (closing lhs (token_form kd word))
 arrow_closes token.Arrow word = refl
 arrow_closes token.DoubleArrow word = refl
 arrow_closes (token.Number n) word = refl
@@ -263,7 +263,7 @@ closing_judged k s t names line next_column ms stop f on other wants more past f
 
 -- ---- the first colon, and the words of the grammar
 number_colon : (kd : TokenKind) (word : List ℕ)
-    → GoesIf (at_side lhs) (is_colon kd) (turn past_number (form_of kd word))
+    → GoesIf (at_side lhs) (is_colon kd) (turn past_number (token_form kd word))
 number_colon token.Colon word = refl
 number_colon (token.Number n) word = refl
 number_colon token.Word word = colon_word _ _
@@ -303,7 +303,7 @@ with_word_goes k word = told (rule_word word) (is_with token.Word word) refl ref
     told (Some r) false named is = refl
 
 with_goes : (k : Side) (kd : TokenKind) (word : List ℕ)
-    → GoesIf (at_side k) (is_with kd word) (turn (at_with k) (form_of kd word))
+    → GoesIf (at_side k) (is_with kd word) (turn (at_with k) (token_form kd word))
 unfolding is_with
 with_goes k token.Word word = with_word_goes k word
 with_goes k (token.Number n) word = refl
@@ -330,7 +330,7 @@ rule_word_goes (Some r) b = refl
 rule_word_goes None true = refl
 rule_word_goes None false = refl
 
-rule_goes : (kd : TokenKind) (word : List ℕ) → GoesAs named (rule_named kd word) (turn at_rule (form_of kd word))
+rule_goes : (kd : TokenKind) (word : List ℕ) → GoesAs named (rule_named kd word) (turn at_rule (token_form kd word))
 unfolding rule_named
 rule_goes token.Word word = rule_word_goes (rule_word word) _
 rule_goes (token.Number n) word = refl
@@ -363,7 +363,7 @@ pub record Halts (s : Shape) (names : List (List ℕ)) (ms : List Mark) : Type 0
   pub final : is_final s ≡ true
   pub none : NextHalts s names ms
 
-end_nowhere : (kd : TokenKind) (word : List ℕ) → turn at_end (form_of kd word) ≡ None
+end_nowhere : (kd : TokenKind) (word : List ℕ) → turn at_end (token_form kd word) ≡ None
 end_nowhere (token.Number n) word = refl
 end_nowhere token.Word word = refl
 end_nowhere token.Arrow word = refl
@@ -381,7 +381,7 @@ end_halts names (m ∷ ms) = record {
 }
 
 last_nowhere : (k : Side) (kd : TokenKind) (word : List ℕ) → past_colon k ≡ None → past_arrow k ≡ None
-    → closing k (form_of kd word) ≡ None
+    → closing k (token_form kd word) ≡ None
 last_nowhere k (token.Number n) word no_colon no_arrow = refl
 last_nowhere k token.Word word no_colon no_arrow = closing_word k _ _
 last_nowhere k token.Arrow word no_colon no_arrow = no_arrow

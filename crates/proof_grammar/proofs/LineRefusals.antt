@@ -15,7 +15,7 @@ use Rattle.schema_grammar.proofs.ComplaintLaws.{Carries-map, same_mark}
 use Rattle.schema_grammar.proofs.OneRefusal.{OneWant, one_first}
 use Rattle.proof_grammar.specs.declared.rule_name.RuleName.TheVariants as rule
 use Rattle.proof_grammar.specs.Lines.{Line, line}
-use Rattle.proof_grammar.specs.LineComplaints.{Form, forms, a_number, a_colon, an_arrow, an_empty, a_with, a_rule, a_word, AreLine, BeginLine, CannotGoOn, SideWordComplaint, TokensComplaint, FormsWant, TokensWant, RefusesTokens, RefusesCertificateLine}
+use Rattle.proof_grammar.specs.LineComplaints.{TokenForm, forms, a_number, a_colon, an_arrow, an_empty, a_with, a_rule, a_word, AreLine, BeginLine, CannotGoOn, SideWordComplaint, TokensComplaint, FormsWant, TokensWant, RefusesTokens, RefusesCertificateLine}
 use Rattle.proof_grammar.proofs.FormLines.{begins_from, begins_on, begins_to, final_line, line_ends, same_shape, takes_names, wants_from, word_taken}
 use Rattle.proof_grammar.proofs.FormShapes.{Side, lhs, rhs, by, wide, narrow, Shape, at_start, past_number, at_side, past_words, past_empty, at_rule, at_premise, at_with, at_end, bind, is_final, is_last, past_arrow, past_colon, runs, takes_words, turn, wanted_after, wanted_by}
 use Rattle.proof_grammar.proofs.JudgedLines.{Judged, OnShape, ShapeWants, TokenWrong, Wrong}
@@ -24,7 +24,7 @@ use Rattle.proof_grammar.proofs.JudgedTokens.{form, left_at}
 
 -- ---- one thing is wanted
 -- what is wanted is what the shape wants that is reached
-record WantedAt (fs : List Form) (w : What) : Type 0 where
+record WantedAt (fs : List TokenForm) (w : What) : Type 0 where
   shape : Shape
   reached : runs at_start fs ≡ Some shape
   is : w ≡ wanted_by shape
@@ -50,7 +50,7 @@ end_wanted by last = refl
 end_wanted wide last = cc
 end_wanted narrow last = refl
 
-number_at : (fs : List Form) (s t : Shape) → runs at_start fs ≡ Some s → turn s a_number ≡ Some t
+number_at : (fs : List TokenForm) (s t : Shape) → runs at_start fs ≡ Some s → turn s a_number ≡ Some t
     → WantedAt fs what.Number
 number_at fs at_start t leads on = record { shape = at_start; reached = leads; is = refl }
 number_at fs (at_premise a) t leads on = record { shape = at_premise a; reached = leads; is = refl }
@@ -62,7 +62,7 @@ number_at fs at_rule t leads on = cc
 number_at fs (at_with k) t leads on = cc
 number_at fs at_end t leads on = cc
 
-colon_at : (fs : List Form) (s t : Shape) → runs at_start fs ≡ Some s → turn s a_colon ≡ Some t
+colon_at : (fs : List TokenForm) (s t : Shape) → runs at_start fs ≡ Some s → turn s a_colon ≡ Some t
     → WantedAt fs what.Colon
 colon_at fs past_number t leads on = record { shape = past_number; reached = leads; is = refl }
 colon_at fs (past_words k) t leads on = record { shape = past_words k; reached = leads; is = colon_wanted k t on }
@@ -74,7 +74,7 @@ colon_at fs (at_premise a) t leads on = cc
 colon_at fs (at_with k) t leads on = cc
 colon_at fs at_end t leads on = cc
 
-arrow_at : (fs : List Form) (s t : Shape) → runs at_start fs ≡ Some s → turn s an_arrow ≡ Some t
+arrow_at : (fs : List TokenForm) (s t : Shape) → runs at_start fs ≡ Some s → turn s an_arrow ≡ Some t
     → WantedAt fs what.Arrow
 arrow_at fs (past_words k) t leads on = record { shape = past_words k; reached = leads; is = arrow_wanted k t on }
 arrow_at fs (past_empty k) t leads on = record { shape = past_empty k; reached = leads; is = arrow_wanted k t on }
@@ -86,7 +86,7 @@ arrow_at fs (at_premise a) t leads on = cc
 arrow_at fs (at_with k) t leads on = cc
 arrow_at fs at_end t leads on = cc
 
-side_at : (fs : List Form) (s t : Shape) → runs at_start fs ≡ Some s → turn s an_empty ≡ Some t
+side_at : (fs : List TokenForm) (s t : Shape) → runs at_start fs ≡ Some s → turn s an_empty ≡ Some t
     → WantedAt fs what.Side
 side_at fs (at_side k) t leads on = record { shape = at_side k; reached = leads; is = refl }
 side_at fs at_start t leads on = cc
@@ -98,7 +98,7 @@ side_at fs (at_premise a) t leads on = cc
 side_at fs (at_with k) t leads on = cc
 side_at fs at_end t leads on = cc
 
-with_at : (fs : List Form) (s t : Shape) → runs at_start fs ≡ Some s → (takes_words s ≡ true → ⊥)
+with_at : (fs : List TokenForm) (s t : Shape) → runs at_start fs ≡ Some s → (takes_words s ≡ true → ⊥)
     → turn s a_with ≡ Some t → WantedAt fs what.With
 with_at fs (at_with k) t leads none on = record { shape = at_with k; reached = leads; is = refl }
 with_at fs (at_side k) t leads none on = absurd (none refl)
@@ -110,7 +110,7 @@ with_at fs at_rule t leads none on = cc
 with_at fs (at_premise a) t leads none on = cc
 with_at fs at_end t leads none on = cc
 
-rule_at : (fs : List Form) (s t : Shape) → runs at_start fs ≡ Some s → (takes_words s ≡ true → ⊥)
+rule_at : (fs : List TokenForm) (s t : Shape) → runs at_start fs ≡ Some s → (takes_words s ≡ true → ⊥)
     → turn s (a_rule rule.Given) ≡ Some t → WantedAt fs what.Rule
 rule_at fs at_rule t leads none on = record { shape = at_rule; reached = leads; is = refl }
 rule_at fs (at_side k) t leads none on = absurd (none refl)
@@ -122,7 +122,7 @@ rule_at fs (at_premise a) t leads none on = cc
 rule_at fs (at_with k) t leads none on = cc
 rule_at fs at_end t leads none on = cc
 
-end_at : (fs : List Form) (s : Shape) → runs at_start fs ≡ Some s → is_final s ≡ true → WantedAt fs what.LineEnd
+end_at : (fs : List TokenForm) (s : Shape) → runs at_start fs ≡ Some s → is_final s ≡ true → WantedAt fs what.LineEnd
 end_at fs at_end leads final = record { shape = at_end; reached = leads; is = refl }
 end_at fs (past_words k) leads final = record { shape = past_words k; reached = leads; is = end_wanted k final }
 end_at fs (past_empty k) leads final = record { shape = past_empty k; reached = leads; is = end_wanted k final }
@@ -133,7 +133,7 @@ end_at fs at_rule leads final = cc
 end_at fs (at_premise a) leads final = cc
 end_at fs (at_with k) leads final = cc
 
-wanted_at : (fs : List Form) (w : What) → FormsWant fs w → WantedAt fs w
+wanted_at : (fs : List TokenForm) (w : What) → FormsWant fs w → WantedAt fs w
 wanted_at fs what.Number h = let on = begins_on fs a_number h in number_at fs on.shape on.next on.leads on.on
 wanted_at fs what.Colon h = let on = begins_on fs a_colon h in colon_at fs on.shape on.next on.leads on.on
 wanted_at fs what.Arrow h = let on = begins_on fs an_arrow h in arrow_at fs on.shape on.next on.leads on.on
@@ -146,7 +146,7 @@ wanted_at fs what.LineEnd h = let ends = line_ends fs h in end_at fs ends.last e
 wanted_at fs what.Name h = absurd h
 wanted_at fs what.Scheme h = absurd h
 
-one_want : (fs : List Form) → OneWant (FormsWant fs)
+one_want : (fs : List TokenForm) → OneWant (FormsWant fs)
 one_want fs w v h g =
     let first = wanted_at fs w h in
     let again = wanted_at fs v g in
@@ -247,7 +247,7 @@ place_back s names (m ∷ ms) stop (suc p) n t reached why = told (turn s (form 
     told (Some u) goes on rest = rest u on (why_later s u names m ms stop p n t goes why)
 
 -- ---- the two kinds of complaints are one
-all_taken : (p : ℕ) (fs : List Form) → p ≡ length fs → take p fs ≡ fs
+all_taken : (p : ℕ) (fs : List TokenForm) → p ≡ length fs → take p fs ≡ fs
 all_taken p fs same = take_all p fs (omega arith)
 
 complaint_there : (names : List (List ℕ)) (ms : List Mark) (stop : Option Stop) (p n : ℕ)
@@ -256,7 +256,7 @@ complaint_there names ms stop p n (inr flaw) = inr flaw
 complaint_there names ms stop p n (inl h) = let at = place_there at_start names ms stop p n h in
     inl (told at.shape at.reached at.why)
   where
-    fs : List Form
+    fs : List TokenForm
     fs = forms ms
 
     told : (s : Shape) → runs at_start (take p fs) ≡ Some s → Why at_start names ms stop p n s
@@ -289,7 +289,7 @@ complaint_back names ms stop p n (inl (inr (six, stuck))) =
     inl (place_back at_start names ms stop p n there.shape there.leads
     (inr (six, told there.shape there.leads stuck.here)))
   where
-    fs : List Form
+    fs : List TokenForm
     fs = forms ms
 
     told : (s : Shape) → runs at_start (take p fs) ≡ Some s

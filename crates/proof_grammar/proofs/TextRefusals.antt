@@ -27,7 +27,7 @@ use Rattle.proof_grammar.proofs.LineLaws.{line_there, line_back}
 use Rattle.proof_grammar.proofs.LineRefusals as refusals
 use Rattle.proof_grammar.proofs.PreparedLaws.{IsLineOfAttributes}
 use Rattle.proof_grammar.proofs.SlotLemmas.{AreSlots}
-use Rattle.proof_grammar.specs.Refusals.{StandsAt, IsBadLine, IsWrongLine, IsRefusedAt, IsEmptyProof, IsNeverUsed, IsUnfinished, IsRefused, RefusesProof}
+use Rattle.proof_grammar.specs.Refusals.{StandsAt, IsBadLine, IsWrongLine, IsRefusedAt, IsEmptyProof, IsNeverUsed, IsUnfinished, IsRefusedCertificate, RefusesProof}
 use Rattle.proof_grammar.proofs.EnteredRefusals.{entered_refused, refused_entered}
 use Rattle.proof_grammar.proofs.PlaceLemmas.{same_place}
 use Rattle.proof_grammar.proofs.ReadLines.{marked, read_from, nothing_counts, HasReadLines, at_start, passed, counts_here, one_more}
@@ -58,7 +58,7 @@ never_there s text before fresh lines trees book e afterwards first =
     }
 
 end_there : (s : Schema) (text : List ℕ) (before : List (List ℕ)) (fresh : Bool) (lines : List Line) (trees : List Tree) (book : Ledger) (number : ℕ) (e : LineComplaint)
-    → line_texts (without_mark text) ≡ before → number ≡ length before + 1 → HasReadLines s text before fresh lines trees book → finished (number - 1) book ≡ Err e → IsRefused s text e
+    → line_texts (without_mark text) ≡ before → number ≡ length before + 1 → HasReadLines s text before fresh lines trees book → finished (number - 1) book ≡ Err e → IsRefusedCertificate s text e
 end_there s text before fresh lines trees book number e cut count afterwards h = inr (record {
   lines = lines;
   trees = trees;
@@ -79,12 +79,12 @@ end_there s text before fresh lines trees book number e cut count afterwards h =
 abbrev RefusesOn : Schema → List ℕ → LineComplaint → ℕ → List (List ℕ) → Type 0
 RefusesOn s text e number texts =
     (before : List (List ℕ)) (fresh : Bool) (lines : List Line) (trees : List Tree) (book : Ledger) → line_texts (without_mark text) ≡ before ++ texts → number ≡ length before + 1
-    → HasReadLines s text before fresh lines trees book → read_lines s fresh number book texts ≡ Err e → IsRefused s text e
+    → HasReadLines s text before fresh lines trees book → read_lines s fresh number book texts ≡ Err e → IsRefusedCertificate s text e
 
 line_refused : (k : LineKind) (s : Schema) (text : List ℕ) (e : LineComplaint) (number : ℕ) (here : List ℕ) (texts before : List (List ℕ)) (fresh : Bool) (lines : List Line) (trees : List Tree)
     (book : Ledger) → line_texts (without_mark text) ≡ before ++ here ∷ texts → number ≡ length before + 1 → HasReadLines s text before fresh lines trees book → Counts k fresh here
     → RefusesOn s text e (number + 1) texts
-    → read_from s number texts (read_as k s fresh number book here) ≡ Err e → IsRefused s text e
+    → read_from s number texts (read_as k s fresh number book here) ≡ Err e → IsRefusedCertificate s text e
 line_refused Blank s text e number here texts before fresh lines trees book cut count afterwards counts on h =
     on (before ++ here ∷ []) fresh lines trees book (cut ∙ sym (append_assoc before (here ∷ []) texts)) (omega (arith, count, length-append before (here ∷ [])))
     (passed s text before fresh fresh lines trees book here afterwards counts) h
@@ -98,9 +98,9 @@ line_refused Certificate s text e number here texts before fresh lines trees boo
     stands = record { after = texts; cut = cut; number = count; counts = counts_here s text before fresh lines trees book here afterwards counts }
 
     told : (r : Result Line SchemaRefusal) → line (names_of s) (rest_from number 1 (lex mode.Numbered here)) ≡ r
-        → read_from s number texts (in_line r >>= λ l. marked (entered s number book l)) ≡ Err e → IsRefused s text e
+        → read_from s number texts (in_line r >>= λ l. marked (entered s number book l)) ≡ Err e → IsRefusedCertificate s text e
     told (Err refusal) grammar g =
-        subst (IsRefused s text) (the_err {A = Tree} {E = LineComplaint} _ e g)
+        subst (IsRefusedCertificate s text) (the_err {A = Tree} {E = LineComplaint} _ e g)
         (inl (record {
           before = before;
           here = here;
@@ -120,9 +120,9 @@ line_refused Certificate s text e number here texts before fresh lines trees boo
         own = line_of_attributes s here l means
 
         by_line : (r : Result Ledger Complaint) → entered s number book l ≡ r
-            → read_from s number texts (marked r) ≡ Err e → IsRefused s text e
+            → read_from s number texts (marked r) ≡ Err e → IsRefusedCertificate s text e
         by_line (Err c) enter f =
-            subst (IsRefused s text) (the_err {A = Tree} {E = LineComplaint} _ e f)
+            subst (IsRefusedCertificate s text) (the_err {A = Tree} {E = LineComplaint} _ e f)
             (inl (record {
               before = before;
               here = here;
@@ -148,7 +148,7 @@ lines_refused s text e number (here ∷ texts) before fresh lines trees book cut
     (lines_refused s text e (number + 1) texts) h
 
 -- what is refused goes wrong so
-pub refused_there : (s : Schema) (text : List ℕ) (e : LineComplaint) → read_proof s text ≡ Err e → IsRefused s text e
+pub refused_there : (s : Schema) (text : List ℕ) (e : LineComplaint) → read_proof s text ≡ Err e → IsRefusedCertificate s text e
 unfolding read_proof
 refused_there s text e h = lines_refused s text e 1 (line_texts (without_mark text)) [] true [] [] (record { lines = []; unused = [] }) refl refl (at_start s text) h
 
@@ -232,7 +232,7 @@ end_back s text e refused =
     ∙ end_refuses s text e whole walk.fresh refused.lines refused.trees walk.book refl walk.afterwards refused.why
 
 -- what goes wrong so is refused
-pub refused_back : (s : Schema) (text : List ℕ) (e : LineComplaint) → IsRefused s text e → read_proof s text ≡ Err e
+pub refused_back : (s : Schema) (text : List ℕ) (e : LineComplaint) → IsRefusedCertificate s text e → read_proof s text ≡ Err e
 refused_back s text e (inl at_one) = at_back s text e at_one
 refused_back s text e (inr unfinished) = end_back s text e unfinished
 
@@ -240,6 +240,6 @@ refused_back s text e (inr unfinished) = end_back s text e unfinished
 pub refuses_there : (s : Schema) (text : List ℕ) (e : ProofRefusal) → IsFoundAt e (read_proof s text) → RefusesProof s text e
 refuses_there s text e h = told (complaint_of e.kind) h
   where
-    told : (o : Option Complaint) → MatchOption o (Unit {0}) (λ c. read_proof s text ≡ Err (record { line = e.line; complaint = c })) → MatchOption o (Unit {0}) (λ c. IsRefused s text (record { line = e.line; complaint = c }))
+    told : (o : Option Complaint) → MatchOption o (Unit {0}) (λ c. read_proof s text ≡ Err (record { line = e.line; complaint = c })) → MatchOption o (Unit {0}) (λ c. IsRefusedCertificate s text (record { line = e.line; complaint = c }))
     told None h = h
     told (Some c) h = refused_there s text (record { line = e.line; complaint = c }) h

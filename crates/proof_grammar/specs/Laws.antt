@@ -20,7 +20,7 @@ use Rattle.proof_grammar.specs.Lines.{Line, line}
 use Rattle.proof_grammar.specs.Meanings.{MeansLine}
 use Rattle.proof_grammar.specs.Printable.{IsPrintableLine}
 use Rattle.proof_grammar.specs.Printing.{line_text, node_lines_after, canonical_certificate}
-use Rattle.proof_grammar.specs.Refusals.{IsRefused}
+use Rattle.proof_grammar.specs.Refusals.{IsRefusedCertificate}
 use Rattle.proof_grammar.specs.Spelling.{AreNodesOf, Spells, SpellsWithin}
 use Rattle.proof_grammar.specs.Texts.{read_proof}
 
@@ -46,7 +46,7 @@ LinesAreNodes = (s : Schema) (text : List ℕ) (t : Tree) (w : Spells s text t) 
 
 abbrev pub RefusedAsTold : Type 0
 RefusedAsTold = (s : Schema) (text : List ℕ) (e : LineComplaint)
-    → (read_proof s text ≡ Err e) ↔ IsRefused s text e
+    → (read_proof s text ≡ Err e) ↔ IsRefusedCertificate s text e
 
 -- ---- printing
 abbrev pub PrintedLineMeans : Type 0

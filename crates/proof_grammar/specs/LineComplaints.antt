@@ -18,34 +18,34 @@ use Rattle.proof_grammar.specs.Tokens.{is_with, rule_word}
 
 -- ---- the forms of tokens
 -- a token but for the value of a number, the arrow, and the letters of a word that the grammar does not have
-pub data Form : Type 0 where
-  a_number : Form
-  a_colon : Form
-  an_arrow : Form
-  an_empty : Form
-  a_with : Form
-  a_rule : RuleName → Form
-  a_word : Form
+pub data TokenForm : Type 0 where
+  a_number : TokenForm
+  a_colon : TokenForm
+  an_arrow : TokenForm
+  an_empty : TokenForm
+  a_with : TokenForm
+  a_rule : RuleName → TokenForm
+  a_word : TokenForm
 
 -- a word that is the name of a rule, or else may be `with`
-abbrev pub word_form : Option RuleName → Bool → Form
+abbrev pub word_form : Option RuleName → Bool → TokenForm
 word_form (Some r) with = a_rule r
 word_form None true = a_with
 word_form None false = a_word
 
-abbrev pub form_of : TokenKind → List ℕ → Form
-form_of token.Word word = word_form (rule_word word) (is_with token.Word word)
-form_of (token.Number n) word = a_number
-form_of token.Colon word = a_colon
-form_of token.Arrow word = an_arrow
-form_of token.DoubleArrow word = an_arrow
-form_of token.Empty word = an_empty
+abbrev pub token_form : TokenKind → List ℕ → TokenForm
+token_form token.Word word = word_form (rule_word word) (is_with token.Word word)
+token_form (token.Number n) word = a_number
+token_form token.Colon word = a_colon
+token_form token.Arrow word = an_arrow
+token_form token.DoubleArrow word = an_arrow
+token_form token.Empty word = an_empty
 
-abbrev pub forms : List Mark → List Form
-forms ms = map (λ m. form_of m.kind m.word) ms
+abbrev pub forms : List Mark → List TokenForm
+forms ms = map (λ m. token_form m.kind m.word) ms
 
 -- tokens of these forms are a line over some names
-pub record AreLine (fs : List Form) : Type 0 where
+pub record AreLine (fs : List TokenForm) : Type 0 where
   pub names : List (List ℕ)
   pub marks : List Mark
   pub line : Line
@@ -53,17 +53,17 @@ pub record AreLine (fs : List Form) : Type 0 where
   pub is_line : IsCertificateLine names marks line
 
 -- tokens of these forms begin a line
-pub record BeginLine (fs : List Form) : Type 0 where
-  pub rest : List Form
+pub record BeginLine (fs : List TokenForm) : Type 0 where
+  pub rest : List TokenForm
   pub line : AreLine (fs ++ rest)
 
 -- ---- what is wrong
 -- after tokens of these forms any word can follow: it stands in a side
-abbrev pub TakesNames : List Form → Type 0
+abbrev pub TakesNames : List TokenForm → Type 0
 TakesNames fs = BeginLine (fs ++ a_word ∷ [])
 
 -- the grammar can't go on at the token, or the line's end, before which so many tokens stand
-pub record CannotGoOn (fs : List Form) (stop : Option Stop) (place : ℕ) : Type 0 where
+pub record CannotGoOn (fs : List TokenForm) (stop : Option Stop) (place : ℕ) : Type 0 where
   pub before : BeginLine (take place fs)
   pub here : ((place < length fs) × (BeginLine (take (suc place) fs) → ⊥))
       ⊎ ((place ≡ length fs) × (stop ≡ None) × (AreLine fs → ⊥))
@@ -82,7 +82,7 @@ TokensComplaint names ms stop place number =
 
 -- what is wanted after tokens of these forms: a side where `()` can follow, the line's end where they are a
 -- line, and any other token where it can follow; a word of the grammar, though, where no other word can
-abbrev pub FormsWant : List Form → What → Type 0
+abbrev pub FormsWant : List TokenForm → What → Type 0
 FormsWant fs what.Number = BeginLine (fs ++ a_number ∷ [])
 FormsWant fs what.Colon = BeginLine (fs ++ a_colon ∷ [])
 FormsWant fs what.Side = BeginLine (fs ++ an_empty ∷ [])

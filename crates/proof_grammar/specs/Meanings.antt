@@ -83,7 +83,7 @@ HasSets names ms (maugmentation w z) = IsWidened names ms w z
 HasSets names ms replication = ms ≡ []
 
 -- `given` and the number of a dependency
-pub record IsGiven (ms : List Mark) (k : ℕ) : Type 0 where
+pub record IsGivenLine (ms : List Mark) (k : ℕ) : Type 0 where
   pub name : Mark
   pub place : Mark
   pub whole : ms ≡ name ∷ place ∷ []
@@ -97,7 +97,7 @@ pub record IsAlone (ms : List Mark) (word : List ℕ) : Type 0 where
   pub says : IsKeyword word name
 
 -- the name, the line of the premise, and the sets
-pub record IsStep (names : List (List ℕ)) (ms : List Mark) (rule : Step) (p : ℕ) : Type 0 where
+pub record IsStepLine (names : List (List ℕ)) (ms : List Mark) (rule : Step) (p : ℕ) : Type 0 where
   pub name : Mark
   pub premise : Mark
   pub sets : List Mark
@@ -107,7 +107,7 @@ pub record IsStep (names : List (List ℕ)) (ms : List Mark) (rule : Step) (p : 
   pub has_sets : HasSets names sets rule
 
 -- the name, and the lines of both premises
-pub record IsPair (ms : List Mark) (rule : Pair) (p q : ℕ) : Type 0 where
+pub record IsPairLine (ms : List Mark) (rule : Pair) (p q : ℕ) : Type 0 where
   pub name : Mark
   pub first : Mark
   pub second : Mark
@@ -118,11 +118,11 @@ pub record IsPair (ms : List Mark) (rule : Pair) (p q : ℕ) : Type 0 where
 
 -- the rule of a line
 abbrev pub IsRule : List (List ℕ) → List Mark → Body → Type 0
-IsRule names ms (by_given k) = IsGiven ms k
+IsRule names ms (by_given k) = IsGivenLine ms k
 IsRule names ms by_reflexivity = IsAlone ms (codes "reflexivity")
 IsRule names ms by_mreflexivity = IsAlone ms (codes "mreflexivity")
-IsRule names ms (by_step rule p) = IsStep names ms rule p
-IsRule names ms (by_pair rule p q) = IsPair ms rule p q
+IsRule names ms (by_step rule p) = IsStepLine names ms rule p
+IsRule names ms (by_pair rule p q) = IsPairLine ms rule p q
 
 -- number, `:`, a dependency, `:`, the rule
 pub record IsCertificateLine (names : List (List ℕ)) (ms : List Mark) (l : Line) : Type 0 where

@@ -74,11 +74,11 @@ pub record IsUnfinished (s : Schema) (text : List ℕ) (e : LineComplaint) : Typ
   pub why : IsEmptyProof text lines e ⊎ IsNeverUsed text lines e
 
 -- a certificate is refused so
-abbrev pub IsRefused : Schema → List ℕ → LineComplaint → Type 0
-IsRefused s text e = IsRefusedAt s text e ⊎ IsUnfinished s text e
+abbrev pub IsRefusedCertificate : Schema → List ℕ → LineComplaint → Type 0
+IsRefusedCertificate s text e = IsRefusedAt s text e ⊎ IsUnfinished s text e
 
 -- the same of a refusal, which may be want of memory
 abbrev pub RefusesProof : Schema → List ℕ → ProofRefusal → Type 0
 RefusesProof s text e =
     MatchOption (complaint_of e.kind) (Unit {0})
-    (λ c. IsRefused s text (record { line = e.line; complaint = c }))
+    (λ c. IsRefusedCertificate s text (record { line = e.line; complaint = c }))

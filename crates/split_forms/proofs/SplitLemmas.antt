@@ -13,7 +13,7 @@ use Rattle.form_tests.specs.Violations.{Violates}
 use Rattle.form_tests.specs.Chosen.{IsInnocent, HasNoVisibleViolation, IsVisibleViolation}
 use Rattle.form_tests.specs.Cuts.{IsCut}
 use Rattle.split_forms.specs.Lists.{IsSplitStep, ReachedIn}
-use Rattle.split_forms.specs.Splitting.{StaysWhole, IsCutBy, IsStuck, ReachedList, FinishedList, IsStuckAt, IsTooWideAt, HasTooMany}
+use Rattle.split_forms.specs.Splitting.{StaysWhole, IsCutBy, IsStuckScheme, ReachedList, FinishedList, IsStuckAt, IsTooWideAt, HasTooManySchemes}
 use Rattle.form_tests.proofs.UniqueLemmas.{one_chosen, one_visible}
 use Rattle.form_tests.proofs.ViolationLemmas.{violation_cut, not_in_form}
 use Rattle.split_forms.proofs.SizeLemmas.{IsProper, all_after, reached_proper, reached_few, reached_lossless}
@@ -30,11 +30,11 @@ visible_is_some n ds form scheme x y none visible =
     innocent y (subst (λ (z : Places). Violates n ds form scheme z y)
     (Same-path x (left_of visible.given) visible.left) visible.violates)
 
-pub stuck_not_whole : (n : ℕ) (ds : List Dependency) (form : Form) (scheme : Places) → IsStuck n ds form scheme
+pub stuck_not_whole : (n : ℕ) (ds : List Dependency) (form : Form) (scheme : Places) → IsStuckScheme n ds form scheme
     → StaysWhole n ds form scheme → ⊥
 stuck_not_whole n ds form scheme stuck whole = whole.narrow stuck.wide
 
-pub stuck_not_cut : (n : ℕ) (ds : List Dependency) (form : Form) (scheme x y : Places) → IsStuck n ds form scheme
+pub stuck_not_cut : (n : ℕ) (ds : List Dependency) (form : Form) (scheme x y : Places) → IsStuckScheme n ds form scheme
     → IsCutBy n ds form scheme x y → ⊥
 stuck_not_cut n ds form scheme x y stuck cut =
     ⊎_elim (λ chosen. chosen.0 stuck.wide) (λ visible. visible_is_some n ds form scheme x y stuck.none visible.1) cut
@@ -78,7 +78,7 @@ module _ (n : ℕ) (ds : List Dependency) (form : Form) (some : 0 < n) (split : 
   pub lists_short : (l : List Places) → ReachedList n ds form l → length l ≤ 2 ^ (n - 1)
   lists_short l reached = reached_few n ds Whole Cut parts some reached.0 l reached.1
 
-  pub too_many_short : (limit : ℕ) → HasTooMany n ds form limit → limit < 2 ^ (n - 1)
+  pub too_many_short : (limit : ℕ) → HasTooManySchemes n ds form limit → limit < 2 ^ (n - 1)
   too_many_short limit many = omega (arith, many.many, lists_short many.schemes many.reached)
 
   pub next_once : (l a b : List Places) → ReachedList n ds form l → IsSplitStep Whole Cut l a
@@ -104,7 +104,7 @@ module _ (n : ℕ) (ds : List Dependency) (form : Form) (some : 0 < n) (split : 
 
   -- what has no successor and so many schemes at most leaves none with more
   last_few : (l : List Places) (limit : ℕ) → ReachedList n ds form l
-      → ((a : List Places) → IsSplitStep Whole Cut l a → ⊥) → length l ≤ limit → HasTooMany n ds form limit → ⊥
+      → ((a : List Places) → IsSplitStep Whole Cut l a → ⊥) → length l ≤ limit → HasTooManySchemes n ds form limit → ⊥
   last_few l limit reached none few many =
       let more = many.reached in
       let before : more.0 ≤ reached.0 =
@@ -121,10 +121,10 @@ module _ (n : ℕ) (ds : List Dependency) (form : Form) (some : 0 < n) (split : 
       ))
 
   pub finished_few : (l : List Places) (limit : ℕ) → FinishedList n ds form l → length l ≤ limit
-      → HasTooMany n ds form limit → ⊥
+      → HasTooManySchemes n ds form limit → ⊥
   finished_few l limit finished few many = last_few l limit finished.reached (λ a. finished_last l a finished) few many
 
-  pub stuck_few : (limit : ℕ) (scheme : Places) → IsTooWideAt n ds form limit scheme → HasTooMany n ds form limit → ⊥
+  pub stuck_few : (limit : ℕ) (scheme : Places) → IsTooWideAt n ds form limit scheme → HasTooManySchemes n ds form limit → ⊥
   stuck_few limit scheme wide many =
       last_few wide.schemes limit wide.reached (λ a. stuck_last wide.schemes a scheme wide.reached wide.stuck)
       wide.few many

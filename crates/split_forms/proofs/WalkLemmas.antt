@@ -13,7 +13,7 @@ use Rattle.dep_model.specs.Dependencies.{Dependency}
 use Rattle.dep_model.specs.Plans.{IsPlan, schemes_of}
 use Rattle.form_tests.specs.declared.forms.Form.{Form}
 use Rattle.form_tests.specs.declared.forms.Form.TheVariants.{Third}
-use Rattle.split_forms.specs.Splitting.{StaysWhole, IsCutBy, IsStuck, ReachedList, FinishedList, IsTooWideAt, HasTooMany}
+use Rattle.split_forms.specs.Splitting.{StaysWhole, IsCutBy, IsStuckScheme, ReachedList, FinishedList, IsTooWideAt, HasTooManySchemes}
 use Rattle.split_forms.proofs.SizeLemmas.{IsProper}
 use Rattle.split_forms.proofs.StepLemmas.{same_head, same_rest, step_length}
 use Rattle.split_forms.proofs.SplitLemmas.{lists_proper, lists_lossless}
@@ -169,7 +169,7 @@ module _ (n : ℕ) (ds : List Dependency) (form : Form) where
             }),
       )
 
-      pub walk_many : (limit : ℕ) → length xs ≤ limit → limit ≤ length xs → HasTooMany n ds form limit
+      pub walk_many : (limit : ℕ) → length xs ≤ limit → limit ≤ length xs → HasTooManySchemes n ds form limit
       walk_many limit few many =
           record { schemes = after; reached = next_reached; many = omega (arith, next_length, few, many) }
 
@@ -192,7 +192,7 @@ module _ (n : ℕ) (ds : List Dependency) (form : Form) where
           )
 
     -- it is stuck
-    pub walk_stuck : (limit : ℕ) → length xs ≤ limit → IsStuck n ds form (places scheme)
+    pub walk_stuck : (limit : ℕ) → length xs ≤ limit → IsStuckScheme n ds form (places scheme)
         → IsTooWideAt n ds form limit (places scheme)
     walk_stuck limit few stuck = record {
       schemes = schemes_of xs;

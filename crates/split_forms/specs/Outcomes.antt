@@ -6,13 +6,13 @@ use Rattle.form_tests.specs.declared.forms.Form.{Form}
 use Rattle.split_forms.specs.declared.outcome.Outcome.{Outcome}
 use Rattle.split_forms.specs.declared.outcome.Outcome.TheVariants.{Whole, Cut, Stuck}
 use Rattle.split_forms.specs.declared.trying.Tried.{Tried}
-use Rattle.split_forms.specs.Splitting.{StaysWhole, IsCutBy, IsStuck}
+use Rattle.split_forms.specs.Splitting.{StaysWhole, IsCutBy, IsStuckScheme}
 
 -- what becomes of a scheme
 abbrev pub IsOutcome : ℕ → List Dependency → Form → Places → Outcome → Type 0
 IsOutcome n ds form scheme Whole = StaysWhole n ds form scheme
 IsOutcome n ds form scheme (Cut breach) = IsCutBy n ds form scheme (places breach.lhs) (places breach.rhs)
-IsOutcome n ds form scheme Stuck = IsStuck n ds form scheme
+IsOutcome n ds form scheme Stuck = IsStuckScheme n ds form scheme
 
 -- schemes that were tried stand beside what became of them
 abbrev pub AreTried : ℕ → List Dependency → Form → List Tried → Type 0

@@ -5,7 +5,7 @@ use Rattle.dep_model.specs.Dependencies.{Dependency}
 use Rattle.form_tests.specs.declared.forms.Form.{Form}
 use Rattle.split_forms.specs.declared.refusal.SplitRefusal.{SplitRefusal}
 use Rattle.split_forms.specs.declared.refusal.SplitRefusal.TheVariants.{TooWide, TooManySchemes, Memory}
-use Rattle.split_forms.specs.Splitting.{IsTooWideAt, HasTooMany}
+use Rattle.split_forms.specs.Splitting.{IsTooWideAt, HasTooManySchemes}
 
 -- no reached list within the limit is stuck
 abbrev pub IsNeverTooWide : ℕ → List Dependency → Form → ℕ → Type 0
@@ -14,11 +14,11 @@ IsNeverTooWide n ds form limit = (scheme : Places) → IsTooWideAt n ds form lim
 -- no reached list is stuck, or longer than the limit
 pub record IsWithinLimits (n : ℕ) (ds : List Dependency) (form : Form) (limit : ℕ) : Type 0 where
   pub narrow : IsNeverTooWide n ds form limit
-  pub few : HasTooMany n ds form limit → ⊥
+  pub few : HasTooManySchemes n ds form limit → ⊥
 
 -- why a universe is not split: exactly one of the two causes holds, or memory was wanted
-abbrev pub IsRefused : ℕ → List Dependency → Form → ℕ → SplitRefusal → Type 0
-IsRefused n ds form limit (TooWide scheme) =
-    IsTooWideAt n ds form limit (places scheme) × (HasTooMany n ds form limit → ⊥)
-IsRefused n ds form limit TooManySchemes = HasTooMany n ds form limit × IsNeverTooWide n ds form limit
-IsRefused n ds form limit Memory = Unit {0}
+abbrev pub IsRefusedSplit : ℕ → List Dependency → Form → ℕ → SplitRefusal → Type 0
+IsRefusedSplit n ds form limit (TooWide scheme) =
+    IsTooWideAt n ds form limit (places scheme) × (HasTooManySchemes n ds form limit → ⊥)
+IsRefusedSplit n ds form limit TooManySchemes = HasTooManySchemes n ds form limit × IsNeverTooWide n ds form limit
+IsRefusedSplit n ds form limit Memory = Unit {0}

@@ -20,7 +20,7 @@ IsCutBy n ds form scheme x y =
     ⊎ (IsWide scheme × IsVisibleViolation n ds form scheme x y)
 
 -- a scheme can neither be tested nor cut: it is wide, and no given left side violates the form
-pub record IsStuck (n : ℕ) (ds : List Dependency) (form : Form) (scheme : Places) : Type 0 where
+pub record IsStuckScheme (n : ℕ) (ds : List Dependency) (form : Form) (scheme : Places) : Type 0 where
   pub wide : IsWide scheme
   pub none : HasNoVisibleViolation n ds form scheme
 
@@ -45,7 +45,7 @@ pub record IsStuckAt (n : ℕ) (ds : List Dependency) (form : Form) (schemes : L
   pub later : List Places
   pub list : schemes ≡ earlier ++ scheme ∷ later
   pub whole : All (StaysWhole n ds form) earlier
-  pub stuck : IsStuck n ds form scheme
+  pub stuck : IsStuckScheme n ds form scheme
 
 -- a reached list of so many schemes at most is stuck at a scheme
 pub record IsTooWideAt (n : ℕ) (ds : List Dependency) (form : Form) (limit : ℕ) (scheme : Places) : Type 0 where
@@ -55,7 +55,7 @@ pub record IsTooWideAt (n : ℕ) (ds : List Dependency) (form : Form) (limit : �
   pub stuck : IsStuckAt n ds form schemes scheme
 
 -- a reached list has one scheme more than so many
-pub record HasTooMany (n : ℕ) (ds : List Dependency) (form : Form) (limit : ℕ) : Type 0 where
+pub record HasTooManySchemes (n : ℕ) (ds : List Dependency) (form : Form) (limit : ℕ) : Type 0 where
   pub schemes : List Places
   pub reached : ReachedList n ds form schemes
   pub many : length schemes ≡ limit + 1

@@ -7,7 +7,7 @@ ghost use Rattle.dep_model.specs.Dependencies.{Dependency};
 ghost use Rattle.dep_model.specs.Projections.{IsLossless};
 ghost use Rattle.form_tests.specs.declared.forms.Form.{Form};
 ghost use Rattle.split_forms.specs.Splitting.{IsNextList, ReachedList, FinishedList};
-ghost use Rattle.split_forms.specs.Splitting.{IsTooWideAt, HasTooMany};
+ghost use Rattle.split_forms.specs.Splitting.{IsTooWideAt, HasTooManySchemes};
 
 /// A reached list has one successor at most.
 pub fn one_successor()
@@ -44,14 +44,14 @@ pub fn finished_is_longest()
     ensures law { (n : ℕ) (ds : List Dependency) (form : Form) (limit : ℕ)
         (schemes : List Places)
         → 0 < n → (form ≡ Form.Third → ⊥)
-        → FinishedList n ds form schemes → length schemes ≤ limit → HasTooMany n ds form limit → ⊥ }
+        → FinishedList n ds form schemes → length schemes ≤ limit → HasTooManySchemes n ds form limit → ⊥ }
 {}
 
 /// Nor is one longer than a stuck one.
 pub fn stuck_is_longest()
     ensures law { (n : ℕ) (ds : List Dependency) (form : Form) (limit : ℕ) (scheme : Places)
         → 0 < n → (form ≡ Form.Third → ⊥)
-        → IsTooWideAt n ds form limit scheme → HasTooMany n ds form limit → ⊥ }
+        → IsTooWideAt n ds form limit scheme → HasTooManySchemes n ds form limit → ⊥ }
 {}
 
 /// Each reached list is lossless.

@@ -5,7 +5,7 @@ ghost use Rattle.dep_model.specs.Schemas.{width_of, theory_of};
 ghost use Rattle.decomp_text.specs.Plans.{sets_of, plan_of, IsPlanOver};
 ghost use Rattle.form_tests.specs.Chosen.{IsInForm};
 ghost use Rattle.split_forms.specs.Splitting.{FinishedList, IsSplitPlan};
-ghost use Rattle.split_forms.specs.Refusals.{IsRefused, IsWithinLimits};
+ghost use Rattle.split_forms.specs.Refusals.{IsRefusedSplit, IsWithinLimits};
 
 use crate::cutting::cut_at;
 use crate::outcome::Outcome;
@@ -40,7 +40,7 @@ pub fn split(alloc: Global, schema: &Schema, form: Form, limit: u32) -> Result<P
     ensures within_limits { IfOk result (λ _.
         IsWithinLimits (width_of schema.now) (theory_of schema.now) form limit) }
     ensures refused { IfErr result
-        (IsRefused (width_of schema.now) (theory_of schema.now) form limit) }
+        (IsRefusedSplit (width_of schema.now) (theory_of schema.now) form limit) }
     ensures never_too_many { 2 ^ (width_of schema.now - 1) ≤ limit
         → result ≡ Err SplitRefusal.TooManySchemes → ⊥ }
 {
@@ -65,7 +65,7 @@ fn finished_list(
     ensures within_limits { IfOk result (λ _.
         IsWithinLimits (width_of schema.now) (theory_of schema.now) form limit) }
     ensures refused { IfErr result
-        (IsRefused (width_of schema.now) (theory_of schema.now) form limit) }
+        (IsRefusedSplit (width_of schema.now) (theory_of schema.now) form limit) }
 {
     let mut schemes = Vec::new(alloc);
     schemes.push(AttrSet::full(schema.width()))?;

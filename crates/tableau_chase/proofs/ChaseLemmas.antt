@@ -12,7 +12,7 @@ use Rattle.dep_model.specs.Tuples.{Relation}
 use Rattle.dep_model.specs.Dependencies.{Dependency, mvd, is_fd, functional_part}
 use Rattle.chase_laws.specs.Tableaux.{SymbolRow, Tableau, SameTableau, IsTableauOver, distinguished, plan_tableau}
 use Rattle.chase_laws.specs.Steps.{exchanged, IsClosed}
-use Rattle.chase_laws.specs.Rounds.{Reaches, Settles, IsMadeOf, IsNext, EndsRounds, InRounds, HasMoreThan, RoundsExceed}
+use Rattle.chase_laws.specs.Rounds.{ReachesTableau, SettlesTo, IsMadeOf, IsNext, EndsRounds, InRounds, HasMoreThan, RoundsExceed}
 use Rattle.chase_laws.specs.Answers.{IsGaining, IsClosedTableau}
 use Rattle.chase_laws.proofs.TableauLemmas.{Same-refl, Same-sym, Same-trans, cons_cases, cons_here, cons_later}
 use Rattle.chase_laws.proofs.KeptLemmas.{reached-over, reached-most}
@@ -29,7 +29,7 @@ use Rattle.tableau_chase.specs.Texts.{AreTextsOf}
 pub record IsRound (n : ℕ) (ds : List Dependency) (plan : List Places) (limit : ℕ) (rows : Tableau) : Type 0 where
   pub round : ℕ
   pub in_rounds : InRounds n ds plan round rows
-  pub reached : Reaches n ds plan rows
+  pub reached : ReachesTableau n ds plan rows
   pub differ : AllPairs (λ p q. p ≡ q → ⊥) rows
   pub few : length rows ≤ limit
   pub earlier : (r : ℕ) (t : Tableau) → r ≤ round → InRounds n ds plan r t → HasMoreThan limit t → ⊥
@@ -59,14 +59,14 @@ no_more_rows t [] u is count = is ∙ append-nil t
 no_more_rows t (row ∷ rest) u is count = let e = ap (λ (v : Tableau). length v) is in absurd (omega (arith, e, count, length-append t (row ∷ rest)))
 
 -- ---- a round: from its rows, settled to s, whose different rows are t
-module _ (n : ℕ) (ds : List Dependency) (plan : List Places) (limit : ℕ) (rows s t : Tableau) (round : IsRound n ds plan limit rows) (settles : Settles ds rows s) (same : SameTableau s t) where
-  pub settles_to : Settles ds rows t
+module _ (n : ℕ) (ds : List Dependency) (plan : List Places) (limit : ℕ) (rows s t : Tableau) (round : IsRound n ds plan limit rows) (settles : SettlesTo ds rows s) (same : SameTableau s t) where
+  pub settles_to : SettlesTo ds rows t
   settles_to = record {
     leads = (settles.leads.0, functional_leads_end ds settles.leads.0 rows s t settles.leads.1 same);
     settled = settled-same ds s t same settles.settled;
   }
 
-  pub reached_settled : Reaches n ds plan t
+  pub reached_settled : ReachesTableau n ds plan t
   reached_settled = reaches_settled n ds settles_to.leads.0 round.reached.0 (plan_tableau n plan) rows t round.reached.1 settles_to.leads.1
 
   pub settled_over : IsTableauOver n t
@@ -117,8 +117,8 @@ module _ (n : ℕ) (ds : List Dependency) (plan : List Places) (limit : ℕ) (ro
   -- ---- the next round
   module _ (u : Tableau) (adds : AddsAll (IsMadeOf n ds t) t u) (differ : AllPairs (λ p q. p ≡ q → ⊥) u) (few : length u ≤ limit) where
     -- the rows that were added, one by one
-    reached_by : (rest front : Tableau) → u ≡ (t ++ front) ++ rest → Reaches n ds plan (t ++ front) → Reaches n ds plan u
-    reached_by [] front is reached = subst (λ (v : Tableau). Reaches n ds plan v) (sym (is ∙ append-nil (t ++ front))) reached
+    reached_by : (rest front : Tableau) → u ≡ (t ++ front) ++ rest → ReachesTableau n ds plan (t ++ front) → ReachesTableau n ds plan u
+    reached_by [] front is reached = subst (λ (v : Tableau). ReachesTableau n ds plan v) (sym (is ∙ append-nil (t ++ front))) reached
     reached_by (row ∷ rest) front is reached =
         let longer : u ≡ ((t ++ front) ++ row ∷ []) ++ rest = is ∙ sym (append_assoc (t ++ front) (row ∷ []) rest) in
         let joined : (t ++ front) ++ row ∷ [] ≡ t ++ (front ++ row ∷ []) = append_assoc t front (row ∷ []) in
@@ -129,7 +129,7 @@ module _ (n : ℕ) (ds : List Dependency) (plan : List Places) (limit : ℕ) (ro
         ∙ get_or_append_left ((t ++ front) ++ row ∷ []) rest row place (omega (arith, length_push (t ++ front) row)) ∙ get_or_push (t ++ front) row row place refl in
         let place_low : place < length u = (let e = ap (λ (v : Tableau). length v) longer in omega (arith, e, length_push (t ++ front) row, length-append ((t ++ front) ++ row ∷ []) rest)) in
         let fresh : Contains (t ++ front) row → ⊥ = λ h. differ h.0 place row h.1 place_low (at_place h.0 row h.1 ∙ h.2 ∙ sym row_is) in
-        let step : Reaches n ds plan (t ++ (front ++ row ∷ [])) = ⊎_elim
+        let step : ReachesTableau n ds plan (t ++ (front ++ row ∷ [])) = ⊎_elim
         (λ old. absurd (fresh (Contains-append_left t front row old)))
         (λ (made : IsMadeOf n ds t row). (
           suc reached.0,
@@ -164,8 +164,8 @@ module _ (n : ℕ) (ds : List Dependency) (plan : List Places) (limit : ℕ) (ro
         (adds.sound row in_u) in
         reached_by rest (front ++ row ∷ []) (longer ∙ ap (λ (v : Tableau). v ++ rest) joined) step
 
-    pub next_reached : Reaches n ds plan u
-    next_reached = reached_by adds.extends.0 [] (adds.extends.1 ∙ ap (λ (v : Tableau). v ++ adds.extends.0) (sym (append-nil t))) (subst (λ (v : Tableau). Reaches n ds plan v) (sym (append-nil t)) reached_settled)
+    pub next_reached : ReachesTableau n ds plan u
+    next_reached = reached_by adds.extends.0 [] (adds.extends.1 ∙ ap (λ (v : Tableau). v ++ adds.extends.0) (sym (append-nil t))) (subst (λ (v : Tableau). ReachesTableau n ds plan v) (sym (append-nil t)) reached_settled)
 
     pub next_round : (Contains t (distinguished n) → ⊥) → length t < length u → IsRound n ds plan limit u
     next_round lacks grows =
@@ -186,7 +186,7 @@ module _ (n : ℕ) (ds : List Dependency) (plan : List Places) (limit : ℕ) (ro
     next_lower grows = round_lowers n (length plan) limit ds rows t u (reached-over n ds plan rows round.reached) (reached-most n ds plan rows round.reached) settles_to.leads (next_of u adds) round.differ grows few
 
 -- ---- the answers
-pub closed_rows : (n : ℕ) (ds : List Dependency) (plan : List Places) (limit : ℕ) (t : Tableau) (texts : Relation) → Reaches n ds plan t → IsClosed n ds t → length t ≤ limit → AreTextsOf t texts → IsClosedTableau n ds plan limit texts
+pub closed_rows : (n : ℕ) (ds : List Dependency) (plan : List Places) (limit : ℕ) (t : Tableau) (texts : Relation) → ReachesTableau n ds plan t → IsClosed n ds t → length t ≤ limit → AreTextsOf t texts → IsClosedTableau n ds plan limit texts
 closed_rows n ds plan limit t texts reached closed few are = record {
   symbols = are.symbols;
   texts = are.texts;
@@ -196,7 +196,7 @@ closed_rows n ds plan limit t texts reached closed few are = record {
   ascending = are.ascending;
 }
 
-pub closed_gains : (n : ℕ) (ds : List Dependency) (plan : List Places) (t : Tableau) (texts : Relation) → length plan < 2 ^ 32 → Reaches n ds plan t → IsClosed n ds t → AreTextsOf t texts → (Contains t (distinguished n) → ⊥)
+pub closed_gains : (n : ℕ) (ds : List Dependency) (plan : List Places) (t : Tableau) (texts : Relation) → length plan < 2 ^ 32 → ReachesTableau n ds plan t → IsClosed n ds t → AreTextsOf t texts → (Contains t (distinguished n) → ⊥)
     → IsGaining n ds plan texts
 closed_gains n ds plan t texts few reached closed are lacks =
     subst (λ (r : Relation). IsGaining n ds plan r) (sym are.texts)
@@ -212,11 +212,11 @@ pub record EndsLossy (n : ℕ) (ds : List Dependency) (plan : List Places) (limi
   pub closed : IsClosedTableau n ds plan limit texts
   pub gains : IsGaining n ds plan texts
 
-pub ends_lossy : (n : ℕ) (ds : List Dependency) (plan : List Places) (limit : ℕ) (rows s t u : Tableau) (texts : Relation) → length plan < 2 ^ 32 → IsRound n ds plan limit rows → Settles ds rows s → SameTableau s t
+pub ends_lossy : (n : ℕ) (ds : List Dependency) (plan : List Places) (limit : ℕ) (rows s t u : Tableau) (texts : Relation) → length plan < 2 ^ 32 → IsRound n ds plan limit rows → SettlesTo ds rows s → SameTableau s t
     → length t ≤ limit → (Contains t (distinguished n) → ⊥) → AddsAll (IsMadeOf n ds t) t u → length u ≡ length t → AreTextsOf u texts → EndsLossy n ds plan limit texts
 ends_lossy n ds plan limit rows s t u texts small round settles same few lacks adds count are =
     let closed : IsClosed n ds t = closed_when n ds plan limit rows s t round settles same u adds count in
-    let reached : Reaches n ds plan t = reached_settled n ds plan limit rows s t round settles same in
+    let reached : ReachesTableau n ds plan t = reached_settled n ds plan limit rows s t round settles same in
     let texts_are : AreTextsOf t texts = subst (λ (v : Tableau). AreTextsOf v texts) (no_more_rows t adds.extends.0 u adds.extends.1 count) are in
     record {
       within = ended n ds plan limit rows s t round settles same (inr closed);

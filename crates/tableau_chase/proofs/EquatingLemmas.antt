@@ -13,7 +13,7 @@ use Rattle.chase_laws.specs.Tableaux.{SymbolRow, Tableau, SameTableau, symbol_at
 use Rattle.chase_laws.specs.Steps.{replaced_in, replaced, IsFunctionalStep}
 use Rattle.chase_laws.proofs.TableauLemmas.{symbol_at_past, length-replaced_in, symbol_at-replaced_in, change, change_hit, change_miss, Same-refl, cons_here}
 use Rattle.chase_laws.proofs.RoundLemmas.{functional_leads_join}
-use Rattle.tableau_chase.specs.Groups.{row_at, AreLeaders}
+use Rattle.tableau_chase.specs.Groups.{row_at, AreSymbolLeaders}
 use Rattle.tableau_chase.specs.Settling.{Changes, KeepsRows, IsEquatedAt, AreEquated, AgreesBy, AreGrouped, AreGroupedBy}
 
 -- ---- a replacement
@@ -186,7 +186,7 @@ pub record AreGroupedUpTo (x y : Places) (leaders : List ℕ) (upto : ℕ) (t s 
 pub grouped_none : (x y : Places) (leaders : List ℕ) (t : Tableau) → AreGroupedUpTo x y leaders 0 t t false
 grouped_none x y leaders t = record { changes = λ ds given. refl; keeps = keeps_itself t; equal = λ same j l. absurd (omega arith) }
 
-module _ (x y : Places) (leaders : List ℕ) (upto next : ℕ) (up : next ≡ upto + 1) (t m s : Tableau) (low : upto < length t) (are : AreLeaders x t leaders) where
+module _ (x y : Places) (leaders : List ℕ) (upto next : ℕ) (up : next ≡ upto + 1) (t m s : Tableau) (low : upto < length t) (are : AreSymbolLeaders x t leaders) where
   led_low : get_or leaders upto 0 < length t
   led_low = omega (arith, are.first upto low, low)
 
@@ -219,7 +219,7 @@ module _ (x y : Places) (leaders : List ℕ) (upto next : ℕ) (up : next ≡ up
         ];
       }
 
-pub grouped_all : (x y : Places) (leaders : List ℕ) (upto : ℕ) (t s : Tableau) (changed : Bool) → length t ≤ upto → AreLeaders x t leaders → AreGroupedUpTo x y leaders upto t s changed → AreGrouped x y t s changed
+pub grouped_all : (x y : Places) (leaders : List ℕ) (upto : ℕ) (t s : Tableau) (changed : Bool) → length t ≤ upto → AreSymbolLeaders x t leaders → AreGroupedUpTo x y leaders upto t s changed → AreGrouped x y t s changed
 grouped_all x y leaders upto t s changed all are before = record {
   changes = before.changes;
   keeps = before.keeps;

@@ -7,14 +7,14 @@ use Rattle.std.proofs.lemmas.List.Elements.{All-push, All-take, Contains-append_
 use Rattle.std.specs.Prelude.{Contains, All}
 use Rattle.attr_sets.specs.Places.{Places}
 use Rattle.chase_laws.specs.Tableaux.{SymbolRow, Tableau, symbol_at, SymbolsAgree, IsTableauOver}
-use Rattle.tableau_chase.specs.Groups.{row_at, AreLeaders, AreFollowers}
+use Rattle.tableau_chase.specs.Groups.{row_at, AreSymbolLeaders, AreFollowers}
 use Rattle.tableau_chase.specs.Numbers.{IsFirstPlace}
 use Rattle.tableau_chase.proofs.RowLemmas.{key_on, agree_from_keys, keys_from_agree}
 
-pub leaders_none : (x : Places) → AreLeaders x [] []
+pub leaders_none : (x : Places) → AreSymbolLeaders x [] []
 leaders_none x = record { one_each = refl; first = λ i l. absurd (omega arith); agree = λ i l. absurd (omega arith); same = λ i j l. absurd (omega arith) }
 
-module _ (x : Places) (done : Tableau) (leaders : List ℕ) (row : SymbolRow) (number : ℕ) (before : AreLeaders x done leaders) (low : number ≤ length done)
+module _ (x : Places) (done : Tableau) (leaders : List ℕ) (row : SymbolRow) (number : ℕ) (before : AreSymbolLeaders x done leaders) (low : number ≤ length done)
     (fresh : number ≡ length done → (k : ℕ) → k < length done → SymbolsAgree x (row_at done k) row → ⊥)
     (known : number < length done → SymbolsAgree x (row_at done number) row × ((j : ℕ) → j < number → SymbolsAgree x (row_at done j) row → ⊥)) where
   old_row : (i : ℕ) → i < length done → row_at (done ++ row ∷ []) i ≡ row_at done i
@@ -90,7 +90,7 @@ module _ (x : Places) (done : Tableau) (leaders : List ℕ) (row : SymbolRow) (n
     ]
   ]
 
-  pub leaders_more : AreLeaders x (done ++ row ∷ []) (leaders ++ number ∷ [])
+  pub leaders_more : AreSymbolLeaders x (done ++ row ∷ []) (leaders ++ number ∷ [])
   leaders_more = record {
     one_each = omega (arith, length_push leaders number, length_push done row, before.one_each);
     first = first_of;

@@ -12,10 +12,10 @@ use Rattle.chase_laws.specs.Tableaux.{SymbolRow, Tableau, symbol_at, SymbolsAgre
 use Rattle.chase_laws.specs.Steps.{exchanged}
 use Rattle.chase_laws.specs.Rounds.{IsMadeOf}
 use Rattle.chase_laws.proofs.TableauLemmas.{same_rows, length-exchanged, symbol_at-exchanged}
-use Rattle.tableau_chase.specs.Groups.{row_at, AreLeaders, AreFollowers}
+use Rattle.tableau_chase.specs.Groups.{row_at, AreSymbolLeaders, AreFollowers}
 use Rattle.tableau_chase.specs.Pools.{Extends}
 use Rattle.tableau_chase.proofs.PoolLemmas.{extends_length, extends_row, adds_join, overflow_after}
-use Rattle.tableau_chase.specs.Making.{IsExchanged, IsMadeFrom, IsExchangedWith, AddsAll, Overflows}
+use Rattle.tableau_chase.specs.Making.{IsExchangedRow, IsMadeFrom, IsExchangedWith, AddsAll, Overflows}
 
 -- ---- the same parts make the same row
 pub same_exchange : (n : ℕ) (x y : Places) (p q u v : SymbolRow) → SymbolsAgree (union x y) u p → SymbolsAgree (union (minus (below n) (union x y)) x) v q → exchanged n (union x y) u v ≡ exchanged n (union x y) p q
@@ -33,7 +33,7 @@ same_exchange n x y p q u v firsts seconds =
 
 -- ---- leaders
 -- a leader leads itself
-pub leads_itself : (x : Places) (rows : Tableau) (leaders : List ℕ) (i : ℕ) → AreLeaders x rows leaders → i < length rows → get_or leaders (get_or leaders i 0) 0 ≡ get_or leaders i 0
+pub leads_itself : (x : Places) (rows : Tableau) (leaders : List ℕ) (i : ℕ) → AreSymbolLeaders x rows leaders → i < length rows → get_or leaders (get_or leaders i 0) 0 ≡ get_or leaders i 0
 leads_itself x rows leaders i are low = are.same (get_or leaders i 0) i (omega (arith, are.first i low, low)) low (are.agree i low)
 
 -- the products so far: of the first rows that lead on both sides
@@ -46,11 +46,11 @@ pub record IsProductOf (n : ℕ) (z : Places) (t : Tableau) (agreeing firsts : L
   pub row_is : row ≡ exchanged n z (row_at t first) (row_at t second)
 
 module _ (n : ℕ) (x y : Places) (t : Tableau) (agreeing firsts seconds : List ℕ) (groups : List (List ℕ)) (over : IsTableauOver n t)
-    (agree : AreLeaders x t agreeing) (first : AreLeaders (union x y) t firsts) (second : AreLeaders (union (minus (below n) (union x y)) x) t seconds) (are : AreFollowers agreeing seconds groups) where
+    (agree : AreSymbolLeaders x t agreeing) (first : AreSymbolLeaders (union x y) t firsts) (second : AreSymbolLeaders (union (minus (below n) (union x y)) x) t seconds) (are : AreFollowers agreeing seconds groups) where
   row_in : (i : ℕ) → i < length t → Contains t (row_at t i)
   row_in i low = Contains-get_or t i [] low
 
-  product_sound : (row : SymbolRow) → IsProductOf n (union x y) t agreeing firsts groups (length t) row → IsExchanged n x y t row
+  product_sound : (row : SymbolRow) → IsProductOf n (union x y) t agreeing firsts groups (length t) row → IsExchangedRow n x y t row
   product_sound row product =
       let i = product.first in
       let j = product.second in
@@ -68,7 +68,7 @@ module _ (n : ℕ) (x y : Places) (t : Tableau) (agreeing firsts seconds : List 
   at_place : (p : SymbolRow) (h : Contains t p) → row_at t h.0 ≡ p
   at_place p h = get_or_default t h.0 [] p h.1 ∙ h.2
 
-  product_complete : (row : SymbolRow) → IsExchanged n x y t row → IsProductOf n (union x y) t agreeing firsts groups (length t) row
+  product_complete : (row : SymbolRow) → IsExchangedRow n x y t row → IsProductOf n (union x y) t agreeing firsts groups (length t) row
   product_complete row made =
       let i0 = made.first_in.0 in
       let j0 = made.second_in.0 in
@@ -92,10 +92,10 @@ module _ (n : ℕ) (x y : Places) (t : Tableau) (agreeing firsts seconds : List 
         row_is = made.row_is ∙ sym (same_exchange n x y made.first made.second (row_at t i) (row_at t j) i_agree j_agree);
       }
 
-  pub products_to : (row : SymbolRow) → IsProductOf n (union x y) t agreeing firsts groups (length t) row → IsExchanged n x y t row
+  pub products_to : (row : SymbolRow) → IsProductOf n (union x y) t agreeing firsts groups (length t) row → IsExchangedRow n x y t row
   products_to = product_sound
 
-  pub products_from : (row : SymbolRow) → IsExchanged n x y t row → IsProductOf n (union x y) t agreeing firsts groups (length t) row
+  pub products_from : (row : SymbolRow) → IsExchangedRow n x y t row → IsProductOf n (union x y) t agreeing firsts groups (length t) row
   products_from = product_complete
 
 -- ---- one first row more
@@ -214,21 +214,21 @@ pub record AreParts (n : ℕ) (x y z : Places) (t : Tableau) (count : ℕ) (agre
   pub over : IsTableauOver n (take count t)
   pub z_is : z ≡ union x y
   pub seconds : List ℕ
-  pub agree : AreLeaders x (take count t) agreeing
-  pub first : AreLeaders (union x y) (take count t) firsts
-  pub second : AreLeaders (union (minus (below n) (union x y)) x) (take count t) seconds
+  pub agree : AreSymbolLeaders x (take count t) agreeing
+  pub first : AreSymbolLeaders (union x y) (take count t) firsts
+  pub second : AreSymbolLeaders (union (minus (below n) (union x y)) x) (take count t) seconds
   pub are : AreFollowers agreeing seconds groups
 
 module _ (n : ℕ) (x y z : Places) (t : Tableau) (count : ℕ) (agreeing firsts : List ℕ) (groups : List (List ℕ)) (parts : AreParts n x y z t count agreeing firsts groups) where
   front_length : length (take count t) ≡ count
   front_length = length-take-le count t parts.few
 
-  pub parts_to : (upto : ℕ) (row : SymbolRow) → upto ≤ count → IsProductOf n z (take count t) agreeing firsts groups upto row → IsExchanged n x y (take count t) row
+  pub parts_to : (upto : ℕ) (row : SymbolRow) → upto ≤ count → IsProductOf n z (take count t) agreeing firsts groups upto row → IsExchangedRow n x y (take count t) row
   parts_to upto row le p =
       products_to n x y (take count t) agreeing firsts parts.seconds groups parts.over parts.agree parts.first parts.second parts.are row
       (product_longer n (union x y) (take count t) agreeing firsts groups upto (length (take count t)) row (omega (arith, le, front_length)) (subst (λ (w : Places). IsProductOf n w (take count t) agreeing firsts groups upto row) parts.z_is p))
 
-  pub parts_from : (upto : ℕ) (row : SymbolRow) → count ≤ upto → IsExchanged n x y (take count t) row → IsProductOf n z (take count t) agreeing firsts groups upto row
+  pub parts_from : (upto : ℕ) (row : SymbolRow) → count ≤ upto → IsExchangedRow n x y (take count t) row → IsProductOf n z (take count t) agreeing firsts groups upto row
   parts_from upto row le made =
       subst (λ (w : Places). IsProductOf n w (take count t) agreeing firsts groups upto row) (sym parts.z_is)
       (product_longer n (union x y) (take count t) agreeing firsts groups (length (take count t)) upto row (omega (arith, le, front_length))
@@ -269,14 +269,14 @@ module _ (n : ℕ) (x y z : Places) (t : Tableau) (count : ℕ) (agreeing firsts
         (λ p h. product_new n z (take count t) agreeing firsts groups i (i + 1) refl p leads (with_to p h))
         (λ p h. ⊎_elim inl (λ w. inr (with_from p w)) (product_cases n z (take count t) agreeing firsts groups i (i + 1) refl p h)) before made
 
-    pub parts_overflow : (limit : ℕ) → get_or firsts i 0 ≡ i → AddsAll (IsProductOf n z (take count t) agreeing firsts groups i) t m → Overflows (IsExchangedWith n z m i group) limit m → Overflows (IsExchanged n x y (take count t)) limit t
+    pub parts_overflow : (limit : ℕ) → get_or firsts i 0 ≡ i → AddsAll (IsProductOf n z (take count t) agreeing firsts groups i) t m → Overflows (IsExchangedWith n z m i group) limit m → Overflows (IsExchangedRow n x y (take count t)) limit t
     parts_overflow limit leads before over =
-        overflow_after (IsProductOf n z (take count t) agreeing firsts groups i) (IsExchangedWith n z m i group) (IsExchanged n x y (take count t)) limit t m
+        overflow_after (IsProductOf n z (take count t) agreeing firsts groups i) (IsExchangedWith n z m i group) (IsExchangedRow n x y (take count t)) limit t m
         (λ p h. parts_to i p (omega (arith, low)) h)
         (λ p h. parts_to (i + 1) p (omega (arith, low)) (product_new n z (take count t) agreeing firsts groups i (i + 1) refl p leads (with_to p h))) before over
 
 pub parts_of : (n count : ℕ) (x y both less rest full : Places) (t t1 t2 t3 : Tableau) (agreeing firsts seconds ls ss : List ℕ) (groups : List (List ℕ)) → count ≤ length t → IsTableauOver n (take count t) → Same both (union x y) → Same less (minus full both)
-    → Same rest (union less x) → Same full (below n) → t1 ≡ t → t2 ≡ t → t3 ≡ t → ls ≡ agreeing → ss ≡ seconds → AreLeaders x (take count t1) agreeing → AreLeaders both (take count t2) firsts → AreLeaders rest (take count t3) seconds → AreFollowers ls ss groups
+    → Same rest (union less x) → Same full (below n) → t1 ≡ t → t2 ≡ t → t3 ≡ t → ls ≡ agreeing → ss ≡ seconds → AreSymbolLeaders x (take count t1) agreeing → AreSymbolLeaders both (take count t2) firsts → AreSymbolLeaders rest (take count t3) seconds → AreFollowers ls ss groups
     → AreParts n x y both t count agreeing firsts groups
 parts_of n count x y both less rest full t t1 t2 t3 agreeing firsts seconds ls ss groups few over both_is less_is rest_is full_is e1 e2 e3 le se agree first second are =
     let both_path : both ≡ union x y = Same-path both (union x y) both_is in
@@ -286,8 +286,8 @@ parts_of n count x y both less rest full t t1 t2 t3 agreeing firsts seconds ls s
       over = over;
       z_is = both_path;
       seconds = seconds;
-      agree = subst (λ (u : Tableau). AreLeaders x (take count u) agreeing) e1 agree;
-      first = subst (λ (w : Places). AreLeaders w (take count t) firsts) both_path (subst (λ (u : Tableau). AreLeaders both (take count u) firsts) e2 first);
-      second = subst (λ (w : Places). AreLeaders w (take count t) seconds) rest_path (subst (λ (u : Tableau). AreLeaders rest (take count u) seconds) e3 second);
+      agree = subst (λ (u : Tableau). AreSymbolLeaders x (take count u) agreeing) e1 agree;
+      first = subst (λ (w : Places). AreSymbolLeaders w (take count t) firsts) both_path (subst (λ (u : Tableau). AreSymbolLeaders both (take count u) firsts) e2 first);
+      second = subst (λ (w : Places). AreSymbolLeaders w (take count t) seconds) rest_path (subst (λ (u : Tableau). AreSymbolLeaders rest (take count u) seconds) e3 second);
       are = subst (λ (xs : List ℕ). AreFollowers xs seconds groups) le (subst (λ (xs : List ℕ). AreFollowers ls xs groups) se are);
     }

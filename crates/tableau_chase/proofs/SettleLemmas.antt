@@ -7,8 +7,8 @@ use Rattle.std.specs.Prelude.{Contains}
 use Rattle.attr_sets.specs.Places.{Places}
 use Rattle.dep_model.specs.Dependencies.{Dependency, fd}
 use Rattle.chase_laws.specs.Tableaux.{SymbolRow, Tableau, symbol_at, IsTableauOver}
-use Rattle.chase_laws.specs.Steps.{IsFunctionalStep, IsSettled, Leads}
-use Rattle.chase_laws.specs.Rounds.{Settles}
+use Rattle.chase_laws.specs.Steps.{IsFunctionalStep, IsSettledTableau, LeadsTo}
+use Rattle.chase_laws.specs.Rounds.{SettlesTo}
 use Rattle.chase_laws.proofs.TableauLemmas.{cons_cases, Same-refl}
 use Rattle.chase_laws.proofs.KeptLemmas.{Each, HasLength, HasAtMost, most-functional}
 use Rattle.chase_laws.proofs.SettlingLemmas.{settled_from}
@@ -45,22 +45,22 @@ each_over n t over row h = All-contains (HasLength n) t row over h
 
 -- ---- what holds when the loop comes round
 pub record IsSettling (n : ℕ) (ds : List Dependency) (t s : Tableau) (changed : Bool) : Type 0 where
-  pub leads : Leads (IsFunctionalStep ds) t s
+  pub leads : LeadsTo (IsFunctionalStep ds) t s
   pub count : length s ≡ length t
   pub over : IsTableauOver n s
-  pub settled : changed ≡ false → IsSettled ds s
+  pub settled : changed ≡ false → IsSettledTableau ds s
 
 pub settling_first : (n : ℕ) (ds : List Dependency) (t : Tableau) → IsTableauOver n t → IsSettling n ds t t true
 settling_first n ds t over = record { leads = (0, Same-refl t); count = refl; over = over; settled = λ e. absurd (true≢false e) }
 
-changes_leads : (ds : List Dependency) (changed : Bool) (t m s : Tableau) → Leads (IsFunctionalStep ds) t m → Changes ds changed m s → Leads (IsFunctionalStep ds) t s
+changes_leads : (ds : List Dependency) (changed : Bool) (t m s : Tableau) → LeadsTo (IsFunctionalStep ds) t m → Changes ds changed m s → LeadsTo (IsFunctionalStep ds) t s
 changes_leads ds true t m s one changes = functional_leads ds (suc changes.0) t m s one.0 one.1 changes.1
-changes_leads ds false t m s one same = subst (λ (u : Tableau). Leads (IsFunctionalStep ds) t u) (sym same) one
+changes_leads ds false t m s one same = subst (λ (u : Tableau). LeadsTo (IsFunctionalStep ds) t u) (sym same) one
 
 Contains-row : (t : Tableau) (p : SymbolRow) (h : Contains t p) → row_at t h.0 ≡ p
 Contains-row t p h = get_or_default t h.0 [] p h.1 ∙ h.2
 
-agrees_settled : (ds : List Dependency) (t : Tableau) → ((x y : Places) → Contains ds (fd x y) → AgreesBy x y t) → IsSettled ds t
+agrees_settled : (ds : List Dependency) (t : Tableau) → ((x y : Places) → Contains ds (fd x y) → AgreesBy x y t) → IsSettledTableau ds t
 agrees_settled ds t agrees = settled_from ds t (λ x y p q given p_in q_in agree k m.
     let p_is : row_at t p_in.0 ≡ p = Contains-row t p p_in in
     let q_is : row_at t q_in.0 ≡ q = Contains-row t q q_in in
@@ -74,7 +74,7 @@ settling_next n ds t m s before changed old changes keeps obeyed = record {
   leads = changes_leads ds changed t m s old.leads changes;
   count = keeps.one_each ∙ old.count;
   over = keeps.over n old.over;
-  settled = λ e. let same : s ≡ m = subst (λ (b : Bool). Changes ds b m s) e changes in subst (λ (u : Tableau). IsSettled ds u) (sym same) (agrees_settled ds m (obeyed e));
+  settled = λ e. let same : s ≡ m = subst (λ (b : Bool). Changes ds b m s) e changes in subst (λ (u : Tableau). IsSettledTableau ds u) (sym same) (agrees_settled ds m (obeyed e));
 }
 
 -- fewer symbols are in use after each change
@@ -86,5 +86,5 @@ settling_lower n ds t m s true over before changes =
     let less = more_use n (total t) ds changes.0 m s (each_over n m before.over) low changes.1 in
     omega (arith, less)
 
-pub settling_done : (n : ℕ) (ds : List Dependency) (t s : Tableau) → IsSettling n ds t s false → Settles ds t s
+pub settling_done : (n : ℕ) (ds : List Dependency) (t s : Tableau) → IsSettling n ds t s false → SettlesTo ds t s
 settling_done n ds t s done = record { leads = done.leads; settled = done.settled refl }

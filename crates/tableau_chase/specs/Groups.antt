@@ -8,7 +8,7 @@ row_at rows i = slice_index_or rows i []
 
 -- for each row the place of one that comes no later and agrees with it on x, the same one for all rows that
 -- agree on x
-pub record AreLeaders (x : Places) (rows : Tableau) (leaders : List ℕ) : Type 0 where
+pub record AreSymbolLeaders (x : Places) (rows : Tableau) (leaders : List ℕ) : Type 0 where
   pub one_each : length leaders ≡ length rows
   pub first : (i : ℕ) → i < length rows → slice_index leaders i ≤ i
   pub agree : (i : ℕ) → i < length rows → SymbolsAgree x (row_at rows (slice_index leaders i)) (row_at rows i)

@@ -8,7 +8,7 @@ use Rattle.tableau_chase.specs.Groups.{row_at}
 use Rattle.tableau_chase.specs.Pools.{Extends}
 
 -- a row that two rows of a tableau, which agree on x, give by x ->> y
-pub record IsExchanged (n : ℕ) (x y : Places) (t : Tableau) (row : SymbolRow) : Type 0 where
+pub record IsExchangedRow (n : ℕ) (x y : Places) (t : Tableau) (row : SymbolRow) : Type 0 where
   pub first : SymbolRow
   pub second : SymbolRow
   pub first_in : Contains t first
@@ -19,7 +19,7 @@ pub record IsExchanged (n : ℕ) (x y : Places) (t : Tableau) (row : SymbolRow) 
 -- the same by a dependency of either kind
 abbrev pub IsMadeFrom : ℕ → Dependency → Tableau → SymbolRow → Type 0
 IsMadeFrom n (fd x y) t row = ⊥
-IsMadeFrom n (mvd x y) t row = IsExchanged n x y t row
+IsMadeFrom n (mvd x y) t row = IsExchangedRow n x y t row
 
 -- rows with a property were added at the end, so that all of them are there
 pub record AddsAll (P : SymbolRow → Type 0) (t s : Tableau) : Type 0 where

@@ -9,7 +9,7 @@ ghost use Rattle.chase_laws.specs.Tableaux.{IsTableauOver, Tableau};
 ghost use Rattle.chase_laws.specs.Rounds.{IsMadeOf};
 ghost use Rattle.tableau_chase.specs.Groups.{row_at};
 ghost use Rattle.tableau_chase.specs.Pools.{IsPool};
-ghost use Rattle.tableau_chase.specs.Making.{IsExchanged, IsMadeFrom, IsExchangedWith, AddsAll, Overflows};
+ghost use Rattle.tableau_chase.specs.Making.{IsExchangedRow, IsMadeFrom, IsExchangedWith, AddsAll, Overflows};
 
 use crate::chased::ChaseRefusal;
 use crate::pool::Pool;
@@ -89,10 +89,10 @@ fn add_products(
     requires over { IsTableauOver width (take count pool.old.rows.items) }
     ensures pool { OnOk result (IsPool limit pool.new) }
     ensures made { OnOk result
-        (AddsAll (IsExchanged width (places lhs) (places rhs)
+        (AddsAll (IsExchangedRow width (places lhs) (places rhs)
         (take count pool.old.rows.items)) pool.old.rows.items pool.new.rows.items) }
     ensures too_many { result ≡ Err ChaseRefusal.TooManyRows
-        → Overflows (IsExchanged width (places lhs) (places rhs)
+        → Overflows (IsExchangedRow width (places lhs) (places rhs)
         (take count pool.old.rows.items)) limit pool.old.rows.items }
 {
     let both = lhs.union(rhs);

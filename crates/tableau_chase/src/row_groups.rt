@@ -5,7 +5,7 @@ ghost use Rattle.attr_sets.specs.Sets.{places};
 ghost use Rattle.attr_sets.specs.declared.set.TheConstants.{PLACES};
 ghost use Rattle.dep_model.specs.Projections.{members_below};
 ghost use Rattle.chase_laws.specs.Tableaux.{IsTableauOver};
-ghost use Rattle.tableau_chase.specs.Groups.{AreLeaders, AreFollowers};
+ghost use Rattle.tableau_chase.specs.Groups.{AreSymbolLeaders, AreFollowers};
 
 use crate::numbers::RowNumbers;
 use crate::symbol_row::SymbolRow;
@@ -38,7 +38,7 @@ pub fn leaders(
     requires width { width ≤ PLACES }
     requires over { IsTableauOver width rows.now }
     requires few { length rows.now < 2 ^ 32 }
-    ensures leaders { IfOk result (λ leaders. AreLeaders (places on) rows.now leaders.items) }
+    ensures leaders { IfOk result (λ leaders. AreSymbolLeaders (places on) rows.now leaders.items) }
 {
     let attributes = members(alloc, on, width)?;
     let mut numbers = RowNumbers::new(alloc);

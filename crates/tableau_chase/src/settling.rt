@@ -9,7 +9,7 @@ ghost use Rattle.dep_model.specs.Deps.{dependency_of, dependencies_of};
 ghost use Rattle.dep_model.specs.Projections.{members_below};
 ghost use Rattle.chase_laws.specs.Tableaux.{IsTableauOver};
 ghost use Rattle.chase_laws.specs.Steps.{replaced};
-ghost use Rattle.chase_laws.specs.Rounds.{Settles};
+ghost use Rattle.chase_laws.specs.Rounds.{SettlesTo};
 ghost use Rattle.tableau_chase.specs.Settling.{Changes, KeepsRows, AgreesBy, IsEquatedAt, AreEquated, AreGroupedBy, AreGrouped};
 
 use crate::row_groups::{leaders, members};
@@ -28,7 +28,7 @@ pub fn settle(
     requires width { width ≤ PLACES }
     requires over { IsTableauOver width rows.old }
     requires few { length rows.old < 2 ^ 32 }
-    ensures settles { OnOk result (Settles (dependencies_of deps.now) rows.old rows.new) }
+    ensures settles { OnOk result (SettlesTo (dependencies_of deps.now) rows.old rows.new) }
     ensures count { OnOk result (length rows.new ≡ length rows.old) }
 {
     let mut changed = true;

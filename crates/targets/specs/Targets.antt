@@ -13,19 +13,19 @@ abbrev pub Finished : Type 1
 Finished = List TableValue → Type 0
 
 -- which open tables it stands for
-abbrev pub Opened : Type 1
-Opened = TableValue → Type 0
+abbrev pub OpenTables : Type 1
+OpenTables = TableValue → Type 0
 
 -- the finished tables are as before
 abbrev pub KeepsFinished : Finished → Finished → Type 0
 KeepsFinished old new = (done : List TableValue) → old done → new done
 
 -- the open table has one row more
-abbrev pub AddsRow : Tuple → Opened → Opened → Type 0
+abbrev pub AddsRow : Tuple → OpenTables → OpenTables → Type 0
 AddsRow row old new = (table : TableValue) → old table → new (with_row row table)
 
 -- the open table is the last finished one
-abbrev pub FinishesTable : Finished → Opened → Finished → Type 0
+abbrev pub FinishesTable : Finished → OpenTables → Finished → Type 0
 FinishesTable old part new = (done : List TableValue) (table : TableValue) → old done → part table
     → new (done ++ table ∷ [])
 

@@ -10,11 +10,11 @@ use Rattle.attr_sets.proofs.PlacesLemmas.{Same-path, places_below, count_below-l
 use Rattle.dep_model.specs.Dependencies.{Dependency, fd}
 use Rattle.dep_model.specs.Implication.{Implies}
 use Rattle.wide_bcnf.specs.Pairs.{IsFirstPair, NoneBefore}
-use Rattle.wide_bcnf.specs.WideSplits.{LeavesOut, ShrinksTo, IsCore}
+use Rattle.wide_bcnf.specs.WideSplits.{ShrinksBy, ShrinksTo, IsCore}
 use Rattle.wide_bcnf.proofs.PairLemmas.{none_before_first, none_before_part}
 
 -- what is left out leaves a part
-pub left_within : (n : ℕ) (ds : List Dependency) (p q : Places) (a : ℕ) → LeavesOut n ds p q a → Within q p
+pub left_within : (n : ℕ) (ds : List Dependency) (p q : Places) (a : ℕ) → ShrinksBy n ds p q a → Within q p
 left_within n ds p q a out k m = let e = out.rest k in grind (arith, e, m)
 
 pub shrunk_within : (n : ℕ) (ds : List Dependency) (steps : ℕ) (scheme q : Places) → ShrinksTo n ds steps scheme q

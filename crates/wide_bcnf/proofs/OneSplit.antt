@@ -5,7 +5,7 @@ use Rattle.attr_sets.specs.Places.{Places, only, minus, Same}
 use Rattle.attr_sets.proofs.PlacesLemmas.{Same-path, Same-refl}
 use Rattle.dep_model.specs.Dependencies.{Dependency}
 use Rattle.wide_bcnf.specs.Pairs.{IsPair, HasPair, IsFirstPair}
-use Rattle.wide_bcnf.specs.WideSplits.{LeavesOut, ShrinksTo, IsCore, IsWideSplit}
+use Rattle.wide_bcnf.specs.WideSplits.{ShrinksBy, ShrinksTo, IsCore, IsWideSplitOf}
 
 module _ (n : ℕ) (ds : List Dependency) where
   -- ---- one step has one result
@@ -19,7 +19,7 @@ module _ (n : ℕ) (ds : List Dependency) where
       let far = other.least_second b (subst (λ (i : ℕ). IsPair n ds scheme i b) same one.pair) in
       (same, omega arith)
 
-  left_same : (p q r : Places) (a c : ℕ) → LeavesOut n ds p q a → LeavesOut n ds p r c → (q ≡ r) × (a ≡ c)
+  left_same : (p q r : Places) (a c : ℕ) → ShrinksBy n ds p q a → ShrinksBy n ds p r c → (q ≡ r) × (a ≡ c)
   left_same p q r a c one other =
       let same = first_same p a one.second c other.second one.pair other.pair in (
         Same-path q (minus p (only one.second)) one.rest ∙ ap (λ (i : ℕ). minus p (only i)) same.1
@@ -34,7 +34,7 @@ module _ (n : ℕ) (ds : List Dependency) where
   shrunk_same (suc steps) scheme q r one other =
       let before = shrunk_same steps scheme one.0 other.0 one.1 other.1 in
       (left_same other.0 q r one.2.0 other.2.0
-      (subst (λ (p : Places). LeavesOut n ds p q one.2.0) before one.2.1) other.2.1).0
+      (subst (λ (p : Places). ShrinksBy n ds p q one.2.0) before one.2.1) other.2.1).0
 
   -- what shrinks has a pair
   shrinks_by_pair : (steps : ℕ) (scheme q : Places) → ShrinksTo n ds (suc steps) scheme q → HasPair n ds scheme
@@ -69,7 +69,7 @@ module _ (n : ℕ) (ds : List Dependency) where
       let steps : other.steps ≡ one.steps = omega (arith, same) in
       let before = shrunk_same one.steps scheme one.before other.before one.shrinks
       (subst (λ (k : ℕ). ShrinksTo n ds k scheme other.before) steps other.shrinks) in
-      left_same other.before q r a c (subst (λ (p : Places). LeavesOut n ds p q a) before one.last) other.last
+      left_same other.before q r a c (subst (λ (p : Places). ShrinksBy n ds p q a) before one.last) other.last
   core_ordered scheme q r a c one other (suc more) same =
       let whole : ShrinksTo n ds (suc one.steps) scheme q = (one.before, one.shrinks, (a, one.last)) in
       let steps : other.steps ≡ suc one.steps + more = omega (arith, same) in
@@ -95,7 +95,7 @@ module _ (n : ℕ) (ds : List Dependency) where
   core_by_pair scheme q a core = shrinks_by_pair core.steps scheme q (core.before, core.shrinks, (a, core.last))
 
   -- ---- and one wide split
-  pub one_split : (scheme : Places) (xs ys : List Places) → IsWideSplit n ds scheme xs → IsWideSplit n ds scheme ys
+  pub one_split : (scheme : Places) (xs ys : List Places) → IsWideSplitOf n ds scheme xs → IsWideSplitOf n ds scheme ys
       → xs ≡ ys
   one_split scheme [] ys one other = absurd one
   one_split scheme (q ∷ xs) [] one other = absurd other
@@ -110,8 +110,8 @@ module _ (n : ℕ) (ds : List Dependency) where
       (λ alone. absurd (alone.0 (core_by_pair scheme q cut.0 cut.1)))
       (λ both.
       let same = core_same scheme q r cut.0 both.0 cut.1 both.1 in
-      let left : IsWideSplit n ds (minus scheme (only cut.0)) ys = subst
-      (λ (i : ℕ). IsWideSplit n ds (minus scheme (only i)) ys) (sym same.1) both.2 in
+      let left : IsWideSplitOf n ds (minus scheme (only cut.0)) ys = subst
+      (λ (i : ℕ). IsWideSplitOf n ds (minus scheme (only i)) ys) (sym same.1) both.2 in
       ap (λ (x : Places). x ∷ xs) same.0
       ∙ ap (λ (zs : List Places). r ∷ zs) (one_split (minus scheme (only cut.0)) xs ys cut.2 left))
       other)

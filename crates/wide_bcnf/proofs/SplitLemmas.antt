@@ -23,7 +23,7 @@ use Rattle.dep_model.proofs.ListLemmas.{Any-from, Contains-head, Contains-later,
 use Rattle.dep_model.proofs.SchemeLemmas.{whole_lossless}
 use Rattle.decomp_text.specs.Containing.{is_spare, without_contained_after, without_contained}
 use Rattle.wide_bcnf.specs.Pairs.{HasPair}
-use Rattle.wide_bcnf.specs.WideSplits.{IsCore, IsWideSplit}
+use Rattle.wide_bcnf.specs.WideSplits.{IsCore, IsWideSplitOf}
 use Rattle.wide_bcnf.proofs.PairLemmas.{without_pair_bcnf}
 use Rattle.wide_bcnf.proofs.CoreLemmas.{core_within, core_member, core_determined, scheme_member, scheme_other}
 
@@ -45,7 +45,7 @@ halves_same q a member k = elim (cases_eq k a) [
 ]
 
 pub lossless_after : (n : ℕ) (ds : List Dependency) (before : List Places) (scheme : Places) (schemes : List Places)
-    → IsWideSplit n ds scheme schemes
+    → IsWideSplitOf n ds scheme schemes
     → IsLossless n ds (before ++ scheme ∷ []) → IsLossless n ds (before ++ schemes)
 lossless_after n ds before scheme [] split lossless = absurd split
 lossless_after n ds before scheme (q ∷ later) split lossless = ⊎_elim
@@ -68,7 +68,7 @@ lossless_after n ds before scheme (q ∷ later) split lossless = ⊎_elim
     (lossless_after n ds (before ++ q ∷ []) (minus scheme (only a)) later cut.2 front))
     split
 
-pub split_is_lossless : (n : ℕ) (ds : List Dependency) (schemes : List Places) → IsWideSplit n ds (below n) schemes
+pub split_is_lossless : (n : ℕ) (ds : List Dependency) (schemes : List Places) → IsWideSplitOf n ds (below n) schemes
     → IsLossless n ds schemes
 split_is_lossless n ds schemes split = lossless_after n ds [] (below n) schemes split (whole_lossless n ds)
 
@@ -119,7 +119,7 @@ parts_cut n ds scheme q a later low core parts = record {
 }
 
 pub split_parts : (n : ℕ) (ds : List Dependency) (scheme : Places) (schemes : List Places) → Within scheme (below n)
-    → (IsEmpty scheme → ⊥) → IsWideSplit n ds scheme schemes
+    → (IsEmpty scheme → ⊥) → IsWideSplitOf n ds scheme schemes
     → AreParts n ds scheme schemes
 split_parts n ds scheme [] low some split = absurd split
 split_parts n ds scheme (q ∷ later) low some split = ⊎_elim
@@ -171,7 +171,7 @@ kept_all P all kept among each =
 
 -- ---- the plan of a schema
 module _ (s : Schema) (all : List AttrSet)
-    (split : IsWideSplit (width_of s) (theory_of s) (universe_of s) (schemes_of all)) where
+    (split : IsWideSplitOf (width_of s) (theory_of s) (universe_of s) (schemes_of all)) where
   pub schema_parts : AreParts (width_of s) (theory_of s) (universe_of s) (schemes_of all)
   schema_parts =
       split_parts (width_of s) (theory_of s) (universe_of s) (schemes_of all) (λ k m. m)

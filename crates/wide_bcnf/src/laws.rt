@@ -9,7 +9,7 @@ ghost use Rattle.dep_model.specs.Deps.{dependencies_of, IsDepWithin};
 ghost use Rattle.dep_model.specs.Forms.{IsBcnf};
 ghost use Rattle.dep_model.specs.Projections.{IsLossless};
 ghost use Rattle.wide_bcnf.specs.Pairs.{IsPair, HasPair};
-ghost use Rattle.wide_bcnf.specs.WideSplits.{IsWideSplit};
+ghost use Rattle.wide_bcnf.specs.WideSplits.{IsWideSplitOf};
 
 /// A scheme without a pair is in Boyce-Codd form: what determines an attribute outside itself and leaves
 /// another one undetermined would give a pair.
@@ -29,11 +29,11 @@ pub fn pairs_of_a_part()
 /// The wide split of the universe is lossless, whatever the width.
 pub fn wide_splits_are_lossless()
     ensures law { (n : ℕ) (ds : List Dependency) (schemes : List Places)
-        → IsWideSplit n ds (below n) schemes → IsLossless n ds schemes }
+        → IsWideSplitOf n ds (below n) schemes → IsLossless n ds schemes }
 {}
 
 /// A scheme has one wide split alone.
 pub fn one_wide_split()
     ensures law { (n : ℕ) (ds : List Dependency) (scheme : Places) (xs ys : List Places)
-        → IsWideSplit n ds scheme xs → IsWideSplit n ds scheme ys → xs ≡ ys }
+        → IsWideSplitOf n ds scheme xs → IsWideSplitOf n ds scheme ys → xs ≡ ys }
 {}

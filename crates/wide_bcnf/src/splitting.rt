@@ -7,7 +7,7 @@ ghost use Rattle.dep_model.specs.Projections.{IsLossless};
 ghost use Rattle.dep_model.specs.Schemas.{width_of, universe_of, theory_of};
 ghost use Rattle.decomp_text.specs.Plans.{sets_of, plan_of, IsPlanOver};
 ghost use Rattle.wide_bcnf.specs.Pairs.{IsFirstPair};
-ghost use Rattle.wide_bcnf.specs.WideSplits.{IsCore, IsWideSplit, IsWidePlan};
+ghost use Rattle.wide_bcnf.specs.WideSplits.{IsCore, IsWideSplitOf, IsWidePlan};
 
 use crate::pairs::{Pair, first_pair};
 use attr_sets::AttrSet;
@@ -35,7 +35,7 @@ pub fn split_wide(alloc: Global, schema: &Schema) -> Result<Plan, WantMemory>
 // The schemes of the wide split of the universe. What is left of a scheme has no pair before the
 // first one of the scheme, so the search goes on there.
 fn wide_schemes(alloc: Global, schema: &Schema) -> Result<Vec<AttrSet>, WantMemory>
-    ensures split { IfOk result (λ schemes. IsWideSplit (width_of schema.now) (theory_of schema.now)
+    ensures split { IfOk result (λ schemes. IsWideSplitOf (width_of schema.now) (theory_of schema.now)
         (universe_of schema.now) (schemes_of schemes.items)) }
 {
     let mut schemes = Vec::new(alloc);

@@ -7,7 +7,7 @@ use Rattle.dep_model.specs.Schemas.{names_of, width_of}
 use Rattle.lexer.specs.Lines.{line_texts, without_mark}
 use Rattle.plan_grammar.specs.declared.refusal.TheConstants.{MOST_SCHEMES}
 use Rattle.plan_grammar.specs.Complaints.{uncovered}
-use Rattle.plan_grammar.specs.Meanings.{MeansLines, MeansPlan}
+use Rattle.plan_grammar.specs.Meanings.{MeansSchemeLines, MeansPlan}
 use Rattle.plan_grammar.specs.Reading.{read_lines}
 use Rattle.plan_grammar.proofs.LineLemmas.{read_means, refused_refuses}
 use Rattle.plan_grammar.proofs.PlanLaws.{lines_within, lines_some}
@@ -15,7 +15,7 @@ use Rattle.decomp_text.proofs.ReadingLemmas.{as_map}
 use Rattle.decomp_text.proofs.reading.read_plan.Goals as goal
 
 meant : (names : List (List ℕ)) (text rest : List ℕ) (schemes : List Places) → rest ≡ without_mark text → read_lines names 1 [] (line_texts rest) ≡ Ok schemes
-    → MeansLines names (line_texts (without_mark text)) schemes × (length schemes ≤ MOST_SCHEMES)
+    → MeansSchemeLines names (line_texts (without_mark text)) schemes × (length schemes ≤ MOST_SCHEMES)
 meant names text rest schemes same is =
     read_means names (line_texts (without_mark text)) schemes (subst (λ (t : List ℕ). read_lines names 1 [] (line_texts t) ≡ Ok schemes) same is)
 

@@ -1,6 +1,6 @@
 use Rattle.std.proofs.Common.{◌≢◌, ℕ, List, subst}
 use Rattle.csv_rows.specs.Records.{records_of}
-use Rattle.fd_discovery.specs.Headings.{IsHeaded, IsRefused}
+use Rattle.fd_discovery.specs.Headings.{IsHeaded, IsRefusedDiscovery}
 use Rattle.fd_discovery.specs.declared.refusal.DiscoverRefusal.TheVariants.{Memory}
 use Rattle.desk_cli.specs.Discoveries.{TellsHeaded}
 use Rattle.desk_cli.specs.Replies.{StopsAs}
@@ -17,6 +17,6 @@ returns-in-Ok-read_headed-clause-ok g c = λ r same. record {
 pub returns-clause-stop : goal.returns-clause-stop
 returns-clause-stop g c = λ r shows.
     let refusal = c.in-Err-read_headed.refusal in
-    let refuses = subst (λ (bytes : List ℕ). refusal ≢ Memory → IsRefused (records_of bytes) refusal) c.deref.ensures.value c.in-Err-read_headed.ensures.err in
+    let refuses = subst (λ (bytes : List ℕ). refusal ≢ Memory → IsRefusedDiscovery (records_of bytes) refusal) c.deref.ensures.value c.in-Err-read_headed.ensures.err in
     let tells = subst (λ (name : List ℕ). StopsAs (TellsHeaded name refusal) c.headed_refused.result) c.bytes.ensures.bytes c.headed_refused.ensures.refused in
     headed_stop r c.args.name.now c.in-Ok.bytes.items refusal c.headed_refused.result (c.in-Ok.ensures.ok r shows.same) refuses tells

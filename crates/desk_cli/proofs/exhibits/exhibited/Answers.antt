@@ -1,6 +1,6 @@
 use Rattle.std.proofs.Common.{◌≡◌, ℕ, inl, inr, subst, ap, ◌∙◌}
 use Rattle.armstrong_rel.specs.declared.refusal.ExhibitRefusal.{ExhibitRefusal}
-use Rattle.armstrong_rel.specs.Refusals.{IsRefused}
+use Rattle.armstrong_rel.specs.Refusals.{IsRefusedExhibit}
 use Rattle.attr_sets.proofs.PlacesLemmas.{Same-path}
 use Rattle.attr_sets.specs.Places.{Places, below}
 use Rattle.attr_sets.specs.Sets.{places}
@@ -28,7 +28,7 @@ returns-in-Err-TooWide c =
     let all : places c.full.result ≡ universe_of s = Same-path (places c.full.result) (universe_of s) (λ (k : ℕ). c.full.ensures.members k ∙ ap (λ (n : ℕ). below n k) c.width.ensures.count) in
     record {
       reply = λ reply is. inr (inr (
-        subst (λ (refusal : ExhibitRefusal). IsRefused s refusal) c.in-Err-TooWide.field-0-is c.in-Err-TooWide.ensures.refused,
+        subst (λ (refusal : ExhibitRefusal). IsRefusedExhibit s refusal) c.in-Err-TooWide.field-0-is c.in-Err-TooWide.ensures.refused,
         subst (λ (x : Places). Says Refused (too_wide_text (names_of s) x) (answer_of reply)) all (c.too_wide.ensures.says reply is),
       ));
     }

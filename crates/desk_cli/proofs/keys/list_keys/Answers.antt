@@ -8,7 +8,7 @@ use Rattle.attr_sets.proofs.PlacesLemmas.{Same-path}
 use Rattle.dep_model.specs.Keys.{IsKey}
 use Rattle.dep_model.specs.Schemas.{names_of, width_of, theory_of, universe_of}
 use Rattle.key_listing.specs.declared.refusal.KeyRefusal.{KeyRefusal}
-use Rattle.key_listing.specs.Refusals.{IsRefused}
+use Rattle.key_listing.specs.Refusals.{IsRefusedListing}
 use Rattle.desk_cli.specs.Answers.{Says}
 use Rattle.desk_cli.specs.Keys.{too_wide_text}
 use Rattle.desk_cli.specs.Replies.{answer_of}
@@ -29,5 +29,5 @@ returns-in-Err-TooWide c =
     let s = c.args.schema.now in
     let all : places c.full.result ≡ universe_of s = Same-path (places c.full.result) (universe_of s) (λ (k : ℕ). c.full.ensures.members k ∙ ap (λ (n : ℕ). below n k) c.width.ensures.count) in
     record {
-      reply = λ reply is. inr (inl (subst (λ (refusal : KeyRefusal). IsRefused s refusal) c.in-Err-TooWide.field-0-is c.in-Err-TooWide.ensures.refused, subst (λ (x : Places). Says Refused (too_wide_text (names_of s) x) (answer_of reply)) all (c.too_wide.ensures.says reply is)));
+      reply = λ reply is. inr (inl (subst (λ (refusal : KeyRefusal). IsRefusedListing s refusal) c.in-Err-TooWide.field-0-is c.in-Err-TooWide.ensures.refused, subst (λ (x : Places). Says Refused (too_wide_text (names_of s) x) (answer_of reply)) all (c.too_wide.ensures.says reply is)));
     }

@@ -4,7 +4,7 @@ use Rattle.attr_sets.specs.Sets.{places}
 use Rattle.dep_model.specs.Dependencies.{IsWithin}
 use Rattle.dep_model.specs.Deps.{dependencies_of}
 use Rattle.dep_model.proofs.DepLemmas.{dependencies_all-to}
-use Rattle.fd_discovery.specs.Leaders.{IsTable, AreLeaders}
+use Rattle.fd_discovery.specs.Leaders.{IsTableOfRows, AreLeaders}
 use Rattle.fd_discovery.proofs.LeaderLemmas.{first_leads}
 use Rattle.fd_discovery.proofs.SearchLemmas.{search_whole, all_minimal, implied_by_rows, all_within}
 use Rattle.fd_discovery.proofs.discovering.discover.Goals as goal
@@ -17,7 +17,7 @@ search_above-requires-clause-rows c =
     (c.in_ok-leaders.ensures.items_if_clones_equal (λ y e. e)) in (
       rows,
       record {
-        table = subst (λ (m : ℕ). IsTable m rows c.in_ok-table.table) (sym table.width) table;
+        table = subst (λ (m : ℕ). IsTableOfRows m rows c.in_ok-table.table) (sym table.width) table;
         led = subst (λ (l : List ℕ). AreLeaders rows (places c.empty-none.result) l)
             (sym c.deref-2.ensures.value) led;
       },
@@ -30,7 +30,7 @@ returns-clause-minimal c =
     let none = places c.empty-none.result in
     let led = first_leads rows none c.in_ok-leaders.leaders.items c.empty-none.ensures.members
     (c.in_ok-leaders.ensures.items_if_clones_equal (λ y e. e)) in
-    let same = subst (λ (m : ℕ). IsTable m rows c.in_ok-table.table) (sym table.width) table in
+    let same = subst (λ (m : ℕ). IsTableOfRows m rows c.in_ok-table.table) (sym table.width) table in
     let found = search_whole c.in_ok-table.table.width c.args.width rows none
     (places c.full-all.result) _ _ _ table.width c.empty-none.ensures.members c.full-all.ensures.members
     (ap dependencies_of c.new-found.ensures.items)
@@ -55,7 +55,7 @@ returns-clause-implied c =
     let none = places c.empty-none.result in
     let led = first_leads rows none c.in_ok-leaders.leaders.items c.empty-none.ensures.members
     (c.in_ok-leaders.ensures.items_if_clones_equal (λ y e. e)) in
-    let same = subst (λ (m : ℕ). IsTable m rows c.in_ok-table.table) (sym table.width) table in
+    let same = subst (λ (m : ℕ). IsTableOfRows m rows c.in_ok-table.table) (sym table.width) table in
     let found = search_whole c.in_ok-table.table.width c.args.width rows none
     (places c.full-all.result) _ _ _ table.width c.empty-none.ensures.members c.full-all.ensures.members
     (ap dependencies_of c.new-found.ensures.items)

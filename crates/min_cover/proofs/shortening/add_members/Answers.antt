@@ -11,7 +11,7 @@ use Rattle.dep_model.specs.Deps.{dependencies_of, IsDepWithin}
 use Rattle.dep_model.specs.Dependencies.{Dependency, fd}
 use Rattle.dep_model.specs.Schemas.{width_of, theory_of}
 use Rattle.dep_model.specs.Projections.{members_below}
-use Rattle.min_cover.specs.Members.{IsShortLeft, IsShortened, AreShortened}
+use Rattle.min_cover.specs.Members.{IsShortLeft, IsShortenedDependency, AreShortened}
 use Rattle.min_cover.proofs.MemberLemmas.{members_none, members_more, members_no_more, shortened_more}
 use Rattle.min_cover.proofs.shortening.add_members.Goals.{then-has+in_ok-push, else-has}
 use Rattle.min_cover.proofs.shortening.add_members.Goals as goal
@@ -53,7 +53,7 @@ loop-a-preserved c firsts before =
           let within : All (IsDepWithin (below n)) w.deps.result.now = subst (λ (es : List Dep). All (IsDepWithin (below n)) es) (sym w.deps.ensures.deps) s.valid.deps_within in
           let by_deps = w.short_left.ensures.short n within c.requires.lhs right_in in
           let is_short : IsShortLeft n (theory_of s) x right short = subst (λ (es : List Dep). IsShortLeft n (dependencies_of es) x right short) w.deps.ensures.deps by_deps in
-          let shortened : IsShortened n (theory_of s) (fd x (only a)) (fd short right) =
+          let shortened : IsShortenedDependency n (theory_of s) (fd x (only a)) (fd short right) =
           (short, ap (λ (p : Places). fd short p) right_is, subst (λ (p : Places). IsShortLeft n (theory_of s) x p short) right_is is_short) in
           let more = shortened_more n (theory_of s) (firsts ++ map f (members_below a z)) c.loop-a.members.items (fd x (only a)) _ old shortened
           ((λ (k : ℕ) m. c.requires.lhs k (is_short.within k m)), right_in) refl in

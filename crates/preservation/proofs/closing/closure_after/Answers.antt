@@ -6,7 +6,7 @@ use Rattle.attr_sets.proofs.PlacesLemmas.{Same-path}
 use Rattle.dep_model.specs.Schemas.{width_of, theory_of}
 use Rattle.preservation.specs.declared.closing.Closed.{Closed}
 use Rattle.preservation.specs.Insides.{known_plan}
-use Rattle.preservation.specs.Settled.{IsClosed, IsKeptClosure}
+use Rattle.preservation.specs.Settled.{TellsKeptClosure, IsKeptClosure}
 use Rattle.preservation.proofs.KeepingLemmas.{kept_follows}
 use Rattle.preservation.proofs.closing.closure_after.Goals as goal
 
@@ -16,7 +16,7 @@ returns-then-eq c =
     let ds = theory_of c.args.schema.now in
     let plan = known_plan c.args.insides.now in
     let told = c.in-Some.told in
-    let known : IfSome (Some told) (IsClosed n ds plan) = subst (λ (last : Option Closed). IfSome last (IsClosed n ds plan)) c.in-Some.is c.requires.last in
+    let known : IfSome (Some told) (TellsKeptClosure n ds plan) = subst (λ (last : Option Closed). IfSome last (TellsKeptClosure n ds plan)) c.in-Some.is c.requires.last in
     let same : places told.from ≡ places c.args.from = Same-path (places told.from) (places c.args.from) (c.if-eq.ensures.same.0 refl) in
     let all : IsKeptClosure n ds plan (places c.args.from) (places told.closed) = subst (λ (x : Places). IsKeptClosure n ds plan x (places told.closed)) same known in
     record {

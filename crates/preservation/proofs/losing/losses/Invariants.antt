@@ -4,7 +4,7 @@ use Rattle.dep_model.specs.Plans.{schemes_of}
 use Rattle.dep_model.specs.Schemas.{width_of, theory_of}
 use Rattle.preservation.specs.Insides.{IsKnown, known_schemes, AreAllOn}
 use Rattle.preservation.specs.Keeping.{LossesFrom}
-use Rattle.preservation.specs.Settled.{IsClosed}
+use Rattle.preservation.specs.Settled.{TellsKeptClosure}
 use Rattle.preservation.proofs.losing.losses.Given as goal
 
 -- the losses among the dependencies so far
@@ -15,5 +15,5 @@ invariant-loop-k l = record {
   known : All (IsKnown (width_of l.schema) (theory_of l.schema)) l.insides.items;
   schemes : known_schemes l.insides.items ≡ l.schemes;
   switches : AreAllOn l.schema l.counters;
-  last : IfSome l.last (IsClosed (width_of l.schema) (theory_of l.schema) (schemes_of l.schemes));
+  last : IfSome l.last (TellsKeptClosure (width_of l.schema) (theory_of l.schema) (schemes_of l.schemes));
 }

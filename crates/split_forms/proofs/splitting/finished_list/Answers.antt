@@ -6,7 +6,7 @@ use Rattle.dep_model.specs.Plans.{schemes_of}
 use Rattle.dep_model.specs.Schemas.{width_of, theory_of}
 use Rattle.split_forms.specs.declared.outcome.Outcome.{Outcome}
 use Rattle.split_forms.specs.Outcomes.{IsOutcome}
-use Rattle.split_forms.specs.Splitting.{StaysWhole, IsCutBy, IsStuck, IsTooWideAt, HasTooMany}
+use Rattle.split_forms.specs.Splitting.{StaysWhole, IsCutBy, IsStuckScheme, IsTooWideAt, HasTooManySchemes}
 use Rattle.split_forms.proofs.SplitLemmas.{stuck_few, finished_few, finished_not_stuck}
 use Rattle.split_forms.proofs.WalkLemmas.{walk_on, walk_many, walk_cut, walk_stuck, walk_within, walk_end}
 use Rattle.split_forms.proofs.splitting.finished_list.Goals as goal
@@ -41,7 +41,7 @@ returns-in-Stuck-clause-refused c =
     let n = width_of s in
     let ds = theory_of s in
     let scheme = c.index-scheme.result.now in
-    let stuck : IsStuck n ds c.args.form (places scheme) =
+    let stuck : IsStuckScheme n ds c.args.form (places scheme) =
     subst (λ (o : Outcome). IsOutcome n ds c.args.form (places scheme) o) c.in-Stuck.is
     c.in_ok-found_outcome.ensures.outcome in
     let wide : IsTooWideAt n ds c.args.form c.args.limit (places scheme) =
@@ -59,7 +59,7 @@ returns-then-len-most-clause-refused c =
     let cut : IsCutBy n ds c.args.form (places scheme) (places breach.lhs) (places breach.rhs) =
     subst (λ (o : Outcome). IsOutcome n ds c.args.form (places scheme) o) c.in-Cut.is
     c.in_ok-found_outcome.ensures.outcome in
-    let many : HasTooMany n ds c.args.form c.args.limit =
+    let many : HasTooManySchemes n ds c.args.form c.args.limit =
     walk_many n ds c.args.form c.loop-at.schemes.items c.loop-at.at scheme (omega arith) (sym c.index-scheme.ensures)
     c.loop-at.invariant.walked (places breach.lhs) (places breach.rhs) cut c.args.limit
     c.loop-at.invariant.few (omega arith) in

@@ -15,7 +15,7 @@ use Rattle.form_tests.specs.Chosen.{IsInForm}
 use Rattle.decomp_text.specs.declared.plan.Plan.{Plan}
 use Rattle.split_forms.specs.declared.refusal.SplitRefusal.{SplitRefusal}
 use Rattle.split_forms.specs.declared.refusal.SplitRefusal.TheVariants.{TooManySchemes}
-use Rattle.split_forms.specs.Refusals.{IsRefused}
+use Rattle.split_forms.specs.Refusals.{IsRefusedSplit}
 use Rattle.split_forms.specs.Splitting.{StaysWhole}
 use Rattle.split_forms.proofs.SplitLemmas.{lists_lossless, too_many_short}
 use Rattle.split_forms.proofs.WalkLemmas.{reached_plan}
@@ -25,11 +25,11 @@ some_places : (s : Schema) → 0 < width_of s
 some_places s = s.valid.some_names
 
 never : (n : ℕ) (ds : List Dependency) (form : Form) (limit : ℕ) (result : Result Plan SplitRefusal) → 0 < n
-    → (form ≡ Third → ⊥) → IfErr result (IsRefused n ds form limit)
+    → (form ≡ Third → ⊥) → IfErr result (IsRefusedSplit n ds form limit)
     → 2 ^ (n - 1) ≤ limit → result ≡ Err TooManySchemes → ⊥
 never n ds form limit result some split refused large is =
-    let many : IsRefused n ds form limit TooManySchemes =
-    subst (λ (r : Result Plan SplitRefusal). IfErr r (IsRefused n ds form limit)) is refused in
+    let many : IsRefusedSplit n ds form limit TooManySchemes =
+    subst (λ (r : Result Plan SplitRefusal). IfErr r (IsRefusedSplit n ds form limit)) is refused in
     absurd (omega (arith, too_many_short n ds form some split limit many.0, large))
 
 pub returns-in-Err-clause-never_too_many : goal.returns-in-Err-clause-never_too_many

@@ -14,7 +14,7 @@ use Rattle.dep_model.specs.Deps.{dependencies_of}
 use Rattle.dep_model.specs.Projections.{IsLossless}
 use Rattle.dep_model.specs.Schemas.{width_of, theory_of}
 use Rattle.chase_laws.specs.Tableaux.{Tableau, SameTableau, IsTableauOver, distinguished}
-use Rattle.chase_laws.specs.Rounds.{Settles, IsMadeOf, RoundsExceed}
+use Rattle.chase_laws.specs.Rounds.{SettlesTo, IsMadeOf, RoundsExceed}
 use Rattle.chase_laws.proofs.RoundLemmas.{functional_few}
 use Rattle.chase_laws.proofs.SoundLemmas.{lossless_from_distinguished}
 use Rattle.chase_laws.proofs.ClosedLemmas.{gaining_lossy}
@@ -49,8 +49,8 @@ has_distinguished-requires c =
     let round = c.loop-rows.invariant in
     let s = c.settle.new.rows in
     let t = c.in-Ok-pool_of.pool.rows.items in
-    let settles : Settles ds rows s = subst (λ (d : List Dep). Settles (dependencies_of d) rows s) c.deps-deps.ensures.deps
-    (subst (λ (r : Tableau). Settles (dependencies_of c.deps-deps.result.now) r s) c.deref_mut.ensures.value c.in_ok-settle.ensures.settles) in
+    let settles : SettlesTo ds rows s = subst (λ (d : List Dep). SettlesTo (dependencies_of d) rows s) c.deps-deps.ensures.deps
+    (subst (λ (r : Tableau). SettlesTo (dependencies_of c.deps-deps.result.now) r s) c.deref_mut.ensures.value c.in_ok-settle.ensures.settles) in
     let back : c.deref.result.now ≡ s = c.deref.ensures.value ∙ with_items_is c.loop-rows.rows s (c.in_ok-settle.ensures.count ∙ c.deref_mut.ensures.len) in
     let same : SameTableau s t = subst (λ (r : Tableau). SameTableau r t) back c.in-Ok-pool_of.ensures.same in
     record { over = subst (λ (r : Tableau). IsTableauOver n r) (sym c.deref-in-loop-rows.ensures.value) (settled_over n ds plan limit rows s t round settles same) }
@@ -65,8 +65,8 @@ add_next-requires-clause-over c =
     let round = c.loop-rows.invariant in
     let s = c.settle.new.rows in
     let t = c.in-Ok-pool_of.pool.rows.items in
-    let settles : Settles ds rows s = subst (λ (d : List Dep). Settles (dependencies_of d) rows s) c.deps-deps.ensures.deps
-    (subst (λ (r : Tableau). Settles (dependencies_of c.deps-deps.result.now) r s) c.deref_mut.ensures.value c.in_ok-settle.ensures.settles) in
+    let settles : SettlesTo ds rows s = subst (λ (d : List Dep). SettlesTo (dependencies_of d) rows s) c.deps-deps.ensures.deps
+    (subst (λ (r : Tableau). SettlesTo (dependencies_of c.deps-deps.result.now) r s) c.deref_mut.ensures.value c.in_ok-settle.ensures.settles) in
     let back : c.deref.result.now ≡ s = c.deref.ensures.value ∙ with_items_is c.loop-rows.rows s (c.in_ok-settle.ensures.count ∙ c.deref_mut.ensures.len) in
     let same : SameTableau s t = subst (λ (r : Tableau). SameTableau r t) back c.in-Ok-pool_of.ensures.same in
     settled_over n ds plan limit rows s t round settles same
@@ -81,8 +81,8 @@ returns-then-has_distinguished-clause-within_limit c =
     let round = c.loop-rows.invariant in
     let s = c.settle.new.rows in
     let t = c.in-Ok-pool_of.pool.rows.items in
-    let settles : Settles ds rows s = subst (λ (d : List Dep). Settles (dependencies_of d) rows s) c.deps-deps.ensures.deps
-    (subst (λ (r : Tableau). Settles (dependencies_of c.deps-deps.result.now) r s) c.deref_mut.ensures.value c.in_ok-settle.ensures.settles) in
+    let settles : SettlesTo ds rows s = subst (λ (d : List Dep). SettlesTo (dependencies_of d) rows s) c.deps-deps.ensures.deps
+    (subst (λ (r : Tableau). SettlesTo (dependencies_of c.deps-deps.result.now) r s) c.deref_mut.ensures.value c.in_ok-settle.ensures.settles) in
     let back : c.deref.result.now ≡ s = c.deref.ensures.value ∙ with_items_is c.loop-rows.rows s (c.in_ok-settle.ensures.count ∙ c.deref_mut.ensures.len) in
     let same : SameTableau s t = subst (λ (r : Tableau). SameTableau r t) back c.in-Ok-pool_of.ensures.same in
     let has : Contains t (distinguished n) = subst (λ (r : Tableau). Contains r (distinguished n)) c.deref-in-loop-rows.ensures.value (c.if-has_distinguished.ensures.found.0 refl) in
@@ -98,8 +98,8 @@ returns-then-has_distinguished-clause-lossless c =
     let round = c.loop-rows.invariant in
     let s = c.settle.new.rows in
     let t = c.in-Ok-pool_of.pool.rows.items in
-    let settles : Settles ds rows s = subst (λ (d : List Dep). Settles (dependencies_of d) rows s) c.deps-deps.ensures.deps
-    (subst (λ (r : Tableau). Settles (dependencies_of c.deps-deps.result.now) r s) c.deref_mut.ensures.value c.in_ok-settle.ensures.settles) in
+    let settles : SettlesTo ds rows s = subst (λ (d : List Dep). SettlesTo (dependencies_of d) rows s) c.deps-deps.ensures.deps
+    (subst (λ (r : Tableau). SettlesTo (dependencies_of c.deps-deps.result.now) r s) c.deref_mut.ensures.value c.in_ok-settle.ensures.settles) in
     let back : c.deref.result.now ≡ s = c.deref.ensures.value ∙ with_items_is c.loop-rows.rows s (c.in_ok-settle.ensures.count ∙ c.deref_mut.ensures.len) in
     let same : SameTableau s t = subst (λ (r : Tableau). SameTableau r t) back c.in-Ok-pool_of.ensures.same in
     let has : Contains t (distinguished n) = subst (λ (r : Tableau). Contains r (distinguished n)) c.deref-in-loop-rows.ensures.value (c.if-has_distinguished.ensures.found.0 refl) in
@@ -128,8 +128,8 @@ returns-in-Err-add_next-clause-too_many_rows c e =
     let round = c.loop-rows.invariant in
     let s = c.settle.new.rows in
     let t = c.in-Ok-pool_of.pool.rows.items in
-    let settles : Settles ds rows s = subst (λ (d : List Dep). Settles (dependencies_of d) rows s) c.deps-deps.ensures.deps
-    (subst (λ (r : Tableau). Settles (dependencies_of c.deps-deps.result.now) r s) c.deref_mut.ensures.value c.in_ok-settle.ensures.settles) in
+    let settles : SettlesTo ds rows s = subst (λ (d : List Dep). SettlesTo (dependencies_of d) rows s) c.deps-deps.ensures.deps
+    (subst (λ (r : Tableau). SettlesTo (dependencies_of c.deps-deps.result.now) r s) c.deref_mut.ensures.value c.in_ok-settle.ensures.settles) in
     let back : c.deref.result.now ≡ s = c.deref.ensures.value ∙ with_items_is c.loop-rows.rows s (c.in_ok-settle.ensures.count ∙ c.deref_mut.ensures.len) in
     let same : SameTableau s t = subst (λ (r : Tableau). SameTableau r t) back c.in-Ok-pool_of.ensures.same in
     let lacks : Contains t (distinguished n) → ⊥ = λ h. false≢true (c.if-has_distinguished.ensures.found.1 (subst (λ (r : Tableau). Contains r (distinguished n)) (sym c.deref-in-loop-rows.ensures.value) h)) in
@@ -147,8 +147,8 @@ returns-in-Err-add_next-clause-never_too_many c whole low e =
     let round = c.loop-rows.invariant in
     let s = c.settle.new.rows in
     let t = c.in-Ok-pool_of.pool.rows.items in
-    let settles : Settles ds rows s = subst (λ (d : List Dep). Settles (dependencies_of d) rows s) c.deps-deps.ensures.deps
-    (subst (λ (r : Tableau). Settles (dependencies_of c.deps-deps.result.now) r s) c.deref_mut.ensures.value c.in_ok-settle.ensures.settles) in
+    let settles : SettlesTo ds rows s = subst (λ (d : List Dep). SettlesTo (dependencies_of d) rows s) c.deps-deps.ensures.deps
+    (subst (λ (r : Tableau). SettlesTo (dependencies_of c.deps-deps.result.now) r s) c.deref_mut.ensures.value c.in_ok-settle.ensures.settles) in
     let back : c.deref.result.now ≡ s = c.deref.ensures.value ∙ with_items_is c.loop-rows.rows s (c.in_ok-settle.ensures.count ∙ c.deref_mut.ensures.len) in
     let same : SameTableau s t = subst (λ (r : Tableau). SameTableau r t) back c.in-Ok-pool_of.ensures.same in
     let lacks : Contains t (distinguished n) → ⊥ = λ h. false≢true (c.if-has_distinguished.ensures.found.1 (subst (λ (r : Tableau). Contains r (distinguished n)) (sym c.deref-in-loop-rows.ensures.value) h)) in
@@ -166,8 +166,8 @@ loop-rows-preserved c =
     let round = c.loop-rows.invariant in
     let s = c.settle.new.rows in
     let t = c.in-Ok-pool_of.pool.rows.items in
-    let settles : Settles ds rows s = subst (λ (d : List Dep). Settles (dependencies_of d) rows s) c.deps-deps.ensures.deps
-    (subst (λ (r : Tableau). Settles (dependencies_of c.deps-deps.result.now) r s) c.deref_mut.ensures.value c.in_ok-settle.ensures.settles) in
+    let settles : SettlesTo ds rows s = subst (λ (d : List Dep). SettlesTo (dependencies_of d) rows s) c.deps-deps.ensures.deps
+    (subst (λ (r : Tableau). SettlesTo (dependencies_of c.deps-deps.result.now) r s) c.deref_mut.ensures.value c.in_ok-settle.ensures.settles) in
     let back : c.deref.result.now ≡ s = c.deref.ensures.value ∙ with_items_is c.loop-rows.rows s (c.in_ok-settle.ensures.count ∙ c.deref_mut.ensures.len) in
     let same : SameTableau s t = subst (λ (r : Tableau). SameTableau r t) back c.in-Ok-pool_of.ensures.same in
     let lacks : Contains t (distinguished n) → ⊥ = λ h. false≢true (c.if-has_distinguished.ensures.found.1 (subst (λ (r : Tableau). Contains r (distinguished n)) (sym c.deref-in-loop-rows.ensures.value) h)) in
@@ -186,8 +186,8 @@ loop-rows-smaller c =
     let round = c.loop-rows.invariant in
     let s = c.settle.new.rows in
     let t = c.in-Ok-pool_of.pool.rows.items in
-    let settles : Settles ds rows s = subst (λ (d : List Dep). Settles (dependencies_of d) rows s) c.deps-deps.ensures.deps
-    (subst (λ (r : Tableau). Settles (dependencies_of c.deps-deps.result.now) r s) c.deref_mut.ensures.value c.in_ok-settle.ensures.settles) in
+    let settles : SettlesTo ds rows s = subst (λ (d : List Dep). SettlesTo (dependencies_of d) rows s) c.deps-deps.ensures.deps
+    (subst (λ (r : Tableau). SettlesTo (dependencies_of c.deps-deps.result.now) r s) c.deref_mut.ensures.value c.in_ok-settle.ensures.settles) in
     let back : c.deref.result.now ≡ s = c.deref.ensures.value ∙ with_items_is c.loop-rows.rows s (c.in_ok-settle.ensures.count ∙ c.deref_mut.ensures.len) in
     let same : SameTableau s t = subst (λ (r : Tableau). SameTableau r t) back c.in-Ok-pool_of.ensures.same in
     let u = c.add_next.new.pool.rows.items in
@@ -206,8 +206,8 @@ ends c =
     let round = c.loop-rows.invariant in
     let s = c.settle.new.rows in
     let t = c.in-Ok-pool_of.pool.rows.items in
-    let settles : Settles ds rows s = subst (λ (d : List Dep). Settles (dependencies_of d) rows s) c.deps-deps.ensures.deps
-    (subst (λ (r : Tableau). Settles (dependencies_of c.deps-deps.result.now) r s) c.deref_mut.ensures.value c.in_ok-settle.ensures.settles) in
+    let settles : SettlesTo ds rows s = subst (λ (d : List Dep). SettlesTo (dependencies_of d) rows s) c.deps-deps.ensures.deps
+    (subst (λ (r : Tableau). SettlesTo (dependencies_of c.deps-deps.result.now) r s) c.deref_mut.ensures.value c.in_ok-settle.ensures.settles) in
     let back : c.deref.result.now ≡ s = c.deref.ensures.value ∙ with_items_is c.loop-rows.rows s (c.in_ok-settle.ensures.count ∙ c.deref_mut.ensures.len) in
     let same : SameTableau s t = subst (λ (r : Tableau). SameTableau r t) back c.in-Ok-pool_of.ensures.same in
     let lacks : Contains t (distinguished n) → ⊥ = λ h. false≢true (c.if-has_distinguished.ensures.found.1 (subst (λ (r : Tableau). Contains r (distinguished n)) (sym c.deref-in-loop-rows.ensures.value) h)) in

@@ -2,7 +2,7 @@ use Rattle.std.proofs.Common.{◌≡◌, ℕ, ◌+◌, ◌<◌, List, ◌∙◌,
 use Rattle.std.proofs.lemmas.List.{length-take-le, get_or_read, get_or_default}
 use Rattle.attr_sets.specs.Sets.{places}
 use Rattle.chase_laws.specs.Tableaux.{Tableau}
-use Rattle.tableau_chase.specs.Making.{IsExchanged, IsExchangedWith, Overflows}
+use Rattle.tableau_chase.specs.Making.{IsExchangedRow, IsExchangedWith, Overflows}
 use Rattle.tableau_chase.proofs.PoolLemmas.{adds_none, adds_like}
 use Rattle.tableau_chase.proofs.MakingLemmas.{IsProductOf, AreParts, parts_of, product_none, product_old, product_not, parts_to, parts_from, parts_more, parts_overflow, group_within, group_over}
 use Rattle.tableau_chase.proofs.making.add_products.Goals as goal
@@ -133,6 +133,6 @@ returns-clause-made c =
     c.deref.ensures.value c.deref-2.ensures.value c.deref-3.ensures.value c.deref-4.ensures.value c.deref-5.ensures.value c.in_ok-agreeing.ensures.leaders c.in_ok-firsts.ensures.leaders c.in_ok-seconds.ensures.leaders c.in_ok-groups.ensures.followers in
     let n = c.args.width in
     let z = places c.union-both.result in
-    adds_like (IsProductOf n z (take c.args.count t) agreeing firsts groups i) (IsExchanged n (places c.args.lhs) (places c.args.rhs) (take c.args.count t)) t c.loop-i.pool.rows.items
+    adds_like (IsProductOf n z (take c.args.count t) agreeing firsts groups i) (IsExchangedRow n (places c.args.lhs) (places c.args.rhs) (take c.args.count t)) t c.loop-i.pool.rows.items
     (λ p h. parts_to n (places c.args.lhs) (places c.args.rhs) z t c.args.count agreeing firsts groups parts i p (omega (arith, c.loop-i.auto.i-end)) h)
     (λ p h. parts_from n (places c.args.lhs) (places c.args.rhs) z t c.args.count agreeing firsts groups parts i p c.loop-i-test.false h) c.loop-i.invariant.adds

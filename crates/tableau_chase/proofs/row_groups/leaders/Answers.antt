@@ -7,7 +7,7 @@ use Rattle.attr_sets.specs.Sets.{places}
 use Rattle.dep_model.specs.Projections.{members_below}
 use Rattle.chase_laws.specs.Tableaux.{SymbolRow, Tableau, IsTableauOver, symbol_at, SymbolsAgree}
 use Rattle.tableau_chase.specs.declared.numbers.RowNumbers.{RowNumbers}
-use Rattle.tableau_chase.specs.Groups.{row_at, AreLeaders}
+use Rattle.tableau_chase.specs.Groups.{row_at, AreSymbolLeaders}
 use Rattle.tableau_chase.specs.Numbers.{IsNumbering, IsFirstPlace}
 use Rattle.tableau_chase.proofs.RowLemmas.{key_on, members-low}
 use Rattle.tableau_chase.proofs.GroupLemmas.{leaders_none, leaders_more, fresh_by_key, known_by_key, take_over}
@@ -27,12 +27,12 @@ symbols_at-requires c = λ k l.
 pub loop-i-init : goal.loop-i-init
 loop-i-init c = record {
   numbered = c.new-numbers.ensures.numbering;
-  are = subst (λ (ls : List ℕ). AreLeaders (places c.args.on) [] ls) (sym c.in_ok-leaders.ensures.items) (leaders_none (places c.args.on));
+  are = subst (λ (ls : List ℕ). AreSymbolLeaders (places c.args.on) [] ls) (sym c.in_ok-leaders.ensures.items) (leaders_none (places c.args.on));
 }
 
 -- the numbers and the leaders of one row more
 module _ (n : ℕ) (x : Places) (rows : Tableau) (i : ℕ) (low : i < length rows) (row : SymbolRow) (row_is : row ≡ get_or rows i row) (over : IsTableauOver n rows) (symbols : List ℕ) (symbols_are : symbols ≡ key_on n x row)
-    (leaders : List ℕ) (number : ℕ) (new : RowNumbers) (are : AreLeaders x (take i rows) leaders)
+    (leaders : List ℕ) (number : ℕ) (new : RowNumbers) (are : AreSymbolLeaders x (take i rows) leaders)
     (known : (number ≡ i → ⊥) → IsFirstPlace (map (key_on n x) (take i rows)) symbols number)
     (fresh : number ≡ i → Contains (map (key_on n x) (take i rows)) symbols → ⊥)
     (grown : IsNumbering (map (key_on n x) (take i rows) ++ symbols ∷ []) new) where
@@ -60,8 +60,8 @@ module _ (n : ℕ) (x : Places) (rows : Tableau) (i : ℕ) (low : i < length row
     | inr ne ↦ let lt = (at_row ne).0 in omega (arith, lt)
   ]
 
-  are_more : AreLeaders x (take (i + 1) rows) (leaders ++ number ∷ [])
-  are_more = subst (λ (t : Tableau). AreLeaders x t (leaders ++ number ∷ [])) (sym longer) (leaders_more x (take i rows) leaders row number are number_low
+  are_more : AreSymbolLeaders x (take (i + 1) rows) (leaders ++ number ∷ [])
+  are_more = subst (λ (t : Tableau). AreSymbolLeaders x t (leaders ++ number ∷ [])) (sym longer) (leaders_more x (take i rows) leaders row number are number_low
       (λ e. fresh_by_key n x (take i rows) row (λ h. fresh (e ∙ count) (subst (λ (key : List ℕ). Contains (map (key_on n x) (take i rows)) key) (sym symbols_are) h)))
       (λ lt. let at = at_row (λ e. absurd (omega (arith, lt, e, count))) in (at.1, at.2)))
 
@@ -83,9 +83,9 @@ loop-i-preserved c =
     let grown = c.in_ok-number.ensures.grown keys c.loop-i.invariant.numbered keys_count in
     record {
       numbered = numbered_more n x rows i low row c.index-rows-i.is c.requires.over symbols symbols_are c.loop-i.leaders.items number c.number.new.self c.loop-i.invariant.are known fresh grown;
-      are = subst (λ (ls : List ℕ). AreLeaders x (take (i + 1) rows) ls) (sym c.in_ok-push.ensures.items)
+      are = subst (λ (ls : List ℕ). AreSymbolLeaders x (take (i + 1) rows) ls) (sym c.in_ok-push.ensures.items)
           (are_more n x rows i low row c.index-rows-i.is c.requires.over symbols symbols_are c.loop-i.leaders.items number c.number.new.self c.loop-i.invariant.are known fresh grown);
     }
 
 pub returns : goal.returns
-returns c = record { leaders = subst (λ (t : Tableau). AreLeaders (places c.args.on) t c.loop-i.leaders.items) (take_all c.loop-i.i c.args.rows.now c.loop-i-test.false) c.loop-i.invariant.are }
+returns c = record { leaders = subst (λ (t : Tableau). AreSymbolLeaders (places c.args.on) t c.loop-i.leaders.items) (take_all c.loop-i.i c.args.rows.now c.loop-i-test.false) c.loop-i.invariant.are }

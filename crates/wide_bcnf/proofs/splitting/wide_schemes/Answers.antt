@@ -8,7 +8,7 @@ use Rattle.attr_sets.specs.Sets.{places}
 use Rattle.attr_sets.proofs.PlacesLemmas.{Same-path, Same-refl, places_below}
 use Rattle.dep_model.specs.Plans.{schemes_of}
 use Rattle.dep_model.specs.Schemas.{width_of, theory_of, universe_of}
-use Rattle.wide_bcnf.specs.WideSplits.{IsWideSplit}
+use Rattle.wide_bcnf.specs.WideSplits.{IsWideSplitOf}
 use Rattle.wide_bcnf.proofs.PairLemmas.{none_before_first, none_before_part}
 use Rattle.wide_bcnf.proofs.CoreLemmas.{scheme_member, count_left}
 use Rattle.wide_bcnf.proofs.splitting.wide_schemes.Goals as goal
@@ -48,11 +48,11 @@ loop-pair-preserved c =
       before = none_before_part n theory rest next c.in-Some.pair.first c.in-Some.pair.second inside
           (none_before_first n theory rest c.in-Some.pair.first c.in-Some.pair.second c.in-Some.ensures.first);
       goes_on = λ later split.
-          let left : IsWideSplit n theory (minus rest (only a)) later = subst
-          (λ (z : Places). IsWideSplit n theory z later) is split in
-          let whole : IsWideSplit n theory (universe_of s) (found ++ core ∷ later) = c.loop-pair.invariant.goes_on
+          let left : IsWideSplitOf n theory (minus rest (only a)) later = subst
+          (λ (z : Places). IsWideSplitOf n theory z later) is split in
+          let whole : IsWideSplitOf n theory (universe_of s) (found ++ core ∷ later) = c.loop-pair.invariant.goes_on
           (core ∷ later) (inr (a, c.core_of-core.ensures.core, left)) in
-          subst (λ (xs : List Places). IsWideSplit n theory (universe_of s) xs)
+          subst (λ (xs : List Places). IsWideSplitOf n theory (universe_of s) xs)
           (sym (ap (λ (xs : List Places). xs ++ later) more ∙ append_assoc found (core ∷ []) later)) whole;
     }
 
@@ -65,6 +65,6 @@ returns c =
     ap (λ (xs : List AttrSet). schemes_of xs) c.in_ok-push-2.ensures.items
     ∙ map-append places items (c.loop-pair.rest ∷ []) in
     record {
-      split = subst (λ (xs : List Places). IsWideSplit (width_of s) (theory_of s) (universe_of s) xs) (sym all)
+      split = subst (λ (xs : List Places). IsWideSplitOf (width_of s) (theory_of s) (universe_of s) xs) (sym all)
           (c.loop-pair.invariant.goes_on (rest ∷ []) (inl (c.in_default.ensures.none refl, Same-refl rest, refl)));
     }
