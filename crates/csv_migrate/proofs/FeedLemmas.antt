@@ -5,7 +5,7 @@ use Rattle.std.proofs.lemmas.Bool.{cases_eq}
 use Rattle.std.proofs.lemmas.List.{length-map, length-set, length_push, get_or-map, get_or-set_same, get_or-set_other, get_or_default, get_or_append_left, get_or_push}
 use Rattle.targets.specs.Tables.{TableValue}
 use Rattle.csv_migrate.specs.declared.table.Table.{Table}
-use Rattle.csv_migrate.specs.Tables.{table_value, values_of}
+use Rattle.csv_migrate.specs.Tables.{table_value, table_values}
 use Rattle.csv_migrate.specs.Feeding.{AtEachPlace}
 
 take_next : {X : Type 0} (xs : List X) (i : ℕ) (d : X) → i < length xs
@@ -20,14 +20,14 @@ row_next rows i row within is = ap (λ r. take i rows ++ r ∷ []) is ∙ sym (t
 -- the tables before a place and the one that is there, after others
 pub tables_next : (tables : List Table) (i : ℕ) (table : Table) (done : List TableValue) → i < length tables
     → table ≡ get_or tables i table
-    → (done ++ take i (values_of tables)) ++ table_value table ∷ [] ≡ done ++ take (i + 1) (values_of tables)
+    → (done ++ take i (table_values tables)) ++ table_value table ∷ [] ≡ done ++ take (i + 1) (table_values tables)
 tables_next tables i table done within is =
-    let value : table_value table ≡ get_or (values_of tables) i (table_value table) = ap table_value is
+    let value : table_value table ≡ get_or (table_values tables) i (table_value table) = ap table_value is
     ∙ sym (get_or-map table_value tables i table (table_value table) within) in
-    append_assoc done (take i (values_of tables)) (table_value table ∷ [])
-    ∙ ap (λ (v : TableValue). done ++ (take i (values_of tables) ++ v ∷ [])) value
+    append_assoc done (take i (table_values tables)) (table_value table ∷ [])
+    ∙ ap (λ (v : TableValue). done ++ (take i (table_values tables) ++ v ∷ [])) value
     ∙ ap (λ (vs : List TableValue). done ++ vs)
-    (sym (take_next (values_of tables) i (table_value table) (omega (arith, within, length-map tables table_value))))
+    (sym (take_next (table_values tables) i (table_value table) (omega (arith, within, length-map tables table_value))))
 
 -- ---- targets
 -- the values before a place are done, with a result each, and the others are as they were

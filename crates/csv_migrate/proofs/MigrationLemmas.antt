@@ -18,7 +18,7 @@ use Rattle.dep_model.proofs.DistinctLemmas.{ordered_projection-same}
 use Rattle.dep_model.proofs.JoinLemmas.{tuple_in_join}
 use Rattle.targets.specs.Tables.{TableValue}
 use Rattle.csv_migrate.specs.declared.table.Table.{Table}
-use Rattle.csv_migrate.specs.Tables.{table_value, values_of}
+use Rattle.csv_migrate.specs.Tables.{table_value, table_values}
 use Rattle.csv_migrate.specs.Migration.{table_of, tables_from, migrated, schemes_in, relations_of, JoinIs}
 
 -- one scheme more
@@ -62,12 +62,12 @@ same_table name name' columns columns' rows rows' e f g = cc
 -- one table more, of the next scheme
 pub table_added : (schema : Schema) (rows : Relation) (sets shown : List AttrSet) (k : ℕ) (d : AttrSet)
     (old new : List Table) (made : Table) → shown ≡ sets → k < length shown
-    → values_of old ≡ migrated schema (take k (schemes_of sets)) rows → new ≡ old ++ made ∷ []
+    → table_values old ≡ migrated schema (take k (schemes_of sets)) rows → new ≡ old ++ made ∷ []
     → table_value made ≡ table_of schema rows (k + 1) (places (get_or shown k d))
-    → values_of new ≡ migrated schema (take (k + 1) (schemes_of sets)) rows
+    → table_values new ≡ migrated schema (take (k + 1) (schemes_of sets)) rows
 table_added schema rows sets shown k d old new made same low so_far pushed is =
     let l : k < length sets = subst (λ (xs : List AttrSet). k < length xs) same low in
-    ap values_of pushed ∙ map-append table_value old (made ∷ [])
+    ap table_values pushed ∙ map-append table_value old (made ∷ [])
     ∙ ap (λ (ts : List TableValue). ts ++ table_value made ∷ []) so_far
     ∙ ap (λ (t : TableValue). migrated schema (take k (schemes_of sets)) rows ++ t ∷ [])
     (is ∙ ap (λ (xs : List AttrSet). table_of schema rows (k + 1) (places (get_or xs k d))) same)
@@ -86,8 +86,8 @@ scheme_added sets shown k d old new made same low so_far pushed is =
 
 pub all_tables : (schema : Schema) (rows : Relation) (sets shown : List AttrSet) (k : ℕ) (made : List Table)
     → shown ≡ sets → length shown ≤ k
-    → values_of made ≡ migrated schema (take k (schemes_of sets)) rows
-    → values_of made ≡ migrated schema (schemes_of sets) rows
+    → table_values made ≡ migrated schema (take k (schemes_of sets)) rows
+    → table_values made ≡ migrated schema (schemes_of sets) rows
 all_tables schema rows sets shown k made same whole so_far =
     let long : length (schemes_of sets) ≤ k = omega (arith, whole, ap length same, length-map sets places) in
     so_far ∙ ap (λ (plan : List Places). migrated schema plan rows) (take_all k (schemes_of sets) long)

@@ -6,5 +6,5 @@ use Rattle.csv_migrate.specs.declared.table.Table.{Table}
 abbrev pub table_value : Table → TableValue
 table_value table = record { name = table.name; columns = table.columns.items; rows = table.rows.items }
 
-abbrev pub values_of : List Table → List TableValue
-values_of tables = map table_value tables
+abbrev pub table_values : List Table → List TableValue
+table_values tables = map table_value tables

@@ -1,6 +1,6 @@
 ghost use Rattle.std.specs.Prelude.{◌≡◌, ◌≤◌, ◌^◌, ◌<◌, [], ◌∷◌, length, IfOk, OnOk, OnErr};
 ghost use Rattle.targets.specs.Targets.{KeepsFinished, HasTargetCause};
-ghost use Rattle.csv_migrate.specs.Tables.{table_value, values_of};
+ghost use Rattle.csv_migrate.specs.Tables.{table_value, table_values};
 ghost use Rattle.csv_migrate.specs.Feeding.{HasAll, FedTarget, AtEachPlace};
 
 use crate::end::FeedEnd;
@@ -19,7 +19,7 @@ pub fn feed(
 ) -> Result<Vec<FeedEnd>, WantMemory>
     ensures fed { IfOk result (λ ends. AtEachPlace
         (FedTarget ⟦<Box<dyn Target> as Target>⟧.tells ⟦<Box<dyn Target> as Target>⟧.finished
-        ⟦<Box<dyn Target> as Target>⟧.faults (values_of tables.now))
+        ⟦<Box<dyn Target> as Target>⟧.faults (table_values tables.now))
         targets.old.items targets.new.items ends.items) }
     ensures err { OnErr result (targets.new.items ≡ targets.old.items) }
 {
@@ -33,7 +33,7 @@ pub fn feed_list<T: Target>(
     tables: &[Table],
 ) -> Result<Vec<FeedEnd>, WantMemory>
     ensures fed { IfOk result
-        (λ ends. AtEachPlace (FedTarget T.tells T.finished T.faults (values_of tables.now))
+        (λ ends. AtEachPlace (FedTarget T.tells T.finished T.faults (table_values tables.now))
         targets.old.items targets.new.items ends.items) }
     ensures err { OnErr result (targets.new.items ≡ targets.old.items) }
 {
@@ -48,7 +48,7 @@ fn feed_each<T: Target>(
 ) -> Result<Vec<FeedEnd>, WantMemory>
     requires { length targets.old < 2 ^ 64 }
     ensures fed { IfOk result
-        (λ ends. AtEachPlace (FedTarget T.tells T.finished T.faults (values_of tables.now))
+        (λ ends. AtEachPlace (FedTarget T.tells T.finished T.faults (table_values tables.now))
         targets.old targets.new ends.items) }
     ensures err { OnErr result (targets.new ≡ targets.old) }
 {
@@ -64,7 +64,7 @@ fn feed_each<T: Target>(
 
 // All tables into one target, up to its first fault.
 fn feed_one<T: Target>(target: &mut T, tables: &[Table]) -> FeedEnd
-    ensures fed { FedTarget T.tells T.finished T.faults (values_of tables.now) target.old target.new result }
+    ensures fed { FedTarget T.tells T.finished T.faults (table_values tables.now) target.old target.new result }
 {
     for table in tables {
         match feed_table(target, table) {

@@ -2,9 +2,9 @@ ghost use Rattle.std.specs.Prelude.{◌≡◌, ◌<◌, ◌≤◌, ◌^◌, leng
 ghost use Rattle.attr_sets.specs.Places.{Within, below};
 ghost use Rattle.attr_sets.specs.Sets.{places};
 ghost use Rattle.csv_migrate.specs.Migration.{JoinIs, column_names, migrated, schemes_in, table_of};
-ghost use Rattle.csv_migrate.specs.Tables.{table_value, values_of};
+ghost use Rattle.csv_migrate.specs.Tables.{table_value, table_values};
 ghost use Rattle.csv_rows.specs.Interning.{IsInterned};
-ghost use Rattle.decomp_text.specs.Plans.{IsPlanOver, plan_of, sets_of};
+ghost use Rattle.decomp_text.specs.Plans.{IsPlanOver, plan_of, scheme_sets};
 ghost use Rattle.dep_model.specs.Projections.{IsLossless};
 ghost use Rattle.dep_model.specs.Schemas.{LegalFor, theory_of, width_of};
 ghost use Rattle.dep_model.specs.Tuples.{IsOver};
@@ -31,12 +31,12 @@ pub fn tables(
     requires over { IsOver (width_of schema.now) rows.now }
     requires few_rows { length rows.now < 2 ^ 32 }
     requires universe { IsPlanOver schema.now plan.now }
-    requires few_schemes { length (sets_of plan.now) ≤ MOST_TABLES }
-    ensures tables { IfOk result (λ v. values_of v.items ≡ migrated schema.now (plan_of plan.now) rows.now) }
-    ensures schemes { IfOk result (λ v. schemes_in v.items ≡ sets_of plan.now) }
+    requires few_schemes { length (scheme_sets plan.now) ≤ MOST_TABLES }
+    ensures tables { IfOk result (λ v. table_values v.items ≡ migrated schema.now (plan_of plan.now) rows.now) }
+    ensures schemes { IfOk result (λ v. schemes_in v.items ≡ scheme_sets plan.now) }
     ensures joins { LegalFor schema.now rows.now
         → IsLossless (width_of schema.now) (theory_of schema.now) (plan_of plan.now)
-        → IfOk result (λ v. JoinIs (width_of schema.now) (plan_of plan.now) (values_of v.items) rows.now) }
+        → IfOk result (λ v. JoinIs (width_of schema.now) (plan_of plan.now) (table_values v.items) rows.now) }
 {
     let codes = Interned::intern(alloc, schema.width(), rows)?;
     let schemes = plan.schemes();

@@ -13,11 +13,11 @@ use Rattle.dep_model.specs.Schemas.{place_named}
 use Rattle.csv_rows.specs.declared.header.Placed.{Placed}
 use Rattle.csv_rows.specs.declared.refusal.RowRefusal.{RowRefusal}
 use Rattle.csv_rows.specs.declared.refusal.RowRefusal.TheVariants as refusal
-use Rattle.csv_rows.specs.Columns.{named, column_of, columns_of, columns_from, placed, order_of, ◌>>=◌}
+use Rattle.csv_rows.specs.Columns.{with_columns, column_of, columns_of_header, columns_from, placed, order_of, ◌>>=◌}
 
 -- an attribute after others
-pub named_after : (columns : List ℕ) (a : ℕ) → Same (named (columns ++ a ∷ [])) (union (named columns) (only a))
-named_after columns a k = list_any-append (nat_eq k) columns (a ∷ []) ∙ ap (λ (b : Bool). named columns k || b) (or_false (k == a))
+pub named_after : (columns : List ℕ) (a : ℕ) → Same (with_columns (columns ++ a ∷ [])) (union (with_columns columns) (only a))
+named_after columns a k = list_any-append (nat_eq k) columns (a ∷ []) ∙ ap (λ (b : Bool). with_columns columns k || b) (or_false (k == a))
   where
     or_false : (b : Bool) → (b || false) ≡ b
     or_false true = refl
@@ -31,26 +31,26 @@ column_of-same column x y (Some a) e = ap (λ (b : Bool). if b then Err (refusal
 -- the fields from a place on are one and those after it
 columns_step : (names : List (List ℕ)) (before : List ℕ) (fields : List (List ℕ)) (i : ℕ) → i < length fields
     → columns_from names before (drop i fields)
-    ≡ (column_of (length before + 1) (named before) (place_named names (slice_index_or fields i [])) >>= (λ a. columns_from names (before ++ a ∷ []) (drop (i + 1) fields)))
+    ≡ (column_of (length before + 1) (with_columns before) (place_named names (slice_index_or fields i [])) >>= (λ a. columns_from names (before ++ a ∷ []) (drop (i + 1) fields)))
 unfolding columns_from
 columns_step names before fields i h =
     let next : suc i ≡ i + 1 = omega arith in
     ap (columns_from names before) (drop-cons fields i [] h)
-    ∙ ap (λ (j : ℕ). column_of (length before + 1) (named before) (place_named names (slice_index_or fields i [])) >>= (λ a. columns_from names (before ++ a ∷ []) (drop j fields))) next
+    ∙ ap (λ (j : ℕ). column_of (length before + 1) (with_columns before) (place_named names (slice_index_or fields i [])) >>= (λ a. columns_from names (before ++ a ∷ []) (drop j fields))) next
 
-pub columns_next : (names : List (List ℕ)) (before : List ℕ) (fields : List (List ℕ)) (i a : ℕ) (x : Places) → i < length fields → Same x (named before)
+pub columns_next : (names : List (List ℕ)) (before : List ℕ) (fields : List (List ℕ)) (i a : ℕ) (x : Places) → i < length fields → Same x (with_columns before)
     → column_of (length before + 1) x (place_named names (slice_index_or fields i [])) ≡ Ok a
     → columns_from names before (drop i fields) ≡ columns_from names (before ++ a ∷ []) (drop (i + 1) fields)
 columns_next names before fields i a x h same e =
     columns_step names before fields i h
-    ∙ ap (λ (r : Result ℕ RowRefusal). r >>= (λ b. columns_from names (before ++ b ∷ []) (drop (i + 1) fields))) (sym (column_of-same _ x (named before) _ same) ∙ e)
+    ∙ ap (λ (r : Result ℕ RowRefusal). r >>= (λ b. columns_from names (before ++ b ∷ []) (drop (i + 1) fields))) (sym (column_of-same _ x (with_columns before) _ same) ∙ e)
 
-pub columns_refused : (names : List (List ℕ)) (before : List ℕ) (fields : List (List ℕ)) (i : ℕ) (x : Places) (e : RowRefusal) → i < length fields → Same x (named before)
+pub columns_refused : (names : List (List ℕ)) (before : List ℕ) (fields : List (List ℕ)) (i : ℕ) (x : Places) (e : RowRefusal) → i < length fields → Same x (with_columns before)
     → column_of (length before + 1) x (place_named names (slice_index_or fields i [])) ≡ Err e
     → columns_from names before (drop i fields) ≡ Err e
 columns_refused names before fields i x e h same r =
     columns_step names before fields i h
-    ∙ ap (λ (r : Result ℕ RowRefusal). r >>= (λ b. columns_from names (before ++ b ∷ []) (drop (i + 1) fields))) (sym (column_of-same _ x (named before) _ same) ∙ r)
+    ∙ ap (λ (r : Result ℕ RowRefusal). r >>= (λ b. columns_from names (before ++ b ∷ []) (drop (i + 1) fields))) (sym (column_of-same _ x (with_columns before) _ same) ∙ r)
 
 pub columns_all : (names : List (List ℕ)) (before : List ℕ) (fields : List (List ℕ)) → columns_from names before (drop (length fields) fields) ≡ Ok before
 unfolding columns_from
@@ -67,27 +67,27 @@ was_free column a x (Some b) e = by (x b) refl e
     by false f g = let same : b ≡ a = cc in subst (λ (k : ℕ). x k ≡ false) same f
 
 -- the attributes that have a column, up to one more
-pub order_next : (n : ℕ) (columns : List ℕ) → order_of (n + 1) columns ≡ order_of n columns ++ (if named columns n then placed columns n ∷ [] else [])
+pub order_next : (n : ℕ) (columns : List ℕ) → order_of (n + 1) columns ≡ order_of n columns ++ (if with_columns columns n then placed columns n ∷ [] else [])
 unfolding members_below
 order_next n columns =
     let next : n + 1 ≡ suc n = omega arith in
-    ap (λ (m : ℕ). order_of m columns) next ∙ map-append (placed columns) (members_below n (named columns)) (if named columns n then n ∷ [] else [])
-    ∙ ap (λ (l : List Placed). order_of n columns ++ l) (by (named columns n))
+    ap (λ (m : ℕ). order_of m columns) next ∙ map-append (placed columns) (members_below n (with_columns columns)) (if with_columns columns n then n ∷ [] else [])
+    ∙ ap (λ (l : List Placed). order_of n columns ++ l) (by (with_columns columns n))
   where
     by : (b : Bool) → map (placed columns) (if b then n ∷ [] else []) ≡ (if b then placed columns n ∷ [] else [])
     by true = refl
     by false = refl
 
 -- an attribute has a column, and it is this one, or it has none
-pub in_column : (columns : List ℕ) (a i : ℕ) → position (nat_eq a) columns ≡ Some i → (named columns a ≡ true) × (position_or_len (nat_eq a) columns ≡ i)
+pub in_column : (columns : List ℕ) (a i : ℕ) → position (nat_eq a) columns ≡ Some i → (with_columns columns a ≡ true) × (position_or_len (nat_eq a) columns ≡ i)
 in_column columns a i h =
     let (within, at, before) = position-Some (nat_eq a) columns i 0 h in
     (list_any_at (nat_eq a) columns i 0 within at, position_or_len_is (nat_eq a) columns i 0 (omega arith) before (λ l. at))
 
-pub in_no_column : (columns : List ℕ) (a : ℕ) → position (nat_eq a) columns ≡ None → named columns a ≡ false
+pub in_no_column : (columns : List ℕ) (a : ℕ) → position (nat_eq a) columns ≡ None → with_columns columns a ≡ false
 in_no_column columns a h = by (nat_lt (position_or_len (nat_eq a) columns) (length columns)) refl h
   where
-    by : (b : Bool) → nat_lt (position_or_len (nat_eq a) columns) (length columns) ≡ b → cond b (Some (position_or_len (nat_eq a) columns)) None ≡ None → named columns a ≡ false
+    by : (b : Bool) → nat_lt (position_or_len (nat_eq a) columns) (length columns) ≡ b → cond b (Some (position_or_len (nat_eq a) columns)) None ≡ None → with_columns columns a ≡ false
     by true e g = cc
     by false e g = list_any_none (nat_eq a) columns (λ k d l. fails_before_first (nat_eq a) columns k d (grind arith))
 
@@ -106,9 +106,9 @@ order_same n columns order e h =
 
 -- a header of which some fields are read: their columns, the set of these, and what the rest gives
 pub record ReadsColumns (names : List (List ℕ)) (fields : List (List ℕ)) (i : ℕ) (columns : List ℕ) (x : Places) : Type 0 where
-  pub same : Same x (named columns)
+  pub same : Same x (with_columns columns)
   pub count : length columns ≡ count_below x 128
-  pub reads : columns_of names fields ≡ columns_from names columns (drop i fields)
+  pub reads : columns_of_header names fields ≡ columns_from names columns (drop i fields)
 
 pub no_columns : (names fields : List (List ℕ)) (columns : List ℕ) (x : Places) → columns ≡ [] → Same x none → ReadsColumns names fields 0 columns x
 no_columns names fields columns x e same = subst (λ (l : List ℕ). ReadsColumns names fields 0 l x) (sym e) (record {
@@ -136,9 +136,9 @@ one_column names fields i n columns field x y a r h small count is e more =
 
 pub refused_column : (names fields : List (List ℕ)) (i n : ℕ) (columns field : List ℕ) (x : Places) (e : RowRefusal) → ReadsColumns names fields i columns x → i < length fields
     → n ≡ length columns → field ≡ slice_index_or fields i [] → Err e ≡ column_of (n + 1) x (place_named names field)
-    → columns_of names fields ≡ Err e
+    → columns_of_header names fields ≡ Err e
 refused_column names fields i n columns field x e r h count is given =
     r.reads ∙ columns_refused names columns fields i x e h r.same (column_at names fields i n columns field x (Err e) count is given)
 
-pub all_read : (names fields : List (List ℕ)) (i : ℕ) (columns : List ℕ) (x : Places) → ReadsColumns names fields i columns x → i ≡ length fields → columns_of names fields ≡ Ok columns
+pub all_read : (names fields : List (List ℕ)) (i : ℕ) (columns : List ℕ) (x : Places) → ReadsColumns names fields i columns x → i ≡ length fields → columns_of_header names fields ≡ Ok columns
 all_read names fields i columns x r e = r.reads ∙ ap (λ (j : ℕ). columns_from names columns (drop j fields)) e ∙ columns_all names columns fields

@@ -30,7 +30,7 @@ use Rattle.csv_rows.proofs.HeaderLemmas.{named_after}
 use Rattle.csv_rows.proofs.NumberingLemmas.{same_default}
 use Rattle.csv_rows.proofs.ReadingLemmas.{whole_count}
 use Rattle.csv_rows.proofs.RecordLemmas.{one_more, no_more}
-use Rattle.csv_rows.specs.Columns.{named, column_of, columns_of, columns_from, IsHeaderOf, ◌>>=◌}
+use Rattle.csv_rows.specs.Columns.{with_columns, column_of, columns_of_header, columns_from, IsHeaderOf, ◌>>=◌}
 use Rattle.csv_rows.specs.Reading.{value_of, tuple_of, HasInteger, RowOf, AreFirstRows, RowsOf, TableOf}
 use Rattle.csv_rows.specs.Records.{records_of}
 use Rattle.csv_rows.specs.RowsText.{rows_only, rows_text}
@@ -131,10 +131,10 @@ zero_plus n = omega arith
 range_more : (n : ℕ) → range_with_len 0 (suc n) ≡ range_with_len 0 n ++ n ∷ []
 range_more n = range_push 0 n ∙ ap (λ (m : ℕ). range_with_len 0 n ++ m ∷ []) (zero_plus n)
 
-pub named_range : (n k : ℕ) → named (range_with_len 0 n) k ≡ nat_lt k n
+pub named_range : (n k : ℕ) → with_columns (range_with_len 0 n) k ≡ nat_lt k n
 named_range zero k = grind (arith, nat_tests)
 named_range (suc n) k =
-    ap (λ (l : List ℕ). named l k) (range_more n) ∙ named_after (range_with_len 0 n) n k
+    ap (λ (l : List ℕ). with_columns l k) (range_more n) ∙ named_after (range_with_len 0 n) n k
     ∙ ap (λ (b : Bool). b || (k == n)) (named_range n k) ∙ grind (arith, nat_tests)
 
 own_column : (column m : ℕ) (x : Places) (o : Option ℕ) → o ≡ Some m → x m ≡ false → column_of column x o ≡ Ok m
@@ -170,8 +170,8 @@ own_columns_from before (name ∷ after) differ =
     let size : length (before ++ name ∷ []) ≡ suc m = length-append before (name ∷ []) ∙ omega arith in
     let none : All (λ b. same_name b name ≡ false) before = λ k d h. other_name before name after k d h differ in
     let place : place_named names name ≡ Some m = found_at before name after none in
-    let free : named (range_with_len 0 m) m ≡ false = named_range m m ∙ grind (arith, nat_tests) in
-    let column : column_of (length (range_with_len 0 m) + 1) (named (range_with_len 0 m))
+    let free : with_columns (range_with_len 0 m) m ≡ false = named_range m m ∙ grind (arith, nat_tests) in
+    let column : column_of (length (range_with_len 0 m) + 1) (with_columns (range_with_len 0 m))
     (place_named names name) ≡ Ok m =
     own_column _ m _ _ place free in
     let columns : range_with_len 0 m ++ m ∷ [] ≡ range_with_len 0 (length (before ++ name ∷ [])) =
@@ -184,11 +184,11 @@ own_columns_from before (name ∷ after) differ =
     ∙ subst (λ (l : List (List ℕ)). columns_from l (range_with_len 0 (length (before ++ name ∷ []))) after ≡ Ok (range_with_len 0 (length l))) split rest
 
 own_columns : (names : List (List ℕ)) → AllPairs (λ a b. same_name a b ≡ false) names
-    → columns_of names names ≡ Ok (range_with_len 0 (length names))
+    → columns_of_header names names ≡ Ok (range_with_len 0 (length names))
 own_columns names differ = own_columns_from [] names differ
 
 -- ---- the rows
-all_named : (n : ℕ) → Within (below n) (named (range_with_len 0 n))
+all_named : (n : ℕ) → Within (below n) (with_columns (range_with_len 0 n))
 all_named n k in_below = named_range n k ∙ in_below
 
 column_is : (n k : ℕ) → k < n → position_or_len (nat_eq k) (range_with_len 0 n) ≡ k
@@ -203,16 +203,16 @@ value_is n k t small = ap (λ (j : ℕ). slice_index_or t j []) (column_is n k s
 tuple_is : (n : ℕ) (t : Tuple) → length t ≡ n → t ≡ tuple_of n (range_with_len 0 n) t
 tuple_is n t size =
     let columns = range_with_len 0 n in
-    let ms = members_below n (named columns) in
+    let ms = members_below n (with_columns columns) in
     let count : length ms ≡ n =
-    length-members_below n (named columns) ∙ whole_count n (named columns) (all_named n) n (omega arith) in
+    length-members_below n (with_columns columns) ∙ whole_count n (with_columns columns) (all_named n) n (omega arith) in
     let long : length (map (value_of columns t) ms) ≡ n = length-map ms (value_of columns t) ∙ count in
     ext_get_or [] t (map (value_of columns t) ms) (size ∙ sym long) (λ k less.
     let small : k < n = omega (arith, less, size) in
-    let has : named columns k ≡ true = named_range n k ∙ grind (arith, nat_tests, small) in
+    let has : with_columns columns k ≡ true = named_range n k ∙ grind (arith, nat_tests, small) in
     let at : get_or ms k k ≡ k =
-    ap (λ (j : ℕ). get_or ms j k) (sym (whole_count n (named columns) (all_named n) k (omega (arith, small))))
-    ∙ members_below-at n (named columns) k k small has in
+    ap (λ (j : ℕ). get_or ms j k) (sym (whole_count n (with_columns columns) (all_named n) k (omega (arith, small))))
+    ∙ members_below-at n (with_columns columns) k k small has in
     let inside : k < length (map (value_of columns t) ms) = omega (arith, small, long) in
     sym (same_default (map (value_of columns t) ms) k [] (value_of columns t k) inside ∙ get_or-map (value_of columns t) ms k k ∙ ap (value_of columns t) at ∙ value_is n k t small))
 

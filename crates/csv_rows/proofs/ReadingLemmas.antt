@@ -26,13 +26,13 @@ use Rattle.csv_rows.specs.declared.header.Placed.{Placed}
 use Rattle.csv_rows.specs.declared.refusal.RowRefusal.{RowRefusal}
 use Rattle.csv_rows.specs.declared.refusal.RowRefusal.TheVariants as refusal
 use Rattle.csv_rows.specs.Records.{HasLeft, TakesRecord, records_of}
-use Rattle.csv_rows.specs.Columns.{named, placed, order_of, column_of, columns_from, columns_of, ◌>>=◌, IsHeader, IsHeaderOf}
+use Rattle.csv_rows.specs.Columns.{with_columns, placed, order_of, column_of, columns_from, columns_of_header, ◌>>=◌, IsHeader, IsHeaderOf}
 use Rattle.csv_rows.specs.Reading.{value_of, HasInteger, RowOf, RowAt, AreFirstRows, RowsUnder, TableOf, RowsOf, ReadsHeader, RefusesHeader}
 
 -- the first record is the header
 pub header_read : (s : Schema) (old new : Reader (Bor (List ℕ))) (fields : List (List ℕ)) (b : Bool) (r : Result Header RowRefusal) (rs : List (List (List ℕ)))
     → b ≡ true → TakesRecord b old new fields → HasLeft old rs
-    → IfOk r (λ h. (columns : List ℕ) × (columns_of (names_of s) fields ≡ Ok columns) × IsHeader (width_of s) columns h)
+    → IfOk r (λ h. (columns : List ℕ) × (columns_of_header (names_of s) fields ≡ Ok columns) × IsHeader (width_of s) columns h)
     → IfOk r (λ h. ReadsHeader s rs new h)
 header_read s old new fields b (Err e) rs is takes left means = tt
 header_read s old new fields b (Ok h) rs is takes left means =
@@ -42,7 +42,7 @@ header_read s old new fields b (Ok h) rs is takes left means =
 
 pub header_refused : (names : List (List ℕ)) (old new : Reader (Bor (List ℕ))) (fields : List (List ℕ)) (b : Bool) (r : Result Header RowRefusal) (rs : List (List (List ℕ)))
     → b ≡ true → TakesRecord b old new fields → HasLeft old rs
-    → IfErr r (λ e. e ≢ refusal.Memory → columns_of names fields ≡ Err e)
+    → IfErr r (λ e. e ≢ refusal.Memory → columns_of_header names fields ≡ Err e)
     → IfErr r (λ e. e ≢ refusal.Memory → RefusesHeader names rs e)
 header_refused names old new fields b (Ok h) rs is takes left means = tt
 header_refused names old new fields b (Err e) rs is takes left means =
@@ -67,10 +67,10 @@ never_missing names before (f ∷ fs) a h = by (place_named names f) h (λ (b : 
     tested true b g later = cc
     tested false b g later = later g
 
-    by : (o : Option ℕ) → (column_of (length before + 1) (named before) o >>= (λ c. columns_from names (before ++ c ∷ []) fs)) ≡ Err (refusal.MissingColumn a)
+    by : (o : Option ℕ) → (column_of (length before + 1) (with_columns before) o >>= (λ c. columns_from names (before ++ c ∷ []) fs)) ≡ Err (refusal.MissingColumn a)
         → ((b : ℕ) → columns_from names (before ++ b ∷ []) fs ≡ Err (refusal.MissingColumn a) → ⊥) → ⊥
     by None g later = cc
-    by (Some b) g later = tested (named before b) b g (later b)
+    by (Some b) g later = tested (with_columns before b) b g (later b)
 
 -- a header that is refused is so in either reading
 pub refused_whole : (s : Schema) (rs : List (List (List ℕ))) (e : RowRefusal) → RefusesHeader (names_of s) rs e
@@ -78,7 +78,7 @@ pub refused_whole : (s : Schema) (rs : List (List (List ℕ))) (e : RowRefusal) 
 refused_whole s [] e h = ap Err h
 refused_whole s (header ∷ records) e h = (Err e, whole e h, refl)
   where
-    whole : (e : RowRefusal) → columns_of (names_of s) header ≡ Err e → IsHeaderOf (width_of s) (names_of s) header (Err e)
+    whole : (e : RowRefusal) → columns_of_header (names_of s) header ≡ Err e → IsHeaderOf (width_of s) (names_of s) header (Err e)
     whole (refusal.MissingColumn a) h = absurd (never_missing (names_of s) [] header a h)
     whole refusal.NoHeader h = h
     whole (refusal.UnknownColumn c) h = h
@@ -89,7 +89,7 @@ refused_whole s (header ∷ records) e h = (Err e, whole e h, refl)
     whole refusal.Memory h = h
 
 pub refused_part : (s : Schema) (rs : List (List (List ℕ))) (e : RowRefusal) → RefusesHeader (names_of s) rs e
-    → TableOf s (λ header columns. columns ≡ columns_of (names_of s) header) rs (Err e)
+    → TableOf s (λ header columns. columns ≡ columns_of_header (names_of s) header) rs (Err e)
 refused_part s [] e h = ap Err h
 refused_part s (header ∷ records) e h = (Err e, sym h, refl)
 
@@ -98,8 +98,8 @@ pub refused_missing : (s : Schema) (rs : List (List (List ℕ))) (reader : Reade
     → ReadsHeader s rs reader h → Same x (minus (below (width_of s)) (places h.scheme)) → IsLeastFrom x 0 a
     → TableOf s (IsHeaderOf (width_of s) (names_of s)) rs (Err (refusal.MissingColumn a))
 refused_missing s rs reader h x a read same least =
-    let all : Same x (minus (below (width_of s)) (named read.columns)) = λ k. same k ∙ ap (λ (b : Bool). nat_lt k (width_of s) && not b) (read.kept.scheme k) in
-    let moved : IsLeastFrom (minus (below (width_of s)) (named read.columns)) 0 a = record {
+    let all : Same x (minus (below (width_of s)) (with_columns read.columns)) = λ k. same k ∙ ap (λ (b : Bool). nat_lt k (width_of s) && not b) (read.kept.scheme k) in
+    let moved : IsLeastFrom (minus (below (width_of s)) (with_columns read.columns)) 0 a = record {
       from_on = least.from_on;
       member = sym (all a) ∙ least.member;
       least = λ k f l. sym (all k) ∙ least.least k f l;
@@ -112,7 +112,7 @@ pub whole_rows : (s : Schema) (rs : List (List (List ℕ))) (reader : Reader (Bo
     → (read : ReadsHeader s rs reader h) → Same x (minus (below (width_of s)) (places h.scheme)) → IsEmpty x → RowsUnder s (Ok read.columns) read.records result
     → TableOf s (IsHeaderOf (width_of s) (names_of s)) rs result
 whole_rows s rs reader h x result read same empty rows =
-    let within : Within (below (width_of s)) (named read.columns) = λ k has. inside k has (sym (read.kept.scheme k)) (sym (same k) ∙ empty k) in
+    let within : Within (below (width_of s)) (with_columns read.columns) = λ k has. inside k has (sym (read.kept.scheme k)) (sym (same k) ∙ empty k) in
     subst (λ (l : List (List (List ℕ))). TableOf s (IsHeaderOf (width_of s) (names_of s)) l result) (sym read.all)
     (Ok read.columns, (read.means, within), rows)
   where
@@ -125,9 +125,9 @@ whole_rows s rs reader h x result read same empty rows =
 
 pub part_rows : (s : Schema) (rs : List (List (List ℕ))) (reader : Reader (Bor (List ℕ))) (h : Header) (result : Result Relation RowRefusal)
     → (read : ReadsHeader s rs reader h) → RowsUnder s (Ok read.columns) read.records result
-    → TableOf s (λ header columns. columns ≡ columns_of (names_of s) header) rs result
+    → TableOf s (λ header columns. columns ≡ columns_of_header (names_of s) header) rs result
 part_rows s rs reader h result read rows =
-    subst (λ (l : List (List (List ℕ))). TableOf s (λ header columns. columns ≡ columns_of (names_of s) header) l result) (sym read.all)
+    subst (λ (l : List (List (List ℕ))). TableOf s (λ header columns. columns ≡ columns_of_header (names_of s) header) l result) (sym read.all)
     (Ok read.columns, sym read.means, rows)
 
 -- the members of a set in their order
@@ -157,22 +157,22 @@ member_at (suc n) x i a l h = elim (cases_Bool (x n)) [
 -- an entry of the order of a header
 pub record IsPlaced (n : ℕ) (columns : List ℕ) (i : ℕ) (p : Placed) : Type 0 where
   pub small : p.attribute < n
-  pub has : named columns p.attribute ≡ true
+  pub has : with_columns columns p.attribute ≡ true
   pub column : p.column ≡ position_or_len (nat_eq p.attribute) columns
-  pub before : i ≡ count_below (named columns) p.attribute
-  pub at : i < length (members_below n (named columns))
-  pub is : get_or (members_below n (named columns)) i p.attribute ≡ p.attribute
+  pub before : i ≡ count_below (with_columns columns) p.attribute
+  pub at : i < length (members_below n (with_columns columns))
+  pub is : get_or (members_below n (with_columns columns)) i p.attribute ≡ p.attribute
 
 placed_at : (n : ℕ) (columns : List ℕ) (h : Header) (i : ℕ) (p : Placed) → IsHeader n columns h → i < length h.order.items → p ≡ get_or h.order.items i p → IsPlaced n columns i p
 placed_at n columns h i p kept l e =
-    let size : length h.order.items ≡ length (members_below n (named columns)) = ap length kept.order ∙ length-map (members_below n (named columns)) (placed columns) in
-    let at : i < length (members_below n (named columns)) = omega (arith, l, size) in
-    let a : ℕ = get_or (members_below n (named columns)) i p.attribute in
+    let size : length h.order.items ≡ length (members_below n (with_columns columns)) = ap length kept.order ∙ length-map (members_below n (with_columns columns)) (placed columns) in
+    let at : i < length (members_below n (with_columns columns)) = omega (arith, l, size) in
+    let a : ℕ = get_or (members_below n (with_columns columns)) i p.attribute in
     let same : p ≡ placed columns a =
     e ∙ ap (λ (o : List Placed). get_or o i p) kept.order ∙ same_default (order_of n columns) i p (placed columns p.attribute) (omega (arith, l, ap length kept.order))
-    ∙ get_or-map (placed columns) (members_below n (named columns)) i p.attribute in
+    ∙ get_or-map (placed columns) (members_below n (with_columns columns)) i p.attribute in
     let attribute : p.attribute ≡ a = ap (λ (q : Placed). q.attribute) same in
-    let m = member_at n (named columns) i p.attribute at attribute in
+    let m = member_at n (with_columns columns) i p.attribute at attribute in
     record {
       small = m.0;
       has = m.1;
@@ -190,8 +190,8 @@ placed_in n columns h items i d kept e l =
 
 -- the values of the first attributes that have a column
 pub record Takes (s : Schema) (columns : List ℕ) (fields : List (List ℕ)) (i : ℕ) (values : List (List ℕ)) : Type 0 where
-  pub so_far : values ≡ map (value_of columns fields) (take i (members_below (width_of s) (named columns)))
-  pub typed : (b : ℕ) → HasInteger s columns b → count_below (named columns) b < i → IsIntegerText (value_of columns fields b)
+  pub so_far : values ≡ map (value_of columns fields) (take i (members_below (width_of s) (with_columns columns)))
+  pub typed : (b : ℕ) → HasInteger s columns b → count_below (with_columns columns) b < i → IsIntegerText (value_of columns fields b)
 
 pub takes_none : (s : Schema) (columns : List ℕ) (fields values : List (List ℕ)) → values ≡ [] → Takes s columns fields 0 values
 takes_none s columns fields values e = record { so_far = e; typed = λ b h l. absurd (omega (arith, l)) }
@@ -211,17 +211,17 @@ pub takes_one : (s : Schema) (columns : List ℕ) (fields values : List (List �
     → slice_get (types_of s) p.attribute ≡ Some column → (column ≡ Integer → IsIntegerText value)
     → Takes s columns fields (i + 1) (values ++ value ∷ [])
 takes_one s columns fields values i p value column takes at is type fits =
-    let ms = members_below (width_of s) (named columns) in
+    let ms = members_below (width_of s) (with_columns columns) in
     let here : value ≡ value_of columns fields p.attribute = is ∙ ap (λ (j : ℕ). slice_index_or fields j []) at.column in
     let next : take (i + 1) ms ≡ take i ms ++ p.attribute ∷ [] =
     rw add-one (take-suc ms i p.attribute at.at ∙ ap (λ (a : ℕ). take i ms ++ a ∷ []) at.is) in
     record {
       so_far = ap (λ (l : List (List ℕ)). l ++ value ∷ []) takes.so_far ∙ ap (λ (v : List ℕ). map (value_of columns fields) (take i ms) ++ v ∷ []) here
           ∙ sym (ap (map (value_of columns fields)) next ∙ map-append (value_of columns fields) (take i ms) (p.attribute ∷ []));
-      typed = λ b h l. elim (cases_lt (count_below (named columns) b) i) [
+      typed = λ b h l. elim (cases_lt (count_below (with_columns columns) b) i) [
         | inl before ↦ takes.typed b h before
         | inr last ↦
-            let same : b ≡ p.attribute = same_count (named columns) b p.attribute h.0 at.has (omega (arith, l, last, at.before)) in
+            let same : b ≡ p.attribute = same_count (with_columns columns) b p.attribute h.0 at.has (omega (arith, l, last, at.before)) in
             let integer : Some column ≡ Some Integer = sym type ∙ ap (slice_get (types_of s)) (sym same) ∙ h.1 in
             subst IsIntegerText (here ∙ ap (value_of columns fields) (sym same)) (fits (some_inj integer))
       ];
@@ -234,14 +234,14 @@ takes_one s columns fields values i p value column takes at is type fits =
 pub takes_all : (s : Schema) (columns : List ℕ) (fields values : List (List ℕ)) (h : Header) (i row : ℕ) → IsHeader (width_of s) columns h → Takes s columns fields i values → i ≡ length h.order.items
     → length fields ≡ h.columns → row ≤ 100000 → RowOf s columns row fields (Ok values)
 takes_all s columns fields values h i row kept takes end even few =
-    let ms = members_below (width_of s) (named columns) in
+    let ms = members_below (width_of s) (with_columns columns) in
     let size : length h.order.items ≡ length ms = ap length kept.order ∙ length-map ms (placed columns) in
     let all : take i ms ≡ ms = take_all i ms (omega (arith, end, size)) in (
       (even ∙ kept.count, few),
       takes.so_far ∙ ap (map (value_of columns fields)) all,
       λ a has.
           let small : a < width_of s = omega (arith, slice_get_within (types_of s) a Integer has.1, length-columns_on (width_of s) (places s.integers)) in
-          takes.typed a has (omega (arith, count_below-place (width_of s) a (named columns) small has.0, length-members_below (width_of s) (named columns), end, size)),
+          takes.typed a has (omega (arith, count_below-place (width_of s) a (with_columns columns) small has.0, length-members_below (width_of s) (with_columns columns), end, size)),
     )
 
 -- the value at hand is refused
@@ -256,7 +256,7 @@ not_integer s columns fields values h i row p value column kept takes at is type
       (at.has, type ∙ ap Some breaks.0),
       (λ t. breaks.1 (subst IsIntegerText (sym here) t)),
       λ b less has.
-          takes.typed b has (omega (arith, count_below-place p.attribute b (named columns) less has.0, at.before)),
+          takes.typed b has (omega (arith, count_below-place p.attribute b (with_columns columns) less has.0, at.before)),
     )
 
 -- records of which some were taken, each giving a row
@@ -337,17 +337,17 @@ whole_count n x within k l =
     count_below-equal k x (below k) (λ j m. within j (grind (arith, l, m)) ∙ sym (grind (arith, m))) ∙ count_below-below k k (omega arith)
 
 -- a row of a text in which each attribute has a column
-row_whole : (s : Schema) (columns : List ℕ) (row : ℕ) (fields : List (List ℕ)) (t : Tuple) → Within (below (width_of s)) (named columns) → RowOf s columns row fields (Ok t)
+row_whole : (s : Schema) (columns : List ℕ) (row : ℕ) (fields : List (List ℕ)) (t : Tuple) → Within (below (width_of s)) (with_columns columns) → RowOf s columns row fields (Ok t)
     → (length t ≡ width_of s) × ((k : ℕ) → slice_get (types_of s) k ≡ Some Integer → IsIntegerText (value_at t k))
 row_whole s columns row fields t within (fits, is, typed) =
     let n : ℕ = width_of s in
-    let ms : List ℕ = members_below n (named columns) in
-    let size : length ms ≡ n = length-members_below n (named columns) ∙ whole_count n (named columns) within n (omega arith) in (
+    let ms : List ℕ = members_below n (with_columns columns) in
+    let size : length ms ≡ n = length-members_below n (with_columns columns) ∙ whole_count n (with_columns columns) within n (omega arith) in (
       ap length is ∙ length-map ms (value_of columns fields) ∙ size,
       λ k integer.
           let small : k < n = omega (arith, slice_get_within (types_of s) k Integer integer, length-columns_on n (places s.integers)) in
-          let has : named columns k ≡ true = within k (grind (arith, small)) in
-          let at : get_or ms k k ≡ k = ap (λ (j : ℕ). get_or ms j k) (sym (whole_count n (named columns) within k (omega (arith, small)))) ∙ members_below-at n (named columns) k k small has in
+          let has : with_columns columns k ≡ true = within k (grind (arith, small)) in
+          let at : get_or ms k k ≡ k = ap (λ (j : ℕ). get_or ms j k) (sym (whole_count n (with_columns columns) within k (omega (arith, small)))) ∙ members_below-at n (with_columns columns) k k small has in
           let long : k < length (map (value_of columns fields) ms) = omega (arith, length-map ms (value_of columns fields), size, small) in
           let value : value_at t k ≡ value_of columns fields k =
           ap (λ (u : Tuple). value_at u k) is ∙ same_default (map (value_of columns fields) ms) k [] (value_of columns fields k) long ∙ get_or-map (value_of columns fields) ms k k ∙ ap (value_of columns fields) at in

@@ -10,8 +10,8 @@ use Rattle.csv_rows.specs.declared.refusal.RowRefusal.{RowRefusal}
 use Rattle.csv_rows.specs.declared.refusal.RowRefusal.TheVariants as refusal
 
 -- the attributes that have a column
-abbrev pub named : List ℕ → Places
-named columns a = list_any (nat_eq a) columns
+abbrev pub with_columns : List ℕ → Places
+with_columns columns a = list_any (nat_eq a) columns
 
 infixl 10 ◌>>=◌
 abbrev pub ◌>>=◌ : {A B : Type 0} → Result A RowRefusal → (A → Result B RowRefusal) → Result B RowRefusal
@@ -27,21 +27,21 @@ column_of column before (Some a) = if before a then Err (refusal.DoubleColumn co
 unfoldable pub columns_from : List (List ℕ) → List ℕ → List (List ℕ) → Result (List ℕ) RowRefusal
 columns_from names before [] = Ok before
 columns_from names before (field ∷ fields) = do
-  a ← column_of (length before + 1) (named before) (place_named names field)
+  a ← column_of (length before + 1) (with_columns before) (place_named names field)
   columns_from names (before ++ a ∷ []) fields
 
 -- the attribute of each column of a header: its fields are different names
-abbrev pub columns_of : List (List ℕ) → List (List ℕ) → Result (List ℕ) RowRefusal
-columns_of names header = columns_from names [] header
+abbrev pub columns_of_header : List (List ℕ) → List (List ℕ) → Result (List ℕ) RowRefusal
+columns_of_header names header = columns_from names [] header
 
 -- a header in which each of n attributes has a column; else its first refusal
 abbrev pub IsHeaderOf : ℕ → List (List ℕ) → List (List ℕ) → Result (List ℕ) RowRefusal → Type 0
 IsHeaderOf n names header (Ok columns) =
-    (columns_of names header ≡ Ok columns) × Within (below n) (named columns)
+    (columns_of_header names header ≡ Ok columns) × Within (below n) (with_columns columns)
 IsHeaderOf n names header (Err (refusal.MissingColumn a)) =
-    (columns : List ℕ) × (columns_of names header ≡ Ok columns)
-    × IsLeastFrom (minus (below n) (named columns)) 0 a
-IsHeaderOf n names header (Err e) = columns_of names header ≡ Err e
+    (columns : List ℕ) × (columns_of_header names header ≡ Ok columns)
+    × IsLeastFrom (minus (below n) (with_columns columns)) 0 a
+IsHeaderOf n names header (Err e) = columns_of_header names header ≡ Err e
 
 -- an attribute and its column, from 0
 abbrev pub placed : List ℕ → ℕ → Placed
@@ -49,10 +49,10 @@ placed columns a = record { attribute = a; column = position_or_len (nat_eq a) c
 
 -- the attributes below n that have a column, ascending, each with it
 abbrev pub order_of : ℕ → List ℕ → List Placed
-order_of n columns = map (placed columns) (members_below n (named columns))
+order_of n columns = map (placed columns) (members_below n (with_columns columns))
 
 -- what is kept of a header with these columns
 pub record IsHeader (n : ℕ) (columns : List ℕ) (h : Header) : Type 0 where
   pub count : h.columns ≡ length columns
-  pub scheme : Same (places h.scheme) (named columns)
+  pub scheme : Same (places h.scheme) (with_columns columns)
   pub order : h.order.items ≡ order_of n columns

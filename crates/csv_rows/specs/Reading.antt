@@ -16,7 +16,7 @@ use Rattle.std.specs.Borrow.{Bor}
 use Rattle.csv.specs.declared.reader.Reader.{Reader}
 use Rattle.csv_rows.specs.declared.header.Header.{Header}
 use Rattle.csv_rows.specs.Records.{records_of, HasLeft}
-use Rattle.csv_rows.specs.Columns.{named, columns_of, IsHeaderOf, IsHeader}
+use Rattle.csv_rows.specs.Columns.{with_columns, columns_of_header, IsHeaderOf, IsHeader}
 
 -- the value of an attribute in a record: the field in its column
 abbrev pub value_of : List ℕ → List (List ℕ) → ℕ → List ℕ
@@ -24,11 +24,11 @@ value_of columns fields a = slice_index_or fields (position_or_len (nat_eq a) co
 
 -- the tuple of a record: the value of each attribute that has a column, in the order of the schema
 abbrev pub tuple_of : ℕ → List ℕ → List (List ℕ) → Tuple
-tuple_of n columns fields = map (value_of columns fields) (members_below n (named columns))
+tuple_of n columns fields = map (value_of columns fields) (members_below n (with_columns columns))
 
 -- a record has a value for an attribute whose column in the schema is an integer one
 abbrev pub HasInteger : Schema → List ℕ → ℕ → Type 0
-HasInteger s columns a = (named columns a ≡ true) × (slice_get (types_of s) a ≡ Some Integer)
+HasInteger s columns a = (with_columns columns a ≡ true) × (slice_get (types_of s) a ≡ Some Integer)
 
 -- a record of as many fields as the header, among the most rows that a file may have
 abbrev pub Fits : List ℕ → ℕ → List (List ℕ) → Type 0
@@ -85,13 +85,13 @@ RowsOf s text result = TableOf s (IsHeaderOf (width_of s) (names_of s)) (records
 -- the same of a text in which any of the attributes have columns
 abbrev pub PartOf : Schema → List ℕ → Result Relation RowRefusal → Type 0
 PartOf s text result = TableOf s
-    (λ header columns. columns ≡ columns_of (names_of s) header) (records_of text) result
+    (λ header columns. columns ≡ columns_of_header (names_of s) header) (records_of text) result
 
 -- the attributes that the header of a text names
 abbrev pub HasScheme : Schema → List ℕ → AttrSet → Type 0
 HasScheme s text scheme =
     (header : List (List ℕ)) × (records : List (List (List ℕ))) × (records_of text ≡ header ∷ records)
-    × (columns : List ℕ) × (columns_of (names_of s) header ≡ Ok columns) × Same (places scheme) (named columns)
+    × (columns : List ℕ) × (columns_of_header (names_of s) header ≡ Ok columns) × Same (places scheme) (with_columns columns)
 
 -- the header of a text was read, and the records below it are still to come
 pub record ReadsHeader (s : Schema) (rs : List (List (List ℕ))) (reader : Reader (Bor (List ℕ)))
@@ -100,11 +100,11 @@ pub record ReadsHeader (s : Schema) (rs : List (List (List ℕ))) (reader : Read
   pub records : List (List (List ℕ))
   pub all : rs ≡ fields ∷ records
   pub columns : List ℕ
-  pub means : columns_of (names_of s) fields ≡ Ok columns
+  pub means : columns_of_header (names_of s) fields ≡ Ok columns
   pub kept : IsHeader (width_of s) columns h
   pub left : HasLeft reader records
 
 -- there is no header, or it is refused
 abbrev pub RefusesHeader : List (List ℕ) → List (List (List ℕ)) → RowRefusal → Type 0
 RefusesHeader names [] e = e ≡ refusal.NoHeader
-RefusesHeader names (header ∷ records) e = columns_of names header ≡ Err e
+RefusesHeader names (header ∷ records) e = columns_of_header names header ≡ Err e

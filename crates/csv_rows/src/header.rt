@@ -3,7 +3,7 @@ ghost use Rattle.attr_sets.specs.Places.{count_below};
 ghost use Rattle.attr_sets.specs.Sets.{places};
 ghost use Rattle.attr_sets.specs.declared.set.TheConstants.{PLACES};
 ghost use Rattle.csv.specs.Records.{fields_of};
-ghost use Rattle.csv_rows.specs.Columns.{column_of, columns_of, order_of, IsHeader};
+ghost use Rattle.csv_rows.specs.Columns.{column_of, columns_of_header, order_of, IsHeader};
 ghost use Rattle.dep_model.specs.Schemas.{names_of, place_named, width_of};
 ghost use Rattle.csv_rows.specs.declared.refusal.RowRefusal.TheVariants.{Memory};
 
@@ -34,10 +34,10 @@ impl Header {
     pub fn make(alloc: Global, schema: &Schema, fields: &ByteRecord) -> Result<Header, RowRefusal>
         ensures ok { IfOk result
             (λ h. (columns : List ℕ)
-            × (columns_of (names_of schema.now) (fields_of fields.now) ≡ Ok columns)
+            × (columns_of_header (names_of schema.now) (fields_of fields.now) ≡ Ok columns)
             × IsHeader (width_of schema.now) columns h) }
         ensures err { IfErr result
-            (λ e. e ≢ Memory → columns_of (names_of schema.now) (fields_of fields.now) ≡ Err e) }
+            (λ e. e ≢ Memory → columns_of_header (names_of schema.now) (fields_of fields.now) ≡ Err e) }
     {
         let mut columns = Vec::new(alloc);
         let mut scheme = AttrSet::empty();

@@ -1,6 +1,6 @@
 ghost use Rattle.std.specs.Prelude.{◌≡◌, ◌≢◌, ◌≤◌, ℕ, true, false, List, length, Ok, Err, IfOk, IfErr};
 ghost use Rattle.csv.specs.Records.{fields_of};
-ghost use Rattle.csv_rows.specs.Columns.{columns_of, IsHeader};
+ghost use Rattle.csv_rows.specs.Columns.{columns_of_header, IsHeader};
 ghost use Rattle.csv_rows.specs.Records.{HasLeft};
 ghost use Rattle.csv_rows.specs.Reading.{RowOf, RowsUnder, RowsOf, ReadsHeader, RefusesHeader};
 ghost use Rattle.csv_rows.specs.declared.refusal.RowRefusal.TheVariants.{Memory};

@@ -2,7 +2,7 @@ ghost use Rattle.std.specs.Prelude.{◌≡◌, ◌↔◌, ◌<◌, ◌≤◌, le
 ghost use Rattle.attr_sets.specs.Places.{Within};
 ghost use Rattle.attr_sets.specs.Sets.{places};
 ghost use Rattle.dep_model.specs.Schemas.{universe_of};
-ghost use Rattle.decomp_text.specs.Plans.{sets_of, IsPlanOver};
+ghost use Rattle.decomp_text.specs.Plans.{scheme_sets, IsPlanOver};
 ghost use Rattle.table_names.specs.declared.numbered.TheConstants.{MOST_TABLES};
 ghost use Rattle.ddl_text.specs.Designs.{RefersTo, AreReferences, IsTableOf, IsDesign, ReferToEarlier};
 ghost use Rattle.ddl_text.specs.Laws.{KeysHold, ReferencesHold};
@@ -50,8 +50,8 @@ impl DesignList {
 /// not empty.
 pub fn design(alloc: Global, schema: &Schema, plan: &Plan) -> Result<DesignList, WantMemory>
     requires universe { IsPlanOver schema.now plan.now }
-    requires few { length (sets_of plan.now) ≤ MOST_TABLES }
-    ensures design { IfOk result (λ tables. IsDesign schema.now (sets_of plan.now) tables) }
+    requires few { length (scheme_sets plan.now) ≤ MOST_TABLES }
+    ensures design { IfOk result (λ tables. IsDesign schema.now (scheme_sets plan.now) tables) }
     ensures keys_hold { IfOk result (λ tables. KeysHold schema.now tables) }
     ensures references_hold { IfOk result (λ tables. ReferencesHold schema.now tables) }
 {

@@ -10,7 +10,7 @@ use Rattle.schema_grammar.specs.Declarations.{marked}
 use Rattle.schema_grammar.specs.Refusals.{refused_by}
 use Rattle.plan_grammar.specs.declared.refusal.PlanRefusal.{PlanRefusal}
 use Rattle.plan_grammar.specs.declared.refusal.PlanRefusal.TheVariants as plan
-use Rattle.plan_grammar.specs.Reading.{attribute, read_words, read_words_lexed, read_scheme, read_line, read_lines}
+use Rattle.plan_grammar.specs.Reading.{attribute, read_words, read_words_lexed, read_scheme, read_scheme_line, read_scheme_lines}
 use Rattle.plan_grammar.specs.Refusals.{RefusesPlanAs}
 
 -- ---- want of memory
@@ -56,43 +56,43 @@ words_more names line true x t word rest l a leads is = rw (leads.all_tokens, is
 words_more names line false x t word rest l a leads is = rw (leads.all_tokens, is) refl
 
 -- ---- one line
-pub line_ended : (names : List (List ℕ)) (number : ℕ) (schemes : List Places) (l : Lexed) → l ≡ record { marks = []; stop = None } → read_line names number schemes l.marks l.stop ≡ Ok schemes
-unfolding read_line
+pub line_ended : (names : List (List ℕ)) (number : ℕ) (schemes : List Places) (l : Lexed) → l ≡ record { marks = []; stop = None } → read_scheme_line names number schemes l.marks l.stop ≡ Ok schemes
+unfolding read_scheme_line
 line_ended names number schemes l e = rw e refl
 
 pub line_stopped : (names : List (List ℕ)) (number : ℕ) (schemes : List Places) (stop : Stop) (l : Lexed) → l ≡ record { marks = []; stop = Some stop }
-    → read_line names number schemes l.marks l.stop ≡ Err (plan.Text (refused_by number stop))
-unfolding read_line
+    → read_scheme_line names number schemes l.marks l.stop ≡ Err (plan.Text (refused_by number stop))
+unfolding read_scheme_line
 line_stopped names number schemes stop l e = rw e refl
 
 pub scheme_added : (names : List (List ℕ)) (number : ℕ) (schemes : List Places) (t : Token) (word rest : List ℕ) (l : Lexed) (earlier : ℕ) (x : Places) → Leads mode.Plain t word rest l
     → earlier ≡ length schemes → read_scheme names number earlier (marked t word) (lexed mode.Plain 0 (t.column + t.length) rest) ≡ Ok x
-    → read_line names number schemes l.marks l.stop ≡ Ok (schemes ++ x ∷ [])
-unfolding read_line
+    → read_scheme_line names number schemes l.marks l.stop ≡ Ok (schemes ++ x ∷ [])
+unfolding read_scheme_line
 scheme_added names number schemes t word rest l earlier x leads count is = rw (leads.all_tokens, sym count, is) refl
 
 -- ---- lines
 -- to read the lines that are left is to read all of them
 pub record Reads (names : List (List ℕ)) (text : List ℕ) (schemes : List Places) (number : ℕ) (rest : List ℕ) : Type 0 where
-  pub same : read_lines names 1 [] (line_texts text) ≡ read_lines names number schemes (line_texts rest)
+  pub same : read_scheme_lines names 1 [] (line_texts text) ≡ read_scheme_lines names number schemes (line_texts rest)
   pub room : number + length rest < 2 ^ 31
 
 abbrev pub line_read : List (List ℕ) → ℕ → List Places → List ℕ → Result (List Places) PlanRefusal
-line_read names number schemes line = read_line names number schemes (lex mode.Plain line).marks (lex mode.Plain line).stop
+line_read names number schemes line = read_scheme_line names number schemes (lex mode.Plain line).marks (lex mode.Plain line).stop
 
 pub line_refused : (names : List (List ℕ)) (number : ℕ) (schemes : List Places) (line : List ℕ) (lines ls : List (List ℕ)) (e : PlanRefusal)
-    → ls ≡ line ∷ lines → line_read names number schemes line ≡ Err e → read_lines names number schemes ls ≡ Err e
-unfolding read_lines
+    → ls ≡ line ∷ lines → line_read names number schemes line ≡ Err e → read_scheme_lines names number schemes ls ≡ Err e
+unfolding read_scheme_lines
 line_refused names number schemes line lines ls e whole h = rw whole (rw h refl)
 
 pub last_read : (names : List (List ℕ)) (number : ℕ) (schemes more : List Places) (line : List ℕ) (ls : List (List ℕ))
-    → ls ≡ line ∷ [] → line_read names number schemes line ≡ Ok more → read_lines names number schemes ls ≡ Ok more
-unfolding read_lines
+    → ls ≡ line ∷ [] → line_read names number schemes line ≡ Ok more → read_scheme_lines names number schemes ls ≡ Ok more
+unfolding read_scheme_lines
 last_read names number schemes more line ls whole h = rw whole (rw h refl)
 
 next_lines : (names : List (List ℕ)) (number : ℕ) (schemes more : List Places) (line : List ℕ) (lines ls : List (List ℕ))
-    → ls ≡ line ∷ lines → line_read names number schemes line ≡ Ok more → read_lines names number schemes ls ≡ read_lines names (number + 1) more lines
-unfolding read_lines
+    → ls ≡ line ∷ lines → line_read names number schemes line ≡ Ok more → read_scheme_lines names number schemes ls ≡ read_scheme_lines names (number + 1) more lines
+unfolding read_scheme_lines
 next_lines names number schemes more line lines ls whole read = rw whole (rw read refl)
 
 pub reads_more : (names : List (List ℕ)) (text : List ℕ) (schemes more : List Places) (number : ℕ) (rest line after : List ℕ)

@@ -7,12 +7,12 @@ use Rattle.dep_model.specs.declared.schema.Schema.{Schema}
 use Rattle.dep_model.specs.Schemas.{width_of}
 
 -- the schemes of a plan, in order
-abbrev pub sets_of : Plan → List AttrSet
-sets_of plan = plan.schemes.items
+abbrev pub scheme_sets : Plan → List AttrSet
+scheme_sets plan = plan.schemes.items
 
 -- the same, as sets of places
 abbrev pub plan_of : Plan → List Places
-plan_of plan = schemes_of (sets_of plan)
+plan_of plan = schemes_of (scheme_sets plan)
 
 -- the plan is one of the universe of a schema
 abbrev pub IsPlanOver : Schema → Plan → Type 0

@@ -6,7 +6,7 @@ ghost use Rattle.dep_model.specs.Projections.{IsLossless};
 ghost use Rattle.dep_model.specs.Schemas.{width_of};
 ghost use Rattle.dep_model.specs.Plans.{schemes_of};
 ghost use Rattle.decomp_text.specs.Schemes.{AreSchemes};
-ghost use Rattle.decomp_text.specs.Plans.{sets_of, plan_of, IsPlanOver};
+ghost use Rattle.decomp_text.specs.Plans.{scheme_sets, plan_of, IsPlanOver};
 ghost use Rattle.decomp_text.specs.Containing.{lies_within, lies_properly_within, is_spare, without_contained};
 
 use crate::Plan;
@@ -17,10 +17,10 @@ use dep_model::Schema;
 /// such a scheme says of a relation, the one that holds it says too.
 pub fn drop_contained(schema: &Schema, plan: Plan) -> Plan
     requires universe { IsPlanOver schema.now plan }
-    ensures schemes { sets_of result ≡ without_contained (sets_of plan) }
+    ensures schemes { scheme_sets result ≡ without_contained (scheme_sets plan) }
     ensures universe { IsPlanOver schema.now result }
-    ensures among { All (λ kept. Contains (sets_of plan) kept) (sets_of result) }
-    ensures held { All (λ old. list_any (lies_within old) (sets_of result) ≡ true) (sets_of plan) }
+    ensures among { All (λ kept. Contains (scheme_sets plan) kept) (scheme_sets result) }
+    ensures held { All (λ old. list_any (lies_within old) (scheme_sets result) ≡ true) (scheme_sets plan) }
     ensures lossless { (ds : List Dependency) → IsLossless (width_of schema.now) ds (plan_of plan)
         → IsLossless (width_of schema.now) ds (plan_of result) }
 {

@@ -16,12 +16,12 @@ pub struct Plan {
 }
 
 impl Plan {
-    ghost use Rattle.decomp_text.specs.Plans.{sets_of, IsPlanOver};
+    ghost use Rattle.decomp_text.specs.Plans.{scheme_sets, IsPlanOver};
 
     /// The plan of these schemes over the universe of a schema.
     pub fn make(schema: &Schema, schemes: Vec<AttrSet>) -> Plan
         requires plan { IsPlan (width_of schema.now) (schemes_of schemes.items) }
-        ensures schemes { sets_of result ≡ schemes.items }
+        ensures schemes { scheme_sets result ≡ schemes.items }
         ensures universe { IsPlanOver schema.now result }
     {
         Plan {
@@ -32,14 +32,14 @@ impl Plan {
 
     /// The schemes, in order.
     pub fn schemes(&self) -> &[AttrSet]
-        ensures schemes { result.now ≡ sets_of self.now }
+        ensures schemes { result.now ≡ scheme_sets self.now }
     {
         &self.schemes
     }
 
     /// The list of the schemes.
     pub fn into_schemes(self) -> Vec<AttrSet>
-        ensures schemes { result.items ≡ sets_of self }
+        ensures schemes { result.items ≡ scheme_sets self }
     {
         self.schemes
     }

@@ -10,7 +10,7 @@ ghost use Rattle.schema_grammar.specs.Declarations.{marked};
 ghost use Rattle.schema_grammar.specs.Refusals.{refusal};
 ghost use Rattle.plan_grammar.specs.Complaints.{RefusesPlan};
 ghost use Rattle.plan_grammar.specs.Meanings.{is_scheme, MeansPlan};
-ghost use Rattle.plan_grammar.specs.Reading.{attribute, no_scheme, read_words_lexed, read_scheme, read_line, read_lines};
+ghost use Rattle.plan_grammar.specs.Reading.{attribute, no_scheme, read_words_lexed, read_scheme, read_scheme_line, read_scheme_lines};
 ghost use Rattle.plan_grammar.specs.Refusals.{RefusesPlanAs};
 ghost use Rattle.decomp_text.specs.Plans.{plan_of, IsPlanOver};
 
@@ -49,10 +49,10 @@ pub fn read_plan(alloc: Global, schema: &Schema, text: &[u8]) -> Result<Plan, Pl
 // Reads the lines of a text.
 fn read_lines(alloc: Global, schema: &Schema, text: &[u8]) -> Result<Vec<AttrSet>, PlanRefusal>
     requires { length text.now ≤ MOST_PLAN_BYTES }
-    ensures ok { IfOk result (λ schemes. read_lines (names_of schema.now) 1 [] (line_texts text.now)
+    ensures ok { IfOk result (λ schemes. read_scheme_lines (names_of schema.now) 1 [] (line_texts text.now)
         ≡ Ok (schemes_of schemes.items)) }
     ensures err { IfErr result (λ refusal. RefusesPlanAs refusal
-        (read_lines (names_of schema.now) 1 [] (line_texts text.now) ≡ Err refusal)) }
+        (read_scheme_lines (names_of schema.now) 1 [] (line_texts text.now) ≡ Err refusal)) }
 {
     let guide = Guide::of(schema);
     let names = Names::Guided(schema, &guide);
@@ -75,7 +75,7 @@ fn read_lines(alloc: Global, schema: &Schema, text: &[u8]) -> Result<Vec<AttrSet
 }
 
 // Reads a line, and adds its scheme if it has tokens.
-#[tactic(auto, unfolding(plan_grammar::specs::Reading::read_line))]
+#[tactic(auto, unfolding(plan_grammar::specs::Reading::read_scheme_line))]
 fn read_line(
     names: &Names<'_>,
     number: u32,
@@ -84,9 +84,9 @@ fn read_line(
 ) -> Result<(), PlanRefusal>
     requires few { length (names_in names.now) ≤ PLACES }
     requires room { 1 + length line.now < 2 ^ 32 }
-    ensures ok { OnOk result (read_line (names_in names.now) number (schemes_of schemes.old.items)
+    ensures ok { OnOk result (read_scheme_line (names_in names.now) number (schemes_of schemes.old.items)
         (lex Mode.Plain line.now).marks (lex Mode.Plain line.now).stop ≡ Ok (schemes_of schemes.new.items)) }
-    ensures err { IfErr result (λ refusal. RefusesPlanAs refusal (read_line (names_in names.now) number
+    ensures err { IfErr result (λ refusal. RefusesPlanAs refusal (read_scheme_line (names_in names.now) number
         (schemes_of schemes.old.items) (lex Mode.Plain line.now).marks (lex Mode.Plain line.now).stop
         ≡ Err refusal)) }
 {

@@ -14,7 +14,7 @@ use Rattle.csv_migrate.specs.Feeding.{Fed, HasAll}
 use Rattle.desk_cli.specs.declared.status.Status.{Status}
 use Rattle.desk_cli.specs.declared.status.Status.TheVariants.{Yes, CannotWrite, TargetFailed}
 use Rattle.desk_cli.specs.Answers.{Answer}
-use Rattle.desk_cli.specs.Endings.{Ending, TargetsInCall, FedAs, is_done, wants_memory, end_text, failures_text, plain, reported, FeedsTargets, Settles, EndsAs, NoneFails, AllHave, HaveTables}
+use Rattle.desk_cli.specs.Endings.{Ending, TargetsInCall, FedAs, is_done, wanted_memory, end_text, failures_text, plain, reported, FeedsTargets, Settles, EndsAs, NoneFails, AllHave, HaveTables}
 use Rattle.std.specs.Io.KnownBytes.{append_known}
 use Rattle.desk_cli.specs.Desk.{Desk, Delivered, Delivers, ShelfInCall, SinkInCall, shown, WritesWhole, WritesPart, IsNoOrStops}
 use Rattle.desk_cli.specs.Performs.{Answers}
@@ -41,7 +41,7 @@ all_of test (end ∷ ends) d each =
     let rest : list_all test ends ≡ true = all_of test ends d (λ i within. each (suc i) (omega (arith, within))) in
     cc
 
-done_at : (how : FeedEnd) (tables : List TableValue) (old new : Finished) (before after : ℕ) → wants_memory how ≡ false → Fed tables old new before after how → (Rose before after → ⊥)
+done_at : (how : FeedEnd) (tables : List TableValue) (old new : Finished) (before after : ℕ) → wanted_memory how ≡ false → Fed tables old new before after how → (Rose before after → ⊥)
     → (is_done how ≡ true) × HasAll tables old new
 done_at Done tables old new before after none fed calm = (refl, fed)
 done_at Failed tables old new before after none fed calm = absurd (calm fed.1)
@@ -53,7 +53,7 @@ one_of [] i within = absurd (omega (arith, within))
 one_of (x ∷ xs) i within = x
 
 -- where no target's faults rose and none wanted memory, all have all tables
-all_done : (targets : TargetsInCall) (tables : List TableValue) (ends : List FeedEnd) → FedAs targets tables ends → list_any wants_memory ends ≡ false → NoneFails targets
+all_done : (targets : TargetsInCall) (tables : List TableValue) (ends : List FeedEnd) → FedAs targets tables ends → list_any wanted_memory ends ≡ false → NoneFails targets
     → (list_all is_done ends ≡ true) × AllHave targets tables
 all_done targets tables ends fed none calm = (
   all_of is_done ends Done (λ i within. let short : i < length targets.old = omega (arith, within, fed.results) in let x = one_of targets.old i short in (at i short x x).0),
@@ -65,7 +65,7 @@ all_done targets tables ends fed none calm = (
     at i within x y =
         done_at (get_or ends i Done) tables (targets.finished (get_or targets.old i x)) (targets.finished (get_or targets.new i y))
         (targets.faults (get_or targets.old i x)) (targets.faults (get_or targets.new i y))
-        (none_at wants_memory ends i Done none (omega (arith, within, fed.results))) (fed.each i within x y Done).fed (calm i within x y)
+        (none_at wanted_memory ends i Done none (omega (arith, within, fed.results))) (fed.each i within x y Done).fed (calm i within x y)
 
 -- ---- failures
 pub failures_next : (ends : List FeedEnd) (i : ℕ) (d : FeedEnd) (before after : List ℕ) → i < length ends

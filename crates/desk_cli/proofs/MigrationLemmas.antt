@@ -10,10 +10,10 @@ use Rattle.desk_cli.specs.declared.reply.Stop.{Stop}
 use Rattle.desk_cli.specs.Replies.{RepliesAs}
 use Rattle.std.specs.List.{flat_map}
 use Rattle.csv_migrate.specs.declared.table.Table.{Table}
-use Rattle.csv_migrate.specs.Tables.{table_value, values_of}
+use Rattle.csv_migrate.specs.Tables.{table_value, table_values}
 use Rattle.desk_cli.specs.Migrations.{table_line, IsSampleSchema, MigratesRows, Samples}
 
-pub lines_of : (tables : List Table) → flat_map (λ table. table_line (table_value table)) tables ≡ flat_map table_line (values_of tables)
+pub lines_of : (tables : List Table) → flat_map (λ table. table_line (table_value table)) tables ≡ flat_map table_line (table_values tables)
 lines_of [] = refl
 lines_of (table ∷ tables) = ap (λ (l : List ℕ). table_line (table_value table) ++ l) (lines_of tables)
 

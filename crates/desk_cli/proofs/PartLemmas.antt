@@ -6,7 +6,7 @@ use Rattle.std.specs.List.{AllZip}
 use Rattle.std.specs.Prelude.{All, slice_get, Some}
 use Rattle.csv_rows.specs.declared.part.Part.{Part}
 use Rattle.dep_model.specs.declared.schema.Schema.{Schema}
-use Rattle.table_join.specs.Tables.{Table, IsTable, table_of, tables_of}
+use Rattle.table_join.specs.Tables.{Table, IsTable, table_of_part, tables_of}
 use Rattle.desk_cli.specs.Readings.{Reading}
 use Rattle.desk_cli.specs.Rejoining.{ArePartFiles, IsPartFile, FirstPartStops}
 
@@ -23,9 +23,9 @@ read_more r s names parts i d part low read is =
     subst (λ (l : List (List ℕ)). ArePartFiles r s l (parts ++ part ∷ [])) (sym (take_more names i d low))
     (zip_push (IsPartFile r s) (take i names) parts (get_or names i d) part read is)
 
-tables_append : (parts : List Part) (part : Part) → tables_of (parts ++ part ∷ []) ≡ tables_of parts ++ table_of part ∷ []
+tables_append : (parts : List Part) (part : Part) → tables_of (parts ++ part ∷ []) ≡ tables_of parts ++ table_of_part part ∷ []
 tables_append [] part = refl
-tables_append (p ∷ parts) part = ap (λ (l : List Table). table_of p ∷ l) (tables_append parts part)
+tables_append (p ∷ parts) part = ap (λ (l : List Table). table_of_part p ∷ l) (tables_append parts part)
 
-pub tables_more : (n : ℕ) (parts : List Part) (part : Part) → All (IsTable n) (tables_of parts) → IsTable n (table_of part) → All (IsTable n) (tables_of (parts ++ part ∷ []))
-tables_more n parts part all is = subst (All (IsTable n)) (sym (tables_append parts part)) (All-push (IsTable n) (tables_of parts) (table_of part) all is)
+pub tables_more : (n : ℕ) (parts : List Part) (part : Part) → All (IsTable n) (tables_of parts) → IsTable n (table_of_part part) → All (IsTable n) (tables_of (parts ++ part ∷ []))
+tables_more n parts part all is = subst (All (IsTable n)) (sym (tables_append parts part)) (All-push (IsTable n) (tables_of parts) (table_of_part part) all is)

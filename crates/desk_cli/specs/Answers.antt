@@ -27,8 +27,8 @@ abbrev pub Says : Status → List ℕ → Allowed
 Says s t answer = answer ≡ says s t
 
 -- just these tables with this text
-abbrev pub Gives : List ℕ → List TableValue → Allowed
-Gives t tables answer = answer ≡ gives t tables
+abbrev pub AnswersWithTables : List ℕ → List TableValue → Allowed
+AnswersWithTables t tables answer = answer ≡ gives t tables
 
 -- a test of a command: it stops, or the test is passed and the rest follows
 abbrev pub Unless : Allowed → Type 0 → Allowed → Allowed

@@ -46,10 +46,10 @@ is_done Done = true
 is_done Failed = false
 is_done NoMemory = false
 
-abbrev pub wants_memory : FeedEnd → Bool
-wants_memory Done = false
-wants_memory Failed = false
-wants_memory NoMemory = true
+abbrev pub wanted_memory : FeedEnd → Bool
+wanted_memory Done = false
+wanted_memory Failed = false
+wanted_memory NoMemory = true
 
 -- what is said of the target of this number, which ended so
 abbrev pub end_text : ℕ → FeedEnd → List ℕ
@@ -78,7 +78,7 @@ pub record FeedsTargets (targets : TargetsInCall) (answer : Answer) (tables : Li
   pub yes : answer.status ≡ Yes
   pub ends : List FeedEnd
   pub fed : FedAs targets tables ends
-  pub memory : list_any wants_memory ends ≡ false
+  pub memory : list_any wanted_memory ends ≡ false
   pub reports : ending ≡ reported answer ends
 
 -- what an answer comes to: without tables the targets are as they were

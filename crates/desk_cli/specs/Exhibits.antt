@@ -11,13 +11,13 @@ use Rattle.dep_model.specs.Tuples.{Relation}
 use Rattle.desk_cli.specs.declared.status.Status.TheVariants.{Yes, Refused}
 use Rattle.desk_cli.specs.Answers.{Allowed, Says}
 use Rattle.desk_cli.specs.Keys.{too_wide_text}
-use Rattle.desk_cli.specs.Legality.{line_text}
+use Rattle.desk_cli.specs.Legality.{line_number_text}
 use Rattle.desk_cli.specs.Texts.{line}
 
 -- a multivalued dependency is given
 abbrev pub multivalued_text : Schema → ℕ → List ℕ
 multivalued_text schema dep =
-    line (codes "refused: line " ++ line_text (slice_get (lines_of schema) dep) ++ codes " is multivalued")
+    line (codes "refused: line " ++ line_number_text (slice_get (lines_of schema) dep) ++ codes " is multivalued")
 
 -- the relation of the irreducible closed sets; it obeys a functional dependency exactly where that is implied. It is
 -- had only where all dependencies are functional and the universe is not too wide

@@ -12,7 +12,7 @@ use Rattle.preservation.specs.declared.losing.Loss.{Loss}
 use Rattle.preservation.specs.Keeping.{LossesOf}
 use Rattle.desk_cli.specs.declared.status.Status.TheVariants.{Yes, No}
 use Rattle.desk_cli.specs.Answers.{Allowed, Says}
-use Rattle.desk_cli.specs.Legality.{line_text, dep_text}
+use Rattle.desk_cli.specs.Legality.{line_number_text, dep_text}
 use Rattle.desk_cli.specs.Plans.{WithPlan}
 use Rattle.desk_cli.specs.Readings.{Reading}
 use Rattle.desk_cli.specs.Texts.{line}
@@ -24,7 +24,7 @@ kept_text = line (codes "every functional dependency is kept")
 -- a dependency that is lost, with its line
 abbrev pub loss_text : Schema → Loss → List ℕ
 loss_text schema loss =
-    line (codes "line " ++ line_text (slice_get (lines_of schema) loss.dep)
+    line (codes "line " ++ line_number_text (slice_get (lines_of schema) loss.dep)
     ++ codes ": " ++ dep_text (names_of schema) (slice_get (deps_of schema) loss.dep) ++ codes " is lost")
 
 -- the two tuples that show a loss

@@ -20,9 +20,9 @@ abbrev pub legal_text : List ℕ
 legal_text = line (codes "legal")
 
 -- the line of a schema file on which a dependency stands
-abbrev pub line_text : Option ℕ → List ℕ
-line_text (Some at) = decimal at
-line_text None = []
+abbrev pub line_number_text : Option ℕ → List ℕ
+line_number_text (Some at) = decimal at
+line_number_text None = []
 
 -- a dependency, over the names of the attributes
 abbrev pub dep_text : List (List ℕ) → Option Dep → List ℕ
@@ -32,7 +32,7 @@ dep_text names None = []
 -- an offence: the line of the dependency, the dependency, and the two rows that break it
 abbrev pub offence_text : Schema → Offence → List ℕ
 offence_text schema offence =
-    line (codes "line " ++ line_text (slice_get (lines_of schema) offence.dep)
+    line (codes "line " ++ line_number_text (slice_get (lines_of schema) offence.dep)
     ++ codes ": " ++ dep_text (names_of schema) (slice_get (deps_of schema) offence.dep)
     ++ codes " broken by rows " ++ decimal offence.first ++ codes " and " ++ decimal offence.second)
 

@@ -13,7 +13,7 @@ use Rattle.form_tests.specs.declared.forms.Form.TheVariants.{Fourth}
 use Rattle.sample.specs.Sample.{sample_names, sample_theory, sample_relation}
 use Rattle.schema_grammar.specs.Printing.{words_text}
 use Rattle.targets.specs.Tables.{TableValue}
-use Rattle.desk_cli.specs.Answers.{Allowed, Gives}
+use Rattle.desk_cli.specs.Answers.{Allowed, AnswersWithTables}
 use Rattle.desk_cli.specs.Decompositions.{WithPlanInForm}
 use Rattle.desk_cli.specs.Joins.{WithoutLoss}
 use Rattle.desk_cli.specs.Legality.{WithLegal}
@@ -44,7 +44,7 @@ pub record AreTablesOf (schema : Schema) (plan : List Places) (rows : Relation)
 abbrev pub GivesTables : Schema → List Places → Relation → Allowed
 GivesTables schema plan rows answer =
     (tables : List TableValue) × AreTablesOf schema plan rows tables
-    × Gives (migrated_text rows tables) tables answer
+    × AnswersWithTables (migrated_text rows tables) tables answer
 
 -- legal rows as tables
 abbrev pub MigratesRows : Schema → List Places → Relation → Allowed

@@ -27,7 +27,7 @@ use Rattle.desk_cli.specs.Rejoining.{Rejoins}
 use Rattle.desk_cli.specs.Sameness.{ChecksSame}
 use Rattle.desk_cli.specs.Scripts.{ScriptsCheck, ScriptsMigration, ScriptsMigrationByPlan}
 use Rattle.desk_cli.specs.Synthesis.{Synthesizes}
-use Rattle.desk_cli.specs.Texts.{words_text}
+use Rattle.desk_cli.specs.Texts.{unknown_words_text}
 
 -- what is asked of a schema
 unfoldable pub Does : Reading → Schema → Task → Allowed
@@ -68,4 +68,4 @@ Performs r form.version = Says Yes version_text
 -- the words
 abbrev pub Answers : Reading → List (List ℕ) → Allowed
 Answers r words answer =
-    MatchOption (form_of words) (Says Refused words_text answer) (λ form. Performs r form answer)
+    MatchOption (form_of words) (Says Refused unknown_words_text answer) (λ form. Performs r form answer)

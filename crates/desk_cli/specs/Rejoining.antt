@@ -14,7 +14,7 @@ use Rattle.dep_model.specs.declared.schema.Schema.{Schema}
 use Rattle.table_join.specs.declared.refusal.JoinRefusal.TheVariants.{NotCovered, TooManyRows}
 use Rattle.table_join.specs.Answers.{IsNaturalJoin, GivesBack, IsWithinLimit, RefusesJoin}
 use Rattle.table_join.specs.Joins.{join_of}
-use Rattle.table_join.specs.Tables.{Table, tables_of, plan_of}
+use Rattle.table_join.specs.Tables.{Table, tables_of, plan_of_tables}
 use Rattle.desk_cli.specs.declared.rejoining.TheConstants.{MOST_JOINED_ROWS}
 use Rattle.desk_cli.specs.declared.rows.TheConstants.{MOST_CSV_BYTES}
 use Rattle.desk_cli.specs.declared.status.Status.TheVariants.{Yes, Refused}
@@ -81,7 +81,7 @@ pub record IsJoinOf (schema : Schema) (tables : List Table) (rows : Relation) : 
   pub join : rows ≡ (join_of (width_of schema) tables).rows
   pub natural : IsNaturalJoin (width_of schema) tables rows
   pub gives_back : GivesBack (width_of schema) (theory_of schema) tables rows
-  pub covered : Covers (width_of schema) (plan_of tables)
+  pub covered : Covers (width_of schema) (plan_of_tables tables)
   pub within_limit : IsWithinLimit (width_of schema) MOST_JOINED_ROWS tables
 
 -- yes, with the join; refused where an attribute is in no table, or the join of the first tables is too large

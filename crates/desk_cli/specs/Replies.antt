@@ -1,6 +1,6 @@
 -- Replies of the parts of a command.
 use Rattle.std.specs.Prelude.{◌≡◌, option_map, Result, Ok, Err}
-use Rattle.csv_migrate.specs.Tables.{values_of}
+use Rattle.csv_migrate.specs.Tables.{table_values}
 use Rattle.desk_cli.specs.declared.reply.Reply.{Reply}
 use Rattle.desk_cli.specs.declared.reply.Stop.{Stop}
 use Rattle.desk_cli.specs.declared.reply.Stop.TheVariants.{Answered}
@@ -14,7 +14,7 @@ answer_of reply = record {
   status = reply.status;
   text = reply.text.items;
   tables = option_map
-      (λ tables. values_of tables.items) reply.tables;
+      (λ tables. table_values tables.items) reply.tables;
 }
 
 -- what the call ends with

@@ -5,12 +5,12 @@ use Rattle.attr_sets.specs.Places.{IsLeastFrom}
 use Rattle.dep_model.specs.Schemas.{names_of, deps_of, lines_of}
 use Rattle.dep_model.specs.declared.schema.Schema.{Schema}
 use Rattle.schema_match.specs.Carried.{IsImpliedBy, HaveSameLegalRelations}
-use Rattle.schema_match.specs.Columns.{IsDeclaredBy, SameNames, attribute_name, undeclared}
+use Rattle.schema_match.specs.Columns.{IsDeclaredBy, SameNames, name_of_attribute, undeclared}
 use Rattle.schema_match.specs.Differences.{AreDifferences}
 use Rattle.desk_cli.specs.declared.status.Status.TheVariants.{Yes, No, Refused}
 use Rattle.desk_cli.specs.Answers.{Allowed, Says, Unless}
 use Rattle.desk_cli.specs.Inputs.{WithSchema}
-use Rattle.desk_cli.specs.Legality.{line_text, dep_text}
+use Rattle.desk_cli.specs.Legality.{line_number_text, dep_text}
 use Rattle.desk_cli.specs.Readings.{Reading}
 use Rattle.desk_cli.specs.Texts.{line}
 
@@ -25,7 +25,7 @@ equivalent_text = line (codes "equivalent")
 -- a dependency of a file, with its line, that does not follow from the other
 abbrev pub difference_text : Schema → List ℕ → List ℕ → ℕ → List ℕ
 difference_text schema file other k =
-    line (codes "line " ++ line_text (slice_get (lines_of schema) k) ++ codes " of " ++ file
+    line (codes "line " ++ line_number_text (slice_get (lines_of schema) k) ++ codes " of " ++ file
     ++ codes ": " ++ dep_text (names_of schema) (slice_get (deps_of schema) k)
     ++ codes " does not follow from " ++ other)
 
@@ -44,7 +44,7 @@ different_text schema other file other_file there back =
 abbrev pub LacksName : Schema → Schema → List ℕ → Allowed
 LacksName schema other other_file answer =
     (a : ℕ) × IsLeastFrom (undeclared schema other) 0 a
-    × Says Refused (not_in_text (attribute_name schema a) other_file) answer
+    × Says Refused (not_in_text (name_of_attribute schema a) other_file) answer
 
 -- how the names of two schemas end a command: refused exactly where they are not the same, by the first
 -- schema's names, and then by the other's

@@ -20,8 +20,8 @@ line text = text ++ 10 ∷ []
 abbrev pub set_line : List ℕ → List (List ℕ) → Places → List ℕ
 set_line word names set = line (word ++ set_text names set)
 
-abbrev pub words_text : List ℕ
-words_text = line (codes "refused: the words form no command")
+abbrev pub unknown_words_text : List ℕ
+unknown_words_text = line (codes "refused: the words form no command")
 
 abbrev pub cannot_read_text : List ℕ → List ℕ
 cannot_read_text name = line (codes "cannot read " ++ name)

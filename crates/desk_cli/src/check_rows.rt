@@ -1,7 +1,7 @@
 ghost use Rattle.std.specs.Prelude.{◌≡◌, ◌≤◌, ◌<◌, ◌^◌, ◌++◌, length, slice_get, IfOk, IfErr, OnOk};
 ghost use Rattle.dep_model.specs.Schemas.{deps_of, lines_of, names_of, width_of, LegalFor};
 ghost use Rattle.dep_model.specs.Tuples.{IsOver};
-ghost use Rattle.desk_cli.specs.Legality.{ChecksRows, OffenceStops, dep_text, legal_text, line_text, offence_text, offences_text};
+ghost use Rattle.desk_cli.specs.Legality.{ChecksRows, OffenceStops, dep_text, legal_text, line_number_text, offence_text, offences_text};
 ghost use Rattle.desk_cli.specs.Answers.{Says};
 ghost use Rattle.desk_cli.specs.Readings.{Reading, Shows};
 ghost use Rattle.desk_cli.specs.Replies.{answer_of, RepliesAs, StopsAs};
@@ -105,7 +105,7 @@ pub fn put_line(
     k: usize,
 ) -> Result<(), WantMemory>
     ensures more { OnOk result (text.new.items
-        ≡ text.old.items ++ line_text (slice_get (lines_of schema.now) k)) }
+        ≡ text.old.items ++ line_number_text (slice_get (lines_of schema.now) k)) }
 {
     if k < schema.deps().len() {
         put_number(alloc, text, schema.line_of(k))

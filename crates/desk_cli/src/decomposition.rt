@@ -2,7 +2,7 @@ ghost use Rattle.std.specs.Prelude.{◌≡◌, IfOk, IfErr};
 ghost use Rattle.attr_sets.specs.Places.{Within};
 ghost use Rattle.attr_sets.specs.Sets.{places};
 ghost use Rattle.dep_model.specs.Schemas.{names_of, universe_of};
-ghost use Rattle.decomp_text.specs.Plans.{IsPlanOver, plan_of, sets_of};
+ghost use Rattle.decomp_text.specs.Plans.{IsPlanOver, plan_of, scheme_sets};
 ghost use Rattle.form_tests.specs.declared.forms.Form.TheVariants as forms;
 ghost use Rattle.desk_cli.specs.Answers.{Says};
 ghost use Rattle.desk_cli.specs.Decompositions.{FormStops, IsPlanInForm, IsSplitInForm, ShowsPlan, SplitStops, Splits, SplitsWide, too_many_schemes_text, wide_text};
@@ -26,7 +26,7 @@ pub const MOST_SPLIT_SCHEMES: u32 = 4_096;
 
 /// The plan of a normal form: by synthesis for third normal form, else by splitting.
 pub fn plan_in_form(alloc: Global, schema: &Schema, form: Form) -> Result<Plan, Stop>
-    ensures ok { IfOk result (λ plan. IsPlanInForm schema.now form (sets_of plan)) }
+    ensures ok { IfOk result (λ plan. IsPlanInForm schema.now form (scheme_sets plan)) }
     ensures universe { IfOk result (IsPlanOver schema.now) }
     ensures stop { IfErr result (StopsAs (FormStops schema.now form)) }
 {
@@ -39,7 +39,7 @@ pub fn plan_in_form(alloc: Global, schema: &Schema, form: Form) -> Result<Plan, 
 
 /// A plan in third normal form that keeps the functional dependencies.
 pub fn third_form_plan(alloc: Global, schema: &Schema) -> Result<Plan, WantMemory>
-    ensures third { IfOk result (λ plan. IsThirdFormPlan schema.now (sets_of plan)) }
+    ensures third { IfOk result (λ plan. IsThirdFormPlan schema.now (scheme_sets plan)) }
     ensures universe { IfOk result (IsPlanOver schema.now) }
 {
     synthesize(alloc, schema)
@@ -48,7 +48,7 @@ pub fn third_form_plan(alloc: Global, schema: &Schema) -> Result<Plan, WantMemor
 // A plan in Boyce-Codd or fourth normal form.
 fn split_plan(alloc: Global, schema: &Schema, form: Form) -> Result<Plan, Stop>
     requires form { form ≡ forms.Third → ⊥ }
-    ensures ok { IfOk result (λ plan. IsSplitInForm schema.now form (sets_of plan)) }
+    ensures ok { IfOk result (λ plan. IsSplitInForm schema.now form (scheme_sets plan)) }
     ensures universe { IfOk result (IsPlanOver schema.now) }
     ensures stop { IfErr result (StopsAs (SplitStops schema.now form)) }
 {
@@ -87,7 +87,7 @@ pub fn split_in_form(alloc: Global, schema: &Schema, form: Form) -> Result<Reply
 // A plan as text.
 fn shown(alloc: Global, schema: &Schema, plan: &Plan) -> Result<Reply, WantMemory>
     requires universe { IsPlanOver schema.now plan.now }
-    ensures answer { IfOk result (λ reply. ShowsPlan schema.now (sets_of plan.now) (answer_of reply)) }
+    ensures answer { IfOk result (λ reply. ShowsPlan schema.now (scheme_sets plan.now) (answer_of reply)) }
 {
     Ok(Reply::says(Status::Yes, print_plan(alloc, schema, plan)?))
 }

@@ -1,5 +1,5 @@
 ghost use Rattle.std.specs.Prelude.{◌≡◌, ◌≤◌, length, IfOk};
-ghost use Rattle.decomp_text.specs.Plans.{IsPlanOver, sets_of};
+ghost use Rattle.decomp_text.specs.Plans.{IsPlanOver, scheme_sets};
 ghost use Rattle.desk_cli.specs.Designs.{IsSoundDesign, WritesForm, WritesPlan, WritesTables};
 ghost use Rattle.desk_cli.specs.Readings.{Reading, Shows};
 ghost use Rattle.desk_cli.specs.Replies.{answer_of, RepliesAs};
@@ -54,7 +54,7 @@ pub fn write_plan<F: Shelf>(
 // The statements that create the tables of a plan.
 fn written(alloc: Global, schema: &Schema, plan: &Plan) -> Result<Reply, WantMemory>
     requires universe { IsPlanOver schema.now plan.now }
-    ensures answer { IfOk result (λ reply. WritesTables schema.now (sets_of plan.now) (answer_of reply)) }
+    ensures answer { IfOk result (λ reply. WritesTables schema.now (scheme_sets plan.now) (answer_of reply)) }
 {
     let tables = designed(alloc, schema, plan)?;
     Ok(Reply::says(Status::Yes, print_ddl(alloc, schema, &tables)?))
@@ -63,7 +63,7 @@ fn written(alloc: Global, schema: &Schema, plan: &Plan) -> Result<Reply, WantMem
 /// The design of a plan. No memory holds a plan of more tables than have a name.
 pub fn designed(alloc: Global, schema: &Schema, plan: &Plan) -> Result<DesignList, WantMemory>
     requires universe { IsPlanOver schema.now plan.now }
-    ensures sound { IfOk result (λ tables. IsSoundDesign schema.now (sets_of plan.now) tables) }
+    ensures sound { IfOk result (λ tables. IsSoundDesign schema.now (scheme_sets plan.now) tables) }
 {
     if plan.schemes().len() > MOST_TABLES as usize {
         return Err(WantMemory);

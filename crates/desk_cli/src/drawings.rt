@@ -1,5 +1,5 @@
 ghost use Rattle.std.specs.Prelude.{◌≡◌, ◌≤◌, IfOk};
-ghost use Rattle.decomp_text.specs.Plans.{IsPlanOver, sets_of};
+ghost use Rattle.decomp_text.specs.Plans.{IsPlanOver, scheme_sets};
 ghost use Rattle.desk_cli.specs.Drawings.{DrawsForm, DrawsPlan, DrawsTables};
 ghost use Rattle.desk_cli.specs.Readings.{Reading, Shows};
 ghost use Rattle.desk_cli.specs.Replies.{answer_of, RepliesAs};
@@ -49,7 +49,7 @@ pub fn draw_plan<F: Shelf>(
 // The picture of the tables of a plan.
 fn drawn(alloc: Global, schema: &Schema, plan: &Plan) -> Result<Reply, WantMemory>
     requires universe { IsPlanOver schema.now plan.now }
-    ensures answer { IfOk result (λ reply. DrawsTables schema.now (sets_of plan.now) (answer_of reply)) }
+    ensures answer { IfOk result (λ reply. DrawsTables schema.now (scheme_sets plan.now) (answer_of reply)) }
 {
     let tables = designed(alloc, schema, plan)?;
     Ok(Reply::says(Status::Yes, draw(alloc, schema, &tables)?))

@@ -1,9 +1,9 @@
 ghost use Rattle.std.specs.Prelude.{◌≡◌, List, [], ◌++◌, false, length, codes, IfOk, OnOk, OnErr};
 ghost use Rattle.std.specs.Fmt.{decimal};
 ghost use Rattle.std.specs.List.{list_any, list_all};
-ghost use Rattle.csv_migrate.specs.Tables.{values_of};
+ghost use Rattle.csv_migrate.specs.Tables.{table_values};
 ghost use Rattle.desk_cli.specs.Answers.{gives};
-ghost use Rattle.desk_cli.specs.Endings.{targets_in_call, is_done, wants_memory, end_text, failures_text, reported, FeedsTargets, Settles, LeavesTargets};
+ghost use Rattle.desk_cli.specs.Endings.{targets_in_call, is_done, wanted_memory, end_text, failures_text, reported, FeedsTargets, Settles, LeavesTargets};
 ghost use Rattle.desk_cli.specs.Replies.{answer_of, ending_of};
 ghost use Rattle.desk_cli.specs.Texts.{line};
 ghost use Rattle.targets.specs.Tables.{TableValue};
@@ -65,10 +65,10 @@ fn hand_over<T: Target>(
     ensures ends { IfOk result
         (λ end. FeedsTargets
         (targets_in_call T.tells T.finished T.faults targets.old.items targets.new.items)
-        (gives text.items (values_of tables.now)) (values_of tables.now) (ending_of end)) }
+        (gives text.items (table_values tables.now)) (table_values tables.now) (ending_of end)) }
     ensures err { OnErr result
         (LeavesTargets (targets_in_call T.tells T.finished T.faults targets.old.items targets.new.items)
-        (gives text.items (values_of tables.now))) }
+        (gives text.items (table_values tables.now))) }
     ensures count { length targets.new.items ≡ length targets.old.items }
 {
     let room = Vec::with_capacity(alloc, targets.len().saturating_mul(LINE))?;
@@ -80,7 +80,7 @@ fn hand_over<T: Target>(
 // What is told after targets ended so. The text of a failure is written into the room.
 fn report(text: Vec<u8>, room: Vec<u8>, ends: &[FeedEnd]) -> Result<End, WantMemory>
     requires empty { room.items ≡ [] }
-    ensures memory { OnOk result (list_any wants_memory ends.now ≡ false) }
+    ensures memory { OnOk result (list_any wanted_memory ends.now ≡ false) }
     ensures reports { (tables : List TableValue)
         → IfOk result (λ end. ending_of end ≡ reported (gives text.items tables) ends.now) }
 {
@@ -100,7 +100,7 @@ fn report(text: Vec<u8>, room: Vec<u8>, ends: &[FeedEnd]) -> Result<End, WantMem
 }
 
 fn some_wants_memory(ends: &[FeedEnd]) -> bool
-    ensures some { result ≡ list_any wants_memory ends.now }
+    ensures some { result ≡ list_any wanted_memory ends.now }
 {
     ends.iter().any(|end| wants_memory(*end))
 }
@@ -112,7 +112,7 @@ fn all_are_done(ends: &[FeedEnd]) -> bool
 }
 
 fn wants_memory(end: FeedEnd) -> bool
-    ensures is { result ≡ wants_memory end }
+    ensures is { result ≡ wanted_memory end }
 {
     end == FeedEnd::NoMemory
 }

@@ -1,7 +1,7 @@
 ghost use Rattle.std.specs.Prelude.{◌≡◌, ◌≤◌, ◌<◌, ◌^◌, ◌++◌, length, codes, IfOk, OnOk};
 ghost use Rattle.std.specs.Fmt.{decimal};
 ghost use Rattle.std.specs.List.{flat_map};
-ghost use Rattle.csv_migrate.specs.Tables.{table_value, values_of};
+ghost use Rattle.csv_migrate.specs.Tables.{table_value, table_values};
 ghost use Rattle.decomp_text.specs.Plans.{IsPlanOver, plan_of};
 ghost use Rattle.dep_model.specs.Projections.{IsLossless};
 ghost use Rattle.dep_model.specs.Schemas.{LegalFor, theory_of, width_of};
@@ -128,7 +128,7 @@ fn tables_of(
     requires lossless { IsLossless (width_of schema.now) (theory_of schema.now) (plan_of plan.now) }
     requires legal { LegalFor schema.now rows.now }
     ensures tables { IfOk result
-        (λ tables. AreTablesOf schema.now (plan_of plan.now) rows.now (values_of tables.items)) }
+        (λ tables. AreTablesOf schema.now (plan_of plan.now) rows.now (table_values tables.items)) }
 {
     if plan.schemes().len() > MOST_TABLES as usize {
         return Err(WantMemory);
@@ -138,7 +138,7 @@ fn tables_of(
 
 // How many rows were read, and the tables that they became.
 fn migrated_lines(alloc: Global, rows: &[Row], tables: &[Table]) -> Result<Vec<u8>, WantMemory>
-    ensures text { IfOk result (λ text. text.items ≡ migrated_text rows.now (values_of tables.now)) }
+    ensures text { IfOk result (λ text. text.items ≡ migrated_text rows.now (table_values tables.now)) }
 {
     let mut text = read_line(alloc, rows.len())?;
     put_tables(&mut text, tables)?;

@@ -15,8 +15,8 @@ pub struct Reply {
 }
 
 impl Reply {
-    ghost use Rattle.csv_migrate.specs.Tables.{values_of};
-    ghost use Rattle.desk_cli.specs.Answers.{Says, Gives};
+    ghost use Rattle.csv_migrate.specs.Tables.{table_values};
+    ghost use Rattle.desk_cli.specs.Answers.{Says, AnswersWithTables};
     ghost use Rattle.desk_cli.specs.Replies.{answer_of};
 
     /// A status with a text.
@@ -32,7 +32,7 @@ impl Reply {
 
     /// Yes with a text, and these tables for the targets.
     pub fn gives(text: Vec<u8>, tables: Vec<Table>) -> Reply
-        ensures gives { Gives text.items (values_of tables.items) (answer_of result) }
+        ensures gives { AnswersWithTables text.items (table_values tables.items) (answer_of result) }
     {
         Reply {
             status: Status::Yes,

@@ -3,7 +3,7 @@ ghost use Rattle.desk_cli.specs.Answers.{Says};
 ghost use Rattle.desk_cli.specs.Readings.{Reading, Shows};
 ghost use Rattle.desk_cli.specs.Replies.{answer_of, RepliesAs, StopsAs};
 ghost use Rattle.desk_cli.specs.Sameness.{ChecksSame, Compares, NameStops, WithSameNames, difference_text, differences_text, not_in_text};
-ghost use Rattle.schema_match.specs.Columns.{SameNames, attribute_name};
+ghost use Rattle.schema_match.specs.Columns.{SameNames, name_of_attribute};
 
 use crate::Status;
 use crate::check_rows::{put_dep, put_line};
@@ -78,7 +78,7 @@ fn test_names(
 // A file does not declare the name of an attribute of a schema.
 fn not_in(alloc: Global, schema: &Schema, attribute: u8, file: &Word) -> Stop
     ensures says { StopsAs
-        (Says Status.Refused (not_in_text (attribute_name schema.now attribute) file.now)) result }
+        (Says Status.Refused (not_in_text (name_of_attribute schema.now attribute) file.now)) result }
 {
     Stop::says(Status::Refused, not_in_line(alloc, schema, attribute, file))
 }
@@ -90,7 +90,7 @@ fn not_in_line(
     file: &Word,
 ) -> Result<Vec<u8>, WantMemory>
     ensures line { IfOk result
-        (λ text. text.items ≡ not_in_text (attribute_name schema.now attribute) file.now) }
+        (λ text. text.items ≡ not_in_text (name_of_attribute schema.now attribute) file.now) }
 {
     let mut text = Vec::new(alloc);
     put(&mut text, b"refused: ")?;

@@ -1,5 +1,5 @@
 ghost use Rattle.std.specs.Prelude.{◌≡◌, ◌≤◌, IsTrue, IfOk, IfErr};
-ghost use Rattle.decomp_text.specs.Plans.{IsPlanOver, sets_of};
+ghost use Rattle.decomp_text.specs.Plans.{IsPlanOver, scheme_sets};
 ghost use Rattle.table_scripts.specs.Naming.{is_table_name};
 ghost use Rattle.desk_cli.specs.Answers.{Says};
 ghost use Rattle.desk_cli.specs.Readings.{Reading, Shows};
@@ -117,7 +117,7 @@ fn made(alloc: Global, schema: &Schema, name: &Word, plan: &Plan) -> Result<Repl
     requires name { IsTrue (is_table_name name.now) }
     requires universe { IsPlanOver schema.now plan.now }
     ensures answer { IfOk result
-        (λ reply. MakesTables schema.now name.now (sets_of plan.now) (answer_of reply)) }
+        (λ reply. MakesTables schema.now name.now (scheme_sets plan.now) (answer_of reply)) }
 {
     let tables = designed(alloc, schema, plan)?;
     let script = migrate_script(alloc, schema, &tables, name.bytes())?;

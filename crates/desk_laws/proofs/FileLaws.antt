@@ -4,7 +4,7 @@ use Rattle.std.specs.Prelude.{codes, slice_get}
 use Rattle.attr_sets.proofs.PlacesLemmas.{Same-path}
 use Rattle.attr_sets.specs.Places.{Places, Same}
 use Rattle.attr_sets.specs.Sets.{places}
-use Rattle.csv_rows.specs.Columns.{named, columns_of}
+use Rattle.csv_rows.specs.Columns.{with_columns, columns_of_header}
 use Rattle.csv_rows.specs.Records.{records_of}
 use Rattle.csv_rows.specs.Reading.{PartOf, HasScheme}
 use Rattle.csv_rows.specs.declared.part.Part.{Part}
@@ -18,7 +18,7 @@ use Rattle.fd_discovery.proofs.UniqueHeaded.{never_both}
 use Rattle.fd_discovery.specs.Headings.{IsRefusedDiscovery}
 use Rattle.fd_discovery.specs.declared.headed.Headed.{Headed}
 use Rattle.table_join.specs.Answers.{IsWithinLimit}
-use Rattle.table_join.specs.Tables.{Table, table_of, tables_of, plan_of}
+use Rattle.table_join.specs.Tables.{Table, table_of_part, tables_of, plan_of_tables}
 use Rattle.desk_outside.specs.Files.{Files}
 use Rattle.desk_cli.specs.declared.rejoining.TheConstants.{MOST_JOINED_ROWS}
 use Rattle.desk_cli.specs.declared.rows.TheConstants.{MOST_CSV_BYTES}
@@ -61,16 +61,16 @@ discover_answered files file headed is answer answered =
 part_alike : (s r : Schema) (text : List ℕ) (rows : Relation) → AreSame s r → PartOf s text (Ok rows)
     → PartOf r text (Ok rows)
 part_alike s r text rows same is =
-    table_alike s r (λ header columns. columns ≡ columns_of (names_of s) header)
-    (λ header columns. columns ≡ columns_of (names_of r) header) (records_of text) rows same
-    (λ header columns means. subst (λ (names : List (List ℕ)). Ok columns ≡ columns_of names header)
+    table_alike s r (λ header columns. columns ≡ columns_of_header (names_of s) header)
+    (λ header columns. columns ≡ columns_of_header (names_of r) header) (records_of text) rows same
+    (λ header columns means. subst (λ (names : List (List ℕ)). Ok columns ≡ columns_of_header names header)
     (names_same s r same) means)
     is
 
 part_reading : (s : Schema) (text : List ℕ) (one other : Result Relation RowRefusal) → PartOf s text one
     → PartOf s text other → one ≡ other
 part_reading s text one other p q =
-    table_same s (λ header columns. columns ≡ columns_of (names_of s) header) (part_header_same s)
+    table_same s (λ header columns. columns ≡ columns_of_header (names_of s) header) (part_header_same s)
     (records_of text) one other p q
 
 -- what a file means for one schema, it means for another with the same declarations
@@ -95,22 +95,22 @@ part_goes files s r name p answer same is (inr (why, refused, says)) =
 one_scheme : (s r : Schema) (text : List ℕ) (x y : Places) → AreSame s r
     → (header others : List (List ℕ)) (records rest : List (List (List ℕ))) (columns others_columns : List ℕ)
     → records_of text ≡ header ∷ records → records_of text ≡ others ∷ rest
-    → columns_of (names_of s) header ≡ Ok columns → columns_of (names_of r) others ≡ Ok others_columns
-    → Same x (named columns) → Same y (named others_columns) → x ≡ y
+    → columns_of_header (names_of s) header ≡ Ok columns → columns_of_header (names_of r) others ≡ Ok others_columns
+    → Same x (with_columns columns) → Same y (with_columns others_columns) → x ≡ y
 one_scheme s r text x y same header others records rest columns others_columns all also means too one two =
     let heads : header ≡ others = let both = sym all ∙ also in cc in
-    let moved : columns_of (names_of r) others ≡ Ok columns =
-    subst (λ (names : List (List ℕ)). columns_of names others ≡ Ok columns) (names_same s r same)
-    (subst (λ (h : List (List ℕ)). columns_of (names_of s) h ≡ Ok columns) heads means) in
+    let moved : columns_of_header (names_of r) others ≡ Ok columns =
+    subst (λ (names : List (List ℕ)). columns_of_header names others ≡ Ok columns) (names_same s r same)
+    (subst (λ (h : List (List ℕ)). columns_of_header (names_of s) h ≡ Ok columns) heads means) in
     let columns_same : columns ≡ others_columns = let both = sym moved ∙ too in cc in
-    Same-path x y (λ k. one k ∙ ap (λ (cs : List ℕ). named cs k) columns_same ∙ sym (two k))
+    Same-path x y (λ k. one k ∙ ap (λ (cs : List ℕ). with_columns cs k) columns_same ∙ sym (two k))
 
 -- tuples over a scheme
 abbrev with_scheme : Places → Relation → Table
 with_scheme x rows = record { scheme = x; rows = rows }
 
 one_table : (files : Files) (s r : Schema) (name : List ℕ) (p q : Part) → AreSame s r
-    → IsPartFile (told files) s name p → IsPartFile (told files) r name q → table_of p ≡ table_of q
+    → IsPartFile (told files) s name p → IsPartFile (told files) r name q → table_of_part p ≡ table_of_part q
 one_table files s r name p q same is also =
     let here = one_content files name is.bytes also.bytes is.content.0 also.content.0 in
     let both : ◌≡◌ {A = Result Relation RowRefusal} (Ok p.rows.items) (Ok q.rows.items) =
@@ -134,7 +134,7 @@ tables_alike files s r (name ∷ names) [] qs same are also = absurd are
 tables_alike files s r (name ∷ names) (p ∷ ps) [] same are also = absurd also
 tables_alike files s r (name ∷ names) (p ∷ ps) (q ∷ qs) same are also =
     ap (λ (t : Table). t ∷ tables_of ps) (one_table files s r name p q same are.0 also.0)
-    ∙ ap (λ (ts : List Table). table_of q ∷ ts) (tables_alike files s r names ps qs same are.1 also.1)
+    ∙ ap (λ (ts : List Table). table_of_part q ∷ ts) (tables_alike files s r names ps qs same are.1 also.1)
 
 -- the part of a file that stands among the names
 part_at : (files : Files) (s : Schema) (names : List (List ℕ)) (ps : List Part) (i : ℕ) (name : List ℕ)
@@ -160,7 +160,7 @@ after_parts files s r names ps rest answer same are go (inr (qs, also, more)) =
 
 -- ---- the join
 joins_tables : (n : ℕ) (r : Schema) (tables : List Table) (answer : Answer) → width_of r ≡ n
-    → Covers n (plan_of tables) → IsWithinLimit n MOST_JOINED_ROWS tables → JoinsTables r tables answer
+    → Covers n (plan_of_tables tables) → IsWithinLimit n MOST_JOINED_ROWS tables → JoinsTables r tables answer
     → IsYesOrNo answer.status
 joins_tables n r tables answer width covers small (inl (rows, is, says)) = inl (ap (λ (a : Answer). a.status) says)
 joins_tables n r tables answer width covers small (inr (inl (a, first, says))) =
@@ -180,7 +180,7 @@ rejoin_asks files name names answer few answered = (rw few at answered)
 
 pub rejoin_answered : (files : Files) (name : List ℕ) (names : List (List ℕ)) (schema : Schema) (parts : List Part)
     → IsSchemaFile (told files) name schema → are_few names ≡ true → ArePartFiles (told files) schema names parts
-    → Covers (width_of schema) (plan_of (tables_of parts))
+    → Covers (width_of schema) (plan_of_tables (tables_of parts))
     → IsWithinLimit (width_of schema) MOST_JOINED_ROWS (tables_of parts)
     → IsAnswered files (codes "rejoin" ∷ name ∷ names)
 rejoin_answered files name names schema parts file few are covers small answer answered =
@@ -188,6 +188,6 @@ rejoin_answered files name names schema parts file few are covers small answer a
     (λ r same more. after_parts files schema r names parts (λ qs. JoinsTables r (tables_of qs)) answer same are
     (λ qs is found. joins_tables (width_of schema) r (tables_of qs) answer
     (ap (λ (ns : List (List ℕ)). length ns) (sym (names_same schema r same)))
-    (subst (λ (ts : List Table). Covers (width_of schema) (plan_of ts)) is covers)
+    (subst (λ (ts : List Table). Covers (width_of schema) (plan_of_tables ts)) is covers)
     (subst (λ (ts : List Table). IsWithinLimit (width_of schema) MOST_JOINED_ROWS ts) is small) found) more)
     (rejoin_asks files name names answer few answered)

@@ -13,7 +13,7 @@ ghost use Rattle.fd_discovery.specs.declared.headed.Headed.{Headed};
 ghost use Rattle.form_tests.specs.Chosen.{IsWide};
 ghost use Rattle.form_tests.specs.declared.forms.Form.TheVariants as forms;
 ghost use Rattle.table_join.specs.Answers.{IsWithinLimit};
-ghost use Rattle.table_join.specs.Tables.{tables_of, plan_of};
+ghost use Rattle.table_join.specs.Tables.{tables_of, plan_of_tables};
 ghost use Rattle.desk_outside.specs.Files.{Files};
 ghost use Rattle.desk_cli.specs.declared.rejoining.TheConstants.{MOST_JOINED_ROWS};
 ghost use Rattle.desk_cli.specs.Discoveries.{IsHeadedFile};
@@ -137,7 +137,7 @@ pub fn rejoin_is_answered()
     ensures law { (files : Files) (name : List ℕ) (names : List (List ℕ)) (schema : Schema) (parts : List Part)
         → IsSchemaFile (told files) name schema → are_few names ≡ true
         → ArePartFiles (told files) schema names parts
-        → Covers (width_of schema) (plan_of (tables_of parts))
+        → Covers (width_of schema) (plan_of_tables (tables_of parts))
         → IsWithinLimit (width_of schema) MOST_JOINED_ROWS (tables_of parts)
         → IsAnswered files (codes "rejoin" ∷ name ∷ names) }
 {}

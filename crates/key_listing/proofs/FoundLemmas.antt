@@ -22,17 +22,17 @@ use Rattle.dep_model.proofs.RuleLemmas.{reflexivity_obeyed, transitivity_obeyed,
 use Rattle.dep_model.proofs.KeyLemmas.{superkey-from, fd_on-to, settled_is_key, key_of_superkey}
 use Rattle.key_listing.specs.declared.refusal.TheConstants.{MOST_KEYS}
 use Rattle.dep_model.proofs.ListLemmas.{Contains-map, map-member}
-use Rattle.key_listing.specs.Listing.{HoldsAny, HoldsAnyUnlessMany, AreSomeKeys, AreFoundKeys, exchanged, IsExchangedBy, IsExchangedUnlessMany}
+use Rattle.key_listing.specs.Listing.{HoldsAny, HoldsAnyUnlessMany, AreSomeKeys, AreFoundKeys, exchanged_key, IsExchangedBy, IsExchangedUnlessMany}
 use Rattle.fd_closure.specs.KeyLists.{HoldsOne, IsExchanged}
 use Rattle.fd_closure.proofs.AllKeys.{all_keys}
 use Rattle.key_listing.proofs.ListLemmas.{Any-map, Any-grows, Any-permutation, AllPairs-permutation, grows_longer}
 
 -- what a dependency makes of a key is a superkey
-pub exchanged_superkey : (n : ℕ) (ds : List Dependency) (scheme x y k : Places) → Contains ds (fd x y) → Within x scheme → IsSuperkey n ds scheme k → IsSuperkey n ds scheme (exchanged (fd x y) k)
+pub exchanged_superkey : (n : ℕ) (ds : List Dependency) (scheme x y k : Places) → Contains ds (fd x y) → Within x scheme → IsSuperkey n ds scheme k → IsSuperkey n ds scheme (exchanged_key (fd x y) k)
 exchanged_superkey n ds scheme x y k given x_in superkey =
-    superkey-from n ds scheme (exchanged (fd x y) k) (λ i m. grind (arith, m, x_in i, superkey.within.0 i))
+    superkey-from n ds scheme (exchanged_key (fd x y) k) (λ i m. grind (arith, m, x_in i, superkey.within.0 i))
     (λ r legal.
-    let made = exchanged (fd x y) k in
+    let made = exchanged_key (fd x y) k in
     let obeys : ObeysFd x y r = All-contains (λ (d : Dependency). Obeys n d r) ds (fd x y) legal.obeys given in
     let gives_y : ObeysFd made y r = fd_weaker_obeyed x y made y r (λ i m. grind (arith, m)) (λ i m. m) obeys in
     let gives_both : ObeysFd made (union made y) r = fd_union_obeyed made made y r (reflexivity_obeyed made made r (λ i m. m)) gives_y in
@@ -76,11 +76,11 @@ exchanged_none deps found k few i d l = absurd (omega (arith, l))
 
 -- one more
 pub exchanged_more : (deps : List Dep) (i : ℕ) (first e : Dep) (old found : List AttrSet) (k : Places) → i < length deps → get_or deps i first ≡ e → take (length old) found ≡ old
-    → IsExchangedUnlessMany (dependencies_of (take i deps)) old k → HoldsAnyUnlessMany found (exchanged (dependency_of e) k) → IsExchangedUnlessMany (dependencies_of (take (i + 1) deps)) found k
+    → IsExchangedUnlessMany (dependencies_of (take i deps)) old k → HoldsAnyUnlessMany found (exchanged_key (dependency_of e) k) → IsExchangedUnlessMany (dependencies_of (take (i + 1) deps)) found k
 exchanged_more deps i first e old found k lt at grows before held few =
-    let P : Dependency → Type 0 = λ (d : Dependency). HoldsAny found (exchanged d k) in
+    let P : Dependency → Type 0 = λ (d : Dependency). HoldsAny found (exchanged_key d k) in
     let longer : length old ≤ length found = grows_longer old found grows in
-    let earlier : All P (dependencies_of (take i deps)) = λ j d l. Any-grows (λ (s : AttrSet). Within (places s) (exchanged (get_or (dependencies_of (take i deps)) j d) k)) old found grows (before (omega (arith, longer, few)) j d l) in
+    let earlier : All P (dependencies_of (take i deps)) = λ j d l. Any-grows (λ (s : AttrSet). Within (places s) (exchanged_key (get_or (dependencies_of (take i deps)) j d) k)) old found grows (before (omega (arith, longer, few)) j d l) in
     let more : dependencies_of (take (i + 1) deps) ≡ dependencies_of (take i deps) ++ dependency_of e ∷ [] =
     map_more dependency_of deps i first lt ∙ ap (λ (d : Dep). dependencies_of (take i deps) ++ dependency_of d ∷ []) at in
     subst (λ (ds : List Dependency). All P ds) (sym more) (All-push P (dependencies_of (take i deps)) (dependency_of e) earlier (held few))
@@ -89,7 +89,7 @@ exchanged_more deps i first e old found k lt at grows before held few =
 pub exchanged_grows : (ds : List Dependency) (old found : List AttrSet) (k : Places) → take (length old) found ≡ old → IsExchangedUnlessMany ds old k → IsExchangedUnlessMany ds found k
 exchanged_grows ds old found k grows before few =
     let longer : length old ≤ length found = grows_longer old found grows in
-    λ j d l. Any-grows (λ (s : AttrSet). Within (places s) (exchanged (get_or ds j d) k)) old found grows (before (omega (arith, longer, few)) j d l)
+    λ j d l. Any-grows (λ (s : AttrSet). Within (places s) (exchanged_key (get_or ds j d) k)) old found grows (before (omega (arith, longer, few)) j d l)
 
 -- each key before a place was tried, and so was that at it
 pub tried_more : (ds : List Dependency) (old found : List AttrSet) (tried j : ℕ) (key : AttrSet) → j ≡ tried + 1 → tried < length old → key ≡ get_or old tried key → take (length old) found ≡ old
@@ -160,8 +160,8 @@ exchanged_all n ds found within functional some each exchange k key =
   where
     all_exchanged : IsExchanged ds (map places found)
     all_exchanged j e in_ds =
-        All-map (λ (v : Places). HoldsOne (map places found) (exchanged (get_or ds j e) v)) places found
-        (λ i d l. Any-map (λ (v : Places). Within v (exchanged (get_or ds j e) (places (get_or found i d)))) found (exchange i d l j e in_ds))
+        All-map (λ (v : Places). HoldsOne (map places found) (exchanged_key (get_or ds j e) v)) places found
+        (λ i d l. Any-map (λ (v : Places). Within v (exchanged_key (get_or ds j e) (places (get_or found i d)))) found (exchange i d l j e in_ds))
 
 -- what was found, once it is sorted
 pub sorted_keys : (n : ℕ) (ds : List Dependency) (scheme : Places) (found sorted : List AttrSet) → AreSomeKeys n ds scheme found

@@ -43,12 +43,12 @@ pub record AreFoundKeys (n : ℕ) (ds : List Dependency) (scheme : Places) (foun
   pub all : length found ≤ MOST_KEYS → (k : Places) → IsKey n ds scheme k → Any (λ j. Same (places j) k) found
 
 -- what a dependency makes of a key: its left side, and the key without its right side
-abbrev pub exchanged : Dependency → Places → Places
-exchanged d k = union (left_of d) (minus k (right_of d))
+abbrev pub exchanged_key : Dependency → Places → Places
+exchanged_key d k = union (left_of d) (minus k (right_of d))
 
 -- with each dependency, a key gives a set that some listed one lies within
 abbrev pub IsExchangedBy : List Dependency → List AttrSet → Places → Type 0
-IsExchangedBy ds found k = All (λ d. HoldsAny found (exchanged d k)) ds
+IsExchangedBy ds found k = All (λ d. HoldsAny found (exchanged_key d k)) ds
 
 -- the same, unless more are listed than are wanted
 abbrev pub IsExchangedUnlessMany : List Dependency → List AttrSet → Places → Type 0

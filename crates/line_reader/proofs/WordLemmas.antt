@@ -6,7 +6,7 @@ use Rattle.lexer.specs.declared.token.Stop.{Stop}
 use Rattle.lexer.specs.declared.token.Token.{Token}
 use Rattle.lexer.specs.Tokens.{Lexed, lexed, Leads}
 use Rattle.schema_grammar.specs.declared.refusal.SchemaRefusal.{SchemaRefusal}
-use Rattle.schema_grammar.specs.Rests.{is_word, place, rest_from, words, words_from}
+use Rattle.schema_grammar.specs.Rests.{is_word_token, place, rest_from, words, words_from}
 use Rattle.schema_grammar.specs.Declarations.{marked}
 
 -- to read what is left is to read the whole
@@ -25,18 +25,18 @@ pub words_stop : (names : List (List ℕ)) (line column : ℕ) (x : Places) (l :
 unfolding words_from
 words_stop names line column x l stop e = rw e refl
 
-pub words_other : (names : List (List ℕ)) (m : Mode) (line column : ℕ) (x : Places) (l : Lexed) (t : Token) (word rest : List ℕ) → Leads m t word rest l → is_word t.kind ≡ false
+pub words_other : (names : List (List ℕ)) (m : Mode) (line column : ℕ) (x : Places) (l : Lexed) (t : Token) (word rest : List ℕ) → Leads m t word rest l → is_word_token t.kind ≡ false
     → words names x (rest_from line column l) ≡ Ok (x, rest_from line column l)
 unfolding words_from
 words_other names m line column x l t word rest leads other = rw (leads.all_tokens, other) refl
 
 pub words_refused : (names : List (List ℕ)) (m : Mode) (line column : ℕ) (x : Places) (l : Lexed) (t : Token) (word rest : List ℕ) (e : SchemaRefusal) → Leads m t word rest l
-    → is_word t.kind ≡ true → place names line (marked t word) ≡ Err e → words names x (rest_from line column l) ≡ Err e
+    → is_word_token t.kind ≡ true → place names line (marked t word) ≡ Err e → words names x (rest_from line column l) ≡ Err e
 unfolding words_from
 words_refused names m line column x l t word rest e leads is at = rw (leads.all_tokens, is, at) refl
 
 pub words_more : (names : List (List ℕ)) (m : Mode) (line column : ℕ) (x : Places) (l : Lexed) (t : Token) (word rest : List ℕ) (a : ℕ) → Leads m t word rest l
-    → is_word t.kind ≡ true → place names line (marked t word) ≡ Ok a
+    → is_word_token t.kind ≡ true → place names line (marked t word) ≡ Ok a
     → words names x (rest_from line column l) ≡ words names (union x (only a)) (rest_from line (t.column + t.length) (lexed m 0 (t.column + t.length) rest))
 unfolding words_from
 words_more names m line column x l t word rest a leads is at = rw (leads.all_tokens, is, at) (rw (sym leads.same_length) refl)

@@ -1,5 +1,5 @@
 ghost use Rattle.std.specs.Prelude.{◌≡◌};
-ghost use Rattle.schema_grammar.specs.Rests.{is_word, arrow_in};
+ghost use Rattle.schema_grammar.specs.Rests.{is_word_token, arrow_in};
 ghost use Rattle.schema_grammar.specs.Texts.{number_in};
 
 use lexer::TokenKind;
@@ -7,7 +7,7 @@ use schema_grammar::Sign;
 
 /// Whether a token is a word.
 pub fn is_word(kind: TokenKind) -> bool
-    ensures exact { result ≡ is_word kind }
+    ensures exact { result ≡ is_word_token kind }
 {
     matches!(kind, TokenKind::Word)
 }

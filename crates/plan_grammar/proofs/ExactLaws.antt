@@ -25,7 +25,7 @@ use Rattle.plan_grammar.specs.declared.refusal.PlanRefusal.TheVariants as plan
 use Rattle.plan_grammar.specs.declared.refusal.TheConstants.{MOST_SCHEMES}
 use Rattle.plan_grammar.specs.Meanings.{IsSchemeLine, MeansScheme, MeansSchemeLines, MeansPlan}
 use Rattle.plan_grammar.specs.Refusals.{plan_refusal_number}
-use Rattle.plan_grammar.specs.Complaints.{WordComplaint, WordsComplaint, SchemeLineComplaint, SpansPlace, IsFirstOf, IsFine, RefusesSchemeLines, schemes_in, wanted, uncovered, RefusesPlan}
+use Rattle.plan_grammar.specs.Complaints.{WordComplaint, WordsComplaint, SchemeLineComplaint, SpansPlace, IsFirstOf, IsFine, RefusesSchemeLines, scheme_count, scheme_wanted, uncovered, RefusesPlan}
 use Rattle.plan_grammar.proofs.FirstLemmas.{later_fine, no_flaw}
 
 -- ---- one refusal
@@ -85,11 +85,11 @@ one_first Complaint line span want e f first second =
 pub one_refusal : (names : List (List ℕ)) (number earlier : ℕ) (lines : List (List ℕ)) (e f : PlanRefusal) → RefusesSchemeLines names number earlier lines e → RefusesSchemeLines names number earlier lines f → e ≡ f
 one_refusal names number earlier [] e f first second = absurd first
 one_refusal names number earlier (line ∷ lines) e f (inl first) (inl second) =
-    one_first (SchemeLineComplaint names earlier (lex mode.Plain line).marks (lex mode.Plain line).stop) number (span_at number 1 (lex mode.Plain line).marks (lex mode.Plain line).stop) wanted e f first second
+    one_first (SchemeLineComplaint names earlier (lex mode.Plain line).marks (lex mode.Plain line).stop) number (span_at number 1 (lex mode.Plain line).marks (lex mode.Plain line).stop) scheme_wanted e f first second
 one_refusal names number earlier (line ∷ lines) e f (inl first) (inr second) = absurd (second.0 first.place (plan_refusal_number e) first.complaint)
 one_refusal names number earlier (line ∷ lines) e f (inr first) (inl second) = absurd (first.0 second.place (plan_refusal_number f) second.complaint)
 one_refusal names number earlier (line ∷ lines) e f (inr first) (inr second) =
-    one_refusal names (number + 1) (earlier + schemes_in (lex mode.Plain line).marks) lines e f first.1 second.1
+    one_refusal names (number + 1) (earlier + scheme_count (lex mode.Plain line).marks) lines e f first.1 second.1
 
 -- ---- one meaning
 marks_of : (l : Lexed) (ms ns : List Mark) → HasTokens l ms → HasTokens l ns → ms ≡ ns
@@ -148,7 +148,7 @@ never_both names number earlier [] xs e means few refused = refused
 never_both names number earlier (line ∷ lines) xs e (inl blank) few (inl first) =
     no_flaw (plan_refusal_number e) (subst (λ (l : Lexed). SchemeLineComplaint names earlier l.marks l.stop first.place (plan_refusal_number e)) blank.0 first.complaint).1
 never_both names number earlier (line ∷ lines) xs e (inl blank) few (inr later) =
-    let same : earlier + schemes_in (lex mode.Plain line).marks ≡ earlier = ap (λ (l : Lexed). earlier + schemes_in l.marks) blank.0 ∙ zero_more earlier in
+    let same : earlier + scheme_count (lex mode.Plain line).marks ≡ earlier = ap (λ (l : Lexed). earlier + scheme_count l.marks) blank.0 ∙ zero_more earlier in
     never_both names (number + 1) earlier lines xs e blank.1 few (subst (λ (n : ℕ). RefusesSchemeLines names (number + 1) n lines e) same later.1)
   where
     zero_more : (n : ℕ) → n + 0 ≡ n
@@ -159,8 +159,8 @@ never_both names number earlier (line ∷ lines) xs e (inr adds) few (inl first)
     (subst (λ (l : Lexed). SchemeLineComplaint names earlier l.marks l.stop first.place (plan_refusal_number e)) adds.2.tokens first.complaint)
 never_both names number earlier (line ∷ lines) xs e (inr adds) few (inr later) =
     let count : length xs ≡ suc (length adds.1) = ap (λ (zs : List Places). length zs) adds.4 in
-    let one : schemes_in (lex mode.Plain line).marks ≡ 1 = ap (λ (l : Lexed). schemes_in l.marks) adds.2.tokens ∙ ap (λ (ms : List Mark). schemes_in ms) adds.2.scheme.whole in
-    never_both names (number + 1) (earlier + schemes_in (lex mode.Plain line).marks) lines adds.1 e adds.3 (omega (arith, few, count, one)) later.1
+    let one : scheme_count (lex mode.Plain line).marks ≡ 1 = ap (λ (l : Lexed). scheme_count l.marks) adds.2.tokens ∙ ap (λ (ms : List Mark). scheme_count ms) adds.2.scheme.whole in
+    never_both names (number + 1) (earlier + scheme_count (lex mode.Plain line).marks) lines adds.1 e adds.3 (omega (arith, few, count, one)) later.1
 
 -- ---- plans
 covered : (n : ℕ) (schemes : List Places) (a : ℕ) → Covers n schemes → IsLeastFrom (uncovered n schemes) 0 a → ⊥

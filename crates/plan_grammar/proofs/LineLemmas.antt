@@ -23,8 +23,8 @@ use Rattle.plan_grammar.specs.declared.refusal.PlanRefusal.{PlanRefusal}
 use Rattle.plan_grammar.specs.declared.refusal.PlanRefusal.TheVariants as plan
 use Rattle.plan_grammar.specs.declared.refusal.TheConstants.{MOST_SCHEMES}
 use Rattle.plan_grammar.specs.Meanings.{is_scheme, IsSchemeLine, MeansSchemeLines}
-use Rattle.plan_grammar.specs.Complaints.{FirstTokenComplaint, SchemeLineComplaint, SpansPlace, IsFine, RefusesLine, RefusesSchemeLines, schemes_in, wanted}
-use Rattle.plan_grammar.specs.Reading.{no_scheme, read_words, read_line, read_lines}
+use Rattle.plan_grammar.specs.Complaints.{FirstTokenComplaint, SchemeLineComplaint, SpansPlace, IsFine, RefusesLine, RefusesSchemeLines, scheme_count, scheme_wanted}
+use Rattle.plan_grammar.specs.Reading.{no_scheme, read_words, read_scheme_line, read_scheme_lines}
 use Rattle.plan_grammar.proofs.FirstLemmas.{first_here, first_later, later_fine, no_flaw, flaw_least}
 use Rattle.plan_grammar.proofs.WordLemmas.{WordsFit, words_fit}
 
@@ -33,7 +33,7 @@ use Rattle.plan_grammar.proofs.WordLemmas.{WordsFit, words_fit}
 pub record AddsScheme (names : List (List ℕ)) (schemes : List Places) (ms : List Mark) (more : List Places) : Type 0 where
   pub x : Places
   pub scheme : IsSchemeLine names ms x
-  pub one : schemes_in ms ≡ 1
+  pub one : scheme_count ms ≡ 1
   pub added : more ≡ schemes ++ x ∷ []
   pub room : length schemes < MOST_SCHEMES
 
@@ -49,7 +49,7 @@ LineFits names line schemes ms stop (Err e) = RefusesLine names line (length sch
 -- why a line can't begin with a token
 record IsOther (earlier : ℕ) (m : Mark) (why : SchemaRefusalKind) : Type 0 where
   complaint : FirstTokenComplaint earlier m (refusal_number why)
-  carries : Carries (λ w. w ≡ wanted 0) why
+  carries : Carries (λ w. w ≡ scheme_wanted 0) why
   least : (n : ℕ) → FirstTokenComplaint earlier m n → refusal_number why ≤ n
 
 head_least : (earlier : ℕ) (m : Mark) (low n : ℕ) → is_scheme m.kind m.word ≡ false → (low ≤ 6) → ((m.kind ≡ token.Word) → is_reserved format.Plain m.word ≡ true → low ≤ 3) → FirstTokenComplaint earlier m n → low ≤ n
@@ -105,7 +105,7 @@ scheme_read names line schemes m ms stop (Ok x) is room fit = record {
   fine = later_fine (SchemeLineComplaint names (length schemes) (m ∷ ms) stop) (λ n h. head_fine (length schemes) m n is room h) fit.fine;
 }
 scheme_read names line schemes m ms stop (Err e) is room fit =
-    first_later (SchemeLineComplaint names (length schemes) (m ∷ ms) stop) (SpansPlace line (span_at line 1 (m ∷ ms) stop) wanted) e
+    first_later (SchemeLineComplaint names (length schemes) (m ∷ ms) stop) (SpansPlace line (span_at line 1 (m ∷ ms) stop) scheme_wanted) e
     (λ n h. head_fine (length schemes) m n is room h) fit
 
 head_fit : (names : List (List ℕ)) (line : ℕ) (schemes : List Places) (m : Mark) (ms : List Mark) (stop : Option Stop) (b l : Bool)
@@ -114,23 +114,23 @@ head_fit : (names : List (List ℕ)) (line : ℕ) (schemes : List Places) (m : M
     (cond b (cond l (Err (plan.TooManySchemes line)) (read_words names line true none ms stop)) (Err (plan.Text (refusal line m.column (length m.word) (no_scheme m.kind m.word)))))
     (λ x. Ok (schemes ++ x ∷ [])))
 head_fit names line schemes m ms stop true true is many =
-    first_here (SchemeLineComplaint names (length schemes) (m ∷ ms) stop) (SpansPlace line (span_at line 1 (m ∷ ms) stop) wanted) (plan.TooManySchemes line)
+    first_here (SchemeLineComplaint names (length schemes) (m ∷ ms) stop) (SpansPlace line (span_at line 1 (m ∷ ms) stop) scheme_wanted) (plan.TooManySchemes line)
     (inr (is, leb-true MOST_SCHEMES (length schemes) many, refl)) refl (λ n h. head_many (length schemes) m n is h)
 head_fit names line schemes m ms stop true false is few =
     scheme_read names line schemes m ms stop (read_words names line true none ms stop) is (leb-false MOST_SCHEMES (length schemes) few)
     (words_fit names line true none (m.column + length m.word) ms stop)
 head_fit names line schemes m ms stop false l other few =
     let told = other_kind (length schemes) m m.kind refl other in
-    first_here (SchemeLineComplaint names (length schemes) (m ∷ ms) stop) (SpansPlace line (span_at line 1 (m ∷ ms) stop) wanted)
+    first_here (SchemeLineComplaint names (length schemes) (m ∷ ms) stop) (SpansPlace line (span_at line 1 (m ∷ ms) stop) scheme_wanted)
     (plan.Text (refusal line m.column (length m.word) (no_scheme m.kind m.word))) told.complaint (refl, told.carries) told.least
 
 pub line_fits : (names : List (List ℕ)) (line : ℕ) (schemes : List Places) (ms : List Mark) (stop : Option Stop)
-    → LineFits names line schemes ms stop (read_line names line schemes ms stop)
-unfolding read_line
+    → LineFits names line schemes ms stop (read_scheme_line names line schemes ms stop)
+unfolding read_scheme_line
 line_fits names line schemes [] None = record { ended = refl; adds = inl (refl, refl); fine = λ p n h. no_flaw n h.1 }
 line_fits names line schemes [] (Some s) =
-    first_here (SchemeLineComplaint names (length schemes) [] (Some s)) (SpansPlace line (span_at line 1 [] (Some s)) wanted) (plan.Text (refused_by line s))
-    (refl, (s, refl, flaw_numbered s.flaw)) (refl, flaw_carries (λ w. w ≡ wanted 0) s.flaw) (λ n h. flaw_least s n h.1)
+    first_here (SchemeLineComplaint names (length schemes) [] (Some s)) (SpansPlace line (span_at line 1 [] (Some s)) scheme_wanted) (plan.Text (refused_by line s))
+    (refl, (s, refl, flaw_numbered s.flaw)) (refl, flaw_carries (λ w. w ≡ scheme_wanted 0) s.flaw) (λ n h. flaw_least s n h.1)
 line_fits names line schemes (m ∷ ms) stop =
     head_fit names line schemes m ms stop (is_scheme m.kind m.word) (nat_le MOST_SCHEMES (length schemes)) refl refl
 
@@ -169,9 +169,9 @@ lines_after names number schemes line lines more (Ok whole) read fit =
 lines_after names number schemes line lines more (Err e) read fit =
     inr (read.fine, subst (λ (n : ℕ). RefusesSchemeLines names (number + 1) n lines e) count fit)
   where
-    count : length more ≡ length schemes + schemes_in (lex mode.Plain line).marks
+    count : length more ≡ length schemes + scheme_count (lex mode.Plain line).marks
     count = ⊎_elim
-        (λ blank. ap (λ (xs : List Places). length xs) blank.1 ∙ sym (ap (λ (ms : List Mark). length schemes + schemes_in ms) blank.0 ∙ zero_more (length schemes)))
+        (λ blank. ap (λ (xs : List Places). length xs) blank.1 ∙ sym (ap (λ (ms : List Mark). length schemes + scheme_count ms) blank.0 ∙ zero_more (length schemes)))
         (λ adds. ap (λ (xs : List Places). length xs) adds.added ∙ length_push schemes adds.x ∙ ap (λ (n : ℕ). length schemes + n) (sym adds.one))
         read.adds
       where
@@ -179,24 +179,24 @@ lines_after names number schemes line lines more (Err e) read fit =
         zero_more n = omega arith
 
 lines_join : (names : List (List ℕ)) (number : ℕ) (schemes : List Places) (line : List ℕ) (lines : List (List ℕ)) (r : Result (List Places) PlanRefusal)
-    → ((more : List Places) → LinesFit names (number + 1) more lines (read_lines names (number + 1) more lines))
+    → ((more : List Places) → LinesFit names (number + 1) more lines (read_scheme_lines names (number + 1) more lines))
     → LineFits names number schemes (lex mode.Plain line).marks (lex mode.Plain line).stop r
-    → LinesFit names number schemes (line ∷ lines) (and_then r (λ more. read_lines names (number + 1) more lines))
-lines_join names number schemes line lines (Ok more) later fit = lines_after names number schemes line lines more (read_lines names (number + 1) more lines) fit (later more)
+    → LinesFit names number schemes (line ∷ lines) (and_then r (λ more. read_scheme_lines names (number + 1) more lines))
+lines_join names number schemes line lines (Ok more) later fit = lines_after names number schemes line lines more (read_scheme_lines names (number + 1) more lines) fit (later more)
 lines_join names number schemes line lines (Err e) later fit = inl fit
 
-pub lines_fit : (names : List (List ℕ)) (number : ℕ) (schemes : List Places) (lines : List (List ℕ)) → LinesFit names number schemes lines (read_lines names number schemes lines)
-unfolding read_lines
+pub lines_fit : (names : List (List ℕ)) (number : ℕ) (schemes : List Places) (lines : List (List ℕ)) → LinesFit names number schemes lines (read_scheme_lines names number schemes lines)
+unfolding read_scheme_lines
 lines_fit names number schemes [] = record { others = []; means = refl; added = sym (append-nil schemes); few = λ few. few }
 lines_fit names number schemes (line ∷ lines) =
-    lines_join names number schemes line lines (read_line names number schemes (lex mode.Plain line).marks (lex mode.Plain line).stop)
+    lines_join names number schemes line lines (read_scheme_line names number schemes (lex mode.Plain line).marks (lex mode.Plain line).stop)
     (λ more. lines_fit names (number + 1) more lines) (line_fits names number schemes (lex mode.Plain line).marks (lex mode.Plain line).stop)
 
 -- so what is read of a text is what its lines mean
-pub read_means : (names : List (List ℕ)) (lines : List (List ℕ)) (whole : List Places) → read_lines names 1 [] lines ≡ Ok whole → MeansSchemeLines names lines whole × (length whole ≤ MOST_SCHEMES)
+pub read_means : (names : List (List ℕ)) (lines : List (List ℕ)) (whole : List Places) → read_scheme_lines names 1 [] lines ≡ Ok whole → MeansSchemeLines names lines whole × (length whole ≤ MOST_SCHEMES)
 read_means names lines whole is =
     let fit : AreRead names [] lines whole = subst (λ (r : Result (List Places) PlanRefusal). LinesFit names 1 [] lines r) is (lines_fit names 1 [] lines) in
     (subst (λ (xs : List Places). MeansSchemeLines names lines xs) (sym fit.added) fit.means, fit.few (omega arith))
 
-pub refused_refuses : (names : List (List ℕ)) (lines : List (List ℕ)) (e : PlanRefusal) → read_lines names 1 [] lines ≡ Err e → RefusesSchemeLines names 1 0 lines e
+pub refused_refuses : (names : List (List ℕ)) (lines : List (List ℕ)) (e : PlanRefusal) → read_scheme_lines names 1 [] lines ≡ Err e → RefusesSchemeLines names 1 0 lines e
 refused_refuses names lines e is = subst (λ (r : Result (List Places) PlanRefusal). LinesFit names 1 [] lines r) is (lines_fit names 1 [] lines)

@@ -57,9 +57,9 @@ wanted_after first zero = if first then what.Name else what.LineEnd
 wanted_after first (suc place) = wanted_after false place
 
 -- and at a place of the line
-abbrev pub wanted : ℕ → What
-wanted zero = what.Scheme
-wanted (suc place) = wanted_after true place
+abbrev pub scheme_wanted : ℕ → What
+scheme_wanted zero = what.Scheme
+scheme_wanted (suc place) = wanted_after true place
 
 -- a refusal stands at a place of a line
 abbrev pub SpansPlace : ℕ → (ℕ → Span) → (ℕ → What) → ℕ → PlanRefusal → Type 0
@@ -80,16 +80,16 @@ pub record IsFirstOf (Complaint : ℕ → ℕ → Type 0) (Stands : ℕ → Plan
 -- a line is refused by its first complaint
 abbrev pub RefusesLine : List (List ℕ) → ℕ → ℕ → List Mark → Option Stop → PlanRefusal → Type 0
 RefusesLine names line earlier ms stop e =
-    IsFirstOf (SchemeLineComplaint names earlier ms stop) (SpansPlace line (span_at line 1 ms stop) wanted) e
+    IsFirstOf (SchemeLineComplaint names earlier ms stop) (SpansPlace line (span_at line 1 ms stop) scheme_wanted) e
 
 -- nothing is wrong with it
 abbrev pub IsFine : List (List ℕ) → ℕ → List Mark → Option Stop → Type 0
 IsFine names earlier ms stop = (place number : ℕ) → SchemeLineComplaint names earlier ms stop place number → ⊥
 
 -- how many scheme lines a line is with which nothing is wrong
-abbrev pub schemes_in : List Mark → ℕ
-schemes_in [] = 0
-schemes_in (m ∷ ms) = 1
+abbrev pub scheme_count : List Mark → ℕ
+scheme_count [] = 0
+scheme_count (m ∷ ms) = 1
 
 -- lines, of which the first has this number, are refused by the first line with which something is wrong
 abbrev pub RefusesSchemeLines : List (List ℕ) → ℕ → ℕ → List (List ℕ) → PlanRefusal → Type 0
@@ -97,7 +97,7 @@ RefusesSchemeLines names number earlier [] e = ⊥
 RefusesSchemeLines names number earlier (line ∷ lines) e =
     RefusesLine names number earlier (lex mode.Plain line).marks (lex mode.Plain line).stop e
     ⊎ (IsFine names earlier (lex mode.Plain line).marks (lex mode.Plain line).stop
-    × RefusesSchemeLines names (number + 1) (earlier + schemes_in (lex mode.Plain line).marks) lines e)
+    × RefusesSchemeLines names (number + 1) (earlier + scheme_count (lex mode.Plain line).marks) lines e)
 
 -- the attributes that are in no scheme
 abbrev pub uncovered : ℕ → List Places → Places

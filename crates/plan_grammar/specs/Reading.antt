@@ -66,17 +66,17 @@ read_scheme names line earlier m l =
     else Err (plan.Text (refusal line m.column (length m.word) (no_scheme m.kind m.word)))
 
 -- the schemes with that of one line more
-unfoldable pub read_line : List (List ℕ) → ℕ → List Places → List Mark → Option Stop
+unfoldable pub read_scheme_line : List (List ℕ) → ℕ → List Places → List Mark → Option Stop
     → Result (List Places) PlanRefusal
-read_line names line schemes [] None = Ok schemes
-read_line names line schemes [] (Some stop) = Err (plan.Text (refused_by line stop))
-read_line names line schemes (m ∷ ms) stop =
+read_scheme_line names line schemes [] None = Ok schemes
+read_scheme_line names line schemes [] (Some stop) = Err (plan.Text (refused_by line stop))
+read_scheme_line names line schemes (m ∷ ms) stop =
     and_then (read_scheme names line (length schemes) m (record { marks = ms; stop = stop }))
     (λ x. Ok (schemes ++ x ∷ []))
 
 -- the schemes of lines, of which the first has this number, after other schemes
-unfoldable pub read_lines : List (List ℕ) → ℕ → List Places → List (List ℕ) → Result (List Places) PlanRefusal
-read_lines names number schemes [] = Ok schemes
-read_lines names number schemes (line ∷ lines) =
-    and_then (read_line names number schemes (lex mode.Plain line).marks (lex mode.Plain line).stop)
-    (λ more. read_lines names (number + 1) more lines)
+unfoldable pub read_scheme_lines : List (List ℕ) → ℕ → List Places → List (List ℕ) → Result (List Places) PlanRefusal
+read_scheme_lines names number schemes [] = Ok schemes
+read_scheme_lines names number schemes (line ∷ lines) =
+    and_then (read_scheme_line names number schemes (lex mode.Plain line).marks (lex mode.Plain line).stop)
+    (λ more. read_scheme_lines names (number + 1) more lines)

@@ -7,7 +7,7 @@ ghost use Rattle.schema_grammar.specs.Printed.{AreNames};
 ghost use Rattle.plan_grammar.specs.Complaints.{RefusesSchemeLines, RefusesPlan};
 ghost use Rattle.plan_grammar.specs.Meanings.{MeansSchemeLines, MeansPlan};
 ghost use Rattle.plan_grammar.specs.Printing.{plan_text};
-ghost use Rattle.plan_grammar.specs.Reading.{read_lines};
+ghost use Rattle.plan_grammar.specs.Reading.{read_scheme_lines};
 ghost use Rattle.plan_grammar.specs.declared.refusal.PlanRefusal.{PlanRefusal};
 
 use crate::MOST_SCHEMES;
@@ -16,14 +16,14 @@ use schema_grammar::Format;
 /// Lines are read as the schemes that they mean.
 pub fn lines_are_read()
     ensures law { (names lines : List (List ℕ)) (schemes : List Places)
-        → read_lines names 1 [] lines ≡ Ok schemes
+        → read_scheme_lines names 1 [] lines ≡ Ok schemes
         → MeansSchemeLines names lines schemes × (length schemes ≤ MOST_SCHEMES) }
 {}
 
 /// Lines are refused by their first complaint.
 pub fn lines_are_refused()
     ensures law { (names lines : List (List ℕ)) (refusal : PlanRefusal)
-        → read_lines names 1 [] lines ≡ Err refusal → RefusesSchemeLines names 1 0 lines refusal }
+        → read_scheme_lines names 1 [] lines ≡ Err refusal → RefusesSchemeLines names 1 0 lines refusal }
 {}
 
 /// What is printed of a plan means its schemes, where no name is reserved.

@@ -13,13 +13,13 @@ use Rattle.lexer.specs.Tokens.{lex}
 use Rattle.schema_grammar.specs.declared.refusal.SchemaRefusal.{SchemaRefusal}
 use Rattle.proof_grammar.specs.declared.line_kind.LineKind.{LineKind}
 use Rattle.proof_grammar.specs.declared.line_kind.LineKind.TheVariants.{Blank, Opening, Certificate}
-use Rattle.proof_grammar.specs.Books.{Ledger, entered, finished}
+use Rattle.proof_grammar.specs.Books.{Ledger, entered, finished_certificate}
 use Rattle.proof_grammar.specs.Complaints.{Complaint}
-use Rattle.proof_grammar.specs.Lines.{Line, line}
+use Rattle.proof_grammar.specs.Lines.{Line, certificate_line}
 use Rattle.proof_grammar.specs.Meanings.{MeanLines, MeansLine}
 use Rattle.schema_grammar.specs.Rests.{◌>>=◌, rest_from}
 use Rattle.proof_grammar.specs.Spelling.{AreNodes, Spells, SpellsWithin, uses}
-use Rattle.proof_grammar.specs.Texts.{in_line, read_as, line_kind, read_one, at_line, read_lines, read_proof}
+use Rattle.proof_grammar.specs.Texts.{in_line, read_as, line_kind, read_one, at_line, read_certificate_lines, read_proof}
 use Rattle.proof_grammar.proofs.CheckedLemmas.{bind_ok, at_line-ok, read_proof_checked}
 use Rattle.derivation.proofs.RuleTableLemmas.{the_ok}
 use Rattle.proof_grammar.proofs.CountedLines.{counted, Counts, kind_counts, line_of_attributes}
@@ -41,7 +41,7 @@ done_same : (used other : ℕ → ℕ) (ts us : List Tree) (t : Tree) → ((n : 
 done_same used other ts us t same e done = record { before = done.before; trees = sym e ∙ done.trees; each = λ k low high. sym (same k) ∙ done.each k low high }
 
 -- nothing is left
-at_end : (s : Schema) (used : ℕ → ℕ) (ts : List Tree) (book : Ledger) (last : ℕ) (t : Tree) → Follows s used ts book → length ts ≤ MOST_NODES → finished last book ≡ Ok t → GoesOn s used ts [] t
+at_end : (s : Schema) (used : ℕ → ℕ) (ts : List Tree) (book : Ledger) (last : ℕ) (t : Tree) → Follows s used ts book → length ts ≤ MOST_NODES → finished_certificate last book ≡ Ok t → GoesOn s used ts [] t
 at_end s used ts book last t follows few h = record {
   more = [];
   trees = [];
@@ -51,7 +51,7 @@ at_end s used ts book last t follows few h = record {
   done = done_same used (λ n. used n + uses n []) ts (ts ++ []) t (λ n. omega arith) (sym (append-nil ts)) (finished_there s used ts book last t follows h);
 }
 
--- a line, and what is left
+-- a certificate_line, and what is left
 line_more : (s : Schema) (used : ℕ → ℕ) (ts : List Tree) (text : List ℕ) (texts : List (List ℕ)) (l : Line) (u t : Tree) (next : Ledger) → MeansLine (names_of s) text l
     → IsEntered s used ts l next u → GoesOn s (used_after used l) (ts ++ u ∷ []) texts t → GoesOn s used ts (text ∷ texts) t
 line_more s used ts text texts l u t next means enters goes = record {
@@ -71,29 +71,29 @@ in_line_ok (Err e) x h = cc
 -- what is read of the lines after this one
 abbrev ReadsOn : Schema → ℕ → List (List ℕ) → Tree → Type 0
 ReadsOn s number texts t =
-    (fresh : Bool) (used : ℕ → ℕ) (ts : List Tree) (book : Ledger) → Follows s used ts book → length ts ≤ MOST_NODES → read_lines s fresh number book texts ≡ Ok t → GoesOn s used ts (counted fresh texts) t
+    (fresh : Bool) (used : ℕ → ℕ) (ts : List Tree) (book : Ledger) → Follows s used ts book → length ts ≤ MOST_NODES → read_certificate_lines s fresh number book texts ≡ Ok t → GoesOn s used ts (counted fresh texts) t
 
 line_there_more : (k : LineKind) (s : Schema) (fresh : Bool) (number : ℕ) (used : ℕ → ℕ) (ts : List Tree) (book : Ledger) (text : List ℕ) (texts : List (List ℕ)) (t : Tree) (next : Bool × Ledger)
-    → Follows s used ts book → length ts ≤ MOST_NODES → Counts k fresh text → read_as k s fresh number book text ≡ Ok next → read_lines s next.0 (number + 1) next.1 texts ≡ Ok t
+    → Follows s used ts book → length ts ≤ MOST_NODES → Counts k fresh text → read_as k s fresh number book text ≡ Ok next → read_certificate_lines s next.0 (number + 1) next.1 texts ≡ Ok t
     → ReadsOn s (number + 1) texts t → GoesOn s used ts (counted fresh (text ∷ texts)) t
 line_there_more Blank s fresh number used ts book text texts t next follows few counts read rest on =
     let same = the_ok {A = Bool × Ledger} {E = Complaint} (fresh, book) next read in
-    let left = subst (λ (n : Bool × Ledger). read_lines s n.0 (number + 1) n.1 texts ≡ Ok t) (sym same) rest in
+    let left = subst (λ (n : Bool × Ledger). read_certificate_lines s n.0 (number + 1) n.1 texts ≡ Ok t) (sym same) rest in
     subst (λ (ls : List (List ℕ)). GoesOn s used ts ls t) (sym (counts texts)) (on fresh used ts book follows few left)
 line_there_more Opening s fresh number used ts book text texts t next follows few counts read rest on =
     let same = the_ok {A = Bool × Ledger} {E = Complaint} (false, book) next read in
-    let left = subst (λ (n : Bool × Ledger). read_lines s n.0 (number + 1) n.1 texts ≡ Ok t) (sym same) rest in
+    let left = subst (λ (n : Bool × Ledger). read_certificate_lines s n.0 (number + 1) n.1 texts ≡ Ok t) (sym same) rest in
     subst (λ (ls : List (List ℕ)). GoesOn s used ts ls t) (sym (counts texts)) (on false used ts book follows few left)
 line_there_more Certificate s fresh number used ts book text texts t next follows few counts read rest on =
-    let reading = in_line (line (names_of s) (rest_from number 1 (lex mode.Numbered text))) in
+    let reading = in_line (certificate_line (names_of s) (rest_from number 1 (lex mode.Numbered text))) in
     let first = bind_ok reading (λ m. entered s number book m >>= λ b. Ok (false, b)) next read in
     let l = first.0 in
     let second = bind_ok (entered s number book l) (λ b. Ok (false, b)) next first.2 in
-    let means = line_there (names_of s) number text l (in_line_ok (line (names_of s) (rest_from number 1 (lex mode.Numbered text))) l first.1) in
+    let means = line_there (names_of s) number text l (in_line_ok (certificate_line (names_of s) (rest_from number 1 (lex mode.Numbered text))) l first.1) in
     let enters = entered_there s number used ts book second.0 l follows (line_of_attributes s text l means) second.1 in
     let u = enters.0 in
     let same = the_ok {A = Bool × Ledger} {E = Complaint} (false, second.0) next second.2 in
-    let left = subst (λ (n : Bool × Ledger). read_lines s n.0 (number + 1) n.1 texts ≡ Ok t) (sym same) rest in
+    let left = subst (λ (n : Bool × Ledger). read_certificate_lines s n.0 (number + 1) n.1 texts ≡ Ok t) (sym same) rest in
     let room : length (ts ++ u ∷ []) ≤ MOST_NODES = omega (arith, enters.1.few_lines, length-append ts (u ∷ [])) in
     let goes = on false (used_after used l) (ts ++ u ∷ []) second.0 enters.1.follows room left in
     subst (λ (ls : List (List ℕ)). GoesOn s used ts ls t) (sym (counts texts)) (line_more s used ts text (counted false texts) l u t second.0 means enters.1 goes)
@@ -103,12 +103,12 @@ nothing_counts true = refl
 nothing_counts false = refl
 
 lines_there : (s : Schema) (number : ℕ) (texts : List (List ℕ)) (t : Tree) → ReadsOn s number texts t
-unfolding read_lines read_one
+unfolding read_certificate_lines read_one
 lines_there s number [] t fresh used ts book follows few h =
     subst (λ (ls : List (List ℕ)). GoesOn s used ts ls t) (sym (nothing_counts fresh)) (at_end s used ts book (number - 1) t follows few h)
 lines_there s number (text ∷ texts) t fresh used ts book follows few h =
     let k = line_kind fresh (lex mode.Numbered text) in
-    let first = bind_ok (at_line number (read_as k s fresh number book text)) (λ next. read_lines s next.0 (number + 1) next.1 texts) t h in
+    let first = bind_ok (at_line number (read_as k s fresh number book text)) (λ next. read_certificate_lines s next.0 (number + 1) next.1 texts) t h in
     line_there_more k s fresh number used ts book text texts t first.0 follows few (kind_counts fresh text k refl)
     (at_line-ok number (read_as k s fresh number book text) first.0 first.1) first.2 (lines_there s (number + 1) texts t)
 
@@ -136,20 +136,20 @@ can_more s used ts l more u us t can = record {
 abbrev ReadsBack : Schema → ℕ → List (List ℕ) → Tree → Type 0
 ReadsBack s number texts t =
     (fresh : Bool) (used : ℕ → ℕ) (ts : List Tree) (book : Ledger) (more : List Line) (us : List Tree) → Follows s used ts book → MeanLines (names_of s) (counted fresh texts) more
-    → CanGoOn s used ts more us t → read_lines s fresh number book texts ≡ Ok t
+    → CanGoOn s used ts more us t → read_certificate_lines s fresh number book texts ≡ Ok t
 
 -- nothing is left
 end_back : (s : Schema) (last : ℕ) (t : Tree) (used : ℕ → ℕ) (ts : List Tree) (book : Ledger) (more : List Line) (us : List Tree) → Follows s used ts book → MeanLines (names_of s) [] more
-    → CanGoOn s used ts more us t → finished last book ≡ Ok t
+    → CanGoOn s used ts more us t → finished_certificate last book ≡ Ok t
 end_back s last t used ts book [] [] follows mean can =
     finished_back s used ts book last t follows (done_same (λ n. used n + uses n []) used (ts ++ []) ts t (λ n. omega arith) (append-nil ts) can.done)
 end_back s last t used ts book [] (u ∷ us) follows mean can = absurd can.nodes
 end_back s last t used ts book (l ∷ more) us follows mean can = absurd mean
 
--- a line that counts, and what is left
+-- a certificate_line that counts, and what is left
 line_back_read : (s : Schema) (number : ℕ) (text : List ℕ) (texts : List (List ℕ)) (t : Tree) (used : ℕ → ℕ) (ts : List Tree) (book : Ledger) (fresh : Bool) (more : List Line) (us : List Tree)
     → Follows s used ts book → MeanLines (names_of s) (text ∷ counted false texts) more → CanGoOn s used ts more us t → ReadsBack s (number + 1) texts t
-    → (at_line number (read_as Certificate s fresh number book text) >>= λ next. read_lines s next.0 (number + 1) next.1 texts) ≡ Ok t
+    → (at_line number (read_as Certificate s fresh number book text) >>= λ next. read_certificate_lines s next.0 (number + 1) next.1 texts) ≡ Ok t
 line_back_read s number text texts t used ts book fresh [] us follows mean can on = absurd mean
 line_back_read s number text texts t used ts book fresh (l ∷ more) [] follows mean can on = absurd can.nodes
 line_back_read s number text texts t used ts book fresh (l ∷ more) (u ∷ us) follows (means, rest) can on =
@@ -162,7 +162,7 @@ line_back_read s number text texts t used ts book fresh (l ∷ more) (u ∷ us) 
 
 line_back_more : (k : LineKind) (s : Schema) (number : ℕ) (text : List ℕ) (texts : List (List ℕ)) (t : Tree) (used : ℕ → ℕ) (ts : List Tree) (book : Ledger) (fresh : Bool) (more : List Line)
     (us : List Tree) → Follows s used ts book → MeanLines (names_of s) (counted fresh (text ∷ texts)) more → CanGoOn s used ts more us t → Counts k fresh text → ReadsBack s (number + 1) texts t
-    → (at_line number (read_as k s fresh number book text) >>= λ next. read_lines s next.0 (number + 1) next.1 texts) ≡ Ok t
+    → (at_line number (read_as k s fresh number book text) >>= λ next. read_certificate_lines s next.0 (number + 1) next.1 texts) ≡ Ok t
 line_back_more Blank s number text texts t used ts book fresh more us follows mean can counts on =
     on fresh used ts book more us follows (subst (λ (ls : List (List ℕ)). MeanLines (names_of s) ls more) (counts texts) mean) can
 line_back_more Opening s number text texts t used ts book fresh more us follows mean can counts on =
@@ -171,14 +171,14 @@ line_back_more Certificate s number text texts t used ts book fresh more us foll
     line_back_read s number text texts t used ts book fresh more us follows (subst (λ (ls : List (List ℕ)). MeanLines (names_of s) ls more) (counts texts) mean) can on
 
 lines_back : (s : Schema) (number : ℕ) (texts : List (List ℕ)) (t : Tree) → ReadsBack s number texts t
-unfolding read_lines read_one
+unfolding read_certificate_lines read_one
 lines_back s number [] t fresh used ts book more us follows mean can =
     end_back s (number - 1) t used ts book more us follows (subst (λ (ls : List (List ℕ)). MeanLines (names_of s) ls more) (nothing_counts fresh) mean) can
 lines_back s number (text ∷ texts) t fresh used ts book more us follows mean can =
     line_back_more (line_kind fresh (lex mode.Numbered text)) s number text texts t used ts book fresh more us follows mean can (kind_counts fresh text _ refl) (lines_back s (number + 1) texts t)
 
 -- ---- the whole text
--- no line uses itself or a later one
+-- no certificate_line uses itself or a later one
 pub late_unused : (s : Schema) (prior : List Tree) (ls : List Line) (ts : List Tree) (n : ℕ) → AreNodes s prior ls ts → length prior + length ls ≤ n → uses n ls ≡ 0
 late_unused s prior [] [] n are late = refl
 late_unused s prior [] (t ∷ ts) n are late = absurd are

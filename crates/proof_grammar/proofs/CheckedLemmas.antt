@@ -1,4 +1,4 @@
--- What is read proves: each open line of a ledger has a tree that proves its conclusion, and no node stands in two of them.
+-- What is read proves: each open certificate_line of a ledger has a tree that proves its conclusion, and no node stands in two of them.
 use Rattle.std.proofs.Common.{◌≡◌, ◌<◌, ◌≤◌, ◌+◌, ◌-◌, ◌==◌, ℕ, zero, suc, Bool, true, false, List, [], ◌∷◌, ◌++◌, length, Option, Some, None, Result, Ok, Err, refl, sym, ◌∙◌, ap, subst, cond, max, arith, nat_lt, nat_le, length-append}
 use Rattle.std.specs.Prelude.{slice_get, slice_set, ◌&&◌, option_map}
 use Rattle.std.proofs.lemmas.Bool.Decides.{nat_tests}
@@ -12,17 +12,17 @@ use Rattle.derivation.specs.Table.{leaf_conclusion, step_conclusion, pair_conclu
 use Rattle.derivation.specs.Conclusions.{Proves}
 use Rattle.derivation.specs.declared.measures.TheConstants.{MOST_NODES, MOST_LEVELS}
 use Rattle.proof_grammar.specs.Complaints.{Complaint, LineComplaint, no_such_line, wrong_number, too_many_lines, too_deep, states_other}
-use Rattle.proof_grammar.specs.Lines.{Body, by_given, by_reflexivity, by_mreflexivity, by_step, by_pair, Line, line}
+use Rattle.proof_grammar.specs.Lines.{Body, by_given, by_reflexivity, by_mreflexivity, by_step, by_pair, Line, certificate_line}
 use Rattle.schema_grammar.specs.Rests.{◌>>=◌, rest_from}
 use Rattle.proof_grammar.specs.Nodes.{with_tree, same_dependency}
-use Rattle.proof_grammar.specs.Books.{Opened, Ledger, Prepared, joined, is_earlier, open_at, closed, step_node, pair_node, prepared, concluded_as, settled, add_line, entered, first_unused, root, concluded_by, rooted, finished_at, finished}
+use Rattle.proof_grammar.specs.Books.{Opened, Ledger, Prepared, joined, is_earlier, open_at, closed, step_node, pair_node, prepared, concluded_as, settled, add_line, entered, first_unused, root, concluded_by, rooted, finished_at, finished_certificate}
 use Rattle.proof_grammar.specs.declared.line_kind.LineKind.{LineKind}
 use Rattle.proof_grammar.specs.declared.line_kind.LineKind.TheVariants.{Blank, Opening, Certificate}
 use Rattle.lexer.specs.declared.token.Mode.TheVariants as mode
 use Rattle.lexer.specs.Lines.{line_texts, without_mark}
 use Rattle.lexer.specs.Tokens.{lex}
 use Rattle.dep_model.specs.Schemas.{names_of}
-use Rattle.proof_grammar.specs.Texts.{in_line, read_as, line_kind, read_one, at_line, read_lines, read_proof}
+use Rattle.proof_grammar.specs.Texts.{in_line, read_as, line_kind, read_one, at_line, read_certificate_lines, read_proof}
 use Rattle.proof_grammar.specs.Checked.{IsChecked}
 use Rattle.proof_grammar.specs.Ledgers.{Stands, IfOpen, AllStand, open_nodes, all_nodes, IsLedger}
 
@@ -190,7 +190,7 @@ read_as_keeps Blank s fresh number book text next is h =
 read_as_keeps Opening s fresh number book text next is h =
     subst (λ (x : Bool × Ledger). IsLedger s x.1) (the_ok {A = Bool × Ledger} {E = Complaint} (false, book) next h) is
 read_as_keeps Certificate s fresh number book text next is h =
-    let l = in_line (line (names_of s) (rest_from number 1 (lex mode.Numbered text))) in
+    let l = in_line (certificate_line (names_of s) (rest_from number 1 (lex mode.Numbered text))) in
     let first = bind_ok l (λ m. entered s number book m >>= λ b. Ok (false, b)) next h in
     let second = bind_ok (entered s number book first.0) (λ b. Ok (false, b)) next first.2 in
     subst (λ (x : Bool × Ledger). IsLedger s x.1) (the_ok {A = Bool × Ledger} {E = Complaint} (false, second.0) next second.2)
@@ -205,8 +205,8 @@ finished_cases s last lines (Some i) o t h = cc
 finished_cases s last lines None None t h = cc
 finished_cases s last lines None (Some u) t h = (u, refl, the_ok {A = Tree} {E = LineComplaint} u.tree t h)
 
-finished_checked : (s : Schema) (last : ℕ) (book : Ledger) (t : Tree) → IsLedger s book → finished last book ≡ Ok t → IsChecked s t
-unfolding finished
+finished_checked : (s : Schema) (last : ℕ) (book : Ledger) (t : Tree) → IsLedger s book → finished_certificate last book ≡ Ok t → IsChecked s t
+unfolding finished_certificate
 finished_checked s last book t is h =
     let os = book.unused in
     let i = length os - 1 in
@@ -221,11 +221,11 @@ pub at_line-ok : {A : Type 0} (n : ℕ) (r : Result A Complaint) (x : A) → at_
 at_line-ok n (Ok y) x h = cc
 at_line-ok n (Err why) x h = cc
 
-read_lines_checked : (s : Schema) (fresh : Bool) (number : ℕ) (book : Ledger) (texts : List (List ℕ)) (t : Tree) → IsLedger s book → read_lines s fresh number book texts ≡ Ok t → IsChecked s t
-unfolding read_lines
+read_lines_checked : (s : Schema) (fresh : Bool) (number : ℕ) (book : Ledger) (texts : List (List ℕ)) (t : Tree) → IsLedger s book → read_certificate_lines s fresh number book texts ≡ Ok t → IsChecked s t
+unfolding read_certificate_lines
 read_lines_checked s fresh number book [] t is h = finished_checked s (number - 1) book t is h
 read_lines_checked s fresh number book (text ∷ texts) t is h =
-    let first = bind_ok (at_line number (read_one s fresh number book text)) (λ next. read_lines s next.0 (number + 1) next.1 texts) t h in
+    let first = bind_ok (at_line number (read_one s fresh number book text)) (λ next. read_certificate_lines s next.0 (number + 1) next.1 texts) t h in
     let next = first.0 in
     read_lines_checked s next.0 (number + 1) next.1 texts t (read_one_keeps s fresh number book text next is (at_line-ok number (read_one s fresh number book text) next first.1)) first.2
 
@@ -235,7 +235,7 @@ unfolding read_proof
 read_proof_checked s text t h =
     read_lines_checked s true 1 (record { lines = []; unused = [] }) (line_texts (without_mark text)) t (record { stand = tt {0}; count = refl; few = omega arith }) h
 
--- the last line of a ledger proves what it concludes
+-- the last certificate_line of a ledger proves what it concludes
 pub root_proves : (s : Schema) (book : Ledger) (t : Tree) (d : Dependency) → IsLedger s book → rooted book.unused ≡ Some (t, d) → Proves s t d
 root_proves s book t d is h = told (root book.unused) refl h
   where

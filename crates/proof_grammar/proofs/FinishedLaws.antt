@@ -1,4 +1,4 @@
--- A certificate is finished exactly where each line but the last is used.
+-- A certificate is finished_certificate exactly where each line but the last is used.
 use Rattle.std.proofs.Common.{◌≡◌, ◌<◌, ◌≤◌, ◌+◌, ◌-◌, ◌==◌, ℕ, suc, Bool, true, false, cond, List, [], ◌∷◌, ◌++◌, length, take, slice_get, Option, Some, None, Ok, refl, sym, ◌∙◌, ap, subst, arith, length-append}
 use Rattle.std.specs.Prelude.{not, nat_lt, position, is_some}
 use Rattle.std.specs.List.{prefix_len}
@@ -7,7 +7,7 @@ use Rattle.std.proofs.lemmas.Bool.Decides.{nat_tests}
 use Rattle.dep_model.specs.declared.schema.Schema.{Schema}
 use Rattle.derivation.specs.Trees.{Tree}
 use Rattle.derivation.proofs.RuleTableLemmas.{the_ok}
-use Rattle.proof_grammar.specs.Books.{Opened, Ledger, finished_at, finished}
+use Rattle.proof_grammar.specs.Books.{Opened, Ledger, finished_at, finished_certificate}
 use Rattle.proof_grammar.specs.Complaints.{LineComplaint}
 use Rattle.proof_grammar.proofs.NodeLemmas.{seam}
 use Rattle.proof_grammar.proofs.SlotLemmas.{IsSlot, AreSlots}
@@ -83,10 +83,10 @@ pub last_tree : (t : Tree) (ts : List Tree) → HasLast (t ∷ ts)
 last_tree t [] = record { before = []; tree = t; whole = refl }
 last_tree t (u ∷ ts) = let last = last_tree u ts in record { before = t ∷ last.before; tree = last.tree; whole = ap (λ us. t ∷ us) last.whole }
 
--- what is finished after a last slot
+-- what is finished_certificate after a last slot
 pub ends : (last : ℕ) (lines : List ℕ) (os front : List (Option Opened)) (slot : Option Opened) → os ≡ front ++ slot ∷ []
-    → finished last (record { lines = lines; unused = os }) ≡ finished_at last lines (position is_some front) slot
-unfolding finished
+    → finished_certificate last (record { lines = lines; unused = os }) ≡ finished_at last lines (position is_some front) slot
+unfolding finished_certificate
 ends last lines os front slot e =
     let size : length (front ++ slot ∷ []) - 1 ≡ length front = omega (arith, length-append front (slot ∷ [])) in
     let cut : take (length (front ++ slot ∷ []) - 1) (front ++ slot ∷ []) ≡ front = ap (λ n. take n (front ++ slot ∷ [])) size ∙ take-append_seam front (slot ∷ []) in
@@ -101,7 +101,7 @@ pub record IsFinished (used : ℕ → ℕ) (ts : List Tree) (t : Tree) : Type 0 
 
 -- the slot of the last line is open
 at_last : (s : Schema) (used : ℕ → ℕ) (before : List Tree) (tree t : Tree) (last : ℕ) (lines : List ℕ) (os : List (Option Opened)) → AreSlots s used 0 (before ++ tree ∷ []) os
-    → used (length before + 1) ≡ 0 → finished last (record { lines = lines; unused = os }) ≡ Ok t → (tree ≡ t) × AreUsed used 0 (length before)
+    → used (length before + 1) ≡ 0 → finished_certificate last (record { lines = lines; unused = os }) ≡ Ok t → (tree ≡ t) × AreUsed used 0 (length before)
 at_last s used before tree t last lines os slots fresh h =
     told (position is_some found.front) found.slot refl found.is (sym (ends last lines os found.front found.slot found.slots) ∙ h)
   where
@@ -115,12 +115,12 @@ at_last s used before tree t last lines os slots fresh h =
     told None (Some o) e is f =
         (sym is.1.tree ∙ the_ok {A = Tree} {E = LineComplaint} o.tree t f, used_there s used 0 before found.front found.are (no_position found.front e))
 
-no_line : (s : Schema) (used : ℕ → ℕ) (last : ℕ) (lines : List ℕ) (os : List (Option Opened)) (t : Tree) → AreSlots s used 0 [] os → finished last (record { lines = lines; unused = os }) ≡ Ok t → ⊥
-unfolding finished
+no_line : (s : Schema) (used : ℕ → ℕ) (last : ℕ) (lines : List ℕ) (os : List (Option Opened)) (t : Tree) → AreSlots s used 0 [] os → finished_certificate last (record { lines = lines; unused = os }) ≡ Ok t → ⊥
+unfolding finished_certificate
 no_line s used last lines [] t slots h = cc
 no_line s used last lines (o ∷ os) t slots h = slots
 
-pub finished_there : (s : Schema) (used : ℕ → ℕ) (ts : List Tree) (book : Ledger) (last : ℕ) (t : Tree) → Follows s used ts book → finished last book ≡ Ok t → IsFinished used ts t
+pub finished_there : (s : Schema) (used : ℕ → ℕ) (ts : List Tree) (book : Ledger) (last : ℕ) (t : Tree) → Follows s used ts book → finished_certificate last book ≡ Ok t → IsFinished used ts t
 finished_there s used [] book last t follows h = absurd (no_line s used last book.lines book.unused t follows.slots h)
 finished_there s used (u ∷ us) book last t follows h =
     let whole = last_tree u us in
@@ -129,7 +129,7 @@ finished_there s used (u ∷ us) book last t follows h =
     let both = at_last s used whole.before whole.tree t last book.lines book.unused slots (follows.fresh (length whole.before + 1) (omega (arith, size))) h in
     record { before = whole.before; trees = whole.whole ∙ ap (λ v. whole.before ++ v ∷ []) both.0; each = both.1 }
 
-pub finished_back : (s : Schema) (used : ℕ → ℕ) (ts : List Tree) (book : Ledger) (last : ℕ) (t : Tree) → Follows s used ts book → IsFinished used ts t → finished last book ≡ Ok t
+pub finished_back : (s : Schema) (used : ℕ → ℕ) (ts : List Tree) (book : Ledger) (last : ℕ) (t : Tree) → Follows s used ts book → IsFinished used ts t → finished_certificate last book ≡ Ok t
 finished_back s used ts book last t follows done =
     let size : length ts ≡ length done.before + 1 = ap length done.trees ∙ length-append done.before (t ∷ []) in
     let slots = subst (λ (us : List Tree). AreSlots s used 0 us book.unused) done.trees follows.slots in

@@ -5,7 +5,7 @@ use Rattle.std.specs.Prelude.{nat_lt, position, is_some, slice_index}
 use Rattle.std.proofs.lemmas.Bool.Decides.{nat_tests}
 use Rattle.dep_model.specs.declared.schema.Schema.{Schema}
 use Rattle.derivation.specs.Trees.{Tree}
-use Rattle.proof_grammar.specs.Books.{Opened, Ledger, complaint_at, finished_at, finished}
+use Rattle.proof_grammar.specs.Books.{Opened, Ledger, complaint_at, finished_at, finished_certificate}
 use Rattle.proof_grammar.specs.Complaints.{LineComplaint, never_used, empty_proof}
 use Rattle.proof_grammar.proofs.SlotLemmas.{IsSlot, AreSlots, slots_size}
 use Rattle.proof_grammar.proofs.EnteredLaws.{Follows}
@@ -67,8 +67,8 @@ position_back xs h = let inside : nat_lt (prefix xs) (length xs) ≡ true = grin
 
 -- ---- no line
 pub none_finished : (s : Schema) (used : ℕ → ℕ) (last : ℕ) (lines : List ℕ) (os : List (Option Opened)) → AreSlots s used 0 [] os
-    → finished last (record { lines = lines; unused = os }) ≡ Err (complaint_at last empty_proof)
-unfolding finished
+    → finished_certificate last (record { lines = lines; unused = os }) ≡ Err (complaint_at last empty_proof)
+unfolding finished_certificate
 none_finished s used last lines [] slots = refl
 none_finished s used last lines (o ∷ os) slots = absurd slots
 
@@ -86,7 +86,7 @@ the_err x y h = cc
 
 -- the slot of the last line is open
 last_there : (s : Schema) (used : ℕ → ℕ) (before : List Tree) (tree : Tree) (last : ℕ) (lines : List ℕ) (os : List (Option Opened)) (e : LineComplaint)
-    → AreSlots s used 0 (before ++ tree ∷ []) os → used (length before + 1) ≡ 0 → finished last (record { lines = lines; unused = os }) ≡ Err e
+    → AreSlots s used 0 (before ++ tree ∷ []) os → used (length before + 1) ≡ 0 → finished_certificate last (record { lines = lines; unused = os }) ≡ Err e
     → IsFirstUnused used (length before + 1) lines e
 last_there s used before tree last lines os e slots fresh h =
     told (position is_some found.front) found.slot refl found.is (sym (ends last lines os found.front found.slot found.slots) ∙ h)
@@ -110,7 +110,7 @@ last_there s used before tree last lines os e slots fresh h =
     told None None at is f = let same : 0 + length before + 1 ≡ length before + 1 = omega arith in let none : ⊥ = omega (arith, ap used same, fresh, is) in absurd none
     told None (Some o) at is f = cc
 
-pub finished_refused : (s : Schema) (used : ℕ → ℕ) (ts : List Tree) (book : Ledger) (last : ℕ) (e : LineComplaint) → Follows s used ts book → finished last book ≡ Err e
+pub finished_refused : (s : Schema) (used : ℕ → ℕ) (ts : List Tree) (book : Ledger) (last : ℕ) (e : LineComplaint) → Follows s used ts book → finished_certificate last book ≡ Err e
     → ((ts ≡ []) × (e ≡ complaint_at last empty_proof)) ⊎ IsFirstUnused used (length ts) book.lines e
 finished_refused s used [] book last e follows h = inl (refl, sym (the_err {A = Tree} {E = LineComplaint} _ e (sym (none_finished s used last book.lines book.unused follows.slots) ∙ h)))
 finished_refused s used (u ∷ us) book last e follows h =
@@ -121,7 +121,7 @@ finished_refused s used (u ∷ us) book last e follows h =
     inr (subst (λ (k : ℕ). IsFirstUnused used k book.lines e) (sym size) first)
 
 pub refused_finished : (s : Schema) (used : ℕ → ℕ) (ts : List Tree) (book : Ledger) (last : ℕ) (e : LineComplaint) → Follows s used ts book → IsFirstUnused used (length ts) book.lines e
-    → finished last book ≡ Err e
+    → finished_certificate last book ≡ Err e
 refused_finished s used [] book last e follows first = let none : ⊥ = omega (arith, first.inside) in absurd none
 refused_finished s used (u ∷ us) book last e follows first =
     let whole = last_tree u us in

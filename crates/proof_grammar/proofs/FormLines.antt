@@ -1,4 +1,4 @@
--- The forms that begin a line are those by which its reading goes on.
+-- The forms that begin a certificate_line are those by which its reading goes on.
 use Rattle.std.proofs.Common.{◌≡◌, inl, inr, ⊎_elim, ℕ, zero, suc, true, false, List, [], ◌∷◌, ◌++◌, Option, Some, None, Ok, Err, Result, refl, sym, ◌∙◌, ap, subst}
 use Rattle.std.specs.Prelude.{codes, map}
 use Rattle.dep_model.specs.Schemas.{place_named}
@@ -12,7 +12,7 @@ use Rattle.schema_grammar.specs.Complaints.{ComplainsOfWord}
 use Rattle.schema_grammar.specs.Words.{is_reserved}
 use Rattle.proof_grammar.specs.declared.rule_name.RuleName.{RuleName}
 use Rattle.proof_grammar.specs.declared.rule_name.RuleName.TheVariants as rule
-use Rattle.proof_grammar.specs.Lines.{Line, line}
+use Rattle.proof_grammar.specs.Lines.{Line, certificate_line}
 use Rattle.proof_grammar.specs.LineComplaints.{TokenForm, token_form, word_form, forms, a_number, a_colon, an_arrow, an_empty, a_with, a_rule, a_word, AreLine, BeginLine, TakesNames, FormsWant}
 use Rattle.proof_grammar.specs.Tokens.{is_with, rule_word}
 use Rattle.proof_grammar.proofs.FormShapes.{Side, lhs, rhs, by, wide, narrow, Shape, at_start, past_number, at_side, past_words, past_empty, at_rule, at_premise, at_with, at_end, Ends, bind, completion, completed, is_final, runs, runs-append, runs-one, takes_words, turn, wanted_by}
@@ -120,10 +120,10 @@ sample_fine s (f ∷ fs) last (suc p) n leads final h =
 
 -- ---- lines
 pub final_line : (fs : List TokenForm) (s : Shape) → runs at_start fs ≡ Some s → is_final s ≡ true → AreLine fs
-final_line fs s leads final = told (line all_words (rest_at 1 1 (map sample fs))) refl
+final_line fs s leads final = told (certificate_line all_words (rest_at 1 1 (map sample fs))) refl
     (line_judged all_words 1 1 (map sample fs) None)
   where
-    told : (r : Result Line SchemaRefusal) → line all_words (rest_at 1 1 (map sample fs)) ≡ r
+    told : (r : Result Line SchemaRefusal) → certificate_line all_words (rest_at 1 1 (map sample fs)) ≡ r
         → Judged at_start all_words 1 1 (map sample fs) None r → AreLine fs
     told (Ok l) read judged =
         let reads = line_reads all_words (rest_at 1 1 (map sample fs)) l read in
@@ -161,7 +161,7 @@ begins_from fs s leads =
           ∙ ap (λ o. bind o (λ t. runs t (completion s))) leads ∙ more.leads) more.final;
     }
 
--- where forms that begin a line lead
+-- where forms that begin a certificate_line lead
 pub record Leads (fs : List TokenForm) : Type 0 where
   pub shape : Shape
   pub leads : runs at_start fs ≡ Some shape

@@ -1,4 +1,4 @@
--- A certificate line is read, or refused by its first complaint.
+-- A certificate certificate_line is read, or refused by its first complaint.
 use Rattle.std.proofs.Common.{ℕ, List, Option, Result, refl, sym, subst}
 use Rattle.dep_model.specs.Dependencies.{Dependency}
 use Rattle.derivation.specs.Trees.{Step, augmentation, complementation, maugmentation, replication, Pair, transitivity, mtransitivity, coalescence}
@@ -9,7 +9,7 @@ use Rattle.schema_grammar.specs.Rests.{Rest, ◌>>=◌, take, number, arrow, sid
 use Rattle.schema_grammar.specs.Grammar as grammar
 use Rattle.proof_grammar.specs.declared.rule_name.RuleName.{RuleName}
 use Rattle.proof_grammar.specs.declared.rule_name.RuleName.TheVariants as rule
-use Rattle.proof_grammar.specs.Lines.{Body, by_given, by_reflexivity, by_mreflexivity, by_step, by_pair, Line, one, two, augmented, maugmented, body, stated_dependency, unless, line, line_from}
+use Rattle.proof_grammar.specs.Lines.{Body, by_given, by_reflexivity, by_mreflexivity, by_step, by_pair, Line, one, two, augmented, maugmented, body, stated_dependency, unless, certificate_line, certificate_line_from}
 use Rattle.proof_grammar.specs.Readers.{colon, with_word}
 use Rattle.proof_grammar.proofs.FormShapes.{lhs, rhs, by, wide, narrow, nothing, second, sets, Shape, at_start, at_side, at_rule, at_premise, at_end, named}
 use Rattle.proof_grammar.proofs.JudgedLines.{Judged}
@@ -131,10 +131,10 @@ dependency_judged names at next_column ms stop f follows =
     (λ a to ks. in_row (at_side rhs) names at to ks stop (side names (left_at at to ks stop)) _ f
     (side_judged rhs names at to ks stop _ (λ y u last ls end. follows (grammar.stated a x y) u last ls end))))))
 
--- ---- the line
+-- ---- the certificate_line
 pub line_judged : (names : List (List ℕ)) (at next_column : ℕ) (ms : List Mark) (stop : Option Stop)
-    → Judged at_start names at next_column ms stop (line names (left_at at next_column ms stop))
-unfolding line line_from take
+    → Judged at_start names at next_column ms stop (certificate_line names (left_at at next_column ms stop))
+unfolding certificate_line certificate_line_from take
 line_judged names at next_column ms stop =
     first_judged names at next_column ms stop _
     (λ n a ks. colon_judged names at a ks stop _

@@ -13,7 +13,7 @@ use Rattle.schema_grammar.specs.declared.refusal.SchemaRefusalKind.TheVariants a
 use Rattle.schema_grammar.specs.declared.refusal.What.TheVariants as what
 use Rattle.schema_grammar.specs.Complaints.{span_at}
 use Rattle.schema_grammar.specs.Refusals.{at, refusal}
-use Rattle.schema_grammar.specs.Rests.{Rest, ◌>>=◌, place, take, words_from, side, side_from, is_word}
+use Rattle.schema_grammar.specs.Rests.{Rest, ◌>>=◌, place, take, words_from, side, side_from, is_word_token}
 use Rattle.schema_grammar.specs.Words.{is_reserved, looked_up, known}
 use Rattle.proof_grammar.specs.Lines.{Line}
 use Rattle.proof_grammar.specs.LineComplaints.{TokenForm, token_form}
@@ -85,7 +85,7 @@ word_stays : (k : Side) (other : TokenForm → Option Shape) (m : Mark) → m.ki
 word_stays k other m word = ap (λ (kd : TokenKind). within k (token_form kd m.word) (other (token_form kd m.word))) word
     ∙ within_word k other _ _
 
-other_leaves : (k : Side) (kd : TokenKind) (word : List ℕ) (other : Option Shape) → is_word kd ≡ false
+other_leaves : (k : Side) (kd : TokenKind) (word : List ℕ) (other : Option Shape) → is_word_token kd ≡ false
     → within k (token_form kd word) other ≡ other
 other_leaves k token.Word word other no_word = cc
 other_leaves k (token.Number n) word other no_word = refl
@@ -95,7 +95,7 @@ other_leaves k token.Empty word other no_word = refl
 other_leaves k token.Colon word other no_word = refl
 
 -- after words no word stands
-words_past : (k : Side) (names : List (List ℕ)) (m : Mark) (ms : List Mark) → is_word m.kind ≡ false
+words_past : (k : Side) (names : List (List ℕ)) (m : Mark) (ms : List Mark) → is_word_token m.kind ≡ false
     → PastSide k (past_words k) names (m ∷ ms)
 words_past k names m ms other = record {
   wants = refl;
@@ -120,10 +120,10 @@ unfolding words_from
 words_judged k names line x next_column [] stop f follows = follows x (past_words k) next_column []
     (record { wants = refl; final = refl; closes = tt })
 words_judged k names line x next_column (m ∷ ms) stop f follows =
-    told (is_word m.kind) refl (λ a. words_judged k names line (union x (only a))
+    told (is_word_token m.kind) refl (λ a. words_judged k names line (union x (only a))
     (m.column + length m.word) ms stop f follows)
   where
-    told : (b : Bool) → is_word m.kind ≡ b
+    told : (b : Bool) → is_word_token m.kind ≡ b
         → ((a : ℕ) → Judged (past_words k) names line (m.column + length m.word) ms stop
         (words_from names line (union x (only a)) (m.column + length m.word) ms stop >>= f))
         → Judged (past_words k) names line next_column (m ∷ ms) stop
@@ -140,7 +140,7 @@ words_judged k names line x next_column (m ∷ ms) stop f follows =
 
 -- a token with which no side begins
 no_side_here : (k : Side) (names : List (List ℕ)) (line next_column : ℕ) (m : Mark) (ms : List Mark) (stop : Option Stop)
-    → is_word m.kind ≡ false → turn (at_side k) (form m) ≡ None
+    → is_word_token m.kind ≡ false → turn (at_side k) (form m) ≡ None
     → Judged (at_side k) names line next_column (m ∷ ms) stop
     (Err (refusal line m.column (length m.word) (kind.Expected what.Side)))
 no_side_here k names line next_column m ms stop other cannot = stuck_here
@@ -168,9 +168,9 @@ side_judged k names line next_column (m ∷ ms) stop f follows = told m.kind ref
     told token.Empty is =
         goes_on (at_side k) (past_empty k) names line next_column m ms stop
         (f (none, left_at line (m.column + length m.word) ms stop)) (leads token.Empty is)
-        (not_word (at_side k) names m (ap is_word is)) (follows none (past_empty k) (m.column + length m.word) ms
+        (not_word (at_side k) names m (ap is_word_token is)) (follows none (past_empty k) (m.column + length m.word) ms
         (empty_past k names ms))
-    told (token.Number n) is = no_side_here k names line next_column m ms stop (ap is_word is) (leads (token.Number n) is)
-    told token.Arrow is = no_side_here k names line next_column m ms stop (ap is_word is) (leads token.Arrow is)
-    told token.DoubleArrow is = no_side_here k names line next_column m ms stop (ap is_word is) (leads token.DoubleArrow is)
-    told token.Colon is = no_side_here k names line next_column m ms stop (ap is_word is) (leads token.Colon is)
+    told (token.Number n) is = no_side_here k names line next_column m ms stop (ap is_word_token is) (leads (token.Number n) is)
+    told token.Arrow is = no_side_here k names line next_column m ms stop (ap is_word_token is) (leads token.Arrow is)
+    told token.DoubleArrow is = no_side_here k names line next_column m ms stop (ap is_word_token is) (leads token.DoubleArrow is)
+    told token.Colon is = no_side_here k names line next_column m ms stop (ap is_word_token is) (leads token.Colon is)

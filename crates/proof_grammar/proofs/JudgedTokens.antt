@@ -11,7 +11,7 @@ use Rattle.schema_grammar.specs.declared.refusal.SchemaRefusal.{SchemaRefusal}
 use Rattle.schema_grammar.specs.declared.refusal.What.{What}
 use Rattle.schema_grammar.specs.declared.refusal.What.TheVariants as what
 use Rattle.schema_grammar.specs.declared.symbol.Sign.{Sign}
-use Rattle.schema_grammar.specs.Rests.{Rest, ◌>>=◌, take, taken, expected, number, arrow, arrow_in, ended, is_word}
+use Rattle.schema_grammar.specs.Rests.{Rest, ◌>>=◌, take, taken, expected, number, arrow, arrow_in, ended, is_word_token}
 use Rattle.schema_grammar.specs.Texts.{number_in}
 use Rattle.proof_grammar.specs.declared.rule_name.RuleName.{RuleName}
 use Rattle.proof_grammar.specs.Lines.{Line, unless}
@@ -108,8 +108,8 @@ test_judged s names line next_column (m ∷ ms) stop want test t f wants open_en
 no_side : (s : Shape) (names : List (List ℕ)) (m : Mark) → takes_words s ≡ false → IsRight s names m
 no_side s names m none n takes complains = true≢false (sym takes ∙ none)
 
-pub not_word : (s : Shape) (names : List (List ℕ)) (m : Mark) → is_word m.kind ≡ false → IsRight s names m
-not_word s names m other n takes complains = let wrong : is_word m.kind ≡ true = ap is_word complains.0 in
+pub not_word : (s : Shape) (names : List (List ℕ)) (m : Mark) → is_word_token m.kind ≡ false → IsRight s names m
+not_word s names m other n takes complains = let wrong : is_word_token m.kind ≡ true = ap is_word_token complains.0 in
     true≢false (sym wrong ∙ other)
 
 -- a word of the grammar, or another, leads nowhere

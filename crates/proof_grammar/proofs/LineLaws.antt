@@ -1,4 +1,4 @@
--- A line of a certificate is read exactly where the grammar has one.
+-- A certificate_line of a certificate is read exactly where the grammar has one.
 use Rattle.std.specs.Prelude.{◌↔◌, ok_or}
 use Rattle.std.proofs.Common.{◌≡◌, ℕ, false, List, [], ◌∷◌, ◌++◌, Option, Some, None, Ok, refl, sym, ◌∙◌, ap, subst, append_assoc}
 use Rattle.attr_sets.specs.Places.{Places}
@@ -15,9 +15,9 @@ use Rattle.schema_grammar.specs.declared.symbol.Sign.TheVariants as sign
 use Rattle.schema_grammar.specs.declared.format.Format.TheVariants as format
 use Rattle.schema_grammar.specs.Grammar as grammar
 use Rattle.schema_grammar.specs.Meanings.{IsArrow, IsDependency}
-use Rattle.proof_grammar.specs.Lines.{Body, Line, body, stated_dependency, unless, line, line_from}
+use Rattle.proof_grammar.specs.Lines.{Body, Line, body, stated_dependency, unless, certificate_line, certificate_line_from}
 use Rattle.proof_grammar.specs.Meanings.{IsNumber, IsColon, IsCertificateLine, MeansLine}
-use Rattle.schema_grammar.specs.Rests.{Rest, rest_from, take, expected, number, arrow, ended, side, arrow_in, is_word}
+use Rattle.schema_grammar.specs.Rests.{Rest, rest_from, take, expected, number, arrow, ended, side, arrow_in, is_word_token}
 use Rattle.proof_grammar.specs.Readers.{colon, rule_name}
 use Rattle.proof_grammar.proofs.SideLaws.{bound, ok_same, ReadsSide, side_there, NoWord, side_back}
 use Rattle.proof_grammar.proofs.TokenLaws.{Reads, after_of, number_there, colon_there, arrow_there, rest_at, colon_back, arrow_back}
@@ -33,9 +33,9 @@ is_arrow_in : (s : Sign) (k : TokenKind) → IsArrow s k → arrow_in k ≡ Some
 is_arrow_in sign.Functional k is = ap arrow_in is
 is_arrow_in sign.Multivalued k is = ap arrow_in is
 
-arrow_other : (s : Sign) (k : TokenKind) → IsArrow s k → is_word k ≡ false
-arrow_other sign.Functional k is = ap is_word is
-arrow_other sign.Multivalued k is = ap is_word is
+arrow_other : (s : Sign) (k : TokenKind) → IsArrow s k → is_word_token k ≡ false
+arrow_other sign.Functional k is = ap is_word_token is
+arrow_other sign.Multivalued k is = ap is_word_token is
 
 -- a dependency that is read
 record ReadsDependency (names : List (List ℕ)) (r : Rest) (d : Dependency) (next : Rest) : Type 0 where
@@ -91,8 +91,8 @@ dependency_back names at from marks tail d is other =
           (ap (λ z. Ok (z, rest_at at right.next_column tail)) (sym is.states));
     }
 
--- ---- the line
--- a value that is given only where a line ends
+-- ---- the certificate_line
+-- a value that is given only where a certificate_line ends
 record Ends (r : Rest) : Type 0 where
   marks : r.marks ≡ []
   stop : r.stop ≡ None
@@ -106,7 +106,7 @@ unless_there {X} r x y e = told r.marks r.stop refl refl e
     told [] (Some stop) here there e = cc
     told (m ∷ ms) stop here there e = cc
 
--- a line that is read
+-- a certificate_line that is read
 pub record ReadsLine (names : List (List ℕ)) (start : Rest) (l : Line) : Type 0 where
   pub is_line : IsCertificateLine names start.marks l
   pub stop : start.stop ≡ None
@@ -135,8 +135,8 @@ number_read : (start : Rest) (t : Mark × Rest) (n : ℕ) → take what.Number s
 unfolding number
 number_read start t n takes is = rw (takes, is) refl
 
-pub line_reads : (names : List (List ℕ)) (start : Rest) (l : Line) → line names start ≡ Ok l → ReadsLine names start l
-unfolding line line_from
+pub line_reads : (names : List (List ℕ)) (start : Rest) (l : Line) → certificate_line names start ≡ Ok l → ReadsLine names start l
+unfolding certificate_line certificate_line_from
 line_reads names start l e =
     let t = bound (take what.Number start) _ l e in
     let n = bound (ok_or (number_in t.value.0.kind) (expected what.Number t.value.0 t.value.1)) _ l t.goes_on in
@@ -151,19 +151,19 @@ line_reads names start l e =
     (number_there start (n.value, t.value.1) (number_read start t.value n.value t.is n.is)) (colon_there t.value.1 a.value a.is) (dependency_there names a.value d.value d.is) (colon_there d.value.1 b.value b.is)
     (rule_there names b.value r.value x.value r.is x.is) end.1)
 
-pub line_there : (names : List (List ℕ)) (number : ℕ) (text : List ℕ) (l : Line) → line names (rest_from number 1 (lex mode.Numbered text)) ≡ Ok l → MeansLine names text l
+pub line_there : (names : List (List ℕ)) (number : ℕ) (text : List ℕ) (l : Line) → certificate_line names (rest_from number 1 (lex mode.Numbered text)) ≡ Ok l → MeansLine names text l
 line_there names number text l e =
     let reads = line_reads names (rest_from number 1 (lex mode.Numbered text)) l e in
     record { marks = (lex mode.Numbered text).marks; tokens = λ i. record { marks = (lex mode.Numbered text).marks; stop = reads.stop i }; is_line = reads.is_line }
 
--- tokens that are a line are read as it, from any column
-pub marks_read : (names : List (List ℕ)) (at from : ℕ) (ms : List Mark) (l : Line) → IsCertificateLine names ms l → line names (rest_at at from ms) ≡ Ok l
-unfolding line line_from take ended
+-- tokens that are a certificate_line are read as it, from any column
+pub marks_read : (names : List (List ℕ)) (at from : ℕ) (ms : List Mark) (l : Line) → IsCertificateLine names ms l → certificate_line names (rest_at at from ms) ≡ Ok l
+unfolding certificate_line certificate_line_from take ended
 marks_read names at from ms l is =
     let rest = is.stated ++ is.second ∷ is.rule in
-    let d = dependency_back names at (after_of is.first) is.stated (is.second ∷ is.rule) l.stated is.dependency (ap is_word is.second_colon) in
+    let d = dependency_back names at (after_of is.first) is.stated (is.second ∷ is.rule) l.stated is.dependency (ap is_word_token is.second_colon) in
     let r = rule_back names at (after_of is.second) is.rule l.body is.is_rule in
-    ap (λ t. line names (rest_at at from t)) is.whole
+    ap (λ t. certificate_line names (rest_at at from t)) is.whole
     ∙ rw (
       is.is_number,
       colon_back at (after_of is.number) is.first rest is.first_colon,
@@ -173,8 +173,8 @@ marks_read names at from ms l is =
       r.read,
     ) refl
 
-pub line_back : (names : List (List ℕ)) (number : ℕ) (text : List ℕ) (l : Line) → MeansLine names text l → line names (rest_from number 1 (lex mode.Numbered text)) ≡ Ok l
-line_back names at text l means = ap (λ t. line names (rest_from at 1 t)) means.tokens ∙ marks_read names at 1 means.marks l means.is_line
+pub line_back : (names : List (List ℕ)) (number : ℕ) (text : List ℕ) (l : Line) → MeansLine names text l → certificate_line names (rest_from number 1 (lex mode.Numbered text)) ≡ Ok l
+line_back names at text l means = ap (λ t. certificate_line names (rest_from at 1 t)) means.tokens ∙ marks_read names at 1 means.marks l means.is_line
 
-pub line_law : (names : List (List ℕ)) (number : ℕ) (text : List ℕ) (l : Line) → (line names (rest_from number 1 (lex mode.Numbered text)) ≡ Ok l) ↔ MeansLine names text l
+pub line_law : (names : List (List ℕ)) (number : ℕ) (text : List ℕ) (l : Line) → (certificate_line names (rest_from number 1 (lex mode.Numbered text)) ≡ Ok l) ↔ MeansLine names text l
 line_law names number text l = (line_there names number text l, line_back names number text l)

@@ -1,4 +1,4 @@
--- A line of a certificate is refused exactly by its first complaint.
+-- A certificate_line of a certificate is refused exactly by its first complaint.
 use Rattle.std.specs.Prelude.{◌↔◌, slice_get}
 use Rattle.std.proofs.Common.{◌≡◌, ◌<◌, ◌⊎◌, inl, inr, ℕ, zero, suc, Bool, true, false, List, [], ◌∷◌, length, take, Option, Some, None, Ok, Err, Result, refl, sym, ◌∙◌, ap, subst, arith}
 use Rattle.std.proofs.lemmas.List.{take_all}
@@ -14,7 +14,7 @@ use Rattle.schema_grammar.specs.Rests.{rest_from}
 use Rattle.schema_grammar.proofs.ComplaintLaws.{Carries-map, same_mark}
 use Rattle.schema_grammar.proofs.OneRefusal.{OneWant, one_first}
 use Rattle.proof_grammar.specs.declared.rule_name.RuleName.TheVariants as rule
-use Rattle.proof_grammar.specs.Lines.{Line, line}
+use Rattle.proof_grammar.specs.Lines.{Line, certificate_line}
 use Rattle.proof_grammar.specs.LineComplaints.{TokenForm, forms, a_number, a_colon, an_arrow, an_empty, a_with, a_rule, a_word, AreLine, BeginLine, CannotGoOn, SideWordComplaint, TokensComplaint, FormsWant, TokensWant, RefusesTokens, RefusesCertificateLine}
 use Rattle.proof_grammar.proofs.FormLines.{begins_from, begins_on, begins_to, final_line, line_ends, same_shape, takes_names, wants_from, word_taken}
 use Rattle.proof_grammar.proofs.FormShapes.{Side, lhs, rhs, by, wide, narrow, Shape, at_start, past_number, at_side, past_words, past_empty, at_rule, at_premise, at_with, at_end, bind, is_final, is_last, past_arrow, past_colon, runs, takes_words, turn, wanted_after, wanted_by}
@@ -324,13 +324,13 @@ first_there names at ms stop e first = record {
 }
 
 tokens_there : (names : List (List ℕ)) (at : ℕ) (ms : List Mark) (stop : Option Stop) (e : SchemaRefusal)
-    → line names (left_at at 1 ms stop) ≡ Err e → RefusesTokens names at ms stop e
+    → certificate_line names (left_at at 1 ms stop) ≡ Err e → RefusesTokens names at ms stop e
 tokens_there names at ms stop e is = first_there names at ms stop e (subst (Judged at_start names at 1 ms stop) is
     (line_judged names at 1 ms stop))
 
 tokens_back : (names : List (List ℕ)) (at : ℕ) (ms : List Mark) (stop : Option Stop) (e : SchemaRefusal)
-    → RefusesTokens names at ms stop e → line names (left_at at 1 ms stop) ≡ Err e
-tokens_back names at ms stop e refuses = told (line names (left_at at 1 ms stop)) (line_judged names at 1 ms stop)
+    → RefusesTokens names at ms stop e → certificate_line names (left_at at 1 ms stop) ≡ Err e
+tokens_back names at ms stop e refuses = told (certificate_line names (left_at at 1 ms stop)) (line_judged names at 1 ms stop)
   where
     told : (r : Result Line SchemaRefusal) → Judged at_start names at 1 ms stop r → r ≡ Err e
     told (Ok l) judged = absurd (judged.2 refuses.place (refusal_number e.kind)
@@ -341,15 +341,15 @@ tokens_back names at ms stop e refuses = told (line names (left_at at 1 ms stop)
         (λ p. one_want (take p (forms ms))) (first_there names at ms stop f judged) refuses)
 
 pub line_refuses : (names : List (List ℕ)) (number : ℕ) (text : List ℕ) (e : SchemaRefusal)
-    → line names (rest_from number 1 (lex mode.Numbered text)) ≡ Err e → RefusesCertificateLine names number text e
+    → certificate_line names (rest_from number 1 (lex mode.Numbered text)) ≡ Err e → RefusesCertificateLine names number text e
 line_refuses names number text e is = tokens_there names number (lex mode.Numbered text).marks
     (lex mode.Numbered text).stop e is
 
 pub refuses_line : (names : List (List ℕ)) (number : ℕ) (text : List ℕ) (e : SchemaRefusal)
-    → RefusesCertificateLine names number text e → line names (rest_from number 1 (lex mode.Numbered text)) ≡ Err e
+    → RefusesCertificateLine names number text e → certificate_line names (rest_from number 1 (lex mode.Numbered text)) ≡ Err e
 refuses_line names number text e refuses = tokens_back names number (lex mode.Numbered text).marks
     (lex mode.Numbered text).stop e refuses
 
 pub refusal_law : (names : List (List ℕ)) (number : ℕ) (text : List ℕ) (e : SchemaRefusal)
-    → (line names (rest_from number 1 (lex mode.Numbered text)) ≡ Err e) ↔ RefusesCertificateLine names number text e
+    → (certificate_line names (rest_from number 1 (lex mode.Numbered text)) ≡ Err e) ↔ RefusesCertificateLine names number text e
 refusal_law names number text e = (line_refuses names number text e, refuses_line names number text e)

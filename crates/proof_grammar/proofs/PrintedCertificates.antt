@@ -21,7 +21,7 @@ use Rattle.schema_grammar.proofs.PrintedSides.{printed_names}
 use Rattle.schema_grammar.proofs.PrintedTexts.{Bytes, bytes_both, words_bytes, EachBytes, lines_cut, each_dependency, is_line_byte}
 use Rattle.proof_grammar.specs.Lines.{Body, by_given, by_reflexivity, by_mreflexivity, by_step, by_pair, Line}
 use Rattle.proof_grammar.specs.Meanings.{certificate_lines, without_yes, is_yes_alone, is_yes_from, MeansLine, MeanLines}
-use Rattle.proof_grammar.specs.Printing.{step_word, sides_text, pair_word, body_text, line_text, lines_text}
+use Rattle.proof_grammar.specs.Printing.{step_word, sides_text, pair_word, body_text, certificate_line_text, certificate_lines_text}
 use Rattle.proof_grammar.specs.Texts.{is_blank, is_blank_from, is_yes}
 use Rattle.proof_grammar.specs.Printable.{FewDigits, IsPrintableLine, ArePrintableLines}
 use Rattle.proof_grammar.proofs.PrintedTokens.{decimal_is}
@@ -94,7 +94,7 @@ each_line names [] are all = tt
 each_line names (l ∷ ls) are (here, rest) = (line_bytes names l are here, each_line names ls are rest)
 
 -- ---- the lines of the text
-lines_are : (names : List (List ℕ)) (ls : List Line) → lines_text names ls ≡ texts.lines_text (map (printed names) ls)
+lines_are : (names : List (List ℕ)) (ls : List Line) → certificate_lines_text names ls ≡ texts.lines_text (map (printed names) ls)
 lines_are names [] = refl
 lines_are names (l ∷ ls) = rw (line_text_is names l) (ap (λ t. (printed names l ++ codes "\n") ++ t) (lines_are names ls))
 
@@ -115,11 +115,11 @@ unmarked : (text : List ℕ) → BeginsWithDigit text → without_mark text ≡ 
 unmarked [] e = refl
 unmarked (b ∷ bs) e = let other : (239 == b) ≡ false = grind (arith, nat_tests) in rw other refl
 
-no_mark : (names : List (List ℕ)) (ls : List Line) → ArePrintableLines names ls → without_mark (lines_text names ls) ≡ lines_text names ls
+no_mark : (names : List (List ℕ)) (ls : List Line) → ArePrintableLines names ls → without_mark (certificate_lines_text names ls) ≡ certificate_lines_text names ls
 no_mark names [] all = refl
-no_mark names (l ∷ ls) (here, rest) = unmarked (lines_text names (l ∷ ls)) (begins_with (line_text names l) (lines_text names ls) first)
+no_mark names (l ∷ ls) (here, rest) = unmarked (certificate_lines_text names (l ∷ ls)) (begins_with (certificate_line_text names l) (certificate_lines_text names ls) first)
   where
-    first : BeginsWithDigit (line_text names l)
+    first : BeginsWithDigit (certificate_line_text names l)
     first =
         let is = decimal_is l.number here.number in
         let of : List ℕ → Type 0 = λ t. BeginsWithDigit t in
@@ -152,17 +152,17 @@ none_yes names (t ∷ ts) [] mean = absurd mean
 none_yes names (t ∷ ts) (l ∷ ls) (here, rest) = rw (means_not_yes names t l here) refl
 
 printed_lines : (names : List (List ℕ)) (ls : List Line) → AreNames format.Plain names → ArePrintableLines names ls
-    → certificate_lines (lines_text names ls) ≡ map (printed names) ls
+    → certificate_lines (certificate_lines_text names ls) ≡ map (printed names) ls
 printed_lines names ls are all =
     let means = each_means names ls are all in
-    let cut : line_texts (without_mark (lines_text names ls)) ≡ map (printed names) ls ++ [] ∷ [] =
+    let cut : line_texts (without_mark (certificate_lines_text names ls)) ≡ map (printed names) ls ++ [] ∷ [] =
     ap line_texts (no_mark names ls all ∙ lines_are names ls) ∙ lines_cut (map (printed names) ls) (each_line names ls are all) in
     ap (λ ts. without_yes (filter (λ line. not (is_blank (lex mode.Numbered line))) ts)) cut
     ∙ ap without_yes (none_blank names (map (printed names) ls) ls means) ∙ none_yes names (map (printed names) ls) ls means
 
 -- the lines of what is printed mean what was printed
 pub printed_lines_mean : (names : List (List ℕ)) (ls : List Line) → AreNames format.Plain names → ArePrintableLines names ls
-    → MeanLines names (certificate_lines (lines_text names ls)) ls
+    → MeanLines names (certificate_lines (certificate_lines_text names ls)) ls
 printed_lines_mean names ls are all =
     let of : List (List ℕ) → Type 0 = λ ts. MeanLines names ts ls in subst of (sym (printed_lines names ls are all)) (each_means names ls are all)
 
@@ -183,15 +183,15 @@ yes_passed : (names : List (List ℕ)) (ts : List (List ℕ)) (ls : List Line) �
 yes_passed names ts ls mean = rw (yes_not_blank, none_blank names ts ls mean, yes_alone) refl
 
 answered_lines : (names : List (List ℕ)) (ls : List Line) → AreNames format.Plain names → ArePrintableLines names ls
-    → certificate_lines (codes "yes\n" ++ lines_text names ls) ≡ map (printed names) ls
+    → certificate_lines (codes "yes\n" ++ certificate_lines_text names ls) ≡ map (printed names) ls
 answered_lines names ls are all =
     let ts = map (printed names) ls in
-    let cut : line_texts (codes "yes\n" ++ lines_text names ls) ≡ codes "yes" ∷ (ts ++ [] ∷ []) =
+    let cut : line_texts (codes "yes\n" ++ certificate_lines_text names ls) ≡ codes "yes" ∷ (ts ++ [] ∷ []) =
     ap (λ t. line_texts (codes "yes\n" ++ t)) (lines_are names ls) ∙ lines_cut (codes "yes" ∷ ts) (refl, each_line names ls are all) in
     ap (λ lines. without_yes (filter (λ line. not (is_blank (lex mode.Numbered line))) lines)) cut ∙ yes_passed names ts ls (each_means names ls are all)
 
 -- they mean the same after the answer
 pub answered_lines_mean : (names : List (List ℕ)) (ls : List Line) → AreNames format.Plain names → ArePrintableLines names ls
-    → MeanLines names (certificate_lines (codes "yes\n" ++ lines_text names ls)) ls
+    → MeanLines names (certificate_lines (codes "yes\n" ++ certificate_lines_text names ls)) ls
 answered_lines_mean names ls are all =
     let of : List (List ℕ) → Type 0 = λ ts. MeanLines names ts ls in subst of (sym (answered_lines names ls are all)) (each_means names ls are all)

@@ -16,7 +16,7 @@ use Rattle.schema_grammar.proofs.PrintedDependencies.{led_marks, nothing_left}
 use Rattle.schema_grammar.proofs.PrintedSides.{printed_side}
 use Rattle.proof_grammar.specs.Lines.{Body, by_given, by_reflexivity, by_mreflexivity, by_step, by_pair, Line}
 use Rattle.proof_grammar.specs.Meanings.{step_name, pair_name, HasSets, IsRule, MeansLine}
-use Rattle.proof_grammar.specs.Printing.{step_word, sides_text, pair_word, body_text, line_text, IsStepWithin, IsBodyWithin}
+use Rattle.proof_grammar.specs.Printing.{step_word, sides_text, pair_word, body_text, certificate_line_text, IsStepWithin, IsBodyWithin}
 use Rattle.proof_grammar.specs.Printable.{FewDigits, IsPrintableLine}
 use Rattle.proof_grammar.proofs.PrintedTokens.{Anything, Lexes, lexes_both, word_mark, number_mark, colon_mark, lexes_word, lexes_blank, lexes_keyword, lexes_decimal, lexes_colon, lexes_spaced_colon, lexes_set, prints_dependency}
 
@@ -159,8 +159,8 @@ lexed_whole text marks end whole =
 abbrev pub printed : List (List ℕ) → Line → List ℕ
 printed names l = decimal l.number ++ codes ": " ++ dependency_text names l.stated ++ codes " : " ++ body_text names l.body
 
-pub line_text_is : (names : List (List ℕ)) (l : Line) → line_text names l ≡ printed names l ++ codes "\n"
-unfolding line_text
+pub line_text_is : (names : List (List ℕ)) (l : Line) → certificate_line_text names l ≡ printed names l ++ codes "\n"
+unfolding certificate_line_text
 line_text_is names l = refl
 
 pub printed_means : (names : List (List ℕ)) (l : Line) → AreNames format.Plain names → IsPrintableLine names l → MeansLine names (printed names l) l
@@ -198,5 +198,5 @@ printed_means names l are is =
     }
 
 pub printed_line-law : (names : List (List ℕ)) (l : Line) → AreNames format.Plain names → IsPrintableLine names l
-    → (text : List ℕ) × (line_text names l ≡ text ++ codes "\n") × MeansLine names text l
+    → (text : List ℕ) × (certificate_line_text names l ≡ text ++ codes "\n") × MeansLine names text l
 printed_line-law names l are is = (printed names l, line_text_is names l, printed_means names l are is)

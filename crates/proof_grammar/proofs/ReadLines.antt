@@ -17,7 +17,7 @@ use Rattle.proof_grammar.specs.Lines.{Line}
 use Rattle.proof_grammar.specs.Meanings.{certificate_lines_of, MeansLine, MeanLines}
 use Rattle.schema_grammar.specs.Rests.{◌>>=◌}
 use Rattle.proof_grammar.specs.Spelling.{uses}
-use Rattle.proof_grammar.specs.Texts.{at_line, read_lines}
+use Rattle.proof_grammar.specs.Texts.{at_line, read_certificate_lines}
 use Rattle.proof_grammar.proofs.CheckedLemmas.{bind_ok}
 use Rattle.proof_grammar.proofs.CountedLines.{counted, Counts}
 use Rattle.proof_grammar.proofs.DepthLemmas.{uses_first, nodes_size}
@@ -34,7 +34,7 @@ marked r = r >>= λ next. Ok (false, next)
 
 -- what is read of a line, and after it
 abbrev pub read_from : Schema → ℕ → List (List ℕ) → Result (Bool × Ledger) Complaint → Result Tree LineComplaint
-read_from s number texts r = at_line number r >>= λ next. read_lines s next.0 (number + 1) next.1 texts
+read_from s number texts r = at_line number r >>= λ next. read_certificate_lines s next.0 (number + 1) next.1 texts
 
 -- ---- what follows lines
 pub follows_same : (s : Schema) (used other : ℕ → ℕ) (ts : List Tree) (book : Ledger) → ((n : ℕ) → used n ≡ other n) → Follows s used ts book → Follows s other ts book

@@ -10,7 +10,7 @@ use Rattle.proof_grammar.specs.declared.rule_name.RuleName.{RuleName}
 use Rattle.proof_grammar.specs.declared.rule_name.RuleName.TheVariants as rule
 use Rattle.proof_grammar.specs.Lines.{Body, by_given, by_reflexivity, by_mreflexivity, by_step, by_pair, one, two, augmented, maugmented, body}
 use Rattle.proof_grammar.specs.Meanings.{IsColon, IsNumber, IsKeyword, step_name, pair_name, HasSets, IsRule, IsAugmented, IsWidened}
-use Rattle.schema_grammar.specs.Rests.{Rest, number, side, is_word}
+use Rattle.schema_grammar.specs.Rests.{Rest, number, side, is_word_token}
 use Rattle.proof_grammar.specs.Readers.{colon, with_word, rule_name}
 use Rattle.proof_grammar.proofs.SideLaws.{bound, ok_same, ReadsSide, side_there, side_back}
 use Rattle.proof_grammar.proofs.TokenLaws.{Reads, spelled, after_of, number_there, colon_there, with_there, rule_name_there, rest_at, number_back, colon_back, with_back, rule_name_back}
@@ -235,7 +235,7 @@ maugmented_back : (names : List (List ℕ)) (line from p : ℕ) (w z : Places) (
 unfolding body maugmented
 maugmented_back names line from p w z m sets is has =
     let tail = has.colon ∷ has.narrow ++ [] in
-    let wide = side_back names line (after_of has.keyword) has.wide tail None w has.wide_side (ap is_word has.is_colon) in
+    let wide = side_back names line (after_of has.keyword) has.wide tail None w has.wide_side (ap is_word_token has.is_colon) in
     let last = side_back names line (after_of has.colon) has.narrow [] None z has.narrow_side tt in
     let same : sets ≡ has.keyword ∷ has.wide ++ tail = has.whole ∙ ap (λ t. has.keyword ∷ has.wide ++ has.colon ∷ t) (sym (append-nil has.narrow)) in
     record {

@@ -17,7 +17,7 @@ use Rattle.schema_grammar.specs.Meanings.{named, IsAttribute, IsSide}
 use Rattle.schema_grammar.specs.Refusals.{at}
 use Rattle.schema_grammar.specs.Words.{is_reserved, looked_up, known}
 use Rattle.schema_grammar.proofs.SideLemmas.{union-only, union-none, named-cons, Names}
-use Rattle.schema_grammar.specs.Rests.{place, Rest, ◌>>=◌, take, taken, words_from, side, side_from, is_word}
+use Rattle.schema_grammar.specs.Rests.{place, Rest, ◌>>=◌, take, taken, words_from, side, side_from, is_word_token}
 
 -- a step of a reading that gives a value: its own value, and what follows
 pub record Bound {A B E : Type 0} (r : Result A E) (next : A → Result B E) (y : B) : Type 0 where
@@ -67,7 +67,7 @@ place_back : (names : List (List ℕ)) (line : ℕ) (m : Mark) (attribute : IsAt
 unfolding looked_up
 place_back names line m attribute = rw (attribute.free, attribute.known) refl
 
-pub word_is : (k : TokenKind) → is_word k ≡ true → k ≡ token.Word
+pub word_is : (k : TokenKind) → is_word_token k ≡ true → k ≡ token.Word
 word_is token.Word e = refl
 word_is _ e = cc
 
@@ -95,9 +95,9 @@ words_there : (names : List (List ℕ)) (line : ℕ) (acc : Places) (next_column
 unfolding words_from
 words_there names line acc next_column [] stop x next e = words_none names acc _ x next e
 words_there names line acc next_column (m ∷ ms) stop x next e =
-    told (is_word m.kind) refl e (λ a. words_there names line (union acc (only a)) (m.column + length m.word) ms stop x next)
+    told (is_word_token m.kind) refl e (λ a. words_there names line (union acc (only a)) (m.column + length m.word) ms stop x next)
   where
-    told : (b : Bool) → is_word m.kind ≡ b
+    told : (b : Bool) → is_word_token m.kind ≡ b
         → cond b (place names line m >>= λ a. words_from names line (union acc (only a)) (m.column + length m.word) ms stop) (Ok (acc, record { line = line; next_column = next_column; marks = m ∷ ms; stop = stop })) ≡ Ok (x, next)
         → ((a : ℕ) → words_from names line (union acc (only a)) (m.column + length m.word) ms stop ≡ Ok (x, next) → ReadsWords names (union acc (only a)) ms stop x next)
         → ReadsWords names acc (m ∷ ms) stop x next
@@ -161,7 +161,7 @@ side_there names r s e =
 -- what stands after words is no word
 abbrev pub NoWord : List Mark → Type 0
 NoWord [] = Unit {0}
-NoWord (m ∷ ms) = is_word m.kind ≡ false
+NoWord (m ∷ ms) = is_word_token m.kind ≡ false
 
 record WordsRead (names : List (List ℕ)) (line : ℕ) (acc : Places) (from : ℕ) (words tail : List Mark) (stop : Option Stop) (x : Places) : Type 0 where
   next_column : ℕ

@@ -12,14 +12,14 @@ use Rattle.lexer.specs.Tokens.{lex}
 use Rattle.schema_grammar.specs.declared.refusal.SchemaRefusal.{SchemaRefusal}
 use Rattle.proof_grammar.specs.declared.line_kind.LineKind.{LineKind}
 use Rattle.proof_grammar.specs.declared.line_kind.LineKind.TheVariants.{Blank, Opening, Certificate}
-use Rattle.proof_grammar.specs.Books.{Ledger, complaint_at, entered, finished}
+use Rattle.proof_grammar.specs.Books.{Ledger, complaint_at, entered, finished_certificate}
 use Rattle.proof_grammar.specs.Complaints.{Complaint, LineComplaint, complaint_of, IsFoundAt}
 use Rattle.proof_grammar.specs.declared.refusal.ProofRefusal.{ProofRefusal}
-use Rattle.proof_grammar.specs.Lines.{Line, line}
+use Rattle.proof_grammar.specs.Lines.{Line, certificate_line}
 use Rattle.proof_grammar.specs.Meanings.{certificate_lines_of, MeansLine, MeanLines}
 use Rattle.schema_grammar.specs.Rests.{◌>>=◌, rest_from}
 use Rattle.proof_grammar.specs.Spelling.{AreNodes, uses}
-use Rattle.proof_grammar.specs.Texts.{in_line, read_as, line_kind, read_one, read_lines, read_proof}
+use Rattle.proof_grammar.specs.Texts.{in_line, read_as, line_kind, read_one, read_certificate_lines, read_proof}
 use Rattle.proof_grammar.proofs.CountedLines.{counted, Counts, kind_counts, line_of_attributes}
 use Rattle.proof_grammar.proofs.DepthLemmas.{nodes_size}
 use Rattle.proof_grammar.proofs.EnteredLaws.{entered_there}
@@ -58,7 +58,7 @@ never_there s text before fresh lines trees book e afterwards first =
     }
 
 end_there : (s : Schema) (text : List ℕ) (before : List (List ℕ)) (fresh : Bool) (lines : List Line) (trees : List Tree) (book : Ledger) (number : ℕ) (e : LineComplaint)
-    → line_texts (without_mark text) ≡ before → number ≡ length before + 1 → HasReadLines s text before fresh lines trees book → finished (number - 1) book ≡ Err e → IsRefusedCertificate s text e
+    → line_texts (without_mark text) ≡ before → number ≡ length before + 1 → HasReadLines s text before fresh lines trees book → finished_certificate (number - 1) book ≡ Err e → IsRefusedCertificate s text e
 end_there s text before fresh lines trees book number e cut count afterwards h = inr (record {
   lines = lines;
   trees = trees;
@@ -74,12 +74,12 @@ end_there s text before fresh lines trees book number e cut count afterwards h =
       (finished_refused s (λ n. uses n lines) trees book (number - 1) e afterwards.follows h);
 })
 
--- ---- line by line
+-- ---- certificate_line by certificate_line
 -- what is refused of the lines after some others
 abbrev RefusesOn : Schema → List ℕ → LineComplaint → ℕ → List (List ℕ) → Type 0
 RefusesOn s text e number texts =
     (before : List (List ℕ)) (fresh : Bool) (lines : List Line) (trees : List Tree) (book : Ledger) → line_texts (without_mark text) ≡ before ++ texts → number ≡ length before + 1
-    → HasReadLines s text before fresh lines trees book → read_lines s fresh number book texts ≡ Err e → IsRefusedCertificate s text e
+    → HasReadLines s text before fresh lines trees book → read_certificate_lines s fresh number book texts ≡ Err e → IsRefusedCertificate s text e
 
 line_refused : (k : LineKind) (s : Schema) (text : List ℕ) (e : LineComplaint) (number : ℕ) (here : List ℕ) (texts before : List (List ℕ)) (fresh : Bool) (lines : List Line) (trees : List Tree)
     (book : Ledger) → line_texts (without_mark text) ≡ before ++ here ∷ texts → number ≡ length before + 1 → HasReadLines s text before fresh lines trees book → Counts k fresh here
@@ -92,12 +92,12 @@ line_refused Opening s text e number here texts before fresh lines trees book cu
     on (before ++ here ∷ []) false lines trees book (cut ∙ sym (append_assoc before (here ∷ []) texts)) (omega (arith, count, length-append before (here ∷ [])))
     (passed s text before fresh false lines trees book here afterwards counts) h
 line_refused Certificate s text e number here texts before fresh lines trees book cut count afterwards counts on h =
-    told (line (names_of s) (rest_from number 1 (lex mode.Numbered here))) refl h
+    told (certificate_line (names_of s) (rest_from number 1 (lex mode.Numbered here))) refl h
   where
     stands : StandsAt text before here number
     stands = record { after = texts; cut = cut; number = count; counts = counts_here s text before fresh lines trees book here afterwards counts }
 
-    told : (r : Result Line SchemaRefusal) → line (names_of s) (rest_from number 1 (lex mode.Numbered here)) ≡ r
+    told : (r : Result Line SchemaRefusal) → certificate_line (names_of s) (rest_from number 1 (lex mode.Numbered here)) ≡ r
         → read_from s number texts (in_line r >>= λ l. marked (entered s number book l)) ≡ Err e → IsRefusedCertificate s text e
     told (Err refusal) grammar g =
         subst (IsRefusedCertificate s text) (the_err {A = Tree} {E = LineComplaint} _ e g)
@@ -140,7 +140,7 @@ line_refused Certificate s text e number here texts before fresh lines trees boo
             (one_more s text before fresh lines trees book here number l enters.0 next afterwards counts stands means enter enters.1) f
 
 lines_refused : (s : Schema) (text : List ℕ) (e : LineComplaint) (number : ℕ) (texts : List (List ℕ)) → RefusesOn s text e number texts
-unfolding read_lines read_one
+unfolding read_certificate_lines read_one
 lines_refused s text e number [] before fresh lines trees book cut count afterwards h =
     end_there s text before fresh lines trees book number e (cut ∙ append-nil before) count afterwards h
 lines_refused s text e number (here ∷ texts) before fresh lines trees book cut count afterwards h =
@@ -153,7 +153,7 @@ unfolding read_proof
 refused_there s text e h = lines_refused s text e 1 (line_texts (without_mark text)) [] true [] [] (record { lines = []; unused = [] }) refl refl (at_start s text) h
 
 -- ---- from what goes wrong
--- a line that stands in a text counts
+-- a certificate_line that stands in a text counts
 not_passed : (s : Schema) (text : List ℕ) (before : List (List ℕ)) (here : List ℕ) (at : ℕ) (fresh : Bool) (lines : List Line) (trees : List Tree) (book : Ledger)
     → HasReadLines s text before fresh lines trees book → StandsAt text before here at → counted fresh (here ∷ []) ≡ [] → ⊥
 not_passed s text before here at fresh lines trees book afterwards stands none =
@@ -181,15 +181,15 @@ line_refuses Certificate s text e before after here fresh lines trees book after
     rw (reads, refuses) refl
 
 at_back : (s : Schema) (text : List ℕ) (e : LineComplaint) → IsRefusedAt s text e → read_proof s text ≡ Err e
-unfolding read_proof read_lines read_one
+unfolding read_proof read_certificate_lines read_one
 at_back s text e refused =
     let stands = refused.stands in
     let here = refused.here in
     let after_it = here ∷ stands.after in
     let walk = walked s text refused.before after_it refused.lines refused.trees stands.cut refused.mean refused.read in
-    ap (read_lines s true 1 (record { lines = []; unused = [] })) stands.cut
+    ap (read_certificate_lines s true 1 (record { lines = []; unused = [] })) stands.cut
     ∙ walk.same
-    ∙ ap (λ n. read_lines s walk.fresh n walk.book after_it) (sym stands.number)
+    ∙ ap (λ n. read_certificate_lines s walk.fresh n walk.book after_it) (sym stands.number)
     ∙ line_refuses (line_kind walk.fresh (lex mode.Numbered here)) s text e refused.before stands.after here walk.fresh refused.lines refused.trees walk.book walk.afterwards stands
     (kind_counts walk.fresh here _ refl) refused.why
 
@@ -199,7 +199,7 @@ no_trees s [] (t ∷ ts) nodes none = absurd nodes
 no_trees s (l ∷ ls) (t ∷ ts) nodes none = cc
 
 end_refuses : (s : Schema) (text : List ℕ) (e : LineComplaint) (whole : List (List ℕ)) (fresh : Bool) (lines : List Line) (trees : List Tree) (book : Ledger)
-    → line_texts (without_mark text) ≡ whole → HasReadLines s text whole fresh lines trees book → IsEmptyProof text lines e ⊎ IsNeverUsed text lines e → finished (length whole + 1 - 1) book ≡ Err e
+    → line_texts (without_mark text) ≡ whole → HasReadLines s text whole fresh lines trees book → IsEmptyProof text lines e ⊎ IsNeverUsed text lines e → finished_certificate (length whole + 1 - 1) book ≡ Err e
 end_refuses s text e whole fresh lines trees book cut afterwards (inl empty) =
     let none = no_trees s lines trees afterwards.read.nodes empty.none in
     let slots = subst (λ (ts : List Tree). AreSlots s (λ n. uses n lines) 0 ts book.unused) none afterwards.follows.slots in
@@ -222,12 +222,12 @@ end_refuses s text e whole fresh lines trees book cut afterwards (inr never) =
     })
 
 end_back : (s : Schema) (text : List ℕ) (e : LineComplaint) → IsUnfinished s text e → read_proof s text ≡ Err e
-unfolding read_proof read_lines
+unfolding read_proof read_certificate_lines
 end_back s text e refused =
     let whole = line_texts (without_mark text) in
     let cut : whole ≡ whole ++ [] = sym (append-nil whole) in
     let walk = walked s text whole [] refused.lines refused.trees cut refused.mean refused.read in
-    ap (read_lines s true 1 (record { lines = []; unused = [] })) cut
+    ap (read_certificate_lines s true 1 (record { lines = []; unused = [] })) cut
     ∙ walk.same
     ∙ end_refuses s text e whole walk.fresh refused.lines refused.trees walk.book refl walk.afterwards refused.why
 

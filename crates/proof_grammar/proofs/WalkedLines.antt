@@ -16,7 +16,7 @@ use Rattle.proof_grammar.specs.Complaints.{LineComplaint}
 use Rattle.proof_grammar.specs.Lines.{Line}
 use Rattle.proof_grammar.specs.Meanings.{certificate_lines_of, MeanLines}
 use Rattle.proof_grammar.specs.Spelling.{AreNodes, uses}
-use Rattle.proof_grammar.specs.Texts.{read_as, line_kind, read_one, read_lines}
+use Rattle.proof_grammar.specs.Texts.{read_as, line_kind, read_one, read_certificate_lines}
 use Rattle.proof_grammar.proofs.CountedLines.{counted, Counts, kind_counts, line_of_attributes}
 use Rattle.proof_grammar.proofs.DepthLemmas.{uses_first, nodes_size}
 use Rattle.proof_grammar.proofs.EnteredLaws.{used_after, entered_back}
@@ -31,7 +31,7 @@ pub record IsWalked (s : Schema) (text : List ℕ) (before after : List (List �
   pub fresh : Bool
   pub book : Ledger
   pub afterwards : HasReadLines s text before fresh lines trees book
-  pub same : found ≡ read_lines s fresh (length before + 1) book after
+  pub same : found ≡ read_certificate_lines s fresh (length before + 1) book after
 
 -- lines that go on after some others
 record GoOn (s : Schema) (lines : List Line) (trees : List Tree) (more : List Line) (us : List Tree) (all : List Line) (grown : List Tree) : Type 0 where
@@ -51,7 +51,7 @@ abbrev WalksOn : Schema → List ℕ → List (List ℕ) → List (List ℕ) →
 WalksOn s text after whole all grown number texts =
     (before : List (List ℕ)) (fresh : Bool) (lines : List Line) (trees : List Tree) (book : Ledger) (more : List Line) (us : List Tree) → IsUpTo text before texts after whole number
     → HasReadLines s text before fresh lines trees book → MeanLines (names_of s) (counted fresh texts) more → GoOn s lines trees more us all grown
-    → IsWalked s text whole after all grown (read_lines s fresh number book (texts ++ after))
+    → IsWalked s text whole after all grown (read_certificate_lines s fresh number book (texts ++ after))
 
 up_to_more : (text : List ℕ) (before : List (List ℕ)) (here : List ℕ) (texts after whole : List (List ℕ)) (number : ℕ) → IsUpTo text before (here ∷ texts) after whole number
     → IsUpTo text (before ++ here ∷ []) texts after whole (number + 1)
@@ -64,13 +64,13 @@ up_to_more text before here texts after whole number up = record {
 -- nothing is left
 walk_end : (s : Schema) (text : List ℕ) (after whole : List (List ℕ)) (all : List Line) (grown : List Tree) (number : ℕ) (before : List (List ℕ)) (fresh : Bool) (lines : List Line)
     (trees : List Tree) (book : Ledger) (more : List Line) (us : List Tree) → IsUpTo text before [] after whole number → HasReadLines s text before fresh lines trees book
-    → MeanLines (names_of s) [] more → GoOn s lines trees more us all grown → IsWalked s text whole after all grown (read_lines s fresh number book after)
+    → MeanLines (names_of s) [] more → GoOn s lines trees more us all grown → IsWalked s text whole after all grown (read_certificate_lines s fresh number book after)
 walk_end s text after whole all grown number before fresh lines trees book [] [] up afterwards mean goes =
     let same_lines : lines ≡ all = sym (goes.lines_whole ∙ append-nil lines) in
     let same_trees : trees ≡ grown = sym (goes.trees_whole ∙ append-nil trees) in
     let same_front : before ≡ whole = sym (up.front ∙ append-nil before) in
-    let of : List (List ℕ) → List Line → List Tree → Type 0 = λ b ls ts. IsWalked s text b after ls ts (read_lines s fresh number book after) in
-    let start : of before lines trees = record { fresh = fresh; book = book; afterwards = afterwards; same = ap (λ n. read_lines s fresh n book after) up.number_is } in
+    let of : List (List ℕ) → List Line → List Tree → Type 0 = λ b ls ts. IsWalked s text b after ls ts (read_certificate_lines s fresh number book after) in
+    let start : of before lines trees = record { fresh = fresh; book = book; afterwards = afterwards; same = ap (λ n. read_certificate_lines s fresh n book after) up.number_is } in
     subst (λ b. of b all grown) same_front (subst (λ ts. of before all ts) same_trees (subst (λ ls. of before ls trees) same_lines start))
 walk_end s text after whole all grown number before fresh lines trees book [] (u ∷ us) up afterwards mean goes = absurd goes.nodes
 walk_end s text after whole all grown number before fresh lines trees book (l ∷ more) us up afterwards mean goes = absurd mean
@@ -125,7 +125,7 @@ walk_more Certificate s text after whole all grown number here texts before fres
     (subst (λ (ls : List (List ℕ)). MeanLines (names_of s) ls more) (counts texts) mean) goes on
 
 walk : (s : Schema) (text : List ℕ) (after whole : List (List ℕ)) (all : List Line) (grown : List Tree) (number : ℕ) (texts : List (List ℕ)) → WalksOn s text after whole all grown number texts
-unfolding read_lines read_one
+unfolding read_certificate_lines read_one
 walk s text after whole all grown number [] before fresh lines trees book more us up afterwards mean goes =
     walk_end s text after whole all grown number before fresh lines trees book more us up afterwards
     (subst (λ (ls : List (List ℕ)). MeanLines (names_of s) ls more) (nothing_counts fresh) mean) goes
@@ -136,7 +136,7 @@ walk s text after whole all grown number (here ∷ texts) before fresh lines tre
 -- the reader after lines of a text that are read
 pub walked : (s : Schema) (text : List ℕ) (before after : List (List ℕ)) (lines : List Line) (trees : List Tree) → line_texts (without_mark text) ≡ before ++ after
     → MeanLines (names_of s) (certificate_lines_of before) lines → AreRead s lines trees
-    → IsWalked s text before after lines trees (read_lines s true 1 (record { lines = []; unused = [] }) (before ++ after))
+    → IsWalked s text before after lines trees (read_certificate_lines s true 1 (record { lines = []; unused = [] }) (before ++ after))
 walked s text before after lines trees cut mean read =
     walk s text after before lines trees 1 before [] true [] [] (record { lines = []; unused = [] }) lines trees (record { cut = cut; front = refl; number_is = refl }) (at_start s text) mean
     (record { lines_whole = refl; trees_whole = refl; nodes = read.nodes; read = read })

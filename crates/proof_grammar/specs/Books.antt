@@ -135,5 +135,5 @@ finished_at last lines None (Some o) = Ok o.tree
 finished_at last lines None None = Err (complaint_at last empty_proof)
 
 -- the tree of a ledger whose text ends with this line
-unfoldable pub finished : ℕ → Ledger → Result Tree LineComplaint
-finished last book = finished_at last book.lines (first_unused book.unused) (root book.unused)
+unfoldable pub finished_certificate : ℕ → Ledger → Result Tree LineComplaint
+finished_certificate last book = finished_at last book.lines (first_unused book.unused) (root book.unused)

@@ -16,10 +16,10 @@ use Rattle.schema_grammar.specs.Printed.{AreNames}
 use Rattle.schema_grammar.specs.Rests.{rest_from}
 use Rattle.proof_grammar.specs.Complaints.{LineComplaint}
 use Rattle.proof_grammar.specs.LineComplaints.{RefusesCertificateLine}
-use Rattle.proof_grammar.specs.Lines.{Line, line}
+use Rattle.proof_grammar.specs.Lines.{Line, certificate_line}
 use Rattle.proof_grammar.specs.Meanings.{MeansLine}
 use Rattle.proof_grammar.specs.Printable.{IsPrintableLine}
-use Rattle.proof_grammar.specs.Printing.{line_text, node_lines_after, canonical_certificate}
+use Rattle.proof_grammar.specs.Printing.{certificate_line_text, node_lines_after, canonical_certificate}
 use Rattle.proof_grammar.specs.Refusals.{IsRefusedCertificate}
 use Rattle.proof_grammar.specs.Spelling.{AreNodesOf, Spells, SpellsWithin}
 use Rattle.proof_grammar.specs.Texts.{read_proof}
@@ -28,12 +28,12 @@ use Rattle.proof_grammar.specs.Texts.{read_proof}
 abbrev pub LineMeaning : Type 0
 LineMeaning =
     (names : List (List ℕ)) (number : ℕ) (text : List ℕ) (l : Line)
-    → (line names (rest_from number 1 (lex mode.Numbered text)) ≡ Ok l) ↔ MeansLine names text l
+    → (certificate_line names (rest_from number 1 (lex mode.Numbered text)) ≡ Ok l) ↔ MeansLine names text l
 
 abbrev pub LineRefusal : Type 0
 LineRefusal =
     (names : List (List ℕ)) (number : ℕ) (text : List ℕ) (e : SchemaRefusal)
-    → (line names (rest_from number 1 (lex mode.Numbered text)) ≡ Err e) ↔ RefusesCertificateLine names number text e
+    → (certificate_line names (rest_from number 1 (lex mode.Numbered text)) ≡ Err e) ↔ RefusesCertificateLine names number text e
 
 abbrev pub SpelledIsRead : Type 0
 SpelledIsRead = (s : Schema) (text : List ℕ) (t : Tree) → (read_proof s text ≡ Ok t) ↔ SpellsWithin s text t
@@ -52,7 +52,7 @@ RefusedAsTold = (s : Schema) (text : List ℕ) (e : LineComplaint)
 abbrev pub PrintedLineMeans : Type 0
 PrintedLineMeans =
     (names : List (List ℕ)) (l : Line) → AreNames format.Plain names → IsPrintableLine names l
-    → (text : List ℕ) × (line_text names l ≡ text ++ codes "\n") × MeansLine names text l
+    → (text : List ℕ) × (certificate_line_text names l ≡ text ++ codes "\n") × MeansLine names text l
 
 abbrev pub PrintedNodes : Type 0
 PrintedNodes =

@@ -11,7 +11,7 @@ use Rattle.schema_grammar.specs.Rests.{Rest, ◌>>=◌, take, expected, number, 
 use Rattle.schema_grammar.specs.Texts.{number_in}
 use Rattle.proof_grammar.specs.Readers.{colon, with_word, rule_name}
 
--- what a line says of its dependency: the rule, and the lines of its premises
+-- what a certificate_line says of its dependency: the rule, and the lines of its premises
 pub data Body : Type 0 where
   by_given : ℕ → Body
   by_reflexivity : Body
@@ -19,7 +19,7 @@ pub data Body : Type 0 where
   by_step : Step → ℕ → Body
   by_pair : Pair → ℕ → ℕ → Body
 
--- a line of a certificate
+-- a certificate_line of a certificate
 pub record Line : Type 0 where
   pub number : ℕ
   pub stated : Dependency
@@ -74,14 +74,14 @@ stated_dependency names start = do
   y ← side names a.1
   Ok (grammar.stated a.0 x.0 y.0, y.1)
 
--- a value, unless the line does not end here
+-- a value, unless the certificate_line does not end here
 abbrev pub unless : {A : Type 0} → Option SchemaRefusal → A → Result A SchemaRefusal
 unless None x = Ok x
 unless (Some e) x = Err e
 
 -- what follows the first token, which is a number: `:`, a dependency, `:`, the rule
-unfoldable pub line_from : List (List ℕ) → Mark → Rest → Result Line SchemaRefusal
-line_from names m rest = do
+unfoldable pub certificate_line_from : List (List ℕ) → Mark → Rest → Result Line SchemaRefusal
+certificate_line_from names m rest = do
   n ← ok_or (number_in m.kind) (expected what.Number m rest)
   c ← colon rest
   d ← stated_dependency names c
@@ -90,5 +90,5 @@ line_from names m rest = do
   b ← body names r.0 r.1
   unless (ended b.1) (record { number = n; stated = d.0; body = b.0 })
 
-unfoldable pub line : List (List ℕ) → Rest → Result Line SchemaRefusal
-line names start = take what.Number start >>= λ t. line_from names t.0 t.1
+unfoldable pub certificate_line : List (List ℕ) → Rest → Result Line SchemaRefusal
+certificate_line names start = take what.Number start >>= λ t. certificate_line_from names t.0 t.1

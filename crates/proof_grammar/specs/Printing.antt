@@ -38,8 +38,8 @@ body_text names by_mreflexivity = codes "mreflexivity"
 body_text names (by_step rule p) = step_word rule ++ decimal p ++ sides_text names rule
 body_text names (by_pair rule p q) = pair_word rule ++ decimal p ++ codes " " ++ decimal q
 
-unfoldable pub line_text : List (List ℕ) → Line → List ℕ
-line_text names l = decimal l.number ++ codes ": " ++ dependency_text names l.stated ++ codes " : "
+unfoldable pub certificate_line_text : List (List ℕ) → Line → List ℕ
+certificate_line_text names l = decimal l.number ++ codes ": " ++ dependency_text names l.stated ++ codes " : "
     ++ body_text names l.body ++ codes "\n"
 
 -- ---- the lines of a tree
@@ -68,12 +68,12 @@ node_lines_after s n (pair rule t u) =
     (by_pair rule (n + nodes t) (n + nodes t + nodes u))
 
 -- the text of lines
-abbrev pub lines_text : List (List ℕ) → List Line → List ℕ
-lines_text names lines = flat_map (line_text names) lines
+abbrev pub certificate_lines_text : List (List ℕ) → List Line → List ℕ
+certificate_lines_text names lines = flat_map (certificate_line_text names) lines
 
 -- the one certificate in which a tree is printed
 abbrev pub canonical_certificate : Schema → Tree → List ℕ
-canonical_certificate s t = lines_text (names_of s) (node_lines_after s 0 t)
+canonical_certificate s t = certificate_lines_text (names_of s) (node_lines_after s 0 t)
 
 -- ---- what can be printed
 -- a tree proves some dependency

@@ -12,9 +12,9 @@ use Rattle.lexer.specs.Tokens.{Mark, Lexed, lex}
 use Rattle.schema_grammar.specs.declared.refusal.SchemaRefusal.{SchemaRefusal}
 use Rattle.proof_grammar.specs.declared.line_kind.LineKind.{LineKind}
 use Rattle.proof_grammar.specs.declared.line_kind.LineKind.TheVariants.{Blank, Opening, Certificate}
-use Rattle.proof_grammar.specs.Books.{Ledger, entered, finished, complaint_at}
+use Rattle.proof_grammar.specs.Books.{Ledger, entered, finished_certificate, complaint_at}
 use Rattle.proof_grammar.specs.Complaints.{Complaint, LineComplaint, bad_line}
-use Rattle.proof_grammar.specs.Lines.{line}
+use Rattle.proof_grammar.specs.Lines.{certificate_line}
 use Rattle.schema_grammar.specs.Rests.{rest_from, ◌>>=◌}
 
 -- the word `yes`
@@ -37,7 +37,7 @@ kind_from fresh [] (Some stop) = Certificate
 kind_from fresh (m ∷ ms) stop = if fresh && is_yes m.kind m.word && is_blank_from ms stop then Opening
     else Certificate
 
--- what a line is; `fresh` is whether no line with a token stood before
+-- what a certificate_line is; `fresh` is whether no certificate_line with a token stood before
 unfoldable pub line_kind : Bool → Lexed → LineKind
 line_kind fresh l = kind_from fresh l.marks l.stop
 
@@ -50,25 +50,25 @@ abbrev pub read_as : LineKind → Schema → Bool → ℕ → Ledger → List �
 read_as Blank s fresh number book text = Ok (fresh, book)
 read_as Opening s fresh number book text = Ok (false, book)
 read_as Certificate s fresh number book text =
-    in_line (line (names_of s) (rest_from number 1 (lex mode.Numbered text)))
+    in_line (certificate_line (names_of s) (rest_from number 1 (lex mode.Numbered text)))
     >>= λ l. entered s number book l
     >>= λ next. Ok (false, next)
 
--- the ledger after one line of the text more, and whether a `yes` may still come
+-- the ledger after one certificate_line of the text more, and whether a `yes` may still come
 unfoldable pub read_one : Schema → Bool → ℕ → Ledger → List ℕ → Result (Bool × Ledger) Complaint
 read_one s fresh number book text = read_as (line_kind fresh (lex mode.Numbered text)) s fresh number book text
 
--- a complaint gets its line
+-- a complaint gets its certificate_line
 abbrev pub at_line : {A : Type 0} → ℕ → Result A Complaint → Result A LineComplaint
 at_line number (Ok x) = Ok x
 at_line number (Err why) = Err (complaint_at number why)
 
 -- the tree of lines, of which the first has this number
-unfoldable pub read_lines : Schema → Bool → ℕ → Ledger → List (List ℕ) → Result Tree LineComplaint
-read_lines s fresh number book [] = finished (number - 1) book
-read_lines s fresh number book (text ∷ texts) =
-    at_line number (read_one s fresh number book text) >>= λ next. read_lines s next.0 (number + 1) next.1 texts
+unfoldable pub read_certificate_lines : Schema → Bool → ℕ → Ledger → List (List ℕ) → Result Tree LineComplaint
+read_certificate_lines s fresh number book [] = finished_certificate (number - 1) book
+read_certificate_lines s fresh number book (text ∷ texts) =
+    at_line number (read_one s fresh number book text) >>= λ next. read_certificate_lines s next.0 (number + 1) next.1 texts
 
 -- the tree that a certificate spells, or the first complaint
 unfoldable pub read_proof : Schema → List ℕ → Result Tree LineComplaint
-read_proof s text = read_lines s true 1 (record { lines = []; unused = [] }) (line_texts (without_mark text))
+read_proof s text = read_certificate_lines s true 1 (record { lines = []; unused = [] }) (line_texts (without_mark text))

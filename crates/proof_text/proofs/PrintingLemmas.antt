@@ -20,7 +20,7 @@ use Rattle.derivation.proofs.ConclusionLemmas.{concluded-from, Proves-one}
 use Rattle.derivation.proofs.RuleTableLemmas.{chosen}
 use Rattle.derivation.proofs.WithinLemmas.{tree_of-attributes, conclusion_within}
 use Rattle.proof_grammar.specs.Lines.{by_step, by_pair, Line}
-use Rattle.proof_grammar.specs.Printing.{line_text, numbered_line, node_lines_after, lines_text, IsProof, IsStepWithin}
+use Rattle.proof_grammar.specs.Printing.{certificate_line_text, numbered_line, node_lines_after, certificate_lines_text, IsProof, IsStepWithin}
 
 -- ---- what a node proves, by its premises
 
@@ -75,55 +75,55 @@ rule_within s (rules.TheVariants.MAugmentation w z) (mvd x y) d h =
 rule_within s rules.TheVariants.Replication x d h = tt {0}
 
 -- ---- the lines
-lines_text-append : (names : List (List ℕ)) (xs ys : List Line) → lines_text names (xs ++ ys) ≡ lines_text names xs ++ lines_text names ys
+lines_text-append : (names : List (List ℕ)) (xs ys : List Line) → certificate_lines_text names (xs ++ ys) ≡ certificate_lines_text names xs ++ certificate_lines_text names ys
 lines_text-append names [] ys = refl
-lines_text-append names (x ∷ xs) ys = ap (λ t. line_text names x ++ t) (lines_text-append names xs ys) ∙ sym (append_assoc (line_text names x) (lines_text names xs) (lines_text names ys))
+lines_text-append names (x ∷ xs) ys = ap (λ t. certificate_line_text names x ++ t) (lines_text-append names xs ys) ∙ sym (append_assoc (certificate_line_text names x) (certificate_lines_text names xs) (certificate_lines_text names ys))
 
 -- lines, and one more
-line_more : (names : List (List ℕ)) (xs : List Line) (x : Line) → lines_text names (xs ++ x ∷ []) ≡ lines_text names xs ++ line_text names x
-line_more names xs x = lines_text-append names xs (x ∷ []) ∙ ap (λ t. lines_text names xs ++ t) (append-nil (line_text names x))
+line_more : (names : List (List ℕ)) (xs : List Line) (x : Line) → certificate_lines_text names (xs ++ x ∷ []) ≡ certificate_lines_text names xs ++ certificate_line_text names x
+line_more names xs x = lines_text-append names xs (x ∷ []) ∙ ap (λ t. certificate_lines_text names xs ++ t) (append-nil (certificate_line_text names x))
 
 pub step_lines : (s : Schema) (t : Tree) (rule : Step) (u : Tree) (d : Dependency) (n : ℕ) → t ≡ step rule u → Proves s t d
-    → lines_text (names_of s) (node_lines_after s n t) ≡ lines_text (names_of s) (node_lines_after s n u) ++ line_text (names_of s) (numbered_line (n + nodes u + 1) d (by_step rule (n + nodes u)))
+    → certificate_lines_text (names_of s) (node_lines_after s n t) ≡ certificate_lines_text (names_of s) (node_lines_after s n u) ++ certificate_line_text (names_of s) (numbered_line (n + nodes u + 1) d (by_step rule (n + nodes u)))
 step_lines s t rule u d n e proves =
     let concludes : concluded s 0 (step rule u) ≡ Ok d = concluded-from s 0 (step rule u) d (subst (λ (v : Tree). Proves s v d) e proves) in
     rw (e, concludes) (line_more (names_of s) (node_lines_after s n u) (numbered_line (n + nodes u + 1) d (by_step rule (n + nodes u))))
 
 pub pair_lines : (s : Schema) (t : Tree) (rule : Pair) (u v : Tree) (d : Dependency) (n : ℕ) → t ≡ pair rule u v → Proves s t d
-    → lines_text (names_of s) (node_lines_after s n t)
-    ≡ (lines_text (names_of s) (node_lines_after s n u) ++ lines_text (names_of s) (node_lines_after s (n + nodes u) v)) ++ line_text (names_of s) (numbered_line (n + nodes u + nodes v + 1) d (by_pair rule (n + nodes u) (n + nodes u + nodes v)))
+    → certificate_lines_text (names_of s) (node_lines_after s n t)
+    ≡ (certificate_lines_text (names_of s) (node_lines_after s n u) ++ certificate_lines_text (names_of s) (node_lines_after s (n + nodes u) v)) ++ certificate_line_text (names_of s) (numbered_line (n + nodes u + nodes v + 1) d (by_pair rule (n + nodes u) (n + nodes u + nodes v)))
 pair_lines s t rule u v d n e proves =
     let concludes : concluded s 0 (pair rule u v) ≡ Ok d = concluded-from s 0 (pair rule u v) d (subst (λ (w : Tree). Proves s w d) e proves) in
     let last = numbered_line (n + nodes u + nodes v + 1) d (by_pair rule (n + nodes u) (n + nodes u + nodes v)) in
     let names = names_of s in
     let first = node_lines_after s n u in
     let second = node_lines_after s (n + nodes u) v in
-    let whole : lines_text names ((first ++ second) ++ last ∷ []) ≡ (lines_text names first ++ lines_text names second) ++ line_text names last =
-    line_more names (first ++ second) last ∙ ap (λ w. w ++ line_text names last) (lines_text-append names first second) in
+    let whole : certificate_lines_text names ((first ++ second) ++ last ∷ []) ≡ (certificate_lines_text names first ++ certificate_lines_text names second) ++ certificate_line_text names last =
+    line_more names (first ++ second) last ∙ ap (λ w. w ++ certificate_line_text names last) (lines_text-append names first second) in
     rw (e, concludes) whole
 
 -- ---- what is added to a text
 pub step_added : (s : Schema) (t : Tree) (rule : Step) (u : Tree) (d : Dependency) (n p : ℕ) (old mid new : List ℕ) → t ≡ step rule u → Proves s t d → p ≡ n + nodes u
-    → mid ≡ old ++ lines_text (names_of s) (node_lines_after s n u) → new ≡ mid ++ line_text (names_of s) (numbered_line (p + 1) d (by_step rule p))
-    → new ≡ old ++ lines_text (names_of s) (node_lines_after s n t)
+    → mid ≡ old ++ certificate_lines_text (names_of s) (node_lines_after s n u) → new ≡ mid ++ certificate_line_text (names_of s) (numbered_line (p + 1) d (by_step rule p))
+    → new ≡ old ++ certificate_lines_text (names_of s) (node_lines_after s n t)
 step_added s t rule u d n p old mid new e proves count before last =
-    let P : ℕ → Type 0 = λ q. new ≡ mid ++ line_text (names_of s) (numbered_line (q + 1) d (by_step rule q)) in
-    subst P count last ∙ ap (λ m. m ++ line_text (names_of s) (numbered_line (n + nodes u + 1) d (by_step rule (n + nodes u)))) before
-    ∙ append_assoc old (lines_text (names_of s) (node_lines_after s n u)) (line_text (names_of s) (numbered_line (n + nodes u + 1) d (by_step rule (n + nodes u))))
+    let P : ℕ → Type 0 = λ q. new ≡ mid ++ certificate_line_text (names_of s) (numbered_line (q + 1) d (by_step rule q)) in
+    subst P count last ∙ ap (λ m. m ++ certificate_line_text (names_of s) (numbered_line (n + nodes u + 1) d (by_step rule (n + nodes u)))) before
+    ∙ append_assoc old (certificate_lines_text (names_of s) (node_lines_after s n u)) (certificate_line_text (names_of s) (numbered_line (n + nodes u + 1) d (by_step rule (n + nodes u))))
     ∙ ap (λ w. old ++ w) (sym (step_lines s t rule u d n e proves))
 
 pub pair_added : (s : Schema) (t : Tree) (rule : Pair) (u v : Tree) (d : Dependency) (n p q : ℕ) (old mid more new : List ℕ) → t ≡ pair rule u v → Proves s t d → p ≡ n + nodes u → q ≡ p + nodes v
-    → mid ≡ old ++ lines_text (names_of s) (node_lines_after s n u) → more ≡ mid ++ lines_text (names_of s) (node_lines_after s p v)
-    → new ≡ more ++ line_text (names_of s) (numbered_line (q + 1) d (by_pair rule p q)) → new ≡ old ++ lines_text (names_of s) (node_lines_after s n t)
+    → mid ≡ old ++ certificate_lines_text (names_of s) (node_lines_after s n u) → more ≡ mid ++ certificate_lines_text (names_of s) (node_lines_after s p v)
+    → new ≡ more ++ certificate_line_text (names_of s) (numbered_line (q + 1) d (by_pair rule p q)) → new ≡ old ++ certificate_lines_text (names_of s) (node_lines_after s n t)
 pair_added s t rule u v d n p q old mid more new e proves first_count second_count first second last =
     let names = names_of s in
-    let first_text = lines_text names (node_lines_after s n u) in
-    let second_text = lines_text names (node_lines_after s (n + nodes u) v) in
-    let last_text = line_text names (numbered_line (n + nodes u + nodes v + 1) d (by_pair rule (n + nodes u) (n + nodes u + nodes v))) in
+    let first_text = certificate_lines_text names (node_lines_after s n u) in
+    let second_text = certificate_lines_text names (node_lines_after s (n + nodes u) v) in
+    let last_text = certificate_line_text names (numbered_line (n + nodes u + nodes v + 1) d (by_pair rule (n + nodes u) (n + nodes u + nodes v))) in
     let q_is : q ≡ n + nodes u + nodes v = second_count ∙ ap (λ m. m + nodes v) first_count in
-    let P : ℕ → Type 0 = λ m. more ≡ mid ++ lines_text names (node_lines_after s m v) in
-    let Q : ℕ → Type 0 = λ m. new ≡ more ++ line_text names (numbered_line (q + 1) d (by_pair rule m q)) in
-    let R : ℕ → Type 0 = λ m. new ≡ more ++ line_text names (numbered_line (m + 1) d (by_pair rule (n + nodes u) m)) in
+    let P : ℕ → Type 0 = λ m. more ≡ mid ++ certificate_lines_text names (node_lines_after s m v) in
+    let Q : ℕ → Type 0 = λ m. new ≡ more ++ certificate_line_text names (numbered_line (q + 1) d (by_pair rule m q)) in
+    let R : ℕ → Type 0 = λ m. new ≡ more ++ certificate_line_text names (numbered_line (m + 1) d (by_pair rule (n + nodes u) m)) in
     let ends : new ≡ more ++ last_text = subst R q_is (subst Q first_count last) in
     let middle : more ≡ mid ++ second_text = subst P first_count second in
     ends ∙ ap (λ m. m ++ last_text) (middle ∙ ap (λ m. m ++ second_text) first ∙ append_assoc old first_text second_text)

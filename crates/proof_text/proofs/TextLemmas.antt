@@ -7,15 +7,15 @@ use Rattle.dep_model.specs.declared.schema.Schema.{Schema}
 use Rattle.lexer.specs.Lines.{line_texts, without_mark, CutsAt, CutsLine}
 use Rattle.proof_grammar.specs.declared.refusal.ProofRefusalKind.{ProofRefusalKind}
 use Rattle.proof_text.specs.declared.text.TheConstants.{MOST_PROOF_BYTES}
-use Rattle.proof_grammar.specs.Books.{Ledger, finished, complaint_at}
+use Rattle.proof_grammar.specs.Books.{Ledger, finished_certificate, complaint_at}
 use Rattle.proof_grammar.specs.Complaints.{Complaint, LineComplaint, complaint_of, IsFound, IsFoundAt}
 use Rattle.proof_grammar.specs.Ledgers.{IsLedger}
 use Rattle.proof_grammar.proofs.CheckedLemmas.{read_one_keeps}
-use Rattle.proof_grammar.specs.Texts.{read_one, read_lines, read_proof}
+use Rattle.proof_grammar.specs.Texts.{read_one, read_certificate_lines, read_proof}
 
 -- to read the lines that are left is to read the whole
 pub record Reads (s : Schema) (text : List ℕ) (fresh : Bool) (number : ℕ) (book : Ledger) (rest : List ℕ) : Type 0 where
-  pub same : read_proof s text ≡ read_lines s fresh number book (line_texts rest)
+  pub same : read_proof s text ≡ read_certificate_lines s fresh number book (line_texts rest)
   pub room : number + length rest ≤ MOST_PROOF_BYTES + 1
   pub ledger : IsLedger s book
 
@@ -31,18 +31,18 @@ line_within text line None cut = cut.within
 line_within text line (Some after) cut = cut.within
 
 pub line_refused : (s : Schema) (fresh : Bool) (number : ℕ) (book : Ledger) (line : List ℕ) (lines ls : List (List ℕ)) (why : Complaint)
-    → ls ≡ line ∷ lines → read_one s fresh number book line ≡ Err why → read_lines s fresh number book ls ≡ Err (complaint_at number why)
-unfolding read_lines
+    → ls ≡ line ∷ lines → read_one s fresh number book line ≡ Err why → read_certificate_lines s fresh number book ls ≡ Err (complaint_at number why)
+unfolding read_certificate_lines
 line_refused s fresh number book line lines ls why whole h = rw whole (rw h refl)
 
 pub line_read : (s : Schema) (fresh still : Bool) (number : ℕ) (book next : Ledger) (line : List ℕ) (lines ls : List (List ℕ))
-    → ls ≡ line ∷ lines → read_one s fresh number book line ≡ Ok (still, next) → read_lines s fresh number book ls ≡ read_lines s still (number + 1) next lines
-unfolding read_lines
+    → ls ≡ line ∷ lines → read_one s fresh number book line ≡ Ok (still, next) → read_certificate_lines s fresh number book ls ≡ read_certificate_lines s still (number + 1) next lines
+unfolding read_certificate_lines
 line_read s fresh still number book next line lines ls whole h = rw whole (rw h refl)
 
 pub last_read : (s : Schema) (fresh still : Bool) (number : ℕ) (book next : Ledger) (line : List ℕ) (ls : List (List ℕ))
-    → ls ≡ line ∷ [] → read_one s fresh number book line ≡ Ok (still, next) → read_lines s fresh number book ls ≡ finished number next
-unfolding read_lines
+    → ls ≡ line ∷ [] → read_one s fresh number book line ≡ Ok (still, next) → read_certificate_lines s fresh number book ls ≡ finished_certificate number next
+unfolding read_certificate_lines
 last_read s fresh still number book next line ls whole h = let back : number + 1 - 1 ≡ number = omega arith in rw whole (rw h (rw back refl))
 
 pub reads_more : (s : Schema) (text : List ℕ) (fresh still : Bool) (number : ℕ) (book next : Ledger) (rest line afterwards : List ℕ)

@@ -8,6 +8,6 @@ use Rattle.derivation.specs.Derivs.{tree_of}
 use Rattle.derivation.specs.Trees.{Tree}
 
 -- a derivation and what it concludes, as a tree and a dependency
-abbrev pub outcome_of : Result (Deriv × Dep) FaultKind → Result (Tree × Dependency) FaultKind
-outcome_of (Ok x) = Ok (tree_of x.0, dependency_of x.1)
-outcome_of (Err why) = Err why
+abbrev pub concluded_outcome : Result (Deriv × Dep) FaultKind → Result (Tree × Dependency) FaultKind
+concluded_outcome (Ok x) = Ok (tree_of x.0, dependency_of x.1)
+concluded_outcome (Err why) = Err why

@@ -4,7 +4,7 @@ use Rattle.dep_model.specs.Deps.{dependency_of}
 use Rattle.derivation.specs.Derivs.{tree_of, step_of, pair_of}
 use Rattle.proof_grammar.specs.Books.{Opened, Ledger, Prepared}
 use Rattle.proof_grammar.specs.Lines.{Body, by_given, by_reflexivity, by_mreflexivity, by_step, by_pair, Line}
-use Rattle.proof_text.specs.Outcomes.{outcome_of}
+use Rattle.proof_text.specs.Outcomes.{concluded_outcome}
 use Rattle.proof_text.specs.declared.book.Book as books
 use Rattle.proof_text.specs.declared.book.Node as nodes
 use Rattle.proof_text.specs.declared.line.Body as bodies
@@ -31,4 +31,4 @@ abbrev pub ledger_of : books.Book → Ledger
 ledger_of b = record { lines = b.lines.items; unused = opened_all b.unused.items }
 
 abbrev pub prepared_of : nodes.Node → List (Option Opened) → Prepared
-prepared_of n unused = record { levels = n.levels; outcome = outcome_of n.outcome; unused = unused }
+prepared_of n unused = record { levels = n.levels; outcome = concluded_outcome n.outcome; unused = unused }

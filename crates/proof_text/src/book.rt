@@ -4,7 +4,7 @@ ghost use Rattle.dep_model.specs.Dependencies.{left_of, right_of};
 ghost use Rattle.dep_model.specs.Deps.{dependency_of, IsDepWithin};
 ghost use Rattle.derivation.specs.Derivs.{step_of, pair_of, tree_of};
 ghost use Rattle.proof_grammar.specs.Books.{root, settled};
-ghost use Rattle.proof_text.specs.Outcomes.{outcome_of};
+ghost use Rattle.proof_text.specs.Outcomes.{concluded_outcome};
 ghost use Rattle.proof_text.specs.Views.{opened_of, opened_all, line_of, body_of};
 ghost use Rattle.attr_sets.specs.Places.{Places};
 ghost use Rattle.dep_model.specs.Schemas.{universe_of};
@@ -35,7 +35,7 @@ pub struct Node {
 
 impl Book {
     ghost use Rattle.proof_grammar.specs.Ledgers.{IsLedger};
-    ghost use Rattle.proof_grammar.specs.Books.{is_earlier, open_at, closed, prepared, step_of_line, pair_of_line, entered, add_line, finished, rooted};
+    ghost use Rattle.proof_grammar.specs.Books.{is_earlier, open_at, closed, prepared, step_of_line, pair_of_line, entered, add_line, finished_certificate, rooted};
     ghost use Rattle.proof_text.specs.Views.{prepared_of, ledger_of};
 
     pub fn new(alloc: Global) -> Book
@@ -210,13 +210,13 @@ impl Book {
 
     /// The derivation of the last line and its conclusion, where each other line was used. The text ends
     /// with line `last`.
-    #[tactic(auto, unfolding(proof_grammar::specs::Books::finished))]
+    #[tactic(auto, unfolding(proof_grammar::specs::Books::finished_certificate))]
     pub fn finish(self, last: u32) -> Result<Concluded, ProofRefusal>
-        ensures ok { IfOk result (λ x. finished last (ledger_of self) ≡ Ok (tree_of x.deriv.value)) }
+        ensures ok { IfOk result (λ x. finished_certificate last (ledger_of self) ≡ Ok (tree_of x.deriv.value)) }
         ensures root { IfOk result
             (λ x. rooted (opened_all self.unused.items)
             ≡ Some (tree_of x.deriv.value, dependency_of x.dep)) }
-        ensures err { IfErr result (λ e. IsFoundAt e (finished last (ledger_of self))) }
+        ensures err { IfErr result (λ e. IsFoundAt e (finished_certificate last (ledger_of self))) }
         ensures within { (u : Places) → IfErr result (λ e. IsRefusalWithin u e.kind) }
     {
         let Book { lines, mut unused } = self;
@@ -270,11 +270,11 @@ fn first_open(unused: &[Option<Open>]) -> Option<usize>
 #[tactic(auto, unfolding(proof_grammar::specs::Books::settled))]
 fn settle(before: usize, line: &Line, node: Node) -> Result<(Deriv, Dep), ProofRefusalKind>
     ensures ok { IfOk result
-        (λ x. settled before (line_of line.now) node.levels (outcome_of node.outcome)
+        (λ x. settled before (line_of line.now) node.levels (concluded_outcome node.outcome)
         ≡ Ok (record { tree = tree_of x.0; levels = node.levels; conclusion = dependency_of x.1 })) }
     ensures shallow { OnOk result (node.levels ≤ MOST_LEVELS) }
     ensures err { IfErr result
-        (λ why. IsFound why (settled before (line_of line.now) node.levels (outcome_of node.outcome))) }
+        (λ why. IsFound why (settled before (line_of line.now) node.levels (concluded_outcome node.outcome))) }
     ensures within { (u : Places) → IsDepWithin u line.now.stated
         → IfOk node.outcome (λ x. IsDepWithin u x.1) → IfErr result (IsRefusalWithin u) }
 {

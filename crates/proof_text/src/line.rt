@@ -4,7 +4,7 @@ ghost use Rattle.dep_model.specs.Deps.{dependency_of, IsDepWithin};
 ghost use Rattle.derivation.specs.Derivs.{step_of, pair_of};
 ghost use Rattle.line_reader.specs.Views.{names_in, rest_of};
 ghost use Rattle.schema_grammar.specs.Declarations.{marked};
-ghost use Rattle.proof_grammar.specs.Lines.{body, line_from, stated_dependency, one, two, augmented, maugmented};
+ghost use Rattle.proof_grammar.specs.Lines.{body, certificate_line_from, stated_dependency, one, two, augmented, maugmented};
 ghost use Rattle.proof_text.specs.Views.{body_of, line_of};
 
 use crate::words::{colon, rule_name, with_word};
@@ -36,7 +36,7 @@ pub struct Line {
 }
 
 /// A line of which this is the first token, and what is left after it.
-#[tactic(auto, unfolding(proof_grammar::specs::Lines::line_from))]
+#[tactic(auto, unfolding(proof_grammar::specs::Lines::certificate_line_from))]
 pub fn read_line(
     names: &Names<'_>,
     first: Token,
@@ -46,11 +46,11 @@ pub fn read_line(
     requires few { length (names_in names.now) ≤ PLACES }
     requires length { first.length ≡ length word.now }
     ensures ok { IfOk result
-        (λ x. line_from (names_in names.now) (marked first word.now) (rest_of rest.entry)
+        (λ x. certificate_line_from (names_in names.now) (marked first word.now) (rest_of rest.entry)
         ≡ Ok (line_of x)) }
     ensures within { IfOk result (λ x. IsDepWithin (below (length (names_in names.now))) x.stated) }
     ensures err { IfErr result
-        (λ e. line_from (names_in names.now) (marked first word.now) (rest_of rest.entry) ≡ Err e) }
+        (λ e. certificate_line_from (names_in names.now) (marked first word.now) (rest_of rest.entry) ≡ Err e) }
 {
     let TokenKind::Number(number) = first.kind else {
         return Err(rest.expected(first, What::Number));

@@ -7,7 +7,7 @@ ghost use Rattle.proof_grammar.specs.Complaints.{IsFound};
 ghost use Rattle.attr_sets.specs.Sets.{places, is_same};
 ghost use Rattle.derivation.specs.Trees.{leaf, step, pair};
 ghost use Rattle.proof_grammar.specs.Nodes.{with_tree, given_outcome, same_dependency};
-ghost use Rattle.proof_text.specs.Outcomes.{outcome_of};
+ghost use Rattle.proof_text.specs.Outcomes.{concluded_outcome};
 
 use crate::line::{Body, Line};
 use attr_sets::AttrSet;
@@ -73,7 +73,7 @@ fn same_sides(a: Dep, b: Dep) -> bool
 
 /// A leaf, where its rule applies.
 pub fn leaf(schema: &Schema, rule: LeafRule) -> Result<(Deriv, Dep), FaultKind>
-    ensures exact { outcome_of result
+    ensures exact { concluded_outcome result
         ≡ with_tree (leaf (leaf_of rule)) (leaf_conclusion schema.now (leaf_of rule)) }
 {
     match leaf_conclusion(schema, rule) {
@@ -84,7 +84,7 @@ pub fn leaf(schema: &Schema, rule: LeafRule) -> Result<(Deriv, Dep), FaultKind>
 
 /// The dependency of this number, from 1.
 pub fn given(schema: &Schema, k: u32) -> Result<(Deriv, Dep), FaultKind>
-    ensures exact { outcome_of result ≡ given_outcome schema.now k }
+    ensures exact { concluded_outcome result ≡ given_outcome schema.now k }
 {
     if k == 0 || k as usize > schema.deps().len() {
         return Err(FaultKind::NoSuchGiven);
@@ -94,7 +94,7 @@ pub fn given(schema: &Schema, k: u32) -> Result<(Deriv, Dep), FaultKind>
 
 /// What a rule concludes from an open line.
 pub fn step(schema: &Schema, rule: StepRule, premise: Open) -> Result<(Deriv, Dep), FaultKind>
-    ensures exact { outcome_of result
+    ensures exact { concluded_outcome result
         ≡ with_tree (step (step_of rule) (tree_of premise.deriv.value))
         (step_conclusion schema.now (step_of rule) (dependency_of premise.dep)) }
 {
@@ -106,7 +106,7 @@ pub fn step(schema: &Schema, rule: StepRule, premise: Open) -> Result<(Deriv, De
 
 /// What a rule concludes from two open lines.
 pub fn pair(rule: PairRule, first: Open, second: Open) -> Result<(Deriv, Dep), FaultKind>
-    ensures exact { outcome_of result
+    ensures exact { concluded_outcome result
         ≡ with_tree (pair (pair_of rule) (tree_of first.deriv.value) (tree_of second.deriv.value))
         (pair_conclusion (pair_of rule) (dependency_of first.dep) (dependency_of second.dep)) }
 {

@@ -10,7 +10,7 @@ ghost use Rattle.derivation.specs.Table.{leaf_conclusion, step_conclusion, pair_
 ghost use Rattle.derivation.specs.Conclusions.{Proves};
 ghost use Rattle.schema_grammar.specs.Printing.{set_text, dependency_text};
 ghost use Rattle.proof_text.specs.Views.{body_of, line_of};
-ghost use Rattle.proof_grammar.specs.Printing.{step_word, sides_text, pair_word, body_text, line_text, leaf_body, numbered_line, node_lines_after, lines_text, canonical_certificate, IsProof, IsStepWithin, IsBodyWithin};
+ghost use Rattle.proof_grammar.specs.Printing.{step_word, sides_text, pair_word, body_text, certificate_line_text, leaf_body, numbered_line, node_lines_after, certificate_lines_text, canonical_certificate, IsProof, IsStepWithin, IsBodyWithin};
 
 use crate::line::{Body, Line};
 use attr_sets::AttrSet;
@@ -48,7 +48,7 @@ fn add_lines(
     requires proof { IsProof schema.now (tree_of deriv.now) }
     requires room { printed.old + nodes (tree_of deriv.now) < 2 ^ 32 }
     ensures added { OnOk result (text.new.items
-        ≡ text.old.items ++ lines_text (names_of schema.now)
+        ≡ text.old.items ++ certificate_lines_text (names_of schema.now)
         (node_lines_after schema.now printed.old (tree_of deriv.now))) }
     ensures printed { OnOk result (printed.new ≡ printed.old + nodes (tree_of deriv.now)) }
     ensures proves { IfOk result (λ d. Proves schema.now (tree_of deriv.now) (dependency_of d)) }
@@ -88,7 +88,7 @@ fn add_node(
     requires body { IsBodyWithin (universe_of schema.now) (body_of body) }
     requires room { printed.old + 1 < 2 ^ 32 }
     ensures added { OnOk result (text.new.items
-        ≡ text.old.items ++ line_text (names_of schema.now)
+        ≡ text.old.items ++ certificate_line_text (names_of schema.now)
         (numbered_line (printed.old + 1) (dependency_of stated) (body_of body))) }
     ensures printed { OnOk result (printed.new ≡ printed.old + 1) }
     ensures stated { IfOk result (λ d. d ≡ stated) }
@@ -149,7 +149,7 @@ fn body_of_leaf(rule: LeafRule) -> Body
     }
 }
 
-#[tactic(auto, unfolding(proof_grammar::specs::Printing::line_text))]
+#[tactic(auto, unfolding(proof_grammar::specs::Printing::certificate_line_text))]
 fn add_line(
     text: &mut Vec<u8>,
     alloc: Global,
@@ -159,7 +159,7 @@ fn add_line(
     requires stated { IsDepWithin (universe_of schema.now) line.now.stated }
     requires body { IsBodyWithin (universe_of schema.now) (body_of line.now.body) }
     ensures added { OnOk result (text.new.items
-        ≡ text.old.items ++ line_text (names_of schema.now) (line_of line.now)) }
+        ≡ text.old.items ++ certificate_line_text (names_of schema.now) (line_of line.now)) }
 {
     add_number(text, alloc, line.number)?;
     add(text, b": ")?;

@@ -81,7 +81,7 @@ pub fn read_concluded(
 }
 
 /// Reads one line of the text. Whether a `yes` may still come is told and answered.
-#[tactic(auto, unfolding(proof_grammar::specs::Texts::read_one, proof_grammar::specs::Texts::line_kind, proof_grammar::specs::Lines::line, schema_grammar::specs::Rests::take))]
+#[tactic(auto, unfolding(proof_grammar::specs::Texts::read_one, proof_grammar::specs::Texts::line_kind, proof_grammar::specs::Lines::certificate_line, schema_grammar::specs::Rests::take))]
 fn read_one(
     alloc: Global,
     schema: &Schema,

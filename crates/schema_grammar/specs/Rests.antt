@@ -16,9 +16,9 @@ use Rattle.schema_grammar.specs.Refusals.{refusal, refused_by, at}
 use Rattle.schema_grammar.specs.Texts.{number_in}
 use Rattle.schema_grammar.specs.Words.{looked_up}
 
-abbrev pub is_word : TokenKind → Bool
-is_word token.Word = true
-is_word _ = false
+abbrev pub is_word_token : TokenKind → Bool
+is_word_token token.Word = true
+is_word_token _ = false
 
 -- the arrow that a token is
 abbrev pub arrow_in : TokenKind → Option Sign
@@ -86,7 +86,7 @@ unfoldable pub words_from : List (List ℕ) → ℕ → Places → ℕ → List 
 words_from names line x next_column [] stop =
     Ok (x, record { line = line; next_column = next_column; marks = []; stop = stop })
 words_from names line x next_column (m ∷ ms) stop =
-    if is_word m.kind
+    if is_word_token m.kind
     then (place names line m >>= λ a. words_from names line (union x (only a))
     (m.column + length m.word) ms stop)
     else Ok (x, record { line = line; next_column = next_column; marks = m ∷ ms; stop = stop })

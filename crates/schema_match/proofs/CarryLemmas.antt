@@ -10,7 +10,7 @@ use Rattle.attr_sets.specs.Places.{Places, Within, only, union, Same}
 use Rattle.attr_sets.proofs.PlacesLemmas.{Same-within, Same-path}
 use Rattle.dep_model.specs.declared.schema.Schema.{Schema}
 use Rattle.dep_model.specs.Schemas.{names_of, width_of, universe_of, place_named}
-use Rattle.schema_match.specs.Columns.{attribute_name}
+use Rattle.schema_match.specs.Columns.{name_of_attribute}
 use Rattle.schema_match.specs.Carried.{carried_set}
 use Rattle.schema_match.specs.Namesakes.{AreNamesakes, IsNamesakeFrom}
 use Rattle.schema_match.proofs.NameLemmas.{place_named_is, named_back, carried_set-at, carried_set-member}
@@ -19,18 +19,18 @@ use Rattle.schema_match.proofs.NameLemmas.{place_named_is, named_back, carried_s
 pub record AreNamesakesTo (schema other : Schema) (n : ℕ) (namesakes : List ℕ) : Type 0 where
   pub one_each : length namesakes ≡ n
   pub named : (a : ℕ) → a < n
-      → place_named (names_of other) (attribute_name schema a) ≡ Some (slice_index_or namesakes a 0)
+      → place_named (names_of other) (name_of_attribute schema a) ≡ Some (slice_index_or namesakes a 0)
 
 pub namesakes_more : (schema other : Schema) (n : ℕ) (namesakes : List ℕ) (b : ℕ)
     → AreNamesakesTo schema other n namesakes
-    → place_named (names_of other) (attribute_name schema n) ≡ Some b
+    → place_named (names_of other) (name_of_attribute schema n) ≡ Some b
     → AreNamesakesTo schema other (n + 1) (namesakes ++ b ∷ [])
 namesakes_more schema other n namesakes b before e = record {
   one_each = grind (arith, common_steps, before.one_each);
   named = λ a lt. ⊎_elim
       (λ (last : a ≡ n).
       let read : get_or (namesakes ++ b ∷ []) a 0 ≡ b = grind (arith, common_steps, before.one_each, last) in
-      ap (λ (k : ℕ). place_named (names_of other) (attribute_name schema k)) last ∙ e
+      ap (λ (k : ℕ). place_named (names_of other) (name_of_attribute schema k)) last ∙ e
       ∙ ap (λ (k : ℕ). Some k) (sym read))
       (λ (other_one : a ≡ n → ⊥).
       let read : get_or (namesakes ++ b ∷ []) a 0 ≡ get_or namesakes a 0 =
@@ -51,9 +51,9 @@ carried_set-is schema other namesakes x p are low members =
         let found = (members b).0 member in
         let a = found.0 in
         let inside : a < width_of schema = omega (arith, found.1, are.one_each) in
-        let place : place_named (names_of other) (attribute_name schema a) ≡ Some b = are.named a inside
+        let place : place_named (names_of other) (name_of_attribute schema a) ≡ Some b = are.named a inside
         ∙ ap (λ (k : ℕ). Some k) found.3 in
-        let b_inside = (place_named_is (names_of other) (attribute_name schema a) b place).0 in
+        let b_inside = (place_named_is (names_of other) (name_of_attribute schema a) b place).0 in
         let named = named_back (names_of schema) (names_of other) a b schema.valid.names_differ inside place in
         carried_set-at schema other x a b b_inside named ∙ found.2
 
@@ -61,8 +61,8 @@ carried_set-is schema other namesakes x p are low members =
     back b member =
         let found = carried_set-member schema other x b member in
         let a = found.0 in
-        let inside = (place_named_is (names_of schema) (attribute_name other b) a found.2).0 in
-        let named : place_named (names_of other) (attribute_name schema a) ≡ Some b =
+        let inside = (place_named_is (names_of schema) (name_of_attribute other b) a found.2).0 in
+        let named : place_named (names_of other) (name_of_attribute schema a) ≡ Some b =
         named_back (names_of other) (names_of schema) b a other.valid.names_differ found.1 found.2 in
         let same : Some (get_or namesakes a 0) ≡ Some b = sym (are.named a inside) ∙ named in
         (members b).1 (a, omega (arith, inside, are.one_each), found.3, same_Some (get_or namesakes a 0) b same)

@@ -10,7 +10,7 @@ use Rattle.dep_model.specs.Dependencies.{Dependency, fd, mvd, Obeys, IsWithin}
 use Rattle.dep_model.specs.Schemas.{names_of, width_of, universe_of, theory_of, deps_of, place_named, LegalFor}
 use Rattle.dep_model.proofs.ListLemmas.{Contains-map, map-member}
 use Rattle.dep_model.proofs.DepLemmas.{dependencies_all-from}
-use Rattle.schema_match.specs.Columns.{attribute_name, SameNames, value_named, reordered_tuple, reordered}
+use Rattle.schema_match.specs.Columns.{name_of_attribute, SameNames, value_named, reordered_tuple, reordered}
 use Rattle.schema_match.specs.Carried.{carried_set, carried, IsImpliedBy, HaveSameLegalRelations}
 use Rattle.schema_match.proofs.RenamingLemmas.{IsRenaming, Turned, turned, SameSet, SameTuple, AreRenamed}
 use Rattle.schema_match.proofs.RenamingLemmas.{SameDependency, turned_relations, turned_dependency}
@@ -20,13 +20,13 @@ use Rattle.schema_match.proofs.NameLemmas.{place_named_is, named_back, declared_
 -- an attribute of one schema and one of another have one name
 pub record AreNamesake (schema other : Schema) (a b : ℕ) : Type 0 where
   pub inside : a < width_of schema
-  pub there : place_named (names_of other) (attribute_name schema a) ≡ Some b
+  pub there : place_named (names_of other) (name_of_attribute schema a) ≡ Some b
 
 namesake_inside : (schema other : Schema) (a b : ℕ) → AreNamesake schema other a b → b < width_of other
-namesake_inside schema other a b names = (place_named_is (names_of other) (attribute_name schema a) b names.there).0
+namesake_inside schema other a b names = (place_named_is (names_of other) (name_of_attribute schema a) b names.there).0
 
 namesake_back : (schema other : Schema) (a b : ℕ) → AreNamesake schema other a b
-    → place_named (names_of schema) (attribute_name other b) ≡ Some a
+    → place_named (names_of schema) (name_of_attribute other b) ≡ Some a
 namesake_back schema other a b names =
     named_back (names_of schema) (names_of other) a b schema.valid.names_differ names.inside names.there
 
@@ -45,7 +45,7 @@ renaming schema other names = record {
       let a = found.0 in (
         a,
         record {
-          inside = (place_named_is (names_of schema) (attribute_name other b) a found.1).0;
+          inside = (place_named_is (names_of schema) (name_of_attribute other b) a found.1).0;
           there = named_back (names_of other) (names_of schema) b a other.valid.names_differ lt found.1;
         },
       );
@@ -87,7 +87,7 @@ tuple_there : (schema other : Schema) (t : Tuple)
 tuple_there schema other t a b same =
     let read = get_or-map (value_named (names_of schema) t) (names_of other) b [] []
     (namesake_inside schema other a b same) in
-    let found : value_named (names_of schema) t (attribute_name other b) ≡ value_at t a =
+    let found : value_named (names_of schema) t (name_of_attribute other b) ≡ value_at t a =
     rw (namesake_back schema other a b same) refl in
     sym (read ∙ found)
 

@@ -13,7 +13,7 @@ use Rattle.attr_sets.specs.Places.{Places}
 use Rattle.dep_model.specs.declared.schema.Schema.{Schema}
 use Rattle.dep_model.specs.Names.{same_name}
 use Rattle.dep_model.specs.Schemas.{names_of, width_of, place_named}
-use Rattle.schema_match.specs.Columns.{attribute_name, undeclared, IsDeclaredBy}
+use Rattle.schema_match.specs.Columns.{name_of_attribute, undeclared, IsDeclaredBy}
 use Rattle.schema_match.specs.Carried.{carried_set}
 
 -- ---- one name in two spellings
@@ -61,14 +61,14 @@ some_place (Some b) e = (b, refl)
 
 -- an attribute whose name is declared has a namesake
 pub declared_place : (schema other : Schema) (a : ℕ) → IsDeclaredBy other schema → a < width_of schema
-    → (b : ℕ) × (place_named (names_of other) (attribute_name schema a) ≡ Some b)
+    → (b : ℕ) × (place_named (names_of other) (name_of_attribute schema a) ≡ Some b)
 declared_place schema other a declared inside =
     let within : nat_lt a (width_of schema) ≡ true = lt-ltb _ _ inside in
-    some_place (place_named (names_of other) (attribute_name schema a)) (grind (arith, declared a, within))
+    some_place (place_named (names_of other) (name_of_attribute schema a)) (grind (arith, declared a, within))
 
 -- ---- a set that is carried over
 pub carried_set-at : (schema other : Schema) (x : Places) (a b : ℕ) → b < width_of other
-    → place_named (names_of schema) (attribute_name other b) ≡ Some a → carried_set schema other x b ≡ x a
+    → place_named (names_of schema) (name_of_attribute other b) ≡ Some a → carried_set schema other x b ≡ x a
 carried_set-at schema other x a b inside e =
     let within : nat_lt b (width_of other) ≡ true = lt-ltb _ _ inside in
     rw (within, e) refl
@@ -80,24 +80,24 @@ has_named_some x None e = absurd (false≢true e)
 has_named_some x (Some a) e = (a, refl, e)
 
 pub carried_set-member : (schema other : Schema) (x : Places) (b : ℕ) → carried_set schema other x b ≡ true
-    → (a : ℕ) × (b < width_of other) × (place_named (names_of schema) (attribute_name other b) ≡ Some a) × (x a ≡ true)
+    → (a : ℕ) × (b < width_of other) × (place_named (names_of schema) (name_of_attribute other b) ≡ Some a) × (x a ≡ true)
 carried_set-member schema other x b member =
     let both = and_parts (nat_lt b (width_of other)) _ member in
-    let found = has_named_some x (place_named (names_of schema) (attribute_name other b)) both.1 in
+    let found = has_named_some x (place_named (names_of schema) (name_of_attribute other b)) both.1 in
     (found.0, ltb-true b (width_of other) both.0, found.1, found.2)
 
 -- ---- what was looked up
 -- what is found for the bytes of an attribute's name is what is found for the attribute
 pub looked_up : (schema other : Schema) (a : ℕ) (name bytes : List ℕ) (found : Option ℕ)
     → slice_get (names_of schema) a ≡ Some name → bytes ≡ name
-    → found ≡ place_named (names_of other) bytes → place_named (names_of other) (attribute_name schema a) ≡ found
+    → found ≡ place_named (names_of other) bytes → place_named (names_of other) (name_of_attribute schema a) ≡ found
 looked_up schema other a name bytes found read same is =
     ap (λ (word : List ℕ). place_named (names_of other) word)
     (get_or_from_slice_get (names_of schema) a name [] read ∙ sym same) ∙ sym is
 
 -- an attribute is declared where something was found
 pub undeclared_is : (schema other : Schema) (a : ℕ) (found : Option ℕ) → a < width_of schema
-    → place_named (names_of other) (attribute_name schema a) ≡ found
+    → place_named (names_of other) (name_of_attribute schema a) ≡ found
     → undeclared schema other a ≡ is_none found
 undeclared_is schema other a found inside is =
     let within : nat_lt a (width_of schema) ≡ true = lt-ltb _ _ inside in
@@ -105,6 +105,6 @@ undeclared_is schema other a found inside is =
 
 -- nothing was found, so it is not
 pub not_declared : (schema other : Schema) (a : ℕ) → IsDeclaredBy other schema → a < width_of schema
-    → place_named (names_of other) (attribute_name schema a) ≡ None → ⊥
+    → place_named (names_of other) (name_of_attribute schema a) ≡ None → ⊥
 not_declared schema other a declared inside is =
     false≢true (sym (declared a) ∙ undeclared_is schema other a None inside is)

@@ -6,12 +6,12 @@ use Rattle.dep_model.specs.Tuples.{Tuple, Relation, value_at}
 use Rattle.dep_model.specs.Schemas.{names_of, width_of, place_named}
 
 -- the name of an attribute of a schema
-abbrev pub attribute_name : Schema → ℕ → List ℕ
-attribute_name s a = slice_index_or (names_of s) a []
+abbrev pub name_of_attribute : Schema → ℕ → List ℕ
+name_of_attribute s a = slice_index_or (names_of s) a []
 
 -- the attribute of another schema that has the name of an attribute of this one, ASCII case aside
 abbrev pub namesake : Schema → Schema → ℕ → Option ℕ
-namesake schema other a = place_named (names_of other) (attribute_name schema a)
+namesake schema other a = place_named (names_of other) (name_of_attribute schema a)
 
 -- the attributes of a schema whose names another does not declare
 abbrev pub undeclared : Schema → Schema → Places

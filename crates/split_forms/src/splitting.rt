@@ -2,7 +2,7 @@ ghost use Rattle.std.specs.Prelude.{◌≡◌, ◌-◌, ◌^◌, ◌<◌, ◌≤
 ghost use Rattle.dep_model.specs.Plans.{schemes_of};
 ghost use Rattle.dep_model.specs.Projections.{IsLossless};
 ghost use Rattle.dep_model.specs.Schemas.{width_of, theory_of};
-ghost use Rattle.decomp_text.specs.Plans.{sets_of, plan_of, IsPlanOver};
+ghost use Rattle.decomp_text.specs.Plans.{scheme_sets, plan_of, IsPlanOver};
 ghost use Rattle.form_tests.specs.Chosen.{IsInForm};
 ghost use Rattle.split_forms.specs.Splitting.{FinishedList, IsSplitPlan};
 ghost use Rattle.split_forms.specs.Refusals.{IsRefusedSplit, IsWithinLimits};
@@ -32,7 +32,7 @@ pub fn split(alloc: Global, schema: &Schema, form: Form, limit: u32) -> Result<P
     requires limit { 0 < limit }
     ensures universe { IfOk result (λ plan. IsPlanOver schema.now plan) }
     ensures finished { IfOk result (λ plan.
-        IsSplitPlan (width_of schema.now) (theory_of schema.now) form (sets_of plan)) }
+        IsSplitPlan (width_of schema.now) (theory_of schema.now) form (scheme_sets plan)) }
     ensures lossless { IfOk result (λ plan.
         IsLossless (width_of schema.now) (theory_of schema.now) (plan_of plan)) }
     ensures in_form { IfOk result (λ plan.

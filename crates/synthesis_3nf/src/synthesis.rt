@@ -3,7 +3,7 @@ ghost use Rattle.dep_model.specs.Forms.{IsThird};
 ghost use Rattle.dep_model.specs.Preservation.{KeepsDependencies};
 ghost use Rattle.dep_model.specs.Projections.{IsLossless};
 ghost use Rattle.dep_model.specs.Schemas.{width_of, theory_of};
-ghost use Rattle.decomp_text.specs.Plans.{sets_of, plan_of, IsPlanOver};
+ghost use Rattle.decomp_text.specs.Plans.{scheme_sets, plan_of, IsPlanOver};
 ghost use Rattle.synthesis_3nf.specs.GroupedPlans.{IsGroupedPlan};
 
 use crate::completing::with_key;
@@ -21,7 +21,7 @@ use std::alloc::Global;
 pub fn synthesize(alloc: Global, schema: &Schema) -> Result<Plan, WantMemory>
     ensures universe { IfOk result (λ plan. IsPlanOver schema.now plan) }
     ensures grouped { IfOk result (λ plan.
-        IsGroupedPlan (width_of schema.now) (theory_of schema.now) (sets_of plan)) }
+        IsGroupedPlan (width_of schema.now) (theory_of schema.now) (scheme_sets plan)) }
     ensures lossless { IfOk result (λ plan.
         IsLossless (width_of schema.now) (theory_of schema.now) (plan_of plan)) }
     ensures third { IfOk result (λ plan.

@@ -20,15 +20,15 @@ row_text s key k =
     ++ codes "</TD></TR>"
 
 -- the rows of a scheme, ascending
-abbrev pub rows_text : Schema → Places → Places → List ℕ
-rows_text s scheme key = flat_map (row_text s key) (members_below (width_of s) scheme)
+abbrev pub table_rows_text : Schema → Places → Places → List ℕ
+table_rows_text s scheme key = flat_map (row_text s key) (members_below (width_of s) scheme)
 
 -- the node of a table: its name, and a row for each attribute
 unfoldable pub node_text : Schema → TableDesign → List ℕ
 node_text s table =
     codes "  " ++ table.name
     ++ codes " [label=<<TABLE BORDER=\"0\" CELLBORDER=\"1\" CELLSPACING=\"0\"><TR><TD BGCOLOR=\"lightgrey\"><B>"
-    ++ table.name ++ codes "</B></TD></TR>" ++ rows_text s (places table.scheme) (places table.key)
+    ++ table.name ++ codes "</B></TD></TR>" ++ table_rows_text s (places table.scheme) (places table.key)
     ++ codes "</TABLE>>];\n"
 
 -- the edge from a table to another, with the key of that one

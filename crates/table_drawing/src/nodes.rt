@@ -2,7 +2,7 @@ ghost use Rattle.std.specs.Prelude.{◌≡◌, ◌<◌, ◌++◌, IfOk, OnOk};
 ghost use Rattle.std.specs.List.{flat_map};
 ghost use Rattle.attr_sets.specs.Sets.{places};
 ghost use Rattle.dep_model.specs.Schemas.{width_of};
-ghost use Rattle.table_drawing.specs.Drawing.{marked_text, row_text, rows_text, node_text};
+ghost use Rattle.table_drawing.specs.Drawing.{marked_text, row_text, table_rows_text, node_text};
 
 use attr_sets::AttrSet;
 use ddl_text::TableDesign;
@@ -53,7 +53,7 @@ fn add_rows(
     key: AttrSet,
 ) -> Result<(), WantMemory>
     ensures added { OnOk result (text.new.items
-        ≡ text.old.items ++ rows_text schema.now (places scheme) (places key)) }
+        ≡ text.old.items ++ table_rows_text schema.now (places scheme) (places key)) }
 {
     for place in 0..schema.width() {
         if scheme.has(place) {

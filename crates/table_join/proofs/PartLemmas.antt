@@ -11,7 +11,7 @@ use Rattle.attr_sets.specs.Places.{Places, below, Within}
 use Rattle.attr_sets.specs.Sets.{places}
 use Rattle.attr_sets.specs.declared.set.AttrSet.{AttrSet}
 use Rattle.attr_sets.proofs.PlacesLemmas.{count_below-same}
-use Rattle.csv_rows.specs.Columns.{named, column_of, columns_of, columns_from, ◌>>=◌}
+use Rattle.csv_rows.specs.Columns.{with_columns, column_of, columns_of_header, columns_from, ◌>>=◌}
 use Rattle.csv_rows.specs.Reading.{PartOf, HasScheme, TableOf, RowsUnder, value_of}
 use Rattle.csv_rows.specs.declared.refusal.RowRefusal.{RowRefusal}
 use Rattle.csv_rows.specs.declared.refusal.RowRefusal.TheVariants as refusal
@@ -51,13 +51,13 @@ unfolding columns_from
 columns_low names before [] columns h low = let same : before ≡ columns = cc in subst
     (All (λ (a : ℕ). a < length names)) same low
 columns_low names before (field ∷ fields) columns h low =
-    let w = bind_ok (column_of (length before + 1) (named before) (place_named names field))
+    let w = bind_ok (column_of (length before + 1) (with_columns before) (place_named names field))
     (λ a. columns_from names (before ++ a ∷ []) fields) columns h in
     columns_low names (before ++ w.0 ∷ []) fields columns w.2
-    (All-push (λ (a : ℕ). a < length names) before w.0 low (named_low names (length before + 1) w.0 (named before)
+    (All-push (λ (a : ℕ). a < length names) before w.0 low (named_low names (length before + 1) w.0 (with_columns before)
     field w.1))
 
-named_within : (n : ℕ) (columns : List ℕ) → All (λ (a : ℕ). a < n) columns → Within (named columns) (below n)
+named_within : (n : ℕ) (columns : List ℕ) → All (λ (a : ℕ). a < n) columns → Within (with_columns columns) (below n)
 named_within n columns low a has =
     let found = Any-from_list_any (nat_eq a) columns has in
     let is : a ≡ found.1 = eqb-true a found.1 found.4 in
@@ -73,7 +73,7 @@ part_is_table s text rows scheme part has =
     let names : List (List ℕ) = names_of s in
     let n : ℕ = width_of s in
     let columns : List ℕ = has.3 in
-    let w = subst (λ (rs : List (List (List ℕ))). TableOf s (λ header found. found ≡ columns_of names header) rs
+    let w = subst (λ (rs : List (List (List ℕ))). TableOf s (λ header found. found ≡ columns_of_header names header) rs
     (Ok rows)) has.2 part in
     let under : RowsUnder s (Ok columns) has.1 (Ok rows) = subst (λ (r : Result (List ℕ) RowRefusal). RowsUnder s r
     has.1 (Ok rows)) (w.1 ∙ has.4) w.2 in
@@ -84,7 +84,7 @@ part_is_table s text rows scheme part has =
           let each = under.0.each k l in
           ap length (same_default rows k d [] l)
           ∙ ap length each.1
-          ∙ length-map (members_below n (named columns)) (value_of columns (slice_index_or has.1 k []))
-          ∙ length-members_below n (named columns)
-          ∙ sym (count_below-same n (places scheme) (named columns) has.5);
+          ∙ length-map (members_below n (with_columns columns)) (value_of columns (slice_index_or has.1 k []))
+          ∙ length-members_below n (with_columns columns)
+          ∙ sym (count_below-same n (places scheme) (with_columns columns) has.5);
     }

@@ -13,7 +13,7 @@ use Rattle.dep_model.specs.Projections.{projection, Covers}
 use Rattle.dep_model.proofs.JoinLemmas.{project_tuple-same}
 use Rattle.dep_model.proofs.ListLemmas.{Contains-head, Contains-later}
 use Rattle.dep_model.proofs.TwoRowLemmas.{AgreeOn-trans}
-use Rattle.table_queries.specs.Queries.{Query, StoredTable, whole, values_on, several, join, except, kept, attributes_of, breaches_of, stored, joined_with, join_of, lacking, exceeding}
+use Rattle.table_queries.specs.Queries.{Query, StoredTable, whole, values_on, several, join, except, kept, attributes_of, breaches_of, stored_query, joined_with, plan_join, lacking, exceeding}
 use Rattle.table_queries.specs.Meanings.{Gives, IsEven}
 use Rattle.table_queries.proofs.JoinedLemmas.{all_attributes}
 
@@ -63,11 +63,11 @@ breaches_even n (mvd x y) inside = elim (cases_Bool (is_within y x)) [
 
 joined_even : (n : ℕ) (q : Query) (tables : List StoredTable) → IsEven n q → IsEven n (joined_with q tables)
 joined_even n q [] even = even
-joined_even n q (table ∷ tables) even = joined_even n (join q (stored table)) tables (even, tt)
+joined_even n q (table ∷ tables) even = joined_even n (join q (stored_query table)) tables (even, tt)
 
-join_even : (n : ℕ) (tables : List StoredTable) → IsEven n (join_of tables)
+join_even : (n : ℕ) (tables : List StoredTable) → IsEven n (plan_join tables)
 join_even n [] = tt
-join_even n (table ∷ tables) = joined_even n (stored table) tables tt
+join_even n (table ∷ tables) = joined_even n (stored_query table) tables tt
 
 abbrev pub AreWithin : ℕ → List StoredTable → Type 0
 AreWithin n tables = (table : StoredTable) → Contains tables table → Within table.scheme (below n)
@@ -76,23 +76,23 @@ joined_within : (n : ℕ) (q : Query) (tables : List StoredTable) → Within (at
     → Within (attributes_of n (joined_with q tables)) (below n)
 joined_within n q [] low each = low
 joined_within n q (table ∷ tables) low each =
-    joined_within n (join q (stored table)) tables
+    joined_within n (join q (stored_query table)) tables
     (λ (k : ℕ) m. let first = low k in let second = each table (Contains-head table tables) k in grind (arith, m, first, second))
     (λ other h. each other (Contains-later table tables other h))
 
-join_within : (n : ℕ) (tables : List StoredTable) → AreWithin n tables → Within (attributes_of n (join_of tables)) (below n)
+join_within : (n : ℕ) (tables : List StoredTable) → AreWithin n tables → Within (attributes_of n (plan_join tables)) (below n)
 join_within n [] each = λ (k : ℕ) m. grind (arith, m)
 join_within n (table ∷ tables) each =
-    joined_within n (stored table) tables (each table (Contains-head table tables)) (λ other h. each other (Contains-later table tables other h))
+    joined_within n (stored_query table) tables (each table (Contains-head table tables)) (λ other h. each other (Contains-later table tables other h))
 
 all_of_them : (n : ℕ) (tables : List StoredTable) → AreWithin n tables → Covers n (map (λ (table : StoredTable). table.scheme) tables)
-    → Same (attributes_of n (join_of tables)) (below n)
+    → Same (attributes_of n (plan_join tables)) (below n)
 all_of_them n tables each covers =
-    Same-within (attributes_of n (join_of tables)) (below n) (join_within n tables each)
+    Same-within (attributes_of n (plan_join tables)) (below n) (join_within n tables each)
     (λ (k : ℕ) m. all_attributes n tables covers k (ltb-true k n m))
 
 pub differences_even : (n : ℕ) (name : List ℕ) (tables : List StoredTable) → AreWithin n tables
     → Covers n (map (λ (table : StoredTable). table.scheme) tables) → IsEven n (lacking name tables) × IsEven n (exceeding name tables)
 differences_even n name tables each covers =
     let all = all_of_them n tables each covers in
-    ((tt, join_even n tables, Same-sym (attributes_of n (join_of tables)) (below n) all), (join_even n tables, tt, all))
+    ((tt, join_even n tables, Same-sym (attributes_of n (plan_join tables)) (below n) all), (join_even n tables, tt, all))

@@ -11,7 +11,7 @@ use Rattle.dep_model.proofs.DistinctLemmas.{ordered_projection-same}
 use Rattle.dep_model.proofs.JoinLemmas.{IsProjected, in_join-from}
 use Rattle.dep_model.proofs.ListLemmas.{Contains-map, Contains-later, Contains-cases, map-member}
 use Rattle.dep_model.proofs.SchemeLemmas.{project_tuple-whole}
-use Rattle.table_queries.specs.Queries.{Query, StoredTable, values_on, join, stored, attributes_of, joined_with, join_of, lacking, exceeding}
+use Rattle.table_queries.specs.Queries.{Query, StoredTable, values_on, join, stored_query, attributes_of, joined_with, plan_join, lacking, exceeding}
 use Rattle.table_queries.specs.Meanings.{Gives, IsGiven, GivesNone}
 
 -- ---- the values on a scheme
@@ -54,24 +54,24 @@ rest_of_each first tables r t each table h = each table (Contains-later first ta
 joined-to : (q : Query) (tables : List StoredTable) (r : Relation) (t : Tuple) → Gives (joined_with q tables) r t → Gives q r t × InEach tables r t
 joined-to q [] r t given = (given, none_in r t)
 joined-to q (first ∷ tables) r t given =
-    let rest = joined-to (join q (stored first)) tables r t given in
+    let rest = joined-to (join q (stored_query first)) tables r t given in
     (rest.0.0, in_first first tables r t rest.0.1 rest.1)
 
 joined-from : (q : Query) (tables : List StoredTable) (r : Relation) (t : Tuple) → Gives q r t → InEach tables r t → Gives (joined_with q tables) r t
 joined-from q [] r t given each = given
 joined-from q (first ∷ tables) r t given each =
-    joined-from (join q (stored first)) tables r t (given, first_of_each first tables r t each) (rest_of_each first tables r t each)
+    joined-from (join q (stored_query first)) tables r t (given, first_of_each first tables r t each) (rest_of_each first tables r t each)
 
-join-to : (tables : List StoredTable) (r : Relation) (t : Tuple) → Gives (join_of tables) r t → InEach tables r t
+join-to : (tables : List StoredTable) (r : Relation) (t : Tuple) → Gives (plan_join tables) r t → InEach tables r t
 join-to [] r t given = none_in r t
 join-to (first ∷ tables) r t given =
-    let found = joined-to (stored first) tables r t given in
+    let found = joined-to (stored_query first) tables r t given in
     in_first first tables r t found.0 found.1
 
 -- ---- the attributes of a join
 more_attributes : (n : ℕ) (q : Query) (tables : List StoredTable) (k : ℕ) → attributes_of n q k ≡ true → attributes_of n (joined_with q tables) k ≡ true
 more_attributes n q [] k m = m
-more_attributes n q (first ∷ tables) k m = more_attributes n (join q (stored first)) tables k (grind (arith, m))
+more_attributes n q (first ∷ tables) k m = more_attributes n (join q (stored_query first)) tables k (grind (arith, m))
 
 later_attributes : (n : ℕ) (q : Query) (tables : List StoredTable) (table : StoredTable) (k : ℕ) → Contains tables table → table.scheme k ≡ true
     → attributes_of n (joined_with q tables) k ≡ true
@@ -79,21 +79,21 @@ later_attributes n q [] table k h m = absurd (omega (arith, h.1))
 later_attributes n q (first ∷ tables) table k h m = ⊎_elim
     (λ (same : table ≡ first).
     let m' : first.scheme k ≡ true = subst (λ (z : StoredTable). z.scheme k ≡ true) same m in
-    more_attributes n (join q (stored first)) tables k (grind (arith, m')))
-    (λ later. later_attributes n (join q (stored first)) tables table k later m)
+    more_attributes n (join q (stored_query first)) tables k (grind (arith, m')))
+    (λ later. later_attributes n (join q (stored_query first)) tables table k later m)
     (Contains-cases first tables table h)
 
-attributes_in : (n : ℕ) (tables : List StoredTable) (table : StoredTable) (k : ℕ) → Contains tables table → table.scheme k ≡ true → attributes_of n (join_of tables) k ≡ true
+attributes_in : (n : ℕ) (tables : List StoredTable) (table : StoredTable) (k : ℕ) → Contains tables table → table.scheme k ≡ true → attributes_of n (plan_join tables) k ≡ true
 attributes_in n [] table k h m = absurd (omega (arith, h.1))
 attributes_in n (first ∷ tables) table k h m = ⊎_elim
-    (λ (same : table ≡ first). more_attributes n (stored first) tables k (subst (λ (z : StoredTable). z.scheme k ≡ true) same m))
-    (λ later. later_attributes n (stored first) tables table k later m)
+    (λ (same : table ≡ first). more_attributes n (stored_query first) tables k (subst (λ (z : StoredTable). z.scheme k ≡ true) same m))
+    (λ later. later_attributes n (stored_query first) tables table k later m)
     (Contains-cases first tables table h)
 
 abbrev pub schemes : List StoredTable → List Places
 schemes tables = map (λ table. table.scheme) tables
 
-pub all_attributes : (n : ℕ) (tables : List StoredTable) → Covers n (schemes tables) → (k : ℕ) → k < n → attributes_of n (join_of tables) k ≡ true
+pub all_attributes : (n : ℕ) (tables : List StoredTable) → Covers n (schemes tables) → (k : ℕ) → k < n → attributes_of n (plan_join tables) k ≡ true
 all_attributes n tables covers k low =
     let has = covers k low in
     let found = map-member (λ (table : StoredTable). table.scheme) tables has.1 (has.0, has.2, has.3) in
@@ -101,31 +101,31 @@ all_attributes n tables covers k low =
 
 -- ---- the tables of a lossless plan
 gives_legal : (n : ℕ) (ds : List Dependency) (tables : List StoredTable) (r : Relation) (t : Tuple) → IsLossless n ds (schemes tables) → IsLegal n ds r
-    → length t ≡ n → Gives (join_of tables) r t → Contains r t
+    → length t ≡ n → Gives (plan_join tables) r t → Contains r t
 gives_legal n ds tables r t lossless legal long given =
     lossless.gains_none r legal t (in_join-from n (schemes tables) r t long (λ scheme h.
     let found = map-member (λ (table : StoredTable). table.scheme) tables scheme h in
     subst (λ (z : Places). IsProjected r t z) found.2 (join-to tables r t given found.0 found.1)))
 
 legal_gives : (n : ℕ) (ds : List Dependency) (tables : List StoredTable) (r : Relation) (t : Tuple) → 0 < n → IsLossless n ds (schemes tables)
-    → Contains r t → Gives (join_of tables) r t
+    → Contains r t → Gives (plan_join tables) r t
 legal_gives n ds [] r t some lossless t_in = let has = lossless.covers 0 some in absurd (omega (arith, has.2))
 legal_gives n ds (first ∷ tables) r t some lossless t_in =
-    joined-from (stored first) tables r t (Contains-map (project_tuple first.scheme) r t t_in) (λ table h. Contains-map (project_tuple table.scheme) r t t_in)
+    joined-from (stored_query first) tables r t (Contains-map (project_tuple first.scheme) r t t_in) (λ table h. Contains-map (project_tuple table.scheme) r t t_in)
 
 pub join_given : (n : ℕ) (ds : List Dependency) (tables : List StoredTable) (r : Relation) → 0 < n → IsLossless n ds (schemes tables) → IsLegal n ds r
-    → (t : Tuple) → IsGiven n (join_of tables) r t ↔ Contains r t
+    → (t : Tuple) → IsGiven n (plan_join tables) r t ↔ Contains r t
 join_given n ds tables r some lossless legal t = (to, from)
   where
-    its_own : (u : Tuple) → length u ≡ n → project_tuple (attributes_of n (join_of tables)) u ≡ u
-    its_own u long = project_tuple-whole (attributes_of n (join_of tables)) u (λ (k : ℕ) l. all_attributes n tables lossless.covers k (omega (arith, l, long)))
+    its_own : (u : Tuple) → length u ≡ n → project_tuple (attributes_of n (plan_join tables)) u ≡ u
+    its_own u long = project_tuple-whole (attributes_of n (plan_join tables)) u (λ (k : ℕ) l. all_attributes n tables lossless.covers k (omega (arith, l, long)))
 
-    to : IsGiven n (join_of tables) r t → Contains r t
+    to : IsGiven n (plan_join tables) r t → Contains r t
     to given =
         let same : given.tuple ≡ t = sym (given.values ∙ its_own given.tuple given.over) in
         subst (λ (z : Tuple). Contains r z) same (gives_legal n ds tables r given.tuple lossless legal given.over given.gives)
 
-    from : Contains r t → IsGiven n (join_of tables) r t
+    from : Contains r t → IsGiven n (plan_join tables) r t
     from t_in =
         let long : length t ≡ n = All-contains (λ (u : Tuple). length u ≡ n) r t legal.over t_in in
         record { tuple = t; over = long; gives = legal_gives n ds tables r t some lossless t_in; values = sym (its_own t long) }

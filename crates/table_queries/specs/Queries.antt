@@ -55,22 +55,22 @@ abbrev pub rows_of : StoredTable → Query
 rows_of table = values_on table.scheme
 
 -- the same, under its name
-abbrev pub stored : StoredTable → Query
-stored table = kept table.name (rows_of table)
+abbrev pub stored_query : StoredTable → Query
+stored_query table = kept table.name (rows_of table)
 
 -- a query joined with tables, one after the other
 abbrev pub joined_with : Query → List StoredTable → Query
 joined_with q [] = q
-joined_with q (table ∷ tables) = joined_with (join q (stored table)) tables
+joined_with q (table ∷ tables) = joined_with (join q (stored_query table)) tables
 
 -- the natural join of the tables of a plan
-abbrev pub join_of : List StoredTable → Query
-join_of [] = values_on none
-join_of (table ∷ tables) = joined_with (stored table) tables
+abbrev pub plan_join : List StoredTable → Query
+plan_join [] = values_on none
+plan_join (table ∷ tables) = joined_with (stored_query table) tables
 
 -- what the table has beyond a view on the join, and the view beyond the table
 abbrev pub lacking : List ℕ → List StoredTable → Query
-lacking name tables = except whole (kept name (join_of tables))
+lacking name tables = except whole (kept name (plan_join tables))
 
 abbrev pub exceeding : List ℕ → List StoredTable → Query
-exceeding name tables = except (kept name (join_of tables)) whole
+exceeding name tables = except (kept name (plan_join tables)) whole

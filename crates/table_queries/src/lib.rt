@@ -1,7 +1,7 @@
 //! Queries over one table, as terms, and what they give over a relation: its values on a set of attributes,
 //! values beside more than one other, natural joins and differences.
 //!
-//! `breaches_of` is the query for the tuples that break a dependency, `join_of` the natural join of the tables
+//! `breaches_of` is the query for the tuples that break a dependency, `plan_join` the natural join of the tables
 //! of a plan. The laws say what these give. Each is a function that does nothing, whose clause is the law; so
 //! the gate asks for its proof.
 #![tactic(auto)]
@@ -13,7 +13,7 @@ ghost use Rattle.dep_model.specs.Tuples.{Tuple, Relation, AgreeOn, IsOver};
 ghost use Rattle.dep_model.specs.Dependencies.{Dependency, IsWithin, Obeys};
 ghost use Rattle.dep_model.specs.Implication.{IsLegal};
 ghost use Rattle.dep_model.specs.Projections.{ordered_projection, Covers, IsLossless};
-ghost use Rattle.table_queries.specs.Queries.{Query, StoredTable, attributes_of, breaches_of, values_on, join_of, lacking, exceeding};
+ghost use Rattle.table_queries.specs.Queries.{Query, StoredTable, attributes_of, breaches_of, values_on, plan_join, lacking, exceeding};
 ghost use Rattle.table_queries.specs.Meanings.{Gives, IsEven, IsGiven, GivesNone};
 
 /// What a query gives of a tuple hangs on the values of the query's own attributes alone.
@@ -49,7 +49,7 @@ pub fn values_are_the_projection()
 pub fn join_gives_the_relation()
     ensures law { (n : ℕ) (ds : List Dependency) (tables : List StoredTable) (r : Relation) → 0 < n
         → IsLossless n ds (map (λ table. table.scheme) tables) → IsLegal n ds r
-        → (t : Tuple) → IsGiven n (join_of tables) r t ↔ Contains r t }
+        → (t : Tuple) → IsGiven n (plan_join tables) r t ↔ Contains r t }
 {}
 
 /// So a legal relation lacks nothing of a view on that join, and the view nothing of the relation.

@@ -8,15 +8,15 @@ use Rattle.dep_model.specs.declared.schema.Schema.{Schema}
 use Rattle.dep_model.specs.Schemas.{width_of}
 use Rattle.ddl_text.specs.declared.table.TableDesign.{TableDesign}
 use Rattle.ddl_text.specs.Ddl.{name_list}
-use Rattle.table_queries.specs.Queries.{Query, StoredTable, join, stored, attributes_of, joined_with, join_of}
+use Rattle.table_queries.specs.Queries.{Query, StoredTable, join, stored_query, attributes_of, joined_with, plan_join}
 use Rattle.table_scripts.specs.QueryTexts.{alone, left, text_at, select_text, link_text}
 use Rattle.table_scripts.specs.Migrating.{stored_of, stored_tables}
 use Rattle.targets.specs.Sql.{quoted_name}
 
 pub joined_push : (q : Query) (tables : List StoredTable) (table : StoredTable)
-    → joined_with q (tables ++ table ∷ []) ≡ join (joined_with q tables) (stored table)
+    → joined_with q (tables ++ table ∷ []) ≡ join (joined_with q tables) (stored_query table)
 joined_push q [] table = refl
-joined_push q (first ∷ tables) table = joined_push (join q (stored first)) tables table
+joined_push q (first ∷ tables) table = joined_push (join q (stored_query first)) tables table
 
 pub stored_next : (designs : List TableDesign) (i : ℕ) (design : TableDesign) → i < length designs → design ≡ get_or designs i design
     → stored_tables (take (i + 1) designs) ≡ stored_tables (take i designs) ++ stored_of design ∷ []
@@ -27,9 +27,9 @@ stored_next designs i design lt at =
 
 -- ---- attributes
 push_attributes : (n : ℕ) (tables : List StoredTable) (table : StoredTable)
-    → Same (attributes_of n (join_of (tables ++ table ∷ []))) (union (attributes_of n (join_of tables)) table.scheme)
+    → Same (attributes_of n (plan_join (tables ++ table ∷ []))) (union (attributes_of n (plan_join tables)) table.scheme)
 push_attributes n [] table k = refl
-push_attributes n (first ∷ tables) table k = ap (λ (q : Query). attributes_of n q k) (joined_push (stored first) tables table)
+push_attributes n (first ∷ tables) table k = ap (λ (q : Query). attributes_of n q k) (joined_push (stored_query first) tables table)
 
 -- ---- texts
 abbrev IsFrom : Schema → List ℕ → Query → Type 0
@@ -37,49 +37,49 @@ IsFrom s t q = text_at s t alone q ≡ select_text (name_list s (attributes_of (
 
 from_joined : (s : Schema) (t : List ℕ) (q : Query) (tables : List StoredTable) → IsFrom s t q → IsFrom s t (joined_with q tables)
 from_joined s t q [] is = is
-from_joined s t q (table ∷ tables) is = from_joined s t (join q (stored table)) tables refl
+from_joined s t q (table ∷ tables) is = from_joined s t (join q (stored_query table)) tables refl
 
 -- the text of the join, from the tables side by side
 pub join_text : (s : Schema) (t : List ℕ) (first : StoredTable) (tables : List StoredTable)
-    → text_at s t alone (join_of (first ∷ tables))
-    ≡ select_text (name_list s (attributes_of (width_of s) (join_of (first ∷ tables)))) (text_at s t left (joined_with (stored first) tables))
-join_text s t first tables = from_joined s t (stored first) tables refl
+    → text_at s t alone (plan_join (first ∷ tables))
+    ≡ select_text (name_list s (attributes_of (width_of s) (plan_join (first ∷ tables)))) (text_at s t left (joined_with (stored_query first) tables))
+join_text s t first tables = from_joined s t (stored_query first) tables refl
 
 -- ---- one table more
 pub attributes_more : (designs : List TableDesign) (i : ℕ) (design : TableDesign) (set next : Places) → i < length designs
     → design ≡ get_or designs i design
-    → ((n : ℕ) → Same set (attributes_of n (join_of (stored_tables (take i designs))))) → Same next (union set (places design.scheme))
-    → (n : ℕ) → Same next (attributes_of n (join_of (stored_tables (take (i + 1) designs))))
+    → ((n : ℕ) → Same set (attributes_of n (plan_join (stored_tables (take i designs))))) → Same next (union set (places design.scheme))
+    → (n : ℕ) → Same next (attributes_of n (plan_join (stored_tables (take (i + 1) designs))))
 attributes_more designs i design set next lt at so_far is n k =
     is k ∙ ap (λ (b : Bool). b || places design.scheme k) (so_far n k)
     ∙ sym (push_attributes n (stored_tables (take i designs)) (stored_of design) k)
-    ∙ ap (λ (tables : List StoredTable). attributes_of n (join_of tables) k) (sym (stored_next designs i design lt at))
+    ∙ ap (λ (tables : List StoredTable). attributes_of n (plan_join tables) k) (sym (stored_next designs i design lt at))
 
 -- the tables so far and one more, as a query
 more_is : (first : StoredTable) (designs : List TableDesign) (i : ℕ) (design : TableDesign) → i < length designs → design ≡ get_or designs i design
-    → joined_with (stored first) (stored_tables (take (i + 1) designs))
-    ≡ join (joined_with (stored first) (stored_tables (take i designs))) (stored (stored_of design))
+    → joined_with (stored_query first) (stored_tables (take (i + 1) designs))
+    ≡ join (joined_with (stored_query first) (stored_tables (take i designs))) (stored_query (stored_of design))
 more_is first designs i design lt at =
-    ap (joined_with (stored first)) (stored_next designs i design lt at)
-    ∙ joined_push (stored first) (stored_tables (take i designs)) (stored_of design)
+    ap (joined_with (stored_query first)) (stored_next designs i design lt at)
+    ∙ joined_push (stored_query first) (stored_tables (take i designs)) (stored_of design)
 
 pub seen_more : (n : ℕ) (first : StoredTable) (designs : List TableDesign) (i : ℕ) (design : TableDesign) (seen next : Places) → i < length designs
     → design ≡ get_or designs i design
-    → Same seen (attributes_of n (joined_with (stored first) (stored_tables (take i designs)))) → Same next (union seen (places design.scheme))
-    → Same next (attributes_of n (joined_with (stored first) (stored_tables (take (i + 1) designs))))
+    → Same seen (attributes_of n (joined_with (stored_query first) (stored_tables (take i designs)))) → Same next (union seen (places design.scheme))
+    → Same next (attributes_of n (joined_with (stored_query first) (stored_tables (take (i + 1) designs))))
 seen_more n first designs i design seen next lt at so_far is k =
     is k ∙ ap (λ (b : Bool). b || places design.scheme k) (so_far k)
     ∙ ap (λ (q : Query). attributes_of n q k) (sym (more_is first designs i design lt at))
 
 pub sources_more : (s : Schema) (t : List ℕ) (first : StoredTable) (designs : List TableDesign) (i : ℕ) (design : TableDesign)
     (seen shared : Places) (text next piece source : List ℕ) → i < length designs → design ≡ get_or designs i design
-    → Same seen (attributes_of (width_of s) (joined_with (stored first) (stored_tables (take i designs))))
+    → Same seen (attributes_of (width_of s) (joined_with (stored_query first) (stored_tables (take i designs))))
     → Same shared (meet seen (places design.scheme))
-    → text ≡ text_at s t left (joined_with (stored first) (stored_tables (take i designs)))
+    → text ≡ text_at s t left (joined_with (stored_query first) (stored_tables (take i designs)))
     → source ≡ quoted_name design.name → piece ≡ link_text s shared source → next ≡ text ++ piece
-    → next ≡ text_at s t left (joined_with (stored first) (stored_tables (take (i + 1) designs)))
+    → next ≡ text_at s t left (joined_with (stored_query first) (stored_tables (take (i + 1) designs)))
 sources_more s t first designs i design seen shared text next piece source lt at is_seen is_shared so_far is_source is added =
-    let q = joined_with (stored first) (stored_tables (take i designs)) in
+    let q = joined_with (stored_query first) (stored_tables (take i designs)) in
     let to_shared : shared ≡ meet (attributes_of (width_of s) q) (places design.scheme) =
     Same-path shared (meet seen (places design.scheme)) is_shared
     ∙ ap (λ (z : Places). meet z (places design.scheme)) (Same-path seen (attributes_of (width_of s) q) is_seen) in
@@ -95,13 +95,13 @@ split_first [] d some = absurd (omega (arith, some))
 split_first (first ∷ designs) d some = refl
 
 pub all_joined : (s : Schema) (t : List ℕ) (designs : List TableDesign) (first : TableDesign) (set : Places) → 0 < length designs
-    → first ≡ get_or designs 0 first → Same set (attributes_of (width_of s) (join_of (stored_tables designs)))
-    → select_text (name_list s set) (text_at s t left (joined_with (stored (stored_of first)) (stored_tables (drop 1 designs))))
-    ≡ text_at s t alone (join_of (stored_tables designs))
+    → first ≡ get_or designs 0 first → Same set (attributes_of (width_of s) (plan_join (stored_tables designs)))
+    → select_text (name_list s set) (text_at s t left (joined_with (stored_query (stored_of first)) (stored_tables (drop 1 designs))))
+    ≡ text_at s t alone (plan_join (stored_tables designs))
 all_joined s t designs first set some at is =
     let split : designs ≡ first ∷ drop 1 designs = split_first designs first some ∙ ap (λ (d : TableDesign). d ∷ drop 1 designs) (sym at) in
-    let sources = text_at s t left (joined_with (stored (stored_of first)) (stored_tables (drop 1 designs))) in
-    ap (λ (z : Places). select_text (name_list s z) sources) (Same-path set (attributes_of (width_of s) (join_of (stored_tables designs))) is)
-    ∙ ap (λ (ds : List TableDesign). select_text (name_list s (attributes_of (width_of s) (join_of (stored_tables ds)))) sources) split
+    let sources = text_at s t left (joined_with (stored_query (stored_of first)) (stored_tables (drop 1 designs))) in
+    ap (λ (z : Places). select_text (name_list s z) sources) (Same-path set (attributes_of (width_of s) (plan_join (stored_tables designs))) is)
+    ∙ ap (λ (ds : List TableDesign). select_text (name_list s (attributes_of (width_of s) (plan_join (stored_tables ds)))) sources) split
     ∙ sym (join_text s t (stored_of first) (stored_tables (drop 1 designs)))
-    ∙ ap (λ (ds : List TableDesign). text_at s t alone (join_of (stored_tables ds))) (sym split)
+    ∙ ap (λ (ds : List TableDesign). text_at s t alone (plan_join (stored_tables ds))) (sym split)

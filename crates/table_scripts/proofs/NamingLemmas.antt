@@ -4,7 +4,7 @@ use Rattle.std.proofs.lemmas.Bool.{cases_Bool, true≢false}
 use Rattle.std.proofs.lemmas.Bool.Decides.{nat_tests}
 use Rattle.std.specs.Prelude.{◌-◌, if◌then◌else◌, codes, nat_le, slice_index_or}
 use Rattle.std.specs.List.{flat_map, list_all, position_or_len}
-use Rattle.table_scripts.specs.Naming.{in_front, parts_of, is_part, is_taken, last_of, are_parts, dotted, parted, quoted_table}
+use Rattle.table_scripts.specs.Naming.{byte_in_front, parts_of, is_part, is_taken, last_of, are_parts, dotted, parted, quoted_table}
 
 abbrev pub is_dot : ℕ → Bool
 is_dot b = b == 46
@@ -19,8 +19,8 @@ no_dot (b ∷ bytes) e = elim (cases_Bool (b == 46)) [
   | inr other ↦
       let later : position_or_len is_dot (b ∷ bytes) ≡ 1 + position_or_len is_dot bytes = ap (λ (d : Bool). cond (not d) (1 + position_or_len is_dot bytes) 0) other in
       let rest = no_dot bytes (omega (arith, e, later)) in
-      ap (λ (d : Bool). if d then [] ∷ parts_of bytes else in_front b (parts_of bytes)) other
-      ∙ ap (in_front b) rest
+      ap (λ (d : Bool). if d then [] ∷ parts_of bytes else byte_in_front b (parts_of bytes)) other
+      ∙ ap (byte_in_front b) rest
 ]
 
 pub at_dot : (bytes : List ℕ) (n : ℕ) → n ≡ position_or_len is_dot bytes → n < length bytes
@@ -29,7 +29,7 @@ at_dot [] n e lt = absurd (omega (arith, lt))
 at_dot (b ∷ bytes) n e lt = elim (cases_Bool (b == 46)) [
   | inl dot ↦
       let first : n ≡ 0 = e ∙ ap (λ (d : Bool). cond (not d) (1 + position_or_len is_dot bytes) 0) dot in
-      ap (λ (d : Bool). if d then [] ∷ parts_of bytes else in_front b (parts_of bytes)) dot
+      ap (λ (d : Bool). if d then [] ∷ parts_of bytes else byte_in_front b (parts_of bytes)) dot
       ∙ sym (ap (λ (m : ℕ). take m (b ∷ bytes) ∷ parts_of (drop (m + 1) (b ∷ bytes))) first)
   | inr other ↦
       let m = position_or_len is_dot bytes in
@@ -37,8 +37,8 @@ at_dot (b ∷ bytes) n e lt = elim (cases_Bool (b == 46)) [
       let later : n ≡ suc m = omega (arith, later') in
       let short : m < length bytes = omega (arith, lt, later) in
       let next : suc m + 1 ≡ suc (m + 1) = omega arith in
-      ap (λ (d : Bool). if d then [] ∷ parts_of bytes else in_front b (parts_of bytes)) other
-      ∙ ap (in_front b) (at_dot bytes m refl short)
+      ap (λ (d : Bool). if d then [] ∷ parts_of bytes else byte_in_front b (parts_of bytes)) other
+      ∙ ap (byte_in_front b) (at_dot bytes m refl short)
       ∙ sym (ap (λ (k : ℕ). take k (b ∷ bytes) ∷ parts_of (drop (k + 1) (b ∷ bytes))) later
       ∙ ap (λ (k : ℕ). (b ∷ take m bytes) ∷ parts_of (drop k (b ∷ bytes))) next)
 ]
@@ -47,10 +47,10 @@ at_dot (b ∷ bytes) n e lt = elim (cases_Bool (b == 46)) [
 pub first_part : (bytes : List ℕ) → (part : List ℕ) × (parts : List (List ℕ)) × (parts_of bytes ≡ part ∷ parts)
 first_part [] = ([], [], refl)
 first_part (b ∷ bytes) = elim (cases_Bool (b == 46)) [
-  | inl dot ↦ ([], parts_of bytes, ap (λ (d : Bool). if d then [] ∷ parts_of bytes else in_front b (parts_of bytes)) dot)
+  | inl dot ↦ ([], parts_of bytes, ap (λ (d : Bool). if d then [] ∷ parts_of bytes else byte_in_front b (parts_of bytes)) dot)
   | inr other ↦
       let rest = first_part bytes in
-      (b ∷ rest.0, rest.1, ap (λ (d : Bool). if d then [] ∷ parts_of bytes else in_front b (parts_of bytes)) other ∙ ap (in_front b) rest.2)
+      (b ∷ rest.0, rest.1, ap (λ (d : Bool). if d then [] ∷ parts_of bytes else byte_in_front b (parts_of bytes)) other ∙ ap (byte_in_front b) rest.2)
 ]
 
 -- ---- the tests
@@ -128,13 +128,13 @@ dotted_is (b ∷ bytes) =
     let rest : dotted (some.0 ∷ some.1) ≡ 34 ∷ (flat_map parted bytes ++ 34 ∷ []) = ap dotted (sym some.2) ∙ dotted_is bytes in
     elim (cases_Bool (b == 46)) [
       | inl dot ↦
-          ap (λ (d : Bool). dotted (if d then [] ∷ parts_of bytes else in_front b (parts_of bytes))) dot
+          ap (λ (d : Bool). dotted (if d then [] ∷ parts_of bytes else byte_in_front b (parts_of bytes))) dot
           ∙ ap (λ (parts : List (List ℕ)). dotted ([] ∷ parts)) some.2
           ∙ ap (λ (text : List ℕ). 34 ∷ 34 ∷ 46 ∷ text) rest
           ∙ sym (ap (λ (d : Bool). 34 ∷ ((if d then codes "\".\"" else b ∷ []) ++ flat_map parted bytes ++ 34 ∷ [])) dot)
       | inr other ↦
-          ap (λ (d : Bool). dotted (if d then [] ∷ parts_of bytes else in_front b (parts_of bytes))) other
-          ∙ ap (λ (parts : List (List ℕ)). dotted (in_front b parts)) some.2
+          ap (λ (d : Bool). dotted (if d then [] ∷ parts_of bytes else byte_in_front b (parts_of bytes))) other
+          ∙ ap (λ (parts : List (List ℕ)). dotted (byte_in_front b parts)) some.2
           ∙ front_dotted b some.0 some.1 (flat_map parted bytes ++ 34 ∷ []) rest
           ∙ sym (ap (λ (d : Bool). 34 ∷ ((if d then codes "\".\"" else b ∷ []) ++ flat_map parted bytes ++ 34 ∷ [])) other)
     ]

@@ -8,7 +8,7 @@ use Rattle.dep_model.specs.Schemas.{width_of, theory_of, LegalFor}
 use Rattle.dep_model.specs.Tuples.{Tuple, Relation}
 use Rattle.ddl_text.specs.declared.table.TableDesign.{TableDesign}
 use Rattle.ddl_text.specs.Ddl.{ddl_text, name_list}
-use Rattle.table_queries.specs.Queries.{Query, StoredTable, rows_of, join_of, lacking, exceeding}
+use Rattle.table_queries.specs.Queries.{Query, StoredTable, rows_of, plan_join, lacking, exceeding}
 use Rattle.table_queries.specs.Meanings.{IsGiven, GivesNone}
 use Rattle.table_scripts.specs.QueryTexts.{query_text}
 use Rattle.targets.specs.Sql.{quoted_name}
@@ -39,11 +39,11 @@ fill_text s table design =
 unfoldable pub view_text : Schema → List ℕ → List TableDesign → List ℕ
 view_text s table designs =
     codes "CREATE VIEW " ++ quoted_name view_name ++ codes " AS "
-    ++ statement_text (query_text s table (join_of (stored_tables designs)))
+    ++ statement_text (query_text s table (plan_join (stored_tables designs)))
 
 -- what tells whether the view is the table
-unfoldable pub differences_text : Schema → List ℕ → List TableDesign → List ℕ
-differences_text s table designs =
+unfoldable pub difference_queries_text : Schema → List ℕ → List TableDesign → List ℕ
+difference_queries_text s table designs =
     codes "-- rows of the table that the view lacks: none\n"
     ++ statement_text (query_text s table (lacking view_name (stored_tables designs)))
     ++ codes "-- rows of the view that the table lacks: none\n"
@@ -52,7 +52,7 @@ differences_text s table designs =
 abbrev pub migrate_text : Schema → List ℕ → List TableDesign → List ℕ
 migrate_text s table designs =
     ddl_text s designs ++ flat_map (fill_text s table) designs ++ view_text s table designs
-    ++ differences_text s table designs
+    ++ difference_queries_text s table designs
 
 -- ---- what the queries give
 -- what fills each table is its ordered projection
@@ -64,7 +64,7 @@ FillsTables s designs =
 
 -- where the plan loses nothing, the view on a legal relation is this relation, and neither lacks a row
 pub record ViewIs (s : Schema) (designs : List TableDesign) (r : Relation) : Type 0 where
-  pub rows : (t : Tuple) → IsGiven (width_of s) (join_of (stored_tables designs)) r t ↔ Contains r t
+  pub rows : (t : Tuple) → IsGiven (width_of s) (plan_join (stored_tables designs)) r t ↔ Contains r t
   pub table_lacks : GivesNone (width_of s) (exceeding view_name (stored_tables designs)) r
   pub view_lacks : GivesNone (width_of s) (lacking view_name (stored_tables designs)) r
 

@@ -7,14 +7,14 @@ use Rattle.targets.specs.Sql.{quoted_name}
 use Rattle.table_scripts.specs.declared.naming.TheConstants.{MOST_PARTS, MOST_PART_BYTES}
 
 -- a byte in front of the first part
-abbrev pub in_front : ℕ → List (List ℕ) → List (List ℕ)
-in_front b [] = (b ∷ []) ∷ []
-in_front b (part ∷ parts) = (b ∷ part) ∷ parts
+abbrev pub byte_in_front : ℕ → List (List ℕ) → List (List ℕ)
+byte_in_front b [] = (b ∷ []) ∷ []
+byte_in_front b (part ∷ parts) = (b ∷ part) ∷ parts
 
 -- the parts of a name, with a dot between two
 abbrev pub parts_of : List ℕ → List (List ℕ)
 parts_of [] = [] ∷ []
-parts_of (b ∷ bytes) = if b == 46 then [] ∷ parts_of bytes else in_front b (parts_of bytes)
+parts_of (b ∷ bytes) = if b == 46 then [] ∷ parts_of bytes else byte_in_front b (parts_of bytes)
 
 -- a letter or `_`, followed by letters, digits and `_`, at most `MOST_PART_BYTES` bytes
 abbrev pub is_part : List ℕ → Bool

@@ -84,10 +84,10 @@ aliased left query = derived_text query (codes "l")
 aliased right query = derived_text query (codes "r")
 
 -- a source that has a name
-abbrev pub named : Stand → List ℕ → List ℕ → List ℕ
-named alone columns source = select_text columns source
-named left columns source = source
-named right columns source = source
+abbrev pub named_source : Stand → List ℕ → List ℕ → List ℕ
+named_source alone columns source = select_text columns source
+named_source left columns source = source
+named_source right columns source = source
 
 -- sources side by side, to which more can be joined
 abbrev pub linked : Stand → List ℕ → List ℕ → List ℕ
@@ -107,7 +107,7 @@ text_at s table stand (join p q) =
 text_at s table stand (except p q) =
     aliased stand (except_text (text_at s table alone p) (text_at s table alone q))
 text_at s table stand (kept name q) =
-    named stand (name_list s (attributes_of (width_of s) q)) (quoted_name name)
+    named_source stand (name_list s (attributes_of (width_of s) q)) (quoted_name name)
 
 -- a query, over a table of this name
 abbrev pub query_text : Schema → List ℕ → Query → List ℕ

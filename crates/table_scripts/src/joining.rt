@@ -2,7 +2,7 @@ ghost use Rattle.std.specs.Prelude.{◌≡◌, ℕ, IfOk};
 ghost use Rattle.attr_sets.specs.Places.{Same};
 ghost use Rattle.attr_sets.specs.Sets.{places};
 ghost use Rattle.dep_model.specs.Schemas.{width_of};
-ghost use Rattle.table_queries.specs.Queries.{attributes_of, join_of, joined_with, stored};
+ghost use Rattle.table_queries.specs.Queries.{attributes_of, plan_join, joined_with, stored_query};
 ghost use Rattle.table_scripts.specs.QueryTexts.{left, text_at, query_text};
 ghost use Rattle.table_scripts.specs.Migrating.{stored_of, stored_tables};
 
@@ -23,7 +23,7 @@ pub fn joined(
     designs: &[TableDesign],
 ) -> Result<Vec<u8>, WantMemory>
     ensures text { IfOk result (λ text. text.items
-        ≡ query_text schema.now table.now (join_of (stored_tables designs.now))) }
+        ≡ query_text schema.now table.now (plan_join (stored_tables designs.now))) }
 {
     if designs.is_empty() {
         return values(alloc, schema, table, AttrSet::empty());
@@ -35,7 +35,7 @@ pub fn joined(
 
 // The attributes of the tables of a design together.
 pub fn attributes(designs: &[TableDesign]) -> AttrSet
-    ensures attributes { (n : ℕ) → Same (places result) (attributes_of n (join_of (stored_tables designs.now))) }
+    ensures attributes { (n : ℕ) → Same (places result) (attributes_of n (plan_join (stored_tables designs.now))) }
 {
     let mut set = AttrSet::empty();
     for design in designs {
@@ -53,7 +53,7 @@ fn side_by_side(
     more: &[TableDesign],
 ) -> Result<Vec<u8>, WantMemory>
     ensures text { IfOk result (λ text. text.items
-        ≡ text_at schema.now table.now left (joined_with (stored (stored_of first.now)) (stored_tables more.now))) }
+        ≡ text_at schema.now table.now left (joined_with (stored_query (stored_of first.now)) (stored_tables more.now))) }
 {
     let mut text = quoted(alloc, &first.name)?;
     let mut seen = first.scheme;

@@ -1,9 +1,9 @@
 ghost use Rattle.std.specs.Prelude.{◌≡◌, ◌++◌, IsTrue, IfOk, OnOk};
 ghost use Rattle.std.specs.List.{flat_map};
-ghost use Rattle.table_queries.specs.Queries.{lacking, exceeding, kept, join_of};
+ghost use Rattle.table_queries.specs.Queries.{lacking, exceeding, kept, plan_join};
 ghost use Rattle.table_scripts.specs.Naming.{is_table_name, quoted_table};
 ghost use Rattle.table_scripts.specs.QueryTexts.{query_text};
-ghost use Rattle.table_scripts.specs.Migrating.{migrate_text, statement_text, fill_text, view_text, view_name, differences_text, stored_tables, FillsTables, ViewIsTable};
+ghost use Rattle.table_scripts.specs.Migrating.{migrate_text, statement_text, fill_text, view_text, view_name, difference_queries_text, stored_tables, FillsTables, ViewIsTable};
 
 use crate::columns::names;
 use crate::joining::{attributes, joined};
@@ -119,14 +119,14 @@ fn view(
 }
 
 // What tells whether the view is the table.
-#[tactic(auto, unfolding(crate::specs::Migrating::differences_text))]
+#[tactic(auto, unfolding(crate::specs::Migrating::difference_queries_text))]
 fn differences(
     alloc: Global,
     schema: &Schema,
     table: &[u8],
     designs: &[TableDesign],
 ) -> Result<Vec<u8>, WantMemory>
-    ensures text { IfOk result (λ text. text.items ≡ differences_text schema.now table.now designs.now) }
+    ensures text { IfOk result (λ text. text.items ≡ difference_queries_text schema.now table.now designs.now) }
 {
     let whole = whole(alloc, schema, table)?;
     let view = of_view(alloc, schema, table, designs)?;
@@ -152,7 +152,7 @@ fn of_view(
     designs: &[TableDesign],
 ) -> Result<Vec<u8>, WantMemory>
     ensures text { IfOk result (λ text. text.items
-        ≡ query_text schema.now table.now (kept view_name (join_of (stored_tables designs.now)))) }
+        ≡ query_text schema.now table.now (kept view_name (plan_join (stored_tables designs.now)))) }
 {
     select(
         alloc,

@@ -20,7 +20,7 @@ use Rattle.chase_laws.proofs.RoundLemmas.{closed-same, rounds_unique, rounds_end
 use Rattle.chase_laws.proofs.SettlingLemmas.{settled-same}
 use Rattle.chase_laws.proofs.ClosedLemmas.{closed_gaining, closed_exchanged, reached_typed}
 use Rattle.chase_laws.proofs.EndLemmas.{what_is_left, round_lowers}
-use Rattle.tableau_chase.specs.Groups.{row_at}
+use Rattle.tableau_chase.specs.Groups.{symbol_row_at}
 use Rattle.tableau_chase.specs.Making.{AddsAll, Overflows}
 use Rattle.tableau_chase.specs.Texts.{AreTextsOf}
 
@@ -109,9 +109,9 @@ module _ (n : ℕ) (ds : List Dependency) (plan : List Places) (limit : ℕ) (ro
   -- rows that were added, which differ from those before, show that it was not closed
   pub not_closed : (u : Tableau) → AddsAll (IsMadeOf n ds t) t u → AllPairs (λ p q. p ≡ q → ⊥) u → length t < length u → IsClosed n ds t → ⊥
   not_closed u adds differ grows closed =
-      let row = row_at u (length t) in
+      let row = symbol_row_at u (length t) in
       let inside : Contains t row = ⊎_elim (λ old. old) (λ made. closed_made closed row made) (adds.sound row (Contains-get_or u (length t) [] grows)) in
-      let is : row_at u inside.0 ≡ row = ap (λ (v : Tableau). row_at v inside.0) adds.extends.1 ∙ get_or_append_left t adds.extends.0 [] inside.0 inside.1 ∙ get_or_default t inside.0 [] row inside.1 ∙ inside.2 in
+      let is : symbol_row_at u inside.0 ≡ row = ap (λ (v : Tableau). symbol_row_at v inside.0) adds.extends.1 ∙ get_or_append_left t adds.extends.0 [] inside.0 inside.1 ∙ get_or_default t inside.0 [] row inside.1 ∙ inside.2 in
       differ inside.0 (length t) [] inside.1 grows is
 
   -- ---- the next round

@@ -13,19 +13,19 @@ use Rattle.chase_laws.specs.Tableaux.{SymbolRow, Tableau, SameTableau, symbol_at
 use Rattle.chase_laws.specs.Steps.{replaced_in, replaced, IsFunctionalStep}
 use Rattle.chase_laws.proofs.TableauLemmas.{symbol_at_past, length-replaced_in, symbol_at-replaced_in, change, change_hit, change_miss, Same-refl, cons_here}
 use Rattle.chase_laws.proofs.RoundLemmas.{functional_leads_join}
-use Rattle.tableau_chase.specs.Groups.{row_at, AreSymbolLeaders}
+use Rattle.tableau_chase.specs.Groups.{symbol_row_at, AreSymbolLeaders}
 use Rattle.tableau_chase.specs.Settling.{Changes, KeepsRows, IsEquatedAt, AreEquated, AgreesBy, AreGrouped, AreGroupedBy}
 
 -- ---- a replacement
-row_at-replaced : (a former later : ℕ) (t : Tableau) (i : ℕ) → i < length t → row_at (replaced a former later t) i ≡ replaced_in a former later (row_at t i)
+row_at-replaced : (a former later : ℕ) (t : Tableau) (i : ℕ) → i < length t → symbol_row_at (replaced a former later t) i ≡ replaced_in a former later (symbol_row_at t i)
 row_at-replaced a former later t i low = get_or-map (replaced_in a former later) t i [] [] low
 
 abbrev HasPlace : ℕ → SymbolRow → Type 0
 HasPlace a row = a < length row
 
-symbol-replaced : (a former later : ℕ) (t : Tableau) (i k : ℕ) → All (HasPlace a) t → i < length t → symbol_at (row_at (replaced a former later t) i) k ≡ change a former later k (symbol_at (row_at t i) k)
+symbol-replaced : (a former later : ℕ) (t : Tableau) (i k : ℕ) → All (HasPlace a) t → i < length t → symbol_at (symbol_row_at (replaced a former later t) i) k ≡ change a former later k (symbol_at (symbol_row_at t i) k)
 symbol-replaced a former later t i k within low =
-    ap (λ (row : SymbolRow). symbol_at row k) (row_at-replaced a former later t i low) ∙ symbol_at-replaced_in a former later (row_at t i) k (within i [] low)
+    ap (λ (row : SymbolRow). symbol_at row k) (row_at-replaced a former later t i low) ∙ symbol_at-replaced_in a former later (symbol_row_at t i) k (within i [] low)
 
 keeps_replaced : (a former later : ℕ) (t : Tableau) → All (HasPlace a) t → KeepsRows t (replaced a former later t)
 keeps_replaced a former later t within = record {
@@ -45,7 +45,7 @@ keeps_trans t m s one other = record {
   over = λ n over. other.over n (one.over n over);
 }
 
-keeps_agree : (t s : Tableau) (x : Places) (i j : ℕ) → KeepsRows t s → i < length t → j < length t → SymbolsAgree x (row_at t i) (row_at t j) → SymbolsAgree x (row_at s i) (row_at s j)
+keeps_agree : (t s : Tableau) (x : Places) (i j : ℕ) → KeepsRows t s → i < length t → j < length t → SymbolsAgree x (symbol_row_at t i) (symbol_row_at t j) → SymbolsAgree x (symbol_row_at s i) (symbol_row_at s j)
 keeps_agree t s x i j keeps i_low j_low agree k m = keeps.equal i j k i_low j_low (agree k m)
 
 -- ---- changes
@@ -59,22 +59,22 @@ changes_join ds false t m s same other = subst (λ (u : Tableau). Changes ds tru
 
 -- ---- one attribute
 module _ (a first second : ℕ) (t s : Tableau) (within : All (HasPlace a) t) (first_low : first < length t) (second_low : second < length t) (equated : IsEquatedAt a first second t s true) where
-  equated_step : (ds : List Dependency) (x y : Places) → Contains ds (fd x y) → y a ≡ true → SymbolsAgree x (row_at t first) (row_at t second) → IsFunctionalStep ds t s
+  equated_step : (ds : List Dependency) (x y : Places) → Contains ds (fd x y) → y a ≡ true → SymbolsAgree x (symbol_row_at t first) (symbol_row_at t second) → IsFunctionalStep ds t s
   equated_step ds x y given member agree = elim equated [
     | inl less ↦ record {
       lhs = x;
       rhs = y;
       given = given;
       step = record {
-        first = row_at t first;
-        second = row_at t second;
+        first = symbol_row_at t first;
+        second = symbol_row_at t second;
         first_in = Contains-get_or t first [] first_low;
         second_in = Contains-get_or t second [] second_low;
         agree = agree;
         place = a;
         member = member;
         differ = less.0;
-        after = subst (λ (u : Tableau). SameTableau (replaced a (symbol_at (row_at t second) a) (symbol_at (row_at t first) a) t) u) (sym less.1) (Same-refl (replaced a (symbol_at (row_at t second) a) (symbol_at (row_at t first) a) t));
+        after = subst (λ (u : Tableau). SameTableau (replaced a (symbol_at (symbol_row_at t second) a) (symbol_at (symbol_row_at t first) a) t) u) (sym less.1) (Same-refl (replaced a (symbol_at (symbol_row_at t second) a) (symbol_at (symbol_row_at t first) a) t));
       };
     }
     | inr more ↦ record {
@@ -82,47 +82,47 @@ module _ (a first second : ℕ) (t s : Tableau) (within : All (HasPlace a) t) (f
       rhs = y;
       given = given;
       step = record {
-        first = row_at t second;
-        second = row_at t first;
+        first = symbol_row_at t second;
+        second = symbol_row_at t first;
         first_in = Contains-get_or t second [] second_low;
         second_in = Contains-get_or t first [] first_low;
         agree = λ k m. sym (agree k m);
         place = a;
         member = member;
         differ = more.0;
-        after = subst (λ (u : Tableau). SameTableau (replaced a (symbol_at (row_at t first) a) (symbol_at (row_at t second) a) t) u) (sym more.1) (Same-refl (replaced a (symbol_at (row_at t first) a) (symbol_at (row_at t second) a) t));
+        after = subst (λ (u : Tableau). SameTableau (replaced a (symbol_at (symbol_row_at t first) a) (symbol_at (symbol_row_at t second) a) t) u) (sym more.1) (Same-refl (replaced a (symbol_at (symbol_row_at t first) a) (symbol_at (symbol_row_at t second) a) t));
       };
     }
   ]
 
   equated_keeps : KeepsRows t s
   equated_keeps = elim equated [
-    | inl less ↦ subst (λ (u : Tableau). KeepsRows t u) (sym less.1) (keeps_replaced a (symbol_at (row_at t second) a) (symbol_at (row_at t first) a) t within)
-    | inr more ↦ subst (λ (u : Tableau). KeepsRows t u) (sym more.1) (keeps_replaced a (symbol_at (row_at t first) a) (symbol_at (row_at t second) a) t within)
+    | inl less ↦ subst (λ (u : Tableau). KeepsRows t u) (sym less.1) (keeps_replaced a (symbol_at (symbol_row_at t second) a) (symbol_at (symbol_row_at t first) a) t within)
+    | inr more ↦ subst (λ (u : Tableau). KeepsRows t u) (sym more.1) (keeps_replaced a (symbol_at (symbol_row_at t first) a) (symbol_at (symbol_row_at t second) a) t within)
   ]
 
-  equated_agree : symbol_at (row_at s first) a ≡ symbol_at (row_at s second) a
+  equated_agree : symbol_at (symbol_row_at s first) a ≡ symbol_at (symbol_row_at s second) a
   equated_agree = elim equated [
     | inl less ↦
-        let former = symbol_at (row_at t second) a in
-        let later = symbol_at (row_at t first) a in
-        ap (λ (u : Tableau). symbol_at (row_at u first) a) less.1 ∙ symbol-replaced a former later t first a within first_low
+        let former = symbol_at (symbol_row_at t second) a in
+        let later = symbol_at (symbol_row_at t first) a in
+        ap (λ (u : Tableau). symbol_at (symbol_row_at u first) a) less.1 ∙ symbol-replaced a former later t first a within first_low
         ∙ change_miss a former later a later (λ e. absurd (omega (arith, e, less.0))) ∙ sym (change_hit a former later a former refl refl)
-        ∙ sym (symbol-replaced a former later t second a within second_low) ∙ ap (λ (u : Tableau). symbol_at (row_at u second) a) (sym less.1)
+        ∙ sym (symbol-replaced a former later t second a within second_low) ∙ ap (λ (u : Tableau). symbol_at (symbol_row_at u second) a) (sym less.1)
     | inr more ↦
-        let former = symbol_at (row_at t first) a in
-        let later = symbol_at (row_at t second) a in
-        ap (λ (u : Tableau). symbol_at (row_at u first) a) more.1 ∙ symbol-replaced a former later t first a within first_low
+        let former = symbol_at (symbol_row_at t first) a in
+        let later = symbol_at (symbol_row_at t second) a in
+        ap (λ (u : Tableau). symbol_at (symbol_row_at u first) a) more.1 ∙ symbol-replaced a former later t first a within first_low
         ∙ change_hit a former later a former refl refl ∙ sym (change_miss a former later a later (λ e. absurd (omega (arith, e, more.0))))
-        ∙ sym (symbol-replaced a former later t second a within second_low) ∙ ap (λ (u : Tableau). symbol_at (row_at u second) a) (sym more.1)
+        ∙ sym (symbol-replaced a former later t second a within second_low) ∙ ap (λ (u : Tableau). symbol_at (symbol_row_at u second) a) (sym more.1)
   ]
 
 -- ---- attribute by attribute
 -- two rows agree at the first attributes of a list
 pub record AreEquatedUpTo (y : Places) (attributes : List ℕ) (upto first second : ℕ) (t s : Tableau) (changed : Bool) : Type 0 where
-  pub changes : (ds : List Dependency) (x : Places) → Contains ds (fd x y) → SymbolsAgree x (row_at t first) (row_at t second) → Changes ds changed t s
+  pub changes : (ds : List Dependency) (x : Places) → Contains ds (fd x y) → SymbolsAgree x (symbol_row_at t first) (symbol_row_at t second) → Changes ds changed t s
   pub keeps : KeepsRows t s
-  pub agree : (j : ℕ) → j < upto → symbol_at (row_at s first) (get_or attributes j 0) ≡ symbol_at (row_at s second) (get_or attributes j 0)
+  pub agree : (j : ℕ) → j < upto → symbol_at (symbol_row_at s first) (get_or attributes j 0) ≡ symbol_at (symbol_row_at s second) (get_or attributes j 0)
 
 pub equated_none : (y : Places) (attributes : List ℕ) (first second : ℕ) (t : Tableau) → AreEquatedUpTo y attributes 0 first second t t false
 equated_none y attributes first second t = record { changes = λ ds x given agree. refl; keeps = keeps_itself t; agree = λ j l. absurd (omega arith) }
@@ -142,7 +142,7 @@ equated_more y attributes upto next first second t m s changed up first_low seco
       agree = λ j l. elim (cases_lt j upto) [
         | inl lt ↦ keeps.equal first second (get_or attributes j 0) first_m second_m (before.agree j lt)
         | inr ge ↦ let here : j ≡ upto = omega arith in
-            subst (λ (i : ℕ). symbol_at (row_at s first) (get_or attributes i 0) ≡ symbol_at (row_at s second) (get_or attributes i 0)) (sym here) (equated_agree a first second m s within first_m second_m equated)
+            subst (λ (i : ℕ). symbol_at (symbol_row_at s first) (get_or attributes i 0) ≡ symbol_at (symbol_row_at s second) (get_or attributes i 0)) (sym here) (equated_agree a first second m s within first_m second_m equated)
       ];
     }
 
@@ -153,7 +153,7 @@ equated_same y attributes upto next first second t m s changed up before equated
   keeps = before.keeps;
   agree = λ j l. elim (cases_lt j upto) [
     | inl lt ↦ before.agree j lt
-    | inr ge ↦ let here : j ≡ upto = omega arith in subst (λ (i : ℕ). symbol_at (row_at m first) (get_or attributes i 0) ≡ symbol_at (row_at m second) (get_or attributes i 0)) (sym here) equated.1
+    | inr ge ↦ let here : j ≡ upto = omega arith in subst (λ (i : ℕ). symbol_at (symbol_row_at m first) (get_or attributes i 0) ≡ symbol_at (symbol_row_at m second) (get_or attributes i 0)) (sym here) equated.1
   ];
 })
 
@@ -167,12 +167,12 @@ equated_all n y upto first second t s changed all over first_low second_low befo
         let place = count_below y k in
         let is : get_or (members_below n y) place 0 ≡ k = members_below-at n y k 0 low m in
         let short : place < length (members_below n y) = omega (arith, length-members_below n y, count_below-place n k y low m) in
-        subst (λ (a : ℕ). symbol_at (row_at s first) a ≡ symbol_at (row_at s second) a) is (before.agree place (omega (arith, short, all)))
+        subst (λ (a : ℕ). symbol_at (symbol_row_at s first) a ≡ symbol_at (symbol_row_at s second) a) is (before.agree place (omega (arith, short, all)))
     | inr past ↦
         let s_over = before.keeps.over n over in
-        let first_len : length (row_at s first) ≡ n = s_over first [] (omega (arith, first_low, before.keeps.one_each)) in
-        let second_len : length (row_at s second) ≡ n = s_over second [] (omega (arith, second_low, before.keeps.one_each)) in
-        symbol_at_past (row_at s first) k (omega (arith, first_len, past)) ∙ sym (symbol_at_past (row_at s second) k (omega (arith, second_len, past)))
+        let first_len : length (symbol_row_at s first) ≡ n = s_over first [] (omega (arith, first_low, before.keeps.one_each)) in
+        let second_len : length (symbol_row_at s second) ≡ n = s_over second [] (omega (arith, second_low, before.keeps.one_each)) in
+        symbol_at_past (symbol_row_at s first) k (omega (arith, first_len, past)) ∙ sym (symbol_at_past (symbol_row_at s second) k (omega (arith, second_len, past)))
   ];
 }
 
@@ -181,7 +181,7 @@ equated_all n y upto first second t s changed all over first_low second_low befo
 pub record AreGroupedUpTo (x y : Places) (leaders : List ℕ) (upto : ℕ) (t s : Tableau) (changed : Bool) : Type 0 where
   pub changes : (ds : List Dependency) → Contains ds (fd x y) → Changes ds changed t s
   pub keeps : KeepsRows t s
-  pub equal : changed ≡ false → (j : ℕ) → j < upto → SymbolsAgree y (row_at t (get_or leaders j 0)) (row_at t j)
+  pub equal : changed ≡ false → (j : ℕ) → j < upto → SymbolsAgree y (symbol_row_at t (get_or leaders j 0)) (symbol_row_at t j)
 
 pub grouped_none : (x y : Places) (leaders : List ℕ) (t : Tableau) → AreGroupedUpTo x y leaders 0 t t false
 grouped_none x y leaders t = record { changes = λ ds given. refl; keeps = keeps_itself t; equal = λ same j l. absurd (omega arith) }
@@ -190,7 +190,7 @@ module _ (x y : Places) (leaders : List ℕ) (upto next : ℕ) (up : next ≡ up
   led_low : get_or leaders upto 0 < length t
   led_low = omega (arith, are.first upto low, low)
 
-  agree_m : KeepsRows t m → SymbolsAgree x (row_at m (get_or leaders upto 0)) (row_at m upto)
+  agree_m : KeepsRows t m → SymbolsAgree x (symbol_row_at m (get_or leaders upto 0)) (symbol_row_at m upto)
   agree_m keeps = keeps_agree t m x (get_or leaders upto 0) upto keeps led_low low (are.agree upto low)
 
   pub grouped_more : (changed : Bool) → AreGroupedUpTo x y leaders upto t m changed → AreEquated y (get_or leaders upto 0) upto m s true → AreGroupedUpTo x y leaders next t s true
@@ -214,8 +214,8 @@ module _ (x y : Places) (leaders : List ℕ) (upto next : ℕ) (up : next ≡ up
           | inr ge ↦
               let here : j ≡ upto = omega arith in
               let same : s ≡ t = unchanged ∙ subst (λ (b : Bool). Changes (fd x y ∷ []) b t m) none (before.changes (fd x y ∷ []) alone) in
-              subst (λ (i : ℕ). SymbolsAgree y (row_at t (get_or leaders i 0)) (row_at t i)) (sym here)
-              (subst (λ (u : Tableau). SymbolsAgree y (row_at u (get_or leaders upto 0)) (row_at u upto)) same equated.agree)
+              subst (λ (i : ℕ). SymbolsAgree y (symbol_row_at t (get_or leaders i 0)) (symbol_row_at t i)) (sym here)
+              (subst (λ (u : Tableau). SymbolsAgree y (symbol_row_at u (get_or leaders upto 0)) (symbol_row_at u upto)) same equated.agree)
         ];
       }
 
@@ -226,7 +226,7 @@ grouped_all x y leaders upto t s changed all are before = record {
   obeyed = λ none i j i_low j_low agree k m.
       let led : get_or leaders i 0 ≡ get_or leaders j 0 = are.same i j i_low j_low agree in
       sym (before.equal none i (omega (arith, i_low, all)) k m)
-      ∙ ap (λ (l : ℕ). symbol_at (row_at t l) k) led
+      ∙ ap (λ (l : ℕ). symbol_at (symbol_row_at t l) k) led
       ∙ before.equal none j (omega (arith, j_low, all)) k m;
 }
 

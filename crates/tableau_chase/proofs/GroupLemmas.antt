@@ -7,7 +7,7 @@ use Rattle.std.proofs.lemmas.List.Elements.{All-push, All-take, Contains-append_
 use Rattle.std.specs.Prelude.{Contains, All}
 use Rattle.attr_sets.specs.Places.{Places}
 use Rattle.chase_laws.specs.Tableaux.{SymbolRow, Tableau, symbol_at, SymbolsAgree, IsTableauOver}
-use Rattle.tableau_chase.specs.Groups.{row_at, AreSymbolLeaders, AreFollowers}
+use Rattle.tableau_chase.specs.Groups.{symbol_row_at, AreSymbolLeaders, AreFollowers}
 use Rattle.tableau_chase.specs.Numbers.{IsFirstPlace}
 use Rattle.tableau_chase.proofs.RowLemmas.{key_on, agree_from_keys, keys_from_agree}
 
@@ -15,12 +15,12 @@ pub leaders_none : (x : Places) → AreSymbolLeaders x [] []
 leaders_none x = record { one_each = refl; first = λ i l. absurd (omega arith); agree = λ i l. absurd (omega arith); same = λ i j l. absurd (omega arith) }
 
 module _ (x : Places) (done : Tableau) (leaders : List ℕ) (row : SymbolRow) (number : ℕ) (before : AreSymbolLeaders x done leaders) (low : number ≤ length done)
-    (fresh : number ≡ length done → (k : ℕ) → k < length done → SymbolsAgree x (row_at done k) row → ⊥)
-    (known : number < length done → SymbolsAgree x (row_at done number) row × ((j : ℕ) → j < number → SymbolsAgree x (row_at done j) row → ⊥)) where
-  old_row : (i : ℕ) → i < length done → row_at (done ++ row ∷ []) i ≡ row_at done i
+    (fresh : number ≡ length done → (k : ℕ) → k < length done → SymbolsAgree x (symbol_row_at done k) row → ⊥)
+    (known : number < length done → SymbolsAgree x (symbol_row_at done number) row × ((j : ℕ) → j < number → SymbolsAgree x (symbol_row_at done j) row → ⊥)) where
+  old_row : (i : ℕ) → i < length done → symbol_row_at (done ++ row ∷ []) i ≡ symbol_row_at done i
   old_row i l = get_or_append_left done (row ∷ []) [] i l
 
-  new_row : (i : ℕ) → i ≡ length done → row_at (done ++ row ∷ []) i ≡ row
+  new_row : (i : ℕ) → i ≡ length done → symbol_row_at (done ++ row ∷ []) i ≡ row
   new_row i e = get_or_push done row [] i (sym e)
 
   old_leader : (i : ℕ) → i < length done → get_or (leaders ++ number ∷ []) i 0 ≡ get_or leaders i 0
@@ -36,17 +36,17 @@ module _ (x : Places) (done : Tableau) (leaders : List ℕ) (row : SymbolRow) (n
   agree_trans p q r one other k m = one k m ∙ other k m
 
   -- a row that agrees with the new one has the new one's leader
-  leads_both : (i : ℕ) → i < length done → SymbolsAgree x (row_at done i) row → get_or leaders i 0 ≡ number
+  leads_both : (i : ℕ) → i < length done → SymbolsAgree x (symbol_row_at done i) row → get_or leaders i 0 ≡ number
   leads_both i i_low agree = elim (cases_lt number (length done)) [
     | inr past ↦ absurd (fresh (omega arith) i i_low agree)
     | inl lt ↦
         let k = known lt in
-        let same : get_or leaders i 0 ≡ get_or leaders number 0 = before.same i number i_low lt (agree_trans (row_at done i) row (row_at done number) agree (agree_sym (row_at done number) row k.0)) in
+        let same : get_or leaders i 0 ≡ get_or leaders number 0 = before.same i number i_low lt (agree_trans (symbol_row_at done i) row (symbol_row_at done number) agree (agree_sym (symbol_row_at done number) row k.0)) in
         let le = before.first number lt in
         elim (cases_lt (get_or leaders number 0) number) [
           | inr ge ↦ omega (arith, same, le, ge)
           | inl less ↦ absurd (k.1 (get_or leaders number 0) less
-              (agree_trans (row_at done (get_or leaders number 0)) (row_at done number) row (before.agree number lt) k.0))
+              (agree_trans (symbol_row_at done (get_or leaders number 0)) (symbol_row_at done number) row (before.agree number lt) k.0))
         ]
   ]
 
@@ -62,14 +62,14 @@ module _ (x : Places) (done : Tableau) (leaders : List ℕ) (row : SymbolRow) (n
     | inr e ↦ omega (arith, new_leader i e, low, e)
   ]
 
-  agree_of : (i : ℕ) → i < length (done ++ row ∷ []) → SymbolsAgree x (row_at (done ++ row ∷ []) (get_or (leaders ++ number ∷ []) i 0)) (row_at (done ++ row ∷ []) i)
+  agree_of : (i : ℕ) → i < length (done ++ row ∷ []) → SymbolsAgree x (symbol_row_at (done ++ row ∷ []) (get_or (leaders ++ number ∷ []) i 0)) (symbol_row_at (done ++ row ∷ []) i)
   agree_of i l k m = elim (bound i l) [
     | inl lt ↦
         let led : get_or leaders i 0 < length done = omega (arith, before.first i lt, lt) in
-        ap (λ (j : ℕ). symbol_at (row_at (done ++ row ∷ []) j) k) (old_leader i lt) ∙ ap (λ (r : SymbolRow). symbol_at r k) (old_row (get_or leaders i 0) led) ∙ before.agree i lt k m
+        ap (λ (j : ℕ). symbol_at (symbol_row_at (done ++ row ∷ []) j) k) (old_leader i lt) ∙ ap (λ (r : SymbolRow). symbol_at r k) (old_row (get_or leaders i 0) led) ∙ before.agree i lt k m
         ∙ ap (λ (r : SymbolRow). symbol_at r k) (sym (old_row i lt))
     | inr e ↦
-        ap (λ (j : ℕ). symbol_at (row_at (done ++ row ∷ []) j) k) (new_leader i e)
+        ap (λ (j : ℕ). symbol_at (symbol_row_at (done ++ row ∷ []) j) k) (new_leader i e)
         ∙ elim (cases_lt number (length done)) [
           | inl lt ↦ ap (λ (r : SymbolRow). symbol_at r k) (old_row number lt) ∙ (known lt).0 k m
           | inr past ↦ ap (λ (r : SymbolRow). symbol_at r k) (new_row number (omega (arith, past, low)))
@@ -77,7 +77,7 @@ module _ (x : Places) (done : Tableau) (leaders : List ℕ) (row : SymbolRow) (n
         ∙ ap (λ (r : SymbolRow). symbol_at r k) (sym (new_row i e))
   ]
 
-  same_of : (i j : ℕ) → i < length (done ++ row ∷ []) → j < length (done ++ row ∷ []) → SymbolsAgree x (row_at (done ++ row ∷ []) i) (row_at (done ++ row ∷ []) j)
+  same_of : (i j : ℕ) → i < length (done ++ row ∷ []) → j < length (done ++ row ∷ []) → SymbolsAgree x (symbol_row_at (done ++ row ∷ []) i) (symbol_row_at (done ++ row ∷ []) j)
       → get_or (leaders ++ number ∷ []) i 0 ≡ get_or (leaders ++ number ∷ []) j 0
   same_of i j i_low j_low agree = elim (bound i i_low) [
     | inl i_lt ↦ elim (bound j j_low) [
@@ -99,21 +99,21 @@ module _ (x : Places) (done : Tableau) (leaders : List ℕ) (row : SymbolRow) (n
   }
 
 -- ---- by the keys
-key_of : (n : ℕ) (x : Places) (done : Tableau) (k : ℕ) → k < length done → get_or (map (key_on n x) done) k [] ≡ key_on n x (row_at done k)
+key_of : (n : ℕ) (x : Places) (done : Tableau) (k : ℕ) → k < length done → get_or (map (key_on n x) done) k [] ≡ key_on n x (symbol_row_at done k)
 key_of n x done k l = get_or-map (key_on n x) done k [] [] l
 
-pub fresh_by_key : (n : ℕ) (x : Places) (done : Tableau) (row : SymbolRow) → (Contains (map (key_on n x) done) (key_on n x row) → ⊥) → (k : ℕ) → k < length done → SymbolsAgree x (row_at done k) row → ⊥
+pub fresh_by_key : (n : ℕ) (x : Places) (done : Tableau) (row : SymbolRow) → (Contains (map (key_on n x) done) (key_on n x row) → ⊥) → (k : ℕ) → k < length done → SymbolsAgree x (symbol_row_at done k) row → ⊥
 fresh_by_key n x done row none k low agree =
     let short : k < length (map (key_on n x) done) = omega (arith, low, length-map done (key_on n x)) in
-    none (k, short, get_or_default (map (key_on n x) done) k (key_on n x row) [] short ∙ key_of n x done k low ∙ keys_from_agree n x (row_at done k) row agree)
+    none (k, short, get_or_default (map (key_on n x) done) k (key_on n x row) [] short ∙ key_of n x done k low ∙ keys_from_agree n x (symbol_row_at done k) row agree)
 
 pub known_by_key : (n : ℕ) (x : Places) (done : Tableau) (row : SymbolRow) (number : ℕ) → IsTableauOver n done → length row ≡ n → IsFirstPlace (map (key_on n x) done) (key_on n x row) number
-    → (number < length done) × SymbolsAgree x (row_at done number) row × ((j : ℕ) → j < number → SymbolsAgree x (row_at done j) row → ⊥)
+    → (number < length done) × SymbolsAgree x (symbol_row_at done number) row × ((j : ℕ) → j < number → SymbolsAgree x (symbol_row_at done j) row → ⊥)
 known_by_key n x done row number over len at =
     let low : number < length done = omega (arith, at.low, length-map done (key_on n x)) in (
       low,
-      agree_from_keys n x (row_at done number) row (over number [] low) len (sym (key_of n x done number low) ∙ at.here),
-      λ j lt agree. at.first j lt (key_of n x done j (omega (arith, lt, low)) ∙ keys_from_agree n x (row_at done j) row agree),
+      agree_from_keys n x (symbol_row_at done number) row (over number [] low) len (sym (key_of n x done number low) ∙ at.here),
+      λ j lt agree. at.first j lt (key_of n x done j (omega (arith, lt, low)) ∙ keys_from_agree n x (symbol_row_at done j) row agree),
     )
 
 pub take_over : (n i : ℕ) (rows : Tableau) → IsTableauOver n rows → IsTableauOver n (take i rows)

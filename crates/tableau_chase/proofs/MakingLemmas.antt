@@ -12,7 +12,7 @@ use Rattle.chase_laws.specs.Tableaux.{SymbolRow, Tableau, symbol_at, SymbolsAgre
 use Rattle.chase_laws.specs.Steps.{exchanged}
 use Rattle.chase_laws.specs.Rounds.{IsMadeOf}
 use Rattle.chase_laws.proofs.TableauLemmas.{same_rows, length-exchanged, symbol_at-exchanged}
-use Rattle.tableau_chase.specs.Groups.{row_at, AreSymbolLeaders, AreFollowers}
+use Rattle.tableau_chase.specs.Groups.{symbol_row_at, AreSymbolLeaders, AreFollowers}
 use Rattle.tableau_chase.specs.Pools.{Extends}
 use Rattle.tableau_chase.proofs.PoolLemmas.{extends_length, extends_row, adds_join, overflow_after}
 use Rattle.tableau_chase.specs.Making.{IsExchangedRow, IsMadeFrom, IsExchangedWith, AddsAll, Overflows}
@@ -43,11 +43,11 @@ pub record IsProductOf (n : ℕ) (z : Places) (t : Tableau) (agreeing firsts : L
   pub low : first < upto
   pub leads : get_or firsts first 0 ≡ first
   pub member : Contains (get_or groups (get_or agreeing first 0) []) second
-  pub row_is : row ≡ exchanged n z (row_at t first) (row_at t second)
+  pub row_is : row ≡ exchanged n z (symbol_row_at t first) (symbol_row_at t second)
 
 module _ (n : ℕ) (x y : Places) (t : Tableau) (agreeing firsts seconds : List ℕ) (groups : List (List ℕ)) (over : IsTableauOver n t)
     (agree : AreSymbolLeaders x t agreeing) (first : AreSymbolLeaders (union x y) t firsts) (second : AreSymbolLeaders (union (minus (below n) (union x y)) x) t seconds) (are : AreFollowers agreeing seconds groups) where
-  row_in : (i : ℕ) → i < length t → Contains t (row_at t i)
+  row_in : (i : ℕ) → i < length t → Contains t (symbol_row_at t i)
   row_in i low = Contains-get_or t i [] low
 
   product_sound : (row : SymbolRow) → IsProductOf n (union x y) t agreeing firsts groups (length t) row → IsExchangedRow n x y t row
@@ -57,15 +57,15 @@ module _ (n : ℕ) (x y : Places) (t : Tableau) (agreeing firsts seconds : List 
       let j_low : j < length t = omega (arith, All-contains (λ (k : ℕ). k < length agreeing) (get_or groups (get_or agreeing i 0) []) j (are.each (get_or agreeing i 0)) product.member, agree.one_each) in
       let led : get_or agreeing j 0 ≡ get_or agreeing i 0 = All-contains (λ (k : ℕ). get_or agreeing k 0 ≡ get_or agreeing i 0) (get_or groups (get_or agreeing i 0) []) j (are.led (get_or agreeing i 0)) product.member in
       record {
-        first = row_at t i;
-        second = row_at t j;
+        first = symbol_row_at t i;
+        second = symbol_row_at t j;
         first_in = row_in i product.low;
         second_in = row_in j j_low;
-        agree = λ k m. sym (agree.agree i product.low k m) ∙ ap (λ (l : ℕ). symbol_at (row_at t l) k) (sym led) ∙ agree.agree j j_low k m;
+        agree = λ k m. sym (agree.agree i product.low k m) ∙ ap (λ (l : ℕ). symbol_at (symbol_row_at t l) k) (sym led) ∙ agree.agree j j_low k m;
         row_is = product.row_is;
       }
 
-  at_place : (p : SymbolRow) (h : Contains t p) → row_at t h.0 ≡ p
+  at_place : (p : SymbolRow) (h : Contains t p) → symbol_row_at t h.0 ≡ p
   at_place p h = get_or_default t h.0 [] p h.1 ∙ h.2
 
   product_complete : (row : SymbolRow) → IsExchangedRow n x y t row → IsProductOf n (union x y) t agreeing firsts groups (length t) row
@@ -78,9 +78,9 @@ module _ (n : ℕ) (x y : Places) (t : Tableau) (agreeing firsts seconds : List 
       let j = get_or seconds j0 0 in
       let i_low : i < length t = omega (arith, first.first i0 made.first_in.1, made.first_in.1) in
       let j_low : j < length t = omega (arith, second.first j0 made.second_in.1, made.second_in.1) in
-      let i_agree : SymbolsAgree (union x y) (row_at t i) made.first = λ k m. first.agree i0 made.first_in.1 k m ∙ ap (λ (r : SymbolRow). symbol_at r k) i_at in
-      let j_agree : SymbolsAgree (union (minus (below n) (union x y)) x) (row_at t j) made.second = λ k m. second.agree j0 made.second_in.1 k m ∙ ap (λ (r : SymbolRow). symbol_at r k) j_at in
-      let both : SymbolsAgree x (row_at t j) (row_at t i) = λ k m. j_agree k (grind (arith, m)) ∙ sym (made.agree k m) ∙ sym (i_agree k (grind (arith, m))) in
+      let i_agree : SymbolsAgree (union x y) (symbol_row_at t i) made.first = λ k m. first.agree i0 made.first_in.1 k m ∙ ap (λ (r : SymbolRow). symbol_at r k) i_at in
+      let j_agree : SymbolsAgree (union (minus (below n) (union x y)) x) (symbol_row_at t j) made.second = λ k m. second.agree j0 made.second_in.1 k m ∙ ap (λ (r : SymbolRow). symbol_at r k) j_at in
+      let both : SymbolsAgree x (symbol_row_at t j) (symbol_row_at t i) = λ k m. j_agree k (grind (arith, m)) ∙ sym (made.agree k m) ∙ sym (i_agree k (grind (arith, m))) in
       let led : get_or agreeing j 0 ≡ get_or agreeing i 0 = agree.same j i j_low i_low both in
       let held = are.all j (omega (arith, j_low, agree.one_each)) (leads_itself (union (minus (below n) (union x y)) x) t seconds j0 second made.second_in.1) in
       record {
@@ -89,7 +89,7 @@ module _ (n : ℕ) (x y : Places) (t : Tableau) (agreeing firsts seconds : List 
         low = i_low;
         leads = leads_itself (union x y) t firsts i0 first made.first_in.1;
         member = subst (λ (g : ℕ). Contains (get_or groups g []) j) led held;
-        row_is = made.row_is ∙ sym (same_exchange n x y made.first made.second (row_at t i) (row_at t j) i_agree j_agree);
+        row_is = made.row_is ∙ sym (same_exchange n x y made.first made.second (symbol_row_at t i) (symbol_row_at t j) i_agree j_agree);
       }
 
   pub products_to : (row : SymbolRow) → IsProductOf n (union x y) t agreeing firsts groups (length t) row → IsExchangedRow n x y t row
@@ -111,7 +111,7 @@ module _ (n : ℕ) (z : Places) (t : Tableau) (agreeing firsts : List ℕ) (grou
     | inl lt ↦ inl (record { first = p.first; second = p.second; low = lt; leads = p.leads; member = p.member; row_is = p.row_is })
     | inr ge ↦
         let here : p.first ≡ upto = omega (arith, ge, p.low, up) in
-        inr (p.second, subst (λ (i : ℕ). Contains (get_or groups (get_or agreeing i 0) []) p.second) here p.member, subst (λ (i : ℕ). row ≡ exchanged n z (row_at t i) (row_at t p.second)) here p.row_is)
+        inr (p.second, subst (λ (i : ℕ). Contains (get_or groups (get_or agreeing i 0) []) p.second) here p.member, subst (λ (i : ℕ). row ≡ exchanged n z (symbol_row_at t i) (symbol_row_at t p.second)) here p.row_is)
   ]
 
   pub product_not : (row : SymbolRow) → (get_or firsts upto 0 ≡ upto → ⊥) → IsProductOf n z t agreeing firsts groups next row → IsProductOf n z t agreeing firsts groups upto row
@@ -130,19 +130,19 @@ exchanged_with_old n z t first upto next seconds up low row made =
     let longer : take next seconds ≡ take upto seconds ++ get_or seconds upto 0 ∷ [] = ap (λ (k : ℕ). take k seconds) up ∙ take_more seconds upto 0 low in
     (made.0, subst (λ (js : List ℕ). Contains js made.0) (sym longer) (Contains-append_left (take upto seconds) (get_or seconds upto 0 ∷ []) made.0 made.1), made.2)
 
-pub exchanged_with_new : (n : ℕ) (z : Places) (t : Tableau) (first upto next : ℕ) (seconds : List ℕ) → next ≡ upto + 1 → upto < length seconds → (row : SymbolRow) → row ≡ exchanged n z (row_at t first) (row_at t (get_or seconds upto 0))
+pub exchanged_with_new : (n : ℕ) (z : Places) (t : Tableau) (first upto next : ℕ) (seconds : List ℕ) → next ≡ upto + 1 → upto < length seconds → (row : SymbolRow) → row ≡ exchanged n z (symbol_row_at t first) (symbol_row_at t (get_or seconds upto 0))
     → IsExchangedWith n z t first (take next seconds) row
 exchanged_with_new n z t first upto next seconds up low row e =
     let longer : take next seconds ≡ take upto seconds ++ get_or seconds upto 0 ∷ [] = ap (λ (k : ℕ). take k seconds) up ∙ take_more seconds upto 0 low in
     (get_or seconds upto 0, subst (λ (js : List ℕ). Contains js (get_or seconds upto 0)) (sym longer) (Contains-push (take upto seconds) (get_or seconds upto 0)), e)
 
-pub exchanged_with_cases : (n : ℕ) (z : Places) (t : Tableau) (first upto next : ℕ) (seconds : List ℕ) → next ≡ upto + 1 → upto < length seconds → (row made : SymbolRow) → made ≡ exchanged n z (row_at t first) (row_at t (get_or seconds upto 0))
+pub exchanged_with_cases : (n : ℕ) (z : Places) (t : Tableau) (first upto next : ℕ) (seconds : List ℕ) → next ≡ upto + 1 → upto < length seconds → (row made : SymbolRow) → made ≡ exchanged n z (symbol_row_at t first) (symbol_row_at t (get_or seconds upto 0))
     → IsExchangedWith n z t first (take next seconds) row → IsExchangedWith n z t first (take upto seconds) row ⊎ (made ≡ row)
 exchanged_with_cases n z t first upto next seconds up low row made e h =
     let longer : take next seconds ≡ take upto seconds ++ get_or seconds upto 0 ∷ [] = ap (λ (k : ℕ). take k seconds) up ∙ take_more seconds upto 0 low in
     ⊎_elim
     (λ old. inl (h.0, old, h.2))
-    (λ (here : get_or seconds upto 0 ≡ h.0). inr (e ∙ ap (λ (j : ℕ). exchanged n z (row_at t first) (row_at t j)) here ∙ sym h.2))
+    (λ (here : get_or seconds upto 0 ≡ h.0). inr (e ∙ ap (λ (j : ℕ). exchanged n z (symbol_row_at t first) (symbol_row_at t j)) here ∙ sym h.2))
     (Contains-push_cases (take upto seconds) (get_or seconds upto 0) h.0 (subst (λ (js : List ℕ). Contains js h.0) longer h.1))
 
 pub exchanged_with_none : (n : ℕ) (z : Places) (t : Tableau) (first : ℕ) (row : SymbolRow) → IsExchangedWith n z t first [] row → ⊥
@@ -183,26 +183,26 @@ made_each n ds t upto all row made =
 
 -- ---- as the code makes them
 pub exchanged_rows : (n : ℕ) (z : Places) (t m : Tableau) (first second : ℕ) (p q row : SymbolRow) → Extends t m → first < length t → second < length t → p ≡ get_or m first p → q ≡ get_or m second q → row ≡ exchanged n z p q
-    → row ≡ exchanged n z (row_at t first) (row_at t second)
+    → row ≡ exchanged n z (symbol_row_at t first) (symbol_row_at t second)
 exchanged_rows n z t m first second p q row extends first_low second_low p_is q_is row_is =
     let long = extends_length t m extends in
-    let p_at : p ≡ row_at t first = get_or_read m first p (omega (arith, first_low, long)) p_is [] ∙ extends_row t m first extends first_low in
-    let q_at : q ≡ row_at t second = get_or_read m second q (omega (arith, second_low, long)) q_is [] ∙ extends_row t m second extends second_low in
-    row_is ∙ ap (λ (r : SymbolRow). exchanged n z r q) p_at ∙ ap (λ (r : SymbolRow). exchanged n z (row_at t first) r) q_at
+    let p_at : p ≡ symbol_row_at t first = get_or_read m first p (omega (arith, first_low, long)) p_is [] ∙ extends_row t m first extends first_low in
+    let q_at : q ≡ symbol_row_at t second = get_or_read m second q (omega (arith, second_low, long)) q_is [] ∙ extends_row t m second extends second_low in
+    row_is ∙ ap (λ (r : SymbolRow). exchanged n z r q) p_at ∙ ap (λ (r : SymbolRow). exchanged n z (symbol_row_at t first) r) q_at
 
 pub exchanged_with_take : (n : ℕ) (z : Places) (t : Tableau) (first k : ℕ) (seconds : List ℕ) (row : SymbolRow) → IsExchangedWith n z t first (take k seconds) row → IsExchangedWith n z t first seconds row
 exchanged_with_take n z t first k seconds row made = (made.0, subst (λ (js : List ℕ). Contains js made.0) (take-append-drop k seconds) (Contains-append_left (take k seconds) (drop k seconds) made.0 made.1), made.2)
 
-pub exchanged_with_here : (n : ℕ) (z : Places) (t : Tableau) (first k : ℕ) (seconds : List ℕ) (row : SymbolRow) → k < length seconds → row ≡ exchanged n z (row_at t first) (row_at t (get_or seconds k 0)) → IsExchangedWith n z t first seconds row
+pub exchanged_with_here : (n : ℕ) (z : Places) (t : Tableau) (first k : ℕ) (seconds : List ℕ) (row : SymbolRow) → k < length seconds → row ≡ exchanged n z (symbol_row_at t first) (symbol_row_at t (get_or seconds k 0)) → IsExchangedWith n z t first seconds row
 exchanged_with_here n z t first k seconds row low e = (get_or seconds k 0, Contains-get_or seconds k 0 low, e)
 
 -- rows that are made of a tableau's rows, said of a longer one and of its front
-pub exchanged_with_front : (n : ℕ) (z : Places) (t m front : Tableau) (first : ℕ) (seconds : List ℕ) (row : SymbolRow) → row_at m first ≡ row_at front first → ((j : ℕ) → Contains seconds j → row_at m j ≡ row_at front j)
+pub exchanged_with_front : (n : ℕ) (z : Places) (t m front : Tableau) (first : ℕ) (seconds : List ℕ) (row : SymbolRow) → symbol_row_at m first ≡ symbol_row_at front first → ((j : ℕ) → Contains seconds j → symbol_row_at m j ≡ symbol_row_at front j)
     → IsExchangedWith n z m first seconds row → IsExchangedWith n z front first seconds row
 exchanged_with_front n z t m front first seconds row first_is seconds_are made =
-    (made.0, made.1, made.2 ∙ ap (λ (r : SymbolRow). exchanged n z r (row_at m made.0)) first_is ∙ ap (λ (r : SymbolRow). exchanged n z (row_at front first) r) (seconds_are made.0 made.1))
+    (made.0, made.1, made.2 ∙ ap (λ (r : SymbolRow). exchanged n z r (symbol_row_at m made.0)) first_is ∙ ap (λ (r : SymbolRow). exchanged n z (symbol_row_at front first) r) (seconds_are made.0 made.1))
 
-pub front_row : (t m : Tableau) (count i : ℕ) → Extends t m → i < count → count ≤ length t → row_at m i ≡ row_at (take count t) i
+pub front_row : (t m : Tableau) (count i : ℕ) → Extends t m → i < count → count ≤ length t → symbol_row_at m i ≡ symbol_row_at (take count t) i
 front_row t m count i extends low few = extends_row t m i extends (omega (arith, low, few)) ∙ sym (get_or-take count t i [] low)
 
 pub product_longer : (n : ℕ) (z : Places) (t : Tableau) (agreeing firsts : List ℕ) (groups : List (List ℕ)) (upto next : ℕ) (row : SymbolRow) → upto ≤ next → IsProductOf n z t agreeing firsts groups upto row → IsProductOf n z t agreeing firsts groups next row
@@ -239,7 +239,7 @@ module _ (n : ℕ) (x y z : Places) (t : Tableau) (count : ℕ) (agreeing firsts
   group_low g j h = omega (arith, All-contains (λ (k : ℕ). k < length agreeing) (get_or groups g []) j (parts.are.each g) h, parts.agree.one_each, front_length)
 
   module _ (m : Tableau) (extends : Extends t m) (i : ℕ) (low : i < count) (group : List ℕ) (group_is : group ≡ get_or groups (get_or agreeing i 0) []) where
-    in_front : (j : ℕ) → j < count → row_at m j ≡ row_at (take count t) j
+    in_front : (j : ℕ) → j < count → symbol_row_at m j ≡ symbol_row_at (take count t) j
     in_front j j_low = front_row t m count j extends j_low parts.few
 
     group_at : (j : ℕ) → Contains group j → j < count
@@ -254,12 +254,12 @@ module _ (n : ℕ) (x y z : Places) (t : Tableau) (count : ℕ) (agreeing firsts
     pub group_within : (k d : ℕ) → k < length group → get_or group k d < length m
     group_within k d l = omega (arith, group_at (get_or group k d) (Contains-get_or group k d l), parts.few, extends_length t m extends)
 
-    pub group_over : (k d : ℕ) → k < length group → length (row_at m (get_or group k d)) ≡ n
+    pub group_over : (k d : ℕ) → k < length group → length (symbol_row_at m (get_or group k d)) ≡ n
     group_over k d l =
         let j_low = group_at (get_or group k d) (Contains-get_or group k d l) in
         ap (λ (r : SymbolRow). length r) (in_front (get_or group k d) j_low) ∙ parts.over (get_or group k d) [] (omega (arith, j_low, front_length))
 
-    pub first_over : length (row_at m i) ≡ n
+    pub first_over : length (symbol_row_at m i) ≡ n
     first_over = ap (λ (r : SymbolRow). length r) (in_front i low) ∙ parts.over i [] (omega (arith, low, front_length))
 
     pub parts_more : (s : Tableau) → get_or firsts i 0 ≡ i → AddsAll (IsProductOf n z (take count t) agreeing firsts groups i) t m → AddsAll (IsExchangedWith n z m i group) m s → AddsAll (IsProductOf n z (take count t) agreeing firsts groups (i + 1)) t s

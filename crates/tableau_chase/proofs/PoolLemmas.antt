@@ -7,7 +7,7 @@ use Rattle.std.specs.Prelude.{Contains, AllPairs}
 use Rattle.attr_sets.specs.Places.{Places}
 use Rattle.chase_laws.specs.Tableaux.{SymbolRow, Tableau, SameTableau, scheme_row, scheme_rows}
 use Rattle.chase_laws.specs.Rounds.{HasMoreThan}
-use Rattle.tableau_chase.specs.Groups.{row_at}
+use Rattle.tableau_chase.specs.Groups.{symbol_row_at}
 use Rattle.tableau_chase.specs.Pools.{IsAdded, Extends}
 use Rattle.tableau_chase.specs.Making.{AddsAll, Overflows}
 
@@ -46,8 +46,8 @@ extends_trans t m s one other = (one.0 ++ other.0, other.1 ∙ ap (λ (u : Table
 pub extends_length : (t s : Tableau) → Extends t s → length t ≤ length s
 extends_length t s extends = let e = ap (λ (u : Tableau). length u) extends.1 in omega (arith, e, length-append t extends.0)
 
-pub extends_row : (t s : Tableau) (i : ℕ) → Extends t s → i < length t → row_at s i ≡ row_at t i
-extends_row t s i extends low = ap (λ (u : Tableau). row_at u i) extends.1 ∙ get_or_append_left t extends.0 [] i low
+pub extends_row : (t s : Tableau) (i : ℕ) → Extends t s → i < length t → symbol_row_at s i ≡ symbol_row_at t i
+extends_row t s i extends low = ap (λ (u : Tableau). symbol_row_at u i) extends.1 ∙ get_or_append_left t extends.0 [] i low
 
 pub extends_in : (t s : Tableau) (p : SymbolRow) → Extends t s → Contains t p → Contains s p
 extends_in t s p extends h = subst (λ (u : Tableau). Contains u p) (sym extends.1) (Contains-append_left t extends.0 p h)

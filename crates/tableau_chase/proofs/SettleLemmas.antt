@@ -14,7 +14,7 @@ use Rattle.chase_laws.proofs.KeptLemmas.{Each, HasLength, HasAtMost, most-functi
 use Rattle.chase_laws.proofs.SettlingLemmas.{settled_from}
 use Rattle.chase_laws.proofs.RoundLemmas.{functional_leads}
 use Rattle.chase_laws.proofs.EndLemmas.{symbols_in_use, more_use}
-use Rattle.tableau_chase.specs.Groups.{row_at}
+use Rattle.tableau_chase.specs.Groups.{symbol_row_at}
 use Rattle.tableau_chase.specs.Settling.{Changes, KeepsRows, AgreesBy}
 
 -- ---- no symbol is greater than the sum of all
@@ -57,13 +57,13 @@ changes_leads : (ds : List Dependency) (changed : Bool) (t m s : Tableau) → Le
 changes_leads ds true t m s one changes = functional_leads ds (suc changes.0) t m s one.0 one.1 changes.1
 changes_leads ds false t m s one same = subst (λ (u : Tableau). LeadsTo (IsFunctionalStep ds) t u) (sym same) one
 
-Contains-row : (t : Tableau) (p : SymbolRow) (h : Contains t p) → row_at t h.0 ≡ p
+Contains-row : (t : Tableau) (p : SymbolRow) (h : Contains t p) → symbol_row_at t h.0 ≡ p
 Contains-row t p h = get_or_default t h.0 [] p h.1 ∙ h.2
 
 agrees_settled : (ds : List Dependency) (t : Tableau) → ((x y : Places) → Contains ds (fd x y) → AgreesBy x y t) → IsSettledTableau ds t
 agrees_settled ds t agrees = settled_from ds t (λ x y p q given p_in q_in agree k m.
-    let p_is : row_at t p_in.0 ≡ p = Contains-row t p p_in in
-    let q_is : row_at t q_in.0 ≡ q = Contains-row t q q_in in
+    let p_is : symbol_row_at t p_in.0 ≡ p = Contains-row t p p_in in
+    let q_is : symbol_row_at t q_in.0 ≡ q = Contains-row t q q_in in
     ap (λ (r : SymbolRow). symbol_at r k) (sym p_is)
     ∙ agrees x y given p_in.0 q_in.0 p_in.1 q_in.1 (λ (j : ℕ) in_x. ap (λ (r : SymbolRow). symbol_at r j) p_is ∙ agree j in_x ∙ ap (λ (r : SymbolRow). symbol_at r j) (sym q_is)) k m
     ∙ ap (λ (r : SymbolRow). symbol_at r k) q_is)

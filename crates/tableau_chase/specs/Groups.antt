@@ -3,17 +3,17 @@ use Rattle.attr_sets.specs.Places.{Places}
 use Rattle.chase_laws.specs.Tableaux.{SymbolRow, Tableau, SymbolsAgree}
 
 -- the row at a place of a tableau
-abbrev pub row_at : Tableau → ℕ → SymbolRow
-row_at rows i = slice_index_or rows i []
+abbrev pub symbol_row_at : Tableau → ℕ → SymbolRow
+symbol_row_at rows i = slice_index_or rows i []
 
 -- for each row the place of one that comes no later and agrees with it on x, the same one for all rows that
 -- agree on x
 pub record AreSymbolLeaders (x : Places) (rows : Tableau) (leaders : List ℕ) : Type 0 where
   pub one_each : length leaders ≡ length rows
   pub first : (i : ℕ) → i < length rows → slice_index leaders i ≤ i
-  pub agree : (i : ℕ) → i < length rows → SymbolsAgree x (row_at rows (slice_index leaders i)) (row_at rows i)
+  pub agree : (i : ℕ) → i < length rows → SymbolsAgree x (symbol_row_at rows (slice_index leaders i)) (symbol_row_at rows i)
   pub same : (i j : ℕ) → i < length rows → j < length rows
-      → SymbolsAgree x (row_at rows i) (row_at rows j) → slice_index leaders i ≡ slice_index leaders j
+      → SymbolsAgree x (symbol_row_at rows i) (symbol_row_at rows j) → slice_index leaders i ≡ slice_index leaders j
 
 -- at each place, only rows that it leads, and of these all that lead others by the second list
 pub record AreFollowers (leaders seconds : List ℕ) (groups : List (List ℕ)) : Type 0 where

@@ -4,7 +4,7 @@ use Rattle.dep_model.specs.Dependencies.{Dependency, fd, mvd}
 use Rattle.chase_laws.specs.Tableaux.{SymbolRow, Tableau, SymbolsAgree}
 use Rattle.chase_laws.specs.Steps.{exchanged}
 use Rattle.chase_laws.specs.Rounds.{HasMoreThan}
-use Rattle.tableau_chase.specs.Groups.{row_at}
+use Rattle.tableau_chase.specs.Groups.{symbol_row_at}
 use Rattle.tableau_chase.specs.Pools.{Extends}
 
 -- a row that two rows of a tableau, which agree on x, give by x ->> y
@@ -35,4 +35,4 @@ Overflows P limit t = (s : Tableau) → ((row : SymbolRow) → Contains t row �
 -- the rows that one row of a tableau gives with others at some places
 abbrev pub IsExchangedWith : ℕ → Places → Tableau → ℕ → List ℕ → SymbolRow → Type 0
 IsExchangedWith n z t first seconds row =
-    (j : ℕ) × Contains seconds j × (row ≡ exchanged n z (row_at t first) (row_at t j))
+    (j : ℕ) × Contains seconds j × (row ≡ exchanged n z (symbol_row_at t first) (symbol_row_at t j))

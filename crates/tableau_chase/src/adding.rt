@@ -5,7 +5,7 @@ ghost use Rattle.attr_sets.specs.declared.set.TheConstants.{PLACES};
 ghost use Rattle.chase_laws.specs.Tableaux.{SameTableau, plan_tableau};
 ghost use Rattle.chase_laws.specs.Rounds.{HasMoreThan};
 ghost use Rattle.tableau_chase.specs.Pools.{IsPool};
-ghost use Rattle.tableau_chase.specs.Chases.{plan_of};
+ghost use Rattle.dep_model.specs.Plans.{schemes_of};
 
 use crate::chased::ChaseRefusal;
 use crate::pool::Pool;
@@ -24,9 +24,9 @@ pub fn plan_pool(
     requires few { length schemes.now < 2 ^ 32 }
     ensures pool { IfOk result (IsPool limit) }
     ensures same { IfOk result
-        (λ pool. SameTableau (plan_tableau width (plan_of schemes.now)) pool.rows.items) }
+        (λ pool. SameTableau (plan_tableau width (schemes_of schemes.now)) pool.rows.items) }
     ensures too_many { result ≡ Err ChaseRefusal.TooManyRows
-        → HasMoreThan limit (plan_tableau width (plan_of schemes.now)) }
+        → HasMoreThan limit (plan_tableau width (schemes_of schemes.now)) }
 {
     let mut pool = Pool::new(alloc, limit);
     for i in 0..schemes.len() {

@@ -5,7 +5,8 @@ ghost use Rattle.dep_model.specs.Schemas.{width_of, theory_of, TypedFor};
 ghost use Rattle.chase_laws.specs.Tableaux.{IsTableauOver, distinguished};
 ghost use Rattle.chase_laws.specs.Rounds.{RoundsExceed};
 ghost use Rattle.chase_laws.specs.Answers.{IsClosedTableau, IsGaining};
-ghost use Rattle.tableau_chase.specs.Chases.{plan_of, IfLossy};
+ghost use Rattle.dep_model.specs.Plans.{schemes_of};
+ghost use Rattle.tableau_chase.specs.Chases.{IfLossy};
 
 use crate::adding::{plan_pool, pool_of};
 use crate::chased::{ChaseRefusal, Chased};
@@ -26,19 +27,19 @@ pub fn chase(
     limit: u32,
 ) -> Result<Chased, ChaseRefusal>
     requires few { length schemes.now < 2 ^ 32 }
-    requires cover { Covers (width_of schema.now) (plan_of schemes.now) }
+    requires cover { Covers (width_of schema.now) (schemes_of schemes.now) }
     ensures too_many_rows { result ≡ Err ChaseRefusal.TooManyRows
-        → RoundsExceed (width_of schema.now) (theory_of schema.now) (plan_of schemes.now) limit }
+        → RoundsExceed (width_of schema.now) (theory_of schema.now) (schemes_of schemes.now) limit }
     ensures within_limit { OnOk result
-        (RoundsExceed (width_of schema.now) (theory_of schema.now) (plan_of schemes.now) limit → ⊥) }
+        (RoundsExceed (width_of schema.now) (theory_of schema.now) (schemes_of schemes.now) limit → ⊥) }
     ensures lossless { IfOk result
         (λ chased. (chased ≡ Chased.Lossless)
-        ↔ IsLossless (width_of schema.now) (theory_of schema.now) (plan_of schemes.now)) }
+        ↔ IsLossless (width_of schema.now) (theory_of schema.now) (schemes_of schemes.now)) }
     ensures closed_tableau { IfOk result
         (IfLossy (IsClosedTableau (width_of schema.now) (theory_of schema.now)
-        (plan_of schemes.now) limit)) }
+        (schemes_of schemes.now) limit)) }
     ensures gaining { IfOk result
-        (IfLossy (IsGaining (width_of schema.now) (theory_of schema.now) (plan_of schemes.now))) }
+        (IfLossy (IsGaining (width_of schema.now) (theory_of schema.now) (schemes_of schemes.now))) }
     ensures typed { IfOk result (IfLossy (TypedFor schema.now)) }
     ensures never_too_many { functional_part (theory_of schema.now) ≡ theory_of schema.now
         → length schemes.now ≤ limit → result ≡ Err ChaseRefusal.TooManyRows → ⊥ }

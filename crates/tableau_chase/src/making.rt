@@ -7,7 +7,7 @@ ghost use Rattle.attr_sets.specs.declared.set.TheConstants.{PLACES};
 ghost use Rattle.dep_model.specs.Deps.{dependency_of, dependencies_of};
 ghost use Rattle.chase_laws.specs.Tableaux.{IsTableauOver, Tableau};
 ghost use Rattle.chase_laws.specs.Rounds.{IsMadeOf};
-ghost use Rattle.tableau_chase.specs.Groups.{row_at};
+ghost use Rattle.tableau_chase.specs.Groups.{symbol_row_at};
 ghost use Rattle.tableau_chase.specs.Pools.{IsPool};
 ghost use Rattle.tableau_chase.specs.Making.{IsExchangedRow, IsMadeFrom, IsExchangedWith, AddsAll, Overflows};
 
@@ -126,9 +126,9 @@ fn add_exchanged(
     requires width { width ≤ PLACES }
     requires pool { IsPool limit pool.old }
     requires first { first < length pool.old.rows.items }
-    requires first_over { length (row_at pool.old.rows.items first) ≡ width }
+    requires first_over { length (symbol_row_at pool.old.rows.items first) ≡ width }
     requires seconds { All (λ j. j < length pool.old.rows.items) seconds.now }
-    requires seconds_over { All (λ j. length (row_at pool.old.rows.items j) ≡ width) seconds.now }
+    requires seconds_over { All (λ j. length (symbol_row_at pool.old.rows.items j) ≡ width) seconds.now }
     ensures pool { OnOk result (IsPool limit pool.new) }
     ensures made { OnOk result
         (AddsAll (IsExchangedWith width

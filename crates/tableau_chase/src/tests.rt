@@ -1,6 +1,6 @@
 ghost use Rattle.std.specs.Prelude.{◌≡◌, ◌≤◌, ◌<◌, true, IsTrue, Any};
 ghost use Rattle.dep_model.specs.Projections.{Covers};
-ghost use Rattle.tableau_chase.specs.Chases.{plan_of};
+ghost use Rattle.dep_model.specs.Plans.{schemes_of};
 
 use crate::{ChaseRefusal, Chased, chase};
 use attr_sets::AttrSet;
@@ -29,7 +29,7 @@ fn told(
 
 fn is_covered(a: u8, schemes: &[AttrSet]) -> bool
     requires place { a < 128 }
-    ensures covered { IsTrue result → Any (λ scheme. scheme a ≡ true) (plan_of schemes.now) }
+    ensures covered { IsTrue result → Any (λ scheme. scheme a ≡ true) (schemes_of schemes.now) }
 {
     for scheme in schemes {
         if scheme.has(a) {
@@ -41,7 +41,7 @@ fn is_covered(a: u8, schemes: &[AttrSet]) -> bool
 
 fn are_covered(width: u8, schemes: &[AttrSet]) -> bool
     requires few { width ≤ 128 }
-    ensures covered { IsTrue result → Covers width (plan_of schemes.now) }
+    ensures covered { IsTrue result → Covers width (schemes_of schemes.now) }
 {
     for a in 0..width {
         if !is_covered(a, schemes) {

@@ -40,7 +40,7 @@ fault_of outside.Failed = Failed
 fault_of outside.Memory = Memory
 
 -- whether a call failed, and did not only want memory
-abbrev pub is_failed : {T : Type 0} → Result T TargetFault → Bool
-is_failed (Ok _) = false
-is_failed (Err Failed) = true
-is_failed (Err Memory) = false
+abbrev pub is_failed_target : {T : Type 0} → Result T TargetFault → Bool
+is_failed_target (Ok _) = false
+is_failed_target (Err Failed) = true
+is_failed_target (Err Memory) = false

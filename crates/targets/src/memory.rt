@@ -2,7 +2,7 @@ ghost use Rattle.std.specs.Prelude.{◌≡◌, ◌↔◌, true, [], ◌++◌, le
 ghost use Rattle.desk_outside.specs.Planned.{FailsNext, CountsCall};
 ghost use Rattle.targets.specs.Memory.{new_target};
 ghost use Rattle.targets.specs.Tables.{empty_table, with_row, held_value};
-ghost use Rattle.targets.specs.Targets.{HasTargetCause, is_failed};
+ghost use Rattle.targets.specs.Targets.{HasTargetCause, is_failed_target};
 
 use crate::fault::TargetFault;
 use crate::table::HeldTable;
@@ -74,7 +74,7 @@ impl Target for MemoryTarget {
 
         // It fails exactly where its number is planned.
         ensures failed { IsErrOf result TargetFault.Failed ↔ FailsNext self.old.planned }
-        ensures counts { CountsCall self.old.planned self.new.planned (is_failed result) }
+        ensures counts { CountsCall self.old.planned self.new.planned (is_failed_target result) }
         ensures cause { HasTargetCause self.old.planned.faults self.new.planned.faults result }
     {
         self.opened = None;
@@ -97,7 +97,7 @@ impl Target for MemoryTarget {
         ensures adds { OnOk result (self.new.opened ≡ option_map (with_row row.now) self.old.opened) }
         ensures closed { OnErr result (self.new.opened ≡ None) }
         ensures failed { IsErrOf result TargetFault.Failed ↔ FailsNext self.old.planned }
-        ensures counts { CountsCall self.old.planned self.new.planned (is_failed result) }
+        ensures counts { CountsCall self.old.planned self.new.planned (is_failed_target result) }
         ensures cause { HasTargetCause self.old.planned.faults self.new.planned.faults result }
     {
         let opened = self.opened.take();
@@ -123,7 +123,7 @@ impl Target for MemoryTarget {
         ensures finished { OnErr result (self.new.finished ≡ self.old.finished) }
         ensures closed { self.new.opened ≡ None }
         ensures failed { IsErrOf result TargetFault.Failed ↔ FailsNext self.old.planned }
-        ensures counts { CountsCall self.old.planned self.new.planned (is_failed result) }
+        ensures counts { CountsCall self.old.planned self.new.planned (is_failed_target result) }
         ensures cause { HasTargetCause self.old.planned.faults self.new.planned.faults result }
     {
         let opened = self.opened.take();

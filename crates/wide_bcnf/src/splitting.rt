@@ -5,7 +5,7 @@ ghost use Rattle.dep_model.specs.Forms.{IsBcnf};
 ghost use Rattle.dep_model.specs.Plans.{schemes_of};
 ghost use Rattle.dep_model.specs.Projections.{IsLossless};
 ghost use Rattle.dep_model.specs.Schemas.{width_of, universe_of, theory_of};
-ghost use Rattle.decomp_text.specs.Plans.{sets_of, plan_of, IsPlanOver};
+ghost use Rattle.decomp_text.specs.Plans.{scheme_sets, plan_of, IsPlanOver};
 ghost use Rattle.wide_bcnf.specs.Pairs.{IsFirstPair};
 ghost use Rattle.wide_bcnf.specs.WideSplits.{IsCore, IsWideSplitOf, IsWidePlan};
 
@@ -21,12 +21,12 @@ use std::alloc::Global;
 pub fn split_wide(alloc: Global, schema: &Schema) -> Result<Plan, WantMemory>
     ensures universe { IfOk result (λ plan. IsPlanOver schema.now plan) }
     ensures split { IfOk result (λ plan.
-        IsWidePlan (width_of schema.now) (theory_of schema.now) (sets_of plan)) }
+        IsWidePlan (width_of schema.now) (theory_of schema.now) (scheme_sets plan)) }
     ensures lossless { IfOk result (λ plan.
         IsLossless (width_of schema.now) (theory_of schema.now) (plan_of plan)) }
     ensures bcnf { IfOk result (λ plan.
         All (IsBcnf (width_of schema.now) (theory_of schema.now)) (plan_of plan)) }
-    ensures few { IfOk result (λ plan. length (sets_of plan) ≤ width_of schema.now) }
+    ensures few { IfOk result (λ plan. length (scheme_sets plan) ≤ width_of schema.now) }
 {
     let schemes = wide_schemes(alloc, schema)?;
     Ok(drop_contained(schema, Plan::make(schema, schemes)))

@@ -1,12 +1,12 @@
 use Rattle.std.proofs.Common.{rules, arith}
-use Rattle.csv_migrate.specs.Tables.{values_of}
+use Rattle.csv_migrate.specs.Tables.{table_values}
 use Rattle.csv_migrate.specs.Feeding.{FedTarget}
 use Rattle.csv_migrate.proofs.FeedLemmas.{holds_next, holds_all}
 use Rattle.csv_migrate.proofs.feeding.feed_each.Goals as goal
 
 pub loop-target-preserved : goal.loop-target-preserved
 loop-target-preserved g c =
-    let fed = FedTarget g.T.Target.tells g.T.Target.finished g.T.Target.faults (values_of c.args.tables.now) in
+    let fed = FedTarget g.T.Target.tells g.T.Target.finished g.T.Target.faults (table_values c.args.tables.now) in
     record {
       fed = holds_next fed _ _ _ _ _ c.target-item.result c.feed_one-end.new.target c.feed_one-end.result
           c.push_reserved.ensures.items
@@ -16,5 +16,5 @@ loop-target-preserved g c =
 
 pub returns-clause-fed : goal.returns-clause-fed
 returns-clause-fed g c =
-    let fed = FedTarget g.T.Target.tells g.T.Target.finished g.T.Target.faults (values_of c.args.tables.now) in
+    let fed = FedTarget g.T.Target.tells g.T.Target.finished g.T.Target.faults (table_values c.args.tables.now) in
     holds_all fed _ _ _ _ (omega arith) c.loop-target.invariant.fed

@@ -1,6 +1,6 @@
 use Rattle.std.proofs.Common.{◌≤◌, length}
 use Rattle.std.specs.Prelude.{vec_capacity}
-use Rattle.csv_migrate.specs.Tables.{values_of}
+use Rattle.csv_migrate.specs.Tables.{table_values}
 use Rattle.csv_migrate.specs.Feeding.{FedTarget}
 use Rattle.csv_migrate.proofs.FeedLemmas.{HoldsSoFar}
 use Rattle.csv_migrate.proofs.feeding.feed_each.Given as goal
@@ -12,6 +12,6 @@ invariant-loop-target g l =
     record {
       fed : HoldsSoFar
           (FedTarget target.tells target.finished target.faults
-          (values_of l.tables)) l.target-index l.fn.targets l.targets l.ends.items;
+          (table_values l.tables)) l.target-index l.fn.targets l.targets l.ends.items;
       room : length l.targets ≤ vec_capacity l.ends;
     }

@@ -1,5 +1,5 @@
 use Rattle.std.proofs.Common.{◌≡◌, ◌≤◌, take}
-use Rattle.csv_migrate.specs.Tables.{values_of}
+use Rattle.csv_migrate.specs.Tables.{table_values}
 use Rattle.csv_migrate.specs.Feeding.{HasAll}
 use Rattle.csv_migrate.proofs.feeding.feed_one.Given as goal
 
@@ -9,6 +9,6 @@ invariant-loop-table g l =
     let target = g.T.Target in
     record {
       tells : target.tells l.target ≡ target.tells l.fn.target;
-      has : HasAll (take l.table-index (values_of l.tables)) (target.finished l.fn.target) (target.finished l.target);
+      has : HasAll (take l.table-index (table_values l.tables)) (target.finished l.fn.target) (target.finished l.target);
       later : target.faults l.fn.target ≤ target.faults l.target;
     }

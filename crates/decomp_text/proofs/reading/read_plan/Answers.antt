@@ -8,16 +8,16 @@ use Rattle.lexer.specs.Lines.{line_texts, without_mark}
 use Rattle.plan_grammar.specs.declared.refusal.TheConstants.{MOST_SCHEMES}
 use Rattle.plan_grammar.specs.Complaints.{uncovered}
 use Rattle.plan_grammar.specs.Meanings.{MeansSchemeLines, MeansPlan}
-use Rattle.plan_grammar.specs.Reading.{read_lines}
+use Rattle.plan_grammar.specs.Reading.{read_scheme_lines}
 use Rattle.plan_grammar.proofs.LineLemmas.{read_means, refused_refuses}
 use Rattle.plan_grammar.proofs.PlanLaws.{lines_within, lines_some}
 use Rattle.decomp_text.proofs.ReadingLemmas.{as_map}
 use Rattle.decomp_text.proofs.reading.read_plan.Goals as goal
 
-meant : (names : List (List ℕ)) (text rest : List ℕ) (schemes : List Places) → rest ≡ without_mark text → read_lines names 1 [] (line_texts rest) ≡ Ok schemes
+meant : (names : List (List ℕ)) (text rest : List ℕ) (schemes : List Places) → rest ≡ without_mark text → read_scheme_lines names 1 [] (line_texts rest) ≡ Ok schemes
     → MeansSchemeLines names (line_texts (without_mark text)) schemes × (length schemes ≤ MOST_SCHEMES)
 meant names text rest schemes same is =
-    read_means names (line_texts (without_mark text)) schemes (subst (λ (t : List ℕ). read_lines names 1 [] (line_texts t) ≡ Ok schemes) same is)
+    read_means names (line_texts (without_mark text)) schemes (subst (λ (t : List ℕ). read_scheme_lines names 1 [] (line_texts t) ≡ Ok schemes) same is)
 
 pub make-requires : goal.make-requires
 make-requires c =
@@ -48,5 +48,5 @@ pub returns-in-Err-clause-err : goal.returns-in-Err-clause-err
 returns-in-Err-clause-err c =
     let names = names_of c.args.schema.now in
     as_map c.in-Err.refusal _ _
-    (λ is. inl (refused_refuses names (line_texts (without_mark c.args.text.now)) c.in-Err.refusal (subst (λ (t : List ℕ). read_lines names 1 [] (line_texts t) ≡ Err c.in-Err.refusal) c.without_mark.ensures.text is)))
+    (λ is. inl (refused_refuses names (line_texts (without_mark c.args.text.now)) c.in-Err.refusal (subst (λ (t : List ℕ). read_scheme_lines names 1 [] (line_texts t) ≡ Err c.in-Err.refusal) c.without_mark.ensures.text is)))
     c.in-Err.ensures.err

@@ -1,6 +1,6 @@
 use Rattle.std.proofs.Common.{inl, inr, refl, List, sym, subst}
 use Rattle.attr_sets.specs.declared.set.AttrSet.{AttrSet}
-use Rattle.decomp_text.specs.Plans.{plan_of, sets_of}
+use Rattle.decomp_text.specs.Plans.{plan_of, scheme_sets}
 use Rattle.dep_model.specs.Plans.{schemes_of}
 use Rattle.dep_model.specs.Projections.{Covers}
 use Rattle.dep_model.specs.Schemas.{width_of}
@@ -27,6 +27,6 @@ returns-clause-reply g c = λ r shows.
       c.in-Ok.ensures.ok r shows.same,
       inr (
         subst (λ (schemes : List AttrSet). IsShownLossless c.args.schema.now (schemes_of schemes)) c.schemes.ensures.schemes c.in-Ok-test_loss.ensures.ok,
-        (sets_of c.in-Ok.plan, refl, c.in_ok-written.ensures.answer),
+        (scheme_sets c.in-Ok.plan, refl, c.in_ok-written.ensures.answer),
       ),
     )

@@ -1,5 +1,5 @@
 use Rattle.std.proofs.Common.{inr, refl}
-use Rattle.decomp_text.specs.Plans.{plan_of, sets_of}
+use Rattle.decomp_text.specs.Plans.{plan_of, scheme_sets}
 use Rattle.desk_cli.proofs.drawings.draw_plan.Goals as goal
 
 pub returns-clause-reply : goal.returns-clause-reply
@@ -7,5 +7,5 @@ returns-clause-reply g c = λ r shows.
     inr (
       plan_of c.in-Ok.plan,
       c.in-Ok.ensures.ok r shows.same,
-      (sets_of c.in-Ok.plan, refl, c.in_ok-drawn.ensures.answer),
+      (scheme_sets c.in-Ok.plan, refl, c.in_ok-drawn.ensures.answer),
     )

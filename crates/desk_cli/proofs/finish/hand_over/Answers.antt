@@ -1,5 +1,5 @@
 use Rattle.std.proofs.Common.{refl}
-use Rattle.csv_migrate.specs.Tables.{values_of}
+use Rattle.csv_migrate.specs.Tables.{table_values}
 use Rattle.desk_cli.proofs.finish.hand_over.Goals as goal
 
 pub returns-clause-ends : goal.returns-clause-ends
@@ -8,5 +8,5 @@ returns-clause-ends g c = record {
   ends = c.in_ok-ends.ends.items;
   fed = c.in_ok-ends.ensures.fed;
   memory = rw c.deref.ensures.value at c.in_ok-end.ensures.memory;
-  reports = rw c.deref.ensures.value at (c.in_ok-end.ensures.reports (values_of c.args.tables.now));
+  reports = rw c.deref.ensures.value at (c.in_ok-end.ensures.reports (table_values c.args.tables.now));
 }

@@ -1,6 +1,6 @@
 use Rattle.std.proofs.Common.{List, subst}
 use Rattle.attr_sets.specs.declared.set.AttrSet.{AttrSet}
-use Rattle.decomp_text.specs.Plans.{plan_of, sets_of}
+use Rattle.decomp_text.specs.Plans.{plan_of, scheme_sets}
 use Rattle.dep_model.specs.Plans.{schemes_of}
 use Rattle.dep_model.specs.Tuples.{Relation}
 use Rattle.desk_cli.specs.Decompositions.{FormStops, IsPlanInForm, WithPlanInForm}
@@ -20,4 +20,4 @@ returns-clause-reply g c = λ r shows.
     let replies = subst (λ (rows : Relation). RepliesAs (MigratesRows s (plan_of plan) rows) c.migrate_rows.result) c.deref.ensures.value c.migrate_rows.ensures.reply in
     found (RowStops r s file) (IsRowsFile r s file) (λ (rows : Relation). WithPlanInForm s form (λ plan. MigratesRows s (schemes_of plan) rows)) rows c.migrate_rows.result
     (c.in-Ok.ensures.ok r shows.same)
-    (found (FormStops s form) (IsPlanInForm s form) (λ (plan : List AttrSet). MigratesRows s (schemes_of plan) rows) (sets_of plan) c.migrate_rows.result c.in-Ok-plan_in_form.ensures.ok replies)
+    (found (FormStops s form) (IsPlanInForm s form) (λ (plan : List AttrSet). MigratesRows s (schemes_of plan) rows) (scheme_sets plan) c.migrate_rows.result c.in-Ok-plan_in_form.ensures.ok replies)

@@ -1,6 +1,6 @@
 use Rattle.std.proofs.Common.{inl, List, subst, ◌∙◌}
 use Rattle.attr_sets.specs.declared.set.AttrSet.{AttrSet}
-use Rattle.decomp_text.specs.Plans.{plan_of, sets_of}
+use Rattle.decomp_text.specs.Plans.{plan_of, scheme_sets}
 use Rattle.dep_model.specs.Plans.{schemes_of}
 use Rattle.dep_model.specs.Tuples.{Relation}
 use Rattle.form_tests.specs.declared.forms.Form.TheVariants.{Fourth}
@@ -29,5 +29,5 @@ returns c =
     let replies = subst (λ (rows : Relation). RepliesAs (MigratesRows s (plan_of plan) rows) c.migrate_rows.result) (c.deref.ensures.value ∙ c.in_ok-rows.ensures.rows) c.migrate_rows.ensures.reply in
     record {
       reply = sampled persons s c.migrate_rows.result (record { names = c.in_ok-schema.ensures.names; theory = c.in_ok-schema.ensures.theory })
-          (found (FormStops s Fourth) (IsPlanInForm s Fourth) (λ (plan : List AttrSet). MigratesRows s (schemes_of plan) (sample_relation persons)) (sets_of plan) c.migrate_rows.result c.in-Ok.ensures.ok replies);
+          (found (FormStops s Fourth) (IsPlanInForm s Fourth) (λ (plan : List AttrSet). MigratesRows s (schemes_of plan) (sample_relation persons)) (scheme_sets plan) c.migrate_rows.result c.in-Ok.ensures.ok replies);
     }

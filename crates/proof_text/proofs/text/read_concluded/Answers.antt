@@ -6,14 +6,14 @@ use Rattle.lexer.specs.Lines.{line_texts, without_mark}
 use Rattle.schema_reader.proofs.TextLemmas.{cut_any, cut_last, cut_more}
 use Rattle.proof_text.specs.Views.{ledger_of, opened_all}
 use Rattle.proof_grammar.specs.Complaints.{LineComplaint, IsFoundAt}
-use Rattle.proof_grammar.specs.Texts.{read_lines, read_proof}
+use Rattle.proof_grammar.specs.Texts.{read_certificate_lines, read_proof}
 use Rattle.std.proofs.lemmas.Result.{IfOk-weaker}
 use Rattle.proof_grammar.specs.Ledgers.{IsLedger}
 use Rattle.proof_grammar.specs.Checked.{IsChecked}
 use Rattle.dep_model.specs.Deps.{dependency_of, IsDepWithin}
 use Rattle.dep_model.specs.Schemas.{universe_of}
 use Rattle.derivation.specs.Conclusions.{Proves}
-use Rattle.proof_grammar.specs.Books.{finished, rooted}
+use Rattle.proof_grammar.specs.Books.{finished_certificate, rooted}
 use Rattle.proof_grammar.specs.Refusals.{RefusesProof}
 use Rattle.proof_grammar.specs.Spelling.{SpellsWithin}
 use Rattle.proof_grammar.proofs.CertificateLaws.{spelled_there}
@@ -27,8 +27,8 @@ use Rattle.proof_text.proofs.text.read_concluded.Goals as goal
 pub lines-init : goal.lines-init
 unfolding read_proof
 lines-init c = record {
-  same = ap (λ book. read_lines c.args.schema.now true 1 book (line_texts (without_mark c.args.text.now))) (sym c.new-book.ensures.empty)
-      ∙ ap (λ text. read_lines c.args.schema.now true 1 (ledger_of c.new-book.result) (line_texts text)) (sym c.without_mark-rest.ensures.text);
+  same = ap (λ book. read_certificate_lines c.args.schema.now true 1 book (line_texts (without_mark c.args.text.now))) (sym c.new-book.ensures.empty)
+      ∙ ap (λ text. read_certificate_lines c.args.schema.now true 1 (ledger_of c.new-book.result) (line_texts text)) (sym c.without_mark-rest.ensures.text);
   room =
       let short : length c.without_mark-rest.result.now ≤ length c.args.text.now = subst (λ (t : List ℕ). length t ≤ length c.args.text.now) (sym c.without_mark-rest.ensures.text) (without_mark-shorter c.args.text.now) in
       omega arith;
@@ -49,7 +49,7 @@ returns-in-None-clause-ok c =
     let s = c.args.schema.now in
     let text = c.args.text.now in
     let whole = c.lines.invariant.same ∙ last_read _ _ _ _ _ _ _ _ (cut_last _ _ _ c.in-None.is c.cut_line.ensures.cut).lines c.in-Ok.ensures.ok in
-    IfOk-weaker c.finish.result (λ x. finished c.lines.number (ledger_of c.read_one.new.book) ≡ Ok (tree_of x.deriv.value)) (λ x. SpellsWithin s text (tree_of x.deriv.value))
+    IfOk-weaker c.finish.result (λ x. finished_certificate c.lines.number (ledger_of c.read_one.new.book) ≡ Ok (tree_of x.deriv.value)) (λ x. SpellsWithin s text (tree_of x.deriv.value))
     (λ x given. spelled_there s text (tree_of x.deriv.value) (whole ∙ given)) c.finish.ensures.ok
 
 pub returns-in-None-clause-concludes : goal.returns-in-None-clause-concludes
@@ -64,7 +64,7 @@ returns-in-None-clause-checked c =
     let s = c.args.schema.now in
     let text = c.args.text.now in
     let whole = c.lines.invariant.same ∙ last_read _ _ _ _ _ _ _ _ (cut_last _ _ _ c.in-None.is c.cut_line.ensures.cut).lines c.in-Ok.ensures.ok in
-    IfOk-weaker c.finish.result (λ x. finished c.lines.number (ledger_of c.read_one.new.book) ≡ Ok (tree_of x.deriv.value)) (λ x. IsChecked s (tree_of x.deriv.value))
+    IfOk-weaker c.finish.result (λ x. finished_certificate c.lines.number (ledger_of c.read_one.new.book) ≡ Ok (tree_of x.deriv.value)) (λ x. IsChecked s (tree_of x.deriv.value))
     (λ x given. read_proof_checked s text (tree_of x.deriv.value) (whole ∙ given)) c.finish.ensures.ok
 
 pub returns-in-None-clause-dep : goal.returns-in-None-clause-dep

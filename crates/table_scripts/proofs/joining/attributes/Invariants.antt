@@ -1,11 +1,11 @@
 use Rattle.std.proofs.Common.{ℕ, take}
 use Rattle.attr_sets.specs.Places.{Same}
 use Rattle.attr_sets.specs.Sets.{places}
-use Rattle.table_queries.specs.Queries.{attributes_of, join_of}
+use Rattle.table_queries.specs.Queries.{attributes_of, plan_join}
 use Rattle.table_scripts.specs.Migrating.{stored_tables}
 use Rattle.table_scripts.proofs.joining.attributes.Given as goal
 
 -- the attributes of the tables so far
 abbrev pub invariant-loop-design : goal.invariant-loop-design
 invariant-loop-design l = (n : ℕ)
-    → Same (places l.set) (attributes_of n (join_of (stored_tables (take l.design-index l.designs))))
+    → Same (places l.set) (attributes_of n (plan_join (stored_tables (take l.design-index l.designs))))

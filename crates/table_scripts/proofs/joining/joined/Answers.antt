@@ -5,7 +5,7 @@ use Rattle.attr_sets.specs.Sets.{places}
 use Rattle.dep_model.specs.Schemas.{width_of}
 use Rattle.ddl_text.specs.Ddl.{name_list}
 use Rattle.ddl_text.specs.declared.table.TableDesign.{TableDesign}
-use Rattle.table_queries.specs.Queries.{joined_with, stored}
+use Rattle.table_queries.specs.Queries.{joined_with, stored_query}
 use Rattle.table_scripts.specs.Migrating.{stored_of, stored_tables}
 use Rattle.table_scripts.specs.QueryTexts.{left, text_at, select_text}
 use Rattle.table_scripts.proofs.ItemLemmas.{rest_slice}
@@ -21,7 +21,7 @@ returns c =
       text = subst (λ (t : List ℕ). IfOk c.select.result (λ text. text.items ≡ t))
           (ap (λ (names : List ℕ). select_text names c.deref-2.result.now) (c.deref.ensures.value ∙ c.in_ok-columns.ensures.text)
           ∙ ap (select_text (name_list s (places c.attributes.result))) (c.deref-2.ensures.value ∙ c.in_ok-sources.ensures.text
-          ∙ ap (λ (more : List TableDesign). text_at s c.args.table.now left (joined_with (stored (stored_of c.index-designs-0.result)) (stored_tables more)))
+          ∙ ap (λ (more : List TableDesign). text_at s c.args.table.now left (joined_with (stored_query (stored_of c.index-designs-0.result)) (stored_tables more)))
           (rest_slice designs 1))
           ∙ all_joined s c.args.table.now designs c.index-designs-0.result (places c.attributes.result) some c.index-designs-0.is
           (c.attributes.ensures.attributes (width_of s)))

@@ -12,18 +12,18 @@ use Rattle.tableau_chase.specs.declared.chased.ChaseRefusal.{ChaseRefusal}
 use Rattle.tableau_chase.specs.declared.chased.ChaseRefusal.TheVariants.{TooManyRows}
 use Rattle.tableau_chase.specs.declared.pool.Pool.{Pool}
 use Rattle.tableau_chase.specs.Pools.{IsAdded}
-use Rattle.tableau_chase.specs.Chases.{plan_of}
+use Rattle.dep_model.specs.Plans.{schemes_of}
 use Rattle.tableau_chase.proofs.PoolLemmas.{scheme_rows-push, scheme_rows-take, same_added, too_many}
 use Rattle.tableau_chase.proofs.adding.plan_pool.Goals as goal
 
-plan_more : (schemes : List AttrSet) (i : ℕ) (d : AttrSet) → i < length schemes → take (i + 1) (plan_of schemes) ≡ take i (plan_of schemes) ++ places (get_or schemes i d) ∷ []
+plan_more : (schemes : List AttrSet) (i : ℕ) (d : AttrSet) → i < length schemes → take (i + 1) (schemes_of schemes) ≡ take i (schemes_of schemes) ++ places (get_or schemes i d) ∷ []
 plan_more schemes i d low =
     take-map places (i + 1) schemes ∙ ap (map places) (take_more schemes i d low) ∙ map-append places (take i schemes) (get_or schemes i d ∷ []) ∙ ap (λ (t : List Places). t ++ places (get_or schemes i d) ∷ []) (sym (take-map places i schemes))
 
-rows_more : (n : ℕ) (schemes : List AttrSet) (i : ℕ) (d : AttrSet) → i < length schemes → plan_tableau n (take (i + 1) (plan_of schemes)) ≡ plan_tableau n (take i (plan_of schemes)) ++ scheme_row n (places (get_or schemes i d)) (i + 1) ∷ []
+rows_more : (n : ℕ) (schemes : List AttrSet) (i : ℕ) (d : AttrSet) → i < length schemes → plan_tableau n (take (i + 1) (schemes_of schemes)) ≡ plan_tableau n (take i (schemes_of schemes)) ++ scheme_row n (places (get_or schemes i d)) (i + 1) ∷ []
 rows_more n schemes i d low =
     ap (plan_tableau n) (plan_more schemes i d low)
-    ∙ scheme_rows-push n 1 (i + 1) (take i (plan_of schemes)) (places (get_or schemes i d)) (omega (arith, length-take-le i (plan_of schemes) (omega (arith, low, length-map schemes places))))
+    ∙ scheme_rows-push n 1 (i + 1) (take i (schemes_of schemes)) (places (get_or schemes i d)) (omega (arith, length-take-le i (schemes_of schemes) (omega (arith, low, length-map schemes places))))
 
 -- a refusal handed on
 refused : (refusal : ChaseRefusal) → ◌≡◌ {A = Result Pool ChaseRefusal} (Err refusal) (Err TooManyRows) → ◌≡◌ {A = Result (Unit {0}) ChaseRefusal} (Err refusal) (Err TooManyRows)
@@ -45,7 +45,7 @@ loop-i-preserved c =
     record {
       pool = c.in-Ok.ensures.pool;
       same = subst (λ (t : Tableau). SameTableau t after) (sym (rows_more n schemes i d c.loop-i-test.true))
-          (same_added (plan_tableau n (take i (plan_of schemes))) c.loop-i.pool.rows.items (scheme_row n (places (get_or schemes i d)) (i + 1)) after c.loop-i.invariant.same added);
+          (same_added (plan_tableau n (take i (schemes_of schemes))) c.loop-i.pool.rows.items (scheme_row n (places (get_or schemes i d)) (i + 1)) after c.loop-i.invariant.same added);
     }
 
 pub returns-in-Err-clause-too_many : goal.returns-in-Err-clause-too_many
@@ -57,12 +57,12 @@ returns-in-Err-clause-too_many c e' =
     let d : AttrSet = record { 0 = 0 } in
     let row : SymbolRow = c.in_ok-row.row in
     let row_is : row ≡ scheme_row n (places (get_or schemes i d)) (i + 1) = c.in_ok-row.ensures.row in
-    let here : Contains (plan_tableau n (take (i + 1) (plan_of schemes))) row = subst (λ (t : Tableau). Contains t row) (sym (rows_more n schemes i d c.loop-i-test.true))
-    (subst (λ (r : SymbolRow). Contains (plan_tableau n (take i (plan_of schemes)) ++ r ∷ []) row) row_is (Contains-push (plan_tableau n (take i (plan_of schemes))) row)) in
-    too_many c.args.limit c.loop-i.pool.rows.items row (plan_tableau n (plan_of schemes)) c.loop-i.invariant.pool.differ (c.in-Err.ensures.absent e) (c.in-Err.ensures.full e)
-    (λ p h. scheme_rows-take n 1 i (plan_of schemes) p ((c.loop-i.invariant.same p).1 h)) (scheme_rows-take n 1 (i + 1) (plan_of schemes) row here)
+    let here : Contains (plan_tableau n (take (i + 1) (schemes_of schemes))) row = subst (λ (t : Tableau). Contains t row) (sym (rows_more n schemes i d c.loop-i-test.true))
+    (subst (λ (r : SymbolRow). Contains (plan_tableau n (take i (schemes_of schemes)) ++ r ∷ []) row) row_is (Contains-push (plan_tableau n (take i (schemes_of schemes))) row)) in
+    too_many c.args.limit c.loop-i.pool.rows.items row (plan_tableau n (schemes_of schemes)) c.loop-i.invariant.pool.differ (c.in-Err.ensures.absent e) (c.in-Err.ensures.full e)
+    (λ p h. scheme_rows-take n 1 i (schemes_of schemes) p ((c.loop-i.invariant.same p).1 h)) (scheme_rows-take n 1 (i + 1) (schemes_of schemes) row here)
 
 pub returns-clause-same : goal.returns-clause-same
 returns-clause-same c =
-    let plan = plan_of c.args.schemes.now in
+    let plan = schemes_of c.args.schemes.now in
     subst (λ (p : List Places). SameTableau (plan_tableau c.args.width p) c.loop-i.pool.rows.items) (take_all c.loop-i.i plan (omega (arith, c.loop-i-test.false, length-map c.args.schemes.now places))) c.loop-i.invariant.same

@@ -18,7 +18,7 @@ use Rattle.chase_laws.specs.Rounds.{SettlesTo, IsMadeOf, RoundsExceed}
 use Rattle.chase_laws.proofs.RoundLemmas.{functional_few}
 use Rattle.chase_laws.proofs.SoundLemmas.{lossless_from_distinguished}
 use Rattle.chase_laws.proofs.ClosedLemmas.{gaining_lossy}
-use Rattle.tableau_chase.specs.Chases.{plan_of}
+use Rattle.dep_model.specs.Plans.{schemes_of}
 use Rattle.tableau_chase.specs.Making.{AddsAll, Overflows}
 use Rattle.tableau_chase.proofs.ChaseLemmas.{EndsLossy, first_round, first_exceeds, round_over, settled_over, reached_settled, next_round, next_lower, ended, next_exceeds, ends_lossy, closed_typed, functional_none}
 use Rattle.tableau_chase.proofs.PoolLemmas.{extends_length}
@@ -32,18 +32,18 @@ refused_pool : (refusal : ChaseRefusal) → ◌≡◌ {A = Result Chased ChaseRe
 refused_pool refusal e = let same : refusal ≡ TooManyRows = cc in ap {B = Result Pool ChaseRefusal} (λ (r : ChaseRefusal). Err r) same
 
 pub loop-rows-init : goal.loop-rows-init
-loop-rows-init c = first_round c.width-width.result (theory_of c.args.schema.now) (plan_of c.args.schemes.now) c.args.limit c.in-Ok.pool.rows.items c.in-Ok.ensures.same c.in-Ok.ensures.pool.differ c.in-Ok.ensures.pool.few
+loop-rows-init c = first_round c.width-width.result (theory_of c.args.schema.now) (schemes_of c.args.schemes.now) c.args.limit c.in-Ok.pool.rows.items c.in-Ok.ensures.same c.in-Ok.ensures.pool.differ c.in-Ok.ensures.pool.few
 
 pub settle-requires-clause-over : goal.settle-requires-clause-over
 settle-requires-clause-over c =
     subst (λ (r : Tableau). IsTableauOver c.width-width.result r) (sym c.deref_mut.ensures.value)
-    (round_over c.width-width.result (theory_of c.args.schema.now) (plan_of c.args.schemes.now) c.args.limit c.loop-rows.rows.items c.loop-rows.invariant)
+    (round_over c.width-width.result (theory_of c.args.schema.now) (schemes_of c.args.schemes.now) c.args.limit c.loop-rows.rows.items c.loop-rows.invariant)
 
 pub has_distinguished-requires : goal.has_distinguished-requires
 has_distinguished-requires c =
     let n = c.width-width.result in
     let ds = theory_of c.args.schema.now in
-    let plan = plan_of c.args.schemes.now in
+    let plan = schemes_of c.args.schemes.now in
     let limit = c.args.limit in
     let rows = c.loop-rows.rows.items in
     let round = c.loop-rows.invariant in
@@ -59,7 +59,7 @@ pub add_next-requires-clause-over : goal.add_next-requires-clause-over
 add_next-requires-clause-over c =
     let n = c.width-width.result in
     let ds = theory_of c.args.schema.now in
-    let plan = plan_of c.args.schemes.now in
+    let plan = schemes_of c.args.schemes.now in
     let limit = c.args.limit in
     let rows = c.loop-rows.rows.items in
     let round = c.loop-rows.invariant in
@@ -75,7 +75,7 @@ pub returns-then-has_distinguished-clause-within_limit : goal.returns-then-has_d
 returns-then-has_distinguished-clause-within_limit c =
     let n = c.width-width.result in
     let ds = theory_of c.args.schema.now in
-    let plan = plan_of c.args.schemes.now in
+    let plan = schemes_of c.args.schemes.now in
     let limit = c.args.limit in
     let rows = c.loop-rows.rows.items in
     let round = c.loop-rows.invariant in
@@ -92,7 +92,7 @@ pub returns-then-has_distinguished-clause-lossless : goal.returns-then-has_disti
 returns-then-has_distinguished-clause-lossless c =
     let n = c.width-width.result in
     let ds = theory_of c.args.schema.now in
-    let plan = plan_of c.args.schemes.now in
+    let plan = schemes_of c.args.schemes.now in
     let limit = c.args.limit in
     let rows = c.loop-rows.rows.items in
     let round = c.loop-rows.invariant in
@@ -108,13 +108,13 @@ returns-then-has_distinguished-clause-lossless c =
 
 pub returns-in-Err-clause-too_many_rows : goal.returns-in-Err-clause-too_many_rows
 returns-in-Err-clause-too_many_rows c e =
-    subst (λ (m : ℕ). RoundsExceed m (theory_of c.args.schema.now) (plan_of c.args.schemes.now) c.args.limit) c.width-width.ensures.count
-    (first_exceeds c.width-width.result (theory_of c.args.schema.now) (plan_of c.args.schemes.now) c.args.limit (c.in-Err.ensures.too_many (refused_pool c.in-Err.refusal e)))
+    subst (λ (m : ℕ). RoundsExceed m (theory_of c.args.schema.now) (schemes_of c.args.schemes.now) c.args.limit) c.width-width.ensures.count
+    (first_exceeds c.width-width.result (theory_of c.args.schema.now) (schemes_of c.args.schemes.now) c.args.limit (c.in-Err.ensures.too_many (refused_pool c.in-Err.refusal e)))
 
 pub returns-in-Err-clause-never_too_many : goal.returns-in-Err-clause-never_too_many
 returns-in-Err-clause-never_too_many c whole low e =
     let ds = theory_of c.args.schema.now in
-    let plan = plan_of c.args.schemes.now in
+    let plan = schemes_of c.args.schemes.now in
     functional_few c.width-width.result ds plan c.args.limit (functional_none ds whole) (omega (arith, low, length-map c.args.schemes.now places))
     (first_exceeds c.width-width.result ds plan c.args.limit (c.in-Err.ensures.too_many (refused_pool c.in-Err.refusal e)))
 
@@ -122,7 +122,7 @@ pub returns-in-Err-add_next-clause-too_many_rows : goal.returns-in-Err-add_next-
 returns-in-Err-add_next-clause-too_many_rows c e =
     let n = c.width-width.result in
     let ds = theory_of c.args.schema.now in
-    let plan = plan_of c.args.schemes.now in
+    let plan = schemes_of c.args.schemes.now in
     let limit = c.args.limit in
     let rows = c.loop-rows.rows.items in
     let round = c.loop-rows.invariant in
@@ -141,7 +141,7 @@ pub returns-in-Err-add_next-clause-never_too_many : goal.returns-in-Err-add_next
 returns-in-Err-add_next-clause-never_too_many c whole low e =
     let n = c.width-width.result in
     let ds = theory_of c.args.schema.now in
-    let plan = plan_of c.args.schemes.now in
+    let plan = schemes_of c.args.schemes.now in
     let limit = c.args.limit in
     let rows = c.loop-rows.rows.items in
     let round = c.loop-rows.invariant in
@@ -160,7 +160,7 @@ pub loop-rows-preserved : goal.loop-rows-preserved
 loop-rows-preserved c =
     let n = c.width-width.result in
     let ds = theory_of c.args.schema.now in
-    let plan = plan_of c.args.schemes.now in
+    let plan = schemes_of c.args.schemes.now in
     let limit = c.args.limit in
     let rows = c.loop-rows.rows.items in
     let round = c.loop-rows.invariant in
@@ -180,7 +180,7 @@ pub loop-rows-smaller : goal.loop-rows-smaller
 loop-rows-smaller c =
     let n = c.width-width.result in
     let ds = theory_of c.args.schema.now in
-    let plan = plan_of c.args.schemes.now in
+    let plan = schemes_of c.args.schemes.now in
     let limit = c.args.limit in
     let rows = c.loop-rows.rows.items in
     let round = c.loop-rows.invariant in
@@ -196,11 +196,11 @@ loop-rows-smaller c =
     next_lower n ds plan limit rows s t round settles same u adds c.in_default.ensures.pool.differ c.in_default.ensures.pool.few grows
 
 -- the end at a closed tableau
-ends : (c : goal.After-drop-rows-then-len-count) → EndsLossy (width_of c.args.schema.now) (theory_of c.args.schema.now) (plan_of c.args.schemes.now) c.args.limit c.in_ok-ascending_texts.field-0.items
+ends : (c : goal.After-drop-rows-then-len-count) → EndsLossy (width_of c.args.schema.now) (theory_of c.args.schema.now) (schemes_of c.args.schemes.now) c.args.limit c.in_ok-ascending_texts.field-0.items
 ends c =
     let n = c.width-width.result in
     let ds = theory_of c.args.schema.now in
-    let plan = plan_of c.args.schemes.now in
+    let plan = schemes_of c.args.schemes.now in
     let limit = c.args.limit in
     let rows = c.loop-rows.rows.items in
     let round = c.loop-rows.invariant in
@@ -225,7 +225,7 @@ returns-then-len-count-clause-within_limit c = (ends c).within
 pub returns-then-len-count-clause-lossless : goal.returns-then-len-count-clause-lossless
 returns-then-len-count-clause-lossless c = (
   (λ e. absurd cc),
-  (λ lossless. absurd (gaining_lossy (width_of c.args.schema.now) (theory_of c.args.schema.now) (plan_of c.args.schemes.now) c.in_ok-ascending_texts.field-0.items (ends c).gains lossless)),
+  (λ lossless. absurd (gaining_lossy (width_of c.args.schema.now) (theory_of c.args.schema.now) (schemes_of c.args.schemes.now) c.in_ok-ascending_texts.field-0.items (ends c).gains lossless)),
 )
 
 pub returns-then-len-count-clause-closed_tableau : goal.returns-then-len-count-clause-closed_tableau
@@ -236,4 +236,4 @@ returns-then-len-count-clause-gaining c = (ends c).gains
 
 pub returns-then-len-count-clause-typed : goal.returns-then-len-count-clause-typed
 returns-then-len-count-clause-typed c =
-    closed_typed c.args.schema.now (plan_of c.args.schemes.now) c.args.limit c.in_ok-ascending_texts.field-0.items (omega (arith, c.requires.few, length-map c.args.schemes.now places)) (ends c).closed
+    closed_typed c.args.schema.now (schemes_of c.args.schemes.now) c.args.limit c.in_ok-ascending_texts.field-0.items (omega (arith, c.requires.few, length-map c.args.schemes.now places)) (ends c).closed

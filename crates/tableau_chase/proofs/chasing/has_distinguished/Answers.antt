@@ -3,7 +3,7 @@ use Rattle.std.proofs.lemmas.Bool.{cases_lt, true≢false, false≢true}
 use Rattle.std.proofs.lemmas.List.{get_or_read, get_or_default}
 use Rattle.std.specs.Prelude.{Contains}
 use Rattle.chase_laws.specs.Tableaux.{SymbolRow, distinguished}
-use Rattle.tableau_chase.specs.Groups.{row_at}
+use Rattle.tableau_chase.specs.Groups.{symbol_row_at}
 use Rattle.tableau_chase.proofs.ZeroLemmas.{distinguished_from, distinguished_to}
 use Rattle.tableau_chase.proofs.chasing.has_distinguished.Goals as goal
 
@@ -11,12 +11,12 @@ pub loop-i-preserved : goal.loop-i-preserved
 loop-i-preserved c j l =
     let i = c.loop-i.i in
     let row : SymbolRow = c.index-rows-i.result in
-    let row_is : row ≡ row_at c.args.rows.now i = get_or_read c.args.rows.now i row c.loop-i-test.true c.index-rows-i.is [] in
+    let row_is : row ≡ symbol_row_at c.args.rows.now i = get_or_read c.args.rows.now i row c.loop-i-test.true c.index-rows-i.is [] in
     elim (cases_lt j i) [
       | inl lt ↦ c.loop-i.invariant j lt
       | inr ge ↦ λ e.
           let here : j ≡ i = omega arith in
-          let zeros = distinguished_to c.args.width row (row_is ∙ ap (λ (k : ℕ). row_at c.args.rows.now k) (sym here) ∙ e) in
+          let zeros = distinguished_to c.args.width row (row_is ∙ ap (λ (k : ℕ). symbol_row_at c.args.rows.now k) (sym here) ∙ e) in
           true≢false (sym zeros ∙ sym c.is_distinguished.ensures.zeros ∙ c.if-is_distinguished.false)
     ]
 

@@ -2,7 +2,7 @@ use Rattle.std.proofs.Common.{◌≡◌, ◌+◌, ◌<◌, [], length, take, get
 use Rattle.attr_sets.specs.Sets.{places}
 use Rattle.chase_laws.specs.Tableaux.{SymbolRow}
 use Rattle.chase_laws.specs.Steps.{exchanged}
-use Rattle.tableau_chase.specs.Groups.{row_at}
+use Rattle.tableau_chase.specs.Groups.{symbol_row_at}
 use Rattle.tableau_chase.specs.Making.{IsExchangedWith}
 use Rattle.tableau_chase.proofs.PoolLemmas.{adds_none, adds_more, overflow_here}
 use Rattle.tableau_chase.proofs.MakingLemmas.{exchanged_rows, exchanged_with_none, exchanged_with_old, exchanged_with_new, exchanged_with_cases, exchanged_with_take, exchanged_with_here}
@@ -25,7 +25,7 @@ loop-k-preserved c =
     let low : k < length seconds = c.loop-k-test.true in
     let adds = c.loop-k.invariant.adds in
     let row : SymbolRow = c.in_ok-row.row in
-    let row_is : row ≡ exchanged n z (row_at t c.args.first) (row_at t (get_or seconds k 0)) =
+    let row_is : row ≡ exchanged n z (symbol_row_at t c.args.first) (symbol_row_at t (get_or seconds k 0)) =
     exchanged_rows n z t m c.args.first (get_or seconds k 0) c.index.result.now c.index-in-loop-k.result.now row adds.extends c.requires.first (c.requires.seconds k 0 low) c.index.ensures c.index-in-loop-k.ensures c.in_ok-row.ensures.row in
     record {
       pool = c.in-Ok.ensures.pool;
@@ -45,7 +45,7 @@ returns-in-Err-clause-too_many c e =
     let low : k < length seconds = c.loop-k-test.true in
     let adds = c.loop-k.invariant.adds in
     let row : SymbolRow = c.in_ok-row.row in
-    let row_is : row ≡ exchanged n z (row_at t c.args.first) (row_at t (get_or seconds k 0)) =
+    let row_is : row ≡ exchanged n z (symbol_row_at t c.args.first) (symbol_row_at t (get_or seconds k 0)) =
     exchanged_rows n z t m c.args.first (get_or seconds k 0) c.index.result.now c.index-in-loop-k.result.now row adds.extends c.requires.first (c.requires.seconds k 0 low) c.index.ensures c.index-in-loop-k.ensures c.in_ok-row.ensures.row in
     overflow_here (IsExchangedWith n z t c.args.first (take k seconds)) (IsExchangedWith n z t c.args.first seconds) c.args.limit t m row (exchanged_with_take n z t c.args.first k seconds)
     (exchanged_with_here n z t c.args.first k seconds row low row_is) adds c.loop-k.invariant.pool.differ (c.in-Err.ensures.absent e) (c.in-Err.ensures.full e)

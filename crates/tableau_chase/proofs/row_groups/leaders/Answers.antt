@@ -7,7 +7,7 @@ use Rattle.attr_sets.specs.Sets.{places}
 use Rattle.dep_model.specs.Projections.{members_below}
 use Rattle.chase_laws.specs.Tableaux.{SymbolRow, Tableau, IsTableauOver, symbol_at, SymbolsAgree}
 use Rattle.tableau_chase.specs.declared.numbers.RowNumbers.{RowNumbers}
-use Rattle.tableau_chase.specs.Groups.{row_at, AreSymbolLeaders}
+use Rattle.tableau_chase.specs.Groups.{symbol_row_at, AreSymbolLeaders}
 use Rattle.tableau_chase.specs.Numbers.{IsNumbering, IsFirstPlace}
 use Rattle.tableau_chase.proofs.RowLemmas.{key_on, members-low}
 use Rattle.tableau_chase.proofs.GroupLemmas.{leaders_none, leaders_more, fresh_by_key, known_by_key, take_over}
@@ -51,7 +51,7 @@ module _ (n : ℕ) (x : Places) (rows : Tableau) (i : ℕ) (low : i < length row
       ap (map (key_on n x)) longer ∙ map-append (key_on n x) (take i rows) (row ∷ []) ∙ ap (λ (key : List ℕ). map (key_on n x) (take i rows) ++ key ∷ []) (sym symbols_are) in
       subst (λ (ks : List (List ℕ)). IsNumbering ks new) (sym keys) grown
 
-  at_row : (number ≡ i → ⊥) → (number < length (take i rows)) × SymbolsAgree x (row_at (take i rows) number) row × ((j : ℕ) → j < number → SymbolsAgree x (row_at (take i rows) j) row → ⊥)
+  at_row : (number ≡ i → ⊥) → (number < length (take i rows)) × SymbolsAgree x (symbol_row_at (take i rows) number) row × ((j : ℕ) → j < number → SymbolsAgree x (symbol_row_at (take i rows) j) row → ⊥)
   at_row ne = known_by_key n x (take i rows) row number (take_over n i rows over) len (subst (λ (key : List ℕ). IsFirstPlace (map (key_on n x) (take i rows)) key number) symbols_are (known ne))
 
   number_low : number ≤ length (take i rows)

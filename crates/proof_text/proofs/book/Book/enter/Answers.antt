@@ -12,13 +12,13 @@ use Rattle.derivation.specs.Trees.{Tree}
 use Rattle.derivation.specs.Derivs.{tree_of}
 use Rattle.derivation.specs.Conclusions.{Proves}
 use Rattle.derivation.proofs.WithinLemmas.{tree_of-attributes, conclusion_within}
-use Rattle.proof_text.specs.Outcomes.{outcome_of}
+use Rattle.proof_text.specs.Outcomes.{concluded_outcome}
 use Rattle.proof_text.specs.Views.{body_of, opened_all}
 use Rattle.proof_grammar.proofs.CheckedLemmas.{prepared_is}
 use Rattle.proof_text.proofs.book.Book.enter.Goals as goal
 
 -- what a node concludes lies within the universe
-outcome_within : (s : Schema) (outcome : Result (Deriv × Dep) FaultKind) → ((t : Tree) (d : Dependency) → outcome_of outcome ≡ Ok (t, d) → Proves s t d) → IfOk outcome (λ x. IsDepWithin (universe_of s) x.1)
+outcome_within : (s : Schema) (outcome : Result (Deriv × Dep) FaultKind) → ((t : Tree) (d : Dependency) → concluded_outcome outcome ≡ Ok (t, d) → Proves s t d) → IfOk outcome (λ x. IsDepWithin (universe_of s) x.1)
 outcome_within s (Ok x) proves = conclusion_within s (tree_of x.0) (dependency_of x.1) (tree_of-attributes x.0) (proves (tree_of x.0) (dependency_of x.1) refl)
 outcome_within s (Err why) proves = tt {0}
 
