@@ -51,7 +51,7 @@ at_end s used ts book last t follows few h = record {
   done = done_same used (λ n. used n + uses n []) ts (ts ++ []) t (λ n. omega arith) (sym (append-nil ts)) (finished_there s used ts book last t follows h);
 }
 
--- a certificate_line, and what is left
+-- a line, and what is left
 line_more : (s : Schema) (used : ℕ → ℕ) (ts : List Tree) (text : List ℕ) (texts : List (List ℕ)) (l : Line) (u t : Tree) (next : Ledger) → MeansLine (names_of s) text l
     → IsEntered s used ts l next u → GoesOn s (used_after used l) (ts ++ u ∷ []) texts t → GoesOn s used ts (text ∷ texts) t
 line_more s used ts text texts l u t next means enters goes = record {
@@ -146,7 +146,7 @@ end_back s last t used ts book [] [] follows mean can =
 end_back s last t used ts book [] (u ∷ us) follows mean can = absurd can.nodes
 end_back s last t used ts book (l ∷ more) us follows mean can = absurd mean
 
--- a certificate_line that counts, and what is left
+-- a line that counts, and what is left
 line_back_read : (s : Schema) (number : ℕ) (text : List ℕ) (texts : List (List ℕ)) (t : Tree) (used : ℕ → ℕ) (ts : List Tree) (book : Ledger) (fresh : Bool) (more : List Line) (us : List Tree)
     → Follows s used ts book → MeanLines (names_of s) (text ∷ counted false texts) more → CanGoOn s used ts more us t → ReadsBack s (number + 1) texts t
     → (at_line number (read_as Certificate s fresh number book text) >>= λ next. read_certificate_lines s next.0 (number + 1) next.1 texts) ≡ Ok t
@@ -178,7 +178,7 @@ lines_back s number (text ∷ texts) t fresh used ts book more us follows mean c
     line_back_more (line_kind fresh (lex mode.Numbered text)) s number text texts t used ts book fresh more us follows mean can (kind_counts fresh text _ refl) (lines_back s (number + 1) texts t)
 
 -- ---- the whole text
--- no certificate_line uses itself or a later one
+-- no line uses itself or a later one
 pub late_unused : (s : Schema) (prior : List Tree) (ls : List Line) (ts : List Tree) (n : ℕ) → AreNodes s prior ls ts → length prior + length ls ≤ n → uses n ls ≡ 0
 late_unused s prior [] [] n are late = refl
 late_unused s prior [] (t ∷ ts) n are late = absurd are

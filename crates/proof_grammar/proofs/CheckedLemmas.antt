@@ -1,4 +1,4 @@
--- What is read proves: each open certificate_line of a ledger has a tree that proves its conclusion, and no node stands in two of them.
+-- What is read proves: each open line of a ledger has a tree that proves its conclusion, and no node stands in two of them.
 use Rattle.std.proofs.Common.{◌≡◌, ◌<◌, ◌≤◌, ◌+◌, ◌-◌, ◌==◌, ℕ, zero, suc, Bool, true, false, List, [], ◌∷◌, ◌++◌, length, Option, Some, None, Result, Ok, Err, refl, sym, ◌∙◌, ap, subst, cond, max, arith, nat_lt, nat_le, length-append}
 use Rattle.std.specs.Prelude.{slice_get, slice_set, ◌&&◌, option_map}
 use Rattle.std.proofs.lemmas.Bool.Decides.{nat_tests}
@@ -235,7 +235,7 @@ unfolding read_proof
 read_proof_checked s text t h =
     read_lines_checked s true 1 (record { lines = []; unused = [] }) (line_texts (without_mark text)) t (record { stand = tt {0}; count = refl; few = omega arith }) h
 
--- the last certificate_line of a ledger proves what it concludes
+-- the last line of a ledger proves what it concludes
 pub root_proves : (s : Schema) (book : Ledger) (t : Tree) (d : Dependency) → IsLedger s book → rooted book.unused ≡ Some (t, d) → Proves s t d
 root_proves s book t d is h = told (root book.unused) refl h
   where

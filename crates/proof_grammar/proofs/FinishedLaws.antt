@@ -1,4 +1,4 @@
--- A certificate is finished_certificate exactly where each line but the last is used.
+-- A certificate is finished exactly where each line but the last is used.
 use Rattle.std.proofs.Common.{◌≡◌, ◌<◌, ◌≤◌, ◌+◌, ◌-◌, ◌==◌, ℕ, suc, Bool, true, false, cond, List, [], ◌∷◌, ◌++◌, length, take, slice_get, Option, Some, None, Ok, refl, sym, ◌∙◌, ap, subst, arith, length-append}
 use Rattle.std.specs.Prelude.{not, nat_lt, position, is_some}
 use Rattle.std.specs.List.{prefix_len}
@@ -83,7 +83,7 @@ pub last_tree : (t : Tree) (ts : List Tree) → HasLast (t ∷ ts)
 last_tree t [] = record { before = []; tree = t; whole = refl }
 last_tree t (u ∷ ts) = let last = last_tree u ts in record { before = t ∷ last.before; tree = last.tree; whole = ap (λ us. t ∷ us) last.whole }
 
--- what is finished_certificate after a last slot
+-- what is finished after a last slot
 pub ends : (last : ℕ) (lines : List ℕ) (os front : List (Option Opened)) (slot : Option Opened) → os ≡ front ++ slot ∷ []
     → finished_certificate last (record { lines = lines; unused = os }) ≡ finished_at last lines (position is_some front) slot
 unfolding finished_certificate

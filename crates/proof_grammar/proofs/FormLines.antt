@@ -1,4 +1,4 @@
--- The forms that begin a certificate_line are those by which its reading goes on.
+-- The forms that begin a line are those by which its reading goes on.
 use Rattle.std.proofs.Common.{◌≡◌, inl, inr, ⊎_elim, ℕ, zero, suc, true, false, List, [], ◌∷◌, ◌++◌, Option, Some, None, Ok, Err, Result, refl, sym, ◌∙◌, ap, subst}
 use Rattle.std.specs.Prelude.{codes, map}
 use Rattle.dep_model.specs.Schemas.{place_named}
@@ -161,7 +161,7 @@ begins_from fs s leads =
           ∙ ap (λ o. bind o (λ t. runs t (completion s))) leads ∙ more.leads) more.final;
     }
 
--- where forms that begin a certificate_line lead
+-- where forms that begin a line lead
 pub record Leads (fs : List TokenForm) : Type 0 where
   pub shape : Shape
   pub leads : runs at_start fs ≡ Some shape

@@ -1,4 +1,4 @@
--- A certificate certificate_line is read, or refused by its first complaint.
+-- A certificate line is read, or refused by its first complaint.
 use Rattle.std.proofs.Common.{ℕ, List, Option, Result, refl, sym, subst}
 use Rattle.dep_model.specs.Dependencies.{Dependency}
 use Rattle.derivation.specs.Trees.{Step, augmentation, complementation, maugmentation, replication, Pair, transitivity, mtransitivity, coalescence}
@@ -131,7 +131,7 @@ dependency_judged names at next_column ms stop f follows =
     (λ a to ks. in_row (at_side rhs) names at to ks stop (side names (left_at at to ks stop)) _ f
     (side_judged rhs names at to ks stop _ (λ y u last ls end. follows (grammar.stated a x y) u last ls end))))))
 
--- ---- the certificate_line
+-- ---- the line
 pub line_judged : (names : List (List ℕ)) (at next_column : ℕ) (ms : List Mark) (stop : Option Stop)
     → Judged at_start names at next_column ms stop (certificate_line names (left_at at next_column ms stop))
 unfolding certificate_line certificate_line_from take

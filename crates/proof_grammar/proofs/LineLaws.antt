@@ -1,4 +1,4 @@
--- A certificate_line of a certificate is read exactly where the grammar has one.
+-- A line of a certificate is read exactly where the grammar has one.
 use Rattle.std.specs.Prelude.{◌↔◌, ok_or}
 use Rattle.std.proofs.Common.{◌≡◌, ℕ, false, List, [], ◌∷◌, ◌++◌, Option, Some, None, Ok, refl, sym, ◌∙◌, ap, subst, append_assoc}
 use Rattle.attr_sets.specs.Places.{Places}
@@ -91,8 +91,8 @@ dependency_back names at from marks tail d is other =
           (ap (λ z. Ok (z, rest_at at right.next_column tail)) (sym is.states));
     }
 
--- ---- the certificate_line
--- a value that is given only where a certificate_line ends
+-- ---- the line
+-- a value that is given only where a line ends
 record Ends (r : Rest) : Type 0 where
   marks : r.marks ≡ []
   stop : r.stop ≡ None
@@ -106,7 +106,7 @@ unless_there {X} r x y e = told r.marks r.stop refl refl e
     told [] (Some stop) here there e = cc
     told (m ∷ ms) stop here there e = cc
 
--- a certificate_line that is read
+-- a line that is read
 pub record ReadsLine (names : List (List ℕ)) (start : Rest) (l : Line) : Type 0 where
   pub is_line : IsCertificateLine names start.marks l
   pub stop : start.stop ≡ None
@@ -156,7 +156,7 @@ line_there names number text l e =
     let reads = line_reads names (rest_from number 1 (lex mode.Numbered text)) l e in
     record { marks = (lex mode.Numbered text).marks; tokens = λ i. record { marks = (lex mode.Numbered text).marks; stop = reads.stop i }; is_line = reads.is_line }
 
--- tokens that are a certificate_line are read as it, from any column
+-- tokens that are a line are read as it, from any column
 pub marks_read : (names : List (List ℕ)) (at from : ℕ) (ms : List Mark) (l : Line) → IsCertificateLine names ms l → certificate_line names (rest_at at from ms) ≡ Ok l
 unfolding certificate_line certificate_line_from take ended
 marks_read names at from ms l is =

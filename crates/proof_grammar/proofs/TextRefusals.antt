@@ -74,7 +74,7 @@ end_there s text before fresh lines trees book number e cut count afterwards h =
       (finished_refused s (λ n. uses n lines) trees book (number - 1) e afterwards.follows h);
 })
 
--- ---- certificate_line by certificate_line
+-- ---- line by line
 -- what is refused of the lines after some others
 abbrev RefusesOn : Schema → List ℕ → LineComplaint → ℕ → List (List ℕ) → Type 0
 RefusesOn s text e number texts =
@@ -153,7 +153,7 @@ unfolding read_proof
 refused_there s text e h = lines_refused s text e 1 (line_texts (without_mark text)) [] true [] [] (record { lines = []; unused = [] }) refl refl (at_start s text) h
 
 -- ---- from what goes wrong
--- a certificate_line that stands in a text counts
+-- a line that stands in a text counts
 not_passed : (s : Schema) (text : List ℕ) (before : List (List ℕ)) (here : List ℕ) (at : ℕ) (fresh : Bool) (lines : List Line) (trees : List Tree) (book : Ledger)
     → HasReadLines s text before fresh lines trees book → StandsAt text before here at → counted fresh (here ∷ []) ≡ [] → ⊥
 not_passed s text before here at fresh lines trees book afterwards stands none =

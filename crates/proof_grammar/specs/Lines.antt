@@ -11,7 +11,7 @@ use Rattle.schema_grammar.specs.Rests.{Rest, ◌>>=◌, take, expected, number, 
 use Rattle.schema_grammar.specs.Texts.{number_in}
 use Rattle.proof_grammar.specs.Readers.{colon, with_word, rule_name}
 
--- what a certificate_line says of its dependency: the rule, and the lines of its premises
+-- what a line says of its dependency: the rule, and the lines of its premises
 pub data Body : Type 0 where
   by_given : ℕ → Body
   by_reflexivity : Body
@@ -19,7 +19,7 @@ pub data Body : Type 0 where
   by_step : Step → ℕ → Body
   by_pair : Pair → ℕ → ℕ → Body
 
--- a certificate_line of a certificate
+-- a line of a certificate
 pub record Line : Type 0 where
   pub number : ℕ
   pub stated : Dependency
@@ -74,7 +74,7 @@ stated_dependency names start = do
   y ← side names a.1
   Ok (grammar.stated a.0 x.0 y.0, y.1)
 
--- a value, unless the certificate_line does not end here
+-- a value, unless the line does not end here
 abbrev pub unless : {A : Type 0} → Option SchemaRefusal → A → Result A SchemaRefusal
 unless None x = Ok x
 unless (Some e) x = Err e

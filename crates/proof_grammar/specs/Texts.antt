@@ -37,7 +37,7 @@ kind_from fresh [] (Some stop) = Certificate
 kind_from fresh (m ∷ ms) stop = if fresh && is_yes m.kind m.word && is_blank_from ms stop then Opening
     else Certificate
 
--- what a certificate_line is; `fresh` is whether no certificate_line with a token stood before
+-- what a line is; `fresh` is whether no line with a token stood before
 unfoldable pub line_kind : Bool → Lexed → LineKind
 line_kind fresh l = kind_from fresh l.marks l.stop
 
@@ -54,11 +54,11 @@ read_as Certificate s fresh number book text =
     >>= λ l. entered s number book l
     >>= λ next. Ok (false, next)
 
--- the ledger after one certificate_line of the text more, and whether a `yes` may still come
+-- the ledger after one line of the text more, and whether a `yes` may still come
 unfoldable pub read_one : Schema → Bool → ℕ → Ledger → List ℕ → Result (Bool × Ledger) Complaint
 read_one s fresh number book text = read_as (line_kind fresh (lex mode.Numbered text)) s fresh number book text
 
--- a complaint gets its certificate_line
+-- a complaint gets its line
 abbrev pub at_line : {A : Type 0} → ℕ → Result A Complaint → Result A LineComplaint
 at_line number (Ok x) = Ok x
 at_line number (Err why) = Err (complaint_at number why)
