@@ -165,17 +165,17 @@ column_groups rows k seen numbers n = groups_from rows (only k) (λ i. value_at 
     ((λ e m at. subst (λ (p : ℕ). value_at (row_at rows i) p ≡ value_at (row_at rows j) p) (sym (eqb-true m k at)) e), (λ a. a k (grind arith))))
 
 -- one place more
-agree_union : (x y : Places) (t u : Tuple) → AgreeOn x t u → AgreeOn y t u → AgreeOn (union x y) t u
+pub agree_union : (x y : Places) (t u : Tuple) → AgreeOn x t u → AgreeOn y t u → AgreeOn (union x y) t u
 agree_union x y t u a b m has = by (x m) refl has
   where
     by : (c : Bool) → x m ≡ c → (c || y m) ≡ true → value_at t m ≡ value_at u m
     by true e h = a m e
     by false e h = b m h
 
-agree_left : (x y : Places) (t u : Tuple) → AgreeOn (union x y) t u → AgreeOn x t u
+pub agree_left : (x y : Places) (t u : Tuple) → AgreeOn (union x y) t u → AgreeOn x t u
 agree_left x y t u a m has = a m (ap (λ (c : Bool). c || y m) has)
 
-agree_right : (x y : Places) (t u : Tuple) → AgreeOn (union x y) t u → AgreeOn y t u
+pub agree_right : (x y : Places) (t u : Tuple) → AgreeOn (union x y) t u → AgreeOn y t u
 agree_right x y t u a m has = a m (by (x m) has)
   where
     by : (c : Bool) → y m ≡ true → (c || y m) ≡ true

@@ -1,5 +1,5 @@
 -- Rows by their leaders on a set, and what one column more makes of them.
-use Rattle.std.proofs.Common.{inl, inr, ◌≡◌, ◌≢◌, ◌+◌, ◌<◌, ◌≤◌, ◌⊎◌, ◌||◌, ℕ, Bool, true, false, List, [], ◌∷◌, ◌++◌, length, set, replicate, slice_index_or, refl, sym, ap, subst, ◌∙◌, arith}
+use Rattle.std.proofs.Common.{inl, inr, ◌≡◌, ◌≢◌, ◌+◌, ◌<◌, ◌≤◌, ◌⊎◌, ℕ, true, false, List, [], ◌∷◌, ◌++◌, length, set, replicate, slice_index_or, refl, sym, ap, subst, ◌∙◌, arith}
 use Rattle.std.specs.Prelude.{Contains}
 use Rattle.std.proofs.lemmas.Bool.{cases_lt, cases_eq, true≢false}
 use Rattle.std.proofs.lemmas.List.{get_or-set_same, get_or-set_other, get_or_default, get_or_append_left, get_or-replicate, length-replicate}
@@ -7,30 +7,13 @@ use Rattle.std.proofs.Math.Seq.{get_or-append_seam}
 use Rattle.std.proofs.lemmas.List.Elements.{Contains-get_or}
 use Rattle.attr_sets.specs.Places.{Places, Same, IsEmpty, only, union}
 use Rattle.attr_sets.proofs.PlacesLemmas.{Same-path}
-use Rattle.dep_model.specs.Tuples.{Tuple, Relation, AgreeOn, value_at}
+use Rattle.dep_model.specs.Tuples.{Tuple, Relation, AgreeOn}
 use Rattle.dep_model.specs.Dependencies.{ObeysFd}
 use Rattle.csv_rows.specs.Numberings.{row_at, number_at, AreGroups}
 use Rattle.csv_rows.specs.Interning.{codes_at}
+use Rattle.csv_rows.proofs.NumberingLemmas.{agree_union, agree_left, agree_right}
 use Rattle.fd_discovery.specs.Leaders.{AreLeaders, IsOrderOf, IsTableOfRows, order_at}
 use Rattle.fd_discovery.specs.declared.table.Table.{Table}
-
--- agreement on two sets
-agree_union : (x y : Places) (t u : Tuple) → AgreeOn x t u → AgreeOn y t u → AgreeOn (union x y) t u
-agree_union x y t u a b m has = by (x m) refl has
-  where
-    by : (c : Bool) → x m ≡ c → (c || y m) ≡ true → value_at t m ≡ value_at u m
-    by true e h = a m e
-    by false e h = b m h
-
-agree_left : (x y : Places) (t u : Tuple) → AgreeOn (union x y) t u → AgreeOn x t u
-agree_left x y t u a m has = a m (ap (λ (c : Bool). c || y m) has)
-
-agree_right : (x y : Places) (t u : Tuple) → AgreeOn (union x y) t u → AgreeOn y t u
-agree_right x y t u a m has = a m (by (x m) has)
-  where
-    by : (c : Bool) → y m ≡ true → (c || y m) ≡ true
-    by true e = refl
-    by false e = e
 
 -- a tuple of a relation stands at a place of it
 row_of : (r : Relation) (t : Tuple) → Contains r t → (i : ℕ) × (i < length r) × (row_at r i ≡ t)
