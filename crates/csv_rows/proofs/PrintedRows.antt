@@ -1,7 +1,7 @@
 -- Printed rows: the records of the printed text, the columns of its header, and the rows.
-use Rattle.std.proofs.Common.{inl, inr, ◌≡◌, ◌≢◌, ◌+◌, ◌<◌, ◌≤◌, ◌==◌, ◌&&◌, ◌||◌, ℕ, zero, suc, Bool, true, false, if◌then◌else◌, nat_lt, nat_eq, List, [], ◌∷◌, ◌++◌, length, map, Option, Some, None, Result, Ok, Err, IsTrue, slice_index_or, get_or, refl, sym, ap, subst, ◌∙◌, arith}
+use Rattle.std.proofs.Common.{◌≡◌, ◌≢◌, ◌+◌, ◌<◌, ◌≤◌, ◌==◌, ◌&&◌, ◌||◌, ℕ, zero, suc, Bool, true, false, nat_lt, nat_eq, List, [], ◌∷◌, ◌++◌, length, map, Option, Some, None, Result, Ok, IsTrue, slice_index_or, get_or, refl, sym, ap, subst, ◌∙◌, arith}
 use Rattle.std.specs.Prelude.{All, AllPairs}
-use Rattle.std.specs.List.{slice_get, position_or_len, range_with_len, flat_map, list_any}
+use Rattle.std.specs.List.{slice_get, position_or_len, range_with_len, list_any}
 use Rattle.std.specs.Char.{is_ascii_alphabetic}
 use Rattle.std.proofs.Math.ListN.{get_or-map}
 use Rattle.std.proofs.lemmas.Bool.{false≢true}
@@ -9,12 +9,10 @@ use Rattle.std.proofs.lemmas.Bool.Decides.{nat_tests}
 use Rattle.std.proofs.lemmas.List.{append_assoc, append-nil, length-append, length-map, ext_get_or}
 use Rattle.std.proofs.lemmas.List.FromFn.{length-range_with_len, get_or-range_with_len}
 use Rattle.std.proofs.lemmas.List.Sums.{position_or_len_is}
-use Rattle.std.proofs.lemmas.Option.{slice_get_within}
-use Rattle.attr_sets.specs.Places.{Places, Within, Same, below, only, union}
-use Rattle.attr_sets.specs.Sets.{places}
+use Rattle.attr_sets.specs.Places.{Places, Within, below}
 use Rattle.csv.specs.Machine.{next_record}
 use Rattle.csv.specs.Reading.{records_from, default_config, strip_bom}
-use Rattle.csv.specs.Writing.{default_writer, row_text, row_body, field_text, fields_text, is_blank, needs_byte, read_back}
+use Rattle.csv.specs.Writing.{default_writer, row_text, field_text, fields_text, needs_byte, read_back}
 use Rattle.csv.specs.declared.parser.State.TheVariants as st
 use Rattle.csv.proofs.RoundTrip.{read-write}
 use Rattle.dep_model.specs.Integers.{IsIntegerText}
@@ -31,7 +29,7 @@ use Rattle.csv_rows.proofs.NumberingLemmas.{same_default}
 use Rattle.csv_rows.proofs.ReadingLemmas.{whole_count}
 use Rattle.csv_rows.proofs.RecordLemmas.{one_more, no_more}
 use Rattle.csv_rows.specs.Columns.{with_columns, column_of, columns_of_header, columns_from, IsHeaderOf, ◌>>=◌}
-use Rattle.csv_rows.specs.Reading.{value_of, tuple_of, HasInteger, RowOf, AreFirstRows, RowsOf, TableOf}
+use Rattle.csv_rows.specs.Reading.{value_of, tuple_of, RowOf, AreFirstRows, RowsOf, TableOf}
 use Rattle.csv_rows.specs.Records.{records_of}
 use Rattle.csv_rows.specs.RowsText.{rows_only, rows_text}
 use Rattle.csv_rows.specs.declared.reading.TheConstants.{MOST_ROWS}

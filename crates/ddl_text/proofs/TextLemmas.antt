@@ -1,7 +1,6 @@
 -- Lists of quoted names, and elements on their lines: one more at the end.
-use Rattle.std.proofs.Common.{◌≡◌, ◌<◌, ◌+◌, ℕ, suc, Bool, true, false, ◌||◌, List, [], ◌∷◌, ◌++◌, length, get_or, map, take, Option, Some, Result, Ok, Err, inl, inr, refl, sym, ap, ◌∙◌, arith, append_assoc, append-nil, add-one}
+use Rattle.std.proofs.Common.{◌≡◌, ◌<◌, ◌+◌, ℕ, Bool, true, false, ◌||◌, List, [], ◌∷◌, ◌++◌, length, get_or, map, take, Option, Some, Result, Ok, Err, inl, inr, refl, sym, ap, ◌∙◌, arith, append_assoc, append-nil, add-one}
 use Rattle.std.specs.Prelude.{if◌then◌else◌, codes, slice_get, unwrap_or, option_map, OnOk}
-use Rattle.std.specs.List.{flat_map}
 use Rattle.std.proofs.Math.Bool.{or-false}
 use Rattle.std.proofs.lemmas.Bool.{true≢false, false_from_ne_true, cases_Bool}
 use Rattle.std.proofs.lemmas.List.{map-append, take_more, length-take-le, flat_map_more}

@@ -1,5 +1,5 @@
 -- Derivations that are shortened, and the first given dependency.
-use Rattle.std.proofs.Common.{◌≡◌, ℕ, ◌<◌, ◌≤◌, Some, get_or-take, length-take-le, get_or, take, length, ◌∙◌, ap, ⊎_elim, arith}
+use Rattle.std.proofs.Common.{◌≡◌, ℕ, ◌<◌, ◌≤◌, Some, get_or-take, length-take-le, get_or, take, length, ◌∙◌, ap, arith}
 use Rattle.std.proofs.lemmas.Option.{slice_get-map, get_or_from_slice_get, slice_get-get_or, slice_get_within}
 use Rattle.std.specs.Prelude.{slice_get, All, option_map}
 use Rattle.attr_sets.specs.Places.{Places}

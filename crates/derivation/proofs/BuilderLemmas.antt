@@ -1,12 +1,11 @@
 -- What the trees of the builders prove. The sets that a builder computes are given by their members.
-use Rattle.std.proofs.Common.{ap, arith, refl}
+use Rattle.std.proofs.Common.{arith, refl}
 use Rattle.attr_sets.specs.Places.{Places, none, union, meet, minus, Within, Same, Apart}
 use Rattle.dep_model.specs.declared.schema.Schema.{Schema}
-use Rattle.dep_model.specs.Dependencies.{Dependency, fd, mvd, left_of, right_of, IsWithin}
+use Rattle.dep_model.specs.Dependencies.{fd, mvd, IsWithin}
 use Rattle.dep_model.specs.Schemas.{universe_of}
 use Rattle.derivation.specs.Trees.{augmentation, complementation, maugmentation, transitivity, mtransitivity, Tree, step, pair}
 use Rattle.derivation.specs.Conclusions.{Proves}
-use Rattle.derivation.proofs.ConclusionLemmas.{Proves-one}
 use Rattle.derivation.proofs.ProvesLemmas.{fd_restated, mvd_restated, augmentation_proves, complementation_proves, maugmentation_proves, transitivity_proves, mtransitivity_proves}
 
 -- x -> xz and xz -> yz

@@ -1,5 +1,5 @@
 -- The refusal of a text ends a command as the answers say.
-use Rattle.std.proofs.Common.{◌≢◌, ◌≤◌, ◌≡◌, inr, ℕ, List, Option, Some, None, Ok, Err, Result, false, refl, sym, ap, ◌∙◌, subst}
+use Rattle.std.proofs.Common.{◌≢◌, ◌≡◌, inr, ℕ, List, Option, Some, None, Ok, Err, Result, false, refl, sym, ap, ◌∙◌, subst}
 use Rattle.std.proofs.lemmas.Bool.{false≢true}
 use Rattle.std.specs.Prelude.{⊤, MatchOption, is_none, IfOk, codes}
 use Rattle.dep_model.specs.declared.schema.Schema.{Schema}

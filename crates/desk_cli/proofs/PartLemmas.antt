@@ -1,14 +1,14 @@
 -- Files of some columns, read one after the other.
-use Rattle.std.proofs.Common.{◌≡◌, ◌<◌, ◌+◌, ℕ, List, [], ◌∷◌, ◌++◌, length, map, take, get_or, sym, refl, subst, ap, ◌∙◌, arith}
+use Rattle.std.proofs.Common.{◌≡◌, ◌<◌, ◌+◌, ℕ, List, [], ◌∷◌, ◌++◌, length, take, get_or, sym, refl, subst, ap}
 use Rattle.std.proofs.lemmas.List.{take_more}
 use Rattle.std.proofs.lemmas.List.Elements.{All-push}
 use Rattle.std.specs.List.{AllZip}
-use Rattle.std.specs.Prelude.{All, slice_get, Some}
+use Rattle.std.specs.Prelude.{All}
 use Rattle.csv_rows.specs.declared.part.Part.{Part}
 use Rattle.dep_model.specs.declared.schema.Schema.{Schema}
 use Rattle.table_join.specs.Tables.{Table, IsTable, table_of_part, tables_of}
 use Rattle.desk_cli.specs.Readings.{Reading}
-use Rattle.desk_cli.specs.Rejoining.{ArePartFiles, IsPartFile, FirstPartStops}
+use Rattle.desk_cli.specs.Rejoining.{ArePartFiles, IsPartFile}
 
 zip_push : {X Y : Type 0} (R : X → Y → Type 0) (xs : List X) (ys : List Y) (x : X) (y : Y) → AllZip R xs ys → R x y → AllZip R (xs ++ x ∷ []) (ys ++ y ∷ [])
 zip_push R [] [] x y h r = (r, tt)

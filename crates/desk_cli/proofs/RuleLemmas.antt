@@ -1,5 +1,5 @@
 -- Names of columns as a schema without dependencies, and its text.
-use Rattle.std.proofs.Common.{◌≡◌, ◌<◌, ◌≤◌, ℕ, suc, Bool, false, Option, Some, None, List, [], ◌∷◌, length, take, get_or, subst, refl, ap, sym, ◌∙◌, arith}
+use Rattle.std.proofs.Common.{◌≡◌, ◌<◌, ℕ, suc, Bool, false, Some, None, List, [], ◌∷◌, length, take, get_or, subst, refl, ap, sym, ◌∙◌, arith}
 use Rattle.std.proofs.lemmas.Grind.{common_steps}
 use Rattle.std.proofs.lemmas.List.{get_or-take, get_or_default, length-take-le}
 use Rattle.std.proofs.lemmas.List.Sums.{fails_before_first}
@@ -13,7 +13,7 @@ use Rattle.dep_model.specs.declared.column.Column.{Column}
 use Rattle.dep_model.specs.declared.column.Column.TheVariants.{Text, Integer}
 use Rattle.dep_model.specs.declared.dep.Dep.{Dep}
 use Rattle.dep_model.specs.declared.schema.Schema.{Schema}
-use Rattle.fd_discovery.specs.Headers.{IsColumnHeader, field_at}
+use Rattle.fd_discovery.specs.Headers.{IsColumnHeader}
 use Rattle.schema_grammar.specs.Printing.{declared_text, declaring_lines, is_integer}
 use Rattle.desk_cli.specs.Discoveries.{found_text}
 

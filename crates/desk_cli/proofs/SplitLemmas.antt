@@ -1,5 +1,5 @@
 -- The scheme at which a split is stuck lies within the universe.
-use Rattle.std.proofs.Common.{◌≡◌, ◌<◌, ℕ, List, ◌∷◌, ◌++◌, subst, sym, refl, arith}
+use Rattle.std.proofs.Common.{◌≡◌, ◌<◌, ℕ, List, ◌∷◌, subst, sym, refl, arith}
 use Rattle.std.proofs.lemmas.List.Elements.{All-contains, Contains-append_right}
 use Rattle.std.specs.Prelude.{All, Contains}
 use Rattle.attr_sets.specs.Places.{Places, below, Within}

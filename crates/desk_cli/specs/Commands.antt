@@ -1,5 +1,4 @@
 -- A command of the code, as its form.
-use Rattle.std.specs.Prelude.{map}
 use Rattle.desk_cli.specs.declared.command.Command.{Command}
 use Rattle.desk_cli.specs.declared.command.Command.TheVariants.{OverSchema, Discover, Sample, Help, Version}
 use Rattle.desk_cli.specs.declared.command.Task.{Task}

@@ -1,5 +1,5 @@
 -- Whether a plan keeps the functional dependencies.
-use Rattle.std.specs.Prelude.{◌≡◌, ◌⊎◌, ℕ, List, ◌∷◌, ◌++◌, codes, slice_get}
+use Rattle.std.specs.Prelude.{◌⊎◌, ℕ, List, ◌∷◌, ◌++◌, codes, slice_get}
 use Rattle.std.specs.List.{flat_map}
 use Rattle.attr_sets.specs.Places.{Places}
 use Rattle.attr_sets.specs.Sets.{places}

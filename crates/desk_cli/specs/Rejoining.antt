@@ -1,8 +1,7 @@
 -- The natural join of the tables of files.
-use Rattle.std.specs.Prelude.{◌≡◌, ◌⊎◌, ℕ, List, [], ◌++◌, codes, length, take, slice_get, Some, Ok, Err}
+use Rattle.std.specs.Prelude.{◌≡◌, ◌⊎◌, ℕ, List, ◌++◌, codes, take, slice_get, Some, Ok, Err}
 use Rattle.std.specs.Fmt.{decimal}
 use Rattle.std.specs.List.{AllZip}
-use Rattle.attr_sets.specs.Sets.{places}
 use Rattle.csv_rows.specs.declared.part.Part.{Part}
 use Rattle.csv_rows.specs.declared.refusal.RowRefusal.{RowRefusal}
 use Rattle.csv_rows.specs.Reading.{PartOf, HasScheme}

@@ -2,8 +2,8 @@
 -- yes or no.
 use Rattle.std.proofs.Common.{◌≡◌, ℕ, true, false, List, [], ◌∷◌, ◌++◌, length, slice_index_or, is_none, nat_lt, ◌&&◌, Ok, Err, inl, inr, refl, sym, ap, ◌∙◌, subst, arith}
 use Rattle.std.proofs.lemmas.Bool.{false≢true}
-use Rattle.std.specs.Prelude.{◌⊎◌, codes, All, Contains}
-use Rattle.attr_sets.specs.Places.{Places, IsEmpty, IsLeastFrom}
+use Rattle.std.specs.Prelude.{codes, All, Contains}
+use Rattle.attr_sets.specs.Places.{Places, IsEmpty}
 use Rattle.attr_sets.specs.declared.set.AttrSet.{AttrSet}
 use Rattle.dep_model.specs.Schemas.{names_of, width_of, theory_of, place_named}
 use Rattle.dep_model.specs.declared.schema.Schema.{Schema}
@@ -11,7 +11,6 @@ use Rattle.key_listing.specs.Listing.{AreManyKeys}
 use Rattle.key_listing.specs.Refusals.{IsWideScheme}
 use Rattle.schema_grammar.specs.Declarations.{Declarations}
 use Rattle.schema_grammar.specs.Sets.{MeansSet, read_set}
-use Rattle.schema_grammar.specs.Texts.{declarations_of}
 use Rattle.schema_grammar.proofs.SetLaws.{set-law, set-refusal-law}
 use Rattle.schema_match.specs.Columns.{SameNames, undeclared}
 use Rattle.desk_outside.specs.Files.{Files}

@@ -1,5 +1,5 @@
 -- Where the inputs of the commands that print scripts and pictures have their meaning, they answer yes or no.
-use Rattle.std.proofs.Common.{◌≡◌, ℕ, List, [], ◌∷◌, inl, inr, ap}
+use Rattle.std.proofs.Common.{ℕ, List, [], ◌∷◌, inl, inr, ap}
 use Rattle.std.specs.Prelude.{codes, IsTrue}
 use Rattle.attr_sets.specs.Places.{Places}
 use Rattle.attr_sets.specs.declared.set.AttrSet.{AttrSet}

@@ -1,15 +1,12 @@
 -- Rows by their places, and the least pair that breaks a functional dependency.
-use Rattle.std.proofs.Common.{inl, inr, ◌≡◌, ◌+◌, ◌<◌, ◌≤◌, ◌⊎◌, ℕ, Bool, true, false, List, [], length, Option, Some, None, slice_index_or, get_or, refl, sym, ap, subst, ◌∙◌, arith}
+use Rattle.std.proofs.Common.{inl, inr, ◌≡◌, ◌+◌, ◌<◌, ◌≤◌, ◌⊎◌, ℕ, List, [], length, Option, Some, None, refl, sym, ap, subst, ◌∙◌, arith}
 use Rattle.std.specs.Prelude.{Contains}
-use Rattle.std.proofs.lemmas.Bool.{cases_lt, eqb-true}
-use Rattle.attr_sets.specs.Places.{Places, Within, below, only}
+use Rattle.std.proofs.lemmas.Bool.{cases_lt}
+use Rattle.attr_sets.specs.Places.{Places}
 use Rattle.dep_model.specs.Tuples.{Tuple, Relation, AgreeOn, value_at}
-use Rattle.dep_model.specs.Dependencies.{Dependency, fd, mvd, Obeys, ObeysFd}
+use Rattle.dep_model.specs.Dependencies.{fd}
 use Rattle.csv_rows.specs.Numberings.{row_at, number_at, AreGroups, AreFirsts}
-use Rattle.csv_rows.specs.Interning.{IsInterned, codes_at, count_of}
-use Rattle.csv_rows.specs.declared.interned.Interned.{Interned}
 use Rattle.csv_rows.proofs.NumberingLemmas.{same_default}
-use Rattle.legality.specs.Offences.{PairBreaks, BreaksAt, IsLeastPair}
 use Rattle.legality.specs.Answers.{IsLeastOffence}
 use Rattle.legality.specs.declared.pair.Pair.{Pair}
 

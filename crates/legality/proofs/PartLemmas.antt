@@ -1,16 +1,15 @@
 -- The least pair that breaks a multivalued dependency, by counts of parts.
-use Rattle.std.proofs.Common.{inl, inr, ◌≡◌, ◌+◌, ◌<◌, ◌≤◌, ◌⊎◌, ◌==◌, ◌&&◌, ◌||◌, not, nat_lt, ℕ, zero, suc, Bool, true, false, true≢false, List, set, replicate, [], length, Option, Some, None, refl, sym, ap, subst, ◌∙◌, arith}
-use Rattle.std.specs.Prelude.{Contains}
+use Rattle.std.proofs.Common.{inl, inr, ◌≡◌, ◌+◌, ◌<◌, ◌≤◌, ◌==◌, ◌&&◌, ◌||◌, not, nat_lt, ℕ, Bool, true, false, true≢false, List, set, replicate, length, Option, Some, None, refl, sym, ap, subst, ◌∙◌, arith}
 use Rattle.std.proofs.lemmas.List.{get_or-set_other, length-set}
 use Rattle.std.proofs.lemmas.Grind.{get_or-set_at}
 use Rattle.std.proofs.lemmas.Bool.{cases_Bool, cases_lt, eqb-true, eq-eqb}
 use Rattle.attr_sets.specs.Places.{Places, Within, Same, below, union, minus, only, count_below}
 use Rattle.attr_sets.proofs.PlacesLemmas.{Same-path, tell_some, count_below-minus_only, count_below-member, count_below-outside}
 use Rattle.dep_model.specs.Tuples.{Tuple, Relation, AgreeOn, value_at}
-use Rattle.dep_model.specs.Dependencies.{Dependency, fd, mvd, Obeys}
+use Rattle.dep_model.specs.Dependencies.{mvd, Obeys}
 use Rattle.csv_rows.specs.Numberings.{row_at, number_at, AreGroups, AreFirsts}
 use Rattle.csv_rows.proofs.NumberingLemmas.{zeros_at}
-use Rattle.legality.specs.Offences.{PairBreaks, BreaksAt, IsLeastPair}
+use Rattle.legality.specs.Offences.{BreaksAt}
 use Rattle.legality.specs.Answers.{IsLeastOffence}
 use Rattle.legality.specs.Parts.{part_count, ArePartCounts, IsFirstShort, flag_at, AreBeside, IsFirstMissing}
 use Rattle.legality.specs.declared.pair.Pair.{Pair}

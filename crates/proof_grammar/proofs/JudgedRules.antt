@@ -9,7 +9,7 @@ use Rattle.schema_grammar.specs.Rests.{Rest, ◌>>=◌, take, number, arrow, sid
 use Rattle.schema_grammar.specs.Grammar as grammar
 use Rattle.proof_grammar.specs.declared.rule_name.RuleName.{RuleName}
 use Rattle.proof_grammar.specs.declared.rule_name.RuleName.TheVariants as rule
-use Rattle.proof_grammar.specs.Lines.{Body, by_given, by_reflexivity, by_mreflexivity, by_step, by_pair, Line, one, two, augmented, maugmented, body, stated_dependency, unless, certificate_line, certificate_line_from}
+use Rattle.proof_grammar.specs.Lines.{Body, by_given, by_reflexivity, by_mreflexivity, by_step, by_pair, Line, one, two, augmented, maugmented, body, stated_dependency, certificate_line, certificate_line_from}
 use Rattle.proof_grammar.specs.Readers.{colon, with_word}
 use Rattle.proof_grammar.proofs.FormShapes.{lhs, rhs, by, wide, narrow, nothing, second, sets, Shape, at_start, at_side, at_rule, at_premise, at_end, named}
 use Rattle.proof_grammar.proofs.JudgedLines.{Judged}

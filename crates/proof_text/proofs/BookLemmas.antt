@@ -1,5 +1,5 @@
 -- Lists of open lines, as the code has them and as the definitions do.
-use Rattle.std.proofs.Common.{◌≡◌, ◌-◌, ◌<◌, List, [], ◌∷◌, Some, None, refl}
+use Rattle.std.proofs.Common.{◌≡◌, ◌-◌, List, [], ◌∷◌, Some, None, refl}
 use Rattle.std.specs.Prelude.{Option, option_map, is_some, position, not}
 use Rattle.std.specs.List.{prefix_len}
 use Rattle.std.proofs.lemmas.List.{length-map}

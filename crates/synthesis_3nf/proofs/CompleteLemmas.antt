@@ -1,18 +1,18 @@
 -- The grouped schemes with a key: a lossless plan of schemes in third form that keeps the dependencies, also without contained ones.
-use Rattle.std.proofs.Common.{◌≡◌, ℕ, ◌≤◌, ◌<◌, Bool, true, false, ◌||◌, List, [], ◌∷◌, ◌++◌, map, refl, sym, subst, ap, ◌∙◌, ◌⊎◌, inl, inr, ⊎_elim, arith}
+use Rattle.std.proofs.Common.{◌≡◌, ℕ, ◌≤◌, ◌<◌, true, false, List, [], ◌∷◌, ◌++◌, map, refl, sym, subst, ◌∙◌, ◌⊎◌, ⊎_elim}
 use Rattle.std.specs.Prelude.{All, Any, Contains}
 use Rattle.std.specs.List.{list_any}
-use Rattle.std.proofs.lemmas.Bool.{cases_Bool, true≢false, lt-ltb, or_right}
+use Rattle.std.proofs.lemmas.Bool.{cases_Bool, true≢false, or_right}
 use Rattle.std.proofs.lemmas.List.Elements.{All-weaker, All-contains, All-contains_itself, All-map, Contains-append_left, Contains-push, Contains-push_cases}
 use Rattle.std.proofs.lemmas.List.Folds.{Any-from_list_any}
 use Rattle.attr_sets.specs.declared.set.TheConstants.{PLACES}
 use Rattle.attr_sets.specs.declared.set.AttrSet.{AttrSet}
-use Rattle.attr_sets.specs.Places.{Places, below, only, union, Within, IsEmpty}
+use Rattle.attr_sets.specs.Places.{Places, below, Within, IsEmpty}
 use Rattle.attr_sets.specs.Sets.{places}
 use Rattle.attr_sets.proofs.PlacesLemmas.{places_below, is_within-true}
-use Rattle.dep_model.specs.Dependencies.{Dependency, fd, mvd, is_fd, functional_part, left_of, right_of, IsWithin}
+use Rattle.dep_model.specs.Dependencies.{Dependency, fd, is_fd, functional_part, left_of, right_of, IsWithin}
 use Rattle.dep_model.specs.Implication.{Implies}
-use Rattle.dep_model.specs.Keys.{IsSuperkey, IsKey, IsSettledKey}
+use Rattle.dep_model.specs.Keys.{IsSuperkey, IsSettledKey}
 use Rattle.dep_model.specs.Forms.{IsThird}
 use Rattle.dep_model.specs.Projections.{Covers, IsLossless}
 use Rattle.dep_model.specs.Preservation.{KeepsDependencies}
@@ -24,8 +24,8 @@ use Rattle.min_cover.specs.Covers.{IsMinimalCover, IsSingle}
 use Rattle.decomp_text.specs.Containing.{lies_within}
 use Rattle.decomp_text.proofs.ListLemmas.{any_from, any_some}
 use Rattle.synthesis_3nf.specs.Groups.{grouped}
-use Rattle.synthesis_3nf.specs.GroupedPlans.{HoldSuperkey, IsKeyAdded, IsWithKey}
-use Rattle.synthesis_3nf.proofs.Holding.{LiesIn, AreHeld}
+use Rattle.synthesis_3nf.specs.GroupedPlans.{HoldSuperkey, IsWithKey}
+use Rattle.synthesis_3nf.proofs.Holding.{AreHeld}
 use Rattle.synthesis_3nf.proofs.GroupLemmas.{groups_are, groups_hold}
 use Rattle.synthesis_3nf.proofs.ThirdLemmas.{functional_same, fd_trans, fd_within, part_implied, group_third, key_third}
 use Rattle.synthesis_3nf.proofs.LosslessLemmas.{lossless, keeps}

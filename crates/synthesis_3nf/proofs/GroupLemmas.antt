@@ -1,11 +1,11 @@
 -- A minimal cover grouped by left side: each scheme is that of a left side, and each member lies within one.
-use Rattle.std.proofs.Common.{◌≡◌, ℕ, ◌≤◌, ◌<◌, Bool, true, false, ◌&&◌, ◌||◌, if◌then◌else◌, List, [], ◌∷◌, ◌++◌, refl, sym, subst, ap, ◌∙◌, ◌⊎◌, inl, inr, ⊎_elim, arith, append_assoc}
+use Rattle.std.proofs.Common.{◌≡◌, ℕ, ◌≤◌, Bool, true, false, ◌&&◌, if◌then◌else◌, List, [], ◌∷◌, ◌++◌, refl, sym, subst, ap, ◌∙◌, ◌⊎◌, ⊎_elim, arith, append_assoc}
 use Rattle.std.specs.Prelude.{All, Contains}
 use Rattle.std.specs.List.{list_any}
 use Rattle.std.proofs.lemmas.Bool.{cases_Bool, true≢false, eqb-true, eq-eqb, lt-ltb, ltb-true, or_cases, or_left, or_right, and_parts, and_from}
 use Rattle.std.proofs.lemmas.List.Elements.{All-contains, Contains-append_left, Contains-append_right}
 use Rattle.attr_sets.specs.declared.set.TheConstants.{PLACES}
-use Rattle.attr_sets.specs.Places.{Places, below, only, union, Within, Same}
+use Rattle.attr_sets.specs.Places.{Places, below, only, Within, Same}
 use Rattle.attr_sets.specs.Sets.{is_same}
 use Rattle.attr_sets.proofs.PlacesLemmas.{is_same-true, is_same-from, Same-path, Same-refl}
 use Rattle.dep_model.specs.Dependencies.{Dependency, fd, left_of, right_of, IsWithin}
@@ -13,7 +13,7 @@ use Rattle.dep_model.proofs.ListLemmas.{Contains-head, Contains-later, Contains-
 use Rattle.min_cover.specs.Covers.{IsSingle}
 use Rattle.decomp_text.proofs.ListLemmas.{any_from, any_some}
 use Rattle.synthesis_3nf.specs.Groups.{left_sides_after, group_scheme, grouped}
-use Rattle.synthesis_3nf.proofs.Holding.{IsGroupScheme, LiesIn, AreHeld}
+use Rattle.synthesis_3nf.proofs.Holding.{IsGroupScheme, AreHeld}
 
 -- ---- left sides
 -- a left side that stands among those before is passed over, and another one is added

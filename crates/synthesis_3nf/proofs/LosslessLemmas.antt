@@ -1,11 +1,11 @@
 -- A plan with a key of the universe in one scheme and each member of a cover in some scheme loses nothing, and keeps the dependencies.
-use Rattle.std.proofs.Common.{◌≡◌, ℕ, ◌<◌, true, List, [], ◌∷◌, length, refl, sym, subst, ap, ◌∙◌, ◌⊎◌, inl, inr, ⊎_elim, arith}
+use Rattle.std.proofs.Common.{◌≡◌, ℕ, ◌<◌, true, List, [], ◌∷◌, length, sym, subst, ◌∙◌, ◌⊎◌, ⊎_elim, arith}
 use Rattle.std.specs.Prelude.{All, Any, Contains}
 use Rattle.std.proofs.lemmas.Bool.{lt-ltb, true≢false}
 use Rattle.std.proofs.lemmas.List.{ext_get_or}
 use Rattle.std.proofs.lemmas.List.Elements.{All-nil, All-cons, All-contains, All-contains_itself, All-weaker}
 use Rattle.attr_sets.specs.Places.{Places, below, union, Within}
-use Rattle.dep_model.specs.Tuples.{Tuple, Relation, IsOver, AgreeOn, value_at}
+use Rattle.dep_model.specs.Tuples.{Tuple, Relation, AgreeOn}
 use Rattle.dep_model.specs.Dependencies.{Dependency, fd, mvd, Obeys, ObeysFd, is_fd, functional_part, left_of, right_of}
 use Rattle.dep_model.specs.Implication.{IsLegal, Implies}
 use Rattle.dep_model.specs.Projections.{InJoin, IsLossless, Covers, projections}
@@ -16,7 +16,7 @@ use Rattle.dep_model.proofs.JoinLemmas.{in_join-to, agreeing}
 use Rattle.dep_model.proofs.TwoRowLemmas.{two_first, two_second, two_cases, AgreeOn-refl, AgreeOn-sym, AgreeOn-within, AgreeOn-trans}
 use Rattle.dep_model.proofs.PreservationLemmas.{fd-obeys, fd-obeyed}
 use Rattle.min_cover.specs.Covers.{IsMinimalCover}
-use Rattle.synthesis_3nf.proofs.Holding.{LiesIn, AreHeld}
+use Rattle.synthesis_3nf.proofs.Holding.{AreHeld}
 
 module _ (n : ℕ) (ds cover : List Dependency) (minimal : IsMinimalCover n ds cover) (functional : All (λ d. is_fd d ≡ true) cover) (plan : List Places) (held : AreHeld cover plan) where
   -- a tuple of the join and one of the relation that agree on a left side agree on its right side

@@ -1,23 +1,21 @@
 -- The scheme of a group of a minimal cover is in third normal form, and so is a key of the universe.
-use Rattle.std.proofs.Common.{◌≡◌, ℕ, ◌<◌, true, false, ◌||◌, ◌==◌, List, [], ◌∷◌, ◌++◌, refl, sym, subst, ap, ◌∙◌, ◌⊎◌, inl, inr, ⊎_elim, arith}
+use Rattle.std.proofs.Common.{◌≡◌, ℕ, true, false, List, [], ◌∷◌, ◌++◌, refl, sym, subst, ap, ◌∙◌, ◌⊎◌, inl, inr, ⊎_elim, arith}
 use Rattle.std.specs.Prelude.{All, Contains}
 use Rattle.std.proofs.lemmas.Bool.{cases_Bool, true≢false, eqb-true, eq-eqb, ltb-true}
 use Rattle.std.proofs.lemmas.Bool.Decides.{nat_tests}
 use Rattle.std.proofs.lemmas.List.Elements.{All-nil, All-head, All-tail, All-contains, All-weaker, filter_passes, Contains-append_left, Contains-append_right, Contains-append_cases, Contains-push_cases, All-contains_itself}
-use Rattle.attr_sets.specs.Places.{Places, below, only, union, minus, Within, IsEmpty}
+use Rattle.attr_sets.specs.Places.{Places, below, only, minus, Within}
 use Rattle.attr_sets.proofs.PlacesLemmas.{tell_some}
-use Rattle.dep_model.specs.Tuples.{Tuple, Relation}
-use Rattle.dep_model.specs.Dependencies.{Dependency, fd, mvd, Obeys, is_fd, functional_part, left_of, right_of, IsWithin}
+use Rattle.dep_model.specs.Dependencies.{Dependency, fd, mvd, Obeys, is_fd, functional_part, right_of, IsWithin}
 use Rattle.dep_model.specs.Implication.{IsLegal, Implies}
 use Rattle.dep_model.specs.TwoTuples.{two_tuples}
-use Rattle.dep_model.specs.OnSchemes.{ImpliedOn}
-use Rattle.dep_model.specs.Keys.{IsSuperkey, IsKey, IsPrime}
+use Rattle.dep_model.specs.Keys.{IsSuperkey, IsKey}
 use Rattle.dep_model.specs.Forms.{IsThird}
-use Rattle.dep_model.proofs.KeyLemmas.{fd_on-to, fd_on-from, superkey-from, scheme_superkey}
+use Rattle.dep_model.proofs.KeyLemmas.{fd_on-to, superkey-from, scheme_superkey}
 use Rattle.dep_model.proofs.RuleLemmas.{reflexivity_obeyed, transitivity_obeyed}
 use Rattle.fd_closure.proofs.ClosureLemmas.{fd_each-to, fd_each-from}
 use Rattle.dep_model.proofs.TwoTupleLemmas.{two_tuples_fd-to, two_tuples_fd-from}
-use Rattle.fd_closure.proofs.ClosedSets.{IsClosure, closure_set}
+use Rattle.fd_closure.proofs.ClosedSets.{closure_set}
 use Rattle.min_cover.specs.Covers.{IsMinimalCover}
 use Rattle.synthesis_3nf.proofs.Holding.{IsGroupScheme}
 

@@ -1,5 +1,5 @@
 -- Texts of queries, from those of their pieces.
-use Rattle.std.proofs.Common.{◌≡◌, ◌<◌, ℕ, Bool, true, false, ◌||◌, Option, Some, None, List, [], ◌++◌, sym, ap, ◌∙◌}
+use Rattle.std.proofs.Common.{◌≡◌, ◌<◌, ℕ, Bool, false, ◌||◌, Some, None, List, ◌++◌, sym, ap, ◌∙◌}
 use Rattle.std.specs.Prelude.{if◌then◌else◌, codes, slice_get}
 use Rattle.attr_sets.specs.declared.set.AttrSet.{AttrSet}
 use Rattle.attr_sets.specs.Places.{Places, below, union, minus, Same, IsEmpty}
@@ -9,10 +9,10 @@ use Rattle.dep_model.specs.declared.column.Column.{Column}
 use Rattle.dep_model.specs.declared.schema.Schema.{Schema}
 use Rattle.dep_model.specs.Columns.{column_at}
 use Rattle.dep_model.specs.Schemas.{names_of, width_of, columns_of}
-use Rattle.ddl_text.specs.Ddl.{name_list, is_empty}
+use Rattle.ddl_text.specs.Ddl.{name_list}
 use Rattle.ddl_text.proofs.TextLemmas.{name_is, column_is, empty_passes, empty_fails}
 use Rattle.table_queries.specs.Queries.{Query, whole, values_on, several, join, except, breaches_of_fd, breaches_of_mvd}
-use Rattle.table_scripts.specs.QueryTexts.{column_text, column_item, select_text, derived_text, except_text, link_text, grouped_text, counted_text, values_text, several_text, query_text}
+use Rattle.table_scripts.specs.QueryTexts.{column_text, column_item, link_text, grouped_text, counted_text, values_text, several_text, query_text}
 use Rattle.table_scripts.specs.Checking.{breaches_text}
 
 -- ---- columns

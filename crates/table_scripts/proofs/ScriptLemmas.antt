@@ -1,9 +1,8 @@
 -- What the queries of the scripts give, over the relations of a schema.
-use Rattle.std.proofs.Common.{◌≡◌, ◌<◌, ◌≤◌, ℕ, Option, Some, None, List, [], ◌∷◌, length, get_or, map, refl, sym, subst, ◌∙◌, arith}
-use Rattle.std.specs.Prelude.{◌↔◌, All, MatchOption, Contains, ⊤}
+use Rattle.std.proofs.Common.{◌≡◌, ◌<◌, ℕ, Option, Some, None, List, [], ◌∷◌, length, get_or, map, refl, sym, subst}
+use Rattle.std.specs.Prelude.{◌↔◌, All, MatchOption, ⊤}
 use Rattle.attr_sets.specs.Places.{Places, below}
 use Rattle.attr_sets.specs.Sets.{places}
-use Rattle.attr_sets.specs.declared.set.TheConstants.{PLACES}
 use Rattle.dep_model.specs.declared.schema.Schema.{Schema}
 use Rattle.dep_model.specs.Dependencies.{Dependency, IsWithin, Obeys}
 use Rattle.dep_model.specs.Projections.{IsLossless}
@@ -16,7 +15,7 @@ use Rattle.table_queries.specs.Meanings.{GivesNone}
 use Rattle.table_queries.proofs.BreachLemmas.{breaches_tell}
 use Rattle.table_queries.proofs.JoinedLemmas.{values_given, join_given, nothing_left}
 use Rattle.table_scripts.specs.Checking.{NothingBreaks}
-use Rattle.table_scripts.specs.Migrating.{stored_of, stored_tables, view_name, FillsTables, ViewIs, ViewIsTable}
+use Rattle.table_scripts.specs.Migrating.{stored_tables, view_name, FillsTables, ViewIsTable}
 
 -- ---- rules
 none_to : (n : ℕ) (r : Relation) (found : Option Query) (A : Type 0) → MatchOption found A (λ q. GivesNone n q r ↔ A) → A

@@ -1,5 +1,5 @@
 -- The script that makes the tables of a plan from the user's table.
-use Rattle.std.specs.Prelude.{◌≡◌, ◌↔◌, ℕ, List, [], ◌∷◌, ◌++◌, map, codes, All, Contains}
+use Rattle.std.specs.Prelude.{◌↔◌, ℕ, List, ◌++◌, map, codes, Contains}
 use Rattle.std.specs.List.{flat_map}
 use Rattle.attr_sets.specs.Sets.{places}
 use Rattle.dep_model.specs.declared.schema.Schema.{Schema}
@@ -8,7 +8,7 @@ use Rattle.dep_model.specs.Schemas.{width_of, theory_of, LegalFor}
 use Rattle.dep_model.specs.Tuples.{Tuple, Relation}
 use Rattle.ddl_text.specs.declared.table.TableDesign.{TableDesign}
 use Rattle.ddl_text.specs.Ddl.{ddl_text, name_list}
-use Rattle.table_queries.specs.Queries.{Query, StoredTable, rows_of, plan_join, lacking, exceeding}
+use Rattle.table_queries.specs.Queries.{StoredTable, rows_of, plan_join, lacking, exceeding}
 use Rattle.table_queries.specs.Meanings.{IsGiven, GivesNone}
 use Rattle.table_scripts.specs.QueryTexts.{query_text}
 use Rattle.targets.specs.Sql.{quoted_name}

@@ -1,8 +1,6 @@
 -- What a folder with a buffer will hold.
-use Rattle.std.proofs.Common.{◌≡◌, ℕ, List, [], ◌++◌, Option, None, Some, option_map, refl}
-use Rattle.desk_outside.specs.Files.{StoredFile}
-use Rattle.desk_outside.specs.Folders.{FolderContents, with_begun, with_bytes, with_ended, with_none_open}
-use Rattle.desk_outside.proofs.FolderFacts.{with_bytes-append, with_bytes-nil}
+use Rattle.std.proofs.Common.{◌≡◌, ℕ, List, [], Option, None, Some, option_map, refl}
+use Rattle.desk_outside.specs.Folders.{FolderContents, with_begun, with_bytes, with_none_open}
 
 pub begun_gathered : (known : Option FolderContents) (name gathered : List ℕ) → option_map (with_bytes []) (option_map (with_begun name) known) ≡ option_map (with_begun name) (option_map (with_bytes gathered) known)
 begun_gathered None name gathered = refl

@@ -1,4 +1,4 @@
-use Rattle.std.proofs.Common.{false, List, ℕ, map, refl, sym, ap, ◌∙◌, append-nil}
+use Rattle.std.proofs.Common.{false, map, refl, sym, append-nil}
 use Rattle.attr_sets.specs.Sets.{places}
 use Rattle.dep_model.specs.Projections.{members_below}
 use Rattle.dep_model.proofs.SchemeLemmas.{members_below-none}

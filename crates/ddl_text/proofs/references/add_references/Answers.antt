@@ -1,4 +1,3 @@
-use Rattle.std.proofs.Common.{get_or}
 use Rattle.ddl_text.proofs.TextLemmas.{references_more, references_some}
 use Rattle.ddl_text.proofs.references.add_references.Goals as goal
 

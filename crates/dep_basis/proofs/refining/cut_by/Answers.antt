@@ -8,7 +8,7 @@ use Rattle.dep_model.specs.Deps.{dependency_of}
 use Rattle.dep_model.specs.Implication.{Implies}
 use Rattle.dep_basis.proofs.RefiningLemmas.{apart_from, as_mvd, candidate_inside, candidate_outside, candidate_nothing}
 use Rattle.dep_basis.proofs.refining.cut_by.Goals as goal
-use Rattle.dep_basis.proofs.refining.cut_by.Goals.{Else-meets, After-has}
+use Rattle.dep_basis.proofs.refining.cut_by.Goals.{After-has}
 
 -- the left side is apart from the part
 sides_apart : (c : After-has) → Apart (left_of (dependency_of c.args.dep)) (places c.args.part)

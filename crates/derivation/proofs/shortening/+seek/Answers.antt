@@ -1,4 +1,4 @@
-use Rattle.std.proofs.Common.{◌≡◌, ◌+◌, ◌<◌, ap, sym, subst, ◌∙◌, refl, arith}
+use Rattle.std.proofs.Common.{◌≡◌, ◌<◌, ap, sym, ◌∙◌, arith}
 use Rattle.std.specs.Prelude.{◌^◌}
 use Rattle.dep_model.specs.declared.schema.Schema.{Schema}
 use Rattle.dep_model.specs.Dependencies.{Dependency}
@@ -11,7 +11,7 @@ use Rattle.derivation.specs.Shortened.{IsSought, HasFew}
 use Rattle.derivation.proofs.TreeLemmas.{nodes-pos}
 use Rattle.derivation.proofs.ShorteningLemmas.{part-nodes}
 use Rattle.derivation.proofs.shortening.+seek.Goals as goal
-use Rattle.derivation.proofs.shortening.+seek.Goals.{In-Step, In-Pair, In-Leaf}
+use Rattle.derivation.proofs.shortening.+seek.Goals.{In-Step, In-Pair}
 
 step_whole : (t : _) (c : In-Step t) → tree_of c.args.deriv.value ≡ step (step_of c.in-Step.rule) (tree_of c.in-Step.premise.value)
 step_whole t c = ap tree_of (sym (c.replace.ensures.value ∙ c.deref_mut.ensures.value)) ∙ c.in-Step.ensures.root

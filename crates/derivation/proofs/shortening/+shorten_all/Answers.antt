@@ -1,4 +1,4 @@
-use Rattle.std.proofs.Common.{◌≡◌, ◌+◌, ◌<◌, ap, sym, ◌∙◌, arith}
+use Rattle.std.proofs.Common.{◌≡◌, ap, sym, ◌∙◌, arith}
 use Rattle.derivation.specs.Trees.{step, pair, nodes}
 use Rattle.derivation.specs.Derivs.{tree_of, step_of, pair_of}
 use Rattle.derivation.proofs.TreeLemmas.{nodes-pos}

@@ -1,5 +1,5 @@
 use Rattle.std.proofs.Common.{refl}
-use Rattle.std.specs.Prelude.{None, Some, Err}
+use Rattle.std.specs.Prelude.{None, Err}
 use Rattle.derivation.specs.Derivs.{pair_of}
 use Rattle.derivation.proofs.ShorteningLemmas.{pair_only}
 use Rattle.derivation.proofs.shortening.pair_dep.Goals as goal

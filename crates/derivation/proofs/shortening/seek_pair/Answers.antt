@@ -1,4 +1,4 @@
-use Rattle.std.proofs.Common.{◌≡◌, ◌≤◌, ⊎_elim, ap, ◌∙◌, arith}
+use Rattle.std.proofs.Common.{⊎_elim, ap, ◌∙◌, arith}
 use Rattle.dep_model.specs.Deps.{dependency_of}
 use Rattle.derivation.specs.Trees.{pair, nodes}
 use Rattle.derivation.specs.declared.deriv.Deriv.{Deriv}

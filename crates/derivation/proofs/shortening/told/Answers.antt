@@ -1,5 +1,5 @@
 use Rattle.std.proofs.Common.{sym, ◌∙◌}
-use Rattle.std.proofs.lemmas.Bool.{true≢false, false≢true}
+use Rattle.std.proofs.lemmas.Bool.{false≢true}
 use Rattle.dep_model.specs.Deps.{dependency_of}
 use Rattle.derivation.proofs.ConclusionLemmas.{Proves-one}
 use Rattle.derivation.proofs.ShorteningLemmas.{none_found}

@@ -5,7 +5,7 @@ use Rattle.attr_sets.proofs.PlacesLemmas.{Same-path}
 use Rattle.attr_sets.specs.Places.{Places, below}
 use Rattle.attr_sets.specs.Sets.{places}
 use Rattle.csv_rows.specs.RowsText.{rows_text}
-use Rattle.dep_model.specs.Schemas.{names_of, width_of, universe_of}
+use Rattle.dep_model.specs.Schemas.{names_of, universe_of}
 use Rattle.dep_model.specs.Tuples.{Relation}
 use Rattle.desk_cli.specs.Answers.{Says}
 use Rattle.desk_cli.specs.Keys.{too_wide_text}

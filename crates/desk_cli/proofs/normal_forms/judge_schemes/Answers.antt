@@ -1,8 +1,7 @@
-use Rattle.std.proofs.Common.{◌≡◌, ◌<◌, ℕ, List, inl, inr, length, get_or, take, take_all, subst, arith}
+use Rattle.std.proofs.Common.{inl, inr, get_or, take_all}
 use Rattle.std.proofs.lemmas.List.Elements.{All-more, All-map}
 use Rattle.std.specs.Prelude.{All}
 use Rattle.attr_sets.specs.declared.set.AttrSet.{AttrSet}
-use Rattle.attr_sets.specs.Places.{Places}
 use Rattle.attr_sets.specs.Sets.{places}
 use Rattle.desk_cli.specs.NormalForms.{PassesForm}
 use Rattle.desk_cli.proofs.FormLemmas.{first_failing}

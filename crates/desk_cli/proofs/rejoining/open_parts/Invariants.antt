@@ -1,4 +1,4 @@
-use Rattle.std.proofs.Common.{◌≡◌, ◌≤◌, ℕ, length, take}
+use Rattle.std.proofs.Common.{◌≡◌, ◌≤◌, length, take}
 use Rattle.std.specs.Prelude.{All}
 use Rattle.dep_model.specs.Schemas.{width_of}
 use Rattle.table_join.specs.Tables.{IsTable, tables_of}

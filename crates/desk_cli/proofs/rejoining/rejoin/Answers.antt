@@ -1,4 +1,4 @@
-use Rattle.std.proofs.Common.{List, sym, subst, arith}
+use Rattle.std.proofs.Common.{List, sym, subst}
 use Rattle.std.specs.Prelude.{All}
 use Rattle.csv_rows.specs.declared.part.Part.{Part}
 use Rattle.dep_model.specs.Schemas.{width_of}

@@ -1,4 +1,4 @@
-use Rattle.std.proofs.Common.{◌≡◌, ◌++◌, ℕ, List, [], inl, inr, sym, subst, ap, ◌∙◌, append_assoc}
+use Rattle.std.proofs.Common.{◌≡◌, ◌++◌, ℕ, List, inl, inr, sym, subst, ap, ◌∙◌, append_assoc}
 use Rattle.std.specs.Prelude.{codes}
 use Rattle.std.proofs.lemmas.Bool.{false≢true}
 use Rattle.desk_cli.specs.Answers.{Says}

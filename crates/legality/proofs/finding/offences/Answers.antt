@@ -1,4 +1,4 @@
-use Rattle.std.proofs.Common.{◌≡◌, ◌<◌, [], ℕ, List, length, subst, sym, refl, ◌∙◌}
+use Rattle.std.proofs.Common.{◌<◌, List, length, subst, sym, refl, ◌∙◌}
 use Rattle.dep_model.specs.declared.dep.Dep.{Dep}
 use Rattle.dep_model.specs.declared.dep.Dep.TheVariants.{Fd}
 use Rattle.dep_model.specs.Schemas.{deps_of, theory_of, width_of}

@@ -1,6 +1,5 @@
-use Rattle.std.proofs.Common.{◌≡◌, ◌∙◌, ℕ, List, sym, subst, ap, Result, Ok, Err}
+use Rattle.std.proofs.Common.{◌∙◌, ℕ, List, sym, subst, ap, Result, Ok}
 use Rattle.attr_sets.specs.Places.{Places, Within}
-use Rattle.attr_sets.specs.Sets.{places}
 use Rattle.dep_model.specs.Dependencies.{Dependency, IsWithin, right_of}
 use Rattle.dep_model.specs.Deps.{dependency_of}
 use Rattle.dep_model.specs.Schemas.{universe_of, names_of}

@@ -1,10 +1,7 @@
-use Rattle.std.proofs.Common.{◌≡◌, ℕ, ◌↔◌, ◌<◌, ◌+◌, true, false, List, [], ◌∷◌, take, take_all, length, get_or, sym, subst, ap, ◌∙◌, refl, arith}
-use Rattle.std.specs.Prelude.{Any, Contains}
+use Rattle.std.proofs.Common.{true, false, List, take_all, sym, subst, ◌∙◌, arith}
 use Rattle.std.proofs.lemmas.Bool.{false≢true}
-use Rattle.std.proofs.lemmas.List.Elements.{Contains-get_or}
 use Rattle.attr_sets.specs.declared.set.AttrSet.{AttrSet}
 use Rattle.attr_sets.specs.Places.{Places, below}
-use Rattle.attr_sets.specs.Sets.{places}
 use Rattle.dep_model.specs.Dependencies.{functional_part}
 use Rattle.dep_model.specs.Keys.{IsSuperkey}
 use Rattle.dep_model.specs.Plans.{schemes_of}

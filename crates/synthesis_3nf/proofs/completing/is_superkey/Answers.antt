@@ -1,4 +1,4 @@
-use Rattle.std.proofs.Common.{◌≡◌, ℕ, ◌↔◌, List, sym, subst, ap, ◌∙◌, arith}
+use Rattle.std.proofs.Common.{◌≡◌, ℕ, ◌↔◌, List, sym, subst}
 use Rattle.std.specs.Prelude.{All, IsTrue}
 use Rattle.attr_sets.specs.Places.{Places, below, Within, Same}
 use Rattle.attr_sets.specs.Sets.{places}
@@ -7,7 +7,7 @@ use Rattle.dep_model.specs.declared.dep.Dep.{Dep}
 use Rattle.dep_model.specs.Dependencies.{fd, functional_part}
 use Rattle.dep_model.specs.Deps.{dependencies_of, IsDepWithin}
 use Rattle.dep_model.specs.Implication.{Implies}
-use Rattle.dep_model.specs.Schemas.{width_of, theory_of, deps_of}
+use Rattle.dep_model.specs.Schemas.{width_of, theory_of}
 use Rattle.dep_model.proofs.KeyLemmas.{fd_on-to, superkey-from}
 use Rattle.synthesis_3nf.proofs.completing.is_superkey.Goals as goal
 

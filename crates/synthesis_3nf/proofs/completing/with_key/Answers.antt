@@ -1,13 +1,12 @@
-use Rattle.std.proofs.Common.{◌≡◌, ℕ, ◌↔◌, true, false, List, [], ◌∷◌, ◌++◌, sym, subst, ap, ◌∙◌, ◌⊎◌, inl, inr, refl}
+use Rattle.std.proofs.Common.{◌↔◌, true, false, List, [], ◌∷◌, sym, subst, ap, ◌∙◌, inl, inr}
 use Rattle.std.specs.Prelude.{IsTrue}
 use Rattle.std.proofs.lemmas.List.{map-append}
 use Rattle.std.proofs.lemmas.Bool.{false≢true}
 use Rattle.attr_sets.specs.declared.set.AttrSet.{AttrSet}
-use Rattle.attr_sets.specs.Places.{Places}
 use Rattle.attr_sets.specs.Sets.{places}
 use Rattle.dep_model.specs.Plans.{schemes_of}
 use Rattle.dep_model.specs.Schemas.{width_of, theory_of}
-use Rattle.synthesis_3nf.specs.GroupedPlans.{HoldSuperkey, IsWithKey}
+use Rattle.synthesis_3nf.specs.GroupedPlans.{HoldSuperkey}
 use Rattle.synthesis_3nf.proofs.completing.with_key.Goals.{then-not-hold_superkey+in_ok-push, else-not-hold_superkey}
 use Rattle.synthesis_3nf.proofs.completing.with_key.Goals as goal
 

@@ -1,4 +1,4 @@
-use Rattle.std.proofs.Common.{◌≡◌, ◌+◌, ◌<◌, List, map, take, take_all, length, refl, sym, subst}
+use Rattle.std.proofs.Common.{◌≡◌, ◌<◌, List, map, take_all, length, refl, subst}
 use Rattle.attr_sets.specs.declared.set.AttrSet.{AttrSet}
 use Rattle.dep_model.specs.Deps.{dependencies_of}
 use Rattle.dep_model.specs.Plans.{schemes_of}

@@ -1,11 +1,8 @@
-use Rattle.std.proofs.Common.{◌<◌, length, sym, subst, take, take_all, arith}
+use Rattle.std.proofs.Common.{◌<◌, length, sym, take_all}
 use Rattle.std.proofs.Math.Bool.{or-false}
-use Rattle.attr_sets.specs.Places.{Same}
 use Rattle.attr_sets.specs.Sets.{places}
 use Rattle.dep_model.specs.declared.dep.Dep.{Dep}
 use Rattle.dep_model.specs.declared.dep.Dep.TheVariants.{Fd}
-use Rattle.dep_model.specs.Deps.{dependencies_of}
-use Rattle.synthesis_3nf.specs.Groups.{group_scheme}
 use Rattle.synthesis_3nf.proofs.LoopLemmas.{group_more}
 use Rattle.synthesis_3nf.proofs.grouping.group_scheme.Goals as goal
 

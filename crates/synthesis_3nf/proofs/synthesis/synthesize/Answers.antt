@@ -1,26 +1,24 @@
-use Rattle.std.proofs.Common.{◌≡◌, ℕ, ◌≤◌, ◌<◌, true, List, map, sym, subst, ap, ◌∙◌, arith}
+use Rattle.std.proofs.Common.{◌≡◌, ◌≤◌, ◌<◌, true, List, sym, subst, ap, ◌∙◌}
 use Rattle.std.specs.Prelude.{All, Contains}
 use Rattle.std.specs.List.{list_any}
-use Rattle.std.proofs.lemmas.List.Elements.{All-weaker, All-contains_itself, All-map}
+use Rattle.std.proofs.lemmas.List.Elements.{All-weaker, All-contains_itself}
 use Rattle.attr_sets.specs.declared.set.AttrSet.{AttrSet}
 use Rattle.attr_sets.specs.declared.set.TheConstants.{PLACES}
 use Rattle.attr_sets.specs.Places.{Places, below, Within}
 use Rattle.attr_sets.specs.Sets.{places}
 use Rattle.dep_model.specs.declared.dep.Dep.{Dep}
 use Rattle.dep_model.specs.declared.schema.Schema.{Schema}
-use Rattle.dep_model.specs.Dependencies.{Dependency, IsWithin}
+use Rattle.dep_model.specs.Dependencies.{IsWithin}
 use Rattle.dep_model.specs.Deps.{dependencies_of, IsDepWithin}
-use Rattle.dep_model.specs.Forms.{IsThird}
-use Rattle.dep_model.specs.Plans.{IsPlan, schemes_of}
-use Rattle.dep_model.specs.Preservation.{KeepsDependencies}
+use Rattle.dep_model.specs.Plans.{schemes_of}
 use Rattle.dep_model.specs.Projections.{IsLossless}
 use Rattle.dep_model.specs.Schemas.{width_of, theory_of}
 use Rattle.dep_model.proofs.DepLemmas.{dependencies_all-from}
 use Rattle.dep_model.proofs.ListLemmas.{Contains-map}
-use Rattle.min_cover.specs.Covers.{IsFixedCover, IsMinimalCover}
+use Rattle.min_cover.specs.Covers.{IsMinimalCover}
 use Rattle.decomp_text.specs.Containing.{lies_within, without_contained}
 use Rattle.synthesis_3nf.specs.Groups.{grouped}
-use Rattle.synthesis_3nf.specs.GroupedPlans.{IsWithKey, IsGroupedPlan}
+use Rattle.synthesis_3nf.specs.GroupedPlans.{IsWithKey}
 use Rattle.synthesis_3nf.proofs.GroupLemmas.{groups_are}
 use Rattle.synthesis_3nf.proofs.CompleteLemmas.{IsSynthesized, whole, are_plan, are_lossless, kept_third, kept_keeps}
 use Rattle.synthesis_3nf.proofs.synthesis.synthesize.Goals as goal

@@ -1,4 +1,4 @@
-use Rattle.std.proofs.Common.{◌<◌, ℕ, ◌∙◌, length, sym, ap, arith}
+use Rattle.std.proofs.Common.{◌<◌, ◌∙◌, length, sym, ap, arith}
 use Rattle.dep_model.specs.Schemas.{names_of}
 use Rattle.ddl_text.proofs.TextLemmas.{name_is}
 use Rattle.table_scripts.specs.Checking.{null_test}

@@ -1,4 +1,4 @@
-use Rattle.std.proofs.Common.{◌≡◌, List, ℕ, [], ◌∷◌, ◌++◌, take_all, sym, ap, ◌∙◌}
+use Rattle.std.proofs.Common.{List, ℕ, [], ◌∷◌, ◌++◌, take_all, sym, ap, ◌∙◌}
 use Rattle.std.specs.List.{flat_map}
 use Rattle.table_scripts.specs.Naming.{parted}
 use Rattle.table_scripts.proofs.NamingLemmas.{quoted_is}
