@@ -101,37 +101,37 @@ pub version_opening : (number : ℕ) (line : List ℕ) (lines ls : List (List �
 unfolding read_opening
 version_opening number line lines ls t word rest whole leads version = rw whole (rw (leads.all_tokens, version) (rw (sym leads.same_length) refl))
 
-pub version_missing : (line afterwards : ℕ) (l : Lexed) → l ≡ record { marks = []; stop = None }
-    → read_version_lexed line afterwards l ≡ Err (refusal line afterwards 0 (kind.Expected what.Number))
+pub version_missing : (line next_column : ℕ) (l : Lexed) → l ≡ record { marks = []; stop = None }
+    → read_version_lexed line next_column l ≡ Err (refusal line next_column 0 (kind.Expected what.Number))
 unfolding read_version
-version_missing line afterwards l e = rw e refl
+version_missing line next_column l e = rw e refl
 
-pub version_stopped : (line afterwards : ℕ) (stop : Stop) (l : Lexed) → l ≡ record { marks = []; stop = Some stop }
-    → read_version_lexed line afterwards l ≡ Err (refused_by line stop)
+pub version_stopped : (line next_column : ℕ) (stop : Stop) (l : Lexed) → l ≡ record { marks = []; stop = Some stop }
+    → read_version_lexed line next_column l ≡ Err (refused_by line stop)
 unfolding read_version
-version_stopped line afterwards stop l e = rw e refl
+version_stopped line next_column stop l e = rw e refl
 
-pub version_no_number : (line afterwards : ℕ) (t : Token) (word rest : List ℕ) (l : Lexed) → Leads mode.Numbered t word rest l
-    → number_in t.kind ≡ None → read_version_lexed line afterwards l ≡ Err (refusal line t.column t.length (kind.Expected what.Number))
+pub version_no_number : (line next_column : ℕ) (t : Token) (word rest : List ℕ) (l : Lexed) → Leads mode.Numbered t word rest l
+    → number_in t.kind ≡ None → read_version_lexed line next_column l ≡ Err (refusal line t.column t.length (kind.Expected what.Number))
 unfolding read_version
-version_no_number line afterwards t word rest l leads none = rw (leads.all_tokens, none, leads.same_length) refl
+version_no_number line next_column t word rest l leads none = rw (leads.all_tokens, none, leads.same_length) refl
 
-pub version_unknown : (line afterwards : ℕ) (t : Token) (word rest : List ℕ) (n : ℕ) (l : Lexed) → Leads mode.Numbered t word rest l
-    → number_in t.kind ≡ Some n → n ≢ VERSION → read_version_lexed line afterwards l ≡ Err (refusal line t.column t.length kind.UnknownVersion)
+pub version_unknown : (line next_column : ℕ) (t : Token) (word rest : List ℕ) (n : ℕ) (l : Lexed) → Leads mode.Numbered t word rest l
+    → number_in t.kind ≡ Some n → n ≢ VERSION → read_version_lexed line next_column l ≡ Err (refusal line t.column t.length kind.UnknownVersion)
 unfolding read_version
-version_unknown line afterwards t word rest n l leads some other =
+version_unknown line next_column t word rest n l leads some other =
     let differs : (n == VERSION) ≡ false = grind (arith, nat_tests) in rw (leads.all_tokens, some, differs, leads.same_length) refl
 
-pub version_known : (line afterwards : ℕ) (t : Token) (word rest : List ℕ) (n : ℕ) (l : Lexed) → Leads mode.Numbered t word rest l
-    → number_in t.kind ≡ Some n → n ≡ VERSION → read_version_lexed line afterwards l ≡ end_version_lexed line (lexed mode.Numbered 0 (t.column + t.length) rest)
+pub version_known : (line next_column : ℕ) (t : Token) (word rest : List ℕ) (n : ℕ) (l : Lexed) → Leads mode.Numbered t word rest l
+    → number_in t.kind ≡ Some n → n ≡ VERSION → read_version_lexed line next_column l ≡ end_version_lexed line (lexed mode.Numbered 0 (t.column + t.length) rest)
 unfolding read_version
-version_known line afterwards t word rest n l leads some same =
+version_known line next_column t word rest n l leads some same =
     let equal : (n == VERSION) ≡ true = grind (arith, nat_tests) in rw (leads.all_tokens, some, equal) refl
 
-pub typed_end : (number afterwards : ℕ) (l : Lexed) (d : Declarations) → read_version_lexed number afterwards l ≡ Ok d
-    → read_typed number [] afterwards l ≡ finish number d
+pub typed_end : (number next_column : ℕ) (l : Lexed) (d : Declarations) → read_version_lexed number next_column l ≡ Ok d
+    → read_typed number [] next_column l ≡ finish number d
 unfolding read_lines
-typed_end number afterwards l d h = let back : number + 1 - 1 ≡ number = omega arith in rw h (rw back refl)
+typed_end number next_column l d h = let back : number + 1 - 1 ≡ number = omega arith in rw h (rw back refl)
 
 pub declared_as : (s : Schema) (d : Declarations) (deps : List Dep) → names_of s ≡ d.names → columns_of s ≡ d.columns → deps_of s ≡ deps
     → lines_of s ≡ d.lines → d.deps ≡ dependencies_of deps → declarations_of s ≡ d

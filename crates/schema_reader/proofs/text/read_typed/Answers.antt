@@ -9,10 +9,10 @@ use Rattle.schema_reader.proofs.text.read_typed.Goals as goal
 
 pub returns-in-None-clause-ok : goal.returns-in-None-clause-ok
 returns-in-None-clause-ok c =
-    let here = ap (λ o. read_typed c.args.number (lines_after o) c.args.afterwards (lexed mode.Numbered 0 c.args.afterwards c.args.others.now)) c.in-None.is in
+    let here = ap (λ o. read_typed c.args.number (lines_after o) c.args.next_column (lexed mode.Numbered 0 c.args.next_column c.args.others.now)) c.in-None.is in
     ok_whole drafted _ _ _ (here ∙ typed_end _ _ _ _ c.in-Ok.ensures.ok ∙ ap (finish c.args.number) (sym c.new.ensures.empty)) c.finish.ensures.ok
 
 pub returns-in-None-clause-err : goal.returns-in-None-clause-err
 returns-in-None-clause-err c =
-    let here = ap (λ o. read_typed c.args.number (lines_after o) c.args.afterwards (lexed mode.Numbered 0 c.args.afterwards c.args.others.now)) c.in-None.is in
+    let here = ap (λ o. read_typed c.args.number (lines_after o) c.args.next_column (lexed mode.Numbered 0 c.args.next_column c.args.others.now)) c.in-None.is in
     err_refuses _ _ _ (here ∙ typed_end _ _ _ _ c.in-Ok.ensures.ok ∙ ap (finish c.args.number) (sym c.new.ensures.empty)) c.finish.ensures.err

@@ -9,12 +9,12 @@ use Rattle.schema_reader.proofs.draft.Draft.list_names.Goals as goal
 
 pub returns-then-some-clause-ok : goal.returns-then-some-clause-ok
 returns-then-some-clause-ok c =
-    let here = ap (λ some. list_names_lexed c.args.format c.args.column c.args.line (drafted c.names.self) some c.names.afterwards (lexed mode.Plain 0 c.names.afterwards c.names.rest.now)) c.if-some.true in
+    let here = ap (λ some. list_names_lexed c.args.format c.args.column c.args.line (drafted c.names.self) some c.names.next_column (lexed mode.Plain 0 c.names.next_column c.names.rest.now)) c.if-some.true in
     c.names.invariant.same ∙ here ∙ names_end _ _ _ _ _ _ c.in-End.ensures.exact
 
 pub returns-else-some-clause-err : goal.returns-else-some-clause-err
 returns-else-some-clause-err c =
-    let here = ap (λ some. list_names_lexed c.args.format c.args.column c.args.line (drafted c.names.self) some c.names.afterwards (lexed mode.Plain 0 c.names.afterwards c.names.rest.now)) c.if-some.false in
+    let here = ap (λ some. list_names_lexed c.args.format c.args.column c.args.line (drafted c.names.self) some c.names.next_column (lexed mode.Plain 0 c.names.next_column c.names.rest.now)) c.if-some.false in
     Refuses-here _ _ _ c.at.ensures.refusal (c.names.invariant.same ∙ here ∙ names_missing _ _ _ _ _ _ c.in-End.ensures.exact)
 
 pub returns-in-Stop-clause-err : goal.returns-in-Stop-clause-err
