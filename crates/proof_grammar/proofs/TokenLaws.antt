@@ -124,7 +124,7 @@ rule_name_there r v e =
 -- ---- back
 -- what is left of a line that ends with its tokens
 abbrev pub rest_at : ℕ → ℕ → List Mark → Rest
-rest_at line afterwards marks = record { line = line; afterwards = afterwards; marks = marks; stop = None }
+rest_at line next_column marks = record { line = line; next_column = next_column; marks = marks; stop = None }
 
 abbrev pub after_of : Mark → ℕ
 after_of m = m.column + length m.word
