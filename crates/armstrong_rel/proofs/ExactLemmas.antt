@@ -2,15 +2,11 @@
 use Rattle.std.proofs.Common.{◌≡◌, ℕ, ◌-◌, ◌^◌, ◌<◌, ◌≤◌, true, false, List, length, get_or, refl, sym, subst, ap, ◌∙◌, inl, inr, ⊎_elim, arith}
 use Rattle.std.specs.Prelude.{All}
 use Rattle.std.specs.Fmt.{decimal}
-use Rattle.std.specs.List.{list_all}
-use Rattle.std.specs.Char.{is_ascii_digit}
 use Rattle.std.specs.Str.Parse.{digits_value}
 use Rattle.std.proofs.lemmas.Bool.{true≢false, cases_eq, cases_Bool, ltb-true, lt-ltb}
 use Rattle.std.proofs.lemmas.Fmt.{decimal_injective, decimal_nonempty, first_decimal, digits_decimal, digits_value-decimal}
-use Rattle.std.proofs.lemmas.List.Elements.{Contains-get_or, filter_passes}
+use Rattle.std.proofs.lemmas.List.Elements.{Contains-get_or}
 use Rattle.std.proofs.lemmas.Option.{slice_get_within}
-use Rattle.std.proofs.lemmas.Str.Parse.{IsNumeralModel, IsDigitsTest, numerals_by_value}
-use borrow.Author.Rules.{rules}
 use Rattle.attr_sets.specs.Places.{Places, below, meet, Within}
 use Rattle.attr_sets.proofs.PlacesLemmas.{tell_within}
 use Rattle.dep_model.specs.declared.column.Column.TheVariants.{Integer}
@@ -28,11 +24,13 @@ use Rattle.dep_model.proofs.DepLemmas.{dependencies_all-from}
 use Rattle.dep_model.proofs.ListLemmas.{Contains-head}
 use Rattle.dep_model.proofs.PreservationLemmas.{fd-obeys, fd-obeyed}
 use Rattle.dep_model.proofs.TwoTupleLemmas.{value_at-all_zeros}
+use Rattle.dep_model.proofs.NumeralLemmas.{decimal_zero, numerals}
 use Rattle.fd_closure.proofs.ClosureLemmas.{fd_each-to, fd_each-from}
+use Rattle.fd_closure.proofs.ClosedSets.{all_functional}
 use Rattle.armstrong_rel.specs.ClosedSets.{IsClosedSet, AreIrreducible}
 use Rattle.armstrong_rel.specs.Exhibits.{numbered_tuple, numbered_from, tuples_for, IsArmstrong, IsExhibit}
 use Rattle.armstrong_rel.proofs.ClosedLemmas.{HaveClosures, functional_closures, closure_more, closure_holds, closure_closed, universe_closed, meet_closed, above_lacking}
-use Rattle.armstrong_rel.proofs.TupleLemmas.{value_inside, value_outside, decimal_zero, decimal_not_zero, set_of, set_of_zero, tuple_of_number, tuple_of_set, set_of_all, tuples_over}
+use Rattle.armstrong_rel.proofs.TupleLemmas.{value_inside, value_outside, decimal_not_zero, set_of, set_of_zero, tuple_of_number, tuple_of_set, set_of_all, tuples_over}
 
 -- ---- two tuples with different numbers agree on the meet of their sets alone
 agree_inside : (n i j : ℕ) (x y : Places) (k : ℕ) → i < 2 ^ 64 → j < 2 ^ 64 → (i ≡ j → ⊥) → (i ≡ 0 → x k ≡ true)
@@ -131,8 +129,6 @@ exact n ds sets within same are few x y x_in y_in = (
 )
 
 -- ---- so the relation is legal
-all_functional : (ds : List Dependency) → functional_part ds ≡ ds → All (λ d. is_fd d ≡ true) ds
-all_functional ds same = subst (λ (es : List Dependency). All (λ d. is_fd d ≡ true) es) same (filter_passes is_fd ds)
 
 pub armstrong_legal : (n : ℕ) (ds : List Dependency) (r : Relation) → All (IsWithin (below n)) ds → functional_part ds
     ≡ ds → IsOver n r → IsArmstrong n ds r → IsLegal n ds r
@@ -147,11 +143,6 @@ armstrong_legal n ds r within same over armstrong = record {
 }
 
 -- ---- and its values are integer texts
-digits_told : IsDigitsTest (λ ds. list_all is_ascii_digit ds ≡ true)
-digits_told = search rules
-
-own : IsNumeralModel (λ ds. list_all is_ascii_digit ds ≡ true) (digits_value 10)
-own = numerals_by_value (λ ds. list_all is_ascii_digit ds ≡ true) digits_told
 
 decimal_integer : (v : ℕ) → v < 2 ^ 63 → IsIntegerText (decimal v)
 decimal_integer v few = elim (cases_eq v 0) [
@@ -159,11 +150,11 @@ decimal_integer v few = elim (cases_eq v 0) [
   | inr some ↦
       let wide : v < 2 ^ 64 = omega (arith, few) in
       let first : 48 < get_or (decimal v) 0 0 = first_decimal v (omega (arith, some)) wide in
-      let value : digits_value 10 (decimal v) ≡ v = digits_value-decimal own v wide in
+      let value : digits_value 10 (decimal v) ≡ v = digits_value-decimal numerals v wide in
       inr (inl (record {
         some = decimal_nonempty v wide;
         first = λ (e : get_or (decimal v) 0 0 ≡ 48). absurd (omega (arith, e, first));
-        digits = digits_decimal own v wide;
+        digits = digits_decimal numerals v wide;
         value = omega (arith, value, few);
       }))
 ]

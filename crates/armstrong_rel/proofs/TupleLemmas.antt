@@ -3,7 +3,7 @@ use Rattle.std.proofs.Common.{◌≡◌, ℕ, ◌+◌, ◌^◌, ◌<◌, ◌≤�
 use Rattle.std.specs.Prelude.{All, Contains}
 use Rattle.std.specs.Fmt.{decimal}
 use Rattle.std.proofs.lemmas.Bool.{lt-ltb}
-use Rattle.std.proofs.lemmas.Fmt.{decimal_injective, decimal_digit}
+use Rattle.std.proofs.lemmas.Fmt.{decimal_injective}
 use Rattle.std.proofs.lemmas.List.{same_lists, get_or_default}
 use Rattle.std.proofs.lemmas.List.Elements.{All-nil, All-cons, All-contains}
 use Rattle.std.proofs.lemmas.List.FromFn.{length-map-range_with_len, get_or-map-range_with_len, map-range_with_len_more}
@@ -12,6 +12,7 @@ use Rattle.dep_model.specs.Tuples.{Tuple, Relation, value_at, IsOver}
 use Rattle.dep_model.specs.TwoTuples.{zero_text, all_zeros}
 use Rattle.dep_model.proofs.ListLemmas.{Contains-head, Contains-later, Contains-cases}
 use Rattle.dep_model.proofs.TwoTupleLemmas.{length-all_zeros, value_at-all_zeros}
+use Rattle.dep_model.proofs.NumeralLemmas.{decimal_zero}
 use Rattle.armstrong_rel.specs.Exhibits.{numbered_tuple, numbered_from, tuples_for}
 
 -- ---- the values of one
@@ -44,8 +45,6 @@ zeros_numbered n = same_lists (all_zeros n) (numbered_tuple n 0 (below n))
     ∙ value_inside n 0 (below n) k low (lt-ltb k n low)))
 
 -- ---- texts of numbers
-pub decimal_zero : decimal 0 ≡ zero_text
-decimal_zero = decimal_digit 0 (omega arith)
 
 pub decimal_not_zero : (number : ℕ) → 0 < number → number < 2 ^ 64 → decimal number ≡ zero_text → ⊥
 decimal_not_zero number some wide same =

@@ -1,5 +1,5 @@
 -- What the crates above cite about sets of places: equality, the tests `is_within`, `is_same` and `is_apart` as facts, and how many members lie below n.
-use Rattle.std.proofs.Common.{◌≡◌, ℕ, zero, suc, ◌+◌, ◌^◌, ◌<◌, ◌≤◌, ◌≢◌, true, false, not, ◌&&◌, ◌||◌, ◌==◌, refl, sym, ap, ◌∙◌, ◌⊎◌, inl, inr, ⊎_elim, arith}
+use Rattle.std.proofs.Common.{◌≡◌, ℕ, zero, suc, ◌+◌, ◌^◌, ◌<◌, ◌≤◌, ◌≢◌, true, false, not, ◌&&◌, ◌||◌, ◌==◌, refl, sym, ap, ◌∙◌, ◌⊎◌, inl, inr, ⊎_elim, arith, nat_lt, Bool}
 use mathlib.Core.Path.{fun_ext}
 use Rattle.std.specs.Bool.{Decides}
 use Rattle.std.proofs.lemmas.Bool.{ltb-true, eqb-true, eq-eqb, cases_eq, cases_lt, cases_Bool, true≢false, and_parts, and_from, and_cases, false_from_ne_true, true_from_ne_false, not-true, not-false}
@@ -295,3 +295,10 @@ count_below-low (suc n) m x low few =
     (λ (all : m ≡ suc n). ap (count_below x) (sym all))
     (λ (other : m ≡ suc n → ⊥). let before = count_below-low n m x low (omega arith) in grind (arith, nat_tests, before, low n))
     (cases_eq m (suc n))
+
+pub union_within : (n : ℕ) (x y : Places) → Within x (below n) → Within y (below n) → Within (union x y) (below n)
+union_within n x y hx hy m has = by (x m) refl has
+  where
+    by : (c : Bool) → x m ≡ c → (c || y m) ≡ true → nat_lt m n ≡ true
+    by true e h = hx m e
+    by false e h = hy m h

@@ -3,14 +3,11 @@
 use Rattle.std.proofs.Common.{◌≡◌, ℕ, ◌^◌, ◌<◌, ◌≤◌, zero, suc, Bool, true, false, cond, List, [], ◌∷◌, ◌++◌, length, map, get_or, refl, sym, ap, subst, ◌∙◌, inl, inr, arith}
 use Rattle.std.proofs.lemmas.Bool.{cases_Bool, cases_eq, cases_lt}
 use Rattle.std.proofs.lemmas.Bool.Decides.{nat_tests}
-use Rattle.std.proofs.lemmas.Fmt.{decimal_injective, decimal_digit, decimal_nonempty, first_decimal, digits_decimal, digits_value-decimal}
+use Rattle.std.proofs.lemmas.Fmt.{decimal_injective, decimal_nonempty, first_decimal, digits_decimal, digits_value-decimal}
 use Rattle.std.proofs.lemmas.List.{get_or_past, get_or-map, length-map, map-append, append-nil}
 use Rattle.std.proofs.lemmas.List.Elements.{Contains-get_or}
 use Rattle.std.proofs.lemmas.Option.{slice_get_within}
-use Rattle.std.proofs.lemmas.Str.Parse.{IsNumeralModel, IsDigitsTest, numerals_by_value}
-use borrow.Author.Rules.{rules}
-use Rattle.std.specs.List.{AllZip, list_all}
-use Rattle.std.specs.Char.{is_ascii_digit}
+use Rattle.std.specs.List.{AllZip}
 use Rattle.std.specs.Str.Parse.{digits_value}
 use Rattle.std.specs.Prelude.{Contains, decimal}
 use Rattle.attr_sets.specs.Places.{Places, below, union, minus}
@@ -19,17 +16,18 @@ use Rattle.dep_model.specs.Tuples.{Tuple, Relation, value_at, AgreeOn}
 use Rattle.dep_model.specs.Dependencies.{Dependency, fd, mvd, Obeys}
 use Rattle.dep_model.specs.Implication.{IsLegal}
 use Rattle.dep_model.specs.Projections.{members_below, project_tuple, projection, projections, IsLossless}
-use Rattle.dep_model.specs.TwoTuples.{zero_text, all_zeros}
+use Rattle.dep_model.specs.TwoTuples.{all_zeros}
 use Rattle.dep_model.specs.Integers.{IsIntegerText}
 use Rattle.dep_model.specs.Columns.{columns_on, IsTyped}
-use Rattle.dep_model.proofs.ListLemmas.{map-member, Contains-map}
+use Rattle.dep_model.proofs.ListLemmas.{map-member, Contains-map, Contains-head, Contains-later}
 use Rattle.dep_model.proofs.TwoTupleLemmas.{length-all_zeros, value_at-all_zeros}
 use Rattle.dep_model.proofs.ColumnLemmas.{length-columns_on}
+use Rattle.dep_model.proofs.NumeralLemmas.{decimal_zero, numerals}
 use Rattle.chase_laws.specs.Tableaux.{SymbolRow, Tableau, symbol_at, SymbolsAgree, distinguished}
 use Rattle.chase_laws.specs.Steps.{exchanged, IsClosed, IsSettledTableau}
 use Rattle.chase_laws.specs.Rounds.{ReachesTableau}
 use Rattle.chase_laws.specs.Answers.{texts_of, IsGaining}
-use Rattle.chase_laws.proofs.TableauLemmas.{same_rows, symbol_at_past, length-distinguished, symbol_at-distinguished, length-exchanged, symbol_at-exchanged, tell_row, cons_here, cons_later, Same-refl}
+use Rattle.chase_laws.proofs.TableauLemmas.{same_rows, symbol_at_past, length-distinguished, symbol_at-distinguished, length-exchanged, symbol_at-exchanged, tell_row, Same-refl}
 use Rattle.chase_laws.proofs.KeptLemmas.{Each, HasLength, HasZerosOn, reached-over, reached-most, reached-zeros}
 use Rattle.chase_laws.proofs.SettlingLemmas.{settled_agrees}
 
@@ -125,9 +123,6 @@ same_projections n scheme t u lt lu same =
     ∙ map_members n scheme (λ (k : ℕ). value_at t k) (λ (k : ℕ). value_at u k) same
     ∙ ap (λ (m : ℕ). map (λ (k : ℕ). value_at u k) (members_below m scheme)) (sym lu)
 
-decimal_zero : decimal 0 ≡ zero_text
-decimal_zero = decimal_digit 0 (omega arith)
-
 in_projection : (n : ℕ) (s : Tableau) (scheme : Places) → Each (HasLength n) s → HasZerosOn scheme s → Contains (projection scheme (texts_of s)) (project_tuple scheme (all_zeros n))
 in_projection n s scheme over h =
     let row = h.0 in
@@ -140,8 +135,8 @@ in_projections : (n : ℕ) (s : Tableau) → Each (HasLength n) s → (plan : Li
     → AllZip (λ scheme table. Contains table (project_tuple scheme (all_zeros n))) plan (projections plan (texts_of s))
 in_projections n s over [] zeros = tt
 in_projections n s over (scheme ∷ plan) zeros = (
-  in_projection n s scheme over (zeros scheme (cons_here scheme plan)),
-  in_projections n s over plan (λ (other : Places) given. zeros other (cons_later scheme plan other given)),
+  in_projection n s scheme over (zeros scheme (Contains-head scheme plan)),
+  in_projections n s over plan (λ (other : Places) given. zeros other (Contains-later scheme plan other given)),
 )
 
 -- the row of n times `0` is that of distinguished symbols
@@ -169,11 +164,6 @@ pub gaining_lossy : (n : ℕ) (ds : List Dependency) (plan : List Places) (r : R
 gaining_lossy n ds plan r gaining lossless = gaining.gained (lossless.gains_none r gaining.legal (all_zeros n) gaining.joined)
 
 -- ---- columns of either type
-digits_told : IsDigitsTest (λ ds. list_all is_ascii_digit ds ≡ true)
-digits_told = search rules
-
-own : IsNumeralModel (λ ds. list_all is_ascii_digit ds ≡ true) (digits_value 10)
-own = numerals_by_value (λ ds. list_all is_ascii_digit ds ≡ true) digits_told
 
 decimal_integer : (v : ℕ) → v < 2 ^ 32 → IsIntegerText (decimal v)
 decimal_integer v few = elim (cases_eq v 0) [
@@ -181,11 +171,11 @@ decimal_integer v few = elim (cases_eq v 0) [
   | inr some ↦
       let wide : v < 2 ^ 64 = omega (arith, few) in
       let first : 48 < get_or (decimal v) 0 0 = first_decimal v (omega (arith, some)) wide in
-      let value : digits_value 10 (decimal v) ≡ v = digits_value-decimal own v wide in
+      let value : digits_value 10 (decimal v) ≡ v = digits_value-decimal numerals v wide in
       inr (inl (record {
         some = decimal_nonempty v wide;
         first = λ (e : get_or (decimal v) 0 0 ≡ 48). absurd (omega (arith, e, first));
-        digits = digits_decimal own v wide;
+        digits = digits_decimal numerals v wide;
         value = omega (arith, value, few);
       }))
 ]

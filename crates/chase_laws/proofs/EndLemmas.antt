@@ -8,11 +8,11 @@ use Rattle.std.specs.Prelude.{Contains, AllPairs, nat_eq, ◌||◌}
 use Rattle.attr_sets.specs.Places.{Places, union, Within, count_below}
 use Rattle.attr_sets.proofs.PlacesLemmas.{count_below-within, count_below-lt}
 use Rattle.dep_model.specs.Dependencies.{Dependency}
-use Rattle.dep_model.proofs.ListLemmas.{map-member}
+use Rattle.dep_model.proofs.ListLemmas.{map-member, Contains-head, Contains-later}
 use Rattle.chase_laws.specs.Tableaux.{SymbolRow, Tableau, SameTableau, symbol_at}
 use Rattle.chase_laws.specs.Steps.{replaced_in, IsFdStep, IsFunctionalStep, LeadsIn, LeadsTo}
 use Rattle.chase_laws.specs.Rounds.{IsMadeOf, IsNext}
-use Rattle.chase_laws.proofs.TableauLemmas.{symbol_at_past, symbol_at-exchanged, symbol_at-replaced_in, change, change_hit, change_miss, change_other, cons_cases, cons_here, cons_later}
+use Rattle.chase_laws.proofs.TableauLemmas.{symbol_at_past, symbol_at-exchanged, symbol_at-replaced_in, change, change_hit, change_miss, change_other, cons_cases}
 use Rattle.chase_laws.proofs.KeptLemmas.{Each, HasLength, HasAtMost, over-functional, most-functional}
 use Rattle.chase_laws.proofs.RoundLemmas.{differ_le}
 
@@ -25,8 +25,8 @@ in_use-true : (t : Tableau) (a v : ℕ) → in_use t a v ≡ true → (row : Sym
 unfolding in_use
 in_use-true [] a v h = absurd (true≢false (sym h))
 in_use-true (row ∷ t) a v h = ⊎_elim
-    (λ here. (row, cons_here row t, eqb-true (symbol_at row a) v here))
-    (λ later. let w = in_use-true t a v later in (w.0, cons_later row t w.0 w.1, w.2))
+    (λ here. (row, Contains-head row t, eqb-true (symbol_at row a) v here))
+    (λ later. let w = in_use-true t a v later in (w.0, Contains-later row t w.0 w.1, w.2))
     (or_cases (nat_eq (symbol_at row a) v) (in_use t a v) h)
 
 in_use-from : (t : Tableau) (a v : ℕ) (row : SymbolRow) → Contains t row → symbol_at row a ≡ v → in_use t a v ≡ true

@@ -4,11 +4,11 @@ use Rattle.std.proofs.lemmas.Bool.{cases_lt}
 use Rattle.std.specs.Prelude.{Contains}
 use Rattle.attr_sets.specs.Places.{Places, union}
 use Rattle.dep_model.specs.Dependencies.{Dependency}
-use Rattle.dep_model.proofs.ListLemmas.{map-member, Contains-map}
+use Rattle.dep_model.proofs.ListLemmas.{map-member, Contains-map, Contains-head, Contains-later}
 use Rattle.chase_laws.specs.Tableaux.{SymbolRow, Tableau, SameTableau, symbol_at, scheme_row, scheme_rows, plan_tableau}
 use Rattle.chase_laws.specs.Steps.{replaced_in, exchanged, IsFdStep, IsMvdStep, IsFunctionalStep, IsStep, LeadsIn}
 use Rattle.chase_laws.specs.Rounds.{ReachesTableau}
-use Rattle.chase_laws.proofs.TableauLemmas.{symbol_at_past, length-scheme_row, symbol_at-scheme_row, length-exchanged, symbol_at-exchanged, length-replaced_in, replaced_le, cons_cases, cons_here, cons_later}
+use Rattle.chase_laws.proofs.TableauLemmas.{symbol_at_past, length-scheme_row, symbol_at-scheme_row, length-exchanged, symbol_at-exchanged, length-replaced_in, replaced_le, cons_cases}
 
 -- ---- any number of steps
 -- what holds of one of two equal tableaux holds of the other, and each step keeps it
@@ -128,7 +128,7 @@ zeros_step n ds scheme t s (inl step) h =
       λ k m. omega (arith, h.2 k m, replaced_le a former later h.0 k (omega (arith, step.step.differ))),
     )
 zeros_step n ds scheme t s (inr step) h =
-    (h.0, (step.step.after h.0).0 (cons_later (exchanged n (union step.lhs step.rhs) step.step.first step.step.second) t h.0 h.1), h.2)
+    (h.0, (step.step.after h.0).0 (Contains-later (exchanged n (union step.lhs step.rhs) step.step.first step.step.second) t h.0 h.1), h.2)
 
 zeros_scheme_row : (n : ℕ) (scheme : Places) (i k : ℕ) → scheme k ≡ true → symbol_at (scheme_row n scheme i) k ≡ 0
 zeros_scheme_row n scheme i k m = elim (cases_lt k n) [
@@ -141,12 +141,12 @@ plan_zeros n i [] scheme h = absurd (omega (arith, h.1))
 plan_zeros n i (first ∷ plan) scheme h = ⊎_elim
     (λ (e : first ≡ scheme). (
       scheme_row n first i,
-      cons_here (scheme_row n first i) (scheme_rows n (suc i) plan),
+      Contains-head (scheme_row n first i) (scheme_rows n (suc i) plan),
       λ k m. zeros_scheme_row n first i k (ap (λ (x : Places). x k) e ∙ m),
     ))
     (λ later.
     let w = plan_zeros n (suc i) plan scheme later in
-    (w.0, cons_later (scheme_row n first i) (scheme_rows n (suc i) plan) w.0 w.1, w.2))
+    (w.0, Contains-later (scheme_row n first i) (scheme_rows n (suc i) plan) w.0 w.1, w.2))
     (cons_cases first plan scheme h)
 
 pub reached-zeros : (n : ℕ) (ds : List Dependency) (plan : List Places) (t : Tableau) → ReachesTableau n ds plan t → (scheme : Places) → Contains plan scheme → HasZerosOn scheme t

@@ -9,9 +9,10 @@ use Rattle.dep_model.specs.Dependencies.{Dependency, fd, mvd}
 use Rattle.chase_laws.specs.Tableaux.{SymbolRow, Tableau, SameTableau, symbol_at, SymbolsAgree, distinguished, plan_tableau, scheme_rows}
 use Rattle.chase_laws.specs.Steps.{exchanged, replaced, IsFunctionalStep, IsMultivaluedStep, IsStep, IsClosed, IsSettledTableau, LeadsIn, LeadsTo}
 use Rattle.chase_laws.specs.Rounds.{SettlesTo, IsMadeOf, IsNext, EndsRounds, InRounds, HasMoreThan, RoundsExceed}
-use Rattle.chase_laws.proofs.TableauLemmas.{rows_tell, symbol_at_past, cons_cases, cons_here, cons_later, Same-sym, Same-trans, Same-replaced, Same-cons, length-exchanged}
+use Rattle.chase_laws.proofs.TableauLemmas.{rows_tell, symbol_at_past, cons_cases, Same-sym, Same-trans, Same-replaced, Same-cons, length-exchanged}
 use Rattle.chase_laws.proofs.KeptLemmas.{Each, HasLength, Each-same, over-functional, plan_over}
 use Rattle.chase_laws.proofs.SettlingLemmas.{settling_unique}
+use Rattle.dep_model.proofs.ListLemmas.{Contains-head, Contains-later}
 
 -- ---- equal tableaux are closed alike
 step_same : (n : ℕ) (ds : List Dependency) (t s u : Tableau) → SameTableau t s → IsStep n ds s u → IsStep n ds t u
@@ -131,7 +132,7 @@ unfolding without
 without-keeps row [] q other h = h
 without-keeps row (p ∷ t) q other h = elim (rows_tell p row) as (λ w. Contains (⊎_elim (λ _. t) (λ _. p ∷ without row t) w) q) [
   | inl equal ↦ ⊎_elim (λ (e : p ≡ q). absurd (other (sym equal ∙ e))) (λ inside. inside) (cons_cases p t q h)
-  | inr differ ↦ ⊎_elim (λ (e : p ≡ q). subst (λ (r : SymbolRow). Contains (p ∷ without row t) r) e (cons_here p (without row t))) (λ inside. cons_later p (without row t) q (without-keeps row t q other inside)) (cons_cases p t q h)
+  | inr differ ↦ ⊎_elim (λ (e : p ≡ q). subst (λ (r : SymbolRow). Contains (p ∷ without row t) r) e (Contains-head p (without row t))) (λ inside. Contains-later p (without row t) q (without-keeps row t q other inside)) (cons_cases p t q h)
 ]
 
 -- different rows of a tableau are not more than it lists
@@ -208,8 +209,8 @@ gather P each (x ∷ xs) =
       first.0 ++ rest.0,
       λ (row : SymbolRow). (
         (λ h. ⊎_elim
-            (λ here. (x, cons_here x xs, (first.1 row).0 here))
-            (λ later. let w = (rest.1 row).0 later in (w.0, cons_later x xs w.0 w.1, w.2))
+            (λ here. (x, Contains-head x xs, (first.1 row).0 here))
+            (λ later. let w = (rest.1 row).0 later in (w.0, Contains-later x xs w.0 w.1, w.2))
             (Contains-append_cases first.0 rest.0 row h)),
         (λ h. ⊎_elim
             (λ (e : x ≡ h.0). Contains-append_left first.0 rest.0 row ((first.1 row).1 (subst (λ z. P z row) (sym e) h.2)))
@@ -232,7 +233,7 @@ pair_listed n x y p q = elim (agree_tell x p q) [
     exchanged n (union x y) p q ∷ [],
     λ (row : SymbolRow). (
       (λ h. ⊎_elim (λ (e : exchanged n (union x y) p q ≡ row). (agree, e)) (λ none. absurd (omega (arith, none.1))) (cons_cases (exchanged n (union x y) p q) [] row h)),
-      (λ h. subst (λ (r : SymbolRow). Contains (exchanged n (union x y) p q ∷ []) r) h.1 (cons_here (exchanged n (union x y) p q) [])),
+      (λ h. subst (λ (r : SymbolRow). Contains (exchanged n (union x y) p q ∷ []) r) h.1 (Contains-head (exchanged n (union x y) p q) [])),
     ),
   )
   | inr differ ↦ ([], λ (row : SymbolRow). ((λ h. absurd (omega (arith, h.1))), (λ h. absurd (differ h.0))))

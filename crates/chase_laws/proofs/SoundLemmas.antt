@@ -2,7 +2,7 @@
 use Rattle.std.proofs.Common.{◌≡◌, ℕ, ◌+◌, ◌<◌, ◌≤◌, zero, suc, Bool, true, cond, List, [], ◌∷◌, length, map, get_or, refl, sym, ap, subst, ◌∙◌, inl, inr, ⊎_elim, arith}
 use Rattle.std.proofs.lemmas.Bool.{cases_Bool, cases_lt}
 use Rattle.std.proofs.lemmas.Bool.Decides.{nat_tests}
-use Rattle.std.proofs.lemmas.List.{get_or_past, ext_get_or}
+use Rattle.std.proofs.lemmas.List.{get_or_past}
 use Rattle.std.proofs.lemmas.List.FromFn.{length-map-range_with_len, get_or-map-range_with_len}
 use Rattle.std.proofs.lemmas.List.Elements.{All-contains}
 use Rattle.std.specs.List.{range_with_len, AllZip}
@@ -15,6 +15,7 @@ use Rattle.dep_model.specs.Projections.{project_tuple, projection, projections, 
 use Rattle.dep_model.specs.OnSchemes.{value_in}
 use Rattle.dep_model.proofs.ListLemmas.{map-member}
 use Rattle.dep_model.proofs.SchemeLemmas.{value_in-project_tuple}
+use Rattle.dep_model.proofs.TupleLemmas.{same_tuples}
 use Rattle.chase_laws.specs.Tableaux.{SymbolRow, Tableau, symbol_at, SymbolsAgree, distinguished, scheme_row, scheme_rows, plan_tableau}
 use Rattle.chase_laws.specs.Steps.{replaced_in, exchanged, IsFunctionalStep, IsMultivaluedStep, IsStep}
 use Rattle.chase_laws.specs.Rounds.{ReachesTableau}
@@ -34,9 +35,6 @@ value_at-image n v row k h = get_or-map-range_with_len (λ (j : ℕ). v j (symbo
 
 value_at-image_past : (n : ℕ) (v : ℕ → ℕ → List ℕ) (row : SymbolRow) (k : ℕ) → n ≤ k → value_at (image n v row) k ≡ []
 value_at-image_past n v row k past = get_or_past (image n v row) k [] (omega (arith, length-image n v row, past))
-
-pub same_tuples : (n : ℕ) (t u : Tuple) → length t ≡ n → length u ≡ n → ((k : ℕ) → k < n → value_at t k ≡ value_at u k) → t ≡ u
-same_tuples n t u lt lu same = ext_get_or [] t u (lt ∙ sym lu) (λ (k : ℕ) l. same k (omega (arith, l, lt)))
 
 same_images : (n : ℕ) (v : ℕ → ℕ → List ℕ) (p q : SymbolRow) → ((k : ℕ) → k < n → v k (symbol_at p k) ≡ v k (symbol_at q k)) → image n v p ≡ image n v q
 same_images n v p q same =

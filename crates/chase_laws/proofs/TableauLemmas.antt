@@ -9,7 +9,7 @@ use Rattle.std.proofs.lemmas.Slice.Eq.{slice_eq-Decides}
 use Rattle.std.specs.Prelude.{Contains, nat_eq}
 use Rattle.std.specs.Cmp.Lexicographic.{pointwise}
 use Rattle.attr_sets.specs.Places.{Places}
-use Rattle.dep_model.proofs.ListLemmas.{Contains-map, map-member}
+use Rattle.dep_model.proofs.ListLemmas.{Contains-map, map-member, Contains-head, Contains-later}
 use Rattle.chase_laws.specs.Tableaux.{SymbolRow, Tableau, SameTableau, symbol_at, distinguished, scheme_row}
 use Rattle.chase_laws.specs.Steps.{replaced_in, replaced, exchanged}
 
@@ -128,12 +128,6 @@ cons_cases_at x xs y (suc k) l e = let low : k < length xs = omega arith in inr 
 pub cons_cases : {X : Type 0} (x : X) (xs : List X) (y : X) → Contains (x ∷ xs) y → (x ≡ y) ⊎ Contains xs y
 cons_cases x xs y h = cons_cases_at x xs y h.0 h.1 h.2
 
-pub cons_here : {X : Type 0} (x : X) (xs : List X) → Contains (x ∷ xs) x
-cons_here x xs = (0, omega arith, refl)
-
-pub cons_later : {X : Type 0} (x : X) (xs : List X) (y : X) → Contains xs y → Contains (x ∷ xs) y
-cons_later x xs y h = (suc h.0, omega (arith, h.1), h.2)
-
 none_here : {X : Type 0} (y : X) → Contains [] y → ⊥
 none_here y h = absurd (omega (arith, h.1))
 
@@ -149,9 +143,9 @@ rows_tell p q =
 pub tell_row : (t : Tableau) (row : SymbolRow) → Contains t row ⊎ (Contains t row → ⊥)
 tell_row [] row = inr (λ h. none_here row h)
 tell_row (p ∷ t) row = elim (rows_tell p row) [
-  | inl equal ↦ inl (subst (λ (r : SymbolRow). Contains (p ∷ t) r) equal (cons_here p t))
+  | inl equal ↦ inl (subst (λ (r : SymbolRow). Contains (p ∷ t) r) equal (Contains-head p t))
   | inr differ ↦ elim (tell_row t row) [
-    | inl inside ↦ inl (cons_later p t row inside)
+    | inl inside ↦ inl (Contains-later p t row inside)
     | inr out ↦ inr (λ h. ⊎_elim differ out (cons_cases p t row h))
   ]
 ]
@@ -176,8 +170,8 @@ Same-replaced a former later t s same row = (replaced_kept a former later t s sa
 
 cons_kept : (p : SymbolRow) (t s : Tableau) → SameTableau t s → (row : SymbolRow) → Contains (p ∷ t) row → Contains (p ∷ s) row
 cons_kept p t s same row h = ⊎_elim
-    (λ (e : p ≡ row). subst (λ (r : SymbolRow). Contains (p ∷ s) r) e (cons_here p s))
-    (λ inside. cons_later p s row ((same row).0 inside))
+    (λ (e : p ≡ row). subst (λ (r : SymbolRow). Contains (p ∷ s) r) e (Contains-head p s))
+    (λ inside. Contains-later p s row ((same row).0 inside))
     (cons_cases p t row h)
 
 pub Same-cons : (p : SymbolRow) (t s : Tableau) → SameTableau t s → SameTableau (p ∷ t) (p ∷ s)

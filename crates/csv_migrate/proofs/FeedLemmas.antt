@@ -1,16 +1,12 @@
 -- Tables one after the other, and targets one after the other.
-use Rattle.std.proofs.Common.{◌≡◌, ◌⊎◌, inl, inr, ℕ, ◌+◌, ◌<◌, ◌≤◌, arith, List, [], ◌∷◌, ◌++◌, length, get_or, set, take, sym, ap, ◌∙◌, subst, append_assoc, add-one}
-use Rattle.std.proofs.Math.Seq.{take-suc}
+use Rattle.std.proofs.Common.{◌≡◌, ◌⊎◌, inl, inr, ℕ, ◌+◌, ◌<◌, ◌≤◌, arith, List, [], ◌∷◌, ◌++◌, length, get_or, set, take, sym, ap, ◌∙◌, subst, append_assoc}
 use Rattle.std.proofs.lemmas.Bool.{cases_eq}
 use Rattle.std.proofs.lemmas.List.{length-map, length-set, length_push, get_or-map, get_or-set_same, get_or-set_other, get_or_default, get_or_append_left, get_or_push}
 use Rattle.targets.specs.Tables.{TableValue}
 use Rattle.csv_migrate.specs.declared.table.Table.{Table}
 use Rattle.csv_migrate.specs.Tables.{table_value, table_values}
 use Rattle.csv_migrate.specs.Feeding.{AtEachPlace}
-
-take_next : {X : Type 0} (xs : List X) (i : ℕ) (d : X) → i < length xs
-    → take (i + 1) xs ≡ take i xs ++ get_or xs i d ∷ []
-take_next xs i d within = rw add-one (take-suc xs i d within)
+use Rattle.targets.proofs.SqlLemmas.{take_next}
 
 -- the rows before a place and the one that is there
 pub row_next : {X : Type 0} (rows : List X) (i : ℕ) (row : X) → i < length rows → row ≡ get_or rows i row

@@ -3,7 +3,7 @@ use Rattle.std.proofs.Common.{inl, inr, true≢false, unwrap_or, option_map, ◌
 use Rattle.std.specs.List.{slice_get, list_any, position_or_len}
 use Rattle.std.proofs.Math.Seq.{get_or-append_seam}
 use Rattle.std.proofs.lemmas.Bool.{cases_Bool, cases_lt, eqb-true, eq-eqb}
-use Rattle.std.proofs.lemmas.List.{length-append, length-map, map-append, get_or_append_left}
+use Rattle.std.proofs.lemmas.List.{length-append, length-map, map-append, get_or_append_left, get_or_default}
 use Rattle.std.proofs.lemmas.List.Folds.{list_any_at, list_any_none}
 use Rattle.std.proofs.lemmas.List.Sums.{position_or_len_is, fails_before_first, passes_at_first}
 use Rattle.std.proofs.lemmas.Slice.Eq.{bytes_eq-Decides}
@@ -13,6 +13,8 @@ use Rattle.attr_sets.specs.Places.{Places, Same, Within, below, meet, only, unio
 use Rattle.dep_model.specs.Tuples.{Tuple, Relation, AgreeOn, value_at}
 use Rattle.indexmap.specs.IndexSet.{insert_key}
 use Rattle.csv_rows.specs.Numberings.{row_at, number_at, AreGroups, AreFirsts, AreNumbered, AreInOrder}
+use Rattle.dep_model.proofs.TwoRowLemmas.{AgreeOn-union, AgreeOn-left, AgreeOn-right}
+use Rattle.std.specs.Prelude.{Contains}
 
 -- a value is given a number: that of an equal one that was seen, or the next one
 pub record Gets {X : Type 0} (v : X) (seen after : List X) (r : ℕ) : Type 0 where
@@ -164,29 +166,11 @@ pub column_groups : (rows : Relation) (k : ℕ) (seen : List (List ℕ)) (number
 column_groups rows k seen numbers n = groups_from rows (only k) (λ i. value_at (row_at rows i) k) seen numbers n (λ i j li lj.
     ((λ e m at. subst (λ (p : ℕ). value_at (row_at rows i) p ≡ value_at (row_at rows j) p) (sym (eqb-true m k at)) e), (λ a. a k (grind arith))))
 
--- one place more
-pub agree_union : (x y : Places) (t u : Tuple) → AgreeOn x t u → AgreeOn y t u → AgreeOn (union x y) t u
-agree_union x y t u a b m has = by (x m) refl has
-  where
-    by : (c : Bool) → x m ≡ c → (c || y m) ≡ true → value_at t m ≡ value_at u m
-    by true e h = a m e
-    by false e h = b m h
-
-pub agree_left : (x y : Places) (t u : Tuple) → AgreeOn (union x y) t u → AgreeOn x t u
-agree_left x y t u a m has = a m (ap (λ (c : Bool). c || y m) has)
-
-pub agree_right : (x y : Places) (t u : Tuple) → AgreeOn (union x y) t u → AgreeOn y t u
-agree_right x y t u a m has = a m (by (x m) has)
-  where
-    by : (c : Bool) → y m ≡ true → (c || y m) ≡ true
-    by true e = refl
-    by false e = e
-
 pub refined_groups : (rows : Relation) (x y : Places) (groups codes : List ℕ) (seen : List (ℕ × ℕ)) (numbers : List ℕ) → AreGroups rows x groups → AreGroups rows y codes
     → AreNumbered (λ i. (number_at groups i, number_at codes i)) (length rows) seen numbers → AreGroups rows (union x y) numbers
 refined_groups rows x y groups codes seen numbers g c n = groups_from rows (union x y) (λ i. (number_at groups i, number_at codes i)) seen numbers n (λ i j li lj. (
-  (λ e. agree_union x y _ _ ((g.equal i j li lj).0 (ap (λ (p : ℕ × ℕ). p.0) e)) ((c.equal i j li lj).0 (ap (λ (p : ℕ × ℕ). p.1) e))),
-  (λ a. pair_path _ _ _ _ ((g.equal i j li lj).1 (agree_left x y _ _ a)) ((c.equal i j li lj).1 (agree_right x y _ _ a))),
+  (λ e. AgreeOn-union x y _ _ ((g.equal i j li lj).0 (ap (λ (p : ℕ × ℕ). p.0) e)) ((c.equal i j li lj).0 (ap (λ (p : ℕ × ℕ). p.1) e))),
+  (λ a. pair_path _ _ _ _ ((g.equal i j li lj).1 (AgreeOn-left x y _ _ a)) ((c.equal i j li lj).1 (AgreeOn-right x y _ _ a))),
 ))
   where
     pair_path : (a b c d : ℕ) → a ≡ b → c ≡ d → ◌≡◌ {A = ℕ × ℕ} (a, c) (b, d)
@@ -198,8 +182,8 @@ pub single_group : (rows : Relation) (x : Places) (k : ℕ) (groups codes : List
 single_group rows x k groups codes g zeros c = record {
   one_each = c.one_each;
   equal = λ i j li lj. (
-    (λ e. agree_union x (only k) _ _ ((g.equal i j li lj).0 (zeros i li ∙ sym (zeros j lj))) ((c.equal i j li lj).0 e)),
-    (λ a. (c.equal i j li lj).1 (agree_right x (only k) _ _ a)),
+    (λ e. AgreeOn-union x (only k) _ _ ((g.equal i j li lj).0 (zeros i li ∙ sym (zeros j lj))) ((c.equal i j li lj).0 e)),
+    (λ a. (c.equal i j li lj).1 (AgreeOn-right x (only k) _ _ a)),
   );
   in_order = c.in_order;
 }
@@ -406,3 +390,7 @@ pub pair_groups : (rows : Relation) (x : Places) (k : ℕ) (groups codes items :
 pair_groups rows x k groups codes items g c n =
     refined_groups rows x (only k) groups codes n.0 items g c
     (subst (λ (m : ℕ). AreNumbered (λ i. (number_at groups i, number_at codes i)) m n.0 items) g.one_each n.1)
+
+-- a tuple of a relation stands at a place of it
+row_of : (r : Relation) (t : Tuple) → Contains r t → (i : ℕ) × (i < length r) × (row_at r i ≡ t)
+row_of r t has = (has.0, has.1, get_or_default r has.0 [] t has.1 ∙ has.2)

@@ -20,6 +20,7 @@ use Rattle.schema_grammar.specs.Printing.{members_from}
 use Rattle.targets.specs.Sql.{separator, listed, quoted_name}
 use Rattle.ddl_text.specs.declared.table.TableDesign.{TableDesign}
 use Rattle.ddl_text.specs.Ddl.{name_list, column_type, column_element, is_empty, key_element, key_elements, reference_element, reference_elements, elements, opening, element_lines, has_some, comment, table_text}
+use Rattle.std.specs.List.{flat_map}
 
 -- ---- the members of a set
 pub members_inside : (f : ℕ → List ℕ) (n : ℕ) (x : Places) → x n ≡ true
@@ -302,3 +303,11 @@ table_added r s tables table old t u v w x new to_t to_u to_v to_w to_x to_new =
     let at_w = adds old (head ++ create ++ name) begin_lines v w at_v to_w in
     let at_x = adds old (head ++ create ++ name ++ begin_lines) lines w x at_w to_x in
     adds_last r old (head ++ create ++ name ++ begin_lines ++ lines) (codes "\n);\n") x new at_x to_new
+
+-- a text with one item more
+pub item_more : {X : Type 0} (f : X → List ℕ) (old text next piece : List ℕ) (xs more : List X) (x : X)
+    → text ≡ old ++ flat_map f xs → piece ≡ f x → next ≡ text ++ piece → more ≡ xs ++ x ∷ []
+    → next ≡ old ++ flat_map f more
+item_more {X} f old text next piece xs more x so_far is added pushed =
+    added ∙ ap (λ (t : List ℕ). t ++ piece) so_far ∙ ap (λ (p : List ℕ). old ++ flat_map f xs ++ p) is
+    ∙ flat_map_more f old xs x ∙ ap (λ (ys : List X). old ++ flat_map f ys) (sym pushed)

@@ -1,8 +1,7 @@
 -- The loop that gathers the traces of a scheme: what it has found at each step.
-use Rattle.std.proofs.Common.{◌≡◌, ℕ, ◌<◌, ◌≤◌, ◌↔◌, ◌⊎◌, true, false, List, [], ◌∷◌, ◌++◌, drop, sym, ap, subst, length-append, ◌∙◌, inl, inr, ⊎_elim, arith}
+use Rattle.std.proofs.Common.{◌≡◌, ℕ, ◌<◌, ◌≤◌, ◌↔◌, ◌⊎◌, true, false, List, [], ◌∷◌, ◌++◌, drop, sym, ap, subst, ◌∙◌, inl, inr, ⊎_elim, arith}
 use Rattle.std.proofs.lemmas.Bool.{true≢false, cases_Bool, cases_eq, cases_lt, false_from_ne_true}
 use Rattle.std.proofs.lemmas.Bool.Decides.{nat_tests}
-use Rattle.std.proofs.lemmas.List.{get_or_append_left}
 use Rattle.std.proofs.lemmas.List.Elements.{All-push, All-weaker, All-contains}
 use Rattle.std.proofs.lemmas.List.Quantifiers.{Any-push, all_pairs_push}
 use Rattle.std.specs.Prelude.{All, AllPairs, Any}
@@ -15,6 +14,7 @@ use Rattle.dep_basis.specs.declared.gathering.Blocks.{Blocks}
 use Rattle.dep_basis.specs.declared.pieces.TheConstants.{MOST_BLOCKS}
 use Rattle.dep_basis.specs.Traces.{IsTrace, BeginsBefore, AreTraces, blocks_of}
 use Rattle.dep_basis.proofs.BlockLemmas.{blocks_same}
+use Rattle.dep_model.proofs.ListLemmas.{Any-left}
 
 -- a set begins before each attribute that is left
 abbrev pub HasBegun : Places → AttrSet → Type 0
@@ -42,10 +42,6 @@ found_first n ds scheme x closed none = record {
   apart = λ i j d l m. absurd (omega arith);
   in_order = λ i j d l m. absurd (omega arith);
 }
-
--- some member of a list is one of a longer list
-pub Any-kept : {X : Type 0} (P : X → Type 0) (xs : List X) (y : X) → Any P xs → Any P (xs ++ y ∷ [])
-Any-kept P xs y (k, x, lt, is, holds) = (k, x, omega (arith, lt, length-append xs (y ∷ [])), get_or_append_left xs (y ∷ []) x k lt ∙ is, holds)
 
 module _ (n : ℕ) (ds : List Dependency) (scheme x left closed : Places) (qs : List AttrSet) (before : IsFound n ds scheme x left closed qs) where
   -- the next attribute is closed
@@ -121,7 +117,7 @@ module _ (n : ℕ) (ds : List Dependency) (scheme x left closed : Places) (qs : 
           (record { block = block; is_block = is_block; trace = trace; some = λ none. true≢false (sym (grind (arith, trace i, member, before.left_in i least.member)) ∙ none i) });
       parts = λ a m out. elim (cases_Bool (block a)) [
         | inl inside ↦ inr (Any-push (λ (s : AttrSet). places s a ≡ true) qs q (grind (arith, trace a, inside, m)))
-        | inr outside ↦ ⊎_elim inl (λ found. inr (Any-kept (λ (s : AttrSet). places s a ≡ true) qs q found)) (before.parts a m (grind (arith, rest_is a, outside, out)))
+        | inr outside ↦ ⊎_elim inl (λ found. inr (Any-left (λ (s : AttrSet). places s a ≡ true) qs q found)) (before.parts a m (grind (arith, rest_is a, outside, out)))
       ];
       gone = All-push (λ (s : AttrSet). Apart (places s) rest) qs q
           (All-weaker (λ (s : AttrSet). Apart (places s) left) (λ (s : AttrSet). Apart (places s) rest) (λ (s : AttrSet) h k m. grind (arith, rest_is k, h k m)) qs before.gone)

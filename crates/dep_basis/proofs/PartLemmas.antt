@@ -42,7 +42,7 @@ module _ (n : ℕ) (ds : List Dep) (x w v t beyond : Places) (can : CanRefine n 
   )
 
 -- ---- on a scheme
-mvd_on_scheme : (n : ℕ) (scheme x w : Places) (r : Relation) → Within scheme (below n) → ObeysMvd (below n) x w r → ObeysMvd scheme x (meet w scheme) r
+pub mvd_on_scheme : (n : ℕ) (scheme x w : Places) (r : Relation) → Within scheme (below n) → ObeysMvd (below n) x w r → ObeysMvd scheme x (meet w scheme) r
 mvd_on_scheme n scheme x w r scheme_in obeys t u t_in u_in agree =
     let v = obeys t u t_in u_in agree in
     (v.0, v.1, (λ (k : ℕ) m. v.2 k (grind (arith, m))), (λ (k : ℕ) m. v.3 k (grind (arith, m, scheme_in k))))

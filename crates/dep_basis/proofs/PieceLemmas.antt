@@ -17,13 +17,13 @@ use Rattle.dep_model.specs.Implication.{Implies}
 use Rattle.dep_model.specs.Keys.{InClosure, IsBlock}
 use Rattle.dep_model.proofs.RuleLemmas.{reflexivity_obeyed, complementation_obeyed, mreflexivity_obeyed}
 use Rattle.dep_model.proofs.DepLemmas.{legal-to}
+use Rattle.dep_model.proofs.ListLemmas.{Any-left}
 use Rattle.dep_basis.specs.Refining.{LeavesWhole}
 use Rattle.dep_basis.specs.Shown.{IsCutting}
 use Rattle.dep_basis.specs.declared.pieces.Pieces.{Pieces}
 use Rattle.dep_basis.specs.Pieces.{sets_of, IsTold, ArePieces, CanRefine, IsRefined, IsPieceWith}
 use Rattle.dep_basis.proofs.RefiningLemmas.{replicated, split_inside, split_outside, moves}
 use Rattle.dep_basis.proofs.BlockLemmas.{whole_legal, candidate_block}
-use Rattle.dep_basis.proofs.GatheringLemmas.{Any-kept}
 use Rattle.dep_basis.proofs.BasisLemmas.{closure_wider, block_wider}
 
 abbrev HasAttribute : ℕ → AttrSet → Type 0
@@ -75,7 +75,7 @@ pub block_refined : (ds : List Dep) (piece : AttrSet) (before after : Pieces) �
 block_refined ds piece before after size sets count pos some whole = record {
   size = size;
   room = omega (arith, count, pos);
-  kept = λ a h. rw sets (Any-kept (HasAttribute a) (sets_of before) piece h);
+  kept = λ a h. rw sets (Any-left (HasAttribute a) (sets_of before) piece h);
   refined = λ n x can.
       let w = places piece in
       let block : IsBlock n (dependencies_of ds) x w = ⊎_elim

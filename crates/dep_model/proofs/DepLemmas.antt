@@ -1,5 +1,5 @@
 -- The dependencies of a list, one by one, and legality by them.
-use Rattle.std.proofs.Common.{ℕ, List, [], ◌∷◌}
+use Rattle.std.proofs.Common.{ℕ, List, [], ◌∷◌, ◌≡◌, ◌<◌, ◌+◌, true, take, ◌++◌, length, get_or, refl, ap, ◌∙◌, arith, add-one}
 use Rattle.std.specs.Prelude.{All}
 use Rattle.std.proofs.lemmas.List.Elements.{All-nil, All-cons, All-head, All-tail, All-map, All-filter}
 use Rattle.attr_sets.specs.Sets.{places}
@@ -9,6 +9,9 @@ use Rattle.dep_model.specs.Tuples.{Relation, IsOver}
 use Rattle.dep_model.specs.Dependencies.{Dependency, fd, Obeys, ObeysFd, is_fd, functional_part}
 use Rattle.dep_model.specs.Implication.{IsLegal}
 use Rattle.dep_model.specs.Deps.{dependency_of, dependencies_of}
+use Rattle.std.proofs.Math.ListN.{get_or-map}
+use Rattle.std.proofs.Math.Seq.{take-suc}
+use Rattle.std.proofs.lemmas.List.{length-map}
 pub use Rattle.dep_model.specs.Deps.{IfFd}
 
 -- ---- a fact of each dependency, as sets of attributes and as sets of places
@@ -54,3 +57,17 @@ functional_legal-from n ds r over h = record { over = over; obeys = functional_a
 -- what is legal for a list is legal for its functional part
 pub functional_legal-weaker : (n : ℕ) (ds : List Dependency) (r : Relation) → IsLegal n ds r → IsLegal n (functional_part ds) r
 functional_legal-weaker n ds r legal = record { over = legal.over; obeys = All-filter is_fd (λ (d : Dependency). Obeys n d r) ds legal.obeys }
+
+pub theory_next : (deps : List Dep) (k : ℕ) (d : Dep) → k < length deps
+    → take (k + 1) (dependencies_of deps) ≡ take k (dependencies_of deps) ++ dependency_of (get_or deps k d) ∷ []
+theory_next deps k d low =
+    let long : k < length (dependencies_of deps) = omega (arith, low, length-map deps dependency_of) in
+    rw add-one (take-suc (dependencies_of deps) k (dependency_of d) long
+    ∙ ap (λ (e : Dependency). take k (dependencies_of deps) ++ e ∷ []) (get_or-map dependency_of deps k d))
+
+-- where all are functional, the functional part is the list
+pub functional_list : (ds : List Dep) → All (λ (d : Dep). is_fd (dependency_of d) ≡ true) ds → functional_part (dependencies_of ds) ≡ dependencies_of ds
+functional_list [] all = refl
+functional_list (d ∷ ds) all =
+    let first : is_fd (dependency_of d) ≡ true = All-head (λ (e : Dep). is_fd (dependency_of e) ≡ true) d ds all in
+    rw first (ap (λ (es : List Dependency). dependency_of d ∷ es) (functional_list ds (All-tail (λ (e : Dep). is_fd (dependency_of e) ≡ true) d ds all)))

@@ -13,5 +13,6 @@ pub mod PartLemmas
 pub mod PreservationLemmas
 pub mod RuleLemmas
 pub mod SchemeLemmas
+pub mod TupleLemmas
 pub mod TwoRowLemmas
 pub mod TwoTupleLemmas

@@ -1,7 +1,7 @@
 -- Membership in lists, and in the list of a function's values.
-use Rattle.std.proofs.Common.{◌≡◌, ℕ, ◌<◌, ◌⊎◌, inl, inr, zero, suc, List, [], ◌∷◌, length, map, get_or, refl, sym, ap, ◌∙◌, arith}
+use Rattle.std.proofs.Common.{◌≡◌, ℕ, ◌<◌, ◌⊎◌, inl, inr, zero, suc, List, [], ◌∷◌, length, map, get_or, refl, sym, ap, ◌∙◌, arith, ◌++◌, drop}
 use Rattle.std.proofs.Math.ListN.{get_or-map}
-use Rattle.std.proofs.lemmas.List.{length-map}
+use Rattle.std.proofs.lemmas.List.{length-map, length_push, get_or_append_left}
 use Rattle.std.specs.Prelude.{Contains, Any}
 
 pub Contains-map : {X Y : Type 0} (f : X → Y) (xs : List X) (x : X) → Contains xs x → Contains (map f xs) (f x)
@@ -38,3 +38,13 @@ map-member_at f (x ∷ xs) y (suc k) l e =
 -- a value of the function stands for some member
 pub map-member : {X Y : Type 0} (f : X → Y) (xs : List X) (y : Y) → Contains (map f xs) y → (x : X) × Contains xs x × (f x ≡ y)
 map-member f xs y h = map-member_at f xs y h.0 h.1 h.2
+
+pub Any-weaker : {X : Type 0} (P Q : X → Type 0) (xs : List X) → ((x : X) → P x → Q x) → Any P xs → Any Q xs
+Any-weaker P Q xs gives h = (h.0, h.1, h.2, h.3, gives h.1 h.4)
+
+pub Any-left : {X : Type 0} (P : X → Type 0) (xs : List X) (y : X) → Any P xs → Any P (xs ++ y ∷ [])
+Any-left P xs y h = (h.0, h.1, omega (arith, h.2, length_push xs y), get_or_append_left xs (y ∷ []) h.1 h.0 h.2 ∙ h.3, h.4)
+
+-- two lists with a first element that are the same
+pub cons_parts : {X : Type 0} (x y : X) (xs ys : List X) → x ∷ xs ≡ y ∷ ys → (x ≡ y) × (xs ≡ ys)
+cons_parts {X = X} x y xs ys same = (ap (λ (l : List X). get_or l 0 x) same, ap (λ (l : List X). drop 1 l) same)

@@ -6,6 +6,12 @@ use Rattle.std.specs.Str.Parse.{digits_value}
 use Rattle.std.proofs.lemmas.Int.Digits.{digits_value_is, digits_value_more, number_after_append, number_after_ge}
 use Rattle.std.proofs.lemmas.Bool.Decides.{nat_tests}
 use Rattle.std.proofs.lemmas.List.{take-append-drop, map-append}
+use Rattle.std.proofs.lemmas.Fmt.{decimal_digit}
+use Rattle.std.proofs.lemmas.Str.Parse.{IsNumeralModel, IsDigitsTest, numerals_by_value}
+use borrow.Author.Rules.{rules}
+use Rattle.std.specs.List.{list_all}
+use Rattle.std.specs.Prelude.{decimal}
+use Rattle.dep_model.specs.TwoTuples.{zero_text}
 
 -- more digits give no smaller value
 pub digits_value-append : (front rest : List ℕ) → digits_value 10 front ≤ digits_value 10 (front ++ rest)
@@ -24,3 +30,12 @@ pub digits_value-next : (bytes : List ℕ) (i : ℕ) → i < length bytes → is
     → digits_value 10 (take (i + 1) bytes) ≡ digits_value 10 (take i bytes) * 10 + (get_or bytes i 0 - 48)
 digits_value-next bytes i short digit =
     digits_value_more 10 bytes i short ∙ ap (λ (d : ℕ). digits_value 10 (take i bytes) * 10 + d) (digit_value-digit (get_or bytes i 0) digit)
+
+pub decimal_zero : decimal 0 ≡ zero_text
+decimal_zero = decimal_digit 0 (omega arith)
+
+pub digits_told : IsDigitsTest (λ ds. list_all is_ascii_digit ds ≡ true)
+digits_told = search rules
+
+pub numerals : IsNumeralModel (λ ds. list_all is_ascii_digit ds ≡ true) (digits_value 10)
+numerals = numerals_by_value (λ ds. list_all is_ascii_digit ds ≡ true) digits_told

@@ -5,7 +5,7 @@ use Rattle.std.proofs.lemmas.Bool.Decides.{nat_tests}
 use Rattle.std.proofs.lemmas.List.{get_or_past, get_or-map, get_or_append_left, length-map, same_lists, get_or_default}
 use Rattle.std.proofs.lemmas.List.Elements.{All-contains}
 use Rattle.std.proofs.Math.Seq.{get_or-append_seam}
-use Rattle.std.specs.Prelude.{Contains}
+use Rattle.std.specs.Prelude.{Contains, All}
 use Rattle.attr_sets.specs.Places.{Places, below, union, minus, Within, count_below}
 use Rattle.attr_sets.proofs.PlacesLemmas.{count_below-mono, count_below-place, count_below-member, count_below-outside, count_below-below, count_below-equal}
 use Rattle.dep_model.specs.Tuples.{Tuple, Relation, value_at, AgreeOn}
@@ -29,14 +29,14 @@ unfolding members_below
 members_below-none x = refl
 
 -- the counts, at `suc n`
-count_below-start : (x : Places) → count_below x 0 ≡ 0
+pub count_below-start : (x : Places) → count_below x 0 ≡ 0
 unfolding count_below
 count_below-start x = refl
 
-count_below-one_more : (n : ℕ) (x : Places) → x n ≡ true → count_below x (suc n) ≡ count_below x n + 1
+pub count_below-one_more : (n : ℕ) (x : Places) → x n ≡ true → count_below x (suc n) ≡ count_below x n + 1
 count_below-one_more n x h = let e : suc n ≡ n + 1 = omega arith in ap (λ (m : ℕ). count_below x m) e ∙ count_below-member n x h
 
-count_below-no_more : (n : ℕ) (x : Places) → x n ≡ false → count_below x (suc n) ≡ count_below x n
+pub count_below-no_more : (n : ℕ) (x : Places) → x n ≡ false → count_below x (suc n) ≡ count_below x n
 count_below-no_more n x h = let e : suc n ≡ n + 1 = omega arith in ap (λ (m : ℕ). count_below x m) e ∙ count_below-outside n x h
 
 pub length-members_below : (n : ℕ) (x : Places) → length (members_below n x) ≡ count_below x n
@@ -131,7 +131,7 @@ mvd_in-from scheme x y r x_in y_in obeys p q p_in q_in agree =
     )
 
 -- ---- the whole of a tuple
-count_below-all : (n : ℕ) (x : Places) → ((k : ℕ) → k < n → x k ≡ true) → count_below x n ≡ n
+pub count_below-all : (n : ℕ) (x : Places) → ((k : ℕ) → k < n → x k ≡ true) → count_below x n ≡ n
 count_below-all n x all = count_below-equal n x (below n) (λ (k : ℕ) l. grind (arith, nat_tests, all k l)) ∙ count_below-below n n (omega arith)
 
 -- a tuple is its own projection on a scheme that has all its places
@@ -159,3 +159,11 @@ whole_lossless n ds = record {
       let same : found.0 ≡ t = sym (whole found.0 (All-contains (λ (u : Tuple). length u ≡ n) r found.0 legal.over found.1)) ∙ found.2 ∙ whole t joined.over in
       subst (λ (u : Tuple). Contains r u) same found.1;
 }
+
+pub members_below-one_more : (n m : ℕ) (x : Places) → m ≡ n + 1 → x n ≡ true → members_below m x ≡ members_below n x ++ n ∷ []
+unfolding members_below
+members_below-one_more n m x e member = let next : m ≡ suc n = omega (arith, e) in ap (λ (k : ℕ). members_below k x) next ∙ (rw member refl)
+
+pub members_below-no_more : (n m : ℕ) (x : Places) → m ≡ n + 1 → x n ≡ false → members_below m x ≡ members_below n x
+unfolding members_below
+members_below-no_more n m x e outside = let next : m ≡ suc n = omega (arith, e) in ap (λ (k : ℕ). members_below k x) next ∙ (rw outside (append-nil (members_below n x)))

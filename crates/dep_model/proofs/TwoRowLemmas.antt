@@ -109,3 +109,9 @@ mvd_two-from n a x y t u e x_in y_in gives v w v_in w_in agree =
         | inr wu ↦ inl (rw (vu, wu) (AgreeOn-refl y u))
       ]
     ])
+
+pub AgreeOn-left : (x y : Places) (t u : Tuple) → AgreeOn (union x y) t u → AgreeOn x t u
+AgreeOn-left x y t u both k m = both k (grind (arith, m))
+
+pub AgreeOn-right : (x y : Places) (t u : Tuple) → AgreeOn (union x y) t u → AgreeOn y t u
+AgreeOn-right x y t u both k m = both k (grind (arith, m))

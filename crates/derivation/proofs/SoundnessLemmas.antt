@@ -1,7 +1,7 @@
 -- What a tree proves is implied. What a relation over n places obeys depends on the places below n alone,
 -- so each rule is taken on sets that are cut to these.
 use Rattle.std.proofs.Common.{◌≡◌, ℕ, ◌<◌, ◌≤◌, true, not, ◌&&◌, ◌||◌, ⊎_elim, sym, ◌∙◌, ap, arith, [], refl, subst}
-use Rattle.std.specs.Prelude.{Contains, Ok, slice_get, length}
+use Rattle.std.specs.Prelude.{Ok, slice_get, length}
 use Rattle.std.proofs.lemmas.List.{get_or_past}
 use Rattle.std.proofs.lemmas.Option.{slice_get_within, get_or_from_slice_get}
 use Rattle.std.proofs.lemmas.List.Elements.{All-contains}
@@ -16,6 +16,7 @@ use Rattle.dep_model.specs.Tuples.{Tuple, Relation, IsOver, AgreeOn}
 use Rattle.dep_model.specs.Dependencies.{Dependency, fd, mvd, Obeys, ObeysFd, ObeysMvd}
 use Rattle.dep_model.specs.Schemas.{width_of, theory_of, universe_of, LegalFor, ImpliedBy}
 use Rattle.dep_model.proofs.RuleLemmas.{reflexivity_obeyed, augmentation_obeyed, transitivity_obeyed, complementation_obeyed, mreflexivity_obeyed, maugmentation_obeyed, replication_obeyed, mtransitivity_obeyed, coalescence_obeyed}
+use Rattle.dep_model.proofs.TupleLemmas.{IsOver-length}
 use Rattle.derivation.specs.declared.fault.FaultKind.TheVariants.{NoSuchGiven, NotWithin, MiddleDiffers, NotDisjoint}
 use Rattle.derivation.specs.Trees.{Leaf, given, reflexivity, mreflexivity, Step, augmentation, complementation, maugmentation, replication, Pair, transitivity, mtransitivity, coalescence, Tree, leaf, step, pair}
 use Rattle.derivation.specs.Table.{leaf_conclusion, step_conclusion, pair_conclusion}
@@ -27,9 +28,6 @@ use Rattle.derivation.proofs.RuleTableLemmas.{some_of_ok, the_ok, chosen, chosen
 abbrev pub WithinBelow : ℕ → Places → Places → Type 0
 WithinBelow n x y = (k : ℕ) → k < n → x k ≡ true → y k ≡ true
 
-length_is : (n : ℕ) (r : Relation) (t : Tuple) → IsOver n r → Contains r t → length t ≡ n
-length_is n r t over t_in = All-contains (λ (u : Tuple). length u ≡ n) r t over t_in
-
 agree_below : (n : ℕ) (x y : Places) (t u : Tuple) → length t ≡ n → length u ≡ n → WithinBelow n x y → AgreeOn y t u → AgreeOn x t u
 agree_below n x y t u t_long u_long inside agree k m =
     ⊎_elim (λ (low : k < n). agree k (inside k low m))
@@ -38,8 +36,8 @@ agree_below n x y t u t_long u_long inside agree k m =
 
 pub fd_below : (n : ℕ) (x y v w : Places) (r : Relation) → IsOver n r → WithinBelow n x v → WithinBelow n w y → ObeysFd x y r → ObeysFd v w r
 fd_below n x y v w r over left right obeys t u t_in u_in agree =
-    let t_long = length_is n r t over t_in in
-    let u_long = length_is n r u over u_in in
+    let t_long = IsOver-length n r t over t_in in
+    let u_long = IsOver-length n r u over u_in in
     agree_below n w y t u t_long u_long right (obeys t u t_in u_in (agree_below n x v t u t_long u_long left agree))
 
 -- the same places below n
@@ -48,10 +46,10 @@ SameBelow n x y = (k : ℕ) → k < n → x k ≡ y k
 
 pub mvd_below : (n : ℕ) (x y v w : Places) (r : Relation) → IsOver n r → SameBelow n x v → SameBelow n y w → ObeysMvd (below n) x y r → ObeysMvd (below n) v w r
 mvd_below n x y v w r over left right obeys t u t_in u_in agree =
-    let t_long = length_is n r t over t_in in
-    let u_long = length_is n r u over u_in in
+    let t_long = IsOver-length n r t over t_in in
+    let u_long = IsOver-length n r u over u_in in
     let found = obeys t u t_in u_in (agree_below n x v t u t_long u_long (λ k low m. sym (left k low) ∙ m) agree) in
-    let found_long = length_is n r found.0 over found.1 in (
+    let found_long = IsOver-length n r found.0 over found.1 in (
       found.0,
       found.1,
       agree_below n (union v w) (union x y) found.0 t found_long t_long (λ k low m. grind (arith, left k low, right k low, m)) found.2,

@@ -19,7 +19,7 @@ use Rattle.fd_closure.specs.Settled.{IsSettled}
 use Rattle.fd_closure.proofs.ClosureLemmas.{fd_each-to, fd_added}
 
 -- ---- functional dependencies
-all_functional : (ds : List Dependency) → functional_part ds ≡ ds → All (λ d. is_fd d ≡ true) ds
+pub all_functional : (ds : List Dependency) → functional_part ds ≡ ds → All (λ d. is_fd d ≡ true) ds
 all_functional ds same = subst (λ (es : List Dependency). All (λ d. is_fd d ≡ true) es) same (filter_passes is_fd ds)
 
 -- ---- whether a dependency leads out of a set

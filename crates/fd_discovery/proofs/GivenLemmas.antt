@@ -11,19 +11,10 @@ use Rattle.dep_model.specs.Dependencies.{Dependency, left_of, right_of}
 use Rattle.dep_model.specs.Deps.{dependency_of, dependencies_of}
 use Rattle.dep_model.specs.declared.dep.Dep.{Dep}
 use Rattle.fd_discovery.specs.Searching.{IsGivenFrom, AreNotGiven}
+use Rattle.dep_model.proofs.ListLemmas.{Any-weaker, Any-left}
 
 -- ---- some element is such
-pub Any-weaker : {X : Type 0} (P Q : X → Type 0) (xs : List X) → ((x : X) → P x → Q x) → Any P xs → Any Q xs
-Any-weaker P Q xs gives h = (h.0, h.1, h.2, h.3, gives h.1 h.4)
 
-pub Any-left : {X : Type 0} (P : X → Type 0) (xs : List X) (y : X) → Any P xs → Any P (xs ++ y ∷ [])
-Any-left P xs y h = (
-  h.0,
-  h.1,
-  omega (arith, h.2, length_push xs y),
-  get_or_append_left xs
-      (y ∷ []) h.1 h.0 h.2 ∙ h.3,
-  h.4,
 )
 
 pub Any-push_cases : {X : Type 0} (P : X → Type 0) (xs : List X) (y : X) → Any P (xs ++ y ∷ []) → Any P xs ⊎ P y

@@ -11,13 +11,10 @@ use Rattle.dep_model.specs.Tuples.{Tuple, Relation, AgreeOn}
 use Rattle.dep_model.specs.Dependencies.{ObeysFd}
 use Rattle.csv_rows.specs.Numberings.{row_at, number_at, AreGroups}
 use Rattle.csv_rows.specs.Interning.{codes_at}
-use Rattle.csv_rows.proofs.NumberingLemmas.{agree_union, agree_left, agree_right}
 use Rattle.fd_discovery.specs.Leaders.{AreLeaders, IsOrderOf, IsTableOfRows, order_at}
 use Rattle.fd_discovery.specs.declared.table.Table.{Table}
-
--- a tuple of a relation stands at a place of it
-row_of : (r : Relation) (t : Tuple) → Contains r t → (i : ℕ) × (i < length r) × (row_at r i ≡ t)
-row_of r t has = (has.0, has.1, get_or_default r has.0 [] t has.1 ∙ has.2)
+use Rattle.dep_model.proofs.TwoRowLemmas.{AgreeOn-union, AgreeOn-left, AgreeOn-right}
+use Rattle.csv_rows.proofs.NumberingLemmas.{row_of}
 
 module _ (r : Relation) (x : Places) (leaders : List ℕ) (led : AreLeaders r x leaders) where
   abbrev lead : ℕ → ℕ
@@ -268,15 +265,15 @@ all_refined r x k leaders codes order latest finer p led groups ordered refined 
       subst (λ (j : ℕ). number_at leaders (number_at finer j) ≡ number_at leaders j) is (refined.leads q at) in
       let code_same : number_at codes (number_at finer i) ≡ number_at codes i =
       subst (λ (j : ℕ). number_at codes (number_at finer j) ≡ number_at codes j) is (refined.numbered q at) in
-      agree_union x (only k) _ _ (one_leader r x leaders led i (number_at finer i) l new (sym lead_same))
+      AgreeOn-union x (only k) _ _ (one_leader r x leaders led i (number_at finer i) l new (sym lead_same))
       ((groups.equal i (number_at finer i) l new).0 (sym code_same));
   same = λ i j li lj agree.
       let (q, at_q, is_q) = place i li in
       let (s, at_s, is_s) = place j lj in
       let lead_same : number_at leaders i ≡ number_at leaders j =
-      led.same i j li lj (agree_left x (only k) _ _ agree) in
+      led.same i j li lj (AgreeOn-left x (only k) _ _ agree) in
       let code_same : number_at codes i ≡ number_at codes j =
-      (groups.equal i j li lj).1 (agree_right x (only k) _ _ agree) in
+      (groups.equal i j li lj).1 (AgreeOn-right x (only k) _ _ agree) in
       sym (ap (number_at finer) is_q)
       ∙ refined.same q s at_q at_s (ap (number_at leaders) is_q ∙ lead_same ∙ sym (ap (number_at leaders) is_s))
       (ap (number_at codes) is_q ∙ code_same ∙ sym (ap (number_at codes) is_s))

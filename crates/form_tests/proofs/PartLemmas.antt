@@ -7,8 +7,7 @@ use Rattle.std.specs.Prelude.{All}
 use Rattle.attr_sets.specs.Places.{Places, below, only, meet, minus, Within, Same}
 use Rattle.attr_sets.proofs.PlacesLemmas.{tell_empty}
 use Rattle.dep_model.specs.declared.dep.Dep.{Dep}
-use Rattle.dep_model.specs.Tuples.{Relation}
-use Rattle.dep_model.specs.Dependencies.{Dependency, fd, mvd, ObeysMvd, left_of}
+use Rattle.dep_model.specs.Dependencies.{Dependency, fd, mvd, left_of}
 use Rattle.dep_model.specs.Deps.{dependency_of, dependencies_of, IsDepWithin}
 use Rattle.dep_model.specs.Implication.{Implies}
 use Rattle.dep_model.specs.OnSchemes.{ImpliedOn}
@@ -23,18 +22,14 @@ use Rattle.dep_basis.specs.Bases.{IsSplitBy}
 use Rattle.dep_basis.proofs.BlockLemmas.{outside_of, block_legal, block_apart}
 use Rattle.dep_basis.proofs.BasisLemmas.{split_broken}
 use Rattle.dep_basis.proofs.RestLemmas.{block_at, rest_block}
+use Rattle.dep_basis.proofs.PartLemmas.{mvd_on_scheme}
 
 -- ---- on a scheme
--- what is multidetermined on the universe is so on the scheme, cut down to it
-cut_obeyed : (n : ℕ) (scheme x w : Places) (r : Relation) → Within scheme (below n) → ObeysMvd (below n) x w r → ObeysMvd scheme x (meet w scheme) r
-cut_obeyed n scheme x w r low obeys t u t_in u_in agree =
-    let v = obeys t u t_in u_in agree in
-    (v.0, v.1, (λ (k : ℕ) m. v.2 k (grind (arith, m))), (λ (k : ℕ) m. v.3 k (grind (arith, m, low k))))
 
 pub mvd_cut : (n : ℕ) (ds : List Dependency) (scheme x w : Places) → Within scheme (below n) → Within x scheme → Implies n ds (mvd x w) → ImpliedOn n ds scheme (mvd x (meet w scheme))
 mvd_cut n ds scheme x w low x_in implied = record {
   within = (x_in, λ (k : ℕ) m. grind (arith, m));
-  obeyed = λ r legal. mvd_in-from scheme x (meet w scheme) r x_in (λ (k : ℕ) m. grind (arith, m)) (cut_obeyed n scheme x w r low (implied r legal));
+  obeyed = λ r legal. mvd_in-from scheme x (meet w scheme) r x_in (λ (k : ℕ) m. grind (arith, m)) (mvd_on_scheme n scheme x w r low (implied r legal));
 }
 
 -- an attribute that is determined is multidetermined

@@ -2,7 +2,7 @@
 use Rattle.std.proofs.Common.{◌≡◌, ℕ, ◌+◌, ◌^◌, ◌<◌, ◌≤◌, ◌⊎◌, suc, true, false, List, [], ◌∷◌, ◌++◌, length, get_or, map, take, refl, sym, ◌∙◌, subst, ap, ⊎_elim, inl, inr, arith}
 use Rattle.std.proofs.lemmas.Bool.{cases_eq, true≢false}
 use Rattle.std.proofs.lemmas.List.{length_push, length-map, get_or_default, get_or-take, map_more}
-use Rattle.std.proofs.lemmas.List.Elements.{All-push, All-contains, All-head, All-tail, All-map, Contains-get_or, filter_passes}
+use Rattle.std.proofs.lemmas.List.Elements.{All-push, All-contains, All-map, Contains-get_or, filter_passes}
 use Rattle.std.proofs.lemmas.List.Quantifiers.{all_pairs_push}
 use Rattle.std.proofs.lemmas.List.Sorted.{All-permutation, length_permutation, IsNonDecreasingBy-from_sort}
 use Rattle.std.specs.Prelude.{All, AllPairs, Any, Contains}
@@ -105,13 +105,6 @@ tried_more ds old found tried j key e lt at grows before now i d l =
     subst (λ (k : AttrSet). IsExchangedUnlessMany ds found (places k)) (sym is) now)
     (λ (earlier : i ≡ tried → ⊥). exchanged_grows ds old found (places (get_or old i d)) grows (before i d (omega (arith, l, e, earlier))))
     (cases_eq i tried))
-
--- where all are functional, the functional part is the list
-pub functional_list : (ds : List Dep) → All (λ (d : Dep). is_fd (dependency_of d) ≡ true) ds → functional_part (dependencies_of ds) ≡ dependencies_of ds
-functional_list [] all = refl
-functional_list (d ∷ ds) all =
-    let first : is_fd (dependency_of d) ≡ true = All-head (λ (e : Dep). is_fd (dependency_of e) ≡ true) d ds all in
-    rw first (ap (λ (es : List Dependency). dependency_of d ∷ es) (functional_list ds (All-tail (λ (e : Dep). is_fd (dependency_of e) ≡ true) d ds all)))
 
 -- ---- multivalued dependencies
 pub all_functional : (ds : List Dependency) → functional_part ds ≡ ds → All (λ (d : Dependency). is_fd d ≡ true) ds

@@ -1,8 +1,8 @@
 -- Lists of which some element is such, of which any two differ, and what sorting keeps of them.
-use Rattle.std.proofs.Common.{◌≡◌, ℕ, ◌+◌, ◌<◌, ◌≤◌, ◌⊎◌, List, [], ◌∷◌, ◌++◌, length, get_or, map, take, refl, sym, ◌∙◌, subst, ap, ⊎_elim, inl, inr, arith}
+use Rattle.std.proofs.Common.{◌≡◌, ℕ, ◌+◌, ◌<◌, ◌≤◌, ◌⊎◌, List, length, get_or, map, take, refl, sym, ◌∙◌, subst, ap, ⊎_elim, inl, inr, arith}
 use Rattle.std.proofs.lemmas.Bool.{cases_eq, cases_order, true≢false}
 use Rattle.std.proofs.lemmas.List.Elements.{All-more}
-use Rattle.std.proofs.lemmas.List.{get_or-take, get_or_default, length-take, length_push, length-map, get_or-map, get_or_append_left, take-take, take_all}
+use Rattle.std.proofs.lemmas.List.{get_or-take, get_or_default, length-take, length-map, get_or-map, take-take, take_all}
 use Rattle.std.proofs.lemmas.List.Edits.{swapped_from_swap, length-swap}
 use Rattle.std.proofs.lemmas.List.Sorted.{IsPermutation-keeps, Contains-permutation}
 use Rattle.std.specs.Prelude.{All, AllPairs, Any, Contains, Option, Some, None, IsNone, IfSome}
@@ -13,11 +13,6 @@ use Rattle.attr_sets.specs.Sets.{places}
 use Rattle.std.specs.List.Sorted.{IsPermutation}
 
 -- ---- some element is such
-pub Any-weaker : {X : Type 0} (P Q : X → Type 0) (xs : List X) → ((x : X) → P x → Q x) → Any P xs → Any Q xs
-Any-weaker P Q xs gives h = (h.0, h.1, h.2, h.3, gives h.1 h.4)
-
-pub Any-left : {X : Type 0} (P : X → Type 0) (xs : List X) (y : X) → Any P xs → Any P (xs ++ y ∷ [])
-Any-left P xs y h = (h.0, h.1, omega (arith, h.2, length_push xs y), get_or_append_left xs (y ∷ []) h.1 h.0 h.2 ∙ h.3, h.4)
 
 pub Any-map : (P : Places → Type 0) (xs : List AttrSet) → Any (λ (x : AttrSet). P (places x)) xs → Any P (map places xs)
 Any-map P xs h =

@@ -1,17 +1,9 @@
 -- Counts of sets of numbers that are matched with one another.
-use Rattle.std.proofs.Common.{inl, inr, ◌≡◌, ◌+◌, ◌<◌, ◌≤◌, ◌==◌, ◌&&◌, not, ℕ, zero, suc, Bool, true, false, ap, subst, ◌∙◌, arith}
+use Rattle.std.proofs.Common.{inl, inr, ◌≡◌, ◌<◌, ◌≤◌, ◌==◌, ◌&&◌, not, ℕ, zero, suc, Bool, true, false, ap, subst, ◌∙◌, arith}
 use Rattle.std.proofs.lemmas.Bool.{cases_Bool, eqb-true}
 use Rattle.attr_sets.specs.Places.{Places, only, minus, count_below}
-use Rattle.attr_sets.proofs.PlacesLemmas.{count_below-minus_only, count_below-member, count_below-outside, count_below-none}
-
-pub start_count : (x : Places) → count_below x 0 ≡ 0
-start_count x = count_below-none 0 x (λ k l. absurd (omega (arith, l)))
-
-more_in : (n : ℕ) (x : Places) → x n ≡ true → count_below x (suc n) ≡ count_below x n + 1
-more_in n x h = let e : suc n ≡ n + 1 = omega arith in ap (count_below x) e ∙ count_below-member n x h
-
-more_out : (n : ℕ) (x : Places) → x n ≡ false → count_below x (suc n) ≡ count_below x n
-more_out n x h = let e : suc n ≡ n + 1 = omega arith in ap (count_below x) e ∙ count_below-outside n x h
+use Rattle.attr_sets.proofs.PlacesLemmas.{count_below-minus_only}
+use Rattle.dep_model.proofs.SchemeLemmas.{count_below-start, count_below-one_more, count_below-no_more}
 
 pub other_number : (a b : ℕ) → (a ≡ b → ⊥) → (a == b) ≡ false
 other_number a b h = elim (cases_Bool (a == b)) [ inl e ↦ absurd (h (eqb-true a b e)) | inr e ↦ e ]
@@ -19,7 +11,7 @@ other_number a b h = elim (cases_Bool (a == b)) [ inl e ↦ absurd (h (eqb-true 
 -- where each member of a set has a member of another, and no two have one, the other has as many
 pub matched : (n m : ℕ) (a b : Places) (R : ℕ → ℕ → Type 0) → ((i : ℕ) → i < n → a i ≡ true → (j : ℕ) × (j < m) × (b j ≡ true) × R i j)
     → ((i k j : ℕ) → i < n → k < n → a i ≡ true → a k ≡ true → R i j → R k j → i ≡ k) → count_below a n ≤ count_below b m
-matched zero m a b R each once = omega (arith, start_count a)
+matched zero m a b R each once = omega (arith, count_below-start a)
 matched (suc n) m a b R each once = elim (cases_Bool (a n)) [
   | inl has ↦
       let (j, low, member, r) = each n (omega arith) has in
@@ -28,8 +20,8 @@ matched (suc n) m a b R each once = elim (cases_Bool (a n)) [
       let apart : (k == j) ≡ false = other_number k j (λ e. absurd (omega (arith, l, once i n j (omega (arith, l)) (omega arith) h has (subst (R i) e kr) r))) in
       (k, kl, ap (λ (t : Bool). t && not (k == j)) kb ∙ ap not apart, kr))
       (λ i k j li lk hi hk. once i k j (omega (arith, li)) (omega (arith, lk)) hi hk) in
-      omega (arith, rest, count_below-minus_only m b j low member, more_in n a has)
+      omega (arith, rest, count_below-minus_only m b j low member, count_below-one_more n a has)
   | inr lacks ↦
       let rest = matched n m a b R (λ i l h. each i (omega (arith, l)) h) (λ i k j li lk hi hk. once i k j (omega (arith, li)) (omega (arith, lk)) hi hk) in
-      omega (arith, rest, more_out n a lacks)
+      omega (arith, rest, count_below-no_more n a lacks)
 ]

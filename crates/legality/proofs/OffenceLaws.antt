@@ -7,6 +7,7 @@ use Rattle.dep_model.specs.Dependencies.{Dependency, Obeys}
 use Rattle.legality.specs.declared.offence.Offence.{Offence}
 use Rattle.legality.specs.Offences.{IsLeastPair, IsOffence, OffencesFrom, OffencesOf}
 use Rattle.legality.proofs.OffenceLemmas.{not_obeyed}
+use Rattle.csv_rows.proofs.PrintedRows.{zero_plus}
 
 -- an offence is that of one of these dependencies, which are numbered from k
 abbrev Names : ℕ → Relation → ℕ → List Dependency → Offence → Type 0
@@ -36,9 +37,6 @@ all_named n r k (d ∷ ds) os (inl h) = λ i o l. later_named n r k d ds _ (all_
 all_named n r k (d ∷ ds) os (inr (o, rest, at, is, h)) =
     subst (λ (l : List Offence). All (Names n r k (d ∷ ds)) l) (sym at)
     (one_named n r k (d ∷ ds) o rest (first_named n r k d ds o is) (λ i p l. later_named n r k d ds _ (all_named n r (k + 1) ds rest h i p l)))
-
-zero_plus : (n : ℕ) → 0 + n ≡ n
-zero_plus n = omega arith
 
 pub offences_named : (n : ℕ) (ds : List Dependency) (r : Relation) (os : List Offence) → OffencesOf n ds r os
     → All (λ o. (d : Dependency) × (slice_get ds o.dep ≡ Some d) × IsOffence n r o.dep d o) os

@@ -1,8 +1,6 @@
 -- The offences of a list of dependencies, one after the other.
-use Rattle.std.proofs.Common.{inl, inr, ◌≡◌, ◌+◌, ◌<◌, ◌≤◌, Option, Some, None, ℕ, zero, suc, List, [], ◌∷◌, ◌++◌, length, map, take, get_or, add-one, refl, sym, ap, subst, ◌∙◌, arith}
+use Rattle.std.proofs.Common.{inl, inr, ◌≡◌, ◌+◌, ◌<◌, ◌≤◌, Option, Some, None, ℕ, zero, suc, List, [], ◌∷◌, ◌++◌, length, take, get_or, refl, sym, ap, subst, ◌∙◌, arith}
 use Rattle.std.specs.Prelude.{All}
-use Rattle.std.proofs.Math.ListN.{get_or-map}
-use Rattle.std.proofs.Math.Seq.{take-suc}
 use Rattle.std.proofs.lemmas.List.{length-map, length-take-le, take_all}
 use Rattle.attr_sets.specs.Places.{below}
 use Rattle.dep_model.specs.Tuples.{Relation}
@@ -15,6 +13,7 @@ use Rattle.legality.specs.declared.pair.Pair.{Pair}
 use Rattle.legality.specs.Answers.{IsLeastOffence}
 use Rattle.legality.specs.Offences.{BreaksAt, IsLeastPair, IsOffence, OffencesFrom}
 use Rattle.legality.proofs.PairLemmas.{member_of}
+use Rattle.dep_model.proofs.DepLemmas.{theory_next}
 
 -- of no dependency there is no offence
 pub no_offences : (n : ℕ) (r : Relation) (k : ℕ) (ds : List Dependency) (os : List Offence) → ds ≡ [] → os ≡ [] → OffencesFrom n r k ds os
@@ -36,11 +35,6 @@ broken_more n r k [] os d o h is = inr (o, [], ap (λ (l : List Offence). l ++ o
 broken_more n r k (e ∷ ds) os d o (inl h) is = inl (h.0, broken_more n r (k + 1) ds os d o h.1 (subst (λ (m : ℕ). IsOffence n r m d o) (omega arith) is))
 broken_more n r k (e ∷ ds) os d o (inr (p, rest, at, first, h)) is =
     inr (p, rest ++ o ∷ [], ap (λ (l : List Offence). l ++ o ∷ []) at, first, broken_more n r (k + 1) ds rest d o h (subst (λ (m : ℕ). IsOffence n r m d o) (omega arith) is))
-
-pub theory_next : (deps : List Dep) (k : ℕ) (d : Dep) → k < length deps → take (k + 1) (dependencies_of deps) ≡ take k (dependencies_of deps) ++ dependency_of (get_or deps k d) ∷ []
-theory_next deps k d l =
-    let long : k < length (map dependency_of deps) = omega (arith, l, length-map deps dependency_of) in
-    rw add-one (take-suc (map dependency_of deps) k (dependency_of d) long ∙ ap (λ (e : Dependency). take k (map dependency_of deps) ++ e ∷ []) (get_or-map dependency_of deps k d))
 
 -- a dependency of a schema, by its place
 pub dep_within : (n w : ℕ) (deps ds : List Dep) (k : ℕ) (d : Dep) → ds ≡ deps → w ≡ n → All (IsDepWithin (below n)) deps → k < length ds → IsDepWithin (below w) (get_or ds k d)

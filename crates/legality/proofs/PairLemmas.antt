@@ -6,19 +6,12 @@ use Rattle.attr_sets.specs.Places.{Places}
 use Rattle.dep_model.specs.Tuples.{Tuple, Relation, AgreeOn, value_at}
 use Rattle.dep_model.specs.Dependencies.{fd}
 use Rattle.csv_rows.specs.Numberings.{row_at, number_at, AreGroups, AreFirsts}
-use Rattle.csv_rows.proofs.NumberingLemmas.{same_default}
+use Rattle.csv_rows.proofs.NumberingLemmas.{same_default, row_of}
 use Rattle.legality.specs.Answers.{IsLeastOffence}
 use Rattle.legality.specs.declared.pair.Pair.{Pair}
 
--- a member stands at a place, and what stands at a place is a member
-pub place_of : (r : Relation) (t : Tuple) → Contains r t → (i : ℕ) × (i < length r) × (row_at r i ≡ t)
-place_of r t h = (h.0, h.1, same_default r h.0 [] t h.1 ∙ h.2)
-
 pub member_of : (r : Relation) (i : ℕ) → i < length r → Contains r (row_at r i)
 member_of r i l = (i, l, same_default r i (row_at r i) [] l)
-
-pub agree_trans : (x : Places) (t u v : Tuple) → AgreeOn x t u → AgreeOn x u v → AgreeOn x t v
-agree_trans x t u v a b k h = a k h ∙ b k h
 
 -- the first row that agrees with a row on the set of the groups
 abbrev pub leader : List ℕ → List ℕ → ℕ → ℕ
@@ -106,8 +99,8 @@ pub functional_answer : (n : ℕ) (r : Relation) (x y : Places) (numbers firsts 
     → Leads r y (leader numbers firsts) (length r) least → IsLeastOffence n r (fd x y) least
 unfolding Leads
 functional_answer n r x y numbers firsts None g f l = λ t u ht hu a.
-    let (i, li, ti) = place_of r t ht in
-    let (j, lj, uj) = place_of r u hu in
+    let (i, li, ti) = row_of r t ht in
+    let (j, lj, uj) = row_of r u hu in
     let same : number_at numbers i ≡ number_at numbers j = (g.equal i j li lj).1 (λ k h. ap (λ (v : Tuple). value_at v k) ti ∙ a k h ∙ ap (λ (v : Tuple). value_at v k) (sym uj)) in
     λ k h. ap (λ (v : Tuple). value_at v k) (sym ti) ∙ sym (l i li k h) ∙ ap (λ (m : ℕ). value_at (row_at r (number_at firsts m)) k) same ∙ l j lj k h ∙ ap (λ (v : Tuple). value_at v k) uj
 functional_answer n r x y numbers firsts (Some p) g f (within, first, differs, all) =

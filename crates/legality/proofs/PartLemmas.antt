@@ -4,17 +4,19 @@ use Rattle.std.proofs.lemmas.List.{get_or-set_other, length-set}
 use Rattle.std.proofs.lemmas.Grind.{get_or-set_at}
 use Rattle.std.proofs.lemmas.Bool.{cases_Bool, cases_lt, eqb-true, eq-eqb}
 use Rattle.attr_sets.specs.Places.{Places, Within, Same, below, union, minus, only, count_below}
-use Rattle.attr_sets.proofs.PlacesLemmas.{Same-path, tell_some, count_below-minus_only, count_below-member, count_below-outside}
+use Rattle.attr_sets.proofs.PlacesLemmas.{Same-path, tell_some, count_below-minus_only, count_below-member, count_below-outside, union_within}
 use Rattle.dep_model.specs.Tuples.{Tuple, Relation, AgreeOn, value_at}
 use Rattle.dep_model.specs.Dependencies.{mvd, Obeys}
 use Rattle.csv_rows.specs.Numberings.{row_at, number_at, AreGroups, AreFirsts}
-use Rattle.csv_rows.proofs.NumberingLemmas.{zeros_at}
+use Rattle.csv_rows.proofs.NumberingLemmas.{zeros_at, row_of}
 use Rattle.legality.specs.Offences.{BreaksAt}
 use Rattle.legality.specs.Answers.{IsLeastOffence}
 use Rattle.legality.specs.Parts.{part_count, ArePartCounts, IsFirstShort, flag_at, AreBeside, IsFirstMissing}
 use Rattle.legality.specs.declared.pair.Pair.{Pair}
-use Rattle.legality.proofs.CountLemmas.{start_count, matched, other_number}
-use Rattle.legality.proofs.PairLemmas.{place_of, member_of, agree_trans}
+use Rattle.legality.proofs.CountLemmas.{matched, other_number}
+use Rattle.legality.proofs.PairLemmas.{member_of}
+use Rattle.dep_model.proofs.TwoRowLemmas.{AgreeOn-union, AgreeOn-left, AgreeOn-right, AgreeOn-trans}
+use Rattle.dep_model.proofs.SchemeLemmas.{count_below-start}
 
 -- what is outside x and y
 abbrev pub rest_of : ℕ → Places → Places → Places
@@ -39,39 +41,15 @@ agree_of r x g i j k li lj e = (k.equal i j li lj).0 e
 number_of : (r : Relation) (x : Places) (g : List ℕ) (i j : ℕ) → AreGroups r x g → i < length r → j < length r → AgreeOn x (row_at r i) (row_at r j) → number_at g i ≡ number_at g j
 number_of r x g i j k li lj e = (k.equal i j li lj).1 e
 
-agree_first : (x y : Places) (t u : Tuple) → AgreeOn (union x y) t u → AgreeOn x t u
-agree_first x y t u a m has = a m (ap (λ (c : Bool). c || y m) has)
-
-agree_second : (x y : Places) (t u : Tuple) → AgreeOn (union x y) t u → AgreeOn y t u
-agree_second x y t u a m has = a m (by (x m) has)
-  where
-    by : (c : Bool) → y m ≡ true → (c || y m) ≡ true
-    by true e = refl
-    by false e = e
-
-agree_both : (x y : Places) (t u : Tuple) → AgreeOn x t u → AgreeOn y t u → AgreeOn (union x y) t u
-agree_both x y t u a b m has = by (x m) refl has
-  where
-    by : (c : Bool) → x m ≡ c → (c || y m) ≡ true → value_at t m ≡ value_at u m
-    by true e h = a m e
-    by false e h = b m h
-
 -- what agrees on both parts agrees everywhere
 agree_all : (n : ℕ) (x y : Places) (t u : Tuple) → AgreeOn (union x y) t u → AgreeOn (union x (rest_of n x y)) t u → AgreeOn (below n) t u
 agree_all n x y t u a b m low = elim (cases_Bool (union x y m)) [
   | inl has ↦ a m has
-  | inr lacks ↦ agree_second x (rest_of n x y) t u b m (ap (λ (c : Bool). c && not (union x y m)) low ∙ ap not lacks)
+  | inr lacks ↦ AgreeOn-right x (rest_of n x y) t u b m (ap (λ (c : Bool). c && not (union x y m)) low ∙ ap not lacks)
 ]
 
 agree_part : (n : ℕ) (x : Places) (t u : Tuple) → Within x (below n) → AgreeOn (below n) t u → AgreeOn x t u
 agree_part n x t u within a m has = a m (within m has)
-
-pub union_within : (n : ℕ) (x y : Places) → Within x (below n) → Within y (below n) → Within (union x y) (below n)
-union_within n x y hx hy m has = by (x m) refl has
-  where
-    by : (c : Bool) → x m ≡ c → (c || y m) ≡ true → nat_lt m n ≡ true
-    by true e h = hx m e
-    by false e h = hy m h
 
 pub rest_within : (n : ℕ) (x y : Places) → Within (rest_of n x y) (below n)
 rest_within n x y m has = by (nat_lt m n) has
@@ -106,7 +84,7 @@ module _ (n : ℕ) (r : Relation) (x y : Places) (g fg l fl z fz a fa : List ℕ
         let low : z0 < length fz = k.rest_firsts.each j (omega (arith, lj, k.rest.one_each)) in
         let f0 : number_at fz z0 < length r = first_in z fz k.rest_firsts k.rest.one_each z0 low in
         let owner : number_at g (number_at fz z0) ≡ number_at g i =
-        number_of r x g _ _ k.left f0 lj (agree_first x (rest_of n x y) _ _ (agree_of r _ z _ _ k.rest f0 lj (k.rest_firsts.number z0 low))) ∙ same in
+        number_of r x g _ _ k.left f0 lj (AgreeOn-left x (rest_of n x y) _ _ (agree_of r _ z _ _ k.rest f0 lj (k.rest_firsts.number z0 low))) ∙ same in
         let fewer = matched (length fa) (length fz) (λ h. number_at l (number_at fa h) == number_at l i) (minus (λ h. number_at g (number_at fz h) == number_at g i) (only z0)) (λ h p. number_at z (number_at fa h) ≡ p)
         (λ h hl is.
         let v : ℕ = number_at fa h in
@@ -116,8 +94,8 @@ module _ (n : ℕ) (r : Relation) (x y : Places) (g fg l fl z fz a fa : List ℕ
         let pl : p < length fz = k.rest_firsts.each v (omega (arith, lv, k.rest.one_each)) in
         let fp : number_at fz p < length r = first_in z fz k.rest_firsts k.rest.one_each p pl in
         let mine : number_at g (number_at fz p) ≡ number_at g i =
-        number_of r x g _ _ k.left fp lv (agree_first x (rest_of n x y) _ _ (agree_of r _ z _ _ k.rest fp lv (k.rest_firsts.number p pl)))
-        ∙ number_of r x g _ _ k.left lv li (agree_first x y _ _ (agree_of r _ l _ _ k.both lv li at)) in
+        number_of r x g _ _ k.left fp lv (AgreeOn-left x (rest_of n x y) _ _ (agree_of r _ z _ _ k.rest fp lv (k.rest_firsts.number p pl)))
+        ∙ number_of r x g _ _ k.left lv li (AgreeOn-left x y _ _ (agree_of r _ l _ _ k.both lv li at)) in
         let apart : (p == z0) ≡ false = other_number p z0 (λ e. true≢false (sym (ap (λ (b : Bool). b && (number_at z v == z0)) is ∙ eq-eqb p z0 e) ∙ none v lv)) in
         (p, pl, ap (λ (b : Bool). b && not (p == z0)) (eq-eqb _ _ mine) ∙ ap not apart, refl))
         (λ h q p hl ql ih iq eh eq. one_row i h q li hl ql (eqb-true _ _ ih) (eqb-true _ _ iq) (eh ∙ sym eq)) in
@@ -155,7 +133,7 @@ module _ (n : ℕ) (r : Relation) (x y : Places) (g fg l fl z fz a fa : List ℕ
   -- a row beside two others keeps them from breaking the dependency
   not_broken : (i j : ℕ) → BreaksAt n r (mvd x y) i j → Beside i j → ⊥
   not_broken i j (li, lj, (agrees, none)) (v, lv, left, rest) =
-      none (row_at r v) (member_of r v lv) (agree_of r _ l _ _ k.both lv li left) (agree_second x (rest_of n x y) _ _ (agree_of r _ z _ _ k.rest lv lj rest))
+      none (row_at r v) (member_of r v lv) (agree_of r _ l _ _ k.both lv li left) (AgreeOn-right x (rest_of n x y) _ _ (agree_of r _ z _ _ k.rest lv lj rest))
 
   broken : (i j : ℕ) → i < length r → j < length r → number_at g j ≡ number_at g i → (Beside i j → ⊥) → BreaksAt n r (mvd x y) i j
   broken i j li lj same nope =
@@ -165,14 +143,14 @@ module _ (n : ℕ) (r : Relation) (x y : Places) (g fg l fl z fz a fa : List ℕ
         (
           agrees,
           λ v member av au.
-              let (m, lm, at) = place_of r v member in
+              let (m, lm, at) = row_of r v member in
               let am : AgreeOn (union x y) (row_at r m) (row_at r i) = λ p h. ap (λ (t : Tuple). value_at t p) at ∙ av p h in
               let bm : AgreeOn (rest_of n x y) (row_at r m) (row_at r j) = λ p h. ap (λ (t : Tuple). value_at t p) at ∙ au p h in
               nope (
                 m,
                 lm,
                 number_of r _ l _ _ k.both lm li am,
-                number_of r _ z _ _ k.rest lm lj (agree_both x (rest_of n x y) _ _ (agree_trans x _ _ _ (agree_first x y _ _ am) agrees) bm),
+                number_of r _ z _ _ k.rest lm lj (AgreeOn-union x (rest_of n x y) _ _ (AgreeOn-trans x _ _ _ (AgreeOn-left x y _ _ am) agrees) bm),
               ),
         ),
       )
@@ -185,14 +163,14 @@ module _ (n : ℕ) (r : Relation) (x y : Places) (g fg l fl z fz a fa : List ℕ
   -- no row is short of parts
   pub none_short : (wanted present : List ℕ) → ArePartCounts g fg fz wanted → ArePartCounts l fl fa present → IsFirstShort g wanted l present None → Obeys n (mvd x y) r
   none_short wanted present w p counts t u ht hu agrees =
-      let (i, li, ti) = place_of r t ht in
-      let (j, lj, uj) = place_of r u hu in
+      let (i, li, ti) = row_of r t ht in
+      let (j, lj, uj) = row_of r u hu in
       let same : number_at g j ≡ number_at g i = sym (number_of r x g _ _ k.left li lj (λ m h. ap (λ (v : Tuple). value_at v m) ti ∙ agrees m h ∙ ap (λ (v : Tuple). value_at v m) (sym uj))) in
       let (v, lv, left, rest) = enough i j li lj same (enough_counts wanted present w p i li (counts i (omega (arith, li, k.left.one_each)))) in (
         row_at r v,
         member_of r v lv,
         (λ m h. agree_of r _ l _ _ k.both lv li left m h ∙ ap (λ (w : Tuple). value_at w m) ti),
-        (λ m h. agree_second x (rest_of n x y) _ _ (agree_of r _ z _ _ k.rest lv lj rest) m h ∙ ap (λ (w : Tuple). value_at w m) uj),
+        (λ m h. AgreeOn-right x (rest_of n x y) _ _ (agree_of r _ z _ _ k.rest lv lj rest) m h ∙ ap (λ (w : Tuple). value_at w m) uj),
       )
 
   -- the first row that is short of parts, and the first whose rest is missing beside it
@@ -279,7 +257,7 @@ part_counted value counts new n low e old h l =
     ]
 
 pub no_parts : (value : ℕ → ℕ) (n h : ℕ) (counts : List ℕ) → counts ≡ replicate n 0 → number_at counts h ≡ count_below (λ g. value g == h) 0
-no_parts value n h counts e = ap (λ (xs : List ℕ). number_at xs h) e ∙ zeros_at n h ∙ sym (start_count (λ g. value g == h))
+no_parts value n h counts e = ap (λ (xs : List ℕ). number_at xs h) e ∙ zeros_at n h ∙ sym (count_below-start (λ g. value g == h))
 
 -- a slice that is a list known
 pub below_firsts : (numbers firsts xs ys : List ℕ) → xs ≡ numbers → ys ≡ firsts → AreFirsts numbers firsts → (i : ℕ) → i < length xs → number_at xs i < length ys

@@ -4,6 +4,7 @@ use Rattle.std.proofs.lemmas.List.Elements.{All-from_get_or}
 use Rattle.std.proofs.lemmas.List.Sums.{prefix_len_passes}
 use Rattle.std.proofs.lemmas.List.Splits.{slice_split_none, slice_split_first}
 use Rattle.std.proofs.lemmas.List.{drop-drop, length-take, length-take-le}
+use Rattle.std.proofs.lemmas.Bool.{not-true}
 use Rattle.std.specs.List.{slice_split, ends_with, position_or_len, before_first, after_first, onto_first}
 use Rattle.lexer.specs.Lines.{is_line_feed, line_texts, without_return, without_returns, CutsAt, IsLastLine}
 
@@ -24,14 +25,10 @@ split_cons p (x ∷ xs) = elim (p x) as (λ b. IsCons (cond b ([] ∷ slice_spli
 before_others : (line : List ℕ) (ls : List (List ℕ)) → IsCons ls → without_returns (line ∷ ls) ≡ without_return line ∷ without_returns ls
 before_others line ls c = rw c.whole refl
 
-flip : (b : Bool) → not b ≡ true → b ≡ false
-flip false e = refl
-flip true e = cc
-
 pub last_line : (text : List ℕ) (end : ℕ) → end ≡ position_or_len is_line_feed text → length text ≤ end → IsLastLine text text
 unfolding line_texts
 last_line text end e h = record {
-  lines = rw (slice_split_none is_line_feed text (All-from_get_or (λ b. is_line_feed b ≡ false) text 0 (λ i below. flip (is_line_feed (get_or text i 0)) (prefix_len_passes (λ b. not (is_line_feed b)) text i 0 (omega arith))))) refl;
+  lines = rw (slice_split_none is_line_feed text (All-from_get_or (λ b. is_line_feed b ≡ false) text 0 (λ i below. not-true (is_line_feed (get_or text i 0)) (prefix_len_passes (λ b. not (is_line_feed b)) text i 0 (omega arith))))) refl;
   within = omega arith;
 }
 

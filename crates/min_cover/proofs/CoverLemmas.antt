@@ -11,9 +11,10 @@ use Rattle.dep_model.specs.Dependencies.{Dependency, fd, mvd, Obeys, is_fd, func
 use Rattle.dep_model.specs.Implication.{IsLegal, Implies}
 use Rattle.dep_model.specs.Projections.{members_below}
 use Rattle.dep_model.proofs.RuleLemmas.{fd_weaker_obeyed, replication_obeyed}
+use Rattle.dep_model.proofs.ListLemmas.{cons_parts}
 use Rattle.min_cover.specs.Members.{members_of, IsShortenedDependency}
 use Rattle.min_cover.specs.Covers.{IsThinned, IsFixedCover, IsFixedWholeCover, multivalued_part, HaveSameLegal, IsSingle, IsMinimalCover, IsWholeCover}
-use Rattle.min_cover.proofs.ListLemmas.{All-left, All-right, All-flat_map-to, All-flat_map-from, AllZip-to, AllZip-from, cons_parts, nil_not_split, split_later}
+use Rattle.min_cover.proofs.ListLemmas.{All-left, All-right, All-flat_map-to, All-flat_map-from, AllZip-to, AllZip-from, nil_not_split, split_later}
 use Rattle.min_cover.proofs.MemberLemmas.{members_are, members_obeyed-to, short_implied, short_needed}
 
 -- a relation obeys each of a list

@@ -1,8 +1,9 @@
 -- Facts of each element of lists that are joined or paired.
-use Rattle.std.proofs.Common.{◌≡◌, List, [], ◌∷◌, ◌++◌, length, get_or, drop, refl, ap, sym, ◌∙◌, subst, arith}
+use Rattle.std.proofs.Common.{◌≡◌, List, [], ◌∷◌, ◌++◌, length, refl, ap, sym, ◌∙◌, subst, arith}
 use Rattle.std.proofs.lemmas.List.Elements.{All-nil, All-cons, All-head, All-tail, All-append}
 use Rattle.std.specs.Prelude.{All}
 use Rattle.std.specs.List.{AllZip, flat_map}
+use Rattle.dep_model.proofs.ListLemmas.{cons_parts}
 
 pub All-left : {X : Type 0} (P : X → Type 0) (xs ys : List X) → All P (xs ++ ys) → All P xs
 All-left P [] ys h = All-nil P
@@ -38,10 +39,6 @@ AllZip-from R P Q [] (y ∷ ys) gives zip all = absurd zip
 AllZip-from R P Q (x ∷ xs) [] gives zip all = absurd zip
 AllZip-from R P Q (x ∷ xs) (y ∷ ys) gives zip all =
     All-cons P x xs (gives x y zip.0 (All-head Q y ys all)) (AllZip-from R P Q xs ys gives zip.1 (All-tail Q y ys all))
-
--- two lists with a first element that are the same
-pub cons_parts : {X : Type 0} (x y : X) (xs ys : List X) → x ∷ xs ≡ y ∷ ys → (x ≡ y) × (xs ≡ ys)
-cons_parts {X = X} x y xs ys same = (ap (λ (l : List X). get_or l 0 x) same, ap (λ (l : List X). drop 1 l) same)
 
 pub nil_not_cons : {X : Type 0} (x : X) (xs : List X) → [] ≡ x ∷ xs → ⊥
 nil_not_cons {X = X} x xs same = absurd (omega (arith, ap (λ (l : List X). length l) same))

@@ -1,5 +1,5 @@
 -- The members of a functional dependency say the same as it, also with their left sides shortened.
-use Rattle.std.proofs.Common.{◌≡◌, ℕ, ◌+◌, ◌<◌, zero, suc, true, false, List, [], ◌∷◌, ◌++◌, refl, sym, ◌∙◌, subst, ap, inl, inr, arith, append-nil}
+use Rattle.std.proofs.Common.{◌≡◌, ℕ, ◌+◌, ◌<◌, zero, suc, true, false, List, [], ◌∷◌, ◌++◌, sym, ◌∙◌, subst, ap, inl, inr, arith}
 use Rattle.std.proofs.lemmas.Bool.{cases_Bool, cases_eq, ltb-true, true≢false}
 use Rattle.std.proofs.lemmas.Bool.Decides.{nat_tests}
 use Rattle.std.proofs.lemmas.List.{map_push}
@@ -16,29 +16,18 @@ use Rattle.dep_model.specs.Implication.{Implies}
 use Rattle.dep_model.specs.Projections.{members_below}
 use Rattle.dep_model.proofs.RuleLemmas.{fd_weaker_obeyed}
 use Rattle.dep_model.proofs.ListLemmas.{Contains-map}
-use Rattle.dep_model.proofs.SchemeLemmas.{length-members_below, members_below-at}
+use Rattle.dep_model.proofs.SchemeLemmas.{length-members_below, members_below-at, members_below-none, members_below-one_more, members_below-no_more}
 use Rattle.min_cover.specs.Members.{members_of, kept_beside, IsShortLeft, IsShortenedDependency, AreShortened}
 
 -- ---- the members of a set, ascending
-pub members_none : (x : Places) → members_below 0 x ≡ []
-unfolding members_below
-members_none x = refl
-
-pub members_more : (n m : ℕ) (x : Places) → m ≡ n + 1 → x n ≡ true → members_below m x ≡ members_below n x ++ n ∷ []
-unfolding members_below
-members_more n m x e member = let next : m ≡ suc n = omega (arith, e) in ap (λ (k : ℕ). members_below k x) next ∙ (rw member refl)
-
-pub members_no_more : (n m : ℕ) (x : Places) → m ≡ n + 1 → x n ≡ false → members_below m x ≡ members_below n x
-unfolding members_below
-members_no_more n m x e outside = let next : m ≡ suc n = omega (arith, e) in ap (λ (k : ℕ). members_below k x) next ∙ (rw outside (append-nil (members_below n x)))
 
 pub members_are : (n : ℕ) (x : Places) → All (λ (a : ℕ). x a ≡ true) (members_below n x)
-members_are zero x = rw (members_none x) (All-nil (λ (a : ℕ). x a ≡ true))
+members_are zero x = rw (members_below-none x) (All-nil (λ (a : ℕ). x a ≡ true))
 members_are (suc n) x =
     let e : suc n ≡ n + 1 = omega arith in
     elim (cases_Bool (x n)) [
-      | inl member ↦ rw (members_more n (suc n) x e member) (All-push (λ (a : ℕ). x a ≡ true) (members_below n x) n (members_are n x) member)
-      | inr outside ↦ rw (members_no_more n (suc n) x e outside) (members_are n x)
+      | inl member ↦ rw (members_below-one_more n (suc n) x e member) (All-push (λ (a : ℕ). x a ≡ true) (members_below n x) n (members_are n x) member)
+      | inr outside ↦ rw (members_below-no_more n (suc n) x e outside) (members_are n x)
     ]
 
 member_listed : (n : ℕ) (x : Places) (k : ℕ) → k < n → x k ≡ true → Contains (members_below n x) k

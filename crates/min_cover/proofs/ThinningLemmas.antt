@@ -6,19 +6,12 @@ use Rattle.std.proofs.lemmas.List.Elements.{All-cons, All-head, All-tail, All-ap
 use Rattle.std.specs.Prelude.{All, filter}
 use Rattle.dep_model.specs.declared.dep.Dep.{Dep}
 use Rattle.dep_model.specs.Tuples.{Relation}
-use Rattle.dep_model.specs.Dependencies.{Dependency, fd, mvd, Obeys, is_fd, functional_part}
+use Rattle.dep_model.specs.Dependencies.{Dependency, fd, mvd, Obeys, is_fd}
 use Rattle.dep_model.specs.Implication.{IsLegal, Implies}
 use Rattle.dep_model.specs.Deps.{dependency_of, dependencies_of}
 use Rattle.dep_model.proofs.DepLemmas.{legal-to, legal-from, dependencies_all-to}
 use Rattle.min_cover.specs.Covers.{IsThinned, multivalued_part}
 use Rattle.min_cover.proofs.ListLemmas.{All-left, All-right}
-
--- where all are functional, the functional part is the list
-pub all_functional : (ds : List Dep) → All (λ (d : Dep). is_fd (dependency_of d) ≡ true) ds → functional_part (dependencies_of ds) ≡ dependencies_of ds
-all_functional [] all = refl
-all_functional (d ∷ ds) all =
-    let first : is_fd (dependency_of d) ≡ true = All-head (λ (e : Dep). is_fd (dependency_of e) ≡ true) d ds all in
-    rw first (ap (λ (es : List Dependency). dependency_of d ∷ es) (all_functional ds (All-tail (λ (e : Dep). is_fd (dependency_of e) ≡ true) d ds all)))
 
 -- a relation obeys each of a list
 abbrev pub ObeysEach : ℕ → Relation → List Dep → Type 0

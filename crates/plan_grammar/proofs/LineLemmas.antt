@@ -9,16 +9,17 @@ use Rattle.lexer.specs.declared.token.Mode.TheVariants as mode
 use Rattle.lexer.specs.declared.token.Stop.{Stop}
 use Rattle.lexer.specs.declared.token.TokenKind.{TokenKind}
 use Rattle.lexer.specs.declared.token.TokenKind.TheVariants as token
-use Rattle.lexer.specs.Tokens.{Mark, Lexed, lex}
+use Rattle.lexer.specs.Tokens.{Mark, lex}
 use Rattle.schema_grammar.specs.declared.format.Format.TheVariants as format
 use Rattle.schema_grammar.specs.declared.refusal.SchemaRefusalKind.{SchemaRefusalKind}
 use Rattle.schema_grammar.specs.declared.refusal.SchemaRefusalKind.TheVariants as kind
 use Rattle.schema_grammar.specs.declared.refusal.What.TheVariants as what
 use Rattle.schema_grammar.specs.Complaints.{Carries, refusal_number, span_at}
-use Rattle.schema_grammar.specs.Meanings.{HasTokens, named}
+use Rattle.schema_grammar.specs.Meanings.{named}
 use Rattle.schema_grammar.specs.Refusals.{refusal, refused_by, and_then}
 use Rattle.schema_grammar.specs.Words.{is_reserved}
 use Rattle.schema_grammar.proofs.ComplaintLaws.{flaw_numbered, flaw_carries}
+use Rattle.schema_grammar.proofs.DeclaringLaws.{has_tokens}
 use Rattle.plan_grammar.specs.declared.refusal.PlanRefusal.{PlanRefusal}
 use Rattle.plan_grammar.specs.declared.refusal.PlanRefusal.TheVariants as plan
 use Rattle.plan_grammar.specs.declared.refusal.TheConstants.{MOST_SCHEMES}
@@ -146,22 +147,19 @@ abbrev pub LinesFit : List (List ℕ) → ℕ → List Places → List (List ℕ
 LinesFit names number schemes lines (Ok whole) = AreRead names schemes lines whole
 LinesFit names number schemes lines (Err e) = RefusesSchemeLines names number (length schemes) lines e
 
-lexed_is : (l : Lexed) (ms : List Mark) → l.marks ≡ ms → l.stop ≡ None → HasTokens l ms
-lexed_is l ms marks ended = λ i. record { marks = marks i; stop = ended i }
-
 lines_after : (names : List (List ℕ)) (number : ℕ) (schemes : List Places) (line : List ℕ) (lines : List (List ℕ)) (more : List Places) (r : Result (List Places) PlanRefusal)
     → IsRead names schemes (lex mode.Plain line).marks (lex mode.Plain line).stop more → LinesFit names (number + 1) more lines r → LinesFit names number schemes (line ∷ lines) r
 lines_after names number schemes line lines more (Ok whole) read fit =
     ⊎_elim
     (λ blank. record {
       others = fit.others;
-      means = inl (lexed_is (lex mode.Plain line) [] blank.0 read.ended, fit.means);
+      means = inl (has_tokens (lex mode.Plain line) [] blank.0 read.ended, fit.means);
       added = fit.added ∙ ap (λ (xs : List Places). xs ++ fit.others) blank.1;
       few = λ few. fit.few (subst (λ (xs : List Places). length xs ≤ MOST_SCHEMES) (sym blank.1) few);
     })
     (λ adds. record {
       others = adds.x ∷ fit.others;
-      means = inr (adds.x, fit.others, record { marks = (lex mode.Plain line).marks; tokens = lexed_is (lex mode.Plain line) (lex mode.Plain line).marks refl read.ended; scheme = adds.scheme }, fit.means, refl);
+      means = inr (adds.x, fit.others, record { marks = (lex mode.Plain line).marks; tokens = has_tokens (lex mode.Plain line) (lex mode.Plain line).marks refl read.ended; scheme = adds.scheme }, fit.means, refl);
       added = fit.added ∙ ap (λ (xs : List Places). xs ++ fit.others) adds.added ∙ append_assoc schemes (adds.x ∷ []) fit.others;
       few = λ few. fit.few (subst (λ (xs : List Places). length xs ≤ MOST_SCHEMES) (sym adds.added) (omega (arith, length_push schemes adds.x, adds.room)));
     })

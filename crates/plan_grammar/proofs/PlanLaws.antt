@@ -2,27 +2,19 @@
 use Rattle.std.proofs.Common.{◌≡◌, ◌<◌, ℕ, true, List, [], ◌∷◌, length, Option, Some, None, refl, sym, ap, subst, ◌∙◌, ⊎_elim, arith}
 use Rattle.std.specs.Prelude.{All, IfSome}
 use Rattle.std.specs.List.{list_any}
-use Rattle.std.proofs.lemmas.Bool.{false≢true, or_cases, or_left, eqb-true, eq-eqb, lt-ltb}
+use Rattle.std.proofs.lemmas.Bool.{false≢true, or_left, eqb-true, eq-eqb}
 use Rattle.std.proofs.lemmas.List.Elements.{All-nil, All-cons, All-head}
 use Rattle.attr_sets.specs.Places.{Places, below, Within, IsEmpty}
 use Rattle.dep_model.specs.Schemas.{place_named}
 use Rattle.lexer.specs.Tokens.{Mark}
 use Rattle.schema_grammar.specs.declared.format.Format.TheVariants as format
 use Rattle.schema_grammar.specs.Meanings.{IsAttribute, is_at, named}
-use Rattle.schema_grammar.proofs.WithinLemmas.{place_named_within}
+use Rattle.schema_grammar.proofs.WithinLemmas.{named_within}
 use Rattle.plan_grammar.specs.Meanings.{IsSchemeLine, MeansSchemeLines}
 
 at_within : (n : ℕ) (o : Option ℕ) (k : ℕ) → IfSome o (λ a. a < n) → is_at o k ≡ true → k < n
 at_within n None k low here = absurd (false≢true here)
 at_within n (Some a) k low here = subst (λ (j : ℕ). j < n) (sym (eqb-true k a here)) low
-
-named_within : (names : List (List ℕ)) (words : List Mark) → Within (named names words) (below (length names))
-named_within names [] k member = absurd (false≢true member)
-named_within names (m ∷ ms) k member =
-    ⊎_elim
-    (λ here. lt-ltb k (length names) (at_within (length names) (place_named names m.word) k (place_named_within names m.word) here))
-    (λ later. named_within names ms k later)
-    (or_cases (is_at (place_named names m.word) k) (list_any (λ w. is_at (place_named names w.word) k) ms) member)
 
 line_within : (names : List (List ℕ)) (ms : List Mark) (x : Places) → IsSchemeLine names ms x → Within x (below (length names))
 line_within names ms x is k member = named_within names is.words k (sym (ap (λ (y : Places). y k) is.members) ∙ member)

@@ -1,40 +1,25 @@
 -- A printed plan means its schemes.
-use Rattle.std.proofs.Common.{◌≡◌, ◌≤◌, ◌+◌, true, None, ℕ, List, [], ◌∷◌, ◌++◌, map, length, refl, sym, ap, subst, ◌∙◌, ⊎_elim, inl, inr}
+use Rattle.std.proofs.Common.{◌≡◌, ◌≤◌, ◌+◌, ℕ, List, [], ◌∷◌, ◌++◌, map, length, refl, sym, ap, subst, ◌∙◌, ⊎_elim, inl, inr}
 use Rattle.std.specs.Prelude.{All, codes}
-use Rattle.std.proofs.lemmas.List.{append-nil}
 use Rattle.std.proofs.lemmas.List.Elements.{All-head, All-tail}
 use Rattle.attr_sets.specs.Places.{Places, below, Within, IsEmpty}
-use Rattle.dep_model.specs.Names.{is_name}
 use Rattle.dep_model.specs.Plans.{IsPlan}
 use Rattle.lexer.specs.declared.token.Mode.TheVariants as mode
 use Rattle.lexer.specs.declared.token.TokenKind.TheVariants as token
 use Rattle.lexer.specs.Lines.{line_texts, without_mark}
-use Rattle.lexer.specs.Tokens.{Mark, lex, lexed, led_by_mark}
+use Rattle.lexer.specs.Tokens.{Mark}
 use Rattle.schema_grammar.specs.declared.format.Format.TheVariants as format
-use Rattle.schema_grammar.specs.Meanings.{HasTokens, IsSide, IsNamedSide, IsAttribute}
+use Rattle.schema_grammar.specs.Meanings.{IsSide, IsNamedSide, IsAttribute}
 use Rattle.schema_grammar.specs.Printed.{AreNames}
 use Rattle.schema_grammar.specs.Printing.{words_text, members_from}
-use Rattle.schema_grammar.proofs.PrintedDependencies.{led_marks, nothing_left}
-use Rattle.schema_grammar.proofs.PrintedLexing.{AllNames, Apart, word_marks, words_end, side_marks, led_by_marks, words_lexed, name_lexed}
+use Rattle.schema_grammar.proofs.PrintedDependencies.{nothing_left}
+use Rattle.schema_grammar.proofs.PrintedLexing.{word_marks, side_marks}
 use Rattle.schema_grammar.proofs.PrintedSides.{printed_side, printed_names}
 use Rattle.schema_grammar.proofs.PrintedTexts.{bytes_both, words_bytes, EachBytes, lines_cut}
+use Rattle.schema_grammar.proofs.PrintedSchemas.{word_line}
 use Rattle.plan_grammar.specs.declared.refusal.TheConstants.{MOST_SCHEMES}
 use Rattle.plan_grammar.specs.Meanings.{is_scheme, MeansScheme, MeansSchemeLines, MeansPlan}
 use Rattle.plan_grammar.specs.Printing.{scheme_text, plan_text}
-
--- a word, and words each after a blank
-word_line : (word : List ℕ) (words : List (List ℕ)) → is_name word ≡ true → AllNames words
-    → HasTokens (lex mode.Plain (word ++ words_text words)) (record { kind = token.Word; column = 1; word = word } ∷ word_marks (1 + length word) words)
-word_line word words proper names =
-    name_lexed mode.Plain 1 word (words_text words) proper (apart words)
-    ∙ ap (led_by_mark (record { kind = token.Word; column = 1; word = word }))
-    (ap (lexed mode.Plain 0 (1 + length word)) (sym (append-nil (words_text words))) ∙ words_lexed mode.Plain (1 + length word) words [] names tt
-    ∙ ap (led_by_marks (word_marks (1 + length word) words)) (nothing_left mode.Plain (words_end (1 + length word) words)) ∙ led_marks (word_marks (1 + length word) words) _
-    ∙ ap (λ ms. record { marks = ms; stop = None }) (append-nil (word_marks (1 + length word) words)))
-  where
-    apart : (ws : List (List ℕ)) → Apart (words_text ws)
-    apart [] = tt
-    apart (w ∷ ws) = refl
 
 -- the words of a set with attributes are a side for it
 side_named : (names words : List (List ℕ)) (x : Places) → (IsEmpty x → ⊥) → IsSide format.Plain names (side_marks 8 words) x → IsNamedSide format.Plain names (word_marks 7 words) x

@@ -1,12 +1,10 @@
 -- Lists of losses, which grow by a dependency at a time.
 use Rattle.std.proofs.Common.{inl, inr, ◌≡◌, ℕ, ◌+◌, ◌<◌, ◌≤◌, true, List, [], ◌∷◌, ◌++◌, length, take}
-use Rattle.std.proofs.Common.{get_or, arith, subst, sym, refl, ap, add-one, ◌∙◌}
+use Rattle.std.proofs.Common.{get_or, arith, subst, sym, refl, ap, ◌∙◌}
 use Rattle.std.proofs.lemmas.Bool.{false≢true}
 use Rattle.std.proofs.lemmas.List.Elements.{All-nil, All-cons, All-head, All-tail, All-map, All-filter}
 use Rattle.std.proofs.lemmas.List.Elements.{filter_passes}
 use Rattle.std.specs.Prelude.{All}
-use Rattle.std.proofs.Math.ListN.{get_or-map}
-use Rattle.std.proofs.Math.Seq.{take-suc}
 use Rattle.std.proofs.lemmas.List.{length-map, length-take-le, take_all}
 use Rattle.attr_sets.specs.Sets.{places}
 use Rattle.attr_sets.specs.Places.{Places}
@@ -16,7 +14,7 @@ use Rattle.dep_model.specs.Deps.{IfFd, dependency_of, dependencies_of}
 use Rattle.dep_model.specs.Preservation.{KeepsDependencies}
 use Rattle.dep_model.specs.declared.dep.Dep.{Dep}
 use Rattle.dep_model.specs.declared.dep.Dep.TheVariants.{Fd, Mvd}
-use Rattle.dep_model.proofs.DepLemmas.{functional_all-to}
+use Rattle.dep_model.proofs.DepLemmas.{functional_all-to, theory_next}
 use Rattle.dep_model.specs.TwoTuples.{two_tuples}
 use Rattle.preservation.specs.Keeping.{ObeysInside}
 use Rattle.preservation.specs.Keeping.{IsKept, IsLostOn, LossesFrom}
@@ -117,12 +115,6 @@ keeps_each n ds plan keeps =
     (keeps r inside.over inside.obeys).obeys k d l))
 
 -- ---- the next dependency of a schema
-pub theory_next : (deps : List Dep) (k : ℕ) (d : Dep) → k < length deps
-    → take (k + 1) (dependencies_of deps) ≡ take k (dependencies_of deps) ++ dependency_of (get_or deps k d) ∷ []
-theory_next deps k d low =
-    let long : k < length (dependencies_of deps) = omega (arith, low, length-map deps dependency_of) in
-    rw add-one (take-suc (dependencies_of deps) k (dependency_of d) long
-    ∙ ap (λ (e : Dependency). take k (dependencies_of deps) ++ e ∷ []) (get_or-map dependency_of deps k d))
 
 pub next_kept : (n : ℕ) (deps ds : List Dep) (plan : List Places) (k : ℕ) (d : Dep) (losses : List Loss) → ds ≡ deps
     → k < length ds

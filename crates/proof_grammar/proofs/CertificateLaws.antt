@@ -27,6 +27,7 @@ use Rattle.proof_grammar.proofs.DepthLemmas.{uses_first, nodes_size, no_deeper}
 use Rattle.proof_grammar.proofs.EnteredLaws.{Follows, IsEntered, used_after, premises_early, entered_there, entered_back}
 use Rattle.proof_grammar.proofs.FinishedLaws.{IsFinished, finished_there, finished_back}
 use Rattle.proof_grammar.proofs.LineLaws.{line_there, line_back}
+use Rattle.proof_grammar.proofs.ReadLines.{nothing_counts}
 
 -- the lines that are left go on to a tree
 record GoesOn (s : Schema) (used : ℕ → ℕ) (ts : List Tree) (texts : List (List ℕ)) (t : Tree) : Type 0 where
@@ -97,10 +98,6 @@ line_there_more Certificate s fresh number used ts book text texts t next follow
     let room : length (ts ++ u ∷ []) ≤ MOST_NODES = omega (arith, enters.1.few_lines, length-append ts (u ∷ [])) in
     let goes = on false (used_after used l) (ts ++ u ∷ []) second.0 enters.1.follows room left in
     subst (λ (ls : List (List ℕ)). GoesOn s used ts ls t) (sym (counts texts)) (line_more s used ts text (counted false texts) l u t second.0 means enters.1 goes)
-
-nothing_counts : (fresh : Bool) → counted fresh [] ≡ []
-nothing_counts true = refl
-nothing_counts false = refl
 
 lines_there : (s : Schema) (number : ℕ) (texts : List (List ℕ)) (t : Tree) → ReadsOn s number texts t
 unfolding read_certificate_lines read_one

@@ -1,11 +1,11 @@
 -- Which lines of a text count, line by line; and the sets of a line are of attributes.
-use Rattle.std.proofs.Common.{◌≡◌, ◌<◌, ◌==◌, inl, inr, ℕ, Bool, true, false, cond, ◌&&◌, ◌||◌, not, List, [], ◌∷◌, length, Option, Some, None, refl, sym, ◌∙◌, ap, subst, arith}
-use Rattle.std.specs.Prelude.{filter, IfSome}
+use Rattle.std.proofs.Common.{◌≡◌, inl, inr, ℕ, Bool, true, false, cond, ◌&&◌, not, List, [], ◌∷◌, length, Option, Some, None, refl, sym, ◌∙◌, ap, subst, arith}
+use Rattle.std.specs.Prelude.{filter}
 use Rattle.std.proofs.lemmas.Bool.Decides.{nat_tests}
 use Rattle.attr_sets.specs.Places.{Places, Within, below}
 use Rattle.dep_model.specs.declared.schema.Schema.{Schema}
 use Rattle.dep_model.specs.Dependencies.{Dependency, left_of, right_of}
-use Rattle.dep_model.specs.Schemas.{names_of, place_named}
+use Rattle.dep_model.specs.Schemas.{names_of}
 use Rattle.derivation.specs.Trees.{Step, augmentation, complementation, maugmentation, replication}
 use Rattle.derivation.proofs.WithinLemmas.{OfAttributes, StepOfAttributes}
 use Rattle.lexer.specs.declared.token.Mode.TheVariants as mode
@@ -15,8 +15,8 @@ use Rattle.schema_grammar.specs.declared.symbol.Sign.{Sign}
 use Rattle.schema_grammar.specs.declared.symbol.Sign.TheVariants as sign
 use Rattle.schema_grammar.specs.declared.format.Format.TheVariants as format
 use Rattle.schema_grammar.specs.Grammar.{stated}
-use Rattle.schema_grammar.specs.Meanings.{IsSide, named, is_at}
-use Rattle.schema_grammar.proofs.WithinLemmas.{place_named_within}
+use Rattle.schema_grammar.specs.Meanings.{IsSide}
+use Rattle.schema_grammar.proofs.WithinLemmas.{named_within}
 use Rattle.proof_grammar.specs.declared.line_kind.LineKind.{LineKind}
 use Rattle.proof_grammar.specs.declared.line_kind.LineKind.TheVariants.{Blank, Opening, Certificate}
 use Rattle.proof_grammar.specs.Lines.{Body, by_given, by_reflexivity, by_mreflexivity, by_step, by_pair, Line}
@@ -87,17 +87,6 @@ kind_counts fresh text k e = told (lex mode.Numbered text).marks (lex mode.Numbe
     told (m ∷ ms) stop marks ends f = at_word m ms stop marks ends fresh (is_yes m.kind m.word) (is_blank_from ms stop) refl refl refl f
 
 -- ---- the sets of a line
-named_within : (names : List (List ℕ)) (words : List Mark) → Within (named names words) (below (length names))
-named_within names [] k member = cc
-named_within names (m ∷ ms) k member = told (named_within names ms k) (place_named names m.word) (place_named_within names m.word) member
-  where
-    at : (a : ℕ) (b : Bool) → a < length names → (k == a) ≡ b → (named names ms k ≡ true → below (length names) k ≡ true) → (b || named names ms k) ≡ true → below (length names) k ≡ true
-    at a true inside is more e = grind (arith, nat_tests, inside, is)
-    at a false inside is more e = more e
-
-    told : (named names ms k ≡ true → below (length names) k ≡ true) → (o : Option ℕ) → IfSome o (λ a. a < length names) → (is_at o k || named names ms k) ≡ true → below (length names) k ≡ true
-    told more None inside e = more e
-    told more (Some a) inside e = at a (k == a) inside refl more e
 
 side_within : (names : List (List ℕ)) (ms : List Mark) (x : Places) → IsSide format.Plain names ms x → Within x (below (length names))
 side_within names ms x (inl empty) k member = let wrong : true ≡ false = sym member ∙ ap (λ (y : Places). y k) empty.nothing in cc

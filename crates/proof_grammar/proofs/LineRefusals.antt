@@ -11,7 +11,7 @@ use Rattle.schema_grammar.specs.declared.refusal.What.{What}
 use Rattle.schema_grammar.specs.declared.refusal.What.TheVariants as what
 use Rattle.schema_grammar.specs.Complaints.{ComplainsOfWord, refusal_number, span_at}
 use Rattle.schema_grammar.specs.Rests.{rest_from}
-use Rattle.schema_grammar.proofs.ComplaintLaws.{Carries-map, same_mark}
+use Rattle.schema_grammar.proofs.ComplaintLaws.{Carries-map, same_mark, no_mark}
 use Rattle.schema_grammar.proofs.OneRefusal.{OneWant, one_first}
 use Rattle.proof_grammar.specs.declared.rule_name.RuleName.TheVariants as rule
 use Rattle.proof_grammar.specs.Lines.{Line, certificate_line}
@@ -217,9 +217,6 @@ inside s t e = cc
 only_one : (o : Option Shape) → bind o (λ t. Some t) ≡ None → o ≡ None
 only_one None e = refl
 only_one (Some t) e = cc
-
-no_mark : (m : Mark) (p : ℕ) → slice_get [] p ≡ Some m → ⊥
-no_mark m p e = cc
 
 place_back : (s : Shape) (names : List (List ℕ)) (ms : List Mark) (stop : Option Stop) (p n : ℕ) (t : Shape)
     → runs s (take p (forms ms)) ≡ Some t → Why s names ms stop p n t → TokenWrong s names ms stop p n

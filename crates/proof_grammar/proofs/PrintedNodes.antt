@@ -1,5 +1,5 @@
 -- The lines in which a derivation is printed are the nodes of its tree, each but the last used once.
-use Rattle.std.proofs.Common.{◌≡◌, ◌<◌, ℕ, ◌+◌, List, [], ◌∷◌, ◌++◌, length, refl, sym, ◌∙◌, ap, arith, length-append, append_assoc}
+use Rattle.std.proofs.Common.{◌≡◌, ℕ, ◌+◌, List, [], ◌∷◌, ◌++◌, length, refl, sym, ◌∙◌, ap, arith, length-append, append_assoc}
 use Rattle.std.specs.Prelude.{Ok, ◌&&◌}
 use Rattle.attr_sets.specs.Sets.{is_within}
 use Rattle.dep_model.specs.declared.schema.Schema.{Schema}
@@ -11,15 +11,11 @@ use Rattle.derivation.specs.Conclusions.{Proves, concluded}
 use Rattle.derivation.specs.Table.{leaf_conclusion}
 use Rattle.derivation.proofs.ConclusionLemmas.{concluded-from}
 use Rattle.derivation.proofs.RuleTableLemmas.{chosen}
+use Rattle.derivation.proofs.TreeLemmas.{nodes-pos}
 use Rattle.proof_grammar.specs.Lines.{by_step, by_pair}
 use Rattle.proof_grammar.specs.Printing.{leaf_body, numbered_line, node_lines_after}
 use Rattle.proof_grammar.specs.Spelling.{AreNodes, IsTreeOf, IsNode, AreNodesOf}
 use Rattle.proof_grammar.proofs.NodeLemmas.{AreNodes-append, IsTreeAt-seam, UseOwn, leaf_uses, step_uses, pair_uses}
-
-pub some_nodes : (t : Tree) → 0 < nodes t
-some_nodes (leaf rule) = omega arith
-some_nodes (step rule t) = omega arith
-some_nodes (pair rule t u) = omega arith
 
 -- ---- the lines, where the tree proves a dependency
 pub leaf_after : (s : Schema) (n : ℕ) (rule : Leaf) (d : Dependency) → Proves s (leaf rule) d
@@ -122,12 +118,12 @@ pub printed_uses : (s : Schema) (t : Tree) (d : Dependency) (n : ℕ) → Proves
 printed_uses s (leaf rule) d n proves = rw (leaf_after s n rule d proves) (leaf_uses n d rule)
 printed_uses s (step rule t) d n proves =
     rw (step_after s n rule t d proves)
-    (step_uses (node_lines_after s n t) n (nodes t) (n + nodes t + 1) d rule (some_nodes t) (printed_uses s t proves.0 n proves.1))
+    (step_uses (node_lines_after s n t) n (nodes t) (n + nodes t + 1) d rule (nodes-pos t) (printed_uses s t proves.0 n proves.1))
 printed_uses s (pair rule t u) d n proves =
     let first = printed_uses s t proves.0 n proves.2 in
     let second = printed_uses s u proves.1 (n + nodes t) proves.3 in
     rw (pair_after s n rule t u d proves)
-    (pair_uses (node_lines_after s n t) (node_lines_after s (n + nodes t) u) n (nodes t) (nodes u) (n + nodes t + nodes u + 1) d rule (some_nodes t) (some_nodes u) first second)
+    (pair_uses (node_lines_after s n t) (node_lines_after s (n + nodes t) u) n (nodes t) (nodes u) (n + nodes t + nodes u + 1) d rule (nodes-pos t) (nodes-pos u) first second)
 
 -- each line is a node, and each but the last is used once
 pub printed_nodes : (s : Schema) (t : Tree) (d : Dependency) → Proves s t d → AreNodesOf s (node_lines_after s 0 t) t

@@ -7,7 +7,7 @@ use Rattle.std.specs.Char.{is_ascii_alphabetic, is_ascii_digit}
 use Rattle.std.proofs.lemmas.Bool.{and_parts}
 use Rattle.std.proofs.lemmas.Bool.Decides.{nat_tests}
 use Rattle.std.proofs.lemmas.Fmt.{decimal_nonempty, length-decimal-le, digits_decimal, digits_value-decimal}
-use Rattle.std.proofs.lemmas.Str.Parse.{IsNumeralModel, IsDigitsTest, numerals_by_fold}
+use Rattle.std.proofs.lemmas.Str.Parse.{IsNumeralModel, numerals_by_fold}
 use Rattle.attr_sets.specs.Places.{Places, below}
 use Rattle.dep_model.specs.Names.{is_name, is_name_byte}
 use Rattle.dep_model.specs.Dependencies.{Dependency, fd, mvd, IsWithin}
@@ -24,14 +24,12 @@ use Rattle.schema_grammar.specs.Meanings.{IsDependency}
 use Rattle.schema_grammar.specs.Printing.{members_from, set_text, dependency_text}
 use Rattle.schema_grammar.specs.Printed.{AreNames}
 use Rattle.schema_grammar.proofs.PrintedSides.{printed_side, printed_names}
+use Rattle.dep_model.proofs.NumeralLemmas.{digits_told}
 
 -- ---- a decimal
 -- reads digits from the left, after a number
 abbrev read_on : ℕ → List ℕ → ℕ
 read_on value digits = fold (λ v d. v * 10 + (d - 48)) value digits
-
-digits_told : IsDigitsTest (λ ds. list_all is_ascii_digit ds ≡ true)
-digits_told = search rules
 
 own : IsNumeralModel (λ ds. list_all is_ascii_digit ds ≡ true) number_of
 own = numerals_by_fold _ digits_told read_on (search rules)

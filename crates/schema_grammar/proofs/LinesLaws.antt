@@ -13,6 +13,7 @@ use Rattle.schema_grammar.specs.Schemas.{MeansTextLine, MeansLines, LinesComplai
 use Rattle.schema_grammar.specs.Texts.{finish, read_lines}
 use Rattle.schema_grammar.proofs.LineLaws.{text-line-law}
 use Rattle.schema_grammar.proofs.DeclaringLaws.{line_there, line_back}
+use Rattle.dep_model.proofs.ListLemmas.{cons_parts}
 
 pub line-law : (f : Format) (number : ℕ) (d : Declarations) (text : List ℕ)
     → FitsTextLine f d number (lex mode.Plain text).marks (lex mode.Plain text).stop (read_line f number d text)
@@ -26,9 +27,6 @@ span-line line next_column [] (Some s) p = refl
 span-line line next_column (m ∷ ms) stop zero = refl
 span-line line next_column (m ∷ ms) stop (suc p) = span-line line (m.column + length m.word) ms stop p
 
-pub first_of : {X : Type 0} (x y : X) (xs ys : List X) → x ∷ xs ≡ y ∷ ys → (x ≡ y) × (xs ≡ ys)
-first_of x y xs ys e = (cc, cc)
-
 pub ok_value : (x y : Declarations) (r : Result Declarations SchemaRefusal) → r ≡ Ok x → r ≡ Ok y → x ≡ y
 ok_value x y r e f = cc
 
@@ -41,12 +39,12 @@ complaint_after f first d next line lines l p n read none complaint = told compl
     told : (before : List (List ℕ)) → line ∷ lines ≡ before ++ complaint.line ∷ complaint.after → MeansLines f first d before complaint.declared
         → l ≡ first + length before → LinesComplaint f (first + 1) next lines l p n
     told [] cut means stands_on =
-        let same = first_of line complaint.line lines complaint.after cut in
+        let same = cons_parts line complaint.line lines complaint.after cut in
         let of : List ℕ → Type 0 = λ t. TextLineComplaint f complaint.declared (lex mode.Plain t).marks (lex mode.Plain t).stop p n in
         let of_d : Declarations → Type 0 = λ t. TextLineComplaint f t (lex mode.Plain line).marks (lex mode.Plain line).stop p n in
         absurd (none p n (subst of_d means (subst of (sym same.0) complaint.complaint)))
     told (one ∷ before) cut (middle, first_means, rest) stands_on =
-        let same = first_of line one lines (before ++ complaint.line ∷ complaint.after) cut in
+        let same = cons_parts line one lines (before ++ complaint.line ∷ complaint.after) cut in
         let of : List ℕ → Type 0 = λ t. MeansTextLine f first d t middle in
         let again : read_line f first d line ≡ Ok middle = line_back f first d line middle (subst of (sym same.0) first_means) in
         let equal : middle ≡ next = ok_value middle next (read_line f first d line) again read in
@@ -120,7 +118,7 @@ line_here f first d line lines e read found =
         → MeansLines f first d before complaint.declared → l ≡ first + length before
         → (e.span.line < l) ⊎ ((e.span.line ≡ l) × ((found.place < p) ⊎ ((found.place ≡ p) × (refusal_number e.kind ≤ n))))
     told on l p n complaint [] cut means stands_on =
-        let same = first_of line complaint.line lines complaint.after cut in
+        let same = cons_parts line complaint.line lines complaint.after cut in
         let of : List ℕ → Type 0 = λ t. TextLineComplaint f complaint.declared (lex mode.Plain t).marks (lex mode.Plain t).stop p n in
         let of_d : Declarations → Type 0 = λ t. TextLineComplaint f t (lex mode.Plain line).marks (lex mode.Plain line).stop p n in
         inr ((omega arith), found.least p n (subst of_d means (subst of (sym same.0) complaint.complaint)))

@@ -22,10 +22,11 @@ use Rattle.schema_grammar.specs.Schemas.{MeansLines, LinesComplaint, IsFirstOfLi
 use Rattle.schema_grammar.specs.Texts.{read_text, number_in, is_version}
 use Rattle.schema_grammar.proofs.ComplaintLaws.{goal-complaint-law, goal_refused}
 use Rattle.schema_grammar.proofs.DeclaringLaws.{line_back}
-use Rattle.schema_grammar.proofs.LinesLaws.{line-law, complaint_after, first_of, no_line, ok_value}
+use Rattle.schema_grammar.proofs.LinesLaws.{line-law, complaint_after, no_line, ok_value}
 use Rattle.schema_grammar.proofs.OneRefusal.{one_first, one_at_first, one_text_line, one_line_refusal, both_least, same_refusal, same_carried}
 use Rattle.schema_grammar.proofs.TextLaws.{text-law, schema_refused, two_fits, refused}
 use Rattle.schema_grammar.proofs.SchemaLaws.{schema-law}
+use Rattle.dep_model.proofs.ListLemmas.{cons_parts}
 
 -- nothing is wrong with lines that have a meaning
 fine_lines : (f : Format) (first : ℕ) (d : Declarations) (lines : List (List ℕ)) (whole : Declarations) → MeansLines f first d lines whole → (l p n : ℕ) → LinesComplaint f first d lines l p n → ⊥
@@ -37,10 +38,10 @@ fine_lines f first d (line ∷ lines) whole (next, here, rest) l p n complaint =
 
 -- two cuts of lines after us many of them
 same_cut : (xs ys : List (List ℕ)) (x y : List ℕ) (us vs : List (List ℕ)) → xs ++ x ∷ us ≡ ys ++ y ∷ vs → length xs ≡ length ys → x ≡ y
-same_cut [] [] x y us vs e n = (first_of x y us vs e).0
+same_cut [] [] x y us vs e n = (cons_parts x y us vs e).0
 same_cut [] (z ∷ ys) x y us vs e n = absurd (omega (arith, n))
 same_cut (z ∷ xs) [] x y us vs e n = absurd (omega (arith, n))
-same_cut (z ∷ xs) (u ∷ ys) x y us vs e n = same_cut xs ys x y us vs (first_of z u (xs ++ x ∷ us) (ys ++ y ∷ vs) e).1 (omega (arith, n))
+same_cut (z ∷ xs) (u ∷ ys) x y us vs e n = same_cut xs ys x y us vs (cons_parts z u (xs ++ x ∷ us) (ys ++ y ∷ vs) e).1 (omega (arith, n))
 
 abbrev place_in : ℕ → List ℕ → ℕ → Span
 place_in l text p = span_at l 1 (lex mode.Plain text).marks (lex mode.Plain text).stop p
@@ -86,13 +87,13 @@ record SameCut (xs ys : List (List ℕ)) (x y : List ℕ) (us vs : List (List �
 
 same_first : (xs ys : List (List ℕ)) (x y : List ℕ) (us vs : List (List ℕ)) → xs ++ x ∷ us ≡ ys ++ y ∷ vs → All IsBlankLine xs → All IsBlankLine ys
     → (IsBlankLine x → ⊥) → (IsBlankLine y → ⊥) → SameCut xs ys x y us vs
-same_first [] [] x y us vs e blank again some other = let same = first_of x y us vs e in record { before = refl; line = same.0; after = same.1 }
+same_first [] [] x y us vs e blank again some other = let same = cons_parts x y us vs e in record { before = refl; line = same.0; after = same.1 }
 same_first [] (z ∷ ys) x y us vs e blank again some other =
-    absurd (some (subst IsBlankLine (sym (first_of x z us (ys ++ y ∷ vs) e).0) (All-head IsBlankLine z ys again)))
+    absurd (some (subst IsBlankLine (sym (cons_parts x z us (ys ++ y ∷ vs) e).0) (All-head IsBlankLine z ys again)))
 same_first (z ∷ xs) [] x y us vs e blank again some other =
-    absurd (other (subst IsBlankLine (first_of z y (xs ++ x ∷ us) vs e).0 (All-head IsBlankLine z xs blank)))
+    absurd (other (subst IsBlankLine (cons_parts z y (xs ++ x ∷ us) vs e).0 (All-head IsBlankLine z xs blank)))
 same_first (z ∷ xs) (u ∷ ys) x y us vs e blank again some other =
-    let same = first_of z u (xs ++ x ∷ us) (ys ++ y ∷ vs) e in
+    let same = cons_parts z u (xs ++ x ∷ us) (ys ++ y ∷ vs) e in
     let rest = same_first xs ys x y us vs same.1 (All-tail IsBlankLine z xs blank) (All-tail IsBlankLine u ys again) some other in
     record { before = ap (λ t. z ∷ t) rest.before ∙ ap (λ k. k ∷ ys) same.0; line = rest.line; after = rest.after }
 

@@ -1,9 +1,10 @@
 -- How names, blanks and signs of a printed line are lexed.
-use Rattle.std.proofs.Common.{◌≡◌, ◌+◌, ℕ, suc, Bool, true, false, ◌==◌, ◌&&◌, List, [], ◌∷◌, ◌++◌, length, take, drop, refl, sym, ◌∙◌, ap, arith, append_assoc}
+use Rattle.std.proofs.Common.{◌≡◌, ◌+◌, ℕ, suc, true, false, ◌==◌, ◌&&◌, List, [], ◌∷◌, ◌++◌, length, take, drop, refl, sym, ◌∙◌, ap, arith, append_assoc}
 use Rattle.std.specs.Prelude.{nat_lt, nat_le}
 use Rattle.std.specs.List.{list_all}
 use Rattle.std.specs.Char.{is_ascii_alphabetic}
 use Rattle.std.proofs.lemmas.Bool.Decides.{nat_tests}
+use Rattle.std.proofs.lemmas.Bool.{and_parts}
 use Rattle.dep_model.specs.Names.{is_name, is_name_byte, is_word}
 use Rattle.lexer.specs.declared.piece.Piece.TheVariants as piece
 use Rattle.lexer.specs.declared.token.Mode.{Mode}
@@ -24,22 +25,18 @@ pub record IsNamed (first : ℕ) (others : List ℕ) : Type 0 where
   pub letter : is_ascii_alphabetic first ≡ true
   pub bytes : list_all is_name_byte (first ∷ others) ≡ true
 
-both : (a b : Bool) → (a && b) ≡ true → (a ≡ true) × (b ≡ true)
-both true b e = (refl, e)
-both false b e = cc
-
 pub named_parts : (first : ℕ) (others : List ℕ) → is_name (first ∷ others) ≡ true → IsNamed first others
 named_parts first others e =
-    let word = both (is_word (first ∷ others)) (nat_le (length (first ∷ others)) 31) e in
-    let inner = both (nat_lt 0 (length (first ∷ others)) && is_ascii_alphabetic first) (list_all is_name_byte (first ∷ others)) word.0 in
-    record { letter = (both (nat_lt 0 (length (first ∷ others))) (is_ascii_alphabetic first) inner.0).1; bytes = inner.1 }
+    let word = and_parts (is_word (first ∷ others)) (nat_le (length (first ∷ others)) 31) e in
+    let inner = and_parts (nat_lt 0 (length (first ∷ others)) && is_ascii_alphabetic first) (list_all is_name_byte (first ∷ others)) word.0 in
+    record { letter = (and_parts (nat_lt 0 (length (first ∷ others))) (is_ascii_alphabetic first) inner.0).1; bytes = inner.1 }
 
 -- a run ends where the name does
 run_is : (word rest : List ℕ) → list_all is_name_byte word ≡ true → Apart rest → run_length (word ++ rest) ≡ length word
 run_is [] [] e apart = refl
 run_is [] (b ∷ bs) e apart = rw apart refl
 run_is (b ∷ bs) rest e apart =
-    let parts = both (is_name_byte b) (list_all is_name_byte bs) e in
+    let parts = and_parts (is_name_byte b) (list_all is_name_byte bs) e in
     let more : run_length (bs ++ rest) ≡ length bs = run_is bs rest parts.1 apart in
     rw (parts.0, more) (omega arith)
 
@@ -62,8 +59,8 @@ front_name m (first ∷ others) rest e apart =
     let letter = parts.letter in
     let gap : is_gap first ≡ false = grind (arith, nat_tests) in
     let hash : (first == 35) ≡ false = grind (arith, nat_tests) in
-    let byte : is_name_byte first ≡ true = (both (is_name_byte first) (list_all is_name_byte others) parts.bytes).0 in
-    let bytes = (both (is_name_byte first) (list_all is_name_byte others) parts.bytes).1 in
+    let byte : is_name_byte first ≡ true = (and_parts (is_name_byte first) (list_all is_name_byte others) parts.bytes).0 in
+    let bytes = (and_parts (is_name_byte first) (list_all is_name_byte others) parts.bytes).1 in
     let more : run_length (others ++ rest) ≡ length others = run_is others rest bytes apart in
     let one : 1 + length others ≡ suc (length others) = omega arith in
     rw (gap, hash, byte) (rw (more, one) (rw (take_front others rest, e) refl))

@@ -36,7 +36,7 @@ use Rattle.schema_grammar.proofs.PrintedSides.{known_at, IsCutAt, cut_more}
 use Rattle.schema_grammar.proofs.PrintedTexts.{Bytes, bytes_both, words_bytes, EachBytes, lines_cut, numbers, EachWithin, dependencies_mean, each_dependency, none_found}
 
 -- a word, and words each after a blank
-word_line : (word : List ℕ) (words : List (List ℕ)) → is_name word ≡ true → AllNames words
+pub word_line : (word : List ℕ) (words : List (List ℕ)) → is_name word ≡ true → AllNames words
     → HasTokens (lex mode.Plain (word ++ words_text words)) (record { kind = token.Word; column = 1; word = word } ∷ word_marks (1 + length word) words)
 word_line word words proper names =
     name_lexed mode.Plain 1 word (words_text words) proper (apart words)

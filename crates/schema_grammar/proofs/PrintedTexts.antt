@@ -8,6 +8,7 @@ use Rattle.std.proofs.lemmas.List.{append-nil}
 use Rattle.std.proofs.lemmas.List.Folds.{list_all-append}
 use Rattle.std.proofs.lemmas.List.Sums.{AllPass-from_list_all}
 use Rattle.std.proofs.lemmas.List.Splits.{slice_split_at}
+use Rattle.std.proofs.lemmas.Bool.{and_parts}
 use Rattle.attr_sets.specs.Places.{Places, below}
 use Rattle.dep_model.specs.declared.schema.TheConstants.{MOST_DEPENDENCIES}
 use Rattle.dep_model.specs.Dependencies.{Dependency, fd, mvd, IsWithin}
@@ -37,14 +38,10 @@ bytes_both xs ys h g = list_all-append is_line_byte xs ys ∙ (rw (h, g) refl)
 name_byte : (b : ℕ) → is_name_byte b ≡ true → is_line_byte b ≡ true
 name_byte b e = grind (arith, nat_tests)
 
-both : (a b : Bool) → (a && b) ≡ true → (a ≡ true) × (b ≡ true)
-both true b e = (refl, e)
-both false b e = cc
-
 name_bytes : (word : List ℕ) → list_all is_name_byte word ≡ true → Bytes word
 name_bytes [] e = refl
 name_bytes (b ∷ bs) e =
-    let parts = both (is_name_byte b) (list_all is_name_byte bs) e in rw (name_byte b parts.0, name_bytes bs parts.1) refl
+    let parts = and_parts (is_name_byte b) (list_all is_name_byte bs) e in rw (name_byte b parts.0, name_bytes bs parts.1) refl
 
 proper_bytes : (word : List ℕ) → is_name word ≡ true → Bytes word
 proper_bytes [] e = refl
@@ -87,12 +84,12 @@ split_lines (line ∷ lines) (here, rest) =
 drop_bytes : (k : ℕ) (line : List ℕ) → Bytes line → Bytes (drop k line)
 drop_bytes zero line e = e
 drop_bytes (suc k) [] e = e
-drop_bytes (suc k) (b ∷ bs) e = drop_bytes k bs (both (is_line_byte b) (list_all is_line_byte bs) e).1
+drop_bytes (suc k) (b ∷ bs) e = drop_bytes k bs (and_parts (is_line_byte b) (list_all is_line_byte bs) e).1
 
 not_return : (line : List ℕ) → Bytes line → pointwise nat_eq (13 ∷ []) line ≡ false
 not_return [] e = refl
 not_return (b ∷ bs) e =
-    let byte = (both (is_line_byte b) (list_all is_line_byte bs) e).0 in
+    let byte = (and_parts (is_line_byte b) (list_all is_line_byte bs) e).0 in
     let other : (13 == b) ≡ false = grind (arith, nat_tests) in rw other refl
 
 kept : (line : List ℕ) → Bytes line → without_return line ≡ line

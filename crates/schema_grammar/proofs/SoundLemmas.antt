@@ -6,7 +6,7 @@ use Rattle.std.specs.Option.{is_some, IfSome}
 use Rattle.std.specs.Result.{IfOk}
 use Rattle.std.specs.Prelude.{nat_le, map, codes}
 use Rattle.std.proofs.Math.Nat.{eq-or-lt_of_le}
-use Rattle.std.proofs.lemmas.Bool.{ltb-false, leb-false}
+use Rattle.std.proofs.lemmas.Bool.{ltb-false, leb-false, not-true}
 use Rattle.std.proofs.lemmas.List.{get_or_append_left, get_or_push, get_or-map, length-map}
 use Rattle.std.proofs.lemmas.List.Elements.{All-push, All-contains}
 use Rattle.std.proofs.lemmas.List.Sums.{prefix_len_passes}
@@ -94,14 +94,10 @@ no_value : (b : Bool) (x : ℕ) → is_some (cond b (Some x) None) ≡ false →
 no_value true x e = cc
 no_value false x e = refl
 
-flip : (b : Bool) → not b ≡ true → b ≡ false
-flip false e = refl
-flip true e = cc
-
 no_name : (names : List (List ℕ)) (word : List ℕ) → is_some (place_named names word) ≡ false → All (λ name. same_name name word ≡ false) names
 no_name names word e k d h =
     let all : length names ≤ position_or_len (λ name. same_name name word) names = ltb-false _ _ (no_value _ _ e) in
-    flip _ (prefix_len_passes (λ name. not (same_name name word)) names k d (omega arith))
+    not-true _ (prefix_len_passes (λ name. not (same_name name word)) names k d (omega arith))
 
 unless : {X : Type 0} (P : X → Type 0) (b : Bool) (why : SchemaRefusalKind) (r : Result X SchemaRefusalKind)
     → (b ≡ false → IfOk r P) → IfOk (cond b (Err why) r) P

@@ -1,8 +1,8 @@
 -- Sets that are read lie within the universe.
-use Rattle.std.proofs.Common.{subst, ◌≡◌, ◌<◌, ◌+◌, ℕ, Bool, true, false, cond, List, [], ◌∷◌, length, Option, Some, None, Ok, Err, Result, refl, ◌∙◌, ap, ◌||◌, ◌==◌, lt-ltb}
+use Rattle.std.proofs.Common.{subst, ◌≡◌, ◌<◌, ◌+◌, ℕ, Bool, true, false, cond, List, [], ◌∷◌, length, Option, Some, None, Ok, Err, Result, refl, ◌∙◌, ap, ◌||◌, ◌==◌, lt-ltb, ⊎_elim}
 use Rattle.std.specs.Result.{IfOk}
 use Rattle.std.specs.Option.{IfSome}
-use Rattle.std.proofs.lemmas.Bool.{eqb-true}
+use Rattle.std.proofs.lemmas.Bool.{eqb-true, false≢true, or_cases}
 use Rattle.std.proofs.lemmas.List.Quantifiers.{position-Some}
 use Rattle.dep_model.specs.Names.{same_name}
 use Rattle.schema_grammar.specs.declared.refusal.SchemaRefusalKind.TheVariants as kind
@@ -24,6 +24,8 @@ use Rattle.schema_grammar.specs.Grammar.{Reached, start, left, left_empty, after
 use Rattle.schema_grammar.specs.Refusals.{at, expecting, and_then}
 use Rattle.schema_grammar.specs.Reading.{follow, step}
 use Rattle.schema_grammar.specs.Words.{is_reserved, looked_up, known}
+use Rattle.std.specs.List.{list_any}
+use Rattle.schema_grammar.specs.Meanings.{is_at, named}
 
 -- the sets that are read lie within a set
 abbrev pub IsReadingWithin : Places → Reached → Type 0
@@ -151,3 +153,11 @@ pub within_read : {X Y E F : Type 0} (P : Y → Type 0) (g : X → Y) (r : Resul
     → IfOk r (λ x. P (g x))
 within_read {Y = Y} {F = F} P g (Ok x) reading same inside = let at : Result Y F → Type 0 = λ s. IfOk s P in subst at same inside
 within_read P g (Err e) reading same inside = tt
+
+pub named_within : (names : List (List ℕ)) (words : List Mark) → Within (named names words) (below (length names))
+named_within names [] k member = absurd (false≢true member)
+named_within names (m ∷ ms) k member =
+    ⊎_elim
+    (λ here. lt-ltb k (length names) (at_within (length names) (place_named names m.word) k (place_named_within names m.word) here))
+    (λ later. named_within names ms k later)
+    (or_cases (is_at (place_named names m.word) k) (list_any (λ w. is_at (place_named names w.word) k) ms) member)

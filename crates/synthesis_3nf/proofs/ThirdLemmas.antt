@@ -3,7 +3,7 @@ use Rattle.std.proofs.Common.{◌≡◌, ℕ, true, false, List, [], ◌∷◌, 
 use Rattle.std.specs.Prelude.{All, Contains}
 use Rattle.std.proofs.lemmas.Bool.{cases_Bool, true≢false, eqb-true, eq-eqb, ltb-true}
 use Rattle.std.proofs.lemmas.Bool.Decides.{nat_tests}
-use Rattle.std.proofs.lemmas.List.Elements.{All-nil, All-head, All-tail, All-contains, All-weaker, filter_passes, Contains-append_left, Contains-append_right, Contains-append_cases, Contains-push_cases, All-contains_itself}
+use Rattle.std.proofs.lemmas.List.Elements.{All-nil, All-head, All-tail, All-contains, All-weaker, Contains-append_left, Contains-append_right, Contains-append_cases, Contains-push_cases, All-contains_itself}
 use Rattle.attr_sets.specs.Places.{Places, below, only, minus, Within}
 use Rattle.attr_sets.proofs.PlacesLemmas.{tell_some}
 use Rattle.dep_model.specs.Dependencies.{Dependency, fd, mvd, Obeys, is_fd, functional_part, right_of, IsWithin}
@@ -15,13 +15,11 @@ use Rattle.dep_model.proofs.KeyLemmas.{fd_on-to, superkey-from, scheme_superkey}
 use Rattle.dep_model.proofs.RuleLemmas.{reflexivity_obeyed, transitivity_obeyed}
 use Rattle.fd_closure.proofs.ClosureLemmas.{fd_each-to, fd_each-from}
 use Rattle.dep_model.proofs.TwoTupleLemmas.{two_tuples_fd-to, two_tuples_fd-from}
-use Rattle.fd_closure.proofs.ClosedSets.{closure_set}
+use Rattle.fd_closure.proofs.ClosedSets.{closure_set, all_functional}
 use Rattle.min_cover.specs.Covers.{IsMinimalCover}
 use Rattle.synthesis_3nf.proofs.Holding.{IsGroupScheme}
 
 -- ---- lists of functional dependencies
-all_functional : (ds : List Dependency) → functional_part ds ≡ ds → All (λ d. is_fd d ≡ true) ds
-all_functional ds same = subst (λ (es : List Dependency). All (λ d. is_fd d ≡ true) es) same (filter_passes is_fd ds)
 
 pub functional_same : (ds : List Dependency) → All (λ d. is_fd d ≡ true) ds → functional_part ds ≡ ds
 functional_same [] each = refl

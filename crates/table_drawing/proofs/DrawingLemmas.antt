@@ -1,8 +1,8 @@
 -- Rows and edges: one more at the end.
-use Rattle.std.proofs.Common.{◌≡◌, ◌<◌, ◌+◌, ℕ, true, false, List, [], ◌∷◌, ◌++◌, length, get_or, take, Option, refl, sym, ap, ◌∙◌, add-one}
+use Rattle.std.proofs.Common.{◌≡◌, ◌<◌, ◌+◌, ℕ, true, false, List, [], ◌++◌, length, get_or, take, Option, refl, sym, ap, ◌∙◌, add-one}
 use Rattle.std.specs.Prelude.{slice_get, unwrap_or, option_map}
 use Rattle.std.specs.List.{flat_map}
-use Rattle.std.proofs.lemmas.List.{take_more, flat_map_more}
+use Rattle.std.proofs.lemmas.List.{take_more}
 use Rattle.std.proofs.lemmas.Option.{slice_get_read}
 use Rattle.attr_sets.specs.Places.{Places}
 use Rattle.dep_model.specs.declared.schema.Schema.{Schema}
@@ -10,14 +10,7 @@ use Rattle.dep_model.specs.Projections.{members_below}
 use Rattle.dep_model.proofs.SchemeLemmas.{members_below-member, members_below-outside}
 use Rattle.ddl_text.specs.declared.table.TableDesign.{TableDesign}
 use Rattle.table_drawing.specs.Drawing.{row_text, edge_text, edges_to}
-
--- a text with one item more
-item_more : {X : Type 0} (f : X → List ℕ) (old text next piece : List ℕ) (xs more : List X) (x : X)
-    → text ≡ old ++ flat_map f xs → piece ≡ f x → next ≡ text ++ piece → more ≡ xs ++ x ∷ []
-    → next ≡ old ++ flat_map f more
-item_more {X} f old text next piece xs more x so_far is added pushed =
-    added ∙ ap (λ (t : List ℕ). t ++ piece) so_far ∙ ap (λ (p : List ℕ). old ++ flat_map f xs ++ p) is
-    ∙ flat_map_more f old xs x ∙ ap (λ (ys : List X). old ++ flat_map f ys) (sym pushed)
+use Rattle.ddl_text.proofs.TextLemmas.{item_more}
 
 -- ---- rows
 pub row_more : (s : Schema) (scheme key : Places) (n : ℕ) (old text next piece : List ℕ) → scheme n ≡ true

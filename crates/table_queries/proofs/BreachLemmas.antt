@@ -2,9 +2,8 @@
 use Rattle.std.proofs.Common.{◌≡◌, ℕ, ◌<◌, ◌≤◌, ◌⊎◌, Bool, true, false, List, [], ◌∷◌, length, map, refl, sym, ap, subst, ◌∙◌, inl, inr, ⊎_elim, arith}
 use Rattle.std.proofs.lemmas.Bool.{cases_Bool, cases_lt, true≢false, eqb-true, eq-eqb}
 use Rattle.std.proofs.lemmas.Bool.Decides.{nat_tests}
-use Rattle.std.proofs.lemmas.List.{get_or_past, ext_get_or}
+use Rattle.std.proofs.lemmas.List.{get_or_past}
 use Rattle.std.proofs.lemmas.List.FromFn.{length-map-range_with_len, get_or-map-range_with_len}
-use Rattle.std.proofs.lemmas.List.Elements.{All-contains}
 use Rattle.std.specs.Bool.{Decides}
 use Rattle.std.specs.Cmp.Lexicographic.{pointwise, pointwise_decides}
 use Rattle.std.specs.List.{range_with_len}
@@ -21,6 +20,7 @@ use Rattle.dep_model.proofs.JoinLemmas.{agreeing, projected-from}
 use Rattle.dep_model.proofs.ListLemmas.{Contains-head, Contains-later, Contains-cases}
 use Rattle.dep_model.proofs.RuleLemmas.{reflexivity_obeyed, mreflexivity_obeyed}
 use Rattle.dep_model.proofs.TwoRowLemmas.{AgreeOn-refl, AgreeOn-sym, AgreeOn-union, AgreeOn-trans}
+use Rattle.dep_model.proofs.TupleLemmas.{IsOver-length, same_tuples}
 use Rattle.table_queries.specs.Queries.{Query, whole, values_on, several, join, except, breaches_of}
 use Rattle.table_queries.specs.Meanings.{GivesNone}
 
@@ -44,9 +44,6 @@ tell_tuple (u ∷ r) t = elim (cases_Bool (same_tuple t u)) [
       (tell_tuple r t)
 ]
 
-over_at : (n : ℕ) (r : Relation) (t : Tuple) → IsOver n r → Contains r t → length t ≡ n
-over_at n r t over t_in = All-contains (λ (u : Tuple). length u ≡ n) r t over t_in
-
 -- ---- functional dependencies
 fd_tells : (n : ℕ) (x y : Places) (r : Relation) → IsOver n r → GivesNone n (several x (union x y)) r ↔ ObeysFd x y r
 fd_tells n x y r over = (to, from)
@@ -58,7 +55,7 @@ fd_tells n x y r over = (to, from)
           let both : union x y k ≡ true = grind (arith, m) in
           absurd (none (project_tuple x t) (record {
             tuple = t;
-            over = over_at n r t over t_in;
+            over = IsOver-length n r t over t_in;
             gives = (
               t,
               u,
@@ -109,9 +106,6 @@ spliced-outside n z t u k long out = elim (cases_lt k n) [
   | inr past ↦ sym (spliced-past n z t u u k long (omega (arith, past)))
 ]
 
-same_tuples : (n : ℕ) (t u : Tuple) → length t ≡ n → length u ≡ n → ((k : ℕ) → k < n → value_at t k ≡ value_at u k) → t ≡ u
-same_tuples n t u lt lu same = ext_get_or [] t u (lt ∙ sym lu) (λ (k : ℕ) l. same k (omega (arith, l, lt)))
-
 -- ---- multivalued dependencies
 abbrev rest_of : ℕ → Places → Places → Places
 rest_of n x y = minus (below n) (union x y)
@@ -126,8 +120,8 @@ mvd_tells n x y r over = (to, from)
     to none t u t_in u_in agree =
         let w = spliced n (union x y) t u in
         let long = length-spliced n (union x y) t u in
-        let on_xy = spliced-inside n (union x y) t u (over_at n r t over t_in) in
-        let outside = λ (k : ℕ) (out : union x y k ≡ false). spliced-outside n (union x y) t u k (over_at n r u over u_in) out in
+        let on_xy = spliced-inside n (union x y) t u (IsOver-length n r t over t_in) in
+        let outside = λ (k : ℕ) (out : union x y k ≡ false). spliced-outside n (union x y) t u k (IsOver-length n r u over u_in) out in
         let on_xz : AgreeOn (union x (rest_of n x y)) u w = λ (k : ℕ) m. elim (cases_Bool (x k)) [
           | inl in_x ↦ sym (agree k in_x) ∙ on_xy k (grind (arith, in_x))
           | inr out ↦ outside k (grind (arith, m, out))
@@ -149,7 +143,7 @@ mvd_tells n x y r over = (to, from)
         let v = agreeing r t (union x (rest_of n x y)) given.gives.0.1 in
         let agree : AgreeOn x u.0 v.0 = λ (k : ℕ) m. u.2 k (grind (arith, m)) ∙ sym (v.2 k (grind (arith, m))) in
         let w = obeys u.0 v.0 u.1 v.1 agree in
-        let same : w.0 ≡ t = same_tuples n w.0 t (over_at n r w.0 over w.1) given.over (λ (k : ℕ) low. elim (cases_Bool (union x y k)) [
+        let same : w.0 ≡ t = same_tuples n w.0 t (IsOver-length n r w.0 over w.1) given.over (λ (k : ℕ) low. elim (cases_Bool (union x y k)) [
           | inl m ↦ w.2 k m ∙ u.2 k m
           | inr out ↦
               let rest : rest_of n x y k ≡ true = grind (arith, nat_tests, low, out) in

@@ -1,7 +1,7 @@
 -- Lists of items: one more at the end.
 use Rattle.std.proofs.Common.{◌≡◌, ◌<◌, ◌≤◌, ◌+◌, ℕ, zero, suc, Bool, true, false, List, [], ◌∷◌, ◌++◌, length, get_or, take, drop, take_all, refl, sym, ap, ◌∙◌, append-nil, add-one, arith}
 use Rattle.std.specs.Prelude.{◌-◌, if◌then◌else◌, codes, nat_lt}
-use Rattle.std.specs.List.{flat_map, zip}
+use Rattle.std.specs.List.{zip}
 use Rattle.std.proofs.lemmas.List.{take_more, flat_map_more, length-drop}
 use Rattle.std.proofs.lemmas.Bool.Decides.{nat_tests}
 use Rattle.attr_sets.specs.Places.{Places}
@@ -18,14 +18,6 @@ has_item (x ∷ xs) = true
 has_pushed : {X : Type 0} (xs : List X) (x : X) → has_item (xs ++ x ∷ []) ≡ true
 has_pushed [] x = refl
 has_pushed (y ∷ xs) x = refl
-
--- a text with one item more
-pub item_more : {X : Type 0} (f : X → List ℕ) (old text next piece : List ℕ) (xs more : List X) (x : X)
-    → text ≡ old ++ flat_map f xs → piece ≡ f x → next ≡ text ++ piece → more ≡ xs ++ x ∷ []
-    → next ≡ old ++ flat_map f more
-item_more {X} f old text next piece xs more x so_far is added pushed =
-    added ∙ ap (λ (t : List ℕ). t ++ piece) so_far ∙ ap (λ (p : List ℕ). old ++ flat_map f xs ++ p) is
-    ∙ flat_map_more f old xs x ∙ ap (λ (ys : List X). old ++ flat_map f ys) (sym pushed)
 
 -- ---- columns
 listed_push : {X : Type 0} (f : X → List ℕ) (xs : List X) (x : X)

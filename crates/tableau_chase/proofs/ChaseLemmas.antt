@@ -14,7 +14,7 @@ use Rattle.chase_laws.specs.Tableaux.{SymbolRow, Tableau, SameTableau, IsTableau
 use Rattle.chase_laws.specs.Steps.{exchanged, IsClosed}
 use Rattle.chase_laws.specs.Rounds.{ReachesTableau, SettlesTo, IsMadeOf, IsNext, EndsRounds, InRounds, HasMoreThan, RoundsExceed}
 use Rattle.chase_laws.specs.Answers.{IsGaining, IsClosedTableau}
-use Rattle.chase_laws.proofs.TableauLemmas.{Same-refl, Same-sym, Same-trans, cons_cases, cons_here, cons_later}
+use Rattle.chase_laws.proofs.TableauLemmas.{Same-refl, Same-sym, Same-trans, cons_cases}
 use Rattle.chase_laws.proofs.KeptLemmas.{reached-over, reached-most}
 use Rattle.chase_laws.proofs.RoundLemmas.{closed-same, rounds_unique, rounds_end, no_more, next_exists, functional_leads_end, step_leads_end, reaches_settled}
 use Rattle.chase_laws.proofs.SettlingLemmas.{settled-same}
@@ -23,6 +23,7 @@ use Rattle.chase_laws.proofs.EndLemmas.{what_is_left, round_lowers}
 use Rattle.tableau_chase.specs.Groups.{symbol_row_at}
 use Rattle.tableau_chase.specs.Making.{AddsAll, Overflows}
 use Rattle.tableau_chase.specs.Texts.{AreTextsOf}
+use Rattle.dep_model.proofs.ListLemmas.{Contains-head, Contains-later}
 
 -- ---- what holds when a round begins
 -- the rows are those of a tableau of the rounds, none of which had too many so far
@@ -122,7 +123,7 @@ module _ (n : ℕ) (ds : List Dependency) (plan : List Places) (limit : ℕ) (ro
     reached_by (row ∷ rest) front is reached =
         let longer : u ≡ ((t ++ front) ++ row ∷ []) ++ rest = is ∙ sym (append_assoc (t ++ front) (row ∷ []) rest) in
         let joined : (t ++ front) ++ row ∷ [] ≡ t ++ (front ++ row ∷ []) = append_assoc t front (row ∷ []) in
-        let in_u : Contains u row = subst (λ (v : Tableau). Contains v row) (sym is) (Contains-append_right (t ++ front) (row ∷ rest) row (cons_here row rest)) in
+        let in_u : Contains u row = subst (λ (v : Tableau). Contains v row) (sym is) (Contains-append_right (t ++ front) (row ∷ rest) row (Contains-head row rest)) in
         let place = length (t ++ front) in
         let at_place : (k : ℕ) (d : SymbolRow) → k < place → get_or u k d ≡ get_or (t ++ front) k d = λ (k : ℕ) (d : SymbolRow) l. ap (λ (v : Tableau). get_or v k d) is ∙ get_or_append_left (t ++ front) (row ∷ rest) d k l in
         let row_is : get_or u place row ≡ row = ap (λ (v : Tableau). get_or v place row) longer
@@ -153,8 +154,8 @@ module _ (n : ℕ) (ds : List Dependency) (plan : List Places) (limit : ℕ) (ro
                       (λ old. Contains-append_left (t ++ front) (row ∷ []) p old)
                       (cons_cases (exchanged n (union made.lhs made.rhs) made.first made.second) (t ++ front) p h))),
                   (λ h. ⊎_elim
-                      (λ old. cons_later (exchanged n (union made.lhs made.rhs) made.first made.second) (t ++ front) p old)
-                      (λ (e : row ≡ p). subst (λ (r : SymbolRow). Contains (exchanged n (union made.lhs made.rhs) made.first made.second ∷ (t ++ front)) r) (sym made.row_is ∙ e) (cons_here (exchanged n (union made.lhs made.rhs) made.first made.second) (t ++ front)))
+                      (λ old. Contains-later (exchanged n (union made.lhs made.rhs) made.first made.second) (t ++ front) p old)
+                      (λ (e : row ≡ p). subst (λ (r : SymbolRow). Contains (exchanged n (union made.lhs made.rhs) made.first made.second ∷ (t ++ front)) r) (sym made.row_is ∙ e) (Contains-head (exchanged n (union made.lhs made.rhs) made.first made.second) (t ++ front)))
                       (Contains-push_cases (t ++ front) row p (subst (λ (v : Tableau). Contains v p) (sym joined) h))),
                 );
               };

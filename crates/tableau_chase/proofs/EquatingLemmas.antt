@@ -9,9 +9,10 @@ use Rattle.attr_sets.proofs.PlacesLemmas.{count_below-place}
 use Rattle.dep_model.specs.Dependencies.{Dependency, fd, mvd}
 use Rattle.dep_model.specs.Projections.{members_below}
 use Rattle.dep_model.proofs.SchemeLemmas.{members_below-at, length-members_below}
+use Rattle.dep_model.proofs.ListLemmas.{Contains-head}
 use Rattle.chase_laws.specs.Tableaux.{SymbolRow, Tableau, SameTableau, symbol_at, SymbolsAgree, IsTableauOver}
 use Rattle.chase_laws.specs.Steps.{replaced_in, replaced, IsFunctionalStep}
-use Rattle.chase_laws.proofs.TableauLemmas.{symbol_at_past, length-replaced_in, symbol_at-replaced_in, change, change_hit, change_miss, Same-refl, cons_here}
+use Rattle.chase_laws.proofs.TableauLemmas.{symbol_at_past, length-replaced_in, symbol_at-replaced_in, change, change_hit, change_miss, Same-refl}
 use Rattle.chase_laws.proofs.RoundLemmas.{functional_leads_join}
 use Rattle.tableau_chase.specs.Groups.{symbol_row_at, AreSymbolLeaders}
 use Rattle.tableau_chase.specs.Settling.{Changes, KeepsRows, IsEquatedAt, AreEquated, AgreesBy, AreGrouped, AreGroupedBy}
@@ -201,7 +202,7 @@ module _ (x y : Places) (leaders : List ℕ) (upto next : ℕ) (up : next ≡ up
   }
 
   alone : Contains (fd x y ∷ []) (fd x y)
-  alone = cons_here (fd x y) []
+  alone = Contains-head (fd x y) []
 
   pub grouped_same : (changed : Bool) → AreGroupedUpTo x y leaders upto t m changed → AreEquated y (get_or leaders upto 0) upto m s false → AreGroupedUpTo x y leaders next t s changed
   grouped_same changed before equated =
@@ -245,7 +246,7 @@ pub taken_none : (ds : List Dependency) (t : Tableau) → AreTakenUpTo ds 0 t t 
 taken_none ds t = record { changes = refl; keeps = keeps_itself t; obeyed = λ same j l. absurd (omega arith) }
 
 by_same : (d : Dependency) (t s : Tableau) → AreGroupedBy d t s false → (s ≡ t) × HasBy t d
-by_same (fd x y) t s grouped = (grouped.changes (fd x y ∷ []) (cons_here (fd x y) []), grouped.obeyed refl)
+by_same (fd x y) t s grouped = (grouped.changes (fd x y ∷ []) (Contains-head (fd x y) []), grouped.obeyed refl)
 by_same (mvd x y) t s grouped = (grouped.0, tt)
 
 by_more : (ds : List Dependency) (d : Dependency) (t s : Tableau) → Contains ds d → AreGroupedBy d t s true → Changes ds true t s × KeepsRows t s

@@ -1,12 +1,12 @@
 -- Rows that are made symbol by symbol, and the keys by which rows are told apart.
-use Rattle.std.proofs.Common.{◌≡◌, ℕ, ◌+◌, ◌<◌, zero, suc, Bool, true, false, cond, List, [], ◌∷◌, ◌++◌, length, map, get_or, refl, sym, ap, subst, ◌∙◌, inl, inr, arith, append-nil}
+use Rattle.std.proofs.Common.{◌≡◌, ℕ, ◌+◌, ◌<◌, zero, suc, true, cond, List, [], ◌∷◌, ◌++◌, length, map, get_or, refl, sym, ap, subst, ◌∙◌, inl, inr, arith}
 use Rattle.std.proofs.lemmas.Bool.{cases_Bool, cases_lt}
 use Rattle.std.proofs.lemmas.List.{get_or-map, map-append, get_or_append_left, get_or_push, length_push}
 use Rattle.std.proofs.lemmas.List.FromFn.{map-range_with_len_more}
 use Rattle.attr_sets.specs.Places.{Places, count_below}
 use Rattle.attr_sets.proofs.PlacesLemmas.{count_below-place}
 use Rattle.dep_model.specs.Projections.{members_below}
-use Rattle.dep_model.proofs.SchemeLemmas.{members_below-at, length-members_below}
+use Rattle.dep_model.proofs.SchemeLemmas.{members_below-at, length-members_below, members_below-none, members_below-one_more, members_below-no_more}
 use Rattle.chase_laws.specs.Tableaux.{SymbolRow, symbol_at, SymbolsAgree, scheme_row}
 use Rattle.chase_laws.specs.Steps.{exchanged}
 use Rattle.chase_laws.proofs.TableauLemmas.{symbol_at_past}
@@ -28,30 +28,21 @@ unfolding exchanged
 exchanged-more n z p q = map-range_with_len_more (λ (k : ℕ). cond (z k) (symbol_at p k) (symbol_at q k)) 0 n n (omega arith)
 
 -- ---- the members of a set, one place more
-pub members-none : (x : Places) → members_below 0 x ≡ []
-unfolding members_below
-members-none x = refl
 
 pub members-more : (n m : ℕ) (x : Places) → m ≡ n + 1 → members_below m x ≡ members_below n x ++ cond (x n) (n ∷ []) []
 unfolding members_below
 members-more n m x e = let next : m ≡ suc n = omega arith in ap (λ (k : ℕ). members_below k x) next
-
-pub members-in : (n m : ℕ) (x : Places) → m ≡ n + 1 → x n ≡ true → members_below m x ≡ members_below n x ++ n ∷ []
-members-in n m x e h = members-more n m x e ∙ ap (λ (b : Bool). members_below n x ++ cond b (n ∷ []) []) h
-
-pub members-out : (n m : ℕ) (x : Places) → m ≡ n + 1 → x n ≡ false → members_below m x ≡ members_below n x
-members-out n m x e h = members-more n m x e ∙ ap (λ (b : Bool). members_below n x ++ cond b (n ∷ []) []) h ∙ append-nil (members_below n x)
 
 pub members-low : (n : ℕ) (x : Places) (k : ℕ) → k < length (members_below n x) → get_or (members_below n x) k 0 < n
 unfolding members_below
 members-low zero x k l = absurd (omega arith)
 members-low (suc n) x k l = elim (cases_Bool (x n)) [
   | inr out ↦
-      let same : members_below (suc n) x ≡ members_below n x = members-out n (suc n) x (omega arith) out in
+      let same : members_below (suc n) x ≡ members_below n x = members_below-no_more n (suc n) x (omega arith) out in
       let low : k < length (members_below n x) = subst (λ (ms : List ℕ). k < length ms) same l in
       subst (λ (ms : List ℕ). get_or ms k 0 < suc n) (sym same) (let e = members-low n x k low in omega (arith, e))
   | inl m ↦
-      let same : members_below (suc n) x ≡ members_below n x ++ n ∷ [] = members-in n (suc n) x (omega arith) m in
+      let same : members_below (suc n) x ≡ members_below n x ++ n ∷ [] = members_below-one_more n (suc n) x (omega arith) m in
       let bound : k < length (members_below n x ++ n ∷ []) = subst (λ (ms : List ℕ). k < length ms) same l in
       subst (λ (ms : List ℕ). get_or ms k 0 < suc n) (sym same) (elim (cases_lt k (length (members_below n x))) [
         | inl before ↦ let e = members-low n x k before in omega (arith, e, get_or_append_left (members_below n x) (n ∷ []) 0 k before)
@@ -76,12 +67,12 @@ agree_from_keys n x p q lp lq same k m = elim (cases_lt k n) [
 ]
 
 pub keys_from_agree : (n : ℕ) (x : Places) (p q : SymbolRow) → SymbolsAgree x p q → key_on n x p ≡ key_on n x q
-keys_from_agree zero x p q agree = rw (members-none x) refl
+keys_from_agree zero x p q agree = rw (members_below-none x) refl
 keys_from_agree (suc n) x p q agree =
     let before = keys_from_agree n x p q agree in
     elim (cases_Bool (x n)) [
-      | inr out ↦ rw (members-out n (suc n) x (omega arith) out) before
-      | inl m ↦ rw (members-in n (suc n) x (omega arith) m)
+      | inr out ↦ rw (members_below-no_more n (suc n) x (omega arith) out) before
+      | inl m ↦ rw (members_below-one_more n (suc n) x (omega arith) m)
           (map-append (symbol_at p) (members_below n x) (n ∷ []) ∙ ap (λ (vs : List ℕ). vs ++ symbol_at p n ∷ []) before ∙ ap (λ (v : ℕ). key_on n x q ++ v ∷ []) (agree n m) ∙ sym (map-append (symbol_at q) (members_below n x) (n ∷ [])))
     ]
 
@@ -91,11 +82,11 @@ unfolding members_below
 members-member zero x k l = absurd (omega arith)
 members-member (suc n) x k l = elim (cases_Bool (x n)) [
   | inr out ↦
-      let same : members_below (suc n) x ≡ members_below n x = members-out n (suc n) x (omega arith) out in
+      let same : members_below (suc n) x ≡ members_below n x = members_below-no_more n (suc n) x (omega arith) out in
       let low : k < length (members_below n x) = subst (λ (ms : List ℕ). k < length ms) same l in
       subst (λ (ms : List ℕ). x (get_or ms k 0) ≡ true) (sym same) (members-member n x k low)
   | inl m ↦
-      let same : members_below (suc n) x ≡ members_below n x ++ n ∷ [] = members-in n (suc n) x (omega arith) m in
+      let same : members_below (suc n) x ≡ members_below n x ++ n ∷ [] = members_below-one_more n (suc n) x (omega arith) m in
       let bound : k < length (members_below n x ++ n ∷ []) = subst (λ (ms : List ℕ). k < length ms) same l in
       subst (λ (ms : List ℕ). x (get_or ms k 0) ≡ true) (sym same) (elim (cases_lt k (length (members_below n x))) [
         | inl before ↦ ap x (get_or_append_left (members_below n x) (n ∷ []) 0 k before) ∙ members-member n x k before

@@ -9,7 +9,7 @@ use Rattle.std.proofs.lemmas.Str.{IsUtf8-from_is_utf8, is_utf8-from_IsUtf8}
 use Rattle.std.proofs.lemmas.List.{flat_map_more, length-take-le}
 use Rattle.targets.specs.Sql.{separator, listed, doubled}
 
-take_next : {X : Type 0} (xs : List X) (i : ℕ) (d : X) → i < length xs → take (i + 1) xs ≡ take i xs ++ get_or xs i d ∷ []
+pub take_next : {X : Type 0} (xs : List X) (i : ℕ) (d : X) → i < length xs → take (i + 1) xs ≡ take i xs ++ get_or xs i d ∷ []
 take_next xs i d within = rw add-one (take-suc xs i d within)
 
 not_empty : {X : Type 0} (one : X) (xs : List X) → (length (one ∷ xs) == 0) ≡ false

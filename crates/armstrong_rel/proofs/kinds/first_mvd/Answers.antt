@@ -8,8 +8,8 @@ use Rattle.dep_model.specs.declared.dep.Dep.{Dep}
 use Rattle.dep_model.specs.declared.dep.Dep.TheVariants.{Fd}
 use Rattle.dep_model.specs.Dependencies.{Dependency, is_fd}
 use Rattle.dep_model.specs.Deps.{dependency_of}
-use Rattle.armstrong_rel.proofs.KindLemmas.{functional_list}
 use Rattle.armstrong_rel.proofs.kinds.first_mvd.Goals as goal
+use Rattle.dep_model.proofs.DepLemmas.{functional_list}
 
 pub loop-k-preserved : goal.loop-k-preserved
 loop-k-preserved c =

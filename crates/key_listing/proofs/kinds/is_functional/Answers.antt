@@ -6,8 +6,8 @@ use Rattle.dep_model.specs.declared.dep.Dep.{Dep}
 use Rattle.dep_model.specs.declared.dep.Dep.TheVariants.{Fd}
 use Rattle.dep_model.specs.Dependencies.{Dependency, is_fd}
 use Rattle.dep_model.specs.Deps.{dependency_of, dependencies_of}
-use Rattle.dep_model.proofs.DepLemmas.{dependencies_all-to}
-use Rattle.key_listing.proofs.FoundLemmas.{all_functional, functional_list}
+use Rattle.dep_model.proofs.DepLemmas.{dependencies_all-to, functional_list}
+use Rattle.key_listing.proofs.FoundLemmas.{all_functional}
 use Rattle.key_listing.proofs.kinds.is_functional.Goals as goal
 
 pub loop-dep-preserved : goal.loop-dep-preserved

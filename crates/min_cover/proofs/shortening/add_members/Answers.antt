@@ -12,16 +12,17 @@ use Rattle.dep_model.specs.Dependencies.{Dependency, fd}
 use Rattle.dep_model.specs.Schemas.{width_of, theory_of}
 use Rattle.dep_model.specs.Projections.{members_below}
 use Rattle.min_cover.specs.Members.{IsShortLeft, IsShortenedDependency, AreShortened}
-use Rattle.min_cover.proofs.MemberLemmas.{members_none, members_more, members_no_more, shortened_more}
+use Rattle.min_cover.proofs.MemberLemmas.{shortened_more}
 use Rattle.min_cover.proofs.shortening.add_members.Goals.{then-has+in_ok-push, else-has}
 use Rattle.min_cover.proofs.shortening.add_members.Goals as goal
+use Rattle.dep_model.proofs.SchemeLemmas.{members_below-none, members_below-one_more, members_below-no_more}
 
 pub loop-a-init : goal.loop-a-init
 loop-a-init c firsts before =
     let x = places c.args.lhs in
     let z = minus (places c.args.rhs) x in
     let none : firsts ++ map (λ (a : ℕ). fd x (only a)) (members_below 0 z) ≡ firsts =
-    ap (λ (l : List ℕ). firsts ++ map (λ (a : ℕ). fd x (only a)) l) (members_none z) ∙ append-nil firsts in
+    ap (λ (l : List ℕ). firsts ++ map (λ (a : ℕ). fd x (only a)) l) (members_below-none z) ∙ append-nil firsts in
     subst (λ (es : List Dependency). AreShortened (width_of c.args.schema.now) (theory_of c.args.schema.now) es c.args.members.now.items) (sym none) before
 
 -- one place more
@@ -29,7 +30,7 @@ more_is : (firsts : List Dependency) (x z : Places) (a : ℕ) → z a ≡ true
     → firsts ++ map (λ (b : ℕ). fd x (only b)) (members_below (a + 1) z) ≡ (firsts ++ map (λ (b : ℕ). fd x (only b)) (members_below a z)) ++ fd x (only a) ∷ []
 more_is firsts x z a member =
     let f : ℕ → Dependency = λ (b : ℕ). fd x (only b) in
-    ap (λ (l : List ℕ). firsts ++ map f l) (members_more a (a + 1) z refl member)
+    ap (λ (l : List ℕ). firsts ++ map f l) (members_below-one_more a (a + 1) z refl member)
     ∙ ap (λ (l : List Dependency). firsts ++ l) (map_push f (members_below a z) a)
     ∙ sym (append_assoc firsts (map f (members_below a z)) (f a ∷ []))
 
@@ -64,7 +65,7 @@ loop-a-preserved c firsts before =
           let outside : z a ≡ false = sym (c.minus-beyond.ensures.members a) ∙ sym c.has.ensures.member ∙ w.if-has.false in
           let same = ap (λ v. v.items) w.members-is in
           subst (λ (es : List Dep). AreShortened n (theory_of s) (firsts ++ map f (members_below (a + 1) z)) es) (sym same)
-          (subst (λ (l : List ℕ). AreShortened n (theory_of s) (firsts ++ map f l) c.loop-a.members.items) (sym (members_no_more a (a + 1) z refl outside)) old)
+          (subst (λ (l : List ℕ). AreShortened n (theory_of s) (firsts ++ map f l) c.loop-a.members.items) (sym (members_below-no_more a (a + 1) z refl outside)) old)
     ]
 
 pub returns : goal.returns

@@ -8,8 +8,9 @@ use Rattle.dep_model.specs.Dependencies.{Dependency}
 use Rattle.dep_model.specs.Deps.{dependency_of}
 use Rattle.dep_model.specs.Schemas.{lines_of, theory_of, deps_of}
 use Rattle.table_scripts.specs.Checking.{rule_text}
-use Rattle.table_scripts.proofs.ItemLemmas.{item_more, zip_more, zip_all}
+use Rattle.table_scripts.proofs.ItemLemmas.{zip_more, zip_all}
 use Rattle.table_scripts.proofs.checking.add_rules.Goals as goal
+use Rattle.ddl_text.proofs.TextLemmas.{item_more}
 
 abbrev no_dep : Dep
 no_dep = Fd (record { 0 = 0 }) (record { 0 = 0 })
