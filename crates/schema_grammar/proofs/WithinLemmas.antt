@@ -1,5 +1,5 @@
 -- Sets that are read lie within the universe.
-use Rattle.std.proofs.Common.{subst, ◌≡◌, ◌<◌, ◌+◌, ℕ, Bool, true, false, cond, List, [], ◌∷◌, length, Option, Some, None, Ok, Err, Result, refl, ◌∙◌, ap, ◌||◌, ◌==◌, lt-ltb, ⊎_elim}
+use Rattle.std.proofs.Common.{subst, ◌≡◌, ◌<◌, ◌+◌, ℕ, Bool, true, false, cond, List, [], ◌∷◌, length, Option, Some, None, Ok, Err, Result, refl, sym, ◌∙◌, ap, ◌||◌, ◌==◌, lt-ltb, ⊎_elim}
 use Rattle.std.specs.Result.{IfOk}
 use Rattle.std.specs.Option.{IfSome}
 use Rattle.std.proofs.lemmas.Bool.{eqb-true, false≢true, or_cases}
@@ -153,6 +153,10 @@ pub within_read : {X Y E F : Type 0} (P : Y → Type 0) (g : X → Y) (r : Resul
     → IfOk r (λ x. P (g x))
 within_read {Y = Y} {F = F} P g (Ok x) reading same inside = let at : Result Y F → Type 0 = λ s. IfOk s P in subst at same inside
 within_read P g (Err e) reading same inside = tt
+
+at_within : (n : ℕ) (o : Option ℕ) (k : ℕ) → IfSome o (λ a. a < n) → is_at o k ≡ true → k < n
+at_within n None k low here = absurd (false≢true here)
+at_within n (Some a) k low here = subst (λ (j : ℕ). j < n) (sym (eqb-true k a here)) low
 
 pub named_within : (names : List (List ℕ)) (words : List Mark) → Within (named names words) (below (length names))
 named_within names [] k member = absurd (false≢true member)
