@@ -12,12 +12,6 @@ abbrev pub IsMeetTo : ℕ → List Dependency → Places → ℕ → Places → 
 IsMeetTo n ds x most m =
     (k : ℕ) → (m k ≡ true) ↔ (k < n) × ((a : ℕ) → a < most → x a ≡ false → InClosure n ds (union x (only a)) k)
 
-pub meet_none : (n : ℕ) (ds : List Dependency) (x m : Places) → Same m (below n) → IsMeetTo n ds x 0 m
-meet_none n ds x m is k = (
-  (λ member. (ltb-true k n (sym (is k) ∙ member), λ a lt outside. absurd (omega arith))),
-  (λ told. is k ∙ lt-ltb k n told.0),
-)
-
 pub meet_inside : (n : ℕ) (ds : List Dependency) (x m : Places) (a : ℕ) → x a ≡ true → IsMeetTo n ds x a m
     → IsMeetTo n ds x (a + 1) m
 meet_inside n ds x m a member is k = (

@@ -5,3 +5,4 @@ pub mod SoundLemmas
 pub mod ClosedLemmas
 pub mod RoundLemmas
 pub mod EndLemmas
+pub mod UniqueLemmas

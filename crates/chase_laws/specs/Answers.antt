@@ -10,7 +10,7 @@ use Rattle.dep_model.specs.Projections.{InJoin, projections}
 use Rattle.dep_model.specs.TwoTuples.{all_zeros}
 use Rattle.chase_laws.specs.Tableaux.{SymbolRow, Tableau}
 use Rattle.chase_laws.specs.Steps.{IsClosed}
-use Rattle.chase_laws.specs.Rounds.{ReachesTableau}
+use Rattle.chase_laws.specs.Rounds.{ReachesTableau, SettlesTo, InRounds}
 
 -- a tableau as a relation: each symbol as a decimal text
 abbrev pub texts_of : Tableau → Relation
@@ -26,11 +26,16 @@ pub record IsGaining (n : ℕ) (ds : List Dependency) (plan : List Places) (r : 
   pub joined : InJoin n plan (projections plan r) (all_zeros n)
   pub gained : Contains r (all_zeros n) → ⊥
 
--- a closed tableau that is reached, as texts, its rows ascending
+-- what the last tableau of the rounds settles to, which is closed and has at most so many rows: as
+-- texts, its rows ascending
 pub record IsClosedTableau (n : ℕ) (ds : List Dependency) (plan : List Places) (limit : ℕ)
     (r : Relation) : Type 0 where
   pub symbols : Tableau
   pub texts : r ≡ texts_of symbols
+  pub round : ℕ
+  pub last : Tableau
+  pub in_rounds : InRounds n ds plan round last
+  pub settles : SettlesTo ds last symbols
   pub reached : ReachesTableau n ds plan symbols
   pub closed : IsClosed n ds symbols
   pub few : length symbols ≤ limit

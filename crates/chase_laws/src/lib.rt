@@ -7,12 +7,13 @@
 ghost use Rattle.std.specs.Prelude.{◌≡◌, ◌<◌, ◌≤◌, ◌^◌, ℕ, List, length, Contains};
 ghost use Rattle.attr_sets.specs.Places.{Places};
 ghost use Rattle.dep_model.specs.Dependencies.{Dependency, mvd};
+ghost use Rattle.dep_model.specs.Tuples.{Relation};
 ghost use Rattle.dep_model.specs.Columns.{columns_on, IsTyped};
 ghost use Rattle.dep_model.specs.Projections.{Covers, IsLossless};
 ghost use Rattle.chase_laws.specs.Tableaux.{Tableau, SameTableau, IsTableauOver, distinguished};
 ghost use Rattle.chase_laws.specs.Steps.{IsClosed};
 ghost use Rattle.chase_laws.specs.Rounds.{ReachesTableau, SettlesTo, EndsRounds, InRounds, RoundsExceed};
-ghost use Rattle.chase_laws.specs.Answers.{texts_of, IsGaining};
+ghost use Rattle.chase_laws.specs.Answers.{texts_of, IsGaining, IsClosedTableau};
 
 /// What a tableau settles to does not depend on the order of the steps.
 pub fn settling_is_unique()
@@ -38,6 +39,12 @@ pub fn functional_rounds_stay_small()
     ensures law { (n : ℕ) (ds : List Dependency) (plan : List Places) (limit : ℕ)
         → ((x y : Places) → Contains ds (mvd x y) → ⊥) → length plan ≤ limit
         → RoundsExceed n ds plan limit → ⊥ }
+{}
+
+/// A plan has one closed tableau at most, as texts.
+pub fn closed_tableau_is_unique()
+    ensures law { (n : ℕ) (ds : List Dependency) (plan : List Places) (limit : ℕ) (r s : Relation)
+        → IsClosedTableau n ds plan limit r → IsClosedTableau n ds plan limit s → r ≡ s }
 {}
 
 /// A plan from whose tableau the row of distinguished symbols is reached is lossless.

@@ -269,14 +269,6 @@ zeros_at zero i = refl
 zeros_at (suc n) zero = refl
 zeros_at (suc n) (suc i) = zeros_at n i
 
--- the members of a set up to a place
-pub meet_none : (x : Places) → Same none (meet x (below 0))
-meet_none x k = by (x k)
-  where
-    by : (b : Bool) → false ≡ (b && nat_lt k 0)
-    by true = grind arith
-    by false = refl
-
 pub meet_in : (x : Places) (k : ℕ) → x k ≡ true → Same (union (meet x (below k)) (only k)) (meet x (below (k + 1)))
 meet_in x k h m = elim (cases_Bool (m == k)) [
   | inl same ↦
@@ -374,14 +366,6 @@ old_first numbers firsts i old order l other = elim (cases_lt (length firsts) (n
     | inr equal ↦ absurd (other (omega (arith, few, equal)))
   ]
 ]
-
-pub all_firsts : (numbers firsts : List ℕ) (i : ℕ) → FirstsBefore numbers i firsts → i ≡ length numbers → AreFirsts numbers firsts
-all_firsts numbers firsts i f e = record {
-  each = λ j l. f.each j (omega (arith, l, e));
-  within = λ g l. omega (arith, f.within g l, e);
-  number = f.number;
-  least = λ j l. f.least j (omega (arith, l, e));
-}
 
 -- groups by a column, from the numbers of pairs
 pub pair_groups : (rows : Relation) (x : Places) (k : ℕ) (groups codes items : List ℕ) → AreGroups rows x groups → AreGroups rows (only k) codes

@@ -65,12 +65,6 @@ pub line_stopped : (names : List (List ℕ)) (number : ℕ) (schemes : List Plac
 unfolding read_scheme_line
 line_stopped names number schemes stop l e = rw e refl
 
-pub scheme_added : (names : List (List ℕ)) (number : ℕ) (schemes : List Places) (t : Token) (word rest : List ℕ) (l : Lexed) (earlier : ℕ) (x : Places) → Leads mode.Plain t word rest l
-    → earlier ≡ length schemes → read_scheme names number earlier (marked t word) (lexed mode.Plain 0 (t.column + t.length) rest) ≡ Ok x
-    → read_scheme_line names number schemes l.marks l.stop ≡ Ok (schemes ++ x ∷ [])
-unfolding read_scheme_line
-scheme_added names number schemes t word rest l earlier x leads count is = rw (leads.all_tokens, sym count, is) refl
-
 -- ---- lines
 -- to read the lines that are left is to read all of them
 pub record Reads (names : List (List ℕ)) (text : List ℕ) (schemes : List Places) (number : ℕ) (rest : List ℕ) : Type 0 where

@@ -29,9 +29,6 @@ told_shows files faults taken old new fs are calm = record { same = sym are; fai
 -- ---- ways to stop
 
 -- ---- steps
--- a step that stops ends the command
-pub stopped : {T : Type 0} (stops : Allowed) (is : T → Type 0) (rest : T → Allowed) (stop : Stop) → StopsAs stops stop → StopsAs (With stops is rest) stop
-stopped stops is rest stop there reply e = inl (there reply e)
 
 -- what was found goes on
 pub found : {T : Type 0} (stops : Allowed) (is : T → Type 0) (rest : T → Allowed) (x : T) (result : Result Reply Stop) → is x → RepliesAs (rest x) result → RepliesAs (With stops is rest) result
@@ -39,9 +36,6 @@ found stops is rest x (Ok reply) there goes = inr (x, there, goes)
 found stops is rest x (Err stop) there goes = λ reply e. inr (x, there, goes reply e)
 
 -- ---- tests
--- a test that stops ends the command
-pub failed : (stops : Allowed) (is : Type 0) (rest : Allowed) (stop : Stop) → StopsAs stops stop → StopsAs (Unless stops is rest) stop
-failed stops is rest stop there reply e = inl (there reply e)
 
 -- a test that is passed goes on
 pub passed : (stops : Allowed) (is : Type 0) (rest : Allowed) (result : Result Reply Stop) → is → RepliesAs rest result → RepliesAs (Unless stops is rest) result

@@ -1,17 +1,18 @@
--- What says the same as a schema, with nothing that can be left out.
+-- What says the same as a schema, shortened.
 use Rattle.std.specs.Prelude.{List}
-use Rattle.dep_model.specs.Dependencies.{Dependency}
+use Rattle.dep_model.specs.Dependencies.{Dependency, functional_part}
 use Rattle.dep_model.specs.Schemas.{names_of, columns_of, width_of, theory_of}
 use Rattle.dep_model.specs.declared.schema.Schema.{Schema}
 use Rattle.schema_grammar.specs.Printing.{declared_text}
-use Rattle.min_cover.specs.Covers.{IsFixedWholeCover, IsWholeCover}
+use Rattle.min_cover.specs.Covers.{IsFixedWholeCover, IsMinimalCover, IsWholeCover}
 use Rattle.desk_cli.specs.declared.status.Status.TheVariants.{Yes}
 use Rattle.desk_cli.specs.Answers.{Allowed, Says}
 
--- yes, with the fixed whole cover as a schema text: the same relations are legal for it, and none of its
--- multivalued dependencies follows from the rest
+-- yes, with the fixed whole cover as a schema text: the same relations are legal for it, its functional part
+-- is a minimal cover of the functional dependencies, and none of its multivalued ones follows from the rest
 abbrev pub GivesCover : Schema → Allowed
 GivesCover schema answer =
     (whole : List Dependency) × IsFixedWholeCover (width_of schema) (theory_of schema) whole
+    × IsMinimalCover (width_of schema) (theory_of schema) (functional_part whole)
     × IsWholeCover (width_of schema) (theory_of schema) whole
     × Says Yes (declared_text (columns_of schema) (names_of schema) whole) answer

@@ -14,7 +14,7 @@ help_text =
     ++ line (codes "desk check form FORM SCHEMA PLAN      whether each scheme of the plan is in the form: 3nf, bcnf or 4nf")
     ++ line (codes "desk check keeps SCHEMA PLAN          whether the plan keeps the functional dependencies")
     ++ line (codes "desk check same SCHEMA OTHER          whether two schemas over the same names say the same")
-    ++ line (codes "desk cover SCHEMA                     what says the same, with nothing that can be left out")
+    ++ line (codes "desk cover SCHEMA                     what says the same, shortened")
     ++ line (codes "desk basis SCHEMA SET                 what the set of attributes determines, and the blocks of the others")
     ++ line (codes "desk keys SCHEMA                      all keys")
     ++ line (codes "desk keys SCHEMA PLAN                 all keys of each scheme of the plan")

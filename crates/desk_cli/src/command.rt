@@ -25,7 +25,7 @@ pub enum Task<'a> {
     CheckKeeps { plan: &'a Word },
     /// Whether it, in the first file, says the same as the schema of a second file.
     CheckSame { file: &'a Word, other: &'a Word },
-    /// What says the same, with nothing that can be left out.
+    /// What says the same, shortened.
     Cover,
     /// What a set of attributes determines, and its blocks.
     Basis { set: &'a Word },

@@ -9,7 +9,8 @@ use min_cover::whole_cover;
 use schema_reader::print_deps;
 use std::alloc::Global;
 
-/// A cover of a schema: what says the same with nothing that can be left out.
+/// A cover of a schema: what says the same, in which no functional dependency follows from the other
+/// functional ones, and no multivalued one from the rest.
 pub fn cover(alloc: Global, schema: &Schema) -> Result<Reply, Stop>
     ensures reply { RepliesAs (GivesCover schema.now) result }
 {

@@ -14,7 +14,7 @@ desk check join SCHEMA PLAN           whether the plan in PLAN loses nothing
 desk check form FORM SCHEMA PLAN      whether each scheme of the plan is in the form: 3nf, bcnf or 4nf
 desk check keeps SCHEMA PLAN          whether the plan keeps the functional dependencies
 desk check same SCHEMA OTHER          whether two schemas over the same names say the same
-desk cover SCHEMA                     what says the same, with nothing that can be left out
+desk cover SCHEMA                     what says the same, shortened
 desk basis SCHEMA SET                 what the set of attributes determines, and the blocks of the others
 desk keys SCHEMA                      all keys
 desk keys SCHEMA PLAN                 all keys of each scheme of the plan

@@ -23,6 +23,7 @@ mod implies;
 mod join;
 mod keeping;
 mod keys;
+pub mod limits;
 mod migration;
 mod normal_forms;
 mod persons;

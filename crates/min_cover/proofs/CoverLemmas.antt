@@ -1,8 +1,8 @@
 -- The fixed cover is a minimal one, and the fixed whole cover says the same as the schema.
-use Rattle.std.proofs.Common.{◌≡◌, ℕ, true, not, List, [], ◌∷◌, ◌++◌, refl, sym, ◌∙◌, subst, ap, ⊎_elim, arith, append-nil, append_assoc}
-use Rattle.std.proofs.lemmas.Bool.{true≢false}
+use Rattle.std.proofs.Common.{◌≡◌, ℕ, true, false, inl, inr, not, List, [], ◌∷◌, ◌++◌, refl, sym, ◌∙◌, subst, ap, ⊎_elim, arith, append-nil, append_assoc}
+use Rattle.std.proofs.lemmas.Bool.{true≢false, not-true}
 use Rattle.std.proofs.lemmas.Bool.Decides.{nat_tests}
-use Rattle.std.proofs.lemmas.List.Elements.{All-nil, All-cons, All-head, All-tail, All-append, All-weaker, All-contains, All-map, All-filter}
+use Rattle.std.proofs.lemmas.List.Elements.{All-nil, All-cons, All-head, All-tail, All-append, All-weaker, All-contains, All-map, All-filter, filter-append, filter_passes}
 use Rattle.std.specs.Prelude.{All}
 use Rattle.std.specs.List.{flat_map}
 use Rattle.attr_sets.specs.Places.{below, only, minus, Within}
@@ -258,3 +258,34 @@ module _ (n : ℕ) (ds whole : List Dependency) (within : All (IsWithin (below n
         let at = split_later (λ (e : Dependency). is_fd e ≡ true) is.cover left.0 before after d functional (λ is_functional. true≢false (sym is_functional ∙ multivalued)) (sym left.1.whole ∙ split) in
         left.1.needed at.0 after d at.2 (subst (λ (es : List Dependency). Implies n es d) (ap (λ (es : List Dependency). es ++ after) at.1 ∙ append_assoc is.cover at.0 after) implied);
   }
+
+-- ---- the functional part of the fixed whole cover
+-- thinning multivalued dependencies leaves the functional ones
+functional_kept : (n : ℕ) (kept later whole : List Dependency) → All (λ (d : Dependency). is_fd d ≡ false) later
+    → IsThinned n kept later whole → functional_part whole ≡ functional_part kept
+functional_kept n kept [] whole multivalued is = ap functional_part is
+functional_kept n kept (d ∷ later) whole multivalued is =
+    let rest = All-tail (λ (e : Dependency). is_fd e ≡ false) d later multivalued in
+    let first : is_fd d ≡ false = All-head (λ (e : Dependency). is_fd e ≡ false) d later multivalued in
+    let pushed : functional_part (kept ++ d ∷ []) ≡ functional_part kept =
+    filter-append is_fd kept (d ∷ []) ∙ (rw first (append-nil (functional_part kept))) in
+    elim is [
+      | inl left_out ↦ functional_kept n kept later whole rest left_out.1
+      | inr needed ↦ functional_kept n (kept ++ d ∷ []) later whole rest needed.1 ∙ pushed
+    ]
+
+all_kept : (ds : List Dependency) → All (λ (d : Dependency). is_fd d ≡ true) ds → functional_part ds ≡ ds
+all_kept [] all = refl
+all_kept (d ∷ ds) all =
+    let first : is_fd d ≡ true = All-head (λ (e : Dependency). is_fd e ≡ true) d ds all in
+    rw first (ap (λ (es : List Dependency). d ∷ es) (all_kept ds (All-tail (λ (e : Dependency). is_fd e ≡ true) d ds all)))
+
+pub whole_is_minimal : (n : ℕ) (ds whole : List Dependency) → All (IsWithin (below n)) ds → IsFixedWholeCover n ds whole
+    → IsMinimalCover n ds (functional_part whole)
+whole_is_minimal n ds whole within is =
+    let minimal : IsMinimalCover n ds is.cover = fixed_is_minimal n ds is.cover within is.fixed in
+    let functional = All-weaker IsSingle (λ (d : Dependency). is_fd d ≡ true) (λ d single. ap is_fd single.2) is.cover minimal.single in
+    let multivalued = All-weaker (λ (d : Dependency). not (is_fd d) ≡ true) (λ (d : Dependency). is_fd d ≡ false)
+    (λ d passes. not-true (is_fd d) passes) (multivalued_part ds) (filter_passes (λ d. not (is_fd d)) ds) in
+    subst (λ (es : List Dependency). IsMinimalCover n ds es)
+    (sym (functional_kept n is.cover (multivalued_part ds) whole multivalued is.thinned ∙ all_kept is.cover functional)) minimal

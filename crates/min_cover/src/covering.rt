@@ -1,4 +1,5 @@
 ghost use Rattle.std.specs.Prelude.{IfOk, All};
+ghost use Rattle.dep_model.specs.Dependencies.{functional_part};
 ghost use Rattle.dep_model.specs.Deps.{dependencies_of, IsDepWithin};
 ghost use Rattle.dep_model.specs.Schemas.{width_of, universe_of, theory_of};
 ghost use Rattle.min_cover.specs.Covers.{IsFixedCover, IsFixedWholeCover, IsMinimalCover, IsWholeCover};
@@ -28,6 +29,8 @@ pub fn minimal(alloc: Global, schema: &Schema) -> Result<Vec<Dep>, WantMemory>
 pub fn whole_cover(alloc: Global, schema: &Schema) -> Result<Vec<Dep>, WantMemory>
     ensures fixed { IfOk result (λ whole.
         IsFixedWholeCover (width_of schema.now) (theory_of schema.now) (dependencies_of whole.items)) }
+    ensures minimal { IfOk result (λ whole. IsMinimalCover (width_of schema.now) (theory_of schema.now)
+        (functional_part (dependencies_of whole.items))) }
     ensures whole { IfOk result (λ whole.
         IsWholeCover (width_of schema.now) (theory_of schema.now) (dependencies_of whole.items)) }
     ensures within { IfOk result (λ whole. All (IsDepWithin (universe_of schema.now)) whole.items) }

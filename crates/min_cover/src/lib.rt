@@ -1,4 +1,4 @@
-//! Covers of a schema's dependencies: what says the same with nothing that can be left out.
+//! Covers of a schema's dependencies: what says the same, shortened.
 //!
 //! `minimal` gives a minimal cover of the functional dependencies, the one that a fixed order of trying
 //! leaves (Maier 1980). `whole_cover` adds the multivalued dependencies that the others do not imply; it

@@ -12,10 +12,6 @@ use Rattle.schema_grammar.specs.Meanings.{IsAttribute, is_at, named}
 use Rattle.schema_grammar.proofs.WithinLemmas.{named_within}
 use Rattle.plan_grammar.specs.Meanings.{IsSchemeLine, MeansSchemeLines}
 
-at_within : (n : ℕ) (o : Option ℕ) (k : ℕ) → IfSome o (λ a. a < n) → is_at o k ≡ true → k < n
-at_within n None k low here = absurd (false≢true here)
-at_within n (Some a) k low here = subst (λ (j : ℕ). j < n) (sym (eqb-true k a here)) low
-
 line_within : (names : List (List ℕ)) (ms : List Mark) (x : Places) → IsSchemeLine names ms x → Within x (below (length names))
 line_within names ms x is k member = named_within names is.words k (sym (ap (λ (y : Places). y k) is.members) ∙ member)
 

@@ -1,6 +1,7 @@
 -- How the pieces of a printed line are lexed: decimals, colons, words, sets and dependencies.
 use Rattle.std.proofs.Common.{◌≡◌, ◌<◌, ◌≤◌, ◌+◌, ◌-◌, ◌*◌, ◌^◌, ℕ, suc, Bool, true, false, ◌==◌, ◌&&◌, List, [], ◌∷◌, ◌++◌, length, refl, sym, ◌∙◌, ap, arith, append_assoc, length-append, rules}
-use Rattle.schema_grammar.proofs.PrintedLexing.{take_front, drop_front, Apart, name_lexed, blank_lexed, led_by_marks, side_marks, side_end, side_lexed, arrow_lexed, double_arrow_lexed}
+use Rattle.std.proofs.Math.Seq.{take-append_seam, drop-append_seam}
+use Rattle.schema_grammar.proofs.PrintedLexing.{Apart, name_lexed, blank_lexed, led_by_marks, side_marks, side_end, side_lexed, arrow_lexed, double_arrow_lexed}
 use Rattle.std.specs.Prelude.{codes, decimal, nat_lt, nat_le, fold}
 use Rattle.std.specs.List.{list_all}
 use Rattle.std.specs.Char.{is_ascii_alphabetic, is_ascii_digit}
@@ -83,7 +84,7 @@ front_number (first ∷ others) rest e some few apart =
     let hash : (first == 35) ≡ false = grind (arith, nat_tests) in
     let more : run_length (others ++ rest) ≡ length others = run_is others rest parts.1 apart in
     let one : 1 + length others ≡ suc (length others) = omega arith in
-    rw (gap, hash, digit_byte first digit) (rw (more, one) (rw (take_front others rest, digit_names_none first others digit, digits_number (first ∷ others) e some few) refl))
+    rw (gap, hash, digit_byte first digit) (rw (more, one) (rw (take-append_seam others rest, digit_names_none first others digit, digits_number (first ∷ others) e some few) refl))
 
 -- ---- pieces one after another
 abbrev pub Anything : List ℕ → Type 0
@@ -130,7 +131,7 @@ lexes_decimal n column small =
     record {
       lexes = λ rest apart.
           at_token mode.Numbered column (decimal n ++ rest) (token.Number (number_of (decimal n))) (length (decimal n)) (let size = length-append (decimal n) rest in let some = is.some in omega arith) (sym (front_number (decimal n) rest is.digits is.some is.few apart))
-          ∙ (rw (take_front (decimal n) rest, drop_front (decimal n) rest, is.value) refl);
+          ∙ (rw (take-append_seam (decimal n) rest, drop-append_seam (decimal n) rest, is.value) refl);
     }
 
 -- a colon and a blank

@@ -1,5 +1,6 @@
 -- How names, blanks and signs of a printed line are lexed.
 use Rattle.std.proofs.Common.{◌≡◌, ◌+◌, ℕ, suc, true, false, ◌==◌, ◌&&◌, List, [], ◌∷◌, ◌++◌, length, take, drop, refl, sym, ◌∙◌, ap, arith, append_assoc}
+use Rattle.std.proofs.Math.Seq.{take-append_seam, drop-append_seam}
 use Rattle.std.specs.Prelude.{nat_lt, nat_le}
 use Rattle.std.specs.List.{list_all}
 use Rattle.std.specs.Char.{is_ascii_alphabetic}
@@ -40,16 +41,6 @@ run_is (b ∷ bs) rest e apart =
     let more : run_length (bs ++ rest) ≡ length bs = run_is bs rest parts.1 apart in
     rw (parts.0, more) (omega arith)
 
-pub take_front : (word rest : List ℕ) → take (length word) (word ++ rest) ≡ word
-take_front [] [] = refl
-take_front [] (b ∷ bs) = refl
-take_front (b ∷ bs) rest = ap (λ t. b ∷ t) (take_front bs rest)
-
-pub drop_front : (word rest : List ℕ) → drop (length word) (word ++ rest) ≡ rest
-drop_front [] [] = refl
-drop_front [] (b ∷ bs) = refl
-drop_front (b ∷ bs) rest = drop_front bs rest
-
 -- the front of a text that begins with a name
 front_name : (m : Mode) (word rest : List ℕ) → is_name word ≡ true → Apart rest → front m (word ++ rest) ≡ piece.Token token.Word (length word)
 unfolding front run_piece
@@ -63,7 +54,7 @@ front_name m (first ∷ others) rest e apart =
     let bytes = (and_parts (is_name_byte first) (list_all is_name_byte others) parts.bytes).1 in
     let more : run_length (others ++ rest) ≡ length others = run_is others rest bytes apart in
     let one : 1 + length others ≡ suc (length others) = omega arith in
-    rw (gap, hash, byte) (rw (more, one) (rw (take_front others rest, e) refl))
+    rw (gap, hash, byte) (rw (more, one) (rw (take-append_seam others rest, e) refl))
 
 -- a name is a token
 pub name_lexed : (m : Mode) (column : ℕ) (word rest : List ℕ) → is_name word ≡ true → Apart rest
@@ -71,7 +62,7 @@ pub name_lexed : (m : Mode) (column : ℕ) (word rest : List ℕ) → is_name wo
 name_lexed m column [] rest e apart = cc
 name_lexed m column (first ∷ others) rest e apart =
     let whole = at_token m column ((first ∷ others) ++ rest) token.Word (length (first ∷ others)) (omega arith) (sym (front_name m (first ∷ others) rest e apart)) in
-    whole ∙ (rw (take_front (first ∷ others) rest, drop_front (first ∷ others) rest) refl)
+    whole ∙ (rw (take-append_seam (first ∷ others) rest, drop-append_seam (first ∷ others) rest) refl)
 
 -- the tokens of words, each after a blank
 abbrev pub word_marks : ℕ → List (List ℕ) → List Mark

@@ -308,16 +308,13 @@ runs_bytes (r ∷ rs) names =
 all_names : (f : Format) (names : List (List ℕ)) → AreNames f names → AllNames names
 all_names f names are = names_proper f names [] names 0 are (record { whole = refl; size = refl })
 
-lines_append : (xs ys : List (List ℕ)) (zs : List (List ℕ)) → (xs ++ ys) ++ zs ≡ xs ++ (ys ++ zs)
-lines_append xs ys zs = append_assoc xs ys zs
-
 -- a printed text is cut into its lines and an empty one
 text_cut : (columns : List Column) (names : List (List ℕ)) (deps : List Dependency) → EachBytes (declaring_lines columns names) → AreNames format.Plain names
     → line_texts (declared_text columns names deps) ≡ declaring_lines columns names ++ (map (dependency_text names) deps ++ [] ∷ [])
 unfolding declared_text
 text_cut columns names deps each are =
     lines_cut (declaring_lines columns names ++ map (dependency_text names) deps) (each_append (declaring_lines columns names) (map (dependency_text names) deps) each (each_dependency format.Plain names deps are))
-    ∙ lines_append (declaring_lines columns names) (map (dependency_text names) deps) ([] ∷ [])
+    ∙ append_assoc (declaring_lines columns names) (map (dependency_text names) deps) ([] ∷ [])
 
 record Means (columns : List Column) (names : List (List ℕ)) (deps : List Dependency) : Type 0 where
   lines : List ℕ

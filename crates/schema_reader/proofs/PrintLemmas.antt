@@ -38,12 +38,6 @@ at_place xs i x e =
     let inside : i < length xs = slice_get_within xs i x e in
     rw (add-one, drop-cons xs i x) (let same : get_or xs i x ≡ x = get_at xs i x e in rw same refl)
 
-pub past_end : {X : Type 0} (xs : List X) (i : ℕ) → length xs ≤ i → drop i xs ≡ []
-past_end [] zero h = refl
-past_end [] (suc i) h = refl
-past_end (x ∷ xs) zero h = absurd (omega arith)
-past_end (x ∷ xs) (suc i) h = past_end xs i (omega arith)
-
 pub set_begins : (names : List (List ℕ)) (x : Places) (before : List ℕ) → PrintsSet names x before before false 0
 unfolding set_text
 set_begins names x before = record { same = refl }

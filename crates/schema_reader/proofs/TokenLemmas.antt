@@ -14,9 +14,6 @@ pub record Collects (m : Mode) (line : List ℕ) (taken : List Token) (column : 
   pub same : tokens_lexed (lex m line) ≡ all_or_stop (taken ++ map token_of (lexed m 0 column rest).marks) (lexed m 0 column rest).stop
   pub room : column + length rest < 2 ^ 32
 
-pub begins : (m : Mode) (line : List ℕ) → 1 + length line < 2 ^ 32 → Collects m line [] 1 line
-begins m line room = record { same = refl; room = room }
-
 pub at_end : (m : Mode) (line : List ℕ) (taken : List Token) (column : ℕ) (rest : List ℕ) → Collects m line taken column rest
     → lexed m 0 column rest ≡ record { marks = []; stop = None } → tokens_lexed (lex m line) ≡ Ok taken
 at_end m line taken column rest collects e = collects.same ∙ (rw e (rw (append-nil taken) refl))

@@ -157,8 +157,6 @@ mvd_whole n x y r inside t u t_in u_in agree =
     (t, t_in, AgreeOn-refl (union x y) t, λ (k : ℕ) m. absurd (let all = inside k in grind (arith, m, all)))
 
 -- ---- the law
-abbrev Tells : ℕ → Dependency → Relation → Query → Type 0
-Tells n d r q = GivesNone n q r ↔ Obeys n d r
 
 pub breaches_tell : (n : ℕ) (d : Dependency) (r : Relation) → n ≤ PLACES → IsWithin (below n) d → IsOver n r
     → MatchOption (breaches_of n d) (Obeys n d r) (λ q. GivesNone n q r ↔ Obeys n d r)

@@ -187,10 +187,18 @@ module _ (n : ℕ) (ds : List Dependency) (plan : List Places) (limit : ℕ) (ro
     next_lower grows = round_lowers n (length plan) limit ds rows t u (reached-over n ds plan rows round.reached) (reached-most n ds plan rows round.reached) settles_to.leads (next_of u adds) round.differ grows few
 
 -- ---- the answers
-pub closed_rows : (n : ℕ) (ds : List Dependency) (plan : List Places) (limit : ℕ) (t : Tableau) (texts : Relation) → ReachesTableau n ds plan t → IsClosed n ds t → length t ≤ limit → AreTextsOf t texts → IsClosedTableau n ds plan limit texts
-closed_rows n ds plan limit t texts reached closed few are = record {
+pub closed_rows : (n : ℕ) (ds : List Dependency) (plan : List Places) (limit : ℕ) (rows t : Tableau) (texts : Relation) → IsRound n ds plan limit rows → SettlesTo ds rows t → ReachesTableau n ds plan t → IsClosed n ds t → length t ≤ limit
+    → AreTextsOf t texts → IsClosedTableau n ds plan limit texts
+closed_rows n ds plan limit rows t texts round settles reached closed few are = record {
   symbols = are.symbols;
   texts = are.texts;
+  round = round.round;
+  last = rows;
+  in_rounds = round.in_rounds;
+  settles = record {
+    leads = (settles.leads.0, functional_leads_end ds settles.leads.0 rows t are.symbols settles.leads.1 are.same);
+    settled = settled-same ds t are.symbols are.same settles.settled;
+  };
   reached = (reached.0, step_leads_end n ds reached.0 (plan_tableau n plan) t are.symbols reached.1 are.same);
   closed = closed-same n ds t are.symbols are.same closed;
   few = omega (arith, few, are.count);
@@ -221,7 +229,7 @@ ends_lossy n ds plan limit rows s t u texts small round settles same few lacks a
     let texts_are : AreTextsOf t texts = subst (λ (v : Tableau). AreTextsOf v texts) (no_more_rows t adds.extends.0 u adds.extends.1 count) are in
     record {
       within = ended n ds plan limit rows s t round settles same (inr closed);
-      closed = closed_rows n ds plan limit t texts reached closed few texts_are;
+      closed = closed_rows n ds plan limit rows t texts round (settles_to n ds plan limit rows s t round settles same) reached closed few texts_are;
       gains = closed_gains n ds plan t texts small reached closed texts_are lacks;
     }
 

@@ -29,10 +29,6 @@ exchanged-more n z p q = map-range_with_len_more (λ (k : ℕ). cond (z k) (symb
 
 -- ---- the members of a set, one place more
 
-pub members-more : (n m : ℕ) (x : Places) → m ≡ n + 1 → members_below m x ≡ members_below n x ++ cond (x n) (n ∷ []) []
-unfolding members_below
-members-more n m x e = let next : m ≡ suc n = omega arith in ap (λ (k : ℕ). members_below k x) next
-
 pub members-low : (n : ℕ) (x : Places) (k : ℕ) → k < length (members_below n x) → get_or (members_below n x) k 0 < n
 unfolding members_below
 members-low zero x k l = absurd (omega arith)

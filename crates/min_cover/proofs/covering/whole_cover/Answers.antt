@@ -4,13 +4,13 @@ use Rattle.std.proofs.lemmas.Result.{IfOk-weaker}
 use Rattle.std.specs.Prelude.{All}
 use Rattle.attr_sets.specs.Places.{below}
 use Rattle.dep_model.specs.declared.dep.Dep.{Dep}
-use Rattle.dep_model.specs.Dependencies.{IsWithin}
+use Rattle.dep_model.specs.Dependencies.{IsWithin, functional_part}
 use Rattle.dep_model.specs.Schemas.{width_of, theory_of, deps_of}
 use Rattle.dep_model.specs.Deps.{dependencies_of, IsDepWithin}
 use Rattle.dep_model.proofs.DepLemmas.{dependencies_all-from}
-use Rattle.min_cover.specs.Covers.{IsThinned, IsFixedWholeCover, IsWholeCover, multivalued_part}
+use Rattle.min_cover.specs.Covers.{IsThinned, IsFixedWholeCover, IsMinimalCover, IsWholeCover, multivalued_part}
 use Rattle.min_cover.proofs.ThinningLemmas.{AreOfAKind, added_later, added_kinds, thinned_after}
-use Rattle.min_cover.proofs.CoverLemmas.{fixed_is_whole}
+use Rattle.min_cover.proofs.CoverLemmas.{fixed_is_whole, whole_is_minimal}
 use Rattle.min_cover.proofs.covering.whole_cover.Goals as goal
 
 pub needed_from-requires-clause-width : goal.needed_from-requires-clause-width
@@ -60,6 +60,15 @@ returns-clause-whole c =
     let within = dependencies_all-from (IsWithin (below n)) (deps_of c.args.schema.now) c.args.schema.now.valid.deps_within in
     IfOk-weaker c.needed_from.result (λ kept. IsFixedWholeCover n ds (dependencies_of kept.items)) (λ kept. IsWholeCover n ds (dependencies_of kept.items))
     (λ kept is. fixed_is_whole n ds (dependencies_of kept.items) within is) (returns-clause-fixed c)
+
+pub returns-clause-minimal : goal.returns-clause-minimal
+returns-clause-minimal c =
+    let n = width_of c.args.schema.now in
+    let ds = theory_of c.args.schema.now in
+    let within = dependencies_all-from (IsWithin (below n)) (deps_of c.args.schema.now) c.args.schema.now.valid.deps_within in
+    IfOk-weaker c.needed_from.result (λ kept. IsFixedWholeCover n ds (dependencies_of kept.items))
+    (λ kept. IsMinimalCover n ds (functional_part (dependencies_of kept.items)))
+    (λ kept is. whole_is_minimal n ds (dependencies_of kept.items) within is) (returns-clause-fixed c)
 
 pub returns-clause-within : goal.returns-clause-within
 returns-clause-within c = rw c.width.ensures.count at c.needed_from.ensures.within
