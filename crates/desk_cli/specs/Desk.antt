@@ -81,7 +81,8 @@ pub record Desk (words : List (List ℕ)) (shelf : ShelfInCall) (sink : SinkInCa
       → (status : Status) → result ≡ Ok status → Delivers sink targets (Answers (told files) words) status
   -- only the answer yes gives tables
   pub stay : (status : Status) → result ≡ Ok status → IsNoOrStops status → targets.new ≡ targets.old
-  -- on want of memory nothing was written, and the targets have a part of the tables of an answer
+  -- on want of memory nothing was written, and the targets are as they were or have a part of the tables of
+  -- an answer, since one of them wanted memory
   pub memory : (e : WantMemory) → result ≡ Err e
       → (sink.new ≡ sink.old) × Leaves targets (Answers (shown shelf) words)
   pub targets_stay : length targets.new ≡ length targets.old
