@@ -15,10 +15,10 @@ abbrev pub HasPrefix : List TableValue → Finished → Finished → Type 0
 HasPrefix tables old new =
     (n : ℕ) × (n ≤ length tables) × ((done : List TableValue) → old done → new (done ++ take n tables))
 
--- how the feeding of a target ended, with its faults before and after, and what it left; want of
--- memory is free
+-- how the feeding of a target ended, with its faults before and after, and what it left: no call of a
+-- target that is done failed; want of memory is free
 abbrev pub Fed : List TableValue → Finished → Finished → ℕ → ℕ → FeedEnd → Type 0
-Fed tables old new before after Done = HasAll tables old new
+Fed tables old new before after Done = HasAll tables old new × (after ≡ before)
 Fed tables old new before after Failed = HasPrefix tables old new × Rose before after
 Fed tables old new before after NoMemory = HasPrefix tables old new
 

@@ -43,7 +43,7 @@ all_of test (end ∷ ends) d each =
 
 done_at : (how : FeedEnd) (tables : List TableValue) (old new : Finished) (before after : ℕ) → wanted_memory how ≡ false → Fed tables old new before after how → (Rose before after → ⊥)
     → (is_done how ≡ true) × HasAll tables old new
-done_at Done tables old new before after none fed calm = (refl, fed)
+done_at Done tables old new before after none fed calm = (refl, fed.0)
 done_at Failed tables old new before after none fed calm = absurd (calm fed.1)
 done_at NoMemory tables old new before after none fed calm = absurd cc
 
@@ -135,12 +135,12 @@ desk_delivered words shelf sink targets answer result seen_so told_so delivered 
   where
     ended : (status : Status) → WritesWhole sink (Settles targets answer) status ⊎ WritesPart sink (Settles targets answer) status
         → WritesWhole sink (EndsAs targets (Answers (shown shelf) words)) status ⊎ WritesPart sink (EndsAs targets (Answers (shown shelf) words)) status
-    ended status (inl (ending, settles, same, written)) = inl (ending, (answer, seen_so, settles), same, written)
+    ended status (inl (ending, settles, same, written, fine)) = inl (ending, (answer, seen_so, settles), same, written, fine)
     ended status (inr (cannot, rose, (ending, settles, took))) = inr (cannot, rose, (ending, (answer, seen_so, settles), took))
 
     whole : (files : Files) → shelf.files ≡ Some files → (Rose shelf.before shelf.after → ⊥) → (Rose sink.before sink.after → ⊥) → NoneFails targets
         → (status : Status) → WritesWhole sink (Settles targets answer) status ⊎ WritesPart sink (Settles targets answer) status → Delivers sink targets (Answers (told files) words) status
-    whole files are calm calm_sink calm_targets status (inl (ending, settles, same, written)) =
+    whole files are calm calm_sink calm_targets status (inl (ending, settles, same, written, fine)) =
         let end = settled targets answer ending answer.tables settles calm_targets in (
           answer,
           told_so files are calm,
@@ -151,5 +151,5 @@ desk_delivered words shelf sink targets answer result seen_so told_so delivered 
     whole files are calm calm_sink calm_targets status (inr (cannot, rose, part)) = absurd (calm_sink rose)
 
     stays : (status : Status) → IsNoOrStops status → WritesWhole sink (Settles targets answer) status ⊎ WritesPart sink (Settles targets answer) status → targets.new ≡ targets.old
-    stays status other (inl (ending, settles, same, written)) = untouched targets answer ending answer.tables settles (subst IsNoOrStops same other)
+    stays status other (inl (ending, settles, same, written, fine)) = untouched targets answer ending answer.tables settles (subst IsNoOrStops same other)
     stays status other (inr (cannot, rose, part)) = absurd (not_written status cannot other)

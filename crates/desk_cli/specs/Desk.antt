@@ -38,11 +38,11 @@ sink_in_call old new before after = record { old = old; new = new; before = befo
 abbrev pub shown : ShelfInCall → Reading
 shown shelf = seen shelf.files shelf.before shelf.after shelf.taken
 
--- the sink took just the text of an ending with this status
+-- the sink took just the text of an ending with this status, and none of its calls failed
 abbrev pub WritesWhole : SinkInCall → Endings → Status → Type 0
 WritesWhole sink endings status =
     (ending : Ending) × endings ending × (status ≡ ending.status)
-    × (sink.new ≡ append_known sink.old ending.text)
+    × (sink.new ≡ append_known sink.old ending.text) × (sink.after ≡ sink.before)
 
 -- writing failed: the sink's faults rose, and it took a part of the text of an ending
 abbrev pub WritesPart : SinkInCall → Endings → Status → Type 0
@@ -81,7 +81,8 @@ pub record Desk (words : List (List ℕ)) (shelf : ShelfInCall) (sink : SinkInCa
       → (status : Status) → result ≡ Ok status → Delivers sink targets (Answers (told files) words) status
   -- only the answer yes gives tables
   pub stay : (status : Status) → result ≡ Ok status → IsNoOrStops status → targets.new ≡ targets.old
-  -- on want of memory nothing was written, and the targets have a part of the tables of an answer
+  -- on want of memory nothing was written, and the targets are as they were or have a part of the tables of
+  -- an answer, since one of them wanted memory
   pub memory : (e : WantMemory) → result ≡ Err e
       → (sink.new ≡ sink.old) × Leaves targets (Answers (shown shelf) words)
   pub targets_stay : length targets.new ≡ length targets.old

@@ -91,12 +91,12 @@ Settles targets answer ending =
 abbrev pub EndsAs : TargetsInCall → Allowed → Endings
 EndsAs targets allowed ending = (answer : Answer) × allowed answer × Settles targets answer ending
 
--- the targets are as they were, or each was fed the tables of the answer
+-- the targets are as they were, or each was fed the tables of the answer, and one wanted memory
 abbrev pub LeavesTargets : TargetsInCall → Answer → Type 0
 LeavesTargets targets answer =
     (targets.new ≡ targets.old)
     ⊎ ((tables : List TableValue) × (ends : List FeedEnd) × (answer.tables ≡ Some tables)
-    × FedAs targets tables ends)
+    × FedAs targets tables ends × (list_any wanted_memory ends ≡ true))
 
 -- what want of memory leaves of the targets
 abbrev pub Leaves : TargetsInCall → Allowed → Type 0

@@ -1,8 +1,9 @@
-ghost use Rattle.std.specs.Prelude.{◌≡◌, List, [], ◌++◌, false, length, codes, IfOk, OnOk, OnErr};
+ghost use Rattle.std.specs.Prelude.{◌≡◌, ◌≤◌, ◌+◌, ◌*◌, List, [], ◌++◌, true, false, length, codes, IfOk, OnOk, OnErr, vec_capacity};
 ghost use Rattle.std.specs.Fmt.{decimal};
 ghost use Rattle.std.specs.List.{list_any, list_all};
 ghost use Rattle.csv_migrate.specs.Tables.{table_values};
 ghost use Rattle.desk_cli.specs.Answers.{gives};
+ghost use Rattle.desk_cli.specs.declared.finish.TheConstants.{LINE};
 ghost use Rattle.desk_cli.specs.Endings.{targets_in_call, is_done, wanted_memory, end_text, failures_text, reported, FeedsTargets, Settles, LeavesTargets};
 ghost use Rattle.desk_cli.specs.Replies.{answer_of, ending_of};
 ghost use Rattle.desk_cli.specs.Texts.{line};
@@ -10,7 +11,6 @@ ghost use Rattle.targets.specs.Tables.{TableValue};
 
 use crate::Status;
 use crate::reply::Reply;
-use crate::text::put;
 use csv_migrate::{FeedEnd, Table, feed_list};
 use dep_model::WantMemory;
 use itoa::Buffer;
@@ -80,7 +80,9 @@ fn hand_over<T: Target>(
 // What is told after targets ended so. The text of a failure is written into the room.
 fn report(text: Vec<u8>, room: Vec<u8>, ends: &[FeedEnd]) -> Result<End, WantMemory>
     requires empty { room.items ≡ [] }
+    requires has_room { length ends.now * LINE ≤ vec_capacity room }
     ensures memory { OnOk result (list_any wanted_memory ends.now ≡ false) }
+    ensures wanted { OnErr result (list_any wanted_memory ends.now ≡ true) }
     ensures reports { (tables : List TableValue)
         → IfOk result (λ end. ending_of end ≡ reported (gives text.items tables) ends.now) }
 {
@@ -95,7 +97,7 @@ fn report(text: Vec<u8>, room: Vec<u8>, ends: &[FeedEnd]) -> Result<End, WantMem
     }
     Ok(End {
         status: Status::TargetFailed,
-        text: failures(room, ends)?,
+        text: failures(room, ends),
     })
 }
 
@@ -124,32 +126,49 @@ fn is_done(end: FeedEnd) -> bool
 }
 
 // A line for each target that failed, counted from 1.
-fn failures(mut text: Vec<u8>, ends: &[FeedEnd]) -> Result<Vec<u8>, WantMemory>
+fn failures(mut text: Vec<u8>, ends: &[FeedEnd]) -> Vec<u8>
     requires empty { text.items ≡ [] }
-    ensures lines { IfOk result (λ text. text.items ≡ failures_text 1 ends.now) }
+    requires has_room { length ends.now * LINE ≤ vec_capacity text }
+    ensures lines { result.items ≡ failures_text 1 ends.now }
 {
     for (i, end) in ends.iter().enumerate() {
-        put_end(&mut text, i + 1, *end)?;
+        put_end(&mut text, i + 1, *end);
     }
-    Ok(text)
+    text
 }
 
-// What is said of the target of this number, at the end of a text.
-fn put_end(text: &mut Vec<u8>, number: usize, end: FeedEnd) -> Result<(), WantMemory>
-    ensures more { OnOk result (text.new.items ≡ text.old.items ++ end_text number end) }
+// What is said of the target of this number, at the end of a text with room for a line.
+fn put_end(text: &mut Vec<u8>, number: usize, end: FeedEnd)
+    requires has_room { length text.old.items + LINE ≤ vec_capacity text.old }
+    ensures more { text.new.items ≡ text.old.items ++ end_text number end }
+    ensures short { length text.new.items ≤ length text.old.items + LINE }
+    ensures keeps { vec_capacity text.old ≤ vec_capacity text.new }
 {
     match end {
         FeedEnd::Failed => put_failure(text, number),
-        FeedEnd::Done | FeedEnd::NoMemory => Ok(()),
+        FeedEnd::Done | FeedEnd::NoMemory => {}
     }
 }
 
-// The line for the target of this number, at the end of a text.
-fn put_failure(text: &mut Vec<u8>, number: usize) -> Result<(), WantMemory>
-    ensures more { OnOk result (text.new.items
-        ≡ text.old.items ++ line (codes "target " ++ decimal number ++ codes " failed")) }
+// The line for the target of this number, at the end of a text with room for it.
+fn put_failure(text: &mut Vec<u8>, number: usize)
+    requires has_room { length text.old.items + LINE ≤ vec_capacity text.old }
+    ensures more { text.new.items
+        ≡ text.old.items ++ line (codes "target " ++ decimal number ++ codes " failed") }
+    ensures short { length text.new.items ≤ length text.old.items + LINE }
+    ensures keeps { vec_capacity text.old ≤ vec_capacity text.new }
 {
-    put(text, b"target ")?;
-    put(text, Buffer::new().format(number).as_bytes())?;
-    put(text, b" failed\n")
+    put_within(text, b"target ");
+    put_within(text, Buffer::new().format(number).as_bytes());
+    put_within(text, b" failed\n");
+}
+
+// Bytes more at the end of a text with room for them.
+fn put_within(text: &mut Vec<u8>, bytes: &[u8])
+    requires has_room { length text.old.items + length bytes.now ≤ vec_capacity text.old }
+    ensures more { text.new.items ≡ text.old.items ++ bytes.now }
+    ensures longer { length text.new.items ≡ length text.old.items + length bytes.now }
+    ensures keeps { vec_capacity text.old ≤ vec_capacity text.new }
+{
+    text.extend_from_slice(bytes).unwrap();
 }

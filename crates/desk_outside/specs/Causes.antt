@@ -1,5 +1,5 @@
 -- Each fault that is answered was one: what a call does to its object's count of faults.
-use Rattle.std.specs.Prelude.{◌≡◌, ◌⊎◌, ℕ, ◌+◌, ◌-◌, ◌^◌, ◌<◌, ◌≤◌, min, List, length, take, Option, Result, OnErr, Ok, Err, Bool, true, false}
+use Rattle.std.specs.Prelude.{◌≡◌, ◌⊎◌, ℕ, ◌+◌, ◌-◌, ◌^◌, ◌<◌, ◌≤◌, min, List, length, take, Option, Result, OnOk, OnErr, Ok, Err, Bool, true, false}
 use Rattle.std.specs.Io.KnownBytes.{append_known}
 use Rattle.desk_outside.specs.declared.failure.OutsideFault.{OutsideFault}
 use Rattle.desk_outside.specs.declared.failure.OutsideFault.TheVariants.{Failed, Memory}
@@ -19,16 +19,19 @@ count_on count n = min (count + n) last_count
 abbrev pub Rose : ℕ → ℕ → Type 0
 Rose before now = count_on before 1 ≤ now
 
--- a call's faults: the count has not fallen, and at an error it rose
+-- a call's faults: the count has not fallen, at an error it rose, and at Ok it is as before
 pub record HasCause {T E : Type 0} (before now : ℕ) (result : Result T E) : Type 0 where
   pub later : before ≤ now
+  pub fine : OnOk result (now ≡ before)
   pub failed : OnErr result (Rose before now)
 
--- The faults of a call that begins a file: the count has not fallen, and at `Failed` it rose or the
--- shelf lacks the file. A file that is lacking is told by `Failed`, and raises no count.
+-- The faults of a call that begins a file: the count has not fallen, at `Failed` it rose or the shelf
+-- lacks the file, and at Ok it is as before. A file that is lacking is told by `Failed`, and raises no
+-- count.
 pub record HasBeginCause (files : Option Files) (name : List ℕ) (before now : ℕ)
     (result : Result (Unit {0}) OutsideFault) : Type 0 where
   pub later : before ≤ now
+  pub fine : OnOk result (now ≡ before)
   pub failed : result ≡ Err Failed → Rose before now ⊎ IsMissing files name
   pub missing : IsMissing files name → (result ≡ Err Failed) × (now ≡ before)
 
@@ -41,9 +44,11 @@ abbrev pub refusal_of : OutsideFault → LoadRefusal
 refusal_of Failed = refusal.CannotRead
 refusal_of Memory = refusal.Memory
 
--- the faults of a call that may want memory: the count has not fallen, and at `Failed` it rose
+-- the faults of a call that may want memory: the count has not fallen, at `Failed` it rose, and at Ok it
+-- is as before
 pub record HasOutsideCause {T : Type 0} (before now : ℕ) (result : Result T OutsideFault) : Type 0 where
   pub later : before ≤ now
+  pub fine : OnOk result (now ≡ before)
   pub failed : result ≡ Err Failed → Rose before now
 
 -- whether a call failed, and did not only want memory

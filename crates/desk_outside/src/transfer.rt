@@ -24,6 +24,9 @@ pub fn load<F: Shelf>(
     ensures files { F.files shelf.new ≡ F.files shelf.old }
     ensures later { F.faults shelf.old ≤ F.faults shelf.new }
 
+    // No call of the shelf failed on the way.
+    ensures fine { OnOk result (F.faults shelf.new ≡ F.faults shelf.old) }
+
     // The whole file, where the shelf tells its files.
     ensures ok { IfOk result (λ bytes. IsHeld (F.files shelf.old) name.now bytes.items) }
     ensures within { IfOk result (λ bytes. length bytes.items ≤ limit) }
@@ -65,6 +68,7 @@ pub fn load<F: Shelf>(
 /// Writes all bytes, in order.
 pub fn send<K: Sink>(sink: &mut K, bytes: &[u8]) -> Result<(), CannotWrite>
     ensures later { K.faults sink.old ≤ K.faults sink.new }
+    ensures fine { OnOk result (K.faults sink.new ≡ K.faults sink.old) }
     ensures ok { OnOk result (K.contents sink.new ≡ append_known (K.contents sink.old) bytes.now) }
     ensures err { OnErr result (TookPart (K.contents sink.old) bytes.now (K.contents sink.new)) }
     ensures cannot_write { OnErr result (Rose (K.faults sink.old) (K.faults sink.new)) }

@@ -1,6 +1,6 @@
 -- What the calls of a folder do to the tables that its files stand for.
 use Rattle.std.proofs.Common.{◌≡◌, ℕ, List, [], ◌∷◌, ◌++◌, map, Option, None, Some, option_map, option_to_list, refl, sym, ap, ◌∙◌, append-nil}
-use Rattle.std.specs.Prelude.{codes}
+use Rattle.std.specs.Prelude.{codes, IfSome}
 use Rattle.std.specs.List.{flat_map}
 use Rattle.std.proofs.lemmas.List.{flat_map_more}
 use Rattle.dep_model.specs.Tuples.{Tuple}
@@ -12,6 +12,11 @@ use Rattle.targets.specs.Csv.{csv_row, csv_file}
 use Rattle.targets.specs.Sql.{sql_head, sql_row, sql_file}
 
 -- ---- finished files
+-- a folder without finished files, whatever is gathered
+pub begins : (file : TableValue → StoredFile) (known : Option FolderContents) (gathered : List ℕ) → IfSome known (λ folder. folder.finished ≡ []) → FilesAre file (option_map (with_bytes gathered) known) []
+begins file None gathered none = none
+begins file (Some folder) gathered none = none
+
 pub keeps_begun : (file : TableValue → StoredFile) (known : Option FolderContents) (done : List TableValue) (name : List ℕ) → FilesAre file known done → FilesAre file (option_map (with_begun name) known) done
 keeps_begun file None done name are = are
 keeps_begun file (Some folder) done name are = are

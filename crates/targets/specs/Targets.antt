@@ -1,5 +1,5 @@
 -- What the calls of a target do to the tables that it stands for.
-use Rattle.std.specs.Prelude.{◌≡◌, ℕ, ◌≤◌, Bool, true, false, List, [], ◌∷◌, ◌++◌, Result, Ok, Err}
+use Rattle.std.specs.Prelude.{◌≡◌, ℕ, ◌≤◌, Bool, true, false, List, [], ◌∷◌, ◌++◌, Result, OnOk, Ok, Err}
 use Rattle.dep_model.specs.Tuples.{Tuple}
 use Rattle.desk_outside.specs.Causes.{Rose}
 use Rattle.desk_outside.specs.declared.failure.OutsideFault.{OutsideFault}
@@ -29,9 +29,10 @@ abbrev pub FinishesTable : Finished → OpenTables → Finished → Type 0
 FinishesTable old part new = (done : List TableValue) (table : TableValue) → old done → part table
     → new (done ++ table ∷ [])
 
--- a call's faults: the count has not fallen, and at `Failed` it rose
+-- a call's faults: the count has not fallen, at `Failed` it rose, and at Ok it is as before
 pub record HasTargetCause {T : Type 0} (before now : ℕ) (result : Result T TargetFault) : Type 0 where
   pub later : before ≤ now
+  pub fine : OnOk result (now ≡ before)
   pub failed : result ≡ Err Failed → Rose before now
 
 -- how a fault of a folder ends a call

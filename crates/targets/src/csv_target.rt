@@ -1,4 +1,4 @@
-ghost use Rattle.std.specs.Prelude.{◌≡◌, None, Some, is_some, option_map, IsSome, IsTrue, IfSome};
+ghost use Rattle.std.specs.Prelude.{◌≡◌, [], None, Some, is_some, option_map, IsSome, IsTrue, IfSome, IfOk};
 ghost use Rattle.desk_outside.specs.Files.{files_of};
 
 use crate::buffered::BufferedFolder;
@@ -25,7 +25,15 @@ pub struct CsvTarget<G: Folder> {
 
 impl<G: Folder> CsvTarget<G> {
     /// A target over this folder, without an open table.
-    pub fn make(alloc: Global, folder: G) -> Result<CsvTarget<G>, WantMemory> {
+    #[tactic(auto, using(crate::proofs::FileLemmas::begins))]
+    pub fn make(alloc: Global, folder: G) -> Result<CsvTarget<G>, WantMemory>
+        ensures folder { IfOk result (λ made. made.folder.folder ≡ folder) }
+        ensures closed { IfOk result (λ made. made.columns ≡ None) }
+
+        // Over a folder that shows no finished file it stands for the empty list of tables.
+        ensures begins { IfSome (G.contents folder) (λ contents. contents.finished ≡ [])
+            → IfOk result (λ made. ⟦<CsvTarget<G> as Target>⟧.finished made []) }
+    {
         Ok(CsvTarget {
             alloc,
             folder: BufferedFolder::make(alloc, folder)?,
@@ -34,7 +42,9 @@ impl<G: Folder> CsvTarget<G> {
     }
 
     /// The folder.
-    pub fn folder(&self) -> &G {
+    pub fn folder(&self) -> &G
+        ensures folder { result.now ≡ self.now.folder.folder }
+    {
         &self.folder.folder
     }
 }

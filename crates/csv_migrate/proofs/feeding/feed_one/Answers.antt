@@ -9,5 +9,5 @@ loop-table-preserved g c = record {
       subst (g.T.Target.finished c.feed_table.new.target)
       (tables_next c.args.tables.now c.loop-table.table-index c.table-item.result done c.loop-table-test.true c.table-item.is)
       (c.in-Ok.ensures.ok _ (c.loop-table.invariant.has done stands));
-  later = search rules;
+  fine = search rules;
 }

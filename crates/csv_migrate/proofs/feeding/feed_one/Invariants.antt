@@ -1,4 +1,4 @@
-use Rattle.std.proofs.Common.{◌≡◌, ◌≤◌, take}
+use Rattle.std.proofs.Common.{◌≡◌, take}
 use Rattle.csv_migrate.specs.Tables.{table_values}
 use Rattle.csv_migrate.specs.Feeding.{HasAll}
 use Rattle.csv_migrate.proofs.feeding.feed_one.Given as goal
@@ -10,5 +10,5 @@ invariant-loop-table g l =
     record {
       tells : target.tells l.target ≡ target.tells l.fn.target;
       has : HasAll (take l.table-index (table_values l.tables)) (target.finished l.fn.target) (target.finished l.target);
-      later : target.faults l.fn.target ≤ target.faults l.target;
+      fine : target.faults l.target ≡ target.faults l.fn.target;
     }

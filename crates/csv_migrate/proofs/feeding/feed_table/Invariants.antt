@@ -1,4 +1,4 @@
-use Rattle.std.proofs.Common.{◌≡◌, ◌≤◌, length, take, Some}
+use Rattle.std.proofs.Common.{◌≡◌, length, take, Some}
 use Rattle.targets.specs.Targets.{KeepsFinished}
 use Rattle.csv_migrate.proofs.feeding.feed_table.Given as goal
 
@@ -12,5 +12,5 @@ invariant-loop-row g l =
       opened : target.opened l.target
           (record { name = l.table.name; columns = l.table.columns.items; rows = take l.row-index l.table.rows.items });
       width : target.width l.target ≡ Some (length l.table.columns.items);
-      later : target.faults l.fn.target ≤ target.faults l.target;
+      fine : target.faults l.target ≡ target.faults l.fn.target;
     }

@@ -1,7 +1,13 @@
-use Rattle.std.proofs.Common.{◌≡◌, ◌++◌, ◌+◌, drop}
+use Rattle.std.proofs.Common.{◌≡◌, ◌≤◌, ◌++◌, ◌+◌, ◌*◌, length, drop}
+use Rattle.std.specs.Prelude.{vec_capacity}
+use Rattle.desk_cli.specs.declared.finish.TheConstants.{LINE}
 use Rattle.desk_cli.specs.Endings.{failures_text}
 use Rattle.desk_cli.proofs.finish.failures.Given as goal
 
--- what the ends so far said, and the rest will say
+-- what the ends so far said, and the rest will say; each took at most a line of the room
 abbrev pub invariant-loop-i : goal.invariant-loop-i
-invariant-loop-i l = l.text.items ++ failures_text (l.i + 1) (drop l.i l.ends) ≡ failures_text 1 l.ends
+invariant-loop-i l = record {
+  lines : l.text.items ++ failures_text (l.i + 1) (drop l.i l.ends) ≡ failures_text 1 l.ends;
+  short : length l.text.items ≤ l.i * LINE;
+  has_room : length l.ends * LINE ≤ vec_capacity l.text;
+}

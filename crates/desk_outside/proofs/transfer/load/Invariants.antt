@@ -9,7 +9,7 @@ invariant-loop-bytes g l =
     let shelf = g.F.Shelf in
     record {
       files : shelf.files l.shelf ≡ shelf.files l.fn.shelf;
-      later : shelf.faults l.fn.shelf ≤ shelf.faults l.shelf;
+      fine : shelf.faults l.shelf ≡ shelf.faults l.fn.shelf;
       within : length l.bytes.items ≤ l.limit;
       taken : shelf.taken l.shelf ≡ length l.bytes.items;
       left : all_left (shelf.files l.fn.shelf) l.name ≡ prepend_known l.bytes.items (shelf.left l.shelf);

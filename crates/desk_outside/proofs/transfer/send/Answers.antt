@@ -4,7 +4,7 @@ use Rattle.desk_outside.proofs.transfer.send.Goals as goal
 
 pub loop-sent-preserved : goal.loop-sent-preserved
 loop-sent-preserved g c = record {
-  later = search rules;
+  fine = search rules;
   within = omega (arith, c.in_ok-sent.ensures.bound);
   taken = append_known-take _ _ _ _ _ _ c.loop-sent.invariant.taken c.in_ok-sent.ensures.bytes;
 }

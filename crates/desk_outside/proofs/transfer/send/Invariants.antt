@@ -7,7 +7,7 @@ abbrev pub invariant-loop-sent : goal.invariant-loop-sent
 invariant-loop-sent g l =
     let sink = g.K.Sink in
     record {
-      later : sink.faults l.fn.sink ≤ sink.faults l.sink;
+      fine : sink.faults l.sink ≡ sink.faults l.fn.sink;
       within : l.sent ≤ length l.bytes;
       taken : sink.contents l.sink ≡ append_known (sink.contents l.fn.sink) (take l.sent l.bytes);
     }
