@@ -34,6 +34,7 @@ impl Target for WithoutMemory {
 
     fn begin_table(&mut self, _name: &Name, _columns: &[Name]) -> Result<(), TargetFault>
         ensures memory { result ≡ Err Memory }
+        ensures closed { self.new.columns ≡ None }
     {
         self.columns = None;
         Err(TargetFault::Memory)
@@ -41,6 +42,7 @@ impl Target for WithoutMemory {
 
     fn put_row(&mut self, _row: &Row) -> Result<(), TargetFault>
         ensures memory { result ≡ Err Memory }
+        ensures closed { self.new.columns ≡ None }
     {
         self.columns = None;
         Err(TargetFault::Memory)
@@ -48,6 +50,7 @@ impl Target for WithoutMemory {
 
     fn end_table(&mut self) -> Result<(), TargetFault>
         ensures memory { result ≡ Err Memory }
+        ensures closed { self.new.columns ≡ None }
     {
         self.columns = None;
         Err(TargetFault::Memory)
