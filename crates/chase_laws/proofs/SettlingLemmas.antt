@@ -48,10 +48,10 @@ settled-same ds t s same settled = settled_from ds s (λ x y p q given p_in q_in
 abbrev pub renamed : ℕ → (ℕ → ℕ → ℕ) → SymbolRow → SymbolRow
 renamed n f row = map (λ k. f k (symbol_at row k)) (range_with_len 0 n)
 
-length-renamed : (n : ℕ) (f : ℕ → ℕ → ℕ) (row : SymbolRow) → length (renamed n f row) ≡ n
+pub length-renamed : (n : ℕ) (f : ℕ → ℕ → ℕ) (row : SymbolRow) → length (renamed n f row) ≡ n
 length-renamed n f row = length-map-range_with_len (λ (k : ℕ). f k (symbol_at row k)) 0 n
 
-symbol_at-renamed : (n : ℕ) (f : ℕ → ℕ → ℕ) (row : SymbolRow) (k : ℕ) → k < n → symbol_at (renamed n f row) k ≡ f k (symbol_at row k)
+pub symbol_at-renamed : (n : ℕ) (f : ℕ → ℕ → ℕ) (row : SymbolRow) (k : ℕ) → k < n → symbol_at (renamed n f row) k ≡ f k (symbol_at row k)
 symbol_at-renamed n f row k h = get_or-map-range_with_len (λ (j : ℕ). f j (symbol_at row j)) 0 n k k 0 h (omega arith)
 
 -- rows that are alike on x after the renaming are alike on y after it
@@ -68,7 +68,7 @@ pub record IsRenaming (n : ℕ) (ds : List Dependency) (t s : Tableau) (f : ℕ 
   pub from : (p : SymbolRow) → Contains t p → Contains s (renamed n f p)
   pub forced : (g : ℕ → ℕ → ℕ) → Respects ds t g → (k v : ℕ) → g k (f k v) ≡ g k v
 
-renamed_itself : (n : ℕ) (row : SymbolRow) → length row ≡ n → renamed n (λ k v. v) row ≡ row
+pub renamed_itself : (n : ℕ) (row : SymbolRow) → length row ≡ n → renamed n (λ k v. v) row ≡ row
 renamed_itself n row len = same_rows n (renamed n (λ k v. v) row) row (length-renamed n (λ k v. v) row) len (λ (k : ℕ) l. symbol_at-renamed n (λ k v. v) row k l)
 
 renaming_none : (n : ℕ) (ds : List Dependency) (t s : Tableau) → Each (HasLength n) t → SameTableau t s → IsRenaming n ds t s (λ k v. v)
