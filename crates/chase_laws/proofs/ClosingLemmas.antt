@@ -1,17 +1,34 @@
--- Closing: the closed tableau that is reached does not depend on the order of the steps.
-use Rattle.std.proofs.Common.{◌≡◌, ℕ, ◌<◌, ◌≤◌, zero, suc, Bool, cond, ◌⊎◌, List, refl, sym, ap, subst, ◌∙◌, inl, inr, ⊎_elim, arith}
-use Rattle.std.proofs.lemmas.Bool.{cases_Bool, cases_eq, cases_lt}
+-- Closing and settling: what steps lead to does not depend on their order, where no step changes it.
+use Rattle.std.proofs.Common.{◌≡◌, ℕ, ◌<◌, ◌≤◌, zero, suc, Bool, cond, ◌⊎◌, List, length, map, refl, sym, ap, subst, ◌∙◌, inl, inr, ⊎_elim, arith}
+use Rattle.std.proofs.lemmas.Bool.{cases_Bool, cases_eq, cases_lt, true≢false}
+use Rattle.std.proofs.lemmas.List.FromFn.{length-map-range_with_len, get_or-map-range_with_len}
+use Rattle.std.specs.List.{range_with_len}
 use Rattle.std.specs.Prelude.{Contains}
 use Rattle.attr_sets.specs.Places.{Places, union}
-use Rattle.dep_model.specs.Dependencies.{Dependency, fd, mvd}
-use Rattle.dep_model.proofs.ListLemmas.{map-member, Contains-map, Contains-later}
+use Rattle.dep_model.specs.Dependencies.{Dependency, fd, mvd, is_fd, functional_part}
+use Rattle.dep_model.proofs.DistinctLemmas.{filter-keeps, filter-member}
+use Rattle.dep_model.proofs.ListLemmas.{Contains-map, Contains-later}
 use Rattle.chase_laws.specs.Tableaux.{SymbolRow, Tableau, SameTableau, symbol_at, SymbolsAgree, plan_tableau}
-use Rattle.chase_laws.specs.Steps.{replaced_in, replaced, exchanged, IsFdStep, IsMvdStep, IsStep, IsClosed, LeadsIn}
-use Rattle.chase_laws.specs.Rounds.{ReachesTableau}
-use Rattle.chase_laws.proofs.TableauLemmas.{same_rows, symbol_at_past, length-exchanged, symbol_at-exchanged, length-replaced_in, change, change_hit, change_miss, change_other, symbol_at-replaced_in, cons_cases}
-use Rattle.chase_laws.proofs.KeptLemmas.{Each, HasLength, over-leads, plan_over}
-use Rattle.chase_laws.proofs.SettlingLemmas.{settled_agrees, renamed, length-renamed, symbol_at-renamed, renamed_itself}
+use Rattle.chase_laws.specs.Steps.{replaced_in, replaced, exchanged, IsFdStep, IsMvdStep, IsFunctionalStep, IsStep, IsClosed, IsSettledTableau, LeadsIn, LeadsTo}
+use Rattle.chase_laws.specs.Rounds.{ReachesTableau, SettlesTo}
+use Rattle.chase_laws.proofs.TableauLemmas.{same_rows, symbol_at_past, length-exchanged, symbol_at-exchanged, length-replaced_in, change, change_hit, change_miss, change_other, symbol_at-replaced_in, cons_cases, Same-refl, Same-trans}
+use Rattle.chase_laws.proofs.KeptLemmas.{Each, HasLength, over-leads, plan_over, fd_place_low, fd_came}
+use Rattle.chase_laws.proofs.SettlingLemmas.{settled_agrees}
 use Rattle.chase_laws.proofs.ClosedLemmas.{closed_exchanged}
+
+-- ---- renamings of symbols
+-- a row whose symbols are renamed at each attribute
+abbrev renamed : ℕ → (ℕ → ℕ → ℕ) → SymbolRow → SymbolRow
+renamed n f row = map (λ k. f k (symbol_at row k)) (range_with_len 0 n)
+
+length-renamed : (n : ℕ) (f : ℕ → ℕ → ℕ) (row : SymbolRow) → length (renamed n f row) ≡ n
+length-renamed n f row = length-map-range_with_len (λ (k : ℕ). f k (symbol_at row k)) 0 n
+
+symbol_at-renamed : (n : ℕ) (f : ℕ → ℕ → ℕ) (row : SymbolRow) (k : ℕ) → k < n → symbol_at (renamed n f row) k ≡ f k (symbol_at row k)
+symbol_at-renamed n f row k h = get_or-map-range_with_len (λ (j : ℕ). f j (symbol_at row j)) 0 n k k 0 h (omega arith)
+
+renamed_itself : (n : ℕ) (row : SymbolRow) → length row ≡ n → renamed n (λ k v. v) row ≡ row
+renamed_itself n row len = same_rows n (renamed n (λ k v. v) row) row (length-renamed n (λ k v. v) row) len (λ (k : ℕ) l. symbol_at-renamed n (λ k v. v) row k l)
 
 -- ---- renamings into a tableau
 -- the rows of one tableau, renamed, are rows of another
@@ -70,12 +87,6 @@ module _ (n : ℕ) (ds : List Dependency) (t m s : Tableau) (over : Each (HasLen
   next : ℕ → ℕ → ℕ
   next k v = change step.place former later k v
 
-  place_low : step.place < n
-  place_low = elim (cases_lt step.place n) [
-    | inl low ↦ low
-    | inr past ↦ absurd (omega (arith, step.differ, symbol_at_past step.second step.place (omega (arith, past, over step.second step.second_in))))
-  ]
-
   next_low : (k v : ℕ) → next k v ≤ v
   unfolding former later next
   next_low k v = elim (cases_eq k step.place) [
@@ -90,12 +101,11 @@ module _ (n : ℕ) (ds : List Dependency) (t m s : Tableau) (over : Each (HasLen
   unfolding former later next
   next_later k = change_miss step.place former later k later (λ (e : later ≡ former). absurd (omega (arith, e, step.differ)))
 
-  -- each row after the step is one of before, with the symbols of after
-  came : (row : SymbolRow) → Contains s row → (q : SymbolRow) × Contains m q × ((k : ℕ) → symbol_at row k ≡ next k (symbol_at q k))
+  -- each row after it is one of before, its symbols after it
+  came : (row : SymbolRow) → Contains s row
+      → (q : SymbolRow) × Contains m q × ((k : ℕ) → symbol_at row k ≡ next k (symbol_at q k))
   unfolding former later next
-  came row h =
-      let w = map-member (replaced_in step.place former later) m row ((step.after row).1 h) in
-      (w.0, w.1, λ (k : ℕ). ap (λ (r : SymbolRow). symbol_at r k) (sym w.2) ∙ symbol_at-replaced_in step.place former later w.0 k (omega (arith, place_low, over w.0 w.1)))
+  came = fd_came n x y m s over step
 
   -- a symbol that f keeps
   kept_symbol : (k v : ℕ) → f k v ≡ v → next k (f k (next k v)) ≡ next k v
@@ -119,7 +129,7 @@ module _ (n : ℕ) (ds : List Dependency) (t m s : Tableau) (over : Each (HasLen
       same_rows n (replaced_in step.place former later (renamed n f p)) (renamed n (λ k v. next k (f k v)) p)
       (length-replaced_in step.place former later (renamed n f p) ∙ length-renamed n f p) (length-renamed n (λ k v. next k (f k v)) p)
       (λ (k : ℕ) l.
-      symbol_at-replaced_in step.place former later (renamed n f p) k (omega (arith, place_low, length-renamed n f p))
+      symbol_at-replaced_in step.place former later (renamed n f p) k (omega (arith, fd_place_low n x y m s over step, length-renamed n f p))
       ∙ ap (λ (v : ℕ). change step.place former later k v) (symbol_at-renamed n f p k l)
       ∙ sym (symbol_at-renamed n (λ k v. next k (f k v)) p k l))
 
@@ -128,10 +138,10 @@ module _ (n : ℕ) (ds : List Dependency) (t m s : Tableau) (over : Each (HasLen
     alike : g step.place later ≡ g step.place former
     unfolding former later
     alike =
-        sym (symbol_at-renamed n g step.first step.place place_low)
+        sym (symbol_at-renamed n g step.first step.place (fd_place_low n x y m s over step))
         ∙ settled_agrees ds u x y (renamed n g step.first) (renamed n g step.second) (λ after one. closed after (inl one)) given (takes step.first step.first_in) (takes step.second step.second_in)
         (agree_renamed n g x step.first step.second step.agree) step.place step.member
-        ∙ symbol_at-renamed n g step.second step.place place_low
+        ∙ symbol_at-renamed n g step.second step.place (fd_place_low n x y m s over step)
 
     next_alike : (k v : ℕ) → g k (next k v) ≡ g k v
     unfolding next
@@ -239,12 +249,17 @@ within_other n ds t s u f g over to_s takes same row h =
     (λ (k : ℕ) low. symbol_at-renamed n g row k low ∙ sym (same k (symbol_at row k)) ∙ to_s.fixed row h k) in
     subst (λ (r : SymbolRow). Contains u r) is (takes row h)
 
-pub closing_unique : (n : ℕ) (ds : List Dependency) (plan : List Places) (s u : Tableau) → ReachesTableau n ds plan s → IsClosed n ds s → ReachesTableau n ds plan u → IsClosed n ds u → SameTableau s u
-closing_unique n ds plan s u one s_closed other u_closed =
-    let t = plan_tableau n plan in
-    let over : Each (HasLength n) t = plan_over n 1 plan in
+leads_start : (Step : Tableau → Tableau → Type 0) (count : ℕ) (t t' s : Tableau) → SameTableau t t' → LeadsIn Step count t' s → LeadsIn Step count t s
+leads_start Step zero t t' s same leads = Same-trans t t' s same leads
+leads_start Step (suc count) t t' s same leads = (leads.0, leads_start Step count t t' leads.0 same leads.1, leads.2)
+
+-- equal tableaux have one closed tableau that steps lead to
+closed_from : (n : ℕ) (ds : List Dependency) (t t' s u : Tableau) → Each (HasLength n) t → SameTableau t t'
+    → LeadsTo (IsStep n ds) t s → IsClosed n ds s → LeadsTo (IsStep n ds) t' u → IsClosed n ds u → SameTableau s u
+closed_from n ds t t' s u over same one s_closed other u_closed =
+    let leads = leads_start (IsStep n ds) other.0 t t' u same other.1 in
     let f = leads_renamed n ds one.0 t s over one.1 in
-    let g = leads_renamed n ds other.0 t u over other.1 in
+    let g = leads_renamed n ds other.0 t u over leads in
     let f_forced = f.1.forced u u_closed g.0 g.1.from in
     let g_forced = g.1.forced s s_closed f.0 f.1.from in
     let equal : (k v : ℕ) → f.0 k v ≡ g.0 k v = λ (k v : ℕ).
@@ -255,5 +270,45 @@ closing_unique n ds plan s u one s_closed other u_closed =
     omega (arith, g_f, f_g, one_way, back) in
     (λ (row : SymbolRow). (
       within_other n ds t s u f.0 g.0 (over-leads n ds one.0 t s one.1 over) f.1 f_forced.1 equal row,
-      within_other n ds t u s g.0 f.0 (over-leads n ds other.0 t u other.1 over) g.1 g_forced.1 (λ (k v : ℕ). sym (equal k v)) row,
+      within_other n ds t u s g.0 f.0 (over-leads n ds other.0 t u leads over) g.1 g_forced.1
+          (λ (k v : ℕ). sym (equal k v)) row,
     ))
+
+pub closing_unique : (n : ℕ) (ds : List Dependency) (plan : List Places) (s u : Tableau) → ReachesTableau n ds plan s
+    → IsClosed n ds s → ReachesTableau n ds plan u → IsClosed n ds u → SameTableau s u
+closing_unique n ds plan s u =
+    closed_from n ds (plan_tableau n plan) (plan_tableau n plan) s u (plan_over n 1 plan) (Same-refl (plan_tableau n plan))
+
+-- ---- settling is closing by the functional dependencies alone
+functional_steps : (n : ℕ) (ds : List Dependency) (count : ℕ) (t s : Tableau) → LeadsIn (IsFunctionalStep ds) count t s
+    → LeadsIn (IsStep n (functional_part ds)) count t s
+functional_steps n ds zero t s same = same
+functional_steps n ds (suc count) t s leads =
+    let step = leads.2 in (
+      leads.0,
+      functional_steps n ds count t leads.0 leads.1,
+      inl (record {
+        lhs = step.lhs;
+        rhs = step.rhs;
+        given = filter-keeps is_fd ds (fd step.lhs step.rhs) step.given refl;
+        step = step.step;
+      }),
+    )
+
+functional_closed : (n : ℕ) (ds : List Dependency) (t : Tableau) → IsSettledTableau ds t
+    → IsClosed n (functional_part ds) t
+functional_closed n ds t settled s (inl step) = settled s (record {
+  lhs = step.lhs;
+  rhs = step.rhs;
+  given = (filter-member is_fd ds (fd step.lhs step.rhs) step.given).0;
+  step = step.step;
+})
+functional_closed n ds t settled s (inr step) =
+    true≢false (sym (filter-member is_fd ds (mvd step.lhs step.rhs) step.given).1)
+
+pub settling_unique : (n : ℕ) (ds : List Dependency) (t t' s s' : Tableau) → Each (HasLength n) t → SameTableau t t'
+    → SettlesTo ds t s → SettlesTo ds t' s' → SameTableau s s'
+settling_unique n ds t t' s s' over same one other =
+    closed_from n (functional_part ds) t t' s s' over same
+    (one.leads.0, functional_steps n ds one.leads.0 t s one.leads.1) (functional_closed n ds s one.settled)
+    (other.leads.0, functional_steps n ds other.leads.0 t' s' other.leads.1) (functional_closed n ds s' other.settled)

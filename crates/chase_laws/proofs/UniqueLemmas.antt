@@ -12,7 +12,7 @@ use Rattle.chase_laws.specs.Rounds.{InRounds}
 use Rattle.chase_laws.specs.Answers.{texts_of, RowBefore, IsClosedTableau}
 use Rattle.chase_laws.proofs.TableauLemmas.{cons_cases}
 use Rattle.chase_laws.proofs.RoundLemmas.{rounds-over, rounds_unique, rounds_end}
-use Rattle.chase_laws.proofs.SettlingLemmas.{settling_unique}
+use Rattle.chase_laws.proofs.ClosingLemmas.{settling_unique}
 
 -- ---- the order of rows
 before-irrefl : (p : SymbolRow) → RowBefore p p → ⊥
