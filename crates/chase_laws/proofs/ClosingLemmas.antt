@@ -24,26 +24,36 @@ renamed n f row = map (λ k. f k (symbol_at row k)) (range_with_len 0 n)
 length-renamed : (n : ℕ) (f : ℕ → ℕ → ℕ) (row : SymbolRow) → length (renamed n f row) ≡ n
 length-renamed n f row = length-map-range_with_len (λ (k : ℕ). f k (symbol_at row k)) 0 n
 
-symbol_at-renamed : (n : ℕ) (f : ℕ → ℕ → ℕ) (row : SymbolRow) (k : ℕ) → k < n → symbol_at (renamed n f row) k ≡ f k (symbol_at row k)
-symbol_at-renamed n f row k h = get_or-map-range_with_len (λ (j : ℕ). f j (symbol_at row j)) 0 n k k 0 h (omega arith)
+symbol_at-renamed : (n : ℕ) (f : ℕ → ℕ → ℕ) (row : SymbolRow) (k : ℕ) → k < n
+    → symbol_at (renamed n f row) k ≡ f k (symbol_at row k)
+symbol_at-renamed n f row k h =
+    get_or-map-range_with_len (λ (j : ℕ). f j (symbol_at row j)) 0 n k k 0 h (omega arith)
 
 renamed_itself : (n : ℕ) (row : SymbolRow) → length row ≡ n → renamed n (λ k v. v) row ≡ row
-renamed_itself n row len = same_rows n (renamed n (λ k v. v) row) row (length-renamed n (λ k v. v) row) len (λ (k : ℕ) l. symbol_at-renamed n (λ k v. v) row k l)
+renamed_itself n row len =
+    same_rows n (renamed n (λ k v. v) row) row (length-renamed n (λ k v. v) row) len
+    (λ (k : ℕ) l. symbol_at-renamed n (λ k v. v) row k l)
 
 -- ---- renamings into a tableau
 -- the rows of one tableau, renamed, are rows of another
 abbrev Takes : ℕ → (ℕ → ℕ → ℕ) → Tableau → Tableau → Type 0
 Takes n g t u = (row : SymbolRow) → Contains t row → Contains u (renamed n g row)
 
-agree_renamed : (n : ℕ) (g : ℕ → ℕ → ℕ) (x : Places) (p q : SymbolRow) → SymbolsAgree x p q → SymbolsAgree x (renamed n g p) (renamed n g q)
+agree_renamed : (n : ℕ) (g : ℕ → ℕ → ℕ) (x : Places) (p q : SymbolRow) → SymbolsAgree x p q
+    → SymbolsAgree x (renamed n g p) (renamed n g q)
 agree_renamed n g x p q agree k m = elim (cases_lt k n) [
-  | inl low ↦ symbol_at-renamed n g p k low ∙ ap (λ (v : ℕ). g k v) (agree k m) ∙ sym (symbol_at-renamed n g q k low)
-  | inr past ↦ symbol_at_past (renamed n g p) k (omega (arith, length-renamed n g p, past)) ∙ sym (symbol_at_past (renamed n g q) k (omega (arith, length-renamed n g q, past)))
+  | inl low ↦
+      symbol_at-renamed n g p k low ∙ ap (λ (v : ℕ). g k v) (agree k m) ∙ sym (symbol_at-renamed n g q k low)
+  | inr past ↦
+      symbol_at_past (renamed n g p) k (omega (arith, length-renamed n g p, past))
+      ∙ sym (symbol_at_past (renamed n g q) k (omega (arith, length-renamed n g q, past)))
 ]
 
-exchanged_renamed : (n : ℕ) (g : ℕ → ℕ → ℕ) (z : Places) (p q : SymbolRow) → exchanged n z (renamed n g p) (renamed n g q) ≡ renamed n g (exchanged n z p q)
+exchanged_renamed : (n : ℕ) (g : ℕ → ℕ → ℕ) (z : Places) (p q : SymbolRow)
+    → exchanged n z (renamed n g p) (renamed n g q) ≡ renamed n g (exchanged n z p q)
 exchanged_renamed n g z p q =
-    same_rows n (exchanged n z (renamed n g p) (renamed n g q)) (renamed n g (exchanged n z p q)) (length-exchanged n z (renamed n g p) (renamed n g q)) (length-renamed n g (exchanged n z p q))
+    same_rows n (exchanged n z (renamed n g p) (renamed n g q)) (renamed n g (exchanged n z p q))
+    (length-exchanged n z (renamed n g p) (renamed n g q)) (length-renamed n g (exchanged n z p q))
     (λ (k : ℕ) low.
     symbol_at-exchanged n z (renamed n g p) (renamed n g q) k low
     ∙ elim (cases_Bool (z k)) [
@@ -65,9 +75,11 @@ record IsRenamingOf (n : ℕ) (ds : List Dependency) (t s : Tableau) (f : ℕ �
   pub lower : (k v : ℕ) → f k v ≤ v
   pub fixed : (row : SymbolRow) → Contains s row → (k : ℕ) → f k (symbol_at row k) ≡ symbol_at row k
   pub from : Takes n f t s
-  pub forced : (u : Tableau) → IsClosed n ds u → (g : ℕ → ℕ → ℕ) → Takes n g t u → ((k v : ℕ) → g k (f k v) ≡ g k v) × Takes n g s u
+  pub forced : (u : Tableau) → IsClosed n ds u → (g : ℕ → ℕ → ℕ) → Takes n g t u
+      → ((k v : ℕ) → g k (f k v) ≡ g k v) × Takes n g s u
 
-none_renamed : (n : ℕ) (ds : List Dependency) (t s : Tableau) → Each (HasLength n) t → SameTableau t s → IsRenamingOf n ds t s (λ k v. v)
+none_renamed : (n : ℕ) (ds : List Dependency) (t s : Tableau) → Each (HasLength n) t → SameTableau t s
+    → IsRenamingOf n ds t s (λ k v. v)
 none_renamed n ds t s over same = record {
   lower = λ k v. omega arith;
   fixed = λ row h k. refl;
@@ -76,7 +88,8 @@ none_renamed n ds t s over same = record {
 }
 
 -- ---- a step by a functional dependency
-module _ (n : ℕ) (ds : List Dependency) (t m s : Tableau) (over : Each (HasLength n) m) (f : ℕ → ℕ → ℕ) (before : IsRenamingOf n ds t m f) (x y : Places) (given : Contains ds (fd x y)) (step : IsFdStep x y m s) where
+module _ (n : ℕ) (ds : List Dependency) (t m s : Tableau) (over : Each (HasLength n) m) (f : ℕ → ℕ → ℕ)
+    (before : IsRenamingOf n ds t m f) (x y : Places) (given : Contains ds (fd x y)) (step : IsFdStep x y m s) where
   former : ℕ
   former = symbol_at step.second step.place
 
@@ -99,7 +112,8 @@ module _ (n : ℕ) (ds : List Dependency) (t m s : Tableau) (over : Each (HasLen
 
   next_later : (k : ℕ) → next k later ≡ later
   unfolding former later next
-  next_later k = change_miss step.place former later k later (λ (e : later ≡ former). absurd (omega (arith, e, step.differ)))
+  next_later k =
+      change_miss step.place former later k later (λ (e : later ≡ former). absurd (omega (arith, e, step.differ)))
 
   -- each row after it is one of before, its symbols after it
   came : (row : SymbolRow) → Contains s row
@@ -111,25 +125,30 @@ module _ (n : ℕ) (ds : List Dependency) (t m s : Tableau) (over : Each (HasLen
   kept_symbol : (k v : ℕ) → f k v ≡ v → next k (f k (next k v)) ≡ next k v
   unfolding former later next
   kept_symbol k v keeps =
-      let unchanged : next k v ≡ v → next k (f k (next k v)) ≡ next k v = λ (e : next k v ≡ v). ap (λ (w : ℕ). next k (f k w)) e ∙ ap (λ (w : ℕ). next k w) keeps in
+      let unchanged : next k v ≡ v → next k (f k (next k v)) ≡ next k v =
+      λ (e : next k v ≡ v). ap (λ (w : ℕ). next k (f k w)) e ∙ ap (λ (w : ℕ). next k w) keeps in
       elim (cases_eq k step.place) [
         | inr other ↦ unchanged (change_other step.place former later k v other)
         | inl here ↦ elim (cases_eq v former) [
           | inr miss ↦ unchanged (change_miss step.place former later k v miss)
           | inl hit ↦
               let e : next k v ≡ later = change_hit step.place former later k v here hit in
-              let stays : f k later ≡ later = ap (λ (j : ℕ). f j later) here ∙ before.fixed step.first step.first_in step.place in
+              let stays : f k later ≡ later =
+              ap (λ (j : ℕ). f j later) here ∙ before.fixed step.first step.first_in step.place in
               ap (λ (w : ℕ). next k (f k w)) e ∙ ap (λ (w : ℕ). next k w) stays ∙ next_later k ∙ sym e
         ]
       ]
 
-  step_row : (p : SymbolRow) → replaced_in step.place former later (renamed n f p) ≡ renamed n (λ k v. next k (f k v)) p
+  step_row : (p : SymbolRow)
+      → replaced_in step.place former later (renamed n f p) ≡ renamed n (λ k v. next k (f k v)) p
   unfolding next
   step_row p =
       same_rows n (replaced_in step.place former later (renamed n f p)) (renamed n (λ k v. next k (f k v)) p)
-      (length-replaced_in step.place former later (renamed n f p) ∙ length-renamed n f p) (length-renamed n (λ k v. next k (f k v)) p)
+      (length-replaced_in step.place former later (renamed n f p) ∙ length-renamed n f p)
+      (length-renamed n (λ k v. next k (f k v)) p)
       (λ (k : ℕ) l.
-      symbol_at-replaced_in step.place former later (renamed n f p) k (omega (arith, fd_place_low n x y m s over step, length-renamed n f p))
+      symbol_at-replaced_in step.place former later (renamed n f p) k
+      (omega (arith, fd_place_low n x y m s over step, length-renamed n f p))
       ∙ ap (λ (v : ℕ). change step.place former later k v) (symbol_at-renamed n f p k l)
       ∙ sym (symbol_at-renamed n (λ k v. next k (f k v)) p k l))
 
@@ -139,7 +158,9 @@ module _ (n : ℕ) (ds : List Dependency) (t m s : Tableau) (over : Each (HasLen
     unfolding former later
     alike =
         sym (symbol_at-renamed n g step.first step.place (fd_place_low n x y m s over step))
-        ∙ settled_agrees ds u x y (renamed n g step.first) (renamed n g step.second) (λ after one. closed after (inl one)) given (takes step.first step.first_in) (takes step.second step.second_in)
+        ∙ settled_agrees ds u x y (renamed n g step.first) (renamed n g step.second)
+        (λ after one. closed after (inl one)) given (takes step.first step.first_in)
+        (takes step.second step.second_in)
         (agree_renamed n g x step.first step.second step.agree) step.place step.member
         ∙ symbol_at-renamed n g step.second step.place (fd_place_low n x y m s over step)
 
@@ -158,8 +179,13 @@ module _ (n : ℕ) (ds : List Dependency) (t m s : Tableau) (over : Each (HasLen
     takes_after : Takes n g s u
     takes_after row h =
         let q = came row h in
-        let is : renamed n g q.0 ≡ renamed n g row = same_rows n (renamed n g q.0) (renamed n g row) (length-renamed n g q.0) (length-renamed n g row)
-        (λ (k : ℕ) low. symbol_at-renamed n g q.0 k low ∙ sym (next_alike k (symbol_at q.0 k)) ∙ ap (λ (v : ℕ). g k v) (sym (q.2 k)) ∙ sym (symbol_at-renamed n g row k low)) in
+        let is : renamed n g q.0 ≡ renamed n g row =
+        same_rows n (renamed n g q.0) (renamed n g row) (length-renamed n g q.0) (length-renamed n g row)
+        (λ (k : ℕ) low.
+        symbol_at-renamed n g q.0 k low
+        ∙ sym (next_alike k (symbol_at q.0 k))
+        ∙ ap (λ (v : ℕ). g k v) (sym (q.2 k))
+        ∙ sym (symbol_at-renamed n g row k low)) in
         subst (λ (r : SymbolRow). Contains u r) is (takes q.0 q.1)
 
   functional_renamed : IsRenamingOf n ds t s (λ k v. next k (f k v))
@@ -168,17 +194,20 @@ module _ (n : ℕ) (ds : List Dependency) (t m s : Tableau) (over : Each (HasLen
     lower = λ k v. let e = next_low k (f k v) in omega (arith, e, before.lower k v);
     fixed = λ row h k.
         let q = came row h in
-        ap (λ (v : ℕ). next k (f k v)) (q.2 k) ∙ kept_symbol k (symbol_at q.0 k) (before.fixed q.0 q.1 k) ∙ sym (q.2 k);
+        ap (λ (v : ℕ). next k (f k v)) (q.2 k)
+        ∙ kept_symbol k (symbol_at q.0 k) (before.fixed q.0 q.1 k) ∙ sym (q.2 k);
     from = λ p h.
         (step.after (renamed n (λ k v. next k (f k v)) p)).0
-        (subst (λ (r : SymbolRow). Contains (replaced step.place former later m) r) (step_row p) (Contains-map (replaced_in step.place former later) m (renamed n f p) (before.from p h)));
+        (subst (λ (r : SymbolRow). Contains (replaced step.place former later m) r) (step_row p)
+        (Contains-map (replaced_in step.place former later) m (renamed n f p) (before.from p h)));
     forced = λ u closed g takes.
         let w = before.forced u closed g takes in
         ((λ (k v : ℕ). next_alike u closed g w.1 k (f k v) ∙ w.0 k v), takes_after u closed g w.1);
   }
 
 -- ---- a step by a multivalued dependency
-module _ (n : ℕ) (ds : List Dependency) (t m s : Tableau) (f : ℕ → ℕ → ℕ) (before : IsRenamingOf n ds t m f) (x y : Places) (given : Contains ds (mvd x y)) (step : IsMvdStep n x y m s) where
+module _ (n : ℕ) (ds : List Dependency) (t m s : Tableau) (f : ℕ → ℕ → ℕ) (before : IsRenamingOf n ds t m f)
+    (x y : Places) (given : Contains ds (mvd x y)) (step : IsMvdStep n x y m s) where
   made : SymbolRow
   made = exchanged n (union x y) step.first step.second
 
@@ -190,16 +219,19 @@ module _ (n : ℕ) (ds : List Dependency) (t m s : Tableau) (f : ℕ → ℕ →
   unfolding made
   made_fixed k = elim (cases_lt k n) [
     | inr past ↦
-        let none : symbol_at made k ≡ 0 = symbol_at_past made k (omega (arith, length-exchanged n (union x y) step.first step.second, past)) in
+        let none : symbol_at made k ≡ 0 =
+        symbol_at_past made k (omega (arith, length-exchanged n (union x y) step.first step.second, past)) in
         omega (arith, none, before.lower k (symbol_at made k))
     | inl low ↦
         let is = symbol_at-exchanged n (union x y) step.first step.second k low in
         elim (cases_Bool (union x y k)) [
           | inl m_in ↦
-              let e : symbol_at made k ≡ symbol_at step.first k = is ∙ ap (λ (b : Bool). cond b (symbol_at step.first k) (symbol_at step.second k)) m_in in
+              let e : symbol_at made k ≡ symbol_at step.first k =
+              is ∙ ap (λ (b : Bool). cond b (symbol_at step.first k) (symbol_at step.second k)) m_in in
               ap (λ (v : ℕ). f k v) e ∙ before.fixed step.first step.first_in k ∙ sym e
           | inr out ↦
-              let e : symbol_at made k ≡ symbol_at step.second k = is ∙ ap (λ (b : Bool). cond b (symbol_at step.first k) (symbol_at step.second k)) out in
+              let e : symbol_at made k ≡ symbol_at step.second k =
+              is ∙ ap (λ (b : Bool). cond b (symbol_at step.first k) (symbol_at step.second k)) out in
               ap (λ (v : ℕ). f k v) e ∙ before.fixed step.second step.second_in k ∙ sym e
         ]
   ]
@@ -208,7 +240,9 @@ module _ (n : ℕ) (ds : List Dependency) (t m s : Tableau) (f : ℕ → ℕ →
   unfolding made
   made_taken u closed g takes =
       subst (λ (r : SymbolRow). Contains u r) (exchanged_renamed n g (union x y) step.first step.second)
-      (closed_exchanged n ds u x y (renamed n g step.first) (renamed n g step.second) closed given (takes step.first step.first_in) (takes step.second step.second_in) (agree_renamed n g x step.first step.second step.agree))
+      (closed_exchanged n ds u x y (renamed n g step.first) (renamed n g step.second) closed given
+      (takes step.first step.first_in) (takes step.second step.second_in)
+      (agree_renamed n g x step.first step.second step.agree))
 
   multivalued_renamed : IsRenamingOf n ds t s f
   unfolding made
@@ -230,12 +264,17 @@ module _ (n : ℕ) (ds : List Dependency) (t m s : Tableau) (f : ℕ → ℕ →
   }
 
 -- ---- any number of steps
-step_renamed : (n : ℕ) (ds : List Dependency) (t m s : Tableau) → Each (HasLength n) m → (f : ℕ → ℕ → ℕ) → IsRenamingOf n ds t m f → IsStep n ds m s → (h : ℕ → ℕ → ℕ) × IsRenamingOf n ds t s h
-step_renamed n ds t m s over f before (inl step) =
-    ((λ k v. next n ds t m s over f before step.lhs step.rhs step.given step.step k (f k v)), functional_renamed n ds t m s over f before step.lhs step.rhs step.given step.step)
-step_renamed n ds t m s over f before (inr step) = (f, multivalued_renamed n ds t m s f before step.lhs step.rhs step.given step.step)
+step_renamed : (n : ℕ) (ds : List Dependency) (t m s : Tableau) → Each (HasLength n) m → (f : ℕ → ℕ → ℕ)
+    → IsRenamingOf n ds t m f → IsStep n ds m s → (h : ℕ → ℕ → ℕ) × IsRenamingOf n ds t s h
+step_renamed n ds t m s over f before (inl step) = (
+  (λ k v. next n ds t m s over f before step.lhs step.rhs step.given step.step k (f k v)),
+  functional_renamed n ds t m s over f before step.lhs step.rhs step.given step.step,
+)
+step_renamed n ds t m s over f before (inr step) =
+    (f, multivalued_renamed n ds t m s f before step.lhs step.rhs step.given step.step)
 
-leads_renamed : (n : ℕ) (ds : List Dependency) (count : ℕ) (t s : Tableau) → Each (HasLength n) t → LeadsIn (IsStep n ds) count t s → (f : ℕ → ℕ → ℕ) × IsRenamingOf n ds t s f
+leads_renamed : (n : ℕ) (ds : List Dependency) (count : ℕ) (t s : Tableau) → Each (HasLength n) t
+    → LeadsIn (IsStep n ds) count t s → (f : ℕ → ℕ → ℕ) × IsRenamingOf n ds t s f
 leads_renamed n ds zero t s over same = ((λ k v. v), none_renamed n ds t s over same)
 leads_renamed n ds (suc count) t s over leads =
     let f = leads_renamed n ds count t leads.0 over leads.1 in
@@ -243,13 +282,17 @@ leads_renamed n ds (suc count) t s over leads =
 
 -- ---- uniqueness
 -- a row that one renaming keeps and the other takes into a tableau is in it, where they are the same
-within_other : (n : ℕ) (ds : List Dependency) (t s u : Tableau) (f g : ℕ → ℕ → ℕ) → Each (HasLength n) s → IsRenamingOf n ds t s f → Takes n g s u → ((k v : ℕ) → f k v ≡ g k v) → (row : SymbolRow) → Contains s row → Contains u row
+within_other : (n : ℕ) (ds : List Dependency) (t s u : Tableau) (f g : ℕ → ℕ → ℕ) → Each (HasLength n) s
+    → IsRenamingOf n ds t s f → Takes n g s u → ((k v : ℕ) → f k v ≡ g k v) → (row : SymbolRow) → Contains s row
+    → Contains u row
 within_other n ds t s u f g over to_s takes same row h =
     let is : renamed n g row ≡ row = same_rows n (renamed n g row) row (length-renamed n g row) (over row h)
-    (λ (k : ℕ) low. symbol_at-renamed n g row k low ∙ sym (same k (symbol_at row k)) ∙ to_s.fixed row h k) in
+    (λ (k : ℕ) low.
+    symbol_at-renamed n g row k low ∙ sym (same k (symbol_at row k)) ∙ to_s.fixed row h k) in
     subst (λ (r : SymbolRow). Contains u r) is (takes row h)
 
-leads_start : (Step : Tableau → Tableau → Type 0) (count : ℕ) (t t' s : Tableau) → SameTableau t t' → LeadsIn Step count t' s → LeadsIn Step count t s
+leads_start : (Step : Tableau → Tableau → Type 0) (count : ℕ) (t t' s : Tableau) → SameTableau t t'
+    → LeadsIn Step count t' s → LeadsIn Step count t s
 leads_start Step zero t t' s same leads = Same-trans t t' s same leads
 leads_start Step (suc count) t t' s same leads = (leads.0, leads_start Step count t t' leads.0 same leads.1, leads.2)
 
@@ -277,7 +320,8 @@ closed_from n ds t t' s u over same one s_closed other u_closed =
 pub closing_unique : (n : ℕ) (ds : List Dependency) (plan : List Places) (s u : Tableau) → ReachesTableau n ds plan s
     → IsClosed n ds s → ReachesTableau n ds plan u → IsClosed n ds u → SameTableau s u
 closing_unique n ds plan s u =
-    closed_from n ds (plan_tableau n plan) (plan_tableau n plan) s u (plan_over n 1 plan) (Same-refl (plan_tableau n plan))
+    closed_from n ds (plan_tableau n plan) (plan_tableau n plan) s u (plan_over n 1 plan)
+    (Same-refl (plan_tableau n plan))
 
 -- ---- settling is closing by the functional dependencies alone
 functional_steps : (n : ℕ) (ds : List Dependency) (count : ℕ) (t s : Tableau) → LeadsIn (IsFunctionalStep ds) count t s
