@@ -1,19 +1,19 @@
 -- The rounds end: each step by a functional dependency leaves fewer symbols in use, and no step brings a
 -- symbol to an attribute.
 use Rattle.std.proofs.Common.{◌≡◌, ℕ, ◌+◌, ◌-◌, ◌*◌, ◌<◌, ◌≤◌, zero, suc, Bool, true, false, cond, ◌⊎◌, List, [], ◌∷◌, length, get_or, refl, sym, ap, ◌∙◌, inl, inr, ⊎_elim, arith}
-use Rattle.std.proofs.lemmas.Bool.{cases_Bool, cases_lt, cases_eq, true≢false, eqb-true, eq-eqb, or_cases, or_left, or_right, false_from_ne_true}
+use Rattle.std.proofs.lemmas.Bool.{cases_Bool, cases_eq, true≢false, eqb-true, eq-eqb, or_cases, or_left, or_right, false_from_ne_true}
 use Rattle.std.proofs.Math.Nat.{mul-le-mul_right}
 use Rattle.std.proofs.lemmas.List.Elements.{Contains-get_or}
 use Rattle.std.specs.Prelude.{Contains, AllPairs, nat_eq, ◌||◌}
 use Rattle.attr_sets.specs.Places.{Places, union, Within, count_below}
 use Rattle.attr_sets.proofs.PlacesLemmas.{count_below-within, count_below-lt}
 use Rattle.dep_model.specs.Dependencies.{Dependency}
-use Rattle.dep_model.proofs.ListLemmas.{map-member, Contains-head, Contains-later}
+use Rattle.dep_model.proofs.ListLemmas.{Contains-head, Contains-later}
 use Rattle.chase_laws.specs.Tableaux.{SymbolRow, Tableau, SameTableau, symbol_at}
-use Rattle.chase_laws.specs.Steps.{replaced_in, IsFdStep, IsFunctionalStep, LeadsIn, LeadsTo}
+use Rattle.chase_laws.specs.Steps.{IsFdStep, IsFunctionalStep, LeadsIn, LeadsTo}
 use Rattle.chase_laws.specs.Rounds.{IsMadeOf, IsNext}
-use Rattle.chase_laws.proofs.TableauLemmas.{symbol_at_past, symbol_at-exchanged, symbol_at-replaced_in, change, change_hit, change_miss, change_other, cons_cases}
-use Rattle.chase_laws.proofs.KeptLemmas.{Each, HasLength, HasAtMost, over-functional, most-functional}
+use Rattle.chase_laws.proofs.TableauLemmas.{symbol_at-exchanged, change_hit, change_miss, change_other, cons_cases}
+use Rattle.chase_laws.proofs.KeptLemmas.{Each, HasLength, HasAtMost, over-functional, most-functional, fd_place_low, fd_came}
 use Rattle.chase_laws.proofs.RoundLemmas.{differ_le}
 
 -- whether a symbol stands at an attribute
@@ -69,26 +69,12 @@ same_within t s same a v m = let w = in_use-true s a v m in in_use-from t a v w.
 
 -- ---- a step by a functional dependency
 module _ (n : ℕ) (x y : Places) (t s : Tableau) (over : Each (HasLength n) t) (step : IsFdStep x y t s) where
-  place_low : step.place < n
-  place_low = elim (cases_lt step.place n) [
-    | inl within ↦ within
-    | inr past ↦ absurd (omega (arith, step.differ, symbol_at_past step.second step.place (omega (arith, past, over step.second step.second_in))))
-  ]
-
-  -- each row is one of before in which the symbol is replaced
-  came : (row : SymbolRow) → Contains s row → (p : SymbolRow) × Contains t p × ((k : ℕ) → symbol_at row k ≡ change step.place (symbol_at step.second step.place) (symbol_at step.first step.place) k (symbol_at p k))
-  came row h =
-      let former = symbol_at step.second step.place in
-      let later = symbol_at step.first step.place in
-      let w = map-member (replaced_in step.place former later) t row ((step.after row).1 h) in
-      (w.0, w.1, λ (k : ℕ). ap (λ (r : SymbolRow). symbol_at r k) (sym w.2) ∙ symbol_at-replaced_in step.place former later w.0 k (omega (arith, place_low, over w.0 w.1)))
-
   step_within : (a : ℕ) → Within (in_use s a) (in_use t a)
   step_within a v m =
       let former = symbol_at step.second step.place in
       let later = symbol_at step.first step.place in
       let w = in_use-true s a v m in
-      let p = came w.0 w.1 in
+      let p = fd_came n x y t s over step w.0 w.1 in
       elim (cases_eq a step.place) [
         | inr other ↦ in_use-from t a v p.0 p.1 (sym (change_other step.place former later a (symbol_at p.0 a) other) ∙ sym (p.2 a) ∙ w.2)
         | inl here ↦ elim (cases_eq (symbol_at p.0 a) former) [
@@ -103,14 +89,14 @@ module _ (n : ℕ) (x y : Places) (t s : Tableau) (over : Each (HasLength n) t) 
       let former = symbol_at step.second step.place in
       let later = symbol_at step.first step.place in
       let w = in_use-true s a former m in
-      let p = came w.0 w.1 in
+      let p = fd_came n x y t s over step w.0 w.1 in
       elim (cases_eq (symbol_at p.0 a) former) [
         | inl hit ↦ let e : former ≡ later = sym w.2 ∙ p.2 a ∙ change_hit a former later a (symbol_at p.0 a) refl hit in absurd (omega (arith, e, step.differ))
         | inr miss ↦ miss (sym (change_miss a former later a (symbol_at p.0 a) miss) ∙ sym (p.2 a) ∙ w.2)
       ])
 
   step_lt : (bound : ℕ) → symbol_at step.second step.place < bound → symbols_in_use n bound s < symbols_in_use n bound t
-  step_lt bound small = use_lt n bound t s step.place (symbol_at step.second step.place) place_low small step_within gone (in_use-from t step.place (symbol_at step.second step.place) step.second step.second_in refl)
+  step_lt bound small = use_lt n bound t s step.place (symbol_at step.second step.place) (fd_place_low n x y t s over step) small step_within gone (in_use-from t step.place (symbol_at step.second step.place) step.second step.second_in refl)
 
 -- no step, or fewer symbols in use after
 pub leads_use : (n most : ℕ) (ds : List Dependency) (count : ℕ) (t s : Tableau) → Each (HasLength n) t → Each (HasAtMost most) t → LeadsIn (IsFunctionalStep ds) count t s

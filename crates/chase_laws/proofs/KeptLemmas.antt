@@ -1,5 +1,5 @@
 -- What every step keeps, and what follows for the tableaux that are reached.
-use Rattle.std.proofs.Common.{◌≡◌, ℕ, ◌+◌, ◌≤◌, zero, suc, Bool, true, false, cond, List, [], ◌∷◌, length, sym, ap, subst, ◌∙◌, inl, inr, ⊎_elim, arith}
+use Rattle.std.proofs.Common.{◌≡◌, ℕ, ◌+◌, ◌<◌, ◌≤◌, zero, suc, Bool, true, false, cond, List, [], ◌∷◌, length, sym, ap, subst, ◌∙◌, inl, inr, ⊎_elim, arith}
 use Rattle.std.proofs.lemmas.Bool.{cases_lt}
 use Rattle.std.specs.Prelude.{Contains}
 use Rattle.attr_sets.specs.Places.{Places, union}
@@ -8,7 +8,7 @@ use Rattle.dep_model.proofs.ListLemmas.{map-member, Contains-map, Contains-head,
 use Rattle.chase_laws.specs.Tableaux.{SymbolRow, Tableau, SameTableau, symbol_at, scheme_row, scheme_rows, plan_tableau}
 use Rattle.chase_laws.specs.Steps.{replaced_in, exchanged, IsFdStep, IsMvdStep, IsFunctionalStep, IsStep, LeadsIn}
 use Rattle.chase_laws.specs.Rounds.{ReachesTableau}
-use Rattle.chase_laws.proofs.TableauLemmas.{symbol_at_past, length-scheme_row, symbol_at-scheme_row, length-exchanged, symbol_at-exchanged, length-replaced_in, replaced_le, cons_cases}
+use Rattle.chase_laws.proofs.TableauLemmas.{symbol_at_past, length-scheme_row, symbol_at-scheme_row, length-exchanged, symbol_at-exchanged, length-replaced_in, replaced_le, change, symbol_at-replaced_in, cons_cases}
 
 -- ---- any number of steps
 -- what holds of one of two equal tableaux holds of the other, and each step keeps it
@@ -52,6 +52,22 @@ over-functional n ds = kept (IsFunctionalStep ds) (Each (HasLength n)) (Each-sam
 
 pub over-leads : (n : ℕ) (ds : List Dependency) (count : ℕ) (t s : Tableau) → LeadsIn (IsStep n ds) count t s → Each (HasLength n) t → Each (HasLength n) s
 over-leads n ds = kept (IsStep n ds) (Each (HasLength n)) (Each-same (HasLength n)) (over_step n ds)
+
+-- ---- a step by a functional dependency
+module _ (n : ℕ) (x y : Places) (t s : Tableau) (over : Each (HasLength n) t) (step : IsFdStep x y t s) where
+  pub fd_place_low : step.place < n
+  fd_place_low = elim (cases_lt step.place n) [
+    | inl within ↦ within
+    | inr past ↦ absurd (omega (arith, step.differ, symbol_at_past step.second step.place (omega (arith, past, over step.second step.second_in))))
+  ]
+
+  -- each row after it is one of before in which the symbol is replaced
+  pub fd_came : (row : SymbolRow) → Contains s row → (p : SymbolRow) × Contains t p × ((k : ℕ) → symbol_at row k ≡ change step.place (symbol_at step.second step.place) (symbol_at step.first step.place) k (symbol_at p k))
+  fd_came row h =
+      let former = symbol_at step.second step.place in
+      let later = symbol_at step.first step.place in
+      let w = map-member (replaced_in step.place former later) t row ((step.after row).1 h) in
+      (w.0, w.1, λ (k : ℕ). ap (λ (r : SymbolRow). symbol_at r k) (sym w.2) ∙ symbol_at-replaced_in step.place former later w.0 k (omega (arith, fd_place_low, over w.0 w.1)))
 
 -- ---- the greatest symbol
 abbrev pub HasAtMost : ℕ → SymbolRow → Type 0

@@ -6,3 +6,4 @@ pub mod ClosedLemmas
 pub mod RoundLemmas
 pub mod EndLemmas
 pub mod UniqueLemmas
+pub mod ClosingLemmas

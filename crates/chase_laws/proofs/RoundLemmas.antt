@@ -11,7 +11,7 @@ use Rattle.chase_laws.specs.Steps.{exchanged, replaced, IsFunctionalStep, IsMult
 use Rattle.chase_laws.specs.Rounds.{SettlesTo, IsMadeOf, IsNext, EndsRounds, InRounds, HasMoreThan, RoundsExceed}
 use Rattle.chase_laws.proofs.TableauLemmas.{rows_tell, symbol_at_past, cons_cases, Same-sym, Same-trans, Same-replaced, Same-cons, length-exchanged}
 use Rattle.chase_laws.proofs.KeptLemmas.{Each, HasLength, Each-same, over-functional, plan_over}
-use Rattle.chase_laws.proofs.SettlingLemmas.{settling_unique}
+use Rattle.chase_laws.proofs.ClosingLemmas.{settling_unique}
 use Rattle.dep_model.proofs.ListLemmas.{Contains-head, Contains-later}
 
 -- ---- equal tableaux are closed alike

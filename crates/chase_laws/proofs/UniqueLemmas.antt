@@ -1,6 +1,5 @@
--- The closed tableau of a plan: the rounds have one last tableau, it settles to one, and the rows of that
--- have one order.
-use Rattle.std.proofs.Common.{◌≡◌, ℕ, suc, List, [], ◌∷◌, refl, sym, ap, subst, ◌∙◌, inr, ⊎_elim, arith}
+-- The closed tableau of a plan: the steps lead to one, and its rows have one order.
+use Rattle.std.proofs.Common.{◌≡◌, ℕ, suc, List, [], ◌∷◌, refl, sym, ap, subst, ◌∙◌, ⊎_elim, arith}
 use Rattle.std.proofs.lemmas.Cmp.{nat_list_cmp_total, tied_itself}
 use Rattle.std.specs.Prelude.{AllPairs, Contains}
 use Rattle.attr_sets.specs.Places.{Places}
@@ -8,11 +7,9 @@ use Rattle.dep_model.specs.Tuples.{Relation}
 use Rattle.dep_model.specs.Dependencies.{Dependency}
 use Rattle.dep_model.proofs.ListLemmas.{Contains-head, Contains-later}
 use Rattle.chase_laws.specs.Tableaux.{SymbolRow, Tableau, SameTableau}
-use Rattle.chase_laws.specs.Rounds.{InRounds}
 use Rattle.chase_laws.specs.Answers.{texts_of, RowBefore, IsClosedTableau}
 use Rattle.chase_laws.proofs.TableauLemmas.{cons_cases}
-use Rattle.chase_laws.proofs.RoundLemmas.{rounds-over, rounds_unique, rounds_end}
-use Rattle.chase_laws.proofs.SettlingLemmas.{settling_unique}
+use Rattle.chase_laws.proofs.ClosingLemmas.{closing_unique}
 
 -- ---- the order of rows
 before-irrefl : (p : SymbolRow) → RowBefore p p → ⊥
@@ -68,22 +65,11 @@ one_list (p ∷ t) (q ∷ s) one other there back =
     (later_held p s t other_p back_p)) ∙ sym to_p
 
 -- ---- one closed tableau
--- each ends the rounds, so neither's round comes after the other's
 pub closed_unique : (n : ℕ) (ds : List Dependency) (plan : List Places) (limit : ℕ) (r s : Relation)
     → IsClosedTableau n ds plan limit r → IsClosedTableau n ds plan limit s → r ≡ s
 closed_unique n ds plan limit r s one other =
-    let no_later = rounds_end n ds plan one.round one.last one.symbols one.in_rounds one.settles (inr one.closed)
-    other.round other.last other.in_rounds in
-    let no_earlier = rounds_end n ds plan other.round other.last other.symbols other.in_rounds other.settles
-    (inr other.closed) one.round one.last one.in_rounds in
-    let equal : other.round ≡ one.round = omega (arith, no_later, no_earlier) in
-    let here : InRounds n ds plan one.round other.last =
-    subst (λ (k : ℕ). InRounds n ds plan k other.last) equal other.in_rounds in
-    let last : SameTableau one.last other.last =
-    rounds_unique n ds plan one.round one.last other.last one.in_rounds here in
     let same : SameTableau one.symbols other.symbols =
-    settling_unique n ds one.last other.last one.symbols other.symbols
-    (rounds-over n ds plan one.round one.last one.in_rounds) last one.settles other.settles in
+    closing_unique n ds plan one.symbols other.symbols one.reached one.closed other.reached other.closed in
     let symbols : one.symbols ≡ other.symbols =
     one_list one.symbols other.symbols one.ascending other.ascending (λ row. (same row).0)
     (λ row. (same row).1) in

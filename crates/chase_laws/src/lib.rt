@@ -41,6 +41,13 @@ pub fn functional_rounds_stay_small()
         → RoundsExceed n ds plan limit → ⊥ }
 {}
 
+/// The closed tableau that is reached does not depend on the order of the steps.
+pub fn closing_is_unique()
+    ensures law { (n : ℕ) (ds : List Dependency) (plan : List Places) (t s : Tableau)
+        → ReachesTableau n ds plan t → IsClosed n ds t → ReachesTableau n ds plan s → IsClosed n ds s
+        → SameTableau t s }
+{}
+
 /// A plan has one closed tableau at most, as texts.
 pub fn closed_tableau_is_unique()
     ensures law { (n : ℕ) (ds : List Dependency) (plan : List Places) (limit : ℕ) (r s : Relation)

@@ -2,7 +2,7 @@ use Rattle.std.proofs.lemmas.List.Elements.{All-contains}
 use Rattle.chase_laws.specs.Tableaux.{SymbolRow}
 use Rattle.chase_laws.proofs.TableauLemmas.{Same-refl}
 use Rattle.chase_laws.proofs.KeptLemmas.{HasLength}
-use Rattle.chase_laws.proofs.SettlingLemmas.{settling_unique}
+use Rattle.chase_laws.proofs.ClosingLemmas.{settling_unique}
 use Rattle.chase_laws.proofs.settling_is_unique.Goals as goal
 
 pub returns : goal.returns

@@ -1,0 +1,5 @@
+use Rattle.chase_laws.proofs.ClosingLemmas.{closing_unique}
+use Rattle.chase_laws.proofs.closing_is_unique.Goals as goal
+
+pub returns : goal.returns
+returns c = record { law = closing_unique }
