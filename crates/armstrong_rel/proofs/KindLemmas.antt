@@ -1,2 +1,1 @@
 -- A list without multivalued dependencies is its own functional part.
-

@@ -376,5 +376,5 @@ pair_groups rows x k groups codes items g c n =
     (subst (λ (m : ℕ). AreNumbered (λ i. (number_at groups i, number_at codes i)) m n.0 items) g.one_each n.1)
 
 -- a tuple of a relation stands at a place of it
-row_of : (r : Relation) (t : Tuple) → Contains r t → (i : ℕ) × (i < length r) × (row_at r i ≡ t)
+pub row_of : (r : Relation) (t : Tuple) → Contains r t → (i : ℕ) × (i < length r) × (row_at r i ≡ t)
 row_of r t has = (has.0, has.1, get_or_default r has.0 [] t has.1 ∙ has.2)

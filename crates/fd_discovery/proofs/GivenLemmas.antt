@@ -15,8 +15,6 @@ use Rattle.dep_model.proofs.ListLemmas.{Any-weaker, Any-left}
 
 -- ---- some element is such
 
-)
-
 pub Any-push_cases : {X : Type 0} (P : X → Type 0) (xs : List X) (y : X) → Any P (xs ++ y ∷ []) → Any P xs ⊎ P y
 Any-push_cases P xs y h = elim (cases_lt h.0 (length xs)) [
   | inl front ↦ inl (h.0, h.1, front, sym (get_or_append_left xs (y ∷ []) h.1 h.0 front) ∙ h.3, h.4)
