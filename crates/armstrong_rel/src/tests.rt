@@ -73,9 +73,7 @@ fn tells_the_first_multivalued_dependency(rt: HostRuntime) {
 
 #[test]
 fn tells_what_is_too_wide(rt: HostRuntime) {
-    let schema = schema(
-        &rt,
-        b"attributes a1 a2 a3 a4 a5 a6 a7 a8 a9 a10 a11 a12 a13 a14 a15 a16 a17",
-    );
+    let text = b"attributes a1 a2 a3 a4 a5 a6 a7 a8 a9 a10 a11 a12 a13 a14 a15 a16 a17";
+    let schema = read_schema(rt.alloc(), text).expect(&rt, "a schema");
     assert!(rt; matches!(exhibit(rt.alloc(), &schema), Err(ExhibitRefusal::TooWide)));
 }

@@ -45,10 +45,9 @@ fn names_of_tables(rt: HostRuntime) {
 
 #[test]
 fn asks_for_what_breaks_a_rule(rt: HostRuntime) -> Result<(), Fail> {
-    let schema = schema(
-        &rt,
-        b"version 2\ninteger ID\ntext NAME\ninteger AGE\nID -> NAME AGE\nNAME ->> AGE\n() -> AGE\nID -> ID",
-    );
+    let text =
+        b"version 2\ninteger ID\ntext NAME\ninteger AGE\nID -> NAME AGE\nNAME ->> AGE\n() -> AGE\nID -> ID";
+    let schema = read_schema(rt.alloc(), text).expect(&rt, "a schema");
     let name = b"main.people";
     assert!(rt; is_table_name(name));
     let script = check_script(rt.alloc(), &schema, name)?;
