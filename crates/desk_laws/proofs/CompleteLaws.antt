@@ -276,7 +276,7 @@ cover_asks files name answer answered = answered
 pub cover_answered : (files : Files) (name : List ℕ) (schema : Schema) → IsSchemaFile (told files) name schema
     → IsAnswered files (codes "cover" ∷ name ∷ [])
 cover_answered files name schema file answer answered =
-    after_schema files name schema GivesCover answer file (λ r same found. inl (ap (λ (a : Answer). a.status) found.3))
+    after_schema files name schema GivesCover answer file (λ r same found. inl (ap (λ (a : Answer). a.status) found.4))
     (cover_asks files name answer answered)
 
 synthesize_asks : (files : Files) (name : List ℕ) (answer : Answer)
