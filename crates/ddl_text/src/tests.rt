@@ -247,7 +247,7 @@ CREATE TABLE \"t2\" (
 }
 
 #[test]
-fn tables_of_a_timetable(rt: HostRuntime) {
+fn tables_of_a_timetable(rt: HostRuntime) -> Result<(), Fail> {
     assert!(rt; TIMETABLE.len() <= MOST_TEXT_BYTES);
     let schema = read_schema(rt.alloc(), TIMETABLE).expect(&rt, "a schema");
     let plan = b"scheme COURSE TEACHER\nscheme COURSE HOUR ROOM\nscheme COURSE STUDENT GRADE";
@@ -265,4 +265,5 @@ fn tables_of_a_timetable(rt: HostRuntime) {
         assert_eq!(rt; table.key, AttrSet(*key));
         assert!(rt; table.refs.as_slice() == *refs, "{table:?}");
     }
+    Ok(())
 }
