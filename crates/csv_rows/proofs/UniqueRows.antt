@@ -20,100 +20,54 @@ same_integer : (r u k l : ℕ) → r ≡ u → k ≡ l → ◌≡◌ {A = Result
 same_integer r u k l e f =
     ap (λ (m : ℕ). Err (refusal.NotInteger m k)) e ∙ ap (λ (m : ℕ). Err (refusal.NotInteger u m)) f
 
+-- what a record can give: a tuple, or one of three refusals
+abbrev SeenRow : Schema → List ℕ → ℕ → List (List ℕ) → Result Tuple RowRefusal → Type 0
+SeenRow s columns row fields r =
+    let gives : Result Tuple RowRefusal → Type 0 = λ given. (r ≡ given) × RowOf s columns row fields given in
+    ((t : Tuple) × gives (Ok t)) ⊎ ((u : ℕ) × gives (Err (refusal.UnevenRow u))) ⊎ gives (Err refusal.TooManyRows)
+    ⊎ ((u : ℕ) × (a : ℕ) × gives (Err (refusal.NotInteger u a)))
+
+seen_row : (s : Schema) (columns : List ℕ) (row : ℕ) (fields : List (List ℕ)) (r : Result Tuple RowRefusal)
+    → RowOf s columns row fields r → SeenRow s columns row fields r
+seen_row s columns row fields (Ok t) h = inl (t, (refl, h))
+seen_row s columns row fields (Err (refusal.UnevenRow u)) h = inr (inl (u, (refl, h)))
+seen_row s columns row fields (Err refusal.TooManyRows) h = inr (inr (inl (refl, h)))
+seen_row s columns row fields (Err (refusal.NotInteger u a)) h = inr (inr (inr (u, a, (refl, h))))
+seen_row s columns row fields (Err refusal.NoHeader) h = absurd h
+seen_row s columns row fields (Err (refusal.UnknownColumn c)) h = absurd h
+seen_row s columns row fields (Err (refusal.DoubleColumn c)) h = absurd h
+seen_row s columns row fields (Err (refusal.MissingColumn a)) h = absurd h
+seen_row s columns row fields (Err refusal.Memory) h = absurd h
+
 -- a record gives one tuple or one refusal
 row_same : (s : Schema) (columns : List ℕ) (row : ℕ) (fields : List (List ℕ)) (one other : Result Tuple RowRefusal)
     → RowOf s columns row fields one → RowOf s columns row fields other → one ≡ other
-row_same s columns row fields (Ok t) (Ok w) p q = ap Ok (p.1 ∙ sym q.1)
-row_same s columns row fields (Ok t) (Err (refusal.UnevenRow u)) p q = absurd (q.1 p.0.0)
-row_same s columns row fields (Ok t) (Err refusal.TooManyRows) p q = absurd (few_not_many row p.0.1 q.1)
-row_same s columns row fields (Ok t) (Err (refusal.NotInteger u l)) p q = absurd (q.3 (p.2 l q.2))
-row_same s columns row fields (Ok t) (Err refusal.NoHeader) p q = absurd q
-row_same s columns row fields (Ok t) (Err (refusal.UnknownColumn z)) p q = absurd q
-row_same s columns row fields (Ok t) (Err (refusal.DoubleColumn z)) p q = absurd q
-row_same s columns row fields (Ok t) (Err (refusal.MissingColumn z)) p q = absurd q
-row_same s columns row fields (Ok t) (Err refusal.Memory) p q = absurd q
-row_same s columns row fields (Err (refusal.UnevenRow r)) (Ok w) p q = absurd (p.1 q.0.0)
-row_same s columns row fields (Err (refusal.UnevenRow r)) (Err (refusal.UnevenRow u)) p q =
-    ap (λ (m : ℕ). Err (refusal.UnevenRow m)) (p.0 ∙ sym q.0)
-row_same s columns row fields (Err (refusal.UnevenRow r)) (Err refusal.TooManyRows) p q = absurd (p.1 q.0)
-row_same s columns row fields (Err (refusal.UnevenRow r)) (Err (refusal.NotInteger u l)) p q = absurd (p.1 q.0.0)
-row_same s columns row fields (Err (refusal.UnevenRow r)) (Err refusal.NoHeader) p q = absurd q
-row_same s columns row fields (Err (refusal.UnevenRow r)) (Err (refusal.UnknownColumn z)) p q = absurd q
-row_same s columns row fields (Err (refusal.UnevenRow r)) (Err (refusal.DoubleColumn z)) p q = absurd q
-row_same s columns row fields (Err (refusal.UnevenRow r)) (Err (refusal.MissingColumn z)) p q = absurd q
-row_same s columns row fields (Err (refusal.UnevenRow r)) (Err refusal.Memory) p q = absurd q
-row_same s columns row fields (Err refusal.TooManyRows) (Ok w) p q = absurd (few_not_many row q.0.1 p.1)
-row_same s columns row fields (Err refusal.TooManyRows) (Err (refusal.UnevenRow u)) p q = absurd (q.1 p.0)
-row_same s columns row fields (Err refusal.TooManyRows) (Err refusal.TooManyRows) p q = refl
-row_same s columns row fields (Err refusal.TooManyRows) (Err (refusal.NotInteger u l)) p q =
-    absurd (few_not_many row q.0.1 p.1)
-row_same s columns row fields (Err refusal.TooManyRows) (Err refusal.NoHeader) p q = absurd q
-row_same s columns row fields (Err refusal.TooManyRows) (Err (refusal.UnknownColumn z)) p q = absurd q
-row_same s columns row fields (Err refusal.TooManyRows) (Err (refusal.DoubleColumn z)) p q = absurd q
-row_same s columns row fields (Err refusal.TooManyRows) (Err (refusal.MissingColumn z)) p q = absurd q
-row_same s columns row fields (Err refusal.TooManyRows) (Err refusal.Memory) p q = absurd q
-row_same s columns row fields (Err (refusal.NotInteger r k)) (Ok w) p q = absurd (p.3 (q.2 k p.2))
-row_same s columns row fields (Err (refusal.NotInteger r k)) (Err (refusal.UnevenRow u)) p q = absurd (q.1 p.0.0)
-row_same s columns row fields (Err (refusal.NotInteger r k)) (Err refusal.TooManyRows) p q =
-    absurd (few_not_many row p.0.1 q.1)
-row_same s columns row fields (Err (refusal.NotInteger r k)) (Err (refusal.NotInteger u l)) p q =
-    elim (cases_lt k l) [
+row_same s columns row fields one other p q = by (seen_row s columns row fields one p) (seen_row s columns row fields other q)
+  where
+    by : SeenRow s columns row fields one → SeenRow s columns row fields other → one ≡ other
+    by (inl (t, (e, p))) (inl (w, (f, q))) = e ∙ ap Ok (p.1 ∙ sym q.1) ∙ sym f
+    by (inl (t, (e, p))) (inr (inl (u, (f, q)))) = absurd (q.1 p.0.0)
+    by (inl (t, (e, p))) (inr (inr (inl (f, q)))) = absurd (few_not_many row p.0.1 q.1)
+    by (inl (t, (e, p))) (inr (inr (inr (u, l, (f, q))))) = absurd (q.3 (p.2 l q.2))
+    by (inr (inl (r, (e, p)))) (inl (w, (f, q))) = absurd (p.1 q.0.0)
+    by (inr (inl (r, (e, p)))) (inr (inl (u, (f, q)))) =
+        e ∙ ap (λ (m : ℕ). Err (refusal.UnevenRow m)) (p.0 ∙ sym q.0) ∙ sym f
+    by (inr (inl (r, (e, p)))) (inr (inr (inl (f, q)))) = absurd (p.1 q.0)
+    by (inr (inl (r, (e, p)))) (inr (inr (inr (u, l, (f, q))))) = absurd (p.1 q.0.0)
+    by (inr (inr (inl (e, p)))) (inl (w, (f, q))) = absurd (few_not_many row q.0.1 p.1)
+    by (inr (inr (inl (e, p)))) (inr (inl (u, (f, q)))) = absurd (q.1 p.0)
+    by (inr (inr (inl (e, p)))) (inr (inr (inl (f, q)))) = e ∙ sym f
+    by (inr (inr (inl (e, p)))) (inr (inr (inr (u, l, (f, q))))) = absurd (few_not_many row q.0.1 p.1)
+    by (inr (inr (inr (r, k, (e, p))))) (inl (w, (f, q))) = absurd (p.3 (q.2 k p.2))
+    by (inr (inr (inr (r, k, (e, p))))) (inr (inl (u, (f, q)))) = absurd (q.1 p.0.0)
+    by (inr (inr (inr (r, k, (e, p))))) (inr (inr (inl (f, q)))) = absurd (few_not_many row p.0.1 q.1)
+    by (inr (inr (inr (r, k, (e, p))))) (inr (inr (inr (u, l, (f, q))))) = elim (cases_lt k l) [
       | inl before ↦ absurd (p.3 (q.4 k before p.2))
       | inr on ↦ elim (cases_lt l k) [
         | inl before ↦ absurd (q.3 (p.4 l before q.2))
-        | inr here ↦ same_integer r u k l (p.1 ∙ sym q.1) (omega (arith, on, here))
+        | inr here ↦ e ∙ same_integer r u k l (p.1 ∙ sym q.1) (omega (arith, on, here)) ∙ sym f
       ]
     ]
-row_same s columns row fields (Err (refusal.NotInteger r k)) (Err refusal.NoHeader) p q = absurd q
-row_same s columns row fields (Err (refusal.NotInteger r k)) (Err (refusal.UnknownColumn z)) p q = absurd q
-row_same s columns row fields (Err (refusal.NotInteger r k)) (Err (refusal.DoubleColumn z)) p q = absurd q
-row_same s columns row fields (Err (refusal.NotInteger r k)) (Err (refusal.MissingColumn z)) p q = absurd q
-row_same s columns row fields (Err (refusal.NotInteger r k)) (Err refusal.Memory) p q = absurd q
-row_same s columns row fields (Err refusal.NoHeader) (Ok w) p q = absurd p
-row_same s columns row fields (Err refusal.NoHeader) (Err (refusal.UnevenRow u)) p q = absurd p
-row_same s columns row fields (Err refusal.NoHeader) (Err refusal.TooManyRows) p q = absurd p
-row_same s columns row fields (Err refusal.NoHeader) (Err (refusal.NotInteger u l)) p q = absurd p
-row_same s columns row fields (Err refusal.NoHeader) (Err refusal.NoHeader) p q = absurd p
-row_same s columns row fields (Err refusal.NoHeader) (Err (refusal.UnknownColumn z)) p q = absurd p
-row_same s columns row fields (Err refusal.NoHeader) (Err (refusal.DoubleColumn z)) p q = absurd p
-row_same s columns row fields (Err refusal.NoHeader) (Err (refusal.MissingColumn z)) p q = absurd p
-row_same s columns row fields (Err refusal.NoHeader) (Err refusal.Memory) p q = absurd p
-row_same s columns row fields (Err (refusal.UnknownColumn z)) (Ok w) p q = absurd p
-row_same s columns row fields (Err (refusal.UnknownColumn m)) (Err (refusal.UnevenRow u)) p q = absurd p
-row_same s columns row fields (Err (refusal.UnknownColumn m)) (Err refusal.TooManyRows) p q = absurd p
-row_same s columns row fields (Err (refusal.UnknownColumn m)) (Err (refusal.NotInteger u l)) p q = absurd p
-row_same s columns row fields (Err (refusal.UnknownColumn m)) (Err refusal.NoHeader) p q = absurd p
-row_same s columns row fields (Err (refusal.UnknownColumn m)) (Err (refusal.UnknownColumn z)) p q = absurd p
-row_same s columns row fields (Err (refusal.UnknownColumn m)) (Err (refusal.DoubleColumn z)) p q = absurd p
-row_same s columns row fields (Err (refusal.UnknownColumn m)) (Err (refusal.MissingColumn z)) p q = absurd p
-row_same s columns row fields (Err (refusal.UnknownColumn m)) (Err refusal.Memory) p q = absurd p
-row_same s columns row fields (Err (refusal.DoubleColumn z)) (Ok w) p q = absurd p
-row_same s columns row fields (Err (refusal.DoubleColumn m)) (Err (refusal.UnevenRow u)) p q = absurd p
-row_same s columns row fields (Err (refusal.DoubleColumn m)) (Err refusal.TooManyRows) p q = absurd p
-row_same s columns row fields (Err (refusal.DoubleColumn m)) (Err (refusal.NotInteger u l)) p q = absurd p
-row_same s columns row fields (Err (refusal.DoubleColumn m)) (Err refusal.NoHeader) p q = absurd p
-row_same s columns row fields (Err (refusal.DoubleColumn m)) (Err (refusal.UnknownColumn z)) p q = absurd p
-row_same s columns row fields (Err (refusal.DoubleColumn m)) (Err (refusal.DoubleColumn z)) p q = absurd p
-row_same s columns row fields (Err (refusal.DoubleColumn m)) (Err (refusal.MissingColumn z)) p q = absurd p
-row_same s columns row fields (Err (refusal.DoubleColumn m)) (Err refusal.Memory) p q = absurd p
-row_same s columns row fields (Err (refusal.MissingColumn z)) (Ok w) p q = absurd p
-row_same s columns row fields (Err (refusal.MissingColumn m)) (Err (refusal.UnevenRow u)) p q = absurd p
-row_same s columns row fields (Err (refusal.MissingColumn m)) (Err refusal.TooManyRows) p q = absurd p
-row_same s columns row fields (Err (refusal.MissingColumn m)) (Err (refusal.NotInteger u l)) p q = absurd p
-row_same s columns row fields (Err (refusal.MissingColumn m)) (Err refusal.NoHeader) p q = absurd p
-row_same s columns row fields (Err (refusal.MissingColumn m)) (Err (refusal.UnknownColumn z)) p q = absurd p
-row_same s columns row fields (Err (refusal.MissingColumn m)) (Err (refusal.DoubleColumn z)) p q = absurd p
-row_same s columns row fields (Err (refusal.MissingColumn m)) (Err (refusal.MissingColumn z)) p q = absurd p
-row_same s columns row fields (Err (refusal.MissingColumn m)) (Err refusal.Memory) p q = absurd p
-row_same s columns row fields (Err refusal.Memory) (Ok w) p q = absurd p
-row_same s columns row fields (Err refusal.Memory) (Err (refusal.UnevenRow u)) p q = absurd p
-row_same s columns row fields (Err refusal.Memory) (Err refusal.TooManyRows) p q = absurd p
-row_same s columns row fields (Err refusal.Memory) (Err (refusal.NotInteger u l)) p q = absurd p
-row_same s columns row fields (Err refusal.Memory) (Err refusal.NoHeader) p q = absurd p
-row_same s columns row fields (Err refusal.Memory) (Err (refusal.UnknownColumn z)) p q = absurd p
-row_same s columns row fields (Err refusal.Memory) (Err (refusal.DoubleColumn z)) p q = absurd p
-row_same s columns row fields (Err refusal.Memory) (Err (refusal.MissingColumn z)) p q = absurd p
-row_same s columns row fields (Err refusal.Memory) (Err refusal.Memory) p q = absurd p
 
 not_both : (t : Tuple) (e : RowRefusal) → ◌≡◌ {A = Result Tuple RowRefusal} (Ok t) (Err e) → ⊥
 not_both t e same = cc

@@ -91,7 +91,8 @@ PartOf s text result = TableOf s
 abbrev pub HasScheme : Schema → List ℕ → AttrSet → Type 0
 HasScheme s text scheme =
     (header : List (List ℕ)) × (records : List (List (List ℕ))) × (records_of text ≡ header ∷ records)
-    × (columns : List ℕ) × (columns_of_header (names_of s) header ≡ Ok columns) × Same (places scheme) (with_columns columns)
+    × (columns : List ℕ) × (columns_of_header (names_of s) header ≡ Ok columns)
+    × Same (places scheme) (with_columns columns)
 
 -- the header of a text was read, and the records below it are still to come
 pub record ReadsHeader (s : Schema) (rs : List (List (List ℕ))) (reader : Reader (Bor (List ℕ)))

@@ -14,6 +14,7 @@ use Rattle.desk_cli.specs.Drawings.{DrawsTables, DrawsSchemes}
 use Rattle.desk_cli.specs.Forms.{form_of, form_over_schema, after_sql, after_sql_migrate, after_draw, normal_form, schema_alone, schema_and, schema_and_two}
 use Rattle.desk_cli.specs.Inputs.{WithSchema, IsSchemaFile}
 use Rattle.desk_cli.specs.Joins.{WithoutLoss, IsTooLarge}
+use Rattle.desk_cli.specs.NormalForms.{form_word}
 use Rattle.desk_cli.specs.Performs.{Answers, Performs, Does}
 use Rattle.desk_cli.specs.Plans.{WithPlan, IsPlanFile}
 use Rattle.desk_cli.specs.Readings.{told}
@@ -49,34 +50,22 @@ sql_check_answered files name table schema file is answer answered =
     (sql_check_asks files name table answer answered)
 
 -- ---- `sql migrate`
-pub sql_migrate_answered : (files : Files) (words : List (List ℕ)) (name table : List ℕ) (form : Form)
-    → ((answer : Answer) → Answers (told files) words answer
-    → WithSchema (told files) name (λ r. WithTableName table (WithPlanInForm r form (MakesTables r table))) answer)
+sql_migrate_asks : (form : Form) (files : Files) (name table : List ℕ) (answer : Answer)
+    → Answers (told files) (codes "sql" ∷ codes "migrate" ∷ form_word form ∷ name ∷ table ∷ []) answer
+    → WithSchema (told files) name (λ r. WithTableName table (WithPlanInForm r form (MakesTables r table))) answer
+unfolding form_of form_over_schema after_sql after_sql_migrate normal_form schema_and Performs Does
+sql_migrate_asks Third files name table answer answered = answered
+sql_migrate_asks Bcnf files name table answer answered = answered
+sql_migrate_asks Fourth files name table answer answered = answered
+
+pub sql_migrate_answered : (form : Form) (files : Files) (name table : List ℕ)
     → (schema : Schema) → IsSchemaFile (told files) name schema → IsTrue (is_table_name table) → HasPlanInForm schema form
-    → IsAnswered files words
-sql_migrate_answered files words name table form asks schema file is can answer answered =
+    → IsAnswered files (codes "sql" ∷ codes "migrate" ∷ form_word form ∷ name ∷ table ∷ [])
+sql_migrate_answered form files name table schema file is can answer answered =
     after_schema files name schema (λ r. WithTableName table (WithPlanInForm r form (MakesTables r table))) answer file
     (λ r same more. after_name table (WithPlanInForm r form (MakesTables r table)) answer is
     (λ found. after_form schema r form (MakesTables r table) answer same can (λ plan makes. made r table plan answer makes) found) more)
-    (asks answer answered)
-
-pub sql_third_asks : (files : Files) (name table : List ℕ) (answer : Answer)
-    → Answers (told files) (codes "sql" ∷ codes "migrate" ∷ codes "3nf" ∷ name ∷ table ∷ []) answer
-    → WithSchema (told files) name (λ r. WithTableName table (WithPlanInForm r Third (MakesTables r table))) answer
-unfolding form_of form_over_schema after_sql after_sql_migrate normal_form schema_and Performs Does
-sql_third_asks files name table answer answered = answered
-
-pub sql_bcnf_asks : (files : Files) (name table : List ℕ) (answer : Answer)
-    → Answers (told files) (codes "sql" ∷ codes "migrate" ∷ codes "bcnf" ∷ name ∷ table ∷ []) answer
-    → WithSchema (told files) name (λ r. WithTableName table (WithPlanInForm r Bcnf (MakesTables r table))) answer
-unfolding form_of form_over_schema after_sql after_sql_migrate normal_form schema_and Performs Does
-sql_bcnf_asks files name table answer answered = answered
-
-pub sql_fourth_asks : (files : Files) (name table : List ℕ) (answer : Answer)
-    → Answers (told files) (codes "sql" ∷ codes "migrate" ∷ codes "4nf" ∷ name ∷ table ∷ []) answer
-    → WithSchema (told files) name (λ r. WithTableName table (WithPlanInForm r Fourth (MakesTables r table))) answer
-unfolding form_of form_over_schema after_sql after_sql_migrate normal_form schema_and Performs Does
-sql_fourth_asks files name table answer answered = answered
+    (sql_migrate_asks form files name table answer answered)
 
 sql_plan_asks : (files : Files) (name file table : List ℕ) (answer : Answer)
     → Answers (told files) (codes "sql" ∷ codes "migrate" ∷ codes "plan" ∷ name ∷ file ∷ table ∷ []) answer
@@ -100,34 +89,22 @@ sql_plan_answered files name file table schema plan held_schema held_plan is_nam
     (sql_plan_asks files name file table answer answered)
 
 -- ---- `draw`
-pub draw_answered : (files : Files) (words : List (List ℕ)) (name : List ℕ) (form : Form)
-    → ((answer : Answer) → Answers (told files) words answer
-    → WithSchema (told files) name (λ r. WithPlanInForm r form (DrawsTables r)) answer)
+draw_asks : (form : Form) (files : Files) (name : List ℕ) (answer : Answer)
+    → Answers (told files) (codes "draw" ∷ form_word form ∷ name ∷ []) answer
+    → WithSchema (told files) name (λ r. WithPlanInForm r form (DrawsTables r)) answer
+unfolding form_of form_over_schema after_draw normal_form schema_alone Performs Does
+draw_asks Third files name answer answered = answered
+draw_asks Bcnf files name answer answered = answered
+draw_asks Fourth files name answer answered = answered
+
+pub draw_answered : (form : Form) (files : Files) (name : List ℕ)
     → (schema : Schema) → IsSchemaFile (told files) name schema → HasPlanInForm schema form
-    → IsAnswered files words
-draw_answered files words name form asks schema file can answer answered =
+    → IsAnswered files (codes "draw" ∷ form_word form ∷ name ∷ [])
+draw_answered form files name schema file can answer answered =
     after_schema files name schema (λ r. WithPlanInForm r form (DrawsTables r)) answer file
     (λ r same more. after_form schema r form (DrawsTables r) answer same can
     (λ plan found. drawn r plan answer found) more)
-    (asks answer answered)
-
-pub draw_third_asks : (files : Files) (name : List ℕ) (answer : Answer)
-    → Answers (told files) (codes "draw" ∷ codes "3nf" ∷ name ∷ []) answer
-    → WithSchema (told files) name (λ r. WithPlanInForm r Third (DrawsTables r)) answer
-unfolding form_of form_over_schema after_draw normal_form schema_alone Performs Does
-draw_third_asks files name answer answered = answered
-
-pub draw_bcnf_asks : (files : Files) (name : List ℕ) (answer : Answer)
-    → Answers (told files) (codes "draw" ∷ codes "bcnf" ∷ name ∷ []) answer
-    → WithSchema (told files) name (λ r. WithPlanInForm r Bcnf (DrawsTables r)) answer
-unfolding form_of form_over_schema after_draw normal_form schema_alone Performs Does
-draw_bcnf_asks files name answer answered = answered
-
-pub draw_fourth_asks : (files : Files) (name : List ℕ) (answer : Answer)
-    → Answers (told files) (codes "draw" ∷ codes "4nf" ∷ name ∷ []) answer
-    → WithSchema (told files) name (λ r. WithPlanInForm r Fourth (DrawsTables r)) answer
-unfolding form_of form_over_schema after_draw normal_form schema_alone Performs Does
-draw_fourth_asks files name answer answered = answered
+    (draw_asks form files name answer answered)
 
 draw_plan_asks : (files : Files) (name file : List ℕ) (answer : Answer)
     → Answers (told files) (codes "draw" ∷ codes "plan" ∷ name ∷ file ∷ []) answer

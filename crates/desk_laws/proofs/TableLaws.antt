@@ -35,7 +35,7 @@ use Rattle.desk_cli.specs.Migrations.{GivesTables, MigratesRows, Samples}
 use Rattle.desk_cli.specs.Numbers.{is_count}
 use Rattle.lexer.specs.Bytes.{number_of}
 use Rattle.sample.specs.Sample.{sample_relation}
-use Rattle.desk_cli.specs.NormalForms.{JudgesForm}
+use Rattle.desk_cli.specs.NormalForms.{JudgesForm, form_word}
 use Rattle.desk_cli.specs.Performs.{Answers, Performs, Does}
 use Rattle.desk_cli.specs.Plans.{WithPlan, IsPlanFile}
 use Rattle.desk_cli.specs.Readings.{told}
@@ -128,37 +128,51 @@ small_is_splittable s form few which = record {
 
 -- ---- commands
 -- each asks what `Performs` says of its words, and then what it reads and finds is there
-pub check_answered : (files : Files) (words : List (List ℕ)) (name file : List ℕ) (form : Form)
-    → ((answer : Answer) → Answers (told files) words answer
-    → WithSchema (told files) name (λ r. WithPlan (told files) r file (JudgesForm r form)) answer)
+check_form_asks : (form : Form) (files : Files) (name file : List ℕ) (answer : Answer) → Answers (told files) (codes "check" ∷ codes "form" ∷ form_word form ∷ name ∷ file ∷ []) answer
+    → WithSchema (told files) name (λ r. WithPlan (told files) r file (JudgesForm r form)) answer
+unfolding form_of form_over_schema after_check after_check_form normal_form schema_and Performs Does
+check_form_asks Third files name file answer answered = answered
+check_form_asks Bcnf files name file answer answered = answered
+check_form_asks Fourth files name file answer answered = answered
+
+pub check_answered : (form : Form) (files : Files) (name file : List ℕ)
     → (schema : Schema) (plan : List Places)
     → IsSchemaFile (told files) name schema → IsPlanFile (told files) schema file plan
-    → All (λ scheme. IsWide scheme → ⊥) plan → IsAnswered files words
-check_answered files words name file form asks schema plan held_schema held_plan narrow answer answered =
+    → All (λ scheme. IsWide scheme → ⊥) plan → IsAnswered files (codes "check" ∷ codes "form" ∷ form_word form ∷ name ∷ file ∷ [])
+check_answered form files name file schema plan held_schema held_plan narrow answer answered =
     after_schema files name schema (λ r. WithPlan (told files) r file (JudgesForm r form)) answer held_schema
     (λ r same more. after_plan files schema r file plan (JudgesForm r form) answer same held_plan
     (λ p is found. forms r form p plan answer is narrow found) more)
-    (asks answer answered)
+    (check_form_asks form files name file answer answered)
 
-pub ddl_answered : (files : Files) (words : List (List ℕ)) (name : List ℕ) (form : Form)
-    → ((answer : Answer) → Answers (told files) words answer
-    → WithSchema (told files) name (λ r. WithPlanInForm r form (WritesTables r)) answer)
+ddl_asks : (form : Form) (files : Files) (name : List ℕ) (answer : Answer) → Answers (told files) (codes "ddl" ∷ form_word form ∷ name ∷ []) answer
+    → WithSchema (told files) name (λ r. WithPlanInForm r form (WritesTables r)) answer
+unfolding form_of form_over_schema after_ddl normal_form schema_alone Performs Does
+ddl_asks Third files name answer answered = answered
+ddl_asks Bcnf files name answer answered = answered
+ddl_asks Fourth files name answer answered = answered
+
+pub ddl_answered : (form : Form) (files : Files) (name : List ℕ)
     → (schema : Schema) → IsSchemaFile (told files) name schema → HasPlanInForm schema form
-    → IsAnswered files words
-ddl_answered files words name form asks schema file can answer answered =
+    → IsAnswered files (codes "ddl" ∷ form_word form ∷ name ∷ [])
+ddl_answered form files name schema file can answer answered =
     after_schema files name schema (λ r. WithPlanInForm r form (WritesTables r)) answer file
     (λ r same more. after_form schema r form (WritesTables r) answer same can
     (λ plan found. written r plan answer found) more)
-    (asks answer answered)
+    (ddl_asks form files name answer answered)
 
-pub migrate_answered : (files : Files) (words : List (List ℕ)) (name file : List ℕ) (form : Form)
-    → ((answer : Answer) → Answers (told files) words answer
-    → WithSchema (told files) name (λ r. WithRows (told files) r file
-    (λ rows. WithPlanInForm r form (λ plan. MigratesRows r (schemes_of plan) rows))) answer)
+migrate_asks : (form : Form) (files : Files) (name file : List ℕ) (answer : Answer) → Answers (told files) (codes "migrate" ∷ form_word form ∷ name ∷ file ∷ []) answer
+    → WithSchema (told files) name (λ r. WithRows (told files) r file (λ rows. WithPlanInForm r form (λ plan. MigratesRows r (schemes_of plan) rows))) answer
+unfolding form_of form_over_schema after_migrate normal_form schema_and Performs Does
+migrate_asks Third files name file answer answered = answered
+migrate_asks Bcnf files name file answer answered = answered
+migrate_asks Fourth files name file answer answered = answered
+
+pub migrate_answered : (form : Form) (files : Files) (name file : List ℕ)
     → (schema : Schema) (rows : Relation)
     → IsSchemaFile (told files) name schema → IsRowsFile (told files) schema file rows → HasPlanInForm schema form
-    → IsAnswered files words
-migrate_answered files words name file form asks schema rows held_schema held_rows can answer answered =
+    → IsAnswered files (codes "migrate" ∷ form_word form ∷ name ∷ file ∷ [])
+migrate_answered form files name file schema rows held_schema held_rows can answer answered =
     after_schema files name schema
     (λ r. WithRows (told files) r file (λ x. WithPlanInForm r form (λ plan. MigratesRows r (schemes_of plan) x)))
     answer held_schema
@@ -166,7 +180,7 @@ migrate_answered files words name file form asks schema rows held_schema held_ro
     (λ x. WithPlanInForm r form (λ plan. MigratesRows r (schemes_of plan) x)) answer same held_rows
     (λ x found. after_form schema r form (λ plan. MigratesRows r (schemes_of plan) x) answer same can
     (λ plan gives. given r (schemes_of plan) x answer gives) found) more)
-    (asks answer answered)
+    (migrate_asks form files name file answer answered)
 
 pub split_answered : (files : Files) (words : List (List ℕ)) (name : List ℕ) (form : Form)
     → ((answer : Answer) → Answers (told files) words answer
@@ -179,55 +193,10 @@ split_answered files words name form asks schema file can answer answered =
     (λ plan says. inl (ap (λ (a : Answer). a.status) says)) more)
     (asks answer answered)
 
-pub check_third_asks : (files : Files) (name file : List ℕ) (answer : Answer) → Answers (told files) (codes "check" ∷ codes "form" ∷ codes "3nf" ∷ name ∷ file ∷ []) answer
-    → WithSchema (told files) name (λ r. WithPlan (told files) r file (JudgesForm r Third)) answer
-unfolding form_of form_over_schema after_check after_check_form normal_form schema_and Performs Does
-check_third_asks files name file answer answered = answered
-
-pub ddl_third_asks : (files : Files) (name : List ℕ) (answer : Answer) → Answers (told files) (codes "ddl" ∷ codes "3nf" ∷ name ∷ []) answer
-    → WithSchema (told files) name (λ r. WithPlanInForm r Third (WritesTables r)) answer
-unfolding form_of form_over_schema after_ddl normal_form schema_alone Performs Does
-ddl_third_asks files name answer answered = answered
-
-pub migrate_third_asks : (files : Files) (name file : List ℕ) (answer : Answer) → Answers (told files) (codes "migrate" ∷ codes "3nf" ∷ name ∷ file ∷ []) answer
-    → WithSchema (told files) name (λ r. WithRows (told files) r file (λ rows. WithPlanInForm r Third (λ plan. MigratesRows r (schemes_of plan) rows))) answer
-unfolding form_of form_over_schema after_migrate normal_form schema_and Performs Does
-migrate_third_asks files name file answer answered = answered
-
-pub check_bcnf_asks : (files : Files) (name file : List ℕ) (answer : Answer) → Answers (told files) (codes "check" ∷ codes "form" ∷ codes "bcnf" ∷ name ∷ file ∷ []) answer
-    → WithSchema (told files) name (λ r. WithPlan (told files) r file (JudgesForm r Bcnf)) answer
-unfolding form_of form_over_schema after_check after_check_form normal_form schema_and Performs Does
-check_bcnf_asks files name file answer answered = answered
-
-pub ddl_bcnf_asks : (files : Files) (name : List ℕ) (answer : Answer) → Answers (told files) (codes "ddl" ∷ codes "bcnf" ∷ name ∷ []) answer
-    → WithSchema (told files) name (λ r. WithPlanInForm r Bcnf (WritesTables r)) answer
-unfolding form_of form_over_schema after_ddl normal_form schema_alone Performs Does
-ddl_bcnf_asks files name answer answered = answered
-
-pub migrate_bcnf_asks : (files : Files) (name file : List ℕ) (answer : Answer) → Answers (told files) (codes "migrate" ∷ codes "bcnf" ∷ name ∷ file ∷ []) answer
-    → WithSchema (told files) name (λ r. WithRows (told files) r file (λ rows. WithPlanInForm r Bcnf (λ plan. MigratesRows r (schemes_of plan) rows))) answer
-unfolding form_of form_over_schema after_migrate normal_form schema_and Performs Does
-migrate_bcnf_asks files name file answer answered = answered
-
 pub split_bcnf_asks : (files : Files) (name : List ℕ) (answer : Answer) → Answers (told files) (codes "split" ∷ codes "bcnf" ∷ name ∷ []) answer
     → WithSchema (told files) name (λ r. WithPlanInForm r Bcnf (ShowsPlan r)) answer
 unfolding form_of form_over_schema after_split schema_alone Performs Does
 split_bcnf_asks files name answer answered = answered
-
-pub check_fourth_asks : (files : Files) (name file : List ℕ) (answer : Answer) → Answers (told files) (codes "check" ∷ codes "form" ∷ codes "4nf" ∷ name ∷ file ∷ []) answer
-    → WithSchema (told files) name (λ r. WithPlan (told files) r file (JudgesForm r Fourth)) answer
-unfolding form_of form_over_schema after_check after_check_form normal_form schema_and Performs Does
-check_fourth_asks files name file answer answered = answered
-
-pub ddl_fourth_asks : (files : Files) (name : List ℕ) (answer : Answer) → Answers (told files) (codes "ddl" ∷ codes "4nf" ∷ name ∷ []) answer
-    → WithSchema (told files) name (λ r. WithPlanInForm r Fourth (WritesTables r)) answer
-unfolding form_of form_over_schema after_ddl normal_form schema_alone Performs Does
-ddl_fourth_asks files name answer answered = answered
-
-pub migrate_fourth_asks : (files : Files) (name file : List ℕ) (answer : Answer) → Answers (told files) (codes "migrate" ∷ codes "4nf" ∷ name ∷ file ∷ []) answer
-    → WithSchema (told files) name (λ r. WithRows (told files) r file (λ rows. WithPlanInForm r Fourth (λ plan. MigratesRows r (schemes_of plan) rows))) answer
-unfolding form_of form_over_schema after_migrate normal_form schema_and Performs Does
-migrate_fourth_asks files name file answer answered = answered
 
 pub split_fourth_asks : (files : Files) (name : List ℕ) (answer : Answer) → Answers (told files) (codes "split" ∷ codes "4nf" ∷ name ∷ []) answer
     → WithSchema (told files) name (λ r. WithPlanInForm r Fourth (ShowsPlan r)) answer

@@ -56,7 +56,8 @@ RefusesRows n rows refusal.Memory = ⊥
 -- why the records of a text are no rows under a header
 abbrev pub IsRefusedDiscovery : List (List (List ℕ)) → DiscoverRefusal → Type 0
 IsRefusedDiscovery [] e = e ≡ refusal.NoHeader
-IsRefusedDiscovery (header ∷ rows) e = RefusesColumnHeader header e ⊎ (IsColumnHeader header × RefusesRows (length header) rows e)
+IsRefusedDiscovery (header ∷ rows) e =
+    RefusesColumnHeader header e ⊎ (IsColumnHeader header × RefusesRows (length header) rows e)
 
 -- the header of a text was read, and the records below it are still to come
 pub record ReadsNames (rs : List (List (List ℕ))) (reader : Reader (Bor (List ℕ)))

@@ -33,7 +33,8 @@ LineMeaning =
 abbrev pub LineRefusal : Type 0
 LineRefusal =
     (names : List (List ℕ)) (number : ℕ) (text : List ℕ) (e : SchemaRefusal)
-    → (certificate_line names (rest_from number 1 (lex mode.Numbered text)) ≡ Err e) ↔ RefusesCertificateLine names number text e
+    → (certificate_line names (rest_from number 1 (lex mode.Numbered text)) ≡ Err e)
+    ↔ RefusesCertificateLine names number text e
 
 abbrev pub SpelledIsRead : Type 0
 SpelledIsRead = (s : Schema) (text : List ℕ) (t : Tree) → (read_proof s text ≡ Ok t) ↔ SpellsWithin s text t

@@ -67,8 +67,10 @@ at_line number (Err why) = Err (complaint_at number why)
 unfoldable pub read_certificate_lines : Schema → Bool → ℕ → Ledger → List (List ℕ) → Result Tree LineComplaint
 read_certificate_lines s fresh number book [] = finished_certificate (number - 1) book
 read_certificate_lines s fresh number book (text ∷ texts) =
-    at_line number (read_one s fresh number book text) >>= λ next. read_certificate_lines s next.0 (number + 1) next.1 texts
+    at_line number (read_one s fresh number book text)
+    >>= λ next. read_certificate_lines s next.0 (number + 1) next.1 texts
 
 -- the tree that a certificate spells, or the first complaint
 unfoldable pub read_proof : Schema → List ℕ → Result Tree LineComplaint
-read_proof s text = read_certificate_lines s true 1 (record { lines = []; unused = [] }) (line_texts (without_mark text))
+read_proof s text =
+    read_certificate_lines s true 1 (record { lines = []; unused = [] }) (line_texts (without_mark text))

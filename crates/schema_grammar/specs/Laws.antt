@@ -36,7 +36,8 @@ GoalRefusal =
 -- ---- sets
 abbrev pub SetMeaning : Type 0
 SetMeaning =
-    (declared : List (List ℕ)) (text : List ℕ) (x : Places) → (read_set declared text ≡ Ok x) ↔ MeansSet declared text x
+    (declared : List (List ℕ)) (text : List ℕ) (x : Places)
+    → (read_set declared text ≡ Ok x) ↔ MeansSet declared text x
 
 abbrev pub SetComplaints : Type 0
 SetComplaints = (declared : List (List ℕ)) (text : List ℕ) → FitsSet declared text (read_set declared text)

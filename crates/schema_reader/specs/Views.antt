@@ -11,7 +11,8 @@ use Rattle.schema_reader.specs.declared.stage.Stage.{Stage}
 use Rattle.schema_reader.specs.declared.stage.Stage.TheVariants as stage
 
 abbrev pub drafted : Draft → Declarations
-drafted d = record { names = d.names.items; columns = d.columns.items; deps = dependencies_of d.deps.items; lines = d.lines.items }
+drafted d =
+    record { names = d.names.items; columns = d.columns.items; deps = dependencies_of d.deps.items; lines = d.lines.items }
 
 abbrev pub reached_of : Stage → Reached
 reached_of stage.Start = start

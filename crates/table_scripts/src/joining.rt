@@ -53,7 +53,8 @@ fn side_by_side(
     more: &[TableDesign],
 ) -> Result<Vec<u8>, WantMemory>
     ensures text { IfOk result (λ text. text.items
-        ≡ text_at schema.now table.now left (joined_with (stored_query (stored_of first.now)) (stored_tables more.now))) }
+        ≡ text_at schema.now table.now left
+        (joined_with (stored_query (stored_of first.now)) (stored_tables more.now))) }
 {
     let mut text = quoted(alloc, &first.name)?;
     let mut seen = first.scheme;

@@ -238,6 +238,17 @@ module _ (n : ℕ) (x y z : Places) (t : Tableau) (count : ℕ) (agreeing firsts
   pub group_low : (g j : ℕ) → Contains (get_or groups g []) j → j < count
   group_low g j h = omega (arith, All-contains (λ (k : ℕ). k < length agreeing) (get_or groups g []) j (parts.are.each g) h, parts.agree.one_each, front_length)
 
+  -- what the code reads at a row of the front
+  pub leads_read : (i first : ℕ) → i < count → first ≡ get_or firsts i first → first ≡ i → get_or firsts i 0 ≡ i
+  leads_read i first low read leads = sym (get_or_read firsts i first (omega (arith, low, parts.first.one_each, front_length)) read 0) ∙ leads
+
+  pub group_read : (i g : ℕ) (held group : List ℕ) → i < count → g ≡ get_or agreeing i g → group ≡ held → held ≡ get_or groups g held → group ≡ get_or groups (get_or agreeing i 0) []
+  group_read i g held group low read is held_read =
+      let g_is : g ≡ get_or agreeing i 0 = get_or_read agreeing i g (omega (arith, low, parts.agree.one_each, front_length)) read 0 in
+      is
+      ∙ get_or_read groups g held (omega (arith, low, g_is, parts.agree.first i (omega (arith, low, front_length)), parts.are.one_each, parts.agree.one_each, front_length)) held_read []
+      ∙ ap (λ (j : ℕ). get_or groups j []) g_is
+
   module _ (m : Tableau) (extends : Extends t m) (i : ℕ) (low : i < count) (group : List ℕ) (group_is : group ≡ get_or groups (get_or agreeing i 0) []) where
     in_front : (j : ℕ) → j < count → symbol_row_at m j ≡ symbol_row_at (take count t) j
     in_front j j_low = front_row t m count j extends j_low parts.few

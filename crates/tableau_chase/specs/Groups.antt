@@ -11,7 +11,8 @@ symbol_row_at rows i = slice_index_or rows i []
 pub record AreSymbolLeaders (x : Places) (rows : Tableau) (leaders : List ℕ) : Type 0 where
   pub one_each : length leaders ≡ length rows
   pub first : (i : ℕ) → i < length rows → slice_index leaders i ≤ i
-  pub agree : (i : ℕ) → i < length rows → SymbolsAgree x (symbol_row_at rows (slice_index leaders i)) (symbol_row_at rows i)
+  pub agree : (i : ℕ) → i < length rows
+      → SymbolsAgree x (symbol_row_at rows (slice_index leaders i)) (symbol_row_at rows i)
   pub same : (i j : ℕ) → i < length rows → j < length rows
       → SymbolsAgree x (symbol_row_at rows i) (symbol_row_at rows j) → slice_index leaders i ≡ slice_index leaders j
 

@@ -20,7 +20,8 @@ pub record KeepsRows (t s : Tableau) : Type 0 where
 
 -- the greater of two rows' symbols at an attribute became the smaller, unless they were equal
 abbrev pub IsEquatedAt : ℕ → ℕ → ℕ → Tableau → Tableau → Bool → Type 0
-IsEquatedAt a first second t s false = (s ≡ t) × (symbol_at (symbol_row_at t first) a ≡ symbol_at (symbol_row_at t second) a)
+IsEquatedAt a first second t s false =
+    (s ≡ t) × (symbol_at (symbol_row_at t first) a ≡ symbol_at (symbol_row_at t second) a)
 IsEquatedAt a first second t s true =
     ((symbol_at (symbol_row_at t first) a < symbol_at (symbol_row_at t second) a)
     × (s ≡ replaced a (symbol_at (symbol_row_at t second) a) (symbol_at (symbol_row_at t first) a) t))

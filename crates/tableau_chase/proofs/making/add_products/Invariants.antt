@@ -2,11 +2,12 @@ use Rattle.std.proofs.Common.{take}
 use Rattle.attr_sets.specs.Sets.{places}
 use Rattle.tableau_chase.specs.Pools.{IsPool}
 use Rattle.tableau_chase.specs.Making.{AddsAll}
-use Rattle.tableau_chase.proofs.MakingLemmas.{IsProductOf}
+use Rattle.tableau_chase.proofs.MakingLemmas.{IsProductOf, AreParts}
 use Rattle.tableau_chase.proofs.making.add_products.Given as goal
 
 abbrev pub invariant-loop-i : goal.invariant-loop-i
 invariant-loop-i l = record {
+  parts : AreParts l.width (places l.fn.lhs) (places l.fn.rhs) (places l.both) l.initial.pool.rows.items l.count l.agreeing.items l.firsts.items l.groups.items;
   pool : IsPool l.limit l.pool;
   adds : AddsAll (IsProductOf l.width (places l.both) (take l.count l.initial.pool.rows.items) l.agreeing.items l.firsts.items l.groups.items l.i) l.initial.pool.rows.items l.pool.rows.items;
 }
