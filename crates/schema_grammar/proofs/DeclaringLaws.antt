@@ -1,10 +1,10 @@
 -- A declaring line is read as what it means.
-use Rattle.std.proofs.Common.{◌≡◌, ◌<◌, ◌+◌, ◌-◌, inl, inr, ℕ, Bool, true, false, cond, List, [], ◌∷◌, length, Option, Some, None, Ok, Err, Result, refl, sym, ◌∙◌, ap, arith, ◌==◌}
+use Rattle.std.proofs.Common.{◌≡◌, ◌<◌, ◌+◌, inl, inr, ℕ, suc, Bool, true, false, cond, List, [], ◌∷◌, ◌++◌, length, Option, Some, None, Ok, Err, Result, refl, sym, ◌∙◌, ap, arith, ◌==◌}
 use Rattle.std.specs.Option.{is_some}
-use Rattle.std.specs.Result.{IfOk}
 use Rattle.std.specs.Prelude.{nat_le}
-use Rattle.std.proofs.lemmas.Bool.{leb-false}
+use Rattle.std.proofs.lemmas.Bool.{cases_Bool, leb-false, lt-leb}
 use Rattle.std.proofs.lemmas.Bool.Decides.{nat_tests}
+use Rattle.std.proofs.lemmas.List.{append-nil}
 use Rattle.attr_sets.specs.declared.set.TheConstants.{PLACES}
 use Rattle.dep_model.specs.declared.column.Column.{Column}
 use Rattle.dep_model.specs.declared.schema.TheConstants.{MOST_DEPENDENCIES}
@@ -22,23 +22,12 @@ use Rattle.schema_grammar.specs.Declarations.{Declarations, add_name, add_depend
 use Rattle.schema_grammar.specs.Grammar.{start}
 use Rattle.schema_grammar.specs.Meanings.{HasTokens}
 use Rattle.schema_grammar.specs.Reading.{step, follow}
-use Rattle.schema_grammar.specs.Refusals.{at, and_then, refusal}
+use Rattle.schema_grammar.specs.Refusals.{at, and_then}
 use Rattle.schema_grammar.specs.Schemas.{IsNewName, DeclareNames, IsDeclaring, IsStating, MeansTextLine, MeansLines}
 use Rattle.schema_grammar.specs.Texts.{finish, read_lines}
 use Rattle.schema_grammar.specs.Words.{is_reserved, declares}
-use Rattle.schema_grammar.proofs.GoalLaws.{dependency-law, any_ok, stopped}
-use Rattle.schema_grammar.proofs.RefusalLemmas.{ok_at}
-use Rattle.schema_grammar.proofs.WithinLemmas.{and_then_ok}
-
--- a value after two steps comes from one after the first
-pub record Steps {X Y E : Type 0} (r : Result X E) (next : X → Result Y E) (y : Y) : Type 0 where
-  pub x : X
-  pub first : r ≡ Ok x
-  pub second : next x ≡ Ok y
-
-pub steps : {X Y E : Type 0} (r : Result X E) (next : X → Result Y E) (y : Y) → and_then r next ≡ Ok y → Steps r next y
-steps (Ok x) next y e = record { x = x; first = refl; second = e }
-steps (Err why) next y e = cc
+use Rattle.schema_grammar.proofs.GoalLaws.{dependency-law, stopped}
+use Rattle.schema_grammar.proofs.RefusalLemmas.{steps}
 
 placed : {X : Type 0} (line column size : ℕ) (r : Result X SchemaRefusalKind) (x : X) → at line column size r ≡ Ok x → r ≡ Ok x
 placed line column size (Ok y) x e = let same : y ≡ x = cc in ap Ok same
@@ -48,88 +37,58 @@ unless_ok : {X : Type 0} (b : Bool) (why : SchemaRefusalKind) (r : Result X Sche
 unless_ok true why r x e = cc
 unless_ok false why r x e = (refl, e)
 
-is_none : (o : Option ℕ) → is_some o ≡ false → o ≡ None
-is_none None e = refl
-is_none (Some a) e = cc
-
-leb-refuses : (a b : ℕ) → b < a → nat_le a b ≡ false
-leb-refuses a b h = grind (arith, nat_tests)
-
 declares_name : (f : Format) (column : Column) (d whole : Declarations) (some : Bool) (m : Mark) → name_step f column d some m.kind m.word ≡ Ok whole
     → IsNewName f d m × (whole ≡ add_name d m.word column)
 unfolding declare
-declares_name f column d whole some m e = told m.kind refl e
+declares_name f column d whole some m e = told m.kind refl (place_named d.names m.word) refl e
   where
-    word : m.kind ≡ token.Word → declare f column d m.word ≡ Ok whole → IsNewName f d m × (whole ≡ add_name d m.word column)
-    word is e =
+    told : (k : TokenKind) → m.kind ≡ k → (o : Option ℕ) → place_named d.names m.word ≡ o → name_step f column d some k m.word ≡ Ok whole
+        → IsNewName f d m × (whole ≡ add_name d m.word column)
+    told token.Word is o place e =
         let free = unless_ok (is_reserved f m.word) kind.ReservedName _ whole e in
         let new = unless_ok (is_some (place_named d.names m.word)) kind.DoubleName _ whole free.1 in
         let room = unless_ok (nat_le PLACES (length d.names)) kind.TooManyAttributes (Ok (add_name d m.word column)) whole new.1 in
-        (record { word = is; free = free.0; new = is_none _ new.0; room = leb-false _ _ room.0 }, (let same : Ok whole ≡ Ok (add_name d m.word column) = sym room.1 in cc))
-
-    told : (k : TokenKind) → m.kind ≡ k → name_step f column d some k m.word ≡ Ok whole → IsNewName f d m × (whole ≡ add_name d m.word column)
-    told token.Word is e = word is e
-    told (token.Number n) is e = cc
-    told token.Arrow is e = cc
-    told token.DoubleArrow is e = cc
-    told token.Empty is e = cc
-    told token.Colon is e = cc
+        (record { word = is; free = free.0; new = place ∙ none o (ap is_some (sym place) ∙ new.0); room = leb-false _ _ room.0 }, (let same : Ok whole ≡ Ok (add_name d m.word column) = sym room.1 in cc))
+      where
+        none : (o : Option ℕ) → is_some o ≡ false → o ≡ None
+        none None e = refl
+        none (Some a) e = cc
+    told k is o place e = cc
 
 name_declared : (f : Format) (column : Column) (d : Declarations) (some : Bool) (m : Mark) → IsNewName f d m → name_step f column d some m.kind m.word ≡ Ok (add_name d m.word column)
 unfolding declare
 name_declared f column d some m new =
-    let room = leb-refuses PLACES (length d.names) new.room in rw (new.word, new.free, new.new, room) refl
+    let room = lt-leb PLACES (length d.names) new.room in rw (new.word, new.free, new.new, room) refl
 
 -- names after a declaring word are read exactly where each is a new one
-names_there : (f : Format) (column : Column) (line : ℕ) (d whole : Declarations) (next_column : ℕ) (ms : List Mark)
-    → list_names f column line d true next_column ms None ≡ Ok whole → DeclareNames f column d ms whole
+names_there : (f : Format) (column : Column) (line : ℕ) (d whole : Declarations) (some : Bool) (next_column : ℕ) (ms : List Mark)
+    → list_names f column line d some next_column ms None ≡ Ok whole → (some ≡ false → 0 < length ms) × DeclareNames f column d ms whole
 unfolding list_names
-names_there f column line d whole next_column [] e = cc
-names_there f column line d whole next_column (m ∷ ms) e =
-    let two = steps (at line m.column (length m.word) (name_step f column d true m.kind m.word)) _ whole e in
-    let first = declares_name f column d two.x true m (placed line m.column (length m.word) _ two.x two.first) in
+names_there f column line d whole true next_column [] e = ((λ none. cc), cc)
+names_there f column line d whole false next_column [] e = cc
+names_there f column line d whole some next_column (m ∷ ms) e =
+    let two = steps (at line m.column (length m.word) (name_step f column d some m.kind m.word)) _ whole e in
+    let first = declares_name f column d two.x some m (placed line m.column (length m.word) _ two.x two.first) in
     let rest : list_names f column line (add_name d m.word column) true (m.column + length m.word) ms None ≡ Ok whole
     = ap (λ n. list_names f column line n true (m.column + length m.word) ms None) (sym first.1) ∙ two.second in
-    (first.0, names_there f column line (add_name d m.word column) whole (m.column + length m.word) ms rest)
+    ((λ none. omega arith), (first.0, (names_there f column line (add_name d m.word column) whole true (m.column + length m.word) ms rest).1))
 
-names_back : (f : Format) (column : Column) (line : ℕ) (d whole : Declarations) (next_column : ℕ) (ms : List Mark)
-    → DeclareNames f column d ms whole → list_names f column line d true next_column ms None ≡ Ok whole
+names_back : (f : Format) (column : Column) (line : ℕ) (d whole : Declarations) (some : Bool) (next_column : ℕ) (ms : List Mark)
+    → (some ≡ false → 0 < length ms) → DeclareNames f column d ms whole → list_names f column line d some next_column ms None ≡ Ok whole
 unfolding list_names
-names_back f column line d whole next_column [] e = cc
-names_back f column line d whole next_column (m ∷ ms) (new, rest) =
-    let first = name_declared f column d true m new in
-    rw first (names_back f column line (add_name d m.word column) whole (m.column + length m.word) ms rest)
+names_back f column line d whole true next_column [] has e = cc
+names_back f column line d whole false next_column [] has e = absurd (omega (arith, has refl))
+names_back f column line d whole some next_column (m ∷ ms) has (new, rest) =
+    rw (name_declared f column d some m new)
+    (names_back f column line (add_name d m.word column) whole true (m.column + length m.word) ms (λ none. cc) rest)
 
-first_there : (f : Format) (column : Column) (line : ℕ) (d whole : Declarations) (next_column : ℕ) (ms : List Mark)
-    → list_names f column line d false next_column ms None ≡ Ok whole → (0 < length ms) × DeclareNames f column d ms whole
+names_stopped : (f : Format) (column : Column) (line : ℕ) (d whole : Declarations) (some : Bool) (next_column : ℕ) (ms : List Mark) (stop : Stop)
+    → list_names f column line d some next_column ms (Some stop) ≡ Ok whole → ⊥
 unfolding list_names
-first_there f column line d whole next_column [] e = cc
-first_there f column line d whole next_column (m ∷ ms) e =
-    let two = steps (at line m.column (length m.word) (name_step f column d false m.kind m.word)) _ whole e in
-    let first = declares_name f column d two.x false m (placed line m.column (length m.word) _ two.x two.first) in
-    let rest : list_names f column line (add_name d m.word column) true (m.column + length m.word) ms None ≡ Ok whole
-    = ap (λ n. list_names f column line n true (m.column + length m.word) ms None) (sym first.1) ∙ two.second in
-    (omega arith, (first.0, names_there f column line (add_name d m.word column) whole (m.column + length m.word) ms rest))
-
-first_back : (f : Format) (column : Column) (line : ℕ) (d whole : Declarations) (next_column : ℕ) (ms : List Mark)
-    → 0 < length ms → DeclareNames f column d ms whole → list_names f column line d false next_column ms None ≡ Ok whole
-unfolding list_names
-first_back f column line d whole next_column [] some e = absurd (omega arith)
-first_back f column line d whole next_column (m ∷ ms) some (new, rest) =
-    let first = name_declared f column d false m new in
-    rw first (names_back f column line (add_name d m.word column) whole (m.column + length m.word) ms rest)
-
-names_stopped : (f : Format) (column : Column) (line : ℕ) (d : Declarations) (some : Bool) (next_column : ℕ) (ms : List Mark) (stop : Stop)
-    → IfOk (list_names f column line d some next_column ms (Some stop)) (λ _. ⊥)
-unfolding list_names
-names_stopped f column line d true next_column [] stop = tt
-names_stopped f column line d false next_column [] stop = tt
-names_stopped f column line d true next_column (m ∷ ms) stop =
-    and_then_ok (λ _. Unit {0}) (λ _. ⊥) _ _ (any_ok (at line m.column (length m.word) (name_step f column d true m.kind m.word)))
-    (λ next _. names_stopped f column line next true (m.column + length m.word) ms stop)
-names_stopped f column line d false next_column (m ∷ ms) stop =
-    and_then_ok (λ _. Unit {0}) (λ _. ⊥) _ _ (any_ok (at line m.column (length m.word) (name_step f column d false m.kind m.word)))
-    (λ next _. names_stopped f column line next true (m.column + length m.word) ms stop)
+names_stopped f column line d whole some next_column [] stop e = cc
+names_stopped f column line d whole some next_column (m ∷ ms) stop e =
+    let two = steps (at line m.column (length m.word) (name_step f column d some m.kind m.word)) _ whole e in
+    names_stopped f column line two.x whole true (m.column + length m.word) ms stop two.second
 
 -- the first token of a dependency line, with room for the line
 record Begun (f : Format) (line : ℕ) (d : Declarations) (m : Mark) (ms : List Mark) (stop : Option Stop) (whole : Declarations) : Type 0 where
@@ -161,7 +120,7 @@ unfolding dependency_line begin follow
 dependency_back f line d m ms dep e h =
     let two = steps (at line m.column (length m.word) (step f d.names start m.kind m.word)) _ dep e in
     let first = placed line m.column (length m.word) (step f d.names start m.kind m.word) two.x two.first in
-    let room = leb-refuses MOST_DEPENDENCIES (length d.deps) h in
+    let room = lt-leb MOST_DEPENDENCIES (length d.deps) h in
     let read = two.second in
     rw first (rw room (rw read refl))
 
@@ -179,10 +138,9 @@ line_there f number d line whole e = told (lex mode.Plain line).marks (lex mode.
     declaring : (m : Mark) (ms : List Mark) (column : Column) (stop : Option Stop) → l.marks ≡ m ∷ ms → l.stop ≡ stop → declares f m.kind m.word ≡ Some column
         → list_names f column number d false (m.column + length m.word) ms stop ≡ Ok whole → IsDeclaring f d line whole
     declaring m ms column None marks stop is e =
-        let both = first_there f column number d whole (m.column + length m.word) ms e in
-        record { head = m; words = ms; column = column; tokens = has_tokens l (m ∷ ms) marks stop; declaring = is; some = both.0; names = both.1 }
-    declaring m ms column (Some s) marks stop is e =
-        absurd (ok_at (λ _. ⊥) _ whole e (names_stopped f column number d false (m.column + length m.word) ms s))
+        let both = names_there f column number d whole false (m.column + length m.word) ms e in
+        record { head = m; words = ms; column = column; tokens = has_tokens l (m ∷ ms) marks stop; declaring = is; some = both.0 refl; names = both.1 }
+    declaring m ms column (Some s) marks stop is e = absurd (names_stopped f column number d whole false (m.column + length m.word) ms s e)
 
     stating : (m : Mark) (ms : List Mark) (stop : Option Stop) → l.marks ≡ m ∷ ms → l.stop ≡ stop → declares f m.kind m.word ≡ None
         → Begun f number d m ms stop whole → IsStating f number d line whole
@@ -196,7 +154,7 @@ line_there f number d line whole e = told (lex mode.Plain line).marks (lex mode.
       room = begun.room;
       adds = begun.adds;
     }
-    stating m ms (Some s) marks stop is begun = absurd (ok_at (λ _. ⊥) _ begun.dep begun.read (stopped f d.names number start 1 (m ∷ ms) s))
+    stating m ms (Some s) marks stop is begun = absurd (stopped f d.names number start 1 (m ∷ ms) s begun.dep begun.read)
 
     from : (m : Mark) (ms : List Mark) (stop : Option Stop) (o : Option Column) → l.marks ≡ m ∷ ms → l.stop ≡ stop → declares f m.kind m.word ≡ o
         → line_from f number d m ms stop o ≡ Ok whole → MeansTextLine f number d line whole
@@ -212,36 +170,39 @@ pub line_back : (f : Format) (number : ℕ) (d : Declarations) (line : List ℕ)
 unfolding read_line
 line_back f number d line whole (inl (inl blank)) = rw (blank.tokens, blank.same) refl
 line_back f number d line whole (inl (inr is)) =
-    rw (is.tokens, is.declaring) (first_back f is.column number d whole (is.head.column + length is.head.word) is.words is.some is.names)
+    rw (is.tokens, is.declaring) (names_back f is.column number d whole false (is.head.column + length is.head.word) is.words (λ none. is.some) is.names)
 line_back f number d line whole (inr is) =
     rw (is.tokens, is.stating, is.adds)
     (dependency_back f number d is.head is.others is.dep ((dependency-law f d.names number 1 (is.head ∷ is.others) is.dep).1 is.dependency) is.room)
 
-pub finish_there : (last : ℕ) (d whole : Declarations) → finish last d ≡ Ok whole → (whole ≡ d) × (0 < length d.names)
-unfolding finish
-finish_there last d whole e = told (length d.names == 0) refl e
-  where
-    told : (b : Bool) → (length d.names == 0) ≡ b → cond b (Err (refusal last 1 0 kind.NoAttributes)) (Ok d) ≡ Ok whole → (whole ≡ d) × (0 < length d.names)
-    told true is e = cc
-    told false is e = (cc, grind (arith, nat_tests, is))
-
-finish_back : (last : ℕ) (d : Declarations) → 0 < length d.names → finish last d ≡ Ok d
-unfolding finish
-finish_back last d some = let is : (length d.names == 0) ≡ false = grind (arith, nat_tests) in rw is refl
-
 pub lines_there : (f : Format) (number : ℕ) (d whole : Declarations) (lines : List (List ℕ)) → read_lines f number d lines ≡ Ok whole
     → MeansLines f number d lines whole × (0 < length whole.names)
-unfolding read_lines
-lines_there f number d whole [] e =
-    let both = finish_there (number - 1) d whole e in (both.0, let some : 0 < length d.names = both.1 in rw both.0 some)
+unfolding read_lines finish
+lines_there f number d whole [] e = elim (cases_Bool (length d.names == 0)) [
+  | inl none ↦ let wrong = rw none at e in cc
+  | inr some ↦ let read = rw some at e in let same : whole ≡ d = cc in (same, rw same (grind (arith, nat_tests)))
+]
 lines_there f number d whole (line ∷ lines) e =
     let two = steps (read_line f number d line) (λ next. read_lines f (number + 1) next lines) whole e in
     let more = lines_there f (number + 1) two.x whole lines two.second in
     ((two.x, line_there f number d line two.x two.first, more.0), more.1)
 
+-- lines that mean something are read, and then the lines after them
+pub before_read : (f : Format) (first : ℕ) (d : Declarations) (before rest : List (List ℕ)) (middle : Declarations)
+    → MeansLines f first d before middle
+    → read_lines f first d (before ++ rest) ≡ read_lines f (first + length before) middle rest
+unfolding read_lines
+before_read f first d [] rest middle same =
+    let here : first ≡ first + 0 = omega arith in
+    rw same (ap (λ n. read_lines f n d rest) here)
+before_read f first d (line ∷ before) rest middle (next, here, means) =
+    let same : (first + 1) + length before ≡ first + suc (length before) = omega arith in
+    rw (line_back f first d line next here)
+    (before_read f (first + 1) next before rest middle means ∙ ap (λ n. read_lines f n middle rest) same)
+
 pub lines_back : (f : Format) (number : ℕ) (d whole : Declarations) (lines : List (List ℕ)) → MeansLines f number d lines whole → 0 < length whole.names
     → read_lines f number d lines ≡ Ok whole
-unfolding read_lines
-lines_back f number d whole [] e some = rw (← e) (finish_back (number - 1) whole some)
-lines_back f number d whole (line ∷ lines) (next, first, rest) some =
-    rw (line_back f number d line next first) (lines_back f (number + 1) next whole lines rest some)
+unfolding read_lines finish
+lines_back f number d whole lines means some =
+    let is : (length whole.names == 0) ≡ false = grind (arith, nat_tests) in
+    ap (read_lines f number d) (sym (append-nil lines)) ∙ before_read f number d lines [] whole means ∙ rw is refl

@@ -1,21 +1,19 @@
 -- A goal is read exactly where the grammar has its dependency.
-use Rattle.std.proofs.Common.{◌≡◌, ◌<◌, ◌+◌, inl, inr, ℕ, List, [], ◌∷◌, ◌++◌, length, Option, Some, None, Ok, Err, Result, refl, sym, ◌∙◌, ap, arith}
+use Rattle.std.proofs.Common.{◌≡◌, ◌<◌, ◌+◌, inl, inr, ℕ, Bool, true, false, cond, List, [], ◌∷◌, ◌++◌, length, Option, Some, None, Ok, Err, refl, sym, ◌∙◌, ap, arith}
 use Rattle.std.specs.List.{All}
-use Rattle.std.specs.Result.{IfOk}
 use Rattle.std.proofs.lemmas.List.Elements.{All-cons, All-nil, All-head, All-tail}
-use Rattle.schema_grammar.proofs.RefusalLemmas.{ok_at}
-use Rattle.schema_grammar.proofs.WithinLemmas.{and_then_ok}
+use Rattle.schema_grammar.proofs.RefusalLemmas.{steps}
 use Rattle.std.specs.Prelude.{◌↔◌}
 use Rattle.attr_sets.specs.Places.{Places, only, none, union}
 use Rattle.dep_model.specs.Dependencies.{Dependency}
+use Rattle.dep_model.specs.Schemas.{place_named}
 use Rattle.lexer.specs.declared.token.Mode.TheVariants as mode
 use Rattle.lexer.specs.declared.token.Stop.{Stop}
 use Rattle.lexer.specs.declared.token.TokenKind.{TokenKind}
 use Rattle.lexer.specs.declared.token.TokenKind.TheVariants as token
 use Rattle.lexer.specs.Tokens.{Mark, Lexed, lex}
-use Rattle.schema_grammar.proofs.SideLemmas.{union-only, union-none, named-cons, Names, looked_up-names}
-use Rattle.schema_grammar.specs.declared.refusal.SchemaRefusal.{SchemaRefusal}
-use Rattle.schema_grammar.specs.declared.refusal.SchemaRefusalKind.{SchemaRefusalKind}
+use Rattle.schema_grammar.proofs.SideLemmas.{union-only, union-none, named-cons}
+use Rattle.schema_grammar.specs.declared.refusal.SchemaRefusalKind.TheVariants as kind
 use Rattle.schema_grammar.specs.declared.symbol.Sign.{Sign}
 use Rattle.schema_grammar.specs.declared.symbol.Sign.TheVariants as sign
 use Rattle.schema_grammar.specs.declared.symbol.Symbol.TheVariants as symbol
@@ -25,35 +23,31 @@ use Rattle.schema_grammar.specs.Grammar.{Reached, start, left, left_empty, after
 use Rattle.schema_grammar.specs.Meanings.{HasTokens, named, IsAttribute, IsSide, IsArrow, IsDependency, MeansGoal}
 use Rattle.schema_grammar.specs.Reading.{step, follow, follow_lexed, read_goal}
 use Rattle.schema_grammar.specs.Refusals.{at, and_then, expecting}
-use Rattle.schema_grammar.specs.Words.{looked_up}
-
-names-looked_up : (f : Format) (declared : List (List ℕ)) (word : List ℕ) (a : ℕ) → Names f declared word a → looked_up f declared word ≡ Ok a
-unfolding looked_up
-names-looked_up f declared word a names = rw (names.free, names.place) refl
+use Rattle.schema_grammar.specs.Words.{is_reserved, looked_up, known}
 
 -- after words of the left side: more words, an arrow, the right side
 pub record LeftRest (f : Format) (declared : List (List ℕ)) (x : Places) (ms : List Mark) (d : Dependency) : Type 0 where
-  words : List Mark
-  arrow : Mark
-  rhs : List Mark
-  y : Places
-  sign : Sign
-  whole : ms ≡ words ++ arrow ∷ rhs
-  each : All (IsAttribute f declared) words
-  is_arrow : IsArrow sign arrow.kind
-  right_side : IsSide f declared rhs y
-  states : d ≡ stated sign (union x (named declared words)) y
+  pub words : List Mark
+  pub arrow : Mark
+  pub rhs : List Mark
+  pub y : Places
+  pub sign : Sign
+  pub whole : ms ≡ words ++ arrow ∷ rhs
+  pub each : All (IsAttribute f declared) words
+  pub is_arrow : IsArrow sign arrow.kind
+  pub right_side : IsSide f declared rhs y
+  pub states : d ≡ stated sign (union x (named declared words)) y
 
 -- after a left `()`: an arrow, the right side
 pub record ArrowRest (f : Format) (declared : List (List ℕ)) (ms : List Mark) (d : Dependency) : Type 0 where
-  arrow : Mark
-  rhs : List Mark
-  y : Places
-  sign : Sign
-  whole : ms ≡ arrow ∷ rhs
-  is_arrow : IsArrow sign arrow.kind
-  right_side : IsSide f declared rhs y
-  states : d ≡ stated sign none y
+  pub arrow : Mark
+  pub rhs : List Mark
+  pub y : Places
+  pub sign : Sign
+  pub whole : ms ≡ arrow ∷ rhs
+  pub is_arrow : IsArrow sign arrow.kind
+  pub right_side : IsSide f declared rhs y
+  pub states : d ≡ stated sign none y
 
 -- after the arrow: the right side
 pub record AfterSignRest (f : Format) (declared : List (List ℕ)) (s : Sign) (x : Places) (ms : List Mark) (d : Dependency) : Type 0 where
@@ -63,13 +57,13 @@ pub record AfterSignRest (f : Format) (declared : List (List ℕ)) (s : Sign) (x
 
 -- after words of the right side: more words
 pub record RightRest (f : Format) (declared : List (List ℕ)) (s : Sign) (x y : Places) (ms : List Mark) (d : Dependency) : Type 0 where
-  each : All (IsAttribute f declared) ms
-  states : d ≡ stated s x (union y (named declared ms))
+  pub each : All (IsAttribute f declared) ms
+  pub states : d ≡ stated s x (union y (named declared ms))
 
 -- after a right `()`: nothing
 pub record EndRest (s : Sign) (x : Places) (ms : List Mark) (d : Dependency) : Type 0 where
-  nothing : ms ≡ []
-  states : d ≡ stated s x none
+  pub nothing : ms ≡ []
+  pub states : d ≡ stated s x none
 
 -- what is left of a line makes the dependency, so far as it is read
 abbrev pub Rest : Format → List (List ℕ) → Reached → List Mark → Dependency → Type 0
@@ -80,44 +74,35 @@ Rest f declared (after_sign s x) ms d = AfterSignRest f declared s x ms d
 Rest f declared (right s x y) ms d = RightRest f declared s x y ms d
 Rest f declared (right_empty s x) ms d = EndRest s x ms d
 
-attribute : (f : Format) (declared : List (List ℕ)) (column : ℕ) (word : List ℕ) (a : ℕ) → Names f declared word a
-    → IsAttribute f declared (record { kind = token.Word; column = column; word = word })
-attribute f declared column word a names = record { word = refl; free = names.free; place = a; known = names.place }
-
--- a word that is read names an attribute, by which the reading goes on
-record ReadsWord (f : Format) (declared : List (List ℕ)) (line : ℕ) (r : Reached) (column : ℕ) (word : List ℕ) (ms : List Mark) (d : Dependency) : Type 0 where
-  a : ℕ
-  names : Names f declared word a
-  goes_on : and_then (at line column (length word) (expecting (turn r (symbol.Attribute a)))) (λ next. follow f declared line next (column + length word) ms None) ≡ Ok d
-
-reads_word : (f : Format) (declared : List (List ℕ)) (line : ℕ) (r : Reached) (from column : ℕ) (word : List ℕ) (ms : List Mark) (d : Dependency)
-    → follow f declared line r from (record { kind = token.Word; column = column; word = word } ∷ ms) None ≡ Ok d → ReadsWord f declared line r column word ms d
-unfolding follow step
-reads_word f declared line r from column word ms d e = told (looked_up f declared word) refl e
-  where
-    told : (l : Result ℕ SchemaRefusalKind) → looked_up f declared word ≡ l
-        → and_then (at line column (length word) (and_then (and_then l (λ a. Ok (symbol.Attribute a))) (λ s. expecting (turn r s)))) (λ next. follow f declared line next (column + length word) ms None) ≡ Ok d
-        → ReadsWord f declared line r column word ms d
-    told (Err why) same e = cc
-    told (Ok a) same e = record { a = a; names = looked_up-names f declared word a same; goes_on = e }
-
 abbrev mark : TokenKind → ℕ → List ℕ → Mark
 mark k column word = record { kind = k; column = column; word = word }
 
+-- a word that is read names an attribute, by which the reading goes on
+record ReadsWord (f : Format) (declared : List (List ℕ)) (line : ℕ) (r : Reached) (column : ℕ) (word : List ℕ) (ms : List Mark) (d : Dependency) : Type 0 where
+  is : IsAttribute f declared (mark token.Word column word)
+  goes_on : and_then (at line column (length word) (expecting (turn r (symbol.Attribute is.place)))) (λ next. follow f declared line next (column + length word) ms None) ≡ Ok d
+
+reads_word : (f : Format) (declared : List (List ℕ)) (line : ℕ) (r : Reached) (from column : ℕ) (word : List ℕ) (ms : List Mark) (d : Dependency)
+    → follow f declared line r from (mark token.Word column word ∷ ms) None ≡ Ok d → ReadsWord f declared line r column word ms d
+unfolding follow step looked_up
+reads_word f declared line r from column word ms d e = told (is_reserved f word) (place_named declared word) refl refl e
+  where
+    told : (b : Bool) (o : Option ℕ) → is_reserved f word ≡ b → place_named declared word ≡ o
+        → and_then (at line column (length word) (and_then (and_then (cond b (Err kind.ReservedName) (known o)) (λ a. Ok (symbol.Attribute a))) (λ s. expecting (turn r s))))
+        (λ next. follow f declared line next (column + length word) ms None) ≡ Ok d
+        → ReadsWord f declared line r column word ms d
+    told true o free place e = cc
+    told false None free place e = cc
+    told false (Some a) free place e = record { is = record { word = refl; free = free; place = a; known = place }; goes_on = e }
+
 end_makes : (f : Format) (declared : List (List ℕ)) (line column : ℕ) (r : Reached) (d : Dependency) → at line column 0 (expecting (finished r)) ≡ Ok d → Rest f declared r [] d
 unfolding finished
-end_makes f declared line column start d e = cc
-end_makes f declared line column (left x) d e = cc
-end_makes f declared line column left_empty d e = cc
-end_makes f declared line column (after_sign s x) d e = cc
 end_makes f declared line column (right s x y) d e = record {
   each = All-nil (IsAttribute f declared);
   states = let same : d ≡ stated s x y = cc in same ∙ ap (stated s x) (sym (union-none y (named declared []) refl));
 }
 end_makes f declared line column (right_empty s x) d e = record { nothing = refl; states = cc }
-
-no_value : {X : Type 0} (e : SchemaRefusal) (x : X) → Err e ≡ Ok x → ⊥
-no_value e x h = cc
+end_makes f declared line column r d e = cc
 
 -- what a token and the rest make, from what the rest makes
 token_makes : (f : Format) (declared : List (List ℕ)) (line from : ℕ) (r : Reached) (k : TokenKind) (column : ℕ) (word : List ℕ) (ms : List Mark) (d : Dependency)
@@ -126,7 +111,7 @@ token_makes : (f : Format) (declared : List (List ℕ)) (line from : ℕ) (r : R
 unfolding follow step turn
 token_makes f declared line from start token.Word column word ms d rest e =
     let reads = reads_word f declared line start from column word ms d e in
-    let more : LeftRest f declared (only reads.a) ms d = rest (left (only reads.a)) reads.goes_on in
+    let more : LeftRest f declared (only reads.is.place) ms d = rest (left (only reads.is.place)) reads.goes_on in
     record {
       lhs = mark token.Word column word ∷ more.words;
       arrow = more.arrow;
@@ -135,10 +120,10 @@ token_makes f declared line from start token.Word column word ms d rest e =
       y = more.y;
       sign = more.sign;
       whole = ap (λ t. mark token.Word column word ∷ t) more.whole;
-      left_side = inr (record { some = omega arith; each = All-cons (IsAttribute f declared) _ _ (attribute f declared column word reads.a reads.names) more.each; members = refl });
+      left_side = inr (record { some = omega arith; each = All-cons (IsAttribute f declared) _ _ reads.is more.each; members = refl });
       is_arrow = more.is_arrow;
       right_side = more.right_side;
-      states = more.states ∙ ap (λ z. stated more.sign z more.y) (sym (named-cons declared (mark token.Word column word) more.words reads.a reads.names.place));
+      states = more.states ∙ ap (λ z. stated more.sign z more.y) (sym (named-cons declared (mark token.Word column word) more.words reads.is.place reads.is.known));
     }
 token_makes f declared line from start token.Empty column word ms d rest e =
     let more : ArrowRest f declared ms d = rest left_empty e in
@@ -155,13 +140,9 @@ token_makes f declared line from start token.Empty column word ms d rest e =
       right_side = more.right_side;
       states = more.states;
     }
-token_makes f declared line from start (token.Number n) column word ms d rest e = absurd (no_value _ d e)
-token_makes f declared line from start token.Arrow column word ms d rest e = absurd (no_value _ d e)
-token_makes f declared line from start token.DoubleArrow column word ms d rest e = absurd (no_value _ d e)
-token_makes f declared line from start token.Colon column word ms d rest e = absurd (no_value _ d e)
 token_makes f declared line from (left x) token.Word column word ms d rest e =
     let reads = reads_word f declared line (left x) from column word ms d e in
-    let more : LeftRest f declared (union x (only reads.a)) ms d = rest (left (union x (only reads.a))) reads.goes_on in
+    let more : LeftRest f declared (union x (only reads.is.place)) ms d = rest (left (union x (only reads.is.place))) reads.goes_on in
     record {
       words = mark token.Word column word ∷ more.words;
       arrow = more.arrow;
@@ -169,11 +150,11 @@ token_makes f declared line from (left x) token.Word column word ms d rest e =
       y = more.y;
       sign = more.sign;
       whole = ap (λ t. mark token.Word column word ∷ t) more.whole;
-      each = All-cons (IsAttribute f declared) _ _ (attribute f declared column word reads.a reads.names) more.each;
+      each = All-cons (IsAttribute f declared) _ _ reads.is more.each;
       is_arrow = more.is_arrow;
       right_side = more.right_side;
-      states = more.states ∙ ap (λ z. stated more.sign z more.y) (union-only x (named declared more.words) reads.a
-          ∙ ap (union x) (sym (named-cons declared (mark token.Word column word) more.words reads.a reads.names.place)));
+      states = more.states ∙ ap (λ z. stated more.sign z more.y) (union-only x (named declared more.words) reads.is.place
+          ∙ ap (union x) (sym (named-cons declared (mark token.Word column word) more.words reads.is.place reads.is.known)));
     }
 token_makes f declared line from (left x) token.Arrow column word ms d rest e =
     let more : AfterSignRest f declared sign.Functional x ms d = rest (after_sign sign.Functional x) e in
@@ -203,55 +184,36 @@ token_makes f declared line from (left x) token.DoubleArrow column word ms d res
       right_side = more.right_side;
       states = more.states ∙ ap (λ z. stated sign.Multivalued z more.y) (sym (union-none x (named declared []) refl));
     }
-token_makes f declared line from (left x) token.Empty column word ms d rest e = absurd (no_value _ d e)
-token_makes f declared line from (left x) (token.Number n) column word ms d rest e = absurd (no_value _ d e)
-token_makes f declared line from (left x) token.Colon column word ms d rest e = absurd (no_value _ d e)
 token_makes f declared line from left_empty token.Word column word ms d rest e =
-    let reads = reads_word f declared line left_empty from column word ms d e in absurd (no_value _ d reads.goes_on)
+    let wrong = (reads_word f declared line left_empty from column word ms d e).goes_on in cc
 token_makes f declared line from left_empty token.Arrow column word ms d rest e =
     let more : AfterSignRest f declared sign.Functional none ms d = rest (after_sign sign.Functional none) e in
     record { arrow = mark token.Arrow column word; rhs = ms; y = more.y; sign = sign.Functional; whole = refl; is_arrow = refl; right_side = more.right_side; states = more.states }
 token_makes f declared line from left_empty token.DoubleArrow column word ms d rest e =
     let more : AfterSignRest f declared sign.Multivalued none ms d = rest (after_sign sign.Multivalued none) e in
     record { arrow = mark token.DoubleArrow column word; rhs = ms; y = more.y; sign = sign.Multivalued; whole = refl; is_arrow = refl; right_side = more.right_side; states = more.states }
-token_makes f declared line from left_empty token.Empty column word ms d rest e = absurd (no_value _ d e)
-token_makes f declared line from left_empty (token.Number n) column word ms d rest e = absurd (no_value _ d e)
-token_makes f declared line from left_empty token.Colon column word ms d rest e = absurd (no_value _ d e)
 token_makes f declared line from (after_sign s x) token.Word column word ms d rest e =
     let reads = reads_word f declared line (after_sign s x) from column word ms d e in
-    let more : RightRest f declared s x (only reads.a) ms d = rest (right s x (only reads.a)) reads.goes_on in
+    let more : RightRest f declared s x (only reads.is.place) ms d = rest (right s x (only reads.is.place)) reads.goes_on in
     record {
       y = named declared (mark token.Word column word ∷ ms);
-      right_side = inr (record { some = omega arith; each = All-cons (IsAttribute f declared) _ _ (attribute f declared column word reads.a reads.names) more.each; members = refl });
-      states = more.states ∙ ap (stated s x) (sym (named-cons declared (mark token.Word column word) ms reads.a reads.names.place));
+      right_side = inr (record { some = omega arith; each = All-cons (IsAttribute f declared) _ _ reads.is more.each; members = refl });
+      states = more.states ∙ ap (stated s x) (sym (named-cons declared (mark token.Word column word) ms reads.is.place reads.is.known));
     }
 token_makes f declared line from (after_sign s x) token.Empty column word ms d rest e =
     let more : EndRest s x ms d = rest (right_empty s x) e in
     record { y = none; right_side = inl (record { column = column; bytes = word; alone = ap (λ t. mark token.Empty column word ∷ t) more.nothing; nothing = refl }); states = more.states }
-token_makes f declared line from (after_sign s x) token.Arrow column word ms d rest e = absurd (no_value _ d e)
-token_makes f declared line from (after_sign s x) token.DoubleArrow column word ms d rest e = absurd (no_value _ d e)
-token_makes f declared line from (after_sign s x) (token.Number n) column word ms d rest e = absurd (no_value _ d e)
-token_makes f declared line from (after_sign s x) token.Colon column word ms d rest e = absurd (no_value _ d e)
 token_makes f declared line from (right s x y) token.Word column word ms d rest e =
     let reads = reads_word f declared line (right s x y) from column word ms d e in
-    let more : RightRest f declared s x (union y (only reads.a)) ms d = rest (right s x (union y (only reads.a))) reads.goes_on in
+    let more : RightRest f declared s x (union y (only reads.is.place)) ms d = rest (right s x (union y (only reads.is.place))) reads.goes_on in
     record {
-      each = All-cons (IsAttribute f declared) _ _ (attribute f declared column word reads.a reads.names) more.each;
-      states = more.states ∙ ap (stated s x) (union-only y (named declared ms) reads.a
-          ∙ ap (union y) (sym (named-cons declared (mark token.Word column word) ms reads.a reads.names.place)));
+      each = All-cons (IsAttribute f declared) _ _ reads.is more.each;
+      states = more.states ∙ ap (stated s x) (union-only y (named declared ms) reads.is.place
+          ∙ ap (union y) (sym (named-cons declared (mark token.Word column word) ms reads.is.place reads.is.known)));
     }
-token_makes f declared line from (right s x y) token.Empty column word ms d rest e = absurd (no_value _ d e)
-token_makes f declared line from (right s x y) token.Arrow column word ms d rest e = absurd (no_value _ d e)
-token_makes f declared line from (right s x y) token.DoubleArrow column word ms d rest e = absurd (no_value _ d e)
-token_makes f declared line from (right s x y) (token.Number n) column word ms d rest e = absurd (no_value _ d e)
-token_makes f declared line from (right s x y) token.Colon column word ms d rest e = absurd (no_value _ d e)
 token_makes f declared line from (right_empty s x) token.Word column word ms d rest e =
-    let reads = reads_word f declared line (right_empty s x) from column word ms d e in absurd (no_value _ d reads.goes_on)
-token_makes f declared line from (right_empty s x) token.Empty column word ms d rest e = absurd (no_value _ d e)
-token_makes f declared line from (right_empty s x) token.Arrow column word ms d rest e = absurd (no_value _ d e)
-token_makes f declared line from (right_empty s x) token.DoubleArrow column word ms d rest e = absurd (no_value _ d e)
-token_makes f declared line from (right_empty s x) (token.Number n) column word ms d rest e = absurd (no_value _ d e)
-token_makes f declared line from (right_empty s x) token.Colon column word ms d rest e = absurd (no_value _ d e)
+    let wrong = (reads_word f declared line (right_empty s x) from column word ms d e).goes_on in cc
+token_makes f declared line from r k column word ms d rest e = cc
 
 -- the tokens that are read make the dependency
 pub marks_make : (f : Format) (declared : List (List ℕ)) (line from : ℕ) (r : Reached) (ms : List Mark) (d : Dependency)
@@ -265,10 +227,8 @@ marks_make f declared line from r (m ∷ ms) d e =
 word_read : (f : Format) (declared : List (List ℕ)) (line : ℕ) (r : Reached) (from : ℕ) (m : Mark) (ms : List Mark) (stop : Option Stop) (attribute : IsAttribute f declared m)
     → follow f declared line r from (m ∷ ms) stop
     ≡ and_then (at line m.column (length m.word) (expecting (turn r (symbol.Attribute attribute.place)))) (λ next. follow f declared line next (m.column + length m.word) ms stop)
-unfolding follow step
-word_read f declared line r from m ms stop attribute =
-    let place = names-looked_up f declared m.word attribute.place (record { free = attribute.free; place = attribute.known }) in
-    rw (attribute.word, place) refl
+unfolding follow step looked_up
+word_read f declared line r from m ms stop attribute = rw (attribute.word, attribute.free, attribute.known) refl
 
 right_read : (f : Format) (declared : List (List ℕ)) (line : ℕ) (s : Sign) (x y : Places) (from : ℕ) (ms : List Mark) → All (IsAttribute f declared) ms
     → follow f declared line (right s x y) from ms None ≡ Ok (stated s x (union y (named declared ms)))
@@ -293,24 +253,20 @@ side_read f declared line s x y from (m ∷ ms) (inr words) =
     ∙ right_read f declared line s x (only here.place) (m.column + length m.word) ms there
     ∙ ap (λ z. Ok (stated s x z)) (sym (named-cons declared m ms here.place here.known) ∙ sym words.members)
 
-arrow_read : (f : Format) (declared : List (List ℕ)) (line : ℕ) (s : Sign) (x : Places) (from : ℕ) (m : Mark) (ms : List Mark) → IsArrow s m.kind
-    → follow f declared line (left x) from (m ∷ ms) None ≡ follow f declared line (after_sign s x) (m.column + length m.word) ms None
-unfolding follow step turn
-arrow_read f declared line sign.Functional x from m ms e = rw e refl
-arrow_read f declared line sign.Multivalued x from m ms e = rw e refl
-
-empty_arrow_read : (f : Format) (declared : List (List ℕ)) (line : ℕ) (s : Sign) (from : ℕ) (m : Mark) (ms : List Mark) → IsArrow s m.kind
-    → follow f declared line left_empty from (m ∷ ms) None ≡ follow f declared line (after_sign s none) (m.column + length m.word) ms None
-unfolding follow step turn
-empty_arrow_read f declared line sign.Functional from m ms e = rw e refl
-empty_arrow_read f declared line sign.Multivalued from m ms e = rw e refl
+-- an arrow is read after a left side
+arrow_read : (f : Format) (declared : List (List ℕ)) (line : ℕ) (r : Reached) (s : Sign) (x : Places) (from : ℕ) (m : Mark) (ms : List Mark)
+    → turn r (symbol.Arrow s) ≡ Ok (after_sign s x) → IsArrow s m.kind
+    → follow f declared line r from (m ∷ ms) None ≡ follow f declared line (after_sign s x) (m.column + length m.word) ms None
+unfolding follow step
+arrow_read f declared line r sign.Functional x from m ms turns e = rw (e, turns) refl
+arrow_read f declared line r sign.Multivalued x from m ms turns e = rw (e, turns) refl
 
 left_read : (f : Format) (declared : List (List ℕ)) (line : ℕ) (s : Sign) (x y : Places) (from : ℕ) (words : List Mark) (arrow : Mark) (rhs : List Mark)
     → All (IsAttribute f declared) words → IsArrow s arrow.kind → IsSide f declared rhs y
     → follow f declared line (left x) from (words ++ arrow ∷ rhs) None ≡ Ok (stated s (union x (named declared words)) y)
 unfolding turn
 left_read f declared line s x y from [] arrow rhs each is_arrow side =
-    arrow_read f declared line s x from arrow rhs is_arrow
+    arrow_read f declared line (left x) s x from arrow rhs refl is_arrow
     ∙ side_read f declared line s x y (arrow.column + length arrow.word) rhs side
     ∙ ap (λ z. Ok (stated s z y)) (sym (union-none x (named declared []) refl))
 left_read f declared line s x y from (m ∷ words) arrow rhs each is_arrow side =
@@ -326,7 +282,7 @@ sides_read : (f : Format) (declared : List (List ℕ)) (line : ℕ) (s : Sign) (
 unfolding follow step turn
 sides_read f declared line s x y from lhs arrow rhs (inl empty) is_arrow side =
     rw (empty.alone, empty.nothing)
-    (empty_arrow_read f declared line s (empty.column + length empty.bytes) arrow rhs is_arrow ∙ side_read f declared line s none y (arrow.column + length arrow.word) rhs side)
+    (arrow_read f declared line left_empty s none (empty.column + length empty.bytes) arrow rhs refl is_arrow ∙ side_read f declared line s none y (arrow.column + length arrow.word) rhs side)
 sides_read f declared line s x y from [] arrow rhs (inr words) is_arrow side = let some : 0 < 0 = words.some in absurd (omega arith)
 sides_read f declared line s x y from (m ∷ ms) arrow rhs (inr words) is_arrow side =
     let here : IsAttribute f declared m = All-head (IsAttribute f declared) m ms words.each in
@@ -343,17 +299,13 @@ dependency-law f declared line from ms d = (marks_make f declared line from star
     back : IsDependency f declared ms d → follow f declared line start from ms None ≡ Ok d
     back is = rw (is.whole, is.states) (sides_read f declared line is.sign is.x is.y from is.lhs is.arrow is.rhs is.left_side is.is_arrow is.right_side)
 
-pub any_ok : {X E : Type 0} (r : Result X E) → IfOk r (λ _. Unit {0})
-any_ok (Ok x) = tt
-any_ok (Err e) = tt
-
-pub stopped : (f : Format) (declared : List (List ℕ)) (line : ℕ) (r : Reached) (from : ℕ) (ms : List Mark) (stop : Stop)
-    → IfOk (follow f declared line r from ms (Some stop)) (λ _. ⊥)
+pub stopped : (f : Format) (declared : List (List ℕ)) (line : ℕ) (r : Reached) (from : ℕ) (ms : List Mark) (stop : Stop) (d : Dependency)
+    → follow f declared line r from ms (Some stop) ≡ Ok d → ⊥
 unfolding follow
-stopped f declared line r from [] stop = tt
-stopped f declared line r from (m ∷ ms) stop =
-    and_then_ok (λ _. Unit {0}) (λ _. ⊥) _ _ (any_ok (at line m.column (length m.word) (step f declared r m.kind m.word)))
-    (λ next _. stopped f declared line next (m.column + length m.word) ms stop)
+stopped f declared line r from [] stop d e = cc
+stopped f declared line r from (m ∷ ms) stop d e =
+    let two = steps (at line m.column (length m.word) (step f declared r m.kind m.word)) _ d e in
+    stopped f declared line two.x (m.column + length m.word) ms stop d two.second
 
 -- only a line with a line's end is read
 pub no_stop : (f : Format) (declared : List (List ℕ)) (line : ℕ) (r : Reached) (from : ℕ) (l : Lexed) (d : Dependency)
@@ -363,8 +315,7 @@ no_stop f declared line r from l d e = told l.stop refl
     told : (o : Option Stop) → l.stop ≡ o → HasTokens l l.marks
     told None same = λ i. record { marks = l.marks; stop = same i }
     told (Some stop) same =
-        let here : follow f declared line r from l.marks (Some stop) ≡ Ok d = ap (follow f declared line r from l.marks) (sym same) ∙ e in
-        absurd (ok_at (λ _. ⊥) _ d here (stopped f declared line r from l.marks stop))
+        absurd (stopped f declared line r from l.marks stop d (ap (follow f declared line r from l.marks) (sym same) ∙ e))
 
 pub goal-law : (declared : List (List ℕ)) (text : List ℕ) (d : Dependency) → (read_goal declared text ≡ Ok d) ↔ MeansGoal declared text d
 goal-law declared text d = (there, back)

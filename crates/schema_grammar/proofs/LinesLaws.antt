@@ -1,12 +1,13 @@
 -- Lines of a schema text, one after the other, are read or refused at the first bad one.
-use Rattle.std.proofs.Common.{◌≡◌, ◌<◌, ◌≤◌, ◌+◌, ◌-◌, ◌⊎◌, inl, inr, ℕ, zero, suc, Bool, true, false, cond, List, [], ◌∷◌, ◌++◌, length, Some, None, Ok, Err, Result, refl, sym, ◌∙◌, ap, subst, arith, ◌==◌}
+use Rattle.std.proofs.Common.{◌≡◌, ◌<◌, ◌+◌, ◌-◌, ◌⊎◌, inl, inr, ℕ, zero, suc, List, [], ◌∷◌, ◌++◌, length, Some, None, Ok, Err, Result, refl, sym, ◌∙◌, ap, subst, arith, ◌==◌, ⊎_elim, length-append}
+use Rattle.std.proofs.lemmas.Bool.{cases_Bool}
 use Rattle.std.proofs.lemmas.Bool.Decides.{nat_tests}
 use Rattle.lexer.specs.declared.token.Mode.TheVariants as mode
 use Rattle.lexer.specs.Tokens.{Mark, lex}
 use Rattle.schema_grammar.specs.declared.refusal.SchemaRefusal.{SchemaRefusal}
 use Rattle.schema_grammar.specs.declared.refusal.SchemaRefusalKind.TheVariants as kind
 use Rattle.schema_grammar.specs.declared.format.Format.{Format}
-use Rattle.schema_grammar.specs.Complaints.{TextLineComplaint, FitsTextLine, refusal_number, span_at}
+use Rattle.schema_grammar.specs.Complaints.{TextLineComplaint, FitsTextLine, span_at}
 use Rattle.schema_grammar.specs.Declarations.{Declarations, read_line}
 use Rattle.schema_grammar.specs.Refusals.{and_then, refusal}
 use Rattle.schema_grammar.specs.Schemas.{MeansTextLine, MeansLines, LinesComplaint, IsFirstOfLines, FitsLines}
@@ -27,65 +28,65 @@ span-line line next_column [] (Some s) p = refl
 span-line line next_column (m ∷ ms) stop zero = refl
 span-line line next_column (m ∷ ms) stop (suc p) = span-line line (m.column + length m.word) ms stop p
 
-pub ok_value : (x y : Declarations) (r : Result Declarations SchemaRefusal) → r ≡ Ok x → r ≡ Ok y → x ≡ y
-ok_value x y r e f = cc
-
--- a complaint after a line that is read
-pub complaint_after : (f : Format) (first : ℕ) (d next : Declarations) (line : List ℕ) (lines : List (List ℕ)) (l p n : ℕ) → read_line f first d line ≡ Ok next
-    → FitsTextLine f d first (lex mode.Plain line).marks (lex mode.Plain line).stop (Ok next)
-    → LinesComplaint f first d (line ∷ lines) l p n → LinesComplaint f (first + 1) next lines l p n
-complaint_after f first d next line lines l p n read none complaint = told complaint.before complaint.cut complaint.means complaint.stands_on
+-- a complaint of lines is one of the first line, or of the lines after it
+complaint_parts : (f : Format) (first : ℕ) (d : Declarations) (line : List ℕ) (lines : List (List ℕ)) (l p n : ℕ)
+    → LinesComplaint f first d (line ∷ lines) l p n
+    → ((l ≡ first) × TextLineComplaint f d (lex mode.Plain line).marks (lex mode.Plain line).stop p n)
+    ⊎ ((first < l) × ((next : Declarations) → read_line f first d line ≡ Ok next → LinesComplaint f (first + 1) next lines l p n))
+complaint_parts f first d line lines l p n complaint = told complaint.before complaint.cut complaint.means complaint.stands_on
   where
     told : (before : List (List ℕ)) → line ∷ lines ≡ before ++ complaint.line ∷ complaint.after → MeansLines f first d before complaint.declared
-        → l ≡ first + length before → LinesComplaint f (first + 1) next lines l p n
+        → l ≡ first + length before
+        → ((l ≡ first) × TextLineComplaint f d (lex mode.Plain line).marks (lex mode.Plain line).stop p n)
+        ⊎ ((first < l) × ((next : Declarations) → read_line f first d line ≡ Ok next → LinesComplaint f (first + 1) next lines l p n))
     told [] cut means stands_on =
         let same = cons_parts line complaint.line lines complaint.after cut in
         let of : List ℕ → Type 0 = λ t. TextLineComplaint f complaint.declared (lex mode.Plain t).marks (lex mode.Plain t).stop p n in
         let of_d : Declarations → Type 0 = λ t. TextLineComplaint f t (lex mode.Plain line).marks (lex mode.Plain line).stop p n in
-        absurd (none p n (subst of_d means (subst of (sym same.0) complaint.complaint)))
-    told (one ∷ before) cut (middle, first_means, rest) stands_on =
+        inl ((omega arith), subst of_d means (subst of (sym same.0) complaint.complaint))
+    told (one ∷ before) cut (middle, here, rest) stands_on =
         let same = cons_parts line one lines (before ++ complaint.line ∷ complaint.after) cut in
         let of : List ℕ → Type 0 = λ t. MeansTextLine f first d t middle in
-        let again : read_line f first d line ≡ Ok middle = line_back f first d line middle (subst of (sym same.0) first_means) in
-        let equal : middle ≡ next = ok_value middle next (read_line f first d line) again read in
         let of_d : Declarations → Type 0 = λ t. MeansLines f (first + 1) t before complaint.declared in
-        record {
-          before = before;
-          line = complaint.line;
-          after = complaint.after;
-          declared = complaint.declared;
-          cut = same.1;
-          means = subst of_d equal rest;
-          stands_on = omega arith;
-          complaint = complaint.complaint;
-        }
+        inr (
+          (omega arith),
+          λ next read.
+              let both : Ok middle ≡ Ok next = sym (line_back f first d line middle (subst of (sym same.0) here)) ∙ read in
+              record {
+                before = before;
+                line = complaint.line;
+                after = complaint.after;
+                declared = complaint.declared;
+                cut = same.1;
+                means = subst of_d (let equal : middle ≡ next = cc in equal) rest;
+                stands_on = omega arith;
+                complaint = complaint.complaint;
+              },
+        )
 
-complaint_before : (f : Format) (first : ℕ) (d next : Declarations) (line : List ℕ) (lines : List (List ℕ)) (l p n : ℕ) → read_line f first d line ≡ Ok next
-    → LinesComplaint f (first + 1) next lines l p n → LinesComplaint f first d (line ∷ lines) l p n
-complaint_before f first d next line lines l p n read complaint = record {
-  before = line ∷ complaint.before;
-  line = complaint.line;
-  after = complaint.after;
-  declared = complaint.declared;
-  cut = ap (λ t. line ∷ t) complaint.cut;
-  means = (next, line_there f first d line next read, complaint.means);
-  stands_on = let on = complaint.stands_on in omega arith;
-  complaint = complaint.complaint;
-}
-
-pub node_lines_after : (f : Format) (first : ℕ) (d next : Declarations) (line : List ℕ) (lines : List (List ℕ)) (res : Result Declarations SchemaRefusal) → read_line f first d line ≡ Ok next
+lines_after : (f : Format) (first : ℕ) (d next : Declarations) (line : List ℕ) (lines : List (List ℕ)) (res : Result Declarations SchemaRefusal) → read_line f first d line ≡ Ok next
     → FitsTextLine f d first (lex mode.Plain line).marks (lex mode.Plain line).stop (Ok next)
     → FitsLines f (first + 1) next lines res → FitsLines f first d (line ∷ lines) res
-unfolding complaint_before
-node_lines_after f first d next line lines (Ok whole) read none fits = λ l p n complaint. fits l p n (complaint_after f first d next line lines l p n read none complaint)
-node_lines_after f first d next line lines (Err e) read none (inl found) = inl (record {
+lines_after f first d next line lines (Ok whole) read none fits = λ l p n complaint.
+    ⊎_elim (λ here. none p n here.1) (λ later. fits l p n (later.1 next read)) (complaint_parts f first d line lines l p n complaint)
+lines_after f first d next line lines (Err e) read none (inl found) = inl (record {
   place = found.place;
-  stands = complaint_before f first d next line lines e.span.line found.place (refusal_number e.kind) read found.stands;
+  stands = record {
+    before = line ∷ found.stands.before;
+    line = found.stands.line;
+    after = found.stands.after;
+    declared = found.stands.declared;
+    cut = ap (λ t. line ∷ t) found.stands.cut;
+    means = (next, line_there f first d line next read, found.stands.means);
+    stands_on = let on = found.stands.stands_on in omega arith;
+    complaint = found.stands.complaint;
+  };
   carries = found.carries;
   there = found.there;
-  least = λ l p n complaint. found.least l p n (complaint_after f first d next line lines l p n read none complaint);
+  least = λ l p n complaint.
+      ⊎_elim (λ here. absurd (none p n here.1)) (λ later. found.least l p n (later.1 next read)) (complaint_parts f first d line lines l p n complaint);
 })
-node_lines_after f first d next line lines (Err e) read none (inr empty) = inr (record {
+lines_after f first d next line lines (Err e) read none (inr empty) = inr (record {
   whole = empty.whole;
   means = (next, line_there f first d line next read, empty.means);
   nothing = empty.nothing;
@@ -93,9 +94,9 @@ node_lines_after f first d next line lines (Err e) read none (inr empty) = inr (
 })
 
 -- a line that is refused
-line_here : (f : Format) (first : ℕ) (d : Declarations) (line : List ℕ) (lines : List (List ℕ)) (e : SchemaRefusal) → read_line f first d line ≡ Err e
+line_here : (f : Format) (first : ℕ) (d : Declarations) (line : List ℕ) (lines : List (List ℕ)) (e : SchemaRefusal)
     → FitsTextLine f d first (lex mode.Plain line).marks (lex mode.Plain line).stop (Err e) → IsFirstOfLines f first d (line ∷ lines) e
-line_here f first d line lines e read found =
+line_here f first d line lines e found =
     let on : e.span.line ≡ first = ap (λ s. s.line) found.there ∙ span-line first 1 (lex mode.Plain line).marks (lex mode.Plain line).stop found.place in
     record {
       place = found.place;
@@ -111,40 +112,26 @@ line_here f first d line lines e read found =
       };
       carries = found.carries;
       there = found.there ∙ ap (λ k. span_at k 1 (lex mode.Plain line).marks (lex mode.Plain line).stop found.place) (sym on);
-      least = λ l p n complaint. told on l p n complaint complaint.before complaint.cut complaint.means complaint.stands_on;
+      least = λ l p n complaint.
+          ⊎_elim (λ here. inr (on ∙ sym here.0, found.least p n here.1)) (λ later. inl (omega (arith, on, later.0))) (complaint_parts f first d line lines l p n complaint);
     }
-  where
-    told : e.span.line ≡ first → (l p n : ℕ) (complaint : LinesComplaint f first d (line ∷ lines) l p n) (before : List (List ℕ)) → line ∷ lines ≡ before ++ complaint.line ∷ complaint.after
-        → MeansLines f first d before complaint.declared → l ≡ first + length before
-        → (e.span.line < l) ⊎ ((e.span.line ≡ l) × ((found.place < p) ⊎ ((found.place ≡ p) × (refusal_number e.kind ≤ n))))
-    told on l p n complaint [] cut means stands_on =
-        let same = cons_parts line complaint.line lines complaint.after cut in
-        let of : List ℕ → Type 0 = λ t. TextLineComplaint f complaint.declared (lex mode.Plain t).marks (lex mode.Plain t).stop p n in
-        let of_d : Declarations → Type 0 = λ t. TextLineComplaint f t (lex mode.Plain line).marks (lex mode.Plain line).stop p n in
-        inr ((omega arith), found.least p n (subst of_d means (subst of (sym same.0) complaint.complaint)))
-    told on l p n complaint (one ∷ before) cut means stands_on = inl (omega arith)
-
-pub no_line : (before : List (List ℕ)) (line : List ℕ) (after : List (List ℕ)) → [] ≡ before ++ line ∷ after → ⊥
-no_line [] line after cut = cc
-no_line (one ∷ before) line after cut = cc
-
-finish_fits : (f : Format) (first : ℕ) (d : Declarations) (b : Bool) → (length d.names == 0) ≡ b
-    → FitsLines f first d [] (cond b (Err (refusal (first - 1) 1 0 kind.NoAttributes)) (Ok d))
-finish_fits f first d true e = inr (record {
-  whole = d;
-  means = refl;
-  nothing = grind (arith, nat_tests, e);
-  at_the_end = let last : first - 1 ≡ first + 0 - 1 = omega arith in ap (λ k. refusal k 1 0 kind.NoAttributes) last;
-})
-finish_fits f first d false e = λ l p n complaint. no_line complaint.before complaint.line complaint.after complaint.cut
 
 -- lines are refused by the first complaint, or as declaring nothing, and read where there is neither
 pub lines-law : (f : Format) (first : ℕ) (d : Declarations) (lines : List (List ℕ)) → FitsLines f first d lines (read_lines f first d lines)
 unfolding read_lines finish
-lines-law f first d [] = finish_fits f first d (length d.names == 0) refl
+lines-law f first d [] = elim (cases_Bool (length d.names == 0)) [
+  | inl none ↦ rw none (inr (record {
+    whole = d;
+    means = refl;
+    nothing = grind (arith, nat_tests, none);
+    at_the_end = let last : first - 1 ≡ first + 0 - 1 = omega arith in ap (λ k. refusal k 1 0 kind.NoAttributes) last;
+  }))
+  | inr some ↦ rw some (λ l p n complaint.
+      let size = ap length complaint.cut ∙ length-append complaint.before (complaint.line ∷ complaint.after) in absurd (omega (arith, size)))
+]
 lines-law f first d (line ∷ lines) = told (λ next. lines-law f (first + 1) next lines) (read_line f first d line) refl (line-law f first d line)
   where
     told : ((next : Declarations) → FitsLines f (first + 1) next lines (read_lines f (first + 1) next lines)) → (o : Result Declarations SchemaRefusal) → read_line f first d line ≡ o → FitsTextLine f d first (lex mode.Plain line).marks (lex mode.Plain line).stop o
         → FitsLines f first d (line ∷ lines) (and_then o (λ next. read_lines f (first + 1) next lines))
-    told rest (Ok next) read fits = node_lines_after f first d next line lines (read_lines f (first + 1) next lines) read fits (rest next)
-    told rest (Err e) read fits = inl (line_here f first d line lines e read fits)
+    told rest (Ok next) read fits = lines_after f first d next line lines (read_lines f (first + 1) next lines) read fits (rest next)
+    told rest (Err e) read fits = inl (line_here f first d line lines e fits)

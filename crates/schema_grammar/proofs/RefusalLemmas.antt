@@ -1,39 +1,17 @@
 -- How a clause on what is read or refused carries over from a part to the whole.
-use Rattle.std.proofs.Common.{◌≡◌, ◌∙◌, ℕ, Result, Ok, Err, sym, subst}
+use Rattle.std.proofs.Common.{◌≡◌, ◌∙◌, ℕ, Result, Ok, Err, refl, sym, subst}
 use Rattle.std.specs.Result.{IfOk, IfErr, OnOk}
 use Rattle.schema_grammar.specs.declared.refusal.SchemaRefusal.{SchemaRefusal}
 use Rattle.schema_grammar.specs.declared.refusal.SchemaRefusalKind.{SchemaRefusalKind}
 use Rattle.schema_grammar.specs.declared.refusal.SchemaRefusalKind.TheVariants as kind
-use Rattle.schema_grammar.specs.Refusals.{refusal, Refuses, RefusesAs}
-
-pub RefusesAs-from : (k : SchemaRefusalKind) (P : Type 0) → P → RefusesAs k P
-RefusesAs-from kind.StrangeByte P h = h
-RefusesAs-from kind.BadName P h = h
-RefusesAs-from kind.ReservedName P h = h
-RefusesAs-from kind.DoubleName P h = h
-RefusesAs-from kind.UnknownName P h = h
-RefusesAs-from (kind.Expected what) P h = h
-RefusesAs-from kind.TooManyAttributes P h = h
-RefusesAs-from kind.TooManyDependencies P h = h
-RefusesAs-from kind.NoAttributes P h = h
-RefusesAs-from kind.UnknownVersion P h = h
-RefusesAs-from kind.Memory P h = tt
+use Rattle.schema_grammar.specs.Refusals.{refusal, Refuses, RefusesAs, and_then}
 
 pub RefusesAs-map : (k : SchemaRefusalKind) (P Q : Type 0) → (P → Q) → RefusesAs k P → RefusesAs k Q
-RefusesAs-map kind.StrangeByte P Q f h = f h
-RefusesAs-map kind.BadName P Q f h = f h
-RefusesAs-map kind.ReservedName P Q f h = f h
-RefusesAs-map kind.DoubleName P Q f h = f h
-RefusesAs-map kind.UnknownName P Q f h = f h
-RefusesAs-map (kind.Expected what) P Q f h = f h
-RefusesAs-map kind.TooManyAttributes P Q f h = f h
-RefusesAs-map kind.TooManyDependencies P Q f h = f h
-RefusesAs-map kind.NoAttributes P Q f h = f h
-RefusesAs-map kind.UnknownVersion P Q f h = f h
 RefusesAs-map kind.Memory P Q f h = tt
+RefusesAs-map k P Q f h = f h
 
 pub Refuses-from : {X : Type 0} (e : SchemaRefusal) (reading : Result X SchemaRefusal) → reading ≡ Err e → Refuses e reading
-Refuses-from e reading h = RefusesAs-from e.kind (reading ≡ Err e) h
+Refuses-from e reading h = elim (e.kind) as (λ k. RefusesAs k (reading ≡ Err e)) [ kind.Memory ↦ tt | _ ↦ h ]
 
 -- the error of a part is that of the whole
 pub Refuses-whole : {X Y : Type 0} (e : SchemaRefusal) (part : Result X SchemaRefusal) (whole : Result Y SchemaRefusal)
@@ -73,6 +51,21 @@ refuses_whole (Err why) part whole e h = Refuses-whole why part whole (λ same. 
 
 pub ok_at : {X E : Type 0} (P : X → Type 0) (r : Result X E) (x : X) → r ≡ Ok x → IfOk r P → P x
 ok_at {X} {E} P r x e h = let at : Result X E → Type 0 = λ s. IfOk s P in subst at e h
+
+-- what holds of each value that comes, holds where one comes
+pub when_ok : {X E : Type 0} (P : X → Type 0) (r : Result X E) → ((x : X) → r ≡ Ok x → P x) → IfOk r P
+when_ok P (Ok x) f = f x refl
+when_ok P (Err e) f = tt
+
+-- a value after two steps comes from one after the first
+pub record Steps {X Y E : Type 0} (r : Result X E) (next : X → Result Y E) (y : Y) : Type 0 where
+  pub x : X
+  pub first : r ≡ Ok x
+  pub second : next x ≡ Ok y
+
+pub steps : {X Y E : Type 0} (r : Result X E) (next : X → Result Y E) (y : Y) → and_then r next ≡ Ok y → Steps r next y
+steps (Ok x) next y e = record { x = x; first = refl; second = e }
+steps (Err why) next y e = cc
 
 pub on_ok_whole : {X Y E : Type 0} (r : Result X E) (y : Y) (part whole : Result Y SchemaRefusal) → whole ≡ part
     → OnOk r (part ≡ Ok y) → OnOk r (whole ≡ Ok y)

@@ -1,216 +1,193 @@
 -- A schema text is read exactly where it means the schema.
-use Rattle.std.proofs.Common.{◌≡◌, ◌<◌, ◌+◌, ◌-◌, ◌⊎◌, inl, inr, ℕ, suc, Bool, true, false, cond, List, [], ◌∷◌, ◌++◌, length, Option, Some, None, Ok, Err, refl, sym, ◌∙◌, ap, subst, arith, ◌==◌}
+use Rattle.std.proofs.Common.{◌≡◌, ◌<◌, ◌+◌, ◌⊎◌, inl, inr, ℕ, suc, false, List, [], ◌∷◌, ◌++◌, length, Option, Some, None, Ok, refl, sym, ◌∙◌, ap, arith, ◌==◌}
 use Rattle.std.specs.List.{All}
 use Rattle.std.specs.Prelude.{◌↔◌}
-use Rattle.std.proofs.lemmas.Bool.{eqb-true}
+use Rattle.std.proofs.lemmas.Bool.{cases_Bool, eqb-true}
 use Rattle.std.proofs.lemmas.List.Elements.{All-cons, All-nil, All-head, All-tail}
 use Rattle.lexer.specs.declared.token.Mode.TheVariants as mode
 use Rattle.lexer.specs.declared.token.Stop.{Stop}
 use Rattle.lexer.specs.declared.token.TokenKind.{TokenKind}
 use Rattle.lexer.specs.declared.token.TokenKind.TheVariants as token
 use Rattle.lexer.specs.Lines.{line_texts, without_mark}
-use Rattle.lexer.specs.Tokens.{Mark, Lexed, lex}
-use Rattle.schema_grammar.specs.declared.refusal.SchemaRefusalKind.TheVariants as kind
+use Rattle.lexer.specs.Tokens.{Mark, lex}
 use Rattle.schema_grammar.specs.declared.format.TheConstants.{VERSION}
-use Rattle.schema_grammar.specs.declared.format.Format.{Format}
 use Rattle.schema_grammar.specs.declared.format.Format.TheVariants as format
 use Rattle.schema_grammar.specs.Declarations.{Declarations, no_declaration}
 use Rattle.schema_grammar.specs.Meanings.{HasTokens}
-use Rattle.schema_grammar.specs.Refusals.{refusal}
-use Rattle.schema_grammar.specs.Schemas.{MeansTextLine, MeansLines, has_version_line, begins_version, IsPlainText, IsVersionLine, IsTypedText, MeansSchema}
+use Rattle.schema_grammar.specs.Schemas.{MeansLines, has_version_line, begins_version, HasVersionLine, IsPlainText, IsVersionLine, IsTypedText, MeansSchema}
 use Rattle.schema_grammar.specs.Texts.{read_lines, read_version, read_typed, read_opening, read_text, is_version, opened, end_version, version_number, number_in}
 use Rattle.schema_grammar.proofs.BlankLemmas.{blank_plain}
-use Rattle.schema_grammar.proofs.DeclaringLaws.{steps, has_tokens, finish_there, lines_there, lines_back}
+use Rattle.schema_grammar.proofs.DeclaringLaws.{has_tokens, line_back, lines_there, lines_back}
+use Rattle.schema_grammar.proofs.RefusalLemmas.{steps}
 
--- after the word `version` stands the number 2, and nothing more
-pub record Numbers (ms : List Mark) (stop : Option Stop) (d : Declarations) : Type 0 where
-  pub number : Mark
-  pub only : ms ≡ number ∷ []
-  pub ends : stop ≡ None
-  pub is_number : number.kind ≡ token.Number VERSION
-  pub nothing : d ≡ no_declaration
+abbrev pub IsBlankLine : List ℕ → Type 0
+IsBlankLine line = HasTokens (lex mode.Numbered line) []
 
-pub version_there : (line next_column : ℕ) (ms : List Mark) (stop : Option Stop) (d : Declarations) → read_version line next_column ms stop ≡ Ok d → Numbers ms stop d
+-- a version line is read where it is the word `version` and the number 2
+pub version_there : (lines : List (List ℕ)) (text : HasVersionLine lines) (line : ℕ) (d : Declarations)
+    → read_version line (text.head.column + length text.head.word) text.others (lex mode.Numbered text.version).stop ≡ Ok d
+    → IsVersionLine text.version × (d ≡ no_declaration)
 unfolding read_version
-version_there line next_column [] None d e = cc
-version_there line next_column [] (Some s) d e = cc
-version_there line next_column (m ∷ ms) stop d e = told m.kind refl e
+version_there lines text line d e = told text.others (lex mode.Numbered text.version).stop refl refl e
   where
-    ends : (others : List Mark) (o : Option Stop) → ms ≡ others → stop ≡ o → m.kind ≡ token.Number VERSION → end_version line others o ≡ Ok d → Numbers (m ∷ ms) stop d
-    ends [] None none same is e = record { number = m; only = ap (λ t. m ∷ t) none; ends = same; is_number = is; nothing = cc }
-    ends [] (Some s) none same is e = cc
-    ends (k ∷ ks) o none same is e = cc
+    ends : (m : Mark) (ms : List Mark) (stop : Option Stop) → text.others ≡ m ∷ ms → (lex mode.Numbered text.version).stop ≡ stop
+        → m.kind ≡ token.Number VERSION → end_version line ms stop ≡ Ok d → IsVersionLine text.version × (d ≡ no_declaration)
+    ends m [] None others stop is e = (
+      record {
+        head = text.head;
+        number = m;
+        tokens = has_tokens (lex mode.Numbered text.version) _ (text.starts ∙ ap (λ t. text.head ∷ t) others) stop;
+        is_word = text.is_word;
+        is_number = is;
+      },
+      cc,
+    )
+    ends m [] (Some s) others stop is e = cc
+    ends m (k ∷ ks) stop others same is e = cc
 
-    two : (b : Bool) (n : ℕ) → (n == VERSION) ≡ b → m.kind ≡ token.Number n
-        → cond b (end_version line ms stop) (Err (refusal line m.column (length m.word) kind.UnknownVersion)) ≡ Ok d → Numbers (m ∷ ms) stop d
-    two true n equal is e = let same : n ≡ VERSION = eqb-true n VERSION equal in ends ms stop refl refl (is ∙ ap token.Number same) e
-    two false n equal is e = cc
+    numbered : (k : TokenKind) (m : Mark) (ms : List Mark) (stop : Option Stop) → m.kind ≡ k → text.others ≡ m ∷ ms → (lex mode.Numbered text.version).stop ≡ stop
+        → version_number line m ms stop (number_in k) ≡ Ok d → IsVersionLine text.version × (d ≡ no_declaration)
+    numbered (token.Number n) m ms stop is others same e = elim (cases_Bool (n == VERSION)) [
+      | inl two ↦ ends m ms stop others same (is ∙ ap token.Number (eqb-true n VERSION two)) (rw two at e)
+      | inr other ↦ let wrong = rw other at e in cc
+    ]
+    numbered k m ms stop is others same e = cc
 
-    told : (k : TokenKind) → m.kind ≡ k → version_number line m ms stop (number_in k) ≡ Ok d → Numbers (m ∷ ms) stop d
-    told (token.Number n) is e = two (n == VERSION) n refl is e
-    told token.Word is e = cc
-    told token.Arrow is e = cc
-    told token.DoubleArrow is e = cc
-    told token.Empty is e = cc
-    told token.Colon is e = cc
+    told : (ms : List Mark) (stop : Option Stop) → text.others ≡ ms → (lex mode.Numbered text.version).stop ≡ stop
+        → read_version line (text.head.column + length text.head.word) ms stop ≡ Ok d → IsVersionLine text.version × (d ≡ no_declaration)
+    told [] None others stop e = cc
+    told [] (Some s) others stop e = cc
+    told (m ∷ ms) stop others same e = numbered m.kind m ms stop refl others same e
 
--- what the lines from one on mean, before which none has a token
-record TypedFrom (number : ℕ) (lines : List (List ℕ)) (whole : Declarations) : Type 0 where
-  before : List (List ℕ)
-  version : List ℕ
-  later : List (List ℕ)
-  cut : lines ≡ before ++ version ∷ later
-  blank : All (λ line. HasTokens (lex mode.Numbered line) []) before
-  versioned : IsVersionLine version
-  declared : MeansLines format.Typed (length before + number + 1) no_declaration later whole
-
-record PlainFrom (number : ℕ) (lines : List (List ℕ)) (whole : Declarations) : Type 0 where
-  no_version : has_version_line lines ≡ false
-  declared : MeansLines format.Plain number no_declaration lines whole
-
-abbrev TextFrom : ℕ → List (List ℕ) → Declarations → Type 0
-TextFrom number lines whole = PlainFrom number lines whole ⊎ TypedFrom number lines whole
-
-blank_before : (number : ℕ) (line : List ℕ) (lines : List (List ℕ)) (whole : Declarations) → HasTokens (lex mode.Numbered line) []
-    → TextFrom (number + 1) lines whole → TextFrom number (line ∷ lines) whole
+-- a text has a version line, or none
+pub opening : (lines : List (List ℕ)) → (has_version_line lines ≡ false) ⊎ HasVersionLine lines
 unfolding has_version_line
-blank_before number line lines whole blank (inl plain) = inl (record {
-  no_version = rw blank plain.no_version;
-  declared = (no_declaration, inl (inl (record { tokens = blank_plain line blank; same = refl })), plain.declared);
-})
-blank_before number line lines whole blank (inr typed) = inr (record {
-  before = line ∷ typed.before;
-  version = typed.version;
-  later = typed.later;
-  cut = ap (λ t. line ∷ t) typed.cut;
-  blank = All-cons (λ line. HasTokens (lex mode.Numbered line) []) line typed.before blank typed.blank;
-  versioned = typed.versioned;
-  declared = let same : length typed.before + (number + 1) + 1 ≡ suc (length typed.before) + number + 1 = omega arith in
-      let of : ℕ → Type 0 = λ n. MeansLines format.Typed n no_declaration typed.later whole in subst of same typed.declared;
-})
-
-text_there : (number : ℕ) (lines : List (List ℕ)) (whole : Declarations) → read_opening number lines ≡ Ok whole
-    → TextFrom number lines whole × (0 < length whole.names)
-unfolding read_opening has_version_line
-text_there number [] whole e =
-    let both = finish_there (number - 1) no_declaration whole e in
-    (inl (record { no_version = refl; declared = both.0 }), let some : 0 < 0 = both.1 in absurd (omega arith))
-text_there number (line ∷ lines) whole e = told (text_there (number + 1) lines whole) (lex mode.Numbered line).marks (lex mode.Numbered line).stop refl refl e
+opening [] = inl refl
+opening (line ∷ lines) = told (lex mode.Numbered line).marks (lex mode.Numbered line).stop refl refl (opening lines)
   where
-    l : Lexed
-    l = lex mode.Numbered line
+    told : (ms : List Mark) (stop : Option Stop) → (lex mode.Numbered line).marks ≡ ms → (lex mode.Numbered line).stop ≡ stop
+        → (has_version_line lines ≡ false) ⊎ HasVersionLine lines
+        → (begins_version ms stop (has_version_line lines) ≡ false) ⊎ HasVersionLine (line ∷ lines)
+    told [] None marks stop (inl none) = inl none
+    told [] None marks stop (inr text) = inr (record {
+      before = line ∷ text.before;
+      version = text.version;
+      later = text.later;
+      cut = ap (λ t. line ∷ t) text.cut;
+      blank = All-cons IsBlankLine line text.before (has_tokens (lex mode.Numbered line) [] marks stop) text.blank;
+      head = text.head;
+      others = text.others;
+      starts = text.starts;
+      is_word = text.is_word;
+    })
+    told [] (Some s) marks stop later = inl refl
+    told (m ∷ ms) stop marks same later = elim (cases_Bool (is_version m.kind m.word)) [
+      | inl is ↦ inr (record {
+        before = [];
+        version = line;
+        later = lines;
+        cut = refl;
+        blank = All-nil IsBlankLine;
+        head = m;
+        others = ms;
+        starts = marks;
+        is_word = is;
+      })
+      | inr other ↦ inl other
+    ]
 
-    plain : has_version_line (line ∷ lines) ≡ false → read_lines format.Plain number no_declaration (line ∷ lines) ≡ Ok whole
-        → TextFrom number (line ∷ lines) whole × (0 < length whole.names)
-    plain none_yet e = let both = lines_there format.Plain number no_declaration whole (line ∷ lines) e in (inl (record { no_version = none_yet; declared = both.0 }), both.1)
-
-    typed : (m : Mark) (ms : List Mark) (stop : Option Stop) → l.marks ≡ m ∷ ms → l.stop ≡ stop → is_version m.kind m.word ≡ true
-        → read_typed number lines (m.column + length m.word) (record { marks = ms; stop = stop }) ≡ Ok whole → TextFrom number (line ∷ lines) whole × (0 < length whole.names)
-    typed m ms stop marks same is e =
-        let two = steps (read_version number (m.column + length m.word) ms stop) (λ d. read_lines format.Typed (number + 1) d lines) whole e in
-        let numbers = version_there number (m.column + length m.word) ms stop two.x two.first in
-        let more = lines_there format.Typed (number + 1) no_declaration whole lines (ap (λ d. read_lines format.Typed (number + 1) d lines) (sym numbers.nothing) ∙ two.second) in (
-          inr (record {
-            before = [];
-            version = line;
-            later = lines;
-            cut = refl;
-            blank = All-nil (λ line. HasTokens (lex mode.Numbered line) []);
-            versioned = record { head = m; number = numbers.number; tokens = has_tokens l _ (marks ∙ ap (λ t. m ∷ t) numbers.only) (same ∙ numbers.ends); is_word = is; is_number = numbers.is_number };
-            declared = let same : number + 1 ≡ 0 + number + 1 = omega arith in let of : ℕ → Type 0 = λ n. MeansLines format.Typed n no_declaration lines whole in subst of same more.0;
-          }),
-          more.1,
-        )
-
-    first : (b : Bool) (m : Mark) (ms : List Mark) (stop : Option Stop) → l.marks ≡ m ∷ ms → l.stop ≡ stop → is_version m.kind m.word ≡ b
-        → cond b (read_typed number lines (m.column + length m.word) (record { marks = ms; stop = stop })) (read_lines format.Plain number no_declaration (line ∷ lines)) ≡ Ok whole
-        → TextFrom number (line ∷ lines) whole × (0 < length whole.names)
-    first true m ms stop marks same is e = typed m ms stop marks same is e
-    first false m ms stop marks same is e = plain (ap (λ t. begins_version t l.stop (has_version_line lines)) marks ∙ is) e
-
-    told : (read_opening (number + 1) lines ≡ Ok whole → TextFrom (number + 1) lines whole × (0 < length whole.names))
-        → (ms : List Mark) (stop : Option Stop) → l.marks ≡ ms → l.stop ≡ stop → opened number line lines (read_opening (number + 1) lines) ms stop ≡ Ok whole
-        → TextFrom number (line ∷ lines) whole × (0 < length whole.names)
-    told later [] None marks stop e =
-        let both = later e in (blank_before number line lines whole (has_tokens l [] marks stop) both.0, both.1)
-    told later [] (Some s) marks stop e = plain (ap (λ t. begins_version t l.stop (has_version_line lines)) marks ∙ ap (λ o. begins_version [] o (has_version_line lines)) stop) e
-    told later (m ∷ ms) stop marks same e = first (is_version m.kind m.word) m ms stop marks same refl e
-
--- a blank line declares nothing
-blank_means : (f : Format) (number : ℕ) (d : Declarations) (line : List ℕ) (next : Declarations) → HasTokens (lex mode.Plain line) [] → MeansTextLine f number d line next → next ≡ d
-blank_means f number d line next blank (inl (inl is)) = is.same
-blank_means f number d line next blank (inl (inr is)) = let wrong : is.head ∷ is.words ≡ [] = ap (λ l. l.marks) (sym is.tokens ∙ blank) in cc
-blank_means f number d line next blank (inr is) = let wrong : is.head ∷ is.others ≡ [] = ap (λ l. l.marks) (sym is.tokens ∙ blank) in cc
-
-plain_back : (number : ℕ) (lines : List (List ℕ)) (whole : Declarations) → 0 < length whole.names → has_version_line lines ≡ false
-    → MeansLines format.Plain number no_declaration lines whole → read_opening number lines ≡ Ok whole
-unfolding read_opening has_version_line
-plain_back number [] whole some none_yet means = let of : Declarations → Type 0 = λ d. 0 < length d.names in let empty : 0 < 0 = subst of means some in absurd (omega arith)
-plain_back number (line ∷ lines) whole some none_yet means = told (plain_back (number + 1) lines whole some) (lex mode.Numbered line).marks (lex mode.Numbered line).stop refl refl none_yet
+-- without a version line all lines are read alike
+pub plain_opening : (number : ℕ) (lines : List (List ℕ)) → has_version_line lines ≡ false
+    → read_opening number lines ≡ read_lines format.Plain number no_declaration lines
+unfolding read_opening has_version_line read_lines
+plain_opening number [] none = refl
+plain_opening number (line ∷ lines) none =
+    told (lex mode.Numbered line).marks (lex mode.Numbered line).stop refl refl none (plain_opening (number + 1) lines)
   where
-    l : Lexed
-    l = lex mode.Numbered line
+    told : (ms : List Mark) (stop : Option Stop) → (lex mode.Numbered line).marks ≡ ms → (lex mode.Numbered line).stop ≡ stop
+        → begins_version ms stop (has_version_line lines) ≡ false
+        → (has_version_line lines ≡ false → read_opening (number + 1) lines ≡ read_lines format.Plain (number + 1) no_declaration lines)
+        → opened number line lines (read_opening (number + 1) lines) ms stop ≡ read_lines format.Plain number no_declaration (line ∷ lines)
+    told [] None marks stop none later =
+        let blank = blank_plain line (has_tokens (lex mode.Numbered line) [] marks stop) in
+        rw (line_back format.Plain number no_declaration line no_declaration (inl (inl (record { tokens = blank; same = refl })))) (later none)
+    told [] (Some s) marks stop none later = refl
+    told (m ∷ ms) stop marks same none later = rw none refl
 
-    whole_read : read_lines format.Plain number no_declaration (line ∷ lines) ≡ Ok whole
-    whole_read = lines_back format.Plain number no_declaration whole (line ∷ lines) means some
-
-    told : (has_version_line lines ≡ false → MeansLines format.Plain (number + 1) no_declaration lines whole → read_opening (number + 1) lines ≡ Ok whole)
-        → (ms : List Mark) (stop : Option Stop) → l.marks ≡ ms → l.stop ≡ stop → begins_version ms stop (has_version_line lines) ≡ false
-        → opened number line lines (read_opening (number + 1) lines) ms stop ≡ Ok whole
-    told later [] None marks stop none_yet =
-        let blank : HasTokens (lex mode.Plain line) [] = blank_plain line (has_tokens l [] marks stop) in
-        let nothing : means.0 ≡ no_declaration = blank_means format.Plain number no_declaration line means.0 blank means.1 in
-        let of : Declarations → Type 0 = λ d. MeansLines format.Plain (number + 1) d lines whole in
-        later none_yet (subst of nothing means.2)
-    told later [] (Some s) marks stop none_yet = whole_read
-    told later (m ∷ ms) stop marks same none_yet = rw none_yet whole_read
-
-version_back : (number : ℕ) (line : List ℕ) (lines : List (List ℕ)) (whole : Declarations) → 0 < length whole.names → IsVersionLine line
-    → MeansLines format.Typed (number + 1) no_declaration lines whole → read_opening number (line ∷ lines) ≡ Ok whole
-unfolding read_opening read_version
-version_back number line lines whole some is means =
-    rw (is.tokens, is.is_word, is.is_number) (lines_back format.Typed (number + 1) no_declaration whole lines means some)
-
-typed_back : (number : ℕ) (before : List (List ℕ)) (version : List ℕ) (later : List (List ℕ)) (whole : Declarations) → 0 < length whole.names
-    → All (λ line. HasTokens (lex mode.Numbered line) []) before → IsVersionLine version
-    → MeansLines format.Typed (length before + number + 1) no_declaration later whole → read_opening number (before ++ version ∷ later) ≡ Ok whole
+-- lines without a token are passed over
+blank_skipped : (number : ℕ) (before rest : List (List ℕ)) → All IsBlankLine before
+    → read_opening number (before ++ rest) ≡ read_opening (length before + number) rest
 unfolding read_opening
-typed_back number [] version later whole some blank is means =
-    let same : 0 + number + 1 ≡ number + 1 = omega arith in let of : ℕ → Type 0 = λ n. MeansLines format.Typed n no_declaration later whole in
-    version_back number version later whole some is (subst of same means)
-typed_back number (line ∷ before) version later whole some blank is means =
-    let here : HasTokens (lex mode.Numbered line) [] = All-head (λ line. HasTokens (lex mode.Numbered line) []) line before blank in
-    let there : All (λ line. HasTokens (lex mode.Numbered line) []) before = All-tail (λ line. HasTokens (lex mode.Numbered line) []) line before blank in
-    let same : suc (length before) + number + 1 ≡ length before + (number + 1) + 1 = omega arith in let of : ℕ → Type 0 = λ n. MeansLines format.Typed n no_declaration later whole in
-    rw here (typed_back (number + 1) before version later whole some there is (subst of same means))
+blank_skipped number [] rest blank = let same : number ≡ 0 + number = omega arith in ap (λ n. read_opening n rest) same
+blank_skipped number (line ∷ before) rest blank =
+    let same : length before + (number + 1) ≡ suc (length before) + number = omega arith in
+    rw (All-head IsBlankLine line before blank)
+    (blank_skipped (number + 1) before rest (All-tail IsBlankLine line before blank) ∙ ap (λ n. read_opening n rest) same)
+
+-- a text with a version line is read from there on
+pub typed_opening : (number : ℕ) (lines : List (List ℕ)) (text : HasVersionLine lines) → read_opening number lines
+    ≡ read_typed (length text.before + number) text.later (text.head.column + length text.head.word)
+    (record { marks = text.others; stop = (lex mode.Numbered text.version).stop })
+unfolding read_opening
+typed_opening number lines text =
+    ap (read_opening number) text.cut ∙ blank_skipped number text.before (text.version ∷ text.later) text.blank
+    ∙ rw (text.starts, text.is_word) refl
+
+pub version_opening : (number : ℕ) (lines before : List (List ℕ)) (version : List ℕ) (later : List (List ℕ)) → lines ≡ before ++ version ∷ later
+    → All IsBlankLine before → IsVersionLine version
+    → read_opening number lines ≡ read_lines format.Typed (length before + number + 1) no_declaration later
+unfolding read_opening read_version
+version_opening number lines before version later cut blank is =
+    ap (read_opening number) cut ∙ blank_skipped number before (version ∷ later) blank ∙ rw (is.tokens, is.is_word, is.is_number) refl
+
+-- what the lines from one on mean
+abbrev pub MeansFrom : ℕ → List (List ℕ) → Declarations → Type 0
+MeansFrom number lines whole =
+    ((has_version_line lines ≡ false) × MeansLines format.Plain number no_declaration lines whole)
+    ⊎ ((text : HasVersionLine lines) × IsVersionLine text.version
+    × MeansLines format.Typed (length text.before + number + 1) no_declaration text.later whole)
+
+pub opening_means : (number : ℕ) (lines : List (List ℕ)) (whole : Declarations) → read_opening number lines ≡ Ok whole
+    → MeansFrom number lines whole × (0 < length whole.names)
+opening_means number lines whole e = told (opening lines)
+  where
+    told : (has_version_line lines ≡ false) ⊎ HasVersionLine lines → MeansFrom number lines whole × (0 < length whole.names)
+    told (inl none) =
+        let both = lines_there format.Plain number no_declaration whole lines (sym (plain_opening number lines none) ∙ e) in (inl (none, both.0), both.1)
+    told (inr text) =
+        let two = steps _ (λ d. read_lines format.Typed (length text.before + number + 1) d text.later) whole (sym (typed_opening number lines text) ∙ e) in
+        let is = version_there lines text (length text.before + number) two.x two.first in
+        let both = lines_there format.Typed (length text.before + number + 1) no_declaration whole text.later
+        (ap (λ d. read_lines format.Typed (length text.before + number + 1) d text.later) (sym is.1) ∙ two.second) in
+        (inr (text, is.0, both.0), both.1)
 
 pub schema-law : (text : List ℕ) (whole : Declarations) → (read_text text ≡ Ok whole) ↔ MeansSchema text whole
 unfolding read_text
-schema-law text whole = (there, back)
+schema-law text whole = (λ e. there (opening_means 1 lines whole e), λ means. back means.some means.lines)
   where
+    lines : List (List ℕ)
+    lines = line_texts (without_mark text)
+
     two : (n : ℕ) → n + 1 + 1 ≡ n + 2
     two n = omega arith
 
-    there : read_text text ≡ Ok whole → MeansSchema text whole
-    there e = let both = text_there 1 (line_texts (without_mark text)) whole e in record { some = both.1; lines = split both.0 }
-      where
-        split : TextFrom 1 (line_texts (without_mark text)) whole → IsPlainText (line_texts (without_mark text)) whole ⊎ IsTypedText (line_texts (without_mark text)) whole
-        split (inl plain) = inl (record { no_version = plain.no_version; declared = plain.declared })
-        split (inr typed) = inr (record {
-          before = typed.before;
-          version = typed.version;
-          later = typed.later;
-          cut = typed.cut;
-          blank = typed.blank;
-          versioned = typed.versioned;
-          declared = let of : ℕ → Type 0 = λ n. MeansLines format.Typed n no_declaration typed.later whole in subst of (two (length typed.before)) typed.declared;
-        })
+    there : MeansFrom 1 lines whole × (0 < length whole.names) → MeansSchema text whole
+    there (inl plain, some) = record { some = some; lines = inl (record { no_version = plain.0; declared = plain.1 }) }
+    there (inr (has, is, declared), some) = record {
+      some = some;
+      lines = inr (record {
+        before = has.before;
+        version = has.version;
+        later = has.later;
+        cut = has.cut;
+        blank = has.blank;
+        versioned = is;
+        declared = rw (two (length has.before)) at declared;
+      });
+    }
 
-    back : MeansSchema text whole → read_text text ≡ Ok whole
-    back means = join means.lines
-      where
-        join : IsPlainText (line_texts (without_mark text)) whole ⊎ IsTypedText (line_texts (without_mark text)) whole → read_text text ≡ Ok whole
-        join (inl plain) = plain_back 1 (line_texts (without_mark text)) whole means.some plain.no_version plain.declared
-        join (inr typed) =
-            let of : ℕ → Type 0 = λ n. MeansLines format.Typed n no_declaration typed.later whole in
-            ap (read_opening 1) typed.cut ∙ typed_back 1 typed.before typed.version typed.later whole means.some typed.blank typed.versioned (subst of (sym (two (length typed.before))) typed.declared)
+    back : 0 < length whole.names → IsPlainText lines whole ⊎ IsTypedText lines whole → read_opening 1 lines ≡ Ok whole
+    back some (inl plain) = plain_opening 1 lines plain.no_version ∙ lines_back format.Plain 1 no_declaration whole lines plain.declared some
+    back some (inr typed) =
+        version_opening 1 lines typed.before typed.version typed.later typed.cut typed.blank typed.versioned
+        ∙ lines_back format.Typed (length typed.before + 1 + 1) no_declaration whole typed.later (rw (← two (length typed.before)) at typed.declared) some

@@ -1,36 +1,22 @@
 -- A schema text is read where nothing is wrong, or refused by its first complaint.
-use Rattle.std.proofs.Common.{◌≡◌, ◌<◌, ◌≤◌, ◌+◌, ◌⊎◌, inl, inr, ℕ, suc, Bool, true, false, cond, List, [], ◌∷◌, length, Option, Some, None, Ok, Err, Result, refl, sym, ◌∙◌, ap, subst, arith, ◌==◌}
-use Rattle.std.proofs.lemmas.List.Elements.{All-cons, All-nil}
+use Rattle.std.proofs.Common.{◌≡◌, ◌<◌, ◌≤◌, ◌+◌, ◌⊎◌, inl, inr, ℕ, Bool, true, false, cond, List, [], ◌∷◌, length, Option, Some, None, Ok, Err, Result, refl, sym, ◌∙◌, ap, subst, arith, ◌==◌}
 use Rattle.lexer.specs.declared.token.Mode.TheVariants as mode
 use Rattle.lexer.specs.declared.token.Stop.{Stop}
 use Rattle.lexer.specs.Lines.{line_texts, without_mark}
-use Rattle.lexer.specs.Tokens.{Mark, Lexed, lex}
+use Rattle.lexer.specs.Tokens.{Mark, lex}
 use Rattle.schema_grammar.specs.declared.refusal.SchemaRefusal.{SchemaRefusal}
 use Rattle.schema_grammar.specs.declared.refusal.SchemaRefusalKind.TheVariants as kind
 use Rattle.schema_grammar.specs.declared.refusal.What.TheVariants as what
 use Rattle.schema_grammar.specs.declared.format.TheConstants.{VERSION}
 use Rattle.schema_grammar.specs.declared.format.Format.TheVariants as format
-use Rattle.schema_grammar.specs.Complaints.{FitsTextLine, refusal_number, flaw_number}
-use Rattle.schema_grammar.specs.Declarations.{Declarations, no_declaration, read_line}
-use Rattle.schema_grammar.specs.Meanings.{HasTokens}
+use Rattle.schema_grammar.specs.Complaints.{refusal_number, flaw_number}
+use Rattle.schema_grammar.specs.Declarations.{Declarations, no_declaration}
 use Rattle.schema_grammar.specs.Refusals.{and_then, refusal, refused_by, kind_of_flaw}
-use Rattle.schema_grammar.specs.Schemas.{FitsLines, RefusesVersion, VersionComplaint, VersionWants, FitsVersion, HasVersionLine, FitsText, FitsSchema, RefusesSchema, IsVersionLine, has_version_line, begins_version}
-use Rattle.schema_grammar.specs.Texts.{read_lines, read_version, read_typed, read_opening, read_text, is_version, opened, end_version, version_number, number_in}
-use Rattle.schema_grammar.proofs.BlankLemmas.{blank_plain}
+use Rattle.schema_grammar.specs.Schemas.{FitsLines, VersionComplaint, VersionWants, FitsVersion, HasVersionLine, FitsText, FitsSchema, RefusesSchema, IsVersionLine, has_version_line}
+use Rattle.schema_grammar.specs.Texts.{read_lines, read_version, read_opening, read_text, end_version, version_number, number_in}
 use Rattle.schema_grammar.proofs.ComplaintLaws.{flaw_numbered, flaw_carries, no_mark, same_mark}
-use Rattle.schema_grammar.proofs.LinesLaws.{line-law, lines-law, node_lines_after}
-use Rattle.schema_grammar.proofs.DeclaringLaws.{has_tokens, line_back}
-use Rattle.schema_grammar.proofs.SchemaLaws.{version_there}
-
--- a text with a version line is refused there, or as its later lines are
-abbrev FitsTyped : ℕ → List (List ℕ) → Result Declarations SchemaRefusal → Type 0
-FitsTyped number lines reading =
-    (text : HasVersionLine lines)
-    × (((e : SchemaRefusal) × (reading ≡ Err e) × RefusesVersion (length text.before + number) (text.head.column + length text.head.word) text.others (lex mode.Numbered text.version).stop e)
-    ⊎ (IsVersionLine text.version × FitsLines format.Typed (length text.before + number + 1) no_declaration text.later reading))
-
-abbrev TextFits : ℕ → List (List ℕ) → Result Declarations SchemaRefusal → Type 0
-TextFits number lines reading = ((has_version_line lines ≡ false) × FitsLines format.Plain number no_declaration lines reading) ⊎ FitsTyped number lines reading
+use Rattle.schema_grammar.proofs.LinesLaws.{lines-law}
+use Rattle.schema_grammar.proofs.SchemaLaws.{version_there, opening, plain_opening, typed_opening}
 
 no_stop : (s : Stop) → None ≡ Some s → ⊥
 no_stop s e = cc
@@ -134,11 +120,12 @@ two_fits line next_column m (k ∷ ks) stop i some two = record { place = 1; sta
     least p n (inl (inr (inr (x, is, place, six)))) = inr (sym place, omega arith)
     least p n (inr (t, is, place, why)) = inl (omega arith)
 
-version_fits : (line next_column : ℕ) (ms : List Mark) (stop : Option Stop) → FitsVersion line next_column ms stop (read_version line next_column ms stop)
+-- a version line is read where nothing is wrong, or refused by its first complaint
+pub version-law : (line next_column : ℕ) (ms : List Mark) (stop : Option Stop) → FitsVersion line next_column ms stop (read_version line next_column ms stop)
 unfolding read_version
-version_fits line next_column [] None = missing_fits line next_column
-version_fits line next_column [] (Some s) = stop_fits line next_column s
-version_fits line next_column (m ∷ ms) stop = told (number_in m.kind) refl
+version-law line next_column [] None = missing_fits line next_column
+version-law line next_column [] (Some s) = stop_fits line next_column s
+version-law line next_column (m ∷ ms) stop = told (number_in m.kind) refl
   where
     two : (i : ℕ) (b : Bool) → number_in m.kind ≡ Some i → (i == VERSION) ≡ b
         → FitsVersion line next_column (m ∷ ms) stop (cond b (end_version line ms stop) (Err (refusal line m.column (length m.word) kind.UnknownVersion)))
@@ -149,126 +136,35 @@ version_fits line next_column (m ∷ ms) stop = told (number_in m.kind) refl
     told None is = word_fits line next_column m ms stop is
     told (Some i) is = two i (i == VERSION) is refl
 
-blank_fits : (number : ℕ) (line : List ℕ) (lines : List (List ℕ)) (reading : Result Declarations SchemaRefusal) → HasTokens (lex mode.Numbered line) []
-    → TextFits (number + 1) lines reading → TextFits number (line ∷ lines) reading
-unfolding has_version_line
-blank_fits number line lines reading blank (inl (none_yet, fits)) =
-    let read : read_line format.Plain number no_declaration line ≡ Ok no_declaration = line_back format.Plain number no_declaration line no_declaration (inl (inl (record { tokens = blank_plain line blank; same = refl }))) in
-    let of : Result Declarations SchemaRefusal → Type 0 = λ o. FitsTextLine format.Plain no_declaration number (lex mode.Plain line).marks (lex mode.Plain line).stop o in
-    inl ((rw blank none_yet), node_lines_after format.Plain number no_declaration no_declaration line lines reading read (subst of read (line-law format.Plain number no_declaration line)) fits)
-blank_fits number line lines reading blank (inr (typed, fits)) = inr (
-  record {
-    before = line ∷ typed.before;
-    version = typed.version;
-    later = typed.later;
-    cut = ap (λ t. line ∷ t) typed.cut;
-    blank = All-cons (λ l. HasTokens (lex mode.Numbered l) []) line typed.before blank typed.blank;
-    head = typed.head;
-    others = typed.others;
-    starts = typed.starts;
-    is_word = typed.is_word;
-  },
-  shift fits,
-)
-  where
-    same : length typed.before + (number + 1) ≡ suc (length typed.before) + number
-    same = omega arith
-
-    shift : ((e : SchemaRefusal) × (reading ≡ Err e) × RefusesVersion (length typed.before + (number + 1)) (typed.head.column + length typed.head.word) typed.others (lex mode.Numbered typed.version).stop e)
-        ⊎ (IsVersionLine typed.version × FitsLines format.Typed (length typed.before + (number + 1) + 1) no_declaration typed.later reading)
-        → ((e : SchemaRefusal) × (reading ≡ Err e) × RefusesVersion (suc (length typed.before) + number) (typed.head.column + length typed.head.word) typed.others (lex mode.Numbered typed.version).stop e)
-        ⊎ (IsVersionLine typed.version × FitsLines format.Typed (suc (length typed.before) + number + 1) no_declaration typed.later reading)
-    shift (inl (e, is, first)) =
-        let of : ℕ → Type 0 = λ n. RefusesVersion n (typed.head.column + length typed.head.word) typed.others (lex mode.Numbered typed.version).stop e in inl (e, is, subst of same first)
-    shift (inr (is, fits)) =
-        let of : ℕ → Type 0 = λ n. FitsLines format.Typed (n + 1) no_declaration typed.later reading in inr (is, subst of same fits)
-
-typed_fits : (number : ℕ) (line : List ℕ) (lines : List (List ℕ)) (m : Mark) (ms : List Mark) (stop : Option Stop) → (lex mode.Numbered line).marks ≡ m ∷ ms → (lex mode.Numbered line).stop ≡ stop
-    → is_version m.kind m.word ≡ true → FitsTyped number (line ∷ lines) (read_typed number lines (m.column + length m.word) (record { marks = ms; stop = stop }))
-typed_fits number line lines m ms stop marks same is =
-    told (read_version number (m.column + length m.word) ms stop) refl (version_fits number (m.column + length m.word) ms stop)
-  where
-    here : 0 + number ≡ number
-    here = omega arith
-
-    first : (reading : Result Declarations SchemaRefusal)
-        → ((e : SchemaRefusal) × (reading ≡ Err e) × RefusesVersion (0 + number) (m.column + length m.word) ms (lex mode.Numbered line).stop e)
-        ⊎ (IsVersionLine line × FitsLines format.Typed (0 + number + 1) no_declaration lines reading)
-        → FitsTyped number (line ∷ lines) reading
-    first reading fits = (
-      record {
-        before = [];
-        version = line;
-        later = lines;
-        cut = refl;
-        blank = All-nil (λ l. HasTokens (lex mode.Numbered l) []);
-        head = m;
-        others = ms;
-        starts = marks;
-        is_word = is;
-      },
-      fits,
-    )
-
-    told : (o : Result Declarations SchemaRefusal) → read_version number (m.column + length m.word) ms stop ≡ o → FitsVersion number (m.column + length m.word) ms stop o
-        → FitsTyped number (line ∷ lines) (and_then o (λ d. read_lines format.Typed (number + 1) d lines))
-    told (Ok d) read fits =
-        let numbers = version_there number (m.column + length m.word) ms stop d read in
-        let of : Declarations → Type 0 = λ x. FitsLines format.Typed (0 + number + 1) no_declaration lines (read_lines format.Typed (number + 1) x lines) in
-        let of_n : ℕ → Type 0 = λ n. FitsLines format.Typed (n + 1) no_declaration lines (read_lines format.Typed (number + 1) no_declaration lines) in
-        first (read_lines format.Typed (number + 1) d lines)
-        (inr (
-          record { head = m; number = numbers.number; tokens = has_tokens (lex mode.Numbered line) _ (marks ∙ ap (λ t. m ∷ t) numbers.only) (same ∙ numbers.ends); is_word = is; is_number = numbers.is_number },
-          subst of (sym numbers.nothing) (subst of_n (sym here) (lines-law format.Typed (number + 1) no_declaration lines)),
-        ))
-    told (Err e) read fits =
-        let of : Option Stop → Type 0 = λ o. FitsVersion (0 + number) (m.column + length m.word) ms o (Err e) in
-        let of_n : ℕ → Type 0 = λ n. FitsVersion n (m.column + length m.word) ms stop (Err e) in
-        first (Err e) (inl (e, refl, subst of (sym same) (subst of_n (sym here) fits)))
-
-text_fits : (number : ℕ) (lines : List (List ℕ)) → TextFits number lines (read_opening number lines)
-unfolding read_opening has_version_line read_lines
-text_fits number [] = inl (refl, lines-law format.Plain number no_declaration [])
-text_fits number (line ∷ lines) = told (text_fits (number + 1) lines) (lex mode.Numbered line).marks (lex mode.Numbered line).stop refl refl
-  where
-    l : Lexed
-    l = lex mode.Numbered line
-
-    plain : has_version_line (line ∷ lines) ≡ false → TextFits number (line ∷ lines) (read_lines format.Plain number no_declaration (line ∷ lines))
-    plain none_yet = inl (none_yet, lines-law format.Plain number no_declaration (line ∷ lines))
-
-    first : (b : Bool) (m : Mark) (ms : List Mark) (stop : Option Stop) → l.marks ≡ m ∷ ms → l.stop ≡ stop → is_version m.kind m.word ≡ b
-        → TextFits number (line ∷ lines) (cond b (read_typed number lines (m.column + length m.word) (record { marks = ms; stop = stop })) (read_lines format.Plain number no_declaration (line ∷ lines)))
-    first true m ms stop marks same is = inr (typed_fits number line lines m ms stop marks same is)
-    first false m ms stop marks same is = plain (ap (λ t. begins_version t l.stop (has_version_line lines)) marks ∙ is)
-
-    told : TextFits (number + 1) lines (read_opening (number + 1) lines) → (ms : List Mark) (stop : Option Stop) → l.marks ≡ ms → l.stop ≡ stop
-        → TextFits number (line ∷ lines) (opened number line lines (read_opening (number + 1) lines) ms stop)
-    told later [] None marks stop = blank_fits number line lines (read_opening (number + 1) lines) (has_tokens l [] marks stop) later
-    told later [] (Some s) marks stop = plain (ap (λ t. begins_version t l.stop (has_version_line lines)) marks ∙ ap (λ o. begins_version [] o (has_version_line lines)) stop)
-    told later (m ∷ ms) stop marks same = first (is_version m.kind m.word) m ms stop marks same refl
-
-abbrev pub refused : SchemaRefusal → Result Declarations SchemaRefusal
-refused e = Err e
-
-fits_text : (number : ℕ) (lines : List (List ℕ)) (reading : Result Declarations SchemaRefusal) → TextFits number lines reading → FitsText number lines reading
-fits_text number lines (Ok whole) (inl plain) = inl plain
-fits_text number lines (Ok whole) (inr (text, inl (e, is, first))) = cc
-fits_text number lines (Ok whole) (inr (text, inr fine)) = inr (text, fine.0, fine.1)
-fits_text number lines (Err e) (inl plain) = inl plain
-fits_text number lines (Err e) (inr (text, inl (why, is, first))) =
-    let of : SchemaRefusal → Type 0 = λ x. RefusesVersion (length text.before + number) (text.head.column + length text.head.word) text.others (lex mode.Numbered text.version).stop x in
-    inr (text, inl (subst of (inside is) first))
-  where
-    inside : refused e ≡ refused why → why ≡ e
-    inside eq = cc
-fits_text number lines (Err e) (inr (text, inr refused)) = inr (text, inr refused)
-
 -- a schema text is refused by its first complaint, or as declaring nothing, and read where there is neither
 pub text-law : (text : List ℕ) → FitsSchema text (read_text text)
 unfolding read_text
-text-law text =
-    fits_text 1 (line_texts (without_mark text)) (read_opening 1 (line_texts (without_mark text))) (text_fits 1 (line_texts (without_mark text)))
+text-law text = fits (opening lines)
+  where
+    lines : List (List ℕ)
+    lines = line_texts (without_mark text)
+
+    plain : has_version_line lines ≡ false → (r : Result Declarations SchemaRefusal) → FitsLines format.Plain 1 no_declaration lines r → FitsText 1 lines r
+    plain none (Ok whole) later = inl (none, later)
+    plain none (Err e) later = inl (none, later)
+
+    typed : (has : HasVersionLine lines) → IsVersionLine has.version → (r : Result Declarations SchemaRefusal)
+        → FitsLines format.Typed (length has.before + 1 + 1) no_declaration has.later r → FitsText 1 lines r
+    typed has is (Ok whole) later = inr (has, is, later)
+    typed has is (Err e) later = inr (has, inr (is, later))
+
+    version : (has : HasVersionLine lines) (o : Result Declarations SchemaRefusal)
+        → read_version (length has.before + 1) (has.head.column + length has.head.word) has.others (lex mode.Numbered has.version).stop ≡ o
+        → FitsVersion (length has.before + 1) (has.head.column + length has.head.word) has.others (lex mode.Numbered has.version).stop o
+        → FitsText 1 lines (and_then o (λ d. read_lines format.Typed (length has.before + 1 + 1) d has.later))
+    version has (Ok d) read fine =
+        let is = version_there lines has (length has.before + 1) d read in
+        rw is.1 (typed has is.0 _ (lines-law format.Typed (length has.before + 1 + 1) no_declaration has.later))
+    version has (Err e) read first = inr (has, inl first)
+
+    fits : (has_version_line lines ≡ false) ⊎ HasVersionLine lines → FitsText 1 lines (read_opening 1 lines)
+    fits (inl none) = rw (plain_opening 1 lines none) (plain none _ (lines-law format.Plain 1 no_declaration lines))
+    fits (inr has) = rw (typed_opening 1 lines has) (version has _ refl (version-law _ _ has.others (lex mode.Numbered has.version).stop))
 
 pub schema_refused : (text : List ℕ) (e : SchemaRefusal) → read_text text ≡ Err e → RefusesSchema text e
 schema_refused text e h = subst (FitsSchema text) h (text-law text)
