@@ -1,5 +1,5 @@
 -- A text is read as a tree exactly where it spells the tree within the limits.
-use Rattle.std.proofs.Common.{◌≡◌, ◌<◌, ◌≤◌, ◌⊎◌, inl, inr, ⊎_elim, ◌+◌, ◌-◌, ℕ, Bool, true, false, List, [], ◌∷◌, ◌++◌, length, get_or, Result, Ok, Err, refl, sym, ◌∙◌, ap, subst, arith, length-append, append_assoc}
+use Rattle.std.proofs.Common.{◌≡◌, ◌≤◌, inl, inr, ⊎_elim, ◌+◌, ◌-◌, ℕ, Bool, true, false, List, [], ◌∷◌, ◌++◌, length, get_or, Result, Ok, Err, refl, sym, ◌∙◌, ap, subst, arith, length-append, append_assoc}
 use Rattle.std.proofs.lemmas.Bool.{cases_lt}
 use Rattle.std.proofs.lemmas.List.{append-nil, length_push, nil_from_length}
 use Rattle.std.proofs.lemmas.Option.{slice_get-get_or}
@@ -15,7 +15,7 @@ use Rattle.proof_grammar.specs.declared.line_kind.LineKind.TheVariants.{Blank, O
 use Rattle.proof_grammar.specs.Books.{Ledger, entered, finished_certificate}
 use Rattle.proof_grammar.specs.Complaints.{Complaint, LineComplaint}
 use Rattle.proof_grammar.specs.Lines.{Line, certificate_line}
-use Rattle.proof_grammar.specs.Meanings.{MeansLine, MeanLines, certificate_lines, certificate_lines_of}
+use Rattle.proof_grammar.specs.Meanings.{MeansLine, MeanLines, certificate_lines}
 use Rattle.proof_grammar.specs.Refusals.{StandsAt, IsRefusedCertificate}
 use Rattle.schema_grammar.specs.Rests.{◌>>=◌, rest_from}
 use Rattle.proof_grammar.specs.Spelling.{AreNodes, SpellsWithin, uses}
@@ -230,8 +230,11 @@ spelled_back s text t spelled =
       once = λ n low. ⊎_elim (λ less. omega (arith, are.used n low less))
           (λ late. omega (arith, late_unused s [] lines trees n are.nodes (omega (arith, late)))) (cases_lt n (length lines));
       few_lines = spelled.few_lines;
-      few_levels = λ k d inside. omega (arith, spelled.few_levels,
-          no_deeper s lines t are k (get_or trees k d) (slice_get-get_or trees k d inside));
+      few_levels = λ k d inside. omega (
+        arith,
+        spelled.few_levels,
+        no_deeper s lines t are k (get_or trees k d) (slice_get-get_or trees k d inside),
+      );
     })
     (λ fresh book afterwards. record {
       before = are.before;

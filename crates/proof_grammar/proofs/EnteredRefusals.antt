@@ -1,5 +1,5 @@
 -- A line is entered by the reader's ledger exactly where nothing is wrong, and refused for its first complaint.
-use Rattle.std.proofs.Common.{◌≡◌, ◌<◌, ◌≤◌, ◌+◌, ◌==◌, ℕ, Bool, true, false, cond, List, [], ◌∷◌, ◌++◌, length, Option, Some, None, Result, Ok, Err, refl, sym, ◌∙◌, ap, subst, arith}
+use Rattle.std.proofs.Common.{◌≡◌, ◌<◌, ◌≤◌, ◌+◌, ◌==◌, ℕ, Bool, true, false, cond, List, length, Some, Result, Ok, Err, refl, sym, ◌∙◌, ap, subst, arith}
 use Rattle.std.specs.Prelude.{nat_lt, nat_le}
 use Rattle.std.proofs.lemmas.Bool.{true≢false}
 use Rattle.std.proofs.lemmas.Bool.Decides.{nat_tests}
@@ -20,7 +20,7 @@ use Rattle.proof_grammar.specs.Lines.{Line}
 use Rattle.proof_grammar.specs.Nodes.{same_dependency}
 use Rattle.schema_grammar.specs.Rests.{◌>>=◌}
 use Rattle.proof_grammar.specs.Spelling.{IsNode, premises_of, uses}
-use Rattle.proof_grammar.specs.Wrongs.{NamesNoLine, UsesTwice, IsTooDeep, Wrong, rank, IsFirstWrong}
+use Rattle.proof_grammar.specs.Wrongs.{NamesNoLine, UsesTwice, IsTooDeep, Wrong, IsFirstWrong}
 use Rattle.proof_grammar.proofs.EnteredLaws.{Follows, IsEntered, used_after, premises_early}
 use Rattle.proof_grammar.proofs.OneTree.{tree_of_line}
 use Rattle.proof_grammar.proofs.PreparedLaws.{IsLineOfAttributes, AllEarlier, AllOnce, tree_earlier, no_names, not_twice}
@@ -70,11 +70,17 @@ settles s lines ts l p number earlier once is =
     stated u d false few_lines few_levels concludes same =
         let gives = is.gives u d concludes in
         let other : l.stated ≡ d → ⊥ = λ e. true≢false (sym (same_self l.stated)
-            ∙ ap (same_dependency l.stated) e ∙ same) in
+        ∙ ap (same_dependency l.stated) e ∙ same) in
         record {
           wrong = (refl, record { tree = u; is = gives.0; proves = gives.1; other = other });
-          first = first_of s lines ts l 8 (omega arith) (number, named, twice, few_lines, flat few_levels,
-              λ why fault. no_fault s ts l l.body u d why gives.0 gives.1 fault);
+          first = first_of s lines ts l 8 (omega arith) (
+            number,
+            named,
+            twice,
+            few_lines,
+            flat few_levels,
+            λ why fault. no_fault s ts l l.body u d why gives.0 gives.1 fault,
+          );
         }
 
     told : (a b : Bool) (r : Result (Tree × Dependency) FaultKind) → nat_le MOST_NODES (length ts) ≡ a
@@ -93,8 +99,14 @@ settles s lines ts l p number earlier once is =
         }
     told false false (Err why) many deep concludes = record {
       wrong = (refl, is.fails why concludes);
-      first = first_of s lines ts l 7 (omega arith) (number, named, twice, grind (arith, nat_tests, many),
-          flat (grind (arith, nat_tests, deep)), tt);
+      first = first_of s lines ts l 7 (omega arith) (
+        number,
+        named,
+        twice,
+        grind (arith, nat_tests, many),
+        flat (grind (arith, nat_tests, deep)),
+        tt,
+      );
     }
     told false false (Ok x) many deep concludes = stated x.0 x.1 (same_dependency l.stated x.1)
         (grind (arith, nat_tests, many)) (grind (arith, nat_tests, deep)) concludes refl
@@ -118,24 +130,27 @@ pushed s at lines ts book l p (Ok o) follows own number once is settles =
     let gives = is.gives t o.conclusion settles.concludes in
     let levels = is.levels t gives.0 in
     let low : (x : Places) → Within x (universe_of s) → OfAttributes x = λ x within k h.
-        let inside : below (width_of s) k ≡ true = within k h in grind (arith, nat_tests, inside, s.valid.few_names) in
+    let inside : below (width_of s) k ≡ true = within k h in grind (arith, nat_tests, inside, s.valid.few_names) in
     let within = conclusion_within s t o.conclusion gives.2 gives.1 in
     let same = same_there l.stated o.conclusion own.left own.right (low (left_of o.conclusion) within.0)
-        (low (right_of o.conclusion) within.1) settles.same in
+    (low (right_of o.conclusion) within.1) settles.same in
     let later : (n : ℕ) → length ts < n → used n ≡ 0 = λ n h.
-        omega (arith, follows.fresh n (omega (arith, h)), premises_early ts l l.body t n gives.0 h) in (
+    omega (arith, follows.fresh n (omega (arith, h)), premises_early ts l l.body t n gives.0 h) in (
       t,
       record {
         node = record { number = number; tree = gives.0; states = subst (Proves s t) (sym same) gives.1 };
         few_lines = settles.few_lines;
         few_levels = omega (arith, settles.few_levels, levels);
         follows = record {
-          slots = slots_push s used 0 ts p.unused t (Some o) is.slots (later (0 + length ts + 1) (omega arith), record {
-            tree = refl;
-            levels = settles.same_levels ∙ levels;
-            proves = gives.1;
-            attributes = gives.2;
-          });
+          slots = slots_push s used 0 ts p.unused t (Some o) is.slots (
+            later (0 + length ts + 1) (omega arith),
+            record {
+              tree = refl;
+              levels = settles.same_levels ∙ levels;
+              proves = gives.1;
+              attributes = gives.2;
+            },
+          );
           fresh = λ n h. later n (omega (arith, h, length_push ts t));
         };
       },
@@ -204,8 +219,12 @@ entered_back s at lines ts book l t follows own node few flat once =
   where
     told : (r : Result Ledger Complaint) → entered s at book l ≡ r → Enters s lines ts l r
         → (next : Ledger) × (entered s at book l ≡ Ok next) × IsEntered s (λ n. uses n lines) ts l next t
-    told (Ok next) e is = (next, e, subst (IsEntered s (λ n. uses n lines) ts l next)
-        (tree_of_line ts l l.body is.0 t is.1.node.tree node.tree) is.1)
+    told (Ok next) e is = (
+      next,
+      e,
+      subst (IsEntered s (λ n. uses n lines) ts l next)
+          (tree_of_line ts l l.body is.0 t is.1.node.tree node.tree) is.1,
+    )
     told (Err c) e first = absurd (nothing_wrong s lines ts l t c node few flat
         (λ n some. once n (tree_earlier ts l l.body t node.tree n some).0) first.wrong)
 

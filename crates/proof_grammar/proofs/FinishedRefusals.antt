@@ -79,20 +79,33 @@ finishes s used (t ∷ ts) os last lines slots fresh =
 pub one_end : (used : ℕ → ℕ) (ts : List Tree) (last : ℕ) (lines : List ℕ) (r q : Result Tree LineComplaint)
     → Finishes used ts last lines r → Finishes used ts last lines q → r ≡ q
 one_end used ts last lines (Ok t) (Ok u) first second =
-    let size : length first.before ≡ length second.before = omega (arith, length_push first.before t,
-        length_push second.before u, ap length first.trees, ap length second.trees) in
+    let size : length first.before ≡ length second.before = omega (
+      arith,
+      length_push first.before t,
+      length_push second.before u,
+      ap length first.trees,
+      ap length second.trees,
+    ) in
     ap Ok (same_Some t u (sym (seam first.before t []) ∙ ap (λ vs. slice_get vs (length first.before)) (sym first.trees)
     ∙ ap (slice_get ts) size ∙ ap (λ vs. slice_get vs (length second.before)) second.trees ∙ seam second.before u []))
 one_end used ts last lines (Ok t) (Err e) done (inl none) =
     absurd (omega (arith, ap length done.trees, length_push done.before t, ap length none.0))
 one_end used ts last lines (Ok t) (Err e) done (inr some) =
-    absurd (omega (arith, some.unused, done.each (some.at + 1) (omega arith)
-    (omega (arith, some.inside, ap length done.trees, length_push done.before t))))
+    absurd (omega (
+      arith,
+      some.unused,
+      done.each (some.at + 1) (omega arith)
+          (omega (arith, some.inside, ap length done.trees, length_push done.before t)),
+    ))
 one_end used ts last lines (Err e) (Ok t) (inl none) done =
     absurd (omega (arith, ap length done.trees, length_push done.before t, ap length none.0))
 one_end used ts last lines (Err e) (Ok t) (inr some) done =
-    absurd (omega (arith, some.unused, done.each (some.at + 1) (omega arith)
-    (omega (arith, some.inside, ap length done.trees, length_push done.before t))))
+    absurd (omega (
+      arith,
+      some.unused,
+      done.each (some.at + 1) (omega arith)
+          (omega (arith, some.inside, ap length done.trees, length_push done.before t)),
+    ))
 one_end used ts last lines (Err e) (Err f) (inl first) (inl second) = ap Err (first.1 ∙ sym second.1)
 one_end used ts last lines (Err e) (Err f) (inl none) (inr some) =
     absurd (omega (arith, ap length none.0, some.inside))
@@ -100,7 +113,7 @@ one_end used ts last lines (Err e) (Err f) (inr some) (inl none) =
     absurd (omega (arith, ap length none.0, some.inside))
 one_end used ts last lines (Err e) (Err f) (inr first) (inr second) =
     let same : first.at ≡ second.at = ⊎_elim (λ same. same)
-        (⊎_elim (λ less. absurd (omega (arith, first.unused, second.earlier (first.at + 1) (omega arith) (omega (arith, less)))))
-        (λ more. absurd (omega (arith, second.unused, first.earlier (second.at + 1) (omega arith) (omega (arith, more))))))
-        (cases_order first.at second.at) in
+    (⊎_elim (λ less. absurd (omega (arith, first.unused, second.earlier (first.at + 1) (omega arith) (omega (arith, less)))))
+    (λ more. absurd (omega (arith, second.unused, first.earlier (second.at + 1) (omega arith) (omega (arith, more))))))
+    (cases_order first.at second.at) in
     ap Err (first.is ∙ ap (λ i. complaint_at (slice_index lines i) never_used) same ∙ sym second.is)

@@ -1,12 +1,12 @@
 -- The premises of a line: each is an earlier line, and used by no other.
-use Rattle.std.proofs.Common.{◌≡◌, ◌<◌, ◌≤◌, ◌⊎◌, inl, inr, ⊎_elim, ◌+◌, ◌==◌, ℕ, Bool, true, false, List, [], ◌∷◌, ◌++◌, length, refl, sym, ap, subst, arith}
+use Rattle.std.proofs.Common.{◌≡◌, ◌<◌, ◌≤◌, ⊎_elim, ◌+◌, ◌==◌, ℕ, Bool, true, false, List, [], ◌∷◌, length, refl, ap, arith}
 use Rattle.std.proofs.lemmas.Bool.{cases_lt}
 use Rattle.std.proofs.lemmas.Bool.Decides.{nat_tests}
 use Rattle.std.proofs.lemmas.Option.{slice_get_within}
 use Rattle.dep_model.specs.Dependencies.{left_of, right_of}
 use Rattle.derivation.specs.Trees.{Tree}
 use Rattle.derivation.proofs.WithinLemmas.{OfAttributes, StepOfAttributes}
-use Rattle.proof_grammar.specs.Lines.{Body, by_given, by_reflexivity, by_mreflexivity, by_step, by_pair, Line}
+use Rattle.proof_grammar.specs.Lines.{Body, by_step, by_pair, Line}
 use Rattle.proof_grammar.specs.Spelling.{IsTreeAt, IsTreeOf, premises_of, uses}
 use Rattle.proof_grammar.specs.Wrongs.{NamesNoLine, UsesTwice}
 use Rattle.proof_grammar.proofs.DepthLemmas.{uses_first}

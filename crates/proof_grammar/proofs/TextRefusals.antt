@@ -1,5 +1,5 @@
 -- A certificate is refused exactly as it goes wrong.
-use Rattle.std.proofs.Common.{◌≡◌, ◌⊎◌, ⊎_elim, ◌+◌, ◌-◌, inl, inr, ℕ, Bool, true, List, [], ◌∷◌, ◌++◌, length, Option, None, Some, Err, refl, sym, ◌∙◌, ap, subst, arith, length-append}
+use Rattle.std.proofs.Common.{◌≡◌, ◌⊎◌, ⊎_elim, ◌+◌, ◌-◌, inl, inr, ℕ, Bool, true, List, [], ◌∷◌, length, Option, None, Some, Err, refl, sym, ◌∙◌, ap, subst, arith, length-append}
 use Rattle.std.specs.Prelude.{slice_index, MatchOption}
 use Rattle.std.proofs.lemmas.List.{nil_from_length}
 use Rattle.dep_model.specs.declared.schema.Schema.{Schema}
