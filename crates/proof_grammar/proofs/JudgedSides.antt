@@ -1,5 +1,5 @@
 -- A side of a certificate line is read, or the line is refused there by its first complaint.
-use Rattle.std.proofs.Common.{◌≡◌, ◌≤◌, ◌+◌, ◌⊎◌, inl, inr, ⊎_elim, ℕ, Bool, true, false, cond, List, [], ◌∷◌, length, Option, Some, None, Ok, Err, Result, refl, sym, ◌∙◌, ap, subst, arith}
+use Rattle.std.proofs.Common.{◌≡◌, ◌+◌, inl, inr, ⊎_elim, ℕ, Bool, true, false, cond, List, [], ◌∷◌, length, Option, Some, None, Ok, Err, Result, refl, sym, ◌∙◌, ap, arith}
 use Rattle.std.proofs.lemmas.Bool.{true≢false, false≢true}
 use Rattle.std.proofs.lemmas.Option.{none-some}
 use Rattle.attr_sets.specs.Places.{Places, only, none, union}
@@ -19,7 +19,7 @@ use Rattle.proof_grammar.specs.declared.rule_name.RuleName.{RuleName}
 use Rattle.proof_grammar.specs.Lines.{Line}
 use Rattle.proof_grammar.specs.LineComplaints.{token_form, word_form}
 use Rattle.proof_grammar.proofs.FormShapes.{Part, Shape, at_side, past, turn, takes_words}
-use Rattle.proof_grammar.proofs.JudgedLines.{Judged, Wrong, first_here, goes_on, stuck_here, end_here, flaw_here}
+use Rattle.proof_grammar.proofs.JudgedLines.{Judged, first_here, goes_on, stuck_here, end_here, flaw_here}
 use Rattle.proof_grammar.proofs.JudgedTokens.{left_at, in_row, word_forms, NoWord, not_word}
 use Rattle.proof_grammar.proofs.SideLaws.{word_is}
 

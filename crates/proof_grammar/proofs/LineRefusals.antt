@@ -1,6 +1,6 @@
 -- A line of a certificate is refused exactly by its first complaint.
-use Rattle.std.specs.Prelude.{◌↔◌, slice_get, is_some, option_map}
-use Rattle.std.proofs.Common.{◌≡◌, ◌<◌, ◌≤◌, ◌⊎◌, inl, inr, ⊎_elim, ℕ, zero, suc, true, false, List, [], ◌∷◌, length, take, Option, Some, None, Ok, Err, Result, refl, sym, ◌∙◌, ap, subst, arith}
+use Rattle.std.specs.Prelude.{◌↔◌, slice_get, is_some}
+use Rattle.std.proofs.Common.{◌≡◌, ◌<◌, ◌⊎◌, inl, inr, ⊎_elim, ℕ, zero, suc, true, List, [], ◌∷◌, length, take, Option, Some, None, Ok, Err, Result, refl, sym, ◌∙◌, ap, subst, arith}
 use Rattle.std.proofs.lemmas.Bool.{true≢false, false_from_ne_true}
 use Rattle.std.proofs.lemmas.List.{length-map, take_all}
 use Rattle.std.proofs.lemmas.Option.{none-some, same_Some, slice_get_within, slice_get_cases}
@@ -21,7 +21,6 @@ use Rattle.proof_grammar.proofs.FormLines.{begins_from, begins_on, begins_to, fi
 use Rattle.proof_grammar.proofs.FormShapes.{heading, lhs, rhs, by, wide, narrow, ending, Shape, at_number, at_start, at_side, past, at_rule, at_with, is_final, runs, takes_words, then_turn, turn, wanted_by}
 use Rattle.proof_grammar.proofs.JudgedLines.{form, Judged, ShapeWants, TokenWrong, Wrong, WrongAt}
 use Rattle.proof_grammar.proofs.JudgedRules.{line_judged}
-use Rattle.proof_grammar.proofs.JudgedTokens.{left_at}
 
 -- ---- one thing is wanted
 -- a token of the wanted form leads on, and words of the grammar stand where no other word can
@@ -103,24 +102,37 @@ complaint_there names ms stop p n (inl (low, wrong)) =
     told None k reached at wrong = absurd wrong
     told (Some s) (Some m) reached at (inl (takes, word)) =
         inl (m, at, takes_names (take p (forms ms)) s reached takes, word)
-    told (Some s) (Some m) reached at (inr (six, cannot)) = inr (six, record {
-      before = begins_from (take p (forms ms)) s reached;
-      here = inl (omega (arith, size, slice_get_within ms p m at), λ begins.
-          let on = begins_to (take (suc p) (forms ms)) begins in
-          none-some on.0 (sym (runs_next (Some at_start) ms p m at ∙ ap (λ o. then_turn o (form m)) reached ∙ cannot)
-          ∙ on.1));
-    })
+    told (Some s) (Some m) reached at (inr (six, cannot)) = inr (
+      six,
+      record {
+        before = begins_from (take p (forms ms)) s reached;
+        here = inl (
+          omega (arith, size, slice_get_within ms p m at),
+          λ begins.
+              let on = begins_to (take (suc p) (forms ms)) begins in
+              none-some on.0 (sym (runs_next (Some at_start) ms p m at ∙ ap (λ o. then_turn o (form m)) reached ∙ cannot)
+              ∙ on.1),
+        );
+      },
+    )
     told (Some s) None reached at (six, ended, open_end) =
         let same : p ≡ length (forms ms) = ⊎_elim (λ inside. absurd (none-some inside.0 (sym at ∙ inside.2)))
         (λ past. omega (arith, low, past.0, size)) (slice_get_cases ms p).1 in
         let whole = take_all p (forms ms) (omega (arith, same)) in
-        inr (six, record {
-          before = begins_from (take p (forms ms)) s reached;
-          here = inr (same, ended, λ is.
-              let ends = line_ends (forms ms) is in
-              let one = same_Some ends.0 s (sym ends.1 ∙ sym (ap (runs (Some at_start)) whole) ∙ reached) in
-              true≢false (sym ends.2 ∙ ap is_final one ∙ open_end));
-        })
+        inr (
+          six,
+          record {
+            before = begins_from (take p (forms ms)) s reached;
+            here = inr (
+              same,
+              ended,
+              λ is.
+                  let ends = line_ends (forms ms) is in
+                  let one = same_Some ends.0 s (sym ends.1 ∙ sym (ap (runs (Some at_start)) whole) ∙ reached) in
+                  true≢false (sym ends.2 ∙ ap is_final one ∙ open_end),
+            );
+          },
+        )
 
 complaint_back : (names : List (List ℕ)) (ms : List Mark) (stop : Option Stop) (p n : ℕ)
     → TokensComplaint names ms stop p n → Wrong at_start names ms stop p n
@@ -142,7 +154,7 @@ complaint_back names ms stop p n (inl (inr (six, stuck))) =
         → TokenWrong (Some at_start) names ms stop p n
     told s (Some m) reached at (inl (less, cannot)) =
         let none : (o : Option Shape) → turn s (form m) ≡ o → turn s (form m) ≡ None = elim [
-          None ↦ λ e. e
+          | None ↦ λ e. e
           | Some t ↦ λ e. absurd (cannot (begins_from (take (suc p) (forms ms)) t
               (runs_next (Some at_start) ms p m at ∙ ap (λ o. then_turn o (form m)) reached ∙ e)))
         ] in
