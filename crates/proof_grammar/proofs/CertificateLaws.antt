@@ -1,12 +1,11 @@
 -- A text is read as a tree exactly where it spells the tree within the limits.
-use Rattle.std.proofs.Common.{◌≡◌, ◌<◌, ◌≤◌, ◌+◌, ◌-◌, ℕ, suc, Bool, true, false, List, [], ◌∷◌, ◌++◌, length, slice_get, Some, Result, Ok, Err, refl, sym, ◌∙◌, ap, subst, arith, length-append, append_assoc}
-use Rattle.std.specs.Prelude.{nat_lt}
-use Rattle.std.proofs.lemmas.Bool.Decides.{nat_tests}
-use Rattle.std.proofs.lemmas.List.{append-nil}
+use Rattle.std.proofs.Common.{◌≡◌, ◌≤◌, inl, inr, ⊎_elim, ◌+◌, ◌-◌, ℕ, Bool, true, false, List, [], ◌∷◌, ◌++◌, length, get_or, Result, Ok, Err, refl, sym, ◌∙◌, ap, subst, arith, length-append, append_assoc}
+use Rattle.std.proofs.lemmas.Bool.{cases_lt}
+use Rattle.std.proofs.lemmas.List.{append-nil, length_push, nil_from_length}
+use Rattle.std.proofs.lemmas.Option.{slice_get-get_or}
 use Rattle.dep_model.specs.declared.schema.Schema.{Schema}
 use Rattle.dep_model.specs.Schemas.{names_of}
-use Rattle.derivation.specs.declared.measures.TheConstants.{MOST_NODES, MOST_LEVELS}
-use Rattle.derivation.specs.Trees.{Tree, depth}
+use Rattle.derivation.specs.Trees.{Tree}
 use Rattle.lexer.specs.declared.token.Mode.TheVariants as mode
 use Rattle.lexer.specs.Lines.{line_texts, without_mark}
 use Rattle.lexer.specs.Tokens.{lex}
@@ -14,218 +13,231 @@ use Rattle.schema_grammar.specs.declared.refusal.SchemaRefusal.{SchemaRefusal}
 use Rattle.proof_grammar.specs.declared.line_kind.LineKind.{LineKind}
 use Rattle.proof_grammar.specs.declared.line_kind.LineKind.TheVariants.{Blank, Opening, Certificate}
 use Rattle.proof_grammar.specs.Books.{Ledger, entered, finished_certificate}
-use Rattle.proof_grammar.specs.Complaints.{Complaint}
+use Rattle.proof_grammar.specs.Complaints.{Complaint, LineComplaint}
 use Rattle.proof_grammar.specs.Lines.{Line, certificate_line}
-use Rattle.proof_grammar.specs.Meanings.{MeanLines, MeansLine}
+use Rattle.proof_grammar.specs.Meanings.{MeansLine, MeanLines, certificate_lines}
+use Rattle.proof_grammar.specs.Refusals.{StandsAt, IsRefusedCertificate}
 use Rattle.schema_grammar.specs.Rests.{◌>>=◌, rest_from}
-use Rattle.proof_grammar.specs.Spelling.{AreNodes, Spells, SpellsWithin, uses}
-use Rattle.proof_grammar.specs.Texts.{in_line, read_as, line_kind, read_one, at_line, read_certificate_lines, read_proof}
-use Rattle.proof_grammar.proofs.CheckedLemmas.{bind_ok, at_line-ok, read_proof_checked}
-use Rattle.derivation.proofs.RuleTableLemmas.{the_ok}
-use Rattle.proof_grammar.proofs.CountedLines.{counted, Counts, kind_counts, line_of_attributes}
+use Rattle.proof_grammar.specs.Spelling.{AreNodes, SpellsWithin, uses}
+use Rattle.proof_grammar.specs.Texts.{in_line, read_as, line_kind, read_one, read_certificate_lines, read_proof}
+use Rattle.proof_grammar.specs.Wrongs.{AreRead}
+use Rattle.proof_grammar.proofs.CheckedLemmas.{read_proof_checked}
+use Rattle.proof_grammar.proofs.CountedLines.{Counts, kind_counts, line_of_attributes}
 use Rattle.proof_grammar.proofs.DepthLemmas.{uses_first, nodes_size, no_deeper}
-use Rattle.proof_grammar.proofs.EnteredLaws.{Follows, IsEntered, used_after, premises_early, entered_there, entered_back}
-use Rattle.proof_grammar.proofs.FinishedLaws.{IsFinished, finished_there, finished_back}
-use Rattle.proof_grammar.proofs.LineLaws.{line_there, line_back}
-use Rattle.proof_grammar.proofs.ReadLines.{nothing_counts}
+use Rattle.proof_grammar.proofs.EnteredLaws.{premises_early}
+use Rattle.proof_grammar.proofs.EnteredRefusals.{Enters, enters}
+use Rattle.proof_grammar.proofs.FinishedRefusals.{Finishes, finishes, one_end}
+use Rattle.proof_grammar.proofs.LineLaws.{line_there}
+use Rattle.proof_grammar.proofs.LineRefusals as refusals
+use Rattle.proof_grammar.proofs.ReadLines.{marked, read_from, HasReadLines, at_start, passed, counts_here, one_more}
+use Rattle.proof_grammar.proofs.WalkedLines.{walked}
 
--- the lines that are left go on to a tree
-record GoesOn (s : Schema) (used : ℕ → ℕ) (ts : List Tree) (texts : List (List ℕ)) (t : Tree) : Type 0 where
-  more : List Line
-  trees : List Tree
-  mean : MeanLines (names_of s) texts more
-  nodes : AreNodes s ts more trees
-  few : length ts + length more ≤ MOST_NODES
-  done : IsFinished (λ n. used n + uses n more) (ts ++ trees) t
-
-done_same : (used other : ℕ → ℕ) (ts us : List Tree) (t : Tree) → ((n : ℕ) → used n ≡ other n) → ts ≡ us → IsFinished used ts t → IsFinished other us t
-done_same used other ts us t same e done = record { before = done.before; trees = sym e ∙ done.trees; each = λ k low high. sym (same k) ∙ done.each k low high }
-
--- nothing is left
-at_end : (s : Schema) (used : ℕ → ℕ) (ts : List Tree) (book : Ledger) (last : ℕ) (t : Tree) → Follows s used ts book → length ts ≤ MOST_NODES → finished_certificate last book ≡ Ok t → GoesOn s used ts [] t
-at_end s used ts book last t follows few h = record {
-  more = [];
-  trees = [];
-  mean = tt;
-  nodes = tt;
-  few = omega (arith, few);
-  done = done_same used (λ n. used n + uses n []) ts (ts ++ []) t (λ n. omega arith) (sym (append-nil ts)) (finished_there s used ts book last t follows h);
-}
-
--- a line, and what is left
-line_more : (s : Schema) (used : ℕ → ℕ) (ts : List Tree) (text : List ℕ) (texts : List (List ℕ)) (l : Line) (u t : Tree) (next : Ledger) → MeansLine (names_of s) text l
-    → IsEntered s used ts l next u → GoesOn s (used_after used l) (ts ++ u ∷ []) texts t → GoesOn s used ts (text ∷ texts) t
-line_more s used ts text texts l u t next means enters goes = record {
-  more = l ∷ goes.more;
-  trees = u ∷ goes.trees;
-  mean = (means, goes.mean);
-  nodes = (enters.node, goes.nodes);
-  few = omega (arith, goes.few, length-append ts (u ∷ []));
-  done = done_same (λ n. used_after used l n + uses n goes.more) (λ n. used n + uses n (l ∷ goes.more)) ((ts ++ u ∷ []) ++ goes.trees) (ts ++ u ∷ goes.trees) t
-      (λ n. omega (arith, uses_first n l goes.more)) (append_assoc ts (u ∷ []) goes.trees) goes.done;
-}
-
-in_line_ok : {A : Type 0} (r : Result A SchemaRefusal) (x : A) → in_line r ≡ Ok x → r ≡ Ok x
-in_line_ok (Ok y) x h = cc
-in_line_ok (Err e) x h = cc
-
--- what is read of the lines after this one
-abbrev ReadsOn : Schema → ℕ → List (List ℕ) → Tree → Type 0
-ReadsOn s number texts t =
-    (fresh : Bool) (used : ℕ → ℕ) (ts : List Tree) (book : Ledger) → Follows s used ts book → length ts ≤ MOST_NODES → read_certificate_lines s fresh number book texts ≡ Ok t → GoesOn s used ts (counted fresh texts) t
-
-line_there_more : (k : LineKind) (s : Schema) (fresh : Bool) (number : ℕ) (used : ℕ → ℕ) (ts : List Tree) (book : Ledger) (text : List ℕ) (texts : List (List ℕ)) (t : Tree) (next : Bool × Ledger)
-    → Follows s used ts book → length ts ≤ MOST_NODES → Counts k fresh text → read_as k s fresh number book text ≡ Ok next → read_certificate_lines s next.0 (number + 1) next.1 texts ≡ Ok t
-    → ReadsOn s (number + 1) texts t → GoesOn s used ts (counted fresh (text ∷ texts)) t
-line_there_more Blank s fresh number used ts book text texts t next follows few counts read rest on =
-    let same = the_ok {A = Bool × Ledger} {E = Complaint} (fresh, book) next read in
-    let left = subst (λ (n : Bool × Ledger). read_certificate_lines s n.0 (number + 1) n.1 texts ≡ Ok t) (sym same) rest in
-    subst (λ (ls : List (List ℕ)). GoesOn s used ts ls t) (sym (counts texts)) (on fresh used ts book follows few left)
-line_there_more Opening s fresh number used ts book text texts t next follows few counts read rest on =
-    let same = the_ok {A = Bool × Ledger} {E = Complaint} (false, book) next read in
-    let left = subst (λ (n : Bool × Ledger). read_certificate_lines s n.0 (number + 1) n.1 texts ≡ Ok t) (sym same) rest in
-    subst (λ (ls : List (List ℕ)). GoesOn s used ts ls t) (sym (counts texts)) (on false used ts book follows few left)
-line_there_more Certificate s fresh number used ts book text texts t next follows few counts read rest on =
-    let reading = in_line (certificate_line (names_of s) (rest_from number 1 (lex mode.Numbered text))) in
-    let first = bind_ok reading (λ m. entered s number book m >>= λ b. Ok (false, b)) next read in
-    let l = first.0 in
-    let second = bind_ok (entered s number book l) (λ b. Ok (false, b)) next first.2 in
-    let means = line_there (names_of s) number text l (in_line_ok (certificate_line (names_of s) (rest_from number 1 (lex mode.Numbered text))) l first.1) in
-    let enters = entered_there s number used ts book second.0 l follows (line_of_attributes s text l means) second.1 in
-    let u = enters.0 in
-    let same = the_ok {A = Bool × Ledger} {E = Complaint} (false, second.0) next second.2 in
-    let left = subst (λ (n : Bool × Ledger). read_certificate_lines s n.0 (number + 1) n.1 texts ≡ Ok t) (sym same) rest in
-    let room : length (ts ++ u ∷ []) ≤ MOST_NODES = omega (arith, enters.1.few_lines, length-append ts (u ∷ [])) in
-    let goes = on false (used_after used l) (ts ++ u ∷ []) second.0 enters.1.follows room left in
-    subst (λ (ls : List (List ℕ)). GoesOn s used ts ls t) (sym (counts texts)) (line_more s used ts text (counted false texts) l u t second.0 means enters.1 goes)
-
-lines_there : (s : Schema) (number : ℕ) (texts : List (List ℕ)) (t : Tree) → ReadsOn s number texts t
-unfolding read_certificate_lines read_one
-lines_there s number [] t fresh used ts book follows few h =
-    subst (λ (ls : List (List ℕ)). GoesOn s used ts ls t) (sym (nothing_counts fresh)) (at_end s used ts book (number - 1) t follows few h)
-lines_there s number (text ∷ texts) t fresh used ts book follows few h =
-    let k = line_kind fresh (lex mode.Numbered text) in
-    let first = bind_ok (at_line number (read_as k s fresh number book text)) (λ next. read_certificate_lines s next.0 (number + 1) next.1 texts) t h in
-    line_there_more k s fresh number used ts book text texts t first.0 follows few (kind_counts fresh text k refl)
-    (at_line-ok number (read_as k s fresh number book text) first.0 first.1) first.2 (lines_there s (number + 1) texts t)
-
--- ---- from what a text spells
--- the trees of lines that are left, within the limits
-record CanGoOn (s : Schema) (used : ℕ → ℕ) (ts : List Tree) (more : List Line) (us : List Tree) (t : Tree) : Type 0 where
-  nodes : AreNodes s ts more us
-  few : length ts + length more ≤ MOST_NODES
-  flat : (i : ℕ) (u : Tree) → slice_get us i ≡ Some u → depth u ≤ MOST_LEVELS
-  once : (n : ℕ) → 0 < n → used n + uses n more ≤ 1
-  done : IsFinished (λ n. used n + uses n more) (ts ++ us) t
-
-can_more : (s : Schema) (used : ℕ → ℕ) (ts : List Tree) (l : Line) (more : List Line) (u : Tree) (us : List Tree) (t : Tree) → CanGoOn s used ts (l ∷ more) (u ∷ us) t
-    → CanGoOn s (used_after used l) (ts ++ u ∷ []) more us t
-can_more s used ts l more u us t can = record {
-  nodes = can.nodes.1;
-  few = omega (arith, can.few, length-append ts (u ∷ []));
-  flat = λ i v h. can.flat (suc i) v h;
-  once = λ n h. omega (arith, can.once n h, uses_first n l more);
-  done = done_same (λ n. used n + uses n (l ∷ more)) (λ n. used_after used l n + uses n more) (ts ++ u ∷ us) ((ts ++ u ∷ []) ++ us) t
-      (λ n. omega (arith, uses_first n l more)) (sym (append_assoc ts (u ∷ []) us)) can.done;
-}
-
--- what lines after this one come to
-abbrev ReadsBack : Schema → ℕ → List (List ℕ) → Tree → Type 0
-ReadsBack s number texts t =
-    (fresh : Bool) (used : ℕ → ℕ) (ts : List Tree) (book : Ledger) (more : List Line) (us : List Tree) → Follows s used ts book → MeanLines (names_of s) (counted fresh texts) more
-    → CanGoOn s used ts more us t → read_certificate_lines s fresh number book texts ≡ Ok t
-
--- nothing is left
-end_back : (s : Schema) (last : ℕ) (t : Tree) (used : ℕ → ℕ) (ts : List Tree) (book : Ledger) (more : List Line) (us : List Tree) → Follows s used ts book → MeanLines (names_of s) [] more
-    → CanGoOn s used ts more us t → finished_certificate last book ≡ Ok t
-end_back s last t used ts book [] [] follows mean can =
-    finished_back s used ts book last t follows (done_same (λ n. used n + uses n []) used (ts ++ []) ts t (λ n. omega arith) (append-nil ts) can.done)
-end_back s last t used ts book [] (u ∷ us) follows mean can = absurd can.nodes
-end_back s last t used ts book (l ∷ more) us follows mean can = absurd mean
-
--- a line that counts, and what is left
-line_back_read : (s : Schema) (number : ℕ) (text : List ℕ) (texts : List (List ℕ)) (t : Tree) (used : ℕ → ℕ) (ts : List Tree) (book : Ledger) (fresh : Bool) (more : List Line) (us : List Tree)
-    → Follows s used ts book → MeanLines (names_of s) (text ∷ counted false texts) more → CanGoOn s used ts more us t → ReadsBack s (number + 1) texts t
-    → (at_line number (read_as Certificate s fresh number book text) >>= λ next. read_certificate_lines s next.0 (number + 1) next.1 texts) ≡ Ok t
-line_back_read s number text texts t used ts book fresh [] us follows mean can on = absurd mean
-line_back_read s number text texts t used ts book fresh (l ∷ more) [] follows mean can on = absurd can.nodes
-line_back_read s number text texts t used ts book fresh (l ∷ more) (u ∷ us) follows (means, rest) can on =
-    let own = line_of_attributes s text l means in
-    let room : length ts < MOST_NODES = omega (arith, can.few) in
-    let single : (n : ℕ) → 0 < n → used_after used l n ≤ 1 = λ n h. omega (arith, can.once n h, uses_first n l more) in
-    let enters = entered_back s number used ts book l u follows own can.nodes.0 room (can.flat 0 u refl) single in
-    let reads = line_back (names_of s) number text l means in
-    rw (reads, enters.1) (on false (used_after used l) (ts ++ u ∷ []) enters.0 more us enters.2.follows rest (can_more s used ts l more u us t can))
-
-line_back_more : (k : LineKind) (s : Schema) (number : ℕ) (text : List ℕ) (texts : List (List ℕ)) (t : Tree) (used : ℕ → ℕ) (ts : List Tree) (book : Ledger) (fresh : Bool) (more : List Line)
-    (us : List Tree) → Follows s used ts book → MeanLines (names_of s) (counted fresh (text ∷ texts)) more → CanGoOn s used ts more us t → Counts k fresh text → ReadsBack s (number + 1) texts t
-    → (at_line number (read_as k s fresh number book text) >>= λ next. read_certificate_lines s next.0 (number + 1) next.1 texts) ≡ Ok t
-line_back_more Blank s number text texts t used ts book fresh more us follows mean can counts on =
-    on fresh used ts book more us follows (subst (λ (ls : List (List ℕ)). MeanLines (names_of s) ls more) (counts texts) mean) can
-line_back_more Opening s number text texts t used ts book fresh more us follows mean can counts on =
-    on false used ts book more us follows (subst (λ (ls : List (List ℕ)). MeanLines (names_of s) ls more) (counts texts) mean) can
-line_back_more Certificate s number text texts t used ts book fresh more us follows mean can counts on =
-    line_back_read s number text texts t used ts book fresh more us follows (subst (λ (ls : List (List ℕ)). MeanLines (names_of s) ls more) (counts texts) mean) can on
-
-lines_back : (s : Schema) (number : ℕ) (texts : List (List ℕ)) (t : Tree) → ReadsBack s number texts t
-unfolding read_certificate_lines read_one
-lines_back s number [] t fresh used ts book more us follows mean can =
-    end_back s (number - 1) t used ts book more us follows (subst (λ (ls : List (List ℕ)). MeanLines (names_of s) ls more) (nothing_counts fresh) mean) can
-lines_back s number (text ∷ texts) t fresh used ts book more us follows mean can =
-    line_back_more (line_kind fresh (lex mode.Numbered text)) s number text texts t used ts book fresh more us follows mean can (kind_counts fresh text _ refl) (lines_back s (number + 1) texts t)
-
--- ---- the whole text
 -- no line uses itself or a later one
-pub late_unused : (s : Schema) (prior : List Tree) (ls : List Line) (ts : List Tree) (n : ℕ) → AreNodes s prior ls ts → length prior + length ls ≤ n → uses n ls ≡ 0
+pub late_unused : (s : Schema) (prior : List Tree) (ls : List Line) (ts : List Tree) (n : ℕ) → AreNodes s prior ls ts
+    → length prior + length ls ≤ n → uses n ls ≡ 0
 late_unused s prior [] [] n are late = refl
-late_unused s prior [] (t ∷ ts) n are late = absurd are
-late_unused s prior (l ∷ ls) [] n are late = absurd are
-late_unused s prior (l ∷ ls) (t ∷ ts) n (here, rest) late =
-    let more = late_unused s (prior ++ t ∷ []) ls ts n rest (omega (arith, late, length-append prior (t ∷ []))) in
-    omega (arith, uses_first n l ls, premises_early prior l l.body t n here.tree (omega (arith, late)), more)
+late_unused s prior (l ∷ ls) (t ∷ ts) n are late =
+    let more = late_unused s (prior ++ t ∷ []) ls ts n are.1 (omega (arith, late, length-append prior (t ∷ []))) in
+    omega (arith, uses_first n l ls, premises_early prior l l.body t n are.0.tree (omega (arith, late)), more)
+late_unused s prior _ _ n are late = absurd are
 
-pub spelled_there : (s : Schema) (text : List ℕ) (t : Tree) → read_proof s text ≡ Ok t → SpellsWithin s text t
-unfolding read_proof
-spelled_there s text t h =
-    let goes = lines_there s 1 (line_texts (without_mark text)) t true (λ n. 0) [] (record { lines = []; unused = [] }) (record { slots = tt; fresh = λ n low. refl }) (omega arith) h in
-    let count = nodes_size s [] goes.more goes.trees goes.nodes in
-    let size : length goes.trees ≡ length goes.done.before + 1 = ap length goes.done.trees ∙ length-append goes.done.before (t ∷ []) in
+-- ---- what is read
+-- what a text says of the tree or the refusal that is read of it
+abbrev pub Tells : Schema → List ℕ → Result Tree LineComplaint → Type 0
+Tells s text (Ok t) = SpellsWithin s text t
+Tells s text (Err e) = IsRefusedCertificate s text e
+
+-- all lines are read
+end_tells : (s : Schema) (text : List ℕ) (fresh : Bool) (lines : List Line) (trees : List Tree) (book : Ledger)
+    (last : ℕ) (r : Result Tree LineComplaint) → last ≡ length (line_texts (without_mark text))
+    → HasReadLines s text (line_texts (without_mark text)) fresh lines trees book
+    → Finishes (λ n. uses n lines) trees last book.lines r → read_proof s text ≡ r → Tells s text r
+end_tells s text fresh lines trees book last (Ok t) count afterwards done is =
+    let size = nodes_size s [] lines trees afterwards.read.nodes in
+    let whole = length_push done.before t in
     record {
       spells = record {
-        lines = goes.more;
-        mean = goes.mean;
+        lines = lines;
+        mean = afterwards.mean;
         nodes = record {
-          before = goes.done.before;
-          nodes = subst (AreNodes s [] goes.more) goes.done.trees goes.nodes;
-          used = λ n low high. omega (arith, goes.done.each n low (omega (arith, high, count, size)));
+          before = done.before;
+          nodes = subst (AreNodes s [] lines) done.trees afterwards.read.nodes;
+          used = λ n low high. done.each n low (omega (arith, high, size, whole, ap length done.trees));
         };
       };
-      few_lines = omega (arith, goes.few);
-      few_levels = (read_proof_checked s text t h).few_levels;
+      few_lines = afterwards.read.few_lines;
+      few_levels = (read_proof_checked s text t is).few_levels;
+    }
+end_tells s text fresh lines trees book last (Err e) count afterwards (inl none) is =
+    let size = nodes_size s [] lines trees afterwards.read.nodes in
+    inr (record {
+      lines = lines;
+      trees = trees;
+      mean = afterwards.mean;
+      read = afterwards.read;
+      why = inl (record {
+        none = nil_from_length lines (omega (arith, size, ap length none.0));
+        at = ap (λ (c : LineComplaint). c.line) none.1 ∙ count;
+        is = ap (λ (c : LineComplaint). c.complaint) none.1;
+      });
+    })
+end_tells s text fresh lines trees book last (Err e) count afterwards (inr first) is =
+    let size = nodes_size s [] lines trees afterwards.read.nodes in
+    let place = afterwards.places first.at (omega (arith, first.inside, afterwards.size)) in
+    inr (record {
+      lines = lines;
+      trees = trees;
+      mean = afterwards.mean;
+      read = afterwards.read;
+      why = inr (record {
+        number = first.at + 1;
+        some = omega arith;
+        not_last = omega (arith, first.inside, size);
+        unused = first.unused;
+        first = λ n low high. first.earlier n low (omega (arith, high));
+        before = place.before;
+        here = place.here;
+        stands = subst (StandsAt text place.before place.here) (ap (λ (c : LineComplaint). c.line) (sym first.is)) place.stands;
+        is_number = omega (arith, place.count);
+        is = ap (λ (c : LineComplaint). c.complaint) first.is;
+      });
+    })
+
+-- what is read of the lines after some others
+abbrev TellsOn : Schema → List ℕ → ℕ → List (List ℕ) → Type 0
+TellsOn s text number texts =
+    (before : List (List ℕ)) (fresh : Bool) (lines : List Line) (trees : List Tree) (book : Ledger)
+    → line_texts (without_mark text) ≡ before ++ texts → number ≡ length before + 1
+    → HasReadLines s text before fresh lines trees book
+    → read_proof s text ≡ read_certificate_lines s fresh number book texts
+    → Tells s text (read_certificate_lines s fresh number book texts)
+
+line_tells : (k : LineKind) (s : Schema) (text : List ℕ) (number : ℕ) (here : List ℕ) (texts before : List (List ℕ))
+    (fresh : Bool) (lines : List Line) (trees : List Tree) (book : Ledger)
+    → line_texts (without_mark text) ≡ before ++ here ∷ texts → number ≡ length before + 1
+    → HasReadLines s text before fresh lines trees book → Counts k fresh here → TellsOn s text (number + 1) texts
+    → read_proof s text ≡ read_from s number texts (read_as k s fresh number book here)
+    → Tells s text (read_from s number texts (read_as k s fresh number book here))
+line_tells Blank s text number here texts before fresh lines trees book cut count afterwards counts on is =
+    on (before ++ here ∷ []) fresh lines trees book (cut ∙ sym (append_assoc before (here ∷ []) texts))
+    (omega (arith, count, length-append before (here ∷ [])))
+    (passed s text before fresh fresh lines trees book here afterwards counts) is
+line_tells Opening s text number here texts before fresh lines trees book cut count afterwards counts on is =
+    on (before ++ here ∷ []) false lines trees book (cut ∙ sym (append_assoc before (here ∷ []) texts))
+    (omega (arith, count, length-append before (here ∷ [])))
+    (passed s text before fresh false lines trees book here afterwards counts) is
+line_tells Certificate s text number here texts before fresh lines trees book cut count afterwards counts on is =
+    told (certificate_line (names_of s) (rest_from number 1 (lex mode.Numbered here))) refl is
+  where
+    stands : StandsAt text before here number
+    stands = record {
+      after = texts;
+      cut = cut;
+      number = count;
+      counts = counts_here s text before fresh lines trees book here afterwards counts;
     }
 
-pub spelled_back : (s : Schema) (text : List ℕ) (t : Tree) → SpellsWithin s text t → read_proof s text ≡ Ok t
-unfolding read_proof
-spelled_back s text t spelled =
-    lines_back s 1 (line_texts (without_mark text)) t true (λ n. 0) [] (record { lines = []; unused = [] }) spells.lines (spells.nodes.before ++ t ∷ [])
-    (record { slots = tt; fresh = λ n low. refl }) spells.mean
-    (record {
-      nodes = spells.nodes.nodes;
-      few = omega (arith, spelled.few_lines);
-      flat = λ i u h. omega (arith, no_deeper s spells.lines t spells.nodes i u h, spelled.few_levels);
-      once = λ n low. once n low (nat_lt n (length spells.lines)) refl;
-      done = record { before = spells.nodes.before; trees = refl; each = λ k low high. omega (arith, spells.nodes.used k low (omega (arith, high, count, size))) };
+    told : (r : Result Line SchemaRefusal)
+        → certificate_line (names_of s) (rest_from number 1 (lex mode.Numbered here)) ≡ r
+        → read_proof s text ≡ read_from s number texts (in_line r >>= λ l. marked (entered s number book l))
+        → Tells s text (read_from s number texts (in_line r >>= λ l. marked (entered s number book l)))
+    told (Err refusal) grammar is = inl (record {
+      before = before;
+      here = here;
+      stands = stands;
+      lines = lines;
+      trees = trees;
+      mean = afterwards.mean;
+      read = afterwards.read;
+      why = inl (record {
+        refusal = refusal;
+        grammar = (refusals.refusal_law (names_of s) number here refusal).0 grammar;
+        is = refl;
+      });
     })
-  where
-    spells : Spells s text t
-    spells = spelled.spells
+    told (Ok l) grammar is = by_line (entered s number book l) refl
+        (enters s number lines trees book l afterwards.follows (line_of_attributes s here l means)) is
+      where
+        means : MeansLine (names_of s) here l
+        means = line_there (names_of s) number here l grammar
 
-    count : length spells.lines ≡ length (spells.nodes.before ++ t ∷ [])
-    count = nodes_size s [] spells.lines (spells.nodes.before ++ t ∷ []) spells.nodes.nodes
+        by_line : (r : Result Ledger Complaint) → entered s number book l ≡ r → Enters s lines trees l r
+            → read_proof s text ≡ read_from s number texts (marked r) → Tells s text (read_from s number texts (marked r))
+        by_line (Err c) enter first is = inl (record {
+          before = before;
+          here = here;
+          stands = stands;
+          lines = lines;
+          trees = trees;
+          mean = afterwards.mean;
+          read = afterwards.read;
+          why = inr (record { line = l; means = means; wrong = first });
+        })
+        by_line (Ok next) enter enters is =
+            on (before ++ here ∷ []) false (lines ++ l ∷ []) (trees ++ enters.0 ∷ []) next
+            (cut ∙ sym (append_assoc before (here ∷ []) texts)) (omega (arith, count, length-append before (here ∷ [])))
+            (one_more s text before fresh lines trees book here number l enters.0 next afterwards counts stands means enter
+            enters.1) is
 
-    size : length (spells.nodes.before ++ t ∷ []) ≡ length spells.nodes.before + 1
-    size = length-append spells.nodes.before (t ∷ [])
+lines_tell : (s : Schema) (text : List ℕ) (number : ℕ) (texts : List (List ℕ)) → TellsOn s text number texts
+unfolding read_certificate_lines read_one
+lines_tell s text number [] before fresh lines trees book cut count afterwards is =
+    let whole : line_texts (without_mark text) ≡ before = cut ∙ append-nil before in
+    end_tells s text fresh lines trees book (number - 1) (finished_certificate (number - 1) book)
+    (omega (arith, count, ap length whole))
+    (subst (λ (ls : List (List ℕ)). HasReadLines s text ls fresh lines trees book) (sym whole) afterwards)
+    (finishes s (λ n. uses n lines) trees book.unused (number - 1) book.lines afterwards.follows.slots
+    afterwards.follows.fresh) is
+lines_tell s text number (here ∷ texts) before fresh lines trees book cut count afterwards is =
+    line_tells (line_kind fresh (lex mode.Numbered here)) s text number here texts before fresh lines trees book cut count
+    afterwards (kind_counts fresh here _ refl) (lines_tell s text (number + 1) texts) is
 
-    once : (n : ℕ) → 0 < n → (b : Bool) → nat_lt n (length spells.lines) ≡ b → 0 + uses n spells.lines ≤ 1
-    once n low true is = omega (arith, spells.nodes.used n low (grind (arith, nat_tests, is)))
-    once n low false is = omega (arith, late_unused s [] spells.lines (spells.nodes.before ++ t ∷ []) n spells.nodes.nodes (grind (arith, nat_tests, is)))
+pub text_tells : (s : Schema) (text : List ℕ) → Tells s text (read_proof s text)
+unfolding read_proof
+text_tells s text = lines_tell s text 1 (line_texts (without_mark text)) [] true [] [] (record { lines = []; unused = [] })
+    refl refl (at_start s text) refl
+
+pub spelled_there : (s : Schema) (text : List ℕ) (t : Tree) → read_proof s text ≡ Ok t → SpellsWithin s text t
+spelled_there s text t h = subst (Tells s text) h (text_tells s text)
+
+-- ---- from what a text spells
+-- a text whose lines are read is read as they are finished
+pub end_back : (s : Schema) (text : List ℕ) (lines : List Line) (trees : List Tree) (r : Result Tree LineComplaint)
+    → MeanLines (names_of s) (certificate_lines text) lines → AreRead s lines trees
+    → ((fresh : Bool) (book : Ledger) → HasReadLines s text (line_texts (without_mark text)) fresh lines trees book
+    → Finishes (λ n. uses n lines) trees (length (line_texts (without_mark text)) + 1 - 1) book.lines r)
+    → read_proof s text ≡ r
+unfolding read_proof read_certificate_lines
+end_back s text lines trees r mean read done =
+    let whole = line_texts (without_mark text) in
+    let cut : whole ≡ whole ++ [] = sym (append-nil whole) in
+    let walk = walked s text whole [] lines trees cut mean read in
+    let follows = walk.afterwards.follows in
+    ap (read_certificate_lines s true 1 (record { lines = []; unused = [] })) cut
+    ∙ walk.same
+    ∙ one_end (λ n. uses n lines) trees (length whole + 1 - 1) walk.book.lines _ r
+    (finishes s (λ n. uses n lines) trees walk.book.unused (length whole + 1 - 1) walk.book.lines follows.slots follows.fresh)
+    (done walk.fresh walk.book walk.afterwards)
+
+pub spelled_back : (s : Schema) (text : List ℕ) (t : Tree) → SpellsWithin s text t → read_proof s text ≡ Ok t
+spelled_back s text t spelled =
+    let lines = spelled.spells.lines in
+    let are = spelled.spells.nodes in
+    let trees = are.before ++ t ∷ [] in
+    let size = nodes_size s [] lines trees are.nodes in
+    end_back s text lines trees (Ok t) spelled.spells.mean (record {
+      nodes = are.nodes;
+      once = λ n low. ⊎_elim (λ less. omega (arith, are.used n low less))
+          (λ late. omega (arith, late_unused s [] lines trees n are.nodes (omega (arith, late)))) (cases_lt n (length lines));
+      few_lines = spelled.few_lines;
+      few_levels = λ k d inside. omega (
+        arith,
+        spelled.few_levels,
+        no_deeper s lines t are k (get_or trees k d) (slice_get-get_or trees k d inside),
+      );
+    })
+    (λ fresh book afterwards. record {
+      before = are.before;
+      trees = refl;
+      each = λ k low high. are.used k low (omega (arith, high, size, length_push are.before t));
+    })

@@ -1,233 +1,174 @@
 -- How far a line of a certificate is read, by the forms of its tokens.
-use Rattle.std.proofs.Common.{◌≡◌, Bool, true, false, List, [], ◌∷◌, ◌++◌, Option, Some, None, refl, ◌∙◌, ap}
+use Rattle.std.proofs.Common.{◌≡◌, Bool, true, false, List, [], ◌∷◌, ◌++◌, Option, Some, None, refl}
 use Rattle.schema_grammar.specs.declared.refusal.What.{What}
 use Rattle.schema_grammar.specs.declared.refusal.What.TheVariants as what
 use Rattle.proof_grammar.specs.declared.rule_name.RuleName.{RuleName}
 use Rattle.proof_grammar.specs.declared.rule_name.RuleName.TheVariants as rule
 use Rattle.proof_grammar.specs.LineComplaints.{TokenForm, a_number, a_colon, an_arrow, an_empty, a_with, a_rule, a_word}
 
--- the sides of a line: those of its dependency, that of an augmentation, and those of a wide one
-pub data Side : Type 0 where
-  lhs : Side
-  rhs : Side
-  by : Side
-  wide : Side
-  narrow : Side
+-- the parts of a line that a colon, an arrow or the line's end follows: its number, the sides of its
+-- dependency, that of an augmentation, those of a wide one, and a rule without sets
+pub data Part : Type 0 where
+  heading : Part
+  lhs : Part
+  rhs : Part
+  by : Part
+  wide : Part
+  narrow : Part
+  ending : Part
 
--- what follows the line of a premise
+-- what follows a number: that of the line, or that of a premise
 pub data After : Type 0 where
+  first : After
   nothing : After
   second : After
-  sets : Side → After
+  sets : Part → After
 
+-- past a part, and whether more words of it may stand there
 pub data Shape : Type 0 where
-  at_start : Shape
-  past_number : Shape
-  at_side : Side → Shape
-  past_words : Side → Shape
-  past_empty : Side → Shape
+  at_number : After → Shape
+  at_side : Part → Shape
+  past : Bool → Part → Shape
   at_rule : Shape
-  at_premise : After → Shape
-  at_with : Side → Shape
-  at_end : Shape
+  at_with : Part → Shape
 
--- where the token after a side leads
-abbrev pub past_arrow : Side → Option Shape
+abbrev pub at_start : Shape
+at_start = at_number first
+
+-- where the token after a part leads
+abbrev pub past_arrow : Part → Option Shape
 past_arrow lhs = Some (at_side rhs)
 past_arrow _ = None
 
-abbrev pub past_colon : Side → Option Shape
+abbrev pub past_colon : Part → Option Shape
+past_colon heading = Some (at_side lhs)
 past_colon rhs = Some at_rule
 past_colon wide = Some (at_side narrow)
 past_colon _ = None
 
-abbrev pub closing : Side → TokenForm → Option Shape
-closing k an_arrow = past_arrow k
-closing k a_colon = past_colon k
-closing k _ = None
+abbrev pub past_word : Bool → Part → Option Shape
+past_word true k = Some (past true k)
+past_word false k = None
 
--- where a token in a side leads
-abbrev pub within : Side → TokenForm → Option Shape → Option Shape
-within k a_with other = Some (past_words k)
-within k (a_rule r) other = Some (past_words k)
-within k a_word other = Some (past_words k)
-within k _ other = other
+abbrev pub beyond : Bool → Part → TokenForm → Option Shape
+beyond words k an_arrow = past_arrow k
+beyond words k a_colon = past_colon k
+beyond words k a_with = past_word words k
+beyond words k (a_rule r) = past_word words k
+beyond words k a_word = past_word words k
+beyond words k _ = None
 
-abbrev pub begun : Side → TokenForm → Option Shape
-begun k an_empty = Some (past_empty k)
+-- where a token at the start of a side leads
+abbrev pub begun : Part → TokenForm → Option Shape
+begun k an_empty = Some (past false k)
+begun k a_with = Some (past true k)
+begun k (a_rule r) = Some (past true k)
+begun k a_word = Some (past true k)
 begun k _ = None
 
 abbrev pub named : RuleName → Shape
-named rule.Given = at_premise nothing
-named rule.Reflexivity = at_end
-named rule.Augmentation = at_premise (sets by)
-named rule.Transitivity = at_premise second
-named rule.Complementation = at_premise nothing
-named rule.MReflexivity = at_end
-named rule.MAugmentation = at_premise (sets wide)
-named rule.MTransitivity = at_premise second
-named rule.Replication = at_premise nothing
-named rule.Coalescence = at_premise second
+named rule.Given = at_number nothing
+named rule.Reflexivity = past false ending
+named rule.Augmentation = at_number (sets by)
+named rule.Transitivity = at_number second
+named rule.Complementation = at_number nothing
+named rule.MReflexivity = past false ending
+named rule.MAugmentation = at_number (sets wide)
+named rule.MTransitivity = at_number second
+named rule.Replication = at_number nothing
+named rule.Coalescence = at_number second
 
-abbrev pub past_premise : After → Shape
-past_premise nothing = at_end
-past_premise second = at_premise nothing
-past_premise (sets k) = at_with k
+abbrev pub past_number : After → Shape
+past_number first = past false heading
+past_number nothing = past false ending
+past_number second = at_number nothing
+past_number (sets k) = at_with k
 
 -- where a token of a form leads
 abbrev pub turn : Shape → TokenForm → Option Shape
-turn at_start a_number = Some past_number
-turn past_number a_colon = Some (at_side lhs)
-turn (at_side k) f = within k f (begun k f)
-turn (past_words k) f = within k f (closing k f)
-turn (past_empty k) f = closing k f
+turn (at_number a) a_number = Some (past_number a)
+turn (at_side k) f = begun k f
+turn (past words k) f = beyond words k f
 turn at_rule (a_rule r) = Some (named r)
-turn (at_premise a) a_number = Some (past_premise a)
 turn (at_with k) a_with = Some (at_side k)
 turn _ _ = None
 
--- whether the line ends with a side
-abbrev pub is_last : Side → Bool
-is_last lhs = false
-is_last rhs = false
+-- whether the line ends with a part
+abbrev pub is_last : Part → Bool
 is_last by = true
-is_last wide = false
 is_last narrow = true
+is_last ending = true
+is_last _ = false
 
 abbrev pub is_final : Shape → Bool
-is_final (past_words k) = is_last k
-is_final (past_empty k) = is_last k
-is_final at_end = true
+is_final (past words k) = is_last k
 is_final _ = false
 
 -- whether any word may stand there
 abbrev pub takes_words : Shape → Bool
 takes_words (at_side k) = true
-takes_words (past_words k) = true
+takes_words (past words k) = words
 takes_words _ = false
 
-abbrev pub wanted_after : Side → What
+abbrev pub wanted_after : Part → What
+wanted_after heading = what.Colon
 wanted_after lhs = what.Arrow
 wanted_after rhs = what.Colon
-wanted_after by = what.LineEnd
 wanted_after wide = what.Colon
-wanted_after narrow = what.LineEnd
+wanted_after _ = what.LineEnd
 
 abbrev pub wanted_by : Shape → What
-wanted_by at_start = what.Number
-wanted_by past_number = what.Colon
+wanted_by (at_number a) = what.Number
 wanted_by (at_side k) = what.Side
-wanted_by (past_words k) = wanted_after k
-wanted_by (past_empty k) = wanted_after k
+wanted_by (past words k) = wanted_after k
 wanted_by at_rule = what.Rule
-wanted_by (at_premise a) = what.Number
 wanted_by (at_with k) = what.With
-wanted_by at_end = what.LineEnd
 
-abbrev pub bind : Option Shape → (Shape → Option Shape) → Option Shape
-bind None f = None
-bind (Some s) f = f s
+abbrev pub then_turn : Option Shape → TokenForm → Option Shape
+then_turn None f = None
+then_turn (Some s) f = turn s f
 
 -- where tokens of some forms lead
-abbrev pub runs : Shape → List TokenForm → Option Shape
-runs s [] = Some s
-runs s (f ∷ fs) = bind (turn s f) (λ t. runs t fs)
+abbrev pub runs : Option Shape → List TokenForm → Option Shape
+runs o [] = o
+runs o (f ∷ fs) = runs (then_turn o f) fs
 
 -- they lead to an end of the line
-pub record Ends (s : Shape) (fs : List TokenForm) : Type 0 where
-  pub last : Shape
-  pub leads : runs s fs ≡ Some last
-  pub final : is_final last ≡ true
+abbrev pub Ends : Shape → List TokenForm → Type 0
+Ends s fs = (last : Shape) × (runs (Some s) fs ≡ Some last) × (is_final last ≡ true)
 
-pub runs-append : (s : Shape) (fs gs : List TokenForm) → runs s (fs ++ gs) ≡ bind (runs s fs) (λ t. runs t gs)
-runs-append s [] gs = refl
-runs-append s (f ∷ fs) gs = told (λ t. runs-append t fs gs) (turn s f)
-  where
-    told : ((t : Shape) → runs t (fs ++ gs) ≡ bind (runs t fs) (λ u. runs u gs)) → (o : Option Shape)
-        → bind o (λ t. runs t (fs ++ gs)) ≡ bind (bind o (λ t. runs t fs)) (λ t. runs t gs)
-    told rest None = refl
-    told rest (Some t) = rest t
+pub runs-append : (o : Option Shape) (fs gs : List TokenForm) → runs o (fs ++ gs) ≡ runs (runs o fs) gs
+runs-append o [] gs = refl
+runs-append o (f ∷ fs) gs = runs-append (then_turn o f) fs gs
 
--- one token more
-pub runs-one : (fs : List TokenForm) (s : Shape) (f : TokenForm) → runs at_start fs ≡ Some s
-    → runs at_start (fs ++ f ∷ []) ≡ turn s f
-runs-one fs s f reached = runs-append at_start fs (f ∷ []) ∙ ap (λ o. bind o (λ t. runs t (f ∷ []))) reached ∙ last
-    (turn s f)
-  where
-    last : (o : Option Shape) → bind o (λ t. Some t) ≡ o
-    last None = refl
-    last (Some t) = refl
+-- what leads somewhere comes from somewhere
+pub comes_from : (o : Option Shape) (fs : List TokenForm) (t : Shape) → runs o fs ≡ Some t → (s : Shape) × (o ≡ Some s)
+comes_from (Some s) fs t leads = (s, refl)
+comes_from None [] t leads = cc
+comes_from None (f ∷ fs) t leads = comes_from None fs t leads
 
 -- ---- how a line may go on
-abbrev past_side : Side → List TokenForm
-past_side lhs = an_arrow ∷ an_empty ∷ a_colon ∷ a_rule rule.Reflexivity ∷ []
-past_side rhs = a_colon ∷ a_rule rule.Reflexivity ∷ []
-past_side by = []
-past_side wide = a_colon ∷ an_empty ∷ []
-past_side narrow = []
+abbrev pub MayEnd : Shape → Type 0
+MayEnd s = (rest : List TokenForm) × Ends s rest
 
-abbrev past_first : After → List TokenForm
-past_first nothing = []
-past_first second = a_number ∷ []
-past_first (sets k) = a_with ∷ an_empty ∷ past_side k
+part_ends : (words : Bool) (k : Part) → MayEnd (past words k)
+part_ends words heading = (
+  a_colon ∷ an_empty ∷ an_arrow ∷ an_empty ∷ a_colon ∷ a_rule rule.Reflexivity ∷ [],
+  (past false ending, refl, refl),
+)
+part_ends words lhs = (an_arrow ∷ an_empty ∷ a_colon ∷ a_rule rule.Reflexivity ∷ [], (past false ending, refl, refl))
+part_ends words rhs = (a_colon ∷ a_rule rule.Reflexivity ∷ [], (past false ending, refl, refl))
+part_ends words wide = (a_colon ∷ an_empty ∷ [], (past false narrow, refl, refl))
+part_ends words by = ([], (past words by, refl, refl))
+part_ends words narrow = ([], (past words narrow, refl, refl))
+part_ends words ending = ([], (past words ending, refl, refl))
 
-abbrev pub completion : Shape → List TokenForm
-completion at_start = a_number ∷ a_colon ∷ an_empty ∷ past_side lhs
-completion past_number = a_colon ∷ an_empty ∷ past_side lhs
-completion (at_side k) = an_empty ∷ past_side k
-completion (past_words k) = past_side k
-completion (past_empty k) = past_side k
-completion at_rule = a_rule rule.Reflexivity ∷ []
-completion (at_premise a) = a_number ∷ past_first a
-completion (at_with k) = a_with ∷ an_empty ∷ past_side k
-completion at_end = []
-
-side_completed : (k : Side) → Ends (past_empty k) (past_side k)
-side_completed lhs = record { last = at_end; leads = refl; final = refl }
-side_completed rhs = record { last = at_end; leads = refl; final = refl }
-side_completed by = record { last = past_empty by; leads = refl; final = refl }
-side_completed wide = record { last = past_empty narrow; leads = refl; final = refl }
-side_completed narrow = record { last = past_empty narrow; leads = refl; final = refl }
-
-words_completed : (k : Side) → Ends (past_words k) (past_side k)
-words_completed lhs = record { last = at_end; leads = refl; final = refl }
-words_completed rhs = record { last = at_end; leads = refl; final = refl }
-words_completed by = record { last = past_words by; leads = refl; final = refl }
-words_completed wide = record { last = past_empty narrow; leads = refl; final = refl }
-words_completed narrow = record { last = past_words narrow; leads = refl; final = refl }
-
-first_completed : (a : After) → Ends (past_premise a) (past_first a)
-first_completed nothing = record { last = at_end; leads = refl; final = refl }
-first_completed second = record { last = at_end; leads = refl; final = refl }
-first_completed (sets k) = let rest = side_completed k in record {
-  last = rest.last;
-  leads = rest.leads;
-  final =
-      rest.final;
-}
-
-pub completed : (s : Shape) → Ends s (completion s)
-completed at_start = record { last = at_end; leads = refl; final = refl }
-completed past_number = record { last = at_end; leads = refl; final = refl }
-completed (at_side k) = let rest = side_completed k in record {
-  last = rest.last;
-  leads = rest.leads;
-  final =
-      rest.final;
-}
-completed (past_words k) = words_completed k
-completed (past_empty k) = side_completed k
-completed at_rule = record { last = at_end; leads = refl; final = refl }
-completed (at_premise a) = let rest = first_completed a in record {
-  last = rest.last;
-  leads = rest.leads;
-  final =
-      rest.final;
-}
-completed (at_with k) = let rest = side_completed k in record {
-  last = rest.last;
-  leads = rest.leads;
-  final =
-      rest.final;
-}
-completed at_end = record { last = at_end; leads = refl; final = refl }
+pub may_end : (s : Shape) → MayEnd s
+may_end (at_number first) = let more = part_ends false heading in (a_number ∷ more.0, more.1)
+may_end (at_number nothing) = (a_number ∷ [], (past false ending, refl, refl))
+may_end (at_number second) = (a_number ∷ a_number ∷ [], (past false ending, refl, refl))
+may_end (at_number (sets k)) = let more = part_ends false k in (a_number ∷ a_with ∷ an_empty ∷ more.0, more.1)
+may_end (at_side k) = let more = part_ends false k in (an_empty ∷ more.0, more.1)
+may_end (past words k) = part_ends words k
+may_end at_rule = (a_rule rule.Reflexivity ∷ [], (past false ending, refl, refl))
+may_end (at_with k) = let more = part_ends false k in (a_with ∷ an_empty ∷ more.0, more.1)

@@ -19,7 +19,8 @@ use Rattle.proof_grammar.specs.Spelling.{AreNodes, uses}
 use Rattle.proof_grammar.specs.Texts.{read_as, line_kind, read_one, read_certificate_lines}
 use Rattle.proof_grammar.proofs.CountedLines.{counted, Counts, kind_counts, line_of_attributes}
 use Rattle.proof_grammar.proofs.DepthLemmas.{uses_first, nodes_size}
-use Rattle.proof_grammar.proofs.EnteredLaws.{used_after, entered_back}
+use Rattle.proof_grammar.proofs.EnteredLaws.{used_after}
+use Rattle.proof_grammar.proofs.EnteredRefusals.{entered_back}
 use Rattle.proof_grammar.proofs.LineLaws.{line_back}
 use Rattle.proof_grammar.proofs.NodeLemmas.{uses-append}
 use Rattle.proof_grammar.specs.Refusals.{StandsAt}
@@ -86,7 +87,7 @@ walk_line s text after whole all grown number here texts before fresh lines tree
     let own = line_of_attributes s here l means in
     let count = nodes_size s [] lines trees afterwards.read.nodes in
     let room : length trees < MOST_NODES = omega (arith, goes.read.few_lines, ap length goes.lines_whole, length-append lines (l ∷ more), count) in
-    let enters = entered_back s number (λ n. uses n lines) trees book l u afterwards.follows own goes.nodes.0 room deep single in
+    let enters = entered_back s number lines trees book l u afterwards.follows own goes.nodes.0 room deep single in
     let next = enters.0 in
     let stands : StandsAt text before here number =
     record { after = texts ++ after; cut = up.cut; number = up.number_is; counts = counts_here s text before fresh lines trees book here afterwards counts } in
