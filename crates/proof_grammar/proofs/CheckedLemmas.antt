@@ -2,6 +2,7 @@
 use Rattle.std.proofs.Common.{◌≡◌, ◌<◌, ◌≤◌, ◌+◌, ◌-◌, ◌==◌, ℕ, zero, suc, Bool, true, false, List, [], ◌∷◌, ◌++◌, length, Option, Some, None, Result, Ok, Err, refl, sym, ◌∙◌, ap, subst, cond, max, arith, nat_lt, nat_le, length-append}
 use Rattle.std.specs.Prelude.{slice_get, slice_set, ◌&&◌, option_map}
 use Rattle.std.proofs.lemmas.Bool.Decides.{nat_tests}
+use Rattle.std.proofs.lemmas.List.{length-set}
 use Rattle.dep_model.specs.declared.schema.Schema.{Schema}
 use Rattle.dep_model.specs.Dependencies.{Dependency, left_of, right_of}
 use Rattle.derivation.specs.declared.fault.FaultKind.{FaultKind}
@@ -40,11 +41,6 @@ all_nodes-close : (os : List (Option Opened)) (i : ℕ) → all_nodes (slice_set
 all_nodes-close [] i = refl
 all_nodes-close (o ∷ os) zero = omega arith
 all_nodes-close (o ∷ os) (suc i) = omega (arith, all_nodes-close os i)
-
-length-close : (os : List (Option Opened)) (i : ℕ) → length (slice_set os i None) ≡ length os
-length-close [] i = refl
-length-close (o ∷ os) zero = refl
-length-close (o ∷ os) (suc i) = ap suc (length-close os i)
 
 pub AllStand-push : (s : Schema) (os : List (Option Opened)) (o : Opened) → AllStand s os → Stands s o → AllStand s (os ++ Some o ∷ [])
 AllStand-push s [] o all stands = (stands, tt {0})
@@ -103,7 +99,7 @@ step_cases s rule os q p true (Some o) e all h =
     let stands = open_stands s os q o all e in
     subst (IsPrepared s os) (the_ok {A = Prepared} {E = Complaint} _ p h)
     (known_node s os (closed os q) (o.levels + 1) (step rule o.tree) (step_conclusion s rule o.conclusion)
-    (AllStand-close s os (q - 1) all) (length-close os (q - 1)) (λ d given_d. (o.conclusion, stands.proves, given_d))
+    (AllStand-close s os (q - 1) all) (length-set os (q - 1) None) (λ d given_d. (o.conclusion, stands.proves, given_d))
     (omega (arith, stands.levels)) (omega (arith, closed_count os q o e)))
 
 pair_cases : (s : Schema) (rule : Pair) (os : List (Option Opened)) (q r : ℕ) (p : Prepared) (b : Bool) (o u : Option Opened) → open_at os q ≡ o → open_at (closed os q) r ≡ u → AllStand s os
@@ -117,7 +113,7 @@ pair_cases s rule os q r p true (Some o) (Some u) e f all h =
     let second = open_stands s (closed os q) r u rest f in
     subst (IsPrepared s os) (the_ok {A = Prepared} {E = Complaint} _ p h)
     (known_node s os (closed (closed os q) r) (max o.levels u.levels + 1) (pair rule o.tree u.tree) (pair_conclusion rule o.conclusion u.conclusion)
-    (AllStand-close s (closed os q) (r - 1) rest) (length-close (closed os q) (r - 1) ∙ length-close os (q - 1))
+    (AllStand-close s (closed os q) (r - 1) rest) (length-set (closed os q) (r - 1) None ∙ length-set os (q - 1) None)
     (λ d given_d. (o.conclusion, u.conclusion, first.proves, second.proves, given_d))
     (omega (arith, first.levels, second.levels)) (omega (arith, closed_count os q o e, closed_count (closed os q) r u f)))
 
@@ -133,7 +129,7 @@ pub bind_ok : {A B E : Type 0} (r : Result A E) (f : A → Result B E) (y : B) �
 bind_ok (Ok x) f y h = (x, refl, h)
 bind_ok (Err e) f y h = cc
 
-kept : {A E : Type 0} (b : Bool) (r : Result A E) (e : E) (y : A) → cond b r (Err e) ≡ Ok y → r ≡ Ok y
+pub kept : {A E : Type 0} (b : Bool) (r : Result A E) (e : E) (y : A) → cond b r (Err e) ≡ Ok y → r ≡ Ok y
 kept true r e y h = h
 kept false r e y h = cc
 

@@ -4,7 +4,8 @@ use Rattle.std.specs.Prelude.{filter, nat_eq, max}
 use Rattle.std.specs.List.{flat_map}
 use Rattle.std.proofs.lemmas.Bool.Decides.{nat_tests}
 use Rattle.std.proofs.lemmas.List.Elements.{filter-append}
-use Rattle.std.proofs.lemmas.Option.{slice_get_within}
+use Rattle.std.proofs.lemmas.List.{get_or_append_left}
+use Rattle.std.proofs.lemmas.Option.{get_or_from_slice_get, slice_get-get_or, slice_get_within}
 use Rattle.dep_model.specs.declared.schema.Schema.{Schema}
 use Rattle.derivation.specs.Trees.{Tree, depth}
 use Rattle.proof_grammar.specs.Lines.{Body, by_given, by_reflexivity, by_mreflexivity, by_step, by_pair, Line}
@@ -65,14 +66,6 @@ record IsUsed (prior ts : List Tree) (n : ℕ) : Type 0 where
   below : IsBelow (prior ++ ts) n tree
   later : n ≤ length prior + at
 
-get_more : (xs ys : List Tree) (i : ℕ) (x : Tree) → slice_get xs i ≡ Some x → slice_get (xs ++ ys) i ≡ Some x
-get_more [] ys i x e = cc
-get_more (y ∷ xs) ys zero x e = e
-get_more (y ∷ xs) ys (suc i) x e = get_more xs ys i x e
-
-below_more : (prior more : List Tree) (n : ℕ) (w : Tree) → IsBelow prior n w → IsBelow (prior ++ more) n w
-below_more prior more n w is = record { premise = is.premise; at = record { before = is.at.before; number = is.at.number; tree = get_more prior more is.at.before is.premise is.at.tree }; less = is.less }
-
 user : (s : Schema) (prior : List Tree) (ls : List Line) (ts : List Tree) (n : ℕ) → AreNodes s prior ls ts → 0 < uses n ls → IsUsed prior ts n
 user s prior [] [] n are some = let none : ⊥ = omega (arith, some) in absurd none
 user s prior [] (t ∷ ts) n are some = absurd are
@@ -92,13 +85,21 @@ user s prior (l ∷ ls) (t ∷ ts) n (here, rest) some = told (user s (prior ++ 
         }
     told more false is =
         let below = line_below prior l l.body t n here.tree (grind (arith, nat_tests, is)) in
-        let inside = slice_get_within prior below.at.before below.premise below.at.tree in
-        record { at = 0; tree = t; here = refl; below = below_more prior (t ∷ ts) n t below; later = omega (arith, inside, below.at.number) }
+        let i = below.at.before in
+        let u = below.premise in
+        let inside = slice_get_within prior i u below.at.tree in
+        let whole : i < length (prior ++ t ∷ ts) = omega (arith, inside, length-append prior (t ∷ ts)) in
+        let still : slice_get (prior ++ t ∷ ts) i ≡ Some u =
+        slice_get-get_or (prior ++ t ∷ ts) i u whole ∙ ap Some (get_or_append_left prior (t ∷ ts) u i inside ∙ get_or_from_slice_get prior i u u below.at.tree) in
+        record {
+          at = 0;
+          tree = t;
+          here = refl;
+          below = record { premise = u; at = record { before = i; number = below.at.number; tree = still }; less = below.less };
+          later = omega (arith, inside, below.at.number);
+        }
 
 -- ---- up to the root
-some_one : (x y : Tree) → Some x ≡ Some y → x ≡ y
-some_one x y e = cc
-
 climb : (s : Schema) (lines : List Line) (t : Tree) (are : AreNodesOf s lines t) (k i : ℕ) (u : Tree) → length lines ≤ i + k + 1 → slice_get (are.before ++ t ∷ []) i ≡ Some u → depth u ≤ depth t
 climb s lines t are zero i u far here =
     let all = are.before ++ t ∷ [] in
@@ -106,7 +107,8 @@ climb s lines t are zero i u far here =
     let size : length all ≡ length are.before + 1 = length-append are.before (t ∷ []) in
     let count = nodes_size s [] lines all are.nodes in
     let last : i ≡ length are.before = omega (arith, far, inside, size, count) in
-    let same : u ≡ t = some_one u t (sym here ∙ ap (slice_get all) last ∙ seam are.before t []) in
+    let both : Some u ≡ Some t = sym here ∙ ap (slice_get all) last ∙ seam are.before t [] in
+    let same : u ≡ t = cc in
     omega (arith, ap depth same)
 climb s lines t are (suc k) i u far here = told (climb s lines t are k) (i + 1 == length lines) refl
   where
@@ -121,7 +123,8 @@ climb s lines t are (suc k) i u far here = told (climb s lines t are k) (i + 1 =
         let once = are.used (i + 1) (omega arith) (grind (arith, nat_tests, other, inside, count)) in
         let used = user s [] lines all (i + 1) are.nodes (omega (arith, once)) in
         let at : used.below.at.before ≡ i = omega (arith, used.below.at.number) in
-        let same : used.below.premise ≡ u = some_one used.below.premise u (sym used.below.at.tree ∙ ap (slice_get all) at ∙ here) in
+        let both : Some used.below.premise ≡ Some u = sym used.below.at.tree ∙ ap (slice_get all) at ∙ here in
+        let same : used.below.premise ≡ u = cc in
         omega (arith, more used.at used.tree (omega (arith, far, used.later)) used.here, used.below.less, ap depth same)
 
 pub no_deeper : (s : Schema) (lines : List Line) (t : Tree) (are : AreNodesOf s lines t) (i : ℕ) (u : Tree) → slice_get (are.before ++ t ∷ []) i ≡ Some u → depth u ≤ depth t

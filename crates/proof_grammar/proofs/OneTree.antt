@@ -6,23 +6,21 @@ use Rattle.derivation.proofs.RuleTableLemmas.{the_ok}
 use Rattle.schema_grammar.specs.declared.refusal.SchemaRefusal.{SchemaRefusal}
 use Rattle.dep_model.specs.Schemas.{names_of}
 use Rattle.proof_grammar.specs.Lines.{Body, by_given, by_reflexivity, by_mreflexivity, by_step, by_pair, Line}
-use Rattle.proof_grammar.specs.Meanings.{MeansLine, MeanLines, certificate_lines}
+use Rattle.proof_grammar.specs.Meanings.{MeanLines, certificate_lines}
 use Rattle.proof_grammar.specs.Spelling.{IsTreeAt, IsTreeOf, AreNodes, Spells}
 use Rattle.proof_grammar.proofs.LineLaws.{line_back}
 use Rattle.proof_grammar.proofs.NodeLemmas.{seam}
 
--- a text means one line at most
-one_line : (names : List (List ℕ)) (text : List ℕ) (l m : Line) → MeansLine names text l → MeansLine names text m → l ≡ m
-one_line names text l m first second =
-    the_ok {A = Line} {E = SchemaRefusal} l m (sym (line_back names 1 text l first) ∙ line_back names 1 text m second)
-
+-- texts mean one list of lines at most
 one_list : (names : List (List ℕ)) (texts : List (List ℕ)) (ls ms : List Line) → MeanLines names texts ls → MeanLines names texts ms → ls ≡ ms
 one_list names [] [] [] first second = refl
 one_list names [] [] (m ∷ ms) first second = absurd second
 one_list names [] (l ∷ ls) ms first second = absurd first
 one_list names (text ∷ texts) [] ms first second = absurd first
 one_list names (text ∷ texts) (l ∷ ls) [] first second = absurd second
-one_list names (text ∷ texts) (l ∷ ls) (m ∷ ms) (here, rest) (there, others) = (λ i. one_line names text l m here there i ∷ one_list names texts ls ms rest others i)
+one_list names (text ∷ texts) (l ∷ ls) (m ∷ ms) (here, rest) (there, others) =
+    let same : l ≡ m = the_ok {A = Line} {E = SchemaRefusal} l m (sym (line_back names 1 text l here) ∙ line_back names 1 text m there) in
+    (λ i. same i ∷ one_list names texts ls ms rest others i)
 
 -- lines are nodes of one list of trees at most
 pub same_tree : (trees : List Tree) (p : ℕ) (t u : Tree) → IsTreeAt trees p t → IsTreeAt trees p u → t ≡ u

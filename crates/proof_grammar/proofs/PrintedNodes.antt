@@ -1,12 +1,13 @@
 -- The lines in which a derivation is printed are the nodes of its tree, each but the last used once.
 use Rattle.std.proofs.Common.{◌≡◌, ℕ, ◌+◌, List, [], ◌∷◌, ◌++◌, length, refl, sym, ◌∙◌, ap, arith, length-append, append_assoc}
-use Rattle.std.specs.Prelude.{Ok, ◌&&◌}
+use Rattle.std.specs.Prelude.{Ok, ◌&&◌, nat_eq}
+use Rattle.std.proofs.lemmas.Bool.Decides.{nat_tests}
 use Rattle.attr_sets.specs.Sets.{is_within}
 use Rattle.dep_model.specs.declared.schema.Schema.{Schema}
 use Rattle.dep_model.specs.Dependencies.{Dependency, fd, mvd, left_of, right_of}
 use Rattle.dep_model.specs.Schemas.{universe_of}
 use Rattle.derivation.specs.declared.fault.FaultKind.TheVariants.{NotWithin}
-use Rattle.derivation.specs.Trees.{Leaf, given, reflexivity, mreflexivity, Step, Pair, Tree, leaf, step, pair, nodes}
+use Rattle.derivation.specs.Trees.{Leaf, given, reflexivity, mreflexivity, Tree, leaf, step, pair, nodes}
 use Rattle.derivation.specs.Conclusions.{Proves, concluded}
 use Rattle.derivation.specs.Table.{leaf_conclusion}
 use Rattle.derivation.proofs.ConclusionLemmas.{concluded-from}
@@ -14,36 +15,9 @@ use Rattle.derivation.proofs.RuleTableLemmas.{chosen}
 use Rattle.derivation.proofs.TreeLemmas.{nodes-pos}
 use Rattle.proof_grammar.specs.Lines.{by_step, by_pair}
 use Rattle.proof_grammar.specs.Printing.{leaf_body, numbered_line, node_lines_after}
-use Rattle.proof_grammar.specs.Spelling.{AreNodes, IsTreeOf, IsNode, AreNodesOf}
-use Rattle.proof_grammar.proofs.NodeLemmas.{AreNodes-append, IsTreeAt-seam, UseOwn, leaf_uses, step_uses, pair_uses}
-
--- ---- the lines, where the tree proves a dependency
-pub leaf_after : (s : Schema) (n : ℕ) (rule : Leaf) (d : Dependency) → Proves s (leaf rule) d
-    → node_lines_after s n (leaf rule) ≡ numbered_line (n + 1) d (leaf_body rule) ∷ []
-leaf_after s n rule d proves = let concludes : concluded s 0 (leaf rule) ≡ Ok d = concluded-from s 0 (leaf rule) d proves in rw concludes refl
-
-pub step_after : (s : Schema) (n : ℕ) (rule : Step) (t : Tree) (d : Dependency) → Proves s (step rule t) d
-    → node_lines_after s n (step rule t) ≡ node_lines_after s n t ++ numbered_line (n + nodes t + 1) d (by_step rule (n + nodes t)) ∷ []
-step_after s n rule t d proves = let concludes : concluded s 0 (step rule t) ≡ Ok d = concluded-from s 0 (step rule t) d proves in rw concludes refl
-
-pub pair_after : (s : Schema) (n : ℕ) (rule : Pair) (t u : Tree) (d : Dependency) → Proves s (pair rule t u) d
-    → node_lines_after s n (pair rule t u)
-    ≡ (node_lines_after s n t ++ node_lines_after s (n + nodes t) u) ++ numbered_line (n + nodes t + nodes u + 1) d (by_pair rule (n + nodes t) (n + nodes t + nodes u)) ∷ []
-pair_after s n rule t u d proves = let concludes : concluded s 0 (pair rule t u) ≡ Ok d = concluded-from s 0 (pair rule t u) d proves in rw concludes refl
-
--- ---- how many
-pub printed_count : (s : Schema) (t : Tree) (d : Dependency) (n : ℕ) → Proves s t d → length (node_lines_after s n t) ≡ nodes t
-printed_count s (leaf rule) d n proves = rw (leaf_after s n rule d proves) refl
-printed_count s (step rule t) d n proves =
-    let last = numbered_line (n + nodes t + 1) d (by_step rule (n + nodes t)) ∷ [] in
-    ap length (step_after s n rule t d proves) ∙ length-append (node_lines_after s n t) last ∙ ap (λ m. m + 1) (printed_count s t proves.0 n proves.1)
-printed_count s (pair rule t u) d n proves =
-    let xs = node_lines_after s n t in
-    let ys = node_lines_after s (n + nodes t) u in
-    let last = numbered_line (n + nodes t + nodes u + 1) d (by_pair rule (n + nodes t) (n + nodes t + nodes u)) ∷ [] in
-    let first = printed_count s t proves.0 n proves.2 in
-    let second = printed_count s u proves.1 (n + nodes t) proves.3 in
-    omega (arith, ap length (pair_after s n rule t u d proves), length-append (xs ++ ys) last, length-append xs ys, first, second)
+use Rattle.proof_grammar.specs.Spelling.{AreNodes, IsTreeOf, IsNode, AreNodesOf, uses}
+use Rattle.proof_grammar.proofs.DepthLemmas.{nodes_size}
+use Rattle.proof_grammar.proofs.NodeLemmas.{AreNodes-append, IsTreeAt-seam, uses-append, once, between, filtered_more}
 
 -- ---- the nodes
 -- the nodes but the root, in post-order
@@ -76,7 +50,7 @@ printed_after : (s : Schema) (t : Tree) (d : Dependency) (n : ℕ) (before : Lis
 printed_after s (leaf rule) d n before count proves =
     let node : IsNode s before (numbered_line (n + 1) d (leaf_body rule)) (leaf rule) =
     record { number = omega arith; tree = leaf_tree s before (n + 1) rule d proves; states = proves } in
-    rw (leaf_after s n rule d proves) (node, tt {0})
+    let concludes : concluded s 0 (leaf rule) ≡ Ok d = concluded-from s 0 (leaf rule) d proves in rw concludes (node, tt {0})
 printed_after s (step rule t) d n before count proves =
     let last = numbered_line (n + nodes t + 1) d (by_step rule (n + nodes t)) in
     let trees = below_root t ++ t ∷ [] in
@@ -87,7 +61,8 @@ printed_after s (step rule t) d n before count proves =
     let at = IsTreeAt-seam (before ++ trees) (before ++ below_root t) t [] (n + nodes t) (sym (append_assoc before (below_root t) (t ∷ []))) (omega arith) in
     let node : IsNode s (before ++ trees) last (step rule t) =
     record { number = omega arith; tree = record { premise = t; earlier = at; tree = refl }; states = proves } in
-    rw (step_after s n rule t d proves)
+    let concludes : concluded s 0 (step rule t) ≡ Ok d = concluded-from s 0 (step rule t) d proves in
+    rw concludes
     (AreNodes-append s before (node_lines_after s n t) trees (last ∷ []) (step rule t ∷ []) (printed_after s t proves.0 n before count proves.1) (node, tt {0}))
 printed_after s (pair rule t u) d n before count proves =
     let last = numbered_line (n + nodes t + nodes u + 1) d (by_pair rule (n + nodes t) (n + nodes t + nodes u)) in
@@ -110,28 +85,48 @@ printed_after s (pair rule t u) d n before count proves =
     let node : IsNode s (before ++ (ts ++ us)) last (pair rule t u) =
     record { number = omega arith; tree = record { first = t; second = u; first_earlier = first_at; second_earlier = second_at; tree = refl }; states = proves } in
     let premises = AreNodes-append s before (node_lines_after s n t) ts (node_lines_after s (n + nodes t) u) us (printed_after s t proves.0 n before count proves.2) (printed_after s u proves.1 (n + nodes t) (before ++ ts) after_the_first proves.3) in
-    rw (pair_after s n rule t u d proves)
+    let concludes : concluded s 0 (pair rule t u) ≡ Ok d = concluded-from s 0 (pair rule t u) d proves in
+    rw concludes
     (AreNodes-append s before (node_lines_after s n t ++ node_lines_after s (n + nodes t) u) (ts ++ us) (last ∷ []) (pair rule t u ∷ []) premises (node, tt {0}))
 
 -- ---- the uses
-pub printed_uses : (s : Schema) (t : Tree) (d : Dependency) (n : ℕ) → Proves s t d → UseOwn (node_lines_after s n t) n (nodes t)
-printed_uses s (leaf rule) d n proves = rw (leaf_after s n rule d proves) (leaf_uses n d rule)
-printed_uses s (step rule t) d n proves =
-    rw (step_after s n rule t d proves)
-    (step_uses (node_lines_after s n t) n (nodes t) (n + nodes t + 1) d rule (nodes-pos t) (printed_uses s t proves.0 n proves.1))
-printed_uses s (pair rule t u) d n proves =
-    let first = printed_uses s t proves.0 n proves.2 in
-    let second = printed_uses s u proves.1 (n + nodes t) proves.3 in
-    rw (pair_after s n rule t u d proves)
-    (pair_uses (node_lines_after s n t) (node_lines_after s (n + nodes t) u) n (nodes t) (nodes u) (n + nodes t + nodes u + 1) d rule (nodes-pos t) (nodes-pos u) first second)
+-- after n others, lines use each of their own but the last once, and no line else
+printed_uses : (s : Schema) (t : Tree) (d : Dependency) (n k : ℕ) → Proves s t d
+    → uses k (node_lines_after s n t) + once k (n + nodes t) ≡ between k n (n + nodes t)
+printed_uses s (leaf rule) d n k proves =
+    let unused : uses k (numbered_line (n + 1) d (leaf_body rule) ∷ []) ≡ 0 =
+    elim rule as (λ r. uses k (numbered_line (n + 1) d (leaf_body r) ∷ []) ≡ 0) [ given i ↦ refl | reflexivity x y ↦ refl | mreflexivity x y ↦ refl ] in
+    let concludes : concluded s 0 (leaf rule) ≡ Ok d = concluded-from s 0 (leaf rule) d proves in
+    rw (concludes, unused) (grind (arith, nat_tests))
+printed_uses s (step rule t) d n k proves =
+    let p = n + nodes t in
+    let lines = node_lines_after s n t in
+    let last = numbered_line (p + 1) d (by_step rule p) ∷ [] in
+    let own : uses k last ≡ once k p = filtered_more k p [] (nat_eq k p) refl ∙ omega arith in
+    let more = printed_uses s t proves.0 n k proves.1 in
+    let some = nodes-pos t in
+    let concludes : concluded s 0 (step rule t) ≡ Ok d = concluded-from s 0 (step rule t) d proves in
+    rw (concludes, uses-append k lines last, own) (grind (arith, nat_tests, more, some))
+printed_uses s (pair rule t u) d n k proves =
+    let p = n + nodes t in
+    let q = p + nodes u in
+    let xs = node_lines_after s n t in
+    let ys = node_lines_after s p u in
+    let last = numbered_line (q + 1) d (by_pair rule p q) ∷ [] in
+    let own : uses k last ≡ once k p + once k q =
+    filtered_more k p (q ∷ []) (nat_eq k p) refl ∙ ap (λ m. once k p + m) (filtered_more k q [] (nat_eq k q) refl) ∙ omega arith in
+    let first = printed_uses s t proves.0 n k proves.2 in
+    let second = printed_uses s u proves.1 p k proves.3 in
+    let some = nodes-pos t in
+    let more = nodes-pos u in
+    let concludes : concluded s 0 (pair rule t u) ≡ Ok d = concluded-from s 0 (pair rule t u) d proves in
+    rw (concludes, uses-append k (xs ++ ys) last, uses-append k xs ys, own) (grind (arith, nat_tests, first, second, some, more))
 
 -- each line is a node, and each but the last is used once
 pub printed_nodes : (s : Schema) (t : Tree) (d : Dependency) → Proves s t d → AreNodesOf s (node_lines_after s 0 t) t
 printed_nodes s t d proves =
-    let count = printed_count s t d 0 proves in
-    let each = printed_uses s t d 0 proves in
-    record {
-      before = below_root t;
-      nodes = printed_after s t d 0 [] refl proves;
-      used = λ k low high. each.own k low (omega (arith, count));
-    }
+    let nodes_are = printed_after s t d 0 [] refl proves in
+    let count = nodes_size s [] (node_lines_after s 0 t) (below_root t ++ t ∷ []) nodes_are in
+    let size = length-append (below_root t) (t ∷ []) in
+    let high : length (node_lines_after s 0 t) ≡ nodes t = omega (arith, count, size, length-below_root t) in
+    record { before = below_root t; nodes = nodes_are; used = λ k low inside. grind (arith, nat_tests, printed_uses s t d 0 k proves, high) }

@@ -1,10 +1,10 @@
 -- The reader after some lines of a text: what they mean, and at which lines of the text they stand.
-use Rattle.std.proofs.Common.{◌≡◌, ◌<◌, ◌≤◌, ◌+◌, ◌-◌, ◌==◌, ℕ, zero, suc, Bool, true, false, cond, List, [], ◌∷◌, ◌++◌, length, Option, Some, None, Result, Ok, Err, refl, sym, ◌∙◌, ap, subst, arith, length-append, append_assoc}
-use Rattle.std.specs.Prelude.{All, nat_lt, slice_index}
+use Rattle.std.proofs.Common.{◌≡◌, ◌<◌, ◌≤◌, ◌+◌, ◌-◌, ◌==◌, ℕ, suc, Bool, true, false, List, [], ◌∷◌, ◌++◌, length, Option, Some, None, Result, Ok, refl, sym, ◌∙◌, ap, subst, arith, length-append, append_assoc}
+use Rattle.std.specs.Prelude.{nat_lt, slice_index}
 use Rattle.std.proofs.Math.Seq.{get_or-append_seam}
 use Rattle.std.proofs.lemmas.Bool.Decides.{nat_tests}
 use Rattle.std.proofs.lemmas.List.{append-nil, get_or_append_left}
-use Rattle.std.proofs.lemmas.List.Elements.{All-append}
+use Rattle.std.proofs.lemmas.List.Elements.{All-push}
 use Rattle.dep_model.specs.declared.schema.Schema.{Schema}
 use Rattle.dep_model.specs.Schemas.{names_of}
 use Rattle.derivation.specs.declared.measures.TheConstants.{MOST_LEVELS}
@@ -18,7 +18,7 @@ use Rattle.proof_grammar.specs.Meanings.{certificate_lines_of, MeansLine, MeanLi
 use Rattle.schema_grammar.specs.Rests.{◌>>=◌}
 use Rattle.proof_grammar.specs.Spelling.{uses}
 use Rattle.proof_grammar.specs.Texts.{at_line, read_certificate_lines}
-use Rattle.proof_grammar.proofs.CheckedLemmas.{bind_ok}
+use Rattle.proof_grammar.proofs.CheckedLemmas.{bind_ok, kept}
 use Rattle.proof_grammar.proofs.CountedLines.{counted, Counts}
 use Rattle.proof_grammar.proofs.DepthLemmas.{uses_first, nodes_size}
 use Rattle.proof_grammar.proofs.EnteredLaws.{Follows, IsEntered, used_after}
@@ -37,12 +37,6 @@ abbrev pub read_from : Schema → ℕ → List (List ℕ) → Result (Bool × Le
 read_from s number texts r = at_line number r >>= λ next. read_certificate_lines s next.0 (number + 1) next.1 texts
 
 -- ---- what follows lines
-pub follows_same : (s : Schema) (used other : ℕ → ℕ) (ts : List Tree) (book : Ledger) → ((n : ℕ) → used n ≡ other n) → Follows s used ts book → Follows s other ts book
-follows_same s used other ts book same follows = record {
-  slots = slots_same s used other 0 ts book.unused (λ m h. same m) follows.slots;
-  fresh = λ n h. sym (same n) ∙ follows.fresh n h;
-}
-
 -- no line is used twice
 follows_once : (s : Schema) (used : ℕ → ℕ) (ts : List Tree) (book : Ledger) (n : ℕ) → Follows s used ts book → 0 < n → used n ≤ 1
 follows_once s used ts book n follows low = told (nat_lt (n - 1) (length book.unused)) refl
@@ -71,14 +65,10 @@ entered_adds s at book next l h =
     let os = book.unused in
     let add = λ (p : Prepared) (o : Opened). add_line at book.lines p.unused o in
     let settle = λ (p : Prepared). settled (length os) l p.levels p.outcome in
-    let whole = numbered (l.number == length os + 1) (prepared s os l.stated l.body >>= λ p. settle p >>= λ o. Ok (add p o)) h in
+    let whole = kept (l.number == length os + 1) (prepared s os l.stated l.body >>= λ p. settle p >>= λ o. Ok (add p o)) wrong_number next h in
     let first = bind_ok (prepared s os l.stated l.body) (λ p. settle p >>= λ o. Ok (add p o)) next whole in
     let second = bind_ok (settle first.0) (λ o. Ok (add first.0 o)) next first.2 in
     sym (ap (λ (b : Ledger). b.lines) (the_ok {A = Ledger} {E = Complaint} (add first.0 second.0) next second.2))
-  where
-    numbered : (b : Bool) (r : Result Ledger Complaint) → cond b r (Err wrong_number) ≡ Ok next → r ≡ Ok next
-    numbered true r g = g
-    numbered false r g = cc
 
 -- ---- lines and what they mean
 pub mean_size : (names : List (List ℕ)) (texts : List (List ℕ)) (lines : List Line) → MeanLines names texts lines → length texts ≡ length lines
@@ -97,10 +87,6 @@ mean_more names (t ∷ ts) (m ∷ ms) text l mean means = (mean.0, mean_more nam
 pub nothing_counts : (fresh : Bool) → counted fresh [] ≡ []
 nothing_counts true = refl
 nothing_counts false = refl
-
-flat : (t : Tree) → depth t ≤ MOST_LEVELS → All (λ u. depth u ≤ MOST_LEVELS) (t ∷ [])
-flat t few zero d h = few
-flat t few (suc k) d h = absurd (omega (arith, h))
 
 -- ---- after some lines
 -- where a certificate line after so many others stands in a text
@@ -167,7 +153,7 @@ one_more s text before fresh lines trees book here at l u next afterwards counts
     nodes = AreNodes-append s [] lines trees (l ∷ []) (u ∷ []) afterwards.read.nodes (is.node, tt);
     once = λ n low. follows_once s (λ n. uses n (lines ++ l ∷ [])) (trees ++ u ∷ []) next n follows low;
     few_lines = omega (arith, is.few_lines, count, length-append lines (l ∷ []));
-    few_levels = All-append (λ t. depth t ≤ MOST_LEVELS) trees (u ∷ []) afterwards.read.few_levels (flat u is.few_levels);
+    few_levels = All-push (λ t. depth t ≤ MOST_LEVELS) trees u afterwards.read.few_levels is.few_levels;
   };
   follows = follows;
   size = ap length adds ∙ omega (arith, length-append book.lines (at ∷ []), length-append trees (u ∷ []), afterwards.size);
@@ -190,7 +176,10 @@ one_more s text before fresh lines trees book here at l u next afterwards counts
     sums n = omega (arith, uses-append n lines (l ∷ []), uses_first n l [])
 
     follows : Follows s (λ n. uses n (lines ++ l ∷ [])) (trees ++ u ∷ []) next
-    follows = follows_same s (used_after (λ n. uses n lines) l) (λ n. uses n (lines ++ l ∷ [])) (trees ++ u ∷ []) next sums is.follows
+    follows = record {
+      slots = slots_same s (used_after (λ n. uses n lines) l) (λ n. uses n (lines ++ l ∷ [])) 0 (trees ++ u ∷ []) next.unused (λ n low. sums n) is.follows.slots;
+      fresh = λ n h. sym (sums n) ∙ is.follows.fresh n h;
+    }
 
     place : (i : ℕ) (b : Bool) → nat_lt i (length book.lines) ≡ b → i < length (book.lines ++ at ∷ []) → IsPlace text (slice_index (book.lines ++ at ∷ []) i) i
     place i true e h =

@@ -18,16 +18,7 @@ use Rattle.schema_grammar.specs.Refusals.{at}
 use Rattle.schema_grammar.specs.Words.{is_reserved, looked_up, known}
 use Rattle.schema_grammar.proofs.SideLemmas.{union-only, union-none, named-cons, Names}
 use Rattle.schema_grammar.specs.Rests.{place, Rest, ◌>>=◌, take, taken, words_from, side, side_from, is_word_token}
-
--- a step of a reading that gives a value: its own value, and what follows
-pub record Bound {A B E : Type 0} (r : Result A E) (next : A → Result B E) (y : B) : Type 0 where
-  pub value : A
-  pub is : r ≡ Ok value
-  pub goes_on : next value ≡ Ok y
-
-pub bound : {A B E : Type 0} (r : Result A E) (next : A → Result B E) (y : B) → (r >>= next) ≡ Ok y → Bound r next y
-bound (Ok x) next y e = record { value = x; is = refl; goes_on = e }
-bound (Err why) next y e = cc
+use Rattle.proof_grammar.proofs.CheckedLemmas.{bind_ok}
 
 pub ok_same : {X E : Type 0} (x y : X) (r : Result X E) → r ≡ Ok x → r ≡ Ok y → x ≡ y
 ok_same x y r here there = cc
@@ -102,14 +93,14 @@ words_there names line acc next_column (m ∷ ms) stop x next e =
         → ((a : ℕ) → words_from names line (union acc (only a)) (m.column + length m.word) ms stop ≡ Ok (x, next) → ReadsWords names (union acc (only a)) ms stop x next)
         → ReadsWords names acc (m ∷ ms) stop x next
     told true is e more =
-        let here = bound (place names line m) _ (x, next) e in
-        let names_it = place_there names line m here.value here.is in
-        let rest = more here.value here.goes_on in
+        let here = bind_ok (place names line m) _ (x, next) e in
+        let names_it = place_there names line m here.0 here.1 in
+        let rest = more here.0 here.2 in
         record {
           words = m ∷ rest.words;
           whole = ap (λ t. m ∷ t) rest.whole;
-          each = All-cons (IsAttribute format.Plain names) m rest.words (record { word = word_is m.kind is; free = names_it.free; place = here.value; known = names_it.place }) rest.each;
-          members = rest.members ∙ union-only acc (named names rest.words) here.value ∙ ap (union acc) (sym (named-cons names m rest.words here.value names_it.place));
+          each = All-cons (IsAttribute format.Plain names) m rest.words (record { word = word_is m.kind is; free = names_it.free; place = here.0; known = names_it.place }) rest.each;
+          members = rest.members ∙ union-only acc (named names rest.words) here.0 ∙ ap (union acc) (sym (named-cons names m rest.words here.0 names_it.place));
           same_stop = rest.same_stop;
         }
     told false is e more = words_none names acc _ x next e
@@ -124,21 +115,21 @@ pub record ReadsSide (names : List (List ℕ)) (r : Rest) (x : Places) (next : R
 pub side_there : (names : List (List ℕ)) (r : Rest) (s : Places × Rest) → side names r ≡ Ok s → ReadsSide names r s.0 s.1
 unfolding side
 side_there names r s e =
-    let first = bound (take what.Side r) _ s e in
-    told first.value.0 first.value.1 (take_there what.Side r first.value first.is) first.value.0.kind refl first.goes_on
+    let first = bind_ok (take what.Side r) _ s e in
+    told first.0.0 first.0.1 (take_there what.Side r first.0 first.1) first.0.0.kind refl first.2
   where
     told : (m : Mark) (next_column : Rest) → Takes r m next_column → (k : TokenKind) → m.kind ≡ k → side_from names m next_column k ≡ Ok s → ReadsSide names r s.0 s.1
     told m next_column takes token.Word is e =
-        let here = bound (place names next_column.line m) _ s e in
-        let names_it = place_there names next_column.line m here.value here.is in
-        let rest = words_there names next_column.line (only here.value) next_column.next_column next_column.marks next_column.stop s.0 s.1 here.goes_on in
+        let here = bind_ok (place names next_column.line m) _ s e in
+        let names_it = place_there names next_column.line m here.0 here.1 in
+        let rest = words_there names next_column.line (only here.0) next_column.next_column next_column.marks next_column.stop s.0 s.1 here.2 in
         record {
           marks = m ∷ rest.words;
           whole = takes.marks ∙ ap (λ t. m ∷ t) rest.whole;
           is_side = inr (record {
             some = omega arith;
-            each = All-cons (IsAttribute format.Plain names) m rest.words (record { word = is; free = names_it.free; place = here.value; known = names_it.place }) rest.each;
-            members = rest.members ∙ sym (named-cons names m rest.words here.value names_it.place);
+            each = All-cons (IsAttribute format.Plain names) m rest.words (record { word = is; free = names_it.free; place = here.0; known = names_it.place }) rest.each;
+            members = rest.members ∙ sym (named-cons names m rest.words here.0 names_it.place);
           });
           stop = rest.same_stop ∙ takes.stop;
         }
@@ -167,23 +158,16 @@ record WordsRead (names : List (List ℕ)) (line : ℕ) (acc : Places) (from : �
   next_column : ℕ
   read : words_from names line acc from (words ++ tail) stop ≡ Ok (x, record { line = line; next_column = next_column; marks = tail; stop = stop })
 
-words_end : (names : List (List ℕ)) (line : ℕ) (acc : Places) (from : ℕ) (tail : List Mark) (stop : Option Stop) → NoWord tail
-    → words_from names line acc from tail stop ≡ Ok (acc, record { line = line; next_column = from; marks = tail; stop = stop })
-unfolding words_from
-words_end names line acc from [] stop other = refl
-words_end names line acc from (m ∷ ms) stop other = rw other refl
-
-word_back : (names : List (List ℕ)) (line : ℕ) (acc : Places) (from : ℕ) (m : Mark) (ms : List Mark) (stop : Option Stop) (attribute : IsAttribute format.Plain names m)
-    → words_from names line acc from (m ∷ ms) stop ≡ words_from names line (union acc (only attribute.place)) (m.column + length m.word) ms stop
-unfolding words_from
-word_back names line acc from m ms stop attribute = rw (attribute.word, place_back names line m attribute) refl
-
 words_back : (names : List (List ℕ)) (line : ℕ) (acc : Places) (from : ℕ) (words tail : List Mark) (stop : Option Stop) → All (IsAttribute format.Plain names) words → NoWord tail
     → WordsRead names line acc from words tail stop (union acc (named names words))
 unfolding words_from
-words_back names line acc from [] tail stop each other = record {
+words_back names line acc from [] [] stop each other = record {
   next_column = from;
-  read = words_end names line acc from tail stop other ∙ ap (λ (x : Places). Ok (x, record { line = line; next_column = from; marks = tail; stop = stop })) (sym (union-none acc (named names []) refl));
+  read = ap (λ (x : Places). Ok (x, record { line = line; next_column = from; marks = []; stop = stop })) (sym (union-none acc (named names []) refl));
+}
+words_back names line acc from [] (m ∷ ms) stop each other = record {
+  next_column = from;
+  read = rw other (ap (λ (x : Places). Ok (x, record { line = line; next_column = from; marks = m ∷ ms; stop = stop })) (sym (union-none acc (named names []) refl)));
 }
 words_back names line acc from (m ∷ words) tail stop each other =
     let here : IsAttribute format.Plain names m = All-head (IsAttribute format.Plain names) m words each in
@@ -192,18 +176,14 @@ words_back names line acc from (m ∷ words) tail stop each other =
     let members = union-only acc (named names words) here.place ∙ ap (union acc) (sym (named-cons names m words here.place here.known)) in
     record {
       next_column = rest.next_column;
-      read = word_back names line acc from m (words ++ tail) stop here ∙ rest.read ∙ ap (λ (x : Places). Ok (x, record { line = line; next_column = rest.next_column; marks = tail; stop = stop })) members;
+      read = simp (here.word, place_back names line m here)
+          (rest.read ∙ ap (λ (x : Places). Ok (x, record { line = line; next_column = rest.next_column; marks = tail; stop = stop })) members);
     }
 
 -- a side that is read from a column
 pub record SideRead (names : List (List ℕ)) (line from : ℕ) (marks tail : List Mark) (stop : Option Stop) (x : Places) : Type 0 where
   pub next_column : ℕ
   pub read : side names (record { line = line; next_column = from; marks = marks ++ tail; stop = stop }) ≡ Ok (x, record { line = line; next_column = next_column; marks = tail; stop = stop })
-
-side_begun : (names : List (List ℕ)) (line from : ℕ) (m : Mark) (ms : List Mark) (stop : Option Stop) (attribute : IsAttribute format.Plain names m)
-    → side names (record { line = line; next_column = from; marks = m ∷ ms; stop = stop }) ≡ words_from names line (only attribute.place) (m.column + length m.word) ms stop
-unfolding side take
-side_begun names line from m ms stop attribute = rw (attribute.word, place_back names line m attribute) refl
 
 pub side_back : (names : List (List ℕ)) (line from : ℕ) (marks tail : List Mark) (stop : Option Stop) (x : Places) → IsSide format.Plain names marks x → NoWord tail
     → SideRead names line from marks tail stop x
@@ -217,5 +197,6 @@ side_back names line from (m ∷ marks) tail stop x (inr words) other =
     let members = sym (named-cons names m marks here.place here.known) ∙ sym words.members in
     record {
       next_column = rest.next_column;
-      read = side_begun names line from m (marks ++ tail) stop here ∙ rest.read ∙ ap (λ (z : Places). Ok (z, record { line = line; next_column = rest.next_column; marks = tail; stop = stop })) members;
+      read = simp (here.word, place_back names line m here)
+          (rest.read ∙ ap (λ (z : Places). Ok (z, record { line = line; next_column = rest.next_column; marks = tail; stop = stop })) members);
     }

@@ -1,5 +1,6 @@
-use Rattle.proof_grammar.proofs.ReadBack.{printed_is_read, answered_is_read}
+use Rattle.std.proofs.Common.{true, false}
+use Rattle.proof_grammar.proofs.ReadBack.{printed_is_read}
 use Rattle.proof_grammar.proofs.laws.printed_is_read.Goals as goal
 
 pub returns : goal.returns
-returns c = record { printed = printed_is_read; answered = answered_is_read }
+returns c = record { printed = printed_is_read false; answered = printed_is_read true }
