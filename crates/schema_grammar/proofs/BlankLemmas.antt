@@ -1,5 +1,5 @@
 -- Which lines have no token.
-use Rattle.std.proofs.Common.{◌≡◌, ℕ, ◌+◌, zero, suc, Bool, true, false, cond, ◌==◌, ◌&&◌, List, [], ◌∷◌, take, nat_eq, None, Some, refl, sym, ◌∙◌, ap, arith}
+use Rattle.std.proofs.Common.{◌≡◌, ℕ, ◌+◌, zero, suc, Bool, true, false, cond, ◌==◌, ◌&&◌, List, [], ◌∷◌, take, nat_eq, refl, sym, ◌∙◌, ap, arith}
 use Rattle.std.specs.List.{starts_with}
 use Rattle.dep_model.specs.Names.{is_name, is_name_byte}
 use Rattle.lexer.specs.declared.piece.Piece.{Piece}
@@ -8,7 +8,7 @@ use Rattle.lexer.specs.declared.token.Mode.{Mode}
 use Rattle.lexer.specs.declared.token.Mode.TheVariants as mode
 use Rattle.lexer.specs.Bytes.{is_gap, is_number, run_length}
 use Rattle.lexer.specs.Pieces.{front, run_piece, takes_numbers, takes_comments}
-use Rattle.lexer.specs.Tokens.{Mark, Lexed, lexed, led_by}
+use Rattle.lexer.specs.Tokens.{Lexed, lexed, led_by}
 use Rattle.schema_grammar.specs.Meanings.{HasTokens}
 
 -- what a piece is to a line without tokens: a gap, a comment, or more than these
@@ -22,54 +22,35 @@ more : (b : Bool) (x y : Piece) → class x ≡ 2 → class y ≡ 2 → class (c
 more true x y h g = h
 more false x y h g = g
 
-run_class : (m : Mode) (run : List ℕ) → class (run_piece m run) ≡ 2
-unfolding run_piece
-run_class m run = more (is_name run) _ _ refl (more (takes_numbers m && is_number run) _ _ refl refl)
-
-gap_case : (b : Bool) (x : Piece) (n : ℕ) → class x ≡ n → class (cond b piece.Gap x) ≡ cond b 0 n
-gap_case true x n h = refl
-gap_case false x n h = h
-
-comment_case : (b : Bool) (x : Piece) → class x ≡ 2 → class (cond b piece.Comment x) ≡ cond b 1 2
-comment_case true x h = refl
-comment_case false x h = h
+class_cond : (b : Bool) (x y : Piece) → class (cond b x y) ≡ cond b (class x) (class y)
+class_cond true x y = refl
+class_cond false x y = refl
 
 -- whether a line has a token does not depend on numbers
 front_class : (m : Mode) (b : ℕ) (bs : List ℕ) → class (front m (b ∷ bs)) ≡ cond (is_gap b) 0 (cond (b == 35 && takes_comments m) 1 2)
-unfolding front
+unfolding front run_piece
 front_class m b bs =
-    gap_case (is_gap b) _ _ (comment_case (b == 35 && takes_comments m) _
-    (more (is_name_byte b) _ _ (run_class m (take (run_length (b ∷ bs)) (b ∷ bs)))
+    let run = take (run_length (b ∷ bs)) (b ∷ bs) in
+    class_cond (is_gap b) _ _ ∙ ap (cond (is_gap b) 0) (class_cond (b == 35 && takes_comments m) _ _ ∙ ap (cond (b == 35 && takes_comments m) 1)
+    (more (is_name_byte b) _ _ (more (is_name run) _ _ refl (more (takes_numbers m && is_number run) _ _ refl refl))
     (more (starts_with nat_eq (b ∷ bs) (45 ∷ 62 ∷ 62 ∷ [])) _ _ refl
     (more (starts_with nat_eq (b ∷ bs) (45 ∷ 62 ∷ [])) _ _ refl
     (more (starts_with nat_eq (b ∷ bs) (40 ∷ 41 ∷ [])) _ _ refl
     (more (b == 58 && takes_numbers m) _ _ refl refl))))))
 
-no_marks : (m : Mark) (ms : List Mark) → m ∷ ms ≡ [] → ⊥
-no_marks m ms e = cc
-
 piece_plain : (p q : Piece) (column : ℕ) (text : List ℕ) (numbered plain : ℕ → Lexed) → class p ≡ class q
     → (HasTokens (numbered 0) [] → HasTokens (plain 0) []) → HasTokens (led_by p column text numbered) [] → HasTokens (led_by q column text plain) []
 piece_plain piece.Gap piece.Gap column text numbered plain same rest h = rest h
-piece_plain piece.Gap piece.Comment column text numbered plain same rest h = refl
-piece_plain piece.Gap (piece.Token k n) column text numbered plain same rest h = absurd (omega arith)
-piece_plain piece.Gap (piece.Flaw why n) column text numbered plain same rest h = absurd (omega arith)
-piece_plain piece.Comment piece.Gap column text numbered plain same rest h = absurd (omega arith)
 piece_plain piece.Comment piece.Comment column text numbered plain same rest h = refl
-piece_plain piece.Comment (piece.Token k n) column text numbered plain same rest h = absurd (omega arith)
-piece_plain piece.Comment (piece.Flaw why n) column text numbered plain same rest h = absurd (omega arith)
-piece_plain (piece.Token k n) q column text numbered plain same rest h = absurd (no_marks _ _ (ap (λ l. l.marks) h))
-piece_plain (piece.Flaw why n) q column text numbered plain same rest h = let wrong : Some _ ≡ None = ap (λ l. l.stop) h in cc
+piece_plain (piece.Token k n) q column text numbered plain same rest h = let wrong = ap (λ l. l.marks) h in cc
+piece_plain (piece.Flaw why n) q column text numbered plain same rest h = let wrong = ap (λ l. l.stop) h in cc
+piece_plain p q column text numbered plain same rest h = absurd (omega arith)
 
-lexed_plain : (skip column : ℕ) (text : List ℕ) → HasTokens (lexed mode.Numbered skip column text) [] → HasTokens (lexed mode.Plain skip column text) []
+-- a line without tokens, numbers counted, has none
+pub lexed_plain : (skip column : ℕ) (text : List ℕ) → HasTokens (lexed mode.Numbered skip column text) [] → HasTokens (lexed mode.Plain skip column text) []
 unfolding lexed
-lexed_plain zero column [] h = refl
-lexed_plain (suc n) column [] h = refl
+lexed_plain skip column [] h = refl
 lexed_plain zero column (b ∷ bs) h =
     piece_plain (front mode.Numbered (b ∷ bs)) (front mode.Plain (b ∷ bs)) column (b ∷ bs) (λ skip. lexed mode.Numbered skip (column + 1) bs) (λ skip. lexed mode.Plain skip (column + 1) bs)
     (front_class mode.Numbered b bs ∙ sym (front_class mode.Plain b bs)) (lexed_plain zero (column + 1) bs) h
 lexed_plain (suc n) column (b ∷ bs) h = lexed_plain n (column + 1) bs h
-
--- a line without tokens, numbers counted, has none
-pub blank_plain : (line : List ℕ) → HasTokens (lexed mode.Numbered 0 1 line) [] → HasTokens (lexed mode.Plain 0 1 line) []
-blank_plain line h = lexed_plain 0 1 line h

@@ -1,10 +1,11 @@
 -- What is printed of a schema means it.
 use Rattle.std.proofs.Common.{◌≡◌, ◌<◌, ◌≤◌, ◌+◌, inl, inr, ℕ, suc, Bool, true, false, cond, List, [], ◌∷◌, ◌++◌, length, get_or, None, Some, refl, sym, ◌∙◌, ap, subst, arith, append_assoc, length-append}
 use Rattle.std.specs.Prelude.{codes, map}
-use Rattle.std.specs.List.{All, list_any, flat_map, Contains}
-use Rattle.std.proofs.lemmas.List.{append-nil, get_or_append_left, get_or_at, length-map}
+use Rattle.std.specs.List.{list_any, flat_map, Contains}
+use Rattle.std.proofs.lemmas.Bool.{cases_Bool}
+use Rattle.std.proofs.lemmas.List.{append-nil, length-map}
 use Rattle.std.proofs.lemmas.List.Elements.{All-nil}
-use Rattle.attr_sets.specs.Places.{Places, below}
+use Rattle.std.proofs.lemmas.List.Folds.{Any-from_list_any}
 use Rattle.attr_sets.specs.declared.set.TheConstants.{PLACES}
 use Rattle.dep_model.specs.declared.column.Column.{Column}
 use Rattle.dep_model.specs.declared.column.Column.TheVariants.{Text, Integer}
@@ -13,7 +14,7 @@ use Rattle.dep_model.specs.Dependencies.{Dependency, IsWithin}
 use Rattle.dep_model.specs.Deps.{dependency_of}
 use Rattle.dep_model.specs.Schemas.{names_of, columns_of, deps_of, theory_of, universe_of}
 use Rattle.dep_model.proofs.DepLemmas.{dependencies_all-from}
-use Rattle.dep_model.specs.Names.{is_name, same_name}
+use Rattle.dep_model.specs.Names.{is_name}
 use Rattle.lexer.specs.declared.token.Mode.TheVariants as mode
 use Rattle.lexer.specs.declared.token.TokenKind.TheVariants as token
 use Rattle.lexer.specs.Bytes.{is_number}
@@ -32,75 +33,59 @@ use Rattle.schema_grammar.specs.Words.{is_reserved, declares, declaring}
 use Rattle.schema_grammar.specs.Printed.{AreNames, IsPrintable}
 use Rattle.schema_grammar.proofs.PrintedLexing.{AllNames, Apart, word_marks, words_end, led_by_marks, words_lexed, name_lexed, blank_lexed}
 use Rattle.schema_grammar.proofs.PrintedDependencies.{led_marks, nothing_left}
-use Rattle.schema_grammar.proofs.PrintedSides.{known_at, IsCutAt, cut_more}
-use Rattle.schema_grammar.proofs.PrintedTexts.{Bytes, bytes_both, words_bytes, EachBytes, lines_cut, numbers, EachWithin, dependencies_mean, each_dependency, none_found}
+use Rattle.schema_grammar.proofs.PrintedSides.{known_at, differ_before, IsCutAt, cut_more}
+use Rattle.schema_grammar.proofs.PrintedTexts.{Bytes, bytes_both, words_bytes, EachBytes, lines_cut, numbers, dependencies_mean, each_dependency, none_found}
 
 -- a word, and words each after a blank
 pub word_line : (word : List ℕ) (words : List (List ℕ)) → is_name word ≡ true → AllNames words
     → HasTokens (lex mode.Plain (word ++ words_text words)) (record { kind = token.Word; column = 1; word = word } ∷ word_marks (1 + length word) words)
 word_line word words proper names =
-    name_lexed mode.Plain 1 word (words_text words) proper (apart words)
+    name_lexed mode.Plain 1 word (words_text words) proper (elim words as (λ ws. Apart (words_text ws)) [ [] ↦ tt | w ∷ ws ↦ refl ])
     ∙ ap (led_by_mark (record { kind = token.Word; column = 1; word = word }))
     (ap (lexed mode.Plain 0 (1 + length word)) (sym (append-nil (words_text words))) ∙ words_lexed mode.Plain (1 + length word) words [] names tt
     ∙ ap (led_by_marks (word_marks (1 + length word) words)) (nothing_left mode.Plain (words_end (1 + length word) words)) ∙ led_marks (word_marks (1 + length word) words) _
     ∙ ap (λ ms. record { marks = ms; stop = None }) (append-nil (word_marks (1 + length word) words)))
-  where
-    apart : (ws : List (List ℕ)) → Apart (words_text ws)
-    apart [] = tt
-    apart (w ∷ ws) = refl
 
-names_proper : (f : Format) (names before words : List (List ℕ)) (place : ℕ) → AreNames f names → IsCutAt names before words place → AllNames words
-names_proper f names before [] place are cut = tt
-names_proper f names before (word ∷ words) place are cut =
-    ((known_at f names before word words place are cut).proper, names_proper f names (before ++ word ∷ []) words (place + 1) are (cut_more names before word words place cut))
+front_proper : (f : Format) (names before words rest : List (List ℕ)) (place : ℕ) → AreNames f names → IsCutAt names before (words ++ rest) place → AllNames words
+front_proper f names before [] rest place are cut = tt
+front_proper f names before (word ∷ words) rest place are cut = (
+  (known_at f names before word (words ++ rest) place are cut).proper,
+  front_proper f names (before ++ word ∷ []) words rest (place + 1) are (cut_more names before word (words ++ rest) place cut),
+)
 
-differ_before : (f : Format) (names before : List (List ℕ)) (word : List ℕ) (words : List (List ℕ)) → AreNames f names → names ≡ before ++ word ∷ words → All (λ b. same_name b word ≡ false) before
-differ_before f names before word words are e k d h =
-    let size : length (before ++ word ∷ words) ≡ length before + suc (length words) = length-append before (word ∷ words) in
-    let whole : length names ≡ length before + suc (length words) = ap length e ∙ size in
-    let left : get_or names k d ≡ get_or before k d = ap (λ t. get_or t k d) e ∙ get_or_append_left before (word ∷ words) d k h in
-    let right : get_or names (length before) d ≡ word = ap (λ t. get_or t (length before) d) e ∙ get_or_at before word words d (length before) refl in
-    let differs = are.differ k (length before) d h (omega arith) in
-    let of : List ℕ → Type 0 = λ t. same_name (get_or before k d) t ≡ false in
-    let of_left : List ℕ → Type 0 = λ t. same_name t (get_or names (length before) d) ≡ false in
-    subst of right (subst of_left left differs)
+all_names : (f : Format) (names : List (List ℕ)) → AreNames f names → AllNames names
+all_names f names are = front_proper f names [] names [] 0 are (record { whole = sym (append-nil names); size = refl })
 
 abbrev with_names : Declarations → List (List ℕ) → Column → Declarations
 with_names d words column = record { names = d.names ++ words; columns = d.columns ++ map (λ w. column) words; deps = d.deps; lines = d.lines }
 
-declare_mean : (f : Format) (column : Column) (d : Declarations) (names words : List (List ℕ)) (at place : ℕ) → AreNames f names → IsCutAt names d.names words place → length names ≤ PLACES
-    → DeclareNames f column d (word_marks at words) (with_names d words column)
-declare_mean f column d names [] at place are cut few = λ i. record { names = append-nil d.names i; columns = append-nil d.columns i; deps = d.deps; lines = d.lines }
-declare_mean f column d names (word ∷ words) at place are cut few =
-    let known = known_at f names d.names word words place are cut in
-    let size : length names ≡ length d.names + suc (length words) = ap length cut.whole ∙ length-append d.names (word ∷ words) in
-    let more = declare_mean f column (add_name d word column) names words (at + 1 + length word) (place + 1) are (cut_more names d.names word words place cut) few in
+-- words in front of others are declared one by one
+declare_front : (f : Format) (column : Column) (d : Declarations) (names words rest : List (List ℕ)) (at place : ℕ) → AreNames f names → IsCutAt names d.names (words ++ rest) place
+    → length names ≤ PLACES → DeclareNames f column d (word_marks at words) (with_names d words column)
+declare_front f column d names [] rest at place are cut few = λ i. record { names = append-nil d.names i; columns = append-nil d.columns i; deps = d.deps; lines = d.lines }
+declare_front f column d names (word ∷ words) rest at place are cut few =
+    let known = known_at f names d.names word (words ++ rest) place are cut in
+    let size : length names ≡ length d.names + suc (length (words ++ rest)) = ap length cut.whole ∙ length-append d.names (word ∷ words ++ rest) in
+    let more = declare_front f column (add_name d word column) names words rest (at + 1 + length word) (place + 1) are (cut_more names d.names word (words ++ rest) place cut) few in
     let same : with_names (add_name d word column) words column ≡ with_names d (word ∷ words) column =
     (λ i. record { names = append_assoc d.names (word ∷ []) words i; columns = append_assoc d.columns (column ∷ []) (map (λ w. column) words) i; deps = d.deps; lines = d.lines }) in
     let of : Declarations → Type 0 = λ w. DeclareNames f column (add_name d word column) (word_marks (at + 1 + length word) words) w in
-    (record { word = refl; free = known.free; new = none_found d.names word (differ_before f names d.names word words are cut.whole); room = omega arith }, subst of same more)
+    (record { word = refl; free = known.free; new = none_found d.names word (differ_before f names d.names word (words ++ rest) are cut.whole); room = omega arith }, subst of same more)
 
 -- a declaring line as it is printed
-declaring_mean : (f : Format) (column : Column) (number : ℕ) (d : Declarations) (key : List ℕ) (names words : List (List ℕ)) (place : ℕ) → AreNames f names → IsCutAt names d.names words place
-    → length names ≤ PLACES → 0 < length words → is_name key ≡ true → declares f token.Word key ≡ Some column → MeansTextLine f number d (key ++ words_text words) (with_names d words column)
-declaring_mean f column number d key names words place are cut few some proper is =
+declaring_mean : (f : Format) (column : Column) (number : ℕ) (d : Declarations) (key : List ℕ) (names words rest : List (List ℕ)) (place : ℕ) → AreNames f names
+    → IsCutAt names d.names (words ++ rest) place → length names ≤ PLACES → 0 < length words → is_name key ≡ true → declares f token.Word key ≡ Some column
+    → MeansTextLine f number d (key ++ words_text words) (with_names d words column)
+declaring_mean f column number d key names words rest place are cut few some proper is =
     inl (inr (record {
       head = record { kind = token.Word; column = 1; word = key };
       words = word_marks (1 + length key) words;
       column = column;
-      tokens = word_line key words proper (names_proper f names d.names words place are cut);
+      tokens = word_line key words proper (front_proper f names d.names words rest place are cut);
       declaring = is;
-      some = marks_some words (1 + length key) some;
-      names = declare_mean f column d names words (1 + length key) place are cut few;
+      some = (elim words as (λ ws. 0 < length ws → 0 < length (word_marks (1 + length key) ws)) [ [] ↦ λ h. h | w ∷ ws ↦ λ h. omega arith ]) some;
+      names = declare_front f column d names words rest (1 + length key) place are cut few;
     }))
-  where
-    marks_some : (ws : List (List ℕ)) (at : ℕ) → 0 < length ws → 0 < length (word_marks at ws)
-    marks_some [] at h = absurd (omega arith)
-    marks_some (w ∷ ws) at h = omega arith
-
-each_within : (u : Places) (deps : List Dependency) → All (IsWithin u) deps → EachWithin u deps
-each_within u [] all = tt
-each_within u (d ∷ deps) all = (all 0 d (omega arith), each_within u deps (λ k e h. all (suc k) e (omega arith)))
 
 -- a text of text columns
 all_text : (columns : List Column) (names : List (List ℕ)) → length columns ≡ length names → list_any is_integer columns ≡ false → map (λ (w : List ℕ). Text) names ≡ columns
@@ -111,17 +96,17 @@ all_text (Text ∷ columns) (name ∷ names) e none = ap (λ t. Text ∷ t) (all
 all_text (Integer ∷ columns) (name ∷ names) e none = cc
 
 -- the declarations that a printed text means
-abbrev pub declared : List Column → List (List ℕ) → List Dependency → ℕ → Declarations
+abbrev declared : List Column → List (List ℕ) → List Dependency → ℕ → Declarations
 declared columns names deps number = record { names = names; columns = columns; deps = deps; lines = numbers number deps }
 
 plain_lines : (columns : List Column) (names : List (List ℕ)) (deps : List Dependency) → IsPrintable columns names deps → list_any is_integer columns ≡ false
     → MeansLines format.Plain 1 no_declaration ((codes "attributes" ++ words_text names) ∷ (map (dependency_text names) deps ++ [] ∷ [])) (declared columns names deps 2)
 unfolding declares declaring
 plain_lines columns names deps is none =
-    let cut : IsCutAt names [] names 0 = record { whole = refl; size = refl } in
-    let first = declaring_mean format.Plain Text 1 no_declaration (codes "attributes") names names 0 is.are_names cut is.few is.some refl refl in
+    let cut : IsCutAt names [] (names ++ []) 0 = record { whole = sym (append-nil names); size = refl } in
+    let first = declaring_mean format.Plain Text 1 no_declaration (codes "attributes") names names [] 0 is.are_names cut is.few is.some refl refl in
     let types : map (λ (w : List ℕ). Text) names ≡ columns = all_text columns names is.are_columns.one_each none in
-    let rest = dependencies_mean format.Plain 2 (with_names no_declaration names Text) deps is.are_names (each_within (below (length names)) deps is.within) (let few = is.few_deps in omega arith) in
+    let rest = dependencies_mean format.Plain 2 (with_names no_declaration names Text) deps is.are_names is.within (let few = is.few_deps in omega arith) in
     let of : List Column → Type 0 = λ cs. MeansLines format.Plain 2 (with_names no_declaration names Text) (map (dependency_text names) deps ++ [] ∷ []) (declared cs names deps 2) in
     (with_names no_declaration names Text, first, subst of types rest)
 
@@ -136,112 +121,45 @@ abbrev EachSome : List Run → Type 0
 EachSome [] = Unit {0}
 EachSome (r ∷ rs) = (0 < length r.names) × EachSome rs
 
-same_type : (a b : Column) → same_column a b ≡ true → a ≡ b
-same_type Text Text e = refl
-same_type Text Integer e = cc
-same_type Integer Text e = cc
-same_type Integer Integer e = refl
+-- the names and columns of attributes, in runs none of which is empty
+record AreRuns (runs : List Run) (columns : List Column) (names : List (List ℕ)) : Type 0 where
+  names_are : run_names runs ≡ names
+  columns_are : run_columns runs ≡ columns
+  some : EachSome runs
 
-front_names : (c : Column) (name : List ℕ) (runs : List Run) → run_names (in_front c name runs) ≡ name ∷ run_names runs
-front_names c name [] = refl
-front_names c name (r ∷ rs) = told (same_column c r.column)
+front_runs : (c : Column) (name : List ℕ) (runs : List Run) (columns : List Column) (names : List (List ℕ)) → AreRuns runs columns names
+    → AreRuns (in_front c name runs) (c ∷ columns) (name ∷ names)
+front_runs c name [] columns names are = record { names_are = ap (λ t. name ∷ t) are.names_are; columns_are = ap (λ t. c ∷ t) are.columns_are; some = (omega arith, tt) }
+front_runs c name (r ∷ rs) columns names are = told (same_column c r.column) refl
   where
-    told : (b : Bool) → run_names (cond b (record { column = c; names = name ∷ r.names } ∷ rs) (record { column = c; names = name ∷ [] } ∷ r ∷ rs)) ≡ name ∷ run_names (r ∷ rs)
-    told true = refl
-    told false = refl
+    same_type : (a b : Column) → same_column a b ≡ true → a ≡ b
+    same_type Text Text e = refl
+    same_type Integer Integer e = refl
+    same_type a b e = cc
 
-front_columns : (c : Column) (name : List ℕ) (runs : List Run) → run_columns (in_front c name runs) ≡ c ∷ run_columns runs
-front_columns c name [] = refl
-front_columns c name (r ∷ rs) = told (same_column c r.column) refl
-  where
-    told : (b : Bool) → same_column c r.column ≡ b → run_columns (cond b (record { column = c; names = name ∷ r.names } ∷ rs) (record { column = c; names = name ∷ [] } ∷ r ∷ rs)) ≡ c ∷ run_columns (r ∷ rs)
-    told true e = ap (λ k. (c ∷ map (λ (w : List ℕ). k) r.names) ++ run_columns rs) (same_type c r.column e)
-    told false e = refl
+    told : (b : Bool) → same_column c r.column ≡ b
+        → AreRuns (cond b (record { column = c; names = name ∷ r.names } ∷ rs) (record { column = c; names = name ∷ [] } ∷ r ∷ rs)) (c ∷ columns) (name ∷ names)
+    told true e = record {
+      names_are = ap (λ t. name ∷ t) are.names_are;
+      columns_are = ap (λ k. (c ∷ map (λ (w : List ℕ). k) r.names) ++ run_columns rs) (same_type c r.column e) ∙ ap (λ t. c ∷ t) are.columns_are;
+      some = (omega arith, are.some.1);
+    }
+    told false e = record { names_are = ap (λ t. name ∷ t) are.names_are; columns_are = ap (λ t. c ∷ t) are.columns_are; some = (omega arith, are.some) }
 
-front_some : (c : Column) (name : List ℕ) (runs : List Run) → EachSome runs → EachSome (in_front c name runs)
-front_some c name [] some = (omega arith, tt)
-front_some c name (r ∷ rs) some = told (same_column c r.column)
-  where
-    told : (b : Bool) → EachSome (cond b (record { column = c; names = name ∷ r.names } ∷ rs) (record { column = c; names = name ∷ [] } ∷ r ∷ rs))
-    told true = (omega arith, some.1)
-    told false = (omega arith, some)
-
-runs_names : (columns : List Column) (names : List (List ℕ)) → length columns ≡ length names → run_names (runs_of columns names) ≡ names
-runs_names [] [] e = refl
-runs_names [] (name ∷ names) e = absurd (omega arith)
-runs_names (column ∷ columns) [] e = absurd (omega arith)
-runs_names (column ∷ columns) (name ∷ names) e = front_names column name (runs_of columns names) ∙ ap (λ t. name ∷ t) (runs_names columns names (omega arith))
-
-runs_columns : (columns : List Column) (names : List (List ℕ)) → length columns ≡ length names → run_columns (runs_of columns names) ≡ columns
-runs_columns [] [] e = refl
-runs_columns [] (name ∷ names) e = absurd (omega arith)
-runs_columns (column ∷ columns) [] e = absurd (omega arith)
-runs_columns (column ∷ columns) (name ∷ names) e = front_columns column name (runs_of columns names) ∙ ap (λ t. column ∷ t) (runs_columns columns names (omega arith))
-
-runs_some : (columns : List Column) (names : List (List ℕ)) → EachSome (runs_of columns names)
-runs_some [] names = tt
-runs_some (column ∷ columns) [] = tt
-runs_some (column ∷ columns) (name ∷ names) = front_some column name (runs_of columns names) (runs_some columns names)
-
--- a declaring word of a run
-word_proper : (c : Column) → is_name (type_word c) ≡ true
-word_proper Text = refl
-word_proper Integer = refl
-
-word_declares : (c : Column) → declares format.Typed token.Word (type_word c) ≡ Some c
-unfolding declares declaring
-word_declares Text = refl
-word_declares Integer = refl
+are_runs : (columns : List Column) (names : List (List ℕ)) → length columns ≡ length names → AreRuns (runs_of columns names) columns names
+are_runs [] [] e = record { names_are = refl; columns_are = refl; some = tt }
+are_runs [] (name ∷ names) e = absurd (omega arith)
+are_runs (column ∷ columns) [] e = absurd (omega arith)
+are_runs (column ∷ columns) (name ∷ names) e = front_runs column name (runs_of columns names) columns names (are_runs columns names (omega arith))
 
 -- after runs that are printed line by line
 abbrev with_runs : Declarations → List Run → Declarations
 with_runs d runs = record { names = d.names ++ run_names runs; columns = d.columns ++ run_columns runs; deps = d.deps; lines = d.lines }
 
--- the front of words is cut off by a run
-cut_run : (names before words rest : List (List ℕ)) (place : ℕ) → IsCutAt names before (words ++ rest) place → IsCutAt names (before ++ words) rest (place + length words)
-cut_run names before words rest place cut = record {
-  whole = cut.whole ∙ sym (append_assoc before words rest);
-  size = length-append before words ∙ ap (λ k. k + length words) cut.size;
-}
-
--- words in front of others are declared one by one as well
-declare_front : (column : Column) (d : Declarations) (names words rest : List (List ℕ)) (at place : ℕ) → AreNames format.Typed names → IsCutAt names d.names (words ++ rest) place → length names ≤ PLACES
-    → DeclareNames format.Typed column d (word_marks at words) (with_names d words column)
-declare_front column d names [] rest at place are cut few = λ i. record { names = append-nil d.names i; columns = append-nil d.columns i; deps = d.deps; lines = d.lines }
-declare_front column d names (word ∷ words) rest at place are cut few =
-    let known = known_at format.Typed names d.names word (words ++ rest) place are cut in
-    let size : length names ≡ length d.names + suc (length (words ++ rest)) = ap length cut.whole ∙ length-append d.names (word ∷ words ++ rest) in
-    let more = declare_front column (add_name d word column) names words rest (at + 1 + length word) (place + 1) are (cut_more names d.names word (words ++ rest) place cut) few in
-    let same : with_names (add_name d word column) words column ≡ with_names d (word ∷ words) column =
-    (λ i. record { names = append_assoc d.names (word ∷ []) words i; columns = append_assoc d.columns (column ∷ []) (map (λ w. column) words) i; deps = d.deps; lines = d.lines }) in
-    let of : Declarations → Type 0 = λ w. DeclareNames format.Typed column (add_name d word column) (word_marks (at + 1 + length word) words) w in
-    (record { word = refl; free = known.free; new = none_found d.names word (differ_before format.Typed names d.names word (words ++ rest) are cut.whole); room = omega arith }, subst of same more)
-
-front_proper : (names before words rest : List (List ℕ)) (place : ℕ) → AreNames format.Typed names → IsCutAt names before (words ++ rest) place → AllNames words
-front_proper names before [] rest place are cut = tt
-front_proper names before (word ∷ words) rest place are cut =
-    ((known_at format.Typed names before word (words ++ rest) place are cut).proper, front_proper names (before ++ word ∷ []) words rest (place + 1) are (cut_more names before word (words ++ rest) place cut))
-
-run_mean : (number : ℕ) (d : Declarations) (names : List (List ℕ)) (r : Run) (rest : List (List ℕ)) (place : ℕ) → AreNames format.Typed names → IsCutAt names d.names (r.names ++ rest) place
-    → length names ≤ PLACES → 0 < length r.names → MeansTextLine format.Typed number d (run_line r) (with_names d r.names r.column)
-run_mean number d names r rest place are cut few some =
-    inl (inr (record {
-      head = record { kind = token.Word; column = 1; word = type_word r.column };
-      words = word_marks (1 + length (type_word r.column)) r.names;
-      column = r.column;
-      tokens = word_line (type_word r.column) r.names (word_proper r.column) (front_proper names d.names r.names rest place are cut);
-      declaring = word_declares r.column;
-      some = marks_some r.names (1 + length (type_word r.column)) some;
-      names = declare_front r.column d names r.names rest (1 + length (type_word r.column)) place are cut few;
-    }))
-  where
-    marks_some : (ws : List (List ℕ)) (at : ℕ) → 0 < length ws → 0 < length (word_marks at ws)
-    marks_some [] at h = absurd (omega arith)
-    marks_some (w ∷ ws) at h = omega arith
-
 runs_mean : (number : ℕ) (d : Declarations) (names : List (List ℕ)) (runs : List Run) (lines : List (List ℕ)) (whole : Declarations) (place : ℕ) → AreNames format.Typed names
     → IsCutAt names d.names (run_names runs) place → length names ≤ PLACES → EachSome runs → MeansLines format.Typed (number + length runs) (with_runs d runs) lines whole
     → MeansLines format.Typed number d (map run_line runs ++ lines) whole
+unfolding declares declaring
 runs_mean number d names [] lines whole place are cut few some rest =
     let same : with_runs d [] ≡ d = (λ i. record { names = append-nil d.names i; columns = append-nil d.columns i; deps = d.deps; lines = d.lines }) in
     let back : number + 0 ≡ number = omega arith in
@@ -254,38 +172,44 @@ runs_mean number d names (r ∷ runs) lines whole place are cut few (here, some)
     (λ i. record { names = sym (append_assoc d.names r.names (run_names runs)) i; columns = sym (append_assoc d.columns (map (λ w. r.column) r.names) (run_columns runs)) i; deps = d.deps; lines = d.lines }) in
     let later : number + suc (length runs) ≡ (number + 1) + length runs = omega arith in
     let of : Declarations → Type 0 = λ e. MeansLines format.Typed (number + suc (length runs)) e lines whole in
-    let of_n : ℕ → Type 0 = λ n. MeansLines format.Typed n (with_runs next runs) lines whole in (
+    let of_n : ℕ → Type 0 = λ n. MeansLines format.Typed n (with_runs next runs) lines whole in
+    let proper = elim (r.column) as (λ c. is_name (type_word c) ≡ true) [ Text ↦ refl | Integer ↦ refl ] in
+    let declares_it = elim (r.column) as (λ c. declares format.Typed token.Word (type_word c) ≡ Some c) [ Text ↦ refl | Integer ↦ refl ] in (
       next,
-      run_mean number d names r (run_names runs) place are cut few here,
-      runs_mean (number + 1) next names runs lines whole (place + length r.names) are (cut_run names d.names r.names (run_names runs) place cut) few some (subst of_n later (subst of same rest)),
+      declaring_mean format.Typed r.column number d (type_word r.column) names r.names (run_names runs) place are cut few here proper declares_it,
+      runs_mean (number + 1) next names runs lines whole (place + length r.names) are
+          (record { whole = cut.whole ∙ sym (append_assoc d.names r.names (run_names runs)); size = length-append d.names r.names ∙ ap (λ k. k + length r.names) cut.size })
+          few some (subst of_n later (subst of same rest)),
     )
-
-has_integer : (cs : List Column) → list_any is_integer cs ≡ true → Contains cs Integer
-has_integer [] e = cc
-has_integer (Integer ∷ cs) e = (0, omega arith, refl)
-has_integer (Text ∷ cs) e = let later = has_integer cs e in (suc later.0, (let less = later.1 in omega arith), later.2)
 
 -- names of a text with an integer column
 typed_names : (columns : List Column) (names : List (List ℕ)) (deps : List Dependency) → IsPrintable columns names deps → list_any is_integer columns ≡ true → AreNames format.Typed names
 unfolding is_reserved
 typed_names columns names deps is some = record {
   each = is.are_names.each;
-  free = λ k d h. rw (is.are_names.free k d h, is.are_columns.no_type_name (has_integer columns some) k d h) refl;
+  free = λ k d h. rw (is.are_names.free k d h, is.are_columns.no_type_name has k d h) refl;
   differ = is.are_names.differ;
 }
-
-version_marks : HasTokens (lex mode.Numbered (codes "version 2"))
-    (record { kind = token.Word; column = 1; word = codes "version" } ∷ record { kind = token.Number 2; column = 9; word = 50 ∷ [] } ∷ [])
-unfolding front run_piece is_number
-version_marks =
-    name_lexed mode.Numbered 1 (codes "version") (32 ∷ 50 ∷ []) refl refl
-    ∙ ap (led_by_mark (record { kind = token.Word; column = 1; word = codes "version" }))
-    (blank_lexed mode.Numbered 8 (50 ∷ []) ∙ at_token mode.Numbered 9 (50 ∷ []) (token.Number 2) 1 (omega arith) refl
-    ∙ ap (led_by_mark (record { kind = token.Number 2; column = 9; word = 50 ∷ [] })) (nothing_left mode.Numbered 10))
+  where
+    has : Contains columns Integer
+    has =
+        let any = Any-from_list_any is_integer columns some in
+        let is_one : any.1 ≡ Integer = (elim (any.1) as (λ c. is_integer c ≡ true → c ≡ Integer) [ Text ↦ λ e. cc | Integer ↦ λ e. refl ]) any.4 in
+        (any.0, any.2, ap (get_or columns any.0) (sym is_one) ∙ any.3 ∙ is_one)
 
 version_line : IsVersionLine (codes "version 2")
-unfolding is_version
-version_line = record { head = _; number = _; tokens = version_marks; is_word = refl; is_number = refl }
+unfolding front run_piece is_number is_version
+version_line = record {
+  head = record { kind = token.Word; column = 1; word = codes "version" };
+  number = record { kind = token.Number 2; column = 9; word = 50 ∷ [] };
+  tokens =
+      name_lexed mode.Numbered 1 (codes "version") (32 ∷ 50 ∷ []) refl refl
+      ∙ ap (led_by_mark (record { kind = token.Word; column = 1; word = codes "version" }))
+      (blank_lexed mode.Numbered 8 (50 ∷ []) ∙ at_token mode.Numbered 9 (50 ∷ []) (token.Number 2) 1 (omega arith) refl
+      ∙ ap (led_by_mark (record { kind = token.Number 2; column = 9; word = 50 ∷ [] })) (nothing_left mode.Numbered 10));
+  is_word = refl;
+  is_number = refl;
+}
 
 each_append : (xs ys : List (List ℕ)) → EachBytes xs → EachBytes ys → EachBytes (xs ++ ys)
 each_append [] ys h g = g
@@ -295,18 +219,12 @@ split_names : (xs ys : List (List ℕ)) → AllNames (xs ++ ys) → AllNames xs 
 split_names [] ys h = (tt, h)
 split_names (x ∷ xs) ys (here, rest) = let more = split_names xs ys rest in ((here, more.0), more.1)
 
-word_bytes : (c : Column) → Bytes (type_word c)
-word_bytes Text = refl
-word_bytes Integer = refl
-
 runs_bytes : (runs : List Run) → AllNames (run_names runs) → EachBytes (map run_line runs)
 runs_bytes [] names = tt
 runs_bytes (r ∷ rs) names =
     let parts = split_names r.names (run_names rs) names in
-    (bytes_both (type_word r.column) (words_text r.names) (word_bytes r.column) (words_bytes r.names parts.0), runs_bytes rs parts.1)
-
-all_names : (f : Format) (names : List (List ℕ)) → AreNames f names → AllNames names
-all_names f names are = names_proper f names [] names 0 are (record { whole = refl; size = refl })
+    let word = elim (r.column) as (λ c. Bytes (type_word c)) [ Text ↦ refl | Integer ↦ refl ] in
+    (bytes_both (type_word r.column) (words_text r.names) word (words_bytes r.names parts.0), runs_bytes rs parts.1)
 
 -- a printed text is cut into its lines and an empty one
 text_cut : (columns : List Column) (names : List (List ℕ)) (deps : List Dependency) → EachBytes (declaring_lines columns names) → AreNames format.Plain names
@@ -316,17 +234,12 @@ text_cut columns names deps each are =
     lines_cut (declaring_lines columns names ++ map (dependency_text names) deps) (each_append (declaring_lines columns names) (map (dependency_text names) deps) each (each_dependency format.Plain names deps are))
     ∙ append_assoc (declaring_lines columns names) (map (dependency_text names) deps) ([] ∷ [])
 
-record Means (columns : List Column) (names : List (List ℕ)) (deps : List Dependency) : Type 0 where
-  lines : List ℕ
-  means : MeansSchema (declared_text columns names deps) (record { names = names; columns = columns; deps = deps; lines = lines })
+abbrev Means : List Column → List (List ℕ) → List Dependency → Type 0
+Means columns names deps = (lines : List ℕ) × MeansSchema (declared_text columns names deps) (record { names = names; columns = columns; deps = deps; lines = lines })
 
 plain_version : (names later : List (List ℕ)) → has_version_line ((codes "attributes" ++ words_text names) ∷ later) ≡ false
 unfolding has_version_line is_version
-plain_version names later = rw (name_lexed mode.Numbered 1 (codes "attributes") (words_text names) refl (apart names)) refl
-  where
-    apart : (ws : List (List ℕ)) → Apart (words_text ws)
-    apart [] = tt
-    apart (w ∷ ws) = refl
+plain_version names later = rw (name_lexed mode.Numbered 1 (codes "attributes") (words_text names) refl (elim names as (λ ws. Apart (words_text ws)) [ [] ↦ tt | w ∷ ws ↦ refl ])) refl
 
 plain_means : (columns : List Column) (names : List (List ℕ)) (deps : List Dependency) → IsPrintable columns names deps → list_any is_integer columns ≡ false → Means columns names deps
 unfolding declaring_lines declared_text
@@ -338,10 +251,7 @@ plain_means columns names deps is none =
     let cut : line_texts (without_mark (declared_text columns names deps)) ≡ (codes "attributes" ++ words_text names) ∷ rest =
     ap line_texts unmarked ∙ text_cut columns names deps each is.are_names ∙ ap (λ ls. ls ++ rest) first in
     let of : List (List ℕ) → Type 0 = λ ls. IsPlainText ls (declared columns names deps 2) in
-    record {
-      lines = numbers 2 deps;
-      means = record { some = is.some; lines = inl (subst of (sym cut) (record { no_version = plain_version names rest; declared = plain_lines columns names deps is none })) };
-    }
+    (numbers 2 deps, record { some = is.some; lines = inl (subst of (sym cut) (record { no_version = plain_version names rest; declared = plain_lines columns names deps is none })) })
 
 typed_means : (columns : List Column) (names : List (List ℕ)) (deps : List Dependency) → IsPrintable columns names deps → list_any is_integer columns ≡ true → Means columns names deps
 unfolding declaring_lines declared_text
@@ -349,8 +259,9 @@ typed_means columns names deps is some =
     let are = typed_names columns names deps is some in
     let runs = runs_of columns names in
     let first : declaring_lines columns names ≡ codes "version 2" ∷ map run_line runs = rw some refl in
-    let back : run_names runs ≡ names = runs_names columns names is.are_columns.one_each in
-    let types : run_columns runs ≡ columns = runs_columns columns names is.are_columns.one_each in
+    let cut_up = are_runs columns names is.are_columns.one_each in
+    let back : run_names runs ≡ names = cut_up.names_are in
+    let types : run_columns runs ≡ columns = cut_up.columns_are in
     let proper : AllNames (run_names runs) = subst AllNames (sym back) (all_names format.Typed names are) in
     let each : EachBytes (declaring_lines columns names) = subst EachBytes (sym first) (refl, runs_bytes runs proper) in
     let unmarked : without_mark (declared_text columns names deps) ≡ declared_text columns names deps = rw some refl in
@@ -359,13 +270,12 @@ typed_means columns names deps is some =
     ap line_texts unmarked ∙ text_cut columns names deps each is.are_names ∙ ap (λ ls. ls ++ rest) first in
     let whole = declared columns names deps (2 + length runs) in
     let filled : with_runs no_declaration runs ≡ record { names = names; columns = columns; deps = []; lines = [] } = (λ i. record { names = back i; columns = types i; deps = []; lines = [] }) in
-    let last = dependencies_mean format.Typed (2 + length runs) (record { names = names; columns = columns; deps = []; lines = [] }) deps are (each_within (below (length names)) deps is.within) (let few = is.few_deps in omega arith) in
+    let last = dependencies_mean format.Typed (2 + length runs) (record { names = names; columns = columns; deps = []; lines = [] }) deps are is.within (let few = is.few_deps in omega arith) in
     let of_d : Declarations → Type 0 = λ d. MeansLines format.Typed (2 + length runs) d rest whole in
-    let lines_mean = runs_mean 2 no_declaration names runs rest whole 0 are (record { whole = sym back; size = refl }) is.few (runs_some columns names) (subst of_d (sym filled) last) in
-    let of : List (List ℕ) → Type 0 = λ ls. IsTypedText ls whole in
-    record {
-      lines = numbers (2 + length runs) deps;
-      means = record {
+    let lines_mean = runs_mean 2 no_declaration names runs rest whole 0 are (record { whole = sym back; size = refl }) is.few cut_up.some (subst of_d (sym filled) last) in
+    let of : List (List ℕ) → Type 0 = λ ls. IsTypedText ls whole in (
+      numbers (2 + length runs) deps,
+      record {
         some = is.some;
         lines = inr (subst of (sym cut) (record {
           before = [];
@@ -376,31 +286,22 @@ typed_means columns names deps is some =
           versioned = version_line;
           declared = lines_mean;
         }));
-      };
-    }
+      },
+    )
 
-printed-law : (columns : List Column) (names : List (List ℕ)) (deps : List Dependency) → IsPrintable columns names deps
-    → (lines : List ℕ) × MeansSchema (declared_text columns names deps) (record { names = names; columns = columns; deps = deps; lines = lines })
-printed-law columns names deps is = told (list_any is_integer columns) refl
+-- what is printed of a schema, none of whose names is reserved, means it
+pub printed-schema-law : (s : Schema) → AreNames format.Plain (names_of s) → Means (columns_of s) (names_of s) (theory_of s)
+printed-schema-law s are = elim (cases_Bool (list_any is_integer (columns_of s))) [
+  | inl some ↦ typed_means (columns_of s) (names_of s) (theory_of s) printable some
+  | inr none ↦ plain_means (columns_of s) (names_of s) (theory_of s) printable none
+]
   where
-    pair : Means columns names deps → (lines : List ℕ) × MeansSchema (declared_text columns names deps) (record { names = names; columns = columns; deps = deps; lines = lines })
-    pair m = (m.lines, m.means)
-
-    told : (b : Bool) → list_any is_integer columns ≡ b → (lines : List ℕ) × MeansSchema (declared_text columns names deps) (record { names = names; columns = columns; deps = deps; lines = lines })
-    told true e = pair (typed_means columns names deps is e)
-    told false e = pair (plain_means columns names deps is e)
-
--- a schema holds what can be printed, where its names are words that no text reserves
-schema_printable : (s : Schema) → AreNames format.Plain (names_of s) → IsPrintable (columns_of s) (names_of s) (theory_of s)
-schema_printable s are = record {
-  some = s.valid.some_names;
-  few = s.valid.few_names;
-  are_names = are;
-  are_columns = s.typed;
-  few_deps = let size = length-map (deps_of s) dependency_of in let few = s.valid.few_deps in omega (arith, size, few);
-  within = dependencies_all-from (IsWithin (universe_of s)) (deps_of s) s.valid.deps_within;
-}
-
-pub printed-schema-law : (s : Schema) → AreNames format.Plain (names_of s)
-    → (lines : List ℕ) × MeansSchema (declared_text (columns_of s) (names_of s) (theory_of s)) (record { names = names_of s; columns = columns_of s; deps = theory_of s; lines = lines })
-printed-schema-law s are = printed-law (columns_of s) (names_of s) (theory_of s) (schema_printable s are)
+    printable : IsPrintable (columns_of s) (names_of s) (theory_of s)
+    printable = record {
+      some = s.valid.some_names;
+      few = s.valid.few_names;
+      are_names = are;
+      are_columns = s.typed;
+      few_deps = let size = length-map (deps_of s) dependency_of in let few = s.valid.few_deps in omega (arith, size, few);
+      within = dependencies_all-from (IsWithin (universe_of s)) (deps_of s) s.valid.deps_within;
+    }

@@ -1,12 +1,15 @@
 -- How the sides of a printed dependency are lexed, and what they mean.
-use Rattle.std.proofs.Common.{◌≡◌, ◌+◌, inl, inr, ℕ, suc, Bool, true, false, cond, ◌==◌, ◌&&◌, ◌||◌, not, List, [], ◌∷◌, ◌++◌, length, get_or, Some, refl, sym, ◌∙◌, ap, subst, arith, append_assoc, length-append, lt-ltb, eq-eqb}
+use Rattle.std.proofs.Common.{◌≡◌, ◌+◌, inl, inr, ℕ, suc, Bool, true, false, cond, ◌==◌, ◌&&◌, ◌||◌, List, [], ◌∷◌, ◌++◌, length, get_or, Some, refl, sym, ◌∙◌, ap, subst, arith, append_assoc, length-append, lt-ltb}
 use Rattle.std.specs.Prelude.{nat_lt, nat_le}
-use Rattle.std.specs.List.{All, list_any, prefix_len}
-use Rattle.std.specs.Str.{bytes_eq, str_to_ascii_lowercase}
+use Rattle.std.specs.List.{All, list_any, position_or_len}
+use Rattle.std.specs.Str.{str_to_ascii_lowercase}
+use Rattle.std.proofs.Math.Bool.{and-false}
 use Rattle.std.proofs.lemmas.Bool.Decides.{nat_tests}
 use Rattle.std.proofs.lemmas.Bool.{eqb-true}
 use Rattle.std.proofs.lemmas.List.{get_or_append_left, get_or_at}
 use Rattle.std.proofs.lemmas.List.Elements.{All-cons, All-nil}
+use Rattle.std.proofs.lemmas.List.Sums.{position_or_len_is}
+use Rattle.std.proofs.lemmas.Slice.Eq.{bytes_eq-Decides}
 use Rattle.attr_sets.proofs.PlacesLemmas.{Same-path}
 use Rattle.attr_sets.specs.Places.{Places, none, below, Within}
 use Rattle.dep_model.specs.Names.{is_name, same_name}
@@ -18,52 +21,31 @@ use Rattle.schema_grammar.specs.Words.{is_reserved}
 use Rattle.schema_grammar.specs.Printed.{AreNames}
 use Rattle.schema_grammar.proofs.PrintedLexing.{AllNames, word_marks, side_marks}
 
-bytes_same : (xs : List ℕ) → bytes_eq xs xs ≡ true
-bytes_same [] = refl
-bytes_same (x ∷ xs) = rw (eq-eqb x x refl, bytes_same xs) refl
-
-pub name_same : (name : List ℕ) → same_name name name ≡ true
-name_same name = bytes_same (str_to_ascii_lowercase name)
-
--- the first name that passes
-prefix_split : (p : List ℕ → Bool) (before : List (List ℕ)) (name : List ℕ) (after : List (List ℕ)) → All (λ b. p b ≡ false) before → p name ≡ true
-    → prefix_len (λ b. not (p b)) (before ++ name ∷ after) ≡ length before
-prefix_split p [] name after none here = rw here refl
-prefix_split p (b ∷ before) name after none here =
-    let first : p b ≡ false = none 0 b (omega arith) in
-    let more : prefix_len (λ c. not (p c)) (before ++ name ∷ after) ≡ length before = prefix_split p before name after (λ k d h. none (suc k) d (omega arith)) here in
-    rw (first, more) (omega arith)
-
 -- a name is found at its place
 pub found_at : (before : List (List ℕ)) (name : List ℕ) (after : List (List ℕ)) → All (λ b. same_name b name ≡ false) before
     → place_named (before ++ name ∷ after) name ≡ Some (length before)
 found_at before name after none =
-    let at : prefix_len (λ b. not (same_name b name)) (before ++ name ∷ after) ≡ length before = prefix_split (λ b. same_name b name) before name after none (name_same name) in
     let size : length (before ++ name ∷ after) ≡ length before + suc (length after) = length-append before (name ∷ after) in
+    let at : position_or_len (λ b. same_name b name) (before ++ name ∷ after) ≡ length before =
+    position_or_len_is (λ b. same_name b name) (before ++ name ∷ after) (length before) [] (omega arith)
+    (λ k less. rw (get_or_append_left before (name ∷ after) [] k less) (none k [] less))
+    (λ less. rw (get_or_at before name after [] (length before) refl) ((bytes_eq-Decides (str_to_ascii_lowercase name) (str_to_ascii_lowercase name)).1 refl)) in
     let inside : nat_lt (length before) (length (before ++ name ∷ after)) ≡ true = lt-ltb _ _ (omega arith) in
     rw (at, inside) refl
+
+-- a name differs from those before it
+pub differ_before : (f : Format) (names before : List (List ℕ)) (word : List ℕ) (words : List (List ℕ)) → AreNames f names → names ≡ before ++ word ∷ words
+    → All (λ b. same_name b word ≡ false) before
+differ_before f names before word words are e k d h =
+    let size : length (before ++ word ∷ words) ≡ length before + suc (length words) = length-append before (word ∷ words) in
+    let differs = (subst (AreNames f) e are).differ k (length before) d h (omega arith) in
+    rw (get_or_append_left before (word ∷ words) d k h, get_or_at before word words d (length before) refl) at differs
 
 -- what is known of the name in the middle
 pub record IsKnown (f : Format) (names : List (List ℕ)) (name : List ℕ) (place : ℕ) : Type 0 where
   pub proper : is_name name ≡ true
   pub free : is_reserved f name ≡ false
   pub found : place_named names name ≡ Some place
-
-middle : (f : Format) (before : List (List ℕ)) (name : List ℕ) (after : List (List ℕ)) → AreNames f (before ++ name ∷ after) → IsKnown f (before ++ name ∷ after) name (length before)
-middle f before name after are =
-    let size : length (before ++ name ∷ after) ≡ length before + suc (length after) = length-append before (name ∷ after) in
-    let here : get_or (before ++ name ∷ after) (length before) [] ≡ name = get_or_at before name after [] (length before) refl in
-    record {
-      proper = let of : List ℕ → Type 0 = λ t. is_name t ≡ true in subst of here (are.each (length before) [] (omega arith));
-      free = let of : List ℕ → Type 0 = λ t. is_reserved f t ≡ false in subst of here (are.free (length before) [] (omega arith));
-      found = found_at before name after (λ k d h.
-          let left : get_or (before ++ name ∷ after) k d ≡ get_or before k d = get_or_append_left before (name ∷ after) d k h in
-          let right : get_or (before ++ name ∷ after) (length before) d ≡ name = get_or_at before name after d (length before) refl in
-          let differs = are.differ k (length before) d h (omega arith) in
-          let of : List ℕ → Type 0 = λ t. same_name (get_or before k d) t ≡ false in
-          let of_left : List ℕ → Type 0 = λ t. same_name t (get_or (before ++ name ∷ after) (length before) d) ≡ false in
-          subst of right (subst of_left left differs));
-    }
 
 -- each word is a known name
 abbrev pub EachKnown : Format → List (List ℕ) → List (List ℕ) → Type 0
@@ -87,10 +69,14 @@ cut_more names before name after place cut = record {
 
 pub known_at : (f : Format) (names before : List (List ℕ)) (name : List ℕ) (after : List (List ℕ)) (place : ℕ) → AreNames f names → IsCutAt names before (name ∷ after) place → IsKnown f names name place
 known_at f names before name after place are cut =
-    let of : List (List ℕ) → Type 0 = λ t. AreNames f t in
-    let of_known : List (List ℕ) → Type 0 = λ t. IsKnown f t name place in
-    let of_place : ℕ → Type 0 = λ p. IsKnown f (before ++ name ∷ after) name p in
-    subst of_known (sym cut.whole) (subst of_place cut.size (middle f before name after (subst of cut.whole are)))
+    let size : length (before ++ name ∷ after) ≡ length before + suc (length after) = length-append before (name ∷ after) in
+    let whole : AreNames f (before ++ name ∷ after) = subst (AreNames f) cut.whole are in
+    let here : get_or (before ++ name ∷ after) (length before) [] ≡ name = get_or_at before name after [] (length before) refl in
+    record {
+      proper = subst (λ (t : List ℕ). is_name t ≡ true) here (whole.each (length before) [] (omega arith));
+      free = subst (λ (t : List ℕ). is_reserved f t ≡ false) here (whole.free (length before) [] (omega arith));
+      found = ap (λ t. place_named t name) cut.whole ∙ found_at before name after (differ_before f names before name after are cut.whole) ∙ ap Some cut.size;
+    }
 
 pub members_known : (f : Format) (x : Places) (names before after : List (List ℕ)) (place : ℕ) → AreNames f names → IsCutAt names before after place → EachKnown f names (members_from x place after)
 members_known f x names before [] place are cut = tt
@@ -105,46 +91,34 @@ members_known f x names before (name ∷ after) place are cut =
 abbrev within_window : ℕ → ℕ → ℕ → Bool
 within_window place n i = nat_le place i && nat_lt i (place + n)
 
-window_none : (place i : ℕ) → within_window place 0 i ≡ false
-window_none place i = grind (arith, nat_tests)
-
-window_first : (place n : ℕ) → within_window place (suc n) place ≡ true
-window_first place n = grind (arith, nat_tests)
-
-window_past : (place n : ℕ) → within_window (place + 1) n place ≡ false
-window_past place n = grind (arith, nat_tests)
-
-window_other : (place n i : ℕ) → (i == place) ≡ false → within_window (place + 1) n i ≡ within_window place (suc n) i
-window_other place n i other = grind (arith, nat_tests)
-
 -- the words of the members name the members
 members_set : (f : Format) (x : Places) (names before after : List (List ℕ)) (place i : ℕ) → AreNames f names → IsCutAt names before after place
     → words_set names (members_from x place after) i ≡ (within_window place (length after) i && x i)
-members_set f x names before [] place i are cut = rw (window_none place i) refl
+members_set f x names before [] place i are cut =
+    let window : within_window place 0 i ≡ false = grind (arith, nat_tests) in rw window refl
 members_set f x names before (name ∷ after) place i are cut =
     told (x place) (i == place) refl refl (members_set f x names (before ++ name ∷ []) after (place + 1) i are (cut_more names before name after place cut))
   where
     found : place_named names name ≡ Some place
     found = (known_at f names before name after place are cut).found
 
+    other : (i == place) ≡ false → within_window (place + 1) (length after) i ≡ within_window place (suc (length after)) i
+    other is = grind (arith, nat_tests)
+
     told : (b same : Bool) → x place ≡ b → (i == place) ≡ same → words_set names (members_from x (place + 1) after) i ≡ (within_window (place + 1) (length after) i && x i)
         → words_set names (cond b (name ∷ members_from x (place + 1) after) (members_from x (place + 1) after)) i ≡ (within_window place (suc (length after)) i && x i)
     told true true here is rest =
         let at : i ≡ place = eqb-true i place is in
         let value : x i ≡ true = ap x at ∙ here in
-        let window : within_window place (suc (length after)) i ≡ true = ap (within_window place (suc (length after))) at ∙ window_first place (length after) in
+        let window : within_window place (suc (length after)) i ≡ true = grind (arith, nat_tests) in
         rw (found, is, window, value) refl
-    told true false here is rest = rw (found, is) (rest ∙ ap (λ w. w && x i) (window_other place (length after) i is))
+    told true false here is rest = rw (found, is) (rest ∙ ap (λ w. w && x i) (other is))
     told false true here is rest =
         let at : i ≡ place = eqb-true i place is in
         let value : x i ≡ false = ap x at ∙ here in
-        let past : within_window (place + 1) (length after) i ≡ false = ap (within_window (place + 1) (length after)) at ∙ window_past place (length after) in
-        rest ∙ (rw (past, value) (sym (and_false (within_window place (suc (length after)) i))))
-      where
-        and_false : (b : Bool) → (b && false) ≡ false
-        and_false true = refl
-        and_false false = refl
-    told false false here is rest = rest ∙ ap (λ w. w && x i) (window_other place (length after) i is)
+        let past : within_window (place + 1) (length after) i ≡ false = grind (arith, nat_tests) in
+        rest ∙ (rw (past, value) (sym (and-false (within_window place (suc (length after)) i))))
+    told false false here is rest = rest ∙ ap (λ w. w && x i) (other is)
 
 members_are : (f : Format) (x : Places) (names : List (List ℕ)) → AreNames f names → Within x (below (length names)) → x ≡ words_set names (members_from x 0 names)
 members_are f x names are within =
@@ -154,11 +128,7 @@ members_are f x names are within =
     told i true is =
         let small : nat_lt i (length names) ≡ true = within i is in
         let window : within_window 0 (length names) i ≡ true = grind (arith, nat_tests) in rw (window, is) refl
-    told i false is = is ∙ sym (ap (λ v. within_window 0 (length names) i && v) is ∙ and_false (within_window 0 (length names) i))
-      where
-        and_false : (b : Bool) → (b && false) ≡ false
-        and_false true = refl
-        and_false false = refl
+    told i false is = is ∙ sym (ap (λ v. within_window 0 (length names) i && v) is ∙ and-false (within_window 0 (length names) i))
 
 marks_set : (names : List (List ℕ)) (column : ℕ) (words : List (List ℕ)) (k : ℕ) → named names (word_marks column words) k ≡ words_set names words k
 marks_set names column [] k = refl

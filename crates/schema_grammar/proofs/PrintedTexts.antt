@@ -1,15 +1,16 @@
 -- A printed text is cut into the lines that were printed.
-use Rattle.std.proofs.Common.{◌≡◌, ◌≤◌, ◌+◌, ◌-◌, inl, inr, ℕ, zero, suc, Bool, true, false, ◌==◌, ◌&&◌, not, List, [], ◌∷◌, ◌++◌, length, drop, get_or, None, refl, ◌∙◌, ap, subst, arith, append_assoc, length-append, nat_eq}
+use Rattle.std.proofs.Common.{◌≡◌, ◌≤◌, ◌+◌, ◌-◌, inl, inr, ℕ, Bool, true, false, ◌==◌, ◌&&◌, not, List, [], ◌∷◌, ◌++◌, length, drop, None, refl, ◌∙◌, ap, subst, arith, append_assoc, length-append, nat_eq}
 use lib.Pointwise.{pointwise}
 use Rattle.std.specs.Prelude.{codes, map, nat_lt}
-use Rattle.std.specs.List.{All, list_all, slice_split, ends_with, prefix_len}
+use Rattle.std.specs.List.{All, list_all, slice_split, ends_with, position_or_len}
 use Rattle.std.proofs.lemmas.Bool.Decides.{nat_tests}
 use Rattle.std.proofs.lemmas.List.{append-nil}
+use Rattle.std.proofs.lemmas.List.Elements.{All-drop, All-head, All-tail}
 use Rattle.std.proofs.lemmas.List.Folds.{list_all-append}
-use Rattle.std.proofs.lemmas.List.Sums.{AllPass-from_list_all}
+use Rattle.std.proofs.lemmas.List.Sums.{AllPass-from_list_all, list_all-from_AllPass, position_or_len_is}
 use Rattle.std.proofs.lemmas.List.Splits.{slice_split_at}
 use Rattle.std.proofs.lemmas.Bool.{and_parts}
-use Rattle.attr_sets.specs.Places.{Places, below}
+use Rattle.attr_sets.specs.Places.{below}
 use Rattle.dep_model.specs.declared.schema.TheConstants.{MOST_DEPENDENCIES}
 use Rattle.dep_model.specs.Dependencies.{Dependency, fd, mvd, IsWithin}
 use Rattle.dep_model.specs.Names.{is_name, is_name_byte, same_name}
@@ -35,17 +36,10 @@ Bytes line = list_all is_line_byte line ≡ true
 pub bytes_both : (xs ys : List ℕ) → Bytes xs → Bytes ys → Bytes (xs ++ ys)
 bytes_both xs ys h g = list_all-append is_line_byte xs ys ∙ (rw (h, g) refl)
 
-name_byte : (b : ℕ) → is_name_byte b ≡ true → is_line_byte b ≡ true
-name_byte b e = grind (arith, nat_tests)
-
-name_bytes : (word : List ℕ) → list_all is_name_byte word ≡ true → Bytes word
-name_bytes [] e = refl
-name_bytes (b ∷ bs) e =
-    let parts = and_parts (is_name_byte b) (list_all is_name_byte bs) e in rw (name_byte b parts.0, name_bytes bs parts.1) refl
-
 proper_bytes : (word : List ℕ) → is_name word ≡ true → Bytes word
 proper_bytes [] e = refl
-proper_bytes (first ∷ others) e = name_bytes (first ∷ others) (named_parts first others e).bytes
+proper_bytes (first ∷ others) e = list_all-from_AllPass is_line_byte (first ∷ others) (λ k d h.
+    let byte = AllPass-from_list_all is_name_byte (first ∷ others) (named_parts first others e).bytes k d h in grind (arith, nat_tests))
 
 pub words_bytes : (words : List (List ℕ)) → AllNames words → Bytes (words_text words)
 words_bytes [] names = refl
@@ -69,22 +63,14 @@ abbrev pub EachBytes : List (List ℕ) → Type 0
 EachBytes [] = Unit {0}
 EachBytes (line ∷ lines) = Bytes line × EachBytes lines
 
-no_feed : (b : ℕ) → is_line_byte b ≡ true → is_line_feed b ≡ false
-no_feed b e = grind (arith, nat_tests)
-
 split_lines : (lines : List (List ℕ)) → EachBytes lines → slice_split is_line_feed (lines_text lines) ≡ lines ++ [] ∷ []
 split_lines [] each = refl
 split_lines (line ∷ lines) (here, rest) =
     let cut : lines_text (line ∷ lines) ≡ line ++ 10 ∷ lines_text lines = append_assoc line (10 ∷ []) (lines_text lines) in
     let all = AllPass-from_list_all is_line_byte line here in
     ap (slice_split is_line_feed) cut
-    ∙ slice_split_at is_line_feed line 10 (lines_text lines) (λ k d h. no_feed (get_or line k d) (all k d h)) refl
+    ∙ slice_split_at is_line_feed line 10 (lines_text lines) (λ k d h. let byte = all k d h in grind (arith, nat_tests)) refl
     ∙ ap (λ t. line ∷ t) (split_lines lines rest)
-
-drop_bytes : (k : ℕ) (line : List ℕ) → Bytes line → Bytes (drop k line)
-drop_bytes zero line e = e
-drop_bytes (suc k) [] e = e
-drop_bytes (suc k) (b ∷ bs) e = drop_bytes k bs (and_parts (is_line_byte b) (list_all is_line_byte bs) e).1
 
 not_return : (line : List ℕ) → Bytes line → pointwise nat_eq (13 ∷ []) line ≡ false
 not_return [] e = refl
@@ -93,7 +79,10 @@ not_return (b ∷ bs) e =
     let other : (13 == b) ≡ false = grind (arith, nat_tests) in rw other refl
 
 kept : (line : List ℕ) → Bytes line → without_return line ≡ line
-kept line e = let none : ends_with nat_eq line (13 ∷ []) ≡ false = not_return (drop (length line - 1) line) (drop_bytes (length line - 1) line e) in rw none refl
+kept line e =
+    let last = drop (length line - 1) line in
+    let bytes = list_all-from_AllPass is_line_byte last (All-drop (λ b. is_line_byte b ≡ true) (length line - 1) line (AllPass-from_list_all is_line_byte line e)) in
+    let none : ends_with nat_eq line (13 ∷ []) ≡ false = not_return last bytes in rw none refl
 
 all_kept : (lines : List (List ℕ)) → EachBytes lines → without_returns (lines ++ [] ∷ []) ≡ lines ++ [] ∷ []
 all_kept [] each = refl
@@ -109,15 +98,11 @@ abbrev pub numbers : ℕ → List Dependency → List ℕ
 numbers n [] = []
 numbers n (d ∷ ds) = n ∷ numbers (n + 1) ds
 
-abbrev pub EachWithin : Places → List Dependency → Type 0
-EachWithin u [] = Unit {0}
-EachWithin u (d ∷ ds) = IsWithin u d × EachWithin u ds
-
 abbrev pub with_dependencies : Declarations → List Dependency → List ℕ → Declarations
 with_dependencies d deps lines = record { names = d.names; columns = d.columns; deps = d.deps ++ deps; lines = d.lines ++ lines }
 
 -- the lines of dependencies, and the empty line after the last line feed
-pub dependencies_mean : (f : Format) (number : ℕ) (d : Declarations) (deps : List Dependency) → AreNames f d.names → EachWithin (below (length d.names)) deps
+pub dependencies_mean : (f : Format) (number : ℕ) (d : Declarations) (deps : List Dependency) → AreNames f d.names → All (IsWithin (below (length d.names))) deps
     → length d.deps + length deps ≤ MOST_DEPENDENCIES
     → MeansLines f number d (map (dependency_text d.names) deps ++ [] ∷ []) (with_dependencies d deps (numbers number deps))
 dependencies_mean f number d [] are within room = (
@@ -125,10 +110,10 @@ dependencies_mean f number d [] are within room = (
   inl (inl (record { tokens = nothing_left mode.Plain 1; same = refl })),
   λ i. record { names = d.names; columns = d.columns; deps = append-nil d.deps i; lines = append-nil d.lines i },
 )
-dependencies_mean f number d (dep ∷ deps) are (here, rest) room =
-    let line = printed_line f d.names dep are here in
+dependencies_mean f number d (dep ∷ deps) are within room =
+    let line = printed_line f d.names dep are (All-head (IsWithin (below (length d.names))) dep deps within) in
     let size : length (d.deps ++ dep ∷ []) ≡ length d.deps + 1 = length-append d.deps (dep ∷ []) in
-    let more = dependencies_mean f (number + 1) (add_dependency d dep number) deps are rest (omega arith) in
+    let more = dependencies_mean f (number + 1) (add_dependency d dep number) deps are (All-tail (IsWithin (below (length d.names))) dep deps within) (omega arith) in
     let of : Declarations → Type 0 = λ w. MeansLines f (number + 1) (add_dependency d dep number) (map (dependency_text d.names) deps ++ [] ∷ []) w in
     let same : with_dependencies (add_dependency d dep number) deps (numbers (number + 1) deps) ≡ with_dependencies d (dep ∷ deps) (number ∷ numbers (number + 1) deps) =
     (λ i. record { names = d.names; columns = d.columns; deps = append_assoc d.deps (dep ∷ []) deps i; lines = append_assoc d.lines (number ∷ []) (numbers (number + 1) deps) i }) in (
@@ -144,11 +129,6 @@ each_dependency f names (d ∷ deps) are = (dependency_bytes f names d are, each
 -- a name that differs from those before is none of them
 pub none_found : (before : List (List ℕ)) (word : List ℕ) → All (λ b. same_name b word ≡ false) before → place_named before word ≡ None
 none_found before word none =
-    let all : prefix_len (λ b. not (same_name b word)) before ≡ length before = whole before none in
+    let all : position_or_len (λ b. same_name b word) before ≡ length before =
+    position_or_len_is (λ b. same_name b word) before (length before) [] (omega arith) (λ k less. none k [] less) (λ less. absurd (omega arith)) in
     let outside : nat_lt (length before) (length before) ≡ false = grind (arith, nat_tests) in rw (all, outside) refl
-  where
-    whole : (bs : List (List ℕ)) → All (λ b. same_name b word ≡ false) bs → prefix_len (λ b. not (same_name b word)) bs ≡ length bs
-    whole [] none = refl
-    whole (b ∷ bs) none =
-        let first : same_name b word ≡ false = none 0 b (omega arith) in
-        let more : prefix_len (λ c. not (same_name c word)) bs ≡ length bs = whole bs (λ k d h. none (suc k) d (omega arith)) in rw (first, more) (omega arith)

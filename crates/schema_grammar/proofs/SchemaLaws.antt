@@ -16,7 +16,7 @@ use Rattle.schema_grammar.specs.Declarations.{Declarations, no_declaration}
 use Rattle.schema_grammar.specs.Meanings.{HasTokens}
 use Rattle.schema_grammar.specs.Schemas.{MeansLines, has_version_line, begins_version, HasVersionLine, IsPlainText, IsVersionLine, IsTypedText, MeansSchema}
 use Rattle.schema_grammar.specs.Texts.{read_lines, read_version, read_typed, read_opening, read_text, is_version, opened, end_version, version_number, number_in}
-use Rattle.schema_grammar.proofs.BlankLemmas.{blank_plain}
+use Rattle.schema_grammar.proofs.BlankLemmas.{lexed_plain}
 use Rattle.schema_grammar.proofs.DeclaringLaws.{has_tokens, line_back, lines_there, lines_back}
 use Rattle.schema_grammar.proofs.RefusalLemmas.{steps}
 
@@ -109,7 +109,7 @@ plain_opening number (line ∷ lines) none =
         → (has_version_line lines ≡ false → read_opening (number + 1) lines ≡ read_lines format.Plain (number + 1) no_declaration lines)
         → opened number line lines (read_opening (number + 1) lines) ms stop ≡ read_lines format.Plain number no_declaration (line ∷ lines)
     told [] None marks stop none later =
-        let blank = blank_plain line (has_tokens (lex mode.Numbered line) [] marks stop) in
+        let blank = lexed_plain 0 1 line (has_tokens (lex mode.Numbered line) [] marks stop) in
         rw (line_back format.Plain number no_declaration line no_declaration (inl (inl (record { tokens = blank; same = refl })))) (later none)
     told [] (Some s) marks stop none later = refl
     told (m ∷ ms) stop marks same none later = rw none refl
