@@ -83,14 +83,3 @@ last_slot s used n t (u ∷ us) (o ∷ os) slots =
       are = (slots.0, last.are);
       is = subst of same last.is;
     }
-
--- what is finished after a last slot
-pub ends : (last : ℕ) (lines : List ℕ) (os front : List (Option Opened)) (slot : Option Opened) → os ≡ front ++ slot ∷ []
-    → finished_certificate last (record { lines = lines; unused = os }) ≡ finished_at last lines (position is_some front) slot
-unfolding finished_certificate
-ends last lines os front slot e =
-    let whole = front ++ slot ∷ [] in
-    let size : length whole - 1 ≡ length front = omega (arith, length_push front slot) in
-    let cut : take (length whole - 1) whole ≡ front = ap (λ n. take n whole) size ∙ take-append_seam front (slot ∷ []) in
-    let at : slice_get whole (length whole - 1) ≡ Some slot = ap (slice_get whole) size ∙ seam front slot [] in
-    rw (e, cut, at) refl
