@@ -1,14 +1,11 @@
 -- The first open slot of the reader's ledger, and the last one.
-use Rattle.std.proofs.Common.{◌≡◌, ⊎_elim, ◌<◌, ◌≤◌, ◌+◌, ◌-◌, ℕ, List, [], ◌∷◌, ◌++◌, length, take, slice_get, Option, Some, None, refl, ◌∙◌, ap, subst, arith}
-use Rattle.std.specs.Prelude.{not, position, is_some}
+use Rattle.std.proofs.Common.{◌≡◌, ⊎_elim, ◌<◌, ◌≤◌, ◌+◌, ℕ, List, [], ◌∷◌, ◌++◌, length, Option, Some, None, refl, ◌∙◌, ap, subst, arith}
+use Rattle.std.specs.Prelude.{not, is_some}
 use Rattle.std.specs.List.{prefix_len}
-use Rattle.std.proofs.Math.Seq.{take-append_seam}
 use Rattle.std.proofs.lemmas.Bool.{cases_lt}
-use Rattle.std.proofs.lemmas.List.{length_push}
 use Rattle.dep_model.specs.declared.schema.Schema.{Schema}
 use Rattle.derivation.specs.Trees.{Tree}
-use Rattle.proof_grammar.specs.Books.{Opened, finished_at, finished_certificate}
-use Rattle.proof_grammar.proofs.NodeLemmas.{seam}
+use Rattle.proof_grammar.specs.Books.{Opened}
 use Rattle.proof_grammar.proofs.SlotLemmas.{IsSlot, AreSlots}
 
 -- lines after so many others are used once

@@ -1,5 +1,5 @@
 -- A certificate line after so many others stands in one line of a text.
-use Rattle.std.proofs.Common.{◌≡◌, ◌<◌, ◌≤◌, ⊎_elim, ℕ, Bool, true, false, cond, not, List, [], ◌∷◌, ◌++◌, length, refl, sym, ◌∙◌, ap, arith, length-append, append_assoc}
+use Rattle.std.proofs.Common.{◌≡◌, ◌<◌, ◌≤◌, ⊎_elim, ℕ, true, false, cond, not, List, [], ◌∷◌, ◌++◌, length, sym, ◌∙◌, ap, arith, length-append, append_assoc}
 use Rattle.std.specs.Prelude.{filter}
 use Rattle.std.proofs.lemmas.Bool.{cases_order}
 use Rattle.std.proofs.lemmas.List.Elements.{filter-append}
@@ -14,7 +14,7 @@ without_yes_grows : (xs ys : List (List ℕ)) → length (without_yes xs) ≤ le
 without_yes_grows [] ys = omega arith
 without_yes_grows (x ∷ xs) ys = elim (is_yes_alone (lex mode.Numbered x))
     as (λ b. length (cond b xs (x ∷ xs)) ≤ length (cond b (xs ++ ys) (x ∷ xs ++ ys))) [
-      true ↦ omega (arith, length-append xs ys)
+      | true ↦ omega (arith, length-append xs ys)
       | false ↦ omega (arith, length-append xs ys)
     ]
 

@@ -1,6 +1,6 @@
 -- A certificate is refused exactly as it goes wrong.
-use Rattle.std.proofs.Common.{◌≡◌, ◌⊎◌, ⊎_elim, ◌+◌, ◌-◌, inl, inr, ℕ, Bool, true, List, [], ◌∷◌, length, Option, None, Some, Err, refl, sym, ◌∙◌, ap, subst, arith, length-append}
-use Rattle.std.specs.Prelude.{slice_index, MatchOption}
+use Rattle.std.proofs.Common.{◌≡◌, ◌⊎◌, ⊎_elim, ◌+◌, ◌-◌, inl, inr, ℕ, Bool, true, List, [], ◌∷◌, length, Err, refl, sym, ◌∙◌, ap, subst, arith, length-append}
+use Rattle.std.specs.Prelude.{slice_index}
 use Rattle.std.proofs.lemmas.List.{nil_from_length}
 use Rattle.std.proofs.lemmas.Option.{IfSome_then}
 use Rattle.dep_model.specs.declared.schema.Schema.{Schema}
@@ -12,7 +12,7 @@ use Rattle.lexer.specs.Tokens.{lex}
 use Rattle.proof_grammar.specs.declared.line_kind.LineKind.{LineKind}
 use Rattle.proof_grammar.specs.declared.line_kind.LineKind.TheVariants.{Blank, Opening, Certificate}
 use Rattle.proof_grammar.specs.Books.{Ledger, complaint_at}
-use Rattle.proof_grammar.specs.Complaints.{Complaint, LineComplaint, complaint_of, IsFoundAt}
+use Rattle.proof_grammar.specs.Complaints.{LineComplaint, complaint_of, IsFoundAt}
 use Rattle.proof_grammar.specs.declared.refusal.ProofRefusal.{ProofRefusal}
 use Rattle.proof_grammar.specs.Lines.{Line}
 use Rattle.proof_grammar.specs.Meanings.{certificate_lines_of}
