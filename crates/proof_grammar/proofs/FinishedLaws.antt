@@ -1,14 +1,11 @@
 -- The first open slot of the reader's ledger, and the last one.
-use Rattle.std.proofs.Common.{◌≡◌, ⊎_elim, ◌<◌, ◌≤◌, ◌+◌, ◌-◌, ℕ, List, [], ◌∷◌, ◌++◌, length, take, slice_get, Option, Some, None, refl, ◌∙◌, ap, subst, arith}
-use Rattle.std.specs.Prelude.{not, position, is_some}
+use Rattle.std.proofs.Common.{◌≡◌, ⊎_elim, ◌<◌, ◌≤◌, ◌+◌, ℕ, List, [], ◌∷◌, ◌++◌, length, Option, Some, None, refl, ◌∙◌, ap, subst, arith}
+use Rattle.std.specs.Prelude.{not, is_some}
 use Rattle.std.specs.List.{prefix_len}
-use Rattle.std.proofs.Math.Seq.{take-append_seam}
 use Rattle.std.proofs.lemmas.Bool.{cases_lt}
-use Rattle.std.proofs.lemmas.List.{length_push}
 use Rattle.dep_model.specs.declared.schema.Schema.{Schema}
 use Rattle.derivation.specs.Trees.{Tree}
-use Rattle.proof_grammar.specs.Books.{Opened, finished_at, finished_certificate}
-use Rattle.proof_grammar.proofs.NodeLemmas.{seam}
+use Rattle.proof_grammar.specs.Books.{Opened}
 use Rattle.proof_grammar.proofs.SlotLemmas.{IsSlot, AreSlots}
 
 -- lines after so many others are used once
@@ -83,14 +80,3 @@ last_slot s used n t (u ∷ us) (o ∷ os) slots =
       are = (slots.0, last.are);
       is = subst of same last.is;
     }
-
--- what is finished after a last slot
-pub ends : (last : ℕ) (lines : List ℕ) (os front : List (Option Opened)) (slot : Option Opened) → os ≡ front ++ slot ∷ []
-    → finished_certificate last (record { lines = lines; unused = os }) ≡ finished_at last lines (position is_some front) slot
-unfolding finished_certificate
-ends last lines os front slot e =
-    let whole = front ++ slot ∷ [] in
-    let size : length whole - 1 ≡ length front = omega (arith, length_push front slot) in
-    let cut : take (length whole - 1) whole ≡ front = ap (λ n. take n whole) size ∙ take-append_seam front (slot ∷ []) in
-    let at : slice_get whole (length whole - 1) ≡ Some slot = ap (slice_get whole) size ∙ seam front slot [] in
-    rw (e, cut, at) refl

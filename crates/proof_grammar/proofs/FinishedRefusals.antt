@@ -1,6 +1,7 @@
 -- A certificate is finished exactly where each line but the last is used, and refused where none or another is not.
-use Rattle.std.proofs.Common.{◌≡◌, ◌⊎◌, inl, inr, ⊎_elim, ◌<◌, ◌≤◌, ◌+◌, ℕ, Bool, true, false, cond, List, [], ◌∷◌, ◌++◌, length, slice_get, Option, Some, None, Result, Ok, Err, refl, sym, ◌∙◌, ap, subst, arith}
+use Rattle.std.proofs.Common.{◌≡◌, ◌⊎◌, inl, inr, ⊎_elim, ◌<◌, ◌≤◌, ◌+◌, ◌-◌, ℕ, Bool, true, false, cond, List, [], ◌∷◌, ◌++◌, length, take, slice_get, Option, Some, None, Result, Ok, Err, refl, sym, ◌∙◌, ap, arith}
 use Rattle.std.specs.Prelude.{nat_lt, slice_index}
+use Rattle.std.proofs.Math.Seq.{take-append_seam}
 use Rattle.std.proofs.lemmas.Bool.{cases_order}
 use Rattle.std.proofs.lemmas.Bool.Decides.{nat_tests}
 use Rattle.std.proofs.lemmas.List.{length_push}
@@ -9,7 +10,7 @@ use Rattle.dep_model.specs.declared.schema.Schema.{Schema}
 use Rattle.derivation.specs.Trees.{Tree}
 use Rattle.proof_grammar.specs.Books.{Opened, complaint_at, finished_at, finished_certificate}
 use Rattle.proof_grammar.specs.Complaints.{LineComplaint, never_used, empty_proof}
-use Rattle.proof_grammar.proofs.FinishedLaws.{AreUsed, prefix, IsFirstOpen, first_open, IsLast, last_slot, ends}
+use Rattle.proof_grammar.proofs.FinishedLaws.{AreUsed, prefix, IsFirstOpen, first_open, IsLast, last_slot}
 use Rattle.proof_grammar.proofs.NodeLemmas.{seam}
 use Rattle.proof_grammar.proofs.SlotLemmas.{IsSlot, AreSlots, slots_size}
 
@@ -40,8 +41,13 @@ unfolding finished_certificate
 finishes s used [] [] last lines slots fresh = inl (refl, refl)
 finishes s used [] (o ∷ os) last lines slots fresh = absurd slots
 finishes s used (t ∷ ts) os last lines slots fresh =
-    subst (Finishes used (t ∷ ts) last lines) (sym (ends last lines os found.front found.slot found.slots))
-    (told (nat_lt (prefix found.front) (length found.front)) found.slot refl found.is)
+    let all = found.front ++ found.slot ∷ [] in
+    let count : length all - 1 ≡ length found.front = omega (arith, length_push found.front found.slot) in
+    let cut : take (length all - 1) all ≡ found.front =
+    ap (λ n. take n all) count ∙ take-append_seam found.front (found.slot ∷ []) in
+    let at : slice_get all (length all - 1) ≡ Some found.slot =
+    ap (slice_get all) count ∙ seam found.front found.slot [] in
+    rw (found.slots, cut, at) (told (nat_lt (prefix found.front) (length found.front)) found.slot refl found.is)
   where
     found : IsLast s used 0 (t ∷ ts) os
     found = last_slot s used 0 t ts os slots

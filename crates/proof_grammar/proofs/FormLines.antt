@@ -1,8 +1,8 @@
 -- The forms that begin a line are those by which its reading goes on.
 use Rattle.std.proofs.Common.{◌≡◌, inl, inr, ⊎_elim, ℕ, zero, suc, true, false, List, [], ◌∷◌, ◌++◌, take, slice_get, Option, Some, None, Ok, Err, Result, refl, sym, ◌∙◌, ap, subst}
-use Rattle.std.proofs.lemmas.Bool.{true≢false}
+use Rattle.std.proofs.lemmas.Bool.{true≢false, false≢true}
 use Rattle.std.proofs.lemmas.Option.{none-some, same_Some}
-use Rattle.std.specs.Prelude.{codes, map, is_some}
+use Rattle.std.specs.Prelude.{◌↔◌, codes, map}
 use Rattle.dep_model.specs.Schemas.{place_named}
 use Rattle.lexer.specs.declared.token.TokenKind.{TokenKind}
 use Rattle.lexer.specs.declared.token.TokenKind.TheVariants as token
@@ -133,21 +133,17 @@ on_begins fs f s t leads on = begins_from (fs ++ f ∷ []) t
     (runs-append (Some at_start) fs (f ∷ []) ∙ ap (λ o. then_turn o f) leads ∙ on)
 
 -- ---- words of a side
-pub word_taken : (s : Shape) → takes_words s ≡ is_some (turn s a_word)
-word_taken (past true k) = refl
-word_taken _ = refl
-
-pub takes_names : (fs : List TokenForm) (s : Shape) → runs (Some at_start) fs ≡ Some s → takes_words s ≡ true
-    → TakesNames fs
-takes_names fs (at_side k) leads takes = on_begins fs a_word (at_side k) (past true k) leads refl
-takes_names fs (past true k) leads takes = on_begins fs a_word (past true k) (past true k) leads refl
-takes_names fs _ leads takes = cc
-
-no_names : (fs : List TokenForm) (s : Shape) → runs (Some at_start) fs ≡ Some s → turn s a_word ≡ None
-    → TakesNames fs → ⊥
-no_names fs s leads none takes =
-    let on = begins_on fs a_word takes in
-    none-some on.1 (sym none ∙ ap (λ t. turn t a_word) (same_Some s on.0 (sym leads ∙ on.2)) ∙ on.3)
+pub names_at : (fs : List TokenForm) (s : Shape) → runs (Some at_start) fs ≡ Some s
+    → (takes_words s ≡ true) ↔ TakesNames fs
+names_at fs (at_side k) leads = (λ takes. on_begins fs a_word (at_side k) (past true k) leads refl, λ names. refl)
+names_at fs (past true k) leads = (λ takes. on_begins fs a_word (past true k) (past true k) leads refl, λ names. refl)
+names_at fs s leads = (
+  λ takes. absurd (false≢true takes),
+  λ names.
+      let on = begins_on fs a_word names in
+      let same = same_Some s on.0 (sym leads ∙ on.2) in
+      absurd (none-some on.1 (ap (λ t. turn t a_word) same ∙ on.3)),
+)
 
 -- ---- what is wanted
 pub wants_from : (fs : List TokenForm) (s : Shape) → runs (Some at_start) fs ≡ Some s → FormsWant fs (wanted_by s)
@@ -161,6 +157,6 @@ wants_from fs (past words by) leads = final_line fs (past words by) leads refl
 wants_from fs (past words narrow) leads = final_line fs (past words narrow) leads refl
 wants_from fs (past words ending) leads = final_line fs (past words ending) leads refl
 wants_from fs at_rule leads =
-    (on_begins fs (a_rule rule.Given) at_rule _ leads refl, no_names fs at_rule leads refl)
+    (on_begins fs (a_rule rule.Given) at_rule _ leads refl, λ names. false≢true ((names_at fs at_rule leads).1 names))
 wants_from fs (at_with k) leads =
-    (on_begins fs a_with (at_with k) (at_side k) leads refl, no_names fs (at_with k) leads refl)
+    (on_begins fs a_with (at_with k) (at_side k) leads refl, λ names. false≢true ((names_at fs (at_with k) leads).1 names))

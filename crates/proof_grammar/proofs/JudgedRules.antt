@@ -1,7 +1,6 @@
 -- A certificate line is read, or refused by its first complaint.
 use Rattle.std.proofs.Common.{◌≡◌, ℕ, Bool, true, false, List, Option, Result, Ok, refl}
 use Rattle.std.proofs.lemmas.Bool.{false≢true}
-use Rattle.dep_model.specs.Dependencies.{Dependency}
 use Rattle.derivation.specs.Trees.{augmentation, complementation, maugmentation, replication, Pair, transitivity, mtransitivity, coalescence}
 use Rattle.lexer.specs.declared.token.Stop.{Stop}
 use Rattle.lexer.specs.Tokens.{Mark}
@@ -84,30 +83,21 @@ body_judged rule.Coalescence names at next_column ms stop f follows =
     two_judged coalescence names at next_column ms stop f follows
 
 -- ---- the line
-dependency_judged : (names : List (List ℕ)) (at next_column : ℕ) (ms : List Mark) (stop : Option Stop)
-    (f : Dependency × Rest → Result Line SchemaRefusal)
-    → ((d : Dependency) (words : Bool) (from : ℕ) (ns : List Mark) → (words ≡ true → NoWord ns)
-    → Judged (past words rhs) names at from ns stop (f (d, left_at at from ns stop)))
-    → Judged (at_side lhs) names at next_column ms stop (stated_dependency names (left_at at next_column ms stop) >>= f)
-unfolding stated_dependency
-dependency_judged names at next_column ms stop f follows =
-    in_row (at_side lhs) names at next_column ms stop (side names (left_at at next_column ms stop)) _ f
-    (side_judged lhs names at next_column ms stop _
-    (λ x some from ns none. in_row _ names at from ns stop (arrow (left_at at from ns stop)) _ f
-    (arrow_judged some names at from ns stop _ none
-    (λ a to ks. in_row (at_side rhs) names at to ks stop (side names (left_at at to ks stop)) _ f
-    (side_judged rhs names at to ks stop _
-    (λ y words last ls end. follows (grammar.stated a x y) words last ls end))))))
-
 pub line_judged : (names : List (List ℕ)) (at next_column : ℕ) (ms : List Mark) (stop : Option Stop)
     → Judged at_start names at next_column ms stop (certificate_line names (left_at at next_column ms stop))
-unfolding certificate_line certificate_line_from take
+unfolding certificate_line certificate_line_from stated_dependency take
 line_judged names at next_column ms stop =
     first_judged names at next_column ms stop _
     (λ n a ks. colon_judged false heading (at_side lhs) names at a ks stop _ (refl, refl, refl, refl)
     (λ e. absurd (false≢true e))
-    (λ b bs. dependency_judged names at b bs stop _
-    (λ d words c cs none. colon_judged words rhs at_rule names at c cs stop _ (refl, refl, refl, refl) none
-    (λ e es. rule_judged names at e es stop _
+    (λ b bs. in_row (at_side lhs) names at b bs stop (side names (left_at at b bs stop)) _ _
+    (side_judged lhs names at b bs stop _
+    (λ x some c cs none. in_row _ names at c cs stop (arrow (left_at at c cs stop)) _ _
+    (arrow_judged some names at c cs stop _ none
+    (λ s d ds. in_row (at_side rhs) names at d ds stop (side names (left_at at d ds stop)) _ _
+    (side_judged rhs names at d ds stop _
+    (λ y words e es end. colon_judged words rhs at_rule names at e es stop _ (refl, refl, refl, refl) end
+    (λ f fs. rule_judged names at f fs stop _
     (λ r g gs. body_judged r names at g gs stop _
-    (λ x more k h hs is end. end_judged more k names at h hs stop (record { number = n; stated = d; body = x }) is end))))))
+    (λ z more k h hs is last.
+    end_judged more k names at h hs stop (record { number = n; stated = grammar.stated s x y; body = z }) is last)))))))))))

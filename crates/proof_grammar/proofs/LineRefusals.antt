@@ -1,5 +1,5 @@
 -- A line of a certificate is refused exactly by its first complaint.
-use Rattle.std.specs.Prelude.{◌↔◌, slice_get, is_some}
+use Rattle.std.specs.Prelude.{◌↔◌, slice_get}
 use Rattle.std.proofs.Common.{◌≡◌, ◌<◌, ◌⊎◌, inl, inr, ⊎_elim, ℕ, zero, suc, true, List, [], ◌∷◌, length, take, Option, Some, None, Ok, Err, Result, refl, sym, ◌∙◌, ap, subst, arith}
 use Rattle.std.proofs.lemmas.Bool.{true≢false, false_from_ne_true}
 use Rattle.std.proofs.lemmas.List.{length-map, take_all}
@@ -17,7 +17,7 @@ use Rattle.schema_grammar.proofs.OneRefusal.{OneWant, one_first}
 use Rattle.proof_grammar.specs.declared.rule_name.RuleName.TheVariants as rule
 use Rattle.proof_grammar.specs.Lines.{Line, certificate_line}
 use Rattle.proof_grammar.specs.LineComplaints.{TokenForm, forms, a_number, a_colon, an_arrow, an_empty, a_with, a_rule, a_word, AreLine, BeginLine, CannotGoOn, SideWordComplaint, TokensComplaint, FormsWant, TokensWant, RefusesTokens, RefusesCertificateLine}
-use Rattle.proof_grammar.proofs.FormLines.{begins_from, begins_on, begins_to, final_line, line_ends, takes_names, wants_from, word_taken}
+use Rattle.proof_grammar.proofs.FormLines.{begins_from, begins_on, begins_to, final_line, line_ends, names_at, wants_from}
 use Rattle.proof_grammar.proofs.FormShapes.{heading, lhs, rhs, by, wide, narrow, ending, Shape, at_number, at_start, at_side, past, at_rule, at_with, is_final, runs, takes_words, then_turn, turn, wanted_by}
 use Rattle.proof_grammar.proofs.JudgedLines.{form, Judged, ShapeWants, TokenWrong, Wrong, WrongAt}
 use Rattle.proof_grammar.proofs.JudgedRules.{line_judged}
@@ -67,10 +67,10 @@ wanted_at fs what.Side wants =
     let on = begins_on fs an_empty wants in (on.0, on.2, one_wanted on.0 what.Side (on.1, on.3))
 wanted_at fs what.With wants =
     let on = begins_on fs a_with wants.0 in
-    (on.0, on.2, one_wanted on.0 what.With (on.1, on.3, λ takes. wants.1 (takes_names fs on.0 on.2 takes)))
+    (on.0, on.2, one_wanted on.0 what.With (on.1, on.3, λ takes. wants.1 ((names_at fs on.0 on.2).0 takes)))
 wanted_at fs what.Rule wants =
     let on = begins_on fs (a_rule rule.Given) wants.0 in
-    (on.0, on.2, one_wanted on.0 what.Rule (on.1, on.3, λ takes. wants.1 (takes_names fs on.0 on.2 takes)))
+    (on.0, on.2, one_wanted on.0 what.Rule (on.1, on.3, λ takes. wants.1 ((names_at fs on.0 on.2).0 takes)))
 wanted_at fs what.LineEnd wants =
     let ends = line_ends fs wants in (ends.0, ends.1, one_wanted ends.0 what.LineEnd ends.2)
 wanted_at fs _ wants = absurd wants
@@ -101,7 +101,7 @@ complaint_there names ms stop p n (inl (low, wrong)) =
         → WrongAt names stop n o k → SideWordComplaint names ms p n ⊎ ((n ≡ 6) × CannotGoOn (forms ms) stop p)
     told None k reached at wrong = absurd wrong
     told (Some s) (Some m) reached at (inl (takes, word)) =
-        inl (m, at, takes_names (take p (forms ms)) s reached takes, word)
+        inl (m, at, (names_at (take p (forms ms)) s reached).0 takes, word)
     told (Some s) (Some m) reached at (inr (six, cannot)) = inr (
       six,
       record {
@@ -140,7 +140,7 @@ complaint_back names ms stop p n (inr flaw) = inr flaw
 complaint_back names ms stop p n (inl (inl (m, at, takes, word))) =
     let on = begins_on (take p (forms ms)) a_word takes in
     let inside = slice_get_within ms p m at in
-    inl (omega (arith, inside), rw (on.2, at) (inl (word_taken on.0 ∙ ap is_some on.3, word)))
+    inl (omega (arith, inside), rw (on.2, at) (inl ((names_at (take p (forms ms)) on.0 on.2).1 takes, word)))
 complaint_back names ms stop p n (inl (inr (six, stuck))) =
     let there = begins_to (take p (forms ms)) stuck.before in
     inl (told there.0 (slice_get ms p) there.1 refl stuck.here)

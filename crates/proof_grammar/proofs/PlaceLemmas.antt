@@ -1,5 +1,5 @@
 -- A certificate line after so many others stands in one line of a text.
-use Rattle.std.proofs.Common.{◌≡◌, ◌<◌, ◌≤◌, ⊎_elim, ℕ, Bool, true, false, not, List, [], ◌∷◌, ◌++◌, length, refl, sym, ◌∙◌, ap, arith, length-append, append_assoc}
+use Rattle.std.proofs.Common.{◌≡◌, ◌<◌, ◌≤◌, ⊎_elim, ℕ, true, false, cond, not, List, [], ◌∷◌, ◌++◌, length, sym, ◌∙◌, ap, arith, length-append, append_assoc}
 use Rattle.std.specs.Prelude.{filter}
 use Rattle.std.proofs.lemmas.Bool.{cases_order}
 use Rattle.std.proofs.lemmas.List.Elements.{filter-append}
@@ -12,16 +12,11 @@ use Rattle.proof_grammar.specs.Refusals.{StandsAt}
 -- ---- more lines have no fewer certificate lines
 without_yes_grows : (xs ys : List (List ℕ)) → length (without_yes xs) ≤ length (without_yes (xs ++ ys))
 without_yes_grows [] ys = omega arith
-without_yes_grows (x ∷ xs) ys = told (is_yes_alone (lex mode.Numbered x)) refl
-  where
-    told : (b : Bool) → is_yes_alone (lex mode.Numbered x) ≡ b → length (without_yes (x ∷ xs)) ≤ length (without_yes (x ∷ xs ++ ys))
-    told true e = rw e (omega (arith, length-append xs ys))
-    told false e = rw e (omega (arith, length-append xs ys))
-
-certificate_grows : (xs ys : List (List ℕ)) → length (certificate_lines_of xs) ≤ length (certificate_lines_of (xs ++ ys))
-certificate_grows xs ys =
-    let spoken = λ (text : List ℕ). not (is_blank (lex mode.Numbered text)) in
-    rw (filter-append spoken xs ys) (without_yes_grows (filter spoken xs) (filter spoken ys))
+without_yes_grows (x ∷ xs) ys = elim (is_yes_alone (lex mode.Numbered x))
+    as (λ b. length (cond b xs (x ∷ xs)) ≤ length (cond b (xs ++ ys) (x ∷ xs ++ ys))) [
+      | true ↦ omega (arith, length-append xs ys)
+      | false ↦ omega (arith, length-append xs ys)
+    ]
 
 -- ---- a place after another
 record GoesBeyond (shorter longer : List (List ℕ)) (here : List ℕ) : Type 0 where
@@ -43,10 +38,15 @@ not_beyond : (text : List ℕ) (before other : List (List ℕ)) (here there : Li
 not_beyond text before other here there at by stands stands_there same less =
     let beyond = goes_beyond before here stands.after other (there ∷ stands_there.after) (sym stands.cut ∙ stands_there.cut) less in
     let longer : other ≡ (before ++ here ∷ []) ++ beyond.between = beyond.whole ∙ sym (append_assoc before (here ∷ []) beyond.between) in
+    let spoken = λ (line : List ℕ). not (is_blank (lex mode.Numbered line)) in
+    let first = before ++ here ∷ [] in
+    let grows : length (certificate_lines_of first) ≤ length (certificate_lines_of (first ++ beyond.between)) =
+    rw (filter-append spoken first beyond.between)
+    (without_yes_grows (filter spoken first) (filter spoken beyond.between)) in
     omega (
       arith,
       same,
-      certificate_grows (before ++ here ∷ []) beyond.between,
+      grows,
       ap (λ ls. length (certificate_lines_of ls)) longer,
       ap length stands.counts,
       length-append (certificate_lines_of before) (here ∷ []),

@@ -1,7 +1,6 @@
 -- The premises of a line: each is an earlier line, and used by no other.
-use Rattle.std.proofs.Common.{◌≡◌, ◌<◌, ◌≤◌, ⊎_elim, ◌+◌, ◌==◌, ℕ, Bool, true, false, List, [], ◌∷◌, length, refl, ap, arith}
-use Rattle.std.proofs.lemmas.Bool.{cases_lt}
-use Rattle.std.proofs.lemmas.Bool.Decides.{nat_tests}
+use Rattle.std.proofs.Common.{◌≡◌, ◌<◌, ◌≤◌, ⊎_elim, ◌+◌, ℕ, List, [], ◌∷◌, length, ap, arith}
+use Rattle.std.proofs.lemmas.Bool.{cases_eq, cases_lt, ne_eqb}
 use Rattle.std.proofs.lemmas.Option.{slice_get_within}
 use Rattle.dep_model.specs.Dependencies.{left_of, right_of}
 use Rattle.derivation.specs.Trees.{Tree}
@@ -32,11 +31,8 @@ abbrev pub AllOnce : (ℕ → ℕ) → List ℕ → Type 0
 AllOnce used ps = (n : ℕ) → 0 < times n ps → used n + times n ps ≤ 1
 
 only_one : (n p : ℕ) → 0 < times n (p ∷ []) → n ≡ p
-only_one n p some = told (n == p) refl
-  where
-    told : (b : Bool) → (n == p) ≡ b → n ≡ p
-    told true is = grind (arith, nat_tests, is)
-    told false other = absurd (omega (arith, some, times_other n p other))
+only_one n p some = ⊎_elim (λ same. same)
+    (λ other. absurd (omega (arith, some, times_other n p (ne_eqb n p other)))) (cases_eq n p)
 
 pub earlier_more : (ts : List Tree) (p : ℕ) (ps : List ℕ) (t : Tree) → IsTreeAt ts p t → AllEarlier ts ps
     → AllEarlier ts (p ∷ ps)

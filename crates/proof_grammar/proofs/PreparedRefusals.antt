@@ -107,9 +107,6 @@ step_prepares s lines ts os n stated rule q true (Some o) slots own earlier here
     )
 
 -- ---- a rule with two premises
-still_earlier : (os : List (Option Opened)) (p q : ℕ) → is_earlier os q ≡ true → is_earlier (closed os p) q ≡ true
-still_earlier os p q e = ap (λ m. nat_lt 0 q && nat_le q m) (length-set os (p - 1) None) ∙ e
-
 pair_prepares : (s : Schema) (lines : List Line) (ts : List Tree) (os : List (Option Opened)) (n : ℕ)
     (stated : Dependency) (rule : Pair) (q r : ℕ) (a b : Bool) (o w : Option Opened)
     → AreSlots s (λ m. uses m lines) 0 ts os → is_earlier os q ≡ a → is_earlier os r ≡ b → open_at os q ≡ o
@@ -143,7 +140,7 @@ pair_prepares s lines ts os n stated rule q r true true (Some o) None slots firs
     let left = earlier_slot s used ts os q (Some o) slots first here in
     let later = premise_taken s used ts os q slots (omega (arith, left.1.number)) left.2.0 in
     let right = earlier_slot s (λ m. used m + times m (q ∷ [])) ts (closed os q) r None later
-    (still_earlier os q r second) there in
+    (ap (λ m. nat_lt 0 r && nat_le r m) (length-set os (q - 1) None) ∙ second) there in
     let l : Line = record { number = n; stated = stated; body = by_pair rule q r } in (
       earlier_more ts q (r ∷ []) left.0 left.1 (earlier_more ts r [] right.0 right.1 (λ m some. none_named m some)),
       record {
@@ -157,7 +154,7 @@ pair_prepares s lines ts os n stated rule q r true true (Some o) (Some w) slots 
     let next : ℕ → ℕ = λ m. used m + times m (q ∷ []) in
     let left = earlier_slot s used ts os q (Some o) slots first here in
     let later = premise_taken s used ts os q slots (omega (arith, left.1.number)) left.2.0 in
-    let right = earlier_slot s next ts (closed os q) r (Some w) later (still_earlier os q r second) there in
+    let right = earlier_slot s next ts (closed os q) r (Some w) later (ap (λ m. nat_lt 0 r && nat_le r m) (length-set os (q - 1) None) ∙ second) there in
     let one = left.2.1 in
     let two = right.2.1 in
     let l : Line = record { number = n; stated = stated; body = by_pair rule q r } in (

@@ -62,76 +62,81 @@ up_to_more text before here texts after whole number up = record {
   number_is = omega (arith, up.number_is, length-append before (here ∷ []));
 }
 
--- nothing is left
-walk_end : (s : Schema) (text : List ℕ) (after whole : List (List ℕ)) (all : List Line) (grown : List Tree) (number : ℕ) (before : List (List ℕ)) (fresh : Bool) (lines : List Line)
-    (trees : List Tree) (book : Ledger) (more : List Line) (us : List Tree) → IsUpTo text before [] after whole number → HasReadLines s text before fresh lines trees book
-    → MeanLines (names_of s) [] more → GoOn s lines trees more us all grown → IsWalked s text whole after all grown (read_certificate_lines s fresh number book after)
-walk_end s text after whole all grown number before fresh lines trees book [] [] up afterwards mean goes =
-    let same_lines : lines ≡ all = sym (goes.lines_whole ∙ append-nil lines) in
-    let same_trees : trees ≡ grown = sym (goes.trees_whole ∙ append-nil trees) in
-    let same_front : before ≡ whole = sym (up.front ∙ append-nil before) in
-    let of : List (List ℕ) → List Line → List Tree → Type 0 = λ b ls ts. IsWalked s text b after ls ts (read_certificate_lines s fresh number book after) in
-    let start : of before lines trees = record { fresh = fresh; book = book; afterwards = afterwards; same = ap (λ n. read_certificate_lines s fresh n book after) up.number_is } in
-    subst (λ b. of b all grown) same_front (subst (λ ts. of before all ts) same_trees (subst (λ ls. of before ls trees) same_lines start))
-walk_end s text after whole all grown number before fresh lines trees book [] (u ∷ us) up afterwards mean goes = absurd goes.nodes
-walk_end s text after whole all grown number before fresh lines trees book (l ∷ more) us up afterwards mean goes = absurd mean
-
--- a line that counts
-walk_line : (s : Schema) (text : List ℕ) (after whole : List (List ℕ)) (all : List Line) (grown : List Tree) (number : ℕ) (here : List ℕ) (texts before : List (List ℕ)) (fresh : Bool)
-    (lines : List Line) (trees : List Tree) (book : Ledger) (more : List Line) (us : List Tree) → IsUpTo text before (here ∷ texts) after whole number
-    → HasReadLines s text before fresh lines trees book → Counts Certificate fresh here → MeanLines (names_of s) (here ∷ counted false texts) more → GoOn s lines trees more us all grown
-    → WalksOn s text after whole all grown (number + 1) texts → IsWalked s text whole after all grown (read_from s number (texts ++ after) (read_as Certificate s fresh number book here))
-walk_line s text after whole all grown number here texts before fresh lines trees book [] us up afterwards counts mean goes on = absurd mean
-walk_line s text after whole all grown number here texts before fresh lines trees book (l ∷ more) [] up afterwards counts mean goes on = absurd goes.nodes
-walk_line s text after whole all grown number here texts before fresh lines trees book (l ∷ more) (u ∷ us) up afterwards counts (means, rest) goes on =
-    let own = line_of_attributes s here l means in
-    let count = nodes_size s [] lines trees afterwards.read.nodes in
-    let room : length trees < MOST_NODES = omega (arith, goes.read.few_lines, ap length goes.lines_whole, length-append lines (l ∷ more), count) in
-    let enters = entered_back s number lines trees book l u afterwards.follows own goes.nodes.0 room deep single in
-    let next = enters.0 in
-    let stands : StandsAt text before here number =
-    record { after = texts ++ after; cut = up.cut; number = up.number_is; counts = counts_here s text before fresh lines trees book here afterwards counts } in
-    let reads = line_back (names_of s) number here l means in
-    rw (reads, enters.1)
-    (on (before ++ here ∷ []) false (lines ++ l ∷ []) (trees ++ u ∷ []) next more us (up_to_more text before here texts after whole number up)
-    (one_more s text before fresh lines trees book here number l u next afterwards counts stands means enters.1 enters.2) rest
-    (record {
+walk_more : (k : LineKind) (s : Schema) (text : List ℕ) (after whole : List (List ℕ)) (all : List Line)
+    (grown : List Tree) (number : ℕ) (here : List ℕ) (texts before : List (List ℕ)) (fresh : Bool) (lines : List Line)
+    (trees : List Tree) (book : Ledger) (more : List Line) (us : List Tree)
+    → IsUpTo text before (here ∷ texts) after whole number → HasReadLines s text before fresh lines trees book
+    → Counts k fresh here → MeanLines (names_of s) (counted fresh (here ∷ texts)) more
+    → GoOn s lines trees more us all grown → WalksOn s text after whole all grown (number + 1) texts
+    → IsWalked s text whole after all grown (read_from s number (texts ++ after) (read_as k s fresh number book here))
+walk_more Blank s text after whole all grown number here texts before fresh lines trees book more us up afterwards counts mean goes on =
+    on (before ++ here ∷ []) fresh lines trees book more us (up_to_more text before here texts after whole number up)
+    (passed s text before fresh fresh lines trees book here afterwards counts)
+    (subst (λ (ls : List (List ℕ)). MeanLines (names_of s) ls more) (counts texts) mean) goes
+walk_more Opening s text after whole all grown number here texts before fresh lines trees book more us up afterwards counts mean goes on =
+    on (before ++ here ∷ []) false lines trees book more us (up_to_more text before here texts after whole number up)
+    (passed s text before fresh false lines trees book here afterwards counts)
+    (subst (λ (ls : List (List ℕ)). MeanLines (names_of s) ls more) (counts texts) mean) goes
+walk_more Certificate s text after whole all grown number here texts before fresh lines trees book [] us up afterwards counts mean goes on =
+    absurd (subst (λ (ls : List (List ℕ)). MeanLines (names_of s) ls []) (counts texts) mean)
+walk_more Certificate s text after whole all grown number here texts before fresh lines trees book (l ∷ more) [] up afterwards counts mean goes on =
+    absurd goes.nodes
+walk_more Certificate s text after whole all grown number here texts before fresh lines trees book (l ∷ more) (u ∷ us) up afterwards counts mean goes on =
+    let means = subst (λ (ls : List (List ℕ)). MeanLines (names_of s) ls (l ∷ more)) (counts texts) mean in
+    let own = line_of_attributes s here l means.0 in
+    let size = nodes_size s [] lines trees afterwards.read.nodes in
+    let room : length trees < MOST_NODES =
+    omega (arith, goes.read.few_lines, ap length goes.lines_whole, length-append lines (l ∷ more), size) in
+    let inside : length trees < length grown = omega (arith, ap length goes.trees_whole, length-append trees (u ∷ us)) in
+    let flat : depth u ≤ MOST_LEVELS = omega (
+      arith,
+      goes.read.few_levels (length trees) u inside,
+      ap depth (get_or-append_seam trees u us u),
+      ap (λ ts. depth (get_or ts (length trees) u)) goes.trees_whole,
+    ) in
+    let once : (n : ℕ) → 0 < n → used_after (λ n. uses n lines) l n ≤ 1 = λ n low.
+    omega (arith, goes.read.once n low, ap (uses n) goes.lines_whole, uses-append n lines (l ∷ more), uses_first n l more) in
+    let enters = entered_back s number lines trees book l u afterwards.follows own goes.nodes.0 room flat once in
+    let stands : StandsAt text before here number = record {
+      after = texts ++ after;
+      cut = up.cut;
+      number = up.number_is;
+      counts = counts_here s text before fresh lines trees book here afterwards counts;
+    } in
+    rw (line_back (names_of s) number here l means.0, enters.1)
+    (on (before ++ here ∷ []) false (lines ++ l ∷ []) (trees ++ u ∷ []) enters.0 more us
+    (up_to_more text before here texts after whole number up)
+    (one_more s text before fresh lines trees book here number l u enters.0 afterwards counts stands means.0 enters.1 enters.2)
+    means.1 (record {
       lines_whole = goes.lines_whole ∙ sym (append_assoc lines (l ∷ []) more);
       trees_whole = goes.trees_whole ∙ sym (append_assoc trees (u ∷ []) us);
       nodes = goes.nodes.1;
       read = goes.read;
     }))
-  where
-    deep : depth u ≤ MOST_LEVELS
-    deep =
-        let inside : length trees < length grown = omega (arith, ap length goes.trees_whole, length-append trees (u ∷ us)) in
-        let few = goes.read.few_levels (length trees) u inside in
-        omega (arith, few, ap depth (get_or-append_seam trees u us u), ap (λ ts. depth (get_or ts (length trees) u)) goes.trees_whole)
 
-    single : (n : ℕ) → 0 < n → used_after (λ n. uses n lines) l n ≤ 1
-    single n low = omega (arith, goes.read.once n low, ap (uses n) goes.lines_whole, uses-append n lines (l ∷ more), uses_first n l more)
-
-walk_more : (k : LineKind) (s : Schema) (text : List ℕ) (after whole : List (List ℕ)) (all : List Line) (grown : List Tree) (number : ℕ) (here : List ℕ) (texts before : List (List ℕ))
-    (fresh : Bool) (lines : List Line) (trees : List Tree) (book : Ledger) (more : List Line) (us : List Tree) → IsUpTo text before (here ∷ texts) after whole number
-    → HasReadLines s text before fresh lines trees book → Counts k fresh here → MeanLines (names_of s) (counted fresh (here ∷ texts)) more → GoOn s lines trees more us all grown
-    → WalksOn s text after whole all grown (number + 1) texts → IsWalked s text whole after all grown (read_from s number (texts ++ after) (read_as k s fresh number book here))
-walk_more Blank s text after whole all grown number here texts before fresh lines trees book more us up afterwards counts mean goes on =
-    on (before ++ here ∷ []) fresh lines trees book more us (up_to_more text before here texts after whole number up) (passed s text before fresh fresh lines trees book here afterwards counts)
-    (subst (λ (ls : List (List ℕ)). MeanLines (names_of s) ls more) (counts texts) mean) goes
-walk_more Opening s text after whole all grown number here texts before fresh lines trees book more us up afterwards counts mean goes on =
-    on (before ++ here ∷ []) false lines trees book more us (up_to_more text before here texts after whole number up) (passed s text before fresh false lines trees book here afterwards counts)
-    (subst (λ (ls : List (List ℕ)). MeanLines (names_of s) ls more) (counts texts) mean) goes
-walk_more Certificate s text after whole all grown number here texts before fresh lines trees book more us up afterwards counts mean goes on =
-    walk_line s text after whole all grown number here texts before fresh lines trees book more us up afterwards counts
-    (subst (λ (ls : List (List ℕ)). MeanLines (names_of s) ls more) (counts texts) mean) goes on
-
-walk : (s : Schema) (text : List ℕ) (after whole : List (List ℕ)) (all : List Line) (grown : List Tree) (number : ℕ) (texts : List (List ℕ)) → WalksOn s text after whole all grown number texts
+walk : (s : Schema) (text : List ℕ) (after whole : List (List ℕ)) (all : List Line) (grown : List Tree) (number : ℕ)
+    (texts : List (List ℕ)) → WalksOn s text after whole all grown number texts
 unfolding read_certificate_lines read_one
-walk s text after whole all grown number [] before fresh lines trees book more us up afterwards mean goes =
-    walk_end s text after whole all grown number before fresh lines trees book more us up afterwards
-    (subst (λ (ls : List (List ℕ)). MeanLines (names_of s) ls more) (nothing_counts fresh) mean) goes
+walk s text after whole all grown number [] before fresh lines trees book [] [] up afterwards mean goes =
+    let same_lines : lines ≡ all = sym (goes.lines_whole ∙ append-nil lines) in
+    let same_trees : trees ≡ grown = sym (goes.trees_whole ∙ append-nil trees) in
+    let same_front : before ≡ whole = sym (up.front ∙ append-nil before) in
+    let of : List (List ℕ) → List Line → List Tree → Type 0 =
+    λ b ls ts. IsWalked s text b after ls ts (read_certificate_lines s fresh number book after) in
+    let start : of before lines trees = record {
+      fresh = fresh;
+      book = book;
+      afterwards = afterwards;
+      same = ap (λ n. read_certificate_lines s fresh n book after) up.number_is;
+    } in
+    subst (λ b. of b all grown) same_front
+    (subst (λ ts. of before all ts) same_trees (subst (λ ls. of before ls trees) same_lines start))
+walk s text after whole all grown number [] before fresh lines trees book [] (u ∷ us) up afterwards mean goes = absurd goes.nodes
+walk s text after whole all grown number [] before fresh lines trees book (l ∷ more) us up afterwards mean goes =
+    absurd (subst (λ (ls : List (List ℕ)). MeanLines (names_of s) ls (l ∷ more)) (nothing_counts fresh) mean)
 walk s text after whole all grown number (here ∷ texts) before fresh lines trees book more us up afterwards mean goes =
-    walk_more (line_kind fresh (lex mode.Numbered here)) s text after whole all grown number here texts before fresh lines trees book more us up afterwards (kind_counts fresh here _ refl) mean goes
+    walk_more (line_kind fresh (lex mode.Numbered here)) s text after whole all grown number here texts before fresh lines
+    trees book more us up afterwards (kind_counts fresh here _ refl) mean goes
     (walk s text after whole all grown (number + 1) texts)
 
 -- the reader after lines of a text that are read
