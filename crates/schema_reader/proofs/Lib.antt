@@ -1,4 +1,3 @@
-pub mod DependencyLemmas
 pub mod FollowLemmas
 pub mod ListLemmas
 pub mod PrintLemmas

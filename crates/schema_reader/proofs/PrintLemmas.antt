@@ -1,13 +1,12 @@
 -- What is printed so far of a set or of a declaring line, and what is still to print.
-use Rattle.std.proofs.Common.{◌≡◌, ◌<◌, ◌≤◌, ◌+◌, ℕ, zero, suc, Bool, true, false, cond, List, [], ◌∷◌, ◌++◌, length, take, drop, refl, sym, ◌∙◌, ap, subst, arith, append_assoc, add-one, drop-cons, get_or, Some}
-use Rattle.std.specs.List.{slice_get, list_any}
-use Rattle.std.proofs.lemmas.List.Folds.{list_any_at, list_any_more}
-use Rattle.std.proofs.lemmas.Option.{slice_get_within}
+use Rattle.std.proofs.Common.{◌≡◌, ◌<◌, ◌+◌, ℕ, Bool, true, false, cond, List, [], ◌∷◌, ◌++◌, length, drop, refl, sym, ◌∙◌, ap, subst, append_assoc, add-one, drop-cons, get_or, Some}
+use Rattle.std.specs.List.{slice_get}
+use Rattle.std.proofs.lemmas.Option.{get_or_from_slice_get, slice_get_within}
 use Rattle.std.proofs.lemmas.List.{append-nil}
 use Rattle.std.specs.Prelude.{map}
 use Rattle.attr_sets.specs.Places.{Places}
 use Rattle.dep_model.specs.declared.column.Column.{Column}
-use Rattle.schema_grammar.specs.Printing.{words_text, members_from, side_text, set_text, runs_of, in_front, run_line, lines_text, type_word, same_column, is_integer, Run}
+use Rattle.schema_grammar.specs.Printing.{words_text, members_from, side_text, set_text, runs_of, in_front, run_line, lines_text, type_word, same_column, Run}
 
 -- what is still to print of a set, where a name stood before or not
 abbrev pub rest_text : Bool → List (List ℕ) → List ℕ
@@ -27,20 +26,11 @@ after_text c (d ∷ ds) (name ∷ names) =
 pub record PrintsRuns (columns : List Column) (names : List (List ℕ)) (before text : List ℕ) (last : Column) (place : ℕ) : Type 0 where
   pub same : text ++ after_text last (drop place columns) (drop place names) ≡ before ++ lines_text (map run_line (runs_of columns names))
 
-pub get_at : {X : Type 0} (xs : List X) (i : ℕ) (x : X) → slice_get xs i ≡ Some x → get_or xs i x ≡ x
-get_at [] i x e = cc
-get_at (y ∷ ys) zero x e = cc
-get_at (y ∷ ys) (suc i) x e = get_at ys i x e
-
 -- an element, and what stands from it on
 pub at_place : {X : Type 0} (xs : List X) (i : ℕ) (x : X) → slice_get xs i ≡ Some x → drop i xs ≡ x ∷ drop (i + 1) xs
 at_place xs i x e =
     let inside : i < length xs = slice_get_within xs i x e in
-    rw (add-one, drop-cons xs i x) (let same : get_or xs i x ≡ x = get_at xs i x e in rw same refl)
-
-pub set_begins : (names : List (List ℕ)) (x : Places) (before : List ℕ) → PrintsSet names x before before false 0
-unfolding set_text
-set_begins names x before = record { same = refl }
+    rw (add-one, drop-cons xs i x) (let same : get_or xs i x ≡ x = get_or_from_slice_get xs i x x e in rw same refl)
 
 pub set_outside : (names : List (List ℕ)) (x : Places) (before text next : List ℕ) (some more : Bool) (k : ℕ)
     → PrintsSet names x before text some k → k < length names → false ≡ x k → next ≡ text → more ≡ some → PrintsSet names x before next more (k + 1)
@@ -100,9 +90,6 @@ runs_led c name (d ∷ columns) (next ∷ names) =
     let of : List ℕ → Type 0 = λ rest. IsLed c ((32 ∷ name) ++ rest) (in_front c name (runs_of (d ∷ columns) (next ∷ names))) in
     subst of (ap (λ t. cond (same_column c d) ((32 ∷ next) ++ after_text d columns names) t) (sym far) ∙ sym same) led
 
-led_text : (c : Column) (rest : List ℕ) (runs : List Run) → IsLed c rest runs → lines_text (map run_line runs) ≡ type_word c ++ rest
-led_text c rest runs led = rw led.whole (simp (append_assoc, led.text))
-
 pub runs_begin : (columns : List Column) (names : List (List ℕ)) (before text : List ℕ) (c : Column) (name : List ℕ)
     → slice_get columns 0 ≡ Some c → slice_get names 0 ≡ Some name → text ≡ before ++ (type_word c ++ 32 ∷ name) → PrintsRuns columns names before text c 1
 runs_begin [] names before text c name first_type first_name added = cc
@@ -110,7 +97,9 @@ runs_begin (d ∷ columns) [] before text c name first_type first_name added = c
 runs_begin (d ∷ columns) (first ∷ names) before text c name first_type first_name added =
     let type_is : d ≡ c = cc in
     let name_is : first ≡ name = cc in
-    let whole = led_text d ((32 ∷ first) ++ after_text d columns names) (runs_of (d ∷ columns) (first ∷ names)) (runs_led d first columns names) in
+    let led = runs_led d first columns names in
+    let whole : lines_text (map run_line (runs_of (d ∷ columns) (first ∷ names))) ≡ type_word d ++ ((32 ∷ first) ++ after_text d columns names) =
+    rw led.whole (simp (append_assoc, led.text)) in
     record { same = rw (whole, added, type_is, name_is) (simp append_assoc) }
 
 pub runs_more : (columns : List Column) (names : List (List ℕ)) (before text next : List ℕ) (last c : Column) (k : ℕ) (name : List ℕ)
@@ -120,16 +109,3 @@ runs_more columns names before text next last c k name prints its_type its_name 
   same = let types = at_place columns k c its_type in let rest = at_place names k name its_name in let old = prints.same in
       rw added (rw append_assoc (rw (types, rest) at old));
 }
-
-pub names_more : (names : List (List ℕ)) (text next whole : List ℕ) (k : ℕ) (name : List ℕ) → text ++ words_text (drop k names) ≡ whole
-    → slice_get names k ≡ Some name → next ≡ text ++ 32 ∷ name → next ++ words_text (drop (k + 1) names) ≡ whole
-names_more names text next whole k name old here added =
-    let rest = at_place names k name here in rw added (rw append_assoc (rw rest at old))
-
-pub any_at : (columns : List Column) (k : ℕ) (c : Column) → slice_get columns k ≡ Some c → true ≡ is_integer c → true ≡ list_any is_integer columns
-any_at columns k c here e = sym (list_any_at is_integer columns k c (slice_get_within columns k c here) (ap is_integer (get_at columns k c here) ∙ sym e))
-
-pub none_more : (columns : List Column) (k : ℕ) (c : Column) → list_any is_integer (take k columns) ≡ false → slice_get columns k ≡ Some c → false ≡ is_integer c
-    → list_any is_integer (take (k + 1) columns) ≡ false
-none_more columns k c none here e =
-    list_any_more is_integer columns k c (slice_get_within columns k c here) ∙ (rw (none, get_at columns k c here) (sym e))

@@ -1,6 +1,8 @@
-use Rattle.std.proofs.Common.{◌∙◌, sym}
-use Rattle.proof_text.proofs.BookLemmas.{first_same}
+use Rattle.std.specs.Prelude.{option_map}
+use Rattle.std.proofs.lemmas.List.{length-map}
+use Rattle.proof_text.specs.Views.{opened_of}
+use Rattle.proof_text.proofs.BookLemmas.{first_len}
 use Rattle.proof_text.proofs.book.first_unused.Goals as goal
 
 pub returns : goal.returns
-returns c = record { first = c.first_open.ensures.first ∙ sym (first_same c.args.unused.now) }
+returns c = record { first = rw (first_len c.args.unused.now, length-map c.args.unused.now (option_map opened_of)) c.first_open.ensures.first }

@@ -1,12 +1,14 @@
-use Rattle.std.proofs.Common.{sym, ◌∙◌, ap, Some, arith}
+use Rattle.std.proofs.Common.{sym, ◌∙◌, ap, Some, refl, arith}
 use Rattle.attr_sets.specs.Sets.{places}
 use Rattle.dep_model.specs.Schemas.{names_of}
-use Rattle.schema_reader.proofs.PrintLemmas.{set_begins, set_outside, set_inside}
+use Rattle.schema_grammar.specs.Printing.{set_text}
+use Rattle.schema_reader.proofs.PrintLemmas.{set_outside, set_inside}
 use Rattle.schema_reader.proofs.print.add_set.Goals as goal
 use Rattle.schema_reader.proofs.print.add_set.Goals.{then-has+in_ok-add_member, else-has}
 
 pub loop-place-init : goal.loop-place-init
-loop-place-init c = set_begins _ _ _
+unfolding set_text
+loop-place-init c = record { same = refl }
 
 pub loop-place-preserved : goal.loop-place-preserved
 loop-place-preserved c = elim c.if-has.branch [

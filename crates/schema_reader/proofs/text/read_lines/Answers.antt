@@ -1,20 +1,37 @@
-use Rattle.std.proofs.Common.{◌∙◌}
-use Rattle.schema_reader.specs.Views.{drafted}
-use Rattle.schema_grammar.proofs.RefusalLemmas.{ok_whole, err_refuses, Refuses-whole}
-use Rattle.schema_reader.proofs.TextLemmas.{cut_any, cut_last, cut_more, line_refused, last_read, reads_more}
+use Rattle.std.proofs.Common.{◌≡◌, ◌+◌, ◌-◌, refl, arith}
+use Rattle.schema_grammar.specs.Texts.{read_lines}
+use Rattle.schema_grammar.proofs.RefusalLemmas.{ok_at, err_refuses, Refuses-whole}
+use Rattle.schema_grammar.proofs.SoundLemmas.{IsSound, line_sound}
+use Rattle.schema_reader.proofs.TextLemmas.{cut_any, cut_last, cut_more}
 use Rattle.schema_reader.proofs.text.read_lines.Goals as goal
 
 pub returns-in-Err-clause-err : goal.returns-in-Err-clause-err
+unfolding read_lines
 returns-in-Err-clause-err c =
-    Refuses-whole _ _ _ (λ refused. c.lines.invariant.same ∙ line_refused _ _ _ _ _ _ _ (cut_any _ _ _ c.cut_line.ensures.cut) refused) c.in-Err.ensures.err
+    Refuses-whole _ _ _ (λ refused. rw (c.lines.invariant.same, cut_any _ _ _ c.cut_line.ensures.cut, refused) refl) c.in-Err.ensures.err
 
 pub returns-in-None-clause-ok : goal.returns-in-None-clause-ok
+unfolding read_lines
 returns-in-None-clause-ok c =
-    ok_whole drafted _ _ _ (c.lines.invariant.same ∙ last_read _ _ _ _ _ _ (cut_last _ _ _ c.in-None.is c.cut_line.ensures.cut).lines c.in-Ok.ensures.ok) c.finish.ensures.ok
+    let cut = cut_last _ _ _ c.in-None.is c.cut_line.ensures.cut in
+    let back : c.lines.number + 1 - 1 ≡ c.lines.number = omega arith in
+    rw (c.lines.invariant.same, cut.lines, c.in-Ok.ensures.ok, back) c.finish.ensures.ok
 
 pub returns-in-None-clause-err : goal.returns-in-None-clause-err
+unfolding read_lines
 returns-in-None-clause-err c =
-    err_refuses _ _ _ (c.lines.invariant.same ∙ last_read _ _ _ _ _ _ (cut_last _ _ _ c.in-None.is c.cut_line.ensures.cut).lines c.in-Ok.ensures.ok) c.finish.ensures.err
+    let cut = cut_last _ _ _ c.in-None.is c.cut_line.ensures.cut in
+    let back : c.lines.number + 1 - 1 ≡ c.lines.number = omega arith in
+    rw (c.lines.invariant.same, cut.lines, c.in-Ok.ensures.ok, back) (err_refuses _ _ _ refl c.finish.ensures.err)
 
 pub lines-preserved : goal.lines-preserved
-lines-preserved c = reads_more _ _ _ _ _ _ _ _ _ c.lines.invariant (cut_more _ _ _ _ c.in-Some.is c.cut_line.ensures.cut) c.in-Ok.ensures.ok
+unfolding read_lines
+lines-preserved c =
+    let cut = cut_more _ _ _ _ c.in-Some.is c.cut_line.ensures.cut in
+    let better = ok_at (IsSound c.args.format) _ _ c.in-Ok.ensures.ok (line_sound _ _ _ _ c.lines.invariant.sound) in
+    record {
+      same = rw (c.lines.invariant.same, cut.lines, c.in-Ok.ensures.ok) refl;
+      sound = better;
+      few = better.few_names;
+      room = omega (arith, c.lines.invariant.room, cut.shorter);
+    }

@@ -1,43 +1,64 @@
-use Rattle.std.proofs.Common.{◌∙◌, sym, ap}
+use Rattle.std.proofs.Common.{◌≡◌, ◌+◌, ◌-◌, sym, ap, refl, arith}
 use Rattle.schema_reader.specs.Views.{drafted}
-use Rattle.schema_grammar.specs.Texts.{finish}
-use Rattle.schema_grammar.proofs.RefusalLemmas.{ok_whole, err_refuses, refuses_whole}
-use Rattle.schema_reader.proofs.TextLemmas.{cut_any, cut_last, cut_more, opens_more, last_blank, stopped_opening, plain_opening, version_opening}
+use Rattle.schema_grammar.specs.Texts.{finish, read_opening}
+use Rattle.schema_grammar.proofs.RefusalLemmas.{ok_whole, err_refuses}
+use Rattle.schema_reader.proofs.TextLemmas.{cut_any, cut_last, cut_more}
 use Rattle.schema_reader.proofs.text.read_opening.Goals as goal
 
 pub returns-in-Stop-clause-ok : goal.returns-in-Stop-clause-ok
+unfolding read_opening
 returns-in-Stop-clause-ok c =
-    ok_whole drafted _ _ _ (c.lines.invariant.same ∙ stopped_opening _ _ _ _ _ (cut_any _ _ _ c.cut_line.ensures.cut) c.in-Stop.ensures.exact) c.read_lines.ensures.ok
+    let cut = cut_any _ _ _ c.cut_line.ensures.cut in rw (c.lines.invariant.same, cut, c.in-Stop.ensures.exact, ← cut) c.read_lines.ensures.ok
 
 pub returns-in-Stop-clause-err : goal.returns-in-Stop-clause-err
+unfolding read_opening
 returns-in-Stop-clause-err c =
-    refuses_whole _ _ _ (c.lines.invariant.same ∙ stopped_opening _ _ _ _ _ (cut_any _ _ _ c.cut_line.ensures.cut) c.in-Stop.ensures.exact) c.read_lines.ensures.err
+    let cut = cut_any _ _ _ c.cut_line.ensures.cut in rw (c.lines.invariant.same, cut, c.in-Stop.ensures.exact, ← cut) c.read_lines.ensures.err
 
 pub returns-then-is_version-clause-ok : goal.returns-then-is_version-clause-ok
+unfolding read_opening
 returns-then-is_version-clause-ok c =
-    ok_whole drafted _ _ _ (c.lines.invariant.same ∙ version_opening _ _ _ _ c.in-Token.token _ _ (cut_any _ _ _ c.cut_line.ensures.cut) c.in-Token.ensures.exact (sym c.if-is_version.ensures.exact)) c.read_typed.ensures.ok
+    let leads = c.in-Token.ensures.exact in
+    rw (c.lines.invariant.same, cut_any _ _ _ c.cut_line.ensures.cut, leads.all_tokens, ← c.if-is_version.ensures.exact, ← leads.same_length) c.read_typed.ensures.ok
 
 pub returns-then-is_version-clause-err : goal.returns-then-is_version-clause-err
+unfolding read_opening
 returns-then-is_version-clause-err c =
-    refuses_whole _ _ _ (c.lines.invariant.same ∙ version_opening _ _ _ _ c.in-Token.token _ _ (cut_any _ _ _ c.cut_line.ensures.cut) c.in-Token.ensures.exact (sym c.if-is_version.ensures.exact)) c.read_typed.ensures.err
+    let leads = c.in-Token.ensures.exact in
+    rw (c.lines.invariant.same, cut_any _ _ _ c.cut_line.ensures.cut, leads.all_tokens, ← c.if-is_version.ensures.exact, ← leads.same_length) c.read_typed.ensures.err
 
 pub returns-else-is_version-clause-ok : goal.returns-else-is_version-clause-ok
+unfolding read_opening
 returns-else-is_version-clause-ok c =
-    ok_whole drafted _ _ _ (c.lines.invariant.same ∙ plain_opening _ _ _ _ c.in-Token.token _ _ (cut_any _ _ _ c.cut_line.ensures.cut) c.in-Token.ensures.exact (sym c.if-is_version.ensures.exact)) c.read_lines-else-is_version.ensures.ok
+    let leads = c.in-Token.ensures.exact in
+    let cut = cut_any _ _ _ c.cut_line.ensures.cut in
+    rw (c.lines.invariant.same, cut, leads.all_tokens, ← c.if-is_version.ensures.exact, ← cut) c.read_lines-else-is_version.ensures.ok
 
 pub returns-else-is_version-clause-err : goal.returns-else-is_version-clause-err
+unfolding read_opening
 returns-else-is_version-clause-err c =
-    refuses_whole _ _ _ (c.lines.invariant.same ∙ plain_opening _ _ _ _ c.in-Token.token _ _ (cut_any _ _ _ c.cut_line.ensures.cut) c.in-Token.ensures.exact (sym c.if-is_version.ensures.exact)) c.read_lines-else-is_version.ensures.err
+    let leads = c.in-Token.ensures.exact in
+    let cut = cut_any _ _ _ c.cut_line.ensures.cut in
+    rw (c.lines.invariant.same, cut, leads.all_tokens, ← c.if-is_version.ensures.exact, ← cut) c.read_lines-else-is_version.ensures.err
 
 pub returns-in-None-clause-ok : goal.returns-in-None-clause-ok
+unfolding read_opening
 returns-in-None-clause-ok c =
-    let last = last_blank c.lines.number _ _ (cut_last _ _ _ c.in-None.is c.cut_line.ensures.cut).lines c.in-End.ensures.exact in
-    ok_whole drafted _ _ _ (c.lines.invariant.same ∙ last ∙ ap (finish c.lines.number) (sym c.new.ensures.empty)) c.finish.ensures.ok
+    let cut = cut_last _ _ _ c.in-None.is c.cut_line.ensures.cut in
+    let back : c.lines.number + 1 - 1 ≡ c.lines.number = omega arith in
+    rw (c.lines.invariant.same, cut.lines, c.in-End.ensures.exact, back)
+    (ok_whole drafted _ _ _ (ap (finish c.lines.number) (sym c.new.ensures.empty)) c.finish.ensures.ok)
 
 pub returns-in-None-clause-err : goal.returns-in-None-clause-err
+unfolding read_opening
 returns-in-None-clause-err c =
-    let last = last_blank c.lines.number _ _ (cut_last _ _ _ c.in-None.is c.cut_line.ensures.cut).lines c.in-End.ensures.exact in
-    err_refuses _ _ _ (c.lines.invariant.same ∙ last ∙ ap (finish c.lines.number) (sym c.new.ensures.empty)) c.finish.ensures.err
+    let cut = cut_last _ _ _ c.in-None.is c.cut_line.ensures.cut in
+    let back : c.lines.number + 1 - 1 ≡ c.lines.number = omega arith in
+    rw (c.lines.invariant.same, cut.lines, c.in-End.ensures.exact, back)
+    (err_refuses _ _ _ (ap (finish c.lines.number) (sym c.new.ensures.empty)) c.finish.ensures.err)
 
 pub lines-preserved : goal.lines-preserved
-lines-preserved c = opens_more _ _ _ _ _ c.lines.invariant (cut_more _ _ _ _ c.in-Some.is c.cut_line.ensures.cut) c.in-End.ensures.exact
+unfolding read_opening
+lines-preserved c =
+    let cut = cut_more _ _ _ _ c.in-Some.is c.cut_line.ensures.cut in
+    record { same = rw (c.lines.invariant.same, cut.lines, c.in-End.ensures.exact) refl; room = omega (arith, c.lines.invariant.room, cut.shorter) }

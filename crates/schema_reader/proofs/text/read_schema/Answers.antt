@@ -2,6 +2,7 @@ use Rattle.std.specs.List.{All}
 use Rattle.schema_grammar.specs.Words.{is_reserved}
 use Rattle.schema_grammar.specs.declared.format.Format.TheVariants as format
 use Rattle.std.proofs.Common.{◌≡◌, ◌∙◌, ℕ, List, subst, false, sym, ap, refl, Ok}
+use Rattle.dep_model.specs.Deps.{dependencies_of}
 use Rattle.lexer.specs.Lines.{line_texts}
 use Rattle.schema_reader.specs.Views.{drafted}
 use Rattle.schema_grammar.specs.Texts.{read_text, read_opening, declarations_of}
@@ -9,7 +10,6 @@ use Rattle.schema_grammar.proofs.RefusalLemmas.{ok_at, RefusesAs-map}
 use Rattle.schema_grammar.proofs.SchemaLaws.{schema-law}
 use Rattle.schema_grammar.proofs.TextLaws.{schema_refused}
 use Rattle.schema_grammar.proofs.SoundLemmas.{IsWhole, opening_whole, forms_schema, forms_columns, whole_free}
-use Rattle.schema_reader.proofs.TextLemmas.{declared_as}
 use Rattle.schema_reader.proofs.text.read_schema.Goals as goal
 
 pub returns-in-Err-clause-err : goal.returns-in-Err-clause-err
@@ -30,7 +30,9 @@ pub returns-clause-ok : goal.returns-clause-ok
 unfolding read_text
 returns-clause-ok c =
     let here = ap (λ text. read_opening 1 (line_texts text)) (sym c.without_mark.ensures.text) in
-    let made = declared_as c.make_typed.result (drafted c.in-Ok.draft) _ c.make_typed.ensures.names c.make_typed.ensures.columns c.make_typed.ensures.deps c.make_typed.ensures.lines refl in
+    let of = c.make_typed.ensures in
+    let theory = ap dependencies_of of.deps in
+    let made : declarations_of c.make_typed.result ≡ drafted c.in-Ok.draft = λ i. record { names = of.names i; columns = of.columns i; deps = theory i; lines = of.lines i } in
     (schema-law c.args.text.now (declarations_of c.make_typed.result)).0 (here ∙ c.in-Ok.ensures.ok ∙ ap Ok (sym made))
 
 pub returns-clause-free : goal.returns-clause-free

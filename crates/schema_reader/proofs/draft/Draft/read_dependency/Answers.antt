@@ -1,16 +1,18 @@
-use Rattle.std.proofs.Common.{◌∙◌, sym, ap, Ok}
-use Rattle.schema_reader.proofs.DependencyLemmas.{begin_refused, follow_refused, dependency_read}
+use Rattle.std.proofs.Common.{refl}
+use Rattle.schema_grammar.specs.Declarations.{dependency_line}
 use Rattle.schema_grammar.proofs.RefusalLemmas.{Refuses-here, Refuses-from}
 use Rattle.schema_reader.proofs.draft.Draft.read_dependency.Goals as goal
 
 pub returns-in-Err-clause-err : goal.returns-in-Err-clause-err
-returns-in-Err-clause-err c =
-    Refuses-here _ _ _ c.at.ensures.refusal (begin_refused _ _ _ c.args.token _ _ _ c.requires.word c.in-Err.ensures.err)
+unfolding dependency_line
+returns-in-Err-clause-err c = Refuses-here _ _ _ c.at.ensures.refusal (rw (c.in-Err.ensures.err, c.requires.word) refl)
 
 pub returns-in-Err-follow-clause-err : goal.returns-in-Err-follow-clause-err
+unfolding dependency_line
 returns-in-Err-follow-clause-err c =
-    Refuses-from _ _ (follow_refused _ _ _ c.args.token _ _ _ _ _ c.requires.word c.deref.ensures.value c.in-Ok.ensures.ok c.in-Err-follow.ensures.err)
+    Refuses-from _ _ (rw (c.in-Ok.ensures.ok, ← c.requires.word, ← c.deref.ensures.value, c.in-Err-follow.ensures.err) refl)
 
 pub returns-in-Ok-add_dependency-clause-ok : goal.returns-in-Ok-add_dependency-clause-ok
+unfolding dependency_line
 returns-in-Ok-add_dependency-clause-ok c =
-    dependency_read _ _ _ c.args.token _ _ _ _ _ c.requires.word c.deref.ensures.value c.in-Ok.ensures.ok c.in-Ok-follow.ensures.ok ∙ ap Ok (sym c.in-Ok-add_dependency.ensures.ok)
+    rw (c.in-Ok-add_dependency.ensures.ok, c.in-Ok.ensures.ok, ← c.requires.word, ← c.deref.ensures.value, c.in-Ok-follow.ensures.ok) refl
