@@ -31,7 +31,7 @@ led_marks (m ∷ ms) l = ap (led_by_mark m) (led_marks ms l)
 pub nothing_left : (m : Mode) (column : ℕ) → lexed m 0 column [] ≡ record { marks = []; stop = None }
 nothing_left m column = at_end m column [] refl
 
-last_side : (m : Mode) (column : ℕ) (words : List (List ℕ)) → AllNames words → lexed m 0 column (side_text words) ≡ record { marks = side_marks column words; stop = None }
+pub last_side : (m : Mode) (column : ℕ) (words : List (List ℕ)) → AllNames words → lexed m 0 column (side_text words) ≡ record { marks = side_marks column words; stop = None }
 last_side m column words names =
     ap (lexed m 0 column) (sym (append-nil (side_text words))) ∙ side_lexed m column words [] names tt
     ∙ ap (led_by_marks (side_marks column words)) (nothing_left m (side_end column words)) ∙ led_marks (side_marks column words) _

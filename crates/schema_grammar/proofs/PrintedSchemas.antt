@@ -1,5 +1,5 @@
 -- What is printed of a schema means it.
-use Rattle.std.proofs.Common.{◌≡◌, ◌<◌, ◌≤◌, ◌+◌, inl, inr, ℕ, suc, Bool, true, false, cond, List, [], ◌∷◌, ◌++◌, length, get_or, None, Some, refl, sym, ◌∙◌, ap, subst, arith, append_assoc, length-append}
+use Rattle.std.proofs.Common.{◌≡◌, ◌<◌, ◌≤◌, ◌+◌, inl, inr, ℕ, suc, Bool, true, false, cond, List, [], ◌∷◌, ◌++◌, length, get_or, Some, refl, sym, ◌∙◌, ap, subst, arith, append_assoc, length-append}
 use Rattle.std.specs.Prelude.{codes, map}
 use Rattle.std.specs.List.{list_any, flat_map, Contains}
 use Rattle.std.proofs.lemmas.Bool.{cases_Bool}
@@ -20,7 +20,7 @@ use Rattle.lexer.specs.declared.token.TokenKind.TheVariants as token
 use Rattle.lexer.specs.Bytes.{is_number}
 use Rattle.lexer.specs.Lines.{line_texts, without_mark}
 use Rattle.lexer.specs.Pieces.{front, run_piece}
-use Rattle.lexer.specs.Tokens.{lex, lexed, led_by_mark}
+use Rattle.lexer.specs.Tokens.{lex, led_by_mark}
 use Rattle.lexer.proofs.Steps.{at_token}
 use Rattle.schema_grammar.specs.declared.format.Format.{Format}
 use Rattle.schema_grammar.specs.declared.format.Format.TheVariants as format
@@ -31,20 +31,15 @@ use Rattle.schema_grammar.specs.Schemas.{DeclareNames, MeansTextLine, MeansLines
 use Rattle.schema_grammar.specs.Texts.{is_version}
 use Rattle.schema_grammar.specs.Words.{is_reserved, declares, declaring}
 use Rattle.schema_grammar.specs.Printed.{AreNames, IsPrintable}
-use Rattle.schema_grammar.proofs.PrintedLexing.{AllNames, Apart, word_marks, words_end, led_by_marks, words_lexed, name_lexed, blank_lexed}
-use Rattle.schema_grammar.proofs.PrintedDependencies.{led_marks, nothing_left}
+use Rattle.schema_grammar.proofs.PrintedLexing.{AllNames, Apart, word_marks, name_lexed, blank_lexed}
+use Rattle.schema_grammar.proofs.PrintedDependencies.{last_side, nothing_left}
 use Rattle.schema_grammar.proofs.PrintedSides.{known_at, differ_before, IsCutAt, cut_more}
 use Rattle.schema_grammar.proofs.PrintedTexts.{Bytes, bytes_both, words_bytes, EachBytes, lines_cut, numbers, dependencies_mean, each_dependency, none_found}
 
 -- a word, and words each after a blank
 pub word_line : (word : List ℕ) (words : List (List ℕ)) → is_name word ≡ true → AllNames words
     → HasTokens (lex mode.Plain (word ++ words_text words)) (record { kind = token.Word; column = 1; word = word } ∷ word_marks (1 + length word) words)
-word_line word words proper names =
-    name_lexed mode.Plain 1 word (words_text words) proper (elim words as (λ ws. Apart (words_text ws)) [ [] ↦ tt | w ∷ ws ↦ refl ])
-    ∙ ap (led_by_mark (record { kind = token.Word; column = 1; word = word }))
-    (ap (lexed mode.Plain 0 (1 + length word)) (sym (append-nil (words_text words))) ∙ words_lexed mode.Plain (1 + length word) words [] names tt
-    ∙ ap (led_by_marks (word_marks (1 + length word) words)) (nothing_left mode.Plain (words_end (1 + length word) words)) ∙ led_marks (word_marks (1 + length word) words) _
-    ∙ ap (λ ms. record { marks = ms; stop = None }) (append-nil (word_marks (1 + length word) words)))
+word_line word words proper names = last_side mode.Plain 1 (word ∷ words) (proper, names)
 
 front_proper : (f : Format) (names before words rest : List (List ℕ)) (place : ℕ) → AreNames f names → IsCutAt names before (words ++ rest) place → AllNames words
 front_proper f names before [] rest place are cut = tt
@@ -98,17 +93,6 @@ all_text (Integer ∷ columns) (name ∷ names) e none = cc
 -- the declarations that a printed text means
 abbrev declared : List Column → List (List ℕ) → List Dependency → ℕ → Declarations
 declared columns names deps number = record { names = names; columns = columns; deps = deps; lines = numbers number deps }
-
-plain_lines : (columns : List Column) (names : List (List ℕ)) (deps : List Dependency) → IsPrintable columns names deps → list_any is_integer columns ≡ false
-    → MeansLines format.Plain 1 no_declaration ((codes "attributes" ++ words_text names) ∷ (map (dependency_text names) deps ++ [] ∷ [])) (declared columns names deps 2)
-unfolding declares declaring
-plain_lines columns names deps is none =
-    let cut : IsCutAt names [] (names ++ []) 0 = record { whole = sym (append-nil names); size = refl } in
-    let first = declaring_mean format.Plain Text 1 no_declaration (codes "attributes") names names [] 0 is.are_names cut is.few is.some refl refl in
-    let types : map (λ (w : List ℕ). Text) names ≡ columns = all_text columns names is.are_columns.one_each none in
-    let rest = dependencies_mean format.Plain 2 (with_names no_declaration names Text) deps is.are_names is.within (let few = is.few_deps in omega arith) in
-    let of : List Column → Type 0 = λ cs. MeansLines format.Plain 2 (with_names no_declaration names Text) (map (dependency_text names) deps ++ [] ∷ []) (declared cs names deps 2) in
-    (with_names no_declaration names Text, first, subst of types rest)
 
 -- runs of attributes
 abbrev run_names : List Run → List (List ℕ)
@@ -237,21 +221,31 @@ text_cut columns names deps each are =
 abbrev Means : List Column → List (List ℕ) → List Dependency → Type 0
 Means columns names deps = (lines : List ℕ) × MeansSchema (declared_text columns names deps) (record { names = names; columns = columns; deps = deps; lines = lines })
 
-plain_version : (names later : List (List ℕ)) → has_version_line ((codes "attributes" ++ words_text names) ∷ later) ≡ false
-unfolding has_version_line is_version
-plain_version names later = rw (name_lexed mode.Numbered 1 (codes "attributes") (words_text names) refl (elim names as (λ ws. Apart (words_text ws)) [ [] ↦ tt | w ∷ ws ↦ refl ])) refl
-
-plain_means : (columns : List Column) (names : List (List ℕ)) (deps : List Dependency) → IsPrintable columns names deps → list_any is_integer columns ≡ false → Means columns names deps
-unfolding declaring_lines declared_text
+plain_means : (columns : List Column) (names : List (List ℕ)) (deps : List Dependency) → IsPrintable columns names deps
+    → list_any is_integer columns ≡ false → Means columns names deps
+unfolding declaring_lines declared_text declares declaring has_version_line is_version
 plain_means columns names deps is none =
-    let first : declaring_lines columns names ≡ (codes "attributes" ++ words_text names) ∷ [] = rw none refl in
-    let each : EachBytes (declaring_lines columns names) = subst EachBytes (sym first) (bytes_both (codes "attributes") (words_text names) refl (words_bytes names (all_names format.Plain names is.are_names)), tt) in
-    let unmarked : without_mark (declared_text columns names deps) ≡ declared_text columns names deps = rw none refl in
+    let line = codes "attributes" ++ words_text names in
     let rest = map (dependency_text names) deps ++ [] ∷ [] in
-    let cut : line_texts (without_mark (declared_text columns names deps)) ≡ (codes "attributes" ++ words_text names) ∷ rest =
+    let first : declaring_lines columns names ≡ line ∷ [] = rw none refl in
+    let bytes = bytes_both (codes "attributes") (words_text names) refl (words_bytes names (all_names format.Plain names is.are_names)) in
+    let each : EachBytes (declaring_lines columns names) = subst EachBytes (sym first) (bytes, tt) in
+    let unmarked : without_mark (declared_text columns names deps) ≡ declared_text columns names deps = rw none refl in
+    let cut : line_texts (without_mark (declared_text columns names deps)) ≡ line ∷ rest =
     ap line_texts unmarked ∙ text_cut columns names deps each is.are_names ∙ ap (λ ls. ls ++ rest) first in
-    let of : List (List ℕ) → Type 0 = λ ls. IsPlainText ls (declared columns names deps 2) in
-    (numbers 2 deps, record { some = is.some; lines = inl (subst of (sym cut) (record { no_version = plain_version names rest; declared = plain_lines columns names deps is none })) })
+    let apart = elim names as (λ ws. Apart (words_text ws)) [ [] ↦ tt | w ∷ ws ↦ refl ] in
+    let no_version : has_version_line (line ∷ rest) ≡ false =
+    rw (name_lexed mode.Numbered 1 (codes "attributes") (words_text names) refl apart) refl in
+    let after_names = with_names no_declaration names Text in
+    let here = declaring_mean format.Plain Text 1 no_declaration (codes "attributes") names names [] 0 is.are_names
+    (record { whole = sym (append-nil names); size = refl }) is.few is.some refl refl in
+    let more = dependencies_mean format.Plain 2 after_names deps is.are_names is.within (let few = is.few_deps in omega arith) in
+    let of_columns : List Column → Type 0 = λ cs. MeansLines format.Plain 2 after_names rest (declared cs names deps 2) in
+    let means = subst of_columns (all_text columns names is.are_columns.one_each none) more in
+    let of : List (List ℕ) → Type 0 = λ ls. IsPlainText ls (declared columns names deps 2) in (
+      numbers 2 deps,
+      record { some = is.some; lines = inl (subst of (sym cut) (record { no_version = no_version; declared = (after_names, here, means) })) },
+    )
 
 typed_means : (columns : List Column) (names : List (List ℕ)) (deps : List Dependency) → IsPrintable columns names deps → list_any is_integer columns ≡ true → Means columns names deps
 unfolding declaring_lines declared_text

@@ -224,10 +224,6 @@ completion past_arrow = token.Empty ∷ []
 completion in_right = []
 completion past_end = []
 
-completed : (s : Shape) → Ends s (completion s)
-completed in_right = record { last = in_right; leads = refl; final = refl }
-completed s = record { last = past_end; leads = refl; final = refl }
-
 pub runs-append : (s : Shape) (ks ls : List TokenKind) → runs s (ks ++ ls) ≡ bind (runs s ks) (λ t. runs t ls)
 runs-append s [] ls = refl
 runs-append s (k ∷ ks) ls = told (λ t. runs-append t ks ls) (turn_shape s k)
@@ -238,8 +234,12 @@ runs-append s (k ∷ ks) ls = told (λ t. runs-append t ks ls) (turn_shape s k)
 
 pub begins_from : (ks : List TokenKind) (s : Shape) → runs at_start ks ≡ Some s → BeginsLine ks
 begins_from ks s e =
-    let more = completed s in
-    record { rest = completion s; line = final_line (ks ++ completion s) more.last (runs-append at_start ks (completion s) ∙ ap (λ o. bind o (λ t. runs t (completion s))) e ∙ more.leads) more.final }
+    let more = elim s as (λ s. Ends s (completion s)) [
+      | in_right ↦ record { last = in_right; leads = refl; final = refl }
+      | _ ↦ record { last = past_end; leads = refl; final = refl }
+    ] in
+    let leads = runs-append at_start ks (completion s) ∙ ap (λ o. bind o (λ t. runs t (completion s))) e ∙ more.leads in
+    record { rest = completion s; line = final_line (ks ++ completion s) more.last leads more.final }
 
 -- one token more
 pub runs-one : (pre : List TokenKind) (s : Shape) (k : TokenKind) → runs at_start pre ≡ Some s → runs at_start (pre ++ k ∷ []) ≡ turn_shape s k
