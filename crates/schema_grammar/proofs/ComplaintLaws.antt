@@ -51,7 +51,8 @@ flaw_least s t n is why =
     let again = ap (λ (x : Stop). flaw_number x.flaw) same in omega arith
 
 -- a complaint of a place before which there is none is the first
-pub first_at : (Complaint : ℕ → ℕ → Type 0) (Wanted : ℕ → What → Type 0) (span : ℕ → Span) (e : SchemaRefusal) (place : ℕ)
+pub first_at : (Complaint : ℕ → ℕ → Type 0) (Wanted : ℕ → What → Type 0) (span : ℕ → Span) (e : SchemaRefusal)
+    (place : ℕ)
     → ((p n : ℕ) → p < place → Complaint p n → ⊥) → Complaint place (refusal_number e.kind)
     → Carries (Wanted place) e.kind → e.span ≡ span place
     → ((n : ℕ) → Complaint place n → refusal_number e.kind ≤ n) → IsFirst Complaint Wanted span e
@@ -82,7 +83,8 @@ left_whole line first whole stop = record {
   spans = λ p q is. let same : q ≡ p = omega arith in ap (span_at line first whole stop) same;
 }
 
-pub left_next : (line first : ℕ) (whole : List Mark) (stop : Option Stop) (k from : ℕ) (m : Mark) (ms : List Mark)
+pub left_next : (line first : ℕ) (whole : List Mark) (stop : Option Stop) (k from : ℕ) (m : Mark)
+    (ms : List Mark)
     → IsLeft line first whole stop k from (m ∷ ms)
     → IsLeft line first whole stop (suc k) (m.column + length m.word) ms
 left_next line first whole stop k from m ms rest = record {
@@ -94,7 +96,8 @@ left_next line first whole stop k from m ms rest = record {
 -- a complaint about tokens: of a word, of the grammar, or of bytes that are no token
 abbrev pub LineComplaint : (ℕ → Type 0) → Format → List (List ℕ) → List Mark → Option Stop → ℕ → ℕ → Type 0
 LineComplaint Six f declared ms stop place number =
-    (((m : Mark) × (slice_get ms place ≡ Some m) × ComplainsOfWord f declared m number) ⊎ ((number ≡ 6) × Six place))
+    (((m : Mark) × (slice_get ms place ≡ Some m) × ComplainsOfWord f declared m number)
+    ⊎ ((number ≡ 6) × Six place))
     ⊎ ((s : Stop) × (stop ≡ Some s) × (place ≡ length ms) × (number ≡ flaw_number s.flaw))
 
 -- where the grammar can't go on, and what is wanted, by how far a line is read before a place
@@ -111,7 +114,8 @@ pub record Judges (ms : List Mark) (stop : Option Stop) (At : ℕ → Shape → 
   pub inside : (p : ℕ) → Six p → p ≤ length ms
 
 -- a complaint at a token is of its word, or of the grammar
-pub at_token : (Six : ℕ → Type 0) (f : Format) (declared : List (List ℕ)) (ms : List Mark) (stop : Option Stop) (p : ℕ) (m : Mark) → slice_get ms p ≡ Some m
+pub at_token : (Six : ℕ → Type 0) (f : Format) (declared : List (List ℕ)) (ms : List Mark)
+    (stop : Option Stop) (p : ℕ) (m : Mark) → slice_get ms p ≡ Some m
     → (n : ℕ) → LineComplaint Six f declared ms stop p n → ComplainsOfWord f declared m n ⊎ ((n ≡ 6) × Six p)
 at_token Six f declared ms stop p m is n (inl (inl (k, here, word))) =
     inl (subst (λ (x : Mark). ComplainsOfWord f declared x n) (let same : k ≡ m = cc in same) word)
@@ -120,8 +124,10 @@ at_token Six f declared ms stop p m is n (inr (s, stops, place, number)) =
     let less = slice_get_within ms p m is in absurd (omega arith)
 
 -- what a step tells in place of a token stands there
-pub token_complains : {ms : List Mark} {stop : Option Stop} {At : ℕ → Shape → Type 0} {Six : ℕ → Type 0} {Wanted : ℕ → What → Type 0}
-    (judges : Judges ms stop At Six Wanted) (f : Format) (declared : List (List ℕ)) (p : ℕ) (r : Reached) (m : Mark) (why : SchemaRefusalKind)
+pub token_complains : {ms : List Mark} {stop : Option Stop} {At : ℕ → Shape → Type 0} {Six : ℕ → Type 0}
+    {Wanted : ℕ → What → Type 0}
+    (judges : Judges ms stop At Six Wanted) (f : Format) (declared : List (List ℕ)) (p : ℕ) (r : Reached)
+    (m : Mark) (why : SchemaRefusalKind)
     → slice_get ms p ≡ Some m → At p (shape_of r) → StepTells f declared r m (Err why)
     → LineComplaint Six f declared ms stop p (refusal_number why)
 token_complains judges f declared p r m why is reached tells =
@@ -134,11 +140,14 @@ Judged Complaint Wanted span (Ok x) = (p n : ℕ) → Complaint p n → ⊥
 Judged Complaint Wanted span (Err e) = IsFirst Complaint Wanted span e
 
 -- a line is refused by its first complaint, and read where there is none
-pub judge : {whole : List Mark} {stop : Option Stop} {At : ℕ → Shape → Type 0} {Six : ℕ → Type 0} {Wanted : ℕ → What → Type 0}
-    (judges : Judges whole stop At Six Wanted) (f : Format) (declared : List (List ℕ)) (line first : ℕ) (ms : List Mark) (k from : ℕ) (r : Reached)
+pub judge : {whole : List Mark} {stop : Option Stop} {At : ℕ → Shape → Type 0} {Six : ℕ → Type 0}
+    {Wanted : ℕ → What → Type 0}
+    (judges : Judges whole stop At Six Wanted) (f : Format) (declared : List (List ℕ)) (line first : ℕ)
+    (ms : List Mark) (k from : ℕ) (r : Reached)
     → IsLeft line first whole stop k from ms → At k (shape_of r)
     → ((p n : ℕ) → p < k → LineComplaint Six f declared whole stop p n → ⊥)
-    → Judged (LineComplaint Six f declared whole stop) Wanted (span_at line first whole stop) (follow f declared line r from ms stop)
+    → Judged (LineComplaint Six f declared whole stop) Wanted (span_at line first whole stop)
+    (follow f declared line r from ms stop)
 unfolding follow
 judge {whole} {stop} {At} {Six} {Wanted} judges f declared line first [] k from r left reached before =
     told stop refl
@@ -161,7 +170,8 @@ judge {whole} {stop} {At} {Six} {Wanted} judges f declared line first [] k from 
     past p n (inr (s, is, place, number)) later = omega arith
 
     ending : stop ≡ None → (o : Result Dependency What) → EndTells r o
-        → Judged (LineComplaint Six f declared whole stop) Wanted (span_at line first whole stop) (at line from 0 (expecting o))
+        → Judged (LineComplaint Six f declared whole stop) Wanted (span_at line first whole stop)
+        (at line from 0 (expecting o))
     ending none (Ok d) final = λ p n complaint. elim (cases_order p k) [
       | inl here ↦ ⊎_elim (λ six. judges.ends k (shape_of r) all reached final six.1)
           (λ flaw. let wrong = flaw.1 in cc)
@@ -178,7 +188,8 @@ judge {whole} {stop} {At} {Six} {Wanted} judges f declared line first [] k from 
         (ended n complaint))
 
     told : (o : Option Stop) → stop ≡ o
-        → Judged (LineComplaint Six f declared whole stop) Wanted (span_at line first whole stop) (follow f declared line r from [] o)
+        → Judged (LineComplaint Six f declared whole stop) Wanted (span_at line first whole stop)
+        (follow f declared line r from [] o)
     told None is = ending is (finished r) (end_tells r)
     told (Some s) is =
         first_at _ Wanted _ (refused_by line s) k before (inr (s, is, all, flaw_numbered s.flaw))
@@ -195,8 +206,10 @@ judge {whole} {stop} {At} {Six} {Wanted} judges f declared line first (m ∷ ms)
     is = left.marks 0 k (omega arith)
 
     told : (o : Result Reached SchemaRefusalKind) → StepTells f declared r m o
-        → ((next : Reached) → At (suc k) (shape_of next) → ((p n : ℕ) → p < suc k → LineComplaint Six f declared whole stop p n → ⊥)
-        → Judged (LineComplaint Six f declared whole stop) Wanted (span_at line first whole stop) (follow f declared line next (m.column + length m.word) ms stop))
+        → ((next : Reached) → At (suc k) (shape_of next)
+        → ((p n : ℕ) → p < suc k → LineComplaint Six f declared whole stop p n → ⊥)
+        → Judged (LineComplaint Six f declared whole stop) Wanted (span_at line first whole stop)
+        (follow f declared line next (m.column + length m.word) ms stop))
         → Judged (LineComplaint Six f declared whole stop) Wanted (span_at line first whole stop)
         (and_then (at line m.column (length m.word) o)
         (λ next. follow f declared line next (m.column + length m.word) ms stop))
@@ -231,13 +244,17 @@ runs_next ms p m s is reached =
     ∙ runs-one (take p (kinds ms)) s m.kind reached
 
 pub dependency_judges : (ms : List Mark) (stop : Option Stop)
-    → Judges ms stop (λ p s. runs at_start (take p (kinds ms)) ≡ Some s) (IsStuck (kinds ms) stop) (DependencyWants ms)
+    → Judges ms stop (λ p s. runs at_start (take p (kinds ms)) ≡ Some s) (IsStuck (kinds ms) stop)
+    (DependencyWants ms)
 dependency_judges ms stop = record {
   wants = λ p s reached. wants_from (take p (kinds ms)) s reached;
   goes_on = λ p s t m is reached turned.
       let less = slice_get_within ms p m is in
-      let next : runs at_start (take (suc p) (kinds ms)) ≡ Some t = runs_next ms p m s is reached ∙ turned in
-      ((λ stuck. ⊎_elim (λ here. here.1 (begins_from (take (suc p) (kinds ms)) t next)) (λ here. absurd (omega (arith, size, here.0))) stuck.here), next);
+      let next : runs at_start (take (suc p) (kinds ms)) ≡ Some t = runs_next ms p m s is reached ∙ turned in (
+        λ stuck. ⊎_elim (λ here. here.1 (begins_from (take (suc p) (kinds ms)) t next))
+            (λ here. absurd (omega (arith, size, here.0))) stuck.here,
+        next,
+      );
   stuck = λ p s m is reached none. record {
     before = begins_from (take p (kinds ms)) s reached;
     here = inl (

@@ -49,7 +49,9 @@ declares_name f column d whole some m e = told m.kind refl (place_named d.names 
         let free = unless_ok (is_reserved f m.word) kind.ReservedName _ whole e in
         let new = unless_ok (is_some (place_named d.names m.word)) kind.DoubleName _ whole free.1 in
         let room = unless_ok (nat_le PLACES (length d.names)) kind.TooManyAttributes (Ok (add_name d m.word column)) whole new.1 in
-        (record { word = is; free = free.0; new = place ∙ none o (ap is_some (sym place) ∙ new.0); room = leb-false _ _ room.0 }, (let same : Ok whole ≡ Ok (add_name d m.word column) = sym room.1 in cc))
+        let unknown = place ∙ none o (ap is_some (sym place) ∙ new.0) in
+        let same : Ok whole ≡ Ok (add_name d m.word column) = sym room.1 in
+        (record { word = is; free = free.0; new = unknown; room = leb-false _ _ room.0 }, cc)
       where
         none : (o : Option ℕ) → is_some o ≡ false → o ≡ None
         none None e = refl
@@ -62,7 +64,8 @@ name_declared f column d some m new =
     let room = lt-leb PLACES (length d.names) new.room in rw (new.word, new.free, new.new, room) refl
 
 -- names after a declaring word are read exactly where each is a new one
-names_there : (f : Format) (column : Column) (line : ℕ) (d whole : Declarations) (some : Bool) (next_column : ℕ) (ms : List Mark)
+names_there : (f : Format) (column : Column) (line : ℕ) (d whole : Declarations) (some : Bool)
+    (next_column : ℕ) (ms : List Mark)
     → list_names f column line d some next_column ms None ≡ Ok whole
     → (some ≡ false → 0 < length ms) × DeclareNames f column d ms whole
 unfolding list_names
@@ -70,15 +73,15 @@ names_there f column line d whole true next_column [] e = ((λ none. cc), cc)
 names_there f column line d whole false next_column [] e = cc
 names_there f column line d whole some next_column (m ∷ ms) e =
     let two = steps (at line m.column (length m.word) (name_step f column d some m.kind m.word)) _ whole e in
-    let first = declares_name f column d two.x some m
-    (placed line m.column (length m.word) _ two.x two.first) in
-    let rest : list_names f column line (add_name d m.word column) true (m.column + length m.word) ms None ≡ Ok whole
-    = ap (λ n. list_names f column line n true (m.column + length m.word) ms None) (sym first.1) ∙ two.second in (
-      (λ none. omega arith),
-      (first.0, (names_there f column line (add_name d m.word column) whole true (m.column + length m.word) ms rest).1),
-    )
+    let named = placed line m.column (length m.word) _ two.x two.first in
+    let first = declares_name f column d two.x some m named in
+    let rest : list_names f column line (add_name d m.word column) true (m.column + length m.word) ms None ≡ Ok whole =
+    ap (λ n. list_names f column line n true (m.column + length m.word) ms None) (sym first.1) ∙ two.second in
+    let more = names_there f column line (add_name d m.word column) whole true (m.column + length m.word) ms rest in
+    ((λ none. omega arith), (first.0, more.1))
 
-names_back : (f : Format) (column : Column) (line : ℕ) (d whole : Declarations) (some : Bool) (next_column : ℕ) (ms : List Mark)
+names_back : (f : Format) (column : Column) (line : ℕ) (d whole : Declarations) (some : Bool)
+    (next_column : ℕ) (ms : List Mark)
     → (some ≡ false → 0 < length ms) → DeclareNames f column d ms whole
     → list_names f column line d some next_column ms None ≡ Ok whole
 unfolding list_names
@@ -89,7 +92,8 @@ names_back f column line d whole some next_column (m ∷ ms) has (new, rest) =
     (names_back f column line (add_name d m.word column) whole true (m.column + length m.word) ms
     (λ none. cc) rest)
 
-names_stopped : (f : Format) (column : Column) (line : ℕ) (d whole : Declarations) (some : Bool) (next_column : ℕ) (ms : List Mark) (stop : Stop)
+names_stopped : (f : Format) (column : Column) (line : ℕ) (d whole : Declarations) (some : Bool)
+    (next_column : ℕ) (ms : List Mark) (stop : Stop)
     → list_names f column line d some next_column ms (Some stop) ≡ Ok whole → ⊥
 unfolding list_names
 names_stopped f column line d whole some next_column [] stop e = cc
@@ -209,7 +213,8 @@ lines_there f number d whole (line ∷ lines) e =
     ((two.x, line_there f number d line two.x two.first, more.0), more.1)
 
 -- lines that mean something are read, and then the lines after them
-pub before_read : (f : Format) (first : ℕ) (d : Declarations) (before rest : List (List ℕ)) (middle : Declarations)
+pub before_read : (f : Format) (first : ℕ) (d : Declarations) (before rest : List (List ℕ))
+    (middle : Declarations)
     → MeansLines f first d before middle
     → read_lines f first d (before ++ rest) ≡ read_lines f (first + length before) middle rest
 unfolding read_lines

@@ -80,7 +80,8 @@ mark k column word = record { kind = k; column = column; word = word }
 -- a word that is read names an attribute, by which the reading goes on
 record ReadsWord (f : Format) (declared : List (List ℕ)) (line : ℕ) (r : Reached) (column : ℕ) (word : List ℕ) (ms : List Mark) (d : Dependency) : Type 0 where
   is : IsAttribute f declared (mark token.Word column word)
-  goes_on : and_then (at line column (length word) (expecting (turn r (symbol.Attribute is.place)))) (λ next. follow f declared line next (column + length word) ms None) ≡ Ok d
+  goes_on : and_then (at line column (length word) (expecting (turn r (symbol.Attribute is.place))))
+      (λ next. follow f declared line next (column + length word) ms None) ≡ Ok d
 
 reads_word : (f : Format) (declared : List (List ℕ)) (line : ℕ) (r : Reached) (from column : ℕ) (word : List ℕ) (ms : List Mark) (d : Dependency)
     → follow f declared line r from (mark token.Word column word ∷ ms) None ≡ Ok d
@@ -90,7 +91,9 @@ reads_word f declared line r from column word ms d e =
     told (is_reserved f word) (place_named declared word) refl refl e
   where
     told : (b : Bool) (o : Option ℕ) → is_reserved f word ≡ b → place_named declared word ≡ o
-        → and_then (at line column (length word) (and_then (and_then (cond b (Err kind.ReservedName) (known o)) (λ a. Ok (symbol.Attribute a))) (λ s. expecting (turn r s))))
+        → and_then (at line column (length word)
+        (and_then (and_then (cond b (Err kind.ReservedName) (known o)) (λ a. Ok (symbol.Attribute a)))
+        (λ s. expecting (turn r s))))
         (λ next. follow f declared line next (column + length word) ms None) ≡ Ok d
         → ReadsWord f declared line r column word ms d
     told true o free place e = cc
@@ -124,7 +127,11 @@ token_makes f declared line from start token.Word column word ms d rest e =
       y = more.y;
       sign = more.sign;
       whole = ap (λ t. mark token.Word column word ∷ t) more.whole;
-      left_side = inr (record { some = omega arith; each = All-cons (IsAttribute f declared) _ _ reads.is more.each; members = refl });
+      left_side = inr (record {
+        some = omega arith;
+        each = All-cons (IsAttribute f declared) _ _ reads.is more.each;
+        members = refl;
+      });
       is_arrow = more.is_arrow;
       right_side = more.right_side;
       states = more.states ∙ ap (λ z. stated more.sign z more.y)
@@ -161,7 +168,8 @@ token_makes f declared line from (left x) token.Word column word ms d rest e =
       right_side = more.right_side;
       states = more.states ∙ ap (λ z. stated more.sign z more.y)
           (union-only x (named declared more.words) reads.is.place
-          ∙ ap (union x) (sym (named-cons declared (mark token.Word column word) more.words reads.is.place reads.is.known)));
+          ∙ ap (union x)
+          (sym (named-cons declared (mark token.Word column word) more.words reads.is.place reads.is.known)));
     }
 token_makes f declared line from (left x) token.Arrow column word ms d rest e =
     let more : AfterSignRest f declared sign.Functional x ms d = rest (after_sign sign.Functional x) e in
@@ -205,7 +213,11 @@ token_makes f declared line from (after_sign s x) token.Word column word ms d re
     rest (right s x (only reads.is.place)) reads.goes_on in
     record {
       y = named declared (mark token.Word column word ∷ ms);
-      right_side = inr (record { some = omega arith; each = All-cons (IsAttribute f declared) _ _ reads.is more.each; members = refl });
+      right_side = inr (record {
+        some = omega arith;
+        each = All-cons (IsAttribute f declared) _ _ reads.is more.each;
+        members = refl;
+      });
       states = more.states ∙ ap (stated s x)
           (sym (named-cons declared (mark token.Word column word) ms reads.is.place reads.is.known));
     }
@@ -265,9 +277,11 @@ side_read f declared line s x y from (m ∷ ms) (inr words) =
     ∙ ap (λ z. Ok (stated s x z)) (sym (named-cons declared m ms here.place here.known) ∙ sym words.members)
 
 -- an arrow is read after a left side
-arrow_read : (f : Format) (declared : List (List ℕ)) (line : ℕ) (r : Reached) (s : Sign) (x : Places) (from : ℕ) (m : Mark) (ms : List Mark)
+arrow_read : (f : Format) (declared : List (List ℕ)) (line : ℕ) (r : Reached) (s : Sign) (x : Places)
+    (from : ℕ) (m : Mark) (ms : List Mark)
     → turn r (symbol.Arrow s) ≡ Ok (after_sign s x) → IsArrow s m.kind
-    → follow f declared line r from (m ∷ ms) None ≡ follow f declared line (after_sign s x) (m.column + length m.word) ms None
+    → follow f declared line r from (m ∷ ms) None ≡ follow f declared line (after_sign s x)
+    (m.column + length m.word) ms None
 unfolding follow step
 arrow_read f declared line r sign.Functional x from m ms turns e = rw (e, turns) refl
 arrow_read f declared line r sign.Multivalued x from m ms turns e = rw (e, turns) refl
@@ -311,7 +325,8 @@ dependency-law f declared line from ms d = (marks_make f declared line from star
     back : IsDependency f declared ms d → follow f declared line start from ms None ≡ Ok d
     back is = rw (is.whole, is.states) (sides_read f declared line is.sign is.x is.y from is.lhs is.arrow is.rhs is.left_side is.is_arrow is.right_side)
 
-pub stopped : (f : Format) (declared : List (List ℕ)) (line : ℕ) (r : Reached) (from : ℕ) (ms : List Mark) (stop : Stop) (d : Dependency)
+pub stopped : (f : Format) (declared : List (List ℕ)) (line : ℕ) (r : Reached) (from : ℕ) (ms : List Mark)
+    (stop : Stop) (d : Dependency)
     → follow f declared line r from ms (Some stop) ≡ Ok d → ⊥
 unfolding follow
 stopped f declared line r from [] stop d e = cc

@@ -66,7 +66,10 @@ begun_fits f d line m ms stop (Err why) b full tells first =
       carries = first.carries;
       there = first.there;
       least = λ p n complaint. ⊎_elim (first.least p n)
-          (λ eight. inr (⊎_elim (λ less. absurd (omega (arith, less))) (λ same. omega (arith, same.0, eight.1)) here, omega (arith, eight.0, tells.2))) complaint;
+          (λ eight. inr (
+            ⊎_elim (λ less. absurd (omega (arith, less))) (λ same. omega (arith, same.0, eight.1)) here,
+            omega (arith, eight.0, tells.2),
+          )) complaint;
     }
 begun_fits f d line m ms stop (Ok next) true full tells fits =
     first_at (HeadComplaint f d m ms stop None) (HeadWants m ms None) (span_at line 1 (m ∷ ms) stop)

@@ -29,17 +29,20 @@ span-line line next_column (m ∷ ms) stop zero = refl
 span-line line next_column (m ∷ ms) stop (suc p) = span-line line (m.column + length m.word) ms stop p
 
 -- a complaint of lines is one of the first line, or of the lines after it
+abbrev ComplaintParts : Format → ℕ → Declarations → List ℕ → List (List ℕ) → ℕ → ℕ → ℕ → Type 0
+ComplaintParts f first d line lines l p n =
+    ((l ≡ first) × TextLineComplaint f d (lex mode.Plain line).marks (lex mode.Plain line).stop p n)
+    ⊎ ((first < l) × ((next : Declarations) → read_line f first d line ≡ Ok next
+    → LinesComplaint f (first + 1) next lines l p n))
+
 complaint_parts : (f : Format) (first : ℕ) (d : Declarations) (line : List ℕ) (lines : List (List ℕ)) (l p n : ℕ)
-    → LinesComplaint f first d (line ∷ lines) l p n
-    → ((l ≡ first) × TextLineComplaint f d (lex mode.Plain line).marks (lex mode.Plain line).stop p n)
-    ⊎ ((first < l) × ((next : Declarations) → read_line f first d line ≡ Ok next → LinesComplaint f (first + 1) next lines l p n))
+    → LinesComplaint f first d (line ∷ lines) l p n → ComplaintParts f first d line lines l p n
 complaint_parts f first d line lines l p n complaint =
     told complaint.before complaint.cut complaint.means complaint.stands_on
   where
-    told : (before : List (List ℕ)) → line ∷ lines ≡ before ++ complaint.line ∷ complaint.after → MeansLines f first d before complaint.declared
-        → l ≡ first + length before
-        → ((l ≡ first) × TextLineComplaint f d (lex mode.Plain line).marks (lex mode.Plain line).stop p n)
-        ⊎ ((first < l) × ((next : Declarations) → read_line f first d line ≡ Ok next → LinesComplaint f (first + 1) next lines l p n))
+    told : (before : List (List ℕ)) → line ∷ lines ≡ before ++ complaint.line ∷ complaint.after
+        → MeansLines f first d before complaint.declared → l ≡ first + length before
+        → ComplaintParts f first d line lines l p n
     told [] cut means stands_on =
         let same = cons_parts line complaint.line lines complaint.after cut in
         let of : List ℕ → Type 0 = λ t. TextLineComplaint f complaint.declared (lex mode.Plain t).marks (lex mode.Plain t).stop p n in
@@ -66,7 +69,8 @@ complaint_parts f first d line lines l p n complaint =
               },
         )
 
-lines_after : (f : Format) (first : ℕ) (d next : Declarations) (line : List ℕ) (lines : List (List ℕ)) (res : Result Declarations SchemaRefusal) → read_line f first d line ≡ Ok next
+lines_after : (f : Format) (first : ℕ) (d next : Declarations) (line : List ℕ) (lines : List (List ℕ))
+    (res : Result Declarations SchemaRefusal) → read_line f first d line ≡ Ok next
     → FitsTextLine f d first (lex mode.Plain line).marks (lex mode.Plain line).stop (Ok next)
     → FitsLines f (first + 1) next lines res → FitsLines f first d (line ∷ lines) res
 lines_after f first d next line lines (Ok whole) read none fits = λ l p n complaint.
@@ -98,7 +102,8 @@ lines_after f first d next line lines (Err e) read none (inr empty) = inr (recor
 })
 
 -- a line that is refused
-line_here : (f : Format) (first : ℕ) (d : Declarations) (line : List ℕ) (lines : List (List ℕ)) (e : SchemaRefusal)
+line_here : (f : Format) (first : ℕ) (d : Declarations) (line : List ℕ) (lines : List (List ℕ))
+    (e : SchemaRefusal)
     → FitsTextLine f d first (lex mode.Plain line).marks (lex mode.Plain line).stop (Err e) → IsFirstOfLines f first d (line ∷ lines) e
 line_here f first d line lines e found =
     let on : e.span.line ≡ first = ap (λ s. s.line) found.there ∙ span-line first 1 (lex mode.Plain line).marks (lex mode.Plain line).stop found.place in
@@ -129,8 +134,9 @@ lines-law f first d [] = elim (cases_Bool (length d.names == 0)) [
     whole = d;
     means = refl;
     nothing = grind (arith, nat_tests, none);
-    at_the_end = let last : first - 1 ≡ first + 0 - 1 = omega arith in ap
-        (λ k. refusal k 1 0 kind.NoAttributes) last;
+    at_the_end =
+        let last : first - 1 ≡ first + 0 - 1 = omega arith in
+        ap (λ k. refusal k 1 0 kind.NoAttributes) last;
   }))
   | inr some ↦ rw some (λ l p n complaint.
       let size = ap length complaint.cut ∙ length-append complaint.before

@@ -30,7 +30,9 @@ use Rattle.schema_grammar.proofs.ComplaintLaws.{flaw_numbered, flaw_carries, fla
 abbrev WordComplaint : Format → List (List ℕ) → ℕ → Mark → ℕ → Type 0
 WordComplaint f names count m number =
     ((m.kind ≡ token.Word)
-    × ((((number ≡ 3) × (is_reserved f m.word ≡ true)) ⊎ ((number ≡ 4) × (is_some (place_named names m.word) ≡ true))) ⊎ ((number ≡ 7) × (PLACES ≤ count))))
+    × ((((number ≡ 3) × (is_reserved f m.word ≡ true))
+    ⊎ ((number ≡ 4) × (is_some (place_named names m.word) ≡ true)))
+    ⊎ ((number ≡ 7) × (PLACES ≤ count))))
     ⊎ ((number ≡ 6) × (m.kind ≡ token.Word → ⊥))
 
 -- what a token after a declaring word tells
@@ -73,13 +75,15 @@ name_tells f column d some m = told m.kind refl
 abbrev words_in : List Mark → List (List ℕ)
 words_in ms = map (λ w. w.word) ms
 
--- names are read where nothing is wrong, or refused by the first complaint; so many of the words stood before, and some name
-judge_names : (f : Format) (column : Column) (d : Declarations) (line first : ℕ) (whole : List Mark) (stop : Option Stop)
+-- names are read where nothing is wrong, or refused by the first complaint, after so many of the words
+judge_names : (f : Format) (column : Column) (d : Declarations) (line first : ℕ) (whole : List Mark)
+    (stop : Option Stop)
     (words : List Mark) (k from : ℕ) (some : Bool) (now : Declarations)
     → IsLeft line first whole stop k from words → now.names ≡ d.names ++ words_in (take k whole)
     → All (λ w. w.kind ≡ token.Word) (take k whole) → NamesWant k (wanted some)
     → ((p n : ℕ) → p < k → NamesComplaint f d whole stop p n → ⊥)
-    → Judged (NamesComplaint f d whole stop) NamesWant (span_at line first whole stop) (list_names f column line now some from words stop)
+    → Judged (NamesComplaint f d whole stop) NamesWant (span_at line first whole stop)
+    (list_names f column line now some from words stop)
 unfolding list_names
 judge_names f column d line first whole stop [] k from some now left names each want before =
     told some stop refl want
@@ -98,10 +102,11 @@ judge_names f column d line first whole stop [] k from some now left names each 
     ended p n on (inr (s, is, place, number)) = inr (s, is, number)
 
     told : (some : Bool) (o : Option Stop) → stop ≡ o → NamesWant k (wanted some)
-        → Judged (NamesComplaint f d whole stop) NamesWant (span_at line first whole stop) (list_names f column line now some from [] o)
+        → Judged (NamesComplaint f d whole stop) NamesWant (span_at line first whole stop)
+        (list_names f column line now some from [] o)
     told true None is want = λ p n complaint. ⊎_elim (λ (earlier : p < k). before p n earlier complaint)
-        (λ (later : k ≤ p). ⊎_elim
-        (λ none. ⊎_elim (λ here. let wrong = here.1 in cc) (λ on. omega (arith, on.0, none.1)) want)
+        (λ (later : k ≤ p).
+        ⊎_elim (λ none. ⊎_elim (λ here. let wrong = here.1 in cc) (λ on. omega (arith, on.0, none.1)) want)
         (λ flaw. let wrong = flaw.1 in cc) (ended p n later complaint))
         (cases_lt p k)
     told false None is want =
@@ -122,9 +127,9 @@ judge_names f column d line first whole stop [] k from some now left names each 
         least n (inl (inr (six, place, nothing, none))) = cc
         least n (inr (t, here, place, number)) = flaw_least s t n (sym is ∙ here) number
 judge_names f column d line first whole stop (w ∷ words) k from some now left names each want before =
-    told (name_step f column now some w.kind w.word)
-    (subst (λ (t : List (List ℕ)). NameTells f column now t (length d.names + k) some w (name_step f column now some w.kind w.word)) names
-    (subst (λ (c : ℕ). NameTells f column now now.names c some w (name_step f column now some w.kind w.word)) count (name_tells f column now some w)))
+    let read = name_step f column now some w.kind w.word in
+    let counted = subst (λ (c : ℕ). NameTells f column now now.names c some w read) count (name_tells f column now some w) in
+    told read (subst (λ (t : List (List ℕ)). NameTells f column now t (length d.names + k) some w read) names counted)
     (λ next on each_word none. judge_names f column d line first whole stop words (suc k)
     (w.column + length w.word) true next (left_next line first whole stop k from w words left) on each_word
     (inr (omega arith, refl)) none)
@@ -152,9 +157,11 @@ judge_names f column d line first whole stop (w ∷ words) k from some now left 
 
     told : (o : Result Declarations SchemaRefusalKind)
         → NameTells f column now (d.names ++ words_in (take k whole)) (length d.names + k) some w o
-        → ((next : Declarations) → next.names ≡ d.names ++ words_in (take (suc k) whole) → All (λ x. x.kind ≡ token.Word) (take (suc k) whole)
+        → ((next : Declarations) → next.names ≡ d.names ++ words_in (take (suc k) whole)
+        → All (λ x. x.kind ≡ token.Word) (take (suc k) whole)
         → ((p n : ℕ) → p < suc k → NamesComplaint f d whole stop p n → ⊥)
-        → Judged (NamesComplaint f d whole stop) NamesWant (span_at line first whole stop) (list_names f column line next true (w.column + length w.word) words stop))
+        → Judged (NamesComplaint f d whole stop) NamesWant (span_at line first whole stop)
+        (list_names f column line next true (w.column + length w.word) words stop))
         → Judged (NamesComplaint f d whole stop) NamesWant (span_at line first whole stop)
         (and_then (at line w.column (length w.word) o)
         (λ next. list_names f column line next true (w.column + length w.word) words stop))

@@ -45,7 +45,8 @@ pub same_carried : (Wanted : What → Type 0) (e f : SchemaRefusal) → OneWant 
 same_carried Wanted e f = same_kind Wanted e.kind f.kind
 
 -- what reads or refuses by the first complaint, refuses by no other
-pub one_refused : {X : Type 0} (Fits : Result X SchemaRefusal → Type 0) (Complaint : ℕ → ℕ → Type 0) (Wanted : ℕ → What → Type 0) (span : ℕ → Span)
+pub one_refused : {X : Type 0} (Fits : Result X SchemaRefusal → Type 0) (Complaint : ℕ → ℕ → Type 0)
+    (Wanted : ℕ → What → Type 0) (span : ℕ → Span)
     → ((x : X) → Fits (Ok x) → (p n : ℕ) → Complaint p n → ⊥)
     → ((g : SchemaRefusal) → Fits (Err g) → IsFirst Complaint Wanted span g)
     → ((p : ℕ) → OneWant (Wanted p)) → (r : Result X SchemaRefusal) (e : SchemaRefusal) → Fits r

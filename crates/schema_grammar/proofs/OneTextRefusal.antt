@@ -76,8 +76,8 @@ schema-refusal-law text e = (schema_refused text e, back)
         (FitsVersion (length has.before + 1) (has.head.column + length has.head.word) has.others
         (lex mode.Numbered has.version).stop) _ _ _
         (λ x none. none) (λ g first. first) (one_at_first what.Number) _ e (version-law _ _ _ _) first in
-        typed_opening 1 lines has ∙ ap
-        (λ r. and_then r (λ d. read_lines format.Typed (length has.before + 1 + 1) d has.later)) refused
+        typed_opening 1 lines has
+        ∙ ap (λ r. and_then r (λ d. read_lines format.Typed (length has.before + 1 + 1) d has.later)) refused
     back (inr (has, inr (is, refuses))) =
         version_opening 1 lines has.before has.version has.later has.cut has.blank is
         ∙ lines_refused format.Typed (length has.before + 1 + 1) no_declaration has.later e refuses

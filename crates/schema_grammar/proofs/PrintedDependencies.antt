@@ -57,11 +57,12 @@ sides_marks s left right =
     side_marks 1 left ++ sign_mark s (side_end 1 left + 1) ∷ side_marks (right_column s left) right
 
 sides_lexed : (s : Sign) (left right : List (List ℕ)) → AllNames left → AllNames right
-    → HasTokens (lex mode.Plain ((side_text left ++ sign_text s) ++ side_text right)) (sides_marks s left right)
+    → HasTokens (lex mode.Plain ((side_text left ++ sign_text s) ++ side_text right))
+    (sides_marks s left right)
 sides_lexed s left right left_names right_names =
     ap (lexed mode.Plain 0 1) (append_assoc (side_text left) (sign_text s) (side_text right))
     ∙ side_lexed mode.Plain 1 left (sign_text s ++ side_text right) left_names
-    (elim s as (λ s. Apart (sign_text s ++ side_text right)) [ sign.Functional ↦ refl | sign.Multivalued ↦ refl ])
+    (elim s as (λ s. Apart (sign_text s ++ side_text right)) [ sign.Functional ↦ refl | _ ↦ refl ])
     ∙ ap (led_by_marks (side_marks 1 left))
     (sign_lexed s ∙ ap (led_by_mark (sign_mark s (side_end 1 left + 1)))
     (last_side mode.Plain (right_column s left) right right_names))
@@ -123,9 +124,10 @@ printed_sides : (f : Format) (names : List (List ℕ)) (s : Sign) (x y : Places)
     → PrintsLine f names ((set_text names x ++ sign_text s) ++ set_text names y) (stated s x y)
 unfolding set_text
 printed_sides f names s x y are left right =
+    let column = side_end 1 (members_from x 0 names) + 1 in
     let heads = side_heads f names 1 (members_from x 0 names)
     (members_known f x names [] names 0 are (record { whole = refl; size = refl })) in
-    let rest = sign_mark s (side_end 1 (members_from x 0 names) + 1) ∷ side_marks
+    let rest = sign_mark s column ∷ side_marks
     (right_column s (members_from x 0 names)) (members_from y 0 names) in
     record {
       head = heads.head;
@@ -137,15 +139,14 @@ printed_sides f names s x y are left right =
       dependency = subst (λ (ms : List Mark). IsDependency f names ms (stated s x y))
           (ap (λ ms. ms ++ rest) heads.whole) (record {
             lhs = side_marks 1 (members_from x 0 names);
-            arrow = sign_mark s (side_end 1 (members_from x 0 names) + 1);
+            arrow = sign_mark s column;
             rhs = side_marks (right_column s (members_from x 0 names)) (members_from y 0 names);
             x = x;
             y = y;
             sign = s;
             whole = refl;
             left_side = printed_side f names x 1 are left;
-            is_arrow = elim s as
-                (λ s. IsArrow s (sign_mark s (side_end 1 (members_from x 0 names) + 1)).kind) [ sign.Functional ↦ refl | sign.Multivalued ↦ refl ];
+            is_arrow = elim s as (λ s. IsArrow s (sign_mark s column).kind) [ sign.Functional ↦ refl | _ ↦ refl ];
             right_side = printed_side f names y (right_column s (members_from x 0 names)) are right;
             states = refl;
           });

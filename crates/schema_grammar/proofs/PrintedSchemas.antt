@@ -58,7 +58,8 @@ abbrev with_names : Declarations → List (List ℕ) → Column → Declarations
 with_names d words column = record { names = d.names ++ words; columns = d.columns ++ map (λ w. column) words; deps = d.deps; lines = d.lines }
 
 -- words in front of others are declared one by one
-declare_front : (f : Format) (column : Column) (d : Declarations) (names words rest : List (List ℕ)) (at place : ℕ) → AreNames f names → IsCutAt names d.names (words ++ rest) place
+declare_front : (f : Format) (column : Column) (d : Declarations) (names words rest : List (List ℕ))
+    (at place : ℕ) → AreNames f names → IsCutAt names d.names (words ++ rest) place
     → length names ≤ PLACES → DeclareNames f column d (word_marks at words) (with_names d words column)
 declare_front f column d names [] rest at place are cut few =
     λ i. record { names = append-nil d.names i; columns = append-nil d.columns i; deps = d.deps; lines = d.lines }
@@ -70,10 +71,12 @@ declare_front f column d names (word ∷ words) rest at place are cut few =
     let same : with_names (add_name d word column) words column ≡ with_names d (word ∷ words) column =
     (λ i. record { names = append_assoc d.names (word ∷ []) words i; columns = append_assoc d.columns (column ∷ []) (map (λ w. column) words) i; deps = d.deps; lines = d.lines }) in
     let of : Declarations → Type 0 = λ w. DeclareNames f column (add_name d word column) (word_marks (at + 1 + length word) words) w in
-    (record { word = refl; free = known.free; new = none_found d.names word (differ_before f names d.names word (words ++ rest) are cut.whole); room = omega arith }, subst of same more)
+    let new = none_found d.names word (differ_before f names d.names word (words ++ rest) are cut.whole) in
+    (record { word = refl; free = known.free; new = new; room = omega arith }, subst of same more)
 
 -- a declaring line as it is printed
-declaring_mean : (f : Format) (column : Column) (number : ℕ) (d : Declarations) (key : List ℕ) (names words rest : List (List ℕ)) (place : ℕ) → AreNames f names
+declaring_mean : (f : Format) (column : Column) (number : ℕ) (d : Declarations) (key : List ℕ)
+    (names words rest : List (List ℕ)) (place : ℕ) → AreNames f names
     → IsCutAt names d.names (words ++ rest) place → length names ≤ PLACES → 0 < length words
     → is_name key ≡ true → declares f token.Word key ≡ Some column
     → MeansTextLine f number d (key ++ words_text words) (with_names d words column)
@@ -128,8 +131,7 @@ front_runs : (c : Column) (name : List ℕ) (runs : List Run) (columns : List Co
 front_runs c name [] columns names are =
     record {
       names_are = ap (λ t. name ∷ t) are.names_are;
-      columns_are = ap
-          (λ t. c ∷ t) are.columns_are;
+      columns_are = ap (λ t. c ∷ t) are.columns_are;
       some = (omega arith, tt);
     }
 front_runs c name (r ∷ rs) columns names are = told (same_column c r.column) refl
@@ -140,7 +142,8 @@ front_runs c name (r ∷ rs) columns names are = told (same_column c r.column) r
     same_type a b e = cc
 
     told : (b : Bool) → same_column c r.column ≡ b
-        → AreRuns (cond b (record { column = c; names = name ∷ r.names } ∷ rs) (record { column = c; names = name ∷ [] } ∷ r ∷ rs)) (c ∷ columns) (name ∷ names)
+        → AreRuns (cond b (record { column = c; names = name ∷ r.names } ∷ rs)
+        (record { column = c; names = name ∷ [] } ∷ r ∷ rs)) (c ∷ columns) (name ∷ names)
     told true e = record {
       names_are = ap (λ t. name ∷ t) are.names_are;
       columns_are = ap (λ k. (c ∷ map (λ (w : List ℕ). k) r.names) ++ run_columns rs) (same_type c r.column e)
@@ -191,7 +194,10 @@ runs_mean number d names (r ∷ runs) lines whole place are cut few (here, some)
       declaring_mean format.Typed r.column number d (type_word r.column) names r.names
           (run_names runs) place are cut few here proper declares_it,
       runs_mean (number + 1) next names runs lines whole (place + length r.names) are
-          (record { whole = cut.whole ∙ sym (append_assoc d.names r.names (run_names runs)); size = length-append d.names r.names ∙ ap (λ k. k + length r.names) cut.size })
+          (record {
+            whole = cut.whole ∙ sym (append_assoc d.names r.names (run_names runs));
+            size = length-append d.names r.names ∙ ap (λ k. k + length r.names) cut.size;
+          })
           few some (subst of_n later (subst of same rest)),
     )
 
@@ -279,7 +285,8 @@ plain_means columns names deps is none =
     let here = declaring_mean format.Plain Text 1 no_declaration
     (codes "attributes") names names [] 0 is.are_names
     (record { whole = sym (append-nil names); size = refl }) is.few is.some refl refl in
-    let more = dependencies_mean format.Plain 2 after_names deps is.are_names is.within (let few = is.few_deps in omega arith) in
+    let few = is.few_deps in
+    let more = dependencies_mean format.Plain 2 after_names deps is.are_names is.within (omega arith) in
     let of_columns : List Column → Type 0 =
     λ cs. MeansLines format.Plain 2 after_names rest (declared cs names deps 2) in
     let means = subst of_columns (all_text columns names is.are_columns.one_each none) more in
@@ -310,7 +317,7 @@ typed_means columns names deps is some =
     let whole = declared columns names deps (2 + length runs) in
     let filled : with_runs no_declaration runs ≡ record { names = names; columns = columns; deps = []; lines = [] } = (λ i. record { names = back i; columns = types i; deps = []; lines = [] }) in
     let last = dependencies_mean format.Typed (2 + length runs)
-    (record { names = names; columns = columns; deps = []; lines = [] }) deps are is.within (let few = is.few_deps in omega arith) in
+    (record { names = names; columns = columns; deps = []; lines = [] }) deps are is.within (omega (arith, is.few_deps)) in
     let of_d : Declarations → Type 0 = λ d. MeansLines format.Typed (2 + length runs) d rest whole in
     let lines_mean = runs_mean 2 no_declaration names runs rest whole 0 are
     (record { whole = sym back; size = refl }) is.few cut_up.some (subst of_d (sym filled) last) in

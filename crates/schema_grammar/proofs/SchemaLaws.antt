@@ -25,7 +25,8 @@ IsBlankLine line = HasTokens (lex mode.Numbered line) []
 
 -- a version line is read where it is the word `version` and the number 2
 pub version_there : (lines : List (List ℕ)) (text : HasVersionLine lines) (line : ℕ) (d : Declarations)
-    → read_version line (text.head.column + length text.head.word) text.others (lex mode.Numbered text.version).stop ≡ Ok d
+    → read_version line (text.head.column + length text.head.word) text.others
+    (lex mode.Numbered text.version).stop ≡ Ok d
     → IsVersionLine text.version × (d ≡ no_declaration)
 unfolding read_version
 version_there lines text line d e = told text.others (lex mode.Numbered text.version).stop refl refl e
@@ -117,8 +118,10 @@ plain_opening number (line ∷ lines) none =
     told : (ms : List Mark) (stop : Option Stop) → (lex mode.Numbered line).marks ≡ ms
         → (lex mode.Numbered line).stop ≡ stop
         → begins_version ms stop (has_version_line lines) ≡ false
-        → (has_version_line lines ≡ false → read_opening (number + 1) lines ≡ read_lines format.Plain (number + 1) no_declaration lines)
-        → opened number line lines (read_opening (number + 1) lines) ms stop ≡ read_lines format.Plain number no_declaration (line ∷ lines)
+        → (has_version_line lines ≡ false
+        → read_opening (number + 1) lines ≡ read_lines format.Plain (number + 1) no_declaration lines)
+        → opened number line lines (read_opening (number + 1) lines) ms stop
+        ≡ read_lines format.Plain number no_declaration (line ∷ lines)
     told [] None marks stop none later =
         let blank = lexed_plain 0 1 line (has_tokens (lex mode.Numbered line) [] marks stop) in
         rw (line_back format.Plain number no_declaration line no_declaration

@@ -60,7 +60,8 @@ set-law declared text x = (there, back)
 -- a token is out of place, or there is none
 abbrev IsAmiss : List Mark → Option Stop → ℕ → Type 0
 IsAmiss ms stop place =
-    ((m : Mark) × (slice_get ms place ≡ Some m) × IsOutOfPlace ms place m.kind) ⊎ ((place ≡ 0) × (ms ≡ []) × (stop ≡ None))
+    ((m : Mark) × (slice_get ms place ≡ Some m) × IsOutOfPlace ms place m.kind) ⊎
+    ((place ≡ 0) × (ms ≡ []) × (stop ≡ None))
 
 -- how far a side is read before a place: not begun, words, or `()`
 abbrev IsRead : List Mark → ℕ → Shape → Type 0
@@ -149,7 +150,8 @@ set-complaint-law declared text =
     from p n (inr flaw) = inr flaw
 
     fits : (res : Result Dependency SchemaRefusal)
-        → Judged (LineComplaint (IsAmiss marks stop) format.Plain declared marks stop) SetWants (span_at 1 1 marks stop) res
+        → Judged (LineComplaint (IsAmiss marks stop) format.Plain declared marks stop) SetWants
+        (span_at 1 1 marks stop) res
         → FitsSet declared text (set_of res)
     fits (Ok d) none = λ p n complaint. none p n (from p n complaint)
     fits (Err e) first = record {

@@ -169,7 +169,10 @@ dependency_sound f d dep line sound room inside =
       deps_within = All-push (IsWithin (below (length d.names))) d.deps dep sound.deps_within inside;
       one_line_each = let same = sound.one_line_each in omega arith;
       one_column_each = sound.one_column_each;
-      fits = (elim f as (λ f. FitsFormat f d → FitsFormat f (add_dependency d dep line)) [ format.Plain ↦ λ fits. fits | format.Typed ↦ λ fits. fits ]) sound.fits;
+      fits = (elim f as (λ f. FitsFormat f d → FitsFormat f (add_dependency d dep line)) [
+        | format.Plain ↦ λ fits. fits
+        | format.Typed ↦ λ fits. fits
+      ]) sound.fits;
     }
 
 declares_fits : (f : Format) (k : TokenKind) (word : List ℕ) (column : Column)
@@ -216,7 +219,11 @@ pub opening_whole : (number : ℕ) (lines : List (List ℕ)) → IfOk (read_open
 opening_whole number lines = when_ok IsWhole _ (λ whole e.
     let means = opening_means number lines whole e in
     elim (means.0) [
-      | inl plain ↦ record { format = format.Plain; sound = lines_sound format.Plain number no_declaration lines whole (nothing_sound format.Plain) plain.1; some = means.1 }
+      | inl plain ↦ record {
+        format = format.Plain;
+        sound = lines_sound format.Plain number no_declaration lines whole (nothing_sound format.Plain) plain.1;
+        some = means.1;
+      }
       | inr typed ↦ record {
         format = format.Typed;
         sound = lines_sound format.Typed

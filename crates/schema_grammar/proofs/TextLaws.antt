@@ -86,8 +86,10 @@ text-law text = fits (opening lines)
     typed has is (Err e) later = inr (has, inr (is, later))
 
     version : (has : HasVersionLine lines) (o : Result Declarations SchemaRefusal)
-        → read_version (length has.before + 1) (has.head.column + length has.head.word) has.others (lex mode.Numbered has.version).stop ≡ o
-        → FitsVersion (length has.before + 1) (has.head.column + length has.head.word) has.others (lex mode.Numbered has.version).stop o
+        → read_version (length has.before + 1) (has.head.column + length has.head.word) has.others
+        (lex mode.Numbered has.version).stop ≡ o
+        → FitsVersion (length has.before + 1) (has.head.column + length has.head.word) has.others
+        (lex mode.Numbered has.version).stop o
         → FitsText 1 lines (and_then o (λ d. read_lines format.Typed (length has.before + 1 + 1) d has.later))
     version has (Ok d) read fine =
         let is = version_there lines has (length has.before + 1) d read in
