@@ -31,8 +31,10 @@ front_class : (m : Mode) (b : ℕ) (bs : List ℕ) → class (front m (b ∷ bs)
 unfolding front run_piece
 front_class m b bs =
     let run = take (run_length (b ∷ bs)) (b ∷ bs) in
-    class_cond (is_gap b) _ _ ∙ ap (cond (is_gap b) 0) (class_cond (b == 35 && takes_comments m) _ _ ∙ ap (cond (b == 35 && takes_comments m) 1)
-    (more (is_name_byte b) _ _ (more (is_name run) _ _ refl (more (takes_numbers m && is_number run) _ _ refl refl))
+    class_cond (is_gap b) _ _ ∙ ap (cond (is_gap b) 0)
+    (class_cond (b == 35 && takes_comments m) _ _ ∙ ap (cond (b == 35 && takes_comments m) 1)
+    (more (is_name_byte b) _ _
+    (more (is_name run) _ _ refl (more (takes_numbers m && is_number run) _ _ refl refl))
     (more (starts_with nat_eq (b ∷ bs) (45 ∷ 62 ∷ 62 ∷ [])) _ _ refl
     (more (starts_with nat_eq (b ∷ bs) (45 ∷ 62 ∷ [])) _ _ refl
     (more (starts_with nat_eq (b ∷ bs) (40 ∷ 41 ∷ [])) _ _ refl
@@ -47,7 +49,8 @@ piece_plain (piece.Flaw why n) q column text numbered plain same rest h = let wr
 piece_plain p q column text numbered plain same rest h = absurd (omega arith)
 
 -- a line without tokens, numbers counted, has none
-pub lexed_plain : (skip column : ℕ) (text : List ℕ) → HasTokens (lexed mode.Numbered skip column text) [] → HasTokens (lexed mode.Plain skip column text) []
+pub lexed_plain : (skip column : ℕ) (text : List ℕ) → HasTokens (lexed mode.Numbered skip column text) []
+    → HasTokens (lexed mode.Plain skip column text) []
 unfolding lexed
 lexed_plain skip column [] h = refl
 lexed_plain zero column (b ∷ bs) h =

@@ -43,14 +43,18 @@ pub same_mark : (m : Mark) (ms : List Mark) (k : Mark) → slice_get (m ∷ ms) 
 same_mark m ms k e = cc
 
 -- the bytes that are no token have one flaw
-pub flaw_least : (s t : Stop) (n : ℕ) → Some s ≡ Some t → n ≡ flaw_number t.flaw → refusal_number (kind_of_flaw s.flaw) ≤ n
+pub flaw_least : (s t : Stop) (n : ℕ) → Some s ≡ Some t → n ≡ flaw_number t.flaw
+    → refusal_number (kind_of_flaw s.flaw) ≤ n
 flaw_least s t n is why =
     let same : s ≡ t = cc in
-    let numbers = flaw_numbered s.flaw in let again = ap (λ (x : Stop). flaw_number x.flaw) same in omega arith
+    let numbers = flaw_numbered s.flaw in
+    let again = ap (λ (x : Stop). flaw_number x.flaw) same in omega arith
 
 -- a complaint of a place before which there is none is the first
-pub first_at : (Complaint : ℕ → ℕ → Type 0) (Wanted : ℕ → What → Type 0) (span : ℕ → Span) (e : SchemaRefusal) (place : ℕ)
-    → ((p n : ℕ) → p < place → Complaint p n → ⊥) → Complaint place (refusal_number e.kind) → Carries (Wanted place) e.kind → e.span ≡ span place
+pub first_at : (Complaint : ℕ → ℕ → Type 0) (Wanted : ℕ → What → Type 0) (span : ℕ → Span) (e : SchemaRefusal)
+    (place : ℕ)
+    → ((p n : ℕ) → p < place → Complaint p n → ⊥) → Complaint place (refusal_number e.kind)
+    → Carries (Wanted place) e.kind → e.span ≡ span place
     → ((n : ℕ) → Complaint place n → refusal_number e.kind ≤ n) → IsFirst Complaint Wanted span e
 first_at Complaint Wanted span e place before stands carries there least = record {
   place = place;
@@ -65,20 +69,24 @@ first_at Complaint Wanted span e place before stands carries there least = recor
 }
 
 -- what is left of a line after so many of its tokens
-pub record IsLeft (line first : ℕ) (whole : List Mark) (stop : Option Stop) (k from : ℕ) (ms : List Mark) : Type 0 where
+pub record IsLeft (line first : ℕ) (whole : List Mark) (stop : Option Stop) (k from : ℕ)
+    (ms : List Mark) : Type 0 where
   pub size : length whole ≡ k + length ms
   pub marks : (p q : ℕ) → q ≡ k + p → slice_get whole q ≡ slice_get ms p
   pub spans : (p q : ℕ) → q ≡ k + p → span_at line first whole stop q ≡ span_at line from ms stop p
 
-pub left_whole : (line first : ℕ) (whole : List Mark) (stop : Option Stop) → IsLeft line first whole stop 0 first whole
+pub left_whole : (line first : ℕ) (whole : List Mark) (stop : Option Stop)
+    → IsLeft line first whole stop 0 first whole
 left_whole line first whole stop = record {
   size = omega arith;
   marks = λ p q is. let same : q ≡ p = omega arith in ap (slice_get whole) same;
   spans = λ p q is. let same : q ≡ p = omega arith in ap (span_at line first whole stop) same;
 }
 
-pub left_next : (line first : ℕ) (whole : List Mark) (stop : Option Stop) (k from : ℕ) (m : Mark) (ms : List Mark)
-    → IsLeft line first whole stop k from (m ∷ ms) → IsLeft line first whole stop (suc k) (m.column + length m.word) ms
+pub left_next : (line first : ℕ) (whole : List Mark) (stop : Option Stop) (k from : ℕ) (m : Mark)
+    (ms : List Mark)
+    → IsLeft line first whole stop k from (m ∷ ms)
+    → IsLeft line first whole stop (suc k) (m.column + length m.word) ms
 left_next line first whole stop k from m ms rest = record {
   size = let size = rest.size in omega arith;
   marks = λ p q is. rest.marks (suc p) q (omega arith);
@@ -88,45 +96,61 @@ left_next line first whole stop k from m ms rest = record {
 -- a complaint about tokens: of a word, of the grammar, or of bytes that are no token
 abbrev pub LineComplaint : (ℕ → Type 0) → Format → List (List ℕ) → List Mark → Option Stop → ℕ → ℕ → Type 0
 LineComplaint Six f declared ms stop place number =
-    (((m : Mark) × (slice_get ms place ≡ Some m) × ComplainsOfWord f declared m number) ⊎ ((number ≡ 6) × Six place))
+    (((m : Mark) × (slice_get ms place ≡ Some m) × ComplainsOfWord f declared m number)
+    ⊎ ((number ≡ 6) × Six place))
     ⊎ ((s : Stop) × (stop ≡ Some s) × (place ≡ length ms) × (number ≡ flaw_number s.flaw))
 
 -- where the grammar can't go on, and what is wanted, by how far a line is read before a place
-pub record Judges (ms : List Mark) (stop : Option Stop) (At : ℕ → Shape → Type 0) (Six : ℕ → Type 0) (Wanted : ℕ → What → Type 0) : Type 0 where
+pub record Judges (ms : List Mark) (stop : Option Stop) (At : ℕ → Shape → Type 0) (Six : ℕ → Type 0)
+    (Wanted : ℕ → What → Type 0) : Type 0 where
   pub wants : (p : ℕ) (s : Shape) → At p s → Wanted p (wanted_by s)
-  pub goes_on : (p : ℕ) (s t : Shape) (m : Mark) → slice_get ms p ≡ Some m → At p s → turn_shape s m.kind ≡ Some t → (Six p → ⊥) × At (suc p) t
-  pub stuck : (p : ℕ) (s : Shape) (m : Mark) → slice_get ms p ≡ Some m → At p s → turn_shape s m.kind ≡ None → Six p
+  pub goes_on : (p : ℕ) (s t : Shape) (m : Mark) → slice_get ms p ≡ Some m → At p s
+      → turn_shape s m.kind ≡ Some t → (Six p → ⊥) × At (suc p) t
+  pub stuck : (p : ℕ) (s : Shape) (m : Mark) → slice_get ms p ≡ Some m → At p s → turn_shape s m.kind ≡ None
+      → Six p
   pub ends : (p : ℕ) (s : Shape) → p ≡ length ms → At p s → is_final s ≡ true → Six p → ⊥
   pub open_end : (p : ℕ) (s : Shape) → p ≡ length ms → stop ≡ None → At p s → is_final s ≡ false → Six p
   pub flawed : (p : ℕ) (x : Stop) → p ≡ length ms → stop ≡ Some x → Six p → ⊥
   pub inside : (p : ℕ) → Six p → p ≤ length ms
 
 -- a complaint at a token is of its word, or of the grammar
-pub at_token : (Six : ℕ → Type 0) (f : Format) (declared : List (List ℕ)) (ms : List Mark) (stop : Option Stop) (p : ℕ) (m : Mark) → slice_get ms p ≡ Some m
+pub at_token : (Six : ℕ → Type 0) (f : Format) (declared : List (List ℕ)) (ms : List Mark)
+    (stop : Option Stop) (p : ℕ) (m : Mark) → slice_get ms p ≡ Some m
     → (n : ℕ) → LineComplaint Six f declared ms stop p n → ComplainsOfWord f declared m n ⊎ ((n ≡ 6) × Six p)
 at_token Six f declared ms stop p m is n (inl (inl (k, here, word))) =
     inl (subst (λ (x : Mark). ComplainsOfWord f declared x n) (let same : k ≡ m = cc in same) word)
 at_token Six f declared ms stop p m is n (inl (inr six)) = inr six
-at_token Six f declared ms stop p m is n (inr (s, stops, place, number)) = let less = slice_get_within ms p m is in absurd (omega arith)
+at_token Six f declared ms stop p m is n (inr (s, stops, place, number)) =
+    let less = slice_get_within ms p m is in absurd (omega arith)
 
 -- what a step tells in place of a token stands there
-pub token_complains : {ms : List Mark} {stop : Option Stop} {At : ℕ → Shape → Type 0} {Six : ℕ → Type 0} {Wanted : ℕ → What → Type 0}
-    (judges : Judges ms stop At Six Wanted) (f : Format) (declared : List (List ℕ)) (p : ℕ) (r : Reached) (m : Mark) (why : SchemaRefusalKind)
-    → slice_get ms p ≡ Some m → At p (shape_of r) → StepTells f declared r m (Err why) → LineComplaint Six f declared ms stop p (refusal_number why)
+pub token_complains : {ms : List Mark} {stop : Option Stop} {At : ℕ → Shape → Type 0} {Six : ℕ → Type 0}
+    {Wanted : ℕ → What → Type 0}
+    (judges : Judges ms stop At Six Wanted) (f : Format) (declared : List (List ℕ)) (p : ℕ) (r : Reached)
+    (m : Mark) (why : SchemaRefusalKind)
+    → slice_get ms p ≡ Some m → At p (shape_of r) → StepTells f declared r m (Err why)
+    → LineComplaint Six f declared ms stop p (refusal_number why)
 token_complains judges f declared p r m why is reached tells =
-    ⊎_elim (λ word. inl (inl (m, is, word))) (λ six. inl (inr (six.0, judges.stuck p (shape_of r) m is reached six.1))) tells.0
+    ⊎_elim (λ word. inl (inl (m, is, word)))
+    (λ six. inl (inr (six.0, judges.stuck p (shape_of r) m is reached six.1))) tells.0
 
-abbrev pub Judged : {X : Type 0} → (ℕ → ℕ → Type 0) → (ℕ → What → Type 0) → (ℕ → Span) → Result X SchemaRefusal → Type 0
+abbrev pub Judged : {X : Type 0} → (ℕ → ℕ → Type 0) → (ℕ → What → Type 0) → (ℕ → Span)
+    → Result X SchemaRefusal → Type 0
 Judged Complaint Wanted span (Ok x) = (p n : ℕ) → Complaint p n → ⊥
 Judged Complaint Wanted span (Err e) = IsFirst Complaint Wanted span e
 
 -- a line is refused by its first complaint, and read where there is none
-pub judge : {whole : List Mark} {stop : Option Stop} {At : ℕ → Shape → Type 0} {Six : ℕ → Type 0} {Wanted : ℕ → What → Type 0}
-    (judges : Judges whole stop At Six Wanted) (f : Format) (declared : List (List ℕ)) (line first : ℕ) (ms : List Mark) (k from : ℕ) (r : Reached)
-    → IsLeft line first whole stop k from ms → At k (shape_of r) → ((p n : ℕ) → p < k → LineComplaint Six f declared whole stop p n → ⊥)
-    → Judged (LineComplaint Six f declared whole stop) Wanted (span_at line first whole stop) (follow f declared line r from ms stop)
+pub judge : {whole : List Mark} {stop : Option Stop} {At : ℕ → Shape → Type 0} {Six : ℕ → Type 0}
+    {Wanted : ℕ → What → Type 0}
+    (judges : Judges whole stop At Six Wanted) (f : Format) (declared : List (List ℕ)) (line first : ℕ)
+    (ms : List Mark) (k from : ℕ) (r : Reached)
+    → IsLeft line first whole stop k from ms → At k (shape_of r)
+    → ((p n : ℕ) → p < k → LineComplaint Six f declared whole stop p n → ⊥)
+    → Judged (LineComplaint Six f declared whole stop) Wanted (span_at line first whole stop)
+    (follow f declared line r from ms stop)
 unfolding follow
-judge {whole} {stop} {At} {Six} {Wanted} judges f declared line first [] k from r left reached before = told stop refl
+judge {whole} {stop} {At} {Six} {Wanted} judges f declared line first [] k from r left reached before =
+    told stop refl
   where
     all : k ≡ length whole
     all = let size = left.size in omega arith
@@ -134,7 +158,8 @@ judge {whole} {stop} {At} {Six} {Wanted} judges f declared line first [] k from 
     there : span_at line first whole stop k ≡ span_at line from [] stop 0
     there = left.spans 0 k (omega arith)
 
-    ended : (n : ℕ) → LineComplaint Six f declared whole stop k n → ((n ≡ 6) × Six k) ⊎ ((s : Stop) × (stop ≡ Some s) × (n ≡ flaw_number s.flaw))
+    ended : (n : ℕ) → LineComplaint Six f declared whole stop k n
+        → ((n ≡ 6) × Six k) ⊎ ((s : Stop) × (stop ≡ Some s) × (n ≡ flaw_number s.flaw))
     ended n (inl (inl (m, is, word))) = let less = slice_get_within whole k m is in absurd (omega arith)
     ended n (inl (inr six)) = inl six
     ended n (inr (s, is, place, number)) = inr (s, is, number)
@@ -145,75 +170,99 @@ judge {whole} {stop} {At} {Six} {Wanted} judges f declared line first [] k from 
     past p n (inr (s, is, place, number)) later = omega arith
 
     ending : stop ≡ None → (o : Result Dependency What) → EndTells r o
-        → Judged (LineComplaint Six f declared whole stop) Wanted (span_at line first whole stop) (at line from 0 (expecting o))
+        → Judged (LineComplaint Six f declared whole stop) Wanted (span_at line first whole stop)
+        (at line from 0 (expecting o))
     ending none (Ok d) final = λ p n complaint. elim (cases_order p k) [
-      | inl here ↦ ⊎_elim (λ six. judges.ends k (shape_of r) all reached final six.1) (λ flaw. let wrong = flaw.1 in cc)
+      | inl here ↦ ⊎_elim (λ six. judges.ends k (shape_of r) all reached final six.1)
+          (λ flaw. let wrong = flaw.1 in cc)
           (ended n (subst (λ (q : ℕ). LineComplaint Six f declared whole stop q n) here complaint))
       | inr (inl earlier) ↦ before p n earlier complaint
       | inr (inr later) ↦ past p n complaint later
     ]
-    ending none (Err w) (open_end, wants) = first_at _ Wanted _ (refusal line from 0 (kind.Expected w)) k before
-        (inl (inr (refl, judges.open_end k (shape_of r) all none reached open_end))) (subst (Wanted k) (sym wants) (judges.wants k (shape_of r) reached))
+    ending none (Err w) (open_end, wants) =
+        first_at _ Wanted _ (refusal line from 0 (kind.Expected w)) k before
+        (inl (inr (refl, judges.open_end k (shape_of r) all none reached open_end)))
+        (subst (Wanted k) (sym wants) (judges.wants k (shape_of r) reached))
         (sym (there ∙ ap (λ o. span_at line from [] o 0) none))
-        (λ n complaint. ⊎_elim (λ six. omega (arith, six.0)) (λ flaw. let wrong = flaw.1 in cc) (ended n complaint))
+        (λ n complaint. ⊎_elim (λ six. omega (arith, six.0)) (λ flaw. let wrong = flaw.1 in cc)
+        (ended n complaint))
 
     told : (o : Option Stop) → stop ≡ o
-        → Judged (LineComplaint Six f declared whole stop) Wanted (span_at line first whole stop) (follow f declared line r from [] o)
+        → Judged (LineComplaint Six f declared whole stop) Wanted (span_at line first whole stop)
+        (follow f declared line r from [] o)
     told None is = ending is (finished r) (end_tells r)
-    told (Some s) is = first_at _ Wanted _ (refused_by line s) k before (inr (s, is, all, flaw_numbered s.flaw)) (flaw_carries (Wanted k) s.flaw)
+    told (Some s) is =
+        first_at _ Wanted _ (refused_by line s) k before (inr (s, is, all, flaw_numbered s.flaw))
+        (flaw_carries (Wanted k) s.flaw)
         (sym (there ∙ ap (λ o. span_at line from [] o 0) is))
-        (λ n complaint. ⊎_elim (λ six. absurd (judges.flawed k s all is six.1)) (λ flaw. flaw_least s flaw.0 n (sym is ∙ flaw.1) flaw.2) (ended n complaint))
+        (λ n complaint. ⊎_elim (λ six. absurd (judges.flawed k s all is six.1))
+        (λ flaw. flaw_least s flaw.0 n (sym is ∙ flaw.1) flaw.2) (ended n complaint))
 judge {whole} {stop} {At} {Six} {Wanted} judges f declared line first (m ∷ ms) k from r left reached before =
     told (step f declared r m.kind m.word) (step_tells f declared r m)
-    (λ next there none. judge judges f declared line first ms (suc k) (m.column + length m.word) next (left_next line first whole stop k from m ms left) there none)
+    (λ next there none. judge judges f declared line first ms (suc k) (m.column + length m.word) next
+    (left_next line first whole stop k from m ms left) there none)
   where
     is : slice_get whole k ≡ Some m
     is = left.marks 0 k (omega arith)
 
     told : (o : Result Reached SchemaRefusalKind) → StepTells f declared r m o
-        → ((next : Reached) → At (suc k) (shape_of next) → ((p n : ℕ) → p < suc k → LineComplaint Six f declared whole stop p n → ⊥)
-        → Judged (LineComplaint Six f declared whole stop) Wanted (span_at line first whole stop) (follow f declared line next (m.column + length m.word) ms stop))
+        → ((next : Reached) → At (suc k) (shape_of next)
+        → ((p n : ℕ) → p < suc k → LineComplaint Six f declared whole stop p n → ⊥)
         → Judged (LineComplaint Six f declared whole stop) Wanted (span_at line first whole stop)
-        (and_then (at line m.column (length m.word) o) (λ next. follow f declared line next (m.column + length m.word) ms stop))
+        (follow f declared line next (m.column + length m.word) ms stop))
+        → Judged (LineComplaint Six f declared whole stop) Wanted (span_at line first whole stop)
+        (and_then (at line m.column (length m.word) o)
+        (λ next. follow f declared line next (m.column + length m.word) ms stop))
     told (Ok next) tells rest =
         let on = judges.goes_on k (shape_of r) (shape_of next) m is reached tells.0 in
         rest next on.1 (λ p n less complaint. elim (cases_order p k) [
           | inl here ↦ ⊎_elim (tells.1 n) (λ six. on.0 six.1)
-              (at_token Six f declared whole stop k m is n (subst (λ (q : ℕ). LineComplaint Six f declared whole stop q n) here complaint))
+              (at_token Six f declared whole stop k m is n
+              (subst (λ (q : ℕ). LineComplaint Six f declared whole stop q n) here complaint))
           | inr (inl earlier) ↦ before p n earlier complaint
           | inr (inr later) ↦ absurd (omega arith)
         ])
     told (Err why) tells rest = first_at _ Wanted _ (refusal line m.column (length m.word) why) k before
         (token_complains judges f declared k r m why is reached tells)
-        (Carries-map (λ w. w ≡ wanted_by (shape_of r)) (Wanted k) (λ w same. subst (Wanted k) (sym same) (judges.wants k (shape_of r) reached)) why tells.3)
+        (Carries-map (λ w. w ≡ wanted_by (shape_of r)) (Wanted k)
+        (λ w same. subst (Wanted k) (sym same) (judges.wants k (shape_of r) reached)) why tells.3)
         (sym (left.spans 0 k (omega arith)))
-        (λ n complaint. ⊎_elim (tells.1 n) (λ six. omega (arith, six.0, tells.2)) (at_token Six f declared whole stop k m is n complaint))
+        (λ n complaint. ⊎_elim (tells.1 n) (λ six. omega (arith, six.0, tells.2))
+        (at_token Six f declared whole stop k m is n complaint))
 
 -- one token more
-runs_next : (ms : List Mark) (p : ℕ) (m : Mark) (s : Shape) → slice_get ms p ≡ Some m → runs at_start (take p (kinds ms)) ≡ Some s
+runs_next : (ms : List Mark) (p : ℕ) (m : Mark) (s : Shape) → slice_get ms p ≡ Some m
+    → runs at_start (take p (kinds ms)) ≡ Some s
     → runs at_start (take (suc p) (kinds ms)) ≡ turn_shape s m.kind
 runs_next ms p m s is reached =
     let less = slice_get_within ms p m is in
     let size = length-map ms (λ (x : Mark). x.kind) in
-    let here : slice_get (kinds ms) p ≡ Some m.kind = rw (slice_get-map (λ (x : Mark). x.kind) ms p, is) refl in
-    ap (runs at_start) (take-suc (kinds ms) p m.kind (omega arith) ∙ ap (λ k. take p (kinds ms) ++ k ∷ []) (get_or_from_slice_get (kinds ms) p m.kind m.kind here))
+    let here : slice_get (kinds ms) p ≡ Some m.kind =
+    rw (slice_get-map (λ (x : Mark). x.kind) ms p, is) refl in
+    ap (runs at_start) (take-suc (kinds ms) p m.kind (omega arith) ∙ ap (λ k. take p (kinds ms) ++ k ∷ [])
+    (get_or_from_slice_get (kinds ms) p m.kind m.kind here))
     ∙ runs-one (take p (kinds ms)) s m.kind reached
 
 pub dependency_judges : (ms : List Mark) (stop : Option Stop)
-    → Judges ms stop (λ p s. runs at_start (take p (kinds ms)) ≡ Some s) (IsStuck (kinds ms) stop) (DependencyWants ms)
+    → Judges ms stop (λ p s. runs at_start (take p (kinds ms)) ≡ Some s) (IsStuck (kinds ms) stop)
+    (DependencyWants ms)
 dependency_judges ms stop = record {
   wants = λ p s reached. wants_from (take p (kinds ms)) s reached;
   goes_on = λ p s t m is reached turned.
       let less = slice_get_within ms p m is in
-      let next : runs at_start (take (suc p) (kinds ms)) ≡ Some t = runs_next ms p m s is reached ∙ turned in
-      ((λ stuck. ⊎_elim (λ here. here.1 (begins_from (take (suc p) (kinds ms)) t next)) (λ here. absurd (omega (arith, size, here.0))) stuck.here), next);
+      let next : runs at_start (take (suc p) (kinds ms)) ≡ Some t = runs_next ms p m s is reached ∙ turned in (
+        λ stuck. ⊎_elim (λ here. here.1 (begins_from (take (suc p) (kinds ms)) t next))
+            (λ here. absurd (omega (arith, size, here.0))) stuck.here,
+        next,
+      );
   stuck = λ p s m is reached none. record {
     before = begins_from (take p (kinds ms)) s reached;
     here = inl (
       omega (arith, size, slice_get_within ms p m is),
       λ begins.
           let leads = begins_to (take (suc p) (kinds ms)) begins in
-          let wrong : None ≡ Some leads.shape = sym none ∙ sym (runs_next ms p m s is reached) ∙ leads.leads in cc,
+          let wrong : None ≡ Some leads.shape =
+          sym none ∙ sym (runs_next ms p m s is reached) ∙ leads.leads in cc,
     );
   };
   ends = λ p s all reached final stuck. ⊎_elim (λ here. absurd (omega (arith, size, here.0)))
@@ -230,8 +279,10 @@ dependency_judges ms stop = record {
           let wrong : false ≡ true = sym open_end ∙ ap is_final same ∙ ends.final in cc,
     );
   };
-  flawed = λ p x all is stuck. ⊎_elim (λ here. absurd (omega (arith, size, here.0))) (λ here. let wrong = here.1 in cc) stuck.here;
-  inside = λ p stuck. ⊎_elim (λ here. omega (arith, size, here.0)) (λ here. omega (arith, size, here.0)) stuck.here;
+  flawed = λ p x all is stuck. ⊎_elim (λ here. absurd (omega (arith, size, here.0)))
+      (λ here. let wrong = here.1 in cc) stuck.here;
+  inside = λ p stuck. ⊎_elim (λ here. omega (arith, size, here.0))
+      (λ here. omega (arith, size, here.0)) stuck.here;
 }
   where
     size : length (kinds ms) ≡ length ms
@@ -244,9 +295,11 @@ dependency_judges ms stop = record {
 pub line-law : (f : Format) (declared : List (List ℕ)) (line : ℕ) (ms : List Mark) (stop : Option Stop) → FitsDependency f declared line ms stop (follow f declared line start 1 ms stop)
 line-law f declared line ms stop =
     fits (follow f declared line start 1 ms stop)
-    (judge (dependency_judges ms stop) f declared line 1 ms 0 1 start (left_whole line 1 ms stop) refl (λ p n less. absurd (omega arith)))
+    (judge (dependency_judges ms stop) f declared line 1 ms 0 1 start (left_whole line 1 ms stop) refl
+    (λ p n less. absurd (omega arith)))
   where
-    fits : (res : Result Dependency SchemaRefusal) → Judged (DependencyComplaint f declared ms stop) (DependencyWants ms) (span_at line 1 ms stop) res
+    fits : (res : Result Dependency SchemaRefusal)
+        → Judged (DependencyComplaint f declared ms stop) (DependencyWants ms) (span_at line 1 ms stop) res
         → FitsDependency f declared line ms stop res
     fits (Ok d) none = none
     fits (Err e) first = first

@@ -14,5 +14,6 @@ use Rattle.schema_grammar.proofs.SoundLemmas.{IsWhole, opening_whole, whole_free
 pub declared_are_names : (text : List ℕ) (d : Declarations) → MeansSchema text d → AreNames format.Plain d.names
 unfolding read_text
 declared_are_names text d means =
-    let whole = ok_at IsWhole _ d ((schema-law text d).1 means) (opening_whole 1 (line_texts (without_mark text))) in
+    let whole = ok_at IsWhole _ d ((schema-law text d).1 means)
+    (opening_whole 1 (line_texts (without_mark text))) in
     record { each = whole.sound.proper; free = whole_free d whole; differ = whole.sound.names_differ }

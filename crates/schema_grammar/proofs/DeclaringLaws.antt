@@ -42,13 +42,16 @@ declares_name : (f : Format) (column : Column) (d whole : Declarations) (some : 
 unfolding declare
 declares_name f column d whole some m e = told m.kind refl (place_named d.names m.word) refl e
   where
-    told : (k : TokenKind) → m.kind ≡ k → (o : Option ℕ) → place_named d.names m.word ≡ o → name_step f column d some k m.word ≡ Ok whole
+    told : (k : TokenKind) → m.kind ≡ k → (o : Option ℕ) → place_named d.names m.word ≡ o
+        → name_step f column d some k m.word ≡ Ok whole
         → IsNewName f d m × (whole ≡ add_name d m.word column)
     told token.Word is o place e =
         let free = unless_ok (is_reserved f m.word) kind.ReservedName _ whole e in
         let new = unless_ok (is_some (place_named d.names m.word)) kind.DoubleName _ whole free.1 in
         let room = unless_ok (nat_le PLACES (length d.names)) kind.TooManyAttributes (Ok (add_name d m.word column)) whole new.1 in
-        (record { word = is; free = free.0; new = place ∙ none o (ap is_some (sym place) ∙ new.0); room = leb-false _ _ room.0 }, (let same : Ok whole ≡ Ok (add_name d m.word column) = sym room.1 in cc))
+        let unknown = place ∙ none o (ap is_some (sym place) ∙ new.0) in
+        let same : Ok whole ≡ Ok (add_name d m.word column) = sym room.1 in
+        (record { word = is; free = free.0; new = unknown; room = leb-false _ _ room.0 }, cc)
       where
         none : (o : Option ℕ) → is_some o ≡ false → o ≡ None
         none None e = refl
@@ -61,28 +64,36 @@ name_declared f column d some m new =
     let room = lt-leb PLACES (length d.names) new.room in rw (new.word, new.free, new.new, room) refl
 
 -- names after a declaring word are read exactly where each is a new one
-names_there : (f : Format) (column : Column) (line : ℕ) (d whole : Declarations) (some : Bool) (next_column : ℕ) (ms : List Mark)
-    → list_names f column line d some next_column ms None ≡ Ok whole → (some ≡ false → 0 < length ms) × DeclareNames f column d ms whole
+names_there : (f : Format) (column : Column) (line : ℕ) (d whole : Declarations) (some : Bool)
+    (next_column : ℕ) (ms : List Mark)
+    → list_names f column line d some next_column ms None ≡ Ok whole
+    → (some ≡ false → 0 < length ms) × DeclareNames f column d ms whole
 unfolding list_names
 names_there f column line d whole true next_column [] e = ((λ none. cc), cc)
 names_there f column line d whole false next_column [] e = cc
 names_there f column line d whole some next_column (m ∷ ms) e =
     let two = steps (at line m.column (length m.word) (name_step f column d some m.kind m.word)) _ whole e in
-    let first = declares_name f column d two.x some m (placed line m.column (length m.word) _ two.x two.first) in
-    let rest : list_names f column line (add_name d m.word column) true (m.column + length m.word) ms None ≡ Ok whole
-    = ap (λ n. list_names f column line n true (m.column + length m.word) ms None) (sym first.1) ∙ two.second in
-    ((λ none. omega arith), (first.0, (names_there f column line (add_name d m.word column) whole true (m.column + length m.word) ms rest).1))
+    let named = placed line m.column (length m.word) _ two.x two.first in
+    let first = declares_name f column d two.x some m named in
+    let rest : list_names f column line (add_name d m.word column) true (m.column + length m.word) ms None ≡ Ok whole =
+    ap (λ n. list_names f column line n true (m.column + length m.word) ms None) (sym first.1) ∙ two.second in
+    let more = names_there f column line (add_name d m.word column) whole true (m.column + length m.word) ms rest in
+    ((λ none. omega arith), (first.0, more.1))
 
-names_back : (f : Format) (column : Column) (line : ℕ) (d whole : Declarations) (some : Bool) (next_column : ℕ) (ms : List Mark)
-    → (some ≡ false → 0 < length ms) → DeclareNames f column d ms whole → list_names f column line d some next_column ms None ≡ Ok whole
+names_back : (f : Format) (column : Column) (line : ℕ) (d whole : Declarations) (some : Bool)
+    (next_column : ℕ) (ms : List Mark)
+    → (some ≡ false → 0 < length ms) → DeclareNames f column d ms whole
+    → list_names f column line d some next_column ms None ≡ Ok whole
 unfolding list_names
 names_back f column line d whole true next_column [] has e = cc
 names_back f column line d whole false next_column [] has e = absurd (omega (arith, has refl))
 names_back f column line d whole some next_column (m ∷ ms) has (new, rest) =
     rw (name_declared f column d some m new)
-    (names_back f column line (add_name d m.word column) whole true (m.column + length m.word) ms (λ none. cc) rest)
+    (names_back f column line (add_name d m.word column) whole true (m.column + length m.word) ms
+    (λ none. cc) rest)
 
-names_stopped : (f : Format) (column : Column) (line : ℕ) (d whole : Declarations) (some : Bool) (next_column : ℕ) (ms : List Mark) (stop : Stop)
+names_stopped : (f : Format) (column : Column) (line : ℕ) (d whole : Declarations) (some : Bool)
+    (next_column : ℕ) (ms : List Mark) (stop : Stop)
     → list_names f column line d some next_column ms (Some stop) ≡ Ok whole → ⊥
 unfolding list_names
 names_stopped f column line d whole some next_column [] stop e = cc
@@ -139,8 +150,18 @@ line_there f number d line whole e = told (lex mode.Plain line).marks (lex mode.
         → list_names f column number d false (m.column + length m.word) ms stop ≡ Ok whole → IsDeclaring f d line whole
     declaring m ms column None marks stop is e =
         let both = names_there f column number d whole false (m.column + length m.word) ms e in
-        record { head = m; words = ms; column = column; tokens = has_tokens l (m ∷ ms) marks stop; declaring = is; some = both.0 refl; names = both.1 }
-    declaring m ms column (Some s) marks stop is e = absurd (names_stopped f column number d whole false (m.column + length m.word) ms s e)
+        record {
+          head = m;
+          words = ms;
+          column = column;
+          tokens = has_tokens l
+              (m ∷ ms) marks stop;
+          declaring = is;
+          some = both.0 refl;
+          names = both.1;
+        }
+    declaring m ms column (Some s) marks stop is e =
+        absurd (names_stopped f column number d whole false (m.column + length m.word) ms s e)
 
     stating : (m : Mark) (ms : List Mark) (stop : Option Stop) → l.marks ≡ m ∷ ms → l.stop ≡ stop → declares f m.kind m.word ≡ None
         → Begun f number d m ms stop whole → IsStating f number d line whole
@@ -154,7 +175,8 @@ line_there f number d line whole e = told (lex mode.Plain line).marks (lex mode.
       room = begun.room;
       adds = begun.adds;
     }
-    stating m ms (Some s) marks stop is begun = absurd (stopped f d.names number start 1 (m ∷ ms) s begun.dep begun.read)
+    stating m ms (Some s) marks stop is begun =
+        absurd (stopped f d.names number start 1 (m ∷ ms) s begun.dep begun.read)
 
     from : (m : Mark) (ms : List Mark) (stop : Option Stop) (o : Option Column) → l.marks ≡ m ∷ ms → l.stop ≡ stop → declares f m.kind m.word ≡ o
         → line_from f number d m ms stop o ≡ Ok whole → MeansTextLine f number d line whole
@@ -170,7 +192,9 @@ pub line_back : (f : Format) (number : ℕ) (d : Declarations) (line : List ℕ)
 unfolding read_line
 line_back f number d line whole (inl (inl blank)) = rw (blank.tokens, blank.same) refl
 line_back f number d line whole (inl (inr is)) =
-    rw (is.tokens, is.declaring) (names_back f is.column number d whole false (is.head.column + length is.head.word) is.words (λ none. is.some) is.names)
+    rw (is.tokens, is.declaring)
+    (names_back f is.column number d whole false (is.head.column + length is.head.word) is.words
+    (λ none. is.some) is.names)
 line_back f number d line whole (inr is) =
     rw (is.tokens, is.stating, is.adds)
     (dependency_back f number d is.head is.others is.dep ((dependency-law f d.names number 1 (is.head ∷ is.others) is.dep).1 is.dependency) is.room)
@@ -180,7 +204,8 @@ pub lines_there : (f : Format) (number : ℕ) (d whole : Declarations) (lines : 
 unfolding read_lines finish
 lines_there f number d whole [] e = elim (cases_Bool (length d.names == 0)) [
   | inl none ↦ let wrong = rw none at e in cc
-  | inr some ↦ let read = rw some at e in let same : whole ≡ d = cc in (same, rw same (grind (arith, nat_tests)))
+  | inr some ↦ let read = rw some at e in
+      let same : whole ≡ d = cc in (same, rw same (grind (arith, nat_tests)))
 ]
 lines_there f number d whole (line ∷ lines) e =
     let two = steps (read_line f number d line) (λ next. read_lines f (number + 1) next lines) whole e in
@@ -188,7 +213,8 @@ lines_there f number d whole (line ∷ lines) e =
     ((two.x, line_there f number d line two.x two.first, more.0), more.1)
 
 -- lines that mean something are read, and then the lines after them
-pub before_read : (f : Format) (first : ℕ) (d : Declarations) (before rest : List (List ℕ)) (middle : Declarations)
+pub before_read : (f : Format) (first : ℕ) (d : Declarations) (before rest : List (List ℕ))
+    (middle : Declarations)
     → MeansLines f first d before middle
     → read_lines f first d (before ++ rest) ≡ read_lines f (first + length before) middle rest
 unfolding read_lines
@@ -205,4 +231,5 @@ pub lines_back : (f : Format) (number : ℕ) (d whole : Declarations) (lines : L
 unfolding read_lines finish
 lines_back f number d whole lines means some =
     let is : (length whole.names == 0) ≡ false = grind (arith, nat_tests) in
-    ap (read_lines f number d) (sym (append-nil lines)) ∙ before_read f number d lines [] whole means ∙ rw is refl
+    ap (read_lines f number d) (sym (append-nil lines)) ∙ before_read f number d lines [] whole means
+    ∙ rw is refl

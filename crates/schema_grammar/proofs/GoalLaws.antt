@@ -80,20 +80,26 @@ mark k column word = record { kind = k; column = column; word = word }
 -- a word that is read names an attribute, by which the reading goes on
 record ReadsWord (f : Format) (declared : List (List ℕ)) (line : ℕ) (r : Reached) (column : ℕ) (word : List ℕ) (ms : List Mark) (d : Dependency) : Type 0 where
   is : IsAttribute f declared (mark token.Word column word)
-  goes_on : and_then (at line column (length word) (expecting (turn r (symbol.Attribute is.place)))) (λ next. follow f declared line next (column + length word) ms None) ≡ Ok d
+  goes_on : and_then (at line column (length word) (expecting (turn r (symbol.Attribute is.place))))
+      (λ next. follow f declared line next (column + length word) ms None) ≡ Ok d
 
 reads_word : (f : Format) (declared : List (List ℕ)) (line : ℕ) (r : Reached) (from column : ℕ) (word : List ℕ) (ms : List Mark) (d : Dependency)
-    → follow f declared line r from (mark token.Word column word ∷ ms) None ≡ Ok d → ReadsWord f declared line r column word ms d
+    → follow f declared line r from (mark token.Word column word ∷ ms) None ≡ Ok d
+    → ReadsWord f declared line r column word ms d
 unfolding follow step looked_up
-reads_word f declared line r from column word ms d e = told (is_reserved f word) (place_named declared word) refl refl e
+reads_word f declared line r from column word ms d e =
+    told (is_reserved f word) (place_named declared word) refl refl e
   where
     told : (b : Bool) (o : Option ℕ) → is_reserved f word ≡ b → place_named declared word ≡ o
-        → and_then (at line column (length word) (and_then (and_then (cond b (Err kind.ReservedName) (known o)) (λ a. Ok (symbol.Attribute a))) (λ s. expecting (turn r s))))
+        → and_then (at line column (length word)
+        (and_then (and_then (cond b (Err kind.ReservedName) (known o)) (λ a. Ok (symbol.Attribute a)))
+        (λ s. expecting (turn r s))))
         (λ next. follow f declared line next (column + length word) ms None) ≡ Ok d
         → ReadsWord f declared line r column word ms d
     told true o free place e = cc
     told false None free place e = cc
-    told false (Some a) free place e = record { is = record { word = refl; free = free; place = a; known = place }; goes_on = e }
+    told false (Some a) free place e =
+        record { is = record { word = refl; free = free; place = a; known = place }; goes_on = e }
 
 end_makes : (f : Format) (declared : List (List ℕ)) (line column : ℕ) (r : Reached) (d : Dependency) → at line column 0 (expecting (finished r)) ≡ Ok d → Rest f declared r [] d
 unfolding finished
@@ -111,7 +117,8 @@ token_makes : (f : Format) (declared : List (List ℕ)) (line from : ℕ) (r : R
 unfolding follow step turn
 token_makes f declared line from start token.Word column word ms d rest e =
     let reads = reads_word f declared line start from column word ms d e in
-    let more : LeftRest f declared (only reads.is.place) ms d = rest (left (only reads.is.place)) reads.goes_on in
+    let more : LeftRest f declared (only reads.is.place) ms d =
+    rest (left (only reads.is.place)) reads.goes_on in
     record {
       lhs = mark token.Word column word ∷ more.words;
       arrow = more.arrow;
@@ -120,10 +127,15 @@ token_makes f declared line from start token.Word column word ms d rest e =
       y = more.y;
       sign = more.sign;
       whole = ap (λ t. mark token.Word column word ∷ t) more.whole;
-      left_side = inr (record { some = omega arith; each = All-cons (IsAttribute f declared) _ _ reads.is more.each; members = refl });
+      left_side = inr (record {
+        some = omega arith;
+        each = All-cons (IsAttribute f declared) _ _ reads.is more.each;
+        members = refl;
+      });
       is_arrow = more.is_arrow;
       right_side = more.right_side;
-      states = more.states ∙ ap (λ z. stated more.sign z more.y) (sym (named-cons declared (mark token.Word column word) more.words reads.is.place reads.is.known));
+      states = more.states ∙ ap (λ z. stated more.sign z more.y)
+          (sym (named-cons declared (mark token.Word column word) more.words reads.is.place reads.is.known));
     }
 token_makes f declared line from start token.Empty column word ms d rest e =
     let more : ArrowRest f declared ms d = rest left_empty e in
@@ -142,7 +154,8 @@ token_makes f declared line from start token.Empty column word ms d rest e =
     }
 token_makes f declared line from (left x) token.Word column word ms d rest e =
     let reads = reads_word f declared line (left x) from column word ms d e in
-    let more : LeftRest f declared (union x (only reads.is.place)) ms d = rest (left (union x (only reads.is.place))) reads.goes_on in
+    let more : LeftRest f declared (union x (only reads.is.place)) ms d =
+    rest (left (union x (only reads.is.place))) reads.goes_on in
     record {
       words = mark token.Word column word ∷ more.words;
       arrow = more.arrow;
@@ -153,8 +166,10 @@ token_makes f declared line from (left x) token.Word column word ms d rest e =
       each = All-cons (IsAttribute f declared) _ _ reads.is more.each;
       is_arrow = more.is_arrow;
       right_side = more.right_side;
-      states = more.states ∙ ap (λ z. stated more.sign z more.y) (union-only x (named declared more.words) reads.is.place
-          ∙ ap (union x) (sym (named-cons declared (mark token.Word column word) more.words reads.is.place reads.is.known)));
+      states = more.states ∙ ap (λ z. stated more.sign z more.y)
+          (union-only x (named declared more.words) reads.is.place
+          ∙ ap (union x)
+          (sym (named-cons declared (mark token.Word column word) more.words reads.is.place reads.is.known)));
     }
 token_makes f declared line from (left x) token.Arrow column word ms d rest e =
     let more : AfterSignRest f declared sign.Functional x ms d = rest (after_sign sign.Functional x) e in
@@ -194,18 +209,25 @@ token_makes f declared line from left_empty token.DoubleArrow column word ms d r
     record { arrow = mark token.DoubleArrow column word; rhs = ms; y = more.y; sign = sign.Multivalued; whole = refl; is_arrow = refl; right_side = more.right_side; states = more.states }
 token_makes f declared line from (after_sign s x) token.Word column word ms d rest e =
     let reads = reads_word f declared line (after_sign s x) from column word ms d e in
-    let more : RightRest f declared s x (only reads.is.place) ms d = rest (right s x (only reads.is.place)) reads.goes_on in
+    let more : RightRest f declared s x (only reads.is.place) ms d =
+    rest (right s x (only reads.is.place)) reads.goes_on in
     record {
       y = named declared (mark token.Word column word ∷ ms);
-      right_side = inr (record { some = omega arith; each = All-cons (IsAttribute f declared) _ _ reads.is more.each; members = refl });
-      states = more.states ∙ ap (stated s x) (sym (named-cons declared (mark token.Word column word) ms reads.is.place reads.is.known));
+      right_side = inr (record {
+        some = omega arith;
+        each = All-cons (IsAttribute f declared) _ _ reads.is more.each;
+        members = refl;
+      });
+      states = more.states ∙ ap (stated s x)
+          (sym (named-cons declared (mark token.Word column word) ms reads.is.place reads.is.known));
     }
 token_makes f declared line from (after_sign s x) token.Empty column word ms d rest e =
     let more : EndRest s x ms d = rest (right_empty s x) e in
     record { y = none; right_side = inl (record { column = column; bytes = word; alone = ap (λ t. mark token.Empty column word ∷ t) more.nothing; nothing = refl }); states = more.states }
 token_makes f declared line from (right s x y) token.Word column word ms d rest e =
     let reads = reads_word f declared line (right s x y) from column word ms d e in
-    let more : RightRest f declared s x (union y (only reads.is.place)) ms d = rest (right s x (union y (only reads.is.place))) reads.goes_on in
+    let more : RightRest f declared s x (union y (only reads.is.place)) ms d =
+    rest (right s x (union y (only reads.is.place))) reads.goes_on in
     record {
       each = All-cons (IsAttribute f declared) _ _ reads.is more.each;
       states = more.states ∙ ap (stated s x) (union-only y (named declared ms) reads.is.place
@@ -228,7 +250,8 @@ word_read : (f : Format) (declared : List (List ℕ)) (line : ℕ) (r : Reached)
     → follow f declared line r from (m ∷ ms) stop
     ≡ and_then (at line m.column (length m.word) (expecting (turn r (symbol.Attribute attribute.place)))) (λ next. follow f declared line next (m.column + length m.word) ms stop)
 unfolding follow step looked_up
-word_read f declared line r from m ms stop attribute = rw (attribute.word, attribute.free, attribute.known) refl
+word_read f declared line r from m ms stop attribute =
+    rw (attribute.word, attribute.free, attribute.known) refl
 
 right_read : (f : Format) (declared : List (List ℕ)) (line : ℕ) (s : Sign) (x y : Places) (from : ℕ) (ms : List Mark) → All (IsAttribute f declared) ms
     → follow f declared line (right s x y) from ms None ≡ Ok (stated s x (union y (named declared ms)))
@@ -254,9 +277,11 @@ side_read f declared line s x y from (m ∷ ms) (inr words) =
     ∙ ap (λ z. Ok (stated s x z)) (sym (named-cons declared m ms here.place here.known) ∙ sym words.members)
 
 -- an arrow is read after a left side
-arrow_read : (f : Format) (declared : List (List ℕ)) (line : ℕ) (r : Reached) (s : Sign) (x : Places) (from : ℕ) (m : Mark) (ms : List Mark)
+arrow_read : (f : Format) (declared : List (List ℕ)) (line : ℕ) (r : Reached) (s : Sign) (x : Places)
+    (from : ℕ) (m : Mark) (ms : List Mark)
     → turn r (symbol.Arrow s) ≡ Ok (after_sign s x) → IsArrow s m.kind
-    → follow f declared line r from (m ∷ ms) None ≡ follow f declared line (after_sign s x) (m.column + length m.word) ms None
+    → follow f declared line r from (m ∷ ms) None ≡ follow f declared line (after_sign s x)
+    (m.column + length m.word) ms None
 unfolding follow step
 arrow_read f declared line r sign.Functional x from m ms turns e = rw (e, turns) refl
 arrow_read f declared line r sign.Multivalued x from m ms turns e = rw (e, turns) refl
@@ -282,7 +307,8 @@ sides_read : (f : Format) (declared : List (List ℕ)) (line : ℕ) (s : Sign) (
 unfolding follow step turn
 sides_read f declared line s x y from lhs arrow rhs (inl empty) is_arrow side =
     rw (empty.alone, empty.nothing)
-    (arrow_read f declared line left_empty s none (empty.column + length empty.bytes) arrow rhs refl is_arrow ∙ side_read f declared line s none y (arrow.column + length arrow.word) rhs side)
+    (arrow_read f declared line left_empty s none (empty.column + length empty.bytes) arrow rhs refl is_arrow
+    ∙ side_read f declared line s none y (arrow.column + length arrow.word) rhs side)
 sides_read f declared line s x y from [] arrow rhs (inr words) is_arrow side = let some : 0 < 0 = words.some in absurd (omega arith)
 sides_read f declared line s x y from (m ∷ ms) arrow rhs (inr words) is_arrow side =
     let here : IsAttribute f declared m = All-head (IsAttribute f declared) m ms words.each in
@@ -299,7 +325,8 @@ dependency-law f declared line from ms d = (marks_make f declared line from star
     back : IsDependency f declared ms d → follow f declared line start from ms None ≡ Ok d
     back is = rw (is.whole, is.states) (sides_read f declared line is.sign is.x is.y from is.lhs is.arrow is.rhs is.left_side is.is_arrow is.right_side)
 
-pub stopped : (f : Format) (declared : List (List ℕ)) (line : ℕ) (r : Reached) (from : ℕ) (ms : List Mark) (stop : Stop) (d : Dependency)
+pub stopped : (f : Format) (declared : List (List ℕ)) (line : ℕ) (r : Reached) (from : ℕ) (ms : List Mark)
+    (stop : Stop) (d : Dependency)
     → follow f declared line r from ms (Some stop) ≡ Ok d → ⊥
 unfolding follow
 stopped f declared line r from [] stop d e = cc
@@ -315,7 +342,8 @@ no_stop f declared line r from l d e = told l.stop refl
     told : (o : Option Stop) → l.stop ≡ o → HasTokens l l.marks
     told None same = λ i. record { marks = l.marks; stop = same i }
     told (Some stop) same =
-        absurd (stopped f declared line r from l.marks stop d (ap (follow f declared line r from l.marks) (sym same) ∙ e))
+        absurd (stopped f declared line r from l.marks stop d
+        (ap (follow f declared line r from l.marks) (sym same) ∙ e))
 
 pub goal-law : (declared : List (List ℕ)) (text : List ℕ) (d : Dependency) → (read_goal declared text ≡ Ok d) ↔ MeansGoal declared text d
 goal-law declared text d = (there, back)

@@ -34,13 +34,15 @@ declaring_fits f d line m ms stop column (Err e) first = record {
   carries = Carries-map (NamesWant first.place) (HeadWants m ms (Some column) (suc first.place)) (λ w h. (first.place, refl, h)) e.kind first.carries;
   there = first.there;
   least = λ p n (later, is, complaint).
-      ⊎_elim (λ less. inl (omega (arith, is, less))) (λ same. inr (omega (arith, is, same.0), same.1)) (first.least later n complaint);
+      ⊎_elim (λ less. inl (omega (arith, is, less))) (λ same. inr (omega (arith, is, same.0), same.1))
+      (first.least later n complaint);
 }
 
 -- the complaints of a dependency line, where there is room for it
 with_room : (f : Format) (d : Declarations) (line : ℕ) (m : Mark) (ms : List Mark) (stop : Option Stop) (res : Result Dependency SchemaRefusal) → length d.deps < MOST_DEPENDENCIES
     → FitsDependency f d.names line (m ∷ ms) stop res → FitsHead f d line m ms stop None (and_then res (λ dep. Ok (add_dependency d dep line)))
-with_room f d line m ms stop (Ok dep) room none = λ p n complaint. ⊎_elim (none p n) (λ full. omega (arith, full.2)) complaint
+with_room f d line m ms stop (Ok dep) room none =
+    λ p n complaint. ⊎_elim (none p n) (λ full. omega (arith, full.2)) complaint
 with_room f d line m ms stop (Err e) room first = record {
   place = first.place;
   stands = inl first.stands;
@@ -56,20 +58,26 @@ begun_fits : (f : Format) (d : Declarations) (line : ℕ) (m : Mark) (ms : List 
     (and_then (at line m.column (length m.word) (and_then o (λ next. cond b (Err kind.TooManyDependencies) (Ok next))))
     (λ next. and_then (follow f d.names line next (m.column + length m.word) ms stop) (λ dep. Ok (add_dependency d dep line))))
 begun_fits f d line m ms stop (Err why) b full tells first =
-    let here = first.least 0 (refusal_number why) (token_complains (dependency_judges (m ∷ ms) stop) f d.names 0 start m why refl refl tells) in
+    let here = first.least 0 (refusal_number why)
+    (token_complains (dependency_judges (m ∷ ms) stop) f d.names 0 start m why refl refl tells) in
     record {
       place = first.place;
       stands = inl first.stands;
       carries = first.carries;
       there = first.there;
       least = λ p n complaint. ⊎_elim (first.least p n)
-          (λ eight. inr (⊎_elim (λ less. absurd (omega (arith, less))) (λ same. omega (arith, same.0, eight.1)) here, omega (arith, eight.0, tells.2))) complaint;
+          (λ eight. inr (
+            ⊎_elim (λ less. absurd (omega (arith, less))) (λ same. omega (arith, same.0, eight.1)) here,
+            omega (arith, eight.0, tells.2),
+          )) complaint;
     }
 begun_fits f d line m ms stop (Ok next) true full tells fits =
-    first_at (HeadComplaint f d m ms stop None) (HeadWants m ms None) (span_at line 1 (m ∷ ms) stop) (refusal line m.column (length m.word) kind.TooManyDependencies) 0
+    first_at (HeadComplaint f d m ms stop None) (HeadWants m ms None) (span_at line 1 (m ∷ ms) stop)
+    (refusal line m.column (length m.word) kind.TooManyDependencies) 0
     (λ p n less. absurd (omega arith)) (inr (refl, refl, leb-true _ _ full)) tt refl
     (λ n complaint. ⊎_elim (λ other. absurd (
-    ⊎_elim (tells.1 n) (λ six. ((dependency_judges (m ∷ ms) stop).goes_on 0 at_start (shape_of next) m refl refl tells.0).0 six.1)
+    ⊎_elim (tells.1 n) (λ six.
+    ((dependency_judges (m ∷ ms) stop).goes_on 0 at_start (shape_of next) m refl refl tells.0).0 six.1)
     (at_token (IsStuck (kinds (m ∷ ms)) stop) f d.names (m ∷ ms) stop 0 m refl n other)
     )) (λ eight. omega (arith, eight.0)) complaint)
 begun_fits f d line m ms stop (Ok next) false full tells fits =
@@ -80,16 +88,24 @@ pub text-line-law : (f : Format) (d : Declarations) (line : ℕ) (ms : List Mark
 unfolding dependency_line begin follow
 text-line-law f d line [] None = λ p n complaint. let wrong = complaint.1 in cc
 text-line-law f d line [] (Some s) =
-    first_at (TextLineComplaint f d [] (Some s)) (TextLineWants f []) (span_at line 1 [] (Some s)) (refused_by line s) 0
-    (λ p n less. absurd (omega arith)) (s, refl, refl, flaw_numbered s.flaw) (flaw_carries (TextLineWants f [] 0) s.flaw) refl
+    first_at (TextLineComplaint f d [] (Some s)) (TextLineWants f []) (span_at line 1 [] (Some s))
+    (refused_by line s) 0
+    (λ p n less. absurd (omega arith)) (s, refl, refl, flaw_numbered s.flaw)
+    (flaw_carries (TextLineWants f [] 0) s.flaw) refl
     (λ n complaint. flaw_least s complaint.0 n complaint.1 complaint.3)
-text-line-law f d line (m ∷ ms) stop = fits (line_from f line d m ms stop (declares f m.kind m.word)) (head (declares f m.kind m.word))
+text-line-law f d line (m ∷ ms) stop =
+    fits (line_from f line d m ms stop (declares f m.kind m.word)) (head (declares f m.kind m.word))
   where
     head : (o : Option Column) → FitsHead f d line m ms stop o (line_from f line d m ms stop o)
-    head (Some column) = declaring_fits f d line m ms stop column _ (names-law f column d line (m.column + length m.word) ms stop)
-    head None = begun_fits f d line m ms stop (step f d.names start m.kind m.word) (nat_le MOST_DEPENDENCIES (length d.deps)) refl (step_tells f d.names start m)
+    head (Some column) =
+        declaring_fits f d line m ms stop column _
+        (names-law f column d line (m.column + length m.word) ms stop)
+    head None =
+        begun_fits f d line m ms stop (step f d.names start m.kind m.word)
+        (nat_le MOST_DEPENDENCIES (length d.deps)) refl (step_tells f d.names start m)
         (line-law f d.names line (m ∷ ms) stop)
 
-    fits : (res : Result Declarations SchemaRefusal) → FitsHead f d line m ms stop (declares f m.kind m.word) res → FitsTextLine f d line (m ∷ ms) stop res
+    fits : (res : Result Declarations SchemaRefusal)
+        → FitsHead f d line m ms stop (declares f m.kind m.word) res → FitsTextLine f d line (m ∷ ms) stop res
     fits (Ok whole) none = none
     fits (Err e) first = first

@@ -29,16 +29,20 @@ span-line line next_column (m ∷ ms) stop zero = refl
 span-line line next_column (m ∷ ms) stop (suc p) = span-line line (m.column + length m.word) ms stop p
 
 -- a complaint of lines is one of the first line, or of the lines after it
+abbrev ComplaintParts : Format → ℕ → Declarations → List ℕ → List (List ℕ) → ℕ → ℕ → ℕ → Type 0
+ComplaintParts f first d line lines l p n =
+    ((l ≡ first) × TextLineComplaint f d (lex mode.Plain line).marks (lex mode.Plain line).stop p n)
+    ⊎ ((first < l) × ((next : Declarations) → read_line f first d line ≡ Ok next
+    → LinesComplaint f (first + 1) next lines l p n))
+
 complaint_parts : (f : Format) (first : ℕ) (d : Declarations) (line : List ℕ) (lines : List (List ℕ)) (l p n : ℕ)
-    → LinesComplaint f first d (line ∷ lines) l p n
-    → ((l ≡ first) × TextLineComplaint f d (lex mode.Plain line).marks (lex mode.Plain line).stop p n)
-    ⊎ ((first < l) × ((next : Declarations) → read_line f first d line ≡ Ok next → LinesComplaint f (first + 1) next lines l p n))
-complaint_parts f first d line lines l p n complaint = told complaint.before complaint.cut complaint.means complaint.stands_on
+    → LinesComplaint f first d (line ∷ lines) l p n → ComplaintParts f first d line lines l p n
+complaint_parts f first d line lines l p n complaint =
+    told complaint.before complaint.cut complaint.means complaint.stands_on
   where
-    told : (before : List (List ℕ)) → line ∷ lines ≡ before ++ complaint.line ∷ complaint.after → MeansLines f first d before complaint.declared
-        → l ≡ first + length before
-        → ((l ≡ first) × TextLineComplaint f d (lex mode.Plain line).marks (lex mode.Plain line).stop p n)
-        ⊎ ((first < l) × ((next : Declarations) → read_line f first d line ≡ Ok next → LinesComplaint f (first + 1) next lines l p n))
+    told : (before : List (List ℕ)) → line ∷ lines ≡ before ++ complaint.line ∷ complaint.after
+        → MeansLines f first d before complaint.declared → l ≡ first + length before
+        → ComplaintParts f first d line lines l p n
     told [] cut means stands_on =
         let same = cons_parts line complaint.line lines complaint.after cut in
         let of : List ℕ → Type 0 = λ t. TextLineComplaint f complaint.declared (lex mode.Plain t).marks (lex mode.Plain t).stop p n in
@@ -51,7 +55,8 @@ complaint_parts f first d line lines l p n complaint = told complaint.before com
         inr (
           (omega arith),
           λ next read.
-              let both : Ok middle ≡ Ok next = sym (line_back f first d line middle (subst of (sym same.0) here)) ∙ read in
+              let both : Ok middle ≡ Ok next =
+              sym (line_back f first d line middle (subst of (sym same.0) here)) ∙ read in
               record {
                 before = before;
                 line = complaint.line;
@@ -64,11 +69,13 @@ complaint_parts f first d line lines l p n complaint = told complaint.before com
               },
         )
 
-lines_after : (f : Format) (first : ℕ) (d next : Declarations) (line : List ℕ) (lines : List (List ℕ)) (res : Result Declarations SchemaRefusal) → read_line f first d line ≡ Ok next
+lines_after : (f : Format) (first : ℕ) (d next : Declarations) (line : List ℕ) (lines : List (List ℕ))
+    (res : Result Declarations SchemaRefusal) → read_line f first d line ≡ Ok next
     → FitsTextLine f d first (lex mode.Plain line).marks (lex mode.Plain line).stop (Ok next)
     → FitsLines f (first + 1) next lines res → FitsLines f first d (line ∷ lines) res
 lines_after f first d next line lines (Ok whole) read none fits = λ l p n complaint.
-    ⊎_elim (λ here. none p n here.1) (λ later. fits l p n (later.1 next read)) (complaint_parts f first d line lines l p n complaint)
+    ⊎_elim (λ here. none p n here.1) (λ later. fits l p n (later.1 next read))
+    (complaint_parts f first d line lines l p n complaint)
 lines_after f first d next line lines (Err e) read none (inl found) = inl (record {
   place = found.place;
   stands = record {
@@ -84,7 +91,8 @@ lines_after f first d next line lines (Err e) read none (inl found) = inl (recor
   carries = found.carries;
   there = found.there;
   least = λ l p n complaint.
-      ⊎_elim (λ here. absurd (none p n here.1)) (λ later. found.least l p n (later.1 next read)) (complaint_parts f first d line lines l p n complaint);
+      ⊎_elim (λ here. absurd (none p n here.1)) (λ later. found.least l p n (later.1 next read))
+      (complaint_parts f first d line lines l p n complaint);
 })
 lines_after f first d next line lines (Err e) read none (inr empty) = inr (record {
   whole = empty.whole;
@@ -94,7 +102,8 @@ lines_after f first d next line lines (Err e) read none (inr empty) = inr (recor
 })
 
 -- a line that is refused
-line_here : (f : Format) (first : ℕ) (d : Declarations) (line : List ℕ) (lines : List (List ℕ)) (e : SchemaRefusal)
+line_here : (f : Format) (first : ℕ) (d : Declarations) (line : List ℕ) (lines : List (List ℕ))
+    (e : SchemaRefusal)
     → FitsTextLine f d first (lex mode.Plain line).marks (lex mode.Plain line).stop (Err e) → IsFirstOfLines f first d (line ∷ lines) e
 line_here f first d line lines e found =
     let on : e.span.line ≡ first = ap (λ s. s.line) found.there ∙ span-line first 1 (lex mode.Plain line).marks (lex mode.Plain line).stop found.place in
@@ -113,7 +122,8 @@ line_here f first d line lines e found =
       carries = found.carries;
       there = found.there ∙ ap (λ k. span_at k 1 (lex mode.Plain line).marks (lex mode.Plain line).stop found.place) (sym on);
       least = λ l p n complaint.
-          ⊎_elim (λ here. inr (on ∙ sym here.0, found.least p n here.1)) (λ later. inl (omega (arith, on, later.0))) (complaint_parts f first d line lines l p n complaint);
+          ⊎_elim (λ here. inr (on ∙ sym here.0, found.least p n here.1))
+          (λ later. inl (omega (arith, on, later.0))) (complaint_parts f first d line lines l p n complaint);
     }
 
 -- lines are refused by the first complaint, or as declaring nothing, and read where there is neither
@@ -124,14 +134,18 @@ lines-law f first d [] = elim (cases_Bool (length d.names == 0)) [
     whole = d;
     means = refl;
     nothing = grind (arith, nat_tests, none);
-    at_the_end = let last : first - 1 ≡ first + 0 - 1 = omega arith in ap (λ k. refusal k 1 0 kind.NoAttributes) last;
+    at_the_end =
+        let last : first - 1 ≡ first + 0 - 1 = omega arith in
+        ap (λ k. refusal k 1 0 kind.NoAttributes) last;
   }))
   | inr some ↦ rw some (λ l p n complaint.
-      let size = ap length complaint.cut ∙ length-append complaint.before (complaint.line ∷ complaint.after) in absurd (omega (arith, size)))
+      let size = ap length complaint.cut ∙ length-append complaint.before
+      (complaint.line ∷ complaint.after) in absurd (omega (arith, size)))
 ]
 lines-law f first d (line ∷ lines) = told (λ next. lines-law f (first + 1) next lines) (read_line f first d line) refl (line-law f first d line)
   where
     told : ((next : Declarations) → FitsLines f (first + 1) next lines (read_lines f (first + 1) next lines)) → (o : Result Declarations SchemaRefusal) → read_line f first d line ≡ o → FitsTextLine f d first (lex mode.Plain line).marks (lex mode.Plain line).stop o
         → FitsLines f first d (line ∷ lines) (and_then o (λ next. read_lines f (first + 1) next lines))
-    told rest (Ok next) read fits = lines_after f first d next line lines (read_lines f (first + 1) next lines) read fits (rest next)
+    told rest (Ok next) read fits =
+        lines_after f first d next line lines (read_lines f (first + 1) next lines) read fits (rest next)
     told rest (Err e) read fits = inl (line_here f first d line lines e fits)

@@ -30,15 +30,20 @@ use Rattle.schema_grammar.proofs.ComplaintLaws.{flaw_numbered, flaw_carries, fla
 abbrev WordComplaint : Format → List (List ℕ) → ℕ → Mark → ℕ → Type 0
 WordComplaint f names count m number =
     ((m.kind ≡ token.Word)
-    × ((((number ≡ 3) × (is_reserved f m.word ≡ true)) ⊎ ((number ≡ 4) × (is_some (place_named names m.word) ≡ true))) ⊎ ((number ≡ 7) × (PLACES ≤ count))))
+    × ((((number ≡ 3) × (is_reserved f m.word ≡ true))
+    ⊎ ((number ≡ 4) × (is_some (place_named names m.word) ≡ true)))
+    ⊎ ((number ≡ 7) × (PLACES ≤ count))))
     ⊎ ((number ≡ 6) × (m.kind ≡ token.Word → ⊥))
 
 -- what a token after a declaring word tells
-abbrev NameTells : Format → Column → Declarations → List (List ℕ) → ℕ → Bool → Mark → Result Declarations SchemaRefusalKind → Type 0
+abbrev NameTells : Format → Column → Declarations → List (List ℕ) → ℕ → Bool → Mark
+    → Result Declarations SchemaRefusalKind → Type 0
 NameTells f column d names count some m (Ok next) =
-    (next ≡ add_name d m.word column) × (m.kind ≡ token.Word) × ((n : ℕ) → WordComplaint f names count m n → ⊥)
+    (next ≡ add_name d m.word column) × (m.kind ≡ token.Word) ×
+    ((n : ℕ) → WordComplaint f names count m n → ⊥)
 NameTells f column d names count some m (Err why) =
-    WordComplaint f names count m (refusal_number why) × ((n : ℕ) → WordComplaint f names count m n → refusal_number why ≤ n)
+    WordComplaint f names count m (refusal_number why) ×
+    ((n : ℕ) → WordComplaint f names count m n → refusal_number why ≤ n)
     × Carries (λ w. w ≡ wanted some) why
 
 name_tells : (f : Format) (column : Column) (d : Declarations) (some : Bool) (m : Mark)
@@ -46,28 +51,42 @@ name_tells : (f : Format) (column : Column) (d : Declarations) (some : Bool) (m 
 unfolding declare
 name_tells f column d some m = told m.kind refl
   where
-    word : m.kind ≡ token.Word → (a b c : Bool) → is_reserved f m.word ≡ a → is_some (place_named d.names m.word) ≡ b → nat_le PLACES (length d.names) ≡ c
+    word : m.kind ≡ token.Word → (a b c : Bool) → is_reserved f m.word ≡ a
+        → is_some (place_named d.names m.word) ≡ b → nat_le PLACES (length d.names) ≡ c
         → NameTells f column d d.names (length d.names) some m
-        (cond a (Err kind.ReservedName) (cond b (Err kind.DoubleName) (cond c (Err kind.TooManyAttributes) (Ok (add_name d m.word column)))))
-    word is true b c reserved double full = (inl (is, inl (inl (refl, reserved))), (λ n complaint. omega arith), tt)
-    word is false true c free double full = (inl (is, inl (inr (refl, double))), (λ n complaint. grind arith), tt)
-    word is false false true free new full = (inl (is, inr (refl, leb-true _ _ full)), (λ n complaint. grind arith), tt)
-    word is false false false free new full = (refl, is, λ n complaint. let room = leb-false _ _ full in grind arith)
+        (cond a (Err kind.ReservedName)
+        (cond b (Err kind.DoubleName) (cond c (Err kind.TooManyAttributes) (Ok (add_name d m.word column)))))
+    word is true b c reserved double full =
+        (inl (is, inl (inl (refl, reserved))), (λ n complaint. omega arith), tt)
+    word is false true c free double full =
+        (inl (is, inl (inr (refl, double))), (λ n complaint. grind arith), tt)
+    word is false false true free new full =
+        (inl (is, inr (refl, leb-true _ _ full)), (λ n complaint. grind arith), tt)
+    word is false false false free new full =
+        (refl, is, λ n complaint. let room = leb-false _ _ full in grind arith)
 
-    told : (k : TokenKind) → m.kind ≡ k → NameTells f column d d.names (length d.names) some m (name_step f column d some k m.word)
-    told token.Word is = word is (is_reserved f m.word) (is_some (place_named d.names m.word)) (nat_le PLACES (length d.names)) refl refl refl
+    told : (k : TokenKind) → m.kind ≡ k
+        → NameTells f column d d.names (length d.names) some m (name_step f column d some k m.word)
+    told token.Word is =
+        word is (is_reserved f m.word) (is_some (place_named d.names m.word))
+        (nat_le PLACES (length d.names)) refl refl refl
     told k is = (inr (refl, λ other. cc), (λ n complaint. grind arith), refl)
 
 abbrev words_in : List Mark → List (List ℕ)
 words_in ms = map (λ w. w.word) ms
 
--- names are read where nothing is wrong, or refused by the first complaint; so many of the words stood before, and some name
-judge_names : (f : Format) (column : Column) (d : Declarations) (line first : ℕ) (whole : List Mark) (stop : Option Stop)
-    (words : List Mark) (k from : ℕ) (some : Bool) (now : Declarations) → IsLeft line first whole stop k from words → now.names ≡ d.names ++ words_in (take k whole)
-    → All (λ w. w.kind ≡ token.Word) (take k whole) → NamesWant k (wanted some) → ((p n : ℕ) → p < k → NamesComplaint f d whole stop p n → ⊥)
-    → Judged (NamesComplaint f d whole stop) NamesWant (span_at line first whole stop) (list_names f column line now some from words stop)
+-- names are read where nothing is wrong, or refused by the first complaint, after so many of the words
+judge_names : (f : Format) (column : Column) (d : Declarations) (line first : ℕ) (whole : List Mark)
+    (stop : Option Stop)
+    (words : List Mark) (k from : ℕ) (some : Bool) (now : Declarations)
+    → IsLeft line first whole stop k from words → now.names ≡ d.names ++ words_in (take k whole)
+    → All (λ w. w.kind ≡ token.Word) (take k whole) → NamesWant k (wanted some)
+    → ((p n : ℕ) → p < k → NamesComplaint f d whole stop p n → ⊥)
+    → Judged (NamesComplaint f d whole stop) NamesWant (span_at line first whole stop)
+    (list_names f column line now some from words stop)
 unfolding list_names
-judge_names f column d line first whole stop [] k from some now left names each want before = told some stop refl want
+judge_names f column d line first whole stop [] k from some now left names each want before =
+    told some stop refl want
   where
     all : k ≡ length whole
     all = let size = left.size in omega arith
@@ -77,32 +96,42 @@ judge_names f column d line first whole stop [] k from some now left names each 
 
     ended : (p n : ℕ) → k ≤ p → NamesComplaint f d whole stop p n
         → ((n ≡ 6) × (p ≡ 0)) ⊎ ((s : Stop) × (stop ≡ Some s) × (n ≡ flaw_number s.flaw))
-    ended p n on (inl (inl (m, is, each_word, complaint))) = absurd (omega (arith, all, slice_get_within whole p m is))
+    ended p n on (inl (inl (m, is, each_word, complaint))) =
+        absurd (omega (arith, all, slice_get_within whole p m is))
     ended p n on (inl (inr (six, place, nothing, none))) = inl (six, place)
     ended p n on (inr (s, is, place, number)) = inr (s, is, number)
 
     told : (some : Bool) (o : Option Stop) → stop ≡ o → NamesWant k (wanted some)
-        → Judged (NamesComplaint f d whole stop) NamesWant (span_at line first whole stop) (list_names f column line now some from [] o)
+        → Judged (NamesComplaint f d whole stop) NamesWant (span_at line first whole stop)
+        (list_names f column line now some from [] o)
     told true None is want = λ p n complaint. ⊎_elim (λ (earlier : p < k). before p n earlier complaint)
-        (λ (later : k ≤ p). ⊎_elim (λ none. ⊎_elim (λ here. let wrong = here.1 in cc) (λ on. omega (arith, on.0, none.1)) want) (λ flaw. let wrong = flaw.1 in cc) (ended p n later complaint))
+        (λ (later : k ≤ p).
+        ⊎_elim (λ none. ⊎_elim (λ here. let wrong = here.1 in cc) (λ on. omega (arith, on.0, none.1)) want)
+        (λ flaw. let wrong = flaw.1 in cc) (ended p n later complaint))
         (cases_lt p k)
     told false None is want =
         let here : k ≡ 0 = ⊎_elim (λ here. here.0) (λ on. let wrong = on.1 in cc) want in
-        first_at _ NamesWant _ (refusal line from 0 (kind.Expected what.Name)) k before (inl (inr (refl, here, nil_from_length whole (sym all ∙ here), is))) want
+        first_at _ NamesWant _ (refusal line from 0 (kind.Expected what.Name)) k before
+        (inl (inr (refl, here, nil_from_length whole (sym all ∙ here), is))) want
         (sym (there ∙ ap (λ o. span_at line from [] o 0) is))
-        (λ n complaint. ⊎_elim (λ none. omega (arith, none.0)) (λ flaw. let wrong = flaw.1 in cc) (ended k n (omega arith) complaint))
+        (λ n complaint. ⊎_elim (λ none. omega (arith, none.0)) (λ flaw. let wrong = flaw.1 in cc)
+        (ended k n (omega arith) complaint))
     told some (Some s) is want =
-        first_at _ NamesWant _ (refused_by line s) k before (inr (s, is, all, flaw_numbered s.flaw)) (flaw_carries (NamesWant k) s.flaw)
+        first_at _ NamesWant _ (refused_by line s) k before (inr (s, is, all, flaw_numbered s.flaw))
+        (flaw_carries (NamesWant k) s.flaw)
         (sym (there ∙ ap (λ o. span_at line from [] o 0) is)) least
       where
         least : (n : ℕ) → NamesComplaint f d whole stop k n → refusal_number (kind_of_flaw s.flaw) ≤ n
-        least n (inl (inl (m, here, each_word, complaint))) = absurd (omega (arith, all, slice_get_within whole k m here))
+        least n (inl (inl (m, here, each_word, complaint))) =
+            absurd (omega (arith, all, slice_get_within whole k m here))
         least n (inl (inr (six, place, nothing, none))) = cc
         least n (inr (t, here, place, number)) = flaw_least s t n (sym is ∙ here) number
 judge_names f column d line first whole stop (w ∷ words) k from some now left names each want before =
-    told (name_step f column now some w.kind w.word) (subst (λ (t : List (List ℕ)). NameTells f column now t (length d.names + k) some w (name_step f column now some w.kind w.word)) names
-    (subst (λ (c : ℕ). NameTells f column now now.names c some w (name_step f column now some w.kind w.word)) count (name_tells f column now some w)))
-    (λ next on each_word none. judge_names f column d line first whole stop words (suc k) (w.column + length w.word) true next (left_next line first whole stop k from w words left) on each_word
+    let read = name_step f column now some w.kind w.word in
+    let counted = subst (λ (c : ℕ). NameTells f column now now.names c some w read) count (name_tells f column now some w) in
+    told read (subst (λ (t : List (List ℕ)). NameTells f column now t (length d.names + k) some w read) names counted)
+    (λ next on each_word none. judge_names f column d line first whole stop words (suc k)
+    (w.column + length w.word) true next (left_next line first whole stop k from w words left) on each_word
     (inr (omega arith, refl)) none)
   where
     is : slice_get whole k ≡ Some w
@@ -115,31 +144,44 @@ judge_names f column d line first whole stop (w ∷ words) k from some now left 
     taken = take-suc whole k w less ∙ ap (λ x. take k whole ++ x ∷ []) (get_or_from_slice_get whole k w w is)
 
     count : length now.names ≡ length d.names + k
-    count = ap length names ∙ length-append d.names (words_in (take k whole)) ∙ ap (λ n. length d.names + n) (length-map (take k whole) (λ (x : Mark). x.word) ∙ length-take-le k whole (omega (arith, less)))
+    count =
+        ap length names ∙ length-append d.names (words_in (take k whole)) ∙ ap (λ n. length d.names + n)
+        (length-map (take k whole) (λ (x : Mark). x.word) ∙ length-take-le k whole (omega (arith, less)))
 
     at_word : (n : ℕ) → NamesComplaint f d whole stop k n → NameComplaint f d whole k w n
-    at_word n (inl (inl (m, here, all, complaint))) = subst (λ (x : Mark). NameComplaint f d whole k x n) (let same : m ≡ w = cc (here, is) in same) complaint
+    at_word n (inl (inl (m, here, all, complaint))) =
+        subst (λ (x : Mark). NameComplaint f d whole k x n)
+        (let same : m ≡ w = cc (here, is) in same) complaint
     at_word n (inl (inr (six, place, nothing, none))) = absurd (omega (arith, less, ap length nothing))
     at_word n (inr (s, here, place, number)) = absurd (omega (arith, less))
 
-    told : (o : Result Declarations SchemaRefusalKind) → NameTells f column now (d.names ++ words_in (take k whole)) (length d.names + k) some w o
-        → ((next : Declarations) → next.names ≡ d.names ++ words_in (take (suc k) whole) → All (λ x. x.kind ≡ token.Word) (take (suc k) whole)
+    told : (o : Result Declarations SchemaRefusalKind)
+        → NameTells f column now (d.names ++ words_in (take k whole)) (length d.names + k) some w o
+        → ((next : Declarations) → next.names ≡ d.names ++ words_in (take (suc k) whole)
+        → All (λ x. x.kind ≡ token.Word) (take (suc k) whole)
         → ((p n : ℕ) → p < suc k → NamesComplaint f d whole stop p n → ⊥)
-        → Judged (NamesComplaint f d whole stop) NamesWant (span_at line first whole stop) (list_names f column line next true (w.column + length w.word) words stop))
         → Judged (NamesComplaint f d whole stop) NamesWant (span_at line first whole stop)
-        (and_then (at line w.column (length w.word) o) (λ next. list_names f column line next true (w.column + length w.word) words stop))
+        (list_names f column line next true (w.column + length w.word) words stop))
+        → Judged (NamesComplaint f d whole stop) NamesWant (span_at line first whole stop)
+        (and_then (at line w.column (length w.word) o)
+        (λ next. list_names f column line next true (w.column + length w.word) words stop))
     told (Ok next) (same, word, none) rest = rest next
-        (ap (λ x. x.names) same ∙ ap (λ t. t ++ w.word ∷ []) names ∙ append_assoc d.names (words_in (take k whole)) (w.word ∷ [])
-        ∙ ap (λ t. d.names ++ t) (sym (map-append (λ x. x.word) (take k whole) (w ∷ [])) ∙ ap words_in (sym taken)))
+        (ap (λ x. x.names) same ∙ ap (λ t. t ++ w.word ∷ []) names ∙ append_assoc d.names
+        (words_in (take k whole)) (w.word ∷ [])
+        ∙ ap (λ t. d.names ++ t)
+        (sym (map-append (λ x. x.word) (take k whole) (w ∷ [])) ∙ ap words_in (sym taken)))
         (rw taken (All-push (λ x. x.kind ≡ token.Word) (take k whole) w each word))
         (λ p n small complaint. elim (cases_order p k) [
-          | inl here ↦ none n (at_word n (subst (λ (q : ℕ). NamesComplaint f d whole stop q n) here complaint))
+          | inl here ↦ none n (at_word n
+              (subst (λ (q : ℕ). NamesComplaint f d whole stop q n) here complaint))
           | inr (inl earlier) ↦ before p n earlier complaint
           | inr (inr later) ↦ absurd (omega arith)
         ])
     told (Err why) (stands, least, carries) rest =
-        first_at _ NamesWant _ (refusal line w.column (length w.word) why) k before (inl (inl (w, is, each, stands)))
-        (Carries-map (λ x. x ≡ wanted some) (NamesWant k) (λ x same. subst (NamesWant k) (sym same) want) why carries)
+        first_at _ NamesWant _ (refusal line w.column (length w.word) why) k before
+        (inl (inl (w, is, each, stands)))
+        (Carries-map (λ x. x ≡ wanted some) (NamesWant k)
+        (λ x same. subst (NamesWant k) (sym same) want) why carries)
         (sym (left.spans 0 k (omega arith))) (λ n complaint. least n (at_word n complaint))
 
 -- a declaring line is refused by its first complaint, and read where there is none
@@ -147,9 +189,12 @@ pub names-law : (f : Format) (column : Column) (d : Declarations) (line next_col
     → FitsNames f d line next_column words stop (list_names f column line d false next_column words stop)
 names-law f column d line next_column words stop =
     fits (list_names f column line d false next_column words stop)
-    (judge_names f column d line next_column words stop words 0 next_column false d (left_whole line next_column words stop) (sym (append-nil d.names)) (All-nil (λ w. w.kind ≡ token.Word))
+    (judge_names f column d line next_column words stop words 0 next_column false d
+    (left_whole line next_column words stop) (sym (append-nil d.names)) (All-nil (λ w. w.kind ≡ token.Word))
     (inl (refl, refl)) (λ p n less. absurd (omega arith)))
   where
-    fits : (res : Result Declarations SchemaRefusal) → Judged (NamesComplaint f d words stop) NamesWant (span_at line next_column words stop) res → FitsNames f d line next_column words stop res
+    fits : (res : Result Declarations SchemaRefusal)
+        → Judged (NamesComplaint f d words stop) NamesWant (span_at line next_column words stop) res
+        → FitsNames f d line next_column words stop res
     fits (Ok whole) none = none
     fits (Err e) first = first

@@ -45,11 +45,16 @@ pub same_carried : (Wanted : What → Type 0) (e f : SchemaRefusal) → OneWant 
 same_carried Wanted e f = same_kind Wanted e.kind f.kind
 
 -- what reads or refuses by the first complaint, refuses by no other
-pub one_refused : {X : Type 0} (Fits : Result X SchemaRefusal → Type 0) (Complaint : ℕ → ℕ → Type 0) (Wanted : ℕ → What → Type 0) (span : ℕ → Span)
-    → ((x : X) → Fits (Ok x) → (p n : ℕ) → Complaint p n → ⊥) → ((g : SchemaRefusal) → Fits (Err g) → IsFirst Complaint Wanted span g)
-    → ((p : ℕ) → OneWant (Wanted p)) → (r : Result X SchemaRefusal) (e : SchemaRefusal) → Fits r → IsFirst Complaint Wanted span e → r ≡ Err e
-one_refused Fits Complaint Wanted span none other one (Ok x) e fits first = absurd (none x fits first.place (refusal_number e.kind) first.stands)
-one_refused Fits Complaint Wanted span none other one (Err g) e fits first = ap Err (one_first Complaint Wanted span g e one (other g fits) first)
+pub one_refused : {X : Type 0} (Fits : Result X SchemaRefusal → Type 0) (Complaint : ℕ → ℕ → Type 0)
+    (Wanted : ℕ → What → Type 0) (span : ℕ → Span)
+    → ((x : X) → Fits (Ok x) → (p n : ℕ) → Complaint p n → ⊥)
+    → ((g : SchemaRefusal) → Fits (Err g) → IsFirst Complaint Wanted span g)
+    → ((p : ℕ) → OneWant (Wanted p)) → (r : Result X SchemaRefusal) (e : SchemaRefusal) → Fits r
+    → IsFirst Complaint Wanted span e → r ≡ Err e
+one_refused Fits Complaint Wanted span none other one (Ok x) e fits first =
+    absurd (none x fits first.place (refusal_number e.kind) first.stands)
+one_refused Fits Complaint Wanted span none other one (Err g) e fits first =
+    ap Err (one_first Complaint Wanted span g e one (other g fits) first)
 
 -- ---- what is wanted
 abbrev wanted_after : Option Shape → Option What
@@ -61,7 +66,8 @@ wanted_at ks what.Side begins =
     let leads = begins_to (ks ++ token.Empty ∷ []) begins in
     told leads.shape (runs at_start ks) (sym (runs-append at_start ks (token.Empty ∷ [])) ∙ leads.leads)
   where
-    told : (last : Shape) (o : Option Shape) → bind o (λ t. runs t (token.Empty ∷ [])) ≡ Some last → wanted_after o ≡ Some what.Side
+    told : (last : Shape) (o : Option Shape) → bind o (λ t. runs t (token.Empty ∷ [])) ≡ Some last
+        → wanted_after o ≡ Some what.Side
     told last (Some at_start) e = refl
     told last (Some past_arrow) e = refl
     told last o e = cc
@@ -69,11 +75,13 @@ wanted_at ks what.Arrow begins =
     let leads = begins_to (ks ++ token.Arrow ∷ []) begins in
     told leads.shape (runs at_start ks) (sym (runs-append at_start ks (token.Arrow ∷ [])) ∙ leads.leads)
   where
-    told : (last : Shape) (o : Option Shape) → bind o (λ t. runs t (token.Arrow ∷ [])) ≡ Some last → wanted_after o ≡ Some what.Arrow
+    told : (last : Shape) (o : Option Shape) → bind o (λ t. runs t (token.Arrow ∷ [])) ≡ Some last
+        → wanted_after o ≡ Some what.Arrow
     told last (Some in_left) e = refl
     told last (Some past_empty) e = refl
     told last o e = cc
-wanted_at ks what.LineEnd line = let ends = line_ends ks line in ap wanted_after ends.leads ∙ told ends.last ends.final
+wanted_at ks what.LineEnd line =
+    let ends = line_ends ks line in ap wanted_after ends.leads ∙ told ends.last ends.final
   where
     told : (s : Shape) → is_final s ≡ true → Some (wanted_by s) ≡ Some what.LineEnd
     told in_right final = refl
@@ -89,8 +97,10 @@ one_at_first first place w v one other = grind arith
 
 pub one_text_line : (f : Format) (ms : List Mark) (p : ℕ) → OneWant (TextLineWants f ms p)
 one_text_line f [] p w v h g = absurd h
-one_text_line f (m ∷ ms) p w v h g = (elim (declares f m.kind m.word) as (λ o. HeadWants m ms o p w → HeadWants m ms o p v → w ≡ v) [
-  | Some column ↦ λ (later, is, one) (other, again, two).
-      one_at_first what.Name later w v one (let same : other ≡ later = omega arith in subst (λ (k : ℕ). NamesWant k v) same two)
-  | None ↦ λ one two. one_want (take p (kinds (m ∷ ms))) w v one two
-]) h g
+one_text_line f (m ∷ ms) p w v h g =
+    (elim (declares f m.kind m.word) as (λ o. HeadWants m ms o p w → HeadWants m ms o p v → w ≡ v) [
+      | Some column ↦ λ (later, is, one) (other, again, two).
+          one_at_first what.Name later w v one
+          (let same : other ≡ later = omega arith in subst (λ (k : ℕ). NamesWant k v) same two)
+      | None ↦ λ one two. one_want (take p (kinds (m ∷ ms))) w v one two
+    ]) h g

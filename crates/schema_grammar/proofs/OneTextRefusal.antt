@@ -23,7 +23,8 @@ use Rattle.schema_grammar.proofs.TextLaws.{version-law, schema_refused}
 use Rattle.schema_grammar.proofs.SchemaLaws.{plain_opening, typed_opening, version_opening}
 
 -- lines are refused so where the definition refuses them so
-lines_refused : (f : Format) (first : ℕ) (d : Declarations) (lines : List (List ℕ)) (e : SchemaRefusal) → RefusesLines f first d lines e
+lines_refused : (f : Format) (first : ℕ) (d : Declarations) (lines : List (List ℕ)) (e : SchemaRefusal)
+    → RefusesLines f first d lines e
     → read_lines f first d lines ≡ Err e
 unfolding read_lines finish
 lines_refused f first d lines e (inl found) =
@@ -31,28 +32,33 @@ lines_refused f first d lines e (inl found) =
     let marks = (lex mode.Plain stands.line).marks in
     let stop = (lex mode.Plain stands.line).stop in
     let number = first + length stands.before in
-    let on_line : IsFirst (TextLineComplaint f stands.declared marks stop) (TextLineWants f marks) (span_at number 1 marks stop) e = record {
+    let on_line : IsFirst (TextLineComplaint f stands.declared marks stop) (TextLineWants f marks)
+    (span_at number 1 marks stop) e = record {
       place = found.place;
       stands = stands.complaint;
       carries = found.carries;
       there = found.there ∙ ap (λ k. span_at k 1 marks stop found.place) stands.stands_on;
-      least = λ p n complaint. ⊎_elim (λ less. absurd (omega arith)) (λ here. here.1) (found.least e.span.line p n (record {
-        before = stands.before;
-        line = stands.line;
-        after = stands.after;
-        declared = stands.declared;
-        cut = stands.cut;
-        means = stands.means;
-        stands_on = stands.stands_on;
-        complaint = complaint;
-      }));
+      least = λ p n complaint. ⊎_elim (λ less. absurd (omega arith)) (λ here. here.1)
+          (found.least e.span.line p n (record {
+            before = stands.before;
+            line = stands.line;
+            after = stands.after;
+            declared = stands.declared;
+            cut = stands.cut;
+            means = stands.means;
+            stands_on = stands.stands_on;
+            complaint = complaint;
+          }));
     } in
     let refused : read_line f number stands.declared stands.line ≡ Err e =
-    one_refused (FitsTextLine f stands.declared number marks stop) _ _ _ (λ x none. none) (λ g first. first) (one_text_line f marks) _ e
+    one_refused (FitsTextLine f stands.declared number marks stop) _ _ _ (λ x none. none) (λ g first. first)
+    (one_text_line f marks) _ e
     (line-law f number stands.declared stands.line) on_line in
-    ap (read_lines f first d) stands.cut ∙ before_read f first d stands.before (stands.line ∷ stands.after) stands.declared stands.means ∙ rw refused refl
+    ap (read_lines f first d) stands.cut ∙ before_read f first d stands.before
+    (stands.line ∷ stands.after) stands.declared stands.means ∙ rw refused refl
 lines_refused f first d lines e (inr empty) =
-    ap (read_lines f first d) (sym (append-nil lines)) ∙ before_read f first d lines [] empty.whole empty.means
+    ap (read_lines f first d) (sym (append-nil lines))
+    ∙ before_read f first d lines [] empty.whole empty.means
     ∙ rw empty.nothing (ap Err (sym empty.at_the_end))
 
 pub schema-refusal-law : (text : List ℕ) (e : SchemaRefusal) → (read_text text ≡ Err e) ↔ RefusesSchema text e
@@ -63,11 +69,15 @@ schema-refusal-law text e = (schema_refused text e, back)
     lines = line_texts (without_mark text)
 
     back : RefusesText 1 lines e → read_opening 1 lines ≡ Err e
-    back (inl (none, refuses)) = plain_opening 1 lines none ∙ lines_refused format.Plain 1 no_declaration lines e refuses
+    back (inl (none, refuses)) =
+        plain_opening 1 lines none ∙ lines_refused format.Plain 1 no_declaration lines e refuses
     back (inr (has, inl first)) =
-        let refused = one_refused (FitsVersion (length has.before + 1) (has.head.column + length has.head.word) has.others (lex mode.Numbered has.version).stop) _ _ _
+        let refused = one_refused
+        (FitsVersion (length has.before + 1) (has.head.column + length has.head.word) has.others
+        (lex mode.Numbered has.version).stop) _ _ _
         (λ x none. none) (λ g first. first) (one_at_first what.Number) _ e (version-law _ _ _ _) first in
-        typed_opening 1 lines has ∙ ap (λ r. and_then r (λ d. read_lines format.Typed (length has.before + 1 + 1) d has.later)) refused
+        typed_opening 1 lines has
+        ∙ ap (λ r. and_then r (λ d. read_lines format.Typed (length has.before + 1 + 1) d has.later)) refused
     back (inr (has, inr (is, refuses))) =
         version_opening 1 lines has.before has.version has.later has.cut has.blank is
         ∙ lines_refused format.Typed (length has.before + 1 + 1) no_declaration has.later e refuses
@@ -76,5 +86,6 @@ pub goal-refusal-law : (declared : List (List ℕ)) (text : List ℕ) (e : Schem
 goal-refusal-law declared text e = (
   goal_refused declared text e,
   λ first.
-      one_refused (FitsGoal declared text) _ _ _ (λ x none. none) (λ g first. first) (λ p. one_want _) _ e (goal-complaint-law declared text) first,
+      one_refused (FitsGoal declared text) _ _ _ (λ x none. none) (λ g first. first) (λ p. one_want _) _ e
+      (goal-complaint-law declared text) first,
 )

@@ -31,7 +31,8 @@ led_marks (m ∷ ms) l = ap (led_by_mark m) (led_marks ms l)
 pub nothing_left : (m : Mode) (column : ℕ) → lexed m 0 column [] ≡ record { marks = []; stop = None }
 nothing_left m column = at_end m column [] refl
 
-last_side : (m : Mode) (column : ℕ) (words : List (List ℕ)) → AllNames words → lexed m 0 column (side_text words) ≡ record { marks = side_marks column words; stop = None }
+pub last_side : (m : Mode) (column : ℕ) (words : List (List ℕ)) → AllNames words
+    → lexed m 0 column (side_text words) ≡ record { marks = side_marks column words; stop = None }
 last_side m column words names =
     ap (lexed m 0 column) (sym (append-nil (side_text words))) ∙ side_lexed m column words [] names tt
     ∙ ap (led_by_marks (side_marks column words)) (nothing_left m (side_end column words)) ∙ led_marks (side_marks column words) _
@@ -44,32 +45,39 @@ sign_text sign.Multivalued = codes " ->> "
 
 abbrev sign_mark : Sign → ℕ → Mark
 sign_mark sign.Functional column = record { kind = token.Arrow; column = column; word = 45 ∷ 62 ∷ [] }
-sign_mark sign.Multivalued column = record { kind = token.DoubleArrow; column = column; word = 45 ∷ 62 ∷ 62 ∷ [] }
+sign_mark sign.Multivalued column =
+    record { kind = token.DoubleArrow; column = column; word = 45 ∷ 62 ∷ 62 ∷ [] }
 
 abbrev right_column : Sign → List (List ℕ) → ℕ
 right_column sign.Functional left = side_end 1 left + 1 + 2 + 1
 right_column sign.Multivalued left = side_end 1 left + 1 + 3 + 1
 
 abbrev sides_marks : Sign → List (List ℕ) → List (List ℕ) → List Mark
-sides_marks s left right = side_marks 1 left ++ sign_mark s (side_end 1 left + 1) ∷ side_marks (right_column s left) right
+sides_marks s left right =
+    side_marks 1 left ++ sign_mark s (side_end 1 left + 1) ∷ side_marks (right_column s left) right
 
 sides_lexed : (s : Sign) (left right : List (List ℕ)) → AllNames left → AllNames right
-    → HasTokens (lex mode.Plain ((side_text left ++ sign_text s) ++ side_text right)) (sides_marks s left right)
+    → HasTokens (lex mode.Plain ((side_text left ++ sign_text s) ++ side_text right))
+    (sides_marks s left right)
 sides_lexed s left right left_names right_names =
     ap (lexed mode.Plain 0 1) (append_assoc (side_text left) (sign_text s) (side_text right))
     ∙ side_lexed mode.Plain 1 left (sign_text s ++ side_text right) left_names
-    (elim s as (λ s. Apart (sign_text s ++ side_text right)) [ sign.Functional ↦ refl | sign.Multivalued ↦ refl ])
-    ∙ ap (led_by_marks (side_marks 1 left)) (sign_lexed s ∙ ap (led_by_mark (sign_mark s (side_end 1 left + 1))) (last_side mode.Plain (right_column s left) right right_names))
+    (elim s as (λ s. Apart (sign_text s ++ side_text right)) [ sign.Functional ↦ refl | _ ↦ refl ])
+    ∙ ap (led_by_marks (side_marks 1 left))
+    (sign_lexed s ∙ ap (led_by_mark (sign_mark s (side_end 1 left + 1)))
+    (last_side mode.Plain (right_column s left) right right_names))
     ∙ led_marks (side_marks 1 left) _
   where
     sign_lexed : (s : Sign) → lexed mode.Plain 0 (side_end 1 left) (sign_text s ++ side_text right)
-        ≡ led_by_mark (sign_mark s (side_end 1 left + 1)) (lexed mode.Plain 0 (right_column s left) (side_text right))
+        ≡ led_by_mark (sign_mark s (side_end 1 left + 1))
+        (lexed mode.Plain 0 (right_column s left) (side_text right))
     sign_lexed sign.Functional = arrow_lexed mode.Plain (side_end 1 left) (side_text right)
     sign_lexed sign.Multivalued = double_arrow_lexed mode.Plain (side_end 1 left) (side_text right)
 
 reserved_word : (f : Format) (word key : List ℕ) → bytes_eq word key ≡ true → is_reserved f key ≡ true → is_reserved f word ≡ false → ⊥
 reserved_word f word key same reserved free =
-    let wrong : true ≡ false = sym reserved ∙ ap (is_reserved f) (sym ((bytes_eq-Decides word key).0 same)) ∙ free in cc
+    let wrong : true ≡ false = sym reserved ∙ ap (is_reserved f) (sym ((bytes_eq-Decides word key).0 same))
+    ∙ free in cc
 
 -- a word that is not reserved declares nothing
 free_declares : (f : Format) (word : List ℕ) → is_reserved f word ≡ false → declaring f word ≡ None
@@ -104,36 +112,44 @@ record Heads (f : Format) (ms : List Mark) : Type 0 where
   whole : ms ≡ head ∷ others
   stating : declares f head.kind head.word ≡ None
 
-side_heads : (f : Format) (names : List (List ℕ)) (column : ℕ) (words : List (List ℕ)) → EachKnown f names words → Heads f (side_marks column words)
+side_heads : (f : Format) (names : List (List ℕ)) (column : ℕ) (words : List (List ℕ))
+    → EachKnown f names words → Heads f (side_marks column words)
 unfolding declares
 side_heads f names column [] known = record { head = _; others = _; whole = refl; stating = refl }
-side_heads f names column (word ∷ words) (here, rest) = record { head = _; others = _; whole = refl; stating = free_declares f word here.1.free }
+side_heads f names column (word ∷ words) (here, rest) =
+    record { head = _; others = _; whole = refl; stating = free_declares f word here.1.free }
 
-printed_sides : (f : Format) (names : List (List ℕ)) (s : Sign) (x y : Places) → AreNames f names → Within x (below (length names)) → Within y (below (length names))
+printed_sides : (f : Format) (names : List (List ℕ)) (s : Sign) (x y : Places) → AreNames f names
+    → Within x (below (length names)) → Within y (below (length names))
     → PrintsLine f names ((set_text names x ++ sign_text s) ++ set_text names y) (stated s x y)
 unfolding set_text
 printed_sides f names s x y are left right =
-    let heads = side_heads f names 1 (members_from x 0 names) (members_known f x names [] names 0 are (record { whole = refl; size = refl })) in
-    let rest = sign_mark s (side_end 1 (members_from x 0 names) + 1) ∷ side_marks (right_column s (members_from x 0 names)) (members_from y 0 names) in
+    let column = side_end 1 (members_from x 0 names) + 1 in
+    let heads = side_heads f names 1 (members_from x 0 names)
+    (members_known f x names [] names 0 are (record { whole = refl; size = refl })) in
+    let rest = sign_mark s column ∷ side_marks
+    (right_column s (members_from x 0 names)) (members_from y 0 names) in
     record {
       head = heads.head;
       others = heads.others ++ rest;
-      tokens = sides_lexed s (members_from x 0 names) (members_from y 0 names) (printed_names f names x are) (printed_names f names y are)
+      tokens = sides_lexed s (members_from x 0 names) (members_from y 0 names) (printed_names f names x are)
+          (printed_names f names y are)
           ∙ ap (λ ms. record { marks = ms ++ rest; stop = None }) heads.whole;
       stating = heads.stating;
-      dependency = subst (λ (ms : List Mark). IsDependency f names ms (stated s x y)) (ap (λ ms. ms ++ rest) heads.whole) (record {
-        lhs = side_marks 1 (members_from x 0 names);
-        arrow = sign_mark s (side_end 1 (members_from x 0 names) + 1);
-        rhs = side_marks (right_column s (members_from x 0 names)) (members_from y 0 names);
-        x = x;
-        y = y;
-        sign = s;
-        whole = refl;
-        left_side = printed_side f names x 1 are left;
-        is_arrow = elim s as (λ s. IsArrow s (sign_mark s (side_end 1 (members_from x 0 names) + 1)).kind) [ sign.Functional ↦ refl | sign.Multivalued ↦ refl ];
-        right_side = printed_side f names y (right_column s (members_from x 0 names)) are right;
-        states = refl;
-      });
+      dependency = subst (λ (ms : List Mark). IsDependency f names ms (stated s x y))
+          (ap (λ ms. ms ++ rest) heads.whole) (record {
+            lhs = side_marks 1 (members_from x 0 names);
+            arrow = sign_mark s column;
+            rhs = side_marks (right_column s (members_from x 0 names)) (members_from y 0 names);
+            x = x;
+            y = y;
+            sign = s;
+            whole = refl;
+            left_side = printed_side f names x 1 are left;
+            is_arrow = elim s as (λ s. IsArrow s (sign_mark s column).kind) [ sign.Functional ↦ refl | _ ↦ refl ];
+            right_side = printed_side f names y (right_column s (members_from x 0 names)) are right;
+            states = refl;
+          });
     }
 
 pub printed_line : (f : Format) (names : List (List ℕ)) (d : Dependency) → AreNames f names → IsWithin (below (length names)) d → PrintsLine f names (dependency_text names d) d

@@ -1,5 +1,5 @@
 -- What is printed of a schema means it.
-use Rattle.std.proofs.Common.{◌≡◌, ◌<◌, ◌≤◌, ◌+◌, inl, inr, ℕ, suc, Bool, true, false, cond, List, [], ◌∷◌, ◌++◌, length, get_or, None, Some, refl, sym, ◌∙◌, ap, subst, arith, append_assoc, length-append}
+use Rattle.std.proofs.Common.{◌≡◌, ◌<◌, ◌≤◌, ◌+◌, inl, inr, ℕ, suc, Bool, true, false, cond, List, [], ◌∷◌, ◌++◌, length, get_or, Some, refl, sym, ◌∙◌, ap, subst, arith, append_assoc, length-append}
 use Rattle.std.specs.Prelude.{codes, map}
 use Rattle.std.specs.List.{list_any, flat_map, Contains}
 use Rattle.std.proofs.lemmas.Bool.{cases_Bool}
@@ -20,7 +20,7 @@ use Rattle.lexer.specs.declared.token.TokenKind.TheVariants as token
 use Rattle.lexer.specs.Bytes.{is_number}
 use Rattle.lexer.specs.Lines.{line_texts, without_mark}
 use Rattle.lexer.specs.Pieces.{front, run_piece}
-use Rattle.lexer.specs.Tokens.{lex, lexed, led_by_mark}
+use Rattle.lexer.specs.Tokens.{lex, led_by_mark}
 use Rattle.lexer.proofs.Steps.{at_token}
 use Rattle.schema_grammar.specs.declared.format.Format.{Format}
 use Rattle.schema_grammar.specs.declared.format.Format.TheVariants as format
@@ -31,50 +31,54 @@ use Rattle.schema_grammar.specs.Schemas.{DeclareNames, MeansTextLine, MeansLines
 use Rattle.schema_grammar.specs.Texts.{is_version}
 use Rattle.schema_grammar.specs.Words.{is_reserved, declares, declaring}
 use Rattle.schema_grammar.specs.Printed.{AreNames, IsPrintable}
-use Rattle.schema_grammar.proofs.PrintedLexing.{AllNames, Apart, word_marks, words_end, led_by_marks, words_lexed, name_lexed, blank_lexed}
-use Rattle.schema_grammar.proofs.PrintedDependencies.{led_marks, nothing_left}
+use Rattle.schema_grammar.proofs.PrintedLexing.{AllNames, Apart, word_marks, name_lexed, blank_lexed}
+use Rattle.schema_grammar.proofs.PrintedDependencies.{last_side, nothing_left}
 use Rattle.schema_grammar.proofs.PrintedSides.{known_at, differ_before, IsCutAt, cut_more}
 use Rattle.schema_grammar.proofs.PrintedTexts.{Bytes, bytes_both, words_bytes, EachBytes, lines_cut, numbers, dependencies_mean, each_dependency, none_found}
 
 -- a word, and words each after a blank
 pub word_line : (word : List ℕ) (words : List (List ℕ)) → is_name word ≡ true → AllNames words
     → HasTokens (lex mode.Plain (word ++ words_text words)) (record { kind = token.Word; column = 1; word = word } ∷ word_marks (1 + length word) words)
-word_line word words proper names =
-    name_lexed mode.Plain 1 word (words_text words) proper (elim words as (λ ws. Apart (words_text ws)) [ [] ↦ tt | w ∷ ws ↦ refl ])
-    ∙ ap (led_by_mark (record { kind = token.Word; column = 1; word = word }))
-    (ap (lexed mode.Plain 0 (1 + length word)) (sym (append-nil (words_text words))) ∙ words_lexed mode.Plain (1 + length word) words [] names tt
-    ∙ ap (led_by_marks (word_marks (1 + length word) words)) (nothing_left mode.Plain (words_end (1 + length word) words)) ∙ led_marks (word_marks (1 + length word) words) _
-    ∙ ap (λ ms. record { marks = ms; stop = None }) (append-nil (word_marks (1 + length word) words)))
+word_line word words proper names = last_side mode.Plain 1 (word ∷ words) (proper, names)
 
-front_proper : (f : Format) (names before words rest : List (List ℕ)) (place : ℕ) → AreNames f names → IsCutAt names before (words ++ rest) place → AllNames words
+front_proper : (f : Format) (names before words rest : List (List ℕ)) (place : ℕ) → AreNames f names
+    → IsCutAt names before (words ++ rest) place → AllNames words
 front_proper f names before [] rest place are cut = tt
 front_proper f names before (word ∷ words) rest place are cut = (
   (known_at f names before word (words ++ rest) place are cut).proper,
-  front_proper f names (before ++ word ∷ []) words rest (place + 1) are (cut_more names before word (words ++ rest) place cut),
+  front_proper f names (before ++ word ∷ []) words rest (place + 1) are
+      (cut_more names before word (words ++ rest) place cut),
 )
 
 all_names : (f : Format) (names : List (List ℕ)) → AreNames f names → AllNames names
-all_names f names are = front_proper f names [] names [] 0 are (record { whole = sym (append-nil names); size = refl })
+all_names f names are =
+    front_proper f names [] names [] 0 are (record { whole = sym (append-nil names); size = refl })
 
 abbrev with_names : Declarations → List (List ℕ) → Column → Declarations
 with_names d words column = record { names = d.names ++ words; columns = d.columns ++ map (λ w. column) words; deps = d.deps; lines = d.lines }
 
 -- words in front of others are declared one by one
-declare_front : (f : Format) (column : Column) (d : Declarations) (names words rest : List (List ℕ)) (at place : ℕ) → AreNames f names → IsCutAt names d.names (words ++ rest) place
+declare_front : (f : Format) (column : Column) (d : Declarations) (names words rest : List (List ℕ))
+    (at place : ℕ) → AreNames f names → IsCutAt names d.names (words ++ rest) place
     → length names ≤ PLACES → DeclareNames f column d (word_marks at words) (with_names d words column)
-declare_front f column d names [] rest at place are cut few = λ i. record { names = append-nil d.names i; columns = append-nil d.columns i; deps = d.deps; lines = d.lines }
+declare_front f column d names [] rest at place are cut few =
+    λ i. record { names = append-nil d.names i; columns = append-nil d.columns i; deps = d.deps; lines = d.lines }
 declare_front f column d names (word ∷ words) rest at place are cut few =
     let known = known_at f names d.names word (words ++ rest) place are cut in
     let size : length names ≡ length d.names + suc (length (words ++ rest)) = ap length cut.whole ∙ length-append d.names (word ∷ words ++ rest) in
-    let more = declare_front f column (add_name d word column) names words rest (at + 1 + length word) (place + 1) are (cut_more names d.names word (words ++ rest) place cut) few in
+    let more = declare_front f column (add_name d word column) names words rest (at + 1 + length word)
+    (place + 1) are (cut_more names d.names word (words ++ rest) place cut) few in
     let same : with_names (add_name d word column) words column ≡ with_names d (word ∷ words) column =
     (λ i. record { names = append_assoc d.names (word ∷ []) words i; columns = append_assoc d.columns (column ∷ []) (map (λ w. column) words) i; deps = d.deps; lines = d.lines }) in
     let of : Declarations → Type 0 = λ w. DeclareNames f column (add_name d word column) (word_marks (at + 1 + length word) words) w in
-    (record { word = refl; free = known.free; new = none_found d.names word (differ_before f names d.names word (words ++ rest) are cut.whole); room = omega arith }, subst of same more)
+    let new = none_found d.names word (differ_before f names d.names word (words ++ rest) are cut.whole) in
+    (record { word = refl; free = known.free; new = new; room = omega arith }, subst of same more)
 
 -- a declaring line as it is printed
-declaring_mean : (f : Format) (column : Column) (number : ℕ) (d : Declarations) (key : List ℕ) (names words rest : List (List ℕ)) (place : ℕ) → AreNames f names
-    → IsCutAt names d.names (words ++ rest) place → length names ≤ PLACES → 0 < length words → is_name key ≡ true → declares f token.Word key ≡ Some column
+declaring_mean : (f : Format) (column : Column) (number : ℕ) (d : Declarations) (key : List ℕ)
+    (names words rest : List (List ℕ)) (place : ℕ) → AreNames f names
+    → IsCutAt names d.names (words ++ rest) place → length names ≤ PLACES → 0 < length words
+    → is_name key ≡ true → declares f token.Word key ≡ Some column
     → MeansTextLine f number d (key ++ words_text words) (with_names d words column)
 declaring_mean f column number d key names words rest place are cut few some proper is =
     inl (inr (record {
@@ -83,7 +87,12 @@ declaring_mean f column number d key names words rest place are cut few some pro
       column = column;
       tokens = word_line key words proper (front_proper f names d.names words rest place are cut);
       declaring = is;
-      some = (elim words as (λ ws. 0 < length ws → 0 < length (word_marks (1 + length key) ws)) [ [] ↦ λ h. h | w ∷ ws ↦ λ h. omega arith ]) some;
+      some = (elim words as
+          (λ ws. 0 < length ws → 0 < length (word_marks (1 + length key) ws)) [
+            | [] ↦ λ h. h
+            | w ∷ ws ↦
+                λ h. omega arith
+          ]) some;
       names = declare_front f column d names words rest (1 + length key) place are cut few;
     }))
 
@@ -98,17 +107,6 @@ all_text (Integer ∷ columns) (name ∷ names) e none = cc
 -- the declarations that a printed text means
 abbrev declared : List Column → List (List ℕ) → List Dependency → ℕ → Declarations
 declared columns names deps number = record { names = names; columns = columns; deps = deps; lines = numbers number deps }
-
-plain_lines : (columns : List Column) (names : List (List ℕ)) (deps : List Dependency) → IsPrintable columns names deps → list_any is_integer columns ≡ false
-    → MeansLines format.Plain 1 no_declaration ((codes "attributes" ++ words_text names) ∷ (map (dependency_text names) deps ++ [] ∷ [])) (declared columns names deps 2)
-unfolding declares declaring
-plain_lines columns names deps is none =
-    let cut : IsCutAt names [] (names ++ []) 0 = record { whole = sym (append-nil names); size = refl } in
-    let first = declaring_mean format.Plain Text 1 no_declaration (codes "attributes") names names [] 0 is.are_names cut is.few is.some refl refl in
-    let types : map (λ (w : List ℕ). Text) names ≡ columns = all_text columns names is.are_columns.one_each none in
-    let rest = dependencies_mean format.Plain 2 (with_names no_declaration names Text) deps is.are_names is.within (let few = is.few_deps in omega arith) in
-    let of : List Column → Type 0 = λ cs. MeansLines format.Plain 2 (with_names no_declaration names Text) (map (dependency_text names) deps ++ [] ∷ []) (declared cs names deps 2) in
-    (with_names no_declaration names Text, first, subst of types rest)
 
 -- runs of attributes
 abbrev run_names : List Run → List (List ℕ)
@@ -127,9 +125,15 @@ record AreRuns (runs : List Run) (columns : List Column) (names : List (List ℕ
   columns_are : run_columns runs ≡ columns
   some : EachSome runs
 
-front_runs : (c : Column) (name : List ℕ) (runs : List Run) (columns : List Column) (names : List (List ℕ)) → AreRuns runs columns names
+front_runs : (c : Column) (name : List ℕ) (runs : List Run) (columns : List Column) (names : List (List ℕ))
+    → AreRuns runs columns names
     → AreRuns (in_front c name runs) (c ∷ columns) (name ∷ names)
-front_runs c name [] columns names are = record { names_are = ap (λ t. name ∷ t) are.names_are; columns_are = ap (λ t. c ∷ t) are.columns_are; some = (omega arith, tt) }
+front_runs c name [] columns names are =
+    record {
+      names_are = ap (λ t. name ∷ t) are.names_are;
+      columns_are = ap (λ t. c ∷ t) are.columns_are;
+      some = (omega arith, tt);
+    }
 front_runs c name (r ∷ rs) columns names are = told (same_column c r.column) refl
   where
     same_type : (a b : Column) → same_column a b ≡ true → a ≡ b
@@ -138,19 +142,29 @@ front_runs c name (r ∷ rs) columns names are = told (same_column c r.column) r
     same_type a b e = cc
 
     told : (b : Bool) → same_column c r.column ≡ b
-        → AreRuns (cond b (record { column = c; names = name ∷ r.names } ∷ rs) (record { column = c; names = name ∷ [] } ∷ r ∷ rs)) (c ∷ columns) (name ∷ names)
+        → AreRuns (cond b (record { column = c; names = name ∷ r.names } ∷ rs)
+        (record { column = c; names = name ∷ [] } ∷ r ∷ rs)) (c ∷ columns) (name ∷ names)
     told true e = record {
       names_are = ap (λ t. name ∷ t) are.names_are;
-      columns_are = ap (λ k. (c ∷ map (λ (w : List ℕ). k) r.names) ++ run_columns rs) (same_type c r.column e) ∙ ap (λ t. c ∷ t) are.columns_are;
+      columns_are = ap (λ k. (c ∷ map (λ (w : List ℕ). k) r.names) ++ run_columns rs) (same_type c r.column e)
+          ∙ ap (λ t. c ∷ t) are.columns_are;
       some = (omega arith, are.some.1);
     }
-    told false e = record { names_are = ap (λ t. name ∷ t) are.names_are; columns_are = ap (λ t. c ∷ t) are.columns_are; some = (omega arith, are.some) }
+    told false e =
+        record {
+          names_are = ap (λ t. name ∷ t) are.names_are;
+          columns_are = ap
+              (λ t. c ∷ t) are.columns_are;
+          some = (omega arith, are.some);
+        }
 
-are_runs : (columns : List Column) (names : List (List ℕ)) → length columns ≡ length names → AreRuns (runs_of columns names) columns names
+are_runs : (columns : List Column) (names : List (List ℕ)) → length columns ≡ length names
+    → AreRuns (runs_of columns names) columns names
 are_runs [] [] e = record { names_are = refl; columns_are = refl; some = tt }
 are_runs [] (name ∷ names) e = absurd (omega arith)
 are_runs (column ∷ columns) [] e = absurd (omega arith)
-are_runs (column ∷ columns) (name ∷ names) e = front_runs column name (runs_of columns names) columns names (are_runs columns names (omega arith))
+are_runs (column ∷ columns) (name ∷ names) e =
+    front_runs column name (runs_of columns names) columns names (are_runs columns names (omega arith))
 
 -- after runs that are printed line by line
 abbrev with_runs : Declarations → List Run → Declarations
@@ -174,11 +188,16 @@ runs_mean number d names (r ∷ runs) lines whole place are cut few (here, some)
     let of : Declarations → Type 0 = λ e. MeansLines format.Typed (number + suc (length runs)) e lines whole in
     let of_n : ℕ → Type 0 = λ n. MeansLines format.Typed n (with_runs next runs) lines whole in
     let proper = elim (r.column) as (λ c. is_name (type_word c) ≡ true) [ Text ↦ refl | Integer ↦ refl ] in
-    let declares_it = elim (r.column) as (λ c. declares format.Typed token.Word (type_word c) ≡ Some c) [ Text ↦ refl | Integer ↦ refl ] in (
+    let declares_it = elim (r.column) as
+    (λ c. declares format.Typed token.Word (type_word c) ≡ Some c) [ Text ↦ refl | Integer ↦ refl ] in (
       next,
-      declaring_mean format.Typed r.column number d (type_word r.column) names r.names (run_names runs) place are cut few here proper declares_it,
+      declaring_mean format.Typed r.column number d (type_word r.column) names r.names
+          (run_names runs) place are cut few here proper declares_it,
       runs_mean (number + 1) next names runs lines whole (place + length r.names) are
-          (record { whole = cut.whole ∙ sym (append_assoc d.names r.names (run_names runs)); size = length-append d.names r.names ∙ ap (λ k. k + length r.names) cut.size })
+          (record {
+            whole = cut.whole ∙ sym (append_assoc d.names r.names (run_names runs));
+            size = length-append d.names r.names ∙ ap (λ k. k + length r.names) cut.size;
+          })
           few some (subst of_n later (subst of same rest)),
     )
 
@@ -194,7 +213,8 @@ typed_names columns names deps is some = record {
     has : Contains columns Integer
     has =
         let any = Any-from_list_any is_integer columns some in
-        let is_one : any.1 ≡ Integer = (elim (any.1) as (λ c. is_integer c ≡ true → c ≡ Integer) [ Text ↦ λ e. cc | Integer ↦ λ e. refl ]) any.4 in
+        let is_one : any.1 ≡ Integer = (elim (any.1) as
+        (λ c. is_integer c ≡ true → c ≡ Integer) [ Text ↦ λ e. cc | Integer ↦ λ e. refl ]) any.4 in
         (any.0, any.2, ap (get_or columns any.0) (sym is_one) ∙ any.3 ∙ is_one)
 
 version_line : IsVersionLine (codes "version 2")
@@ -205,8 +225,10 @@ version_line = record {
   tokens =
       name_lexed mode.Numbered 1 (codes "version") (32 ∷ 50 ∷ []) refl refl
       ∙ ap (led_by_mark (record { kind = token.Word; column = 1; word = codes "version" }))
-      (blank_lexed mode.Numbered 8 (50 ∷ []) ∙ at_token mode.Numbered 9 (50 ∷ []) (token.Number 2) 1 (omega arith) refl
-      ∙ ap (led_by_mark (record { kind = token.Number 2; column = 9; word = 50 ∷ [] })) (nothing_left mode.Numbered 10));
+      (blank_lexed mode.Numbered 8 (50 ∷ []) ∙ at_token mode.Numbered 9 (50 ∷ []) (token.Number 2) 1
+      (omega arith) refl
+      ∙ ap (led_by_mark (record { kind = token.Number 2; column = 9; word = 50 ∷ [] }))
+      (nothing_left mode.Numbered 10));
   is_word = refl;
   is_number = refl;
 }
@@ -223,8 +245,11 @@ runs_bytes : (runs : List Run) → AllNames (run_names runs) → EachBytes (map 
 runs_bytes [] names = tt
 runs_bytes (r ∷ rs) names =
     let parts = split_names r.names (run_names rs) names in
-    let word = elim (r.column) as (λ c. Bytes (type_word c)) [ Text ↦ refl | Integer ↦ refl ] in
-    (bytes_both (type_word r.column) (words_text r.names) word (words_bytes r.names parts.0), runs_bytes rs parts.1)
+    let word = elim (r.column) as (λ c. Bytes (type_word c)) [ Text ↦ refl | Integer ↦ refl ] in (
+      bytes_both (type_word r.column) (words_text r.names) word
+          (words_bytes r.names parts.0),
+      runs_bytes rs parts.1,
+    )
 
 -- a printed text is cut into its lines and an empty one
 text_cut : (columns : List Column) (names : List (List ℕ)) (deps : List Dependency) → EachBytes (declaring_lines columns names) → AreNames format.Plain names
@@ -235,23 +260,44 @@ text_cut columns names deps each are =
     ∙ append_assoc (declaring_lines columns names) (map (dependency_text names) deps) ([] ∷ [])
 
 abbrev Means : List Column → List (List ℕ) → List Dependency → Type 0
-Means columns names deps = (lines : List ℕ) × MeansSchema (declared_text columns names deps) (record { names = names; columns = columns; deps = deps; lines = lines })
+Means columns names deps =
+    (lines : List ℕ) × MeansSchema (declared_text columns names deps)
+    (record { names = names; columns = columns; deps = deps; lines = lines })
 
-plain_version : (names later : List (List ℕ)) → has_version_line ((codes "attributes" ++ words_text names) ∷ later) ≡ false
-unfolding has_version_line is_version
-plain_version names later = rw (name_lexed mode.Numbered 1 (codes "attributes") (words_text names) refl (elim names as (λ ws. Apart (words_text ws)) [ [] ↦ tt | w ∷ ws ↦ refl ])) refl
-
-plain_means : (columns : List Column) (names : List (List ℕ)) (deps : List Dependency) → IsPrintable columns names deps → list_any is_integer columns ≡ false → Means columns names deps
-unfolding declaring_lines declared_text
+plain_means : (columns : List Column) (names : List (List ℕ)) (deps : List Dependency)
+    → IsPrintable columns names deps
+    → list_any is_integer columns ≡ false → Means columns names deps
+unfolding declaring_lines declared_text declares declaring has_version_line is_version
 plain_means columns names deps is none =
-    let first : declaring_lines columns names ≡ (codes "attributes" ++ words_text names) ∷ [] = rw none refl in
-    let each : EachBytes (declaring_lines columns names) = subst EachBytes (sym first) (bytes_both (codes "attributes") (words_text names) refl (words_bytes names (all_names format.Plain names is.are_names)), tt) in
-    let unmarked : without_mark (declared_text columns names deps) ≡ declared_text columns names deps = rw none refl in
+    let line = codes "attributes" ++ words_text names in
     let rest = map (dependency_text names) deps ++ [] ∷ [] in
-    let cut : line_texts (without_mark (declared_text columns names deps)) ≡ (codes "attributes" ++ words_text names) ∷ rest =
+    let first : declaring_lines columns names ≡ line ∷ [] = rw none refl in
+    let bytes = bytes_both (codes "attributes") (words_text names) refl
+    (words_bytes names (all_names format.Plain names is.are_names)) in
+    let each : EachBytes (declaring_lines columns names) = subst EachBytes (sym first) (bytes, tt) in
+    let unmarked : without_mark (declared_text columns names deps) ≡ declared_text columns names deps = rw none refl in
+    let cut : line_texts (without_mark (declared_text columns names deps)) ≡ line ∷ rest =
     ap line_texts unmarked ∙ text_cut columns names deps each is.are_names ∙ ap (λ ls. ls ++ rest) first in
-    let of : List (List ℕ) → Type 0 = λ ls. IsPlainText ls (declared columns names deps 2) in
-    (numbers 2 deps, record { some = is.some; lines = inl (subst of (sym cut) (record { no_version = plain_version names rest; declared = plain_lines columns names deps is none })) })
+    let apart = elim names as (λ ws. Apart (words_text ws)) [ [] ↦ tt | w ∷ ws ↦ refl ] in
+    let no_version : has_version_line (line ∷ rest) ≡ false =
+    rw (name_lexed mode.Numbered 1 (codes "attributes") (words_text names) refl apart) refl in
+    let after_names = with_names no_declaration names Text in
+    let here = declaring_mean format.Plain Text 1 no_declaration
+    (codes "attributes") names names [] 0 is.are_names
+    (record { whole = sym (append-nil names); size = refl }) is.few is.some refl refl in
+    let few = is.few_deps in
+    let more = dependencies_mean format.Plain 2 after_names deps is.are_names is.within (omega arith) in
+    let of_columns : List Column → Type 0 =
+    λ cs. MeansLines format.Plain 2 after_names rest (declared cs names deps 2) in
+    let means = subst of_columns (all_text columns names is.are_columns.one_each none) more in
+    let of : List (List ℕ) → Type 0 = λ ls. IsPlainText ls (declared columns names deps 2) in (
+      numbers 2 deps,
+      record {
+        some = is.some;
+        lines = inl
+            (subst of (sym cut) (record { no_version = no_version; declared = (after_names, here, means) }));
+      },
+    )
 
 typed_means : (columns : List Column) (names : List (List ℕ)) (deps : List Dependency) → IsPrintable columns names deps → list_any is_integer columns ≡ true → Means columns names deps
 unfolding declaring_lines declared_text
@@ -270,9 +316,11 @@ typed_means columns names deps is some =
     ap line_texts unmarked ∙ text_cut columns names deps each is.are_names ∙ ap (λ ls. ls ++ rest) first in
     let whole = declared columns names deps (2 + length runs) in
     let filled : with_runs no_declaration runs ≡ record { names = names; columns = columns; deps = []; lines = [] } = (λ i. record { names = back i; columns = types i; deps = []; lines = [] }) in
-    let last = dependencies_mean format.Typed (2 + length runs) (record { names = names; columns = columns; deps = []; lines = [] }) deps are is.within (let few = is.few_deps in omega arith) in
+    let last = dependencies_mean format.Typed (2 + length runs)
+    (record { names = names; columns = columns; deps = []; lines = [] }) deps are is.within (omega (arith, is.few_deps)) in
     let of_d : Declarations → Type 0 = λ d. MeansLines format.Typed (2 + length runs) d rest whole in
-    let lines_mean = runs_mean 2 no_declaration names runs rest whole 0 are (record { whole = sym back; size = refl }) is.few cut_up.some (subst of_d (sym filled) last) in
+    let lines_mean = runs_mean 2 no_declaration names runs rest whole 0 are
+    (record { whole = sym back; size = refl }) is.few cut_up.some (subst of_d (sym filled) last) in
     let of : List (List ℕ) → Type 0 = λ ls. IsTypedText ls whole in (
       numbers (2 + length runs) deps,
       record {
@@ -290,7 +338,8 @@ typed_means columns names deps is some =
     )
 
 -- what is printed of a schema, none of whose names is reserved, means it
-pub printed-schema-law : (s : Schema) → AreNames format.Plain (names_of s) → Means (columns_of s) (names_of s) (theory_of s)
+pub printed-schema-law : (s : Schema) → AreNames format.Plain (names_of s)
+    → Means (columns_of s) (names_of s) (theory_of s)
 printed-schema-law s are = elim (cases_Bool (list_any is_integer (columns_of s))) [
   | inl some ↦ typed_means (columns_of s) (names_of s) (theory_of s) printable some
   | inr none ↦ plain_means (columns_of s) (names_of s) (theory_of s) printable none
@@ -302,6 +351,7 @@ printed-schema-law s are = elim (cases_Bool (list_any is_integer (columns_of s))
       few = s.valid.few_names;
       are_names = are;
       are_columns = s.typed;
-      few_deps = let size = length-map (deps_of s) dependency_of in let few = s.valid.few_deps in omega (arith, size, few);
+      few_deps = let size = length-map (deps_of s) dependency_of in
+          let few = s.valid.few_deps in omega (arith, size, few);
       within = dependencies_all-from (IsWithin (universe_of s)) (deps_of s) s.valid.deps_within;
     }

@@ -29,17 +29,24 @@ found_at before name after none =
     let at : position_or_len (λ b. same_name b name) (before ++ name ∷ after) ≡ length before =
     position_or_len_is (λ b. same_name b name) (before ++ name ∷ after) (length before) [] (omega arith)
     (λ k less. rw (get_or_append_left before (name ∷ after) [] k less) (none k [] less))
-    (λ less. rw (get_or_at before name after [] (length before) refl) ((bytes_eq-Decides (str_to_ascii_lowercase name) (str_to_ascii_lowercase name)).1 refl)) in
+    (λ less. rw (get_or_at before name after [] (length before) refl)
+    ((bytes_eq-Decides (str_to_ascii_lowercase name) (str_to_ascii_lowercase name)).1 refl)) in
     let inside : nat_lt (length before) (length (before ++ name ∷ after)) ≡ true = lt-ltb _ _ (omega arith) in
     rw (at, inside) refl
 
 -- a name differs from those before it
-pub differ_before : (f : Format) (names before : List (List ℕ)) (word : List ℕ) (words : List (List ℕ)) → AreNames f names → names ≡ before ++ word ∷ words
+pub differ_before : (f : Format) (names before : List (List ℕ)) (word : List ℕ) (words : List (List ℕ))
+    → AreNames f names → names ≡ before ++ word ∷ words
     → All (λ b. same_name b word ≡ false) before
 differ_before f names before word words are e k d h =
-    let size : length (before ++ word ∷ words) ≡ length before + suc (length words) = length-append before (word ∷ words) in
+    let size : length (before ++ word ∷ words) ≡ length before + suc (length words) =
+    length-append before (word ∷ words) in
     let differs = (subst (AreNames f) e are).differ k (length before) d h (omega arith) in
-    rw (get_or_append_left before (word ∷ words) d k h, get_or_at before word words d (length before) refl) at differs
+    rw (
+      get_or_append_left before (word ∷ words) d k h,
+      get_or_at before word words d
+          (length before) refl,
+    ) at differs
 
 -- what is known of the name in the middle
 pub record IsKnown (f : Format) (names : List (List ℕ)) (name : List ℕ) (place : ℕ) : Type 0 where
@@ -74,8 +81,10 @@ known_at f names before name after place are cut =
     let here : get_or (before ++ name ∷ after) (length before) [] ≡ name = get_or_at before name after [] (length before) refl in
     record {
       proper = subst (λ (t : List ℕ). is_name t ≡ true) here (whole.each (length before) [] (omega arith));
-      free = subst (λ (t : List ℕ). is_reserved f t ≡ false) here (whole.free (length before) [] (omega arith));
-      found = ap (λ t. place_named t name) cut.whole ∙ found_at before name after (differ_before f names before name after are cut.whole) ∙ ap Some cut.size;
+      free = subst (λ (t : List ℕ). is_reserved f t ≡ false) here
+          (whole.free (length before) [] (omega arith));
+      found = ap (λ t. place_named t name) cut.whole ∙ found_at before name after
+          (differ_before f names before name after are cut.whole) ∙ ap Some cut.size;
     }
 
 pub members_known : (f : Format) (x : Places) (names before after : List (List ℕ)) (place : ℕ) → AreNames f names → IsCutAt names before after place → EachKnown f names (members_from x place after)
@@ -102,7 +111,8 @@ members_set f x names before (name ∷ after) place i are cut =
     found : place_named names name ≡ Some place
     found = (known_at f names before name after place are cut).found
 
-    other : (i == place) ≡ false → within_window (place + 1) (length after) i ≡ within_window place (suc (length after)) i
+    other : (i == place) ≡ false
+        → within_window (place + 1) (length after) i ≡ within_window place (suc (length after)) i
     other is = grind (arith, nat_tests)
 
     told : (b same : Bool) → x place ≡ b → (i == place) ≡ same → words_set names (members_from x (place + 1) after) i ≡ (within_window (place + 1) (length after) i && x i)
@@ -128,7 +138,9 @@ members_are f x names are within =
     told i true is =
         let small : nat_lt i (length names) ≡ true = within i is in
         let window : within_window 0 (length names) i ≡ true = grind (arith, nat_tests) in rw (window, is) refl
-    told i false is = is ∙ sym (ap (λ v. within_window 0 (length names) i && v) is ∙ and-false (within_window 0 (length names) i))
+    told i false is =
+        is ∙ sym (ap (λ v. within_window 0 (length names) i && v) is ∙ and-false
+        (within_window 0 (length names) i))
 
 marks_set : (names : List (List ℕ)) (column : ℕ) (words : List (List ℕ)) (k : ℕ) → named names (word_marks column words) k ≡ words_set names words k
 marks_set names column [] k = refl

@@ -39,7 +39,8 @@ bytes_both xs ys h g = list_all-append is_line_byte xs ys ∙ (rw (h, g) refl)
 proper_bytes : (word : List ℕ) → is_name word ≡ true → Bytes word
 proper_bytes [] e = refl
 proper_bytes (first ∷ others) e = list_all-from_AllPass is_line_byte (first ∷ others) (λ k d h.
-    let byte = AllPass-from_list_all is_name_byte (first ∷ others) (named_parts first others e).bytes k d h in grind (arith, nat_tests))
+    let byte = AllPass-from_list_all is_name_byte (first ∷ others)
+    (named_parts first others e).bytes k d h in grind (arith, nat_tests))
 
 pub words_bytes : (words : List (List ℕ)) → AllNames words → Bytes (words_text words)
 words_bytes [] names = refl
@@ -69,7 +70,8 @@ split_lines (line ∷ lines) (here, rest) =
     let cut : lines_text (line ∷ lines) ≡ line ++ 10 ∷ lines_text lines = append_assoc line (10 ∷ []) (lines_text lines) in
     let all = AllPass-from_list_all is_line_byte line here in
     ap (slice_split is_line_feed) cut
-    ∙ slice_split_at is_line_feed line 10 (lines_text lines) (λ k d h. let byte = all k d h in grind (arith, nat_tests)) refl
+    ∙ slice_split_at is_line_feed line 10 (lines_text lines)
+    (λ k d h. let byte = all k d h in grind (arith, nat_tests)) refl
     ∙ ap (λ t. line ∷ t) (split_lines lines rest)
 
 not_return : (line : List ℕ) → Bytes line → pointwise nat_eq (13 ∷ []) line ≡ false
@@ -81,7 +83,9 @@ not_return (b ∷ bs) e =
 kept : (line : List ℕ) → Bytes line → without_return line ≡ line
 kept line e =
     let last = drop (length line - 1) line in
-    let bytes = list_all-from_AllPass is_line_byte last (All-drop (λ b. is_line_byte b ≡ true) (length line - 1) line (AllPass-from_list_all is_line_byte line e)) in
+    let bytes = list_all-from_AllPass is_line_byte last
+    (All-drop (λ b. is_line_byte b ≡ true) (length line - 1) line
+    (AllPass-from_list_all is_line_byte line e)) in
     let none : ends_with nat_eq line (13 ∷ []) ≡ false = not_return last bytes in rw none refl
 
 all_kept : (lines : List (List ℕ)) → EachBytes lines → without_returns (lines ++ [] ∷ []) ≡ lines ++ [] ∷ []
@@ -102,7 +106,8 @@ abbrev pub with_dependencies : Declarations → List Dependency → List ℕ →
 with_dependencies d deps lines = record { names = d.names; columns = d.columns; deps = d.deps ++ deps; lines = d.lines ++ lines }
 
 -- the lines of dependencies, and the empty line after the last line feed
-pub dependencies_mean : (f : Format) (number : ℕ) (d : Declarations) (deps : List Dependency) → AreNames f d.names → All (IsWithin (below (length d.names))) deps
+pub dependencies_mean : (f : Format) (number : ℕ) (d : Declarations) (deps : List Dependency)
+    → AreNames f d.names → All (IsWithin (below (length d.names))) deps
     → length d.deps + length deps ≤ MOST_DEPENDENCIES
     → MeansLines f number d (map (dependency_text d.names) deps ++ [] ∷ []) (with_dependencies d deps (numbers number deps))
 dependencies_mean f number d [] are within room = (
@@ -111,9 +116,11 @@ dependencies_mean f number d [] are within room = (
   λ i. record { names = d.names; columns = d.columns; deps = append-nil d.deps i; lines = append-nil d.lines i },
 )
 dependencies_mean f number d (dep ∷ deps) are within room =
-    let line = printed_line f d.names dep are (All-head (IsWithin (below (length d.names))) dep deps within) in
+    let line = printed_line f d.names dep are
+    (All-head (IsWithin (below (length d.names))) dep deps within) in
     let size : length (d.deps ++ dep ∷ []) ≡ length d.deps + 1 = length-append d.deps (dep ∷ []) in
-    let more = dependencies_mean f (number + 1) (add_dependency d dep number) deps are (All-tail (IsWithin (below (length d.names))) dep deps within) (omega arith) in
+    let more = dependencies_mean f (number + 1) (add_dependency d dep number) deps are
+    (All-tail (IsWithin (below (length d.names))) dep deps within) (omega arith) in
     let of : Declarations → Type 0 = λ w. MeansLines f (number + 1) (add_dependency d dep number) (map (dependency_text d.names) deps ++ [] ∷ []) w in
     let same : with_dependencies (add_dependency d dep number) deps (numbers (number + 1) deps) ≡ with_dependencies d (dep ∷ deps) (number ∷ numbers (number + 1) deps) =
     (λ i. record { names = d.names; columns = d.columns; deps = append_assoc d.deps (dep ∷ []) deps i; lines = append_assoc d.lines (number ∷ []) (numbers (number + 1) deps) i }) in (
@@ -130,5 +137,6 @@ each_dependency f names (d ∷ deps) are = (dependency_bytes f names d are, each
 pub none_found : (before : List (List ℕ)) (word : List ℕ) → All (λ b. same_name b word ≡ false) before → place_named before word ≡ None
 none_found before word none =
     let all : position_or_len (λ b. same_name b word) before ≡ length before =
-    position_or_len_is (λ b. same_name b word) before (length before) [] (omega arith) (λ k less. none k [] less) (λ less. absurd (omega arith)) in
+    position_or_len_is (λ b. same_name b word) before (length before) [] (omega arith)
+    (λ k less. none k [] less) (λ less. absurd (omega arith)) in
     let outside : nat_lt (length before) (length before) ≡ false = grind (arith, nat_tests) in rw (all, outside) refl

@@ -63,7 +63,8 @@ pub record Steps {X Y E : Type 0} (r : Result X E) (next : X → Result Y E) (y 
   pub first : r ≡ Ok x
   pub second : next x ≡ Ok y
 
-pub steps : {X Y E : Type 0} (r : Result X E) (next : X → Result Y E) (y : Y) → and_then r next ≡ Ok y → Steps r next y
+pub steps : {X Y E : Type 0} (r : Result X E) (next : X → Result Y E) (y : Y) → and_then r next ≡ Ok y
+    → Steps r next y
 steps (Ok x) next y e = record { x = x; first = refl; second = e }
 steps (Err why) next y e = cc
 

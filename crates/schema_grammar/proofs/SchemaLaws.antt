@@ -25,13 +25,16 @@ IsBlankLine line = HasTokens (lex mode.Numbered line) []
 
 -- a version line is read where it is the word `version` and the number 2
 pub version_there : (lines : List (List ℕ)) (text : HasVersionLine lines) (line : ℕ) (d : Declarations)
-    → read_version line (text.head.column + length text.head.word) text.others (lex mode.Numbered text.version).stop ≡ Ok d
+    → read_version line (text.head.column + length text.head.word) text.others
+    (lex mode.Numbered text.version).stop ≡ Ok d
     → IsVersionLine text.version × (d ≡ no_declaration)
 unfolding read_version
 version_there lines text line d e = told text.others (lex mode.Numbered text.version).stop refl refl e
   where
-    ends : (m : Mark) (ms : List Mark) (stop : Option Stop) → text.others ≡ m ∷ ms → (lex mode.Numbered text.version).stop ≡ stop
-        → m.kind ≡ token.Number VERSION → end_version line ms stop ≡ Ok d → IsVersionLine text.version × (d ≡ no_declaration)
+    ends : (m : Mark) (ms : List Mark) (stop : Option Stop) → text.others ≡ m ∷ ms
+        → (lex mode.Numbered text.version).stop ≡ stop
+        → m.kind ≡ token.Number VERSION → end_version line ms stop ≡ Ok d
+        → IsVersionLine text.version × (d ≡ no_declaration)
     ends m [] None others stop is e = (
       record {
         head = text.head;
@@ -45,16 +48,20 @@ version_there lines text line d e = told text.others (lex mode.Numbered text.ver
     ends m [] (Some s) others stop is e = cc
     ends m (k ∷ ks) stop others same is e = cc
 
-    numbered : (k : TokenKind) (m : Mark) (ms : List Mark) (stop : Option Stop) → m.kind ≡ k → text.others ≡ m ∷ ms → (lex mode.Numbered text.version).stop ≡ stop
-        → version_number line m ms stop (number_in k) ≡ Ok d → IsVersionLine text.version × (d ≡ no_declaration)
+    numbered : (k : TokenKind) (m : Mark) (ms : List Mark) (stop : Option Stop) → m.kind ≡ k
+        → text.others ≡ m ∷ ms → (lex mode.Numbered text.version).stop ≡ stop
+        → version_number line m ms stop (number_in k) ≡ Ok d
+        → IsVersionLine text.version × (d ≡ no_declaration)
     numbered (token.Number n) m ms stop is others same e = elim (cases_Bool (n == VERSION)) [
       | inl two ↦ ends m ms stop others same (is ∙ ap token.Number (eqb-true n VERSION two)) (rw two at e)
       | inr other ↦ let wrong = rw other at e in cc
     ]
     numbered k m ms stop is others same e = cc
 
-    told : (ms : List Mark) (stop : Option Stop) → text.others ≡ ms → (lex mode.Numbered text.version).stop ≡ stop
-        → read_version line (text.head.column + length text.head.word) ms stop ≡ Ok d → IsVersionLine text.version × (d ≡ no_declaration)
+    told : (ms : List Mark) (stop : Option Stop) → text.others ≡ ms
+        → (lex mode.Numbered text.version).stop ≡ stop
+        → read_version line (text.head.column + length text.head.word) ms stop ≡ Ok d
+        → IsVersionLine text.version × (d ≡ no_declaration)
     told [] None others stop e = cc
     told [] (Some s) others stop e = cc
     told (m ∷ ms) stop others same e = numbered m.kind m ms stop refl others same e
@@ -63,9 +70,11 @@ version_there lines text line d e = told text.others (lex mode.Numbered text.ver
 pub opening : (lines : List (List ℕ)) → (has_version_line lines ≡ false) ⊎ HasVersionLine lines
 unfolding has_version_line
 opening [] = inl refl
-opening (line ∷ lines) = told (lex mode.Numbered line).marks (lex mode.Numbered line).stop refl refl (opening lines)
+opening (line ∷ lines) =
+    told (lex mode.Numbered line).marks (lex mode.Numbered line).stop refl refl (opening lines)
   where
-    told : (ms : List Mark) (stop : Option Stop) → (lex mode.Numbered line).marks ≡ ms → (lex mode.Numbered line).stop ≡ stop
+    told : (ms : List Mark) (stop : Option Stop) → (lex mode.Numbered line).marks ≡ ms
+        → (lex mode.Numbered line).stop ≡ stop
         → (has_version_line lines ≡ false) ⊎ HasVersionLine lines
         → (begins_version ms stop (has_version_line lines) ≡ false) ⊎ HasVersionLine (line ∷ lines)
     told [] None marks stop (inl none) = inl none
@@ -74,7 +83,8 @@ opening (line ∷ lines) = told (lex mode.Numbered line).marks (lex mode.Numbere
       version = text.version;
       later = text.later;
       cut = ap (λ t. line ∷ t) text.cut;
-      blank = All-cons IsBlankLine line text.before (has_tokens (lex mode.Numbered line) [] marks stop) text.blank;
+      blank = All-cons IsBlankLine line text.before
+          (has_tokens (lex mode.Numbered line) [] marks stop) text.blank;
       head = text.head;
       others = text.others;
       starts = text.starts;
@@ -102,15 +112,20 @@ pub plain_opening : (number : ℕ) (lines : List (List ℕ)) → has_version_lin
 unfolding read_opening has_version_line read_lines
 plain_opening number [] none = refl
 plain_opening number (line ∷ lines) none =
-    told (lex mode.Numbered line).marks (lex mode.Numbered line).stop refl refl none (plain_opening (number + 1) lines)
+    told (lex mode.Numbered line).marks (lex mode.Numbered line).stop refl refl none
+    (plain_opening (number + 1) lines)
   where
-    told : (ms : List Mark) (stop : Option Stop) → (lex mode.Numbered line).marks ≡ ms → (lex mode.Numbered line).stop ≡ stop
+    told : (ms : List Mark) (stop : Option Stop) → (lex mode.Numbered line).marks ≡ ms
+        → (lex mode.Numbered line).stop ≡ stop
         → begins_version ms stop (has_version_line lines) ≡ false
-        → (has_version_line lines ≡ false → read_opening (number + 1) lines ≡ read_lines format.Plain (number + 1) no_declaration lines)
-        → opened number line lines (read_opening (number + 1) lines) ms stop ≡ read_lines format.Plain number no_declaration (line ∷ lines)
+        → (has_version_line lines ≡ false
+        → read_opening (number + 1) lines ≡ read_lines format.Plain (number + 1) no_declaration lines)
+        → opened number line lines (read_opening (number + 1) lines) ms stop
+        ≡ read_lines format.Plain number no_declaration (line ∷ lines)
     told [] None marks stop none later =
         let blank = lexed_plain 0 1 line (has_tokens (lex mode.Numbered line) [] marks stop) in
-        rw (line_back format.Plain number no_declaration line no_declaration (inl (inl (record { tokens = blank; same = refl })))) (later none)
+        rw (line_back format.Plain number no_declaration line no_declaration
+        (inl (inl (record { tokens = blank; same = refl })))) (later none)
     told [] (Some s) marks stop none later = refl
     told (m ∷ ms) stop marks same none later = rw none refl
 
@@ -118,27 +133,33 @@ plain_opening number (line ∷ lines) none =
 blank_skipped : (number : ℕ) (before rest : List (List ℕ)) → All IsBlankLine before
     → read_opening number (before ++ rest) ≡ read_opening (length before + number) rest
 unfolding read_opening
-blank_skipped number [] rest blank = let same : number ≡ 0 + number = omega arith in ap (λ n. read_opening n rest) same
+blank_skipped number [] rest blank =
+    let same : number ≡ 0 + number = omega arith in ap (λ n. read_opening n rest) same
 blank_skipped number (line ∷ before) rest blank =
     let same : length before + (number + 1) ≡ suc (length before) + number = omega arith in
     rw (All-head IsBlankLine line before blank)
-    (blank_skipped (number + 1) before rest (All-tail IsBlankLine line before blank) ∙ ap (λ n. read_opening n rest) same)
+    (blank_skipped (number + 1) before rest (All-tail IsBlankLine line before blank) ∙ ap
+    (λ n. read_opening n rest) same)
 
 -- a text with a version line is read from there on
-pub typed_opening : (number : ℕ) (lines : List (List ℕ)) (text : HasVersionLine lines) → read_opening number lines
+pub typed_opening : (number : ℕ) (lines : List (List ℕ)) (text : HasVersionLine lines)
+    → read_opening number lines
     ≡ read_typed (length text.before + number) text.later (text.head.column + length text.head.word)
     (record { marks = text.others; stop = (lex mode.Numbered text.version).stop })
 unfolding read_opening
 typed_opening number lines text =
-    ap (read_opening number) text.cut ∙ blank_skipped number text.before (text.version ∷ text.later) text.blank
+    ap (read_opening number) text.cut ∙ blank_skipped number text.before
+    (text.version ∷ text.later) text.blank
     ∙ rw (text.starts, text.is_word) refl
 
-pub version_opening : (number : ℕ) (lines before : List (List ℕ)) (version : List ℕ) (later : List (List ℕ)) → lines ≡ before ++ version ∷ later
+pub version_opening : (number : ℕ) (lines before : List (List ℕ)) (version : List ℕ) (later : List (List ℕ))
+    → lines ≡ before ++ version ∷ later
     → All IsBlankLine before → IsVersionLine version
     → read_opening number lines ≡ read_lines format.Typed (length before + number + 1) no_declaration later
 unfolding read_opening read_version
 version_opening number lines before version later cut blank is =
-    ap (read_opening number) cut ∙ blank_skipped number before (version ∷ later) blank ∙ rw (is.tokens, is.is_word, is.is_number) refl
+    ap (read_opening number) cut ∙ blank_skipped number before (version ∷ later) blank ∙ rw
+    (is.tokens, is.is_word, is.is_number) refl
 
 -- what the lines from one on mean
 abbrev pub MeansFrom : ℕ → List (List ℕ) → Declarations → Type 0
@@ -147,18 +168,23 @@ MeansFrom number lines whole =
     ⊎ ((text : HasVersionLine lines) × IsVersionLine text.version
     × MeansLines format.Typed (length text.before + number + 1) no_declaration text.later whole)
 
-pub opening_means : (number : ℕ) (lines : List (List ℕ)) (whole : Declarations) → read_opening number lines ≡ Ok whole
+pub opening_means : (number : ℕ) (lines : List (List ℕ)) (whole : Declarations)
+    → read_opening number lines ≡ Ok whole
     → MeansFrom number lines whole × (0 < length whole.names)
 opening_means number lines whole e = told (opening lines)
   where
-    told : (has_version_line lines ≡ false) ⊎ HasVersionLine lines → MeansFrom number lines whole × (0 < length whole.names)
+    told : (has_version_line lines ≡ false) ⊎ HasVersionLine lines
+        → MeansFrom number lines whole × (0 < length whole.names)
     told (inl none) =
-        let both = lines_there format.Plain number no_declaration whole lines (sym (plain_opening number lines none) ∙ e) in (inl (none, both.0), both.1)
+        let both = lines_there format.Plain number no_declaration whole lines
+        (sym (plain_opening number lines none) ∙ e) in (inl (none, both.0), both.1)
     told (inr text) =
-        let two = steps _ (λ d. read_lines format.Typed (length text.before + number + 1) d text.later) whole (sym (typed_opening number lines text) ∙ e) in
+        let two = steps _ (λ d. read_lines format.Typed (length text.before + number + 1) d text.later) whole
+        (sym (typed_opening number lines text) ∙ e) in
         let is = version_there lines text (length text.before + number) two.x two.first in
         let both = lines_there format.Typed (length text.before + number + 1) no_declaration whole text.later
-        (ap (λ d. read_lines format.Typed (length text.before + number + 1) d text.later) (sym is.1) ∙ two.second) in
+        (ap (λ d. read_lines format.Typed (length text.before + number + 1) d text.later) (sym is.1)
+        ∙ two.second) in
         (inr (text, is.0, both.0), both.1)
 
 pub schema-law : (text : List ℕ) (whole : Declarations) → (read_text text ≡ Ok whole) ↔ MeansSchema text whole
@@ -172,7 +198,8 @@ schema-law text whole = (λ e. there (opening_means 1 lines whole e), λ means. 
     two n = omega arith
 
     there : MeansFrom 1 lines whole × (0 < length whole.names) → MeansSchema text whole
-    there (inl plain, some) = record { some = some; lines = inl (record { no_version = plain.0; declared = plain.1 }) }
+    there (inl plain, some) =
+        record { some = some; lines = inl (record { no_version = plain.0; declared = plain.1 }) }
     there (inr (has, is, declared), some) = record {
       some = some;
       lines = inr (record {
@@ -186,8 +213,12 @@ schema-law text whole = (λ e. there (opening_means 1 lines whole e), λ means. 
       });
     }
 
-    back : 0 < length whole.names → IsPlainText lines whole ⊎ IsTypedText lines whole → read_opening 1 lines ≡ Ok whole
-    back some (inl plain) = plain_opening 1 lines plain.no_version ∙ lines_back format.Plain 1 no_declaration whole lines plain.declared some
+    back : 0 < length whole.names → IsPlainText lines whole ⊎ IsTypedText lines whole
+        → read_opening 1 lines ≡ Ok whole
+    back some (inl plain) =
+        plain_opening 1 lines plain.no_version
+        ∙ lines_back format.Plain 1 no_declaration whole lines plain.declared some
     back some (inr typed) =
         version_opening 1 lines typed.before typed.version typed.later typed.cut typed.blank typed.versioned
-        ∙ lines_back format.Typed (length typed.before + 1 + 1) no_declaration whole typed.later (rw (← two (length typed.before)) at typed.declared) some
+        ∙ lines_back format.Typed (length typed.before + 1 + 1) no_declaration whole typed.later
+        (rw (← two (length typed.before)) at typed.declared) some

@@ -39,11 +39,14 @@ set-law declared text x = (there, back)
   where
     there : read_set declared text ≡ Ok x → MeansSet declared text x
     there e =
-        let two = steps (follow_lexed format.Plain declared 1 from_arrow 1 (lex mode.Goal text)) (λ d. Ok (right_of d)) x e in
+        let two = steps (follow_lexed format.Plain declared 1 from_arrow 1 (lex mode.Goal text))
+        (λ d. Ok (right_of d)) x e in
         let whole = no_stop format.Plain declared 1 from_arrow 1 (lex mode.Goal text) two.x two.first in
-        let here : follow_lexed format.Plain declared 1 from_arrow 1 (record { marks = (lex mode.Goal text).marks; stop = None }) ≡ Ok two.x =
+        let here : follow_lexed format.Plain declared 1 from_arrow 1
+        (record { marks = (lex mode.Goal text).marks; stop = None }) ≡ Ok two.x =
         ap (follow_lexed format.Plain declared 1 from_arrow 1) (sym whole) ∙ two.first in
-        let more : AfterSignRest format.Plain declared sign.Functional none (lex mode.Goal text).marks two.x = marks_make format.Plain declared 1 1 from_arrow _ two.x here in
+        let more : AfterSignRest format.Plain declared sign.Functional none (lex mode.Goal text).marks two.x =
+        marks_make format.Plain declared 1 1 from_arrow _ two.x here in
         let is : right_of two.x ≡ x = (let second = two.second in cc) in
         let same : more.y ≡ x = sym (ap right_of more.states) ∙ is in
         record { marks = (lex mode.Goal text).marks; tokens = whole; side = subst (IsSide format.Plain declared (lex mode.Goal text).marks) same more.right_side }
@@ -57,7 +60,8 @@ set-law declared text x = (there, back)
 -- a token is out of place, or there is none
 abbrev IsAmiss : List Mark → Option Stop → ℕ → Type 0
 IsAmiss ms stop place =
-    ((m : Mark) × (slice_get ms place ≡ Some m) × IsOutOfPlace ms place m.kind) ⊎ ((place ≡ 0) × (ms ≡ []) × (stop ≡ None))
+    ((m : Mark) × (slice_get ms place ≡ Some m) × IsOutOfPlace ms place m.kind) ⊎
+    ((place ≡ 0) × (ms ≡ []) × (stop ≡ None))
 
 -- how far a side is read before a place: not begun, words, or `()`
 abbrev IsRead : List Mark → ℕ → Shape → Type 0
@@ -71,8 +75,10 @@ side_judges ms stop = record {
   stuck = λ p s m is read none. inl (m, is, out p s m.kind read none);
   ends = ends;
   open_end = open_end;
-  flawed = λ p x all is amiss. ⊎_elim (λ here. absurd (omega (arith, slice_get_within ms p here.0 here.1))) (λ none. let wrong = none.2 in cc) amiss;
-  inside = λ p amiss. ⊎_elim (λ here. omega (arith, slice_get_within ms p here.0 here.1)) (λ none. omega (arith, none.0)) amiss;
+  flawed = λ p x all is amiss. ⊎_elim (λ here. absurd (omega (arith, slice_get_within ms p here.0 here.1)))
+      (λ none. let wrong = none.2 in cc) amiss;
+  inside = λ p amiss. ⊎_elim (λ here. omega (arith, slice_get_within ms p here.0 here.1))
+      (λ none. omega (arith, none.0)) amiss;
 }
   where
     wants : (p : ℕ) (s : Shape) → IsRead ms p s → SetWants p (wanted_by s)
@@ -80,7 +86,8 @@ side_judges ms stop = record {
     wants (suc p) s (inl read) = inr (omega arith, ap wanted_by read.0)
     wants (suc p) s (inr read) = inr (omega arith, ap wanted_by read.0)
 
-    goes_on : (p : ℕ) (s t : Shape) (m : Mark) (k : TokenKind) → slice_get ms p ≡ Some m → m.kind ≡ k → IsRead ms p s → turn_shape s k ≡ Some t
+    goes_on : (p : ℕ) (s t : Shape) (m : Mark) (k : TokenKind) → slice_get ms p ≡ Some m → m.kind ≡ k
+        → IsRead ms p s → turn_shape s k ≡ Some t
         → (IsAmiss ms stop p → ⊥) × IsRead ms (suc p) t
     goes_on zero s t m token.Word is kind read turned = (
       ⊎_elim (λ out. out.2.0 cc) (λ none. omega (arith, slice_get_within ms 0 m is, ap length none.1)),
@@ -109,7 +116,8 @@ side_judges ms stop = record {
     ends zero s all read final (inr none) = cc
     ends (suc p) s all read final (inr none) = omega (arith, none.0)
 
-    open_end : (p : ℕ) (s : Shape) → p ≡ length ms → stop ≡ None → IsRead ms p s → is_final s ≡ false → IsAmiss ms stop p
+    open_end : (p : ℕ) (s : Shape) → p ≡ length ms → stop ≡ None → IsRead ms p s → is_final s ≡ false
+        → IsAmiss ms stop p
     open_end zero s all none read unfinished = inr (refl, nil_from_length ms (sym all), none)
     open_end (suc p) s all none (inl read) unfinished = cc
     open_end (suc p) s all none (inr read) unfinished = cc
@@ -118,7 +126,8 @@ side_judges ms stop = record {
 pub set-complaint-law : (declared : List (List ℕ)) (text : List ℕ) → FitsSet declared text (read_set declared text)
 set-complaint-law declared text =
     fits (follow_lexed format.Plain declared 1 from_arrow 1 (lex mode.Goal text))
-    (judge (side_judges marks stop) format.Plain declared 1 1 marks 0 1 from_arrow (left_whole 1 1 marks stop) refl (λ p n less. absurd (omega arith)))
+    (judge (side_judges marks stop) format.Plain declared 1 1 marks 0 1 from_arrow
+    (left_whole 1 1 marks stop) refl (λ p n less. absurd (omega arith)))
   where
     marks : List Mark
     marks = (lex mode.Goal text).marks
@@ -126,19 +135,23 @@ set-complaint-law declared text =
     stop : Option Stop
     stop = (lex mode.Goal text).stop
 
-    to : (p n : ℕ) → LineComplaint (IsAmiss marks stop) format.Plain declared marks stop p n → SetComplaint declared text p n
+    to : (p n : ℕ) → LineComplaint (IsAmiss marks stop) format.Plain declared marks stop p n
+        → SetComplaint declared text p n
     to p n (inl (inl (m, is, word))) = inl (inl (m, is, inl word))
     to p n (inl (inr (six, inl (m, is, out)))) = inl (inl (m, is, inr (six, out)))
     to p n (inl (inr (six, inr none))) = inl (inr (six, none.0, none.1, none.2))
     to p n (inr flaw) = inr flaw
 
-    from : (p n : ℕ) → SetComplaint declared text p n → LineComplaint (IsAmiss marks stop) format.Plain declared marks stop p n
+    from : (p n : ℕ) → SetComplaint declared text p n
+        → LineComplaint (IsAmiss marks stop) format.Plain declared marks stop p n
     from p n (inl (inl (m, is, inl word))) = inl (inl (m, is, word))
     from p n (inl (inl (m, is, inr (six, out)))) = inl (inr (six, inl (m, is, out)))
     from p n (inl (inr (six, first, nothing, none))) = inl (inr (six, inr (first, nothing, none)))
     from p n (inr flaw) = inr flaw
 
-    fits : (res : Result Dependency SchemaRefusal) → Judged (LineComplaint (IsAmiss marks stop) format.Plain declared marks stop) SetWants (span_at 1 1 marks stop) res
+    fits : (res : Result Dependency SchemaRefusal)
+        → Judged (LineComplaint (IsAmiss marks stop) format.Plain declared marks stop) SetWants
+        (span_at 1 1 marks stop) res
         → FitsSet declared text (set_of res)
     fits (Ok d) none = λ p n complaint. none p n (from p n complaint)
     fits (Err e) first = record {
@@ -157,5 +170,6 @@ pub set-refusal-law : (declared : List (List ℕ)) (text : List ℕ) (e : Schema
 set-refusal-law declared text e = (
   set_refused declared text e,
   λ first.
-      one_refused (FitsSet declared text) _ _ _ (λ x none. none) (λ g first. first) (one_at_first what.Side) _ e (set-complaint-law declared text) first,
+      one_refused (FitsSet declared text) _ _ _ (λ x none. none) (λ g first. first)
+      (one_at_first what.Side) _ e (set-complaint-law declared text) first,
 )

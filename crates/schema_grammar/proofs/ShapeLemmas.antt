@@ -105,28 +105,39 @@ abbrev pub StepTells : Format → List (List ℕ) → Reached → Mark → Resul
 StepTells f declared r m (Ok next) =
     (turn_shape (shape_of r) m.kind ≡ Some (shape_of next)) × ((n : ℕ) → ComplainsOfWord f declared m n → ⊥)
 StepTells f declared r m (Err why) =
-    (ComplainsOfWord f declared m (refusal_number why) ⊎ ((refusal_number why ≡ 6) × (turn_shape (shape_of r) m.kind ≡ None)))
+    (ComplainsOfWord f declared m (refusal_number why) ⊎
+    ((refusal_number why ≡ 6) × (turn_shape (shape_of r) m.kind ≡ None)))
     × ((n : ℕ) → ComplainsOfWord f declared m n → refusal_number why ≤ n) × (refusal_number why ≤ 6)
     × Carries (λ w. w ≡ wanted_by (shape_of r)) why
 
-turn_tells : (f : Format) (declared : List (List ℕ)) (r : Reached) (m : Mark) (t : Result Reached What) → Turns r m.kind t
+turn_tells : (f : Format) (declared : List (List ℕ)) (r : Reached) (m : Mark) (t : Result Reached What)
+    → Turns r m.kind t
     → ((n : ℕ) → ComplainsOfWord f declared m n → ⊥) → StepTells f declared r m (expecting t)
 turn_tells f declared r m (Ok next) turned none = (turned, none)
-turn_tells f declared r m (Err w) turned none = (inr (refl, turned.0), (λ n complaint. absurd (none n complaint)), omega arith, turned.1)
+turn_tells f declared r m (Err w) turned none =
+    (inr (refl, turned.0), (λ n complaint. absurd (none n complaint)), omega arith, turned.1)
 
 pub step_tells : (f : Format) (declared : List (List ℕ)) (r : Reached) (m : Mark) → StepTells f declared r m (step f declared r m.kind m.word)
 unfolding step looked_up
 step_tells f declared r m = told m.kind
   where
-    word : (b : Bool) (o : Option ℕ) → is_reserved f m.word ≡ b → place_named declared m.word ≡ o → StepTells f declared r (record m { kind = token.Word })
-        (and_then (and_then (cond b (Err kind.ReservedName) (known o)) (λ a. Ok (symbol.Attribute a))) (λ s. expecting (turn r s)))
-    word true o reserved place = (inl (refl, inl (refl, reserved)), (λ n complaint. omega arith), omega arith, tt)
-    word false None free place = (inl (refl, inr (refl, place)), (λ n complaint. grind arith), omega arith, tt)
-    word false (Some a) free place = turn_tells f declared r (record m { kind = token.Word }) _ (turns r token.Word a) (λ n complaint. grind arith)
+    word : (b : Bool) (o : Option ℕ) → is_reserved f m.word ≡ b → place_named declared m.word ≡ o
+        → StepTells f declared r (record m { kind = token.Word })
+        (and_then (and_then (cond b (Err kind.ReservedName) (known o)) (λ a. Ok (symbol.Attribute a)))
+        (λ s. expecting (turn r s)))
+    word true o reserved place =
+        (inl (refl, inl (refl, reserved)), (λ n complaint. omega arith), omega arith, tt)
+    word false None free place =
+        (inl (refl, inr (refl, place)), (λ n complaint. grind arith), omega arith, tt)
+    word false (Some a) free place =
+        turn_tells f declared r (record m { kind = token.Word }) _ (turns r token.Word a)
+        (λ n complaint. grind arith)
 
     told : (k : TokenKind) → StepTells f declared r (record m { kind = k }) (step f declared r k m.word)
     told token.Word = word (is_reserved f m.word) (place_named declared m.word) refl refl
-    told k = turn_tells f declared r (record m { kind = k }) _ (turns r k 0) (λ n complaint. let is = complaint.0 in cc)
+    told k =
+        turn_tells f declared r (record m { kind = k }) _ (turns r k 0)
+        (λ n complaint. let is = complaint.0 in cc)
 
 -- whether the line may end
 abbrev pub EndTells : Reached → Result Dependency What → Type 0
@@ -179,7 +190,8 @@ unfolding follow is_reserved
 runs_read r [] s e final = told (finished r) refl (end_tells r)
   where
     told : (o : Result Dependency What) → finished r ≡ o → EndTells r o → Reads r []
-    told (Ok dep) is tells = record { marks = []; same = refl; dep = dep; read = ap (λ t. at 1 1 0 (expecting t)) is }
+    told (Ok dep) is tells =
+        record { marks = []; same = refl; dep = dep; read = ap (λ t. at 1 1 0 (expecting t)) is }
     told (Err what) is tells =
         let last : shape_of r ≡ s = cc in
         let wrong : false ≡ true = sym tells.0 ∙ ap is_final last ∙ final in cc
@@ -193,11 +205,13 @@ runs_read r (k ∷ ks) s e final = told (step format.Plain one_name r k (97 ∷ 
           marks = sample k ∷ more.marks;
           same = ap (λ t. k ∷ t) more.same;
           dep = more.dep;
-          read = ap (λ o. and_then (at 1 0 1 o) (λ n. follow format.Plain one_name 1 n 1 more.marks None)) is ∙ more.read;
+          read = ap (λ o. and_then (at 1 0 1 o) (λ n. follow format.Plain one_name 1 n 1 more.marks None)) is
+              ∙ more.read;
         }
     told (Err why) is (inl (word, inl (number, reserved)), less, small, carries) rest = cc
     told (Err why) is (inl (word, inr (number, unknown)), less, small, carries) rest = cc
-    told (Err why) is (inr (six, stuck), less, small, carries) rest = let wrong : None ≡ Some s = ap (λ o. bind o (λ t. runs t ks)) (sym stuck) ∙ e in cc
+    told (Err why) is (inr (six, stuck), less, small, carries) rest =
+        let wrong : None ≡ Some s = ap (λ o. bind o (λ t. runs t ks)) (sym stuck) ∙ e in cc
 
 pub final_line : (ks : List TokenKind) (s : Shape) → runs at_start ks ≡ Some s → is_final s ≡ true → IsLine ks
 final_line ks s e final =
@@ -224,10 +238,6 @@ completion past_arrow = token.Empty ∷ []
 completion in_right = []
 completion past_end = []
 
-completed : (s : Shape) → Ends s (completion s)
-completed in_right = record { last = in_right; leads = refl; final = refl }
-completed s = record { last = past_end; leads = refl; final = refl }
-
 pub runs-append : (s : Shape) (ks ls : List TokenKind) → runs s (ks ++ ls) ≡ bind (runs s ks) (λ t. runs t ls)
 runs-append s [] ls = refl
 runs-append s (k ∷ ks) ls = told (λ t. runs-append t ks ls) (turn_shape s k)
@@ -238,8 +248,13 @@ runs-append s (k ∷ ks) ls = told (λ t. runs-append t ks ls) (turn_shape s k)
 
 pub begins_from : (ks : List TokenKind) (s : Shape) → runs at_start ks ≡ Some s → BeginsLine ks
 begins_from ks s e =
-    let more = completed s in
-    record { rest = completion s; line = final_line (ks ++ completion s) more.last (runs-append at_start ks (completion s) ∙ ap (λ o. bind o (λ t. runs t (completion s))) e ∙ more.leads) more.final }
+    let more = elim s as (λ s. Ends s (completion s)) [
+      | in_right ↦ record { last = in_right; leads = refl; final = refl }
+      | _ ↦ record { last = past_end; leads = refl; final = refl }
+    ] in
+    let leads = runs-append at_start ks (completion s) ∙ ap (λ o. bind o (λ t. runs t (completion s))) e
+    ∙ more.leads in
+    record { rest = completion s; line = final_line (ks ++ completion s) more.last leads more.final }
 
 -- one token more
 pub runs-one : (pre : List TokenKind) (s : Shape) (k : TokenKind) → runs at_start pre ≡ Some s → runs at_start (pre ++ k ∷ []) ≡ turn_shape s k

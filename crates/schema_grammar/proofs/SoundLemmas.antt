@@ -69,24 +69,31 @@ nothing_sound f = record {
   deps_within = λ k d h. absurd (omega arith);
   one_line_each = refl;
   one_column_each = refl;
-  fits = elim f as (λ f. FitsFormat f no_declaration) [ format.Plain ↦ λ k d h. absurd (omega arith) | format.Typed ↦ λ k d h. absurd (omega arith) ];
+  fits = elim f as (λ f. FitsFormat f no_declaration) [
+    | format.Plain ↦ λ k d h. absurd
+        (omega arith)
+    | format.Typed ↦ λ k d h. absurd (omega arith)
+  ];
 }
 
 -- the bytes of a token are a name if it is a word
 abbrev IsProper : Mark → Type 0
 IsProper m = m.kind ≡ token.Word → is_name m.word ≡ true
 
-led_proper : (m : Mode) (column : ℕ) (text : List ℕ) (afterwards : ℕ → Lexed) (p : Piece) → 0 < length text → p ≡ front m text
+led_proper : (m : Mode) (column : ℕ) (text : List ℕ) (afterwards : ℕ → Lexed) (p : Piece) → 0 < length text
+    → p ≡ front m text
     → ((n : ℕ) → All IsProper (afterwards n).marks) → All IsProper (led_by p column text afterwards).marks
 led_proper m column text afterwards piece.Gap some e later = later 0
-led_proper m column text afterwards (piece.Token k n) some e later = All-cons IsProper _ _ (is_a_word m text k n some e) (later (n - 1))
+led_proper m column text afterwards (piece.Token k n) some e later =
+    All-cons IsProper _ _ (is_a_word m text k n some e) (later (n - 1))
 led_proper m column text afterwards p some e later = All-nil IsProper
 
 lexed_proper : (m : Mode) (skip column : ℕ) (text : List ℕ) → All IsProper (lexed m skip column text).marks
 unfolding lexed
 lexed_proper m skip column [] = All-nil IsProper
 lexed_proper m zero column (b ∷ bs) =
-    led_proper m column (b ∷ bs) (λ skip. lexed m skip (column + 1) bs) (front m (b ∷ bs)) (omega arith) refl (λ skip. lexed_proper m skip (column + 1) bs)
+    led_proper m column (b ∷ bs) (λ skip. lexed m skip (column + 1) bs) (front m (b ∷ bs)) (omega arith) refl
+    (λ skip. lexed_proper m skip (column + 1) bs)
 lexed_proper m (suc n) column (b ∷ bs) = lexed_proper m n (column + 1) bs
 
 wider : (n m : ℕ) (x : Places) → n ≤ m → Within x (below n) → Within x (below m)
@@ -97,7 +104,8 @@ abbrev pub FitsColumn : Format → Column → Type 0
 FitsColumn format.Plain c = c ≡ Text
 FitsColumn format.Typed c = Unit {0}
 
-no_name : (names : List (List ℕ)) (word : List ℕ) → place_named names word ≡ None → All (λ name. same_name name word ≡ false) names
+no_name : (names : List (List ℕ)) (word : List ℕ) → place_named names word ≡ None
+    → All (λ name. same_name name word ≡ false) names
 no_name names word e k d h =
     let all : length names ≤ position_or_len (λ name. same_name name word) names =
     elim (cases_Bool (nat_lt (position_or_len (λ name. same_name name word) names) (length names))) [
@@ -111,9 +119,11 @@ name_fits : (f : Format) (column : Column) (d : Declarations) (word : List ℕ) 
 unfolding is_reserved
 name_fits format.Plain column d word h e fits = All-push (λ c. c ≡ Text) d.columns column fits h
 name_fits format.Typed column d word h e fits =
-    All-push (λ name. is_type_name name ≡ false) d.names word fits (or_parts (is_common_word word) (is_type_name word) e).1
+    All-push (λ name. is_type_name name ≡ false) d.names word fits
+    (or_parts (is_common_word word) (is_type_name word) e).1
 
-name_sound : (f : Format) (column : Column) (d : Declarations) (m : Mark) → FitsColumn f column → IsProper m → IsSound f d → IsNewName f d m
+name_sound : (f : Format) (column : Column) (d : Declarations) (m : Mark) → FitsColumn f column → IsProper m
+    → IsSound f d → IsNewName f d m
     → IsSound f (add_name d m.word column)
 name_sound f column d m h proper sound new =
     let more : length (d.names ++ m.word ∷ []) ≡ length d.names + 1 = length-append d.names (m.word ∷ []) in
@@ -121,18 +131,24 @@ name_sound f column d m h proper sound new =
     let room = new.room in
     record {
       few_names = omega arith;
-      names_differ = all_pairs_push (λ a b. same_name a b ≡ false) d.names m.word sound.names_differ (no_name d.names m.word new.new);
+      names_differ = all_pairs_push (λ a b. same_name a b ≡ false) d.names m.word sound.names_differ
+          (no_name d.names m.word new.new);
       free = All-push (λ name. is_reserved f name ≡ false) d.names m.word sound.free new.free;
       proper = All-push (λ name. is_name name ≡ true) d.names m.word sound.proper (proper new.word);
       few_deps = sound.few_deps;
-      deps_within = λ k e below_k. let inside = sound.deps_within k e below_k in
-          (wider (length d.names) (length (d.names ++ m.word ∷ [])) (left_of (get_or d.deps k e)) (omega arith) inside.0, wider (length d.names) (length (d.names ++ m.word ∷ [])) (right_of (get_or d.deps k e)) (omega arith) inside.1);
+      deps_within = λ k e below_k. let inside = sound.deps_within k e below_k in (
+        wider (length d.names) (length (d.names ++ m.word ∷ [])) (left_of (get_or d.deps k e))
+            (omega arith) inside.0,
+        wider (length d.names) (length (d.names ++ m.word ∷ []))
+            (right_of (get_or d.deps k e)) (omega arith) inside.1,
+      );
       one_line_each = sound.one_line_each;
       one_column_each = let same = sound.one_column_each in omega arith;
       fits = name_fits f column d m.word h new.free sound.fits;
     }
 
-names_sound : (f : Format) (column : Column) (d : Declarations) (ms : List Mark) (whole : Declarations) → FitsColumn f column → All IsProper ms
+names_sound : (f : Format) (column : Column) (d : Declarations) (ms : List Mark) (whole : Declarations)
+    → FitsColumn f column → All IsProper ms
     → IsSound f d → DeclareNames f column d ms whole → IsSound f whole
 names_sound f column d [] whole h proper sound same = subst (IsSound f) (sym same) sound
 names_sound f column d (m ∷ ms) whole h proper sound (new, rest) =
@@ -153,10 +169,14 @@ dependency_sound f d dep line sound room inside =
       deps_within = All-push (IsWithin (below (length d.names))) d.deps dep sound.deps_within inside;
       one_line_each = let same = sound.one_line_each in omega arith;
       one_column_each = sound.one_column_each;
-      fits = (elim f as (λ f. FitsFormat f d → FitsFormat f (add_dependency d dep line)) [ format.Plain ↦ λ fits. fits | format.Typed ↦ λ fits. fits ]) sound.fits;
+      fits = (elim f as (λ f. FitsFormat f d → FitsFormat f (add_dependency d dep line)) [
+        | format.Plain ↦ λ fits. fits
+        | format.Typed ↦ λ fits. fits
+      ]) sound.fits;
     }
 
-declares_fits : (f : Format) (k : TokenKind) (word : List ℕ) (column : Column) → declares f k word ≡ Some column → FitsColumn f column
+declares_fits : (f : Format) (k : TokenKind) (word : List ℕ) (column : Column)
+    → declares f k word ≡ Some column → FitsColumn f column
 unfolding declares declaring
 declares_fits format.Typed k word column e = tt
 declares_fits format.Plain token.Word word column e = elim (cases_Bool (bytes_eq word (codes "attributes"))) [
@@ -166,22 +186,28 @@ declares_fits format.Plain token.Word word column e = elim (cases_Bool (bytes_eq
 declares_fits format.Plain k word column e = cc
 
 -- what is sound stays so by what a line means
-means_sound : (f : Format) (number : ℕ) (d : Declarations) (line : List ℕ) (next : Declarations) → IsSound f d → MeansTextLine f number d line next → IsSound f next
+means_sound : (f : Format) (number : ℕ) (d : Declarations) (line : List ℕ) (next : Declarations)
+    → IsSound f d → MeansTextLine f number d line next → IsSound f next
 means_sound f number d line next sound (inl (inl blank)) = subst (IsSound f) (sym blank.same) sound
 means_sound f number d line next sound (inl (inr is)) =
-    let marks : All IsProper (is.head ∷ is.words) = subst (λ (l : Lexed). All IsProper l.marks) is.tokens (lexed_proper mode.Plain 0 1 line) in
-    names_sound f is.column d is.words next (declares_fits f is.head.kind is.head.word is.column is.declaring) (All-tail IsProper is.head is.words marks) sound is.names
+    let marks : All IsProper (is.head ∷ is.words) =
+    subst (λ (l : Lexed). All IsProper l.marks) is.tokens (lexed_proper mode.Plain 0 1 line) in
+    names_sound f is.column d is.words next (declares_fits f is.head.kind is.head.word is.column is.declaring)
+    (All-tail IsProper is.head is.words marks) sound is.names
 means_sound f number d line next sound (inr is) =
     subst (IsSound f) (sym is.adds)
-    (dependency_sound f d is.dep number sound is.room (rest_within f d.names start (is.head ∷ is.others) is.dep tt is.dependency))
+    (dependency_sound f d is.dep number sound is.room
+    (rest_within f d.names start (is.head ∷ is.others) is.dep tt is.dependency))
 
-lines_sound : (f : Format) (number : ℕ) (d : Declarations) (lines : List (List ℕ)) (whole : Declarations) → IsSound f d → MeansLines f number d lines whole → IsSound f whole
+lines_sound : (f : Format) (number : ℕ) (d : Declarations) (lines : List (List ℕ)) (whole : Declarations)
+    → IsSound f d → MeansLines f number d lines whole → IsSound f whole
 lines_sound f number d [] whole sound same = subst (IsSound f) (sym same) sound
 lines_sound f number d (line ∷ lines) whole sound (next, here, rest) =
     lines_sound f (number + 1) next lines whole (means_sound f number d line next sound here) rest
 
 pub line_sound : (f : Format) (line : ℕ) (d : Declarations) (text : List ℕ) → IsSound f d → IfOk (read_line f line d text) (IsSound f)
-line_sound f line d text sound = when_ok (IsSound f) _ (λ next e. means_sound f line d text next sound (line_there f line d text next e))
+line_sound f line d text sound =
+    when_ok (IsSound f) _ (λ next e. means_sound f line d text next sound (line_there f line d text next e))
 
 -- what a whole text declares forms a schema
 pub record IsWhole (d : Declarations) : Type 0 where
@@ -193,10 +219,16 @@ pub opening_whole : (number : ℕ) (lines : List (List ℕ)) → IfOk (read_open
 opening_whole number lines = when_ok IsWhole _ (λ whole e.
     let means = opening_means number lines whole e in
     elim (means.0) [
-      | inl plain ↦ record { format = format.Plain; sound = lines_sound format.Plain number no_declaration lines whole (nothing_sound format.Plain) plain.1; some = means.1 }
+      | inl plain ↦ record {
+        format = format.Plain;
+        sound = lines_sound format.Plain number no_declaration lines whole (nothing_sound format.Plain) plain.1;
+        some = means.1;
+      }
       | inr typed ↦ record {
         format = format.Typed;
-        sound = lines_sound format.Typed (length typed.0.before + number + 1) no_declaration typed.0.later whole (nothing_sound format.Typed) typed.2;
+        sound = lines_sound format.Typed
+            (length typed.0.before + number + 1) no_declaration typed.0.later whole
+            (nothing_sound format.Typed) typed.2;
         some = means.1;
       }
     ])
@@ -210,23 +242,29 @@ forms_schema d deps whole e =
       few_names = sound.few_names;
       names_differ = sound.names_differ;
       few_deps = let few = sound.few_deps in omega arith;
-      deps_within = dependencies_all-to (IsWithin (below (length d.names))) deps (subst (All (IsWithin (below (length d.names)))) e sound.deps_within);
+      deps_within = dependencies_all-to (IsWithin (below (length d.names))) deps
+          (subst (All (IsWithin (below (length d.names)))) e sound.deps_within);
       one_line_each = let same = sound.one_line_each in omega arith;
     }
 
 pub forms_columns : (d : Declarations) → IsWhole d → AreColumns d.names d.columns
 forms_columns d whole = record {
   one_each = whole.sound.one_column_each;
-  no_type_name = (elim (whole.format) as (λ f. FitsFormat f d → Contains d.columns Integer → All (λ name. is_type_name name ≡ false) d.names) [
-    | format.Plain ↦ λ fits has. let wrong : Integer ≡ Text = All-contains (λ c. c ≡ Text) d.columns Integer fits has in cc
-    | format.Typed ↦ λ fits has. fits
-  ]) whole.sound.fits;
+  no_type_name = (elim (whole.format) as
+      (λ f. FitsFormat f d → Contains d.columns Integer → All (λ name. is_type_name name ≡ false) d.names) [
+        | format.Plain ↦ λ fits has. let wrong : Integer ≡ Text =
+            All-contains (λ c. c ≡ Text) d.columns Integer fits has in cc
+        | format.Typed ↦ λ fits has. fits
+      ]) whole.sound.fits;
 }
 
 -- no name of a text that is read is reserved
 pub whole_free : (d : Declarations) → IsWhole d → All (λ name. is_reserved format.Plain name ≡ false) d.names
 unfolding is_reserved
-whole_free d whole k e h = (elim (whole.format) as (λ f. is_reserved f (get_or d.names k e) ≡ false → is_reserved format.Plain (get_or d.names k e) ≡ false) [
-  | format.Plain ↦ λ free. free
-  | format.Typed ↦ λ free. (or_parts (is_common_word (get_or d.names k e)) (is_type_name (get_or d.names k e)) free).0
-]) (whole.sound.free k e h)
+whole_free d whole k e h =
+    (elim (whole.format) as
+    (λ f. is_reserved f (get_or d.names k e) ≡ false → is_reserved format.Plain (get_or d.names k e) ≡ false) [
+      | format.Plain ↦ λ free. free
+      | format.Typed ↦ λ free.
+          (or_parts (is_common_word (get_or d.names k e)) (is_type_name (get_or d.names k e)) free).0
+    ]) (whole.sound.free k e h)

@@ -27,24 +27,31 @@ version-law line next_column [] None =
     (refusal line next_column 0 (kind.Expected what.Number)) 0 (λ p n less. absurd (omega arith))
     (inl (inl (inr (refl, refl, refl, refl)))) (inl (refl, refl)) refl (λ n complaint. grind arith)
 version-law line next_column [] (Some s) =
-    first_at (VersionComplaint [] (Some s)) VersionWants (span_at line next_column [] (Some s)) (refused_by line s) 0
-    (λ p n less. absurd (omega arith)) (inr (s, refl, refl, flaw_numbered s.flaw)) (flaw_carries (VersionWants 0) s.flaw) refl
+    first_at (VersionComplaint [] (Some s)) VersionWants (span_at line next_column [] (Some s))
+    (refused_by line s) 0
+    (λ p n less. absurd (omega arith)) (inr (s, refl, refl, flaw_numbered s.flaw))
+    (flaw_carries (VersionWants 0) s.flaw) refl
     (λ n complaint. grind (arith, flaw_least s))
 version-law line next_column (m ∷ ms) stop = told (number_in m.kind) refl
   where
-    ends : (i : ℕ) → number_in m.kind ≡ Some i → (i == VERSION) ≡ true → (others : List Mark) (o : Option Stop)
+    ends : (i : ℕ) → number_in m.kind ≡ Some i → (i == VERSION) ≡ true
+        → (others : List Mark) (o : Option Stop)
         → FitsVersion line next_column (m ∷ others) o (end_version line others o)
     ends i some two [] None = λ p n complaint. grind arith
     ends i some two [] (Some s) =
-        first_at (VersionComplaint (m ∷ []) (Some s)) VersionWants (span_at line next_column (m ∷ []) (Some s)) (refused_by line s) 1
-        (λ p n less complaint. grind arith) (inr (s, refl, refl, flaw_numbered s.flaw)) (flaw_carries (VersionWants 1) s.flaw) refl
+        first_at (VersionComplaint (m ∷ []) (Some s)) VersionWants
+        (span_at line next_column (m ∷ []) (Some s)) (refused_by line s) 1
+        (λ p n less complaint. grind arith) (inr (s, refl, refl, flaw_numbered s.flaw))
+        (flaw_carries (VersionWants 1) s.flaw) refl
         (λ n complaint. grind (arith, flaw_least s))
     ends i some two (k ∷ ks) o =
         first_at (VersionComplaint (m ∷ k ∷ ks) o) VersionWants (span_at line next_column (m ∷ k ∷ ks) o)
         (refusal line k.column (length k.word) (kind.Expected what.LineEnd)) 1
-        (λ p n less complaint. grind arith) (inl (inr (inr (k, refl, refl, refl)))) (inr (omega arith, refl)) refl (λ n complaint. grind arith)
+        (λ p n less complaint. grind arith) (inl (inr (inr (k, refl, refl, refl))))
+        (inr (omega arith, refl)) refl (λ n complaint. grind arith)
 
-    number : (i : ℕ) (b : Bool) → number_in m.kind ≡ Some i → (i == VERSION) ≡ b → FitsVersion line next_column (m ∷ ms) stop
+    number : (i : ℕ) (b : Bool) → number_in m.kind ≡ Some i → (i == VERSION) ≡ b
+        → FitsVersion line next_column (m ∷ ms) stop
         (cond b (end_version line ms stop) (Err (refusal line m.column (length m.word) kind.UnknownVersion)))
     number i true some two = ends i some two ms stop
     number i false some other =
@@ -55,7 +62,8 @@ version-law line next_column (m ∷ ms) stop = told (number_in m.kind) refl
     told : (o : Option ℕ) → number_in m.kind ≡ o → FitsVersion line next_column (m ∷ ms) stop (version_number line m ms stop o)
     told None none =
         first_at (VersionComplaint (m ∷ ms) stop) VersionWants (span_at line next_column (m ∷ ms) stop)
-        (refusal line m.column (length m.word) (kind.Expected what.Number)) 0 (λ p n less. absurd (omega arith))
+        (refusal line m.column (length m.word) (kind.Expected what.Number)) 0
+        (λ p n less. absurd (omega arith))
         (inl (inl (inl (m, refl, none, refl, refl)))) (inl (refl, refl)) refl (λ n complaint. grind arith)
     told (Some i) some = number i (i == VERSION) some refl
 
@@ -67,7 +75,8 @@ text-law text = fits (opening lines)
     lines : List (List ℕ)
     lines = line_texts (without_mark text)
 
-    plain : has_version_line lines ≡ false → (r : Result Declarations SchemaRefusal) → FitsLines format.Plain 1 no_declaration lines r → FitsText 1 lines r
+    plain : has_version_line lines ≡ false → (r : Result Declarations SchemaRefusal)
+        → FitsLines format.Plain 1 no_declaration lines r → FitsText 1 lines r
     plain none (Ok whole) later = inl (none, later)
     plain none (Err e) later = inl (none, later)
 
@@ -77,17 +86,23 @@ text-law text = fits (opening lines)
     typed has is (Err e) later = inr (has, inr (is, later))
 
     version : (has : HasVersionLine lines) (o : Result Declarations SchemaRefusal)
-        → read_version (length has.before + 1) (has.head.column + length has.head.word) has.others (lex mode.Numbered has.version).stop ≡ o
-        → FitsVersion (length has.before + 1) (has.head.column + length has.head.word) has.others (lex mode.Numbered has.version).stop o
+        → read_version (length has.before + 1) (has.head.column + length has.head.word) has.others
+        (lex mode.Numbered has.version).stop ≡ o
+        → FitsVersion (length has.before + 1) (has.head.column + length has.head.word) has.others
+        (lex mode.Numbered has.version).stop o
         → FitsText 1 lines (and_then o (λ d. read_lines format.Typed (length has.before + 1 + 1) d has.later))
     version has (Ok d) read fine =
         let is = version_there lines has (length has.before + 1) d read in
-        rw is.1 (typed has is.0 _ (lines-law format.Typed (length has.before + 1 + 1) no_declaration has.later))
+        rw is.1 (typed has is.0 _
+        (lines-law format.Typed (length has.before + 1 + 1) no_declaration has.later))
     version has (Err e) read first = inr (has, inl first)
 
     fits : (has_version_line lines ≡ false) ⊎ HasVersionLine lines → FitsText 1 lines (read_opening 1 lines)
-    fits (inl none) = rw (plain_opening 1 lines none) (plain none _ (lines-law format.Plain 1 no_declaration lines))
-    fits (inr has) = rw (typed_opening 1 lines has) (version has _ refl (version-law _ _ has.others (lex mode.Numbered has.version).stop))
+    fits (inl none) =
+        rw (plain_opening 1 lines none) (plain none _ (lines-law format.Plain 1 no_declaration lines))
+    fits (inr has) =
+        rw (typed_opening 1 lines has)
+        (version has _ refl (version-law _ _ has.others (lex mode.Numbered has.version).stop))
 
 pub schema_refused : (text : List ℕ) (e : SchemaRefusal) → read_text text ≡ Err e → RefusesSchema text e
 schema_refused text e h = subst (FitsSchema text) h (text-law text)

@@ -19,12 +19,14 @@ use Rattle.schema_grammar.specs.Reading.{follow, follow_lexed}
 use Rattle.schema_grammar.proofs.GoalLaws.{Rest, marks_make, no_stop}
 use Rattle.schema_grammar.proofs.RefusalLemmas.{when_ok, ok_at}
 
-place_within : (names : List (List ℕ)) (word : List ℕ) (k : ℕ) → is_at (place_named names word) k ≡ true → k < length names
+place_within : (names : List (List ℕ)) (word : List ℕ) (k : ℕ) → is_at (place_named names word) k ≡ true
+    → k < length names
 place_within names word k here = told (place_named names word) refl here
   where
     told : (o : Option ℕ) → place_named names word ≡ o → is_at o k ≡ true → k < length names
     told None place at = absurd (false≢true at)
-    told (Some a) place at = rw (eqb-true k a at) (position-Some (λ name. same_name name word) names a [] place).0
+    told (Some a) place at =
+        rw (eqb-true k a at) (position-Some (λ name. same_name name word) names a [] place).0
 
 pub named_within : (names : List (List ℕ)) (words : List Mark) → Within (named names words) (below (length names))
 named_within names [] k member = absurd (false≢true member)
@@ -34,7 +36,8 @@ named_within names (m ∷ ms) k member =
     (λ later. named_within names ms k later)
     (or_cases (is_at (place_named names m.word) k) (list_any (λ w. is_at (place_named names w.word) k) ms) member)
 
-side_within : (f : Format) (names : List (List ℕ)) (ms : List Mark) (x : Places) → IsSide f names ms x → Within x (below (length names))
+side_within : (f : Format) (names : List (List ℕ)) (ms : List Mark) (x : Places) → IsSide f names ms x
+    → Within x (below (length names))
 side_within f names ms x (inl empty) = rw empty.nothing (λ k e. cc)
 side_within f names ms x (inr words) = rw words.members (named_within names ms)
 
@@ -56,14 +59,21 @@ IsReadingWithin u (right_empty s x) = Within x u
 
 -- the dependency that tokens make lies within the declared names
 pub rest_within : (f : Format) (names : List (List ℕ)) (reading : Reached) (ms : List Mark) (d : Dependency)
-    → IsReadingWithin (below (length names)) reading → Rest f names reading ms d → IsWithin (below (length names)) d
+    → IsReadingWithin (below (length names)) reading → Rest f names reading ms d
+    → IsWithin (below (length names)) d
 rest_within f names start ms d h is =
-    rw is.states (stated_within _ is.sign is.x is.y (side_within f names is.lhs is.x is.left_side) (side_within f names is.rhs is.y is.right_side))
+    rw is.states (stated_within _ is.sign is.x is.y (side_within f names is.lhs is.x is.left_side)
+    (side_within f names is.rhs is.y is.right_side))
 rest_within f names (left x) ms d h is =
-    rw is.states (stated_within _ is.sign _ is.y (union_within _ x _ h (named_within names is.words)) (side_within f names is.rhs is.y is.right_side))
-rest_within f names left_empty ms d h is = rw is.states (stated_within _ is.sign none is.y (λ k e. cc) (side_within f names is.rhs is.y is.right_side))
-rest_within f names (after_sign s x) ms d h is = rw is.states (stated_within _ s x is.y h (side_within f names ms is.y is.right_side))
-rest_within f names (right s x y) ms d h is = rw is.states (stated_within _ s x _ h.0 (union_within _ y _ h.1 (named_within names ms)))
+    rw is.states (stated_within _ is.sign _ is.y (union_within _ x _ h (named_within names is.words))
+    (side_within f names is.rhs is.y is.right_side))
+rest_within f names left_empty ms d h is =
+    rw is.states (stated_within _ is.sign none is.y (λ k e. cc)
+    (side_within f names is.rhs is.y is.right_side))
+rest_within f names (after_sign s x) ms d h is =
+    rw is.states (stated_within _ s x is.y h (side_within f names ms is.y is.right_side))
+rest_within f names (right s x y) ms d h is =
+    rw is.states (stated_within _ s x _ h.0 (union_within _ y _ h.1 (named_within names ms)))
 rest_within f names (right_empty s x) ms d h is = rw is.states (stated_within _ s x none h (λ k e. cc))
 
 -- so does the dependency that a line states
@@ -71,7 +81,9 @@ pub follow_within : (f : Format) (declared : List (List ℕ)) (line : ℕ) (read
     → IsReadingWithin (below (length declared)) reading → IfOk (follow f declared line reading column ms stop) (IsWithin (below (length declared)))
 follow_within f declared line reading column ms stop h = when_ok _ _ (λ d e.
     let whole = no_stop f declared line reading column (record { marks = ms; stop = stop }) d e in
-    rest_within f declared reading ms d h (marks_make f declared line column reading ms d (ap (follow_lexed f declared line reading column) (sym whole) ∙ e)))
+    rest_within f declared reading ms d h
+    (marks_make f declared line column reading ms d
+    (ap (follow_lexed f declared line reading column) (sym whole) ∙ e)))
 
 -- what a call read lies within what the reading allows
 pub within_read : {X Y E F : Type 0} (P : Y → Type 0) (g : X → Y) (r : Result X E) (reading : Result Y F) → IfOk r (λ x. reading ≡ Ok (g x)) → IfOk reading P
