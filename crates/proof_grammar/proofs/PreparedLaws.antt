@@ -58,7 +58,8 @@ tree_earlier ts l _ t tree n some = absurd (omega (arith, some))
 -- ---- nothing is wrong with them
 pub no_names : (ts : List Tree) (l : Line) → AllEarlier ts (premises_of l.body) → NamesNoLine ts l → ⊥
 no_names ts l earlier is =
-    let within = earlier is.premise (omega (arith, is.named, uses_first is.premise l [])) in omega (arith, within, is.missing)
+    let within = earlier is.premise (omega (arith, is.named, uses_first is.premise l [])) in
+    omega (arith, within, is.missing)
 
 pub not_twice : (lines : List Line) (l : Line) → AllOnce (λ n. uses n lines) (premises_of l.body) → UsesTwice lines l → ⊥
 not_twice lines l once is =

@@ -128,7 +128,8 @@ pair_prepares s lines ts os n stated rule q r true true None w slots first secon
     let left = earlier_slot s used ts os q None slots first here in
     let right = earlier_slot s used ts os r _ slots second refl in
     let l : Line = record { number = n; stated = stated; body = by_pair rule q r } in (
-      earlier_more ts q (r ∷ []) left.0 left.1 (earlier_more ts r [] right.0 right.1 (λ m some. absurd (omega (arith, some)))),
+      earlier_more ts q (r ∷ []) left.0 left.1
+          (earlier_more ts r [] right.0 right.1 (λ m some. absurd (omega (arith, some)))),
       record {
         premise = q;
         named = omega (arith, times_two q q r, times_self q);
@@ -142,7 +143,8 @@ pair_prepares s lines ts os n stated rule q r true true (Some o) None slots firs
     let right = earlier_slot s (λ m. used m + times m (q ∷ [])) ts (closed os q) r None later
     (ap (λ m. nat_lt 0 r && nat_le r m) (length-set os (q - 1) None) ∙ second) there in
     let l : Line = record { number = n; stated = stated; body = by_pair rule q r } in (
-      earlier_more ts q (r ∷ []) left.0 left.1 (earlier_more ts r [] right.0 right.1 (λ m some. absurd (omega (arith, some)))),
+      earlier_more ts q (r ∷ []) left.0 left.1
+          (earlier_more ts r [] right.0 right.1 (λ m some. absurd (omega (arith, some)))),
       record {
         premise = r;
         named = omega (arith, times_two r q r, times_self r);
@@ -154,11 +156,13 @@ pair_prepares s lines ts os n stated rule q r true true (Some o) (Some w) slots 
     let next : ℕ → ℕ = λ m. used m + times m (q ∷ []) in
     let left = earlier_slot s used ts os q (Some o) slots first here in
     let later = premise_taken s used ts os q slots (omega (arith, left.1.number)) left.2.0 in
-    let right = earlier_slot s next ts (closed os q) r (Some w) later (ap (λ m. nat_lt 0 r && nat_le r m) (length-set os (q - 1) None) ∙ second) there in
+    let right = earlier_slot s next ts (closed os q) r (Some w) later
+    (ap (λ m. nat_lt 0 r && nat_le r m) (length-set os (q - 1) None) ∙ second) there in
     let one = left.2.1 in
     let two = right.2.1 in
     let l : Line = record { number = n; stated = stated; body = by_pair rule q r } in (
-      earlier_more ts q (r ∷ []) left.0 left.1 (earlier_more ts r [] right.0 right.1 (λ m some. absurd (omega (arith, some)))),
+      earlier_more ts q (r ∷ []) left.0 left.1
+          (earlier_more ts r [] right.0 right.1 (λ m some. absurd (omega (arith, some)))),
       once_more used q (r ∷ []) left.2.0 (once_more next r [] right.2.0 (λ m some. absurd (omega (arith, some)))),
       outcome_of s used ts l (max o.levels w.levels + 1) (pair rule o.tree w.tree) (pair rule left.0 right.0)
           (pair_conclusion rule o.conclusion w.conclusion) (closed (closed os q) r)

@@ -84,7 +84,8 @@ walk_more : (k : LineKind) (s : Schema) (text : List ℕ) (after whole : List (L
     (grown : List Tree) (number : ℕ) (here : List ℕ) (texts : List (List ℕ)) (more : List Line) (us : List Tree)
     (w : HasCome s text after whole all grown number (here ∷ texts) more us) → AreRead s all grown
     → Counts k w.fresh here → Walks s text after whole all grown (number + 1) texts
-    → IsWalked s text whole after all grown (read_from s number (texts ++ after) (read_as k s w.fresh number w.book here))
+    → IsWalked s text whole after all grown
+    (read_from s number (texts ++ after) (read_as k s w.fresh number w.book here))
 unfolding skipped
 walk_more Blank s text after whole all grown number here texts more us w read counts on =
     on more us (skipped s text after whole all grown number here texts more us w w.fresh counts)
@@ -166,18 +167,19 @@ pub walked : (s : Schema) (text : List ℕ) (before after : List (List ℕ)) (li
     → line_texts (without_mark text) ≡ before ++ after → MeanLines (names_of s) (certificate_lines_of before) lines
     → AreRead s lines trees → IsWalked s text before after lines trees
     (read_certificate_lines s true 1 (record { lines = []; unused = [] }) (before ++ after))
-walked s text before after lines trees cut mean read = walk s text after before lines trees 1 before read lines trees (record {
-  before = [];
-  fresh = true;
-  lines = [];
-  trees = [];
-  book = record { lines = []; unused = [] };
-  cut = cut;
-  front = refl;
-  count = refl;
-  afterwards = at_start s text;
-  mean = mean;
-  all_lines = refl;
-  all_trees = refl;
-  nodes = read.nodes;
-})
+walked s text before after lines trees cut mean read =
+    walk s text after before lines trees 1 before read lines trees (record {
+      before = [];
+      fresh = true;
+      lines = [];
+      trees = [];
+      book = record { lines = []; unused = [] };
+      cut = cut;
+      front = refl;
+      count = refl;
+      afterwards = at_start s text;
+      mean = mean;
+      all_lines = refl;
+      all_trees = refl;
+      nodes = read.nodes;
+    })
