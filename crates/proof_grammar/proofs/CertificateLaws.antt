@@ -97,7 +97,8 @@ end_tells s text fresh lines trees book last (Err e) count afterwards (inr first
         first = λ n low high. first.earlier n low (omega (arith, high));
         before = place.before;
         here = place.here;
-        stands = subst (StandsAt text place.before place.here) (ap (λ (c : LineComplaint). c.line) (sym first.is)) place.stands;
+        stands = subst (StandsAt text place.before place.here) (ap (λ (c : LineComplaint). c.line) (sym first.is))
+            place.stands;
         is_number = omega (arith, place.count);
         is = ap (λ (c : LineComplaint). c.complaint) first.is;
       });
@@ -162,7 +163,8 @@ line_tells Certificate s text number here texts before fresh lines trees book cu
         means = line_there (names_of s) number here l grammar
 
         by_line : (r : Result Ledger Complaint) → entered s number book l ≡ r → Enters s lines trees l r
-            → read_proof s text ≡ read_from s number texts (marked r) → Tells s text (read_from s number texts (marked r))
+            → read_proof s text ≡ read_from s number texts (marked r)
+            → Tells s text (read_from s number texts (marked r))
         by_line (Err c) enter first is = inl (record {
           before = before;
           here = here;
@@ -176,8 +178,8 @@ line_tells Certificate s text number here texts before fresh lines trees book cu
         by_line (Ok next) enter enters is =
             on (before ++ here ∷ []) false (lines ++ l ∷ []) (trees ++ enters.0 ∷ []) next
             (cut ∙ sym (append_assoc before (here ∷ []) texts)) (omega (arith, count, length-append before (here ∷ [])))
-            (one_more s text before fresh lines trees book here number l enters.0 next afterwards counts stands means enter
-            enters.1) is
+            (one_more s text before fresh lines trees book here number l enters.0 next afterwards counts stands means
+            enter enters.1) is
 
 lines_tell : (s : Schema) (text : List ℕ) (number : ℕ) (texts : List (List ℕ)) → TellsOn s text number texts
 unfolding read_certificate_lines read_one
@@ -189,12 +191,13 @@ lines_tell s text number [] before fresh lines trees book cut count afterwards i
     (finishes s (λ n. uses n lines) trees book.unused (number - 1) book.lines afterwards.follows.slots
     afterwards.follows.fresh) is
 lines_tell s text number (here ∷ texts) before fresh lines trees book cut count afterwards is =
-    line_tells (line_kind fresh (lex mode.Numbered here)) s text number here texts before fresh lines trees book cut count
-    afterwards (kind_counts fresh here _ refl) (lines_tell s text (number + 1) texts) is
+    line_tells (line_kind fresh (lex mode.Numbered here)) s text number here texts before fresh lines trees book cut
+    count afterwards (kind_counts fresh here _ refl) (lines_tell s text (number + 1) texts) is
 
 pub text_tells : (s : Schema) (text : List ℕ) → Tells s text (read_proof s text)
 unfolding read_proof
-text_tells s text = lines_tell s text 1 (line_texts (without_mark text)) [] true [] [] (record { lines = []; unused = [] })
+text_tells s text =
+    lines_tell s text 1 (line_texts (without_mark text)) [] true [] [] (record { lines = []; unused = [] })
     refl refl (at_start s text) refl
 
 pub spelled_there : (s : Schema) (text : List ℕ) (t : Tree) → read_proof s text ≡ Ok t → SpellsWithin s text t
@@ -216,7 +219,8 @@ end_back s text lines trees r mean read done =
     ap (read_certificate_lines s true 1 (record { lines = []; unused = [] })) cut
     ∙ walk.same
     ∙ one_end (λ n. uses n lines) trees (length whole + 1 - 1) walk.book.lines _ r
-    (finishes s (λ n. uses n lines) trees walk.book.unused (length whole + 1 - 1) walk.book.lines follows.slots follows.fresh)
+    (finishes s (λ n. uses n lines) trees walk.book.unused (length whole + 1 - 1) walk.book.lines follows.slots
+    follows.fresh)
     (done walk.fresh walk.book walk.afterwards)
 
 pub spelled_back : (s : Schema) (text : List ℕ) (t : Tree) → SpellsWithin s text t → read_proof s text ≡ Ok t
@@ -228,7 +232,8 @@ spelled_back s text t spelled =
     end_back s text lines trees (Ok t) spelled.spells.mean (record {
       nodes = are.nodes;
       once = λ n low. ⊎_elim (λ less. omega (arith, are.used n low less))
-          (λ late. omega (arith, late_unused s [] lines trees n are.nodes (omega (arith, late)))) (cases_lt n (length lines));
+          (λ late. omega (arith, late_unused s [] lines trees n are.nodes (omega (arith, late))))
+          (cases_lt n (length lines));
       few_lines = spelled.few_lines;
       few_levels = λ k d inside. omega (
         arith,

@@ -236,6 +236,7 @@ refused_entered s at lines ts book l c follows own first =
     told (entered s at book l) (enters s at lines ts book l follows own)
   where
     told : (r : Result Ledger Complaint) → Enters s lines ts l r → r ≡ Err c
-    told (Ok next) is = absurd (nothing_wrong s lines ts l is.0 c is.1.node is.1.few_lines is.1.few_levels is.2 first.wrong)
+    told (Ok next) is =
+        absurd (nothing_wrong s lines ts l is.0 c is.1.node is.1.few_lines is.1.few_levels is.2 first.wrong)
     told (Err d) other = ap Err (one_of_rank s lines ts l d c
         (omega (arith, other.first c first.wrong, first.first d other.wrong)) other.wrong first.wrong)

@@ -21,8 +21,8 @@ pub record IsFirstOpen (used : ℕ → ℕ) (n i size : ℕ) : Type 0 where
   pub unused : i < size → used (n + i + 1) ≡ 0
   pub earlier : AreUsed used n i
 
-pub first_open : (s : Schema) (used : ℕ → ℕ) (n : ℕ) (ts : List Tree) (os : List (Option Opened)) → AreSlots s used n ts os
-    → IsFirstOpen used n (prefix os) (length ts)
+pub first_open : (s : Schema) (used : ℕ → ℕ) (n : ℕ) (ts : List Tree) (os : List (Option Opened))
+    → AreSlots s used n ts os → IsFirstOpen used n (prefix os) (length ts)
 first_open s used n [] [] slots = record {
   unused = λ less. absurd (omega (arith, less));
   earlier = λ k low high. absurd (omega (arith, low, high));

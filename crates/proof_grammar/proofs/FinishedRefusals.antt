@@ -119,7 +119,8 @@ one_end used ts last lines (Err e) (Err f) (inr some) (inl none) =
     absurd (omega (arith, ap length none.0, some.inside))
 one_end used ts last lines (Err e) (Err f) (inr first) (inr second) =
     let same : first.at ≡ second.at = ⊎_elim (λ same. same)
-    (⊎_elim (λ less. absurd (omega (arith, first.unused, second.earlier (first.at + 1) (omega arith) (omega (arith, less)))))
+    (⊎_elim
+    (λ less. absurd (omega (arith, first.unused, second.earlier (first.at + 1) (omega arith) (omega (arith, less)))))
     (λ more. absurd (omega (arith, second.unused, first.earlier (second.at + 1) (omega arith) (omega (arith, more))))))
     (cases_order first.at second.at) in
     ap Err (first.is ∙ ap (λ i. complaint_at (slice_index lines i) never_used) same ∙ sym second.is)

@@ -159,4 +159,4 @@ wants_from fs (past words ending) leads = final_line fs (past words ending) lead
 wants_from fs at_rule leads =
     (on_begins fs (a_rule rule.Given) at_rule _ leads refl, λ names. false≢true ((names_at fs at_rule leads).1 names))
 wants_from fs (at_with k) leads =
-    (on_begins fs a_with (at_with k) (at_side k) leads refl, λ names. false≢true ((names_at fs (at_with k) leads).1 names))
+    (on_begins fs a_with (at_with k) _ leads refl, λ names. false≢true ((names_at fs (at_with k) leads).1 names))

@@ -46,7 +46,8 @@ body_judged : (r : RuleName) (names : List (List ℕ)) (at next_column : ℕ) (m
     (f : Body × Rest → Result Line SchemaRefusal) → FollowsRule names at stop f
     → Judged (named r) names at next_column ms stop (body names r (left_at at next_column ms stop) >>= f)
 unfolding body one augmented maugmented
-body_judged rule.Given names at next_column ms stop f follows = last_judged by_given names at next_column ms stop f follows
+body_judged rule.Given names at next_column ms stop f follows =
+    last_judged by_given names at next_column ms stop f follows
 body_judged rule.Reflexivity names at next_column ms stop f follows =
     follows by_reflexivity false ending next_column ms (refl, refl, refl, refl) (λ e. absurd (false≢true e))
 body_judged rule.MReflexivity names at next_column ms stop f follows =
@@ -100,4 +101,5 @@ line_judged names at next_column ms stop =
     (λ f fs. rule_judged names at f fs stop _
     (λ r g gs. body_judged r names at g gs stop _
     (λ z more k h hs is last.
-    end_judged more k names at h hs stop (record { number = n; stated = grammar.stated s x y; body = z }) is last)))))))))))
+    end_judged more k names at h hs stop
+    (record { number = n; stated = grammar.stated s x y; body = z }) is last)))))))))))

@@ -84,12 +84,12 @@ token_judged {D} s names line next_column (m ∷ ms) stop want found t read want
 -- what follows a token, from any column
 abbrev pub Follows : {X : Type 0} → List (List ℕ) → ℕ → Option Stop → (X → Shape)
     → (X × Rest → Result Line SchemaRefusal) → Type 0
-Follows {X} names line stop t f = (x : X) (next_column : ℕ) (ms : List Mark) → Judged (t x) names line next_column ms stop
-    (f (x, left_at line next_column ms stop))
+Follows {X} names line stop t f = (x : X) (next_column : ℕ) (ms : List Mark)
+    → Judged (t x) names line next_column ms stop (f (x, left_at line next_column ms stop))
 
 abbrev pub FollowsIf : List (List ℕ) → ℕ → Option Stop → Shape → (Rest → Result Line SchemaRefusal) → Type 0
-FollowsIf names line stop t f = (next_column : ℕ) (ms : List Mark) → Judged t names line next_column ms stop
-    (f (left_at line next_column ms stop))
+FollowsIf names line stop t f = (next_column : ℕ) (ms : List Mark)
+    → Judged t names line next_column ms stop (f (left_at line next_column ms stop))
 
 -- a reader of a value
 value_judged : {X : Type 0} (s : Shape) (names : List (List ℕ)) (line next_column : ℕ) (ms : List Mark)

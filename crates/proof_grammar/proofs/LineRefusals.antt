@@ -94,9 +94,6 @@ complaint_there names ms stop p n (inr flaw) = inr flaw
 complaint_there names ms stop p n (inl (low, wrong)) =
     inl (told (runs (Some at_start) (take p (forms ms))) (slice_get ms p) refl refl wrong)
   where
-    size : length (forms ms) ≡ length ms
-    size = length-map ms form
-
     told : (o : Option Shape) (k : Option Mark) → runs (Some at_start) (take p (forms ms)) ≡ o → slice_get ms p ≡ k
         → WrongAt names stop n o k → SideWordComplaint names ms p n ⊎ ((n ≡ 6) × CannotGoOn (forms ms) stop p)
     told None k reached at wrong = absurd wrong
@@ -107,7 +104,7 @@ complaint_there names ms stop p n (inl (low, wrong)) =
       record {
         before = begins_from (take p (forms ms)) s reached;
         here = inl (
-          omega (arith, size, slice_get_within ms p m at),
+          omega (arith, length-map ms form, slice_get_within ms p m at),
           λ begins.
               let on = begins_to (take (suc p) (forms ms)) begins in
               none-some on.0 (sym (runs_next (Some at_start) ms p m at ∙ ap (λ o. then_turn o (form m)) reached ∙ cannot)
@@ -117,7 +114,7 @@ complaint_there names ms stop p n (inl (low, wrong)) =
     )
     told (Some s) None reached at (six, ended, open_end) =
         let same : p ≡ length (forms ms) = ⊎_elim (λ inside. absurd (none-some inside.0 (sym at ∙ inside.2)))
-        (λ past. omega (arith, low, past.0, size)) (slice_get_cases ms p).1 in
+        (λ past. omega (arith, low, past.0, length-map ms form)) (slice_get_cases ms p).1 in
         let whole = take_all p (forms ms) (omega (arith, same)) in
         inr (
           six,
@@ -145,9 +142,6 @@ complaint_back names ms stop p n (inl (inr (six, stuck))) =
     let there = begins_to (take p (forms ms)) stuck.before in
     inl (told there.0 (slice_get ms p) there.1 refl stuck.here)
   where
-    size : length (forms ms) ≡ length ms
-    size = length-map ms form
-
     told : (s : Shape) (k : Option Mark) → runs (Some at_start) (take p (forms ms)) ≡ Some s → slice_get ms p ≡ k
         → ((p < length (forms ms)) × (BeginLine (take (suc p) (forms ms)) → ⊥))
         ⊎ ((p ≡ length (forms ms)) × (stop ≡ None) × (AreLine (forms ms) → ⊥))
@@ -158,17 +152,17 @@ complaint_back names ms stop p n (inl (inr (six, stuck))) =
           | Some t ↦ λ e. absurd (cannot (begins_from (take (suc p) (forms ms)) t
               (runs_next (Some at_start) ms p m at ∙ ap (λ o. then_turn o (form m)) reached ∙ e)))
         ] in
-        (omega (arith, less, size), rw (reached, at) (inr (six, none (turn s (form m)) refl)))
+        (omega (arith, less, length-map ms form), rw (reached, at) (inr (six, none (turn s (form m)) refl)))
     told s None reached at (inl (less, cannot)) =
-        absurd (⊎_elim (λ inside. none-some inside.0 (sym at ∙ inside.2)) (λ past. omega (arith, less, past.0, size))
+        absurd (⊎_elim (λ inside. none-some inside.0 (sym at ∙ inside.2)) (λ past. omega (arith, less, past.0, length-map ms form))
         (slice_get_cases ms p).1)
     told s (Some m) reached at (inr (same, ended, cannot)) =
-        absurd (omega (arith, same, size, slice_get_within ms p m at))
+        absurd (omega (arith, same, length-map ms form, slice_get_within ms p m at))
     told s None reached at (inr (same, ended, cannot)) =
         let whole = take_all p (forms ms) (omega (arith, same)) in
         let open_end = false_from_ne_true (is_final s) (λ final.
         cannot (final_line (forms ms) s (sym (ap (runs (Some at_start)) whole) ∙ reached) final)) in
-        (omega (arith, same, size), rw (reached, at) (six, ended, open_end))
+        (omega (arith, same, length-map ms form), rw (reached, at) (six, ended, open_end))
 
 -- ---- the law
 judged_refuses : (names : List (List ℕ)) (at : ℕ) (ms : List Mark) (stop : Option Stop) (r : Result Line SchemaRefusal)
@@ -194,7 +188,8 @@ judged_refuses names at ms stop (Err f) e first =
     )
 
 pub refusal_law : (names : List (List ℕ)) (number : ℕ) (text : List ℕ) (e : SchemaRefusal)
-    → (certificate_line names (rest_from number 1 (lex mode.Numbered text)) ≡ Err e) ↔ RefusesCertificateLine names number text e
+    → (certificate_line names (rest_from number 1 (lex mode.Numbered text)) ≡ Err e)
+    ↔ RefusesCertificateLine names number text e
 refusal_law names number text e =
     let l = lex mode.Numbered text in
     judged_refuses names number l.marks l.stop _ e (line_judged names number 1 l.marks l.stop)

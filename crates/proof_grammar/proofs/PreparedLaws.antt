@@ -30,44 +30,36 @@ AllEarlier ts ps = (n : ℕ) → 0 < times n ps → (0 < n) × (n ≤ length ts)
 abbrev pub AllOnce : (ℕ → ℕ) → List ℕ → Type 0
 AllOnce used ps = (n : ℕ) → 0 < times n ps → used n + times n ps ≤ 1
 
-only_one : (n p : ℕ) → 0 < times n (p ∷ []) → n ≡ p
-only_one n p some = ⊎_elim (λ same. same)
-    (λ other. absurd (omega (arith, some, times_other n p (ne_eqb n p other)))) (cases_eq n p)
-
 pub earlier_more : (ts : List Tree) (p : ℕ) (ps : List ℕ) (t : Tree) → IsTreeAt ts p t → AllEarlier ts ps
     → AllEarlier ts (p ∷ ps)
 earlier_more ts p ps t at rest n some =
     let inside = slice_get_within ts at.before t at.tree in
-    ⊎_elim (λ more. rest n more)
-    (λ none. let same = only_one n p (omega (arith, some, none, times_more n p ps)) in
-    (omega (arith, same, at.number), omega (arith, same, at.number, inside)))
-    (cases_lt 0 (times n ps))
+    ⊎_elim (λ same. (omega (arith, same, at.number), omega (arith, same, at.number, inside)))
+    (λ other. rest n (omega (arith, some, times_more n p ps, times_other n p (ne_eqb n p other)))) (cases_eq n p)
 
 pub once_more : (used : ℕ → ℕ) (p : ℕ) (ps : List ℕ) → used p ≡ 0 → AllOnce (λ n. used n + times n (p ∷ [])) ps
     → AllOnce used (p ∷ ps)
 once_more used p ps unused rest n some =
     let sum = times_more n p ps in
-    ⊎_elim (λ more. omega (arith, sum, rest n more))
-    (λ none. let same = only_one n p (omega (arith, some, none, sum)) in
-    omega (arith, sum, none, ap used same, unused, ap (λ m. times m (p ∷ [])) same, times_self p))
+    ⊎_elim (λ more. omega (arith, sum, rest n more)) (λ none. ⊎_elim
+    (λ same. omega (arith, sum, none, ap used same, unused, ap (λ m. times m (p ∷ [])) same, times_self p))
+    (λ other. absurd (omega (arith, some, none, sum, times_other n p (ne_eqb n p other)))) (cases_eq n p))
     (cases_lt 0 (times n ps))
-
-pub none_named : {A : Type 0} (n : ℕ) → 0 < times n [] → A
-none_named n some = absurd (omega (arith, some))
 
 -- a line that has a tree uses earlier lines alone
 pub tree_earlier : (ts : List Tree) (l : Line) (b : Body) (t : Tree) → IsTreeOf ts l b t → AllEarlier ts (premises_of b)
 tree_earlier ts l (by_step rule p) t tree n some =
-    earlier_more ts p [] tree.premise tree.earlier (λ m named. none_named m named) n some
+    earlier_more ts p [] tree.premise tree.earlier (λ m named. absurd (omega (arith, named))) n some
 tree_earlier ts l (by_pair rule p q) t tree n some =
     earlier_more ts p (q ∷ []) tree.first tree.first_earlier
-    (earlier_more ts q [] tree.second tree.second_earlier (λ m named. none_named m named)) n some
-tree_earlier ts l _ t tree n some = none_named n some
+    (earlier_more ts q [] tree.second tree.second_earlier (λ m named. absurd (omega (arith, named)))) n some
+tree_earlier ts l _ t tree n some = absurd (omega (arith, some))
 
 -- ---- nothing is wrong with them
 pub no_names : (ts : List Tree) (l : Line) → AllEarlier ts (premises_of l.body) → NamesNoLine ts l → ⊥
 no_names ts l earlier is =
-    let within = earlier is.premise (omega (arith, is.named, uses_first is.premise l [])) in omega (arith, within, is.missing)
+    let within = earlier is.premise (omega (arith, is.named, uses_first is.premise l [])) in
+    omega (arith, within, is.missing)
 
 pub not_twice : (lines : List Line) (l : Line) → AllOnce (λ n. uses n lines) (premises_of l.body) → UsesTwice lines l → ⊥
 not_twice lines l once is =

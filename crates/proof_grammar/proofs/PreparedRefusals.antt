@@ -23,7 +23,7 @@ use Rattle.proof_grammar.specs.Wrongs.{NamesNoLine, UsesTwice, NodeFault}
 use Rattle.proof_grammar.proofs.NodeLemmas.{uses-append}
 use Rattle.proof_grammar.proofs.OneTree.{tree_of_line}
 use Rattle.proof_grammar.proofs.PremiseLemmas.{earlier_slot, premise_taken, times_self, times_two}
-use Rattle.proof_grammar.proofs.PreparedLaws.{IsLineOfAttributes, AllEarlier, AllOnce, earlier_more, once_more, none_named}
+use Rattle.proof_grammar.proofs.PreparedLaws.{IsLineOfAttributes, AllEarlier, AllOnce, earlier_more, once_more}
 use Rattle.proof_grammar.proofs.SlotLemmas.{AreSlots, times, slots_size, slots_same}
 
 -- ---- what is prepared
@@ -84,7 +84,7 @@ step_prepares s lines ts os n stated rule q false o slots own earlier here = rec
 step_prepares s lines ts os n stated rule q true None slots own earlier here =
     let slot = earlier_slot s (λ m. uses m lines) ts os q None slots earlier here in
     let l : Line = record { number = n; stated = stated; body = by_step rule q } in (
-      earlier_more ts q [] slot.0 slot.1 (λ m some. none_named m some),
+      earlier_more ts q [] slot.0 slot.1 (λ m some. absurd (omega (arith, some))),
       record {
         premise = q;
         named = omega (arith, times_self q);
@@ -96,8 +96,8 @@ step_prepares s lines ts os n stated rule q true (Some o) slots own earlier here
     let slot = earlier_slot s used ts os q (Some o) slots earlier here in
     let is = slot.2.1 in
     let l : Line = record { number = n; stated = stated; body = by_step rule q } in (
-      earlier_more ts q [] slot.0 slot.1 (λ m some. none_named m some),
-      once_more used q [] slot.2.0 (λ m some. none_named m some),
+      earlier_more ts q [] slot.0 slot.1 (λ m some. absurd (omega (arith, some))),
+      once_more used q [] slot.2.0 (λ m some. absurd (omega (arith, some))),
       outcome_of s used ts l (o.levels + 1) (step rule o.tree) (step rule slot.0)
           (step_conclusion s rule o.conclusion) (closed os q) (ap (step rule) is.tree)
           (record { premise = slot.0; earlier = slot.1; tree = refl }) (ap (λ k. k + 1) is.levels)
@@ -128,7 +128,8 @@ pair_prepares s lines ts os n stated rule q r true true None w slots first secon
     let left = earlier_slot s used ts os q None slots first here in
     let right = earlier_slot s used ts os r _ slots second refl in
     let l : Line = record { number = n; stated = stated; body = by_pair rule q r } in (
-      earlier_more ts q (r ∷ []) left.0 left.1 (earlier_more ts r [] right.0 right.1 (λ m some. none_named m some)),
+      earlier_more ts q (r ∷ []) left.0 left.1
+          (earlier_more ts r [] right.0 right.1 (λ m some. absurd (omega (arith, some)))),
       record {
         premise = q;
         named = omega (arith, times_two q q r, times_self q);
@@ -142,7 +143,8 @@ pair_prepares s lines ts os n stated rule q r true true (Some o) None slots firs
     let right = earlier_slot s (λ m. used m + times m (q ∷ [])) ts (closed os q) r None later
     (ap (λ m. nat_lt 0 r && nat_le r m) (length-set os (q - 1) None) ∙ second) there in
     let l : Line = record { number = n; stated = stated; body = by_pair rule q r } in (
-      earlier_more ts q (r ∷ []) left.0 left.1 (earlier_more ts r [] right.0 right.1 (λ m some. none_named m some)),
+      earlier_more ts q (r ∷ []) left.0 left.1
+          (earlier_more ts r [] right.0 right.1 (λ m some. absurd (omega (arith, some)))),
       record {
         premise = r;
         named = omega (arith, times_two r q r, times_self r);
@@ -154,12 +156,14 @@ pair_prepares s lines ts os n stated rule q r true true (Some o) (Some w) slots 
     let next : ℕ → ℕ = λ m. used m + times m (q ∷ []) in
     let left = earlier_slot s used ts os q (Some o) slots first here in
     let later = premise_taken s used ts os q slots (omega (arith, left.1.number)) left.2.0 in
-    let right = earlier_slot s next ts (closed os q) r (Some w) later (ap (λ m. nat_lt 0 r && nat_le r m) (length-set os (q - 1) None) ∙ second) there in
+    let right = earlier_slot s next ts (closed os q) r (Some w) later
+    (ap (λ m. nat_lt 0 r && nat_le r m) (length-set os (q - 1) None) ∙ second) there in
     let one = left.2.1 in
     let two = right.2.1 in
     let l : Line = record { number = n; stated = stated; body = by_pair rule q r } in (
-      earlier_more ts q (r ∷ []) left.0 left.1 (earlier_more ts r [] right.0 right.1 (λ m some. none_named m some)),
-      once_more used q (r ∷ []) left.2.0 (once_more next r [] right.2.0 (λ m some. none_named m some)),
+      earlier_more ts q (r ∷ []) left.0 left.1
+          (earlier_more ts r [] right.0 right.1 (λ m some. absurd (omega (arith, some)))),
+      once_more used q (r ∷ []) left.2.0 (once_more next r [] right.2.0 (λ m some. absurd (omega (arith, some)))),
       outcome_of s used ts l (max o.levels w.levels + 1) (pair rule o.tree w.tree) (pair rule left.0 right.0)
           (pair_conclusion rule o.conclusion w.conclusion) (closed (closed os q) r)
           (λ i. pair rule (one.tree i) (two.tree i))
@@ -196,8 +200,8 @@ leaf_prepares : (s : Schema) (lines : List Line) (ts : List Tree) (os : List (Op
     (Ok (record { levels = 1; outcome = with_tree (leaf rule) (leaf_conclusion s rule); unused = os }))
 leaf_prepares s lines ts os l rule none slots tree attributes fails =
     let used : ℕ → ℕ = λ m. uses m lines in (
-      subst (AllEarlier ts) (sym none) (λ n some. none_named n some),
-      subst (AllOnce used) (sym none) (λ n some. none_named n some),
+      subst (AllEarlier ts) (sym none) (λ n some. absurd (omega (arith, some))),
+      subst (AllOnce used) (sym none) (λ n some. absurd (omega (arith, some))),
       outcome_of s used ts l 1 (leaf rule) (leaf rule) (leaf_conclusion s rule) os refl tree refl attributes
           (λ d h. h) fails (slots_same s used (λ m. used m + times m (premises_of l.body)) 0 ts os
           (λ m h. omega (arith, ap (times m) none)) slots),
@@ -211,8 +215,8 @@ given_prepares : (s : Schema) (lines : List Line) (ts : List Tree) (os : List (O
       unused = os;
     }))
 given_prepares s lines ts os n stated k true slots is = (
-  λ m some. none_named m some,
-  λ m some. none_named m some,
+  λ m some. absurd (omega (arith, some)),
+  λ m some. absurd (omega (arith, some)),
   record {
     levels = λ t tree. absurd (grind (arith, nat_tests, is, tree.number));
     deep = λ h. absurd (omega (arith, h));

@@ -2,6 +2,7 @@
 use Rattle.std.proofs.Common.{◌≡◌, ◌<◌, ◌+◌, ◌==◌, ℕ, zero, suc, false, List, [], ◌∷◌, ◌++◌, length, slice_get, slice_set, Option, Some, None, refl, sym, ◌∙◌, ap, subst, arith}
 use Rattle.std.specs.Prelude.{filter, nat_eq}
 use Rattle.std.proofs.lemmas.Bool.Decides.{nat_tests}
+use Rattle.std.proofs.lemmas.Option.{same_Some}
 use Rattle.dep_model.specs.declared.schema.Schema.{Schema}
 use Rattle.derivation.specs.Trees.{Tree, depth}
 use Rattle.derivation.specs.Conclusions.{Proves}
@@ -30,29 +31,30 @@ AreSlots s used n _ _ = ⊥
 abbrev pub times : ℕ → List ℕ → ℕ
 times n ps = length (filter (nat_eq n) ps)
 
-pub slots_size : (s : Schema) (used : ℕ → ℕ) (n : ℕ) (ts : List Tree) (os : List (Option Opened)) → AreSlots s used n ts os → length os ≡ length ts
+pub slots_size : (s : Schema) (used : ℕ → ℕ) (n : ℕ) (ts : List Tree) (os : List (Option Opened))
+    → AreSlots s used n ts os → length os ≡ length ts
 slots_size s used n [] [] slots = refl
-slots_size s used n [] (o ∷ os) slots = absurd slots
-slots_size s used n (t ∷ ts) [] slots = absurd slots
-slots_size s used n (t ∷ ts) (o ∷ os) (here, rest) = ap suc (slots_size s used (n + 1) ts os rest)
+slots_size s used n (t ∷ ts) (o ∷ os) slots = ap suc (slots_size s used (n + 1) ts os slots.1)
+slots_size s used n _ _ slots = absurd slots
 
-pub slots_same : (s : Schema) (used other : ℕ → ℕ) (n : ℕ) (ts : List Tree) (os : List (Option Opened)) → ((m : ℕ) → n < m → used m ≡ other m) → AreSlots s used n ts os → AreSlots s other n ts os
+pub slots_same : (s : Schema) (used other : ℕ → ℕ) (n : ℕ) (ts : List Tree) (os : List (Option Opened))
+    → ((m : ℕ) → n < m → used m ≡ other m) → AreSlots s used n ts os → AreSlots s other n ts os
 slots_same s used other n [] [] same slots = tt
-slots_same s used other n [] (o ∷ os) same slots = absurd slots
-slots_same s used other n (t ∷ ts) [] same slots = absurd slots
-slots_same s used other n (t ∷ ts) (o ∷ os) same (here, rest) =
-    let of : ℕ → Type 0 = λ u. IsSlot s u t o in
-    (subst of (same (n + 1) (omega arith)) here, slots_same s used other (n + 1) ts os (λ m h. same m (omega (arith, h))) rest)
+slots_same s used other n (t ∷ ts) (o ∷ os) same slots = (
+  subst (λ (u : ℕ). IsSlot s u t o) (same (n + 1) (omega arith)) slots.0,
+  slots_same s used other (n + 1) ts os (λ m h. same m (omega (arith, h))) slots.1,
+)
+slots_same s used other n _ _ same slots = absurd slots
 
-pub slots_push : (s : Schema) (used : ℕ → ℕ) (n : ℕ) (ts : List Tree) (os : List (Option Opened)) (t : Tree) (o : Option Opened) → AreSlots s used n ts os
-    → IsSlot s (used (n + length ts + 1)) t o → AreSlots s used n (ts ++ t ∷ []) (os ++ o ∷ [])
+pub slots_push : (s : Schema) (used : ℕ → ℕ) (n : ℕ) (ts : List Tree) (os : List (Option Opened)) (t : Tree)
+    (o : Option Opened) → AreSlots s used n ts os → IsSlot s (used (n + length ts + 1)) t o
+    → AreSlots s used n (ts ++ t ∷ []) (os ++ o ∷ [])
 slots_push s used n [] [] t o slots slot =
-    let of : ℕ → Type 0 = λ m. IsSlot s (used m) t o in let same : n + 0 + 1 ≡ n + 1 = omega arith in (subst of same slot, tt)
-slots_push s used n [] (p ∷ os) t o slots slot = absurd slots
-slots_push s used n (u ∷ ts) [] t o slots slot = absurd slots
-slots_push s used n (u ∷ ts) (p ∷ os) t o (here, rest) slot =
-    let of : ℕ → Type 0 = λ m. IsSlot s (used m) t o in let same : n + suc (length ts) + 1 ≡ n + 1 + length ts + 1 = omega arith in
-    (here, slots_push s used (n + 1) ts os t o rest (subst of same slot))
+    let same : n + 0 + 1 ≡ n + 1 = omega arith in (subst (λ (m : ℕ). IsSlot s (used m) t o) same slot, tt)
+slots_push s used n (u ∷ ts) (p ∷ os) t o slots slot =
+    let same : n + suc (length ts) + 1 ≡ n + 1 + length ts + 1 = omega arith in
+    (slots.0, slots_push s used (n + 1) ts os t o slots.1 (subst (λ (m : ℕ). IsSlot s (used m) t o) same slot))
+slots_push s used n _ _ t o slots slot = absurd slots
 
 -- the slot of a tree
 pub record SlotAt (s : Schema) (used : ℕ) (t : Tree) (os : List (Option Opened)) (i : ℕ) : Type 0 where
@@ -60,43 +62,40 @@ pub record SlotAt (s : Schema) (used : ℕ) (t : Tree) (os : List (Option Opened
   pub here : slice_get os i ≡ Some slot
   pub is : IsSlot s used t slot
 
-pub slot_of_tree : (s : Schema) (used : ℕ → ℕ) (n : ℕ) (ts : List Tree) (os : List (Option Opened)) (i : ℕ) (t : Tree) → AreSlots s used n ts os → slice_get ts i ≡ Some t
-    → SlotAt s (used (n + i + 1)) t os i
-slot_of_tree s used n [] [] i t slots at = cc
-slot_of_tree s used n [] (o ∷ os) i t slots at = absurd slots
+pub slot_of_tree : (s : Schema) (used : ℕ → ℕ) (n : ℕ) (ts : List Tree) (os : List (Option Opened)) (i : ℕ) (t : Tree)
+    → AreSlots s used n ts os → slice_get ts i ≡ Some t → SlotAt s (used (n + i + 1)) t os i
+slot_of_tree s used n [] os i t slots at = cc
 slot_of_tree s used n (u ∷ ts) [] i t slots at = absurd slots
-slot_of_tree s used n (u ∷ ts) (o ∷ os) zero t (here, rest) at =
-    let same : u ≡ t = cc in
-    let of : Tree → Type 0 = λ v. SlotAt s (used (n + 0 + 1)) v (o ∷ os) 0 in
+slot_of_tree s used n (u ∷ ts) (o ∷ os) zero t slots at =
     let number : n + 1 ≡ n + 0 + 1 = omega arith in
-    let of_slot : ℕ → Type 0 = λ m. IsSlot s (used m) u o in
-    subst of same (record { slot = o; here = refl; is = subst of_slot number here })
-slot_of_tree s used n (u ∷ ts) (o ∷ os) (suc i) t (here, rest) at =
-    let of : ℕ → Type 0 = λ m. SlotAt s (used m) t (o ∷ os) (suc i) in
-    let found = slot_of_tree s used (n + 1) ts os i t rest at in
+    let is : IsSlot s (used (n + 0 + 1)) u o = subst (λ (m : ℕ). IsSlot s (used m) u o) number slots.0 in
+    record { slot = o; here = refl; is = subst (λ (v : Tree). IsSlot s (used (n + 0 + 1)) v o) (same_Some u t at) is }
+slot_of_tree s used n (u ∷ ts) (o ∷ os) (suc i) t slots at =
+    let found = slot_of_tree s used (n + 1) ts os i t slots.1 at in
     let same : n + 1 + i + 1 ≡ n + suc i + 1 = omega arith in
-    subst of same (record { slot = found.slot; here = found.here; is = found.is })
+    record { slot = found.slot; here = found.here; is = subst (λ (m : ℕ). IsSlot s (used m) t found.slot) same found.is }
 
 -- the tree of a slot
-pub tree_of_slot : (s : Schema) (used : ℕ → ℕ) (n : ℕ) (ts : List Tree) (os : List (Option Opened)) (i : ℕ) → AreSlots s used n ts os → i < length os → (t : Tree) × (slice_get ts i ≡ Some t)
-tree_of_slot s used n [] [] i slots inside = let none : ⊥ = omega (arith, inside) in absurd none
-tree_of_slot s used n [] (o ∷ os) i slots inside = absurd slots
-tree_of_slot s used n (t ∷ ts) [] i slots inside = absurd slots
+pub tree_of_slot : (s : Schema) (used : ℕ → ℕ) (n : ℕ) (ts : List Tree) (os : List (Option Opened)) (i : ℕ)
+    → AreSlots s used n ts os → i < length os → (t : Tree) × (slice_get ts i ≡ Some t)
+tree_of_slot s used n [] [] i slots inside = absurd (omega (arith, inside))
 tree_of_slot s used n (t ∷ ts) (o ∷ os) zero slots inside = (t, refl)
-tree_of_slot s used n (t ∷ ts) (o ∷ os) (suc i) (here, rest) inside = tree_of_slot s used (n + 1) ts os i rest (omega (arith, inside))
+tree_of_slot s used n (t ∷ ts) (o ∷ os) (suc i) slots inside =
+    tree_of_slot s used (n + 1) ts os i slots.1 (omega (arith, inside))
+tree_of_slot s used n _ _ i slots inside = absurd slots
 
 -- a line is used once more
-pub slots_close : (s : Schema) (used other : ℕ → ℕ) (n : ℕ) (ts : List Tree) (os : List (Option Opened)) (i : ℕ) → AreSlots s used n ts os → other (n + i + 1) ≡ 1
+pub slots_close : (s : Schema) (used other : ℕ → ℕ) (n : ℕ) (ts : List Tree) (os : List (Option Opened)) (i : ℕ)
+    → AreSlots s used n ts os → other (n + i + 1) ≡ 1
     → ((m : ℕ) → (m == n + i + 1) ≡ false → other m ≡ used m) → AreSlots s other n ts (slice_set os i None)
 slots_close s used other n [] [] i slots one others = tt
-slots_close s used other n [] (o ∷ os) i slots one others = absurd slots
-slots_close s used other n (t ∷ ts) [] i slots one others = absurd slots
-slots_close s used other n (t ∷ ts) (o ∷ os) zero (here, rest) one others =
+slots_close s used other n (t ∷ ts) (o ∷ os) zero slots one others =
     let first : other (n + 1) ≡ 1 = ap other (omega arith) ∙ one in
-    (first, slots_same s used other (n + 1) ts os (λ m h. sym (others m (grind (arith, nat_tests, h)))) rest)
-slots_close s used other n (t ∷ ts) (o ∷ os) (suc i) (here, rest) one others =
-    let of : ℕ → Type 0 = λ u. IsSlot s u t o in
+    (first, slots_same s used other (n + 1) ts os (λ m h. sym (others m (grind (arith, nat_tests, h)))) slots.1)
+slots_close s used other n (t ∷ ts) (o ∷ os) (suc i) slots one others =
     let same : n + suc i + 1 ≡ n + 1 + i + 1 = omega arith in (
-      subst of (sym (others (n + 1) (grind (arith, nat_tests)))) here,
-      slots_close s used other (n + 1) ts os i rest (ap other (sym same) ∙ one) (λ m h. others m (ap (λ k. m == k) same ∙ h)),
+      subst (λ (u : ℕ). IsSlot s u t o) (sym (others (n + 1) (grind (arith, nat_tests)))) slots.0,
+      slots_close s used other (n + 1) ts os i slots.1 (ap other (sym same) ∙ one)
+          (λ m h. others m (ap (λ k. m == k) same ∙ h)),
     )
+slots_close s used other n _ _ i slots one others = absurd slots

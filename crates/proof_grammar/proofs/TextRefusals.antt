@@ -30,13 +30,15 @@ use Rattle.proof_grammar.proofs.ReadLines.{read_from, nothing_counts, HasReadLin
 use Rattle.proof_grammar.proofs.WalkedLines.{walked}
 
 -- what is refused goes wrong so
-pub refused_there : (s : Schema) (text : List ℕ) (e : LineComplaint) → read_proof s text ≡ Err e → IsRefusedCertificate s text e
+pub refused_there : (s : Schema) (text : List ℕ) (e : LineComplaint) → read_proof s text ≡ Err e
+    → IsRefusedCertificate s text e
 refused_there s text e h = subst (Tells s text) h (text_tells s text)
 
 -- ---- from what goes wrong
 -- a line that stands in a text counts
-not_passed : (s : Schema) (text : List ℕ) (before : List (List ℕ)) (here : List ℕ) (at : ℕ) (fresh : Bool) (lines : List Line) (trees : List Tree) (book : Ledger)
-    → HasReadLines s text before fresh lines trees book → StandsAt text before here at → counted fresh (here ∷ []) ≡ [] → ⊥
+not_passed : (s : Schema) (text : List ℕ) (before : List (List ℕ)) (here : List ℕ) (at : ℕ) (fresh : Bool)
+    (lines : List Line) (trees : List Tree) (book : Ledger) → HasReadLines s text before fresh lines trees book
+    → StandsAt text before here at → counted fresh (here ∷ []) ≡ [] → ⊥
 not_passed s text before here at fresh lines trees book afterwards stands none =
     omega (
       arith,
@@ -46,15 +48,19 @@ not_passed s text before here at fresh lines trees book afterwards stands none =
       ap length none,
     )
 
-line_refuses : (k : LineKind) (s : Schema) (text : List ℕ) (e : LineComplaint) (before after : List (List ℕ)) (here : List ℕ) (fresh : Bool) (lines : List Line) (trees : List Tree)
-    (book : Ledger) → HasReadLines s text before fresh lines trees book → StandsAt text before here e.line → Counts k fresh here
-    → IsBadLine (names_of s) here e.line e.complaint ⊎ IsWrongLine s lines trees here e.complaint → read_from s e.line after (read_as k s fresh e.line book here) ≡ Err e
+line_refuses : (k : LineKind) (s : Schema) (text : List ℕ) (e : LineComplaint) (before after : List (List ℕ))
+    (here : List ℕ) (fresh : Bool) (lines : List Line) (trees : List Tree) (book : Ledger)
+    → HasReadLines s text before fresh lines trees book → StandsAt text before here e.line → Counts k fresh here
+    → IsBadLine (names_of s) here e.line e.complaint ⊎ IsWrongLine s lines trees here e.complaint
+    → read_from s e.line after (read_as k s fresh e.line book here) ≡ Err e
 line_refuses Blank s text e before after here fresh lines trees book afterwards stands counts why =
-    absurd (not_passed s text before here e.line fresh lines trees book afterwards stands (counts [] ∙ nothing_counts fresh))
+    absurd (not_passed s text before here e.line fresh lines trees book afterwards stands
+    (counts [] ∙ nothing_counts fresh))
 line_refuses Opening s text e before after here fresh lines trees book afterwards stands counts why =
     absurd (not_passed s text before here e.line fresh lines trees book afterwards stands (counts []))
 line_refuses Certificate s text e before after here fresh lines trees book afterwards stands counts (inl bad) =
-    rw ((refusals.refusal_law (names_of s) e.line here bad.refusal).1 bad.grammar) (ap (λ c. Err (complaint_at e.line c)) (sym bad.is))
+    rw ((refusals.refusal_law (names_of s) e.line here bad.refusal).1 bad.grammar)
+    (ap (λ c. Err (complaint_at e.line c)) (sym bad.is))
 line_refuses Certificate s text e before after here fresh lines trees book afterwards stands counts (inr wrong) =
     let own = line_of_attributes s here wrong.line wrong.means in
     let reads = line_back (names_of s) e.line here wrong.line wrong.means in
@@ -62,7 +68,8 @@ line_refuses Certificate s text e before after here fresh lines trees book after
     rw (reads, refuses) refl
 
 -- what goes wrong so is refused
-pub refused_back : (s : Schema) (text : List ℕ) (e : LineComplaint) → IsRefusedCertificate s text e → read_proof s text ≡ Err e
+pub refused_back : (s : Schema) (text : List ℕ) (e : LineComplaint) → IsRefusedCertificate s text e
+    → read_proof s text ≡ Err e
 unfolding read_proof read_certificate_lines read_one
 refused_back s text e (inl refused) =
     let stands = refused.stands in
@@ -78,7 +85,8 @@ refused_back s text e (inr refused) =
     let size = nodes_size s [] refused.lines refused.trees refused.read.nodes in
     end_back s text refused.lines refused.trees (Err e) refused.mean refused.read (λ fresh book afterwards. ⊎_elim
     (λ empty. let at : e.line ≡ length (line_texts (without_mark text)) + 1 - 1 = omega (arith, empty.at) in
-    inl (nil_from_length refused.trees (omega (arith, size, ap length empty.none)), λ i. complaint_at (at i) (empty.is i)))
+    let none = nil_from_length refused.trees (omega (arith, size, ap length empty.none)) in
+    inl (none, λ i. complaint_at (at i) (empty.is i)))
     (λ never.
     let i = never.number - 1 in
     let number : i + 1 ≡ never.number = omega (arith, never.some) in
@@ -96,6 +104,7 @@ refused_back s text e (inr refused) =
     refused.why)
 
 -- a refusal of the reading is one of the text
-pub refuses_there : (s : Schema) (text : List ℕ) (e : ProofRefusal) → IsFoundAt e (read_proof s text) → RefusesProof s text e
+pub refuses_there : (s : Schema) (text : List ℕ) (e : ProofRefusal) → IsFoundAt e (read_proof s text)
+    → RefusesProof s text e
 refuses_there s text e h = IfSome_then (complaint_of e.kind) h
     (λ c found. refused_there s text (record { line = e.line; complaint = c }) found)

@@ -28,121 +28,158 @@ use Rattle.proof_grammar.specs.Wrongs.{AreRead}
 use Rattle.proof_grammar.proofs.ReadLines.{read_from, nothing_counts, HasReadLines, at_start, passed, counts_here, one_more}
 
 -- the reader after the lines before, of which it read this
-pub record IsWalked (s : Schema) (text : List ℕ) (before after : List (List ℕ)) (lines : List Line) (trees : List Tree) (found : Result Tree LineComplaint) : Type 0 where
+pub record IsWalked (s : Schema) (text : List ℕ) (before after : List (List ℕ)) (lines : List Line) (trees : List Tree)
+    (found : Result Tree LineComplaint) : Type 0 where
   pub fresh : Bool
   pub book : Ledger
   pub afterwards : HasReadLines s text before fresh lines trees book
   pub same : found ≡ read_certificate_lines s fresh (length before + 1) book after
 
--- lines that go on after some others
-record GoOn (s : Schema) (lines : List Line) (trees : List Tree) (more : List Line) (us : List Tree) (all : List Line) (grown : List Tree) : Type 0 where
-  lines_whole : all ≡ lines ++ more
-  trees_whole : grown ≡ trees ++ us
-  nodes : AreNodes s trees more us
-  read : AreRead s all grown
-
--- the text, up to lines `after`
-record IsUpTo (text : List ℕ) (before texts after whole : List (List ℕ)) (number : ℕ) : Type 0 where
+-- it has come to these lines of the text; they mean these lines more, and have these trees
+record HasCome (s : Schema) (text : List ℕ) (after whole : List (List ℕ)) (all : List Line) (grown : List Tree)
+    (number : ℕ) (texts : List (List ℕ)) (more : List Line) (us : List Tree) : Type 0 where
+  before : List (List ℕ)
+  fresh : Bool
+  lines : List Line
+  trees : List Tree
+  book : Ledger
   cut : line_texts (without_mark text) ≡ before ++ (texts ++ after)
   front : whole ≡ before ++ texts
-  number_is : number ≡ length before + 1
+  count : number ≡ length before + 1
+  afterwards : HasReadLines s text before fresh lines trees book
+  mean : MeanLines (names_of s) (counted fresh texts) more
+  all_lines : all ≡ lines ++ more
+  all_trees : grown ≡ trees ++ us
+  nodes : AreNodes s trees more us
 
--- what is walked of lines after some others
-abbrev WalksOn : Schema → List ℕ → List (List ℕ) → List (List ℕ) → List Line → List Tree → ℕ → List (List ℕ) → Type 0
-WalksOn s text after whole all grown number texts =
-    (before : List (List ℕ)) (fresh : Bool) (lines : List Line) (trees : List Tree) (book : Ledger) (more : List Line) (us : List Tree) → IsUpTo text before texts after whole number
-    → HasReadLines s text before fresh lines trees book → MeanLines (names_of s) (counted fresh texts) more → GoOn s lines trees more us all grown
-    → IsWalked s text whole after all grown (read_certificate_lines s fresh number book (texts ++ after))
-
-up_to_more : (text : List ℕ) (before : List (List ℕ)) (here : List ℕ) (texts after whole : List (List ℕ)) (number : ℕ) → IsUpTo text before (here ∷ texts) after whole number
-    → IsUpTo text (before ++ here ∷ []) texts after whole (number + 1)
-up_to_more text before here texts after whole number up = record {
-  cut = up.cut ∙ sym (append_assoc before (here ∷ []) (texts ++ after));
-  front = up.front ∙ sym (append_assoc before (here ∷ []) texts);
-  number_is = omega (arith, up.number_is, length-append before (here ∷ []));
+-- a line that does not count
+skipped : (s : Schema) (text : List ℕ) (after whole : List (List ℕ)) (all : List Line) (grown : List Tree) (number : ℕ)
+    (here : List ℕ) (texts : List (List ℕ)) (more : List Line) (us : List Tree)
+    (w : HasCome s text after whole all grown number (here ∷ texts) more us) (fresh : Bool)
+    → ((rest : List (List ℕ)) → counted w.fresh (here ∷ rest) ≡ counted fresh rest)
+    → HasCome s text after whole all grown (number + 1) texts more us
+skipped s text after whole all grown number here texts more us w fresh counts = record {
+  before = w.before ++ here ∷ [];
+  fresh = fresh;
+  lines = w.lines;
+  trees = w.trees;
+  book = w.book;
+  cut = w.cut ∙ sym (append_assoc w.before (here ∷ []) (texts ++ after));
+  front = w.front ∙ sym (append_assoc w.before (here ∷ []) texts);
+  count = omega (arith, w.count, length-append w.before (here ∷ []));
+  afterwards = passed s text w.before w.fresh fresh w.lines w.trees w.book here w.afterwards counts;
+  mean = subst (λ (ls : List (List ℕ)). MeanLines (names_of s) ls more) (counts texts) w.mean;
+  all_lines = w.all_lines;
+  all_trees = w.all_trees;
+  nodes = w.nodes;
 }
 
+-- what is walked of lines
+abbrev Walks : Schema → List ℕ → List (List ℕ) → List (List ℕ) → List Line → List Tree → ℕ → List (List ℕ) → Type 0
+Walks s text after whole all grown number texts =
+    (more : List Line) (us : List Tree) (w : HasCome s text after whole all grown number texts more us)
+    → IsWalked s text whole after all grown (read_certificate_lines s w.fresh number w.book (texts ++ after))
+
 walk_more : (k : LineKind) (s : Schema) (text : List ℕ) (after whole : List (List ℕ)) (all : List Line)
-    (grown : List Tree) (number : ℕ) (here : List ℕ) (texts before : List (List ℕ)) (fresh : Bool) (lines : List Line)
-    (trees : List Tree) (book : Ledger) (more : List Line) (us : List Tree)
-    → IsUpTo text before (here ∷ texts) after whole number → HasReadLines s text before fresh lines trees book
-    → Counts k fresh here → MeanLines (names_of s) (counted fresh (here ∷ texts)) more
-    → GoOn s lines trees more us all grown → WalksOn s text after whole all grown (number + 1) texts
-    → IsWalked s text whole after all grown (read_from s number (texts ++ after) (read_as k s fresh number book here))
-walk_more Blank s text after whole all grown number here texts before fresh lines trees book more us up afterwards counts mean goes on =
-    on (before ++ here ∷ []) fresh lines trees book more us (up_to_more text before here texts after whole number up)
-    (passed s text before fresh fresh lines trees book here afterwards counts)
-    (subst (λ (ls : List (List ℕ)). MeanLines (names_of s) ls more) (counts texts) mean) goes
-walk_more Opening s text after whole all grown number here texts before fresh lines trees book more us up afterwards counts mean goes on =
-    on (before ++ here ∷ []) false lines trees book more us (up_to_more text before here texts after whole number up)
-    (passed s text before fresh false lines trees book here afterwards counts)
-    (subst (λ (ls : List (List ℕ)). MeanLines (names_of s) ls more) (counts texts) mean) goes
-walk_more Certificate s text after whole all grown number here texts before fresh lines trees book [] us up afterwards counts mean goes on =
-    absurd (subst (λ (ls : List (List ℕ)). MeanLines (names_of s) ls []) (counts texts) mean)
-walk_more Certificate s text after whole all grown number here texts before fresh lines trees book (l ∷ more) [] up afterwards counts mean goes on =
-    absurd goes.nodes
-walk_more Certificate s text after whole all grown number here texts before fresh lines trees book (l ∷ more) (u ∷ us) up afterwards counts mean goes on =
-    let means = subst (λ (ls : List (List ℕ)). MeanLines (names_of s) ls (l ∷ more)) (counts texts) mean in
-    let own = line_of_attributes s here l means.0 in
-    let size = nodes_size s [] lines trees afterwards.read.nodes in
-    let room : length trees < MOST_NODES =
-    omega (arith, goes.read.few_lines, ap length goes.lines_whole, length-append lines (l ∷ more), size) in
-    let inside : length trees < length grown = omega (arith, ap length goes.trees_whole, length-append trees (u ∷ us)) in
+    (grown : List Tree) (number : ℕ) (here : List ℕ) (texts : List (List ℕ)) (more : List Line) (us : List Tree)
+    (w : HasCome s text after whole all grown number (here ∷ texts) more us) → AreRead s all grown
+    → Counts k w.fresh here → Walks s text after whole all grown (number + 1) texts
+    → IsWalked s text whole after all grown
+    (read_from s number (texts ++ after) (read_as k s w.fresh number w.book here))
+unfolding skipped
+walk_more Blank s text after whole all grown number here texts more us w read counts on =
+    on more us (skipped s text after whole all grown number here texts more us w w.fresh counts)
+walk_more Opening s text after whole all grown number here texts more us w read counts on =
+    on more us (skipped s text after whole all grown number here texts more us w false counts)
+walk_more Certificate s text after whole all grown number here texts [] us w read counts on =
+    absurd (subst (λ (ls : List (List ℕ)). MeanLines (names_of s) ls []) (counts texts) w.mean)
+walk_more Certificate s text after whole all grown number here texts (l ∷ more) [] w read counts on = absurd w.nodes
+walk_more Certificate s text after whole all grown number here texts (l ∷ more) (u ∷ us) w read counts on =
+    let means = subst (λ (ls : List (List ℕ)). MeanLines (names_of s) ls (l ∷ more)) (counts texts) w.mean in
+    let size = nodes_size s [] w.lines w.trees w.afterwards.read.nodes in
+    let room : length w.trees < MOST_NODES =
+    omega (arith, read.few_lines, ap length w.all_lines, length-append w.lines (l ∷ more), size) in
+    let inside : length w.trees < length grown = omega (arith, ap length w.all_trees, length-append w.trees (u ∷ us)) in
     let flat : depth u ≤ MOST_LEVELS = omega (
       arith,
-      goes.read.few_levels (length trees) u inside,
-      ap depth (get_or-append_seam trees u us u),
-      ap (λ ts. depth (get_or ts (length trees) u)) goes.trees_whole,
+      read.few_levels (length w.trees) u inside,
+      ap depth (get_or-append_seam w.trees u us u),
+      ap (λ ts. depth (get_or ts (length w.trees) u)) w.all_trees,
     ) in
-    let once : (n : ℕ) → 0 < n → used_after (λ n. uses n lines) l n ≤ 1 = λ n low.
-    omega (arith, goes.read.once n low, ap (uses n) goes.lines_whole, uses-append n lines (l ∷ more), uses_first n l more) in
-    let enters = entered_back s number lines trees book l u afterwards.follows own goes.nodes.0 room flat once in
-    let stands : StandsAt text before here number = record {
+    let once : (n : ℕ) → 0 < n → used_after (λ n. uses n w.lines) l n ≤ 1 = λ n low. omega (
+      arith,
+      read.once n low,
+      ap (uses n) w.all_lines,
+      uses-append n w.lines (l ∷ more),
+      uses_first n l more,
+    ) in
+    let own = line_of_attributes s here l means.0 in
+    let enters = entered_back s number w.lines w.trees w.book l u w.afterwards.follows own w.nodes.0 room flat once in
+    let stands : StandsAt text w.before here number = record {
       after = texts ++ after;
-      cut = up.cut;
-      number = up.number_is;
-      counts = counts_here s text before fresh lines trees book here afterwards counts;
+      cut = w.cut;
+      number = w.count;
+      counts = counts_here s text w.before w.fresh w.lines w.trees w.book here w.afterwards counts;
     } in
-    rw (line_back (names_of s) number here l means.0, enters.1)
-    (on (before ++ here ∷ []) false (lines ++ l ∷ []) (trees ++ u ∷ []) enters.0 more us
-    (up_to_more text before here texts after whole number up)
-    (one_more s text before fresh lines trees book here number l u enters.0 afterwards counts stands means.0 enters.1 enters.2)
-    means.1 (record {
-      lines_whole = goes.lines_whole ∙ sym (append_assoc lines (l ∷ []) more);
-      trees_whole = goes.trees_whole ∙ sym (append_assoc trees (u ∷ []) us);
-      nodes = goes.nodes.1;
-      read = goes.read;
+    rw (line_back (names_of s) number here l means.0, enters.1) (on more us (record {
+      before = w.before ++ here ∷ [];
+      fresh = false;
+      lines = w.lines ++ l ∷ [];
+      trees = w.trees ++ u ∷ [];
+      book = enters.0;
+      cut = w.cut ∙ sym (append_assoc w.before (here ∷ []) (texts ++ after));
+      front = w.front ∙ sym (append_assoc w.before (here ∷ []) texts);
+      count = omega (arith, w.count, length-append w.before (here ∷ []));
+      afterwards = one_more s text w.before w.fresh w.lines w.trees w.book here number l u enters.0 w.afterwards counts
+          stands means.0 enters.1 enters.2;
+      mean = means.1;
+      all_lines = w.all_lines ∙ sym (append_assoc w.lines (l ∷ []) more);
+      all_trees = w.all_trees ∙ sym (append_assoc w.trees (u ∷ []) us);
+      nodes = w.nodes.1;
     }))
 
 walk : (s : Schema) (text : List ℕ) (after whole : List (List ℕ)) (all : List Line) (grown : List Tree) (number : ℕ)
-    (texts : List (List ℕ)) → WalksOn s text after whole all grown number texts
+    (texts : List (List ℕ)) → AreRead s all grown → Walks s text after whole all grown number texts
 unfolding read_certificate_lines read_one
-walk s text after whole all grown number [] before fresh lines trees book [] [] up afterwards mean goes =
-    let same_lines : lines ≡ all = sym (goes.lines_whole ∙ append-nil lines) in
-    let same_trees : trees ≡ grown = sym (goes.trees_whole ∙ append-nil trees) in
-    let same_front : before ≡ whole = sym (up.front ∙ append-nil before) in
+walk s text after whole all grown number [] read [] [] w =
     let of : List (List ℕ) → List Line → List Tree → Type 0 =
-    λ b ls ts. IsWalked s text b after ls ts (read_certificate_lines s fresh number book after) in
-    let start : of before lines trees = record {
-      fresh = fresh;
-      book = book;
-      afterwards = afterwards;
-      same = ap (λ n. read_certificate_lines s fresh n book after) up.number_is;
+    λ b ls ts. IsWalked s text b after ls ts (read_certificate_lines s w.fresh number w.book after) in
+    let start : of w.before w.lines w.trees = record {
+      fresh = w.fresh;
+      book = w.book;
+      afterwards = w.afterwards;
+      same = ap (λ n. read_certificate_lines s w.fresh n w.book after) w.count;
     } in
+    let same_front = sym (w.front ∙ append-nil w.before) in
+    let same_lines = sym (w.all_lines ∙ append-nil w.lines) in
+    let same_trees = sym (w.all_trees ∙ append-nil w.trees) in
     subst (λ b. of b all grown) same_front
-    (subst (λ ts. of before all ts) same_trees (subst (λ ls. of before ls trees) same_lines start))
-walk s text after whole all grown number [] before fresh lines trees book [] (u ∷ us) up afterwards mean goes = absurd goes.nodes
-walk s text after whole all grown number [] before fresh lines trees book (l ∷ more) us up afterwards mean goes =
-    absurd (subst (λ (ls : List (List ℕ)). MeanLines (names_of s) ls (l ∷ more)) (nothing_counts fresh) mean)
-walk s text after whole all grown number (here ∷ texts) before fresh lines trees book more us up afterwards mean goes =
-    walk_more (line_kind fresh (lex mode.Numbered here)) s text after whole all grown number here texts before fresh lines
-    trees book more us up afterwards (kind_counts fresh here _ refl) mean goes
-    (walk s text after whole all grown (number + 1) texts)
+    (subst (λ ts. of w.before all ts) same_trees (subst (λ ls. of w.before ls w.trees) same_lines start))
+walk s text after whole all grown number [] read [] (u ∷ us) w = absurd w.nodes
+walk s text after whole all grown number [] read (l ∷ more) us w =
+    absurd (subst (λ (ls : List (List ℕ)). MeanLines (names_of s) ls (l ∷ more)) (nothing_counts w.fresh) w.mean)
+walk s text after whole all grown number (here ∷ texts) read more us w =
+    walk_more (line_kind w.fresh (lex mode.Numbered here)) s text after whole all grown number here texts more us w read
+    (kind_counts w.fresh here _ refl) (walk s text after whole all grown (number + 1) texts read)
 
 -- the reader after lines of a text that are read
-pub walked : (s : Schema) (text : List ℕ) (before after : List (List ℕ)) (lines : List Line) (trees : List Tree) → line_texts (without_mark text) ≡ before ++ after
-    → MeanLines (names_of s) (certificate_lines_of before) lines → AreRead s lines trees
-    → IsWalked s text before after lines trees (read_certificate_lines s true 1 (record { lines = []; unused = [] }) (before ++ after))
+pub walked : (s : Schema) (text : List ℕ) (before after : List (List ℕ)) (lines : List Line) (trees : List Tree)
+    → line_texts (without_mark text) ≡ before ++ after → MeanLines (names_of s) (certificate_lines_of before) lines
+    → AreRead s lines trees → IsWalked s text before after lines trees
+    (read_certificate_lines s true 1 (record { lines = []; unused = [] }) (before ++ after))
 walked s text before after lines trees cut mean read =
-    walk s text after before lines trees 1 before [] true [] [] (record { lines = []; unused = [] }) lines trees (record { cut = cut; front = refl; number_is = refl }) (at_start s text) mean
-    (record { lines_whole = refl; trees_whole = refl; nodes = read.nodes; read = read })
+    walk s text after before lines trees 1 before read lines trees (record {
+      before = [];
+      fresh = true;
+      lines = [];
+      trees = [];
+      book = record { lines = []; unused = [] };
+      cut = cut;
+      front = refl;
+      count = refl;
+      afterwards = at_start s text;
+      mean = mean;
+      all_lines = refl;
+      all_trees = refl;
+      nodes = read.nodes;
+    })

@@ -74,8 +74,18 @@ tree_says s trees l (by_step rule p) t d tree proves =
     let concludes : Proves s (step rule tree.premise) d = subst (λ (v : Tree). Proves s v d) tree.tree proves in
     (tree.premise, concludes.0, tree.earlier, concludes.1, concludes.2)
 tree_says s trees l (by_pair rule p q) t d tree proves =
-    let concludes : Proves s (pair rule tree.first tree.second) d = subst (λ (v : Tree). Proves s v d) tree.tree proves in
-    (tree.first, tree.second, concludes.0, concludes.1, tree.first_earlier, tree.second_earlier, concludes.2, concludes.3, concludes.4)
+    let concludes : Proves s (pair rule tree.first tree.second) d =
+    subst (λ (v : Tree). Proves s v d) tree.tree proves in (
+      tree.first,
+      tree.second,
+      concludes.0,
+      concludes.1,
+      tree.first_earlier,
+      tree.second_earlier,
+      concludes.2,
+      concludes.3,
+      concludes.4,
+    )
 
 fault_says : (s : Schema) (trees : List Tree) (l : Line) (b : Body) (why : FaultKind) → NodeFault s trees l b why
     → Says s trees l b (Err why)
@@ -83,9 +93,19 @@ fault_says s trees l (by_given k) why (inl none) = inl (none.0, ap Err none.1)
 fault_says s trees l (by_given k) why (inr some) = inr some
 fault_says s trees l by_reflexivity why fault = fault
 fault_says s trees l by_mreflexivity why fault = fault
-fault_says s trees l (by_step rule p) why fault = (fault.premise, fault.conclusion, fault.at, fault.proves, fault.refused)
-fault_says s trees l (by_pair rule p q) why fault =
-    (fault.first, fault.second, fault.left, fault.right, fault.first_at, fault.second_at, fault.first_proves, fault.second_proves, fault.refused)
+fault_says s trees l (by_step rule p) why fault =
+    (fault.premise, fault.conclusion, fault.at, fault.proves, fault.refused)
+fault_says s trees l (by_pair rule p q) why fault = (
+  fault.first,
+  fault.second,
+  fault.left,
+  fault.right,
+  fault.first_at,
+  fault.second_at,
+  fault.first_proves,
+  fault.second_proves,
+  fault.refused,
+)
 
 -- the line of a number proves one dependency
 one_proved : (s : Schema) (trees : List Tree) (p : ℕ) (t u : Tree) (d e : Dependency) → IsTreeAt trees p t
@@ -127,7 +147,8 @@ one_of_rank s lines trees l too_many_lines too_many_lines e wrong other = refl
 one_of_rank s lines trees l too_deep too_deep e wrong other = refl
 one_of_rank s lines trees l (unsound f) (unsound g) e wrong other =
     let same : ◌≡◌ {A = Result Dependency FaultKind} (Err f.kind) (Err g.kind) =
-    one_says s trees l l.body _ _ (fault_says s trees l l.body f.kind wrong.1) (fault_says s trees l l.body g.kind other.1) in
+    one_says s trees l l.body _ _ (fault_says s trees l l.body f.kind wrong.1)
+    (fault_says s trees l l.body g.kind other.1) in
     let why : f.kind ≡ g.kind = cc in
     let node = wrong.0 ∙ sym other.0 in
     (λ i. unsound (record { node = node i; kind = why i }))
