@@ -235,11 +235,9 @@ read_proof_checked s text t h =
 pub root_proves : (s : Schema) (book : Ledger) (t : Tree) (d : Dependency) → IsLedger s book → rooted book.unused ≡ Some (t, d) → Proves s t d
 root_proves s book t d is h = told (root book.unused) refl h
   where
-    inside : (x y : Tree × Dependency) → Some x ≡ Some y → x ≡ y
-    inside x y e = cc
-
     told : (o : Option Opened) → root book.unused ≡ o → option_map concluded_by o ≡ Some (t, d) → Proves s t d
     told None r e = cc
     told (Some u) r e =
         let stands : Stands s u = subst (IfOpen s) r (AllStand-get s book.unused (length book.unused - 1) is.stand) in
-        subst (λ (x : Tree × Dependency). Proves s x.0 x.1) (inside (concluded_by u) (t, d) e) stands.proves
+        let same : concluded_by u ≡ (t, d) = cc in
+        subst (λ (x : Tree × Dependency). Proves s x.0 x.1) same stands.proves
