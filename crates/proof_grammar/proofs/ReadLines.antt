@@ -1,24 +1,25 @@
 -- The reader after some lines of a text: what they mean, and at which lines of the text they stand.
-use Rattle.std.proofs.Common.{◌≡◌, ◌<◌, ◌≤◌, ◌+◌, ◌-◌, ◌==◌, ⊎_elim, ℕ, suc, Bool, true, false, List, [], ◌∷◌, ◌++◌, length, Option, Some, None, Result, Ok, refl, sym, ◌∙◌, ap, subst, arith, length-append, append_assoc}
+use Rattle.std.proofs.Common.{◌≡◌, ◌<◌, ◌≤◌, ◌+◌, ◌-◌, ◌==◌, ⊎_elim, ℕ, suc, Bool, true, false, List, [], ◌∷◌, ◌++◌, length, Option, Some, None, Result, Ok, Err, refl, sym, ◌∙◌, ap, subst, arith, length-append, append_assoc}
 use Rattle.std.specs.Prelude.{slice_index}
 use Rattle.std.proofs.Math.Seq.{get_or-append_seam}
-use Rattle.std.proofs.lemmas.Bool.{cases_lt}
+use Rattle.std.specs.Result.{IfOk}
+use Rattle.std.proofs.lemmas.Bool.{cases_lt, cond_both}
 use Rattle.std.proofs.lemmas.List.{append-nil, get_or_append_left}
 use Rattle.std.proofs.lemmas.List.Elements.{All-push}
 use Rattle.dep_model.specs.declared.schema.Schema.{Schema}
 use Rattle.dep_model.specs.Schemas.{names_of}
 use Rattle.derivation.specs.declared.measures.TheConstants.{MOST_LEVELS}
 use Rattle.derivation.specs.Trees.{Tree, depth}
-use Rattle.derivation.proofs.RuleTableLemmas.{the_ok}
 use Rattle.proof_grammar.specs.declared.line_kind.LineKind.TheVariants.{Certificate}
-use Rattle.proof_grammar.specs.Books.{Opened, Ledger, Prepared, prepared, settled, add_line, entered}
+use Rattle.proof_grammar.specs.Books.{Opened, Ledger, prepared, settled, add_line, entered}
 use Rattle.proof_grammar.specs.Complaints.{Complaint, LineComplaint, wrong_number}
 use Rattle.proof_grammar.specs.Lines.{Line}
 use Rattle.proof_grammar.specs.Meanings.{certificate_lines_of, MeansLine, MeanLines}
 use Rattle.schema_grammar.specs.Rests.{◌>>=◌}
+use Rattle.schema_grammar.proofs.RefusalLemmas.{ok_at}
 use Rattle.proof_grammar.specs.Spelling.{uses}
 use Rattle.proof_grammar.specs.Texts.{at_line, read_certificate_lines}
-use Rattle.proof_grammar.proofs.CheckedLemmas.{bind_ok, kept}
+use Rattle.proof_grammar.proofs.CheckedLemmas.{bind_each}
 use Rattle.proof_grammar.proofs.CountedLines.{counted, Counts}
 use Rattle.proof_grammar.proofs.DepthLemmas.{uses_first, nodes_size}
 use Rattle.proof_grammar.proofs.EnteredLaws.{Follows, IsEntered, used_after}
@@ -60,12 +61,12 @@ entered_adds : (s : Schema) (at : ℕ) (book next : Ledger) (l : Line) → enter
 unfolding entered
 entered_adds s at book next l h =
     let os = book.unused in
-    let add = λ (p : Prepared) (o : Opened). add_line at book.lines p.unused o in
-    let settle = λ (p : Prepared). settled (length os) l p.levels p.outcome in
-    let whole = kept (l.number == length os + 1) (prepared s os l.stated l.body >>= λ p. settle p >>= λ o. Ok (add p o)) wrong_number next h in
-    let first = bind_ok (prepared s os l.stated l.body) (λ p. settle p >>= λ o. Ok (add p o)) next whole in
-    let second = bind_ok (settle first.0) (λ o. Ok (add first.0 o)) next first.2 in
-    sym (ap (λ (b : Ledger). b.lines) (the_ok {A = Ledger} {E = Complaint} (add first.0 second.0) next second.2))
+    let adds : Ledger → Type 0 = λ b. b.lines ≡ book.lines ++ at ∷ [] in
+    let all = prepared s os l.stated l.body >>= λ p. settled (length os) l p.levels p.outcome >>= λ o. Ok (add_line at book.lines p.unused o) in
+    ok_at adds _ next h
+    (cond_both (l.number == length os + 1) all (Err wrong_number) (λ r. IfOk r adds)
+    (λ numbered. bind_each adds (prepared s os l.stated l.body) _ (λ p found. bind_each adds (settled (length os) l p.levels p.outcome) _ (λ o ends. refl)))
+    (λ other. tt))
 
 -- ---- lines and what they mean
 pub mean_size : (names : List (List ℕ)) (texts : List (List ℕ)) (lines : List Line) → MeanLines names texts lines → length texts ≡ length lines
