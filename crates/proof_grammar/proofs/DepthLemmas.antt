@@ -1,8 +1,8 @@
 -- No tree of a line has more levels than the root.
-use Rattle.std.proofs.Common.{◌≡◌, ◌<◌, ◌≤◌, ◌+◌, ◌==◌, ℕ, zero, suc, Bool, true, false, List, [], ◌∷◌, ◌++◌, length, slice_get, Some, refl, sym, ◌∙◌, ap, subst, arith, length-append, append_assoc}
+use Rattle.std.proofs.Common.{◌≡◌, ◌<◌, ◌≤◌, ◌+◌, ⊎_elim, ℕ, zero, suc, List, [], ◌∷◌, ◌++◌, length, slice_get, Some, refl, sym, ◌∙◌, ap, subst, arith, length-append, append_assoc}
 use Rattle.std.specs.Prelude.{filter, nat_eq, max}
 use Rattle.std.specs.List.{flat_map}
-use Rattle.std.proofs.lemmas.Bool.Decides.{nat_tests}
+use Rattle.std.proofs.lemmas.Bool.{cases_eq, cases_lt, ne_eqb}
 use Rattle.std.proofs.lemmas.List.Elements.{filter-append}
 use Rattle.std.proofs.lemmas.List.{get_or_append_left}
 use Rattle.std.proofs.lemmas.Option.{get_or_from_slice_get, slice_get-get_or, slice_get_within}
@@ -33,30 +33,24 @@ pub record IsBelow (all : List Tree) (n : ℕ) (w : Tree) : Type 0 where
   pub less : depth premise < depth w
 
 step_below : (prior : List Tree) (n p : ℕ) (u w : Tree) → IsTreeAt prior p u → depth u < depth w → 0 < times n (p ∷ []) → IsBelow prior n w
-step_below prior n p u w at less some = told (n == p) refl
-  where
-    told : (b : Bool) → (n == p) ≡ b → IsBelow prior n w
-    told true is =
-        let same : n ≡ p = grind (arith, nat_tests, is) in
-        record { premise = u; at = record { before = at.before; number = omega (arith, same, at.number); tree = at.tree }; less = less }
-    told false other = let none : ⊥ = omega (arith, some, times_other n p other) in absurd none
+step_below prior n p u w at less some =
+    ⊎_elim
+    (λ (same : n ≡ p). record { premise = u; at = record { before = at.before; number = omega (arith, same, at.number); tree = at.tree }; less = less })
+    (λ (other : n ≡ p → ⊥). absurd (omega (arith, some, times_other n p (ne_eqb n p other))))
+    (cases_eq n p)
 
 line_below : (prior : List Tree) (l : Line) (b : Body) (w : Tree) (n : ℕ) → IsTreeOf prior l b w → 0 < times n (premises_of b) → IsBelow prior n w
-line_below prior l (by_given k) w n tree some = let none : ⊥ = omega (arith, some) in absurd none
-line_below prior l by_reflexivity w n tree some = let none : ⊥ = omega (arith, some) in absurd none
-line_below prior l by_mreflexivity w n tree some = let none : ⊥ = omega (arith, some) in absurd none
+line_below prior l (by_given k) w n tree some = absurd (omega (arith, some))
+line_below prior l by_reflexivity w n tree some = absurd (omega (arith, some))
+line_below prior l by_mreflexivity w n tree some = absurd (omega (arith, some))
 line_below prior l (by_step rule p) w n tree some =
     step_below prior n p tree.premise w tree.earlier (omega (arith, ap depth tree.tree)) some
-line_below prior l (by_pair rule p q) w n tree some = told (n == p) refl
-  where
-    deep : depth w ≡ max (depth tree.first) (depth tree.second) + 1
-    deep = ap depth tree.tree
-
-    told : (b : Bool) → (n == p) ≡ b → IsBelow prior n w
-    told true is =
-        let same : n ≡ p = grind (arith, nat_tests, is) in
-        record { premise = tree.first; at = record { before = tree.first_earlier.before; number = omega (arith, same, tree.first_earlier.number); tree = tree.first_earlier.tree }; less = omega (arith, deep) }
-    told false other = step_below prior n q tree.second w tree.second_earlier (omega (arith, deep)) (omega (arith, some, times_two n p q, times_other n p other))
+line_below prior l (by_pair rule p q) w n tree some =
+    let deep : depth w ≡ max (depth tree.first) (depth tree.second) + 1 = ap depth tree.tree in
+    ⊎_elim
+    (λ (first : 0 < times n (p ∷ [])). step_below prior n p tree.first w tree.first_earlier (omega (arith, deep)) first)
+    (λ (none : times n (p ∷ []) ≤ 0). step_below prior n q tree.second w tree.second_earlier (omega (arith, deep)) (omega (arith, some, none, times_two n p q)))
+    (cases_lt 0 (times n (p ∷ [])))
 
 -- a line that is used is used by a later one
 record IsUsed (prior ts : List Tree) (n : ℕ) : Type 0 where
@@ -70,34 +64,34 @@ user : (s : Schema) (prior : List Tree) (ls : List Line) (ts : List Tree) (n : �
 user s prior [] [] n are some = let none : ⊥ = omega (arith, some) in absurd none
 user s prior [] (t ∷ ts) n are some = absurd are
 user s prior (l ∷ ls) [] n are some = absurd are
-user s prior (l ∷ ls) (t ∷ ts) n (here, rest) some = told (user s (prior ++ t ∷ []) ls ts n rest) (times n (premises_of l.body) == 0) refl
-  where
-    told : (0 < uses n ls → IsUsed (prior ++ t ∷ []) ts n) → (b : Bool) → (times n (premises_of l.body) == 0) ≡ b → IsUsed prior (t ∷ ts) n
-    told more true is =
-        let used = more (grind (arith, nat_tests, is, some, uses_first n l ls)) in
-        let same : (prior ++ t ∷ []) ++ ts ≡ prior ++ t ∷ ts = append_assoc prior (t ∷ []) ts in
-        record {
-          at = suc used.at;
-          tree = used.tree;
-          here = used.here;
-          below = subst (λ (all : List Tree). IsBelow all n used.tree) same used.below;
-          later = omega (arith, used.later, length-append prior (t ∷ []));
-        }
-    told more false is =
-        let below = line_below prior l l.body t n here.tree (grind (arith, nat_tests, is)) in
-        let i = below.at.before in
-        let u = below.premise in
-        let inside = slice_get_within prior i u below.at.tree in
-        let whole : i < length (prior ++ t ∷ ts) = omega (arith, inside, length-append prior (t ∷ ts)) in
-        let still : slice_get (prior ++ t ∷ ts) i ≡ Some u =
-        slice_get-get_or (prior ++ t ∷ ts) i u whole ∙ ap Some (get_or_append_left prior (t ∷ ts) u i inside ∙ get_or_from_slice_get prior i u u below.at.tree) in
-        record {
-          at = 0;
-          tree = t;
-          here = refl;
-          below = record { premise = u; at = record { before = i; number = below.at.number; tree = still }; less = below.less };
-          later = omega (arith, inside, below.at.number);
-        }
+user s prior (l ∷ ls) (t ∷ ts) n (here, rest) some =
+    ⊎_elim
+    (λ (own : 0 < times n (premises_of l.body)).
+    let below = line_below prior l l.body t n here.tree own in
+    let i = below.at.before in
+    let u = below.premise in
+    let inside = slice_get_within prior i u below.at.tree in
+    let whole : i < length (prior ++ t ∷ ts) = omega (arith, inside, length-append prior (t ∷ ts)) in
+    let still : slice_get (prior ++ t ∷ ts) i ≡ Some u =
+    slice_get-get_or (prior ++ t ∷ ts) i u whole
+    ∙ ap Some (get_or_append_left prior (t ∷ ts) u i inside ∙ get_or_from_slice_get prior i u u below.at.tree) in
+    record {
+      at = 0;
+      tree = t;
+      here = refl;
+      below = record { premise = u; at = record { before = i; number = below.at.number; tree = still }; less = below.less };
+      later = omega (arith, inside, below.at.number);
+    })
+    (λ (none : times n (premises_of l.body) ≤ 0).
+    let used = user s (prior ++ t ∷ []) ls ts n rest (omega (arith, none, some, uses_first n l ls)) in
+    record {
+      at = suc used.at;
+      tree = used.tree;
+      here = used.here;
+      below = subst (λ (all : List Tree). IsBelow all n used.tree) (append_assoc prior (t ∷ []) ts) used.below;
+      later = omega (arith, used.later, length-append prior (t ∷ []));
+    })
+    (cases_lt 0 (times n (premises_of l.body)))
 
 -- ---- up to the root
 climb : (s : Schema) (lines : List Line) (t : Tree) (are : AreNodesOf s lines t) (k i : ℕ) (u : Tree) → length lines ≤ i + k + 1 → slice_get (are.before ++ t ∷ []) i ≡ Some u → depth u ≤ depth t
@@ -110,22 +104,19 @@ climb s lines t are zero i u far here =
     let both : Some u ≡ Some t = sym here ∙ ap (slice_get all) last ∙ seam are.before t [] in
     let same : u ≡ t = cc in
     omega (arith, ap depth same)
-climb s lines t are (suc k) i u far here = told (climb s lines t are k) (i + 1 == length lines) refl
-  where
-    all : List Tree
-    all = are.before ++ t ∷ []
-
-    told : ((j : ℕ) (v : Tree) → length lines ≤ j + k + 1 → slice_get (are.before ++ t ∷ []) j ≡ Some v → depth v ≤ depth t) → (b : Bool) → (i + 1 == length lines) ≡ b → depth u ≤ depth t
-    told more true is = more i u (grind (arith, nat_tests, is)) here
-    told more false other =
-        let inside = slice_get_within all i u here in
-        let count = nodes_size s [] lines all are.nodes in
-        let once = are.used (i + 1) (omega arith) (grind (arith, nat_tests, other, inside, count)) in
-        let used = user s [] lines all (i + 1) are.nodes (omega (arith, once)) in
-        let at : used.below.at.before ≡ i = omega (arith, used.below.at.number) in
-        let both : Some used.below.premise ≡ Some u = sym used.below.at.tree ∙ ap (slice_get all) at ∙ here in
-        let same : used.below.premise ≡ u = cc in
-        omega (arith, more used.at used.tree (omega (arith, far, used.later)) used.here, used.below.less, ap depth same)
+climb s lines t are (suc k) i u far here =
+    let all = are.before ++ t ∷ [] in
+    ⊎_elim
+    (λ (low : i + 1 < length lines).
+    let once = are.used (i + 1) (omega arith) low in
+    let used = user s [] lines all (i + 1) are.nodes (omega (arith, once)) in
+    let at : used.below.at.before ≡ i = omega (arith, used.below.at.number) in
+    let both : Some used.below.premise ≡ Some u = sym used.below.at.tree ∙ ap (slice_get all) at ∙ here in
+    let same : used.below.premise ≡ u = cc in
+    let more = climb s lines t are k used.at used.tree (omega (arith, far, used.later)) used.here in
+    omega (arith, more, used.below.less, ap depth same))
+    (λ (last : length lines ≤ i + 1). climb s lines t are k i u (omega arith) here)
+    (cases_lt (i + 1) (length lines))
 
 pub no_deeper : (s : Schema) (lines : List Line) (t : Tree) (are : AreNodesOf s lines t) (i : ℕ) (u : Tree) → slice_get (are.before ++ t ∷ []) i ≡ Some u → depth u ≤ depth t
 no_deeper s lines t are i u here = climb s lines t are (length lines) i u (omega arith) here

@@ -2,6 +2,7 @@
 use Rattle.std.specs.Prelude.{◌↔◌, ok_or}
 use Rattle.std.proofs.Common.{◌≡◌, ℕ, false, List, [], ◌∷◌, ◌++◌, Option, Some, None, Ok, refl, sym, ◌∙◌, ap, subst, append_assoc}
 use Rattle.dep_model.specs.Dependencies.{Dependency}
+use Rattle.derivation.proofs.RuleTableLemmas.{the_ok}
 use Rattle.lexer.specs.declared.token.Mode.TheVariants as mode
 use Rattle.lexer.specs.declared.token.Stop.{Stop}
 use Rattle.lexer.specs.declared.token.TokenKind.{TokenKind}
@@ -18,7 +19,7 @@ use Rattle.proof_grammar.specs.Meanings.{IsCertificateLine, MeansLine}
 use Rattle.schema_grammar.specs.Rests.{Rest, rest_from, take, expected, number, arrow, ended, side, arrow_in, is_word_token}
 use Rattle.proof_grammar.specs.Readers.{colon, rule_name}
 use Rattle.proof_grammar.proofs.CheckedLemmas.{bind_ok}
-use Rattle.proof_grammar.proofs.SideLaws.{ok_same, side_there, NoWord, side_back}
+use Rattle.proof_grammar.proofs.SideLaws.{side_there, NoWord, side_back}
 use Rattle.proof_grammar.proofs.TokenLaws.{reads_value, after_of, number_there, colon_there, rest_at}
 use Rattle.proof_grammar.proofs.RuleLaws.{rule_there, rule_back}
 
@@ -49,7 +50,7 @@ dependency_there names r d e =
     let lhs = side_there names r x.0 x.1 in
     let middle = reads_value what.Arrow (λ m. arrow_in m.kind) (λ s m. IsArrow s m.kind) (λ s m. (arrow_law s m.kind).0) x.0.1 a.0 a.1 in
     let rhs = side_there names a.0.1 y.0 y.1 in
-    subst (λ (u : Dependency × Rest). ReadsDependency names r u.0 u.1) (ok_same _ d _ refl y.2)
+    subst (λ (u : Dependency × Rest). ReadsDependency names r u.0 u.1) (the_ok _ d y.2)
     (record {
       marks = lhs.marks ++ middle.mark ∷ rhs.marks;
       whole = lhs.whole ∙ ap (λ t. lhs.marks ++ t) (middle.takes.marks ∙ ap (λ t. middle.mark ∷ t) rhs.whole) ∙ sym (append_assoc lhs.marks (middle.mark ∷ rhs.marks) y.0.1.marks);
@@ -94,12 +95,13 @@ record Ends (r : Rest) : Type 0 where
 
 unless_there : {X : Type 0} (r : Rest) (x y : X) → unless (ended r) x ≡ Ok y → (x ≡ y) × Ends r
 unfolding ended
-unless_there {X} r x y e = told r.marks r.stop refl refl e
+unless_there {X} r x y e = told r.marks r.stop e
   where
-    told : (ms : List Mark) (stop : Option Stop) → r.marks ≡ ms → r.stop ≡ stop → unless (ended (record { line = r.line; next_column = r.next_column; marks = ms; stop = stop })) x ≡ Ok y → (x ≡ y) × Ends r
-    told [] None here there e = (cc, record { marks = here; stop = there })
-    told [] (Some stop) here there e = cc
-    told (m ∷ ms) stop here there e = cc
+    told : (ms : List Mark) (stop : Option Stop) → unless (ended (record { line = r.line; next_column = r.next_column; marks = ms; stop = stop })) x ≡ Ok y
+        → (x ≡ y) × Ends (record { line = r.line; next_column = r.next_column; marks = ms; stop = stop })
+    told [] None e = (cc, record { marks = refl; stop = refl })
+    told [] (Some stop) e = cc
+    told (m ∷ ms) stop e = cc
 
 -- a line that is read
 pub record ReadsLine (names : List (List ℕ)) (start : Rest) (l : Line) : Type 0 where

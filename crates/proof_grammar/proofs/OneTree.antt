@@ -51,15 +51,12 @@ one_nodes s before (l ∷ ls) (t ∷ ts) (u ∷ us) (here, rest) (there, others)
     let moved = subst (λ (v : Tree). AreNodes s (before ++ v ∷ []) ls us) (sym same) others in
     (λ i. same i ∷ one_nodes s (before ++ t ∷ []) ls ts us rest moved i)
 
--- the last of two lists that are one
-last_same : (xs ys : List Tree) (x y : Tree) → xs ++ x ∷ [] ≡ ys ++ y ∷ [] → x ≡ y
-last_same xs ys x y e =
-    let size : length xs ≡ length ys = omega (arith, ap length e, length-append xs (x ∷ []), length-append ys (y ∷ [])) in
-    let both : Some x ≡ Some y = sym (seam xs x []) ∙ ap (slice_get (xs ++ x ∷ [])) size ∙ ap (λ zs. slice_get zs (length ys)) e ∙ seam ys y [] in cc
-
 pub one_tree : (s : Schema) (text : List ℕ) (t u : Tree) → Spells s text t → Spells s text u → t ≡ u
 one_tree s text t u first second =
+    let xs = first.nodes.before in
+    let ys = second.nodes.before in
     let lines = one_list (names_of s) (certificate_lines text) first.lines second.lines first.mean second.mean in
-    let moved = subst (λ (ls : List Line). AreNodes s [] ls (second.nodes.before ++ u ∷ [])) (sym lines) second.nodes.nodes in
-    last_same first.nodes.before second.nodes.before t u
-    (one_nodes s [] first.lines (first.nodes.before ++ t ∷ []) (second.nodes.before ++ u ∷ []) first.nodes.nodes moved)
+    let moved = subst (λ (ls : List Line). AreNodes s [] ls (ys ++ u ∷ [])) (sym lines) second.nodes.nodes in
+    let trees = one_nodes s [] first.lines (xs ++ t ∷ []) (ys ++ u ∷ []) first.nodes.nodes moved in
+    let size : length xs ≡ length ys = omega (arith, ap length trees, length-append xs (t ∷ []), length-append ys (u ∷ [])) in
+    let both : Some t ≡ Some u = sym (seam xs t []) ∙ (rw (size, trees) (seam ys u [])) in cc

@@ -1,24 +1,25 @@
 -- The reader after some lines of a text: what they mean, and at which lines of the text they stand.
-use Rattle.std.proofs.Common.{◌≡◌, ◌<◌, ◌≤◌, ◌+◌, ◌-◌, ◌==◌, ℕ, suc, Bool, true, false, List, [], ◌∷◌, ◌++◌, length, Option, Some, None, Result, Ok, refl, sym, ◌∙◌, ap, subst, arith, length-append, append_assoc}
-use Rattle.std.specs.Prelude.{nat_lt, slice_index}
+use Rattle.std.proofs.Common.{◌≡◌, ◌<◌, ◌≤◌, ◌+◌, ◌-◌, ◌==◌, ⊎_elim, ℕ, suc, Bool, true, false, List, [], ◌∷◌, ◌++◌, length, Option, Some, None, Result, Ok, Err, refl, sym, ◌∙◌, ap, subst, arith, length-append, append_assoc}
+use Rattle.std.specs.Prelude.{slice_index}
 use Rattle.std.proofs.Math.Seq.{get_or-append_seam}
-use Rattle.std.proofs.lemmas.Bool.Decides.{nat_tests}
+use Rattle.std.specs.Result.{IfOk}
+use Rattle.std.proofs.lemmas.Bool.{cases_lt, cond_both}
 use Rattle.std.proofs.lemmas.List.{append-nil, get_or_append_left}
 use Rattle.std.proofs.lemmas.List.Elements.{All-push}
 use Rattle.dep_model.specs.declared.schema.Schema.{Schema}
 use Rattle.dep_model.specs.Schemas.{names_of}
 use Rattle.derivation.specs.declared.measures.TheConstants.{MOST_LEVELS}
 use Rattle.derivation.specs.Trees.{Tree, depth}
-use Rattle.derivation.proofs.RuleTableLemmas.{the_ok}
 use Rattle.proof_grammar.specs.declared.line_kind.LineKind.TheVariants.{Certificate}
-use Rattle.proof_grammar.specs.Books.{Opened, Ledger, Prepared, prepared, settled, add_line, entered}
+use Rattle.proof_grammar.specs.Books.{Opened, Ledger, prepared, settled, add_line, entered}
 use Rattle.proof_grammar.specs.Complaints.{Complaint, LineComplaint, wrong_number}
 use Rattle.proof_grammar.specs.Lines.{Line}
 use Rattle.proof_grammar.specs.Meanings.{certificate_lines_of, MeansLine, MeanLines}
 use Rattle.schema_grammar.specs.Rests.{◌>>=◌}
+use Rattle.schema_grammar.proofs.RefusalLemmas.{ok_at}
 use Rattle.proof_grammar.specs.Spelling.{uses}
 use Rattle.proof_grammar.specs.Texts.{at_line, read_certificate_lines}
-use Rattle.proof_grammar.proofs.CheckedLemmas.{bind_ok, kept}
+use Rattle.proof_grammar.proofs.CheckedLemmas.{bind_each}
 use Rattle.proof_grammar.proofs.CountedLines.{counted, Counts}
 use Rattle.proof_grammar.proofs.DepthLemmas.{uses_first, nodes_size}
 use Rattle.proof_grammar.proofs.EnteredLaws.{Follows, IsEntered, used_after}
@@ -39,36 +40,33 @@ read_from s number texts r = at_line number r >>= λ next. read_certificate_line
 -- ---- what follows lines
 -- no line is used twice
 follows_once : (s : Schema) (used : ℕ → ℕ) (ts : List Tree) (book : Ledger) (n : ℕ) → Follows s used ts book → 0 < n → used n ≤ 1
-follows_once s used ts book n follows low = told (nat_lt (n - 1) (length book.unused)) refl
+follows_once s used ts book n follows low =
+    let size = slots_size s used 0 ts book.unused follows.slots in
+    ⊎_elim
+    (λ (inside : n - 1 < length book.unused).
+    let same : 0 + (n - 1) + 1 ≡ n = omega (arith, low) in
+    let tree = tree_of_slot s used 0 ts book.unused (n - 1) follows.slots inside in
+    let found = slot_of_tree s used 0 ts book.unused (n - 1) tree.0 follows.slots tree.1 in
+    let few : used (0 + (n - 1) + 1) ≤ 1 = slot (used (0 + (n - 1) + 1)) tree.0 found.slot found.is in
+    omega (arith, few, ap used same))
+    (λ (past : length book.unused ≤ n - 1). omega (arith, follows.fresh n (omega (arith, past, low, size))))
+    (cases_lt (n - 1) (length book.unused))
   where
-    size : length book.unused ≡ length ts
-    size = slots_size s used 0 ts book.unused follows.slots
-
-    same : 0 + (n - 1) + 1 ≡ n
-    same = omega (arith, low)
-
-    slot : (t : Tree) (o : Option Opened) → IsSlot s (used (0 + (n - 1) + 1)) t o → used n ≤ 1
-    slot t (Some o) is = omega (arith, ap used same, is.0)
-    slot t None is = omega (arith, ap used same, is)
-
-    told : (b : Bool) → nat_lt (n - 1) (length book.unused) ≡ b → used n ≤ 1
-    told true is =
-        let tree = tree_of_slot s used 0 ts book.unused (n - 1) follows.slots (grind (arith, nat_tests, is)) in
-        let found = slot_of_tree s used 0 ts book.unused (n - 1) tree.0 follows.slots tree.1 in
-        slot tree.0 found.slot found.is
-    told false is = omega (arith, follows.fresh n (grind (arith, nat_tests, is, low, size)))
+    slot : (often : ℕ) (t : Tree) (o : Option Opened) → IsSlot s often t o → often ≤ 1
+    slot often t (Some o) is = omega (arith, is.0)
+    slot often t None is = omega (arith, is)
 
 -- the line of the text is kept
 entered_adds : (s : Schema) (at : ℕ) (book next : Ledger) (l : Line) → entered s at book l ≡ Ok next → next.lines ≡ book.lines ++ at ∷ []
 unfolding entered
 entered_adds s at book next l h =
     let os = book.unused in
-    let add = λ (p : Prepared) (o : Opened). add_line at book.lines p.unused o in
-    let settle = λ (p : Prepared). settled (length os) l p.levels p.outcome in
-    let whole = kept (l.number == length os + 1) (prepared s os l.stated l.body >>= λ p. settle p >>= λ o. Ok (add p o)) wrong_number next h in
-    let first = bind_ok (prepared s os l.stated l.body) (λ p. settle p >>= λ o. Ok (add p o)) next whole in
-    let second = bind_ok (settle first.0) (λ o. Ok (add first.0 o)) next first.2 in
-    sym (ap (λ (b : Ledger). b.lines) (the_ok {A = Ledger} {E = Complaint} (add first.0 second.0) next second.2))
+    let adds : Ledger → Type 0 = λ b. b.lines ≡ book.lines ++ at ∷ [] in
+    let all = prepared s os l.stated l.body >>= λ p. settled (length os) l p.levels p.outcome >>= λ o. Ok (add_line at book.lines p.unused o) in
+    ok_at adds _ next h
+    (cond_both (l.number == length os + 1) all (Err wrong_number) (λ r. IfOk r adds)
+    (λ numbered. bind_each adds (prepared s os l.stated l.body) _ (λ p found. bind_each adds (settled (length os) l p.levels p.outcome) _ (λ o ends. refl)))
+    (λ other. tt))
 
 -- ---- lines and what they mean
 pub mean_size : (names : List (List ℕ)) (texts : List (List ℕ)) (lines : List Line) → MeanLines names texts lines → length texts ≡ length lines
@@ -142,51 +140,43 @@ counts_here s text before fresh lines trees book here afterwards counts = afterw
 pub one_more : (s : Schema) (text : List ℕ) (before : List (List ℕ)) (fresh : Bool) (lines : List Line) (trees : List Tree) (book : Ledger) (here : List ℕ) (at : ℕ) (l : Line) (u : Tree)
     (next : Ledger) → HasReadLines s text before fresh lines trees book → Counts Certificate fresh here → StandsAt text before here at → MeansLine (names_of s) here l
     → entered s at book l ≡ Ok next → IsEntered s (λ n. uses n lines) trees l next u → HasReadLines s text (before ++ here ∷ []) false (lines ++ l ∷ []) (trees ++ u ∷ []) next
-one_more s text before fresh lines trees book here at l u next afterwards counts stands means enter is = record {
-  counts = λ more. ap certificate_lines_of (append_assoc before (here ∷ []) more)
-      ∙ afterwards.counts (here ∷ more)
-      ∙ ap (λ (ls : List (List ℕ)). so_far ++ ls) (counts more)
-      ∙ sym (append_assoc so_far (here ∷ []) (counted false more))
-      ∙ ap (λ (ls : List (List ℕ)). ls ++ counted false more) (sym whole);
-  mean = subst (λ (ls : List (List ℕ)). MeanLines (names_of s) ls (lines ++ l ∷ [])) (sym whole) (mean_more (names_of s) so_far lines here l afterwards.mean means);
-  read = record {
-    nodes = AreNodes-append s [] lines trees (l ∷ []) (u ∷ []) afterwards.read.nodes (is.node, tt);
-    once = λ n low. follows_once s (λ n. uses n (lines ++ l ∷ [])) (trees ++ u ∷ []) next n follows low;
-    few_lines = omega (arith, is.few_lines, count, length-append lines (l ∷ []));
-    few_levels = All-push (λ t. depth t ≤ MOST_LEVELS) trees u afterwards.read.few_levels is.few_levels;
-  };
-  follows = follows;
-  size = ap length adds ∙ omega (arith, length-append book.lines (at ∷ []), length-append trees (u ∷ []), afterwards.size);
-  places = subst (λ (ls : List ℕ). (i : ℕ) → i < length ls → IsPlace text (slice_index ls i) i) (sym adds) (λ i h. place i (nat_lt i (length book.lines)) refl h);
-}
-  where
-    so_far : List (List ℕ)
-    so_far = certificate_lines_of before
-
-    whole : certificate_lines_of (before ++ here ∷ []) ≡ so_far ++ here ∷ []
-    whole = counts_here s text before fresh lines trees book here afterwards counts
-
-    adds : next.lines ≡ book.lines ++ at ∷ []
-    adds = entered_adds s at book next l enter
-
-    count : length lines ≡ length trees
-    count = nodes_size s [] lines trees afterwards.read.nodes
-
-    sums : (n : ℕ) → used_after (λ n. uses n lines) l n ≡ uses n (lines ++ l ∷ [])
-    sums n = omega (arith, uses-append n lines (l ∷ []), uses_first n l [])
-
-    follows : Follows s (λ n. uses n (lines ++ l ∷ [])) (trees ++ u ∷ []) next
-    follows = record {
-      slots = slots_same s (used_after (λ n. uses n lines) l) (λ n. uses n (lines ++ l ∷ [])) 0 (trees ++ u ∷ []) next.unused (λ n low. sums n) is.follows.slots;
+one_more s text before fresh lines trees book here at l u next afterwards counts stands means enter is =
+    let so_far = certificate_lines_of before in
+    let whole = counts_here s text before fresh lines trees book here afterwards counts in
+    let adds = entered_adds s at book next l enter in
+    let count = nodes_size s [] lines trees afterwards.read.nodes in
+    let used : ℕ → ℕ = λ n. uses n (lines ++ l ∷ []) in
+    let sums : (n : ℕ) → used_after (λ n. uses n lines) l n ≡ used n = λ n. omega (arith, uses-append n lines (l ∷ []), uses_first n l []) in
+    let follows : Follows s used (trees ++ u ∷ []) next = record {
+      slots = slots_same s (used_after (λ n. uses n lines) l) used 0 (trees ++ u ∷ []) next.unused (λ n low. sums n) is.follows.slots;
       fresh = λ n h. sym (sums n) ∙ is.follows.fresh n h;
+    } in
+    let place : (i : ℕ) → i < length (book.lines ++ at ∷ []) → IsPlace text (slice_index (book.lines ++ at ∷ []) i) i = λ i h.
+    ⊎_elim
+    (λ (inside : i < length book.lines).
+    subst (λ (n : ℕ). IsPlace text n i) (sym (get_or_append_left book.lines (at ∷ []) 0 i inside)) (afterwards.places i inside))
+    (λ (past : length book.lines ≤ i).
+    let last : length book.lines ≡ i = omega (arith, past, h, length-append book.lines (at ∷ [])) in
+    let value : slice_index (book.lines ++ at ∷ []) i ≡ at =
+    sym (ap (slice_index (book.lines ++ at ∷ [])) last) ∙ get_or-append_seam book.lines at [] 0 in
+    let size = mean_size (names_of s) so_far lines afterwards.mean in
+    subst (λ (n : ℕ). IsPlace text n i) (sym value)
+    (record { before = before; here = here; stands = stands; count = omega (arith, size, count, afterwards.size, last) }))
+    (cases_lt i (length book.lines)) in
+    record {
+      counts = λ more. ap certificate_lines_of (append_assoc before (here ∷ []) more)
+          ∙ afterwards.counts (here ∷ more)
+          ∙ ap (λ (ls : List (List ℕ)). so_far ++ ls) (counts more)
+          ∙ sym (append_assoc so_far (here ∷ []) (counted false more))
+          ∙ ap (λ (ls : List (List ℕ)). ls ++ counted false more) (sym whole);
+      mean = subst (λ (ls : List (List ℕ)). MeanLines (names_of s) ls (lines ++ l ∷ [])) (sym whole) (mean_more (names_of s) so_far lines here l afterwards.mean means);
+      read = record {
+        nodes = AreNodes-append s [] lines trees (l ∷ []) (u ∷ []) afterwards.read.nodes (is.node, tt);
+        once = λ n low. follows_once s used (trees ++ u ∷ []) next n follows low;
+        few_lines = omega (arith, is.few_lines, count, length-append lines (l ∷ []));
+        few_levels = All-push (λ t. depth t ≤ MOST_LEVELS) trees u afterwards.read.few_levels is.few_levels;
+      };
+      follows = follows;
+      size = ap length adds ∙ omega (arith, length-append book.lines (at ∷ []), length-append trees (u ∷ []), afterwards.size);
+      places = subst (λ (ls : List ℕ). (i : ℕ) → i < length ls → IsPlace text (slice_index ls i) i) (sym adds) place;
     }
-
-    place : (i : ℕ) (b : Bool) → nat_lt i (length book.lines) ≡ b → i < length (book.lines ++ at ∷ []) → IsPlace text (slice_index (book.lines ++ at ∷ []) i) i
-    place i true e h =
-        let inside : i < length book.lines = grind (arith, nat_tests, e) in
-        subst (λ (n : ℕ). IsPlace text n i) (sym (get_or_append_left book.lines (at ∷ []) 0 i inside)) (afterwards.places i inside)
-    place i false e h =
-        let last : length book.lines ≡ i = grind (arith, nat_tests, e, h, length-append book.lines (at ∷ [])) in
-        let value : slice_index (book.lines ++ at ∷ []) i ≡ at = sym (ap (slice_index (book.lines ++ at ∷ [])) last) ∙ get_or-append_seam book.lines at [] 0 in
-        subst (λ (n : ℕ). IsPlace text n i) (sym value)
-        (record { before = before; here = here; stands = stands; count = omega (arith, mean_size (names_of s) so_far lines afterwards.mean, count, afterwards.size, last) })

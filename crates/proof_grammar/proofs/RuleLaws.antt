@@ -3,20 +3,20 @@ use Rattle.std.proofs.Common.{◌≡◌, ℕ, List, [], ◌∷◌, ◌++◌, Non
 use Rattle.std.specs.Prelude.{codes}
 use Rattle.std.proofs.lemmas.List.{append-nil}
 use Rattle.std.proofs.lemmas.Slice.Eq.{bytes_eq-Decides}
-use Rattle.attr_sets.specs.Places.{Places}
 use Rattle.derivation.specs.Trees.{augmentation, complementation, maugmentation, replication, Pair, transitivity, mtransitivity, coalescence}
+use Rattle.derivation.proofs.RuleTableLemmas.{the_ok}
 use Rattle.lexer.specs.Tokens.{Mark}
 use Rattle.schema_grammar.specs.declared.refusal.SchemaRefusal.{SchemaRefusal}
 use Rattle.schema_grammar.specs.declared.refusal.What.TheVariants as what
 use Rattle.proof_grammar.specs.declared.rule_name.RuleName.{RuleName}
 use Rattle.proof_grammar.specs.declared.rule_name.RuleName.TheVariants as rule
 use Rattle.proof_grammar.specs.Lines.{Body, by_given, by_reflexivity, by_mreflexivity, by_step, by_pair, one, two, augmented, maugmented, body}
-use Rattle.proof_grammar.specs.Meanings.{IsNumber, IsKeyword, pair_name, IsRule, IsAugmented, IsWidened}
+use Rattle.proof_grammar.specs.Meanings.{IsNumber, IsKeyword, pair_name, IsRule}
 use Rattle.schema_grammar.specs.Rests.{Rest, ◌>>=◌, take, number, side, is_word_token}
 use Rattle.proof_grammar.specs.Readers.{colon, with_word, rule_name}
 use Rattle.proof_grammar.specs.Tokens.{is_with, rule_named, rule_word}
 use Rattle.proof_grammar.proofs.CheckedLemmas.{bind_ok}
-use Rattle.proof_grammar.proofs.SideLaws.{ok_same, side_there, side_back}
+use Rattle.proof_grammar.proofs.SideLaws.{side_there, side_back}
 use Rattle.proof_grammar.proofs.TokenLaws.{reads_value, spelled, after_of, number_there, colon_there, with_there, rule_named_there, rest_at, named_back}
 
 -- ---- what follows the name
@@ -29,7 +29,7 @@ abbrev Rule : List (List ℕ) → Mark → Rest → Body × Rest → Type 0
 Rule names name r b = ReadsRule names name r b.0 b.1
 
 reads_as : (names : List (List ℕ)) (name : Mark) (r next : Rest) (made : Body) (b : Body × Rest) → ◌≡◌ {A = Result (Body × Rest) SchemaRefusal} (Ok (made, next)) (Ok b) → ReadsRule names name r made next → Rule names name r b
-reads_as names name r next made b same reads = subst (Rule names name r) (ok_same _ b _ refl same) reads
+reads_as names name r next made b same reads = subst (Rule names name r) (the_ok _ b same) reads
 
 -- a number alone
 numbered_there : (names : List (List ℕ)) (make : ℕ → Body) (name : Mark) (r : Rest) (b : Body × Rest) → ((p : ℕ) (m : Mark) → IsNumber p m → IsRule names (name ∷ m ∷ []) (make p))
@@ -182,28 +182,8 @@ rule_made names line from r m marks whole b same says rest = record {
   read = rest.read;
 }
 
-augmented_back : (names : List (List ℕ)) (line from p : ℕ) (z : Places) (m : Mark) (sets : List Mark) → IsNumber p m → IsAugmented names sets z
-    → BodyRead names line from rule.Augmentation (m ∷ sets) (by_step (augmentation z) p)
-unfolding body augmented number with_word take is_with
-augmented_back names line from p z m sets is has =
-    let last = side_back names line (after_of has.keyword) has.sides [] None z has.side tt in
-    let same : sets ≡ has.keyword ∷ has.sides ++ [] = has.whole ∙ ap (λ t. has.keyword ∷ t) (sym (append-nil has.sides)) in
-    let keyword = (bytes_eq-Decides has.keyword.word (codes "with")).1 has.says.1 in
-    record { next_column = last.next_column; read = rw (same, is, has.says.0, keyword, last.read) refl }
-
-maugmented_back : (names : List (List ℕ)) (line from p : ℕ) (w z : Places) (m : Mark) (sets : List Mark) → IsNumber p m → IsWidened names sets w z
-    → BodyRead names line from rule.MAugmentation (m ∷ sets) (by_step (maugmentation w z) p)
-unfolding body maugmented number with_word colon take is_with
-maugmented_back names line from p w z m sets is has =
-    let tail = has.colon ∷ has.narrow ++ [] in
-    let wide = side_back names line (after_of has.keyword) has.wide tail None w has.wide_side (ap is_word_token has.is_colon) in
-    let last = side_back names line (after_of has.colon) has.narrow [] None z has.narrow_side tt in
-    let same : sets ≡ has.keyword ∷ has.wide ++ tail = has.whole ∙ ap (λ t. has.keyword ∷ has.wide ++ has.colon ∷ t) (sym (append-nil has.narrow)) in
-    let keyword = (bytes_eq-Decides has.keyword.word (codes "with")).1 has.says.1 in
-    record { next_column = last.next_column; read = rw (same, is, has.says.0, keyword, wide.read, has.is_colon, last.read) refl }
-
 pub rule_back : (names : List (List ℕ)) (line from : ℕ) (marks : List Mark) (b : Body) → IsRule names marks b → RuleRead names line from marks b
-unfolding body one two number take
+unfolding body one two augmented maugmented number with_word colon take is_with
 rule_back names line from marks (by_given k) is =
     rule_made names line from rule.Given is.name (is.place ∷ []) marks (by_given k) is.whole is.says (record { next_column = after_of is.place; read = rw is.number refl })
 rule_back names line from marks by_reflexivity is =
@@ -211,14 +191,24 @@ rule_back names line from marks by_reflexivity is =
 rule_back names line from marks by_mreflexivity is =
     rule_made names line from rule.MReflexivity is.name [] marks by_mreflexivity is.whole is.says (record { next_column = after_of is.name; read = refl })
 rule_back names line from marks (by_step (augmentation z) p) is =
+    let has = is.has_sets in
+    let last = side_back names line (after_of has.keyword) has.sides [] None z has.side tt in
+    let same : is.sets ≡ has.keyword ∷ has.sides ++ [] = has.whole ∙ ap (λ t. has.keyword ∷ t) (sym (append-nil has.sides)) in
+    let keyword = (bytes_eq-Decides has.keyword.word (codes "with")).1 has.says.1 in
     rule_made names line from rule.Augmentation is.name (is.premise ∷ is.sets) marks (by_step (augmentation z) p) is.whole is.says
-    (augmented_back names line (after_of is.name) p z is.premise is.sets is.number is.has_sets)
+    (record { next_column = last.next_column; read = rw (same, is.number, has.says.0, keyword, last.read) refl })
 rule_back names line from marks (by_step complementation p) is =
     rule_made names line from rule.Complementation is.name (is.premise ∷ is.sets) marks (by_step complementation p) is.whole is.says
     (record { next_column = after_of is.premise; read = rw (is.has_sets, is.number) refl })
 rule_back names line from marks (by_step (maugmentation w z) p) is =
+    let has = is.has_sets in
+    let tail = has.colon ∷ has.narrow ++ [] in
+    let wide = side_back names line (after_of has.keyword) has.wide tail None w has.wide_side (ap is_word_token has.is_colon) in
+    let last = side_back names line (after_of has.colon) has.narrow [] None z has.narrow_side tt in
+    let same : is.sets ≡ has.keyword ∷ has.wide ++ tail = has.whole ∙ ap (λ t. has.keyword ∷ has.wide ++ has.colon ∷ t) (sym (append-nil has.narrow)) in
+    let keyword = (bytes_eq-Decides has.keyword.word (codes "with")).1 has.says.1 in
     rule_made names line from rule.MAugmentation is.name (is.premise ∷ is.sets) marks (by_step (maugmentation w z) p) is.whole is.says
-    (maugmented_back names line (after_of is.name) p w z is.premise is.sets is.number is.has_sets)
+    (record { next_column = last.next_column; read = rw (same, is.number, has.says.0, keyword, wide.read, has.is_colon, last.read) refl })
 rule_back names line from marks (by_step replication p) is =
     rule_made names line from rule.Replication is.name (is.premise ∷ is.sets) marks (by_step replication p) is.whole is.says
     (record { next_column = after_of is.premise; read = rw (is.has_sets, is.number) refl })

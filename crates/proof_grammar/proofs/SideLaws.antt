@@ -1,9 +1,11 @@
 -- A side of a line is read exactly where the grammar has one.
-use Rattle.std.proofs.Common.{◌≡◌, ◌<◌, ◌+◌, inl, inr, ℕ, Bool, true, false, cond, List, [], ◌∷◌, ◌++◌, length, Option, Some, None, Ok, Err, Result, refl, sym, ◌∙◌, ap, arith}
+use Rattle.std.proofs.Common.{◌≡◌, ◌<◌, ◌+◌, ⊎_elim, inl, inr, ℕ, Bool, true, false, cond, List, [], ◌∷◌, ◌++◌, length, Option, Some, None, Ok, Err, Result, refl, sym, ◌∙◌, ap, arith}
 use Rattle.std.specs.List.{All}
+use Rattle.std.proofs.lemmas.Bool.{cases_Bool}
 use Rattle.std.proofs.lemmas.List.Elements.{All-cons, All-nil, All-head, All-tail}
 use Rattle.attr_sets.specs.Places.{Places, only, union}
 use Rattle.dep_model.specs.Schemas.{place_named}
+use Rattle.derivation.proofs.RuleTableLemmas.{the_ok}
 use Rattle.lexer.specs.declared.token.Stop.{Stop}
 use Rattle.lexer.specs.declared.token.TokenKind.{TokenKind}
 use Rattle.lexer.specs.declared.token.TokenKind.TheVariants as token
@@ -17,11 +19,8 @@ use Rattle.schema_grammar.specs.Meanings.{named, IsAttribute, IsSide}
 use Rattle.schema_grammar.specs.Refusals.{at}
 use Rattle.schema_grammar.specs.Words.{is_reserved, looked_up, known}
 use Rattle.schema_grammar.proofs.SideLemmas.{union-only, union-none, named-cons, Names}
-use Rattle.schema_grammar.specs.Rests.{place, Rest, ◌>>=◌, take, taken, words_from, side, side_from, is_word_token}
+use Rattle.schema_grammar.specs.Rests.{place, Rest, take, taken, words_from, side, side_from, is_word_token}
 use Rattle.proof_grammar.proofs.CheckedLemmas.{bind_ok}
-
-pub ok_same : {X E : Type 0} (x y : X) (r : Result X E) → r ≡ Ok x → r ≡ Ok y → x ≡ y
-ok_same x y r here there = cc
 
 -- ---- one token
 -- what is left of a line before and after a token
@@ -31,17 +30,14 @@ pub record Takes (r : Rest) (m : Mark) (next : Rest) : Type 0 where
 
 pub take_there : (want : What) (r : Rest) (t : Mark × Rest) → take want r ≡ Ok t → Takes r t.0 t.1
 unfolding take
-take_there want r t e = told r.marks r.stop refl refl e
+take_there want r t e = told r.marks r.stop e
   where
-    told : (ms : List Mark) (stop : Option Stop) → r.marks ≡ ms → r.stop ≡ stop → taken want r.line r.next_column ms stop ≡ Ok t → Takes r t.0 t.1
-    told [] None here there e = cc
-    told [] (Some stop) here there e = cc
-    told (m ∷ ms) stop here there e =
-        let same = ok_same _ t _ refl e in
-        record {
-          marks = here ∙ ap (λ (u : Mark × Rest). u.0 ∷ u.1.marks) same;
-          stop = sym (ap (λ (u : Mark × Rest). u.1.stop) same) ∙ sym there;
-        }
+    told : (ms : List Mark) (stop : Option Stop) → taken want r.line r.next_column ms stop ≡ Ok t
+        → Takes (record { line = r.line; next_column = r.next_column; marks = ms; stop = stop }) t.0 t.1
+    told [] None e = cc
+    told [] (Some stop) e = cc
+    told (m ∷ ms) stop e =
+        let same = the_ok _ t e in record { marks = ap (λ (u : Mark × Rest). u.0 ∷ u.1.marks) same; stop = sym (ap (λ (u : Mark × Rest). u.1.stop) same) }
 
 -- ---- words
 place_there : (names : List (List ℕ)) (line : ℕ) (m : Mark) (a : ℕ) → place names line m ≡ Ok a → Names format.Plain names m.word a
@@ -72,7 +68,7 @@ record ReadsWords (names : List (List ℕ)) (acc : Places) (marks : List Mark) (
 
 words_none : (names : List (List ℕ)) (acc : Places) (r : Rest) (x : Places) (next : Rest) → ◌≡◌ {A = Result (Places × Rest) SchemaRefusal} (Ok (acc, r)) (Ok (x, next)) → ReadsWords names acc r.marks r.stop x next
 words_none names acc r x next e =
-    let same = ok_same _ (x, next) _ refl e in
+    let same = the_ok _ (x, next) e in
     record {
       words = [];
       whole = ap (λ (u : Places × Rest). u.1.marks) same;
@@ -86,24 +82,22 @@ words_there : (names : List (List ℕ)) (line : ℕ) (acc : Places) (next_column
 unfolding words_from
 words_there names line acc next_column [] stop x next e = words_none names acc _ x next e
 words_there names line acc next_column (m ∷ ms) stop x next e =
-    told (is_word_token m.kind) refl e (λ a. words_there names line (union acc (only a)) (m.column + length m.word) ms stop x next)
-  where
-    told : (b : Bool) → is_word_token m.kind ≡ b
-        → cond b (place names line m >>= λ a. words_from names line (union acc (only a)) (m.column + length m.word) ms stop) (Ok (acc, record { line = line; next_column = next_column; marks = m ∷ ms; stop = stop })) ≡ Ok (x, next)
-        → ((a : ℕ) → words_from names line (union acc (only a)) (m.column + length m.word) ms stop ≡ Ok (x, next) → ReadsWords names (union acc (only a)) ms stop x next)
-        → ReadsWords names acc (m ∷ ms) stop x next
-    told true is e more =
-        let here = bind_ok (place names line m) _ (x, next) e in
-        let names_it = place_there names line m here.0 here.1 in
-        let rest = more here.0 here.2 in
-        record {
-          words = m ∷ rest.words;
-          whole = ap (λ t. m ∷ t) rest.whole;
-          each = All-cons (IsAttribute format.Plain names) m rest.words (record { word = word_is m.kind is; free = names_it.free; place = here.0; known = names_it.place }) rest.each;
-          members = rest.members ∙ union-only acc (named names rest.words) here.0 ∙ ap (union acc) (sym (named-cons names m rest.words here.0 names_it.place));
-          same_stop = rest.same_stop;
-        }
-    told false is e more = words_none names acc _ x next e
+    ⊎_elim
+    (λ (is : is_word_token m.kind ≡ true).
+    let here = bind_ok (place names line m) _ (x, next) (rw is at e) in
+    let names_it = place_there names line m here.0 here.1 in
+    let rest = words_there names line (union acc (only here.0)) (m.column + length m.word) ms stop x next here.2 in
+    record {
+      words = m ∷ rest.words;
+      whole = ap (λ t. m ∷ t) rest.whole;
+      each = All-cons (IsAttribute format.Plain names) m rest.words
+          (record { word = word_is m.kind is; free = names_it.free; place = here.0; known = names_it.place }) rest.each;
+      members = rest.members ∙ union-only acc (named names rest.words) here.0
+          ∙ ap (union acc) (sym (named-cons names m rest.words here.0 names_it.place));
+      same_stop = rest.same_stop;
+    })
+    (λ (other : is_word_token m.kind ≡ false). words_none names acc _ x next (rw other at e))
+    (cases_Bool (is_word_token m.kind))
 
 -- a side that is read
 pub record ReadsSide (names : List (List ℕ)) (r : Rest) (x : Places) (next : Rest) : Type 0 where
@@ -134,7 +128,7 @@ side_there names r s e =
           stop = rest.same_stop ∙ takes.stop;
         }
     told m next_column takes token.Empty is e =
-        let same = ok_same _ s _ refl e in
+        let same = the_ok _ s e in
         record {
           marks = m ∷ [];
           whole = takes.marks ∙ ap (λ (u : Places × Rest). m ∷ u.1.marks) same;

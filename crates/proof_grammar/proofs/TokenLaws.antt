@@ -1,9 +1,10 @@
 -- A token of a line is read exactly where the grammar has it.
-use Rattle.std.proofs.Common.{◌≡◌, ◌+◌, ℕ, Bool, true, false, cond, List, length, Option, Some, None, Ok, Err, refl, ◌∙◌, ap, subst}
+use Rattle.std.proofs.Common.{◌≡◌, ◌+◌, ⊎_elim, ℕ, Bool, true, false, cond, List, length, Option, Some, None, Ok, Err, refl, ◌∙◌, ap, subst}
 use Rattle.std.specs.Prelude.{codes, ok_or}
 use Rattle.std.specs.Str.{bytes_eq}
+use Rattle.std.proofs.lemmas.Bool.{cases_Bool}
 use Rattle.std.proofs.lemmas.Slice.Eq.{bytes_eq-Decides}
-use Rattle.derivation.proofs.RuleTableLemmas.{some_of_ok, chosen}
+use Rattle.derivation.proofs.RuleTableLemmas.{some_of_ok, the_ok, chosen}
 use Rattle.lexer.specs.declared.token.TokenKind.{TokenKind}
 use Rattle.lexer.specs.declared.token.TokenKind.TheVariants as token
 use Rattle.lexer.specs.Tokens.{Mark}
@@ -17,7 +18,7 @@ use Rattle.schema_grammar.specs.Rests.{Rest, ◌>>=◌, take, expected, number}
 use Rattle.proof_grammar.specs.Readers.{colon, with_word}
 use Rattle.proof_grammar.specs.Tokens.{is_colon, is_with, rule_named, rule_word}
 use Rattle.proof_grammar.proofs.CheckedLemmas.{bind_ok}
-use Rattle.proof_grammar.proofs.SideLaws.{ok_same, Takes, take_there}
+use Rattle.proof_grammar.proofs.SideLaws.{Takes, take_there}
 
 -- ---- one token
 -- a token that is read
@@ -31,7 +32,7 @@ pub reads_value : {X : Type 0} (want : What) (found : Mark → Option X) (P : X 
 reads_value {X} want found P holds r v e =
     let t = bind_ok (take want r) _ v e in
     let x = bind_ok (ok_or (found t.0.0) (expected want t.0.0 t.0.1)) _ v t.2 in
-    let same = ok_same _ v _ refl x.2 in
+    let same = the_ok _ v x.2 in
     record {
       mark = t.0.0;
       takes = subst (λ (u : X × Rest). Takes r t.0.0 u.1) same (take_there want r t.0 t.1);
@@ -86,11 +87,11 @@ spelled rule.Coalescence = codes "coalescence"
 
 peel : (word : List ℕ) (first r : RuleName) (others : Option RuleName) → (others ≡ Some r → word ≡ spelled r) → cond (bytes_eq word (spelled first)) (Some first) others ≡ Some r
     → word ≡ spelled r
-peel word first r others more e = told (bytes_eq word (spelled first)) refl e
-  where
-    told : (b : Bool) → bytes_eq word (spelled first) ≡ b → cond b (Some first) others ≡ Some r → word ≡ spelled r
-    told true same e = let this : first ≡ r = cc in (bytes_eq-Decides word (spelled first)).0 same ∙ ap spelled this
-    told false same e = more e
+peel word first r others more e =
+    ⊎_elim
+    (λ (same : bytes_eq word (spelled first) ≡ true). let found = rw same at e in let this : first ≡ r = cc in (bytes_eq-Decides word (spelled first)).0 same ∙ ap spelled this)
+    (λ (other : bytes_eq word (spelled first) ≡ false). more (rw other at e))
+    (cases_Bool (bytes_eq word (spelled first)))
 
 pub rule_named_there : (k : TokenKind) (word : List ℕ) (r : RuleName) → rule_named k word ≡ Some r → (k ≡ token.Word) × (word ≡ spelled r)
 unfolding rule_named rule_word
