@@ -100,7 +100,8 @@ LineComplaint Six f declared ms stop place number =
     ⊎ ((number ≡ 6) × Six place))
     ⊎ ((s : Stop) × (stop ≡ Some s) × (place ≡ length ms) × (number ≡ flaw_number s.flaw))
 
--- where the grammar can't go on, and what is wanted, by how far a line is read before a place
+-- where the grammar can't go on, and what is wanted: `Six` is a place of a complaint 6, and `At` how far
+-- the line is read before a place
 pub record Judges (ms : List Mark) (stop : Option Stop) (At : ℕ → Shape → Type 0) (Six : ℕ → Type 0)
     (Wanted : ℕ → What → Type 0) : Type 0 where
   pub wants : (p : ℕ) (s : Shape) → At p s → Wanted p (wanted_by s)
@@ -134,6 +135,7 @@ token_complains judges f declared p r m why is reached tells =
     ⊎_elim (λ word. inl (inl (m, is, word)))
     (λ six. inl (inr (six.0, judges.stuck p (shape_of r) m is reached six.1))) tells.0
 
+-- a reading is refused by the first complaint, and has none where it ends well
 abbrev pub Judged : {X : Type 0} → (ℕ → ℕ → Type 0) → (ℕ → What → Type 0) → (ℕ → Span)
     → Result X SchemaRefusal → Type 0
 Judged Complaint Wanted span (Ok x) = (p n : ℕ) → Complaint p n → ⊥
