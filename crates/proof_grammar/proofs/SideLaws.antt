@@ -1,5 +1,5 @@
 -- A side of a line is read exactly where the grammar has one.
-use Rattle.std.proofs.Common.{◌≡◌, ◌<◌, ◌+◌, ⊎_elim, inl, inr, ℕ, Bool, true, false, cond, List, [], ◌∷◌, ◌++◌, length, Option, Some, None, Ok, Err, Result, refl, sym, ◌∙◌, ap, arith}
+use Rattle.std.proofs.Common.{◌≡◌, ◌<◌, ◌+◌, ⊎_elim, inl, inr, ℕ, Bool, true, false, cond, List, [], ◌∷◌, ◌++◌, length, Option, Some, None, Ok, Err, Result, refl, sym, ◌∙◌, ap, subst, arith}
 use Rattle.std.specs.List.{All}
 use Rattle.std.proofs.lemmas.Bool.{cases_Bool}
 use Rattle.std.proofs.lemmas.List.Elements.{All-cons, All-nil, All-head, All-tail}
@@ -37,7 +37,8 @@ take_there want r t e = told r.marks r.stop e
     told [] None e = cc
     told [] (Some stop) e = cc
     told (m ∷ ms) stop e =
-        let same = the_ok _ t e in record { marks = ap (λ (u : Mark × Rest). u.0 ∷ u.1.marks) same; stop = sym (ap (λ (u : Mark × Rest). u.1.stop) same) }
+        subst (λ (u : Mark × Rest). Takes (record { line = r.line; next_column = r.next_column; marks = m ∷ ms; stop = stop }) u.0 u.1) (the_ok _ t e)
+        (record { marks = refl; stop = refl })
 
 -- ---- words
 place_there : (names : List (List ℕ)) (line : ℕ) (m : Mark) (a : ℕ) → place names line m ≡ Ok a → Names format.Plain names m.word a
@@ -68,14 +69,8 @@ record ReadsWords (names : List (List ℕ)) (acc : Places) (marks : List Mark) (
 
 words_none : (names : List (List ℕ)) (acc : Places) (r : Rest) (x : Places) (next : Rest) → ◌≡◌ {A = Result (Places × Rest) SchemaRefusal} (Ok (acc, r)) (Ok (x, next)) → ReadsWords names acc r.marks r.stop x next
 words_none names acc r x next e =
-    let same = the_ok _ (x, next) e in
-    record {
-      words = [];
-      whole = ap (λ (u : Places × Rest). u.1.marks) same;
-      each = All-nil (IsAttribute format.Plain names);
-      members = sym (ap (λ (u : Places × Rest). u.0) same) ∙ sym (union-none acc (named names []) refl);
-      same_stop = sym (ap (λ (u : Places × Rest). u.1.stop) same);
-    }
+    subst (λ (u : Places × Rest). ReadsWords names acc r.marks r.stop u.0 u.1) (the_ok _ (x, next) e)
+    (record { words = []; whole = refl; each = All-nil (IsAttribute format.Plain names); members = sym (union-none acc (named names []) refl); same_stop = refl })
 
 words_there : (names : List (List ℕ)) (line : ℕ) (acc : Places) (next_column : ℕ) (marks : List Mark) (stop : Option Stop) (x : Places) (next : Rest)
     → words_from names line acc next_column marks stop ≡ Ok (x, next) → ReadsWords names acc marks stop x next
@@ -128,18 +123,9 @@ side_there names r s e =
           stop = rest.same_stop ∙ takes.stop;
         }
     told m next_column takes token.Empty is e =
-        let same = the_ok _ s e in
-        record {
-          marks = m ∷ [];
-          whole = takes.marks ∙ ap (λ (u : Places × Rest). m ∷ u.1.marks) same;
-          is_side = inl (record {
-            column = m.column;
-            bytes = m.word;
-            alone = ap (λ (k : TokenKind). record { kind = k; column = m.column; word = m.word } ∷ []) is;
-            nothing = sym (ap (λ (u : Places × Rest). u.0) same);
-          });
-          stop = sym (ap (λ (u : Places × Rest). u.1.stop) same) ∙ takes.stop;
-        }
+        let alone = ap (λ (k : TokenKind). record { kind = k; column = m.column; word = m.word } ∷ []) is in
+        subst (λ (u : Places × Rest). ReadsSide names r u.0 u.1) (the_ok _ s e)
+        (record { marks = m ∷ []; whole = takes.marks; is_side = inl (record { column = m.column; bytes = m.word; alone = alone; nothing = refl }); stop = takes.stop })
     told m next_column takes _ is e = cc
 
 -- ---- back
