@@ -31,20 +31,20 @@ use Rattle.proof_grammar.specs.Texts.{in_line, read_as, line_kind, read_one, at_
 use Rattle.proof_grammar.specs.Checked.{IsChecked}
 use Rattle.proof_grammar.specs.Ledgers.{Stands, IfOpen, AllStand, open_nodes, all_nodes, IsLedger}
 
-AllStand-get : (s : Schema) (os : List (Option Opened)) (i : ℕ) → AllStand s os → IfOpen s (joined (slice_get os i))
-AllStand-get s [] i all = tt {0}
-AllStand-get s (o ∷ os) zero all = all.0
-AllStand-get s (o ∷ os) (suc i) all = AllStand-get s os i all.1
+AllStand-get : (s : Schema) (os : List (Option Opened)) (i : ℕ) (o : Option Opened) → AllStand s os → joined (slice_get os i) ≡ o → IfOpen s o
+AllStand-get s [] i o all e = subst (IfOpen s) e (tt {0})
+AllStand-get s (x ∷ os) zero o all e = subst (IfOpen s) e all.0
+AllStand-get s (x ∷ os) (suc i) o all e = AllStand-get s os i o all.1 e
 
 AllStand-close : (s : Schema) (os : List (Option Opened)) (i : ℕ) → AllStand s os → AllStand s (slice_set os i None)
 AllStand-close s [] i all = tt {0}
 AllStand-close s (o ∷ os) zero all = (tt {0}, all.1)
 AllStand-close s (o ∷ os) (suc i) all = (all.0, AllStand-close s os i all.1)
 
-all_nodes-close : (os : List (Option Opened)) (i : ℕ) → all_nodes (slice_set os i None) + open_nodes (joined (slice_get os i)) ≡ all_nodes os
-all_nodes-close [] i = refl
-all_nodes-close (o ∷ os) zero = omega arith
-all_nodes-close (o ∷ os) (suc i) = omega (arith, all_nodes-close os i)
+all_nodes-close : (os : List (Option Opened)) (i : ℕ) (o : Option Opened) → joined (slice_get os i) ≡ o → all_nodes (slice_set os i None) + open_nodes o ≡ all_nodes os
+all_nodes-close [] i o e = omega (arith, ap open_nodes e)
+all_nodes-close (x ∷ os) zero o e = omega (arith, ap open_nodes e)
+all_nodes-close (x ∷ os) (suc i) o e = omega (arith, all_nodes-close os i o e)
 
 pub AllStand-push : (s : Schema) (os : List (Option Opened)) (o : Opened) → AllStand s os → Stands s o → AllStand s (os ++ Some o ∷ [])
 AllStand-push s [] o all stands = (stands, tt {0})
@@ -80,37 +80,27 @@ known_node s before after levels t r stand same_length proves deep count = recor
   counted = λ u d h. let w = with_tree-ok t u r d h in subst (λ (x : Tree). nodes x + all_nodes after ≡ all_nodes before + 1) w.0 count;
 }
 
-leaf_prepared : (s : Schema) (os : List (Option Opened)) (rule : Leaf) → AllStand s os
-    → IsPrepared s os (record { levels = 1; outcome = with_tree (leaf rule) (leaf_conclusion s rule); unused = os })
-leaf_prepared s os rule all = known_node s os os 1 (leaf rule) (leaf_conclusion s rule) all refl (λ d h. h) refl (omega arith)
-
-open_stands : (s : Schema) (os : List (Option Opened)) (q : ℕ) (o : Opened) → AllStand s os → open_at os q ≡ Some o → Stands s o
-open_stands s os q o all e = subst (IfOpen s) e (AllStand-get s os (q - 1) all)
-
-closed_count : (os : List (Option Opened)) (q : ℕ) (o : Opened) → open_at os q ≡ Some o → all_nodes (closed os q) + nodes o.tree ≡ all_nodes os
-closed_count os q o e = ap (λ x. all_nodes (closed os q) + open_nodes x) (sym e) ∙ all_nodes-close os (q - 1)
-
 step_prepared : (s : Schema) (rule : Step) (os : List (Option Opened)) (q : ℕ) (o : Option Opened) → open_at os q ≡ o → AllStand s os
     → IfOk (step_node s rule o (closed os q)) (IsPrepared s os)
 step_prepared s rule os q None e all = tt
 step_prepared s rule os q (Some o) e all =
-    let stands = open_stands s os q o all e in
+    let stands = AllStand-get s os (q - 1) (Some o) all e in
     known_node s os (closed os q) (o.levels + 1) (step rule o.tree) (step_conclusion s rule o.conclusion)
     (AllStand-close s os (q - 1) all) (length-set os (q - 1) None) (λ d given_d. (o.conclusion, stands.proves, given_d))
-    (omega (arith, stands.levels)) (omega (arith, closed_count os q o e))
+    (omega (arith, stands.levels)) (omega (arith, all_nodes-close os (q - 1) (Some o) e))
 
 pair_prepared : (s : Schema) (rule : Pair) (os : List (Option Opened)) (q r : ℕ) (o u : Option Opened) → open_at os q ≡ o → open_at (closed os q) r ≡ u → AllStand s os
     → IfOk (pair_node rule o u (closed (closed os q) r)) (IsPrepared s os)
 pair_prepared s rule os q r None u e f all = tt
 pair_prepared s rule os q r (Some o) None e f all = tt
 pair_prepared s rule os q r (Some o) (Some u) e f all =
-    let first = open_stands s os q o all e in
+    let first = AllStand-get s os (q - 1) (Some o) all e in
     let rest = AllStand-close s os (q - 1) all in
-    let second = open_stands s (closed os q) r u rest f in
+    let second = AllStand-get s (closed os q) (r - 1) (Some u) rest f in
     known_node s os (closed (closed os q) r) (max o.levels u.levels + 1) (pair rule o.tree u.tree) (pair_conclusion rule o.conclusion u.conclusion)
     (AllStand-close s (closed os q) (r - 1) rest) (length-set (closed os q) (r - 1) None ∙ length-set os (q - 1) None)
     (λ d given_d. (o.conclusion, u.conclusion, first.proves, second.proves, given_d))
-    (omega (arith, first.levels, second.levels)) (omega (arith, closed_count os q o e, closed_count (closed os q) r u f))
+    (omega (arith, first.levels, second.levels)) (omega (arith, all_nodes-close os (q - 1) (Some o) e, all_nodes-close (closed os q) (r - 1) (Some u) f))
 
 all_prepared : (s : Schema) (os : List (Option Opened)) (stated : Dependency) (b : Body) → AllStand s os → IfOk (prepared s os stated b) (IsPrepared s os)
 unfolding prepared
@@ -118,9 +108,9 @@ all_prepared s os stated (by_given k) all =
     cond_both (k == 0) (Err NoSuchGiven) (with_tree (leaf (given (k - 1))) (leaf_conclusion s (given (k - 1))))
     (λ r. IsPrepared s os (record { levels = 1; outcome = r; unused = os }))
     (λ none. record { stand = all; same_length = refl; proves = λ u d h. cc; levels = λ u d h. cc; counted = λ u d h. cc })
-    (λ some. leaf_prepared s os (given (k - 1)) all)
-all_prepared s os stated by_reflexivity all = leaf_prepared s os (reflexivity (left_of stated) (right_of stated)) all
-all_prepared s os stated by_mreflexivity all = leaf_prepared s os (mreflexivity (left_of stated) (right_of stated)) all
+    (λ some. known_node s os os 1 (leaf (given (k - 1))) (leaf_conclusion s (given (k - 1))) all refl (λ d h. h) refl (omega arith))
+all_prepared s os stated by_reflexivity all = known_node s os os 1 (leaf (reflexivity (left_of stated) (right_of stated))) (leaf_conclusion s (reflexivity (left_of stated) (right_of stated))) all refl (λ d h. h) refl (omega arith)
+all_prepared s os stated by_mreflexivity all = known_node s os os 1 (leaf (mreflexivity (left_of stated) (right_of stated))) (leaf_conclusion s (mreflexivity (left_of stated) (right_of stated))) all refl (λ d h. h) refl (omega arith)
 all_prepared s os stated (by_step rule q) all =
     cond_both (is_earlier os q) (step_node s rule (open_at os q) (closed os q)) (Err no_such_line) (λ r. IfOk r (IsPrepared s os))
     (λ earlier. step_prepared s rule os q (open_at os q) refl all) (λ other. tt)
@@ -204,8 +194,8 @@ finished_checked s last book None None is e = tt
 finished_checked s last book None (Some u) is e =
     let os = book.unused in
     let i = length os - 1 in
-    let stands : Stands s u = subst (IfOpen s) e (AllStand-get s os i is.stand) in
-    let counted : all_nodes (slice_set os i None) + nodes u.tree ≡ all_nodes os = ap (λ x. all_nodes (slice_set os i None) + open_nodes x) (sym e) ∙ all_nodes-close os i in
+    let stands = AllStand-get s os i (Some u) is.stand e in
+    let counted = all_nodes-close os i (Some u) e in
     record { conclusion = u.conclusion; proves = stands.proves; few_nodes = omega (arith, counted, is.count, is.few); few_levels = omega (arith, stands.levels, stands.few) }
 
 pub at_line-ok : {A : Type 0} (n : ℕ) (r : Result A Complaint) (x : A) → at_line n r ≡ Ok x → r ≡ Ok x
@@ -233,6 +223,6 @@ root_proves s book t d is h = told (root book.unused) refl h
     told : (o : Option Opened) → root book.unused ≡ o → option_map concluded_by o ≡ Some (t, d) → Proves s t d
     told None r e = cc
     told (Some u) r e =
-        let stands : Stands s u = subst (IfOpen s) r (AllStand-get s book.unused (length book.unused - 1) is.stand) in
+        let stands = AllStand-get s book.unused (length book.unused - 1) (Some u) is.stand r in
         let same : concluded_by u ≡ (t, d) = cc in
         subst (λ (x : Tree × Dependency). Proves s x.0 x.1) same stands.proves

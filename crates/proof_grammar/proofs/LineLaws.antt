@@ -70,23 +70,6 @@ dependency_there names r d e =
       stop = rhs.stop ∙ middle.takes.stop ∙ lhs.stop;
     })
 
-record DependencyRead (names : List (List ℕ)) (at from : ℕ) (marks tail : List Mark) (d : Dependency) : Type 0 where
-  next_column : ℕ
-  read : stated_dependency names (rest_at at from (marks ++ tail)) ≡ Ok (d, rest_at at next_column tail)
-
-dependency_back : (names : List (List ℕ)) (at from : ℕ) (marks tail : List Mark) (d : Dependency) → IsDependency format.Plain names marks d → NoWord tail → DependencyRead names at from marks tail d
-unfolding stated_dependency arrow take
-dependency_back names at from marks tail d is other =
-    let left = side_back names at from is.lhs (is.arrow ∷ is.rhs ++ tail) None is.x is.left_side (arrow_other is.sign is.arrow.kind is.is_arrow) in
-    let right = side_back names at (after_of is.arrow) is.rhs tail None is.y is.right_side other in
-    let whole : marks ++ tail ≡ is.lhs ++ (is.arrow ∷ is.rhs ++ tail) = ap (λ t. t ++ tail) is.whole ∙ append_assoc is.lhs (is.arrow ∷ is.rhs) tail in
-    record {
-      next_column = right.next_column;
-      read = ap (λ t. stated_dependency names (rest_at at from t)) whole
-          ∙ rw (left.read, (arrow_law is.sign is.arrow.kind).1 is.is_arrow, right.read)
-          (ap (λ z. Ok (z, rest_at at right.next_column tail)) (sym is.states));
-    }
-
 -- ---- the line
 -- a value that is given only where a line ends
 record Ends (r : Rest) : Type 0 where
@@ -149,12 +132,18 @@ line_there names number text l e =
 
 -- tokens that are a line are read as it, from any column
 pub marks_read : (names : List (List ℕ)) (at from : ℕ) (ms : List Mark) (l : Line) → IsCertificateLine names ms l → certificate_line names (rest_at at from ms) ≡ Ok l
-unfolding certificate_line certificate_line_from take colon ended
+unfolding certificate_line certificate_line_from stated_dependency arrow take colon ended
 marks_read names at from ms l is =
-    let d = dependency_back names at (after_of is.first) is.stated (is.second ∷ is.rule) l.stated is.dependency (ap is_word_token is.second_colon) in
-    let r = rule_back names at (after_of is.second) is.rule l.body is.is_rule in
-    ap (λ t. certificate_line names (rest_at at from t)) is.whole
-    ∙ rw (is.is_number, is.first_colon, d.read, is.second_colon, r.name, r.read) refl
+    let d = is.dependency in
+    let sign = arrow_law d.sign d.arrow.kind in
+    let rest = is.second ∷ is.rule in
+    let left = side_back names at (after_of is.first) d.lhs (d.arrow ∷ d.rhs ++ rest) None d.x d.left_side (arrow_other d.sign d.arrow.kind d.is_arrow) in
+    let right = side_back names at (after_of d.arrow) d.rhs rest None d.y d.right_side (ap is_word_token is.second_colon) in
+    let rule = rule_back names at (after_of is.second) is.rule l.body is.is_rule in
+    let stated : is.stated ++ rest ≡ d.lhs ++ (d.arrow ∷ d.rhs ++ rest) = ap (λ t. t ++ rest) d.whole ∙ append_assoc d.lhs (d.arrow ∷ d.rhs) rest in
+    ap (λ t. certificate_line names (rest_at at from t)) (is.whole ∙ ap (λ t. is.number ∷ is.first ∷ t) stated)
+    ∙ rw (is.is_number, is.first_colon, left.read, sign.1 d.is_arrow, right.read, is.second_colon, rule.name, rule.read)
+    (ap (λ z. Ok (record { number = l.number; stated = z; body = l.body })) (sym d.states))
 
 pub line_back : (names : List (List ℕ)) (number : ℕ) (text : List ℕ) (l : Line) → MeansLine names text l → certificate_line names (rest_from number 1 (lex mode.Numbered text)) ≡ Ok l
 line_back names at text l means = ap (λ t. certificate_line names (rest_from at 1 t)) means.tokens ∙ marks_read names at 1 means.marks l means.is_line

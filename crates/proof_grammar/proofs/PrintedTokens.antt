@@ -1,5 +1,5 @@
 -- A printed line is parts with gaps between them: how it is lexed, and that no byte of it ends a line.
-use Rattle.std.proofs.Common.{◌≡◌, ◌<◌, ◌≤◌, ◌+◌, ◌-◌, ◌*◌, ◌^◌, ℕ, suc, true, false, ◌==◌, List, [], ◌∷◌, ◌++◌, length, None, refl, sym, ◌∙◌, ap, subst, arith, length-append, rules}
+use Rattle.std.proofs.Common.{◌≡◌, ◌<◌, ◌≤◌, ◌+◌, ◌-◌, ◌*◌, ◌^◌, ℕ, suc, true, false, ◌==◌, List, [], ◌∷◌, ◌++◌, length, get_or, None, refl, sym, ◌∙◌, ap, subst, arith, length-append, rules}
 use Rattle.std.proofs.Math.Seq.{take-append_seam, drop-append_seam}
 use Rattle.std.specs.Prelude.{codes, decimal, fold}
 use Rattle.std.specs.List.{list_all}
@@ -8,6 +8,7 @@ use Rattle.std.proofs.lemmas.Bool.{and_parts}
 use Rattle.std.proofs.lemmas.Bool.Decides.{nat_tests}
 use Rattle.std.proofs.lemmas.Fmt.{decimal_nonempty, length-decimal-le, digits_decimal, digits_value-decimal}
 use Rattle.std.proofs.lemmas.List.{append-nil}
+use Rattle.std.proofs.lemmas.List.Sums.{AllPass-from_list_all, list_all-from_AllPass}
 use Rattle.std.proofs.lemmas.Str.Parse.{IsNumeralModel, numerals_by_fold}
 use Rattle.dep_model.proofs.NumeralLemmas.{digits_told}
 use Rattle.dep_model.specs.Names.{is_name, is_name_byte}
@@ -182,16 +183,12 @@ parts_lexed column p (next ∷ others) here rest =
     (gap_lexed end next.0 (text_of next.1 others) ∙ ap (led_by_all (gap_marks end next.0)) (parts_lexed (gap_end end next.0) next.1 others rest.0 rest.1))
 
 -- ---- no line feed and no carriage return stands in them
-digits_bytes : (word : List ℕ) → list_all is_ascii_digit word ≡ true → Bytes word
-digits_bytes [] e = refl
-digits_bytes (b ∷ bs) e =
-    let parts = and_parts (is_ascii_digit b) (list_all is_ascii_digit bs) e in
-    let digit = parts.0 in
-    let byte : is_line_byte b ≡ true = grind (arith, nat_tests) in rw (byte, digits_bytes bs parts.1) refl
-
 part_bytes : (p : Part) → IsProper p → Bytes (part_text p)
 part_bytes (keyword word) proper = subst (λ (w : List ℕ). Bytes w) (append-nil word) (words_bytes (word ∷ []) (proper, tt))
-part_bytes (number n) small = digits_bytes (decimal n) (decimal_is n small).digits
+part_bytes (number n) small =
+    let digits = AllPass-from_list_all is_ascii_digit (decimal n) (decimal_is n small).digits in
+    list_all-from_AllPass is_line_byte (decimal n)
+    (λ k d h. let digit : is_ascii_digit (get_or (decimal n) k d) ≡ true = digits k d h in grind (arith, nat_tests))
 part_bytes (side []) proper = refl
 part_bytes (side (word ∷ words)) proper = words_bytes (word ∷ words) proper
 
