@@ -41,26 +41,32 @@ Counts Certificate fresh text = (texts : List (List ℕ)) → counted fresh (tex
 pub kind_counts : (fresh : Bool) (text : List ℕ) (k : LineKind) → line_kind fresh (lex mode.Numbered text) ≡ k → Counts k fresh text
 unfolding line_kind
 kind_counts fresh text k e =
-    subst (λ (j : LineKind). Counts j fresh text) e (told fresh (lex mode.Numbered text).marks (lex mode.Numbered text).stop refl refl)
+    subst (λ (j : LineKind). Counts j fresh text) e
+    (told fresh (lex mode.Numbered text).marks (lex mode.Numbered text).stop refl refl)
   where
-    begun : (m : Mark) (ms : List Mark) (stop : Option Stop) (b : Bool) → (lex mode.Numbered text).marks ≡ m ∷ ms → (lex mode.Numbered text).stop ≡ stop
+    begun : (m : Mark) (ms : List Mark) (stop : Option Stop) (b : Bool)
+        → (lex mode.Numbered text).marks ≡ m ∷ ms → (lex mode.Numbered text).stop ≡ stop
         → (is_yes m.kind m.word && is_blank_from ms stop) ≡ b → Counts (cond b Opening Certificate) true text
     begun m ms stop true marks ends says = λ texts. rw (marks, marks, ends, says) refl
     begun m ms stop false marks ends says = λ texts. rw (marks, marks, ends, says) refl
 
-    told : (a : Bool) (ms : List Mark) (stop : Option Stop) → (lex mode.Numbered text).marks ≡ ms → (lex mode.Numbered text).stop ≡ stop → Counts (kind_from a ms stop) a text
+    told : (a : Bool) (ms : List Mark) (stop : Option Stop) → (lex mode.Numbered text).marks ≡ ms
+        → (lex mode.Numbered text).stop ≡ stop → Counts (kind_from a ms stop) a text
     told true [] None marks ends = λ texts. rw (marks, ends) refl
     told false [] None marks ends = λ texts. rw (marks, ends) refl
     told true [] (Some stop) marks ends = λ texts. rw (marks, ends, marks) refl
     told false [] (Some stop) marks ends = λ texts. rw (marks, ends) refl
-    told true (m ∷ ms) stop marks ends = begun m ms stop (is_yes m.kind m.word && is_blank_from ms stop) marks ends refl
+    told true (m ∷ ms) stop marks ends =
+        begun m ms stop (is_yes m.kind m.word && is_blank_from ms stop) marks ends refl
     told false (m ∷ ms) stop marks ends = λ texts. rw marks refl
 
 -- ---- the sets of a line
 of_attributes : (s : Schema) (ms : List Mark) (x : Places) → IsSide format.Plain (names_of s) ms x → OfAttributes x
-of_attributes s ms x (inl empty) k member = let wrong : true ≡ false = sym member ∙ ap (λ (y : Places). y k) empty.nothing in cc
+of_attributes s ms x (inl empty) k member =
+    let wrong : true ≡ false = sym member ∙ ap (λ (y : Places). y k) empty.nothing in cc
 of_attributes s ms x (inr some) k member =
-    let inside : below (length (names_of s)) k ≡ true = named_within (names_of s) ms k (ap (λ (y : Places). y k) (sym some.members) ∙ member) in
+    let inside : below (length (names_of s)) k ≡ true =
+    named_within (names_of s) ms k (ap (λ (y : Places). y k) (sym some.members) ∙ member) in
     grind (arith, nat_tests, inside, s.valid.few_names)
 
 stated_sides : (sign : Sign) (x y : Places) (d : Dependency) → d ≡ stated sign x y → (left_of d ≡ x) × (right_of d ≡ y)
@@ -73,8 +79,10 @@ rule_of_attributes s ms by_reflexivity is = tt
 rule_of_attributes s ms by_mreflexivity is = tt
 rule_of_attributes s ms (by_step (augmentation z) p) is = of_attributes s is.has_sets.sides z is.has_sets.side
 rule_of_attributes s ms (by_step complementation p) is = tt
-rule_of_attributes s ms (by_step (maugmentation w z) p) is =
-    (of_attributes s is.has_sets.wide w is.has_sets.wide_side, of_attributes s is.has_sets.narrow z is.has_sets.narrow_side)
+rule_of_attributes s ms (by_step (maugmentation w z) p) is = (
+  of_attributes s is.has_sets.wide w is.has_sets.wide_side,
+  of_attributes s is.has_sets.narrow z is.has_sets.narrow_side,
+)
 rule_of_attributes s ms (by_step replication p) is = tt
 rule_of_attributes s ms (by_pair rule p q) is = tt
 

@@ -50,7 +50,8 @@ printed_after : (s : Schema) (t : Tree) (d : Dependency) (n : ℕ) (before : Lis
 printed_after s (leaf rule) d n before count proves =
     let node : IsNode s before (numbered_line (n + 1) d (leaf_body rule)) (leaf rule) =
     record { number = omega arith; tree = leaf_tree s before (n + 1) rule d proves; states = proves } in
-    let concludes : concluded s 0 (leaf rule) ≡ Ok d = concluded-from s 0 (leaf rule) d proves in rw concludes (node, tt {0})
+    let concludes : concluded s 0 (leaf rule) ≡ Ok d = concluded-from s 0 (leaf rule) d proves in
+    rw concludes (node, tt {0})
 printed_after s (step rule t) d n before count proves =
     let last = numbered_line (n + nodes t + 1) d (by_step rule (n + nodes t)) in
     let trees = below_root t ++ t ∷ [] in
@@ -95,7 +96,8 @@ printed_uses : (s : Schema) (t : Tree) (d : Dependency) (n k : ℕ) → Proves s
     → uses k (node_lines_after s n t) + once k (n + nodes t) ≡ between k n (n + nodes t)
 printed_uses s (leaf rule) d n k proves =
     let unused : uses k (numbered_line (n + 1) d (leaf_body rule) ∷ []) ≡ 0 =
-    elim rule as (λ r. uses k (numbered_line (n + 1) d (leaf_body r) ∷ []) ≡ 0) [ given i ↦ refl | reflexivity x y ↦ refl | mreflexivity x y ↦ refl ] in
+    elim rule as (λ r. uses k (numbered_line (n + 1) d (leaf_body r) ∷ []) ≡ 0)
+    [ given i ↦ refl | reflexivity x y ↦ refl | mreflexivity x y ↦ refl ] in
     let concludes : concluded s 0 (leaf rule) ≡ Ok d = concluded-from s 0 (leaf rule) d proves in
     rw (concludes, unused) (grind (arith, nat_tests))
 printed_uses s (step rule t) d n k proves =
@@ -114,13 +116,15 @@ printed_uses s (pair rule t u) d n k proves =
     let ys = node_lines_after s p u in
     let last = numbered_line (q + 1) d (by_pair rule p q) ∷ [] in
     let own : uses k last ≡ once k p + once k q =
-    filtered_more k p (q ∷ []) (nat_eq k p) refl ∙ ap (λ m. once k p + m) (filtered_more k q [] (nat_eq k q) refl) ∙ omega arith in
+    filtered_more k p (q ∷ []) (nat_eq k p) refl
+    ∙ ap (λ m. once k p + m) (filtered_more k q [] (nat_eq k q) refl) ∙ omega arith in
     let first = printed_uses s t proves.0 n k proves.2 in
     let second = printed_uses s u proves.1 p k proves.3 in
     let some = nodes-pos t in
     let more = nodes-pos u in
     let concludes : concluded s 0 (pair rule t u) ≡ Ok d = concluded-from s 0 (pair rule t u) d proves in
-    rw (concludes, uses-append k (xs ++ ys) last, uses-append k xs ys, own) (grind (arith, nat_tests, first, second, some, more))
+    rw (concludes, uses-append k (xs ++ ys) last, uses-append k xs ys, own)
+    (grind (arith, nat_tests, first, second, some, more))
 
 -- each line is a node, and each but the last is used once
 pub printed_nodes : (s : Schema) (t : Tree) (d : Dependency) → Proves s t d → AreNodesOf s (node_lines_after s 0 t) t
@@ -129,4 +133,8 @@ printed_nodes s t d proves =
     let count = nodes_size s [] (node_lines_after s 0 t) (below_root t ++ t ∷ []) nodes_are in
     let size = length-append (below_root t) (t ∷ []) in
     let high : length (node_lines_after s 0 t) ≡ nodes t = omega (arith, count, size, length-below_root t) in
-    record { before = below_root t; nodes = nodes_are; used = λ k low inside. grind (arith, nat_tests, printed_uses s t d 0 k proves, high) }
+    record {
+      before = below_root t;
+      nodes = nodes_are;
+      used = λ k low inside. grind (arith, nat_tests, printed_uses s t d 0 k proves, high);
+    }

@@ -28,14 +28,16 @@ abbrev Rule : List (List ℕ) → Mark → Rest → Body × Rest → Type 0
 Rule names name r b = ReadsRule names name r b.0 b.1
 
 -- a number alone
-numbered_there : (names : List (List ℕ)) (make : ℕ → Body) (name : Mark) (r : Rest) (b : Body × Rest) → ((p : ℕ) (m : Mark) → IsNumber p m → IsRule names (name ∷ m ∷ []) (make p))
+numbered_there : (names : List (List ℕ)) (make : ℕ → Body) (name : Mark) (r : Rest) (b : Body × Rest)
+    → ((p : ℕ) (m : Mark) → IsNumber p m → IsRule names (name ∷ m ∷ []) (make p))
     → (number r >>= λ p. Ok (make p.0, p.1)) ≡ Ok b → Rule names name r b
 numbered_there names make name r b is e =
     let p = bind_ok (number r) _ b e in
     let premise = number_there r p.0 p.1 in
     let of : List Mark → Type 0 = λ t. IsRule names (name ∷ t) (make p.0.0) in
     subst (Rule names name r) (the_ok _ b p.2) (record {
-      is_rule = λ ended. subst of (sym (premise.takes.marks ∙ ap (λ t. premise.mark ∷ t) ended)) (is p.0.0 premise.mark premise.holds);
+      is_rule = λ ended. subst of (sym (premise.takes.marks ∙ ap (λ t. premise.mark ∷ t) ended))
+          (is p.0.0 premise.mark premise.holds);
       stop = premise.takes.stop;
     })
 
@@ -51,7 +53,9 @@ two_there names rule name r b says e =
         name = name;
         first = first.mark;
         second = second.mark;
-        whole = ap (λ t. name ∷ t) (first.takes.marks ∙ ap (λ t. first.mark ∷ t) (second.takes.marks ∙ ap (λ t. second.mark ∷ t) ended));
+        whole = ap (λ t. name ∷ t)
+            (first.takes.marks
+            ∙ ap (λ t. first.mark ∷ t) (second.takes.marks ∙ ap (λ t. second.mark ∷ t) ended));
         says = says;
         first_number = first.holds;
         second_number = second.holds;
@@ -70,7 +74,8 @@ augmented_there names name r b says e =
     let sides = side_there names w.0 z.0 z.1 in
     subst (Rule names name r) (the_ok _ b z.2) (record {
       is_rule = λ ended.
-          let end : w.0.marks ≡ sides.marks = sides.whole ∙ ap (λ t. sides.marks ++ t) ended ∙ append-nil sides.marks in
+          let end : w.0.marks ≡ sides.marks =
+          sides.whole ∙ ap (λ t. sides.marks ++ t) ended ∙ append-nil sides.marks in
           record {
             name = name;
             premise = premise.mark;
@@ -78,7 +83,13 @@ augmented_there names name r b says e =
             whole = ap (λ t. name ∷ t) premise.takes.marks;
             says = says;
             number = premise.holds;
-            has_sets = record { keyword = keyword.mark; sides = sides.marks; whole = keyword.takes.marks ∙ ap (λ t. keyword.mark ∷ t) end; says = keyword.holds; side = sides.is_side };
+            has_sets = record {
+              keyword = keyword.mark;
+              sides = sides.marks;
+              whole = keyword.takes.marks ∙ ap (λ t. keyword.mark ∷ t) end;
+              says = keyword.holds;
+              side = sides.is_side;
+            };
           };
       stop = sides.stop ∙ keyword.takes.stop ∙ premise.takes.stop;
     })
@@ -98,8 +109,10 @@ maugmented_there names name r b says e =
     let narrow = side_there names c.0 z.0 z.1 in
     subst (Rule names name r) (the_ok _ b z.2) (record {
       is_rule = λ ended.
-          let end : c.0.marks ≡ narrow.marks = narrow.whole ∙ ap (λ t. narrow.marks ++ t) ended ∙ append-nil narrow.marks in
-          let sides : w.0.marks ≡ wide.marks ++ between.mark ∷ narrow.marks = wide.whole ∙ ap (λ t. wide.marks ++ t) (between.takes.marks ∙ ap (λ t. between.mark ∷ t) end) in
+          let end : c.0.marks ≡ narrow.marks =
+          narrow.whole ∙ ap (λ t. narrow.marks ++ t) ended ∙ append-nil narrow.marks in
+          let sides : w.0.marks ≡ wide.marks ++ between.mark ∷ narrow.marks = wide.whole
+          ∙ ap (λ t. wide.marks ++ t) (between.takes.marks ∙ ap (λ t. between.mark ∷ t) end) in
           record {
             name = name;
             premise = premise.mark;
@@ -125,17 +138,40 @@ maugmented_there names name r b says e =
 body_there : (names : List (List ℕ)) (r : RuleName) (name : Mark) (start : Rest) (b : Body × Rest) → IsKeyword (spelled r) name → body names r start ≡ Ok b → Rule names name start b
 unfolding body one
 body_there names rule.Given name start b says e =
-    numbered_there names by_given name start b (λ k m is. record { name = name; place = m; whole = refl; says = says; number = is }) e
+    numbered_there names by_given name start b
+    (λ k m is. record { name = name; place = m; whole = refl; says = says; number = is }) e
 body_there names rule.Reflexivity name start b says e =
-    subst (Rule names name start) (the_ok _ b e) (record { is_rule = λ ended. record { name = name; whole = ap (λ t. name ∷ t) ended; says = says }; stop = refl })
+    subst (Rule names name start) (the_ok _ b e) (record {
+      is_rule = λ ended. record { name = name; whole = ap (λ t. name ∷ t) ended; says = says };
+      stop = refl;
+    })
 body_there names rule.MReflexivity name start b says e =
-    subst (Rule names name start) (the_ok _ b e) (record { is_rule = λ ended. record { name = name; whole = ap (λ t. name ∷ t) ended; says = says }; stop = refl })
+    subst (Rule names name start) (the_ok _ b e) (record {
+      is_rule = λ ended. record { name = name; whole = ap (λ t. name ∷ t) ended; says = says };
+      stop = refl;
+    })
 body_there names rule.Augmentation name start b says e = augmented_there names name start b says e
 body_there names rule.MAugmentation name start b says e = maugmented_there names name start b says e
 body_there names rule.Complementation name start b says e =
-    numbered_there names (by_step complementation) name start b (λ p m is. record { name = name; premise = m; sets = []; whole = refl; says = says; number = is; has_sets = refl }) e
+    numbered_there names (by_step complementation) name start b (λ p m is. record {
+      name = name;
+      premise = m;
+      sets = [];
+      whole = refl;
+      says = says;
+      number = is;
+      has_sets = refl;
+    }) e
 body_there names rule.Replication name start b says e =
-    numbered_there names (by_step replication) name start b (λ p m is. record { name = name; premise = m; sets = []; whole = refl; says = says; number = is; has_sets = refl }) e
+    numbered_there names (by_step replication) name start b (λ p m is. record {
+      name = name;
+      premise = m;
+      sets = [];
+      whole = refl;
+      says = says;
+      number = is;
+      has_sets = refl;
+    }) e
 body_there names rule.Transitivity name start b says e = two_there names transitivity name start b says e
 body_there names rule.MTransitivity name start b says e = two_there names mtransitivity name start b says e
 body_there names rule.Coalescence name start b says e = two_there names coalescence name start b says e
@@ -148,10 +184,14 @@ pub record RuleEnds (names : List (List ℕ)) (r : Rest) (b : Body) (next : Rest
 pub rule_there : (names : List (List ℕ)) (r : Rest) (n : RuleName × Rest) (b : Body × Rest) → rule_name r ≡ Ok n → body names n.0 n.1 ≡ Ok b → RuleEnds names r b.0 b.1
 unfolding rule_name
 rule_there names r n b here there =
-    let name = reads_value what.Rule (λ m. rule_named m.kind m.word) (λ x. IsKeyword (spelled x)) (λ x m h. rule_named_there m.kind m.word x h) r n here in
+    let name = reads_value what.Rule (λ m. rule_named m.kind m.word) (λ x. IsKeyword (spelled x))
+    (λ x m h. rule_named_there m.kind m.word x h) r n here in
     let reads = body_there names n.0 name.mark n.1 b name.holds there in
     let of : List Mark → Type 0 = λ t. IsRule names t b.0 in
-    record { is_rule = λ ended. subst of (sym name.takes.marks) (reads.is_rule ended); stop = reads.stop ∙ name.takes.stop }
+    record {
+      is_rule = λ ended. subst of (sym name.takes.marks) (reads.is_rule ended);
+      stop = reads.stop ∙ name.takes.stop;
+    }
 
 -- ---- back
 -- the rest of a rule that is read after its name
@@ -167,7 +207,9 @@ pub record RuleRead (names : List (List ℕ)) (line from : ℕ) (marks : List Ma
   pub name : rule_name (rest_at line from marks) ≡ Ok (rule, next)
   pub read : body names rule next ≡ Ok (b, rest_at line next_column [])
 
-rule_made : {names : List (List ℕ)} {line from : ℕ} {whole : List Mark} {b : Body} (r : RuleName) (m : Mark) (marks : List Mark) → whole ≡ m ∷ marks → IsKeyword (spelled r) m
+rule_made : {names : List (List ℕ)} {line from : ℕ} {whole : List Mark} {b : Body} (r : RuleName) (m : Mark)
+    (marks : List Mark)
+    → whole ≡ m ∷ marks → IsKeyword (spelled r) m
     → BodyRead names line (after_of m) r marks b → RuleRead names line from whole b
 unfolding rule_name take rule_named
 rule_made {names} {line} r m marks same says rest = record {
@@ -181,32 +223,47 @@ rule_made {names} {line} r m marks same says rest = record {
 pub rule_back : (names : List (List ℕ)) (line from : ℕ) (marks : List Mark) (b : Body) → IsRule names marks b → RuleRead names line from marks b
 unfolding body one two augmented maugmented number with_word colon take is_with
 rule_back names line from marks (by_given k) is =
-    rule_made rule.Given is.name (is.place ∷ []) is.whole is.says (record { next_column = after_of is.place; read = rw is.number refl })
+    rule_made rule.Given is.name (is.place ∷ []) is.whole is.says
+    (record { next_column = after_of is.place; read = rw is.number refl })
 rule_back names line from marks by_reflexivity is =
-    rule_made rule.Reflexivity is.name [] is.whole is.says (record { next_column = after_of is.name; read = refl })
+    rule_made rule.Reflexivity is.name [] is.whole is.says
+    (record { next_column = after_of is.name; read = refl })
 rule_back names line from marks by_mreflexivity is =
-    rule_made rule.MReflexivity is.name [] is.whole is.says (record { next_column = after_of is.name; read = refl })
+    rule_made rule.MReflexivity is.name [] is.whole is.says
+    (record { next_column = after_of is.name; read = refl })
 rule_back names line from marks (by_step (augmentation z) p) is =
     let has = is.has_sets in
     let last = side_back names line (after_of has.keyword) has.sides [] None z has.side tt in
-    let same : is.sets ≡ has.keyword ∷ has.sides ++ [] = has.whole ∙ ap (λ t. has.keyword ∷ t) (sym (append-nil has.sides)) in
+    let same : is.sets ≡ has.keyword ∷ has.sides ++ [] =
+    has.whole ∙ ap (λ t. has.keyword ∷ t) (sym (append-nil has.sides)) in
     let keyword = (bytes_eq-Decides has.keyword.word (codes "with")).1 has.says.1 in
-    rule_made rule.Augmentation is.name (is.premise ∷ is.sets) is.whole is.says (record { next_column = last.next_column; read = rw (same, is.number, has.says.0, keyword, last.read) refl })
+    rule_made rule.Augmentation is.name (is.premise ∷ is.sets) is.whole is.says
+    (record { next_column = last.next_column; read = rw (same, is.number, has.says.0, keyword, last.read) refl })
 rule_back names line from marks (by_step complementation p) is =
-    rule_made rule.Complementation is.name (is.premise ∷ is.sets) is.whole is.says (record { next_column = after_of is.premise; read = rw (is.has_sets, is.number) refl })
+    rule_made rule.Complementation is.name (is.premise ∷ is.sets) is.whole is.says
+    (record { next_column = after_of is.premise; read = rw (is.has_sets, is.number) refl })
 rule_back names line from marks (by_step (maugmentation w z) p) is =
     let has = is.has_sets in
     let tail = has.colon ∷ has.narrow ++ [] in
-    let wide = side_back names line (after_of has.keyword) has.wide tail None w has.wide_side (ap is_word_token has.is_colon) in
+    let wide = side_back names line (after_of has.keyword) has.wide tail None w has.wide_side
+    (ap is_word_token has.is_colon) in
     let last = side_back names line (after_of has.colon) has.narrow [] None z has.narrow_side tt in
-    let same : is.sets ≡ has.keyword ∷ has.wide ++ tail = has.whole ∙ ap (λ t. has.keyword ∷ has.wide ++ has.colon ∷ t) (sym (append-nil has.narrow)) in
+    let same : is.sets ≡ has.keyword ∷ has.wide ++ tail =
+    has.whole ∙ ap (λ t. has.keyword ∷ has.wide ++ has.colon ∷ t) (sym (append-nil has.narrow)) in
     let keyword = (bytes_eq-Decides has.keyword.word (codes "with")).1 has.says.1 in
-    rule_made rule.MAugmentation is.name (is.premise ∷ is.sets) is.whole is.says (record { next_column = last.next_column; read = rw (same, is.number, has.says.0, keyword, wide.read, has.is_colon, last.read) refl })
+    rule_made rule.MAugmentation is.name (is.premise ∷ is.sets) is.whole is.says (record {
+      next_column = last.next_column;
+      read = rw (same, is.number, has.says.0, keyword, wide.read, has.is_colon, last.read) refl;
+    })
 rule_back names line from marks (by_step replication p) is =
-    rule_made rule.Replication is.name (is.premise ∷ is.sets) is.whole is.says (record { next_column = after_of is.premise; read = rw (is.has_sets, is.number) refl })
+    rule_made rule.Replication is.name (is.premise ∷ is.sets) is.whole is.says
+    (record { next_column = after_of is.premise; read = rw (is.has_sets, is.number) refl })
 rule_back names line from marks (by_pair transitivity p q) is =
-    rule_made rule.Transitivity is.name (is.first ∷ is.second ∷ []) is.whole is.says (record { next_column = after_of is.second; read = rw (is.first_number, is.second_number) refl })
+    rule_made rule.Transitivity is.name (is.first ∷ is.second ∷ []) is.whole is.says
+    (record { next_column = after_of is.second; read = rw (is.first_number, is.second_number) refl })
 rule_back names line from marks (by_pair mtransitivity p q) is =
-    rule_made rule.MTransitivity is.name (is.first ∷ is.second ∷ []) is.whole is.says (record { next_column = after_of is.second; read = rw (is.first_number, is.second_number) refl })
+    rule_made rule.MTransitivity is.name (is.first ∷ is.second ∷ []) is.whole is.says
+    (record { next_column = after_of is.second; read = rw (is.first_number, is.second_number) refl })
 rule_back names line from marks (by_pair coalescence p q) is =
-    rule_made rule.Coalescence is.name (is.first ∷ is.second ∷ []) is.whole is.says (record { next_column = after_of is.second; read = rw (is.first_number, is.second_number) refl })
+    rule_made rule.Coalescence is.name (is.first ∷ is.second ∷ []) is.whole is.says
+    (record { next_column = after_of is.second; read = rw (is.first_number, is.second_number) refl })

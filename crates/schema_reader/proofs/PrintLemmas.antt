@@ -30,7 +30,8 @@ pub record PrintsRuns (columns : List Column) (names : List (List ℕ)) (before 
 pub at_place : {X : Type 0} (xs : List X) (i : ℕ) (x : X) → slice_get xs i ≡ Some x → drop i xs ≡ x ∷ drop (i + 1) xs
 at_place xs i x e =
     let inside : i < length xs = slice_get_within xs i x e in
-    rw (add-one, drop-cons xs i x) (let same : get_or xs i x ≡ x = get_or_from_slice_get xs i x x e in rw same refl)
+    rw (add-one, drop-cons xs i x)
+    (let same : get_or xs i x ≡ x = get_or_from_slice_get xs i x x e in rw same refl)
 
 pub set_inside : (names : List (List ℕ)) (x : Places) (before text next : List ℕ) (some more : Bool) (k : ℕ) (name : List ℕ)
     → PrintsSet names x before text some k → slice_get names k ≡ Some name → true ≡ x k
@@ -77,8 +78,10 @@ runs_led c name (d ∷ columns) (next ∷ names) =
     let here = 32 ∷ next in
     let there = 10 ∷ (type_word d ++ 32 ∷ next) in
     let more = after_text d columns names in
-    let same : cond (same_column c d) here there ++ more ≡ cond (same_column c d) (here ++ more) (there ++ more) =
-    elim (same_column c d) as (λ b. cond b here there ++ more ≡ cond b (here ++ more) (there ++ more)) [ true ↦ refl | false ↦ refl ] in
+    let same : cond (same_column c d) here there ++ more ≡ cond (same_column c d) (here ++ more)
+    (there ++ more) =
+    elim (same_column c d) as
+    (λ b. cond b here there ++ more ≡ cond b (here ++ more) (there ++ more)) [ true ↦ refl | false ↦ refl ] in
     let far : there ++ more ≡ 10 ∷ (type_word d ++ (here ++ more)) = simp append_assoc in
     let of : List ℕ → Type 0 = λ rest. IsLed c ((32 ∷ name) ++ rest) (in_front c name (runs_of (d ∷ columns) (next ∷ names))) in
     subst of (ap (λ t. cond (same_column c d) (here ++ more) t) (sym far) ∙ sym same) led
@@ -91,6 +94,8 @@ runs_begin (d ∷ columns) (first ∷ names) before text c name first_type first
     let type_is : d ≡ c = cc in
     let name_is : first ≡ name = cc in
     let led = runs_led d first columns names in
-    let whole : lines_text (map run_line (runs_of (d ∷ columns) (first ∷ names))) ≡ type_word d ++ ((32 ∷ first) ++ after_text d columns names) =
+    let whole : lines_text
+    (map run_line (runs_of (d ∷ columns) (first ∷ names))) ≡ type_word
+    d ++ ((32 ∷ first) ++ after_text d columns names) =
     rw led.whole (simp (append_assoc, led.text)) in
     record { same = rw (whole, added, type_is, name_is) (simp append_assoc) }

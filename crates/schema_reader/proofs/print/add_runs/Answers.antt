@@ -14,4 +14,7 @@ loop-place-preserved c =
     let types = at_place (columns_of c.args.schema.now) k _ c.column-column.ensures.column in
     let name = c.name-in-loop-place.ensures.name ∙ ap Some (sym c.bytes-name.ensures.value) in
     let rest = at_place (names_of c.args.schema.now) k _ name in
-    record { same = rw c.in_ok-add_after.ensures.added (rw append_assoc (rw (types, rest) at c.loop-place.invariant.same)) }
+    record {
+      same = rw c.in_ok-add_after.ensures.added
+          (rw append_assoc (rw (types, rest) at c.loop-place.invariant.same));
+    }

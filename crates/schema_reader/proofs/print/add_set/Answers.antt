@@ -20,6 +20,10 @@ loop-place-preserved c = elim c.if-has.branch [
       let names = names_of c.args.schema.now in
       let k = c.loop-place.place in
       let inside : k < length names = omega (arith, c.loop-place-test.true, c.width-place-end.ensures.count) in
-      let rest : drop k names ≡ get_or names k [] ∷ drop (k + 1) names = rw (add-one, drop-cons names k [] inside) refl in
-      record { same = rw (ap (λ t. t.items) w.text-is, w.some-is) (rw (rest, ← w.if-has.ensures.member) at c.loop-place.invariant.same) }
+      let rest : drop k names ≡ get_or names k [] ∷ drop (k + 1) names =
+      rw (add-one, drop-cons names k [] inside) refl in
+      record {
+        same = rw (ap (λ t. t.items) w.text-is, w.some-is)
+            (rw (rest, ← w.if-has.ensures.member) at c.loop-place.invariant.same);
+      }
 ]
