@@ -21,15 +21,17 @@ pub returns-then-is_version-clause-ok : goal.returns-then-is_version-clause-ok
 unfolding read_opening
 returns-then-is_version-clause-ok c =
     let leads = c.in-Token.ensures.exact in
-    rw (c.lines.invariant.same, cut_any _ _ _ c.cut_line.ensures.cut, leads.all_tokens)
-    (rw (← c.if-is_version.ensures.exact, ← leads.same_length) ) c.read_typed.ensures.ok
+    let cut = cut_any _ _ _ c.cut_line.ensures.cut in
+    rw (c.lines.invariant.same, cut, leads.all_tokens, ← c.if-is_version.ensures.exact, ← leads.same_length)
+    c.read_typed.ensures.ok
 
 pub returns-then-is_version-clause-err : goal.returns-then-is_version-clause-err
 unfolding read_opening
 returns-then-is_version-clause-err c =
     let leads = c.in-Token.ensures.exact in
-    rw (c.lines.invariant.same, cut_any _ _ _ c.cut_line.ensures.cut, leads.all_tokens)
-    (rw (← c.if-is_version.ensures.exact, ← leads.same_length) ) c.read_typed.ensures.err
+    let cut = cut_any _ _ _ c.cut_line.ensures.cut in
+    rw (c.lines.invariant.same, cut, leads.all_tokens, ← c.if-is_version.ensures.exact, ← leads.same_length)
+    c.read_typed.ensures.err
 
 pub returns-else-is_version-clause-ok : goal.returns-else-is_version-clause-ok
 unfolding read_opening
