@@ -11,7 +11,7 @@ use Rattle.dep_model.specs.Dependencies.{Dependency, left_of, right_of}
 use Rattle.derivation.specs.declared.fault.FaultKind.{FaultKind}
 use Rattle.derivation.specs.declared.fault.FaultKind.TheVariants.{NoSuchGiven}
 use Rattle.derivation.proofs.RuleTableLemmas.{the_ok}
-use Rattle.derivation.specs.Trees.{Tree, leaf, step, pair, Leaf, Step, Pair, given, reflexivity, mreflexivity, nodes, depth}
+use Rattle.derivation.specs.Trees.{Tree, leaf, step, pair, Step, Pair, given, reflexivity, mreflexivity, nodes, depth}
 use Rattle.derivation.specs.Table.{leaf_conclusion, step_conclusion, pair_conclusion}
 use Rattle.derivation.specs.Conclusions.{Proves}
 use Rattle.derivation.specs.declared.measures.TheConstants.{MOST_NODES, MOST_LEVELS}

@@ -19,7 +19,7 @@ use Rattle.proof_grammar.specs.Meanings.{IsCertificateLine, MeansLine}
 use Rattle.schema_grammar.specs.Rests.{Rest, rest_from, take, expected, number, arrow, ended, side, arrow_in, is_word_token}
 use Rattle.proof_grammar.specs.Readers.{colon, rule_name}
 use Rattle.proof_grammar.proofs.CheckedLemmas.{bind_ok}
-use Rattle.proof_grammar.proofs.SideLaws.{side_there, NoWord, side_back}
+use Rattle.proof_grammar.proofs.SideLaws.{side_there, side_back}
 use Rattle.proof_grammar.proofs.TokenLaws.{reads_value, after_of, number_there, colon_there, rest_at}
 use Rattle.proof_grammar.proofs.RuleLaws.{rule_there, rule_back}
 

@@ -56,39 +56,42 @@ printed_after s (step rule t) d n before count proves =
     let last = numbered_line (n + nodes t + 1) d (by_step rule (n + nodes t)) in
     let trees = below_root t ++ t ∷ [] in
     let size = length-below_root t in
-    let many = length-append before trees in
-    let own = length-append (below_root t) (t ∷ []) in
-    let front = length-append before (below_root t) in
-    let at = IsTreeAt-seam (before ++ trees) (before ++ below_root t) t [] (n + nodes t) (sym (append_assoc before (below_root t) (t ∷ []))) (omega arith) in
-    let node : IsNode s (before ++ trees) last (step rule t) =
-    record { number = omega arith; tree = record { premise = t; earlier = at; tree = refl }; states = proves } in
+    let at = IsTreeAt-seam (before ++ trees) (before ++ below_root t) t [] (n + nodes t)
+    (sym (append_assoc before (below_root t) (t ∷ []))) (omega (arith, length-append {A = Tree})) in
+    let node : IsNode s (before ++ trees) last (step rule t) = record {
+      number = omega (arith, length-append {A = Tree});
+      tree = record { premise = t; earlier = at; tree = refl };
+      states = proves;
+    } in
+    let premises = printed_after s t proves.0 n before count proves.1 in
     let concludes : concluded s 0 (step rule t) ≡ Ok d = concluded-from s 0 (step rule t) d proves in
     rw concludes
-    (AreNodes-append s before (node_lines_after s n t) trees (last ∷ []) (step rule t ∷ []) (printed_after s t proves.0 n before count proves.1) (node, tt {0}))
+    (AreNodes-append s before (node_lines_after s n t) trees (last ∷ []) (step rule t ∷ []) premises (node, tt {0}))
 printed_after s (pair rule t u) d n before count proves =
     let last = numbered_line (n + nodes t + nodes u + 1) d (by_pair rule (n + nodes t) (n + nodes t + nodes u)) in
     let ts = below_root t ++ t ∷ [] in
     let us = below_root u ++ u ∷ [] in
+    let all = before ++ (ts ++ us) in
+    let xs = node_lines_after s n t in
+    let ys = node_lines_after s (n + nodes t) u in
     let first_size = length-below_root t in
     let second_size = length-below_root u in
-    let first_own = length-append (below_root t) (t ∷ []) in
-    let second_own = length-append (below_root u) (u ∷ []) in
-    let first_many = length-append before ts in
-    let both = length-append ts us in
-    let many = length-append before (ts ++ us) in
-    let first_front = length-append before (below_root t) in
-    let second_front = length-append (before ++ ts) (below_root u) in
-    let after_the_first : length (before ++ ts) ≡ n + nodes t = omega arith in
-    let first_split : before ++ (ts ++ us) ≡ (before ++ below_root t) ++ t ∷ us = simp append_assoc in
-    let second_split : before ++ (ts ++ us) ≡ ((before ++ ts) ++ below_root u) ++ u ∷ [] = simp append_assoc in
-    let first_at = IsTreeAt-seam (before ++ (ts ++ us)) (before ++ below_root t) t us (n + nodes t) first_split (omega arith) in
-    let second_at = IsTreeAt-seam (before ++ (ts ++ us)) ((before ++ ts) ++ below_root u) u [] (n + nodes t + nodes u) second_split (omega arith) in
-    let node : IsNode s (before ++ (ts ++ us)) last (pair rule t u) =
-    record { number = omega arith; tree = record { first = t; second = u; first_earlier = first_at; second_earlier = second_at; tree = refl }; states = proves } in
-    let premises = AreNodes-append s before (node_lines_after s n t) ts (node_lines_after s (n + nodes t) u) us (printed_after s t proves.0 n before count proves.2) (printed_after s u proves.1 (n + nodes t) (before ++ ts) after_the_first proves.3) in
+    let after_the_first : length (before ++ ts) ≡ n + nodes t = omega (arith, length-append {A = Tree}) in
+    let first_at = IsTreeAt-seam all (before ++ below_root t) t us (n + nodes t)
+    (simp append_assoc) (omega (arith, length-append {A = Tree})) in
+    let second_at = IsTreeAt-seam all ((before ++ ts) ++ below_root u) u [] (n + nodes t + nodes u)
+    (simp append_assoc) (omega (arith, length-append {A = Tree})) in
+    let node : IsNode s all last (pair rule t u) = record {
+      number = omega (arith, length-append {A = Tree});
+      tree = record { first = t; second = u; first_earlier = first_at; second_earlier = second_at; tree = refl };
+      states = proves;
+    } in
+    let first = printed_after s t proves.0 n before count proves.2 in
+    let second = printed_after s u proves.1 (n + nodes t) (before ++ ts) after_the_first proves.3 in
     let concludes : concluded s 0 (pair rule t u) ≡ Ok d = concluded-from s 0 (pair rule t u) d proves in
     rw concludes
-    (AreNodes-append s before (node_lines_after s n t ++ node_lines_after s (n + nodes t) u) (ts ++ us) (last ∷ []) (pair rule t u ∷ []) premises (node, tt {0}))
+    (AreNodes-append s before (xs ++ ys) (ts ++ us) (last ∷ []) (pair rule t u ∷ [])
+    (AreNodes-append s before xs ts ys us first second) (node, tt {0}))
 
 -- ---- the uses
 -- after n others, lines use each of their own but the last once, and no line else

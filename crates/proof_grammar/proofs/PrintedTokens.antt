@@ -174,13 +174,6 @@ gap_lexed column colon rest =
 gap_lexed column arrow rest = arrow_lexed mode.Numbered column rest
 gap_lexed column double_arrow rest = double_arrow_lexed mode.Numbered column rest
 
-gap_apart : (g : Gap) (rest : List ℕ) → Apart (gap_text g ++ rest)
-gap_apart blank rest = refl
-gap_apart first_colon rest = refl
-gap_apart colon rest = refl
-gap_apart arrow rest = refl
-gap_apart double_arrow rest = refl
-
 pub parts_lexed : (column : ℕ) (p : Part) (others : List (Gap × Part)) → IsProper p → AreProper others
     → lexed mode.Numbered 0 column (text_of p others) ≡ record { marks = marks_of column p others; stop = None }
 parts_lexed column p [] here rest =
@@ -189,10 +182,12 @@ parts_lexed column p [] here rest =
     ∙ ap (λ ms. record { marks = ms; stop = None }) (append-nil (part_marks column p))
 parts_lexed column p (next ∷ others) here rest =
     let end = part_end column p in
-    part_lexed column p (gap_text next.0 ++ text_of next.1 others) here
-    (gap_apart next.0 (text_of next.1 others))
+    let more = text_of next.1 others in
+    let apart : Apart (gap_text next.0 ++ more) = elim next.0 as (λ g. Apart (gap_text g ++ more))
+    [ blank ↦ refl | first_colon ↦ refl | colon ↦ refl | arrow ↦ refl | double_arrow ↦ refl ] in
+    part_lexed column p (gap_text next.0 ++ more) here apart
     ∙ ap (led_by_all (part_marks column p))
-    (gap_lexed end next.0 (text_of next.1 others)
+    (gap_lexed end next.0 more
     ∙ ap (led_by_all (gap_marks end next.0)) (parts_lexed (gap_end end next.0) next.1 others rest.0 rest.1))
 
 -- ---- no line feed and no carriage return stands in them
@@ -207,17 +202,11 @@ part_bytes (number n) small =
 part_bytes (side []) proper = refl
 part_bytes (side (word ∷ words)) proper = words_bytes (word ∷ words) proper
 
-gap_bytes : (g : Gap) → Bytes (gap_text g)
-gap_bytes blank = refl
-gap_bytes first_colon = refl
-gap_bytes colon = refl
-gap_bytes arrow = refl
-gap_bytes double_arrow = refl
-
 pub parts_bytes : (p : Part) (others : List (Gap × Part)) → IsProper p → AreProper others
     → Bytes (text_of p others)
 parts_bytes p [] here rest = part_bytes p here
 parts_bytes p (next ∷ others) here rest =
+    let gap : Bytes (gap_text next.0) = elim next.0 as (λ g. Bytes (gap_text g))
+    [ blank ↦ refl | first_colon ↦ refl | colon ↦ refl | arrow ↦ refl | double_arrow ↦ refl ] in
     bytes_both (part_text p) (gap_text next.0 ++ text_of next.1 others) (part_bytes p here)
-    (bytes_both (gap_text next.0) (text_of next.1 others) (gap_bytes next.0)
-    (parts_bytes next.1 others rest.0 rest.1))
+    (bytes_both (gap_text next.0) (text_of next.1 others) gap (parts_bytes next.1 others rest.0 rest.1))
