@@ -11,7 +11,7 @@ use Rattle.dep_model.specs.Dependencies.{Dependency, left_of, right_of}
 use Rattle.derivation.specs.declared.fault.FaultKind.{FaultKind}
 use Rattle.derivation.specs.declared.fault.FaultKind.TheVariants.{NoSuchGiven}
 use Rattle.derivation.proofs.RuleTableLemmas.{the_ok}
-use Rattle.derivation.specs.Trees.{Tree, leaf, step, pair, Leaf, Step, Pair, given, reflexivity, mreflexivity, nodes, depth}
+use Rattle.derivation.specs.Trees.{Tree, leaf, step, pair, Step, Pair, given, reflexivity, mreflexivity, nodes, depth}
 use Rattle.derivation.specs.Table.{leaf_conclusion, step_conclusion, pair_conclusion}
 use Rattle.derivation.specs.Conclusions.{Proves}
 use Rattle.derivation.specs.declared.measures.TheConstants.{MOST_NODES, MOST_LEVELS}
@@ -31,20 +31,22 @@ use Rattle.proof_grammar.specs.Texts.{in_line, read_as, line_kind, read_one, at_
 use Rattle.proof_grammar.specs.Checked.{IsChecked}
 use Rattle.proof_grammar.specs.Ledgers.{Stands, IfOpen, AllStand, open_nodes, all_nodes, IsLedger}
 
-AllStand-get : (s : Schema) (os : List (Option Opened)) (i : ℕ) → AllStand s os → IfOpen s (joined (slice_get os i))
-AllStand-get s [] i all = tt {0}
-AllStand-get s (o ∷ os) zero all = all.0
-AllStand-get s (o ∷ os) (suc i) all = AllStand-get s os i all.1
+AllStand-get : (s : Schema) (os : List (Option Opened)) (i : ℕ) (o : Option Opened) → AllStand s os
+    → joined (slice_get os i) ≡ o → IfOpen s o
+AllStand-get s [] i o all e = subst (IfOpen s) e (tt {0})
+AllStand-get s (x ∷ os) zero o all e = subst (IfOpen s) e all.0
+AllStand-get s (x ∷ os) (suc i) o all e = AllStand-get s os i o all.1 e
 
 AllStand-close : (s : Schema) (os : List (Option Opened)) (i : ℕ) → AllStand s os → AllStand s (slice_set os i None)
 AllStand-close s [] i all = tt {0}
 AllStand-close s (o ∷ os) zero all = (tt {0}, all.1)
 AllStand-close s (o ∷ os) (suc i) all = (all.0, AllStand-close s os i all.1)
 
-all_nodes-close : (os : List (Option Opened)) (i : ℕ) → all_nodes (slice_set os i None) + open_nodes (joined (slice_get os i)) ≡ all_nodes os
-all_nodes-close [] i = refl
-all_nodes-close (o ∷ os) zero = omega arith
-all_nodes-close (o ∷ os) (suc i) = omega (arith, all_nodes-close os i)
+all_nodes-close : (os : List (Option Opened)) (i : ℕ) (o : Option Opened) → joined (slice_get os i) ≡ o
+    → all_nodes (slice_set os i None) + open_nodes o ≡ all_nodes os
+all_nodes-close [] i o e = omega (arith, ap open_nodes e)
+all_nodes-close (x ∷ os) zero o e = omega (arith, ap open_nodes e)
+all_nodes-close (x ∷ os) (suc i) o e = omega (arith, all_nodes-close os i o e)
 
 pub AllStand-push : (s : Schema) (os : List (Option Opened)) (o : Opened) → AllStand s os → Stands s o → AllStand s (os ++ Some o ∷ [])
 AllStand-push s [] o all stands = (stands, tt {0})
@@ -80,63 +82,78 @@ known_node s before after levels t r stand same_length proves deep count = recor
   counted = λ u d h. let w = with_tree-ok t u r d h in subst (λ (x : Tree). nodes x + all_nodes after ≡ all_nodes before + 1) w.0 count;
 }
 
-leaf_prepared : (s : Schema) (os : List (Option Opened)) (rule : Leaf) → AllStand s os
-    → IsPrepared s os (record { levels = 1; outcome = with_tree (leaf rule) (leaf_conclusion s rule); unused = os })
-leaf_prepared s os rule all = known_node s os os 1 (leaf rule) (leaf_conclusion s rule) all refl (λ d h. h) refl (omega arith)
-
-open_stands : (s : Schema) (os : List (Option Opened)) (q : ℕ) (o : Opened) → AllStand s os → open_at os q ≡ Some o → Stands s o
-open_stands s os q o all e = subst (IfOpen s) e (AllStand-get s os (q - 1) all)
-
-closed_count : (os : List (Option Opened)) (q : ℕ) (o : Opened) → open_at os q ≡ Some o → all_nodes (closed os q) + nodes o.tree ≡ all_nodes os
-closed_count os q o e = ap (λ x. all_nodes (closed os q) + open_nodes x) (sym e) ∙ all_nodes-close os (q - 1)
-
-step_prepared : (s : Schema) (rule : Step) (os : List (Option Opened)) (q : ℕ) (o : Option Opened) → open_at os q ≡ o → AllStand s os
+step_prepared : (s : Schema) (rule : Step) (os : List (Option Opened)) (q : ℕ) (o : Option Opened)
+    → open_at os q ≡ o → AllStand s os
     → IfOk (step_node s rule o (closed os q)) (IsPrepared s os)
 step_prepared s rule os q None e all = tt
 step_prepared s rule os q (Some o) e all =
-    let stands = open_stands s os q o all e in
+    let stands = AllStand-get s os (q - 1) (Some o) all e in
     known_node s os (closed os q) (o.levels + 1) (step rule o.tree) (step_conclusion s rule o.conclusion)
-    (AllStand-close s os (q - 1) all) (length-set os (q - 1) None) (λ d given_d. (o.conclusion, stands.proves, given_d))
-    (omega (arith, stands.levels)) (omega (arith, closed_count os q o e))
+    (AllStand-close s os (q - 1) all) (length-set os (q - 1) None)
+    (λ d given_d. (o.conclusion, stands.proves, given_d))
+    (omega (arith, stands.levels)) (omega (arith, all_nodes-close os (q - 1) (Some o) e))
 
-pair_prepared : (s : Schema) (rule : Pair) (os : List (Option Opened)) (q r : ℕ) (o u : Option Opened) → open_at os q ≡ o → open_at (closed os q) r ≡ u → AllStand s os
+pair_prepared : (s : Schema) (rule : Pair) (os : List (Option Opened)) (q r : ℕ) (o u : Option Opened)
+    → open_at os q ≡ o → open_at (closed os q) r ≡ u → AllStand s os
     → IfOk (pair_node rule o u (closed (closed os q) r)) (IsPrepared s os)
 pair_prepared s rule os q r None u e f all = tt
 pair_prepared s rule os q r (Some o) None e f all = tt
 pair_prepared s rule os q r (Some o) (Some u) e f all =
-    let first = open_stands s os q o all e in
+    let first = AllStand-get s os (q - 1) (Some o) all e in
     let rest = AllStand-close s os (q - 1) all in
-    let second = open_stands s (closed os q) r u rest f in
-    known_node s os (closed (closed os q) r) (max o.levels u.levels + 1) (pair rule o.tree u.tree) (pair_conclusion rule o.conclusion u.conclusion)
-    (AllStand-close s (closed os q) (r - 1) rest) (length-set (closed os q) (r - 1) None ∙ length-set os (q - 1) None)
+    let second = AllStand-get s (closed os q) (r - 1) (Some u) rest f in
+    known_node s os (closed (closed os q) r) (max o.levels u.levels + 1) (pair rule o.tree u.tree)
+    (pair_conclusion rule o.conclusion u.conclusion)
+    (AllStand-close s (closed os q) (r - 1) rest)
+    (length-set (closed os q) (r - 1) None ∙ length-set os (q - 1) None)
     (λ d given_d. (o.conclusion, u.conclusion, first.proves, second.proves, given_d))
-    (omega (arith, first.levels, second.levels)) (omega (arith, closed_count os q o e, closed_count (closed os q) r u f))
+    (omega (arith, first.levels, second.levels))
+    (omega (arith, all_nodes-close os (q - 1) (Some o) e, all_nodes-close (closed os q) (r - 1) (Some u) f))
 
-all_prepared : (s : Schema) (os : List (Option Opened)) (stated : Dependency) (b : Body) → AllStand s os → IfOk (prepared s os stated b) (IsPrepared s os)
+all_prepared : (s : Schema) (os : List (Option Opened)) (stated : Dependency) (b : Body) → AllStand s os
+    → IfOk (prepared s os stated b) (IsPrepared s os)
 unfolding prepared
 all_prepared s os stated (by_given k) all =
     cond_both (k == 0) (Err NoSuchGiven) (with_tree (leaf (given (k - 1))) (leaf_conclusion s (given (k - 1))))
     (λ r. IsPrepared s os (record { levels = 1; outcome = r; unused = os }))
-    (λ none. record { stand = all; same_length = refl; proves = λ u d h. cc; levels = λ u d h. cc; counted = λ u d h. cc })
-    (λ some. leaf_prepared s os (given (k - 1)) all)
-all_prepared s os stated by_reflexivity all = leaf_prepared s os (reflexivity (left_of stated) (right_of stated)) all
-all_prepared s os stated by_mreflexivity all = leaf_prepared s os (mreflexivity (left_of stated) (right_of stated)) all
+    (λ none. record {
+      stand = all;
+      same_length = refl;
+      proves = λ u d h. cc;
+      levels = λ u d h. cc;
+      counted = λ u d h. cc;
+    })
+    (λ some. known_node s os os 1 (leaf (given (k - 1))) (leaf_conclusion s (given (k - 1))) all refl
+    (λ d h. h) refl (omega arith))
+all_prepared s os stated by_reflexivity all =
+    known_node s os os 1 (leaf (reflexivity (left_of stated) (right_of stated)))
+    (leaf_conclusion s (reflexivity (left_of stated) (right_of stated))) all refl (λ d h. h) refl (omega arith)
+all_prepared s os stated by_mreflexivity all =
+    known_node s os os 1 (leaf (mreflexivity (left_of stated) (right_of stated)))
+    (leaf_conclusion s (mreflexivity (left_of stated) (right_of stated))) all refl (λ d h. h) refl (omega arith)
 all_prepared s os stated (by_step rule q) all =
-    cond_both (is_earlier os q) (step_node s rule (open_at os q) (closed os q)) (Err no_such_line) (λ r. IfOk r (IsPrepared s os))
+    cond_both (is_earlier os q) (step_node s rule (open_at os q) (closed os q)) (Err no_such_line)
+    (λ r. IfOk r (IsPrepared s os))
     (λ earlier. step_prepared s rule os q (open_at os q) refl all) (λ other. tt)
 all_prepared s os stated (by_pair rule q r) all =
-    cond_both (is_earlier os q && is_earlier os r) (pair_node rule (open_at os q) (open_at (closed os q) r) (closed (closed os q) r)) (Err no_such_line)
-    (λ x. IfOk x (IsPrepared s os)) (λ earlier. pair_prepared s rule os q r (open_at os q) (open_at (closed os q) r) refl refl all) (λ other. tt)
+    cond_both (is_earlier os q && is_earlier os r)
+    (pair_node rule (open_at os q) (open_at (closed os q) r) (closed (closed os q) r)) (Err no_such_line)
+    (λ x. IfOk x (IsPrepared s os))
+    (λ earlier. pair_prepared s rule os q r (open_at os q) (open_at (closed os q) r) refl refl all)
+    (λ other. tt)
 
-pub prepared_is : (s : Schema) (os : List (Option Opened)) (stated : Dependency) (b : Body) (p : Prepared) → AllStand s os → prepared s os stated b ≡ Ok p → IsPrepared s os p
-prepared_is s os stated b p all h = ok_at (IsPrepared s os) (prepared s os stated b) p h (all_prepared s os stated b all)
+pub prepared_is : (s : Schema) (os : List (Option Opened)) (stated : Dependency) (b : Body) (p : Prepared)
+    → AllStand s os → prepared s os stated b ≡ Ok p → IsPrepared s os p
+prepared_is s os stated b p all h =
+    ok_at (IsPrepared s os) (prepared s os stated b) p h (all_prepared s os stated b all)
 
 pub bind_ok : {A B E : Type 0} (r : Result A E) (f : A → Result B E) (y : B) → (r >>= f) ≡ Ok y → (x : A) × (r ≡ Ok x) × (f x ≡ Ok y)
 bind_ok (Ok x) f y h = (x, refl, h)
 bind_ok (Err e) f y h = cc
 
 -- what holds after each value that comes first
-pub bind_each : {A B E : Type 0} (P : B → Type 0) (r : Result A E) (f : A → Result B E) → ((x : A) → r ≡ Ok x → IfOk (f x) P) → IfOk (r >>= f) P
+pub bind_each : {A B E : Type 0} (P : B → Type 0) (r : Result A E) (f : A → Result B E)
+    → ((x : A) → r ≡ Ok x → IfOk (f x) P) → IfOk (r >>= f) P
 bind_each P (Ok x) f each = each x refl
 bind_each P (Err e) f each = tt
 
@@ -148,37 +165,56 @@ record IsSettled (before levels : ℕ) (outcome : Result (Tree × Dependency) Fa
   prepared_so : outcome ≡ Ok (o.tree, o.conclusion)
 
 concluded_ok : (n levels : ℕ) (stated : Dependency) (outcome : Result (Tree × Dependency) FaultKind)
-    → IfOk (concluded_as n stated levels outcome) (λ o. (outcome ≡ Ok (o.tree, o.conclusion)) × (o.levels ≡ levels))
+    → IfOk (concluded_as n stated levels outcome)
+    (λ o. (outcome ≡ Ok (o.tree, o.conclusion)) × (o.levels ≡ levels))
 concluded_ok n levels stated (Ok x) =
-    cond_both (same_dependency stated x.1) (Ok (record { tree = x.0; levels = levels; conclusion = x.1 })) (Err (states_other stated x.1))
-    (λ r. IfOk r (λ o. (◌≡◌ {A = Result (Tree × Dependency) FaultKind} (Ok x) (Ok (o.tree, o.conclusion))) × (o.levels ≡ levels))) (λ same. (refl, refl)) (λ other. tt)
+    let settles : Opened → Type 0 = λ o.
+    (◌≡◌ {A = Result (Tree × Dependency) FaultKind} (Ok x) (Ok (o.tree, o.conclusion))) × (o.levels ≡ levels) in
+    let opened : Opened = record { tree = x.0; levels = levels; conclusion = x.1 } in
+    cond_both (same_dependency stated x.1) (Ok opened) (Err (states_other stated x.1)) (λ r. IfOk r settles)
+    (λ same. (refl, refl)) (λ other. tt)
 concluded_ok n levels stated (Err why) = tt
 
-settled_ok : (before : ℕ) (l : Line) (levels : ℕ) (outcome : Result (Tree × Dependency) FaultKind) → IfOk (settled before l levels outcome) (IsSettled before levels outcome)
+settled_ok : (before : ℕ) (l : Line) (levels : ℕ) (outcome : Result (Tree × Dependency) FaultKind)
+    → IfOk (settled before l levels outcome) (IsSettled before levels outcome)
 unfolding settled
 settled_ok before l levels outcome =
     let last = concluded_as l.number l.stated levels outcome in
     let holds : Result Opened Complaint → Type 0 = λ r. IfOk r (IsSettled before levels outcome) in
-    cond_both (nat_le MOST_NODES before) (Err too_many_lines) (cond (nat_lt MOST_LEVELS levels) (Err too_deep) last) holds (λ many. tt)
+    cond_both (nat_le MOST_NODES before) (Err too_many_lines)
+    (cond (nat_lt MOST_LEVELS levels) (Err too_deep) last) holds (λ many. tt)
     (λ few. cond_both (nat_lt MOST_LEVELS levels) (Err too_deep) last holds (λ deep. tt)
-    (λ flat. IfOk-weaker last (λ o. (outcome ≡ Ok (o.tree, o.conclusion)) × (o.levels ≡ levels)) (IsSettled before levels outcome)
-    (λ o ok. record { few_lines = grind (arith, nat_tests, few); few_levels = grind (arith, nat_tests, flat); same_levels = ok.1; prepared_so = ok.0 })
+    (λ flat. IfOk-weaker last (λ o. (outcome ≡ Ok (o.tree, o.conclusion)) × (o.levels ≡ levels))
+    (IsSettled before levels outcome)
+    (λ o ok. record {
+      few_lines = grind (arith, nat_tests, few);
+      few_levels = grind (arith, nat_tests, flat);
+      same_levels = ok.1;
+      prepared_so = ok.0;
+    })
     (concluded_ok l.number levels l.stated outcome)))
 
-entered_keeps : (s : Schema) (at : ℕ) (book : Ledger) (l : Line) → IsLedger s book → IfOk (entered s at book l) (IsLedger s)
+entered_keeps : (s : Schema) (at : ℕ) (book : Ledger) (l : Line) → IsLedger s book
+    → IfOk (entered s at book l) (IsLedger s)
 unfolding entered
 entered_keeps s at book l is =
     let os = book.unused in
-    let all = prepared s os l.stated l.body >>= λ p. settled (length os) l p.levels p.outcome >>= λ o. Ok (add_line at book.lines p.unused o) in
+    let all = prepared s os l.stated l.body >>= λ p. settled (length os) l p.levels p.outcome
+    >>= λ o. Ok (add_line at book.lines p.unused o) in
     cond_both (l.number == length os + 1) all (Err wrong_number) (λ r. IfOk r (IsLedger s))
     (λ numbered. bind_each (IsLedger s) (prepared s os l.stated l.body) _
     (λ p found. bind_each (IsLedger s) (settled (length os) l p.levels p.outcome) _
     (λ o ends.
     let prep = prepared_is s os l.stated l.body p is.stand found in
-    let at_end = ok_at (IsSettled (length os) p.levels p.outcome) (settled (length os) l p.levels p.outcome) o ends (settled_ok (length os) l p.levels p.outcome) in
+    let at_end = ok_at (IsSettled (length os) p.levels p.outcome)
+    (settled (length os) l p.levels p.outcome) o ends (settled_ok (length os) l p.levels p.outcome) in
     let deep : depth o.tree ≡ o.levels = prep.levels o.tree o.conclusion at_end.prepared_so ∙ sym at_end.same_levels in
     let longer : length (p.unused ++ Some o ∷ []) ≡ length p.unused + 1 = length-append p.unused (Some o ∷ []) in
-    let stands : Stands s o = record { proves = prep.proves o.tree o.conclusion at_end.prepared_so; levels = deep; few = omega (arith, at_end.same_levels, at_end.few_levels) } in
+    let stands : Stands s o = record {
+      proves = prep.proves o.tree o.conclusion at_end.prepared_so;
+      levels = deep;
+      few = omega (arith, at_end.same_levels, at_end.few_levels);
+    } in
     record {
       stand = AllStand-push s p.unused o prep.stand stands;
       count = omega (arith, all_nodes-push p.unused o, prep.counted o.tree o.conclusion at_end.prepared_so, longer, prep.same_length, is.count);
@@ -186,45 +222,60 @@ entered_keeps s at book l is =
     })))
     (λ other. tt)
 
-read_as_keeps : (k : LineKind) (s : Schema) (fresh : Bool) (number : ℕ) (book : Ledger) (text : List ℕ) → IsLedger s book → IfOk (read_as k s fresh number book text) (λ next. IsLedger s next.1)
+read_as_keeps : (k : LineKind) (s : Schema) (fresh : Bool) (number : ℕ) (book : Ledger) (text : List ℕ)
+    → IsLedger s book → IfOk (read_as k s fresh number book text) (λ next. IsLedger s next.1)
 read_as_keeps Blank s fresh number book text is = is
 read_as_keeps Opening s fresh number book text is = is
 read_as_keeps Certificate s fresh number book text is =
-    bind_each (λ next. IsLedger s next.1) (in_line (certificate_line (names_of s) (rest_from number 1 (lex mode.Numbered text)))) _
-    (λ l read. bind_each (λ next. IsLedger s next.1) (entered s number book l) _ (λ next enter. ok_at (IsLedger s) _ next enter (entered_keeps s number book l is)))
+    bind_each (λ next. IsLedger s next.1)
+    (in_line (certificate_line (names_of s) (rest_from number 1 (lex mode.Numbered text)))) _
+    (λ l read. bind_each (λ next. IsLedger s next.1) (entered s number book l) _
+    (λ next enter. ok_at (IsLedger s) _ next enter (entered_keeps s number book l is)))
 
 pub read_one_keeps : (s : Schema) (fresh : Bool) (number : ℕ) (book : Ledger) (text : List ℕ) (next : Bool × Ledger) → IsLedger s book → read_one s fresh number book text ≡ Ok next → IsLedger s next.1
 unfolding read_one
 read_one_keeps s fresh number book text next is h =
-    ok_at (λ (x : Bool × Ledger). IsLedger s x.1) _ next h (read_as_keeps (line_kind fresh (lex mode.Numbered text)) s fresh number book text is)
+    ok_at (λ (x : Bool × Ledger). IsLedger s x.1) _ next h
+    (read_as_keeps (line_kind fresh (lex mode.Numbered text)) s fresh number book text is)
 
-finished_checked : (s : Schema) (last : ℕ) (book : Ledger) (i : Option ℕ) (o : Option Opened) → IsLedger s book → root book.unused ≡ o → IfOk (finished_at last book.lines i o) (IsChecked s)
+finished_checked : (s : Schema) (last : ℕ) (book : Ledger) (i : Option ℕ) (o : Option Opened)
+    → IsLedger s book → root book.unused ≡ o → IfOk (finished_at last book.lines i o) (IsChecked s)
 finished_checked s last book (Some i) o is e = tt
 finished_checked s last book None None is e = tt
 finished_checked s last book None (Some u) is e =
     let os = book.unused in
     let i = length os - 1 in
-    let stands : Stands s u = subst (IfOpen s) e (AllStand-get s os i is.stand) in
-    let counted : all_nodes (slice_set os i None) + nodes u.tree ≡ all_nodes os = ap (λ x. all_nodes (slice_set os i None) + open_nodes x) (sym e) ∙ all_nodes-close os i in
-    record { conclusion = u.conclusion; proves = stands.proves; few_nodes = omega (arith, counted, is.count, is.few); few_levels = omega (arith, stands.levels, stands.few) }
+    let stands = AllStand-get s os i (Some u) is.stand e in
+    let counted = all_nodes-close os i (Some u) e in
+    record {
+      conclusion = u.conclusion;
+      proves = stands.proves;
+      few_nodes = omega (arith, counted, is.count, is.few);
+      few_levels = omega (arith, stands.levels, stands.few);
+    }
 
 pub at_line-ok : {A : Type 0} (n : ℕ) (r : Result A Complaint) (x : A) → at_line n r ≡ Ok x → r ≡ Ok x
 at_line-ok n (Ok y) x h = cc
 at_line-ok n (Err why) x h = cc
 
-read_lines_checked : (s : Schema) (fresh : Bool) (number : ℕ) (book : Ledger) (texts : List (List ℕ)) → IsLedger s book → IfOk (read_certificate_lines s fresh number book texts) (IsChecked s)
+read_lines_checked : (s : Schema) (fresh : Bool) (number : ℕ) (book : Ledger) (texts : List (List ℕ))
+    → IsLedger s book → IfOk (read_certificate_lines s fresh number book texts) (IsChecked s)
 unfolding read_certificate_lines finished_certificate
-read_lines_checked s fresh number book [] is = finished_checked s (number - 1) book (first_unused book.unused) (root book.unused) is refl
+read_lines_checked s fresh number book [] is =
+    finished_checked s (number - 1) book (first_unused book.unused) (root book.unused) is refl
 read_lines_checked s fresh number book (text ∷ texts) is =
     bind_each (IsChecked s) (at_line number (read_one s fresh number book text)) _
-    (λ next read. read_lines_checked s next.0 (number + 1) next.1 texts (read_one_keeps s fresh number book text next is (at_line-ok number (read_one s fresh number book text) next read)))
+    (λ next read. read_lines_checked s next.0 (number + 1) next.1 texts
+    (read_one_keeps s fresh number book text next is
+    (at_line-ok number (read_one s fresh number book text) next read)))
 
 -- what is read is within the limits, and proves a dependency
 pub read_proof_checked : (s : Schema) (text : List ℕ) (t : Tree) → read_proof s text ≡ Ok t → IsChecked s t
 unfolding read_proof
 read_proof_checked s text t h =
     ok_at (IsChecked s) _ t h
-    (read_lines_checked s true 1 (record { lines = []; unused = [] }) (line_texts (without_mark text)) (record { stand = tt {0}; count = refl; few = omega arith }))
+    (read_lines_checked s true 1 (record { lines = []; unused = [] }) (line_texts (without_mark text))
+    (record { stand = tt {0}; count = refl; few = omega arith }))
 
 -- the last line of a ledger proves what it concludes
 pub root_proves : (s : Schema) (book : Ledger) (t : Tree) (d : Dependency) → IsLedger s book → rooted book.unused ≡ Some (t, d) → Proves s t d
@@ -233,6 +284,6 @@ root_proves s book t d is h = told (root book.unused) refl h
     told : (o : Option Opened) → root book.unused ≡ o → option_map concluded_by o ≡ Some (t, d) → Proves s t d
     told None r e = cc
     told (Some u) r e =
-        let stands : Stands s u = subst (IfOpen s) r (AllStand-get s book.unused (length book.unused - 1) is.stand) in
+        let stands = AllStand-get s book.unused (length book.unused - 1) (Some u) is.stand r in
         let same : concluded_by u ≡ (t, d) = cc in
         subst (λ (x : Tree × Dependency). Proves s x.0 x.1) same stands.proves

@@ -19,16 +19,21 @@ used_nodes used n [] = 0
 used_nodes used n (t ∷ ts) = used (n + 1) * nodes t + used_nodes used (n + 1) ts
 
 -- where each is used as often, the nodes are so many times those of all, wherever the trees stand
-used_as : (used : ℕ → ℕ) (often n k : ℕ) (ts : List Tree) → ((m : ℕ) → n < m → m ≤ n + length ts → used m ≡ often) → used_nodes used n ts ≡ often * used_nodes (λ m. 1) k ts
+used_as : (used : ℕ → ℕ) (often n k : ℕ) (ts : List Tree)
+    → ((m : ℕ) → n < m → m ≤ n + length ts → used m ≡ often)
+    → used_nodes used n ts ≡ often * used_nodes (λ m. 1) k ts
 used_as used often n k [] each = sym (mul-zero often)
 used_as used often n k (t ∷ ts) each =
-    let more = used_as used often (n + 1) (k + 1) ts (λ m low high. each m (omega (arith, low)) (omega (arith, high))) in
-    rw (each (n + 1) (omega arith) (omega arith), more, one-mul (nodes t)) (sym (mul-add often (nodes t) (used_nodes (λ m. 1) (k + 1) ts)))
+    let more = used_as used often (n + 1) (k + 1) ts
+    (λ m low high. each m (omega (arith, low)) (omega (arith, high))) in
+    rw (each (n + 1) (omega arith) (omega arith), more, one-mul (nodes t))
+    (sym (mul-add often (nodes t) (used_nodes (λ m. 1) (k + 1) ts)))
 
 used_both : (used first second : ℕ → ℕ) (n : ℕ) (ts : List Tree) → ((m : ℕ) → used m ≡ first m + second m) → used_nodes used n ts ≡ used_nodes first n ts + used_nodes second n ts
 used_both used first second n [] sums = refl
 used_both used first second n (t ∷ ts) sums =
-    rw (sums (n + 1), add-mul (first (n + 1)) (second (n + 1)) (nodes t)) (omega (arith, used_both used first second (n + 1) ts sums))
+    rw (sums (n + 1), add-mul (first (n + 1)) (second (n + 1)) (nodes t))
+    (omega (arith, used_both used first second (n + 1) ts sums))
 
 used_more : (used : ℕ → ℕ) (n : ℕ) (ts us : List Tree) → used_nodes used n (ts ++ us) ≡ used_nodes used n ts + used_nodes used (n + length ts) us
 used_more used n [] us = let same : n ≡ n + 0 = omega arith in omega (arith, ap (λ k. used_nodes used k us) same)
@@ -43,7 +48,11 @@ used_one used n [] i t at one others = cc
 used_one used n (u ∷ ts) zero t at one others =
     let same : u ≡ t = cc in
     let first : used (n + 1) ≡ 1 = ap used (omega arith) ∙ one in
-    rw first (omega (arith, ap nodes same, used_as used 0 (n + 1) 0 ts (λ m low high. others m (grind (arith, nat_tests, low)))))
+    rw first (omega (
+      arith,
+      ap nodes same,
+      used_as used 0 (n + 1) 0 ts (λ m low high. others m (grind (arith, nat_tests, low))),
+    ))
 used_one used n (u ∷ ts) (suc i) t at one others =
     let same : n + 1 + i + 1 ≡ n + suc i + 1 = omega arith in
     rw (others (n + 1) (grind (arith, nat_tests)))
@@ -57,9 +66,12 @@ premise_nodes ts p t at =
     used_one used 0 ts at.before t at.tree (ap used same ∙ times_self p) (λ m h. times_other m p (sym (ap (λ k. m == k) same) ∙ h))
 
 line_nodes : (ts : List Tree) (l : Line) (b : Body) (t : Tree) → IsTreeOf ts l b t → nodes t ≡ 1 + used_nodes (λ m. times m (premises_of b)) 0 ts
-line_nodes ts l (by_given k) t is = omega (arith, ap nodes is.tree, used_as (λ m. times m []) 0 0 0 ts (λ m low high. refl))
-line_nodes ts l by_reflexivity t is = omega (arith, ap nodes is, used_as (λ m. times m []) 0 0 0 ts (λ m low high. refl))
-line_nodes ts l by_mreflexivity t is = omega (arith, ap nodes is, used_as (λ m. times m []) 0 0 0 ts (λ m low high. refl))
+line_nodes ts l (by_given k) t is =
+    omega (arith, ap nodes is.tree, used_as (λ m. times m []) 0 0 0 ts (λ m low high. refl))
+line_nodes ts l by_reflexivity t is =
+    omega (arith, ap nodes is, used_as (λ m. times m []) 0 0 0 ts (λ m low high. refl))
+line_nodes ts l by_mreflexivity t is =
+    omega (arith, ap nodes is, used_as (λ m. times m []) 0 0 0 ts (λ m low high. refl))
 line_nodes ts l (by_step rule p) t is = omega (arith, ap nodes is.tree, premise_nodes ts p is.premise is.earlier)
 line_nodes ts l (by_pair rule p q) t is =
     let both = used_both (λ m. times m (p ∷ q ∷ [])) (λ m. times m (p ∷ [])) (λ m. times m (q ∷ [])) 0 ts (λ m. times_two m p q) in
@@ -67,9 +79,11 @@ line_nodes ts l (by_pair rule p q) t is =
 
 -- ---- the nodes of all lines
 -- the trees of lines have a node for each line, and those of the lines that they use
-lines_total : (s : Schema) (k : ℕ) (prior : List Tree) (ls : List Line) (ts : List Tree) → AreNodes s prior ls ts
+lines_total : (s : Schema) (k : ℕ) (prior : List Tree) (ls : List Line) (ts : List Tree)
+    → AreNodes s prior ls ts
     → used_nodes (λ m. 1) k ts ≡ length ls + used_nodes (λ m. uses m ls) 0 (prior ++ ts)
-lines_total s k prior [] [] are = omega (arith, used_as (λ m. uses m []) 0 0 0 (prior ++ []) (λ m low high. refl))
+lines_total s k prior [] [] are =
+    omega (arith, used_as (λ m. uses m []) 0 0 0 (prior ++ []) (λ m low high. refl))
 lines_total s k prior [] (t ∷ ts) are = absurd are
 lines_total s k prior (l ∷ ls) [] are = absurd are
 lines_total s k prior (l ∷ ls) (t ∷ ts) (here, rest) =
@@ -79,7 +93,8 @@ lines_total s k prior (l ∷ ls) (t ∷ ts) (here, rest) =
     let same : (prior ++ t ∷ []) ++ ts ≡ all = append_assoc prior (t ∷ []) ts in
     let more = lines_total s (k + 1) (prior ++ t ∷ []) ls ts rest in
     let both = used_both (λ m. uses m (l ∷ ls)) own next 0 all (λ m. uses_first m l ls) in
-    let late = used_as own 0 (0 + length prior) 0 (t ∷ ts) (λ m low high. premises_early prior l l.body t m here.tree (omega (arith, low))) in
+    let late = used_as own 0 (0 + length prior) 0 (t ∷ ts)
+    (λ m low high. premises_early prior l l.body t m here.tree (omega (arith, low))) in
     omega (arith, more, both, ap (used_nodes next 0) same, line_nodes prior l l.body t here.tree, used_more own 0 prior (t ∷ ts), late)
 
 pub lines_count : (s : Schema) (lines : List Line) (t : Tree) → AreNodesOf s lines t → length lines ≡ nodes t
@@ -88,6 +103,15 @@ lines_count s lines t are =
     let used : ℕ → ℕ = λ m. uses m lines in
     let count = nodes_size s [] lines all are.nodes in
     let size : length all ≡ length are.before + 1 = length-append are.before (t ∷ []) in
-    let others = used_as used 1 0 0 are.before (λ m low high. are.used m low (omega (arith, high, count, size))) in
-    let last = used_as used 0 (0 + length are.before) 0 (t ∷ []) (λ m low high. late_unused s [] lines all m are.nodes (omega (arith, low, count, size))) in
-    omega (arith, lines_total s 0 [] lines all are.nodes, used_more (λ m. 1) 0 are.before (t ∷ []), used_more used 0 are.before (t ∷ []), others, last)
+    let others = used_as used 1 0 0 are.before
+    (λ m low high. are.used m low (omega (arith, high, count, size))) in
+    let last = used_as used 0 (0 + length are.before) 0 (t ∷ [])
+    (λ m low high. late_unused s [] lines all m are.nodes (omega (arith, low, count, size))) in
+    omega (
+      arith,
+      lines_total s 0 [] lines all are.nodes,
+      used_more (λ m. 1) 0 are.before (t ∷ []),
+      used_more used 0 are.before (t ∷ []),
+      others,
+      last,
+    )

@@ -1,17 +1,17 @@
 -- Which lines of a text count, line by line; and the sets of a line are of attributes.
-use Rattle.std.proofs.Common.{◌≡◌, inl, inr, ℕ, Bool, true, false, cond, ◌&&◌, not, List, [], ◌∷◌, length, Option, Some, None, refl, sym, ◌∙◌, ap, subst, arith}
+use Rattle.std.proofs.Common.{◌≡◌, inl, inr, ℕ, Bool, true, false, ◌&&◌, not, List, [], ◌∷◌, length, Option, Some, None, refl, sym, ◌∙◌, ap, subst, arith}
 use Rattle.std.specs.Prelude.{filter}
+use Rattle.std.proofs.lemmas.Bool.{cond_both}
 use Rattle.std.proofs.lemmas.Bool.Decides.{nat_tests}
 use Rattle.attr_sets.specs.Places.{Places, below}
 use Rattle.dep_model.specs.declared.schema.Schema.{Schema}
-use Rattle.dep_model.specs.Dependencies.{Dependency, left_of, right_of}
+use Rattle.dep_model.specs.Dependencies.{left_of, right_of}
 use Rattle.dep_model.specs.Schemas.{names_of}
 use Rattle.derivation.specs.Trees.{augmentation, complementation, maugmentation, replication}
 use Rattle.derivation.proofs.WithinLemmas.{OfAttributes}
 use Rattle.lexer.specs.declared.token.Mode.TheVariants as mode
 use Rattle.lexer.specs.declared.token.Stop.{Stop}
 use Rattle.lexer.specs.Tokens.{Mark, lex}
-use Rattle.schema_grammar.specs.declared.symbol.Sign.{Sign}
 use Rattle.schema_grammar.specs.declared.symbol.Sign.TheVariants as sign
 use Rattle.schema_grammar.specs.declared.format.Format.TheVariants as format
 use Rattle.schema_grammar.specs.Grammar.{stated}
@@ -41,31 +41,28 @@ Counts Certificate fresh text = (texts : List (List ℕ)) → counted fresh (tex
 pub kind_counts : (fresh : Bool) (text : List ℕ) (k : LineKind) → line_kind fresh (lex mode.Numbered text) ≡ k → Counts k fresh text
 unfolding line_kind
 kind_counts fresh text k e =
-    subst (λ (j : LineKind). Counts j fresh text) e (told fresh (lex mode.Numbered text).marks (lex mode.Numbered text).stop refl refl)
+    subst (λ (j : LineKind). Counts j fresh text) e
+    (told fresh (lex mode.Numbered text).marks (lex mode.Numbered text).stop refl refl)
   where
-    begun : (m : Mark) (ms : List Mark) (stop : Option Stop) (b : Bool) → (lex mode.Numbered text).marks ≡ m ∷ ms → (lex mode.Numbered text).stop ≡ stop
-        → (is_yes m.kind m.word && is_blank_from ms stop) ≡ b → Counts (cond b Opening Certificate) true text
-    begun m ms stop true marks ends says = λ texts. rw (marks, marks, ends, says) refl
-    begun m ms stop false marks ends says = λ texts. rw (marks, marks, ends, says) refl
-
-    told : (a : Bool) (ms : List Mark) (stop : Option Stop) → (lex mode.Numbered text).marks ≡ ms → (lex mode.Numbered text).stop ≡ stop → Counts (kind_from a ms stop) a text
+    told : (a : Bool) (ms : List Mark) (stop : Option Stop) → (lex mode.Numbered text).marks ≡ ms
+        → (lex mode.Numbered text).stop ≡ stop → Counts (kind_from a ms stop) a text
     told true [] None marks ends = λ texts. rw (marks, ends) refl
     told false [] None marks ends = λ texts. rw (marks, ends) refl
     told true [] (Some stop) marks ends = λ texts. rw (marks, ends, marks) refl
     told false [] (Some stop) marks ends = λ texts. rw (marks, ends) refl
-    told true (m ∷ ms) stop marks ends = begun m ms stop (is_yes m.kind m.word && is_blank_from ms stop) marks ends refl
+    told true (m ∷ ms) stop marks ends =
+        cond_both (is_yes m.kind m.word && is_blank_from ms stop) Opening Certificate (λ j. Counts j true text)
+        (λ says texts. rw (marks, marks, ends, says) refl) (λ says texts. rw (marks, marks, ends, says) refl)
     told false (m ∷ ms) stop marks ends = λ texts. rw marks refl
 
 -- ---- the sets of a line
 of_attributes : (s : Schema) (ms : List Mark) (x : Places) → IsSide format.Plain (names_of s) ms x → OfAttributes x
-of_attributes s ms x (inl empty) k member = let wrong : true ≡ false = sym member ∙ ap (λ (y : Places). y k) empty.nothing in cc
+of_attributes s ms x (inl empty) k member =
+    let wrong : true ≡ false = sym member ∙ ap (λ (y : Places). y k) empty.nothing in cc
 of_attributes s ms x (inr some) k member =
-    let inside : below (length (names_of s)) k ≡ true = named_within (names_of s) ms k (ap (λ (y : Places). y k) (sym some.members) ∙ member) in
+    let inside : below (length (names_of s)) k ≡ true =
+    named_within (names_of s) ms k (ap (λ (y : Places). y k) (sym some.members) ∙ member) in
     grind (arith, nat_tests, inside, s.valid.few_names)
-
-stated_sides : (sign : Sign) (x y : Places) (d : Dependency) → d ≡ stated sign x y → (left_of d ≡ x) × (right_of d ≡ y)
-stated_sides sign.Functional x y d e = (ap left_of e, ap right_of e)
-stated_sides sign.Multivalued x y d e = (ap left_of e, ap right_of e)
 
 rule_of_attributes : (s : Schema) (ms : List Mark) (b : Body) → IsRule (names_of s) ms b → BodyOfAttributes b
 rule_of_attributes s ms (by_given k) is = tt
@@ -73,17 +70,22 @@ rule_of_attributes s ms by_reflexivity is = tt
 rule_of_attributes s ms by_mreflexivity is = tt
 rule_of_attributes s ms (by_step (augmentation z) p) is = of_attributes s is.has_sets.sides z is.has_sets.side
 rule_of_attributes s ms (by_step complementation p) is = tt
-rule_of_attributes s ms (by_step (maugmentation w z) p) is =
-    (of_attributes s is.has_sets.wide w is.has_sets.wide_side, of_attributes s is.has_sets.narrow z is.has_sets.narrow_side)
+rule_of_attributes s ms (by_step (maugmentation w z) p) is = (
+  of_attributes s is.has_sets.wide w is.has_sets.wide_side,
+  of_attributes s is.has_sets.narrow z is.has_sets.narrow_side,
+)
 rule_of_attributes s ms (by_step replication p) is = tt
 rule_of_attributes s ms (by_pair rule p q) is = tt
 
 pub line_of_attributes : (s : Schema) (text : List ℕ) (l : Line) → MeansLine (names_of s) text l → IsLineOfAttributes l
 line_of_attributes s text l means =
     let d = means.is_line.dependency in
-    let sides = stated_sides d.sign d.x d.y l.stated d.states in
+    let left : left_of (stated d.sign d.x d.y) ≡ d.x =
+    elim d.sign as (λ g. left_of (stated g d.x d.y) ≡ d.x) [ sign.Functional ↦ refl | sign.Multivalued ↦ refl ] in
+    let right : right_of (stated d.sign d.x d.y) ≡ d.y =
+    elim d.sign as (λ g. right_of (stated g d.x d.y) ≡ d.y) [ sign.Functional ↦ refl | sign.Multivalued ↦ refl ] in
     record {
-      left = subst OfAttributes (sym sides.0) (of_attributes s d.lhs d.x d.left_side);
-      right = subst OfAttributes (sym sides.1) (of_attributes s d.rhs d.y d.right_side);
+      left = rw (d.states, left) (of_attributes s d.lhs d.x d.left_side);
+      right = rw (d.states, right) (of_attributes s d.rhs d.y d.right_side);
       body = rule_of_attributes s means.is_line.rule l.body means.is_line.is_rule;
     }

@@ -35,7 +35,11 @@ pub record IsBelow (all : List Tree) (n : ℕ) (w : Tree) : Type 0 where
 step_below : (prior : List Tree) (n p : ℕ) (u w : Tree) → IsTreeAt prior p u → depth u < depth w → 0 < times n (p ∷ []) → IsBelow prior n w
 step_below prior n p u w at less some =
     ⊎_elim
-    (λ (same : n ≡ p). record { premise = u; at = record { before = at.before; number = omega (arith, same, at.number); tree = at.tree }; less = less })
+    (λ (same : n ≡ p). record {
+      premise = u;
+      at = record { before = at.before; number = omega (arith, same, at.number); tree = at.tree };
+      less = less;
+    })
     (λ (other : n ≡ p → ⊥). absurd (omega (arith, some, times_other n p (ne_eqb n p other))))
     (cases_eq n p)
 
@@ -48,8 +52,10 @@ line_below prior l (by_step rule p) w n tree some =
 line_below prior l (by_pair rule p q) w n tree some =
     let deep : depth w ≡ max (depth tree.first) (depth tree.second) + 1 = ap depth tree.tree in
     ⊎_elim
-    (λ (first : 0 < times n (p ∷ [])). step_below prior n p tree.first w tree.first_earlier (omega (arith, deep)) first)
-    (λ (none : times n (p ∷ []) ≤ 0). step_below prior n q tree.second w tree.second_earlier (omega (arith, deep)) (omega (arith, some, none, times_two n p q)))
+    (λ (first : 0 < times n (p ∷ [])). step_below prior n p tree.first w tree.first_earlier
+    (omega (arith, deep)) first)
+    (λ (none : times n (p ∷ []) ≤ 0). step_below prior n q tree.second w tree.second_earlier
+    (omega (arith, deep)) (omega (arith, some, none, times_two n p q)))
     (cases_lt 0 (times n (p ∷ [])))
 
 -- a line that is used is used by a later one
@@ -74,12 +80,17 @@ user s prior (l ∷ ls) (t ∷ ts) n (here, rest) some =
     let whole : i < length (prior ++ t ∷ ts) = omega (arith, inside, length-append prior (t ∷ ts)) in
     let still : slice_get (prior ++ t ∷ ts) i ≡ Some u =
     slice_get-get_or (prior ++ t ∷ ts) i u whole
-    ∙ ap Some (get_or_append_left prior (t ∷ ts) u i inside ∙ get_or_from_slice_get prior i u u below.at.tree) in
+    ∙ ap Some (get_or_append_left prior (t ∷ ts) u i inside
+    ∙ get_or_from_slice_get prior i u u below.at.tree) in
     record {
       at = 0;
       tree = t;
       here = refl;
-      below = record { premise = u; at = record { before = i; number = below.at.number; tree = still }; less = below.less };
+      below = record {
+        premise = u;
+        at = record { before = i; number = below.at.number; tree = still };
+        less = below.less;
+      };
       later = omega (arith, inside, below.at.number);
     })
     (λ (none : times n (premises_of l.body) ≤ 0).

@@ -19,7 +19,7 @@ use Rattle.proof_grammar.specs.Meanings.{IsCertificateLine, MeansLine}
 use Rattle.schema_grammar.specs.Rests.{Rest, rest_from, take, expected, number, arrow, ended, side, arrow_in, is_word_token}
 use Rattle.proof_grammar.specs.Readers.{colon, rule_name}
 use Rattle.proof_grammar.proofs.CheckedLemmas.{bind_ok}
-use Rattle.proof_grammar.proofs.SideLaws.{side_there, NoWord, side_back}
+use Rattle.proof_grammar.proofs.SideLaws.{side_there, side_back}
 use Rattle.proof_grammar.proofs.TokenLaws.{reads_value, after_of, number_there, colon_there, rest_at}
 use Rattle.proof_grammar.proofs.RuleLaws.{rule_there, rule_back}
 
@@ -48,12 +48,14 @@ dependency_there names r d e =
     let a = bind_ok (arrow x.0.1) _ d x.2 in
     let y = bind_ok (side names a.0.1) _ d a.2 in
     let lhs = side_there names r x.0 x.1 in
-    let middle = reads_value what.Arrow (λ m. arrow_in m.kind) (λ s m. IsArrow s m.kind) (λ s m. (arrow_law s m.kind).0) x.0.1 a.0 a.1 in
+    let middle = reads_value what.Arrow (λ m. arrow_in m.kind) (λ s m. IsArrow s m.kind)
+    (λ s m. (arrow_law s m.kind).0) x.0.1 a.0 a.1 in
     let rhs = side_there names a.0.1 y.0 y.1 in
     subst (λ (u : Dependency × Rest). ReadsDependency names r u.0 u.1) (the_ok _ d y.2)
     (record {
       marks = lhs.marks ++ middle.mark ∷ rhs.marks;
-      whole = lhs.whole ∙ ap (λ t. lhs.marks ++ t) (middle.takes.marks ∙ ap (λ t. middle.mark ∷ t) rhs.whole) ∙ sym (append_assoc lhs.marks (middle.mark ∷ rhs.marks) y.0.1.marks);
+      whole = lhs.whole ∙ ap (λ t. lhs.marks ++ t) (middle.takes.marks ∙ ap (λ t. middle.mark ∷ t) rhs.whole)
+          ∙ sym (append_assoc lhs.marks (middle.mark ∷ rhs.marks) y.0.1.marks);
       is = record {
         lhs = lhs.marks;
         arrow = middle.mark;
@@ -70,23 +72,6 @@ dependency_there names r d e =
       stop = rhs.stop ∙ middle.takes.stop ∙ lhs.stop;
     })
 
-record DependencyRead (names : List (List ℕ)) (at from : ℕ) (marks tail : List Mark) (d : Dependency) : Type 0 where
-  next_column : ℕ
-  read : stated_dependency names (rest_at at from (marks ++ tail)) ≡ Ok (d, rest_at at next_column tail)
-
-dependency_back : (names : List (List ℕ)) (at from : ℕ) (marks tail : List Mark) (d : Dependency) → IsDependency format.Plain names marks d → NoWord tail → DependencyRead names at from marks tail d
-unfolding stated_dependency arrow take
-dependency_back names at from marks tail d is other =
-    let left = side_back names at from is.lhs (is.arrow ∷ is.rhs ++ tail) None is.x is.left_side (arrow_other is.sign is.arrow.kind is.is_arrow) in
-    let right = side_back names at (after_of is.arrow) is.rhs tail None is.y is.right_side other in
-    let whole : marks ++ tail ≡ is.lhs ++ (is.arrow ∷ is.rhs ++ tail) = ap (λ t. t ++ tail) is.whole ∙ append_assoc is.lhs (is.arrow ∷ is.rhs) tail in
-    record {
-      next_column = right.next_column;
-      read = ap (λ t. stated_dependency names (rest_at at from t)) whole
-          ∙ rw (left.read, (arrow_law is.sign is.arrow.kind).1 is.is_arrow, right.read)
-          (ap (λ z. Ok (z, rest_at at right.next_column tail)) (sym is.states));
-    }
-
 -- ---- the line
 -- a value that is given only where a line ends
 record Ends (r : Rest) : Type 0 where
@@ -97,7 +82,8 @@ unless_there : {X : Type 0} (r : Rest) (x y : X) → unless (ended r) x ≡ Ok y
 unfolding ended
 unless_there {X} r x y e = told r.marks r.stop e
   where
-    told : (ms : List Mark) (stop : Option Stop) → unless (ended (record { line = r.line; next_column = r.next_column; marks = ms; stop = stop })) x ≡ Ok y
+    told : (ms : List Mark) (stop : Option Stop)
+        → unless (ended (record { line = r.line; next_column = r.next_column; marks = ms; stop = stop })) x ≡ Ok y
         → (x ≡ y) × Ends (record { line = r.line; next_column = r.next_column; marks = ms; stop = stop })
     told [] None e = (cc, record { marks = refl; stop = refl })
     told [] (Some stop) e = cc
@@ -132,14 +118,18 @@ line_reads names start l e =
         stated = dependency.marks;
         second = second.mark;
         rule = b.0.marks;
-        whole = number.takes.marks ∙ ap (λ t. number.mark ∷ t) (first.takes.marks ∙ ap (λ t. first.mark ∷ t) (dependency.whole ∙ ap (λ t. dependency.marks ++ t) second.takes.marks));
+        whole = number.takes.marks
+            ∙ ap (λ t. number.mark ∷ t)
+            (first.takes.marks
+            ∙ ap (λ t. first.mark ∷ t) (dependency.whole ∙ ap (λ t. dependency.marks ++ t) second.takes.marks));
         is_number = number.holds;
         first_colon = first.holds;
         dependency = dependency.is;
         second_colon = second.holds;
         is_rule = rule.is_rule end.1.marks;
       };
-      stop = sym (rule.stop ∙ second.takes.stop ∙ dependency.stop ∙ first.takes.stop ∙ number.takes.stop) ∙ end.1.stop;
+      stop = sym (rule.stop ∙ second.takes.stop ∙ dependency.stop ∙ first.takes.stop ∙ number.takes.stop)
+          ∙ end.1.stop;
     })
 
 pub line_there : (names : List (List ℕ)) (number : ℕ) (text : List ℕ) (l : Line) → certificate_line names (rest_from number 1 (lex mode.Numbered text)) ≡ Ok l → MeansLine names text l
@@ -149,12 +139,30 @@ line_there names number text l e =
 
 -- tokens that are a line are read as it, from any column
 pub marks_read : (names : List (List ℕ)) (at from : ℕ) (ms : List Mark) (l : Line) → IsCertificateLine names ms l → certificate_line names (rest_at at from ms) ≡ Ok l
-unfolding certificate_line certificate_line_from take colon ended
+unfolding certificate_line certificate_line_from stated_dependency arrow take colon ended
 marks_read names at from ms l is =
-    let d = dependency_back names at (after_of is.first) is.stated (is.second ∷ is.rule) l.stated is.dependency (ap is_word_token is.second_colon) in
-    let r = rule_back names at (after_of is.second) is.rule l.body is.is_rule in
-    ap (λ t. certificate_line names (rest_at at from t)) is.whole
-    ∙ rw (is.is_number, is.first_colon, d.read, is.second_colon, r.name, r.read) refl
+    let d = is.dependency in
+    let sign = arrow_law d.sign d.arrow.kind in
+    let rest = is.second ∷ is.rule in
+    let left = side_back names at (after_of is.first) d.lhs (d.arrow ∷ d.rhs ++ rest) None d.x d.left_side
+    (arrow_other d.sign d.arrow.kind d.is_arrow) in
+    let right = side_back names at (after_of d.arrow) d.rhs rest None d.y d.right_side
+    (ap is_word_token is.second_colon) in
+    let rule = rule_back names at (after_of is.second) is.rule l.body is.is_rule in
+    let stated : is.stated ++ rest ≡ d.lhs ++ (d.arrow ∷ d.rhs ++ rest) =
+    ap (λ t. t ++ rest) d.whole ∙ append_assoc d.lhs (d.arrow ∷ d.rhs) rest in
+    ap (λ t. certificate_line names (rest_at at from t)) (is.whole ∙ ap (λ t. is.number ∷ is.first ∷ t) stated)
+    ∙ rw (
+      is.is_number,
+      is.first_colon,
+      left.read,
+      sign.1 d.is_arrow,
+      right.read,
+      is.second_colon,
+      rule.name,
+      rule.read,
+    )
+    (ap (λ z. Ok (record { number = l.number; stated = z; body = l.body })) (sym d.states))
 
 pub line_back : (names : List (List ℕ)) (number : ℕ) (text : List ℕ) (l : Line) → MeansLine names text l → certificate_line names (rest_from number 1 (lex mode.Numbered text)) ≡ Ok l
 line_back names at text l means = ap (λ t. certificate_line names (rest_from at 1 t)) means.tokens ∙ marks_read names at 1 means.marks l means.is_line

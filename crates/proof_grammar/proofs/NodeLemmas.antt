@@ -39,7 +39,8 @@ uses-append k xs ys =
 abbrev pub once : ℕ → ℕ → ℕ
 once k p = cond (nat_eq k p) 1 0
 
-pub filtered_more : (k p : ℕ) (ps : List ℕ) (b : Bool) → nat_eq k p ≡ b → length (filter (nat_eq k) (p ∷ ps)) ≡ once k p + length (filter (nat_eq k) ps)
+pub filtered_more : (k p : ℕ) (ps : List ℕ) (b : Bool) → nat_eq k p ≡ b
+    → length (filter (nat_eq k) (p ∷ ps)) ≡ once k p + length (filter (nat_eq k) ps)
 filtered_more k p ps true e = rw e (omega arith)
 filtered_more k p ps false e = rw e (omega arith)
 

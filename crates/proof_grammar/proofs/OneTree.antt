@@ -19,7 +19,8 @@ one_list names [] (l ∷ ls) ms first second = absurd first
 one_list names (text ∷ texts) [] ms first second = absurd first
 one_list names (text ∷ texts) (l ∷ ls) [] first second = absurd second
 one_list names (text ∷ texts) (l ∷ ls) (m ∷ ms) (here, rest) (there, others) =
-    let same : l ≡ m = the_ok {A = Line} {E = SchemaRefusal} l m (sym (line_back names 1 text l here) ∙ line_back names 1 text m there) in
+    let same : l ≡ m = the_ok {A = Line} {E = SchemaRefusal} l m
+    (sym (line_back names 1 text l here) ∙ line_back names 1 text m there) in
     (λ i. same i ∷ one_list names texts ls ms rest others i)
 
 -- lines are nodes of one list of trees at most
@@ -58,5 +59,6 @@ one_tree s text t u first second =
     let lines = one_list (names_of s) (certificate_lines text) first.lines second.lines first.mean second.mean in
     let moved = subst (λ (ls : List Line). AreNodes s [] ls (ys ++ u ∷ [])) (sym lines) second.nodes.nodes in
     let trees = one_nodes s [] first.lines (xs ++ t ∷ []) (ys ++ u ∷ []) first.nodes.nodes moved in
-    let size : length xs ≡ length ys = omega (arith, ap length trees, length-append xs (t ∷ []), length-append ys (u ∷ [])) in
+    let size : length xs ≡ length ys =
+    omega (arith, ap length trees, length-append xs (t ∷ []), length-append ys (u ∷ [])) in
     let both : Some t ≡ Some u = sym (seam xs t []) ∙ (rw (size, trees) (seam ys u [])) in cc

@@ -26,21 +26,25 @@ each_line names [] are all = tt
 each_line names (l ∷ ls) are (here, rest) = (line_bytes names l are here, each_line names ls are rest)
 
 -- ---- the lines of the text
-lines_are : (names : List (List ℕ)) (ls : List Line) → certificate_lines_text names ls ≡ lines_text (map (printed names) ls)
+lines_are : (names : List (List ℕ)) (ls : List Line)
+    → certificate_lines_text names ls ≡ lines_text (map (printed names) ls)
 lines_are names [] = refl
 lines_are names (l ∷ ls) = rw (line_text_is names l) (ap (λ t. (printed names l ++ codes "\n") ++ t) (lines_are names ls))
 
 -- a text that begins with digits begins with no byte-order mark
-unmarked : (word rest : List ℕ) → list_all is_ascii_digit word ≡ true → 0 < length word → without_mark (word ++ rest) ≡ word ++ rest
+unmarked : (word rest : List ℕ) → list_all is_ascii_digit word ≡ true → 0 < length word
+    → without_mark (word ++ rest) ≡ word ++ rest
 unmarked [] rest e some = absurd (omega arith)
 unmarked (b ∷ bs) rest e some =
     let digit = (and_parts (is_ascii_digit b) (list_all is_ascii_digit bs) e).0 in
     let other : (239 == b) ≡ false = grind (arith, nat_tests) in rw other refl
 
-no_mark : (names : List (List ℕ)) (ls : List Line) → ArePrintableLines names ls → without_mark (lines_text (map (printed names) ls)) ≡ lines_text (map (printed names) ls)
+no_mark : (names : List (List ℕ)) (ls : List Line) → ArePrintableLines names ls
+    → without_mark (lines_text (map (printed names) ls)) ≡ lines_text (map (printed names) ls)
 no_mark names [] all = refl
 no_mark names (l ∷ ls) (here, rest) =
-    let is = decimal_is l.number here.number in simp append_assoc (unmarked (decimal l.number) _ is.digits is.some)
+    let is = decimal_is l.number here.number in
+    simp append_assoc (unmarked (decimal l.number) _ is.digits is.some)
 
 -- ---- the lines that count
 each_means : (names : List (List ℕ)) (ls : List Line) → AreNames format.Plain names → ArePrintableLines names ls → MeanLines names (map (printed names) ls) ls
@@ -52,26 +56,31 @@ none_blank : (names : List (List ℕ)) (ts : List (List ℕ)) (ls : List Line) �
 none_blank names [] [] mean = rw (nothing_left mode.Numbered 1) refl
 none_blank names [] (l ∷ ls) mean = absurd mean
 none_blank names (t ∷ ts) [] mean = absurd mean
-none_blank names (t ∷ ts) (l ∷ ls) (here, rest) = rw (here.tokens, here.is_line.whole) (ap (λ ms. t ∷ ms) (none_blank names ts ls rest))
+none_blank names (t ∷ ts) (l ∷ ls) (here, rest) =
+    rw (here.tokens, here.is_line.whole) (ap (λ ms. t ∷ ms) (none_blank names ts ls rest))
 
 none_yes : (names : List (List ℕ)) (ts : List (List ℕ)) (ls : List Line) → MeanLines names ts ls → without_yes ts ≡ ts
 unfolding is_yes
 none_yes names [] [] mean = refl
 none_yes names [] (l ∷ ls) mean = absurd mean
 none_yes names (t ∷ ts) [] mean = absurd mean
-none_yes names (t ∷ ts) (l ∷ ls) (here, rest) = rw (here.tokens, here.is_line.whole, here.is_line.is_number) refl
+none_yes names (t ∷ ts) (l ∷ ls) (here, rest) =
+    rw (here.tokens, here.is_line.whole, here.is_line.is_number) refl
 
 -- what may stand before them: the answer `yes` in a line of its own
 abbrev pub answer_text : Bool → List ℕ
 answer_text answered = cond answered (codes "yes\n") []
 
-lines_kept : (answered : Bool) (names : List (List ℕ)) (ls : List Line) → AreNames format.Plain names → ArePrintableLines names ls
+lines_kept : (answered : Bool) (names : List (List ℕ)) (ls : List Line) → AreNames format.Plain names
+    → ArePrintableLines names ls
     → certificate_lines (answer_text answered ++ certificate_lines_text names ls) ≡ map (printed names) ls
 unfolding is_yes
 lines_kept false names ls are all =
     let ts = map (printed names) ls in
     let means = each_means names ls are all in
-    ap certificate_lines (lines_are names ls) ∙ ap (λ t. certificate_lines_of (line_texts t)) (no_mark names ls all) ∙ ap certificate_lines_of (lines_cut ts (each_line names ls are all))
+    ap certificate_lines (lines_are names ls)
+    ∙ ap (λ t. certificate_lines_of (line_texts t)) (no_mark names ls all)
+    ∙ ap certificate_lines_of (lines_cut ts (each_line names ls are all))
     ∙ ap without_yes (none_blank names ts ls means) ∙ none_yes names ts ls means
 lines_kept true names ls are all =
     let ts = map (printed names) ls in
@@ -81,7 +90,9 @@ lines_kept true names ls are all =
     ap certificate_lines_of cut ∙ (rw (yes, none_blank names ts ls (each_means names ls are all), yes) refl)
 
 -- the lines of what is printed mean what was printed
-pub printed_lines_mean : (answered : Bool) (names : List (List ℕ)) (ls : List Line) → AreNames format.Plain names → ArePrintableLines names ls
+pub printed_lines_mean : (answered : Bool) (names : List (List ℕ)) (ls : List Line)
+    → AreNames format.Plain names → ArePrintableLines names ls
     → MeanLines names (certificate_lines (answer_text answered ++ certificate_lines_text names ls)) ls
 printed_lines_mean answered names ls are all =
-    let of : List (List ℕ) → Type 0 = λ ts. MeanLines names ts ls in subst of (sym (lines_kept answered names ls are all)) (each_means names ls are all)
+    let of : List (List ℕ) → Type 0 = λ ts. MeanLines names ts ls in
+    subst of (sym (lines_kept answered names ls are all)) (each_means names ls are all)

@@ -29,7 +29,8 @@ side_of names x = side (members_from x 0 names)
 abbrev sets_parts : List (List ℕ) → Step → List (Gap × Part)
 sets_parts names (augmentation z) = (blank, keyword (codes "with")) ∷ (blank, side_of names z) ∷ []
 sets_parts names complementation = []
-sets_parts names (maugmentation w z) = (blank, keyword (codes "with")) ∷ (blank, side_of names w) ∷ (colon, side_of names z) ∷ []
+sets_parts names (maugmentation w z) =
+    (blank, keyword (codes "with")) ∷ (blank, side_of names w) ∷ (colon, side_of names z) ∷ []
 sets_parts names replication = []
 
 abbrev body_name : Body → List ℕ
@@ -54,14 +55,16 @@ arrow_of (mvd x y) = double_arrow
 -- what follows the number of the line
 abbrev line_parts : List (List ℕ) → Line → List (Gap × Part)
 line_parts names l =
-    (first_colon, side_of names (left_of l.stated)) ∷ (arrow_of l.stated, side_of names (right_of l.stated)) ∷ (colon, keyword (body_name l.body)) ∷ body_parts names l.body
+    (first_colon, side_of names (left_of l.stated)) ∷ (arrow_of l.stated, side_of names (right_of l.stated))
+    ∷ (colon, keyword (body_name l.body)) ∷ body_parts names l.body
 
 -- what is printed of a line, without its line feed
 abbrev pub printed : List (List ℕ) → Line → List ℕ
 printed names l = text_of (number l.number) (line_parts names l)
 
 -- ---- the text
-body_is : (names : List (List ℕ)) (b : Body) → body_text names b ≡ text_of (keyword (body_name b)) (body_parts names b)
+body_is : (names : List (List ℕ)) (b : Body)
+    → body_text names b ≡ text_of (keyword (body_name b)) (body_parts names b)
 unfolding body_text step_word pair_word set_text
 body_is names (by_given k) = refl
 body_is names by_reflexivity = refl
@@ -75,39 +78,51 @@ body_is names (by_pair mtransitivity p q) = simp append_assoc
 body_is names (by_pair coalescence p q) = simp append_assoc
 
 dependency_is : (names : List (List ℕ)) (d : Dependency) (rest : List ℕ)
-    → dependency_text names d ++ rest ≡ text_of (side_of names (left_of d)) ((arrow_of d, side_of names (right_of d)) ∷ []) ++ rest
+    → dependency_text names d ++ rest
+    ≡ text_of (side_of names (left_of d)) ((arrow_of d, side_of names (right_of d)) ∷ []) ++ rest
 unfolding dependency_text set_text
 dependency_is names (fd x y) rest = simp append_assoc
 dependency_is names (mvd x y) rest = simp append_assoc
 
-pub line_text_is : (names : List (List ℕ)) (l : Line) → certificate_line_text names l ≡ printed names l ++ codes "\n"
+pub line_text_is : (names : List (List ℕ)) (l : Line)
+    → certificate_line_text names l ≡ printed names l ++ codes "\n"
 unfolding certificate_line_text
 line_text_is names l = rw (body_is names l.body) (simp (append_assoc, dependency_is names l.stated))
 
 -- ---- the parts are proper
-body_proper : (names : List (List ℕ)) (b : Body) → AreNames format.Plain names → FewDigits b → AreProper ((colon, keyword (body_name b)) ∷ body_parts names b)
+body_proper : (names : List (List ℕ)) (b : Body) → AreNames format.Plain names → FewDigits b
+    → AreProper ((colon, keyword (body_name b)) ∷ body_parts names b)
 body_proper names (by_given k) are few = (refl, (few, tt))
 body_proper names by_reflexivity are few = (refl, tt)
 body_proper names by_mreflexivity are few = (refl, tt)
-body_proper names (by_step (augmentation z) p) are few = (refl, (few, (refl, (printed_names format.Plain names z are, tt))))
+body_proper names (by_step (augmentation z) p) are few =
+    (refl, (few, (refl, (printed_names format.Plain names z are, tt))))
 body_proper names (by_step complementation p) are few = (refl, (few, tt))
-body_proper names (by_step (maugmentation w z) p) are few = (refl, (few, (refl, (printed_names format.Plain names w are, (printed_names format.Plain names z are, tt)))))
+body_proper names (by_step (maugmentation w z) p) are few =
+    (refl, (few, (refl, (printed_names format.Plain names w are, (printed_names format.Plain names z are, tt)))))
 body_proper names (by_step replication p) are few = (refl, (few, tt))
 body_proper names (by_pair transitivity p q) are few = (refl, (few.0, (few.1, tt)))
 body_proper names (by_pair mtransitivity p q) are few = (refl, (few.0, (few.1, tt)))
 body_proper names (by_pair coalescence p q) are few = (refl, (few.0, (few.1, tt)))
 
-line_proper : (names : List (List ℕ)) (l : Line) → AreNames format.Plain names → IsPrintableLine names l → AreProper (line_parts names l)
-line_proper names l are is =
-    (printed_names format.Plain names (left_of l.stated) are, (printed_names format.Plain names (right_of l.stated) are, body_proper names l.body are is.few_digits))
+line_proper : (names : List (List ℕ)) (l : Line) → AreNames format.Plain names → IsPrintableLine names l
+    → AreProper (line_parts names l)
+line_proper names l are is = (
+  printed_names format.Plain names (left_of l.stated) are,
+  (printed_names format.Plain names (right_of l.stated) are, body_proper names l.body are is.few_digits),
+)
 
-pub line_bytes : (names : List (List ℕ)) (l : Line) → AreNames format.Plain names → IsPrintableLine names l → Bytes (printed names l)
-line_bytes names l are is = parts_bytes (number l.number) (line_parts names l) is.number (line_proper names l are is)
+pub line_bytes : (names : List (List ℕ)) (l : Line) → AreNames format.Plain names → IsPrintableLine names l
+    → Bytes (printed names l)
+line_bytes names l are is =
+    parts_bytes (number l.number) (line_parts names l) is.number (line_proper names l are is)
 
 -- ---- the meaning
-body_means : (names : List (List ℕ)) (b : Body) (column : ℕ) → AreNames format.Plain names → IsBodyWithin (below (length names)) b
+body_means : (names : List (List ℕ)) (b : Body) (column : ℕ) → AreNames format.Plain names
+    → IsBodyWithin (below (length names)) b
     → IsRule names (marks_of column (keyword (body_name b)) (body_parts names b)) b
-body_means names (by_given k) column are within = record { name = _; place = _; whole = refl; says = (refl, refl); number = refl }
+body_means names (by_given k) column are within =
+    record { name = _; place = _; whole = refl; says = (refl, refl); number = refl }
 body_means names by_reflexivity column are within = record { name = _; whole = refl; says = (refl, refl) }
 body_means names by_mreflexivity column are within = record { name = _; whole = refl; says = (refl, refl) }
 body_means names (by_step (augmentation z) p) column are within = record {
@@ -117,9 +132,16 @@ body_means names (by_step (augmentation z) p) column are within = record {
   whole = refl;
   says = (refl, refl);
   number = refl;
-  has_sets = record { keyword = _; sides = _; whole = refl; says = (refl, refl); side = printed_side format.Plain names z _ are within };
+  has_sets = record {
+    keyword = _;
+    sides = _;
+    whole = refl;
+    says = (refl, refl);
+    side = printed_side format.Plain names z _ are within;
+  };
 }
-body_means names (by_step complementation p) column are within = record { name = _; premise = _; sets = _; whole = refl; says = (refl, refl); number = refl; has_sets = refl }
+body_means names (by_step complementation p) column are within =
+    record { name = _; premise = _; sets = _; whole = refl; says = (refl, refl); number = refl; has_sets = refl }
 body_means names (by_step (maugmentation w z) p) column are within =
     let at = column + 13 + 1 + length (decimal p) + 1 + 4 + 1 in
     let end = side_end at (members_from w 0 names) in
@@ -142,15 +164,26 @@ body_means names (by_step (maugmentation w z) p) column are within =
         narrow_side = printed_side format.Plain names z _ are within.1;
       };
     }
-body_means names (by_step replication p) column are within = record { name = _; premise = _; sets = _; whole = refl; says = (refl, refl); number = refl; has_sets = refl }
+body_means names (by_step replication p) column are within =
+    record { name = _; premise = _; sets = _; whole = refl; says = (refl, refl); number = refl; has_sets = refl }
 body_means names (by_pair rule p q) column are within =
-    record { name = _; first = _; second = _; whole = refl; says = (refl, refl); first_number = refl; second_number = refl }
+    record {
+      name = _;
+      first = _;
+      second = _;
+      whole = refl;
+      says = (refl, refl);
+      first_number = refl;
+      second_number = refl;
+    }
 
 -- the tokens of a printed dependency
 abbrev stated_marks : List (List ℕ) → Dependency → ℕ → List Mark
-stated_marks names d column = marks_of column (side_of names (left_of d)) ((arrow_of d, side_of names (right_of d)) ∷ [])
+stated_marks names d column =
+    marks_of column (side_of names (left_of d)) ((arrow_of d, side_of names (right_of d)) ∷ [])
 
-dependency_means : (names : List (List ℕ)) (d : Dependency) (column : ℕ) → AreNames format.Plain names → IsWithin (below (length names)) d → IsDependency format.Plain names (stated_marks names d column) d
+dependency_means : (names : List (List ℕ)) (d : Dependency) (column : ℕ) → AreNames format.Plain names
+    → IsWithin (below (length names)) d → IsDependency format.Plain names (stated_marks names d column) d
 dependency_means names (fd x y) column are within = record {
   lhs = side_marks column (members_from x 0 names);
   arrow = _;
@@ -181,7 +214,8 @@ dependency_means names (mvd x y) column are within = record {
 pub printed_means : (names : List (List ℕ)) (l : Line) → AreNames format.Plain names → IsPrintableLine names l → MeansLine names (printed names l) l
 printed_means names l are is =
     let at = 1 + length (decimal l.number) + 1 + 1 in
-    let end = side_end (gap_end (side_end at (members_from (left_of l.stated) 0 names)) (arrow_of l.stated)) (members_from (right_of l.stated) 0 names) in
+    let end = side_end (gap_end (side_end at (members_from (left_of l.stated) 0 names)) (arrow_of l.stated))
+    (members_from (right_of l.stated) 0 names) in
     let rule = marks_of (gap_end end colon) (keyword (body_name l.body)) (body_parts names l.body) in
     record {
       marks = marks_of 1 (number l.number) (line_parts names l);

@@ -50,44 +50,48 @@ printed_after : (s : Schema) (t : Tree) (d : Dependency) (n : ℕ) (before : Lis
 printed_after s (leaf rule) d n before count proves =
     let node : IsNode s before (numbered_line (n + 1) d (leaf_body rule)) (leaf rule) =
     record { number = omega arith; tree = leaf_tree s before (n + 1) rule d proves; states = proves } in
-    let concludes : concluded s 0 (leaf rule) ≡ Ok d = concluded-from s 0 (leaf rule) d proves in rw concludes (node, tt {0})
+    let concludes : concluded s 0 (leaf rule) ≡ Ok d = concluded-from s 0 (leaf rule) d proves in
+    rw concludes (node, tt {0})
 printed_after s (step rule t) d n before count proves =
     let last = numbered_line (n + nodes t + 1) d (by_step rule (n + nodes t)) in
     let trees = below_root t ++ t ∷ [] in
     let size = length-below_root t in
-    let many = length-append before trees in
-    let own = length-append (below_root t) (t ∷ []) in
-    let front = length-append before (below_root t) in
-    let at = IsTreeAt-seam (before ++ trees) (before ++ below_root t) t [] (n + nodes t) (sym (append_assoc before (below_root t) (t ∷ []))) (omega arith) in
-    let node : IsNode s (before ++ trees) last (step rule t) =
-    record { number = omega arith; tree = record { premise = t; earlier = at; tree = refl }; states = proves } in
+    let at = IsTreeAt-seam (before ++ trees) (before ++ below_root t) t [] (n + nodes t)
+    (sym (append_assoc before (below_root t) (t ∷ []))) (omega (arith, length-append {A = Tree})) in
+    let node : IsNode s (before ++ trees) last (step rule t) = record {
+      number = omega (arith, length-append {A = Tree});
+      tree = record { premise = t; earlier = at; tree = refl };
+      states = proves;
+    } in
+    let premises = printed_after s t proves.0 n before count proves.1 in
     let concludes : concluded s 0 (step rule t) ≡ Ok d = concluded-from s 0 (step rule t) d proves in
     rw concludes
-    (AreNodes-append s before (node_lines_after s n t) trees (last ∷ []) (step rule t ∷ []) (printed_after s t proves.0 n before count proves.1) (node, tt {0}))
+    (AreNodes-append s before (node_lines_after s n t) trees (last ∷ []) (step rule t ∷ []) premises (node, tt {0}))
 printed_after s (pair rule t u) d n before count proves =
     let last = numbered_line (n + nodes t + nodes u + 1) d (by_pair rule (n + nodes t) (n + nodes t + nodes u)) in
     let ts = below_root t ++ t ∷ [] in
     let us = below_root u ++ u ∷ [] in
+    let all = before ++ (ts ++ us) in
+    let xs = node_lines_after s n t in
+    let ys = node_lines_after s (n + nodes t) u in
     let first_size = length-below_root t in
     let second_size = length-below_root u in
-    let first_own = length-append (below_root t) (t ∷ []) in
-    let second_own = length-append (below_root u) (u ∷ []) in
-    let first_many = length-append before ts in
-    let both = length-append ts us in
-    let many = length-append before (ts ++ us) in
-    let first_front = length-append before (below_root t) in
-    let second_front = length-append (before ++ ts) (below_root u) in
-    let after_the_first : length (before ++ ts) ≡ n + nodes t = omega arith in
-    let first_split : before ++ (ts ++ us) ≡ (before ++ below_root t) ++ t ∷ us = simp append_assoc in
-    let second_split : before ++ (ts ++ us) ≡ ((before ++ ts) ++ below_root u) ++ u ∷ [] = simp append_assoc in
-    let first_at = IsTreeAt-seam (before ++ (ts ++ us)) (before ++ below_root t) t us (n + nodes t) first_split (omega arith) in
-    let second_at = IsTreeAt-seam (before ++ (ts ++ us)) ((before ++ ts) ++ below_root u) u [] (n + nodes t + nodes u) second_split (omega arith) in
-    let node : IsNode s (before ++ (ts ++ us)) last (pair rule t u) =
-    record { number = omega arith; tree = record { first = t; second = u; first_earlier = first_at; second_earlier = second_at; tree = refl }; states = proves } in
-    let premises = AreNodes-append s before (node_lines_after s n t) ts (node_lines_after s (n + nodes t) u) us (printed_after s t proves.0 n before count proves.2) (printed_after s u proves.1 (n + nodes t) (before ++ ts) after_the_first proves.3) in
+    let after_the_first : length (before ++ ts) ≡ n + nodes t = omega (arith, length-append {A = Tree}) in
+    let first_at = IsTreeAt-seam all (before ++ below_root t) t us (n + nodes t)
+    (simp append_assoc) (omega (arith, length-append {A = Tree})) in
+    let second_at = IsTreeAt-seam all ((before ++ ts) ++ below_root u) u [] (n + nodes t + nodes u)
+    (simp append_assoc) (omega (arith, length-append {A = Tree})) in
+    let node : IsNode s all last (pair rule t u) = record {
+      number = omega (arith, length-append {A = Tree});
+      tree = record { first = t; second = u; first_earlier = first_at; second_earlier = second_at; tree = refl };
+      states = proves;
+    } in
+    let first = printed_after s t proves.0 n before count proves.2 in
+    let second = printed_after s u proves.1 (n + nodes t) (before ++ ts) after_the_first proves.3 in
     let concludes : concluded s 0 (pair rule t u) ≡ Ok d = concluded-from s 0 (pair rule t u) d proves in
     rw concludes
-    (AreNodes-append s before (node_lines_after s n t ++ node_lines_after s (n + nodes t) u) (ts ++ us) (last ∷ []) (pair rule t u ∷ []) premises (node, tt {0}))
+    (AreNodes-append s before (xs ++ ys) (ts ++ us) (last ∷ []) (pair rule t u ∷ [])
+    (AreNodes-append s before xs ts ys us first second) (node, tt {0}))
 
 -- ---- the uses
 -- after n others, lines use each of their own but the last once, and no line else
@@ -95,7 +99,8 @@ printed_uses : (s : Schema) (t : Tree) (d : Dependency) (n k : ℕ) → Proves s
     → uses k (node_lines_after s n t) + once k (n + nodes t) ≡ between k n (n + nodes t)
 printed_uses s (leaf rule) d n k proves =
     let unused : uses k (numbered_line (n + 1) d (leaf_body rule) ∷ []) ≡ 0 =
-    elim rule as (λ r. uses k (numbered_line (n + 1) d (leaf_body r) ∷ []) ≡ 0) [ given i ↦ refl | reflexivity x y ↦ refl | mreflexivity x y ↦ refl ] in
+    elim rule as (λ r. uses k (numbered_line (n + 1) d (leaf_body r) ∷ []) ≡ 0)
+    [ given i ↦ refl | reflexivity x y ↦ refl | mreflexivity x y ↦ refl ] in
     let concludes : concluded s 0 (leaf rule) ≡ Ok d = concluded-from s 0 (leaf rule) d proves in
     rw (concludes, unused) (grind (arith, nat_tests))
 printed_uses s (step rule t) d n k proves =
@@ -114,13 +119,15 @@ printed_uses s (pair rule t u) d n k proves =
     let ys = node_lines_after s p u in
     let last = numbered_line (q + 1) d (by_pair rule p q) ∷ [] in
     let own : uses k last ≡ once k p + once k q =
-    filtered_more k p (q ∷ []) (nat_eq k p) refl ∙ ap (λ m. once k p + m) (filtered_more k q [] (nat_eq k q) refl) ∙ omega arith in
+    filtered_more k p (q ∷ []) (nat_eq k p) refl
+    ∙ ap (λ m. once k p + m) (filtered_more k q [] (nat_eq k q) refl) ∙ omega arith in
     let first = printed_uses s t proves.0 n k proves.2 in
     let second = printed_uses s u proves.1 p k proves.3 in
     let some = nodes-pos t in
     let more = nodes-pos u in
     let concludes : concluded s 0 (pair rule t u) ≡ Ok d = concluded-from s 0 (pair rule t u) d proves in
-    rw (concludes, uses-append k (xs ++ ys) last, uses-append k xs ys, own) (grind (arith, nat_tests, first, second, some, more))
+    rw (concludes, uses-append k (xs ++ ys) last, uses-append k xs ys, own)
+    (grind (arith, nat_tests, first, second, some, more))
 
 -- each line is a node, and each but the last is used once
 pub printed_nodes : (s : Schema) (t : Tree) (d : Dependency) → Proves s t d → AreNodesOf s (node_lines_after s 0 t) t
@@ -129,4 +136,8 @@ printed_nodes s t d proves =
     let count = nodes_size s [] (node_lines_after s 0 t) (below_root t ++ t ∷ []) nodes_are in
     let size = length-append (below_root t) (t ∷ []) in
     let high : length (node_lines_after s 0 t) ≡ nodes t = omega (arith, count, size, length-below_root t) in
-    record { before = below_root t; nodes = nodes_are; used = λ k low inside. grind (arith, nat_tests, printed_uses s t d 0 k proves, high) }
+    record {
+      before = below_root t;
+      nodes = nodes_are;
+      used = λ k low inside. grind (arith, nat_tests, printed_uses s t d 0 k proves, high);
+    }

@@ -19,11 +19,13 @@ use Rattle.proof_grammar.proofs.PrintedCertificates.{answer_text, printed_lines_
 use Rattle.proof_grammar.proofs.PrintedNodes.{printed_nodes}
 use Rattle.proof_grammar.proofs.PrintedWithin.{tree_printable}
 
-pub printed_spells : (answered : Bool) (s : Schema) (p : Deriv) (d : Dependency) → AreNames format.Plain (names_of s) → Proves s (tree_of p) d → nodes (tree_of p) ≤ MOST_NODES
+pub printed_spells : (answered : Bool) (s : Schema) (p : Deriv) (d : Dependency)
+    → AreNames format.Plain (names_of s) → Proves s (tree_of p) d → nodes (tree_of p) ≤ MOST_NODES
     → Spells s (answer_text answered ++ canonical_certificate s (tree_of p)) (tree_of p)
 printed_spells answered s p d are proves few =
     let lines = node_lines_after s 0 (tree_of p) in
-    let mean = printed_lines_mean answered (names_of s) lines are (tree_printable s (tree_of p) d 0 (tree_of-attributes p) proves (omega (arith, few))) in
+    let mean = printed_lines_mean answered (names_of s) lines are
+    (tree_printable s (tree_of p) d 0 (tree_of-attributes p) proves (omega (arith, few))) in
     record { lines = lines; mean = mean; nodes = printed_nodes s (tree_of p) d proves }
 
 pub answered_spells : (s : Schema) (p : Deriv) (d : Dependency) → AreNames format.Plain (names_of s) → Proves s (tree_of p) d → nodes (tree_of p) ≤ MOST_NODES

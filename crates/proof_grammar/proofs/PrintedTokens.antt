@@ -1,5 +1,5 @@
 -- A printed line is parts with gaps between them: how it is lexed, and that no byte of it ends a line.
-use Rattle.std.proofs.Common.{◌≡◌, ◌<◌, ◌≤◌, ◌+◌, ◌-◌, ◌*◌, ◌^◌, ℕ, suc, true, false, ◌==◌, List, [], ◌∷◌, ◌++◌, length, None, refl, sym, ◌∙◌, ap, subst, arith, length-append, rules}
+use Rattle.std.proofs.Common.{◌≡◌, ◌<◌, ◌≤◌, ◌+◌, ◌-◌, ◌*◌, ◌^◌, ℕ, suc, true, false, ◌==◌, List, [], ◌∷◌, ◌++◌, length, get_or, None, refl, sym, ◌∙◌, ap, subst, arith, length-append, rules}
 use Rattle.std.proofs.Math.Seq.{take-append_seam, drop-append_seam}
 use Rattle.std.specs.Prelude.{codes, decimal, fold}
 use Rattle.std.specs.List.{list_all}
@@ -8,6 +8,7 @@ use Rattle.std.proofs.lemmas.Bool.{and_parts}
 use Rattle.std.proofs.lemmas.Bool.Decides.{nat_tests}
 use Rattle.std.proofs.lemmas.Fmt.{decimal_nonempty, length-decimal-le, digits_decimal, digits_value-decimal}
 use Rattle.std.proofs.lemmas.List.{append-nil}
+use Rattle.std.proofs.lemmas.List.Sums.{AllPass-from_list_all, list_all-from_AllPass}
 use Rattle.std.proofs.lemmas.Str.Parse.{IsNumeralModel, numerals_by_fold}
 use Rattle.dep_model.proofs.NumeralLemmas.{digits_told}
 use Rattle.dep_model.specs.Names.{is_name, is_name_byte}
@@ -38,7 +39,8 @@ pub record IsDecimal (n : ℕ) (word : List ℕ) : Type 0 where
 pub decimal_is : (n : ℕ) → n < 10 ^ 9 → IsDecimal n (decimal n)
 decimal_is n small =
     let wide : n < 2 ^ 64 = omega arith in
-    let own : IsNumeralModel (λ ds. list_all is_ascii_digit ds ≡ true) number_of = numerals_by_fold _ digits_told read_on (search rules) in
+    let own : IsNumeralModel (λ ds. list_all is_ascii_digit ds ≡ true) number_of =
+    numerals_by_fold _ digits_told read_on (search rules) in
     record { digits = digits_decimal own n wide; some = decimal_nonempty n wide; few = length-decimal-le 9 n (omega arith) small wide; value = digits_value-decimal own n wide }
 
 run_is : (word rest : List ℕ) → list_all is_ascii_digit word ≡ true → Apart rest → run_length (word ++ rest) ≡ length word
@@ -115,7 +117,8 @@ gap_marks column blank = []
 gap_marks column first_colon = record { kind = token.Colon; column = column; word = codes ":" } ∷ []
 gap_marks column colon = record { kind = token.Colon; column = column + 1; word = codes ":" } ∷ []
 gap_marks column arrow = record { kind = token.Arrow; column = column + 1; word = codes "->" } ∷ []
-gap_marks column double_arrow = record { kind = token.DoubleArrow; column = column + 1; word = codes "->>" } ∷ []
+gap_marks column double_arrow =
+    record { kind = token.DoubleArrow; column = column + 1; word = codes "->>" } ∷ []
 
 abbrev pub gap_end : ℕ → Gap → ℕ
 gap_end column blank = column + 1
@@ -132,7 +135,8 @@ text_of p (next ∷ others) = part_text p ++ (gap_text next.0 ++ text_of next.1 
 abbrev pub marks_of : ℕ → Part → List (Gap × Part) → List Mark
 marks_of column p [] = part_marks column p
 marks_of column p (next ∷ others) =
-    part_marks column p ++ (gap_marks (part_end column p) next.0 ++ marks_of (gap_end (part_end column p) next.0) next.1 others)
+    part_marks column p
+    ++ (gap_marks (part_end column p) next.0 ++ marks_of (gap_end (part_end column p) next.0) next.1 others)
 
 abbrev pub AreProper : List (Gap × Part) → Type 0
 AreProper [] = Unit {0}
@@ -143,67 +147,66 @@ abbrev led_by_all : List Mark → Lexed → Lexed
 led_by_all ms l = record { marks = ms ++ l.marks; stop = l.stop }
 
 part_lexed : (column : ℕ) (p : Part) (rest : List ℕ) → IsProper p → Apart rest
-    → lexed mode.Numbered 0 column (part_text p ++ rest) ≡ led_by_all (part_marks column p) (lexed mode.Numbered 0 (part_end column p) rest)
+    → lexed mode.Numbered 0 column (part_text p ++ rest)
+    ≡ led_by_all (part_marks column p) (lexed mode.Numbered 0 (part_end column p) rest)
 part_lexed column (keyword word) rest proper apart = name_lexed mode.Numbered column word rest proper apart
 part_lexed column (number n) rest small apart =
     let is = decimal_is n small in
     let some : 0 < length (decimal n ++ rest) = omega (arith, length-append (decimal n) rest, is.some) in
-    at_token mode.Numbered column (decimal n ++ rest) (token.Number (number_of (decimal n))) (length (decimal n)) some (sym (front_number (decimal n) rest is.digits is.some is.few apart))
+    at_token mode.Numbered column (decimal n ++ rest) (token.Number (number_of (decimal n)))
+    (length (decimal n)) some (sym (front_number (decimal n) rest is.digits is.some is.few apart))
     ∙ (rw (take-append_seam (decimal n) rest, drop-append_seam (decimal n) rest, is.value) refl)
-part_lexed column (side words) rest proper apart = side_lexed mode.Numbered column words rest proper apart ∙ led_marks (side_marks column words) _
+part_lexed column (side words) rest proper apart =
+    side_lexed mode.Numbered column words rest proper apart ∙ led_marks (side_marks column words) _
 
-gap_lexed : (column : ℕ) (g : Gap) (rest : List ℕ) → lexed mode.Numbered 0 column (gap_text g ++ rest) ≡ led_by_all (gap_marks column g) (lexed mode.Numbered 0 (gap_end column g) rest)
+gap_lexed : (column : ℕ) (g : Gap) (rest : List ℕ)
+    → lexed mode.Numbered 0 column (gap_text g ++ rest)
+    ≡ led_by_all (gap_marks column g) (lexed mode.Numbered 0 (gap_end column g) rest)
 unfolding front
 gap_lexed column blank rest = blank_lexed mode.Numbered column rest
 gap_lexed column first_colon rest =
-    at_token mode.Numbered column (58 ∷ 32 ∷ rest) token.Colon 1 (omega arith) refl ∙ ap (led_by_mark _) (blank_lexed mode.Numbered (column + 1) rest)
+    at_token mode.Numbered column (58 ∷ 32 ∷ rest) token.Colon 1 (omega arith) refl
+    ∙ ap (led_by_mark _) (blank_lexed mode.Numbered (column + 1) rest)
 gap_lexed column colon rest =
-    blank_lexed mode.Numbered column (58 ∷ 32 ∷ rest) ∙ at_token mode.Numbered (column + 1) (58 ∷ 32 ∷ rest) token.Colon 1 (omega arith) refl
+    blank_lexed mode.Numbered column (58 ∷ 32 ∷ rest)
+    ∙ at_token mode.Numbered (column + 1) (58 ∷ 32 ∷ rest) token.Colon 1 (omega arith) refl
     ∙ ap (led_by_mark _) (blank_lexed mode.Numbered (column + 1 + 1) rest)
 gap_lexed column arrow rest = arrow_lexed mode.Numbered column rest
 gap_lexed column double_arrow rest = double_arrow_lexed mode.Numbered column rest
-
-gap_apart : (g : Gap) (rest : List ℕ) → Apart (gap_text g ++ rest)
-gap_apart blank rest = refl
-gap_apart first_colon rest = refl
-gap_apart colon rest = refl
-gap_apart arrow rest = refl
-gap_apart double_arrow rest = refl
 
 pub parts_lexed : (column : ℕ) (p : Part) (others : List (Gap × Part)) → IsProper p → AreProper others
     → lexed mode.Numbered 0 column (text_of p others) ≡ record { marks = marks_of column p others; stop = None }
 parts_lexed column p [] here rest =
     ap (lexed mode.Numbered 0 column) (sym (append-nil (part_text p))) ∙ part_lexed column p [] here tt
-    ∙ ap (led_by_all (part_marks column p)) (nothing_left mode.Numbered (part_end column p)) ∙ ap (λ ms. record { marks = ms; stop = None }) (append-nil (part_marks column p))
+    ∙ ap (led_by_all (part_marks column p)) (nothing_left mode.Numbered (part_end column p))
+    ∙ ap (λ ms. record { marks = ms; stop = None }) (append-nil (part_marks column p))
 parts_lexed column p (next ∷ others) here rest =
     let end = part_end column p in
-    part_lexed column p (gap_text next.0 ++ text_of next.1 others) here (gap_apart next.0 (text_of next.1 others))
+    let more = text_of next.1 others in
+    let apart : Apart (gap_text next.0 ++ more) = elim next.0 as (λ g. Apart (gap_text g ++ more))
+    [ blank ↦ refl | first_colon ↦ refl | colon ↦ refl | arrow ↦ refl | double_arrow ↦ refl ] in
+    part_lexed column p (gap_text next.0 ++ more) here apart
     ∙ ap (led_by_all (part_marks column p))
-    (gap_lexed end next.0 (text_of next.1 others) ∙ ap (led_by_all (gap_marks end next.0)) (parts_lexed (gap_end end next.0) next.1 others rest.0 rest.1))
+    (gap_lexed end next.0 more
+    ∙ ap (led_by_all (gap_marks end next.0)) (parts_lexed (gap_end end next.0) next.1 others rest.0 rest.1))
 
 -- ---- no line feed and no carriage return stands in them
-digits_bytes : (word : List ℕ) → list_all is_ascii_digit word ≡ true → Bytes word
-digits_bytes [] e = refl
-digits_bytes (b ∷ bs) e =
-    let parts = and_parts (is_ascii_digit b) (list_all is_ascii_digit bs) e in
-    let digit = parts.0 in
-    let byte : is_line_byte b ≡ true = grind (arith, nat_tests) in rw (byte, digits_bytes bs parts.1) refl
-
 part_bytes : (p : Part) → IsProper p → Bytes (part_text p)
-part_bytes (keyword word) proper = subst (λ (w : List ℕ). Bytes w) (append-nil word) (words_bytes (word ∷ []) (proper, tt))
-part_bytes (number n) small = digits_bytes (decimal n) (decimal_is n small).digits
+part_bytes (keyword word) proper =
+    subst (λ (w : List ℕ). Bytes w) (append-nil word) (words_bytes (word ∷ []) (proper, tt))
+part_bytes (number n) small =
+    let digits = AllPass-from_list_all is_ascii_digit (decimal n) (decimal_is n small).digits in
+    list_all-from_AllPass is_line_byte (decimal n)
+    (λ k d h. let digit : is_ascii_digit (get_or (decimal n) k d) ≡ true = digits k d h in
+    grind (arith, nat_tests))
 part_bytes (side []) proper = refl
 part_bytes (side (word ∷ words)) proper = words_bytes (word ∷ words) proper
 
-gap_bytes : (g : Gap) → Bytes (gap_text g)
-gap_bytes blank = refl
-gap_bytes first_colon = refl
-gap_bytes colon = refl
-gap_bytes arrow = refl
-gap_bytes double_arrow = refl
-
-pub parts_bytes : (p : Part) (others : List (Gap × Part)) → IsProper p → AreProper others → Bytes (text_of p others)
+pub parts_bytes : (p : Part) (others : List (Gap × Part)) → IsProper p → AreProper others
+    → Bytes (text_of p others)
 parts_bytes p [] here rest = part_bytes p here
 parts_bytes p (next ∷ others) here rest =
+    let gap : Bytes (gap_text next.0) = elim next.0 as (λ g. Bytes (gap_text g))
+    [ blank ↦ refl | first_colon ↦ refl | colon ↦ refl | arrow ↦ refl | double_arrow ↦ refl ] in
     bytes_both (part_text p) (gap_text next.0 ++ text_of next.1 others) (part_bytes p here)
-    (bytes_both (gap_text next.0) (text_of next.1 others) (gap_bytes next.0) (parts_bytes next.1 others rest.0 rest.1))
+    (bytes_both (gap_text next.0) (text_of next.1 others) gap (parts_bytes next.1 others rest.0 rest.1))

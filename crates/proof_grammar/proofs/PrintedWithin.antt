@@ -22,20 +22,30 @@ use Rattle.proof_grammar.specs.Lines.{by_step, by_pair, Line}
 use Rattle.proof_grammar.specs.Printable.{IsPrintableLine, ArePrintableLines}
 use Rattle.proof_grammar.specs.Printing.{leaf_body, numbered_line, node_lines_after, IsStepWithin}
 
-printable_append : (names : List (List ℕ)) (xs ys : List Line) → ArePrintableLines names xs → ArePrintableLines names ys → ArePrintableLines names (xs ++ ys)
+printable_append : (names : List (List ℕ)) (xs ys : List Line) → ArePrintableLines names xs
+    → ArePrintableLines names ys → ArePrintableLines names (xs ++ ys)
 printable_append names [] ys first second = second
 printable_append names (x ∷ xs) ys first second = (first.0, printable_append names xs ys first.1 second)
 
 -- ---- a line
-leaf_printable : (s : Schema) (n : ℕ) (rule : Leaf) (d : Dependency) → IsWithin (universe_of s) d → leaf_conclusion s rule ≡ Ok d → n < 10 ^ 9
+leaf_printable : (s : Schema) (n : ℕ) (rule : Leaf) (d : Dependency) → IsWithin (universe_of s) d
+    → leaf_conclusion s rule ≡ Ok d → n < 10 ^ 9
     → IsPrintableLine (names_of s) (numbered_line n d (leaf_body rule))
 leaf_printable s n (given k) d within h few =
     let inside = slice_get_within (theory_of s) k d (some_of_ok (slice_get (theory_of s) k) NoSuchGiven d h) in
-    record { stated = within; body = tt {0}; number = few; few_digits = omega (arith, inside, length-map (deps_of s) dependency_of, s.valid.few_deps) }
-leaf_printable s n (reflexivity x y) d within h few = record { stated = within; body = tt {0}; number = few; few_digits = tt {0} }
-leaf_printable s n (mreflexivity x y) d within h few = record { stated = within; body = tt {0}; number = few; few_digits = tt {0} }
+    record {
+      stated = within;
+      body = tt {0};
+      number = few;
+      few_digits = omega (arith, inside, length-map (deps_of s) dependency_of, s.valid.few_deps);
+    }
+leaf_printable s n (reflexivity x y) d within h few =
+    record { stated = within; body = tt {0}; number = few; few_digits = tt {0} }
+leaf_printable s n (mreflexivity x y) d within h few =
+    record { stated = within; body = tt {0}; number = few; few_digits = tt {0} }
 
-pub step_within : (s : Schema) (rule : Step) (x d : Dependency) → StepOfAttributes rule → step_conclusion s rule x ≡ Ok d → IsStepWithin (universe_of s) rule
+pub step_within : (s : Schema) (rule : Step) (x d : Dependency) → StepOfAttributes rule
+    → step_conclusion s rule x ≡ Ok d → IsStepWithin (universe_of s) rule
 step_within s (augmentation z) (fd x y) d own h =
     is_within-true z (universe_of s) own (chosen (is_within z (universe_of s)) NotWithin (fd (union x z) (union y z)) d h).0
 step_within s (augmentation z) (mvd x y) d own h = cc
@@ -49,23 +59,31 @@ step_within s (maugmentation w z) (mvd x y) d own h =
 step_within s replication x d own h = tt {0}
 
 -- ---- the lines
-pub tree_printable : (s : Schema) (t : Tree) (d : Dependency) (n : ℕ) → TreeOfAttributes t → Proves s t d → n + nodes t < 10 ^ 9 → ArePrintableLines (names_of s) (node_lines_after s n t)
+pub tree_printable : (s : Schema) (t : Tree) (d : Dependency) (n : ℕ) → TreeOfAttributes t → Proves s t d
+    → n + nodes t < 10 ^ 9 → ArePrintableLines (names_of s) (node_lines_after s n t)
 tree_printable s (leaf rule) d n own proves few =
     let concludes : concluded s 0 (leaf rule) ≡ Ok d = concluded-from s 0 (leaf rule) d proves in
-    rw concludes (leaf_printable s (n + 1) rule d (conclusion_within s (leaf rule) d own proves) proves few, tt {0})
+    rw concludes (
+      leaf_printable s (n + 1) rule d (conclusion_within s (leaf rule) d own proves) proves few,
+      tt {0},
+    )
 tree_printable s (step rule t) d n own proves few =
-    let last : IsPrintableLine (names_of s) (numbered_line (n + nodes t + 1) d (by_step rule (n + nodes t))) = record {
+    let last : IsPrintableLine (names_of s)
+    (numbered_line (n + nodes t + 1) d (by_step rule (n + nodes t))) = record {
       stated = conclusion_within s (step rule t) d own proves;
       body = step_within s rule proves.0 d own.0 proves.2;
       number = omega (arith, few);
       few_digits = omega (arith, few);
     } in
     let concludes : concluded s 0 (step rule t) ≡ Ok d = concluded-from s 0 (step rule t) d proves in
-    rw concludes (printable_append (names_of s) (node_lines_after s n t) _ (tree_printable s t proves.0 n own.1 proves.1 (omega (arith, few))) (last, tt {0}))
+    rw concludes (printable_append (names_of s) (node_lines_after s n t) _
+    (tree_printable s t proves.0 n own.1 proves.1 (omega (arith, few))) (last, tt {0}))
 tree_printable s (pair rule t u) d n own proves few =
     let xs = node_lines_after s n t in
     let ys = node_lines_after s (n + nodes t) u in
-    let last : IsPrintableLine (names_of s) (numbered_line (n + nodes t + nodes u + 1) d (by_pair rule (n + nodes t) (n + nodes t + nodes u))) = record {
+    let last : IsPrintableLine (names_of s)
+    (numbered_line (n + nodes t + nodes u + 1) d (by_pair rule (n + nodes t) (n + nodes t + nodes u))) =
+    record {
       stated = conclusion_within s (pair rule t u) d own proves;
       body = tt {0};
       number = omega (arith, few);
@@ -74,4 +92,5 @@ tree_printable s (pair rule t u) d n own proves few =
     let first = tree_printable s t proves.0 n own.0 proves.2 (omega (arith, few)) in
     let second = tree_printable s u proves.1 (n + nodes t) own.1 proves.3 (omega (arith, few)) in
     let concludes : concluded s 0 (pair rule t u) ≡ Ok d = concluded-from s 0 (pair rule t u) d proves in
-    rw concludes (printable_append (names_of s) (xs ++ ys) _ (printable_append (names_of s) xs ys first second) (last, tt {0}))
+    rw concludes (printable_append (names_of s) (xs ++ ys) _
+    (printable_append (names_of s) xs ys first second) (last, tt {0}))

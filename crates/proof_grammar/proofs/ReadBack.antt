@@ -17,9 +17,15 @@ use Rattle.proof_grammar.proofs.CountLaws.{lines_count}
 use Rattle.proof_grammar.proofs.PrintedCertificates.{answer_text}
 use Rattle.proof_grammar.proofs.PrintedSpells.{printed_spells}
 
-pub printed_is_read : (answered : Bool) (s : Schema) (p : Deriv) (d : Dependency) → AreNames format.Plain (names_of s) → Proves s (tree_of p) d → nodes (tree_of p) ≤ MOST_NODES
-    → depth (tree_of p) ≤ MOST_LEVELS → read_proof s (answer_text answered ++ canonical_certificate s (tree_of p)) ≡ Ok (tree_of p)
+pub printed_is_read : (answered : Bool) (s : Schema) (p : Deriv) (d : Dependency)
+    → AreNames format.Plain (names_of s) → Proves s (tree_of p) d → nodes (tree_of p) ≤ MOST_NODES
+    → depth (tree_of p) ≤ MOST_LEVELS
+    → read_proof s (answer_text answered ++ canonical_certificate s (tree_of p)) ≡ Ok (tree_of p)
 printed_is_read answered s p d are proves few flat =
     let w = printed_spells answered s p d are proves few in
     spelled_back s (answer_text answered ++ canonical_certificate s (tree_of p)) (tree_of p)
-    (record { spells = w; few_lines = omega (arith, lines_count s w.lines (tree_of p) w.nodes, few); few_levels = flat })
+    (record {
+      spells = w;
+      few_lines = omega (arith, lines_count s w.lines (tree_of p) w.nodes, few);
+      few_levels = flat;
+    })

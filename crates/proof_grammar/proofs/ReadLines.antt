@@ -62,10 +62,12 @@ unfolding entered
 entered_adds s at book next l h =
     let os = book.unused in
     let adds : Ledger → Type 0 = λ b. b.lines ≡ book.lines ++ at ∷ [] in
-    let all = prepared s os l.stated l.body >>= λ p. settled (length os) l p.levels p.outcome >>= λ o. Ok (add_line at book.lines p.unused o) in
+    let all = prepared s os l.stated l.body >>= λ p. settled (length os) l p.levels p.outcome
+    >>= λ o. Ok (add_line at book.lines p.unused o) in
     ok_at adds _ next h
     (cond_both (l.number == length os + 1) all (Err wrong_number) (λ r. IfOk r adds)
-    (λ numbered. bind_each adds (prepared s os l.stated l.body) _ (λ p found. bind_each adds (settled (length os) l p.levels p.outcome) _ (λ o ends. refl)))
+    (λ numbered. bind_each adds (prepared s os l.stated l.body) _
+    (λ p found. bind_each adds (settled (length os) l p.levels p.outcome) _ (λ o ends. refl)))
     (λ other. tt))
 
 -- ---- lines and what they mean
@@ -146,22 +148,31 @@ one_more s text before fresh lines trees book here at l u next afterwards counts
     let adds = entered_adds s at book next l enter in
     let count = nodes_size s [] lines trees afterwards.read.nodes in
     let used : ℕ → ℕ = λ n. uses n (lines ++ l ∷ []) in
-    let sums : (n : ℕ) → used_after (λ n. uses n lines) l n ≡ used n = λ n. omega (arith, uses-append n lines (l ∷ []), uses_first n l []) in
+    let sums : (n : ℕ) → used_after (λ n. uses n lines) l n ≡ used n =
+    λ n. omega (arith, uses-append n lines (l ∷ []), uses_first n l []) in
     let follows : Follows s used (trees ++ u ∷ []) next = record {
-      slots = slots_same s (used_after (λ n. uses n lines) l) used 0 (trees ++ u ∷ []) next.unused (λ n low. sums n) is.follows.slots;
+      slots = slots_same s (used_after (λ n. uses n lines) l) used 0 (trees ++ u ∷ []) next.unused
+          (λ n low. sums n) is.follows.slots;
       fresh = λ n h. sym (sums n) ∙ is.follows.fresh n h;
     } in
-    let place : (i : ℕ) → i < length (book.lines ++ at ∷ []) → IsPlace text (slice_index (book.lines ++ at ∷ []) i) i = λ i h.
+    let place : (i : ℕ) → i < length (book.lines ++ at ∷ [])
+    → IsPlace text (slice_index (book.lines ++ at ∷ []) i) i = λ i h.
     ⊎_elim
     (λ (inside : i < length book.lines).
-    subst (λ (n : ℕ). IsPlace text n i) (sym (get_or_append_left book.lines (at ∷ []) 0 i inside)) (afterwards.places i inside))
+    subst (λ (n : ℕ). IsPlace text n i) (sym (get_or_append_left book.lines (at ∷ []) 0 i inside))
+    (afterwards.places i inside))
     (λ (past : length book.lines ≤ i).
     let last : length book.lines ≡ i = omega (arith, past, h, length-append book.lines (at ∷ [])) in
     let value : slice_index (book.lines ++ at ∷ []) i ≡ at =
     sym (ap (slice_index (book.lines ++ at ∷ [])) last) ∙ get_or-append_seam book.lines at [] 0 in
     let size = mean_size (names_of s) so_far lines afterwards.mean in
     subst (λ (n : ℕ). IsPlace text n i) (sym value)
-    (record { before = before; here = here; stands = stands; count = omega (arith, size, count, afterwards.size, last) }))
+    (record {
+      before = before;
+      here = here;
+      stands = stands;
+      count = omega (arith, size, count, afterwards.size, last);
+    }))
     (cases_lt i (length book.lines)) in
     record {
       counts = λ more. ap certificate_lines_of (append_assoc before (here ∷ []) more)
@@ -169,7 +180,8 @@ one_more s text before fresh lines trees book here at l u next afterwards counts
           ∙ ap (λ (ls : List (List ℕ)). so_far ++ ls) (counts more)
           ∙ sym (append_assoc so_far (here ∷ []) (counted false more))
           ∙ ap (λ (ls : List (List ℕ)). ls ++ counted false more) (sym whole);
-      mean = subst (λ (ls : List (List ℕ)). MeanLines (names_of s) ls (lines ++ l ∷ [])) (sym whole) (mean_more (names_of s) so_far lines here l afterwards.mean means);
+      mean = subst (λ (ls : List (List ℕ)). MeanLines (names_of s) ls (lines ++ l ∷ [])) (sym whole)
+          (mean_more (names_of s) so_far lines here l afterwards.mean means);
       read = record {
         nodes = AreNodes-append s [] lines trees (l ∷ []) (u ∷ []) afterwards.read.nodes (is.node, tt);
         once = λ n low. follows_once s used (trees ++ u ∷ []) next n follows low;
@@ -177,6 +189,8 @@ one_more s text before fresh lines trees book here at l u next afterwards counts
         few_levels = All-push (λ t. depth t ≤ MOST_LEVELS) trees u afterwards.read.few_levels is.few_levels;
       };
       follows = follows;
-      size = ap length adds ∙ omega (arith, length-append book.lines (at ∷ []), length-append trees (u ∷ []), afterwards.size);
-      places = subst (λ (ls : List ℕ). (i : ℕ) → i < length ls → IsPlace text (slice_index ls i) i) (sym adds) place;
+      size = ap length adds
+          ∙ omega (arith, length-append book.lines (at ∷ []), length-append trees (u ∷ []), afterwards.size);
+      places = subst (λ (ls : List ℕ). (i : ℕ) → i < length ls → IsPlace text (slice_index ls i) i)
+          (sym adds) place;
     }

@@ -1,12 +1,11 @@
 -- The rule of a line is read exactly where the grammar has one.
-use Rattle.std.proofs.Common.{◌≡◌, ℕ, List, [], ◌∷◌, ◌++◌, None, Ok, Result, refl, sym, ◌∙◌, ap, subst}
+use Rattle.std.proofs.Common.{◌≡◌, ℕ, List, [], ◌∷◌, ◌++◌, None, Ok, refl, sym, ◌∙◌, ap, subst}
 use Rattle.std.specs.Prelude.{codes}
 use Rattle.std.proofs.lemmas.List.{append-nil}
 use Rattle.std.proofs.lemmas.Slice.Eq.{bytes_eq-Decides}
 use Rattle.derivation.specs.Trees.{augmentation, complementation, maugmentation, replication, Pair, transitivity, mtransitivity, coalescence}
 use Rattle.derivation.proofs.RuleTableLemmas.{the_ok}
 use Rattle.lexer.specs.Tokens.{Mark}
-use Rattle.schema_grammar.specs.declared.refusal.SchemaRefusal.{SchemaRefusal}
 use Rattle.schema_grammar.specs.declared.refusal.What.TheVariants as what
 use Rattle.proof_grammar.specs.declared.rule_name.RuleName.{RuleName}
 use Rattle.proof_grammar.specs.declared.rule_name.RuleName.TheVariants as rule
@@ -28,18 +27,17 @@ pub record ReadsRule (names : List (List ℕ)) (name : Mark) (r : Rest) (b : Bod
 abbrev Rule : List (List ℕ) → Mark → Rest → Body × Rest → Type 0
 Rule names name r b = ReadsRule names name r b.0 b.1
 
-reads_as : (names : List (List ℕ)) (name : Mark) (r next : Rest) (made : Body) (b : Body × Rest) → ◌≡◌ {A = Result (Body × Rest) SchemaRefusal} (Ok (made, next)) (Ok b) → ReadsRule names name r made next → Rule names name r b
-reads_as names name r next made b same reads = subst (Rule names name r) (the_ok _ b same) reads
-
 -- a number alone
-numbered_there : (names : List (List ℕ)) (make : ℕ → Body) (name : Mark) (r : Rest) (b : Body × Rest) → ((p : ℕ) (m : Mark) → IsNumber p m → IsRule names (name ∷ m ∷ []) (make p))
+numbered_there : (names : List (List ℕ)) (make : ℕ → Body) (name : Mark) (r : Rest) (b : Body × Rest)
+    → ((p : ℕ) (m : Mark) → IsNumber p m → IsRule names (name ∷ m ∷ []) (make p))
     → (number r >>= λ p. Ok (make p.0, p.1)) ≡ Ok b → Rule names name r b
 numbered_there names make name r b is e =
     let p = bind_ok (number r) _ b e in
     let premise = number_there r p.0 p.1 in
     let of : List Mark → Type 0 = λ t. IsRule names (name ∷ t) (make p.0.0) in
-    reads_as names name r p.0.1 (make p.0.0) b p.2 (record {
-      is_rule = λ ended. subst of (sym (premise.takes.marks ∙ ap (λ t. premise.mark ∷ t) ended)) (is p.0.0 premise.mark premise.holds);
+    subst (Rule names name r) (the_ok _ b p.2) (record {
+      is_rule = λ ended. subst of (sym (premise.takes.marks ∙ ap (λ t. premise.mark ∷ t) ended))
+          (is p.0.0 premise.mark premise.holds);
       stop = premise.takes.stop;
     })
 
@@ -50,12 +48,14 @@ two_there names rule name r b says e =
     let q = bind_ok (number p.0.1) _ b p.2 in
     let first = number_there r p.0 p.1 in
     let second = number_there p.0.1 q.0 q.1 in
-    reads_as names name r q.0.1 (by_pair rule p.0.0 q.0.0) b q.2 (record {
+    subst (Rule names name r) (the_ok _ b q.2) (record {
       is_rule = λ ended. record {
         name = name;
         first = first.mark;
         second = second.mark;
-        whole = ap (λ t. name ∷ t) (first.takes.marks ∙ ap (λ t. first.mark ∷ t) (second.takes.marks ∙ ap (λ t. second.mark ∷ t) ended));
+        whole = ap (λ t. name ∷ t)
+            (first.takes.marks
+            ∙ ap (λ t. first.mark ∷ t) (second.takes.marks ∙ ap (λ t. second.mark ∷ t) ended));
         says = says;
         first_number = first.holds;
         second_number = second.holds;
@@ -72,9 +72,10 @@ augmented_there names name r b says e =
     let premise = number_there r p.0 p.1 in
     let keyword = with_there p.0.1 w.0 w.1 in
     let sides = side_there names w.0 z.0 z.1 in
-    reads_as names name r z.0.1 (by_step (augmentation z.0.0) p.0.0) b z.2 (record {
+    subst (Rule names name r) (the_ok _ b z.2) (record {
       is_rule = λ ended.
-          let end : w.0.marks ≡ sides.marks = sides.whole ∙ ap (λ t. sides.marks ++ t) ended ∙ append-nil sides.marks in
+          let end : w.0.marks ≡ sides.marks =
+          sides.whole ∙ ap (λ t. sides.marks ++ t) ended ∙ append-nil sides.marks in
           record {
             name = name;
             premise = premise.mark;
@@ -82,7 +83,13 @@ augmented_there names name r b says e =
             whole = ap (λ t. name ∷ t) premise.takes.marks;
             says = says;
             number = premise.holds;
-            has_sets = record { keyword = keyword.mark; sides = sides.marks; whole = keyword.takes.marks ∙ ap (λ t. keyword.mark ∷ t) end; says = keyword.holds; side = sides.is_side };
+            has_sets = record {
+              keyword = keyword.mark;
+              sides = sides.marks;
+              whole = keyword.takes.marks ∙ ap (λ t. keyword.mark ∷ t) end;
+              says = keyword.holds;
+              side = sides.is_side;
+            };
           };
       stop = sides.stop ∙ keyword.takes.stop ∙ premise.takes.stop;
     })
@@ -100,10 +107,12 @@ maugmented_there names name r b says e =
     let wide = side_there names w.0 x.0 x.1 in
     let between = colon_there x.0.1 c.0 c.1 in
     let narrow = side_there names c.0 z.0 z.1 in
-    reads_as names name r z.0.1 (by_step (maugmentation x.0.0 z.0.0) p.0.0) b z.2 (record {
+    subst (Rule names name r) (the_ok _ b z.2) (record {
       is_rule = λ ended.
-          let end : c.0.marks ≡ narrow.marks = narrow.whole ∙ ap (λ t. narrow.marks ++ t) ended ∙ append-nil narrow.marks in
-          let sides : w.0.marks ≡ wide.marks ++ between.mark ∷ narrow.marks = wide.whole ∙ ap (λ t. wide.marks ++ t) (between.takes.marks ∙ ap (λ t. between.mark ∷ t) end) in
+          let end : c.0.marks ≡ narrow.marks =
+          narrow.whole ∙ ap (λ t. narrow.marks ++ t) ended ∙ append-nil narrow.marks in
+          let sides : w.0.marks ≡ wide.marks ++ between.mark ∷ narrow.marks = wide.whole
+          ∙ ap (λ t. wide.marks ++ t) (between.takes.marks ∙ ap (λ t. between.mark ∷ t) end) in
           record {
             name = name;
             premise = premise.mark;
@@ -129,17 +138,40 @@ maugmented_there names name r b says e =
 body_there : (names : List (List ℕ)) (r : RuleName) (name : Mark) (start : Rest) (b : Body × Rest) → IsKeyword (spelled r) name → body names r start ≡ Ok b → Rule names name start b
 unfolding body one
 body_there names rule.Given name start b says e =
-    numbered_there names by_given name start b (λ k m is. record { name = name; place = m; whole = refl; says = says; number = is }) e
+    numbered_there names by_given name start b
+    (λ k m is. record { name = name; place = m; whole = refl; says = says; number = is }) e
 body_there names rule.Reflexivity name start b says e =
-    reads_as names name start _ _ b e (record { is_rule = λ ended. record { name = name; whole = ap (λ t. name ∷ t) ended; says = says }; stop = refl })
+    subst (Rule names name start) (the_ok _ b e) (record {
+      is_rule = λ ended. record { name = name; whole = ap (λ t. name ∷ t) ended; says = says };
+      stop = refl;
+    })
 body_there names rule.MReflexivity name start b says e =
-    reads_as names name start _ _ b e (record { is_rule = λ ended. record { name = name; whole = ap (λ t. name ∷ t) ended; says = says }; stop = refl })
+    subst (Rule names name start) (the_ok _ b e) (record {
+      is_rule = λ ended. record { name = name; whole = ap (λ t. name ∷ t) ended; says = says };
+      stop = refl;
+    })
 body_there names rule.Augmentation name start b says e = augmented_there names name start b says e
 body_there names rule.MAugmentation name start b says e = maugmented_there names name start b says e
 body_there names rule.Complementation name start b says e =
-    numbered_there names (by_step complementation) name start b (λ p m is. record { name = name; premise = m; sets = []; whole = refl; says = says; number = is; has_sets = refl }) e
+    numbered_there names (by_step complementation) name start b (λ p m is. record {
+      name = name;
+      premise = m;
+      sets = [];
+      whole = refl;
+      says = says;
+      number = is;
+      has_sets = refl;
+    }) e
 body_there names rule.Replication name start b says e =
-    numbered_there names (by_step replication) name start b (λ p m is. record { name = name; premise = m; sets = []; whole = refl; says = says; number = is; has_sets = refl }) e
+    numbered_there names (by_step replication) name start b (λ p m is. record {
+      name = name;
+      premise = m;
+      sets = [];
+      whole = refl;
+      says = says;
+      number = is;
+      has_sets = refl;
+    }) e
 body_there names rule.Transitivity name start b says e = two_there names transitivity name start b says e
 body_there names rule.MTransitivity name start b says e = two_there names mtransitivity name start b says e
 body_there names rule.Coalescence name start b says e = two_there names coalescence name start b says e
@@ -152,10 +184,14 @@ pub record RuleEnds (names : List (List ℕ)) (r : Rest) (b : Body) (next : Rest
 pub rule_there : (names : List (List ℕ)) (r : Rest) (n : RuleName × Rest) (b : Body × Rest) → rule_name r ≡ Ok n → body names n.0 n.1 ≡ Ok b → RuleEnds names r b.0 b.1
 unfolding rule_name
 rule_there names r n b here there =
-    let name = reads_value what.Rule (λ m. rule_named m.kind m.word) (λ x. IsKeyword (spelled x)) (λ x m h. rule_named_there m.kind m.word x h) r n here in
+    let name = reads_value what.Rule (λ m. rule_named m.kind m.word) (λ x. IsKeyword (spelled x))
+    (λ x m h. rule_named_there m.kind m.word x h) r n here in
     let reads = body_there names n.0 name.mark n.1 b name.holds there in
     let of : List Mark → Type 0 = λ t. IsRule names t b.0 in
-    record { is_rule = λ ended. subst of (sym name.takes.marks) (reads.is_rule ended); stop = reads.stop ∙ name.takes.stop }
+    record {
+      is_rule = λ ended. subst of (sym name.takes.marks) (reads.is_rule ended);
+      stop = reads.stop ∙ name.takes.stop;
+    }
 
 -- ---- back
 -- the rest of a rule that is read after its name
@@ -171,10 +207,12 @@ pub record RuleRead (names : List (List ℕ)) (line from : ℕ) (marks : List Ma
   pub name : rule_name (rest_at line from marks) ≡ Ok (rule, next)
   pub read : body names rule next ≡ Ok (b, rest_at line next_column [])
 
-rule_made : (names : List (List ℕ)) (line from : ℕ) (r : RuleName) (m : Mark) (marks whole : List Mark) (b : Body) → whole ≡ m ∷ marks → IsKeyword (spelled r) m
+rule_made : {names : List (List ℕ)} {line from : ℕ} {whole : List Mark} {b : Body} (r : RuleName) (m : Mark)
+    (marks : List Mark)
+    → whole ≡ m ∷ marks → IsKeyword (spelled r) m
     → BodyRead names line (after_of m) r marks b → RuleRead names line from whole b
 unfolding rule_name take rule_named
-rule_made names line from r m marks whole b same says rest = record {
+rule_made {names} {line} r m marks same says rest = record {
   rule = r;
   next = rest_at line (after_of m) marks;
   next_column = rest.next_column;
@@ -185,39 +223,47 @@ rule_made names line from r m marks whole b same says rest = record {
 pub rule_back : (names : List (List ℕ)) (line from : ℕ) (marks : List Mark) (b : Body) → IsRule names marks b → RuleRead names line from marks b
 unfolding body one two augmented maugmented number with_word colon take is_with
 rule_back names line from marks (by_given k) is =
-    rule_made names line from rule.Given is.name (is.place ∷ []) marks (by_given k) is.whole is.says (record { next_column = after_of is.place; read = rw is.number refl })
+    rule_made rule.Given is.name (is.place ∷ []) is.whole is.says
+    (record { next_column = after_of is.place; read = rw is.number refl })
 rule_back names line from marks by_reflexivity is =
-    rule_made names line from rule.Reflexivity is.name [] marks by_reflexivity is.whole is.says (record { next_column = after_of is.name; read = refl })
+    rule_made rule.Reflexivity is.name [] is.whole is.says
+    (record { next_column = after_of is.name; read = refl })
 rule_back names line from marks by_mreflexivity is =
-    rule_made names line from rule.MReflexivity is.name [] marks by_mreflexivity is.whole is.says (record { next_column = after_of is.name; read = refl })
+    rule_made rule.MReflexivity is.name [] is.whole is.says
+    (record { next_column = after_of is.name; read = refl })
 rule_back names line from marks (by_step (augmentation z) p) is =
     let has = is.has_sets in
     let last = side_back names line (after_of has.keyword) has.sides [] None z has.side tt in
-    let same : is.sets ≡ has.keyword ∷ has.sides ++ [] = has.whole ∙ ap (λ t. has.keyword ∷ t) (sym (append-nil has.sides)) in
+    let same : is.sets ≡ has.keyword ∷ has.sides ++ [] =
+    has.whole ∙ ap (λ t. has.keyword ∷ t) (sym (append-nil has.sides)) in
     let keyword = (bytes_eq-Decides has.keyword.word (codes "with")).1 has.says.1 in
-    rule_made names line from rule.Augmentation is.name (is.premise ∷ is.sets) marks (by_step (augmentation z) p) is.whole is.says
+    rule_made rule.Augmentation is.name (is.premise ∷ is.sets) is.whole is.says
     (record { next_column = last.next_column; read = rw (same, is.number, has.says.0, keyword, last.read) refl })
 rule_back names line from marks (by_step complementation p) is =
-    rule_made names line from rule.Complementation is.name (is.premise ∷ is.sets) marks (by_step complementation p) is.whole is.says
+    rule_made rule.Complementation is.name (is.premise ∷ is.sets) is.whole is.says
     (record { next_column = after_of is.premise; read = rw (is.has_sets, is.number) refl })
 rule_back names line from marks (by_step (maugmentation w z) p) is =
     let has = is.has_sets in
     let tail = has.colon ∷ has.narrow ++ [] in
-    let wide = side_back names line (after_of has.keyword) has.wide tail None w has.wide_side (ap is_word_token has.is_colon) in
+    let wide = side_back names line (after_of has.keyword) has.wide tail None w has.wide_side
+    (ap is_word_token has.is_colon) in
     let last = side_back names line (after_of has.colon) has.narrow [] None z has.narrow_side tt in
-    let same : is.sets ≡ has.keyword ∷ has.wide ++ tail = has.whole ∙ ap (λ t. has.keyword ∷ has.wide ++ has.colon ∷ t) (sym (append-nil has.narrow)) in
+    let same : is.sets ≡ has.keyword ∷ has.wide ++ tail =
+    has.whole ∙ ap (λ t. has.keyword ∷ has.wide ++ has.colon ∷ t) (sym (append-nil has.narrow)) in
     let keyword = (bytes_eq-Decides has.keyword.word (codes "with")).1 has.says.1 in
-    rule_made names line from rule.MAugmentation is.name (is.premise ∷ is.sets) marks (by_step (maugmentation w z) p) is.whole is.says
-    (record { next_column = last.next_column; read = rw (same, is.number, has.says.0, keyword, wide.read, has.is_colon, last.read) refl })
+    rule_made rule.MAugmentation is.name (is.premise ∷ is.sets) is.whole is.says (record {
+      next_column = last.next_column;
+      read = rw (same, is.number, has.says.0, keyword, wide.read, has.is_colon, last.read) refl;
+    })
 rule_back names line from marks (by_step replication p) is =
-    rule_made names line from rule.Replication is.name (is.premise ∷ is.sets) marks (by_step replication p) is.whole is.says
+    rule_made rule.Replication is.name (is.premise ∷ is.sets) is.whole is.says
     (record { next_column = after_of is.premise; read = rw (is.has_sets, is.number) refl })
 rule_back names line from marks (by_pair transitivity p q) is =
-    rule_made names line from rule.Transitivity is.name (is.first ∷ is.second ∷ []) marks (by_pair transitivity p q) is.whole is.says
+    rule_made rule.Transitivity is.name (is.first ∷ is.second ∷ []) is.whole is.says
     (record { next_column = after_of is.second; read = rw (is.first_number, is.second_number) refl })
 rule_back names line from marks (by_pair mtransitivity p q) is =
-    rule_made names line from rule.MTransitivity is.name (is.first ∷ is.second ∷ []) marks (by_pair mtransitivity p q) is.whole is.says
+    rule_made rule.MTransitivity is.name (is.first ∷ is.second ∷ []) is.whole is.says
     (record { next_column = after_of is.second; read = rw (is.first_number, is.second_number) refl })
 rule_back names line from marks (by_pair coalescence p q) is =
-    rule_made names line from rule.Coalescence is.name (is.first ∷ is.second ∷ []) marks (by_pair coalescence p q) is.whole is.says
+    rule_made rule.Coalescence is.name (is.first ∷ is.second ∷ []) is.whole is.says
     (record { next_column = after_of is.second; read = rw (is.first_number, is.second_number) refl })

@@ -1,5 +1,5 @@
 -- A side of a line is read exactly where the grammar has one.
-use Rattle.std.proofs.Common.{◌≡◌, ◌<◌, ◌+◌, ⊎_elim, inl, inr, ℕ, Bool, true, false, cond, List, [], ◌∷◌, ◌++◌, length, Option, Some, None, Ok, Err, Result, refl, sym, ◌∙◌, ap, arith}
+use Rattle.std.proofs.Common.{◌≡◌, ◌<◌, ◌+◌, ⊎_elim, inl, inr, ℕ, Bool, true, false, cond, List, [], ◌∷◌, ◌++◌, length, Option, Some, None, Ok, Err, Result, refl, sym, ◌∙◌, ap, subst, arith}
 use Rattle.std.specs.List.{All}
 use Rattle.std.proofs.lemmas.Bool.{cases_Bool}
 use Rattle.std.proofs.lemmas.List.Elements.{All-cons, All-nil, All-head, All-tail}
@@ -37,7 +37,13 @@ take_there want r t e = told r.marks r.stop e
     told [] None e = cc
     told [] (Some stop) e = cc
     told (m ∷ ms) stop e =
-        let same = the_ok _ t e in record { marks = ap (λ (u : Mark × Rest). u.0 ∷ u.1.marks) same; stop = sym (ap (λ (u : Mark × Rest). u.1.stop) same) }
+        subst (λ (u : Mark × Rest). Takes (record {
+          line = r.line;
+          next_column = r.next_column;
+          marks = m ∷ ms;
+          stop = stop;
+        }) u.0 u.1) (the_ok _ t e)
+        (record { marks = refl; stop = refl })
 
 -- ---- words
 place_there : (names : List (List ℕ)) (line : ℕ) (m : Mark) (a : ℕ) → place names line m ≡ Ok a → Names format.Plain names m.word a
@@ -68,14 +74,14 @@ record ReadsWords (names : List (List ℕ)) (acc : Places) (marks : List Mark) (
 
 words_none : (names : List (List ℕ)) (acc : Places) (r : Rest) (x : Places) (next : Rest) → ◌≡◌ {A = Result (Places × Rest) SchemaRefusal} (Ok (acc, r)) (Ok (x, next)) → ReadsWords names acc r.marks r.stop x next
 words_none names acc r x next e =
-    let same = the_ok _ (x, next) e in
-    record {
+    subst (λ (u : Places × Rest). ReadsWords names acc r.marks r.stop u.0 u.1) (the_ok _ (x, next) e)
+    (record {
       words = [];
-      whole = ap (λ (u : Places × Rest). u.1.marks) same;
+      whole = refl;
       each = All-nil (IsAttribute format.Plain names);
-      members = sym (ap (λ (u : Places × Rest). u.0) same) ∙ sym (union-none acc (named names []) refl);
-      same_stop = sym (ap (λ (u : Places × Rest). u.1.stop) same);
-    }
+      members = sym (union-none acc (named names []) refl);
+      same_stop = refl;
+    })
 
 words_there : (names : List (List ℕ)) (line : ℕ) (acc : Places) (next_column : ℕ) (marks : List Mark) (stop : Option Stop) (x : Places) (next : Rest)
     → words_from names line acc next_column marks stop ≡ Ok (x, next) → ReadsWords names acc marks stop x next
@@ -86,12 +92,18 @@ words_there names line acc next_column (m ∷ ms) stop x next e =
     (λ (is : is_word_token m.kind ≡ true).
     let here = bind_ok (place names line m) _ (x, next) (rw is at e) in
     let names_it = place_there names line m here.0 here.1 in
-    let rest = words_there names line (union acc (only here.0)) (m.column + length m.word) ms stop x next here.2 in
+    let rest = words_there names line (union acc (only here.0))
+    (m.column + length m.word) ms stop x next here.2 in
     record {
       words = m ∷ rest.words;
       whole = ap (λ t. m ∷ t) rest.whole;
       each = All-cons (IsAttribute format.Plain names) m rest.words
-          (record { word = word_is m.kind is; free = names_it.free; place = here.0; known = names_it.place }) rest.each;
+          (record {
+            word = word_is m.kind is;
+            free = names_it.free;
+            place = here.0;
+            known = names_it.place;
+          }) rest.each;
       members = rest.members ∙ union-only acc (named names rest.words) here.0
           ∙ ap (union acc) (sym (named-cons names m rest.words here.0 names_it.place));
       same_stop = rest.same_stop;
@@ -116,33 +128,35 @@ side_there names r s e =
     told m next_column takes token.Word is e =
         let here = bind_ok (place names next_column.line m) _ s e in
         let names_it = place_there names next_column.line m here.0 here.1 in
-        let rest = words_there names next_column.line (only here.0) next_column.next_column next_column.marks next_column.stop s.0 s.1 here.2 in
+        let rest = words_there names next_column.line
+        (only here.0) next_column.next_column next_column.marks next_column.stop s.0 s.1 here.2 in
         record {
           marks = m ∷ rest.words;
           whole = takes.marks ∙ ap (λ t. m ∷ t) rest.whole;
           is_side = inr (record {
             some = omega arith;
-            each = All-cons (IsAttribute format.Plain names) m rest.words (record { word = is; free = names_it.free; place = here.0; known = names_it.place }) rest.each;
+            each = All-cons (IsAttribute format.Plain names) m rest.words
+                (record { word = is; free = names_it.free; place = here.0; known = names_it.place }) rest.each;
             members = rest.members ∙ sym (named-cons names m rest.words here.0 names_it.place);
           });
           stop = rest.same_stop ∙ takes.stop;
         }
     told m next_column takes token.Empty is e =
-        let same = the_ok _ s e in
-        record {
+        let alone = ap (λ (k : TokenKind). record { kind = k; column = m.column; word = m.word } ∷ []) is in
+        subst (λ (u : Places × Rest). ReadsSide names r u.0 u.1) (the_ok _ s e)
+        (record {
           marks = m ∷ [];
-          whole = takes.marks ∙ ap (λ (u : Places × Rest). m ∷ u.1.marks) same;
-          is_side = inl (record {
-            column = m.column;
-            bytes = m.word;
-            alone = ap (λ (k : TokenKind). record { kind = k; column = m.column; word = m.word } ∷ []) is;
-            nothing = sym (ap (λ (u : Places × Rest). u.0) same);
-          });
-          stop = sym (ap (λ (u : Places × Rest). u.1.stop) same) ∙ takes.stop;
-        }
+          whole = takes.marks;
+          is_side = inl (record { column = m.column; bytes = m.word; alone = alone; nothing = refl });
+          stop = takes.stop;
+        })
     told m next_column takes _ is e = cc
 
 -- ---- back
+-- what is left of a line
+abbrev left_at : ℕ → ℕ → List Mark → Option Stop → Rest
+left_at line next_column marks stop = record { line = line; next_column = next_column; marks = marks; stop = stop }
+
 -- what stands after words is no word
 abbrev pub NoWord : List Mark → Type 0
 NoWord [] = Unit {0}
@@ -150,18 +164,19 @@ NoWord (m ∷ ms) = is_word_token m.kind ≡ false
 
 record WordsRead (names : List (List ℕ)) (line : ℕ) (acc : Places) (from : ℕ) (words tail : List Mark) (stop : Option Stop) (x : Places) : Type 0 where
   next_column : ℕ
-  read : words_from names line acc from (words ++ tail) stop ≡ Ok (x, record { line = line; next_column = next_column; marks = tail; stop = stop })
+  read : words_from names line acc from (words ++ tail) stop ≡ Ok (x, left_at line next_column tail stop)
 
 words_back : (names : List (List ℕ)) (line : ℕ) (acc : Places) (from : ℕ) (words tail : List Mark) (stop : Option Stop) → All (IsAttribute format.Plain names) words → NoWord tail
     → WordsRead names line acc from words tail stop (union acc (named names words))
 unfolding words_from
 words_back names line acc from [] [] stop each other = record {
   next_column = from;
-  read = ap (λ (x : Places). Ok (x, record { line = line; next_column = from; marks = []; stop = stop })) (sym (union-none acc (named names []) refl));
+  read = ap (λ (x : Places). Ok (x, left_at line from [] stop)) (sym (union-none acc (named names []) refl));
 }
 words_back names line acc from [] (m ∷ ms) stop each other = record {
   next_column = from;
-  read = rw other (ap (λ (x : Places). Ok (x, record { line = line; next_column = from; marks = m ∷ ms; stop = stop })) (sym (union-none acc (named names []) refl)));
+  read = rw other
+      (ap (λ (x : Places). Ok (x, left_at line from (m ∷ ms) stop)) (sym (union-none acc (named names []) refl)));
 }
 words_back names line acc from (m ∷ words) tail stop each other =
     let here : IsAttribute format.Plain names m = All-head (IsAttribute format.Plain names) m words each in
@@ -171,13 +186,13 @@ words_back names line acc from (m ∷ words) tail stop each other =
     record {
       next_column = rest.next_column;
       read = simp (here.word, place_back names line m here)
-          (rest.read ∙ ap (λ (x : Places). Ok (x, record { line = line; next_column = rest.next_column; marks = tail; stop = stop })) members);
+          (rest.read ∙ ap (λ (x : Places). Ok (x, left_at line rest.next_column tail stop)) members);
     }
 
 -- a side that is read from a column
 pub record SideRead (names : List (List ℕ)) (line from : ℕ) (marks tail : List Mark) (stop : Option Stop) (x : Places) : Type 0 where
   pub next_column : ℕ
-  pub read : side names (record { line = line; next_column = from; marks = marks ++ tail; stop = stop }) ≡ Ok (x, record { line = line; next_column = next_column; marks = tail; stop = stop })
+  pub read : side names (left_at line from (marks ++ tail) stop) ≡ Ok (x, left_at line next_column tail stop)
 
 pub side_back : (names : List (List ℕ)) (line from : ℕ) (marks tail : List Mark) (stop : Option Stop) (x : Places) → IsSide format.Plain names marks x → NoWord tail
     → SideRead names line from marks tail stop x
@@ -192,5 +207,5 @@ side_back names line from (m ∷ marks) tail stop x (inr words) other =
     record {
       next_column = rest.next_column;
       read = simp (here.word, place_back names line m here)
-          (rest.read ∙ ap (λ (z : Places). Ok (z, record { line = line; next_column = rest.next_column; marks = tail; stop = stop })) members);
+          (rest.read ∙ ap (λ (z : Places). Ok (z, left_at line rest.next_column tail stop)) members);
     }

@@ -27,8 +27,10 @@ pub record Reads (P : Mark → Type 0) (r next : Rest) : Type 0 where
   pub takes : Takes r mark next
   pub holds : P mark
 
-pub reads_value : {X : Type 0} (want : What) (found : Mark → Option X) (P : X → Mark → Type 0) → ((x : X) (m : Mark) → found m ≡ Some x → P x m) → (r : Rest) (v : X × Rest)
-    → (take want r >>= λ t. ok_or (found t.0) (expected want t.0 t.1) >>= λ x. Ok (x, t.1)) ≡ Ok v → Reads (P v.0) r v.1
+pub reads_value : {X : Type 0} (want : What) (found : Mark → Option X) (P : X → Mark → Type 0)
+    → ((x : X) (m : Mark) → found m ≡ Some x → P x m) → (r : Rest) (v : X × Rest)
+    → (take want r >>= λ t. ok_or (found t.0) (expected want t.0 t.1) >>= λ x. Ok (x, t.1)) ≡ Ok v
+    → Reads (P v.0) r v.1
 reads_value {X} want found P holds r v e =
     let t = bind_ok (take want r) _ v e in
     let x = bind_ok (ok_or (found t.0.0) (expected want t.0.0 t.0.1)) _ v t.2 in
@@ -39,12 +41,17 @@ reads_value {X} want found P holds r v e =
       holds = holds v.0 t.0.0 (some_of_ok (found t.0.0) _ x.0 x.1 ∙ ap (λ (u : X × Rest). Some u.0) same);
     }
 
-reads_test : (want : What) (test : Mark → Bool) (P : Mark → Type 0) → ((m : Mark) → test m ≡ true → P m) → (r next : Rest)
+reads_test : (want : What) (test : Mark → Bool) (P : Mark → Type 0) → ((m : Mark) → test m ≡ true → P m)
+    → (r next : Rest)
     → (take want r >>= λ t. cond (test t.0) (Ok t.1) (Err (expected want t.0 t.1))) ≡ Ok next → Reads P r next
 reads_test want test P holds r next e =
     let t = bind_ok (take want r) _ next e in
     let passed = chosen (test t.0.0) (expected want t.0.0 t.0.1) t.0.1 next t.2 in
-    record { mark = t.0.0; takes = subst (λ (u : Rest). Takes r t.0.0 u) passed.1 (take_there want r t.0 t.1); holds = holds t.0.0 passed.0 }
+    record {
+      mark = t.0.0;
+      takes = subst (λ (u : Rest). Takes r t.0.0 u) passed.1 (take_there want r t.0 t.1);
+      holds = holds t.0.0 passed.0;
+    }
 
 number_kind : (n : ℕ) (k : TokenKind) → number_in k ≡ Some n → k ≡ token.Number n
 number_kind n (token.Number m) e = let same : m ≡ n = cc in ap token.Number same
@@ -52,7 +59,8 @@ number_kind n _ e = cc
 
 pub number_there : (r : Rest) (v : ℕ × Rest) → number r ≡ Ok v → Reads (IsNumber v.0) r v.1
 unfolding number
-number_there r v e = reads_value what.Number (λ m. number_in m.kind) IsNumber (λ n m h. number_kind n m.kind h) r v e
+number_there r v e =
+    reads_value what.Number (λ m. number_in m.kind) IsNumber (λ n m h. number_kind n m.kind h) r v e
 
 colon_kind : (k : TokenKind) → is_colon k ≡ true → k ≡ token.Colon
 colon_kind token.Colon e = refl
@@ -60,7 +68,8 @@ colon_kind _ e = cc
 
 pub colon_there : (r next : Rest) → colon r ≡ Ok next → Reads IsColon r next
 unfolding colon
-colon_there r next e = reads_test what.Colon (λ m. is_colon m.kind) IsColon (λ m h. colon_kind m.kind h) r next e
+colon_there r next e =
+    reads_test what.Colon (λ m. is_colon m.kind) IsColon (λ m h. colon_kind m.kind h) r next e
 
 with_says : (k : TokenKind) (word : List ℕ) → is_with k word ≡ true → (k ≡ token.Word) × (word ≡ codes "with")
 unfolding is_with
@@ -70,7 +79,8 @@ with_says _ word e = cc
 pub with_there : (r next : Rest) → with_word r ≡ Ok next → Reads (IsKeyword (codes "with")) r next
 unfolding with_word
 with_there r next e =
-    reads_test what.With (λ m. is_with m.kind m.word) (IsKeyword (codes "with")) (λ m h. with_says m.kind m.word h) r next e
+    reads_test what.With (λ m. is_with m.kind m.word) (IsKeyword (codes "with"))
+    (λ m h. with_says m.kind m.word h) r next e
 
 -- ---- the name of a rule
 abbrev pub spelled : RuleName → List ℕ
@@ -85,20 +95,26 @@ spelled rule.MTransitivity = codes "mtransitivity"
 spelled rule.Replication = codes "replication"
 spelled rule.Coalescence = codes "coalescence"
 
-peel : (word : List ℕ) (first r : RuleName) (others : Option RuleName) → (others ≡ Some r → word ≡ spelled r) → cond (bytes_eq word (spelled first)) (Some first) others ≡ Some r
+peel : (word : List ℕ) (first r : RuleName) (others : Option RuleName) → (others ≡ Some r → word ≡ spelled r)
+    → cond (bytes_eq word (spelled first)) (Some first) others ≡ Some r
     → word ≡ spelled r
 peel word first r others more e =
     ⊎_elim
-    (λ (same : bytes_eq word (spelled first) ≡ true). let found = rw same at e in let this : first ≡ r = cc in (bytes_eq-Decides word (spelled first)).0 same ∙ ap spelled this)
+    (λ (same : bytes_eq word (spelled first) ≡ true). let found = rw same at e in
+    let this : first ≡ r = cc in (bytes_eq-Decides word (spelled first)).0 same ∙ ap spelled this)
     (λ (other : bytes_eq word (spelled first) ≡ false). more (rw other at e))
     (cases_Bool (bytes_eq word (spelled first)))
 
-pub rule_named_there : (k : TokenKind) (word : List ℕ) (r : RuleName) → rule_named k word ≡ Some r → (k ≡ token.Word) × (word ≡ spelled r)
+pub rule_named_there : (k : TokenKind) (word : List ℕ) (r : RuleName) → rule_named k word ≡ Some r
+    → (k ≡ token.Word) × (word ≡ spelled r)
 unfolding rule_named rule_word
 rule_named_there token.Word word r e = (
   refl,
-  peel word rule.Given r _ (peel word rule.Reflexivity r _ (peel word rule.Augmentation r _ (peel word rule.Transitivity r _ (peel word rule.Complementation r _
-      (peel word rule.MReflexivity r _ (peel word rule.MAugmentation r _ (peel word rule.MTransitivity r _ (peel word rule.Replication r _
+  peel word rule.Given r _
+      (peel word rule.Reflexivity r _
+      (peel word rule.Augmentation r _ (peel word rule.Transitivity r _ (peel word rule.Complementation r _
+      (peel word rule.MReflexivity r _
+      (peel word rule.MAugmentation r _ (peel word rule.MTransitivity r _ (peel word rule.Replication r _
       (peel word rule.Coalescence r _ (λ none. cc)))))))))) e,
 )
 rule_named_there _ word r e = cc

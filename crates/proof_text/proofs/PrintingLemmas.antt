@@ -18,23 +18,32 @@ use Rattle.proof_grammar.specs.Printing.{certificate_line_text, numbered_line, n
 pub stated_within : (s : Schema) (p : Deriv) (d : Dependency) → Proves s (tree_of p) d → IsWithin (universe_of s) d
 stated_within s p d proves = conclusion_within s (tree_of p) d (tree_of-attributes p) proves
 
-pub step_added : (s : Schema) (t : Tree) (rule : Step) (u : Tree) (d : Dependency) (n p : ℕ) (old mid new : List ℕ) → t ≡ step rule u → Proves s (step rule u) d → p ≡ n + nodes u
+pub step_added : (s : Schema) (t : Tree) (rule : Step) (u : Tree) (d : Dependency) (n p : ℕ)
+    (old mid new : List ℕ)
+    → t ≡ step rule u → Proves s (step rule u) d → p ≡ n + nodes u
     → mid ≡ old ++ certificate_lines_text (names_of s) (node_lines_after s n u) → new ≡ mid ++ certificate_line_text (names_of s) (numbered_line (p + 1) d (by_step rule p))
     → new ≡ old ++ certificate_lines_text (names_of s) (node_lines_after s n t)
 step_added s t rule u d n p old mid new e proves count before last =
     let concludes : concluded s 0 (step rule u) ≡ Ok d = concluded-from s 0 (step rule u) d proves in
     let line = certificate_line_text (names_of s) in
-    let whole = flat_map-append line (node_lines_after s n u) (numbered_line (n + nodes u + 1) d (by_step rule (n + nodes u)) ∷ []) in
+    let whole = flat_map-append line (node_lines_after s n u)
+    (numbered_line (n + nodes u + 1) d (by_step rule (n + nodes u)) ∷ []) in
     rw (e, concludes, whole, last, before, count) (simp (append-nil, append_assoc))
 
-pub pair_added : (s : Schema) (t : Tree) (rule : Pair) (u v : Tree) (d : Dependency) (n p q : ℕ) (old mid more new : List ℕ) → t ≡ pair rule u v → Proves s (pair rule u v) d
-    → p ≡ n + nodes u → q ≡ p + nodes v → mid ≡ old ++ certificate_lines_text (names_of s) (node_lines_after s n u)
-    → more ≡ mid ++ certificate_lines_text (names_of s) (node_lines_after s p v) → new ≡ more ++ certificate_line_text (names_of s) (numbered_line (q + 1) d (by_pair rule p q))
+pub pair_added : (s : Schema) (t : Tree) (rule : Pair) (u v : Tree) (d : Dependency) (n p q : ℕ)
+    (old mid more new : List ℕ)
+    → t ≡ pair rule u v → Proves s (pair rule u v) d
+    → p ≡ n + nodes u → q ≡ p + nodes v
+    → mid ≡ old ++ certificate_lines_text (names_of s) (node_lines_after s n u)
+    → more ≡ mid ++ certificate_lines_text (names_of s) (node_lines_after s p v)
+    → new ≡ more ++ certificate_line_text (names_of s) (numbered_line (q + 1) d (by_pair rule p q))
     → new ≡ old ++ certificate_lines_text (names_of s) (node_lines_after s n t)
 pair_added s t rule u v d n p q old mid more new e proves first_count second_count first second last =
     let concludes : concluded s 0 (pair rule u v) ≡ Ok d = concluded-from s 0 (pair rule u v) d proves in
     let line = certificate_line_text (names_of s) in
     let xs = node_lines_after s n u in
     let ys = node_lines_after s (n + nodes u) v in
-    let end = numbered_line (n + nodes u + nodes v + 1) d (by_pair rule (n + nodes u) (n + nodes u + nodes v)) ∷ [] in
-    rw (e, concludes, flat_map-append line (xs ++ ys) end, flat_map-append line xs ys, last, second, first, second_count, first_count) (simp (append-nil, append_assoc))
+    let end = numbered_line (n + nodes u + nodes v + 1) d
+    (by_pair rule (n + nodes u) (n + nodes u + nodes v)) ∷ [] in
+    rw (e, concludes, flat_map-append line (xs ++ ys) end, flat_map-append line xs ys, last, second, first)
+    (rw (second_count, first_count) (simp (append-nil, append_assoc)))

@@ -26,7 +26,8 @@ line_within text line None cut = cut.within
 line_within text line (Some after) cut = cut.within
 
 -- a refusal within a part is one of the whole
-pub on_complaint : {A B : Type 0} (o : Option Complaint) (line : ℕ) (part : Result A Complaint) (whole : Result B LineComplaint)
+pub on_complaint : {A B : Type 0} (o : Option Complaint) (line : ℕ) (part : Result A Complaint)
+    (whole : Result B LineComplaint)
     → ((why : Complaint) → part ≡ Err why → whole ≡ Err (complaint_at line why))
     → MatchOption o (Unit {0}) (λ c. part ≡ Err c) → MatchOption o (Unit {0}) (λ c. whole ≡ Err (complaint_at line c))
 on_complaint None line part whole each h = tt {0}

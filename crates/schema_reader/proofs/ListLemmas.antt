@@ -14,15 +14,18 @@ pub record Lists (f : Format) (column : Column) (line : ℕ) (first : Declaratio
   pub room : next_column + length rest < 2 ^ 32
 
 -- what does not ask whether a name stood before
-pub names_stop : (f : Format) (column : Column) (line : ℕ) (d : Declarations) (some : Bool) (next_column : ℕ) (stop : Stop)
+pub names_stop : (f : Format) (column : Column) (line : ℕ) (d : Declarations) (some : Bool) (next_column : ℕ)
+    (stop : Stop)
     → list_names f column line d some next_column [] (Some stop) ≡ Err (refused_by line stop)
 unfolding list_names
 names_stop f column line d true next_column stop = refl
 names_stop f column line d false next_column stop = refl
 
-pub names_next : (f : Format) (column : Column) (line : ℕ) (d : Declarations) (some : Bool) (next_column : ℕ) (m : Mark) (ms : List Mark) (stop : Option Stop)
+pub names_next : (f : Format) (column : Column) (line : ℕ) (d : Declarations) (some : Bool) (next_column : ℕ)
+    (m : Mark) (ms : List Mark) (stop : Option Stop)
     → list_names f column line d some next_column (m ∷ ms) stop
-    ≡ and_then (at line m.column (length m.word) (name_step f column d some m.kind m.word)) (λ next. list_names f column line next true (m.column + length m.word) ms stop)
+    ≡ and_then (at line m.column (length m.word) (name_step f column d some m.kind m.word))
+    (λ next. list_names f column line next true (m.column + length m.word) ms stop)
 unfolding list_names
 names_next f column line d true next_column m ms stop = refl
 names_next f column line d false next_column m ms stop = refl

@@ -30,14 +30,8 @@ pub record PrintsRuns (columns : List Column) (names : List (List ℕ)) (before 
 pub at_place : {X : Type 0} (xs : List X) (i : ℕ) (x : X) → slice_get xs i ≡ Some x → drop i xs ≡ x ∷ drop (i + 1) xs
 at_place xs i x e =
     let inside : i < length xs = slice_get_within xs i x e in
-    rw (add-one, drop-cons xs i x) (let same : get_or xs i x ≡ x = get_or_from_slice_get xs i x x e in rw same refl)
-
-pub set_outside : (names : List (List ℕ)) (x : Places) (before text next : List ℕ) (some more : Bool) (k : ℕ)
-    → PrintsSet names x before text some k → k < length names → false ≡ x k → next ≡ text → more ≡ some → PrintsSet names x before next more (k + 1)
-set_outside names x before text next some more k prints h out same_text same_some = record {
-  same = let rest : drop k names ≡ get_or names k [] ∷ drop (k + 1) names = rw (add-one, drop-cons names k []) refl in
-      let outside : x k ≡ false = sym out in let old = prints.same in rw (same_text, same_some) (rw (rest, outside) at old);
-}
+    rw (add-one, drop-cons xs i x)
+    (let same : get_or xs i x ≡ x = get_or_from_slice_get xs i x x e in rw same refl)
 
 pub set_inside : (names : List (List ℕ)) (x : Places) (before text next : List ℕ) (some more : Bool) (k : ℕ) (name : List ℕ)
     → PrintsSet names x before text some k → slice_get names k ≡ Some name → true ≡ x k
@@ -75,20 +69,22 @@ joined c d name rest runs led = rw led.whole (split (same_column c d) refl)
           rw (append-nil name) (rw (inner, led.text) refl);
     }
 
-cond_append : (b : Bool) (x y z : List ℕ) → cond b x y ++ z ≡ cond b (x ++ z) (y ++ z)
-cond_append true x y z = refl
-cond_append false x y z = refl
-
 runs_led : (c : Column) (name : List ℕ) (columns : List Column) (names : List (List ℕ))
     → IsLed c ((32 ∷ name) ++ after_text c columns names) (in_front c name (runs_of columns names))
 runs_led c name [] names = alone c name
 runs_led c name (d ∷ columns) [] = alone c name
 runs_led c name (d ∷ columns) (next ∷ names) =
     let led = joined c d name ((32 ∷ next) ++ after_text d columns names) (runs_of (d ∷ columns) (next ∷ names)) (runs_led d next columns names) in
-    let same = cond_append (same_column c d) (32 ∷ next) (10 ∷ (type_word d ++ 32 ∷ next)) (after_text d columns names) in
-    let far : (10 ∷ (type_word d ++ 32 ∷ next)) ++ after_text d columns names ≡ 10 ∷ (type_word d ++ ((32 ∷ next) ++ after_text d columns names)) = simp append_assoc in
+    let here = 32 ∷ next in
+    let there = 10 ∷ (type_word d ++ 32 ∷ next) in
+    let more = after_text d columns names in
+    let same : cond (same_column c d) here there ++ more ≡ cond (same_column c d) (here ++ more)
+    (there ++ more) =
+    elim (same_column c d) as
+    (λ b. cond b here there ++ more ≡ cond b (here ++ more) (there ++ more)) [ true ↦ refl | false ↦ refl ] in
+    let far : there ++ more ≡ 10 ∷ (type_word d ++ (here ++ more)) = simp append_assoc in
     let of : List ℕ → Type 0 = λ rest. IsLed c ((32 ∷ name) ++ rest) (in_front c name (runs_of (d ∷ columns) (next ∷ names))) in
-    subst of (ap (λ t. cond (same_column c d) ((32 ∷ next) ++ after_text d columns names) t) (sym far) ∙ sym same) led
+    subst of (ap (λ t. cond (same_column c d) (here ++ more) t) (sym far) ∙ sym same) led
 
 pub runs_begin : (columns : List Column) (names : List (List ℕ)) (before text : List ℕ) (c : Column) (name : List ℕ)
     → slice_get columns 0 ≡ Some c → slice_get names 0 ≡ Some name → text ≡ before ++ (type_word c ++ 32 ∷ name) → PrintsRuns columns names before text c 1
@@ -98,14 +94,8 @@ runs_begin (d ∷ columns) (first ∷ names) before text c name first_type first
     let type_is : d ≡ c = cc in
     let name_is : first ≡ name = cc in
     let led = runs_led d first columns names in
-    let whole : lines_text (map run_line (runs_of (d ∷ columns) (first ∷ names))) ≡ type_word d ++ ((32 ∷ first) ++ after_text d columns names) =
+    let whole : lines_text
+    (map run_line (runs_of (d ∷ columns) (first ∷ names))) ≡ type_word
+    d ++ ((32 ∷ first) ++ after_text d columns names) =
     rw led.whole (simp (append_assoc, led.text)) in
     record { same = rw (whole, added, type_is, name_is) (simp append_assoc) }
-
-pub runs_more : (columns : List Column) (names : List (List ℕ)) (before text next : List ℕ) (last c : Column) (k : ℕ) (name : List ℕ)
-    → PrintsRuns columns names before text last k → slice_get columns k ≡ Some c → slice_get names k ≡ Some name
-    → next ≡ text ++ cond (same_column last c) (32 ∷ name) (10 ∷ (type_word c ++ 32 ∷ name)) → PrintsRuns columns names before next c (k + 1)
-runs_more columns names before text next last c k name prints its_type its_name added = record {
-  same = let types = at_place columns k c its_type in let rest = at_place names k name its_name in let old = prints.same in
-      rw added (rw append_assoc (rw (types, rest) at old));
-}

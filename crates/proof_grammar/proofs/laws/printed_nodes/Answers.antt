@@ -4,4 +4,7 @@ use Rattle.proof_grammar.proofs.PrintedNodes.{printed_nodes}
 use Rattle.proof_grammar.proofs.laws.printed_nodes.Goals as goal
 
 pub returns : goal.returns
-returns c = record { law = λ s p d proves. let are = printed_nodes s (tree_of p) d proves in (are, lines_count s _ (tree_of p) are) }
+returns c = record {
+  law = λ s p d proves. let are = printed_nodes s (tree_of p) d proves in
+      (are, lines_count s _ (tree_of p) are);
+}

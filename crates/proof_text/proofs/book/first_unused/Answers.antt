@@ -5,4 +5,7 @@ use Rattle.proof_text.proofs.BookLemmas.{first_len}
 use Rattle.proof_text.proofs.book.first_unused.Goals as goal
 
 pub returns : goal.returns
-returns c = record { first = rw (first_len c.args.unused.now, length-map c.args.unused.now (option_map opened_of)) c.first_open.ensures.first }
+returns c = record {
+  first = rw (first_len c.args.unused.now, length-map c.args.unused.now (option_map opened_of))
+      c.first_open.ensures.first;
+}

@@ -11,7 +11,8 @@ use Rattle.proof_text.proofs.printing.+add_lines.Goals as goal
 
 pub add_node-requires-clause-stated : goal.add_node-requires-clause-stated
 add_node-requires-clause-stated t c =
-    stated_within c.args.schema.now c.args.deriv.now (dependency_of c.stated_by_leaf-stated.result) (rw c.in-Leaf.ensures.root c.stated_by_leaf-stated.ensures.stated)
+    stated_within c.args.schema.now c.args.deriv.now (dependency_of c.stated_by_leaf-stated.result)
+    (rw c.in-Leaf.ensures.root c.stated_by_leaf-stated.ensures.stated)
 
 pub add_lines-requires : goal.add_lines-requires
 add_lines-requires t c =
@@ -23,19 +24,22 @@ pub stated_by_step-stated-requires : goal.stated_by_step-stated-requires
 stated_by_step-stated-requires t c =
     let proof = rw c.in-Step.ensures.root at c.requires.proof in
     let from = c.in_ok-from-in-Step in
-    let one = Proves-one c.args.schema.now (tree_of c.in-Step.premise.now) proof.1.0 (dependency_of from.from) proof.1.1 from.ensures.proves in
+    let one = Proves-one c.args.schema.now (tree_of c.in-Step.premise.now) proof.1.0
+    (dependency_of from.from) proof.1.1 from.ensures.proves in
     record { some = (proof.0, rw one at proof.1.2) }
 
 pub add_node-requires-in-Step-clause-stated : goal.add_node-requires-in-Step-clause-stated
 add_node-requires-in-Step-clause-stated t c =
     let from = c.in_ok-from-in-Step in
     stated_within c.args.schema.now c.args.deriv.now (dependency_of c.stated_by_step-stated.result)
-    (rw c.in-Step.ensures.root (dependency_of from.from, from.ensures.proves, c.stated_by_step-stated.ensures.stated))
+    (rw c.in-Step.ensures.root
+    (dependency_of from.from, from.ensures.proves, c.stated_by_step-stated.ensures.stated))
 
 pub add_node-requires-in-Step-clause-body : goal.add_node-requires-in-Step-clause-body
 add_node-requires-in-Step-clause-body t c =
     let own = rw c.in-Step.ensures.root at (tree_of-attributes c.args.deriv.now) in
-    step_within c.args.schema.now (step_of c.in-Step.rule) (dependency_of c.in_ok-from-in-Step.from) (dependency_of c.stated_by_step-stated.result) own.0 c.stated_by_step-stated.ensures.stated
+    step_within c.args.schema.now (step_of c.in-Step.rule) (dependency_of c.in_ok-from-in-Step.from)
+    (dependency_of c.stated_by_step-stated.result) own.0 c.stated_by_step-stated.ensures.stated
 
 pub add_lines-requires-in-Pair : goal.add_lines-requires-in-Pair
 add_lines-requires-in-Pair t c =
@@ -55,8 +59,10 @@ stated_by_pair-stated-requires t c =
     let proof = rw c.in-Pair.ensures.root at c.requires.proof in
     let left = c.in_ok-left-in-Pair in
     let right = c.in_ok-right-in-Pair in
-    let first = Proves-one s (tree_of c.in-Pair.first.now) proof.1.0 (dependency_of left.left) proof.1.2 left.ensures.proves in
-    let second = Proves-one s (tree_of c.in-Pair.second.now) proof.1.1 (dependency_of right.right) proof.1.3 right.ensures.proves in
+    let first = Proves-one s (tree_of c.in-Pair.first.now) proof.1.0
+    (dependency_of left.left) proof.1.2 left.ensures.proves in
+    let second = Proves-one s (tree_of c.in-Pair.second.now) proof.1.1
+    (dependency_of right.right) proof.1.3 right.ensures.proves in
     record { some = (proof.0, rw (first, second) at proof.1.4) }
 
 pub add_node-requires-in-Pair-clause-stated : goal.add_node-requires-in-Pair-clause-stated
@@ -64,7 +70,13 @@ add_node-requires-in-Pair-clause-stated t c =
     let left = c.in_ok-left-in-Pair in
     let right = c.in_ok-right-in-Pair in
     stated_within c.args.schema.now c.args.deriv.now (dependency_of c.stated_by_pair-stated.result)
-    (rw c.in-Pair.ensures.root (dependency_of left.left, dependency_of right.right, left.ensures.proves, right.ensures.proves, c.stated_by_pair-stated.ensures.stated))
+    (rw c.in-Pair.ensures.root (
+      dependency_of left.left,
+      dependency_of right.right,
+      left.ensures.proves,
+      right.ensures.proves,
+      c.stated_by_pair-stated.ensures.stated,
+    ))
 
 pub returns-in_ok-from-in-Step-clause-added : goal.returns-in_ok-from-in-Step-clause-added
 returns-in_ok-from-in-Step-clause-added t c =
@@ -72,9 +84,11 @@ returns-in_ok-from-in-Step-clause-added t c =
     let d = dependency_of c.stated_by_step-stated.result in
     let from = c.in_ok-from-in-Step in
     on_ok_weaker c.add_node-in-Step.result
-    (λ added. step_added s (tree_of c.args.deriv.now) (step_of c.in-Step.rule) (tree_of c.in-Step.premise.now) d c.args.printed.now c.add_lines.new.printed
+    (λ added. step_added s (tree_of c.args.deriv.now) (step_of c.in-Step.rule)
+    (tree_of c.in-Step.premise.now) d c.args.printed.now c.add_lines.new.printed
     c.args.text.now.items c.add_lines.new.text.items c.add_node-in-Step.new.text.items c.in-Step.ensures.root
-    (dependency_of from.from, from.ensures.proves, c.stated_by_step-stated.ensures.stated) from.ensures.printed from.ensures.added added) c.add_node-in-Step.ensures.added
+    (dependency_of from.from, from.ensures.proves, c.stated_by_step-stated.ensures.stated)
+    from.ensures.printed from.ensures.added added) c.add_node-in-Step.ensures.added
 
 pub returns-in_ok-right-in-Pair-clause-added : goal.returns-in_ok-right-in-Pair-clause-added
 returns-in_ok-right-in-Pair-clause-added t c =
@@ -83,8 +97,16 @@ returns-in_ok-right-in-Pair-clause-added t c =
     let left = c.in_ok-left-in-Pair in
     let right = c.in_ok-right-in-Pair in
     on_ok_weaker c.add_node-in-Pair.result
-    (λ added. pair_added s (tree_of c.args.deriv.now) (pair_of c.in-Pair.rule) (tree_of c.in-Pair.first.now) (tree_of c.in-Pair.second.now) d
+    (λ added. pair_added s (tree_of c.args.deriv.now) (pair_of c.in-Pair.rule) (tree_of c.in-Pair.first.now)
+    (tree_of c.in-Pair.second.now) d
     c.args.printed.now c.add_lines-in-Pair.new.printed c.add_lines-in-Pair-2.new.printed
-    c.args.text.now.items c.add_lines-in-Pair.new.text.items c.add_lines-in-Pair-2.new.text.items c.add_node-in-Pair.new.text.items c.in-Pair.ensures.root
-    (dependency_of left.left, dependency_of right.right, left.ensures.proves, right.ensures.proves, c.stated_by_pair-stated.ensures.stated)
-    left.ensures.printed right.ensures.printed left.ensures.added right.ensures.added added) c.add_node-in-Pair.ensures.added
+    c.args.text.now.items c.add_lines-in-Pair.new.text.items c.add_lines-in-Pair-2.new.text.items
+    c.add_node-in-Pair.new.text.items c.in-Pair.ensures.root (
+      dependency_of left.left,
+      dependency_of right.right,
+      left.ensures.proves,
+      right.ensures.proves,
+      c.stated_by_pair-stated.ensures.stated,
+    )
+    left.ensures.printed right.ensures.printed left.ensures.added right.ensures.added added)
+    c.add_node-in-Pair.ensures.added

@@ -28,7 +28,9 @@ lines-init c = record {
   same = ap (λ book. read_certificate_lines c.args.schema.now true 1 book (line_texts (without_mark c.args.text.now))) (sym c.new-book.ensures.empty)
       ∙ ap (λ text. read_certificate_lines c.args.schema.now true 1 (ledger_of c.new-book.result) (line_texts text)) (sym c.without_mark-rest.ensures.text);
   room =
-      let short : length c.without_mark-rest.result.now ≤ length c.args.text.now = subst (λ (t : List ℕ). length t ≤ length c.args.text.now) (sym c.without_mark-rest.ensures.text) (shorter _ c.args.text.now) in
+      let short : length c.without_mark-rest.result.now ≤ length c.args.text.now =
+      subst (λ (t : List ℕ). length t ≤ length c.args.text.now) (sym c.without_mark-rest.ensures.text)
+      (shorter _ c.args.text.now) in
       omega arith;
   ledger = subst (IsLedger c.args.schema.now) (sym c.new-book.ensures.empty) (record { stand = tt {0}; count = refl; few = omega arith });
 }
@@ -41,7 +43,8 @@ unfolding read_certificate_lines
 returns-in-Err-clause-err c =
     refuses_there c.args.schema.now c.args.text.now (record { line = c.lines.number; kind = c.in-Err.kind })
     (on_complaint (complaint_of c.in-Err.kind) c.lines.number _ _
-    (λ why refused. rw (c.lines.invariant.same, cut_any _ _ _ c.cut_line.ensures.cut, refused) refl) c.in-Err.ensures.err)
+    (λ why refused. rw (c.lines.invariant.same, cut_any _ _ _ c.cut_line.ensures.cut, refused) refl)
+    c.in-Err.ensures.err)
 
 pub returns-in-None-clause-ok : goal.returns-in-None-clause-ok
 unfolding read_certificate_lines
@@ -51,7 +54,8 @@ returns-in-None-clause-ok c =
     let cut = cut_last _ _ _ c.in-None.is c.cut_line.ensures.cut in
     let back : c.lines.number + 1 - 1 ≡ c.lines.number = omega arith in
     IfOk-weaker c.finish.result (λ x. finished_certificate c.lines.number (ledger_of c.read_one.new.book) ≡ Ok (tree_of x.deriv.value)) (λ x. SpellsWithin s text (tree_of x.deriv.value))
-    (λ x given. spelled_there s text (tree_of x.deriv.value) (rw (c.lines.invariant.same, cut.lines, c.in-Ok.ensures.ok, back) given)) c.finish.ensures.ok
+    (λ x given. spelled_there s text (tree_of x.deriv.value)
+    (rw (c.lines.invariant.same, cut.lines, c.in-Ok.ensures.ok, back) given)) c.finish.ensures.ok
 
 pub returns-in-None-clause-concludes : goal.returns-in-None-clause-concludes
 returns-in-None-clause-concludes c =
@@ -68,7 +72,8 @@ returns-in-None-clause-checked c =
     let cut = cut_last _ _ _ c.in-None.is c.cut_line.ensures.cut in
     let back : c.lines.number + 1 - 1 ≡ c.lines.number = omega arith in
     IfOk-weaker c.finish.result (λ x. finished_certificate c.lines.number (ledger_of c.read_one.new.book) ≡ Ok (tree_of x.deriv.value)) (λ x. IsChecked s (tree_of x.deriv.value))
-    (λ x given. read_proof_checked s text (tree_of x.deriv.value) (rw (c.lines.invariant.same, cut.lines, c.in-Ok.ensures.ok, back) given)) c.finish.ensures.ok
+    (λ x given. read_proof_checked s text (tree_of x.deriv.value)
+    (rw (c.lines.invariant.same, cut.lines, c.in-Ok.ensures.ok, back) given)) c.finish.ensures.ok
 
 pub returns-in-None-clause-dep : goal.returns-in-None-clause-dep
 returns-in-None-clause-dep c =

@@ -18,7 +18,8 @@ pub returns-in-Err-clause-err : goal.returns-in-Err-clause-err
 unfolding follow
 returns-in-Err-clause-err c =
     let leads = c.in-Token.ensures.exact in
-    rw (c.tokens.invariant.same, leads.all_tokens, c.in-Err.ensures.err, c.at.ensures.refusal, leads.same_length) refl
+    rw (c.tokens.invariant.same, leads.all_tokens, c.in-Err.ensures.err, c.at.ensures.refusal)
+    (rw leads.same_length refl)
 
 pub tokens-preserved : goal.tokens-preserved
 unfolding follow

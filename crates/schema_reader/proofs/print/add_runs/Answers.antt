@@ -1,6 +1,6 @@
-use Rattle.std.proofs.Common.{sym, ◌∙◌, ap, Some}
+use Rattle.std.proofs.Common.{sym, ◌∙◌, ap, Some, append_assoc}
 use Rattle.dep_model.specs.Schemas.{names_of, columns_of}
-use Rattle.schema_reader.proofs.PrintLemmas.{runs_begin, runs_more}
+use Rattle.schema_reader.proofs.PrintLemmas.{at_place, runs_begin}
 use Rattle.schema_reader.proofs.print.add_runs.Goals as goal
 
 pub loop-place-init : goal.loop-place-init
@@ -10,5 +10,11 @@ loop-place-init c =
 
 pub loop-place-preserved : goal.loop-place-preserved
 loop-place-preserved c =
-    runs_more (columns_of c.args.schema.now) (names_of c.args.schema.now) _ _ _ _ _ c.loop-place.place _ c.loop-place.invariant
-    c.column-column.ensures.column (c.name-in-loop-place.ensures.name ∙ ap Some (sym c.bytes-name.ensures.value)) c.in_ok-add_after.ensures.added
+    let k = c.loop-place.place in
+    let types = at_place (columns_of c.args.schema.now) k _ c.column-column.ensures.column in
+    let name = c.name-in-loop-place.ensures.name ∙ ap Some (sym c.bytes-name.ensures.value) in
+    let rest = at_place (names_of c.args.schema.now) k _ name in
+    record {
+      same = rw c.in_ok-add_after.ensures.added
+          (rw append_assoc (rw (types, rest) at c.loop-place.invariant.same));
+    }

@@ -11,7 +11,11 @@ returns-then-is_integer c =
     let k = c.loop-place.place in
     let column = c.column.result in
     let here = c.column.ensures.column in
-    record { some = sym (list_any_at is_integer columns k column (slice_get_within columns k column here) (ap is_integer (get_or_from_slice_get columns k column column here) ∙ sym c.if-is_integer.ensures.exact)) }
+    record {
+      some = sym
+          (list_any_at is_integer columns k column (slice_get_within columns k column here)
+          (ap is_integer (get_or_from_slice_get columns k column column here) ∙ sym c.if-is_integer.ensures.exact));
+    }
 
 pub loop-place-preserved : goal.loop-place-preserved
 loop-place-preserved c =
@@ -19,4 +23,6 @@ loop-place-preserved c =
     let k = c.loop-place.place in
     let column = c.column.result in
     let here = c.column.ensures.column in
-    list_any_more is_integer columns k column (slice_get_within columns k column here) ∙ (rw (c.loop-place.invariant, get_or_from_slice_get columns k column column here) (sym c.if-is_integer.ensures.exact))
+    list_any_more is_integer columns k column (slice_get_within columns k column here)
+    ∙ (rw (c.loop-place.invariant, get_or_from_slice_get columns k column column here)
+    (sym c.if-is_integer.ensures.exact))

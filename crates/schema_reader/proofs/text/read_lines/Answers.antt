@@ -8,7 +8,9 @@ use Rattle.schema_reader.proofs.text.read_lines.Goals as goal
 pub returns-in-Err-clause-err : goal.returns-in-Err-clause-err
 unfolding read_lines
 returns-in-Err-clause-err c =
-    Refuses-whole _ _ _ (λ refused. rw (c.lines.invariant.same, cut_any _ _ _ c.cut_line.ensures.cut, refused) refl) c.in-Err.ensures.err
+    Refuses-whole _ _ _
+    (λ refused. rw (c.lines.invariant.same, cut_any _ _ _ c.cut_line.ensures.cut, refused) refl)
+    c.in-Err.ensures.err
 
 pub returns-in-None-clause-ok : goal.returns-in-None-clause-ok
 unfolding read_lines
@@ -22,13 +24,15 @@ unfolding read_lines
 returns-in-None-clause-err c =
     let cut = cut_last _ _ _ c.in-None.is c.cut_line.ensures.cut in
     let back : c.lines.number + 1 - 1 ≡ c.lines.number = omega arith in
-    rw (c.lines.invariant.same, cut.lines, c.in-Ok.ensures.ok, back) (err_refuses _ _ _ refl c.finish.ensures.err)
+    rw (c.lines.invariant.same, cut.lines, c.in-Ok.ensures.ok, back)
+    (err_refuses _ _ _ refl c.finish.ensures.err)
 
 pub lines-preserved : goal.lines-preserved
 unfolding read_lines
 lines-preserved c =
     let cut = cut_more _ _ _ _ c.in-Some.is c.cut_line.ensures.cut in
-    let better = ok_at (IsSound c.args.format) _ _ c.in-Ok.ensures.ok (line_sound _ _ _ _ c.lines.invariant.sound) in
+    let better = ok_at (IsSound c.args.format) _ _ c.in-Ok.ensures.ok
+    (line_sound _ _ _ _ c.lines.invariant.sound) in
     record {
       same = rw (c.lines.invariant.same, cut.lines, c.in-Ok.ensures.ok) refl;
       sound = better;

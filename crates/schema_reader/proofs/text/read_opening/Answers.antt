@@ -8,38 +8,46 @@ use Rattle.schema_reader.proofs.text.read_opening.Goals as goal
 pub returns-in-Stop-clause-ok : goal.returns-in-Stop-clause-ok
 unfolding read_opening
 returns-in-Stop-clause-ok c =
-    let cut = cut_any _ _ _ c.cut_line.ensures.cut in rw (c.lines.invariant.same, cut, c.in-Stop.ensures.exact, ← cut) c.read_lines.ensures.ok
+    let cut = cut_any _ _ _ c.cut_line.ensures.cut in
+    rw (c.lines.invariant.same, cut, c.in-Stop.ensures.exact, ← cut) c.read_lines.ensures.ok
 
 pub returns-in-Stop-clause-err : goal.returns-in-Stop-clause-err
 unfolding read_opening
 returns-in-Stop-clause-err c =
-    let cut = cut_any _ _ _ c.cut_line.ensures.cut in rw (c.lines.invariant.same, cut, c.in-Stop.ensures.exact, ← cut) c.read_lines.ensures.err
+    let cut = cut_any _ _ _ c.cut_line.ensures.cut in
+    rw (c.lines.invariant.same, cut, c.in-Stop.ensures.exact, ← cut) c.read_lines.ensures.err
 
 pub returns-then-is_version-clause-ok : goal.returns-then-is_version-clause-ok
 unfolding read_opening
 returns-then-is_version-clause-ok c =
     let leads = c.in-Token.ensures.exact in
-    rw (c.lines.invariant.same, cut_any _ _ _ c.cut_line.ensures.cut, leads.all_tokens, ← c.if-is_version.ensures.exact, ← leads.same_length) c.read_typed.ensures.ok
+    let cut = cut_any _ _ _ c.cut_line.ensures.cut in
+    rw (c.lines.invariant.same, cut, leads.all_tokens, ← c.if-is_version.ensures.exact, ← leads.same_length)
+    c.read_typed.ensures.ok
 
 pub returns-then-is_version-clause-err : goal.returns-then-is_version-clause-err
 unfolding read_opening
 returns-then-is_version-clause-err c =
     let leads = c.in-Token.ensures.exact in
-    rw (c.lines.invariant.same, cut_any _ _ _ c.cut_line.ensures.cut, leads.all_tokens, ← c.if-is_version.ensures.exact, ← leads.same_length) c.read_typed.ensures.err
+    let cut = cut_any _ _ _ c.cut_line.ensures.cut in
+    rw (c.lines.invariant.same, cut, leads.all_tokens, ← c.if-is_version.ensures.exact, ← leads.same_length)
+    c.read_typed.ensures.err
 
 pub returns-else-is_version-clause-ok : goal.returns-else-is_version-clause-ok
 unfolding read_opening
 returns-else-is_version-clause-ok c =
     let leads = c.in-Token.ensures.exact in
     let cut = cut_any _ _ _ c.cut_line.ensures.cut in
-    rw (c.lines.invariant.same, cut, leads.all_tokens, ← c.if-is_version.ensures.exact, ← cut) c.read_lines-else-is_version.ensures.ok
+    rw (c.lines.invariant.same, cut, leads.all_tokens, ← c.if-is_version.ensures.exact, ← cut)
+    c.read_lines-else-is_version.ensures.ok
 
 pub returns-else-is_version-clause-err : goal.returns-else-is_version-clause-err
 unfolding read_opening
 returns-else-is_version-clause-err c =
     let leads = c.in-Token.ensures.exact in
     let cut = cut_any _ _ _ c.cut_line.ensures.cut in
-    rw (c.lines.invariant.same, cut, leads.all_tokens, ← c.if-is_version.ensures.exact, ← cut) c.read_lines-else-is_version.ensures.err
+    rw (c.lines.invariant.same, cut, leads.all_tokens, ← c.if-is_version.ensures.exact, ← cut)
+    c.read_lines-else-is_version.ensures.err
 
 pub returns-in-None-clause-ok : goal.returns-in-None-clause-ok
 unfolding read_opening
@@ -61,4 +69,7 @@ pub lines-preserved : goal.lines-preserved
 unfolding read_opening
 lines-preserved c =
     let cut = cut_more _ _ _ _ c.in-Some.is c.cut_line.ensures.cut in
-    record { same = rw (c.lines.invariant.same, cut.lines, c.in-End.ensures.exact) refl; room = omega (arith, c.lines.invariant.room, cut.shorter) }
+    record {
+      same = rw (c.lines.invariant.same, cut.lines, c.in-End.ensures.exact) refl;
+      room = omega (arith, c.lines.invariant.room, cut.shorter);
+    }

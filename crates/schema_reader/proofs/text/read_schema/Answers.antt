@@ -32,7 +32,12 @@ returns-clause-ok c =
     let here = ap (λ text. read_opening 1 (line_texts text)) (sym c.without_mark.ensures.text) in
     let of = c.make_typed.ensures in
     let theory = ap dependencies_of of.deps in
-    let made : declarations_of c.make_typed.result ≡ drafted c.in-Ok.draft = λ i. record { names = of.names i; columns = of.columns i; deps = theory i; lines = of.lines i } in
+    let made : declarations_of c.make_typed.result ≡ drafted c.in-Ok.draft = λ i. record {
+      names = of.names i;
+      columns = of.columns i;
+      deps = theory i;
+      lines = of.lines i;
+    } in
     (schema-law c.args.text.now (declarations_of c.make_typed.result)).0 (here ∙ c.in-Ok.ensures.ok ∙ ap Ok (sym made))
 
 pub returns-clause-free : goal.returns-clause-free

@@ -8,10 +8,12 @@ pub returns-in-None-clause-ok : goal.returns-in-None-clause-ok
 unfolding read_lines
 returns-in-None-clause-ok c =
     let back : c.args.number + 1 - 1 ≡ c.args.number = omega arith in
-    rw (c.in-None.is, c.in-Ok.ensures.ok, back) (ok_whole drafted _ _ _ (ap (finish c.args.number) (sym c.new.ensures.empty)) c.finish.ensures.ok)
+    rw (c.in-None.is, c.in-Ok.ensures.ok, back)
+    (ok_whole drafted _ _ _ (ap (finish c.args.number) (sym c.new.ensures.empty)) c.finish.ensures.ok)
 
 pub returns-in-None-clause-err : goal.returns-in-None-clause-err
 unfolding read_lines
 returns-in-None-clause-err c =
     let back : c.args.number + 1 - 1 ≡ c.args.number = omega arith in
-    rw (c.in-None.is, c.in-Ok.ensures.ok, back) (err_refuses _ _ _ (ap (finish c.args.number) (sym c.new.ensures.empty)) c.finish.ensures.err)
+    rw (c.in-None.is, c.in-Ok.ensures.ok, back)
+    (err_refuses _ _ _ (ap (finish c.args.number) (sym c.new.ensures.empty)) c.finish.ensures.err)

@@ -21,16 +21,20 @@ returns-in-None-clause-err c =
 pub returns-then-version-eq-VERSION-clause-ok : goal.returns-then-version-eq-VERSION-clause-ok
 unfolding read_version
 returns-then-version-eq-VERSION-clause-ok c =
-    rw (c.in-Token.ensures.exact.all_tokens, ← c.in-Some.ensures.exact, c.if-version-eq-VERSION.true) c.end_version.ensures.ok
+    rw (c.in-Token.ensures.exact.all_tokens, ← c.in-Some.ensures.exact, c.if-version-eq-VERSION.true)
+    c.end_version.ensures.ok
 
 pub returns-then-version-eq-VERSION-clause-err : goal.returns-then-version-eq-VERSION-clause-err
 unfolding read_version
 returns-then-version-eq-VERSION-clause-err c =
-    rw (c.in-Token.ensures.exact.all_tokens, ← c.in-Some.ensures.exact, c.if-version-eq-VERSION.true) c.end_version.ensures.err
+    rw (c.in-Token.ensures.exact.all_tokens, ← c.in-Some.ensures.exact, c.if-version-eq-VERSION.true)
+    c.end_version.ensures.err
 
 pub returns-else-version-eq-VERSION-clause-err : goal.returns-else-version-eq-VERSION-clause-err
 unfolding read_version
 returns-else-version-eq-VERSION-clause-err c =
     let leads = c.in-Token.ensures.exact in
-    let differs : (c.in-Some.version == VERSION) ≡ false = grind (arith, nat_tests, c.if-version-eq-VERSION.false) in
-    rw (leads.all_tokens, ← c.in-Some.ensures.exact, differs, c.at-else-version-eq-VERSION.ensures.refusal, leads.same_length) refl
+    let differs : (c.in-Some.version == VERSION) ≡ false =
+    grind (arith, nat_tests, c.if-version-eq-VERSION.false) in
+    rw (leads.all_tokens, ← c.in-Some.ensures.exact, differs, c.at-else-version-eq-VERSION.ensures.refusal)
+    (rw leads.same_length refl)

@@ -4,17 +4,23 @@ use Rattle.schema_grammar.proofs.RefusalLemmas.{Refuses-here}
 use Rattle.schema_reader.proofs.token_list.tokens.Goals as goal
 
 pub returns-in-End-clause-ok : goal.returns-in-End-clause-ok
-returns-in-End-clause-ok c = rw (← c.mode_of-mode.ensures.mode, c.tokens.invariant.same, c.in-End.ensures.exact, append-nil c.tokens.tokens.items) refl
+returns-in-End-clause-ok c =
+    rw (← c.mode_of-mode.ensures.mode, c.tokens.invariant.same, c.in-End.ensures.exact)
+    (rw (append-nil c.tokens.tokens.items) refl)
 
 pub returns-in-Stop-clause-err : goal.returns-in-Stop-clause-err
 returns-in-Stop-clause-err c =
-    Refuses-here _ _ _ c.by.ensures.refusal (rw (← c.mode_of-mode.ensures.mode, c.tokens.invariant.same, c.in-Stop.ensures.exact) refl)
+    Refuses-here _ _ _ c.by.ensures.refusal
+    (rw (← c.mode_of-mode.ensures.mode, c.tokens.invariant.same, c.in-Stop.ensures.exact) refl)
 
 pub tokens-preserved : goal.tokens-preserved
 tokens-preserved c =
     let leads = c.in-Token.ensures.exact in
-    let added = c.push.ensures.items ∙ ap (λ b. cond b (c.tokens.tokens.items ++ c.in-Token.token ∷ []) c.tokens.tokens.items) c.if-is_err.ensures.negation in
+    let added = c.push.ensures.items
+    ∙ ap (λ b. cond b (c.tokens.tokens.items ++ c.in-Token.token ∷ []) c.tokens.tokens.items)
+    c.if-is_err.ensures.negation in
     record {
-      same = c.tokens.invariant.same ∙ (rw (leads.all_tokens, added, ← leads.same_length) (rw append_assoc refl));
+      same = c.tokens.invariant.same
+          ∙ (rw (leads.all_tokens, added, ← leads.same_length) (rw append_assoc refl));
       room = omega (arith, c.tokens.invariant.room, c.in-Token.ensures.advances.fits);
     }

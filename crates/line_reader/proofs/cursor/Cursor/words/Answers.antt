@@ -14,7 +14,8 @@ returns-in-Stop-clause-ok c = rw (c.words.invariant.same, c.in-Stop.ensures.exac
 
 pub returns-then-not-is_word-clause-ok : goal.returns-then-not-is_word-clause-ok
 unfolding words_from
-returns-then-not-is_word-clause-ok c = rw (c.words.invariant.same, c.in-Token.ensures.exact.all_tokens, ← c.if-not-is_word.ensures.exact) refl
+returns-then-not-is_word-clause-ok c =
+    rw (c.words.invariant.same, c.in-Token.ensures.exact.all_tokens, ← c.if-not-is_word.ensures.exact) refl
 
 pub returns-in-Err-clause-err : goal.returns-in-Err-clause-err
 unfolding words_from
@@ -28,7 +29,15 @@ words-preserved c =
     let leads = c.in-Token.ensures.exact in
     let word = sym c.is_word.ensures.exact ∙ c.if-not-is_word.false in
     record {
-      same = rw (c.words.invariant.same, leads.all_tokens, word, c.in-Ok.ensures.ok, c.added-set.ensures.members, ← leads.same_length) refl;
+      same = rw (c.words.invariant.same, leads.all_tokens, word, c.in-Ok.ensures.ok)
+          (rw (c.added-set.ensures.members, ← leads.same_length) refl);
       room = omega (arith, c.words.invariant.room, c.in-Token.ensures.advances.fits);
-      within = λ k m. grind (arith, nat_tests, c.words.invariant.within k, ap (λ (x : Places). x k) c.added-set.ensures.members, m, c.in-Ok.ensures.inside);
+      within = λ k m. grind (
+        arith,
+        nat_tests,
+        c.words.invariant.within k,
+        ap (λ (x : Places). x k) c.added-set.ensures.members,
+        m,
+        c.in-Ok.ensures.inside,
+      );
     }

@@ -5,14 +5,17 @@ use Rattle.schema_reader.proofs.draft.Draft.read_dependency.Goals as goal
 
 pub returns-in-Err-clause-err : goal.returns-in-Err-clause-err
 unfolding dependency_line
-returns-in-Err-clause-err c = Refuses-here _ _ _ c.at.ensures.refusal (rw (c.in-Err.ensures.err, c.requires.word) refl)
+returns-in-Err-clause-err c =
+    Refuses-here _ _ _ c.at.ensures.refusal (rw (c.in-Err.ensures.err, c.requires.word) refl)
 
 pub returns-in-Err-follow-clause-err : goal.returns-in-Err-follow-clause-err
 unfolding dependency_line
 returns-in-Err-follow-clause-err c =
-    Refuses-from _ _ (rw (c.in-Ok.ensures.ok, ← c.requires.word, ← c.deref.ensures.value, c.in-Err-follow.ensures.err) refl)
+    Refuses-from _ _ (rw
+    (c.in-Ok.ensures.ok, ← c.requires.word, ← c.deref.ensures.value, c.in-Err-follow.ensures.err) refl)
 
 pub returns-in-Ok-add_dependency-clause-ok : goal.returns-in-Ok-add_dependency-clause-ok
 unfolding dependency_line
 returns-in-Ok-add_dependency-clause-ok c =
-    rw (c.in-Ok-add_dependency.ensures.ok, c.in-Ok.ensures.ok, ← c.requires.word, ← c.deref.ensures.value, c.in-Ok-follow.ensures.ok) refl
+    rw (c.in-Ok-add_dependency.ensures.ok, c.in-Ok.ensures.ok, ← c.requires.word, ← c.deref.ensures.value)
+    (rw c.in-Ok-follow.ensures.ok refl)
