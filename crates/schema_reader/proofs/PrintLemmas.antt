@@ -59,11 +59,13 @@ joined : (c d : Column) (name rest : List ℕ) (runs : List Run) → IsLed d res
 joined c d name rest runs led =
     ⊎_elim
     (λ (same : same_column c d ≡ true).
-    rw (led.whole, same)
-    (record { names = name ∷ led.names; others = led.others; whole = refl; text = rw append_assoc (rw led.text refl) }))
+    let text : words_text (name ∷ led.names) ++ 10 ∷ lines_text (map run_line led.others) ≡ (32 ∷ name) ++ rest =
+    rw append_assoc (rw led.text refl) in
+    rw (led.whole, same) (record { names = name ∷ led.names; others = led.others; whole = refl; text = text }))
     (λ (other : same_column c d ≡ false).
     let more = lines_text (map run_line led.others) in
-    let inner : ((type_word d ++ words_text led.names) ++ 10 ∷ []) ++ more ≡ type_word d ++ (words_text led.names ++ 10 ∷ more) =
+    let inner : ((type_word d ++ words_text led.names) ++ 10 ∷ []) ++ more
+    ≡ type_word d ++ (words_text led.names ++ 10 ∷ more) =
     simp append_assoc in
     rw (led.whole, other) (record {
       names = name ∷ [];

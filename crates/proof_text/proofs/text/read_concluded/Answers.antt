@@ -31,7 +31,8 @@ lines-init c = record {
   room =
       let text = c.args.text.now in
       let short : length (without_mark text) ≤ length text =
-      cond_both _ (drop 3 text) text (λ t. length t ≤ length text) (λ marked. omega (arith, length-drop 3 text)) (λ bare. omega arith) in
+      cond_both _ (drop 3 text) text (λ t. length t ≤ length text) (λ marked. omega (arith, length-drop 3 text))
+      (λ bare. omega arith) in
       omega (arith, short, ap length c.without_mark-rest.ensures.text);
   ledger = subst (IsLedger c.args.schema.now) (sym c.new-book.ensures.empty) (record { stand = tt {0}; count = refl; few = omega arith });
 }
