@@ -1,5 +1,5 @@
 -- Reading a certificate line by line.
-use Rattle.std.proofs.Common.{◌≡◌, ◌≤◌, ◌+◌, ℕ, Bool, true, false, List, length, drop, Option, Some, None, Result, Err, cond, arith, length-drop}
+use Rattle.std.proofs.Common.{◌≡◌, ◌≤◌, ◌+◌, ℕ, Bool, List, length, Option, Some, None, Result, Err}
 use Rattle.std.specs.Prelude.{MatchOption}
 use denote.Ref.{Bor}
 use Rattle.dep_model.specs.declared.schema.Schema.{Schema}
@@ -15,11 +15,6 @@ pub record Reads (s : Schema) (text : List ℕ) (fresh : Bool) (number : ℕ) (b
   pub same : read_proof s text ≡ read_certificate_lines s fresh number book (line_texts rest)
   pub room : number + length rest ≤ MOST_PROOF_BYTES + 1
   pub ledger : IsLedger s book
-
--- a text without the byte-order mark is no longer
-pub shorter : (b : Bool) (text : List ℕ) → length (cond b (drop 3 text) text) ≤ length text
-shorter true text = omega (arith, length-drop 3 text)
-shorter false text = omega arith
 
 pub line_within : (text line : List ℕ) (after : Option (Bor (List ℕ))) → CutsLine text line after → length line ≤ length text
 line_within text line None cut = cut.within

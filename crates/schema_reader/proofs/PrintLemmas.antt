@@ -1,6 +1,7 @@
 -- What is printed so far of a set or of a declaring line, and what is still to print.
-use Rattle.std.proofs.Common.{◌≡◌, ◌<◌, ◌+◌, ℕ, Bool, true, false, cond, List, [], ◌∷◌, ◌++◌, length, drop, refl, sym, ◌∙◌, ap, subst, append_assoc, add-one, drop-cons, get_or, Some}
+use Rattle.std.proofs.Common.{◌≡◌, ◌<◌, ◌+◌, ⊎_elim, ℕ, Bool, true, false, cond, List, [], ◌∷◌, ◌++◌, length, drop, refl, sym, ◌∙◌, ap, subst, append_assoc, add-one, drop-cons, get_or, Some}
 use Rattle.std.specs.List.{slice_get}
+use Rattle.std.proofs.lemmas.Bool.{cases_Bool}
 use Rattle.std.proofs.lemmas.Option.{get_or_from_slice_get, slice_get_within}
 use Rattle.std.proofs.lemmas.List.{append-nil}
 use Rattle.std.specs.Prelude.{map}
@@ -55,19 +56,24 @@ alone c name = record { names = name ∷ []; others = []; whole = refl; text = r
 
 joined : (c d : Column) (name rest : List ℕ) (runs : List Run) → IsLed d rest runs
     → IsLed c ((32 ∷ name) ++ cond (same_column c d) rest (10 ∷ (type_word d ++ rest))) (in_front c name runs)
-joined c d name rest runs led = rw led.whole (split (same_column c d) refl)
-  where
-    split : (b : Bool) → same_column c d ≡ b
-        → IsLed c ((32 ∷ name) ++ cond b rest (10 ∷ (type_word d ++ rest))) (cond b (record { column = c; names = name ∷ led.names } ∷ led.others) (record { column = c; names = name ∷ [] } ∷ record { column = d; names = led.names } ∷ led.others))
-    split true e = record { names = name ∷ led.names; others = led.others; whole = refl; text = rw append_assoc (rw led.text refl) }
-    split false e = record {
+joined c d name rest runs led =
+    ⊎_elim
+    (λ (same : same_column c d ≡ true).
+    let text : words_text (name ∷ led.names) ++ 10 ∷ lines_text (map run_line led.others) ≡ (32 ∷ name) ++ rest =
+    rw append_assoc (rw led.text refl) in
+    rw (led.whole, same) (record { names = name ∷ led.names; others = led.others; whole = refl; text = text }))
+    (λ (other : same_column c d ≡ false).
+    let more = lines_text (map run_line led.others) in
+    let inner : ((type_word d ++ words_text led.names) ++ 10 ∷ []) ++ more
+    ≡ type_word d ++ (words_text led.names ++ 10 ∷ more) =
+    simp append_assoc in
+    rw (led.whole, other) (record {
       names = name ∷ [];
       others = record { column = d; names = led.names } ∷ led.others;
       whole = refl;
-      text =
-          let inner : ((type_word d ++ words_text led.names) ++ 10 ∷ []) ++ lines_text (map run_line led.others) ≡ type_word d ++ (words_text led.names ++ 10 ∷ lines_text (map run_line led.others)) = simp append_assoc in
-          rw (append-nil name) (rw (inner, led.text) refl);
-    }
+      text = rw (append-nil name) (rw (inner, led.text) refl);
+    }))
+    (cases_Bool (same_column c d))
 
 runs_led : (c : Column) (name : List ℕ) (columns : List Column) (names : List (List ℕ))
     → IsLed c ((32 ∷ name) ++ after_text c columns names) (in_front c name (runs_of columns names))

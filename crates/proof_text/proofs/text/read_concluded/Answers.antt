@@ -1,4 +1,5 @@
-use Rattle.std.proofs.Common.{◌≡◌, ◌≤◌, ◌+◌, ◌-◌, ◌∙◌, ℕ, sym, ap, subst, List, length, Ok, Some, true, arith, refl}
+use Rattle.std.proofs.Common.{◌≡◌, ◌≤◌, ◌+◌, ◌-◌, ◌∙◌, ℕ, sym, ap, subst, List, length, drop, length-drop, Ok, Some, true, arith, refl}
+use Rattle.std.proofs.lemmas.Bool.{cond_both}
 use Rattle.derivation.specs.Derivs.{tree_of}
 use Rattle.lexer.specs.Lines.{line_texts, without_mark}
 use Rattle.schema_reader.proofs.TextLemmas.{cut_any, cut_last, cut_more}
@@ -19,7 +20,7 @@ use Rattle.proof_grammar.proofs.TextRefusals.{refuses_there}
 use Rattle.schema_grammar.proofs.RefusalLemmas.{err_map}
 use Rattle.proof_text.proofs.PrintingLemmas.{stated_within}
 use Rattle.proof_grammar.proofs.CheckedLemmas.{read_proof_checked, read_one_keeps, root_proves}
-use Rattle.proof_text.proofs.TextLemmas.{shorter, line_within, on_complaint}
+use Rattle.proof_text.proofs.TextLemmas.{line_within, on_complaint}
 use Rattle.proof_text.proofs.text.read_concluded.Goals as goal
 
 pub lines-init : goal.lines-init
@@ -28,10 +29,11 @@ lines-init c = record {
   same = ap (λ book. read_certificate_lines c.args.schema.now true 1 book (line_texts (without_mark c.args.text.now))) (sym c.new-book.ensures.empty)
       ∙ ap (λ text. read_certificate_lines c.args.schema.now true 1 (ledger_of c.new-book.result) (line_texts text)) (sym c.without_mark-rest.ensures.text);
   room =
-      let short : length c.without_mark-rest.result.now ≤ length c.args.text.now =
-      subst (λ (t : List ℕ). length t ≤ length c.args.text.now) (sym c.without_mark-rest.ensures.text)
-      (shorter _ c.args.text.now) in
-      omega arith;
+      let text = c.args.text.now in
+      let short : length (without_mark text) ≤ length text =
+      cond_both _ (drop 3 text) text (λ t. length t ≤ length text) (λ marked. omega (arith, length-drop 3 text))
+      (λ bare. omega arith) in
+      omega (arith, short, ap length c.without_mark-rest.ensures.text);
   ledger = subst (IsLedger c.args.schema.now) (sym c.new-book.ensures.empty) (record { stand = tt {0}; count = refl; few = omega arith });
 }
 
