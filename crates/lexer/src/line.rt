@@ -2,6 +2,8 @@ ghost use Rattle.std.specs.Prelude.{◌≡◌};
 ghost use Rattle.std.specs.List.{position_or_len};
 ghost use Rattle.lexer.specs.Lines.{without_mark, without_return, is_line_feed, CutsLine};
 
+use memchr::memchr;
+
 /// The text without the byte-order mark at its very start, if it has one.
 pub fn without_mark(text: &[u8]) -> &[u8]
     ensures text { result.now ≡ without_mark text.now }
@@ -30,7 +32,10 @@ pub fn cut_line(text: &[u8]) -> (&[u8], Option<&[u8]>)
 fn line_length(text: &[u8]) -> usize
     ensures length { result ≡ position_or_len is_line_feed text.now }
 {
-    text.iter().take_while(|byte| **byte != b'\n').count()
+    match memchr(b'\n', text) {
+        Some(end) => end,
+        None => text.len(),
+    }
 }
 
 /// The line without the carriage return at its end, if it has one.
