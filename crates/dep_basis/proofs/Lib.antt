@@ -5,6 +5,7 @@ pub mod BasisLemmas
 pub mod DecidingLemmas
 pub mod WitnessLemmas
 pub mod LeadLemmas
+pub mod CutLemmas
 pub mod ShowingLemmas
 pub mod JoiningLemmas
 pub mod PieceLemmas

@@ -1,5 +1,5 @@
-use Rattle.std.specs.Prelude.{◌≡◌, ℕ, ◌+◌, ◌*◌, ◌<◌, ◌≤◌, true, false, ◌⊎◌, Some, slice_get}
-use Rattle.attr_sets.specs.Places.{Places, only, Within, Apart, Meets, count_below}
+use Rattle.std.specs.Prelude.{◌≡◌, ℕ, ◌+◌, ◌*◌, ◌<◌, ◌≤◌, List, length, true, false, ◌⊎◌, Option, Some, IsSome, IfSome, slice_get, slice_index_or, if◌then◌else◌}
+use Rattle.attr_sets.specs.Places.{Places, only, none, meet, minus, Within, Apart, Meets, count_below}
 use Rattle.attr_sets.specs.Sets.{places}
 use Rattle.attr_sets.specs.declared.set.TheConstants.{PLACES}
 use Rattle.dep_model.specs.declared.schema.Schema.{Schema}
@@ -11,6 +11,7 @@ use Rattle.dep_model.specs.Keys.{IsBlock}
 use Rattle.derivation.specs.Trees.{Tree, nodes, depth}
 use Rattle.derivation.specs.Derivs.{tree_of}
 use Rattle.derivation.specs.Conclusions.{Proves}
+use Rattle.dep_basis.specs.declared.cutting.Cut.{Cut}
 use Rattle.dep_basis.specs.declared.showing.PartProof.{PartProof}
 use Rattle.dep_basis.specs.declared.showing.Shown.{Shown}
 use Rattle.dep_basis.specs.declared.showing.Shown.TheVariants.{Closed, Part}
@@ -22,6 +23,33 @@ pub record IsCutting (p : Places) (d : Dependency) : Type 0 where
   pub apart : Apart (left_of d) p
   pub shares : Meets p (right_of d)
   pub leaves : (is_fd d ≡ true) ⊎ ((k : ℕ) × (p k ≡ true) × (right_of d k ≡ false))
+
+-- what a dependency whose left side is apart from p leaves of it beside attribute a: of what it shares with the
+-- right side and what it does not, that with the attribute; nothing where the attribute is determined
+abbrev pub left_beside : ℕ → Places → Dependency → Places
+left_beside a p d =
+    if right_of d a then if is_fd d then none else meet p (right_of d)
+    else minus p (right_of d)
+
+-- how many attributes that are
+abbrev pub count_left : ℕ → Places → Dependency → ℕ
+count_left a p d = count_below (left_beside a p d) PLACES
+
+-- of the dependencies that cut a part, the one of this number is the first that leaves the fewest
+pub record IsBestCut (deps : List Dep) (p : Places) (a k : ℕ) : Type 0 where
+  pub within : k < length deps
+  pub cutting : (d : Dep) → IsCutting p (dependency_of (slice_index_or deps k d))
+  pub least : (i : ℕ) (d : Dep) → i < length deps → IsCutting p (dependency_of (slice_index_or deps i d))
+      → count_left a p (dependency_of (slice_index_or deps k d)) ≤ count_left a p (dependency_of (slice_index_or deps i d))
+  pub first : (i : ℕ) (d : Dep) → i < k → IsCutting p (dependency_of (slice_index_or deps i d))
+      → count_left a p (dependency_of (slice_index_or deps k d)) < count_left a p (dependency_of (slice_index_or deps i d))
+
+-- the best cut so far stays, unless a dependency cuts the part too and leaves fewer
+abbrev pub IsBetterCut : ℕ → Places → Dependency → ℕ → Option Cut → Option Cut → Type 0
+IsBetterCut a p d number best result =
+    ((result ≡ best) × (IsCutting p d → IsSome best × IfSome best (λ cut. cut.left ≤ count_left a p d)))
+    ⊎ (IsCutting p d × (result ≡ Some (record { number = number; left = count_left a p d }))
+    × IfSome best (λ cut. count_left a p d < cut.left))
 
 -- a tree has at most this many nodes and levels
 pub record HasSize (t : Tree) (most_nodes most_levels : ℕ) : Type 0 where

@@ -1,10 +1,10 @@
-ghost use Rattle.std.specs.Prelude.{◌≡◌, ◌<◌, true, false, All, length, slice_index_or, ◌⊎◌, IsNone, IfSome, IsTrue};
+ghost use Rattle.std.specs.Prelude.{◌≡◌, ◌<◌, true, false, All, length, slice_index_or, IsNone, IfSome, IsTrue};
 ghost use Rattle.attr_sets.specs.Sets.{places};
 ghost use Rattle.attr_sets.specs.declared.set.TheConstants.{PLACES};
 ghost use Rattle.dep_model.specs.Deps.{dependency_of, dependencies_of};
 ghost use Rattle.dep_basis.specs.Refining.{LeavesWhole};
 ghost use Rattle.dep_model.specs.declared.dep.Dep.{Dep};
-ghost use Rattle.dep_basis.specs.Shown.{IsCutting};
+ghost use Rattle.dep_basis.specs.Shown.{IsCutting, IsBestCut, IsBetterCut};
 
 use crate::refining::cut_by;
 use attr_sets::AttrSet;
@@ -38,9 +38,7 @@ pub fn best_cut(deps: &[Dep], part: AttrSet, attribute: u8) -> Option<usize>
     requires attribute { attribute < PLACES }
     ensures none { IsNone result
         → All (LeavesWhole (places part) (places part)) (dependencies_of deps.now) }
-    ensures place { IfSome result (λ k. k < length deps.now) }
-    ensures cuts { IfSome result (λ k.
-        (d : Dep) → IsCutting (places part) (dependency_of (slice_index_or deps.now k d))) }
+    ensures best { IfSome result (IsBestCut deps.now (places part) attribute) }
 {
     let mut best = None;
     for (k, dep) in deps.iter().enumerate() {
@@ -62,8 +60,7 @@ fn better_cut(
 ) -> Option<Cut>
     requires attribute { attribute < PLACES }
     ensures none { IsNone result → IsNone best × LeavesWhole (places part) (places part) (dependency_of dep) }
-    ensures some { (result ≡ best)
-        ⊎ (IsCutting (places part) (dependency_of dep) × IfSome result (λ cut. cut.number ≡ number)) }
+    ensures better { IsBetterCut attribute (places part) (dependency_of dep) number best result }
 {
     if !is_cutting(dep, part) {
         return best;

@@ -1,5 +1,5 @@
 ghost use Rattle.std.specs.Prelude.{◌≡◌, ℕ, ◌<◌, ◌≤◌, ◌↔◌, true, List, All};
-ghost use Rattle.attr_sets.specs.Places.{Places, below, only, Within, IsEmpty};
+ghost use Rattle.attr_sets.specs.Places.{Places, below, only, Within, IsEmpty, Apart};
 ghost use Rattle.attr_sets.specs.Sets.{places};
 ghost use Rattle.attr_sets.specs.declared.set.TheConstants.{PLACES};
 ghost use Rattle.dep_model.specs.Dependencies.{Dependency, fd, left_of, right_of};
@@ -7,6 +7,7 @@ ghost use Rattle.dep_model.specs.Deps.{dependency_of, dependencies_of, IsDepWith
 ghost use Rattle.dep_model.specs.Implication.{Implies};
 ghost use Rattle.dep_model.specs.Keys.{IsBlock};
 ghost use Rattle.dep_basis.specs.Refining.{IsCandidate, LeavesWhole};
+ghost use Rattle.dep_basis.specs.Shown.{left_beside};
 
 use attr_sets::AttrSet;
 use dep_model::{Dep, sides};
@@ -64,6 +65,8 @@ pub fn cut_by(dep: Dep, part: AttrSet, attribute: u8) -> AttrSet
         → IsDepWithin (below n) dep → Within x (below n) → Implies n ds (dependency_of dep)
         → IsCandidate n ds x attribute (places part) → IsCandidate n ds x attribute (places result) }
     ensures whole { LeavesWhole (places part) (places result) (dependency_of dep) }
+    ensures left { Apart (left_of (dependency_of dep)) (places part)
+        → places result ≡ left_beside attribute (places part) (dependency_of dep) }
 {
     let (lhs, rhs) = sides(dep);
     if lhs.meets(part) {

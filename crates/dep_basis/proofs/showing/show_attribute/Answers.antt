@@ -35,8 +35,8 @@ cut_shown-requires c =
     let few : width_of s ≤ 128 = s.valid.few_names in
     record {
       cut = record {
-        given = subst (λ (ds : List Dep). slice_get ds k ≡ Some (get_or c.deps-deps.result.now k zero)) c.deps-deps.ensures.deps (slice_get-get_or c.deps-deps.result.now k zero c.in-Some.ensures.place);
-        cutting = c.in-Some.ensures.cuts zero;
+        given = subst (λ (ds : List Dep). slice_get ds k ≡ Some (get_or c.deps-deps.result.now k zero)) c.deps-deps.ensures.deps (slice_get-get_or c.deps-deps.result.now k zero c.in-Some.ensures.best.within);
+        cutting = c.in-Some.ensures.best.cutting zero;
         lhs = subst (λ (l : AttrSet). Within (places l) (universe_of s)) (sym now.same_lhs) c.requires.lhs;
         attribute = omega (arith, c.requires.attribute);
         shown = subst (λ (l : AttrSet). IsPartProof s (places l) c.args.attribute (places c.loop-k.from.part) (tree_of c.loop-k.from.deriv.value)) (sym now.same_lhs) now.shown;
