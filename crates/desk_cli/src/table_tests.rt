@@ -5,7 +5,7 @@ use crate::Status;
 use crate::reply::Reply;
 use crate::top::deliver;
 use attr_sets::AttrSet;
-use csv_migrate::Table;
+use named_tables::Table;
 use dep_model::{Name, Row, Value, WantMemory};
 use desk_outside::{MemoryFolder, MemorySink};
 use std::alloc::Global;
