@@ -1,10 +1,10 @@
-use super::*;
 use attr_sets::AttrSet;
 use dep_model::Dep;
+use form_tests::{Breach, Form, TooWide, violation, visible_violation};
 use std::alloc::Global;
 use std::process::Abort;
 use std::test::Fail;
-use test_data::{NoSchema, fd, mvd, schema_of};
+use test_data::{NoSchema, TIMETABLE_DEPS, fd, mvd, schema_of};
 
 // `lhs` and `rhs` as a violation.
 fn breach(lhs: u128, rhs: u128) -> Option<Breach> {
@@ -77,30 +77,26 @@ fn check(rt: &(impl Alloc<A = Global> + Abort), row: Row) -> Result<(), Fail> {
 }
 
 #[test]
-fn finds_the_violations_of_addresses_and_timetables(rt: HostRuntime) -> Result<(), Fail> {
-    // COURSE TEACHER HOUR ROOM STUDENT GRADE
-    let timetable = [
-        fd(1, 2),
-        fd(12, 1),
-        fd(6, 8),
-        fd(17, 32),
-        fd(20, 8),
-        mvd(1, 12),
-    ];
-    let rows: [Row; 3] = [
-        // CITY STREET -> ZIP, ZIP -> CITY: CITY is prime
-        (
-            3,
-            &[fd(3, 4), fd(4, 1)],
-            7,
-            None,
-            breach(4, 1),
-            breach(4, 1),
-        ),
+fn finds_the_violations_of_a_timetable(rt: HostRuntime) -> Result<(), Fail> {
+    let rows: [Row; 2] = [
         // COURSE -> TEACHER
-        (6, &timetable, 63, breach(1, 2), breach(1, 2), breach(1, 2)),
+        (
+            6,
+            &TIMETABLE_DEPS,
+            63,
+            breach(1, 2),
+            breach(1, 2),
+            breach(1, 2),
+        ),
         // without TEACHER: COURSE HOUR -> ROOM, which is not given, and COURSE ->> HOUR ROOM
-        (6, &timetable, 61, breach(5, 8), breach(5, 8), breach(1, 12)),
+        (
+            6,
+            &TIMETABLE_DEPS,
+            61,
+            breach(5, 8),
+            breach(5, 8),
+            breach(1, 12),
+        ),
     ];
     for row in rows {
         check(&rt, row)?;

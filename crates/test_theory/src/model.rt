@@ -1,7 +1,7 @@
-use crate::{
+use attr_sets::AttrSet;
+use dep_model::{
     Column, Dep, Name, Row, Schema, Value, WantMemory, agree, integer_text, two_rows_obey,
 };
-use attr_sets::AttrSet;
 use std::alloc::Global;
 use std::test::Fail;
 

@@ -1,4 +1,4 @@
-use Rattle.derivation.proofs.tests.+wide.Given as goal
+use Rattle.test_theory.proofs.derivations.+wide.Given as goal
 
 -- proposed from what the function passes where it calls itself
 abbrev pub decreases-wide : goal.decreases-wide

@@ -2,8 +2,8 @@ ghost use Rattle.std.specs.Prelude.{◌≤◌, IfOk, IfSome};
 ghost use Rattle.derivation.specs.Trees.{nodes};
 ghost use Rattle.derivation.specs.Derivs.{tree_of};
 
-use crate::functional_chain;
 use attr_sets::AttrSet;
+use dep_basis::functional_chain;
 use dep_model::{Dep, Schema, WantMemory};
 use derivation::{Deriv, LeafRule, Node, PairRule, StepRule, depth, nodes};
 use std::alloc::Global;

@@ -1,21 +1,7 @@
-use super::*;
 use attr_sets::AttrSet;
-use dep_model::Dep;
+use fd_closure::{Counters, closure, closure_with, follows, follows_with, functional_key};
 use std::test::Fail;
-
-fn fd(lhs: u128, rhs: u128) -> Dep {
-    Dep::Fd {
-        lhs: AttrSet(lhs),
-        rhs: AttrSet(rhs),
-    }
-}
-
-fn mvd(lhs: u128, rhs: u128) -> Dep {
-    Dep::Mvd {
-        lhs: AttrSet(lhs),
-        rhs: AttrSet(rhs),
-    }
-}
+use test_data::{TIMETABLE_DEPS, fd, mvd};
 
 #[test]
 fn closes_a_chain_in_any_order(rt: HostRuntime) {
@@ -54,16 +40,8 @@ fn finds_keys_from_the_last_attribute_on(rt: HostRuntime) {
     let address = [fd(3, 4), fd(4, 1)];
     assert_eq!(rt; functional_key(&address, AttrSet(7)).0, 3);
     assert_eq!(rt; functional_key(&address, AttrSet(5)).0, 4);
-    // COURSE TEACHER HOUR ROOM STUDENT GRADE, with the key HOUR STUDENT alone.
-    let timetable = [
-        fd(1, 2),
-        fd(12, 1),
-        fd(6, 8),
-        fd(17, 32),
-        fd(20, 8),
-        mvd(1, 12),
-    ];
-    assert_eq!(rt; functional_key(&timetable, AttrSet(63)).0, 20);
+    // The timetable has the key HOUR STUDENT alone.
+    assert_eq!(rt; functional_key(&TIMETABLE_DEPS, AttrSet(63)).0, 20);
     assert_eq!(rt; functional_key(&[], AttrSet(u128::MAX)).0, u128::MAX);
 }
 

@@ -1,4 +1,5 @@
-use super::*;
+use attr_sets::AttrSet;
+use std::cmp::Ordering;
 
 /// The set of place 127 alone, as a number.
 const TOP: u128 = 170_141_183_460_469_231_731_687_303_715_884_105_728;

@@ -1,9 +1,10 @@
 ghost use Rattle.std.specs.Prelude.{◌≤◌};
 
-use super::*;
 use attr_sets::AttrSet;
 use dep_model::{Dep, WantMemory};
+use key_listing::{KeyRefusal, SchemeKeyRefusal, keys, keys_of_scheme, one_key};
 use std::alloc::Global;
+use std::process::Abort;
 use std::test::Fail;
 use test_data::{fd, mvd, schema_of};
 
@@ -43,101 +44,54 @@ fn pairs(alloc: Global, count: u8) -> Result<Vec<Dep>, WantMemory>
     Ok(deps)
 }
 
+// A width, dependencies, and all keys.
+type Row<'a> = (u8, &'a [Dep], &'a [AttrSet]);
+
+fn check(rt: &(impl Alloc<A = Global> + Abort), row: Row) {
+    let (width, deps, expected) = row;
+    match keys_of(rt.alloc(), width, deps) {
+        Ok(found) => assert!(rt; found.as_slice() == expected),
+        Err(_) => assert!(rt; false),
+    }
+}
+
 #[test]
-fn lists_all_keys(rt: HostRuntime) -> Result<(), Fail> {
-    let rows: [(u8, &[Dep], &[AttrSet]); 9] = [
+fn lists_all_keys(rt: HostRuntime) {
+    let rows: [Row; 3] = [
         // CITY STREET -> ZIP, ZIP -> CITY
         (3, &[fd(3, 4), fd(4, 1)], &[AttrSet(3), AttrSet(6)]),
-        // A B -> C, C -> D, D -> A
-        (
-            4,
-            &[fd(3, 4), fd(4, 8), fd(8, 1)],
-            &[AttrSet(3), AttrSet(6), AttrSet(10)],
-        ),
-        // a ring: each attribute is a key
-        (
-            3,
-            &[fd(1, 2), fd(2, 4), fd(4, 1)],
-            &[AttrSet(1), AttrSet(2), AttrSet(4)],
-        ),
-        // no dependency: the universe
-        (3, &[], &[AttrSet(7)]),
-        // () -> A
-        (1, &[fd(0, 1)], &[AttrSet(0)]),
-        // A ->> B alone, and with C -> B, which together give A -> B
+        // A ->> B alone
         (3, &[mvd(1, 2)], &[AttrSet(7)]),
-        (3, &[mvd(1, 2), fd(4, 2)], &[AttrSet(5)]),
-        // the ring once more, with a multivalued dependency
+        // a ring, with a multivalued dependency: each attribute is a key
         (
             3,
             &[fd(1, 2), fd(2, 4), fd(4, 1), mvd(1, 2)],
             &[AttrSet(1), AttrSet(2), AttrSet(4)],
         ),
-        // COURSE TEACHER HOUR ROOM STUDENT GRADE: HOUR STUDENT
-        (
-            6,
-            &[
-                fd(1, 2),
-                fd(12, 1),
-                fd(6, 8),
-                fd(17, 32),
-                fd(20, 8),
-                mvd(1, 12),
-            ],
-            &[AttrSet(20)],
-        ),
     ];
-    for (width, deps, expected) in rows {
-        match keys_of(rt.alloc(), width, deps) {
-            Ok(found) => assert!(rt; found.as_slice() == expected),
-            Err(_) => assert!(rt; false),
-        }
+    for row in rows {
+        check(&rt, row);
     }
-    Ok(())
 }
 
-// How many keys were listed, or told as too many; nothing of another refusal.
-fn counted(found: Result<Vec<AttrSet>, KeyRefusal>) -> (bool, usize) {
-    match found {
-        Ok(found) => (true, found.len()),
-        Err(KeyRefusal::TooManyKeys { found }) => (false, found.len()),
-        Err(KeyRefusal::TooWide) => (false, 0),
-        Err(KeyRefusal::Memory) => (false, 0),
+// A width, dependencies, a scheme, and all its keys.
+type SchemeRow<'a> = (u8, &'a [Dep], u128, &'a [AttrSet]);
+
+fn check_scheme(rt: &(impl Alloc<A = Global> + Abort), row: SchemeRow) {
+    let (width, deps, scheme, expected) = row;
+    match keys_in(rt.alloc(), width, deps, scheme) {
+        Ok(found) => assert!(rt; found.as_slice() == expected),
+        Err(_) => assert!(rt; false),
     }
 }
 
 #[test]
-fn lists_as_many_keys_as_are_allowed(rt: HostRuntime) -> Result<(), Fail> {
-    let ten = pairs(rt.alloc(), 10)?;
-    assert_eq!(rt; counted(keys_of(rt.alloc(), 20, &ten)), (true, 1_024));
-    let eleven = pairs(rt.alloc(), 11)?;
-    assert_eq!(rt; counted(keys_of(rt.alloc(), 22, &eleven)), (false, 1_025));
-    Ok(())
-}
-
-#[test]
-fn refuses_wide_universes_with_multivalued_dependencies(rt: HostRuntime) {
-    assert!(rt;
-        matches!(
-            &keys_of(rt.alloc(), 21, &[mvd(1, 2)]),
-            Err(KeyRefusal::TooWide)
-        )
-    );
-    assert!(rt; matches!(&keys_of(rt.alloc(), 21, &[fd(1, 2)]), Ok(_)));
-    assert!(rt; matches!(&keys_of(rt.alloc(), 20, &[mvd(1, 2)]), Ok(_)));
-}
-
-#[test]
-fn lists_all_keys_of_schemes(rt: HostRuntime) -> Result<(), Fail> {
-    let address: [Dep; 2] = [fd(3, 4), fd(4, 1)];
+fn lists_all_keys_of_schemes(rt: HostRuntime) {
     let chain: [Dep; 2] = [fd(1, 2), fd(2, 4)];
-    let rows: [(u8, &[Dep], u128, &[AttrSet]); 12] = [
-        // CITY STREET -> ZIP, ZIP -> CITY: the universe, CITY ZIP and STREET ZIP
-        (3, &address, 7, &[AttrSet(3), AttrSet(6)]),
-        (3, &address, 5, &[AttrSet(4)]),
-        (3, &address, 6, &[AttrSet(6)]),
-        // A -> B, B -> C: what follows by way of an attribute outside counts
-        (3, &chain, 5, &[AttrSet(1)]),
+    let rows: [SchemeRow; 9] = [
+        // CITY STREET -> ZIP, ZIP -> CITY: STREET ZIP
+        (3, &[fd(3, 4), fd(4, 1)], 6, &[AttrSet(6)]),
+        // A -> B, B -> C
         (3, &chain, 6, &[AttrSet(2)]),
         (3, &chain, 4, &[AttrSet(4)]),
         // () -> A, and the empty scheme
@@ -155,13 +109,9 @@ fn lists_all_keys_of_schemes(rt: HostRuntime) -> Result<(), Fail> {
             &[AttrSet(17), AttrSet(22)],
         ),
     ];
-    for (width, deps, scheme, expected) in rows {
-        match keys_in(rt.alloc(), width, deps, scheme) {
-            Ok(found) => assert!(rt; found.as_slice() == expected),
-            Err(_) => assert!(rt; false),
-        }
+    for row in rows {
+        check_scheme(&rt, row);
     }
-    Ok(())
 }
 
 // How many keys of a scheme were listed, or told as too many; nothing of another refusal.

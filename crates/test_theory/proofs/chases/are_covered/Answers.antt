@@ -3,7 +3,7 @@ use Rattle.std.proofs.lemmas.Bool.{cases_lt}
 use Rattle.std.specs.Prelude.{Any}
 use Rattle.attr_sets.specs.Places.{Places}
 use Rattle.dep_model.specs.Plans.{schemes_of}
-use Rattle.tableau_chase.proofs.tests.are_covered.Goals as goal
+use Rattle.test_theory.proofs.chases.are_covered.Goals as goal
 
 pub loop-a-preserved : goal.loop-a-preserved
 loop-a-preserved c k l = elim (cases_lt k c.loop-a.a) [

@@ -7,7 +7,7 @@ use Rattle.dep_model.specs.declared.dep.Dep.{Dep}
 use Rattle.dep_model.specs.declared.dep.Dep.TheVariants.{Fd, Mvd}
 use Rattle.dep_model.specs.Deps.{IsDepWithin}
 use Rattle.dep_model.specs.Validity.{IsSchema}
-use Rattle.derivation.proofs.tests.one_attribute.Goals as goal
+use Rattle.test_theory.proofs.derivations.one_attribute.Goals as goal
 
 schema_of_one : (name : List ℕ) (e a : AttrSet) → Same (places e) none → Same (places a) (below 1)
     → IsSchema (name ∷ []) (Fd a a ∷ Mvd e a ∷ []) (2 ∷ 3 ∷ [])

