@@ -196,6 +196,3 @@ impl Ord for AttrSet {
         x.cmp(&y)
     }
 }
-
-#[cfg(test)]
-mod tests;

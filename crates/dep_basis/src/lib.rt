@@ -34,10 +34,3 @@ pub use parts::{has_two_parts, has_two_parts_by};
 pub use pieces::MOST_BLOCKS;
 pub use proving::{Proof, prove};
 pub use witnessing::witness;
-
-#[cfg(test)]
-mod chain_tests;
-#[cfg(test)]
-mod derivation_tests;
-#[cfg(test)]
-mod tests;

@@ -16,8 +16,6 @@ mod memory;
 mod name;
 mod row;
 mod schema;
-#[cfg(test)]
-mod tests;
 mod two_rows;
 mod value;
 

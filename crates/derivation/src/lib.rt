@@ -17,8 +17,6 @@ mod measures;
 mod rule;
 mod shortening;
 mod table;
-#[cfg(test)]
-mod tests;
 
 pub use builders::{Returned, split_inside, split_outside, unite_fd, unite_mvd};
 pub use concluding::conclude;

@@ -14,6 +14,3 @@ mod settling;
 pub use closing::{closure, follows};
 pub use counting::{Counters, closure_with, follows_with};
 pub use settling::functional_key;
-
-#[cfg(test)]
-mod tests;

@@ -19,6 +19,3 @@ mod third;
 
 pub use forms::{Breach, Form, TooWide, WIDEST_TESTED};
 pub use testing::{violation, visible_violation};
-
-#[cfg(test)]
-mod tests;

@@ -23,6 +23,3 @@ pub use listing::keys;
 pub use refusal::{KeyRefusal, MOST_KEYS, SchemeKeyRefusal, WIDEST_SEARCHED};
 pub use schemes::keys_of_scheme;
 pub use superkeys::one_key;
-
-#[cfg(test)]
-mod tests;

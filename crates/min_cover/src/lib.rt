@@ -10,6 +10,3 @@ mod shortening;
 mod thinning;
 
 pub use covering::{minimal, whole_cover};
-
-#[cfg(test)]
-mod tests;

@@ -17,8 +17,6 @@ mod pool;
 mod row_groups;
 mod settling;
 mod symbol_row;
-#[cfg(test)]
-mod tests;
 mod texts;
 
 pub use chased::{ChaseRefusal, Chased};

@@ -1,0 +1,32 @@
+use Rattle.std.proofs.Common.{ℕ, List, [], ◌∷◌, refl, arith}
+use Rattle.std.proofs.lemmas.List.Elements.{All-nil, All-cons}
+use Rattle.attr_sets.specs.declared.set.AttrSet.{AttrSet}
+use Rattle.attr_sets.specs.Places.{below, none, Same, Within}
+use Rattle.attr_sets.specs.Sets.{places}
+use Rattle.dep_model.specs.declared.dep.Dep.{Dep}
+use Rattle.dep_model.specs.declared.dep.Dep.TheVariants.{Fd, Mvd}
+use Rattle.dep_model.specs.Deps.{IsDepWithin}
+use Rattle.dep_model.specs.Validity.{IsSchema}
+use Rattle.test_theory.proofs.derivations.one_attribute.Goals as goal
+
+schema_of_one : (name : List ℕ) (e a : AttrSet) → Same (places e) none → Same (places a) (below 1)
+    → IsSchema (name ∷ []) (Fd a a ∷ Mvd e a ∷ []) (2 ∷ 3 ∷ [])
+schema_of_one name e a empty all =
+    let P : Dep → Type 0 = IsDepWithin (below 1) in
+    let a_in : Within (places a) (below 1) = λ k m. grind (arith, all k, m) in
+    let e_in : Within (places e) (below 1) = λ k m. grind (arith, empty k, m) in
+    record {
+      some_names = omega arith;
+      few_names = omega arith;
+      names_differ = λ i j d before last. absurd (omega arith);
+      few_deps = omega arith;
+      deps_within = All-cons P (Fd a a) (Mvd e a ∷ []) (a_in, a_in) (All-cons P (Mvd e a) [] (e_in, a_in) (All-nil P));
+      one_line_each = refl;
+    }
+
+pub make-requires-2 : goal.make-requires-2
+make-requires-2 c =
+    record {
+      schema = rw (c.in_ok-names.ensures.items, c.in_ok-deps.ensures.items, c.in_ok-lines.ensures.items)
+          (schema_of_one c.in-Some.name c.empty-none.result c.full-a.result c.empty-none.ensures.members c.full-a.ensures.members);
+    }

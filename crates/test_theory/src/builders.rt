@@ -1,0 +1,115 @@
+ghost use Rattle.std.specs.Prelude.{◌≡◌, ◌≤◌, IfOk};
+ghost use Rattle.derivation.specs.Trees.{nodes};
+ghost use Rattle.derivation.specs.Derivs.{tree_of};
+
+use attr_sets::AttrSet;
+use dep_model::{Dep, Schema, WantMemory};
+use derivation::{
+    Deriv, conclude, copy_deriv, nodes, shorten, split_inside, split_outside, unite_fd, unite_mvd,
+};
+use std::alloc::Global;
+use std::test::Fail;
+use test_data::{fd, mvd, timetable};
+
+// The attributes of a timetable.
+const COURSE: AttrSet = AttrSet(1);
+
+const ALL_BUT_COURSE: AttrSet = AttrSet(62);
+
+fn given(alloc: Global, k: u16) -> Result<Box<Deriv>, WantMemory>
+    ensures one { IfOk result (λ b. nodes (tree_of b.value) ≡ 1) }
+{
+    Ok(Box::new(alloc, Deriv::Given(k))?)
+}
+
+// COURSE ->> TEACHER, of the first dependency.
+fn replicated(alloc: Global) -> Result<Box<Deriv>, WantMemory>
+    ensures two { IfOk result (λ b. nodes (tree_of b.value) ≡ 2) }
+{
+    let from = given(alloc, 0)?;
+    Ok(Box::new(alloc, Deriv::Repl(from))?)
+}
+
+// COURSE ->> all others.
+fn others(alloc: Global) -> Result<Box<Deriv>, WantMemory>
+    ensures two { IfOk result (λ b. nodes (tree_of b.value) ≡ 2) }
+{
+    let from = Box::new(
+        alloc,
+        Deriv::MReflex {
+            lhs: COURSE,
+            rhs: COURSE,
+        },
+    )?;
+    Ok(Box::new(alloc, Deriv::Compl(from))?)
+}
+
+// Each builder, and how many nodes it makes.
+fn built(alloc: Global, schema: &Schema, builder: u8) -> Result<Box<Deriv>, WantMemory>
+    ensures few { IfOk result (λ b. nodes (tree_of b.value) ≤ 10) }
+{
+    let made = match builder {
+        0 => {
+            let same = Box::new(
+                alloc,
+                Deriv::Reflex {
+                    lhs: COURSE,
+                    rhs: COURSE,
+                },
+            )?;
+            unite_fd(alloc, COURSE, COURSE, given(alloc, 0)?, same)
+        }
+        1 => unite_mvd(
+            alloc,
+            COURSE,
+            AttrSet(12),
+            AttrSet(2),
+            given(alloc, 5)?,
+            replicated(alloc)?,
+        ),
+        2 => split_inside(
+            alloc,
+            schema,
+            COURSE,
+            ALL_BUT_COURSE,
+            others(alloc)?,
+            given(alloc, 5)?,
+        ),
+        _ => split_outside(
+            alloc,
+            schema,
+            COURSE,
+            ALL_BUT_COURSE,
+            others(alloc)?,
+            given(alloc, 5)?,
+        ),
+    };
+    match made {
+        Ok(deriv) => Ok(deriv),
+        Err(_) => Err(WantMemory),
+    }
+}
+
+// What each concludes, its nodes, and those that are left where it is shortened.
+#[test]
+fn builds_over_a_timetable(rt: HostRuntime) -> Result<(), Fail> {
+    let schema = timetable(rt.alloc())?;
+    let table: [(u8, Dep, u32, u32); 4] = [
+        (0, fd(1, 3), 5, 2),
+        (1, mvd(1, 14), 9, 8),
+        (2, mvd(1, 12), 7, 1),
+        (3, mvd(1, 50), 8, 2),
+    ];
+    for (builder, dep, before, after) in table {
+        let deriv = built(rt.alloc(), &schema, builder)?;
+        assert_eq!(rt; conclude(&schema, &deriv), Ok(dep));
+        assert_eq!(rt; nodes(&deriv), before);
+        let copy = copy_deriv(rt.alloc(), &deriv)?;
+        assert_eq!(rt; conclude(&schema, &copy), Ok(dep));
+        assert_eq!(rt; nodes(&copy), before);
+        let short = shorten(&schema, deriv);
+        assert_eq!(rt; conclude(&schema, &short), Ok(dep));
+        assert_eq!(rt; nodes(&short), after);
+    }
+    Ok(())
+}
