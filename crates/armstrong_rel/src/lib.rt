@@ -15,6 +15,3 @@ mod rows;
 
 pub use exhibiting::exhibit;
 pub use refusal::{ExhibitRefusal, WIDEST_EXHIBITED};
-
-#[cfg(test)]
-mod tests;

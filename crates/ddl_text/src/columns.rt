@@ -5,10 +5,10 @@ ghost use Rattle.ddl_text.specs.Ddl.{column_element, column_elements, column_typ
 ghost use Rattle.sql_names.specs.Names.{has_some};
 
 use crate::elements::add_opening;
-use sql_names::add_quoted;
 use attr_sets::AttrSet;
 use dep_model::{Column, Schema, WantMemory};
 use schema_printer::add;
+use sql_names::add_quoted;
 
 // Adds the columns of a scheme as the first elements, and tells whether there are some.
 pub fn add_columns(text: &mut Vec<u8>, schema: &Schema, scheme: AttrSet) -> Result<bool, WantMemory>

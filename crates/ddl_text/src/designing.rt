@@ -9,9 +9,9 @@ ghost use Rattle.ddl_text.specs.Laws.{KeysHold, ReferencesHold};
 
 use crate::TableDesign;
 use attr_sets::AttrSet;
-use plans::Plan;
 use dep_model::{Schema, WantMemory};
 use key_listing::one_key;
+use plans::Plan;
 use std::alloc::Global;
 use std::marker::Model;
 use table_names::table_name;

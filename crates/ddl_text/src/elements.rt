@@ -5,11 +5,11 @@ ghost use Rattle.sql_names.specs.Names.{has_some};
 
 use crate::TableDesign;
 use crate::columns::add_columns;
-use sql_names::add_name_list;
 use crate::references::add_references;
 use attr_sets::AttrSet;
 use dep_model::{Schema, WantMemory};
 use schema_printer::add;
+use sql_names::add_name_list;
 
 // Adds the columns, the key and the references of a table.
 pub fn add_elements(

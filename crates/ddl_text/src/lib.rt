@@ -16,6 +16,3 @@ pub use designing::{DesignList, design};
 pub use printing::print_ddl;
 pub use table::TableDesign;
 pub use table_names::MOST_TABLES;
-
-#[cfg(test)]
-mod tests;

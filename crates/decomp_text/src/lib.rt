@@ -8,6 +8,3 @@ mod reading;
 
 pub use plan_grammar::{MOST_SCHEMES, PlanRefusal};
 pub use reading::{MOST_PLAN_BYTES, read_plan};
-
-#[cfg(test)]
-mod tests;

@@ -14,13 +14,13 @@ ghost use Rattle.plan_grammar.specs.Reading.{attribute, no_scheme, read_words_le
 ghost use Rattle.plan_grammar.specs.Refusals.{RefusesPlanAs};
 ghost use Rattle.plans.specs.Plans.{plan_of, IsPlanOver};
 
-use plans::Plan;
 use crate::covering::first_uncovered;
 use attr_sets::{AttrSet, PLACES};
 use dep_model::Schema;
 use lexer::{Mode, Next, Token, TokenKind, cut_line, next_token, without_mark};
 use line_reader::{Guide, Names, is_reserved, look_up};
 use plan_grammar::{MOST_SCHEMES, PlanRefusal};
+use plans::Plan;
 use schema_grammar::{Format, SchemaRefusal, SchemaRefusalKind, What};
 use std::alloc::Global;
 

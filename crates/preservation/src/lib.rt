@@ -8,7 +8,5 @@
 mod closing;
 mod inside;
 mod losing;
-#[cfg(test)]
-mod tests;
 
 pub use losing::{Loss, losses};

@@ -9,8 +9,6 @@ mod book;
 mod line;
 mod node;
 mod printing;
-#[cfg(test)]
-mod printing_tests;
 mod text;
 mod words;
 

@@ -13,6 +13,3 @@ mod naming;
 
 pub use comparing::differences;
 pub use naming::missing;
-
-#[cfg(test)]
-mod tests;

@@ -18,6 +18,3 @@ pub use schema_grammar::{SchemaRefusal, SchemaRefusalKind, Span, What};
 pub use set::{MOST_SET_BYTES, read_set};
 pub use text::{MOST_TEXT_BYTES, read_schema};
 pub use token_list::tokens;
-
-#[cfg(test)]
-mod tests;

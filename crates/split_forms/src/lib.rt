@@ -16,6 +16,3 @@ mod trying;
 
 pub use refusal::SplitRefusal;
 pub use splitting::split;
-
-#[cfg(test)]
-mod tests;

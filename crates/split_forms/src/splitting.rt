@@ -12,9 +12,9 @@ use crate::outcome::Outcome;
 use crate::refusal::SplitRefusal;
 use crate::trying::found_outcome;
 use attr_sets::AttrSet;
-use plans::{Plan, drop_contained};
 use dep_model::Schema;
 use form_tests::Form;
+use plans::{Plan, drop_contained};
 use std::alloc::Global;
 
 /// A lossless plan of schemes in Boyce-Codd or fourth normal form (Codd 1974; Fagin 1977). The

@@ -10,6 +10,3 @@ mod grouping;
 mod synthesis;
 
 pub use synthesis::synthesize;
-
-#[cfg(test)]
-mod tests;

@@ -8,9 +8,9 @@ ghost use Rattle.synthesis_3nf.specs.GroupedPlans.{IsGroupedPlan};
 
 use crate::completing::with_key;
 use crate::grouping::group_schemes;
-use plans::{Plan, drop_contained};
 use dep_model::{Schema, WantMemory};
 use min_cover::minimal;
+use plans::{Plan, drop_contained};
 use std::alloc::Global;
 
 /// A lossless plan of schemes in third normal form that keeps the functional dependencies of a schema

@@ -7,6 +7,3 @@ mod edges;
 mod nodes;
 
 pub use drawing::draw;
-
-#[cfg(test)]
-mod tests;

@@ -4,6 +4,3 @@
 mod numbered;
 
 pub use numbered::{MOST_TABLES, table_name};
-
-#[cfg(test)]
-mod tests;

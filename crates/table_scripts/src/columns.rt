@@ -5,9 +5,9 @@ ghost use Rattle.sql_names.specs.Names.{name_list, separator, quoted_name};
 ghost use Rattle.table_scripts.specs.QueryTexts.{column_text, column_item, column_list};
 
 use attr_sets::AttrSet;
-use sql_names::{add_name_list, add_quoted};
 use dep_model::{Column, Name, Schema, WantMemory};
 use schema_printer::add;
+use sql_names::{add_name_list, add_quoted};
 use std::alloc::Global;
 
 // The quoted names of a set's attributes.

@@ -18,6 +18,3 @@ mod rules;
 pub use checking::check_script;
 pub use migrating::migrate_script;
 pub use naming::{MOST_PART_BYTES, MOST_PARTS, is_table_name};
-
-#[cfg(test)]
-mod tests;

@@ -11,9 +11,9 @@ use crate::naming::quote_table;
 use crate::pieces::{except, select};
 use crate::rules::{values, whole};
 use ddl_text::{DesignList, TableDesign, print_ddl};
-use sql_names::add_quoted;
 use dep_model::{Schema, WantMemory};
 use schema_printer::add;
+use sql_names::add_quoted;
 use std::alloc::Global;
 
 /// A script that makes the tables of a design and fills them from a table, makes a view on their join, and

@@ -12,6 +12,3 @@ mod pairs;
 mod splitting;
 
 pub use splitting::split_wide;
-
-#[cfg(test)]
-mod tests;

@@ -11,8 +11,8 @@ ghost use Rattle.wide_bcnf.specs.WideSplits.{IsCore, IsWideSplitOf, IsWidePlan};
 
 use crate::pairs::{Pair, first_pair};
 use attr_sets::AttrSet;
-use plans::{Plan, drop_contained};
 use dep_model::{Schema, WantMemory};
+use plans::{Plan, drop_contained};
 use std::alloc::Global;
 
 /// A lossless plan of schemes in Boyce-Codd form, at any width (Tsou and Fischer 1982): the wide split

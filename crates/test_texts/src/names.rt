@@ -1,5 +1,5 @@
-use crate::table_name;
 use std::test::Fail;
+use table_names::table_name;
 
 #[test]
 fn names(rt: HostRuntime) -> Result<(), Fail> {

@@ -2,11 +2,11 @@ ghost use Rattle.std.specs.Prelude.{◌≡◌, ◌+◌, ◌<◌, ◌^◌, IfOk};
 ghost use Rattle.derivation.specs.Trees.{nodes};
 ghost use Rattle.derivation.specs.Derivs.{tree_of};
 
-use crate::print_proof;
+use crate::made::schema;
 use attr_sets::AttrSet;
 use dep_model::{Schema, WantMemory};
 use derivation::{Deriv, conclude, depth, nodes};
-use schema_reader::read_schema;
+use proof_text::print_proof;
 use std::alloc::Global;
 use std::test::Fail;
 
@@ -17,12 +17,7 @@ const B: AttrSet = AttrSet(2);
 
 const C: AttrSet = AttrSet(4);
 
-fn schema_of(alloc: Global) -> Result<Schema, WantMemory> {
-    match read_schema(alloc, b"attributes A B C\nA -> B\nB -> C\nA ->> B\n") {
-        Ok(schema) => Ok(schema),
-        Err(_) => Err(WantMemory),
-    }
-}
+const GIVEN: &[u8] = b"attributes A B C\nA -> B\nB -> C\nA ->> B\n";
 
 fn grown(alloc: Global, node: Deriv) -> Result<Box<Deriv>, WantMemory>
     ensures tree { IfOk result (λ b. tree_of b.value ≡ tree_of node) }
@@ -57,7 +52,7 @@ fn printed(alloc: Global, schema: &Schema, deriv: &Deriv) -> Result<Vec<u8>, Wan
 
 #[test]
 fn prints_a_functional_chain(rt: HostRuntime) -> Result<(), Fail> {
-    let schema = schema_of(rt.alloc())?;
+    let schema = schema(&rt, GIVEN);
     let start = grown(rt.alloc(), Deriv::Reflex { lhs: A, rhs: A })?;
     let chain = further(rt.alloc(), start, A, 0)?;
     let chain = further(rt.alloc(), chain, A.union(B), 1)?;
@@ -82,7 +77,7 @@ fn prints_a_functional_chain(rt: HostRuntime) -> Result<(), Fail> {
 
 #[test]
 fn prints_the_sets_of_a_rule(rt: HostRuntime) -> Result<(), Fail> {
-    let schema = schema_of(rt.alloc())?;
+    let schema = schema(&rt, GIVEN);
     let from = grown(rt.alloc(), Deriv::Given(2))?;
     let wide = AttrSet(5);
     let narrow = AttrSet(0);
