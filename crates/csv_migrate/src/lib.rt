@@ -18,8 +18,3 @@ pub use end::FeedEnd;
 pub use feeding::{feed, feed_list};
 pub use migration::tables;
 pub use table::Table;
-
-#[cfg(test)]
-mod feeding_tests;
-#[cfg(test)]
-mod tests;

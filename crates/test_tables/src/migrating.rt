@@ -1,4 +1,4 @@
-use crate::{Table, tables};
+use csv_migrate::{Table, tables};
 use csv_rows::read_rows;
 use decomp_text::{MOST_PLAN_BYTES, read_plan};
 use dep_model::WantMemory;

@@ -1,6 +1,6 @@
 ghost use Rattle.std.specs.Prelude.{◌≡◌, length, IfOk};
 
-use crate::{CsvTarget, MemoryTarget, SqlTarget, Target, TargetFault};
+use targets::{CsvTarget, MemoryTarget, SqlTarget, Target, TargetFault};
 use dep_model::{Name, Row, Value, WantMemory};
 use desk_outside::{HeldFile, MemoryFolder};
 use std::alloc::Global;

@@ -1,4 +1,4 @@
-use crate::{Offence, offences};
+use legality::{Offence, offences};
 use csv_rows::read_rows;
 use schema_reader::read_schema;
 use std::test::Fail;

@@ -1,4 +1,4 @@
-use crate::{RowRefusal, print_rows, read_part, read_rows};
+use csv_rows::{RowRefusal, print_rows, read_part, read_rows};
 use schema_reader::read_schema;
 use std::test::Fail;
 

@@ -1,4 +1,4 @@
-use crate::{DiscoverRefusal, read_headed};
+use fd_discovery::{DiscoverRefusal, read_headed};
 use std::test::Fail;
 
 #[test]

@@ -2,7 +2,7 @@ ghost use Rattle.std.specs.Prelude.{◌≡◌, false, IfOk, length};
 ghost use Rattle.dep_model.specs.Names.{same_name};
 ghost use Rattle.dep_model.specs.Schemas.{width_of};
 
-use crate::print_rows;
+use csv_rows::print_rows;
 use dep_model::{Name, Row, Schema, Value, WantMemory};
 use std::alloc::Global;
 use std::test::Fail;

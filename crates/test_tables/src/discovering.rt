@@ -1,4 +1,4 @@
-use crate::{DiscoverRefusal, discover, read_headed};
+use fd_discovery::{DiscoverRefusal, discover, read_headed};
 use attr_sets::AttrSet;
 use dep_model::Dep;
 use std::alloc::Global;

@@ -2,7 +2,7 @@ ghost use Rattle.std.specs.Prelude.{All, IfOk};
 ghost use Rattle.dep_model.specs.Schemas.{width_of};
 ghost use Rattle.table_join.specs.Tables.{IsTable, tables_of};
 
-use crate::{JoinRefusal, join};
+use table_join::{JoinRefusal, join};
 use csv_rows::{Part, print_rows, read_part};
 use dep_model::Schema;
 use schema_reader::{MOST_TEXT_BYTES, read_schema};

@@ -1,4 +1,4 @@
-use crate::{sample_rows, sample_schema};
+use sample::{sample_rows, sample_schema};
 use attr_sets::AttrSet;
 use dep_model::{Column, Dep};
 use std::test::Fail;
