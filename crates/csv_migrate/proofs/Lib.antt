@@ -1,4 +1,3 @@
-pub mod FeedLemmas
 pub mod DistinctLemmas
 pub mod ProjectionLemmas
 pub mod MigrationLemmas

@@ -16,9 +16,8 @@ use Rattle.dep_model.specs.Projections.{project_tuple, projections, IsLossless}
 use Rattle.dep_model.specs.declared.schema.Schema.{Schema}
 use Rattle.dep_model.proofs.DistinctLemmas.{ordered_projection-same}
 use Rattle.dep_model.proofs.JoinLemmas.{tuple_in_join}
-use Rattle.targets.specs.Tables.{TableValue}
-use Rattle.csv_migrate.specs.declared.table.Table.{Table}
-use Rattle.csv_migrate.specs.Tables.{table_value, table_values}
+use Rattle.named_tables.specs.Tables.{TableValue, table_value, table_values}
+use Rattle.named_tables.specs.declared.table.Table.{Table}
 use Rattle.csv_migrate.specs.Migration.{table_of, tables_from, migrated, schemes_in, relations_of, JoinIs}
 
 -- one scheme more

@@ -11,7 +11,7 @@ use Rattle.dep_model.specs.Tuples.{Tuple, Relation, IsOver, value_at}
 use Rattle.dep_model.specs.Projections.{members_below, project_tuple, projection, ordered_projection}
 use Rattle.dep_model.proofs.SchemeLemmas.{members_below-member, members_below-outside, members_below-none, length-project_tuple}
 use Rattle.dep_model.proofs.JoinLemmas.{project_tuple-same, agree-from_projections}
-use Rattle.schema_grammar.specs.Printing.{members_from}
+use Rattle.schema_printer.specs.Printing.{members_from}
 use Rattle.csv_rows.specs.Numberings.{row_at, number_at, AreGroups, AreFirsts}
 use Rattle.csv_rows.proofs.NumberingLemmas.{same_default}
 use Rattle.csv_rows.proofs.RowLemmas.{take_next}

@@ -6,10 +6,10 @@ use Rattle.dep_model.specs.Tuples.{Tuple, Relation}
 use Rattle.dep_model.specs.Projections.{ordered_projection, InJoin}
 use Rattle.dep_model.specs.Schemas.{names_of}
 use Rattle.dep_model.specs.declared.schema.Schema.{Schema}
-use Rattle.schema_grammar.specs.Printing.{members_from}
+use Rattle.schema_printer.specs.Printing.{members_from}
 use Rattle.table_names.specs.TableNames.{table_name}
-use Rattle.targets.specs.Tables.{TableValue}
-use Rattle.csv_migrate.specs.declared.table.Table.{Table}
+use Rattle.named_tables.specs.Tables.{TableValue}
+use Rattle.named_tables.specs.declared.table.Table.{Table}
 
 -- the names of the attributes of a scheme, ascending
 abbrev pub column_names : Schema → Places → List (List ℕ)

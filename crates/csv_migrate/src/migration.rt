@@ -2,18 +2,18 @@ ghost use Rattle.std.specs.Prelude.{◌≡◌, ◌<◌, ◌≤◌, ◌^◌, leng
 ghost use Rattle.attr_sets.specs.Places.{Within, below};
 ghost use Rattle.attr_sets.specs.Sets.{places};
 ghost use Rattle.csv_migrate.specs.Migration.{JoinIs, column_names, migrated, schemes_in, table_of};
-ghost use Rattle.csv_migrate.specs.Tables.{table_value, table_values};
+ghost use Rattle.named_tables.specs.Tables.{table_value, table_values};
 ghost use Rattle.csv_rows.specs.Interning.{IsInterned};
-ghost use Rattle.decomp_text.specs.Plans.{IsPlanOver, plan_of, scheme_sets};
+ghost use Rattle.plans.specs.Plans.{IsPlanOver, plan_of, scheme_sets};
 ghost use Rattle.dep_model.specs.Projections.{IsLossless};
 ghost use Rattle.dep_model.specs.Schemas.{LegalFor, theory_of, width_of};
 ghost use Rattle.dep_model.specs.Tuples.{IsOver};
 
 use crate::projecting::projected;
-use crate::table::Table;
+use named_tables::Table;
 use attr_sets::AttrSet;
 use csv_rows::{Groups, Interned};
-use decomp_text::Plan;
+use plans::Plan;
 use dep_model::{Name, Row, Schema, WantMemory};
 use std::alloc::Global;
 use table_names::{MOST_TABLES, table_name};

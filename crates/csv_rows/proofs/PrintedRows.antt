@@ -23,7 +23,7 @@ use Rattle.dep_model.specs.Tuples.{Tuple, Relation, IsOver, value_at}
 use Rattle.dep_model.specs.declared.column.Column.TheVariants.{Integer}
 use Rattle.dep_model.specs.declared.schema.Schema.{Schema}
 use Rattle.dep_model.proofs.SchemeLemmas.{length-members_below, members_below-at}
-use Rattle.schema_grammar.proofs.PrintedSides.{found_at}
+use Rattle.dep_model.proofs.NameLemmas.{found_at}
 use Rattle.csv_rows.proofs.HeaderLemmas.{named_after}
 use Rattle.csv_rows.proofs.NumberingLemmas.{same_default}
 use Rattle.csv_rows.proofs.ReadingLemmas.{whole_count}

@@ -9,13 +9,8 @@ use Rattle.dep_model.specs.declared.schema.Schema.{Schema}
 use Rattle.dep_model.specs.Projections.{members_below}
 use Rattle.dep_model.specs.Columns.{column_at}
 use Rattle.dep_model.specs.Schemas.{names_of, width_of}
-use Rattle.schema_grammar.specs.Printing.{members_from}
-use Rattle.targets.specs.Sql.{quoted_name, listed}
+use Rattle.sql_names.specs.Names.{name_list, quoted_name}
 use Rattle.ddl_text.specs.declared.table.TableDesign.{TableDesign}
-
--- the quoted names of a set's attributes, ascending, with a comma and a blank between
-abbrev pub name_list : Schema → Places → List ℕ
-name_list s x = listed quoted_name (members_from x 0 (names_of s))
 
 -- what stands after the name of a column of a type
 abbrev pub column_type : Column → List ℕ
@@ -68,11 +63,6 @@ opening some = if some then codes ",\n  " else codes "  "
 abbrev pub element_lines : Bool → List (List ℕ) → List ℕ
 element_lines some [] = []
 element_lines some (e ∷ es) = opening some ++ e ++ element_lines true es
-
--- whether there are elements
-abbrev pub has_some : List (List ℕ) → Bool
-has_some [] = false
-has_some (e ∷ es) = true
 
 -- what stands before a table: a comment where its key is empty
 unfoldable pub comment : Places → List ℕ

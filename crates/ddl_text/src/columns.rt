@@ -1,13 +1,14 @@
 ghost use Rattle.std.specs.Prelude.{◌≡◌, ◌<◌, ◌++◌, false, IfOk, OnOk};
 ghost use Rattle.attr_sets.specs.Sets.{places};
 ghost use Rattle.dep_model.specs.Schemas.{width_of};
-ghost use Rattle.ddl_text.specs.Ddl.{column_element, column_elements, column_type, element_lines, has_some};
+ghost use Rattle.ddl_text.specs.Ddl.{column_element, column_elements, column_type, element_lines};
+ghost use Rattle.sql_names.specs.Names.{has_some};
 
 use crate::elements::add_opening;
-use crate::name_list::add_quoted;
+use sql_names::add_quoted;
 use attr_sets::AttrSet;
 use dep_model::{Column, Schema, WantMemory};
-use schema_reader::add;
+use schema_printer::add;
 
 // Adds the columns of a scheme as the first elements, and tells whether there are some.
 pub fn add_columns(text: &mut Vec<u8>, schema: &Schema, scheme: AttrSet) -> Result<bool, WantMemory>

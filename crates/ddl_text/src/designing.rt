@@ -2,14 +2,14 @@ ghost use Rattle.std.specs.Prelude.{◌≡◌, ◌↔◌, ◌<◌, ◌≤◌, le
 ghost use Rattle.attr_sets.specs.Places.{Within};
 ghost use Rattle.attr_sets.specs.Sets.{places};
 ghost use Rattle.dep_model.specs.Schemas.{universe_of};
-ghost use Rattle.decomp_text.specs.Plans.{scheme_sets, IsPlanOver};
+ghost use Rattle.plans.specs.Plans.{scheme_sets, IsPlanOver};
 ghost use Rattle.table_names.specs.declared.numbered.TheConstants.{MOST_TABLES};
 ghost use Rattle.ddl_text.specs.Designs.{RefersTo, AreReferences, IsTableOf, IsDesign, ReferToEarlier};
 ghost use Rattle.ddl_text.specs.Laws.{KeysHold, ReferencesHold};
 
 use crate::TableDesign;
 use attr_sets::AttrSet;
-use decomp_text::Plan;
+use plans::Plan;
 use dep_model::{Schema, WantMemory};
 use key_listing::one_key;
 use std::alloc::Global;

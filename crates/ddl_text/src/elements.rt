@@ -1,14 +1,15 @@
 ghost use Rattle.std.specs.Prelude.{◌≡◌, ◌<◌, ◌++◌, ◌||◌, false, length, All, IfOk, OnOk};
 ghost use Rattle.attr_sets.specs.Sets.{places};
-ghost use Rattle.ddl_text.specs.Ddl.{opening, elements, element_lines, has_some, key_elements};
+ghost use Rattle.ddl_text.specs.Ddl.{opening, elements, element_lines, key_elements};
+ghost use Rattle.sql_names.specs.Names.{has_some};
 
 use crate::TableDesign;
 use crate::columns::add_columns;
-use crate::name_list::add_name_list;
+use sql_names::add_name_list;
 use crate::references::add_references;
 use attr_sets::AttrSet;
 use dep_model::{Schema, WantMemory};
-use schema_reader::add;
+use schema_printer::add;
 
 // Adds the columns, the key and the references of a table.
 pub fn add_elements(

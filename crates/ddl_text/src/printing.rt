@@ -4,11 +4,11 @@ ghost use Rattle.ddl_text.specs.Designs.{ReferToEarlier};
 ghost use Rattle.ddl_text.specs.Ddl.{comment, table_text, ddl_text};
 
 use crate::elements::add_elements;
-use crate::name_list::add_quoted;
+use sql_names::add_quoted;
 use crate::{DesignList, TableDesign};
 use attr_sets::AttrSet;
 use dep_model::{Schema, WantMemory};
-use schema_reader::add;
+use schema_printer::add;
 use std::alloc::Global;
 
 /// A `CREATE TABLE` statement for each table of a design, in order: its columns, its key, if this is not

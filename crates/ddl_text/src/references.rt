@@ -3,9 +3,9 @@ ghost use Rattle.ddl_text.specs.Ddl.{element_lines, reference_element, reference
 
 use crate::TableDesign;
 use crate::elements::add_opening;
-use crate::name_list::{add_name_list, add_quoted};
+use sql_names::{add_name_list, add_quoted};
 use dep_model::{Schema, WantMemory};
-use schema_reader::add;
+use schema_printer::add;
 
 // Adds the references to the tables at these places, in order, where other elements stand before or not.
 pub fn add_references(

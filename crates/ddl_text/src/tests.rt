@@ -1,6 +1,7 @@
 use crate::{DesignList, MOST_TABLES, design, print_ddl};
 use attr_sets::AttrSet;
-use decomp_text::{MOST_PLAN_BYTES, Plan, read_plan};
+use decomp_text::{MOST_PLAN_BYTES, read_plan};
+use plans::Plan;
 use dep_model::{Schema, WantMemory};
 use schema_reader::{MOST_TEXT_BYTES, read_schema};
 use std::alloc::Global;

@@ -1,7 +1,1 @@
-pub mod ListLemmas
-pub mod PlanLemmas
-mod ContainingLemmas
-mod DroppingLemmas
-mod LoopLemmas
-mod PrintingLemmas
 mod ReadingLemmas

@@ -12,9 +12,9 @@ ghost use Rattle.plan_grammar.specs.Complaints.{RefusesPlan};
 ghost use Rattle.plan_grammar.specs.Meanings.{is_scheme, MeansPlan};
 ghost use Rattle.plan_grammar.specs.Reading.{attribute, no_scheme, read_words_lexed, read_scheme, read_scheme_line, read_scheme_lines};
 ghost use Rattle.plan_grammar.specs.Refusals.{RefusesPlanAs};
-ghost use Rattle.decomp_text.specs.Plans.{plan_of, IsPlanOver};
+ghost use Rattle.plans.specs.Plans.{plan_of, IsPlanOver};
 
-use crate::Plan;
+use plans::Plan;
 use crate::covering::first_uncovered;
 use attr_sets::{AttrSet, PLACES};
 use dep_model::Schema;

@@ -8,6 +8,7 @@ pub mod JoinLemmas
 pub mod KeyLemmas
 mod LawLemmas
 pub mod ListLemmas
+pub mod NameLemmas
 pub mod NumeralLemmas
 pub mod PartLemmas
 pub mod PreservationLemmas

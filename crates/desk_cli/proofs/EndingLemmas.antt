@@ -6,11 +6,11 @@ use Rattle.std.specs.List.{list_any, list_all}
 use Rattle.dep_model.specs.declared.memory.WantMemory.{WantMemory}
 use Rattle.desk_outside.specs.Causes.{Rose}
 use Rattle.desk_outside.specs.Files.{Files}
-use Rattle.targets.specs.Tables.{TableValue}
+use Rattle.named_tables.specs.Tables.{TableValue}
 use Rattle.targets.specs.Targets.{Finished}
-use Rattle.csv_migrate.specs.declared.end.FeedEnd.{FeedEnd}
-use Rattle.csv_migrate.specs.declared.end.FeedEnd.TheVariants.{Done, Failed, NoMemory}
-use Rattle.csv_migrate.specs.Feeding.{Fed, HasAll}
+use Rattle.table_writing.specs.declared.end.FeedEnd.{FeedEnd}
+use Rattle.table_writing.specs.declared.end.FeedEnd.TheVariants.{Done, Failed, NoMemory}
+use Rattle.table_writing.specs.Feeding.{Fed, HasAll}
 use Rattle.desk_cli.specs.declared.status.Status.{Status}
 use Rattle.desk_cli.specs.declared.status.Status.TheVariants.{Yes, CannotWrite, TargetFailed}
 use Rattle.desk_cli.specs.Answers.{Answer}

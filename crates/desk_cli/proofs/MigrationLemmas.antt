@@ -9,8 +9,8 @@ use Rattle.desk_cli.specs.declared.reply.Reply.{Reply}
 use Rattle.desk_cli.specs.declared.reply.Stop.{Stop}
 use Rattle.desk_cli.specs.Replies.{RepliesAs}
 use Rattle.std.specs.List.{flat_map}
-use Rattle.csv_migrate.specs.declared.table.Table.{Table}
-use Rattle.csv_migrate.specs.Tables.{table_value, table_values}
+use Rattle.named_tables.specs.declared.table.Table.{Table}
+use Rattle.named_tables.specs.Tables.{table_value, table_values}
 use Rattle.desk_cli.specs.Migrations.{table_line, IsSampleSchema, MigratesRows, Samples}
 
 pub lines_of : (tables : List Table) → flat_map (λ table. table_line (table_value table)) tables ≡ flat_map table_line (table_values tables)

@@ -14,7 +14,7 @@ use Rattle.dep_model.specs.declared.column.Column.TheVariants.{Text, Integer}
 use Rattle.dep_model.specs.declared.dep.Dep.{Dep}
 use Rattle.dep_model.specs.declared.schema.Schema.{Schema}
 use Rattle.fd_discovery.specs.Headers.{IsColumnHeader}
-use Rattle.schema_grammar.specs.Printing.{declared_text, declaring_lines, is_integer}
+use Rattle.schema_printer.specs.Printing.{declared_text, declaring_lines, is_integer}
 use Rattle.desk_cli.specs.Discoveries.{found_text}
 
 -- ---- the names of a header differ

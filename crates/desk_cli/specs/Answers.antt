@@ -1,6 +1,6 @@
 -- What a command may answer.
 use Rattle.std.specs.Prelude.{◌≡◌, ◌⊎◌, ℕ, List, Option, Some, None}
-use Rattle.targets.specs.Tables.{TableValue}
+use Rattle.named_tables.specs.Tables.{TableValue}
 use Rattle.desk_cli.specs.declared.status.Status.{Status}
 use Rattle.desk_cli.specs.declared.status.Status.TheVariants.{Yes}
 

@@ -3,7 +3,7 @@ use Rattle.std.specs.Prelude.{List}
 use Rattle.dep_model.specs.Dependencies.{Dependency, functional_part}
 use Rattle.dep_model.specs.Schemas.{names_of, columns_of, width_of, theory_of}
 use Rattle.dep_model.specs.declared.schema.Schema.{Schema}
-use Rattle.schema_grammar.specs.Printing.{declared_text}
+use Rattle.schema_printer.specs.Printing.{declared_text}
 use Rattle.min_cover.specs.Covers.{IsFixedWholeCover, IsMinimalCover, IsWholeCover}
 use Rattle.desk_cli.specs.declared.status.Status.TheVariants.{Yes}
 use Rattle.desk_cli.specs.Answers.{Allowed, Says}

@@ -10,7 +10,7 @@ use Rattle.dep_model.specs.declared.schema.Schema.{Schema}
 use Rattle.form_tests.specs.declared.forms.Form.{Form}
 use Rattle.form_tests.specs.declared.forms.Form.TheVariants.{Third, Bcnf, Fourth}
 use Rattle.form_tests.specs.Chosen.{IsInForm}
-use Rattle.plan_grammar.specs.Printing.{plan_text}
+use Rattle.plans.specs.Printing.{plan_text}
 use Rattle.split_forms.specs.Refusals.{IsWithinLimits}
 use Rattle.split_forms.specs.Splitting.{IsSplitPlan, IsTooWideAt, HasTooManySchemes}
 use Rattle.wide_bcnf.specs.WideSplits.{IsWidePlan}

@@ -11,7 +11,7 @@ use Rattle.fd_discovery.specs.declared.refusal.DiscoverRefusal.{DiscoverRefusal}
 use Rattle.fd_discovery.specs.declared.refusal.DiscoverRefusal.TheVariants as refusal
 use Rattle.fd_discovery.specs.Headings.{IsHeaded, IsRefusedDiscovery, names_under, rows_under}
 use Rattle.fd_discovery.specs.Minimal.{AreAllMinimal}
-use Rattle.schema_grammar.specs.Printing.{words_text, dependency_text, lines_text}
+use Rattle.schema_printer.specs.Printing.{words_text, dependency_text, lines_text}
 use Rattle.desk_cli.specs.declared.rows.TheConstants.{MOST_CSV_BYTES}
 use Rattle.desk_cli.specs.declared.status.Status.TheVariants.{Yes, Refused}
 use Rattle.desk_cli.specs.Answers.{Allowed, Says, With}

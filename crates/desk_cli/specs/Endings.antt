@@ -3,11 +3,11 @@ use Rattle.std.specs.Prelude.{◌≡◌, ◌⊎◌, ℕ, ◌+◌, ◌<◌, Bool,
 use Rattle.std.specs.Fmt.{decimal}
 use Rattle.std.specs.List.{list_all, list_any}
 use Rattle.desk_outside.specs.Causes.{Rose}
-use Rattle.targets.specs.Tables.{TableValue}
+use Rattle.named_tables.specs.Tables.{TableValue}
 use Rattle.targets.specs.Targets.{Finished}
-use Rattle.csv_migrate.specs.declared.end.FeedEnd.{FeedEnd}
-use Rattle.csv_migrate.specs.declared.end.FeedEnd.TheVariants.{Done, Failed, NoMemory}
-use Rattle.csv_migrate.specs.Feeding.{AtEachPlace, FedTarget, HasAll}
+use Rattle.table_writing.specs.declared.end.FeedEnd.{FeedEnd}
+use Rattle.table_writing.specs.declared.end.FeedEnd.TheVariants.{Done, Failed, NoMemory}
+use Rattle.table_writing.specs.Feeding.{AtEachPlace, FedTarget, HasAll}
 use Rattle.desk_cli.specs.declared.status.Status.{Status}
 use Rattle.desk_cli.specs.declared.status.Status.TheVariants.{Yes, TargetFailed}
 use Rattle.desk_cli.specs.Answers.{Answer, Allowed}

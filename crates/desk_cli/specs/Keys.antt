@@ -6,7 +6,7 @@ use Rattle.attr_sets.specs.declared.set.AttrSet.{AttrSet}
 use Rattle.attr_sets.specs.Sets.{places}
 use Rattle.dep_model.specs.Schemas.{names_of, width_of, theory_of, universe_of}
 use Rattle.dep_model.specs.declared.schema.Schema.{Schema}
-use Rattle.schema_grammar.specs.Printing.{set_text}
+use Rattle.schema_printer.specs.Printing.{set_text}
 use Rattle.key_listing.specs.declared.refusal.TheConstants.{MOST_KEYS}
 use Rattle.key_listing.specs.Listing.{AreAllKeys, AreManyKeys}
 use Rattle.key_listing.specs.Refusals.{IsTooWide, IsWideScheme}

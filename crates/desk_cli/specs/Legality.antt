@@ -7,7 +7,7 @@ use Rattle.dep_model.specs.Schemas.{names_of, width_of, theory_of, deps_of, line
 use Rattle.dep_model.specs.Tuples.{Relation}
 use Rattle.dep_model.specs.declared.dep.Dep.{Dep}
 use Rattle.dep_model.specs.declared.schema.Schema.{Schema}
-use Rattle.schema_grammar.specs.Printing.{dependency_text}
+use Rattle.schema_printer.specs.Printing.{dependency_text}
 use Rattle.legality.specs.declared.offence.Offence.{Offence}
 use Rattle.legality.specs.Offences.{OffencesOf}
 use Rattle.desk_cli.specs.declared.status.Status.TheVariants.{Yes, No}

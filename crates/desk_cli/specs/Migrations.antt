@@ -11,8 +11,8 @@ use Rattle.dep_model.specs.Tuples.{Relation}
 use Rattle.form_tests.specs.declared.forms.Form.{Form}
 use Rattle.form_tests.specs.declared.forms.Form.TheVariants.{Fourth}
 use Rattle.sample.specs.Sample.{sample_names, sample_theory, sample_relation}
-use Rattle.schema_grammar.specs.Printing.{words_text}
-use Rattle.targets.specs.Tables.{TableValue}
+use Rattle.schema_printer.specs.Printing.{words_text}
+use Rattle.named_tables.specs.Tables.{TableValue}
 use Rattle.desk_cli.specs.Answers.{Allowed, AnswersWithTables}
 use Rattle.desk_cli.specs.Decompositions.{WithPlanInForm}
 use Rattle.desk_cli.specs.Joins.{WithoutLoss}

@@ -7,7 +7,7 @@ use Rattle.dep_model.specs.declared.schema.Schema.{Schema}
 use Rattle.form_tests.specs.declared.forms.Form.{Form}
 use Rattle.form_tests.specs.declared.forms.Form.TheVariants.{Third, Bcnf, Fourth}
 use Rattle.form_tests.specs.Chosen.{IsInForm, IsWide, IsChosenViolation}
-use Rattle.schema_grammar.specs.Printing.{set_text, dependency_text}
+use Rattle.schema_printer.specs.Printing.{set_text, dependency_text}
 use Rattle.desk_cli.specs.declared.status.Status.TheVariants.{Yes, No, Refused}
 use Rattle.desk_cli.specs.Answers.{Allowed, Says}
 use Rattle.desk_cli.specs.Keys.{too_wide_text}

@@ -4,7 +4,7 @@ use Rattle.std.specs.Fmt.{decimal}
 use Rattle.dep_model.specs.Dependencies.{Dependency}
 use Rattle.derivation.specs.declared.fault.FaultKind.{FaultKind}
 use Rattle.derivation.specs.declared.fault.FaultKind.TheVariants as fault
-use Rattle.schema_grammar.specs.Printing.{dependency_text}
+use Rattle.schema_printer.specs.Printing.{dependency_text}
 use Rattle.proof_grammar.specs.declared.refusal.ProofRefusalKind.{ProofRefusalKind}
 use Rattle.proof_grammar.specs.Complaints.{Complaint, bad_line, wrong_number, no_such_line, used_twice, never_used, too_many_lines, too_deep, unsound, states_other, empty_proof, LineComplaint, complaint_of}
 use Rattle.desk_cli.specs.Texts.{line, kind_text}

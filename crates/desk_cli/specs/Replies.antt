@@ -1,6 +1,6 @@
 -- Replies of the parts of a command.
 use Rattle.std.specs.Prelude.{◌≡◌, option_map, Result, Ok, Err}
-use Rattle.csv_migrate.specs.Tables.{table_values}
+use Rattle.named_tables.specs.Tables.{table_values}
 use Rattle.desk_cli.specs.declared.reply.Reply.{Reply}
 use Rattle.desk_cli.specs.declared.reply.Stop.{Stop}
 use Rattle.desk_cli.specs.declared.reply.Stop.TheVariants.{Answered}

@@ -7,7 +7,7 @@ use Rattle.dep_model.specs.Preservation.{KeepsDependencies}
 use Rattle.dep_model.specs.Projections.{IsLossless}
 use Rattle.dep_model.specs.Schemas.{names_of, width_of, theory_of}
 use Rattle.dep_model.specs.declared.schema.Schema.{Schema}
-use Rattle.plan_grammar.specs.Printing.{plan_text}
+use Rattle.plans.specs.Printing.{plan_text}
 use Rattle.synthesis_3nf.specs.GroupedPlans.{IsGroupedPlan}
 use Rattle.desk_cli.specs.declared.status.Status.TheVariants.{Yes}
 use Rattle.desk_cli.specs.Answers.{Allowed, Says}

@@ -8,7 +8,7 @@ use Rattle.schema_grammar.specs.declared.refusal.SchemaRefusalKind.{SchemaRefusa
 use Rattle.schema_grammar.specs.declared.refusal.SchemaRefusalKind.TheVariants as kind
 use Rattle.schema_grammar.specs.declared.refusal.SchemaRefusal.{SchemaRefusal}
 use Rattle.schema_grammar.specs.Complaints.{refusal_number}
-use Rattle.schema_grammar.specs.Printing.{set_text}
+use Rattle.schema_printer.specs.Printing.{set_text}
 use Rattle.csv_rows.specs.RowsText.{rows_text}
 use Rattle.dep_model.specs.Tuples.{Relation}
 

@@ -17,7 +17,7 @@ use crate::text::{line_of, put};
 use dep_model::{Dep, Schema, WantMemory};
 use desk_outside::{Shelf, Word};
 use proof_text::same_dependency;
-use schema_reader::print_dep;
+use schema_printer::print_dep;
 use std::alloc::Global;
 
 /// Whether the certificate of a file proves a goal over a schema, by the rules alone.

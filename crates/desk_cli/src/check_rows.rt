@@ -13,7 +13,7 @@ use crate::text::{line_of, put, put_number};
 use dep_model::{Row, Schema, WantMemory};
 use desk_outside::{Shelf, Word};
 use legality::{Offence, offences};
-use schema_reader::add_dep;
+use schema_printer::add_dep;
 use std::alloc::Global;
 
 /// Whether the rows of a CSV file are legal for a schema.

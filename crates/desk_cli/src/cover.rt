@@ -6,7 +6,7 @@ use crate::Status;
 use crate::reply::{Reply, Stop};
 use dep_model::{Schema, WantMemory};
 use min_cover::whole_cover;
-use schema_reader::print_deps;
+use schema_printer::print_deps;
 use std::alloc::Global;
 
 /// A cover of a schema: what says the same, in which no functional dependency follows from the other

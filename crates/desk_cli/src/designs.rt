@@ -1,5 +1,5 @@
 ghost use Rattle.std.specs.Prelude.{◌≡◌, ◌≤◌, length, IfOk};
-ghost use Rattle.decomp_text.specs.Plans.{IsPlanOver, scheme_sets};
+ghost use Rattle.plans.specs.Plans.{IsPlanOver, scheme_sets};
 ghost use Rattle.desk_cli.specs.Designs.{IsSoundDesign, WritesForm, WritesPlan, WritesTables};
 ghost use Rattle.desk_cli.specs.Readings.{Reading, Shows};
 ghost use Rattle.desk_cli.specs.Replies.{answer_of, RepliesAs};
@@ -10,7 +10,7 @@ use crate::join::test_loss;
 use crate::plan::open_plan;
 use crate::reply::{Reply, Stop};
 use ddl_text::{DesignList, design, print_ddl};
-use decomp_text::Plan;
+use plans::Plan;
 use dep_model::{Schema, WantMemory};
 use desk_outside::{Shelf, Word};
 use form_tests::Form;

@@ -19,7 +19,7 @@ use crate::text::{put, put_number};
 use dep_model::{Dep, Name, Schema, WantMemory};
 use desk_outside::{Shelf, Word};
 use fd_discovery::{DiscoverRefusal, Headed, discover, read_headed};
-use schema_reader::print_deps;
+use schema_printer::print_deps;
 use std::alloc::Global;
 
 /// The minimal functional dependencies that the rows of a file obey.

@@ -1,5 +1,5 @@
 ghost use Rattle.std.specs.Prelude.{◌≡◌, ◌≤◌, IfOk};
-ghost use Rattle.decomp_text.specs.Plans.{IsPlanOver, scheme_sets};
+ghost use Rattle.plans.specs.Plans.{IsPlanOver, scheme_sets};
 ghost use Rattle.desk_cli.specs.Drawings.{DrawsForm, DrawsPlan, DrawsTables};
 ghost use Rattle.desk_cli.specs.Readings.{Reading, Shows};
 ghost use Rattle.desk_cli.specs.Replies.{answer_of, RepliesAs};
@@ -9,7 +9,7 @@ use crate::decomposition::plan_in_form;
 use crate::designs::designed;
 use crate::plan::open_plan;
 use crate::reply::{Reply, Stop};
-use decomp_text::Plan;
+use plans::Plan;
 use dep_model::{Schema, WantMemory};
 use desk_outside::{Shelf, Word};
 use form_tests::Form;

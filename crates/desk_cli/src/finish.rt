@@ -1,17 +1,17 @@
 ghost use Rattle.std.specs.Prelude.{◌≡◌, ◌≤◌, ◌+◌, ◌*◌, List, [], ◌++◌, true, false, length, codes, IfOk, OnOk, OnErr, vec_capacity};
 ghost use Rattle.std.specs.Fmt.{decimal};
 ghost use Rattle.std.specs.List.{list_any, list_all};
-ghost use Rattle.csv_migrate.specs.Tables.{table_values};
+ghost use Rattle.named_tables.specs.Tables.{table_values, TableValue};
 ghost use Rattle.desk_cli.specs.Answers.{gives};
 ghost use Rattle.desk_cli.specs.declared.finish.TheConstants.{LINE};
 ghost use Rattle.desk_cli.specs.Endings.{targets_in_call, is_done, wanted_memory, end_text, failures_text, reported, FeedsTargets, Settles, LeavesTargets};
 ghost use Rattle.desk_cli.specs.Replies.{answer_of, ending_of};
 ghost use Rattle.desk_cli.specs.Texts.{line};
-ghost use Rattle.targets.specs.Tables.{TableValue};
 
 use crate::Status;
 use crate::reply::Reply;
-use csv_migrate::{FeedEnd, Table, feed_list};
+use table_writing::{FeedEnd, feed_list};
+use named_tables::Table;
 use dep_model::WantMemory;
 use itoa::Buffer;
 use std::alloc::Global;

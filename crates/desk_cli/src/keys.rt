@@ -13,7 +13,7 @@ use crate::text::{line_of, put};
 use attr_sets::AttrSet;
 use dep_model::{Schema, WantMemory};
 use key_listing::{KeyRefusal, keys};
-use schema_reader::{add, add_set, print_set};
+use schema_printer::{add, add_set, print_set};
 use std::alloc::Global;
 
 /// All keys of a schema's universe, each on a line.

@@ -6,7 +6,7 @@ ghost use Rattle.dep_model.specs.Plans.{schemes_of};
 ghost use Rattle.dep_model.specs.Schemas.{names_of, universe_of};
 ghost use Rattle.desk_cli.specs.Answers.{Says};
 ghost use Rattle.desk_cli.specs.NormalForms.{ChecksForm, EndsForm, JudgesForm, PassesForm, form_word, in_form_text, violated_text, violation_of};
-ghost use Rattle.schema_grammar.specs.Printing.{dependency_text, set_text};
+ghost use Rattle.schema_printer.specs.Printing.{dependency_text, set_text};
 ghost use Rattle.desk_cli.specs.Readings.{Reading, Shows};
 ghost use Rattle.desk_cli.specs.Replies.{answer_of, RepliesAs, StopsAs};
 ghost use Rattle.desk_cli.specs.Texts.{line};
@@ -20,7 +20,7 @@ use attr_sets::AttrSet;
 use dep_model::{Dep, Schema, WantMemory};
 use desk_outside::{Shelf, Word};
 use form_tests::{Breach, Form, violation};
-use schema_reader::{add_dep, add_set};
+use schema_printer::{add_dep, add_set};
 use std::alloc::Global;
 
 /// Whether each scheme of the plan of a file is in a normal form.

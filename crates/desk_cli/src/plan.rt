@@ -2,7 +2,7 @@ ghost use Rattle.std.specs.Prelude.{◌≡◌, ◌≤◌, ◌++◌, [], length, 
 ghost use Rattle.std.specs.Fmt.{decimal};
 ghost use Rattle.dep_model.specs.Projections.{Covers};
 ghost use Rattle.dep_model.specs.Schemas.{names_of, width_of};
-ghost use Rattle.decomp_text.specs.Plans.{plan_of, IsPlanOver};
+ghost use Rattle.plans.specs.Plans.{plan_of, IsPlanOver};
 ghost use Rattle.plan_grammar.specs.declared.refusal.TheConstants.{MOST_SCHEMES};
 ghost use Rattle.plan_grammar.specs.declared.refusal.PlanRefusal.TheVariants as refusals;
 ghost use Rattle.desk_cli.specs.Plans.{PlanStops, IsPlanFile, TellsPlan, is_want, plan_reason_text, plan_refusal_text};
@@ -15,7 +15,8 @@ use crate::refusals::reason_of;
 use crate::reply::Stop;
 use crate::row_refusals::name_of;
 use crate::text::{put, put_number};
-use decomp_text::{MOST_PLAN_BYTES, Plan, PlanRefusal, read_plan};
+use decomp_text::{MOST_PLAN_BYTES, PlanRefusal, read_plan};
+use plans::Plan;
 use dep_model::{Schema, WantMemory};
 use desk_outside::{Shelf, Word};
 use schema_reader::SchemaRefusal;

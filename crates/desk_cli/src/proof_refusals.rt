@@ -9,7 +9,7 @@ use crate::text::{put, put_number, put_pair};
 use dep_model::{Dep, Schema, WantMemory};
 use derivation::FaultKind;
 use proof_text::{ProofRefusal, ProofRefusalKind};
-use schema_reader::print_dep;
+use schema_printer::print_dep;
 use std::alloc::Global;
 
 /// The line that tells a refusal of a certificate.

@@ -2,7 +2,7 @@ ghost use Rattle.std.specs.Prelude.{◌≡◌, IsSome};
 ghost use Rattle.desk_cli.specs.declared.status.Status.TheVariants.{Yes};
 
 use crate::Status;
-use csv_migrate::Table;
+use named_tables::Table;
 use dep_model::WantMemory;
 
 /// A status, the text that goes with it, and tables for the targets, which only yes has.
@@ -15,7 +15,7 @@ pub struct Reply {
 }
 
 impl Reply {
-    ghost use Rattle.csv_migrate.specs.Tables.{table_values};
+    ghost use Rattle.named_tables.specs.Tables.{table_values};
     ghost use Rattle.desk_cli.specs.Answers.{Says, AnswersWithTables};
     ghost use Rattle.desk_cli.specs.Replies.{answer_of};
 

@@ -1,5 +1,5 @@
 ghost use Rattle.std.specs.Prelude.{◌≡◌, ◌≤◌, IsTrue, IfOk, IfErr};
-ghost use Rattle.decomp_text.specs.Plans.{IsPlanOver, scheme_sets};
+ghost use Rattle.plans.specs.Plans.{IsPlanOver, scheme_sets};
 ghost use Rattle.table_scripts.specs.Naming.{is_table_name};
 ghost use Rattle.desk_cli.specs.Answers.{Says};
 ghost use Rattle.desk_cli.specs.Readings.{Reading, Shows};
@@ -13,7 +13,7 @@ use crate::join::test_loss;
 use crate::plan::open_plan;
 use crate::reply::{Reply, Stop};
 use crate::text::line_of;
-use decomp_text::Plan;
+use plans::Plan;
 use dep_model::{Schema, WantMemory};
 use desk_outside::{Shelf, Word};
 use form_tests::Form;

@@ -5,7 +5,7 @@ ghost use Rattle.desk_cli.specs.Synthesis.{Synthesizes};
 use crate::Status;
 use crate::decomposition::third_form_plan;
 use crate::reply::{Reply, Stop};
-use decomp_text::print_plan;
+use plans::print_plan;
 use dep_model::{Schema, WantMemory};
 use std::alloc::Global;
 

@@ -37,3 +37,8 @@ pub record IsLastLine (text line : List ℕ) : Type 0 where
 abbrev pub CutsLine : List ℕ → List ℕ → Option (Bor (List ℕ)) → Type 0
 CutsLine text line None = IsLastLine text line
 CutsLine text line (Some after) = CutsAt text line after.now
+
+-- the lines after a line end
+abbrev pub lines_after : Option (Bor (List ℕ)) → List (List ℕ)
+lines_after None = []
+lines_after (Some after) = line_texts after.now

@@ -11,7 +11,7 @@ use Rattle.lexer.specs.Tokens.{Mark}
 use Rattle.schema_grammar.specs.declared.format.Format.TheVariants as format
 use Rattle.schema_grammar.specs.Meanings.{IsSide, IsNamedSide, IsAttribute}
 use Rattle.schema_grammar.specs.Printed.{AreNames}
-use Rattle.schema_grammar.specs.Printing.{words_text, members_from}
+use Rattle.schema_printer.specs.Printing.{words_text, members_from}
 use Rattle.schema_grammar.proofs.PrintedDependencies.{nothing_left}
 use Rattle.schema_grammar.proofs.PrintedLexing.{word_marks, side_marks}
 use Rattle.schema_grammar.proofs.PrintedSides.{printed_side, printed_names}
@@ -19,7 +19,7 @@ use Rattle.schema_grammar.proofs.PrintedTexts.{bytes_both, words_bytes, EachByte
 use Rattle.schema_grammar.proofs.PrintedSchemas.{word_line}
 use Rattle.plan_grammar.specs.declared.refusal.TheConstants.{MOST_SCHEMES}
 use Rattle.plan_grammar.specs.Meanings.{is_scheme, MeansScheme, MeansSchemeLines, MeansPlan}
-use Rattle.plan_grammar.specs.Printing.{scheme_text, plan_text}
+use Rattle.plans.specs.Printing.{scheme_text, plan_text}
 
 -- the words of a set with attributes are a side for it
 side_named : (names words : List (List ℕ)) (x : Places) → (IsEmpty x → ⊥) → IsSide format.Plain names (side_marks 8 words) x → IsNamedSide format.Plain names (word_marks 7 words) x

@@ -2,4 +2,3 @@ pub mod Refusals
 pub mod Meanings
 pub mod Complaints
 pub mod Reading
-pub mod Printing

@@ -6,7 +6,7 @@ ghost use Rattle.dep_model.specs.Plans.{IsPlan};
 ghost use Rattle.schema_grammar.specs.Printed.{AreNames};
 ghost use Rattle.plan_grammar.specs.Complaints.{RefusesSchemeLines, RefusesPlan};
 ghost use Rattle.plan_grammar.specs.Meanings.{MeansSchemeLines, MeansPlan};
-ghost use Rattle.plan_grammar.specs.Printing.{plan_text};
+ghost use Rattle.plans.specs.Printing.{plan_text};
 ghost use Rattle.plan_grammar.specs.Reading.{read_scheme_lines};
 ghost use Rattle.plan_grammar.specs.declared.refusal.PlanRefusal.{PlanRefusal};
 

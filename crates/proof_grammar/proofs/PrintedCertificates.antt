@@ -9,7 +9,7 @@ use Rattle.lexer.specs.declared.token.Mode.TheVariants as mode
 use Rattle.lexer.specs.Lines.{without_mark, line_texts}
 use Rattle.lexer.specs.Tokens.{lex}
 use Rattle.schema_grammar.specs.declared.format.Format.TheVariants as format
-use Rattle.schema_grammar.specs.Printing.{lines_text}
+use Rattle.schema_printer.specs.Printing.{lines_text}
 use Rattle.schema_grammar.specs.Printed.{AreNames}
 use Rattle.schema_grammar.proofs.PrintedDependencies.{nothing_left}
 use Rattle.schema_grammar.proofs.PrintedTexts.{EachBytes, lines_cut}

@@ -10,7 +10,7 @@ use Rattle.lexer.specs.Tokens.{Mark}
 use Rattle.schema_grammar.specs.declared.format.Format.TheVariants as format
 use Rattle.schema_grammar.specs.declared.symbol.Sign.TheVariants as sign
 use Rattle.schema_grammar.specs.Meanings.{IsDependency}
-use Rattle.schema_grammar.specs.Printing.{members_from, set_text, dependency_text}
+use Rattle.schema_printer.specs.Printing.{members_from, set_text, dependency_text}
 use Rattle.schema_grammar.specs.Printed.{AreNames}
 use Rattle.schema_grammar.proofs.PrintedLexing.{side_marks, side_end}
 use Rattle.schema_grammar.proofs.PrintedSides.{printed_side, printed_names}

@@ -19,7 +19,7 @@ use Rattle.lexer.specs.Bytes.{is_gap, run_length, is_number, number_of}
 use Rattle.lexer.specs.Pieces.{front, run_piece}
 use Rattle.lexer.specs.Tokens.{Mark, Lexed, lexed, led_by_mark}
 use Rattle.lexer.proofs.Steps.{at_token}
-use Rattle.schema_grammar.specs.Printing.{side_text}
+use Rattle.schema_printer.specs.Printing.{side_text}
 use Rattle.schema_grammar.proofs.PrintedDependencies.{led_marks, nothing_left}
 use Rattle.schema_grammar.proofs.PrintedLexing.{AllNames, Apart, name_lexed, blank_lexed, side_marks, side_end, side_lexed, arrow_lexed, double_arrow_lexed}
 use Rattle.schema_grammar.proofs.PrintedTexts.{Bytes, bytes_both, words_bytes, is_line_byte}

@@ -7,7 +7,7 @@ use Rattle.dep_model.specs.Schemas.{names_of}
 use Rattle.derivation.specs.declared.fault.Fault.{Fault}
 use Rattle.derivation.specs.Trees.{Leaf, given, reflexivity, mreflexivity, Step, augmentation, complementation, maugmentation, replication, Pair, transitivity, mtransitivity, coalescence, Tree, leaf, step, pair, nodes}
 use Rattle.derivation.specs.Conclusions.{Proves, concluded}
-use Rattle.schema_grammar.specs.Printing.{set_text, dependency_text}
+use Rattle.schema_printer.specs.Printing.{set_text, dependency_text}
 use Rattle.proof_grammar.specs.Lines.{Body, by_given, by_reflexivity, by_mreflexivity, by_step, by_pair, Line}
 
 -- ---- a line as text: one blank between two tokens, none before the first colon, and a line feed

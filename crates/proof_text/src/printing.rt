@@ -8,7 +8,7 @@ ghost use Rattle.derivation.specs.Trees.{nodes, depth};
 ghost use Rattle.derivation.specs.Derivs.{tree_of, leaf_of, step_of, pair_of};
 ghost use Rattle.derivation.specs.Table.{leaf_conclusion, step_conclusion, pair_conclusion};
 ghost use Rattle.derivation.specs.Conclusions.{Proves};
-ghost use Rattle.schema_grammar.specs.Printing.{set_text, dependency_text};
+ghost use Rattle.schema_printer.specs.Printing.{set_text, dependency_text};
 ghost use Rattle.proof_text.specs.Views.{body_of, line_of};
 ghost use Rattle.proof_grammar.specs.Printing.{step_word, sides_text, pair_word, body_text, certificate_line_text, leaf_body, numbered_line, node_lines_after, certificate_lines_text, canonical_certificate, IsProof, IsStepWithin, IsBodyWithin};
 
@@ -19,7 +19,7 @@ use derivation::{
     Deriv, LeafRule, MOST_LEVELS, MOST_NODES, Node, PairRule, StepRule, leaf_conclusion,
     pair_conclusion, step_conclusion,
 };
-use schema_reader::{add, add_dep, add_number, add_set};
+use schema_printer::{add, add_dep, add_number, add_set};
 use std::alloc::Global;
 
 /// A derivation as a certificate: a line for each node, in post-order and numbered from 1. Each line

@@ -18,7 +18,7 @@ use Rattle.schema_grammar.specs.declared.format.Format.{Format}
 use Rattle.schema_grammar.specs.declared.format.Format.TheVariants as format
 use Rattle.schema_grammar.specs.Grammar.{stated}
 use Rattle.schema_grammar.specs.Meanings.{HasTokens, IsArrow, IsDependency}
-use Rattle.schema_grammar.specs.Printing.{side_text, members_from, set_text, dependency_text}
+use Rattle.schema_printer.specs.Printing.{side_text, members_from, set_text, dependency_text}
 use Rattle.schema_grammar.specs.Words.{is_reserved, declares, declaring}
 use Rattle.schema_grammar.specs.Printed.{AreNames}
 use Rattle.schema_grammar.proofs.PrintedLexing.{AllNames, Apart, side_marks, side_end, led_by_marks, side_lexed, arrow_lexed, double_arrow_lexed}

@@ -13,7 +13,7 @@ use Rattle.lexer.specs.declared.token.TokenKind.TheVariants as token
 use Rattle.lexer.specs.Bytes.{is_gap, run_length}
 use Rattle.lexer.specs.Pieces.{front, run_piece}
 use Rattle.lexer.specs.Tokens.{Mark, Lexed, lexed, led_by_mark}
-use Rattle.schema_grammar.specs.Printing.{words_text, side_text}
+use Rattle.schema_printer.specs.Printing.{words_text, side_text}
 use Rattle.lexer.proofs.Steps.{at_token, after_gap}
 
 -- what is left of a line begins with a byte of no name, or is nothing

@@ -26,7 +26,7 @@ use Rattle.schema_grammar.specs.declared.format.Format.{Format}
 use Rattle.schema_grammar.specs.declared.format.Format.TheVariants as format
 use Rattle.schema_grammar.specs.Declarations.{Declarations, no_declaration, add_name}
 use Rattle.schema_grammar.specs.Meanings.{HasTokens}
-use Rattle.schema_grammar.specs.Printing.{words_text, dependency_text, Run, run_line, runs_of, in_front, same_column, type_word, is_integer, declaring_lines, declared_text}
+use Rattle.schema_printer.specs.Printing.{words_text, dependency_text, Run, run_line, runs_of, in_front, same_column, type_word, is_integer, declaring_lines, declared_text}
 use Rattle.schema_grammar.specs.Schemas.{DeclareNames, MeansTextLine, MeansLines, IsVersionLine, IsPlainText, IsTypedText, MeansSchema, has_version_line}
 use Rattle.schema_grammar.specs.Texts.{is_version}
 use Rattle.schema_grammar.specs.Words.{is_reserved, declares, declaring}

@@ -14,25 +14,13 @@ use Rattle.attr_sets.proofs.PlacesLemmas.{Same-path}
 use Rattle.attr_sets.specs.Places.{Places, none, below, Within}
 use Rattle.dep_model.specs.Names.{is_name, same_name}
 use Rattle.dep_model.specs.Schemas.{place_named}
+use Rattle.dep_model.proofs.NameLemmas.{found_at}
 use Rattle.schema_grammar.specs.declared.format.Format.{Format}
 use Rattle.schema_grammar.specs.Meanings.{is_at, named, IsAttribute, IsSide}
-use Rattle.schema_grammar.specs.Printing.{members_from}
+use Rattle.schema_printer.specs.Printing.{members_from}
 use Rattle.schema_grammar.specs.Words.{is_reserved}
 use Rattle.schema_grammar.specs.Printed.{AreNames}
 use Rattle.schema_grammar.proofs.PrintedLexing.{AllNames, word_marks, side_marks}
-
--- a name is found at its place
-pub found_at : (before : List (List ℕ)) (name : List ℕ) (after : List (List ℕ)) → All (λ b. same_name b name ≡ false) before
-    → place_named (before ++ name ∷ after) name ≡ Some (length before)
-found_at before name after none =
-    let size : length (before ++ name ∷ after) ≡ length before + suc (length after) = length-append before (name ∷ after) in
-    let at : position_or_len (λ b. same_name b name) (before ++ name ∷ after) ≡ length before =
-    position_or_len_is (λ b. same_name b name) (before ++ name ∷ after) (length before) [] (omega arith)
-    (λ k less. rw (get_or_append_left before (name ∷ after) [] k less) (none k [] less))
-    (λ less. rw (get_or_at before name after [] (length before) refl)
-    ((bytes_eq-Decides (str_to_ascii_lowercase name) (str_to_ascii_lowercase name)).1 refl)) in
-    let inside : nat_lt (length before) (length (before ++ name ∷ after)) ≡ true = lt-ltb _ _ (omega arith) in
-    rw (at, inside) refl
 
 -- a name differs from those before it
 pub differ_before : (f : Format) (names before : List (List ℕ)) (word : List ℕ) (words : List (List ℕ))

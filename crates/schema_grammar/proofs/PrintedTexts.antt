@@ -19,7 +19,7 @@ use Rattle.lexer.specs.declared.token.Mode.TheVariants as mode
 use Rattle.lexer.specs.Lines.{is_line_feed, line_texts, without_return, without_returns}
 use Rattle.schema_grammar.specs.declared.format.Format.{Format}
 use Rattle.schema_grammar.specs.Declarations.{Declarations, add_dependency}
-use Rattle.schema_grammar.specs.Printing.{words_text, side_text, members_from, set_text, dependency_text, lines_text}
+use Rattle.schema_printer.specs.Printing.{words_text, side_text, members_from, set_text, dependency_text, lines_text}
 use Rattle.schema_grammar.specs.Schemas.{MeansLines}
 use Rattle.schema_grammar.specs.Printed.{AreNames}
 use Rattle.schema_grammar.proofs.PrintedLexing.{AllNames, named_parts}

@@ -14,7 +14,7 @@ use Rattle.schema_grammar.specs.Complaints.{FitsGoal, FitsTextLine, RefusesGoal,
 use Rattle.schema_grammar.specs.Declarations.{Declarations, read_line}
 use Rattle.schema_grammar.specs.Meanings.{MeansGoal}
 use Rattle.schema_grammar.specs.Printed.{AreNames}
-use Rattle.schema_grammar.specs.Printing.{declared_text}
+use Rattle.schema_printer.specs.Printing.{declared_text}
 use Rattle.schema_grammar.specs.Reading.{read_goal}
 use Rattle.schema_grammar.specs.Schemas.{FitsLines, FitsSchema, MeansSchema, RefusesSchema}
 use Rattle.schema_grammar.specs.Sets.{FitsSet, MeansSet, RefusesSet, read_set}

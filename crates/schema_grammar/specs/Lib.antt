@@ -4,7 +4,6 @@ pub mod Grammar
 pub mod Laws
 pub mod Meanings
 pub mod Printed
-pub mod Printing
 pub mod Reading
 pub mod Refusals
 pub mod Rests

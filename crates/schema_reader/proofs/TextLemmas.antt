@@ -2,13 +2,12 @@
 use Rattle.std.proofs.Common.{◌≡◌, ◌<◌, ◌≤◌, ◌+◌, ◌^◌, ℕ, List, ◌∷◌, length, Option, Some, None, subst}
 use denote.Ref.{Bor}
 use Rattle.attr_sets.specs.declared.set.TheConstants.{PLACES}
-use Rattle.lexer.specs.Lines.{line_texts, CutsAt, CutsLine, IsLastLine}
+use Rattle.lexer.specs.Lines.{line_texts, CutsAt, CutsLine, IsLastLine, lines_after}
 use Rattle.schema_grammar.proofs.SoundLemmas.{IsSound}
 use Rattle.schema_grammar.specs.declared.format.Format.{Format}
 use Rattle.schema_grammar.specs.Declarations.{Declarations, no_declaration}
 use Rattle.schema_grammar.specs.Texts.{read_lines, read_opening}
 use Rattle.schema_reader.specs.declared.text.TheConstants.{MOST_TEXT_BYTES}
-use Rattle.schema_reader.specs.Views.{lines_after}
 
 -- to read the lines that are left is to read all of them
 pub record Reads (f : Format) (first : ℕ) (text : List ℕ) (d : Declarations) (number : ℕ) (rest : List ℕ) : Type 0 where
@@ -21,13 +20,3 @@ pub record Reads (f : Format) (first : ℕ) (text : List ℕ) (d : Declarations)
 pub record Opens (text : List ℕ) (number : ℕ) (rest : List ℕ) : Type 0 where
   pub same : read_opening 1 (line_texts text) ≡ read_opening number (line_texts rest)
   pub room : number + length rest ≤ MOST_TEXT_BYTES + 1
-
-pub cut_any : (text line : List ℕ) (after : Option (Bor (List ℕ))) → CutsLine text line after → line_texts text ≡ line ∷ lines_after after
-cut_any text line None cut = cut.lines
-cut_any text line (Some after) cut = cut.lines
-
-pub cut_last : (text line : List ℕ) (after : Option (Bor (List ℕ))) → after ≡ None → CutsLine text line after → IsLastLine text line
-cut_last text line after e cut = let at : Option (Bor (List ℕ)) → Type 0 = λ o. CutsLine text line o in subst at e cut
-
-pub cut_more : (text line : List ℕ) (after : Option (Bor (List ℕ))) (lines : Bor (List ℕ)) → after ≡ Some lines → CutsLine text line after → CutsAt text line lines.now
-cut_more text line after lines e cut = let at : Option (Bor (List ℕ)) → Type 0 = λ o. CutsLine text line o in subst at e cut

@@ -1,9 +1,8 @@
 -- What the reader's values stand for, in the words of the grammar.
-use Rattle.std.specs.Prelude.{ℕ, ◌+◌, ◌<◌, ◌^◌, List, [], length, Option, Some, None}
+use Rattle.std.specs.Prelude.{ℕ, ◌+◌, ◌<◌, ◌^◌, List, length, Option, Some, None}
 use denote.Ref.{Bor}
 use Rattle.attr_sets.specs.Sets.{places}
 use Rattle.dep_model.specs.Deps.{dependencies_of}
-use Rattle.lexer.specs.Lines.{line_texts}
 use Rattle.schema_grammar.specs.Declarations.{Declarations}
 use Rattle.schema_grammar.specs.Grammar.{Reached, start, left, left_empty, after_sign, right, right_empty}
 use Rattle.schema_reader.specs.declared.draft.Draft.{Draft}
@@ -21,11 +20,6 @@ reached_of stage.LeftEmpty = left_empty
 reached_of (stage.AfterSign s x) = after_sign s (places x)
 reached_of (stage.Right s x y) = right s (places x) (places y)
 reached_of (stage.RightEmpty s x) = right_empty s (places x)
-
--- the lines after a line end
-abbrev pub lines_after : Option (Bor (List ℕ)) → List (List ℕ)
-lines_after None = []
-lines_after (Some after) = line_texts after.now
 
 -- there is room for their numbers
 abbrev pub AreFew : ℕ → Option (Bor (List ℕ)) → Type 0

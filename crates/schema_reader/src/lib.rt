@@ -1,4 +1,4 @@
-//! Schema texts, goals and sets, read by their grammar and printed in one form.
+//! Schema texts, goals and sets, read by their grammar.
 //!
 //! `read_schema`, `read_goal` and `read_set` give the value that a text means, or refuse it at the first
 //! place where it goes wrong, and there for the reason of the least number.
@@ -6,7 +6,6 @@
 
 mod draft;
 mod goal;
-mod print;
 mod set;
 mod stage;
 mod text;
@@ -15,9 +14,6 @@ mod words;
 
 pub use goal::{MOST_GOAL_BYTES, read_goal};
 pub use lexer::{Token, TokenKind};
-pub use print::{
-    add, add_dep, add_number, add_set, print_dep, print_deps, print_schema, print_set,
-};
 pub use schema_grammar::{SchemaRefusal, SchemaRefusalKind, Span, What};
 pub use set::{MOST_SET_BYTES, read_set};
 pub use text::{MOST_TEXT_BYTES, read_schema};

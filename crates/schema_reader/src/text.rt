@@ -1,10 +1,10 @@
 ghost use Rattle.std.specs.Prelude.{All, false, ◌≡◌, ◌+◌, ◌<◌, ◌≤◌, ◌^◌, length, OnOk, IfOk, IfErr, Ok, Err};
 ghost use Rattle.dep_model.specs.Schemas.{names_of};
 ghost use Rattle.schema_grammar.specs.Words.{is_reserved};
-ghost use Rattle.lexer.specs.Lines.{line_texts};
+ghost use Rattle.lexer.specs.Lines.{line_texts, lines_after};
 ghost use Rattle.lexer.specs.Tokens.{lexed};
 ghost use Rattle.schema_grammar.specs.Declarations.{no_declaration};
-ghost use Rattle.schema_reader.specs.Views.{drafted, lines_after, AreFew};
+ghost use Rattle.schema_reader.specs.Views.{drafted, AreFew};
 ghost use Rattle.schema_grammar.specs.Refusals.{Refuses, RefusesAs};
 ghost use Rattle.schema_grammar.specs.Schemas.{MeansSchema, RefusesSchema};
 ghost use Rattle.schema_grammar.specs.Texts.{finish, is_version, number_in, end_version_lexed, read_lines, read_version_lexed, read_typed, read_opening, declarations_of};

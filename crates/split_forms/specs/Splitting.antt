@@ -3,7 +3,7 @@ use Rattle.attr_sets.specs.Places.{Places}
 use Rattle.attr_sets.specs.declared.set.AttrSet.{AttrSet}
 use Rattle.dep_model.specs.Dependencies.{Dependency}
 use Rattle.dep_model.specs.Plans.{schemes_of}
-use Rattle.decomp_text.specs.Containing.{without_contained}
+use Rattle.plans.specs.Containing.{without_contained}
 use Rattle.form_tests.specs.declared.forms.Form.{Form}
 use Rattle.form_tests.specs.Chosen.{IsInForm, IsWide, IsChosenViolation, HasNoVisibleViolation, IsVisibleViolation}
 use Rattle.split_forms.specs.Lists.{IsSplitStep, ReachedIn}

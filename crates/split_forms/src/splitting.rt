@@ -2,7 +2,7 @@ ghost use Rattle.std.specs.Prelude.{◌≡◌, ◌-◌, ◌^◌, ◌<◌, ◌≤
 ghost use Rattle.dep_model.specs.Plans.{schemes_of};
 ghost use Rattle.dep_model.specs.Projections.{IsLossless};
 ghost use Rattle.dep_model.specs.Schemas.{width_of, theory_of};
-ghost use Rattle.decomp_text.specs.Plans.{scheme_sets, plan_of, IsPlanOver};
+ghost use Rattle.plans.specs.Plans.{scheme_sets, plan_of, IsPlanOver};
 ghost use Rattle.form_tests.specs.Chosen.{IsInForm};
 ghost use Rattle.split_forms.specs.Splitting.{FinishedList, IsSplitPlan};
 ghost use Rattle.split_forms.specs.Refusals.{IsRefusedSplit, IsWithinLimits};
@@ -12,7 +12,7 @@ use crate::outcome::Outcome;
 use crate::refusal::SplitRefusal;
 use crate::trying::found_outcome;
 use attr_sets::AttrSet;
-use decomp_text::{Plan, drop_contained};
+use plans::{Plan, drop_contained};
 use dep_model::Schema;
 use form_tests::Form;
 use std::alloc::Global;

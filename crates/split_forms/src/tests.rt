@@ -1,9 +1,9 @@
 ghost use Rattle.std.specs.Prelude.{◌<◌, IfOk};
-ghost use Rattle.decomp_text.specs.Plans.{IsPlanOver};
+ghost use Rattle.plans.specs.Plans.{IsPlanOver};
 
 use crate::{SplitRefusal, split};
 use attr_sets::AttrSet;
-use decomp_text::{Plan, print_plan};
+use plans::{Plan, print_plan};
 use dep_model::{Schema, WantMemory};
 use form_tests::Form;
 use schema_reader::{MOST_TEXT_BYTES, read_schema};

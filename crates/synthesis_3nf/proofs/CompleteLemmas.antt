@@ -21,8 +21,8 @@ use Rattle.dep_model.proofs.ListLemmas.{Any-from, Contains-map, map-member}
 use Rattle.dep_model.proofs.KeyLemmas.{fd_on-to, superkey-from, settled_is_key}
 use Rattle.fd_closure.proofs.ClosedSets.{lead_from_superkey}
 use Rattle.min_cover.specs.Covers.{IsMinimalCover, IsSingle}
-use Rattle.decomp_text.specs.Containing.{lies_within}
-use Rattle.decomp_text.proofs.ListLemmas.{any_from, any_some}
+use Rattle.plans.specs.Containing.{lies_within}
+use Rattle.plans.proofs.ListLemmas.{any_from, any_some}
 use Rattle.synthesis_3nf.specs.Groups.{grouped}
 use Rattle.synthesis_3nf.specs.GroupedPlans.{HoldSuperkey, IsWithKey}
 use Rattle.synthesis_3nf.proofs.Holding.{AreHeld}

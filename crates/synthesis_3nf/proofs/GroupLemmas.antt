@@ -11,7 +11,7 @@ use Rattle.attr_sets.proofs.PlacesLemmas.{is_same-true, is_same-from, Same-path,
 use Rattle.dep_model.specs.Dependencies.{Dependency, fd, left_of, right_of, IsWithin}
 use Rattle.dep_model.proofs.ListLemmas.{Contains-head, Contains-later, Contains-cases, Contains-map, map-member}
 use Rattle.min_cover.specs.Covers.{IsSingle}
-use Rattle.decomp_text.proofs.ListLemmas.{any_from, any_some}
+use Rattle.plans.proofs.ListLemmas.{any_from, any_some}
 use Rattle.synthesis_3nf.specs.Groups.{left_sides_after, group_scheme, grouped}
 use Rattle.synthesis_3nf.proofs.Holding.{IsGroupScheme, AreHeld}
 

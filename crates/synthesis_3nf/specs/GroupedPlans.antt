@@ -5,7 +5,7 @@ use Rattle.dep_model.specs.Dependencies.{Dependency, functional_part}
 use Rattle.dep_model.specs.Keys.{IsSuperkey, IsSettledKey}
 use Rattle.dep_model.specs.Plans.{schemes_of}
 use Rattle.min_cover.specs.Covers.{IsFixedCover}
-use Rattle.decomp_text.specs.Containing.{without_contained}
+use Rattle.plans.specs.Containing.{without_contained}
 use Rattle.synthesis_3nf.specs.Groups.{grouped}
 
 -- some scheme is a superkey of the universe by the functional dependencies

@@ -3,12 +3,12 @@ ghost use Rattle.dep_model.specs.Forms.{IsThird};
 ghost use Rattle.dep_model.specs.Preservation.{KeepsDependencies};
 ghost use Rattle.dep_model.specs.Projections.{IsLossless};
 ghost use Rattle.dep_model.specs.Schemas.{width_of, theory_of};
-ghost use Rattle.decomp_text.specs.Plans.{scheme_sets, plan_of, IsPlanOver};
+ghost use Rattle.plans.specs.Plans.{scheme_sets, plan_of, IsPlanOver};
 ghost use Rattle.synthesis_3nf.specs.GroupedPlans.{IsGroupedPlan};
 
 use crate::completing::with_key;
 use crate::grouping::group_schemes;
-use decomp_text::{Plan, drop_contained};
+use plans::{Plan, drop_contained};
 use dep_model::{Schema, WantMemory};
 use min_cover::minimal;
 use std::alloc::Global;

@@ -6,7 +6,7 @@ use Rattle.attr_sets.specs.Sets.{places}
 use Rattle.dep_model.specs.declared.schema.Schema.{Schema}
 use Rattle.dep_model.specs.Projections.{members_below}
 use Rattle.dep_model.specs.Schemas.{names_of, width_of}
-use Rattle.schema_grammar.specs.Printing.{set_text}
+use Rattle.schema_printer.specs.Printing.{set_text}
 use Rattle.ddl_text.specs.declared.table.TableDesign.{TableDesign}
 
 -- a name, underlined where it is in the key

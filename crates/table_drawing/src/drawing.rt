@@ -5,7 +5,7 @@ use crate::edges::add_edges;
 use crate::nodes::add_nodes;
 use ddl_text::DesignList;
 use dep_model::{Schema, WantMemory};
-use schema_reader::add;
+use schema_printer::add;
 use std::alloc::Global;
 
 /// The Graphviz text of a design: a node for each table, in order, and then for each table, in order, an edge

@@ -5,7 +5,7 @@ ghost use Rattle.table_drawing.specs.Drawing.{edge_text, edges_to, edges_text};
 
 use ddl_text::TableDesign;
 use dep_model::{Schema, WantMemory};
-use schema_reader::{add, add_set};
+use schema_printer::{add, add_set};
 use std::alloc::Global;
 
 // Adds the edges of these tables.

@@ -7,7 +7,7 @@ ghost use Rattle.table_drawing.specs.Drawing.{marked_text, row_text, table_rows_
 use attr_sets::AttrSet;
 use ddl_text::TableDesign;
 use dep_model::{Schema, WantMemory};
-use schema_reader::add;
+use schema_printer::add;
 use std::alloc::Global;
 
 // Adds the nodes of these tables.

@@ -7,7 +7,7 @@ use Rattle.std.proofs.lemmas.Bool.Decides.{nat_tests}
 use Rattle.attr_sets.specs.Places.{Places}
 use Rattle.dep_model.specs.Projections.{members_below}
 use Rattle.dep_model.proofs.SchemeLemmas.{members_below-member, members_below-outside}
-use Rattle.targets.specs.Sql.{separator, listed}
+use Rattle.sql_names.specs.Names.{separator, listed}
 use Rattle.table_scripts.specs.Checking.{null_test, null_tests}
 
 -- whether a list has an item

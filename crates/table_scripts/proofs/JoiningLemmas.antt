@@ -7,11 +7,10 @@ use Rattle.attr_sets.proofs.PlacesLemmas.{Same-path}
 use Rattle.dep_model.specs.declared.schema.Schema.{Schema}
 use Rattle.dep_model.specs.Schemas.{width_of}
 use Rattle.ddl_text.specs.declared.table.TableDesign.{TableDesign}
-use Rattle.ddl_text.specs.Ddl.{name_list}
+use Rattle.sql_names.specs.Names.{name_list, quoted_name}
 use Rattle.table_queries.specs.Queries.{Query, StoredTable, join, stored_query, attributes_of, joined_with, plan_join}
 use Rattle.table_scripts.specs.QueryTexts.{alone, left, text_at, select_text, link_text}
 use Rattle.table_scripts.specs.Migrating.{stored_of, stored_tables}
-use Rattle.targets.specs.Sql.{quoted_name}
 
 pub joined_push : (q : Query) (tables : List StoredTable) (table : StoredTable)
     → joined_with q (tables ++ table ∷ []) ≡ join (joined_with q tables) (stored_query table)

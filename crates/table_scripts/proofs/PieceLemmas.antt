@@ -9,8 +9,9 @@ use Rattle.dep_model.specs.declared.column.Column.{Column}
 use Rattle.dep_model.specs.declared.schema.Schema.{Schema}
 use Rattle.dep_model.specs.Columns.{column_at}
 use Rattle.dep_model.specs.Schemas.{names_of, width_of, columns_of}
-use Rattle.ddl_text.specs.Ddl.{name_list}
-use Rattle.ddl_text.proofs.TextLemmas.{name_is, column_is, empty_passes, empty_fails}
+use Rattle.sql_names.specs.Names.{name_list}
+use Rattle.ddl_text.proofs.TextLemmas.{column_is, empty_passes, empty_fails}
+use Rattle.sql_names.proofs.NameLemmas.{name_is}
 use Rattle.table_queries.specs.Queries.{Query, whole, values_on, several, join, except, breaches_of_fd, breaches_of_mvd}
 use Rattle.table_scripts.specs.QueryTexts.{column_text, column_item, link_text, grouped_text, counted_text, values_text, several_text, query_text}
 use Rattle.table_scripts.specs.Checking.{breaches_text}

@@ -6,12 +6,11 @@ use Rattle.dep_model.specs.declared.schema.Schema.{Schema}
 use Rattle.dep_model.specs.Dependencies.{Dependency}
 use Rattle.dep_model.specs.Schemas.{names_of, width_of, universe_of, lines_of, theory_of}
 use Rattle.dep_model.specs.Tuples.{Relation}
-use Rattle.ddl_text.specs.Ddl.{name_list}
-use Rattle.schema_grammar.specs.Printing.{dependency_text}
+use Rattle.sql_names.specs.Names.{name_list, quoted_name}
+use Rattle.schema_printer.specs.Printing.{dependency_text}
 use Rattle.table_queries.specs.Queries.{Query, breaches_of}
 use Rattle.table_queries.specs.Meanings.{GivesNone}
 use Rattle.table_scripts.specs.QueryTexts.{query_text}
-use Rattle.targets.specs.Sql.{quoted_name}
 
 -- ---- missing values
 unfoldable pub null_test : List ℕ → List ℕ

@@ -7,11 +7,11 @@ use Rattle.dep_model.specs.Projections.{ordered_projection, IsLossless}
 use Rattle.dep_model.specs.Schemas.{width_of, theory_of, LegalFor}
 use Rattle.dep_model.specs.Tuples.{Tuple, Relation}
 use Rattle.ddl_text.specs.declared.table.TableDesign.{TableDesign}
-use Rattle.ddl_text.specs.Ddl.{ddl_text, name_list}
+use Rattle.ddl_text.specs.Ddl.{ddl_text}
+use Rattle.sql_names.specs.Names.{name_list, quoted_name}
 use Rattle.table_queries.specs.Queries.{StoredTable, rows_of, plan_join, lacking, exceeding}
 use Rattle.table_queries.specs.Meanings.{IsGiven, GivesNone}
 use Rattle.table_scripts.specs.QueryTexts.{query_text}
-use Rattle.targets.specs.Sql.{quoted_name}
 
 -- a table of a design, by its name and its scheme
 abbrev pub stored_of : TableDesign → StoredTable

@@ -3,7 +3,7 @@ use Rattle.std.specs.Prelude.{ℕ, Bool, ◌&&◌, ◌||◌, ◌==◌, ◌-◌, 
 use Rattle.std.specs.Char.{is_ascii_alphabetic, is_ascii_digit}
 use Rattle.std.specs.List.{flat_map, list_all}
 use Rattle.dep_model.specs.Names.{is_name_byte, same_name}
-use Rattle.targets.specs.Sql.{quoted_name}
+use Rattle.sql_names.specs.Names.{quoted_name}
 use Rattle.table_scripts.specs.declared.naming.TheConstants.{MOST_PARTS, MOST_PART_BYTES}
 
 -- a byte in front of the first part

@@ -8,9 +8,9 @@ use Rattle.dep_model.specs.declared.schema.Schema.{Schema}
 use Rattle.dep_model.specs.Columns.{column_at}
 use Rattle.dep_model.specs.Projections.{members_below}
 use Rattle.dep_model.specs.Schemas.{names_of, width_of, universe_of}
-use Rattle.ddl_text.specs.Ddl.{is_empty, name_list}
+use Rattle.ddl_text.specs.Ddl.{is_empty}
+use Rattle.sql_names.specs.Names.{name_list, quoted_name, listed}
 use Rattle.table_queries.specs.Queries.{Query, whole, values_on, several, join, except, kept, attributes_of}
-use Rattle.targets.specs.Sql.{quoted_name, listed}
 
 -- ---- columns
 -- a column of the table: an integer one is cast, and keeps its name

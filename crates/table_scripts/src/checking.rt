@@ -8,7 +8,7 @@ use crate::missing::missing;
 use crate::naming::quote_table;
 use crate::rules::rule;
 use dep_model::{Schema, WantMemory};
-use schema_reader::add;
+use schema_printer::add;
 use std::alloc::Global;
 
 /// A script that asks a table for the rows in which a value is missing, and for what breaks each rule of a

@@ -1,14 +1,13 @@
 ghost use Rattle.std.specs.Prelude.{◌≡◌, ◌<◌, ◌++◌, if◌then◌else◌, IfOk, OnOk};
 ghost use Rattle.attr_sets.specs.Sets.{places};
 ghost use Rattle.dep_model.specs.Schemas.{width_of, universe_of};
-ghost use Rattle.ddl_text.specs.Ddl.{name_list};
-ghost use Rattle.targets.specs.Sql.{separator, quoted_name};
+ghost use Rattle.sql_names.specs.Names.{name_list, separator, quoted_name};
 ghost use Rattle.table_scripts.specs.QueryTexts.{column_text, column_item, column_list};
 
 use attr_sets::AttrSet;
-use ddl_text::{add_name_list, add_quoted};
+use sql_names::{add_name_list, add_quoted};
 use dep_model::{Column, Name, Schema, WantMemory};
-use schema_reader::add;
+use schema_printer::add;
 use std::alloc::Global;
 
 // The quoted names of a set's attributes.

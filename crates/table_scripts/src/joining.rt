@@ -12,7 +12,7 @@ use crate::rules::values;
 use attr_sets::AttrSet;
 use ddl_text::TableDesign;
 use dep_model::{Schema, WantMemory};
-use schema_reader::add;
+use schema_printer::add;
 use std::alloc::Global;
 
 // The natural join of the tables of a design.

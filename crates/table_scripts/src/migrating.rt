@@ -10,9 +10,10 @@ use crate::joining::{attributes, joined};
 use crate::naming::quote_table;
 use crate::pieces::{except, select};
 use crate::rules::{values, whole};
-use ddl_text::{DesignList, TableDesign, add_quoted, print_ddl};
+use ddl_text::{DesignList, TableDesign, print_ddl};
+use sql_names::add_quoted;
 use dep_model::{Schema, WantMemory};
-use schema_reader::add;
+use schema_printer::add;
 use std::alloc::Global;
 
 /// A script that makes the tables of a design and fills them from a table, makes a view on their join, and

@@ -3,9 +3,9 @@ ghost use Rattle.dep_model.specs.Schemas.{names_of};
 ghost use Rattle.table_scripts.specs.Checking.{null_test, null_tests, missing_text};
 
 use crate::columns::all_names;
-use ddl_text::add_quoted;
+use sql_names::add_quoted;
 use dep_model::{Name, Schema, WantMemory};
-use schema_reader::add;
+use schema_printer::add;
 use std::alloc::Global;
 
 // The query for the rows in which a value is missing.

@@ -5,7 +5,7 @@ ghost use Rattle.dep_model.specs.Names.{is_name_byte};
 ghost use Rattle.table_scripts.specs.Naming.{parts_of, is_part, is_numbered, is_taken, are_parts, is_table_name, quoted_table, parted};
 
 use dep_model::WantMemory;
-use schema_reader::add;
+use schema_printer::add;
 use std::alloc::Global;
 
 /// The most parts of the name of a table.

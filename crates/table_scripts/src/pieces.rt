@@ -5,7 +5,7 @@ ghost use Rattle.table_scripts.specs.QueryTexts.{select_text, distinct_text, der
 use crate::columns::names;
 use attr_sets::AttrSet;
 use dep_model::{Schema, WantMemory};
-use schema_reader::add;
+use schema_printer::add;
 use std::alloc::Global;
 
 // What is selected, and from what.

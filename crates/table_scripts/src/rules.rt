@@ -10,7 +10,7 @@ use crate::columns::{columns, names};
 use crate::pieces::{counted, derived, distinct, except, grouped, link, select};
 use attr_sets::AttrSet;
 use dep_model::{Dep, Schema, WantMemory};
-use schema_reader::{add, add_dep, add_number};
+use schema_printer::{add, add_dep, add_number};
 use std::alloc::Global;
 
 // A rule: its line in the schema's file, the dependency, and the query for what breaks it.

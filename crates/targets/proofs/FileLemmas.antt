@@ -6,7 +6,7 @@ use Rattle.std.proofs.lemmas.List.{flat_map_more}
 use Rattle.dep_model.specs.Tuples.{Tuple}
 use Rattle.desk_outside.specs.Files.{StoredFile}
 use Rattle.desk_outside.specs.Folders.{FolderContents, with_begun, with_bytes, more_bytes, with_ended, with_none_open}
-use Rattle.targets.specs.Tables.{TableValue, empty_table, with_row}
+use Rattle.named_tables.specs.Tables.{TableValue, empty_table, with_row}
 use Rattle.targets.specs.FileTables.{FilesAre, OpenIs}
 use Rattle.targets.specs.Csv.{csv_row, csv_file}
 use Rattle.targets.specs.Sql.{sql_head, sql_row, sql_file}

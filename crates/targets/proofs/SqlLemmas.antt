@@ -7,7 +7,8 @@ use Rattle.std.proofs.Math.Seq.{take-suc}
 use Rattle.std.proofs.lemmas.Bool.Decides.{nat_tests}
 use Rattle.std.proofs.lemmas.Str.{IsUtf8-from_is_utf8, is_utf8-from_IsUtf8}
 use Rattle.std.proofs.lemmas.List.{flat_map_more, length-take-le}
-use Rattle.targets.specs.Sql.{separator, listed, doubled}
+use Rattle.targets.specs.Sql.{doubled}
+use Rattle.sql_names.specs.Names.{separator, listed}
 
 pub take_next : {X : Type 0} (xs : List X) (i : ℕ) (d : X) → i < length xs → take (i + 1) xs ≡ take i xs ++ get_or xs i d ∷ []
 take_next xs i d within = rw add-one (take-suc xs i d within)

@@ -4,7 +4,7 @@ use Rattle.std.specs.List.{flat_map}
 use Rattle.csv.specs.Writing.{row_text, default_writer}
 use Rattle.dep_model.specs.Tuples.{Tuple}
 use Rattle.desk_outside.specs.Files.{StoredFile}
-use Rattle.targets.specs.Tables.{TableValue}
+use Rattle.named_tables.specs.Tables.{TableValue}
 
 -- a row as `csv` writes it with its default settings
 abbrev pub csv_row : Tuple → List ℕ

@@ -2,7 +2,7 @@
 use Rattle.std.specs.Prelude.{◌≡◌, List, map, Option, Some, IfSome}
 use Rattle.desk_outside.specs.Files.{StoredFile}
 use Rattle.desk_outside.specs.Folders.{FolderContents}
-use Rattle.targets.specs.Tables.{TableValue}
+use Rattle.named_tables.specs.Tables.{TableValue}
 
 -- where told, the finished files are those of these tables, in order
 abbrev pub FilesAre : (TableValue → StoredFile) → Option FolderContents → List TableValue → Type 0

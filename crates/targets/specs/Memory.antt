@@ -1,7 +1,7 @@
 -- A target in memory, as contracts see it.
 use Rattle.std.specs.Prelude.{ℕ, List, [], Option, None}
 use Rattle.desk_outside.specs.Planned.{FaultPlan, new_plan}
-use Rattle.targets.specs.Tables.{TableValue}
+use Rattle.named_tables.specs.Tables.{TableValue}
 
 -- its finished tables in the order of their ending, the open one, and its planned faults
 pub record TargetInMemory : Type 0 where

@@ -5,20 +5,8 @@ use Rattle.std.specs.Str.{is_utf8}
 use Rattle.hex.specs.Hex.{encode_upper}
 use Rattle.dep_model.specs.Tuples.{Tuple}
 use Rattle.desk_outside.specs.Files.{StoredFile}
-use Rattle.targets.specs.Tables.{TableValue}
-
--- what separates two items of a list
-abbrev pub separator : List ℕ
-separator = codes ", "
-
--- the texts of items, with a comma and a blank between
-abbrev pub listed : {X : Type 0} → (X → List ℕ) → List X → List ℕ
-listed text [] = []
-listed text (x ∷ xs) = text x ++ flat_map (λ y. separator ++ text y) xs
-
--- a name in double quotes
-abbrev pub quoted_name : List ℕ → List ℕ
-quoted_name name = 34 ∷ (name ++ 34 ∷ [])
+use Rattle.named_tables.specs.Tables.{TableValue}
+use Rattle.sql_names.specs.Names.{listed, quoted_name}
 
 -- a byte between single quotes: a single quote is doubled
 abbrev pub doubled : ℕ → List ℕ

@@ -1,21 +1,6 @@
--- Tables, as values.
-use Rattle.std.specs.Prelude.{ℕ, List, [], ◌∷◌, ◌++◌}
-use Rattle.dep_model.specs.Tuples.{Tuple, Relation}
+-- Tables that a target holds in memory, as values.
+use Rattle.named_tables.specs.Tables.{TableValue}
 use Rattle.targets.specs.declared.table.HeldTable.{HeldTable}
-
--- a table: its name, the names of its columns, and its rows
-pub record TableValue : Type 0 where
-  pub name : List ℕ
-  pub columns : List (List ℕ)
-  pub rows : Relation
-
--- a table without rows
-abbrev pub empty_table : List ℕ → List (List ℕ) → TableValue
-empty_table name columns = record { name = name; columns = columns; rows = [] }
-
--- one row more at the end
-abbrev pub with_row : Tuple → TableValue → TableValue
-with_row row table = record { name = table.name; columns = table.columns; rows = table.rows ++ row ∷ [] }
 
 -- a table that is held in memory
 abbrev pub held_value : HeldTable → TableValue

@@ -6,7 +6,7 @@ use Rattle.desk_outside.specs.declared.failure.OutsideFault.{OutsideFault}
 use Rattle.desk_outside.specs.declared.failure.OutsideFault.TheVariants as outside
 use Rattle.targets.specs.declared.fault.TargetFault.{TargetFault}
 use Rattle.targets.specs.declared.fault.TargetFault.TheVariants.{Failed, Memory}
-use Rattle.targets.specs.Tables.{TableValue, with_row}
+use Rattle.named_tables.specs.Tables.{TableValue, with_row}
 
 -- which lists of finished tables a target stands for
 abbrev pub Finished : Type 1

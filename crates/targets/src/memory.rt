@@ -1,7 +1,8 @@
 ghost use Rattle.std.specs.Prelude.{◌≡◌, ◌↔◌, true, [], ◌++◌, length, map, None, Some, is_ok, if◌then◌else◌, option_map, option_to_list, IsSome, IsSomeAnd, IsErrOf, OnOk, OnErr};
 ghost use Rattle.desk_outside.specs.Planned.{FailsNext, CountsCall};
 ghost use Rattle.targets.specs.Memory.{new_target};
-ghost use Rattle.targets.specs.Tables.{empty_table, with_row, held_value};
+ghost use Rattle.targets.specs.Tables.{held_value};
+ghost use Rattle.named_tables.specs.Tables.{empty_table, with_row};
 ghost use Rattle.targets.specs.Targets.{HasTargetCause, is_failed_target};
 
 use crate::fault::TargetFault;

@@ -1,7 +1,8 @@
 ghost use Rattle.std.specs.Prelude.{◌≡◌, [], ◌∷◌, ◌++◌, ◌==◌, if◌then◌else◌, IfOk, OnOk};
 ghost use Rattle.std.specs.List.{flat_map};
 ghost use Rattle.std.specs.Str.{is_utf8};
-ghost use Rattle.targets.specs.Sql.{separator, listed, quoted_name, doubled, is_sql_text, sql_value, sql_head, sql_row};
+ghost use Rattle.targets.specs.Sql.{doubled, is_sql_text, sql_value, sql_head, sql_row};
+ghost use Rattle.sql_names.specs.Names.{separator, listed, quoted_name};
 
 use crate::text::put;
 use dep_model::{Name, Row, WantMemory};

@@ -1,5 +1,6 @@
 ghost use Rattle.std.specs.Prelude.{◌≡◌, ℕ, Bool, List, length, map, Option, None, Some, is_ok, if◌then◌else◌, IsSome, IfSome, OnOk, OnErr};
-ghost use Rattle.targets.specs.Tables.{TableValue, empty_table, held_value};
+ghost use Rattle.targets.specs.Tables.{held_value};
+ghost use Rattle.named_tables.specs.Tables.{TableValue, empty_table};
 ghost use Rattle.targets.specs.Targets.{KeepsFinished, AddsRow, FinishesTable, HasTargetCause};
 
 use crate::fault::TargetFault;

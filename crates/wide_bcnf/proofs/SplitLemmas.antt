@@ -21,7 +21,7 @@ use Rattle.dep_model.proofs.JoinLemmas.{split_lossless}
 use Rattle.dep_model.proofs.KeyLemmas.{fd_on-from}
 use Rattle.dep_model.proofs.ListLemmas.{Any-from, Contains-head, Contains-later, Contains-map}
 use Rattle.dep_model.proofs.SchemeLemmas.{whole_lossless}
-use Rattle.decomp_text.specs.Containing.{is_spare, without_contained_after, without_contained}
+use Rattle.plans.specs.Containing.{is_spare, without_contained_after, without_contained}
 use Rattle.wide_bcnf.specs.Pairs.{HasPair}
 use Rattle.wide_bcnf.specs.WideSplits.{IsCore, IsWideSplitOf}
 use Rattle.wide_bcnf.proofs.PairLemmas.{without_pair_bcnf}

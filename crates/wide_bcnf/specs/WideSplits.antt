@@ -3,7 +3,7 @@ use Rattle.attr_sets.specs.declared.set.AttrSet.{AttrSet}
 use Rattle.attr_sets.specs.Places.{Places, below, only, minus, Same}
 use Rattle.dep_model.specs.Dependencies.{Dependency}
 use Rattle.dep_model.specs.Plans.{schemes_of}
-use Rattle.decomp_text.specs.Containing.{without_contained}
+use Rattle.plans.specs.Containing.{without_contained}
 use Rattle.wide_bcnf.specs.Pairs.{HasPair, IsFirstPair}
 
 -- q is what is left of p once the second attribute of its first pair is left out; a is the first one

@@ -5,13 +5,13 @@ ghost use Rattle.dep_model.specs.Forms.{IsBcnf};
 ghost use Rattle.dep_model.specs.Plans.{schemes_of};
 ghost use Rattle.dep_model.specs.Projections.{IsLossless};
 ghost use Rattle.dep_model.specs.Schemas.{width_of, universe_of, theory_of};
-ghost use Rattle.decomp_text.specs.Plans.{scheme_sets, plan_of, IsPlanOver};
+ghost use Rattle.plans.specs.Plans.{scheme_sets, plan_of, IsPlanOver};
 ghost use Rattle.wide_bcnf.specs.Pairs.{IsFirstPair};
 ghost use Rattle.wide_bcnf.specs.WideSplits.{IsCore, IsWideSplitOf, IsWidePlan};
 
 use crate::pairs::{Pair, first_pair};
 use attr_sets::AttrSet;
-use decomp_text::{Plan, drop_contained};
+use plans::{Plan, drop_contained};
 use dep_model::{Schema, WantMemory};
 use std::alloc::Global;
 

@@ -1,5 +1,5 @@
 use crate::split_wide;
-use decomp_text::print_plan;
+use plans::print_plan;
 use schema_reader::{MOST_TEXT_BYTES, read_schema};
 use std::test::Fail;
 

@@ -1,7 +1,7 @@
 use Rattle.std.proofs.Common.{◌≡◌, take}
 use Rattle.attr_sets.specs.Sets.{places}
 use Rattle.dep_model.specs.Schemas.{names_of}
-use Rattle.schema_grammar.specs.Printing.{members_from}
+use Rattle.schema_printer.specs.Printing.{members_from}
 use Rattle.csv_migrate.proofs.migration.columns.Given as goal
 
 -- the names of the members before the place

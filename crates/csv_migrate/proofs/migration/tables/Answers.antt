@@ -1,8 +1,7 @@
 use Rattle.std.proofs.Common.{◌≡◌, List, sym, subst, arith}
 use Rattle.dep_model.specs.Schemas.{width_of, theory_of}
-use Rattle.decomp_text.specs.Plans.{plan_of, scheme_sets}
-use Rattle.targets.specs.Tables.{TableValue}
-use Rattle.csv_migrate.specs.Tables.{table_values}
+use Rattle.plans.specs.Plans.{plan_of, scheme_sets}
+use Rattle.named_tables.specs.Tables.{TableValue, table_values}
 use Rattle.csv_migrate.specs.Migration.{migrated, JoinIs}
 use Rattle.csv_migrate.proofs.MigrationLemmas.{table_added, scheme_added, all_tables, join_is_rows}
 use Rattle.csv_migrate.proofs.migration.tables.Goals as goal

@@ -1,6 +1,6 @@
 use Rattle.std.proofs.Common.{◌≡◌, take}
-use Rattle.decomp_text.specs.Plans.{plan_of, scheme_sets}
-use Rattle.csv_migrate.specs.Tables.{table_values}
+use Rattle.plans.specs.Plans.{plan_of, scheme_sets}
+use Rattle.named_tables.specs.Tables.{table_values}
 use Rattle.csv_migrate.specs.Migration.{migrated, schemes_in}
 use Rattle.csv_migrate.proofs.migration.tables.Given as goal
 

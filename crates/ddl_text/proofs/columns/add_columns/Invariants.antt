@@ -1,7 +1,8 @@
 use Rattle.std.proofs.Common.{◌≡◌, ◌++◌, false, map}
 use Rattle.attr_sets.specs.Sets.{places}
 use Rattle.dep_model.specs.Projections.{members_below}
-use Rattle.ddl_text.specs.Ddl.{column_element, element_lines, has_some}
+use Rattle.ddl_text.specs.Ddl.{column_element, element_lines}
+use Rattle.sql_names.specs.Names.{has_some}
 use Rattle.ddl_text.proofs.columns.add_columns.Given as goal
 
 -- the columns of the members so far

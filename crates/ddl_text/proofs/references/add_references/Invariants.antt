@@ -1,5 +1,6 @@
 use Rattle.std.proofs.Common.{◌≡◌, ◌++◌, ◌||◌, take}
-use Rattle.ddl_text.specs.Ddl.{element_lines, has_some, reference_elements}
+use Rattle.ddl_text.specs.Ddl.{element_lines, reference_elements}
+use Rattle.sql_names.specs.Names.{has_some}
 use Rattle.ddl_text.proofs.references.add_references.Given as goal
 
 -- the references so far

@@ -5,7 +5,7 @@ use Rattle.attr_sets.specs.declared.set.AttrSet.{AttrSet}
 use Rattle.attr_sets.specs.Places.{Places, Same}
 use Rattle.attr_sets.specs.Sets.{places}
 use Rattle.dep_model.specs.Plans.{schemes_of}
-use Rattle.decomp_text.proofs.PlanLemmas.{schemes_any}
+use Rattle.plans.proofs.PlanLemmas.{schemes_any}
 use Rattle.decomp_text.proofs.covering.all_of.Goals as goal
 
 more : (schemes : List AttrSet) (i : ℕ) (d : AttrSet) (old new : Places) → i < length schemes

@@ -1,5 +1,5 @@
 use Rattle.std.proofs.Common.{refl, ◌∙◌, arith}
-use Rattle.schema_reader.proofs.TextLemmas.{cut_any, cut_last, cut_more}
+use Rattle.lexer.proofs.LineEnds.{cut_any, cut_last, cut_more}
 use Rattle.decomp_text.proofs.ReadingLemmas.{as_map, line_refused, last_read, reads_more}
 use Rattle.decomp_text.proofs.reading.read_lines.Goals as goal
 

@@ -1,5 +1,5 @@
 use Rattle.std.proofs.Common.{inr, refl}
-use Rattle.decomp_text.specs.Plans.{plan_of, scheme_sets}
+use Rattle.plans.specs.Plans.{plan_of, scheme_sets}
 use Rattle.desk_cli.proofs.drawings.draw_plan.Goals as goal
 
 pub returns-clause-reply : goal.returns-clause-reply

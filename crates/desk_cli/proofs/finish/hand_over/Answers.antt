@@ -1,5 +1,5 @@
 use Rattle.std.proofs.Common.{refl}
-use Rattle.csv_migrate.specs.Tables.{table_values}
+use Rattle.named_tables.specs.Tables.{table_values}
 use Rattle.desk_cli.proofs.finish.hand_over.Goals as goal
 
 pub returns-clause-ends : goal.returns-clause-ends

@@ -1,6 +1,6 @@
 use Rattle.std.proofs.Common.{List, inr, subst}
 use Rattle.attr_sets.specs.declared.set.AttrSet.{AttrSet}
-use Rattle.decomp_text.specs.Plans.{plan_of}
+use Rattle.plans.specs.Plans.{plan_of}
 use Rattle.dep_model.specs.Plans.{schemes_of}
 use Rattle.desk_cli.specs.Keeping.{JudgesKeeping}
 use Rattle.desk_cli.specs.Replies.{answer_of}

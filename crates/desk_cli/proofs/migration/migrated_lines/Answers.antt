@@ -1,6 +1,6 @@
 use Rattle.std.proofs.Common.{ℕ, List, ◌++◌, ap, ◌∙◌}
 use Rattle.std.specs.List.{flat_map}
-use Rattle.csv_migrate.specs.Tables.{table_values}
+use Rattle.named_tables.specs.Tables.{table_values}
 use Rattle.desk_cli.specs.Migrations.{table_line}
 use Rattle.desk_cli.proofs.MigrationLemmas.{lines_of}
 use Rattle.desk_cli.proofs.migration.migrated_lines.Goals as goal

@@ -1,5 +1,5 @@
 use Rattle.std.proofs.Common.{◌≡◌, ◌++◌, take}
-use Rattle.schema_grammar.specs.Printing.{words_text}
+use Rattle.schema_printer.specs.Printing.{words_text}
 use Rattle.desk_cli.proofs.migration.put_names.Given as goal
 
 abbrev pub invariant-loop-name : goal.invariant-loop-name

@@ -1,6 +1,6 @@
 use Rattle.std.proofs.Common.{◌≡◌, ◌++◌, take}
 use Rattle.std.specs.List.{flat_map}
-use Rattle.csv_migrate.specs.Tables.{table_value}
+use Rattle.named_tables.specs.Tables.{table_value}
 use Rattle.desk_cli.specs.Migrations.{table_line}
 use Rattle.desk_cli.proofs.migration.put_tables.Given as goal
 

@@ -1,5 +1,5 @@
 use Rattle.std.proofs.Common.{ℕ, List, subst}
-use Rattle.decomp_text.specs.Plans.{plan_of}
+use Rattle.plans.specs.Plans.{plan_of}
 use Rattle.dep_model.specs.Schemas.{names_of}
 use Rattle.plan_grammar.specs.Complaints.{RefusesPlan}
 use Rattle.plan_grammar.specs.Meanings.{MeansPlan}

@@ -1,6 +1,6 @@
 use Rattle.std.proofs.Common.{inl, List, subst, ◌∙◌}
 use Rattle.attr_sets.specs.declared.set.AttrSet.{AttrSet}
-use Rattle.decomp_text.specs.Plans.{plan_of, scheme_sets}
+use Rattle.plans.specs.Plans.{plan_of, scheme_sets}
 use Rattle.dep_model.specs.Plans.{schemes_of}
 use Rattle.dep_model.specs.Tuples.{Relation}
 use Rattle.form_tests.specs.declared.forms.Form.TheVariants.{Fourth}

@@ -1,6 +1,6 @@
 use Rattle.std.proofs.Common.{List, subst}
 use Rattle.attr_sets.specs.declared.set.AttrSet.{AttrSet}
-use Rattle.decomp_text.specs.Plans.{plan_of}
+use Rattle.plans.specs.Plans.{plan_of}
 use Rattle.dep_model.specs.Plans.{schemes_of}
 use Rattle.desk_cli.specs.Keys.{TellsKeys}
 use Rattle.desk_cli.specs.Plans.{PlanStops, IsPlanFile}

@@ -2,7 +2,7 @@ use Rattle.std.proofs.Common.{◌≡◌, ◌≤◌, ◌+◌, ◌-◌, ◌∙◌,
 use Rattle.std.proofs.lemmas.Bool.{cond_both}
 use Rattle.derivation.specs.Derivs.{tree_of}
 use Rattle.lexer.specs.Lines.{line_texts, without_mark}
-use Rattle.schema_reader.proofs.TextLemmas.{cut_any, cut_last, cut_more}
+use Rattle.lexer.proofs.LineEnds.{cut_any, cut_last, cut_more}
 use Rattle.proof_text.specs.Views.{ledger_of, opened_all}
 use Rattle.proof_grammar.specs.Complaints.{complaint_of, IsFoundAt}
 use Rattle.proof_grammar.specs.Texts.{read_certificate_lines, read_proof}

@@ -2,7 +2,7 @@ use Rattle.std.proofs.Common.{◌≡◌, ◌+◌, ◌-◌, refl, arith}
 use Rattle.schema_grammar.specs.Texts.{read_lines}
 use Rattle.schema_grammar.proofs.RefusalLemmas.{ok_at, err_refuses, Refuses-whole}
 use Rattle.schema_grammar.proofs.SoundLemmas.{IsSound, line_sound}
-use Rattle.schema_reader.proofs.TextLemmas.{cut_any, cut_last, cut_more}
+use Rattle.lexer.proofs.LineEnds.{cut_any, cut_last, cut_more}
 use Rattle.schema_reader.proofs.text.read_lines.Goals as goal
 
 pub returns-in-Err-clause-err : goal.returns-in-Err-clause-err

@@ -2,7 +2,7 @@ use Rattle.std.proofs.Common.{◌≡◌, ◌+◌, ◌-◌, sym, ap, refl, arith}
 use Rattle.schema_reader.specs.Views.{drafted}
 use Rattle.schema_grammar.specs.Texts.{finish, read_opening}
 use Rattle.schema_grammar.proofs.RefusalLemmas.{ok_whole, err_refuses}
-use Rattle.schema_reader.proofs.TextLemmas.{cut_any, cut_last, cut_more}
+use Rattle.lexer.proofs.LineEnds.{cut_any, cut_last, cut_more}
 use Rattle.schema_reader.proofs.text.read_opening.Goals as goal
 
 pub returns-in-Stop-clause-ok : goal.returns-in-Stop-clause-ok

@@ -12,7 +12,7 @@ use Rattle.dep_model.specs.Dependencies.{Dependency}
 use Rattle.form_tests.specs.declared.forms.Form.{Form}
 use Rattle.form_tests.specs.declared.forms.Form.TheVariants.{Third}
 use Rattle.form_tests.specs.Chosen.{IsInForm}
-use Rattle.decomp_text.specs.declared.plan.Plan.{Plan}
+use Rattle.plans.specs.declared.plan.Plan.{Plan}
 use Rattle.split_forms.specs.declared.refusal.SplitRefusal.{SplitRefusal}
 use Rattle.split_forms.specs.declared.refusal.SplitRefusal.TheVariants.{TooManySchemes}
 use Rattle.split_forms.specs.Refusals.{IsRefusedSplit}

@@ -16,7 +16,7 @@ use Rattle.dep_model.specs.Schemas.{width_of, theory_of}
 use Rattle.dep_model.proofs.DepLemmas.{dependencies_all-from}
 use Rattle.dep_model.proofs.ListLemmas.{Contains-map}
 use Rattle.min_cover.specs.Covers.{IsMinimalCover}
-use Rattle.decomp_text.specs.Containing.{lies_within, without_contained}
+use Rattle.plans.specs.Containing.{lies_within, without_contained}
 use Rattle.synthesis_3nf.specs.Groups.{grouped}
 use Rattle.synthesis_3nf.specs.GroupedPlans.{IsWithKey}
 use Rattle.synthesis_3nf.proofs.GroupLemmas.{groups_are}

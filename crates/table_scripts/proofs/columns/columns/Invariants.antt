@@ -1,7 +1,7 @@
 use Rattle.std.proofs.Common.{◌≡◌}
 use Rattle.attr_sets.specs.Sets.{places}
 use Rattle.dep_model.specs.Projections.{members_below}
-use Rattle.targets.specs.Sql.{listed}
+use Rattle.sql_names.specs.Names.{listed}
 use Rattle.table_scripts.specs.QueryTexts.{column_item}
 use Rattle.table_scripts.proofs.ItemLemmas.{has_item}
 use Rattle.table_scripts.proofs.columns.columns.Given as goal

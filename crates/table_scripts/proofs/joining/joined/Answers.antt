@@ -3,7 +3,7 @@ use Rattle.std.proofs.lemmas.Bool.Decides.{nat_tests}
 use Rattle.std.specs.Prelude.{IfOk}
 use Rattle.attr_sets.specs.Sets.{places}
 use Rattle.dep_model.specs.Schemas.{width_of}
-use Rattle.ddl_text.specs.Ddl.{name_list}
+use Rattle.sql_names.specs.Names.{name_list}
 use Rattle.ddl_text.specs.declared.table.TableDesign.{TableDesign}
 use Rattle.table_queries.specs.Queries.{joined_with, stored_query}
 use Rattle.table_scripts.specs.Migrating.{stored_of, stored_tables}

@@ -1,6 +1,6 @@
 use Rattle.std.proofs.Common.{◌<◌, ◌∙◌, length, sym, ap, arith}
 use Rattle.dep_model.specs.Schemas.{names_of}
-use Rattle.ddl_text.proofs.TextLemmas.{name_is}
+use Rattle.sql_names.proofs.NameLemmas.{name_is}
 use Rattle.table_scripts.specs.Checking.{null_test}
 use Rattle.table_scripts.proofs.ItemLemmas.{null_more}
 use Rattle.table_scripts.proofs.missing.null_tests.Goals as goal

@@ -3,7 +3,7 @@ use Rattle.std.specs.Prelude.{IfOk}
 use Rattle.attr_sets.specs.Places.{union}
 use Rattle.attr_sets.specs.Sets.{places}
 use Rattle.attr_sets.proofs.PlacesLemmas.{Same-path}
-use Rattle.ddl_text.specs.Ddl.{name_list}
+use Rattle.sql_names.specs.Names.{name_list}
 use Rattle.table_queries.specs.Queries.{values_on, join}
 use Rattle.table_scripts.specs.QueryTexts.{select_text, except_text, query_text}
 use Rattle.table_scripts.proofs.rules.beyond.Goals as goal

@@ -3,7 +3,7 @@ use Rattle.std.proofs.lemmas.Bool.{true≢false}
 use Rattle.std.specs.Prelude.{IfOk}
 use Rattle.attr_sets.specs.Places.{IsEmpty}
 use Rattle.attr_sets.specs.Sets.{places}
-use Rattle.ddl_text.specs.Ddl.{name_list}
+use Rattle.sql_names.specs.Names.{name_list}
 use Rattle.table_scripts.specs.QueryTexts.{counted_text, grouped_text}
 use Rattle.table_scripts.proofs.PieceLemmas.{several_counted, several_grouped}
 use Rattle.table_scripts.proofs.rules.several.Goals as goal

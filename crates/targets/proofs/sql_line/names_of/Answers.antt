@@ -1,4 +1,4 @@
-use Rattle.targets.specs.Sql.{quoted_name}
+use Rattle.sql_names.specs.Names.{quoted_name}
 use Rattle.targets.proofs.SqlLemmas.{listed_next}
 use Rattle.targets.proofs.sql_line.names_of.Goals as goal
 

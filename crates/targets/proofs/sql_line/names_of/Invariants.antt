@@ -1,5 +1,5 @@
 use Rattle.std.proofs.Common.{◌≡◌, take}
-use Rattle.targets.specs.Sql.{listed, quoted_name}
+use Rattle.sql_names.specs.Names.{listed, quoted_name}
 use Rattle.targets.proofs.sql_line.names_of.Given as goal
 
 -- the names so far

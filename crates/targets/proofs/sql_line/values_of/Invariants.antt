@@ -1,5 +1,6 @@
 use Rattle.std.proofs.Common.{◌≡◌, take}
-use Rattle.targets.specs.Sql.{listed, sql_value}
+use Rattle.targets.specs.Sql.{sql_value}
+use Rattle.sql_names.specs.Names.{listed}
 use Rattle.targets.proofs.sql_line.values_of.Given as goal
 
 -- the values so far

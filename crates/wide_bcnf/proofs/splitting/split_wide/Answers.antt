@@ -5,7 +5,7 @@ use Rattle.dep_model.specs.Forms.{IsBcnf}
 use Rattle.dep_model.specs.Plans.{schemes_of}
 use Rattle.dep_model.specs.Projections.{IsLossless}
 use Rattle.dep_model.specs.Schemas.{width_of, theory_of}
-use Rattle.decomp_text.specs.Containing.{without_contained}
+use Rattle.plans.specs.Containing.{without_contained}
 use Rattle.wide_bcnf.proofs.SplitLemmas.{split_is_lossless, length-without_contained, kept_all, schema_plan, schema_few, schema_bcnf}
 use Rattle.wide_bcnf.proofs.splitting.split_wide.Goals as goal
 

@@ -1,8 +1,0 @@
-use Rattle.std.proofs.Common.{◌≡◌, ◌++◌, take}
-use Rattle.dep_model.specs.Plans.{schemes_of}
-use Rattle.dep_model.specs.Schemas.{names_of}
-use Rattle.plan_grammar.specs.Printing.{plan_text}
-use Rattle.decomp_text.proofs.printing.add_schemes.Given as goal
-
-abbrev pub invariant-loop-scheme : goal.invariant-loop-scheme
-invariant-loop-scheme l = l.text.items ≡ l.fn.text.items ++ plan_text (names_of l.schema) (schemes_of (take l.scheme-index l.schemes))

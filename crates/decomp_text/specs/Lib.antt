@@ -1,3 +1,0 @@
-pub mod Schemes
-pub mod Plans
-pub mod Containing

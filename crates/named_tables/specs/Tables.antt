@@ -1,0 +1,24 @@
+-- Tables as values, for what makes tables and for what takes them.
+use Rattle.std.specs.Prelude.{ℕ, List, [], ◌∷◌, ◌++◌, map}
+use Rattle.dep_model.specs.Tuples.{Tuple, Relation}
+use Rattle.named_tables.specs.declared.table.Table.{Table}
+
+-- a table: its name, the names of its columns, and its rows
+pub record TableValue : Type 0 where
+  pub name : List ℕ
+  pub columns : List (List ℕ)
+  pub rows : Relation
+
+-- a table without rows
+abbrev pub empty_table : List ℕ → List (List ℕ) → TableValue
+empty_table name columns = record { name = name; columns = columns; rows = [] }
+
+-- one row more at the end
+abbrev pub with_row : Tuple → TableValue → TableValue
+with_row row table = record { name = table.name; columns = table.columns; rows = table.rows ++ row ∷ [] }
+
+abbrev pub table_value : Table → TableValue
+table_value table = record { name = table.name; columns = table.columns.items; rows = table.rows.items }
+
+abbrev pub table_values : List Table → List TableValue
+table_values tables = map table_value tables

@@ -1,0 +1,6 @@
+//! Tables with names of their own: what a migration makes and a target takes.
+#![tactic(auto)]
+
+mod table;
+
+pub use table::Table;

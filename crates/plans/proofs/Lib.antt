@@ -1,0 +1,6 @@
+pub mod ListLemmas
+pub mod PlanLemmas
+mod ContainingLemmas
+mod DroppingLemmas
+mod LoopLemmas
+mod PrintingLemmas

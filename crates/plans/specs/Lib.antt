@@ -1,0 +1,4 @@
+pub mod Schemes
+pub mod Plans
+pub mod Containing
+pub mod Printing

@@ -1,0 +1,19 @@
+use Rattle.std.specs.Prelude.{◌≡◌, List}
+use Rattle.attr_sets.specs.Places.{Places}
+use Rattle.attr_sets.specs.declared.set.AttrSet.{AttrSet}
+use Rattle.dep_model.specs.Plans.{schemes_of}
+use Rattle.plans.specs.declared.plan.Plan.{Plan}
+use Rattle.dep_model.specs.declared.schema.Schema.{Schema}
+use Rattle.dep_model.specs.Schemas.{width_of}
+
+-- the schemes of a plan, in order
+abbrev pub scheme_sets : Plan → List AttrSet
+scheme_sets plan = plan.schemes.items
+
+-- the same, as sets of places
+abbrev pub plan_of : Plan → List Places
+plan_of plan = schemes_of (scheme_sets plan)
+
+-- the plan is one of the universe of a schema
+abbrev pub IsPlanOver : Schema → Plan → Type 0
+IsPlanOver schema plan = plan.width ≡ width_of schema

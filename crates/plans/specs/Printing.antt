@@ -1,0 +1,11 @@
+use Rattle.std.specs.Prelude.{ℕ, List, ◌++◌, map, codes}
+use Rattle.attr_sets.specs.Places.{Places}
+use Rattle.schema_printer.specs.Printing.{words_text, members_from, lines_text}
+
+-- a scheme line: the word `scheme`, and the names of the attributes in ascending order, each after a blank
+abbrev pub scheme_text : List (List ℕ) → Places → List ℕ
+scheme_text names x = codes "scheme" ++ words_text (members_from x 0 names)
+
+-- a plan: a line for each scheme
+abbrev pub plan_text : List (List ℕ) → List Places → List ℕ
+plan_text names schemes = lines_text (map (scheme_text names) schemes)

@@ -1,0 +1,14 @@
+//! Plans: lists of schemes that together have all attributes of a universe.
+//!
+//! Each holder of a `Plan` has its validity (`IsPlan`): its schemes have attributes, lie within the
+//! universe and cover it. `drop_contained` keeps, in order, the schemes that lie within no other one; a
+//! lossless plan stays lossless. `print_plan` prints it in one form.
+#![tactic(auto)]
+
+mod containing;
+mod plan;
+mod printing;
+
+pub use containing::drop_contained;
+pub use plan::Plan;
+pub use printing::print_plan;

@@ -1,0 +1,49 @@
+ghost use Rattle.std.specs.Prelude.{◌≡◌, ◌∷◌, ◌++◌, [], All, IfOk, OnOk};
+ghost use Rattle.attr_sets.specs.Places.{Within, IsEmpty};
+ghost use Rattle.attr_sets.specs.Sets.{places};
+ghost use Rattle.dep_model.specs.Plans.{schemes_of};
+ghost use Rattle.dep_model.specs.Schemas.{names_of, universe_of};
+ghost use Rattle.plans.specs.Printing.{scheme_text, plan_text};
+ghost use Rattle.plans.specs.Plans.{plan_of, IsPlanOver};
+
+use crate::Plan;
+use attr_sets::AttrSet;
+use dep_model::{Schema, WantMemory};
+use schema_printer::{add, add_set};
+use std::alloc::Global;
+
+/// The plan in the one form: a line for each scheme. Where no name is reserved, and it is short enough to
+/// be read, it means the same schemes.
+pub fn print_plan(alloc: Global, schema: &Schema, plan: &Plan) -> Result<Vec<u8>, WantMemory>
+    requires universe { IsPlanOver schema.now plan.now }
+    ensures text { IfOk result (λ text. text.items ≡ plan_text (names_of schema.now) (plan_of plan.now)) }
+{
+    let mut text = Vec::new(alloc);
+    add_schemes(&mut text, schema, plan.schemes())?;
+    Ok(text)
+}
+
+// Adds a line for each scheme.
+fn add_schemes(text: &mut Vec<u8>, schema: &Schema, schemes: &[AttrSet]) -> Result<(), WantMemory>
+    requires within { All (λ scheme. Within (places scheme) (universe_of schema.now)) schemes.now }
+    requires some { All (λ scheme. IsEmpty (places scheme) → ⊥) schemes.now }
+    ensures added { OnOk result (text.new.items
+        ≡ text.old.items ++ plan_text (names_of schema.now) (schemes_of schemes.now)) }
+{
+    for scheme in schemes {
+        add_scheme(text, schema, *scheme)?;
+    }
+    Ok(())
+}
+
+// Adds the line of a scheme.
+fn add_scheme(text: &mut Vec<u8>, schema: &Schema, scheme: AttrSet) -> Result<(), WantMemory>
+    requires within { Within (places scheme) (universe_of schema.now) }
+    requires some { IsEmpty (places scheme) → ⊥ }
+    ensures added { OnOk result (text.new.items
+        ≡ text.old.items ++ (scheme_text (names_of schema.now) (places scheme) ++ 10 ∷ [])) }
+{
+    add(text, b"scheme ")?;
+    add_set(text, schema, scheme)?;
+    add(text, b"\n")
+}

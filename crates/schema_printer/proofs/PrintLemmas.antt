@@ -1,0 +1,107 @@
+-- What is printed so far of a set or of a declaring line, and what is still to print.
+use Rattle.std.proofs.Common.{◌≡◌, ◌<◌, ◌+◌, ⊎_elim, ℕ, Bool, true, false, cond, List, [], ◌∷◌, ◌++◌, length, drop, refl, sym, ◌∙◌, ap, subst, append_assoc, add-one, drop-cons, get_or, Some}
+use Rattle.std.specs.List.{slice_get}
+use Rattle.std.proofs.lemmas.Bool.{cases_Bool}
+use Rattle.std.proofs.lemmas.Option.{get_or_from_slice_get, slice_get_within}
+use Rattle.std.proofs.lemmas.List.{append-nil}
+use Rattle.std.specs.Prelude.{map}
+use Rattle.attr_sets.specs.Places.{Places}
+use Rattle.dep_model.specs.declared.column.Column.{Column}
+use Rattle.schema_printer.specs.Printing.{words_text, members_from, side_text, set_text, runs_of, in_front, run_line, lines_text, type_word, same_column, Run}
+
+-- what is still to print of a set, where a name stood before or not
+abbrev pub rest_text : Bool → List (List ℕ) → List ℕ
+rest_text true words = words_text words
+rest_text false words = side_text words
+
+pub record PrintsSet (names : List (List ℕ)) (x : Places) (before text : List ℕ) (some : Bool) (place : ℕ) : Type 0 where
+  pub same : text ++ rest_text some (members_from x place (drop place names)) ≡ before ++ set_text names x
+
+-- what stands after a name of this type
+abbrev pub after_text : Column → List Column → List (List ℕ) → List ℕ
+after_text c [] names = 10 ∷ []
+after_text c (d ∷ ds) [] = 10 ∷ []
+after_text c (d ∷ ds) (name ∷ names) =
+    cond (same_column c d) (32 ∷ name) (10 ∷ (type_word d ++ 32 ∷ name)) ++ after_text d ds names
+
+pub record PrintsRuns (columns : List Column) (names : List (List ℕ)) (before text : List ℕ) (last : Column) (place : ℕ) : Type 0 where
+  pub same : text ++ after_text last (drop place columns) (drop place names) ≡ before ++ lines_text (map run_line (runs_of columns names))
+
+-- an element, and what stands from it on
+pub at_place : {X : Type 0} (xs : List X) (i : ℕ) (x : X) → slice_get xs i ≡ Some x → drop i xs ≡ x ∷ drop (i + 1) xs
+at_place xs i x e =
+    let inside : i < length xs = slice_get_within xs i x e in
+    rw (add-one, drop-cons xs i x)
+    (let same : get_or xs i x ≡ x = get_or_from_slice_get xs i x x e in rw same refl)
+
+pub set_inside : (names : List (List ℕ)) (x : Places) (before text next : List ℕ) (some more : Bool) (k : ℕ) (name : List ℕ)
+    → PrintsSet names x before text some k → slice_get names k ≡ Some name → true ≡ x k
+    → next ≡ text ++ cond some (32 ∷ name) name → more ≡ true → PrintsSet names x before next more (k + 1)
+set_inside names x before text next true more k name prints here within added is_more = record {
+  same = let rest = at_place names k name here in let inside : x k ≡ true = sym within in let old = prints.same in rw (added, is_more) (rw append_assoc (rw (rest, inside) at old));
+}
+set_inside names x before text next false more k name prints here within added is_more = record {
+  same = let rest = at_place names k name here in let inside : x k ≡ true = sym within in let old = prints.same in rw (added, is_more) (rw append_assoc (rw (rest, inside) at old));
+}
+
+-- runs whose first one has this type, and what stands after its word in the text
+record IsLed (c : Column) (rest : List ℕ) (runs : List Run) : Type 0 where
+  names : List (List ℕ)
+  others : List Run
+  whole : runs ≡ record { column = c; names = names } ∷ others
+  text : words_text names ++ 10 ∷ lines_text (map run_line others) ≡ rest
+
+alone : (c : Column) (name : List ℕ) → IsLed c ((32 ∷ name) ++ 10 ∷ []) (record { column = c; names = name ∷ [] } ∷ [])
+alone c name = record { names = name ∷ []; others = []; whole = refl; text = rw (append-nil name) refl }
+
+joined : (c d : Column) (name rest : List ℕ) (runs : List Run) → IsLed d rest runs
+    → IsLed c ((32 ∷ name) ++ cond (same_column c d) rest (10 ∷ (type_word d ++ rest))) (in_front c name runs)
+joined c d name rest runs led =
+    ⊎_elim
+    (λ (same : same_column c d ≡ true).
+    let text : words_text (name ∷ led.names) ++ 10 ∷ lines_text (map run_line led.others) ≡ (32 ∷ name) ++ rest =
+    rw append_assoc (rw led.text refl) in
+    rw (led.whole, same) (record { names = name ∷ led.names; others = led.others; whole = refl; text = text }))
+    (λ (other : same_column c d ≡ false).
+    let more = lines_text (map run_line led.others) in
+    let inner : ((type_word d ++ words_text led.names) ++ 10 ∷ []) ++ more
+    ≡ type_word d ++ (words_text led.names ++ 10 ∷ more) =
+    simp append_assoc in
+    rw (led.whole, other) (record {
+      names = name ∷ [];
+      others = record { column = d; names = led.names } ∷ led.others;
+      whole = refl;
+      text = rw (append-nil name) (rw (inner, led.text) refl);
+    }))
+    (cases_Bool (same_column c d))
+
+runs_led : (c : Column) (name : List ℕ) (columns : List Column) (names : List (List ℕ))
+    → IsLed c ((32 ∷ name) ++ after_text c columns names) (in_front c name (runs_of columns names))
+runs_led c name [] names = alone c name
+runs_led c name (d ∷ columns) [] = alone c name
+runs_led c name (d ∷ columns) (next ∷ names) =
+    let led = joined c d name ((32 ∷ next) ++ after_text d columns names) (runs_of (d ∷ columns) (next ∷ names)) (runs_led d next columns names) in
+    let here = 32 ∷ next in
+    let there = 10 ∷ (type_word d ++ 32 ∷ next) in
+    let more = after_text d columns names in
+    let same : cond (same_column c d) here there ++ more ≡ cond (same_column c d) (here ++ more)
+    (there ++ more) =
+    elim (same_column c d) as
+    (λ b. cond b here there ++ more ≡ cond b (here ++ more) (there ++ more)) [ true ↦ refl | false ↦ refl ] in
+    let far : there ++ more ≡ 10 ∷ (type_word d ++ (here ++ more)) = simp append_assoc in
+    let of : List ℕ → Type 0 = λ rest. IsLed c ((32 ∷ name) ++ rest) (in_front c name (runs_of (d ∷ columns) (next ∷ names))) in
+    subst of (ap (λ t. cond (same_column c d) (here ++ more) t) (sym far) ∙ sym same) led
+
+pub runs_begin : (columns : List Column) (names : List (List ℕ)) (before text : List ℕ) (c : Column) (name : List ℕ)
+    → slice_get columns 0 ≡ Some c → slice_get names 0 ≡ Some name → text ≡ before ++ (type_word c ++ 32 ∷ name) → PrintsRuns columns names before text c 1
+runs_begin [] names before text c name first_type first_name added = cc
+runs_begin (d ∷ columns) [] before text c name first_type first_name added = cc
+runs_begin (d ∷ columns) (first ∷ names) before text c name first_type first_name added =
+    let type_is : d ≡ c = cc in
+    let name_is : first ≡ name = cc in
+    let led = runs_led d first columns names in
+    let whole : lines_text
+    (map run_line (runs_of (d ∷ columns) (first ∷ names))) ≡ type_word
+    d ++ ((32 ∷ first) ++ after_text d columns names) =
+    rw led.whole (simp (append_assoc, led.text)) in
+    record { same = rw (whole, added, type_is, name_is) (simp append_assoc) }

@@ -1,8 +1,0 @@
-use Rattle.std.proofs.Common.{◌≡◌, take, false}
-use Rattle.dep_model.specs.Schemas.{columns_of}
-use Rattle.std.specs.List.{list_any}
-use Rattle.schema_grammar.specs.Printing.{is_integer}
-use Rattle.schema_reader.proofs.print.has_integers.Given as goal
-
-abbrev pub invariant-loop-place : goal.invariant-loop-place
-invariant-loop-place l = list_any is_integer (take l.place (columns_of l.schema)) ≡ false

@@ -1,0 +1,87 @@
+-- Lists of quoted names: one more at the end.
+use Rattle.std.proofs.Common.{◌≡◌, ◌<◌, ◌+◌, ℕ, Bool, true, false, ◌||◌, List, [], ◌∷◌, ◌++◌, length, get_or, take, Some, inl, inr, refl, sym, ap, ◌∙◌, arith, append_assoc, append-nil}
+use Rattle.std.specs.Prelude.{if◌then◌else◌, slice_get}
+use Rattle.std.specs.List.{flat_map}
+use Rattle.std.proofs.lemmas.Bool.{cases_Bool}
+use Rattle.std.proofs.lemmas.List.{take_more, length-take-le, flat_map_more}
+use Rattle.std.proofs.lemmas.Option.{get_or_from_slice_get}
+use Rattle.attr_sets.specs.Places.{Places}
+use Rattle.dep_model.specs.declared.schema.Schema.{Schema}
+use Rattle.dep_model.specs.Schemas.{names_of}
+use Rattle.schema_printer.specs.Printing.{members_from}
+use Rattle.sql_names.specs.Names.{separator, listed, quoted_name, has_some}
+
+-- ---- the names of a set's members
+members_append : (x : Places) (k : ℕ) (names more : List (List ℕ))
+    → members_from x k (names ++ more) ≡ members_from x k names ++ members_from x (k + length names) more
+members_append x k [] more = let e : k + 0 ≡ k = omega arith in ap (λ (j : ℕ). members_from x j more) (sym e)
+members_append x k (name ∷ names) more =
+    let later = members_append x (k + 1) names more in
+    let at_end : k + 1 + length names ≡ k + length (name ∷ names) = omega arith in
+    let rest = later ∙ ap (λ (j : ℕ). members_from x (k + 1) names ++ members_from x j more) at_end in
+    elim (cases_Bool (x k)) [
+      | inl inside ↦ rw inside (ap (λ (ns : List (List ℕ)). name ∷ ns) rest)
+      | inr outside ↦ rw outside rest
+    ]
+
+names_next : (x : Places) (names : List (List ℕ)) (n : ℕ) → n < length names
+    → members_from x 0 (take (n + 1) names) ≡ members_from x 0 (take n names) ++ members_from x n
+    (get_or names n [] ∷ [])
+names_next x names n lt =
+    let long : 0 + length (take n names) ≡ n = omega (arith, lt, length-take-le n names) in
+    ap (members_from x 0) (take_more names n [] lt)
+    ∙ members_append x 0 (take n names) (get_or names n [] ∷ [])
+    ∙ ap (λ (k : ℕ). members_from x 0 (take n names) ++ members_from x k (get_or names n [] ∷ [])) long
+
+-- the names of the members before a place and of the one that is there
+pub names_inside : (x : Places) (names : List (List ℕ)) (n : ℕ) → n < length names → x n ≡ true
+    → members_from x 0 (take (n + 1) names) ≡ members_from x 0 (take n names) ++ get_or names n [] ∷ []
+names_inside x names n lt inside =
+    names_next x names n lt
+    ∙ ap (λ (b : Bool). members_from x 0 (take n names) ++ (if b then get_or names n [] ∷ [] else [])) inside
+
+pub names_outside : (x : Places) (names : List (List ℕ)) (n : ℕ) → n < length names → x n ≡ false
+    → members_from x 0 (take (n + 1) names) ≡ members_from x 0 (take n names)
+names_outside x names n lt outside =
+    names_next x names n lt
+    ∙ ap (λ (b : Bool). members_from x 0 (take n names) ++ (if b then get_or names n [] ∷ [] else [])) outside
+    ∙ append-nil (members_from x 0 (take n names))
+
+pub some_pushed : (xs : List (List ℕ)) (x : List ℕ) → has_some (xs ++ x ∷ []) ≡ true
+some_pushed [] x = refl
+some_pushed (y ∷ xs) x = refl
+
+-- ---- names
+pub listed_push : (text : List ℕ → List ℕ) (xs : List (List ℕ)) (x : List ℕ)
+    → listed text (xs ++ x ∷ []) ≡ listed text xs ++ (if has_some xs then separator ++ text x else text x)
+listed_push text [] x = append-nil (text x)
+listed_push text (y ∷ xs) x = sym (flat_map_more (λ z. separator ++ text z) (text y) xs x)
+
+pub or_true : (b : Bool) → (b || true) ≡ true
+or_true true = refl
+or_true false = refl
+
+-- two parts are added
+pub adds : (old a b mid new : List ℕ) → mid ≡ old ++ a → new ≡ mid ++ b → new ≡ old ++ (a ++ b)
+adds old a b mid new first second = second ∙ ap (λ (t : List ℕ). t ++ b) first ∙ append_assoc old a b
+
+-- a name more
+pub listed_more : (xs : List (List ℕ)) (x name : List ℕ) (some : Bool) (before text next : List ℕ)
+    → text ≡ before ++ listed quoted_name xs → some ≡ has_some xs → x ≡ name
+    → next ≡ text ++ (if some then separator ++ quoted_name name else quoted_name name)
+    → next ≡ before ++ listed quoted_name (xs ++ x ∷ [])
+listed_more xs x name some before text next so_far is_some is added =
+    adds before (listed quoted_name xs) (if some then separator ++ quoted_name name else quoted_name name) text next
+    so_far added
+    ∙ ap (λ (b : Bool). before ++ (listed quoted_name xs ++
+    (if b then separator ++ quoted_name name else quoted_name name))) is_some
+    ∙ ap (λ (n : List ℕ). before ++ (listed quoted_name xs ++
+    (if has_some xs then separator ++ quoted_name n else quoted_name n))) (sym is)
+    ∙ ap (λ (t : List ℕ). before ++ t) (sym (listed_push quoted_name xs x))
+
+pub some_more : (first : Bool) (xs : List (List ℕ)) (x : List ℕ) → true ≡ (first || has_some (xs ++ x ∷ []))
+some_more first xs x = sym (ap (λ (b : Bool). first || b) (some_pushed xs x) ∙ or_true first)
+
+pub name_is : (s : Schema) (k : ℕ) (name : List ℕ) → slice_get (names_of s) k ≡ Some name
+    → get_or (names_of s) k [] ≡ name
+name_is s k name at = get_or_from_slice_get (names_of s) k name [] at

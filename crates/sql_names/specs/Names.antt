@@ -1,0 +1,29 @@
+-- Names in SQL, for all that prints statements.
+use Rattle.std.specs.Prelude.{ℕ, Bool, true, false, List, [], ◌∷◌, ◌++◌, codes}
+use Rattle.std.specs.List.{flat_map}
+use Rattle.attr_sets.specs.Places.{Places}
+use Rattle.dep_model.specs.declared.schema.Schema.{Schema}
+use Rattle.dep_model.specs.Schemas.{names_of}
+use Rattle.schema_printer.specs.Printing.{members_from}
+
+-- what separates two items of a list
+abbrev pub separator : List ℕ
+separator = codes ", "
+
+-- the texts of items, with a comma and a blank between
+abbrev pub listed : {X : Type 0} → (X → List ℕ) → List X → List ℕ
+listed text [] = []
+listed text (x ∷ xs) = text x ++ flat_map (λ y. separator ++ text y) xs
+
+-- whether a list of texts has one
+abbrev pub has_some : List (List ℕ) → Bool
+has_some [] = false
+has_some (text ∷ texts) = true
+
+-- a name in double quotes
+abbrev pub quoted_name : List ℕ → List ℕ
+quoted_name name = 34 ∷ (name ++ 34 ∷ [])
+
+-- the quoted names of a set's attributes, ascending, with a comma and a blank between
+abbrev pub name_list : Schema → Places → List ℕ
+name_list s x = listed quoted_name (members_from x 0 (names_of s))

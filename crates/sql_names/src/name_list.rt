@@ -1,0 +1,41 @@
+ghost use Rattle.std.specs.Prelude.{◌≡◌, ◌++◌, if◌then◌else◌, OnOk};
+ghost use Rattle.attr_sets.specs.Sets.{places};
+ghost use Rattle.sql_names.specs.Names.{separator, quoted_name, name_list};
+
+use attr_sets::AttrSet;
+use dep_model::{Name, Schema, WantMemory};
+use schema_printer::add;
+
+/// Adds the quoted names of a set's attributes, ascending, with a comma and a blank between.
+pub fn add_name_list(text: &mut Vec<u8>, schema: &Schema, set: AttrSet) -> Result<(), WantMemory>
+    ensures added { OnOk result (text.new.items ≡ text.old.items ++ name_list schema.now (places set)) }
+{
+    let mut some = false;
+    for place in 0..schema.width() {
+        if set.has(place) {
+            add_listed(text, some, schema.name(place))?;
+            some = true;
+        }
+    }
+    Ok(())
+}
+
+// Adds a quoted name; after a comma and a blank where another one stands before it.
+fn add_listed(text: &mut Vec<u8>, some: bool, name: &Name) -> Result<(), WantMemory>
+    ensures added { OnOk result (text.new.items
+        ≡ text.old.items ++ (if some then separator ++ quoted_name name.now else quoted_name name.now)) }
+{
+    if some {
+        add(text, b", ")?;
+    }
+    add_quoted(text, name)
+}
+
+/// Adds a name in double quotes.
+pub fn add_quoted(text: &mut Vec<u8>, name: &Name) -> Result<(), WantMemory>
+    ensures added { OnOk result (text.new.items ≡ text.old.items ++ quoted_name name.now) }
+{
+    add(text, b"\"")?;
+    add(text, name.bytes())?;
+    add(text, b"\"")
+}
