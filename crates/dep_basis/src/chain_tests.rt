@@ -8,7 +8,7 @@ use dep_model::{Dep, Schema, WantMemory};
 use derivation::{Deriv, LeafRule, Node, PairRule, StepRule, depth, nodes};
 use std::alloc::Global;
 use std::test::Fail;
-use test_schemas::{NoSchema, schema_of};
+use test_data::{NoSchema, schema_of};
 
 // The attributes A, B and C.
 const A: AttrSet = AttrSet(1);

@@ -10,7 +10,7 @@ use derivation::{
 };
 use std::alloc::Global;
 use std::test::Fail;
-use test_schemas::{fd, mvd};
+use test_data::{fd, mvd};
 
 // The attributes of a timetable.
 const COURSE: AttrSet = AttrSet(1);

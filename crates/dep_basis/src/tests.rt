@@ -6,7 +6,7 @@ use attr_sets::AttrSet;
 use dep_model::{Dep, Schema};
 use std::alloc::Global;
 use std::test::Fail;
-use test_schemas::{NoSchema, fd, is_within, mvd, schema_of};
+use test_data::{NoSchema, fd, is_within, mvd, schema_of};
 
 // What is decided of a dependency within the universe; of any other nothing.
 fn decided(schema: &Schema, dep: Dep) -> Option<Decision> {

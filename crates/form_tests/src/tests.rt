@@ -4,7 +4,7 @@ use dep_model::Dep;
 use std::alloc::Global;
 use std::process::Abort;
 use std::test::Fail;
-use test_schemas::{NoSchema, fd, mvd, schema_of};
+use test_data::{NoSchema, fd, mvd, schema_of};
 
 // `lhs` and `rhs` as a violation.
 fn breach(lhs: u128, rhs: u128) -> Option<Breach> {

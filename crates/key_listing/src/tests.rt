@@ -5,7 +5,7 @@ use attr_sets::AttrSet;
 use dep_model::{Dep, WantMemory};
 use std::alloc::Global;
 use std::test::Fail;
-use test_schemas::{fd, mvd, schema_of};
+use test_data::{fd, mvd, schema_of};
 
 fn keys_of(alloc: Global, width: u8, deps: &[Dep]) -> Result<Vec<AttrSet>, KeyRefusal> {
     match schema_of(alloc, width, deps) {

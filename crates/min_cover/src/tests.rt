@@ -1,7 +1,7 @@
 use super::*;
 use dep_model::Dep;
 use std::test::Fail;
-use test_schemas::{fd, mvd, schema_of};
+use test_data::{fd, mvd, schema_of};
 
 #[test]
 fn leaves_out_what_the_others_imply(rt: HostRuntime) -> Result<(), Fail> {

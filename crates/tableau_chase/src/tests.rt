@@ -7,7 +7,7 @@ use attr_sets::AttrSet;
 use dep_model::{Row, Schema, WantMemory};
 use std::alloc::Global;
 use std::test::Fail;
-use test_schemas::{fd, mvd, schema_of};
+use test_data::{fd, mvd, schema_of};
 
 // What the chase says, as a text: the rows of a lossy plan, one a line.
 fn told(

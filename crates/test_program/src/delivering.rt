@@ -32,11 +32,7 @@ fn migrate(
 }
 
 // How many tables each target holds.
-fn check_held(
-    rt: &impl Abort,
-    targets: &[Box<dyn Target>],
-    counts: &[usize],
-) -> Result<(), Fail> {
+fn check_held(rt: &impl Abort, targets: &[Box<dyn Target>], counts: &[usize]) -> Result<(), Fail> {
     assert_eq!(rt; targets.len(), counts.len());
     for (target, count) in targets.iter().zip(counts) {
         let held = target.held_tables().map_or(0, |tables| tables.len());

@@ -1,9 +1,10 @@
 use crate::three_tables::three_tables;
 use crate::without_memory::WithoutMemory;
-use csv_migrate::{FeedEnd, Table, feed, feed_list};
+use named_tables::Table;
 use std::alloc::Global;
 use std::process::Abort;
 use std::test::Fail;
+use table_writing::{FeedEnd, feed, feed_list};
 use targets::{MemoryTarget, Target};
 
 // The end of the target that fails at this call, and how many tables it then holds. The calls of a table

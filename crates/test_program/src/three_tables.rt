@@ -2,8 +2,8 @@ ghost use Rattle.std.specs.Prelude.{◌≡◌, length, IfOk};
 ghost use Rattle.dep_model.specs.Tuples.{IsOver};
 
 use attr_sets::AttrSet;
-use csv_migrate::Table;
 use dep_model::{Name, Row, Value, WantMemory};
+use named_tables::Table;
 use std::alloc::Global;
 
 // A row of one value.
@@ -34,9 +34,17 @@ pub(crate) fn three_tables(alloc: Global) -> Result<Vec<Table>, WantMemory> {
     let mut tables = Vec::new(alloc);
     let first = vec![in alloc; single(alloc, b"x")?, single(alloc, b"O'Hara")?]?;
     tables.push(table(alloc, b"t1", first)?)?;
-    let second = vec![in alloc; single(alloc, b"")?, single(alloc, b"a,b")?, single(alloc, b"\xff")?]?;
+    let second = vec![in alloc;
+        single(alloc, b"")?,
+        single(alloc, b"a,b")?,
+        single(alloc, b"\xff")?,
+    ]?;
     tables.push(table(alloc, b"t2", second)?)?;
-    let third = vec![in alloc; single(alloc, b"1")?, single(alloc, b"2")?, single(alloc, b"3\0")?]?;
+    let third = vec![in alloc;
+        single(alloc, b"1")?,
+        single(alloc, b"2")?,
+        single(alloc, b"3\0")?,
+    ]?;
     tables.push(table(alloc, b"t3", third)?)?;
     Ok(tables)
 }

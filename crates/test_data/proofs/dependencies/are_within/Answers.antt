@@ -3,8 +3,8 @@ use Rattle.std.proofs.lemmas.List.Elements.{All-more}
 use Rattle.attr_sets.specs.Sets.{places}
 use Rattle.dep_model.specs.declared.dep.Dep.TheVariants.{Fd}
 use Rattle.dep_model.specs.Deps.{IsDepWithin}
-use Rattle.test_schemas.specs.Made.{set_of}
-use Rattle.test_schemas.proofs.dependencies.are_within.Goals as goal
+use Rattle.test_data.specs.Made.{set_of}
+use Rattle.test_data.proofs.dependencies.are_within.Goals as goal
 
 pub returns-then-not-is_within : goal.returns-then-not-is_within
 returns-then-not-is_within c = record {

@@ -1,6 +1,6 @@
 use Rattle.std.proofs.Common.{◌≡◌}
-use Rattle.test_schemas.specs.Made.{attribute_names}
-use Rattle.test_schemas.proofs.attributes.attribute_names.Given as goal
+use Rattle.test_data.specs.Made.{attribute_names}
+use Rattle.test_data.proofs.attributes.attribute_names.Given as goal
 
 abbrev pub invariant-loop-i : goal.invariant-loop-i
 invariant-loop-i l = l.names.items ≡ attribute_names l.i

@@ -4,7 +4,7 @@ use Rattle.attr_sets.specs.Places.{Places, below}
 use Rattle.attr_sets.specs.Sets.{places}
 use Rattle.attr_sets.proofs.PlacesLemmas.{Same-path}
 use Rattle.dep_model.specs.Deps.{IsDepWithin}
-use Rattle.test_schemas.proofs.schemas.are_fit.Goals as goal
+use Rattle.test_data.proofs.schemas.are_fit.Goals as goal
 
 pub returns-then-deps-le-MOST_DEPENDENCIES : goal.returns-then-deps-le-MOST_DEPENDENCIES
 returns-then-deps-le-MOST_DEPENDENCIES c =

@@ -1,5 +1,5 @@
 ghost use Rattle.std.specs.Prelude.{◌≡◌, ◌≤◌, ◌<◌, IfOk};
-ghost use Rattle.test_schemas.specs.Made.{attribute_name, attribute_names};
+ghost use Rattle.test_data.specs.Made.{attribute_name, attribute_names};
 ghost use Rattle.attr_sets.specs.declared.set.TheConstants.{PLACES};
 
 use attr_sets::PLACES;

@@ -7,9 +7,9 @@ use Rattle.dep_model.specs.declared.dep.Dep.{Dep}
 use Rattle.dep_model.specs.Names.{same_name}
 use Rattle.dep_model.specs.Deps.{IsDepWithin}
 use Rattle.dep_model.specs.Schemas.{names_of}
-use Rattle.test_schemas.specs.Made.{attribute_name, attribute_names}
-use Rattle.test_schemas.proofs.NamesLemmas.{attribute_names_differ}
-use Rattle.test_schemas.proofs.schemas.schema_of.Goals as goal
+use Rattle.test_data.specs.Made.{attribute_name, attribute_names}
+use Rattle.test_data.proofs.NamesLemmas.{attribute_names_differ}
+use Rattle.test_data.proofs.schemas.schema_of.Goals as goal
 
 names_count : (names : List (List ℕ)) (n : ℕ) → names ≡ attribute_names n → length names ≡ n
 names_count names n made =

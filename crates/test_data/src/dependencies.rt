@@ -2,7 +2,7 @@ ghost use Rattle.std.specs.Prelude.{◌≡◌, ◌↔◌, IsTrue, All};
 ghost use Rattle.attr_sets.specs.Sets.{places};
 ghost use Rattle.dep_model.specs.Deps.{IsDepWithin};
 ghost use Rattle.dep_model.specs.declared.dep.Dep.TheVariants.{Fd, Mvd};
-ghost use Rattle.test_schemas.specs.Made.{set_of};
+ghost use Rattle.test_data.specs.Made.{set_of};
 
 use attr_sets::AttrSet;
 use dep_model::Dep;

@@ -1,6 +1,6 @@
 ghost use Rattle.std.specs.Prelude.{◌≡◌, ◌↔◌, length, replicate, IsTrue, IfOk, Err};
 ghost use Rattle.dep_model.specs.Schemas.{names_of, width_of, deps_of, lines_of};
-ghost use Rattle.test_schemas.specs.Made.{attribute_names, Fit, HasTextColumns};
+ghost use Rattle.test_data.specs.Made.{attribute_names, Fit, HasTextColumns};
 
 use crate::attributes::attribute_names;
 use crate::dependencies::are_within;
@@ -19,7 +19,7 @@ pub enum NoSchema {
 }
 
 impl From<AllocError> for NoSchema {
-    ghost use Rattle.test_schemas.specs.declared.schemas.NoSchema.{NoSchema};
+    ghost use Rattle.test_data.specs.declared.schemas.NoSchema.{NoSchema};
 
     ghost from_gives = { λ _ e. e ≡ NoSchema.Memory };
 
@@ -29,7 +29,7 @@ impl From<AllocError> for NoSchema {
 }
 
 impl From<WantMemory> for NoSchema {
-    ghost use Rattle.test_schemas.specs.declared.schemas.NoSchema.{NoSchema};
+    ghost use Rattle.test_data.specs.declared.schemas.NoSchema.{NoSchema};
 
     ghost from_gives = { λ _ e. e ≡ NoSchema.Memory };
 

@@ -1,8 +1,8 @@
 use Rattle.std.proofs.Common.{◌≡◌, sym, subst, ◌∙◌, List, IsTrue, ℕ}
 use Rattle.dep_model.specs.Names.{is_name}
-use Rattle.test_schemas.specs.Made.{attribute_name}
-use Rattle.test_schemas.proofs.NamesLemmas.{is_attribute_name}
-use Rattle.test_schemas.proofs.attributes.attribute_name.Goals as goal
+use Rattle.test_data.specs.Made.{attribute_name}
+use Rattle.test_data.proofs.NamesLemmas.{is_attribute_name}
+use Rattle.test_data.proofs.attributes.attribute_name.Goals as goal
 
 pub unwrap-requires : goal.unwrap-requires
 unwrap-requires c =
