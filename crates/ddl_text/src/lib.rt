@@ -8,13 +8,11 @@
 mod columns;
 mod designing;
 mod elements;
-mod name_list;
 mod printing;
 mod references;
 mod table;
 
 pub use designing::{DesignList, design};
-pub use name_list::{add_name_list, add_quoted};
 pub use printing::print_ddl;
 pub use table::TableDesign;
 pub use table_names::MOST_TABLES;
