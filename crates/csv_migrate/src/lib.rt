@@ -9,8 +9,3 @@ mod migration;
 mod projecting;
 
 pub use migration::tables;
-
-#[cfg(test)]
-mod feeding_tests;
-#[cfg(test)]
-mod tests;

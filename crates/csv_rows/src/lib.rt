@@ -28,8 +28,3 @@ pub use part::{Part, read_part};
 pub use printing::print_rows;
 pub use reading::{MOST_ROWS, read_rows};
 pub use refusal::RowRefusal;
-
-#[cfg(test)]
-mod reading_tests;
-#[cfg(test)]
-mod tests;

@@ -44,10 +44,6 @@ mod shapes;
 mod status;
 mod synthesis;
 mod table_shapes;
-#[cfg(test)]
-mod table_tests;
-#[cfg(test)]
-mod tests;
 mod text;
 mod top;
 

@@ -20,8 +20,6 @@ mod planned;
 mod real;
 mod shelf;
 mod sink;
-#[cfg(test)]
-mod tests;
 mod transfer;
 mod word;
 

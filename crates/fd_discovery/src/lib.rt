@@ -21,8 +21,3 @@ pub use discovering::discover;
 pub use headed::{Headed, MOST_HEADED_ROWS, WIDEST_HEADED, read_headed};
 pub use laws::one_reading;
 pub use refusal::DiscoverRefusal;
-
-#[cfg(test)]
-mod reading_tests;
-#[cfg(test)]
-mod tests;

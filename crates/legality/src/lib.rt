@@ -12,8 +12,6 @@ mod laws;
 mod multivalued;
 mod offence;
 mod pair;
-#[cfg(test)]
-mod tests;
 
 pub use finding::offences;
 pub use laws::{offences_name_dependencies, one_list_of_offences};

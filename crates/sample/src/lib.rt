@@ -7,8 +7,6 @@
 
 mod rows;
 mod schema;
-#[cfg(test)]
-mod tests;
 
 pub use rows::{MOST_PERSONS, sample_rows};
 pub use schema::sample_schema;

@@ -17,8 +17,6 @@ mod sql_line;
 mod sql_target;
 mod table;
 mod target;
-#[cfg(test)]
-mod tests;
 mod text;
 
 pub use csv_target::CsvTarget;

@@ -1,37 +1,13 @@
-use crate::{Table, tables};
+use csv_migrate::tables;
 use csv_rows::read_rows;
 use decomp_text::{MOST_PLAN_BYTES, read_plan};
 use dep_model::WantMemory;
+use named_tables::Table;
 use schema_reader::{MOST_TEXT_BYTES, read_schema};
 use std::alloc::Global;
 use std::process::Abort;
 use std::test::Fail;
-
-const TIMETABLE: &str = "attributes COURSE TEACHER HOUR ROOM STUDENT GRADE
-COURSE -> TEACHER
-HOUR ROOM -> COURSE
-HOUR TEACHER -> ROOM
-COURSE STUDENT -> GRADE
-HOUR STUDENT -> ROOM
-COURSE ->> HOUR ROOM
-";
-
-const TIMETABLE_ROWS: &str = "COURSE,TEACHER,HOUR,ROOM,STUDENT,GRADE
-db,Ada,mon,r1,Max,1
-db,Ada,wed,r2,Max,1
-db,Ada,mon,r1,Eva,2
-db,Ada,wed,r2,Eva,2
-os,Bo,tue,r1,Max,2
-";
-
-const ADDRESS: &str = "attributes CITY STREET ZIP\nCITY STREET -> ZIP\nZIP -> CITY\n";
-
-const ADDRESS_ROWS: &str = "ZIP,CITY,STREET
-53111,\"Bonn, West\",Markt
-53111,\"Bonn, West\",Markt
-53115,Bonn,Allee
-53111,\"Bonn, West\",Hof
-";
+use test_data::{ADDRESS, TIMETABLE, TIMETABLE_PLAN, TIMETABLE_ROWS};
 
 // A table on one line: its name, its columns, and each row after a bar.
 fn line_of(alloc: Global, table: &Table) -> Result<Vec<u8>, WantMemory> {
@@ -78,24 +54,15 @@ fn check(rt: &(impl Alloc<A = Global> + Abort), case: Case) -> Result<(), Fail> 
 
 #[test]
 fn tables_of_rows(rt: HostRuntime) -> Result<(), Fail> {
-    let cases: [Case; 3] = [
+    let cases: [Case; 2] = [
         (
             TIMETABLE,
-            "scheme COURSE TEACHER\nscheme COURSE HOUR ROOM\nscheme COURSE STUDENT GRADE\n",
+            TIMETABLE_PLAN,
             TIMETABLE_ROWS,
             &[
                 "t1 COURSE TEACHER|<db<Ada|<os<Bo",
                 "t2 COURSE HOUR ROOM|<db<mon<r1|<db<wed<r2|<os<tue<r1",
                 "t3 COURSE STUDENT GRADE|<db<Max<1|<db<Eva<2|<os<Max<2",
-            ],
-        ),
-        (
-            ADDRESS,
-            "scheme CITY ZIP\nscheme STREET ZIP\n",
-            ADDRESS_ROWS,
-            &[
-                "t1 CITY ZIP|<Bonn, West<53111|<Bonn<53115",
-                "t2 STREET ZIP|<Markt<53111|<Allee<53115|<Hof<53111",
             ],
         ),
         (

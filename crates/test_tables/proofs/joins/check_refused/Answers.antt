@@ -3,7 +3,7 @@ use Rattle.std.specs.Prelude.{All}
 use Rattle.csv_rows.specs.declared.part.Part.{Part}
 use Rattle.dep_model.specs.Schemas.{width_of}
 use Rattle.table_join.specs.Tables.{IsTable, tables_of}
-use Rattle.table_join.proofs.tests.refusals.Goals as goal
+use Rattle.test_tables.proofs.joins.check_refused.Goals as goal
 
 pub join-requires-clause-tables : goal.join-requires-clause-tables
 join-requires-clause-tables g c =

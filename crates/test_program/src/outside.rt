@@ -1,6 +1,6 @@
 ghost use Rattle.std.specs.Prelude.{◌<◌};
 
-use super::*;
+use desk_outside::*;
 use std::alloc::Global;
 use std::fmt::Display;
 use std::test::Fail;

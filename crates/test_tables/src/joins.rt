@@ -2,30 +2,14 @@ ghost use Rattle.std.specs.Prelude.{All, IfOk};
 ghost use Rattle.dep_model.specs.Schemas.{width_of};
 ghost use Rattle.table_join.specs.Tables.{IsTable, tables_of};
 
-use crate::{JoinRefusal, join};
 use csv_rows::{Part, print_rows, read_part};
 use dep_model::Schema;
 use schema_reader::{MOST_TEXT_BYTES, read_schema};
 use std::alloc::Global;
 use std::process::Abort;
 use std::test::Fail;
-
-const TIMETABLE: &str = "attributes COURSE TEACHER HOUR ROOM STUDENT GRADE
-COURSE -> TEACHER
-HOUR ROOM -> COURSE
-HOUR TEACHER -> ROOM
-COURSE STUDENT -> GRADE
-HOUR STUDENT -> ROOM
-COURSE ->> HOUR ROOM
-";
-
-const TIMETABLE_ROWS: &str = "COURSE,TEACHER,HOUR,ROOM,STUDENT,GRADE
-db,Ada,mon,r1,Max,1
-db,Ada,wed,r2,Max,1
-db,Ada,mon,r1,Eva,2
-db,Ada,wed,r2,Eva,2
-os,Bo,tue,r1,Max,2
-";
+use table_join::{JoinRefusal, join};
+use test_data::{TIMETABLE, TIMETABLE_ROWS};
 
 // The part of each text.
 fn parts_of(alloc: Global, schema: &Schema, texts: &[&str]) -> Result<Vec<Part>, Fail>
@@ -130,10 +114,24 @@ fn joins_by_shared_attributes(rt: HostRuntime) -> Result<(), Fail> {
     Ok(())
 }
 
+// A schema, the texts of parts, the most rows, and the refusal of their join.
+type Refused<'a> = (&'a str, &'a [&'a str], u32, JoinRefusal);
+
+fn check_refused(rt: &(impl Alloc<A = Global> + Abort), case: Refused) -> Result<(), Fail> {
+    let (schema, texts, limit, want) = case;
+    let alloc = rt.alloc();
+    assert!(rt; schema.len() <= MOST_TEXT_BYTES);
+    let schema = read_schema(alloc, schema.as_bytes()).expect(rt, "a schema");
+    let parts = parts_of(alloc, &schema, texts)?;
+    assert!(rt; parts.len() < 10);
+    let refusal = join(alloc, &schema, &parts, limit).err();
+    assert_eq!(rt; refusal, Some(want));
+    Ok(())
+}
+
 #[test]
 fn refusals(rt: HostRuntime) -> Result<(), Fail> {
-    let alloc = rt.alloc();
-    let cases: [(&str, &[&str], u32, JoinRefusal); 7] = [
+    let cases: [Refused; 7] = [
         (
             "attributes A B\n",
             &["A\n1\n"],
@@ -179,14 +177,8 @@ fn refusals(rt: HostRuntime) -> Result<(), Fail> {
             JoinRefusal::TooManyRows { after: 1 },
         ),
     ];
-    for (schema, texts, limit, want) in cases {
-        let schema = read_schema(alloc, schema.as_bytes()).expect(&rt, "a schema");
-        let parts = parts_of(alloc, &schema, texts)?;
-        assert!(rt; parts.len() < 10);
-        match join(alloc, &schema, &parts, limit) {
-            Ok(_) => assert!(rt; false),
-            Err(refusal) => assert_eq!(rt; refusal, want),
-        }
+    for case in cases {
+        check_refused(&rt, case)?;
     }
     Ok(())
 }

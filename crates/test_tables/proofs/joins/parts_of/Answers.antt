@@ -5,7 +5,7 @@ use Rattle.std.proofs.lemmas.List.Elements.{All-nil, All-push}
 use Rattle.dep_model.specs.Schemas.{width_of}
 use Rattle.table_join.specs.Tables.{Table, IsTable, table_of_part, tables_of}
 use Rattle.table_join.proofs.PartLemmas.{part_is_table}
-use Rattle.table_join.proofs.tests.parts_of.Goals as goal
+use Rattle.test_tables.proofs.joins.parts_of.Goals as goal
 
 pub loop-text-init : goal.loop-text-init
 loop-text-init c = record {

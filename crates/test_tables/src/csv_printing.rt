@@ -2,9 +2,10 @@ ghost use Rattle.std.specs.Prelude.{◌≡◌, false, IfOk, length};
 ghost use Rattle.dep_model.specs.Names.{same_name};
 ghost use Rattle.dep_model.specs.Schemas.{width_of};
 
-use crate::print_rows;
+use csv_rows::print_rows;
 use dep_model::{Name, Row, Schema, Value, WantMemory};
 use std::alloc::Global;
+use std::process::Abort;
 use std::test::Fail;
 
 // A schema of two attributes.
@@ -40,13 +41,22 @@ fn single(alloc: Global, value: &[u8]) -> Result<Row, WantMemory>
     Ok(Row::make(values))
 }
 
-#[test]
-fn quotes_where_they_are_needed(rt: HostRuntime) -> Result<(), Fail> {
+// The text of a row of two values.
+fn check(rt: &(impl Alloc<A = Global> + Abort), case: (&str, &str, &str)) -> Result<(), Fail> {
+    let (one, other, want) = case;
     let alloc = rt.alloc();
-    let first = Name::make(b"Zip").expect(&rt, "a name");
-    let second = Name::make(b"City").expect(&rt, "a name");
+    let first = Name::make(b"Zip").expect(rt, "a name");
+    let second = Name::make(b"City").expect(rt, "a name");
     assert!(rt; !first.same(&second));
     let schema = two_attributes(alloc, first, second)?;
+    let row = pair(alloc, one.as_bytes(), other.as_bytes())?;
+    let text = print_rows(alloc, &schema, &[row])?;
+    assert_eq!(rt; text.as_slice(), want.as_bytes());
+    Ok(())
+}
+
+#[test]
+fn quotes_where_they_are_needed(rt: HostRuntime) -> Result<(), Fail> {
     let cases = [
         ("53111", "Bonn", "Zip,City\n53111,Bonn\n"),
         ("53111", "Bonn, West", "Zip,City\n53111,\"Bonn, West\"\n"),
@@ -59,10 +69,8 @@ fn quotes_where_they_are_needed(rt: HostRuntime) -> Result<(), Fail> {
         ("", "", "Zip,City\n,\n"),
         (" a ", "#b'", "Zip,City\n a ,#b'\n"),
     ];
-    for (one, other, want) in cases {
-        let row = pair(alloc, one.as_bytes(), other.as_bytes())?;
-        let text = print_rows(alloc, &schema, &[row])?;
-        assert_eq!(rt; text.as_slice(), want.as_bytes());
+    for case in cases {
+        check(&rt, case)?;
     }
     Ok(())
 }

@@ -1,6 +1,7 @@
-use crate::{sample_rows, sample_schema};
 use attr_sets::AttrSet;
-use dep_model::{Column, Dep};
+use dep_model::{Column, Dep, Row, WantMemory};
+use sample::{sample_rows, sample_schema};
+use std::process::Abort;
 use std::test::Fail;
 
 #[test]
@@ -28,6 +29,19 @@ fn the_schema(rt: HostRuntime) -> Result<(), Fail> {
     Ok(())
 }
 
+// The values of a row.
+fn check(rt: &impl Abort, row: Option<&Row>, values: [&[u8]; 4]) -> Result<(), Fail> {
+    let Some(row) = row else {
+        return Err(Fail::from(WantMemory));
+    };
+    assert!(rt; row.len() == 4);
+    for (i, value) in values.iter().enumerate() {
+        assert!(rt; i < row.len());
+        assert_eq!(rt; row.value(i).bytes(), *value);
+    }
+    Ok(())
+}
+
 #[test]
 fn the_rows(rt: HostRuntime) -> Result<(), Fail> {
     let alloc = rt.alloc();
@@ -45,16 +59,7 @@ fn the_rows(rt: HostRuntime) -> Result<(), Fail> {
         (99_999, [b"p24999", b"c99", b"s48", b"l14"]),
     ];
     for (place, values) in cases {
-        match rows.as_slice().get(place) {
-            Some(row) => {
-                assert_eq!(rt; row.len(), 4);
-                for i in 0..4usize {
-                    assert!(rt; i < row.len());
-                    assert_eq!(rt; row.value(i).bytes(), values[i]);
-                }
-            }
-            None => assert!(rt; false),
-        }
+        check(&rt, rows.get(place), values)?;
     }
     Ok(())
 }

@@ -1,10 +1,10 @@
 ghost use Rattle.std.specs.Prelude.{◌≡◌, length, IfOk};
 
-use crate::{CsvTarget, MemoryTarget, SqlTarget, Target, TargetFault};
 use dep_model::{Name, Row, Value, WantMemory};
 use desk_outside::{HeldFile, MemoryFolder};
 use std::alloc::Global;
 use std::test::Fail;
+use targets::{CsvTarget, MemoryTarget, SqlTarget, Target, TargetFault};
 
 fn single(alloc: Global, value: &[u8]) -> Result<Row, WantMemory>
     ensures { IfOk result (λ row. length row ≡ 1) }

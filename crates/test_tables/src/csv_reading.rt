@@ -1,11 +1,42 @@
-use crate::{RowRefusal, print_rows, read_part, read_rows};
-use schema_reader::read_schema;
+use csv_rows::{RowRefusal, print_rows, read_part, read_rows};
+use schema_reader::{MOST_TEXT_BYTES, read_schema};
+use std::alloc::Global;
+use std::process::Abort;
 use std::test::Fail;
+
+const ZIP_CITY: &str = "attributes ZIP CITY\n";
+
+// The text of the rows that a text means, and of those that this text means.
+fn check_printed(rt: &(impl Alloc<A = Global> + Abort), case: (&str, &str)) -> Result<(), Fail> {
+    let (text, want) = case;
+    let alloc = rt.alloc();
+    let schema = read_schema(alloc, ZIP_CITY.as_bytes()).expect(rt, "a schema");
+    let rows = read_rows(alloc, &schema, text.as_bytes()).expect(rt, "rows");
+    let printed = print_rows(alloc, &schema, &rows)?;
+    assert_eq!(rt; printed.as_slice(), want.as_bytes());
+    let again = read_rows(alloc, &schema, &printed).expect(rt, "rows");
+    let reprinted = print_rows(alloc, &schema, &again)?;
+    assert_eq!(rt; reprinted.as_slice(), want.as_bytes());
+    Ok(())
+}
+
+// The refusal of a text over a schema, if it is refused.
+fn check(
+    rt: &(impl Alloc<A = Global> + Abort),
+    schema: &str,
+    case: (&str, Option<RowRefusal>),
+) -> Result<(), Fail> {
+    let (text, want) = case;
+    let alloc = rt.alloc();
+    assert!(rt; schema.len() <= MOST_TEXT_BYTES);
+    let schema = read_schema(alloc, schema.as_bytes()).expect(rt, "a schema");
+    let refusal = read_rows(alloc, &schema, text.as_bytes()).err();
+    assert_eq!(rt; refusal, want, "{text}");
+    Ok(())
+}
 
 #[test]
 fn rows_in_the_order_of_the_schema(rt: HostRuntime) -> Result<(), Fail> {
-    let alloc = rt.alloc();
-    let schema = read_schema(alloc, b"attributes ZIP CITY").expect(&rt, "a schema");
     let cases = [
         ("ZIP,CITY\n53111,Bonn\n", "ZIP,CITY\n53111,Bonn\n"),
         ("city,Zip\r\nBonn,53111\r\n", "ZIP,CITY\n53111,Bonn\n"),
@@ -19,21 +50,14 @@ fn rows_in_the_order_of_the_schema(rt: HostRuntime) -> Result<(), Fail> {
         ("ZIP,CITY\n", "ZIP,CITY\n"),
         ("\"ZIP\",CITY", "ZIP,CITY\n"),
     ];
-    for (text, want) in cases {
-        let rows = read_rows(alloc, &schema, text.as_bytes()).expect(&rt, "rows");
-        let printed = print_rows(alloc, &schema, &rows)?;
-        assert_eq!(rt; printed.as_slice(), want.as_bytes());
-        let again = read_rows(alloc, &schema, &printed).expect(&rt, "rows");
-        let reprinted = print_rows(alloc, &schema, &again)?;
-        assert_eq!(rt; reprinted.as_slice(), want.as_bytes());
+    for case in cases {
+        check_printed(&rt, case)?;
     }
     Ok(())
 }
 
 #[test]
 fn refusals_in_their_order(rt: HostRuntime) -> Result<(), Fail> {
-    let alloc = rt.alloc();
-    let schema = read_schema(alloc, b"attributes ZIP CITY").expect(&rt, "a schema");
     let cases = [
         ("", RowRefusal::NoHeader),
         ("\n\r\n", RowRefusal::NoHeader),
@@ -50,20 +74,14 @@ fn refusals_in_their_order(rt: HostRuntime) -> Result<(), Fail> {
         ("ZIP,CITY\n1,2,3\n", RowRefusal::UnevenRow { row: 1 }),
     ];
     for (text, want) in cases {
-        match read_rows(alloc, &schema, text.as_bytes()) {
-            Err(refusal) => assert_eq!(rt; refusal, want),
-            Ok(_) => assert!(rt; false),
-        }
+        check(&rt, ZIP_CITY, (text, Some(want)))?;
     }
     Ok(())
 }
 
 #[test]
 fn integers_in_integer_columns(rt: HostRuntime) -> Result<(), Fail> {
-    let alloc = rt.alloc();
-    let schema = read_schema(alloc, b"version 2\ninteger ID\ntext NAME\ninteger AGE\n").expect(
-        &rt, "a schema",
-    );
+    let schema = "version 2\ninteger ID\ntext NAME\ninteger AGE\n";
     let cases = [
         ("NAME,ID,AGE\nAnn,7,0\nBo,-9223372036854775808,1\n", None),
         (
@@ -92,11 +110,8 @@ fn integers_in_integer_columns(rt: HostRuntime) -> Result<(), Fail> {
             Some(RowRefusal::UnevenRow { row: 1 }),
         ),
     ];
-    for (text, want) in cases {
-        match read_rows(alloc, &schema, text.as_bytes()) {
-            Err(refusal) => assert!(rt; want == Some(refusal)),
-            Ok(_) => assert!(rt; want == None),
-        }
+    for case in cases {
+        check(&rt, schema, case)?;
     }
     Ok(())
 }

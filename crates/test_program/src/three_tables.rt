@@ -1,0 +1,50 @@
+ghost use Rattle.std.specs.Prelude.{◌≡◌, length, IfOk};
+ghost use Rattle.dep_model.specs.Tuples.{IsOver};
+
+use attr_sets::AttrSet;
+use dep_model::{Name, Row, Value, WantMemory};
+use named_tables::Table;
+use std::alloc::Global;
+
+// A row of one value.
+pub(crate) fn single(alloc: Global, value: &[u8]) -> Result<Row, WantMemory>
+    ensures { IfOk result (λ row. length row ≡ 1) }
+{
+    let mut values = Vec::new(alloc);
+    values.push(Value::make(alloc, value)?)?;
+    Ok(Row::make(values))
+}
+
+fn table(alloc: Global, name: &[u8], rows: Vec<Row>) -> Result<Table, WantMemory>
+    requires { IsOver 1 rows.items }
+{
+    let (Some(name), Some(column)) = (Name::make(name), Name::make(b"A")) else {
+        return Err(WantMemory);
+    };
+    Ok(Table {
+        name,
+        scheme: AttrSet::single(0),
+        columns: Vec::from_slice(alloc, &[column])?,
+        rows,
+    })
+}
+
+// Three tables of one column, with two, three and three rows.
+pub(crate) fn three_tables(alloc: Global) -> Result<Vec<Table>, WantMemory> {
+    let mut tables = Vec::new(alloc);
+    let first = vec![in alloc; single(alloc, b"x")?, single(alloc, b"O'Hara")?]?;
+    tables.push(table(alloc, b"t1", first)?)?;
+    let second = vec![in alloc;
+        single(alloc, b"")?,
+        single(alloc, b"a,b")?,
+        single(alloc, b"\xff")?,
+    ]?;
+    tables.push(table(alloc, b"t2", second)?)?;
+    let third = vec![in alloc;
+        single(alloc, b"1")?,
+        single(alloc, b"2")?,
+        single(alloc, b"3\0")?,
+    ]?;
+    tables.push(table(alloc, b"t3", third)?)?;
+    Ok(tables)
+}
