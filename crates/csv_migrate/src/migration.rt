@@ -10,11 +10,11 @@ ghost use Rattle.dep_model.specs.Schemas.{LegalFor, theory_of, width_of};
 ghost use Rattle.dep_model.specs.Tuples.{IsOver};
 
 use crate::projecting::projected;
-use named_tables::Table;
 use attr_sets::AttrSet;
 use csv_rows::{Groups, Interned};
-use plans::Plan;
 use dep_model::{Name, Row, Schema, WantMemory};
+use named_tables::Table;
+use plans::Plan;
 use std::alloc::Global;
 use table_names::{MOST_TABLES, table_name};
 

@@ -10,10 +10,10 @@ use crate::join::test_loss;
 use crate::plan::open_plan;
 use crate::reply::{Reply, Stop};
 use ddl_text::{DesignList, design, print_ddl};
-use plans::Plan;
 use dep_model::{Schema, WantMemory};
 use desk_outside::{Shelf, Word};
 use form_tests::Form;
+use plans::Plan;
 use std::alloc::Global;
 use table_names::MOST_TABLES;
 

@@ -9,10 +9,10 @@ use crate::decomposition::plan_in_form;
 use crate::designs::designed;
 use crate::plan::open_plan;
 use crate::reply::{Reply, Stop};
-use plans::Plan;
 use dep_model::{Schema, WantMemory};
 use desk_outside::{Shelf, Word};
 use form_tests::Form;
+use plans::Plan;
 use std::alloc::Global;
 use table_drawing::draw;
 

@@ -10,11 +10,11 @@ ghost use Rattle.desk_cli.specs.Texts.{line};
 
 use crate::Status;
 use crate::reply::Reply;
-use table_writing::{FeedEnd, feed_list};
-use named_tables::Table;
 use dep_model::WantMemory;
 use itoa::Buffer;
+use named_tables::Table;
 use std::alloc::Global;
+use table_writing::{FeedEnd, feed_list};
 use targets::Target;
 
 // The most bytes of the line for a target that failed.

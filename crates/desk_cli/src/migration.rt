@@ -20,12 +20,12 @@ use crate::reply::{Reply, Stop};
 use crate::rows::open_rows;
 use crate::text::{line_of, put};
 use csv_migrate::tables;
-use named_tables::Table;
-use plans::Plan;
 use dep_model::{Name, Row, Schema, WantMemory};
 use desk_outside::{Shelf, Word};
 use form_tests::Form;
 use itoa::Buffer;
+use named_tables::Table;
+use plans::Plan;
 use std::alloc::Global;
 use table_names::MOST_TABLES;
 

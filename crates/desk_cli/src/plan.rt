@@ -16,9 +16,9 @@ use crate::reply::Stop;
 use crate::row_refusals::name_of;
 use crate::text::{put, put_number};
 use decomp_text::{MOST_PLAN_BYTES, PlanRefusal, read_plan};
-use plans::Plan;
 use dep_model::{Schema, WantMemory};
 use desk_outside::{Shelf, Word};
+use plans::Plan;
 use schema_reader::SchemaRefusal;
 use std::alloc::Global;
 

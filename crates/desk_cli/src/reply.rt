@@ -2,8 +2,8 @@ ghost use Rattle.std.specs.Prelude.{◌≡◌, IsSome};
 ghost use Rattle.desk_cli.specs.declared.status.Status.TheVariants.{Yes};
 
 use crate::Status;
-use named_tables::Table;
 use dep_model::WantMemory;
+use named_tables::Table;
 
 /// A status, the text that goes with it, and tables for the targets, which only yes has.
 #[derive(Debug, Drop)]

@@ -13,10 +13,10 @@ use crate::join::test_loss;
 use crate::plan::open_plan;
 use crate::reply::{Reply, Stop};
 use crate::text::line_of;
-use plans::Plan;
 use dep_model::{Schema, WantMemory};
 use desk_outside::{Shelf, Word};
 use form_tests::Form;
+use plans::Plan;
 use std::alloc::Global;
 use table_scripts::{check_script, is_table_name, migrate_script};
 

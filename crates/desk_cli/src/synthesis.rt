@@ -5,8 +5,8 @@ ghost use Rattle.desk_cli.specs.Synthesis.{Synthesizes};
 use crate::Status;
 use crate::decomposition::third_form_plan;
 use crate::reply::{Reply, Stop};
-use plans::print_plan;
 use dep_model::{Schema, WantMemory};
+use plans::print_plan;
 use std::alloc::Global;
 
 /// A plan in third normal form that loses nothing and keeps the functional dependencies.

@@ -4,8 +4,8 @@ ghost use Rattle.named_tables.specs.Tables.{table_value, table_values};
 ghost use Rattle.table_writing.specs.Feeding.{HasAll, FedTarget, AtEachPlace};
 
 use crate::end::FeedEnd;
-use named_tables::Table;
 use dep_model::WantMemory;
+use named_tables::Table;
 use std::alloc::Global;
 use targets::{Target, TargetFault};
 
