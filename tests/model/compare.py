@@ -1,10 +1,11 @@
-#!/usr/bin/env python3.11
+#!/usr/bin/env python3
 """Compares a built program with the model on random inputs.
 
     compare.py PROGRAM FAMILY COUNT [SEED]
 
 FAMILY is one of those listed at the end of this file, or `all`. COUNT random cases are made; the first three
-differences are printed, and their files kept in a folder of their own. The last line is `N same, N differ`, and how
+differences are printed, and their files kept in a folder of their own. A case with a word that is not UTF-8 is left
+out: the program refuses such words, and the model reads them. The last line is `N same, N differ, N left out`, and how
 often each status came. DESK_KEEP=DIR keeps the files elsewhere. Runs one program at a time.
 """
 import collections
@@ -538,15 +539,27 @@ def difference(program, words, files):
     return wrong, want.status, done
 
 
+def is_text(word):
+    """Whether a word of the command line is UTF-8."""
+    try:
+        os.fsencode(word).decode()
+    except UnicodeDecodeError:
+        return False
+    return True
+
+
 def main():
     program, family, count = os.path.abspath(sys.argv[1]), sys.argv[2], int(sys.argv[3])
     seed = int(sys.argv[4]) if sys.argv[4:] else 1
-    same = differ = 0
+    same = differ = left_out = 0
     statuses = collections.Counter()
     for name in FAMILIES if family == "all" else [family]:
         for k in range(count):
             maker = Maker(random.Random(f"{name} {seed} {k}"))
             words, files = FAMILIES[name](maker)
+            if not all(map(is_text, words)):
+                left_out += 1
+                continue
             wrong, status, done = difference(program, words, files)
             statuses[status] += 1
             if not wrong:
@@ -564,7 +577,7 @@ def main():
                     print(f"   {n}: {data[:500]!r}")
                 for w in wrong:
                     print("   " + w)
-    print(f"{same} same, {differ} differ; statuses {dict(sorted(statuses.items()))}")
+    print(f"{same} same, {differ} differ, {left_out} left out; statuses {dict(sorted(statuses.items()))}")
     return 1 if differ else 0
 
 
