@@ -21,7 +21,7 @@ pub fn print_schema(alloc: Global, schema: &Schema) -> Result<Vec<u8>, WantMemor
 }
 
 /// The lines that declare the schema's attributes, and a line for each of these dependencies.
-#[tactic(auto, unfolding(schema_printer::specs::Printing::declared_text))]
+#[tactic(auto, unfolding(crate::specs::Printing::declared_text))]
 pub fn print_deps(alloc: Global, schema: &Schema, deps: &[Dep]) -> Result<Vec<u8>, WantMemory>
     requires { All (IsDepWithin (universe_of schema.now)) deps.now }
     ensures text { IfOk result
@@ -75,7 +75,7 @@ pub fn add_number(text: &mut Vec<u8>, alloc: Global, number: u32) -> Result<(), 
 }
 
 /// Adds a dependency to a text, without a line end.
-#[tactic(auto, unfolding(schema_printer::specs::Printing::dependency_text))]
+#[tactic(auto, unfolding(crate::specs::Printing::dependency_text))]
 pub fn add_dep(text: &mut Vec<u8>, schema: &Schema, dep: Dep) -> Result<(), WantMemory>
     ensures added { OnOk result (text.new.items
         ≡ text.old.items ++ dependency_text (names_of schema.now) (dependency_of dep)) }
@@ -128,7 +128,7 @@ fn add_member(text: &mut Vec<u8>, some: bool, name: &[u8]) -> Result<(), WantMem
     add(text, name)
 }
 
-#[tactic(auto, unfolding(schema_printer::specs::Printing::declaring_lines))]
+#[tactic(auto, unfolding(crate::specs::Printing::declaring_lines))]
 fn add_declarations(text: &mut Vec<u8>, schema: &Schema) -> Result<(), WantMemory>
     ensures added { OnOk result (text.new.items
         ≡ text.old.items ++ lines_text (declaring_lines (columns_of schema.now) (names_of schema.now))) }
