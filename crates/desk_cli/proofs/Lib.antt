@@ -4,7 +4,6 @@ pub mod RowLemmas
 pub mod HeadedLemmas
 pub mod SplitLemmas
 pub mod RuleLemmas
-pub mod NumberLemmas
 pub mod MigrationLemmas
 pub mod LossLemmas
 pub mod PartLemmas

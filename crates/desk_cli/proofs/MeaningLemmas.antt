@@ -24,7 +24,7 @@ use Rattle.plan_grammar.specs.declared.refusal.PlanRefusal.TheVariants as plan
 use Rattle.desk_cli.specs.declared.reply.Stop.{Stop}
 use Rattle.desk_cli.specs.Inputs.{SchemaStops, ProofStops, wants_memory, TellsRefusal, TellsProof}
 use Rattle.desk_cli.specs.Plans.{PlanStops, TellsPlan, is_want}
-use Rattle.desk_cli.specs.ProofTexts.{OfComplaint}
+use Rattle.desk_texts.specs.ProofTexts.{OfComplaint}
 use Rattle.desk_cli.specs.Readings.{Reading, IsContent}
 use Rattle.desk_cli.specs.Replies.{StopsAs}
 

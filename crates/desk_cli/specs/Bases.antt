@@ -12,7 +12,7 @@ use Rattle.dep_model.specs.declared.schema.Schema.{Schema}
 use Rattle.desk_cli.specs.declared.status.Status.TheVariants.{Yes}
 use Rattle.desk_cli.specs.Answers.{Allowed, Says}
 use Rattle.desk_cli.specs.Inputs.{WithSet}
-use Rattle.desk_cli.specs.Texts.{set_line}
+use Rattle.desk_texts.specs.Texts.{set_line}
 
 -- ---- texts
 -- a line for each block

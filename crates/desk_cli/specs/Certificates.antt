@@ -8,7 +8,7 @@ use Rattle.derivation.specs.Trees.{Tree}
 use Rattle.desk_cli.specs.declared.status.Status.TheVariants.{Yes, No}
 use Rattle.desk_cli.specs.Answers.{Allowed, Says}
 use Rattle.desk_cli.specs.Inputs.{WithGoal, WithProof}
-use Rattle.desk_cli.specs.ProofTexts.{checked_text, concludes_text}
+use Rattle.desk_texts.specs.ProofTexts.{checked_text, concludes_text}
 use Rattle.desk_cli.specs.Readings.{Reading}
 
 -- yes exactly where the certificate concludes the goal; else no, with both

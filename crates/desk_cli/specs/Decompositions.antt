@@ -19,7 +19,7 @@ use Rattle.desk_cli.specs.declared.status.Status.TheVariants.{Yes, Refused}
 use Rattle.desk_cli.specs.Answers.{Allowed, Says, With}
 use Rattle.desk_cli.specs.Keys.{too_wide_text}
 use Rattle.desk_cli.specs.Synthesis.{IsThirdFormPlan}
-use Rattle.desk_cli.specs.Texts.{line}
+use Rattle.desk_texts.specs.Texts.{line}
 
 -- ---- texts
 abbrev pub too_many_schemes_text : List ℕ

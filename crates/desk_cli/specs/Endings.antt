@@ -11,7 +11,7 @@ use Rattle.table_writing.specs.Feeding.{AtEachPlace, FedTarget, HasAll}
 use Rattle.desk_cli.specs.declared.status.Status.{Status}
 use Rattle.desk_cli.specs.declared.status.Status.TheVariants.{Yes, TargetFailed}
 use Rattle.desk_cli.specs.Answers.{Answer, Allowed}
-use Rattle.desk_cli.specs.Texts.{line}
+use Rattle.desk_texts.specs.Texts.{line}
 
 -- a status and the text that is written
 pub record Ending : Type 0 where

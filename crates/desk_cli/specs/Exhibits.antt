@@ -12,7 +12,7 @@ use Rattle.desk_cli.specs.declared.status.Status.TheVariants.{Yes, Refused}
 use Rattle.desk_cli.specs.Answers.{Allowed, Says}
 use Rattle.desk_cli.specs.Keys.{too_wide_text}
 use Rattle.desk_cli.specs.Legality.{line_number_text}
-use Rattle.desk_cli.specs.Texts.{line}
+use Rattle.desk_texts.specs.Texts.{line}
 
 -- a multivalued dependency is given
 abbrev pub multivalued_text : Schema → ℕ → List ℕ

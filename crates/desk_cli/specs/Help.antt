@@ -1,6 +1,6 @@
 -- What the program tells of itself.
 use Rattle.std.specs.Prelude.{ℕ, List, ◌++◌, codes}
-use Rattle.desk_cli.specs.Texts.{line}
+use Rattle.desk_texts.specs.Texts.{line}
 
 abbrev pub version_text : List ℕ
 version_text = line (codes "desk 0.1.0")

@@ -14,7 +14,7 @@ use Rattle.proof_grammar.specs.Printing.{canonical_certificate}
 use Rattle.desk_cli.specs.declared.status.Status.TheVariants.{Yes, No}
 use Rattle.desk_cli.specs.Answers.{Allowed, Says}
 use Rattle.desk_cli.specs.Inputs.{WithGoal}
-use Rattle.desk_cli.specs.Texts.{yes_text, no_text}
+use Rattle.desk_texts.specs.Texts.{yes_text, no_text}
 
 -- yes exactly where every relation that obeys the schema's dependencies obeys the goal, with a derivation
 -- of the goal, which is the functional chain where the functional part alone implies it; else no, with two

@@ -23,9 +23,9 @@ use Rattle.proof_grammar.specs.Spelling.{SpellsWithin}
 use Rattle.proof_grammar.specs.Refusals.{IsRefusedCertificate}
 use Rattle.desk_cli.specs.declared.status.Status.TheVariants.{Refused, CannotRead}
 use Rattle.desk_cli.specs.Answers.{Allowed, Says, With}
-use Rattle.desk_cli.specs.ProofTexts.{proof_refusal_text}
+use Rattle.desk_texts.specs.ProofTexts.{proof_refusal_text}
 use Rattle.desk_cli.specs.Readings.{Reading, CannotBeRead, IsTooLong, IsContent}
-use Rattle.desk_cli.specs.Texts.{cannot_read_text, too_long_text, goal_too_long_text, set_too_long_text, refusal_text, goal_refusal_text, set_refusal_text}
+use Rattle.desk_texts.specs.Texts.{cannot_read_text, too_long_text, goal_too_long_text, set_too_long_text, refusal_text, goal_refusal_text, set_refusal_text}
 
 -- how the reading of a file of at most so many bytes ends a command
 abbrev pub FileStops : Reading → List ℕ → ℕ → Allowed

@@ -15,7 +15,7 @@ use Rattle.desk_cli.specs.declared.status.Status.TheVariants.{Yes, No, Refused}
 use Rattle.desk_cli.specs.Answers.{Allowed, Says, Unless}
 use Rattle.desk_cli.specs.Plans.{WithPlan}
 use Rattle.desk_cli.specs.Readings.{Reading}
-use Rattle.desk_cli.specs.Texts.{line}
+use Rattle.desk_texts.specs.Texts.{line}
 
 -- ---- texts
 abbrev pub lossless_text : List ℕ

@@ -14,7 +14,7 @@ use Rattle.desk_cli.specs.declared.status.Status.TheVariants.{Yes, Refused}
 use Rattle.desk_cli.specs.Answers.{Allowed, Says}
 use Rattle.desk_cli.specs.Plans.{IsFirstFailing, WithPlan}
 use Rattle.desk_cli.specs.Readings.{Reading}
-use Rattle.desk_cli.specs.Texts.{line, set_line}
+use Rattle.desk_texts.specs.Texts.{line, set_line}
 
 -- a line for each set
 abbrev pub sets_text : List (List ℕ) → List AttrSet → List ℕ

@@ -14,7 +14,7 @@ use Rattle.desk_cli.specs.declared.status.Status.TheVariants.{Yes, No}
 use Rattle.desk_cli.specs.Answers.{Allowed, Says, Unless}
 use Rattle.desk_cli.specs.Readings.{Reading}
 use Rattle.desk_cli.specs.Rows.{WithRows}
-use Rattle.desk_cli.specs.Texts.{line}
+use Rattle.desk_texts.specs.Texts.{line}
 
 abbrev pub legal_text : List ℕ
 legal_text = line (codes "legal")

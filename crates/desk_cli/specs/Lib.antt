@@ -1,6 +1,4 @@
 pub mod Answers
-pub mod Texts
-pub mod ProofTexts
 pub mod Readings
 pub mod Inputs
 pub mod Implication
@@ -8,8 +6,6 @@ pub mod Certificates
 pub mod Rows
 pub mod Legality
 pub mod Help
-pub mod Numbers
-pub mod Forms
 pub mod Covering
 pub mod Bases
 pub mod Sameness
@@ -28,7 +24,6 @@ pub mod Exhibits
 pub mod Discoveries
 pub mod Rejoining
 pub mod Performs
-pub mod Commands
 pub mod Replies
 pub mod Endings
 pub mod Desk

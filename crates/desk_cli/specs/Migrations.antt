@@ -20,7 +20,7 @@ use Rattle.desk_cli.specs.Legality.{WithLegal}
 use Rattle.desk_cli.specs.Plans.{WithPlan}
 use Rattle.desk_cli.specs.Readings.{Reading}
 use Rattle.desk_cli.specs.Rows.{WithRows}
-use Rattle.desk_cli.specs.Texts.{line}
+use Rattle.desk_texts.specs.Texts.{line}
 
 -- ---- texts
 -- a table: its name, how many rows it has, and its columns

@@ -13,7 +13,7 @@ use Rattle.desk_cli.specs.Answers.{Allowed, Says}
 use Rattle.desk_cli.specs.Keys.{too_wide_text}
 use Rattle.desk_cli.specs.Plans.{IsFirstFailing, WithPlan}
 use Rattle.desk_cli.specs.Readings.{Reading}
-use Rattle.desk_cli.specs.Texts.{line}
+use Rattle.desk_texts.specs.Texts.{line}
 
 -- ---- texts
 -- the word of a normal form

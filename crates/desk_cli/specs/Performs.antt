@@ -11,8 +11,8 @@ use Rattle.desk_cli.specs.Designs.{WritesForm, WritesPlan}
 use Rattle.desk_cli.specs.Discoveries.{Discovers}
 use Rattle.desk_cli.specs.Drawings.{DrawsForm, DrawsPlan}
 use Rattle.desk_cli.specs.Exhibits.{Exhibits}
-use Rattle.desk_cli.specs.Forms as form
-use Rattle.desk_cli.specs.Forms.{CommandForm, Task, form_of}
+use Rattle.desk_words.specs.Forms as form
+use Rattle.desk_words.specs.Forms.{CommandForm, Task, form_of}
 use Rattle.desk_cli.specs.Help.{help_text, version_text}
 use Rattle.desk_cli.specs.Implication.{DecidesGoal}
 use Rattle.desk_cli.specs.Inputs.{WithSchema}
@@ -27,7 +27,7 @@ use Rattle.desk_cli.specs.Rejoining.{Rejoins}
 use Rattle.desk_cli.specs.Sameness.{ChecksSame}
 use Rattle.desk_cli.specs.Scripts.{ScriptsCheck, ScriptsMigration, ScriptsMigrationByPlan}
 use Rattle.desk_cli.specs.Synthesis.{Synthesizes}
-use Rattle.desk_cli.specs.Texts.{unknown_words_text}
+use Rattle.desk_texts.specs.Texts.{unknown_words_text}
 
 -- what is asked of a schema
 unfoldable pub Does : Reading → Schema → Task → Allowed

@@ -14,7 +14,7 @@ use Rattle.desk_cli.specs.declared.status.Status.TheVariants.{Refused}
 use Rattle.desk_cli.specs.Answers.{Allowed, Says, With}
 use Rattle.desk_cli.specs.Inputs.{FileStops}
 use Rattle.desk_cli.specs.Readings.{Reading, IsContent}
-use Rattle.desk_cli.specs.Texts.{line, kind_text}
+use Rattle.desk_texts.specs.Texts.{line, kind_text}
 
 -- ---- texts
 -- the place of a refusal and its reason in words, over the names of the attributes; want of memory has none

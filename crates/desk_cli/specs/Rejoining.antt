@@ -21,7 +21,7 @@ use Rattle.desk_cli.specs.Answers.{Allowed, Says, With}
 use Rattle.desk_cli.specs.Inputs.{FileStops}
 use Rattle.desk_cli.specs.Readings.{Reading, IsContent}
 use Rattle.desk_cli.specs.Rows.{name_at, row_refusal_text}
-use Rattle.desk_cli.specs.Texts.{line}
+use Rattle.desk_texts.specs.Texts.{line}
 
 -- ---- texts
 abbrev pub not_covered_text : List (List ℕ) → ℕ → List ℕ

@@ -12,7 +12,7 @@ use Rattle.desk_cli.specs.declared.status.Status.TheVariants.{Refused}
 use Rattle.desk_cli.specs.Answers.{Allowed, Says, With}
 use Rattle.desk_cli.specs.Inputs.{FileStops}
 use Rattle.desk_cli.specs.Readings.{Reading, IsContent}
-use Rattle.desk_cli.specs.Texts.{line}
+use Rattle.desk_texts.specs.Texts.{line}
 
 -- ---- texts
 -- the number of a refusal; want of memory has none

@@ -12,7 +12,7 @@ use Rattle.desk_cli.specs.Answers.{Allowed, Says, Unless}
 use Rattle.desk_cli.specs.Inputs.{WithSchema}
 use Rattle.desk_cli.specs.Legality.{line_number_text, dep_text}
 use Rattle.desk_cli.specs.Readings.{Reading}
-use Rattle.desk_cli.specs.Texts.{line}
+use Rattle.desk_texts.specs.Texts.{line}
 
 -- ---- texts
 -- a name that the other file does not declare

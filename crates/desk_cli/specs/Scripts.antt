@@ -18,7 +18,7 @@ use Rattle.desk_cli.specs.Designs.{IsSoundDesign}
 use Rattle.desk_cli.specs.Joins.{WithoutLoss}
 use Rattle.desk_cli.specs.Plans.{WithPlan}
 use Rattle.desk_cli.specs.Readings.{Reading}
-use Rattle.desk_cli.specs.Texts.{line}
+use Rattle.desk_texts.specs.Texts.{line}
 
 -- ---- names
 abbrev pub bad_name_text : List ℕ

@@ -10,11 +10,11 @@ use crate::Status;
 use crate::check_rows::put_line;
 use crate::keys::too_wide;
 use crate::reply::{Reply, Stop};
-use crate::text::put;
 use armstrong_rel::{ExhibitRefusal, exhibit};
 use attr_sets::AttrSet;
 use csv_rows::print_rows;
 use dep_model::{Row, Schema, WantMemory};
+use desk_texts::put;
 use std::alloc::Global;
 
 /// A relation that obeys just the functional dependencies that follow from a schema.

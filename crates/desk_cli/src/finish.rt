@@ -6,7 +6,7 @@ ghost use Rattle.desk_cli.specs.Answers.{gives};
 ghost use Rattle.desk_cli.specs.declared.finish.TheConstants.{LINE};
 ghost use Rattle.desk_cli.specs.Endings.{targets_in_call, is_done, wanted_memory, end_text, failures_text, reported, FeedsTargets, Settles, LeavesTargets};
 ghost use Rattle.desk_cli.specs.Replies.{answer_of, ending_of};
-ghost use Rattle.desk_cli.specs.Texts.{line};
+ghost use Rattle.desk_texts.specs.Texts.{line};
 
 use crate::Status;
 use crate::reply::Reply;

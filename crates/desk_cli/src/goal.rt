@@ -7,9 +7,9 @@ ghost use Rattle.desk_cli.specs.Replies.{StopsAs};
 use crate::Status;
 use crate::read::refused;
 use crate::reply::Stop;
-use crate::text::line_of;
 use dep_model::{Dep, Schema};
 use desk_outside::Word;
+use desk_texts::line_of;
 use schema_reader::{MOST_GOAL_BYTES, read_goal};
 use std::alloc::Global;
 

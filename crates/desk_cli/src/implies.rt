@@ -10,18 +10,18 @@ ghost use Rattle.proof_grammar.specs.Printing.{canonical_certificate, IsProof};
 ghost use Rattle.desk_cli.specs.Answers.{Says};
 ghost use Rattle.desk_cli.specs.Implication.{Decided, DecidesGoal};
 ghost use Rattle.desk_cli.specs.Replies.{answer_of, RepliesAs};
-ghost use Rattle.desk_cli.specs.Texts.{yes_text, no_text};
+ghost use Rattle.desk_texts.specs.Texts.{yes_text, no_text};
 
 use crate::Status;
 use crate::goal::goal_of;
 use crate::reply::{Reply, Stop};
-use crate::text::{line_of, put};
 use attr_sets::AttrSet;
 use csv_rows::print_rows;
 use dep_basis::{Proof, prove, witness};
 use dep_model::{Dep, Schema, WantMemory};
 use derivation::{Deriv, MOST_LEVELS, MOST_NODES};
 use desk_outside::Word;
+use desk_texts::{line_of, put};
 use proof_text::print_proof;
 use std::alloc::Global;
 

@@ -14,13 +14,13 @@ ghost use Rattle.desk_cli.specs.Replies.{answer_of, RepliesAs, StopsAs};
 use crate::Status;
 use crate::plan::open_plan;
 use crate::reply::{Reply, Stop};
-use crate::text::{line_of, put};
 use attr_sets::AttrSet;
 use csv::{ByteRecord, Writer};
 use csv_rows::print_rows;
 use decomp_text::MOST_SCHEMES;
 use dep_model::{Row, Schema, WantMemory};
 use desk_outside::{Shelf, Word};
+use desk_texts::{line_of, put};
 use std::alloc::Global;
 use tableau_chase::{ChaseRefusal, Chased, chase};
 

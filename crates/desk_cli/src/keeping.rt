@@ -12,12 +12,12 @@ use crate::Status;
 use crate::check_rows::{put_dep, put_line};
 use crate::plan::open_plan;
 use crate::reply::{Reply, Stop};
-use crate::text::{line_of, put};
 use attr_sets::AttrSet;
 use csv_rows::print_rows;
 use dep_basis::witness;
 use dep_model::{Schema, WantMemory};
 use desk_outside::{Shelf, Word};
+use desk_texts::{line_of, put};
 use preservation::{Loss, losses};
 use std::alloc::Global;
 

@@ -5,13 +5,13 @@ ghost use Rattle.dep_model.specs.Schemas.{names_of, universe_of};
 ghost use Rattle.desk_cli.specs.Answers.{Says};
 ghost use Rattle.desk_cli.specs.Keys.{ListsKeys, sets_text, too_wide_text, too_many_keys_text};
 ghost use Rattle.desk_cli.specs.Replies.{answer_of, RepliesAs, StopsAs};
-ghost use Rattle.desk_cli.specs.Texts.{set_line};
+ghost use Rattle.desk_texts.specs.Texts.{set_line};
 
 use crate::Status;
 use crate::reply::{Reply, Stop};
-use crate::text::{line_of, put};
 use attr_sets::AttrSet;
 use dep_model::{Schema, WantMemory};
+use desk_texts::{line_of, put};
 use key_listing::{KeyRefusal, keys};
 use schema_printer::{add, add_set, print_set};
 use std::alloc::Global;

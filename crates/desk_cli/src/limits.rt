@@ -12,7 +12,7 @@ ghost use Rattle.desk_cli.specs.declared.decomposition.TheConstants.{MOST_SPLIT_
 ghost use Rattle.desk_cli.specs.declared.join.TheConstants.{MOST_TABLEAU_ROWS};
 ghost use Rattle.desk_cli.specs.declared.rejoining.TheConstants.{MOST_JOINED_ROWS};
 ghost use Rattle.desk_cli.specs.declared.rows.TheConstants.{MOST_CSV_BYTES};
-ghost use Rattle.desk_cli.specs.declared.shapes.TheConstants.{MOST_FILES};
+ghost use Rattle.desk_words.specs.declared.shapes.TheConstants.{MOST_FILES};
 ghost use Rattle.fd_discovery.specs.declared.headed.TheConstants.{MOST_HEADED_ROWS, WIDEST_HEADED};
 ghost use Rattle.form_tests.specs.declared.forms.TheConstants.{WIDEST_TESTED};
 ghost use Rattle.key_listing.specs.declared.refusal.TheConstants.{MOST_KEYS, WIDEST_SEARCHED};

@@ -9,16 +9,16 @@ ghost use Rattle.desk_cli.specs.NormalForms.{ChecksForm, EndsForm, JudgesForm, P
 ghost use Rattle.schema_printer.specs.Printing.{dependency_text, set_text};
 ghost use Rattle.desk_cli.specs.Readings.{Reading, Shows};
 ghost use Rattle.desk_cli.specs.Replies.{answer_of, RepliesAs, StopsAs};
-ghost use Rattle.desk_cli.specs.Texts.{line};
+ghost use Rattle.desk_texts.specs.Texts.{line};
 
 use crate::Status;
 use crate::keys::too_wide;
 use crate::plan::open_plan;
 use crate::reply::{Reply, Stop};
-use crate::text::{line_of, put};
 use attr_sets::AttrSet;
 use dep_model::{Dep, Schema, WantMemory};
 use desk_outside::{Shelf, Word};
+use desk_texts::{line_of, put};
 use form_tests::{Breach, Form, violation};
 use schema_printer::{add_dep, add_set};
 use std::alloc::Global;

@@ -11,13 +11,12 @@ ghost use Rattle.desk_cli.specs.Replies.{StopsAs};
 
 use crate::Status;
 use crate::read::open_file;
-use crate::refusals::reason_of;
 use crate::reply::Stop;
 use crate::row_refusals::name_of;
-use crate::text::{put, put_number};
 use decomp_text::{MOST_PLAN_BYTES, PlanRefusal, read_plan};
 use dep_model::{Schema, WantMemory};
 use desk_outside::{Shelf, Word};
+use desk_texts::{put, put_number, reason_of};
 use plans::Plan;
 use schema_reader::SchemaRefusal;
 use std::alloc::Global;

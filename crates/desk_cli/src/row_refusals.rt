@@ -3,9 +3,9 @@ ghost use Rattle.std.specs.Fmt.{decimal};
 ghost use Rattle.dep_model.specs.Schemas.{names_of};
 ghost use Rattle.desk_cli.specs.Rows.{name_at, row_reason_text, row_refusal_number, row_refusal_text};
 
-use crate::text::{put, put_number, put_pair};
 use csv_rows::RowRefusal;
 use dep_model::{Schema, WantMemory};
+use desk_texts::{put, put_number, put_pair};
 use std::alloc::Global;
 
 /// The line that tells a refusal of rows.

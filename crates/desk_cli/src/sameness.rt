@@ -10,9 +10,9 @@ use crate::check_rows::{put_dep, put_line};
 use crate::read::open_schema;
 use crate::reply::{Reply, Stop};
 use crate::row_refusals::name_of;
-use crate::text::{line_of, put};
 use dep_model::{Schema, WantMemory};
 use desk_outside::{Shelf, Word};
+use desk_texts::{line_of, put};
 use schema_match::{differences, missing};
 use std::alloc::Global;
 

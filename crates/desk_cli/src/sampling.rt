@@ -3,8 +3,8 @@ ghost use Rattle.desk_cli.specs.Replies.{RepliesAs};
 
 use crate::decomposition::plan_in_form;
 use crate::migration::migrate_rows;
-use crate::persons::Persons;
 use crate::reply::{Reply, Stop};
+use desk_words::Persons;
 use form_tests::Form;
 use sample::{sample_rows, sample_schema};
 use std::alloc::Global;

@@ -8,10 +8,10 @@ ghost use Rattle.desk_cli.specs.Replies.{StopsAs};
 use crate::Status;
 use crate::read::refused;
 use crate::reply::Stop;
-use crate::text::line_of;
 use attr_sets::AttrSet;
 use dep_model::Schema;
 use desk_outside::Word;
+use desk_texts::line_of;
 use schema_reader::{MOST_SET_BYTES, read_set};
 use std::alloc::Global;
 

@@ -1,5 +1,5 @@
 ghost use Rattle.std.specs.Prelude.{◌≡◌, ◌≤◌, IfOk};
-ghost use Rattle.desk_cli.specs.Commands.{command_form, task_form};
+ghost use Rattle.desk_words.specs.Commands.{command_form, task_form};
 ghost use Rattle.desk_cli.specs.Desk.{Desk, Delivered, shelf_in_call, sink_in_call};
 ghost use Rattle.desk_cli.specs.Endings.{targets_in_call};
 ghost use Rattle.desk_cli.specs.Inputs.{WithSchema};
@@ -11,7 +11,6 @@ use crate::Status;
 use crate::bases::give_basis;
 use crate::check_proof::check_proof;
 use crate::check_rows::check_rows;
-use crate::command::{Command, Task, parse};
 use crate::cover::cover;
 use crate::decomposition::{split_by_pairs, split_in_form};
 use crate::designs::{write_form, write_plan};
@@ -34,9 +33,10 @@ use crate::sampling::migrate_sample;
 use crate::scheme_keys::list_keys_of_plan;
 use crate::scripts::{script_check, script_migration, script_migration_by_plan};
 use crate::synthesis::synthesized;
-use crate::text::line_of;
 use dep_model::{Schema, WantMemory};
 use desk_outside::{Shelf, Sink, Word, send};
+use desk_texts::line_of;
+use desk_words::{Command, Task, parse};
 use std::alloc::Global;
 use targets::Target;
 

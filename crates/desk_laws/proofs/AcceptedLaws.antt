@@ -29,12 +29,12 @@ use Rattle.proof_grammar.proofs.PrintedSpells.{answered_spells}
 use Rattle.desk_cli.specs.declared.status.Status.TheVariants.{Yes, No}
 use Rattle.desk_cli.specs.Answers.{Answer}
 use Rattle.desk_cli.specs.Certificates.{Checked}
-use Rattle.desk_cli.specs.Forms.{form_of, after_check, schema_and, schema_and_two, form_over_schema}
+use Rattle.desk_words.specs.Forms.{form_of, after_check, schema_and, schema_and_two, form_over_schema}
 use Rattle.desk_cli.specs.Implication.{Decided}
 use Rattle.desk_cli.specs.Inputs.{WithSchema, WithProof, WithGoal}
 use Rattle.desk_cli.specs.Performs.{Answers, Performs, Does}
 use Rattle.desk_cli.specs.Readings.{told}
-use Rattle.desk_cli.specs.Texts.{yes_text}
+use Rattle.desk_texts.specs.Texts.{yes_text}
 use Rattle.desk_laws.proofs.SchemaLemmas.{AreAlike, proves_alike, spells_alike}
 use Rattle.desk_laws.proofs.StopLemmas.{schema_says, goal_says, one_content, schema_goes, proof_goes, goal_goes}
 

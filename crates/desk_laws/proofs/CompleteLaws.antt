@@ -41,7 +41,7 @@ use Rattle.desk_cli.specs.Certificates.{Checked}
 use Rattle.desk_cli.specs.Covering.{GivesCover}
 use Rattle.desk_cli.specs.Desk.{Desk, ShelfInCall, SinkInCall}
 use Rattle.desk_cli.specs.Endings.{TargetsInCall}
-use Rattle.desk_cli.specs.Forms.{form_of, after_check, schema_alone, schema_and, schema_and_two, alone, form_over_schema, after_keys}
+use Rattle.desk_words.specs.Forms.{form_of, after_check, schema_alone, schema_and, schema_and_two, alone, form_over_schema, after_keys}
 use Rattle.desk_cli.specs.Implication.{Decided}
 use Rattle.desk_cli.specs.Inputs.{WithSchema, WithProof, WithGoal, IsSchemaFile, IsGoal, IsProofFile}
 use Rattle.desk_cli.specs.Joins.{JudgesJoin, IsTooLarge}

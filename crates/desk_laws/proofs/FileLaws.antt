@@ -24,7 +24,7 @@ use Rattle.desk_cli.specs.declared.rejoining.TheConstants.{MOST_JOINED_ROWS}
 use Rattle.desk_cli.specs.declared.rows.TheConstants.{MOST_CSV_BYTES}
 use Rattle.desk_cli.specs.Answers.{Answer, Allowed}
 use Rattle.desk_cli.specs.Discoveries.{IsHeadedFile, WithHeaded, FindsRules, Discovers}
-use Rattle.desk_cli.specs.Forms.{form_of, form_over_schema, schema_and_few, word_alone, are_few}
+use Rattle.desk_words.specs.Forms.{form_of, form_over_schema, schema_and_few, word_alone, are_few}
 use Rattle.desk_cli.specs.Inputs.{WithSchema, IsSchemaFile}
 use Rattle.desk_cli.specs.Performs.{Answers, Performs, Does}
 use Rattle.desk_cli.specs.Readings.{told}

@@ -16,7 +16,7 @@ use Rattle.schema_match.specs.Columns.{SameNames, undeclared}
 use Rattle.desk_outside.specs.Files.{Files}
 use Rattle.desk_cli.specs.Answers.{Answer, Allowed}
 use Rattle.desk_cli.specs.Bases.{TellsBasis}
-use Rattle.desk_cli.specs.Forms.{form_of, form_over_schema, after_check, after_keys, schema_and, two_schemas}
+use Rattle.desk_words.specs.Forms.{form_of, form_over_schema, after_check, after_keys, schema_and, two_schemas}
 use Rattle.desk_cli.specs.Inputs.{WithSchema, WithSet, SetStops, IsSchemaFile, IsSetText}
 use Rattle.desk_cli.specs.Keys.{TellsKeys}
 use Rattle.desk_cli.specs.Performs.{Answers, Performs, Does}

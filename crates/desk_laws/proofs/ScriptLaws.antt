@@ -11,7 +11,7 @@ use Rattle.table_scripts.specs.Naming.{is_table_name}
 use Rattle.desk_cli.specs.Answers.{Answer, Allowed}
 use Rattle.desk_cli.specs.Decompositions.{WithPlanInForm}
 use Rattle.desk_cli.specs.Drawings.{DrawsTables, DrawsSchemes}
-use Rattle.desk_cli.specs.Forms.{form_of, form_over_schema, after_sql, after_sql_migrate, after_draw, normal_form, schema_alone, schema_and, schema_and_two}
+use Rattle.desk_words.specs.Forms.{form_of, form_over_schema, after_sql, after_sql_migrate, after_draw, normal_form, schema_alone, schema_and, schema_and_two}
 use Rattle.desk_cli.specs.Inputs.{WithSchema, IsSchemaFile}
 use Rattle.desk_cli.specs.Joins.{WithoutLoss, IsTooLarge}
 use Rattle.desk_cli.specs.NormalForms.{form_word}

@@ -26,13 +26,13 @@ use Rattle.desk_cli.specs.Answers.{Answer, Allowed}
 use Rattle.desk_cli.specs.Decompositions.{SplitStops, WithPlanInForm, ShowsPlan, SplitsWide}
 use Rattle.desk_cli.specs.Designs.{WritesTables, WritesSchemes}
 use Rattle.desk_cli.specs.Exhibits.{Exhibits}
-use Rattle.desk_cli.specs.Forms.{form_of, form_over_schema, after_check, after_check_form, after_split, after_ddl, after_migrate, normal_form, schema_alone, schema_and, schema_and_two, persons_alone}
+use Rattle.desk_words.specs.Forms.{form_of, form_over_schema, after_check, after_check_form, after_split, after_ddl, after_migrate, normal_form, schema_alone, schema_and, schema_and_two, persons_alone}
 use Rattle.desk_cli.specs.Inputs.{WithSchema, IsSchemaFile}
 use Rattle.desk_cli.specs.Joins.{WithoutLoss, IsTooLarge}
 use Rattle.desk_cli.specs.Keeping.{JudgesKeeping}
 use Rattle.desk_cli.specs.Legality.{WithLegal}
 use Rattle.desk_cli.specs.Migrations.{GivesTables, MigratesRows, Samples}
-use Rattle.desk_cli.specs.Numbers.{is_count}
+use Rattle.desk_words.specs.Numbers.{is_count}
 use Rattle.lexer.specs.Bytes.{number_of}
 use Rattle.sample.specs.Sample.{sample_relation}
 use Rattle.desk_cli.specs.NormalForms.{JudgesForm, form_word}

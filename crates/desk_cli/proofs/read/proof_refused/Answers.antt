@@ -1,7 +1,7 @@
 use Rattle.std.proofs.Common.{ℕ, List, sym, ◌∙◌}
 use Rattle.dep_model.specs.Schemas.{names_of}
 use Rattle.proof_grammar.specs.Complaints.{Complaint, complaint_of}
-use Rattle.desk_cli.specs.ProofTexts.{proof_refusal_text}
+use Rattle.desk_texts.specs.ProofTexts.{proof_refusal_text}
 use Rattle.desk_cli.proofs.MeaningLemmas.{a_complaint, told_of}
 use Rattle.desk_cli.proofs.read.proof_refused.Goals as goal
 

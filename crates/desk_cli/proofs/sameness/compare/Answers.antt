@@ -4,7 +4,7 @@ use Rattle.std.proofs.lemmas.Bool.{false≢true}
 use Rattle.desk_cli.specs.Answers.{Says}
 use Rattle.desk_cli.specs.Replies.{answer_of}
 use Rattle.desk_cli.specs.Sameness.{different_text, differences_text}
-use Rattle.desk_cli.specs.Texts.{line}
+use Rattle.desk_texts.specs.Texts.{line}
 use Rattle.desk_cli.specs.declared.status.Status.TheVariants.{Yes, No}
 use Rattle.desk_cli.proofs.SamenessLemmas.{say_the_same, differ}
 use Rattle.desk_cli.proofs.sameness.compare.Goals as goal

@@ -1,4 +1,4 @@
-use Rattle.desk_cli.specs.Commands.{task_form}
+use Rattle.desk_words.specs.Commands.{task_form}
 use Rattle.desk_cli.specs.Inputs.{SchemaStops, IsSchemaFile}
 use Rattle.desk_cli.specs.Performs.{Does}
 use Rattle.desk_cli.proofs.StepLemmas.{found, later}

@@ -1,6 +1,6 @@
 use Rattle.std.proofs.Common.{subst, sym}
-use Rattle.desk_cli.specs.declared.command.Command.{Command}
-use Rattle.desk_cli.specs.Commands.{command_form}
+use Rattle.desk_words.specs.declared.command.Command.{Command}
+use Rattle.desk_words.specs.Commands.{command_form}
 use Rattle.desk_cli.specs.Performs.{Performs}
 use Rattle.desk_cli.specs.Replies.{RepliesAs}
 use Rattle.desk_cli.proofs.top.perform.Goals as goal

@@ -1,8 +1,8 @@
 //! The words of the commands that print scripts and pictures.
 
 ghost use Rattle.std.specs.Prelude.{◌≡◌, option_map};
-ghost use Rattle.desk_cli.specs.Commands.{command_form};
-ghost use Rattle.desk_cli.specs.Forms as forms;
+ghost use Rattle.desk_words.specs.Commands.{command_form};
+ghost use Rattle.desk_words.specs.Forms as forms;
 
 use crate::command::{Command, Task};
 use crate::shapes::{normal_form, over_schema_alone};

@@ -1,7 +1,7 @@
 use Rattle.std.proofs.Common.{arith}
 use Rattle.lexer.proofs.Digits.{digit_at, few, more, bounded}
-use Rattle.desk_cli.proofs.NumberLemmas.{short_number}
-use Rattle.desk_cli.proofs.persons.value_of.Goals as goal
+use Rattle.desk_words.proofs.NumberLemmas.{short_number}
+use Rattle.desk_words.proofs.persons.value_of.Goals as goal
 
 pub overflow_sub-digit : goal.overflow_sub-digit
 overflow_sub-digit c = (digit_at _ _ (short_number _ c.requires) c.loop-digit-test.true).low

@@ -1,6 +1,6 @@
 ghost use Rattle.std.specs.Prelude.{◌≡◌, option_map};
-ghost use Rattle.desk_cli.specs.Commands.{command_form};
-ghost use Rattle.desk_cli.specs.Forms.{after_check, after_check_form, after_ddl, after_migrate, after_split, form_of, form_over_schema};
+ghost use Rattle.desk_words.specs.Commands.{command_form};
+ghost use Rattle.desk_words.specs.Forms.{after_check, after_check_form, after_ddl, after_migrate, after_split, form_of, form_over_schema};
 
 use crate::persons::Persons;
 use crate::shapes::*;

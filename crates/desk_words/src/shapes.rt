@@ -1,6 +1,6 @@
 ghost use Rattle.std.specs.Prelude.{◌≡◌, option_map};
-ghost use Rattle.desk_cli.specs.Commands.{command_form, task_form};
-ghost use Rattle.desk_cli.specs.Forms as forms;
+ghost use Rattle.desk_words.specs.Commands.{command_form, task_form};
+ghost use Rattle.desk_words.specs.Forms as forms;
 
 use crate::command::{Command, Task};
 use crate::persons::count_of;

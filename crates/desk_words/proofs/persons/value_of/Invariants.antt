@@ -1,5 +1,5 @@
 use Rattle.lexer.proofs.Digits.{SoFar}
-use Rattle.desk_cli.proofs.persons.value_of.Given as goal
+use Rattle.desk_words.proofs.persons.value_of.Given as goal
 
 abbrev pub invariant-loop-digit : goal.invariant-loop-digit
 invariant-loop-digit l = SoFar l.digits l.digit-index l.value

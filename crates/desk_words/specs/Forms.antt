@@ -5,7 +5,7 @@ use Rattle.std.specs.Str.{bytes_eq}
 use Rattle.form_tests.specs.declared.forms.Form.{Form as NormalForm}
 use Rattle.form_tests.specs.declared.forms.Form.TheVariants.{Third, Bcnf, Fourth}
 use Rattle.lexer.specs.Bytes.{number_of}
-use Rattle.desk_cli.specs.Numbers.{is_count}
+use Rattle.desk_words.specs.Numbers.{is_count}
 
 -- what is asked of a schema, with the words that go with it
 pub data Task : Type 0 where

@@ -1,9 +1,9 @@
 ghost use Rattle.std.specs.Prelude.{◌≡◌, IfOk};
-ghost use Rattle.desk_cli.specs.Texts.{what_text, kind_text, refusal_text};
+ghost use Rattle.desk_texts.specs.Texts.{what_text, kind_text, refusal_text};
 
 use crate::text::{put, put_number};
 use dep_model::WantMemory;
-use schema_reader::{SchemaRefusal, SchemaRefusalKind, What};
+use schema_grammar::{SchemaRefusal, SchemaRefusalKind, What};
 use std::alloc::Global;
 
 /// The line that tells a refusal of a text: the kind of text, its name, the place and the reason.

@@ -1,6 +1,6 @@
 ghost use Rattle.std.specs.Prelude.{◌≡◌, ◌≤◌, if◌then◌else◌, Some, None, option_map, IsTrue};
 ghost use Rattle.lexer.specs.Bytes.{number_of};
-ghost use Rattle.desk_cli.specs.Numbers.{is_count, is_short_number};
+ghost use Rattle.desk_words.specs.Numbers.{is_count, is_short_number};
 ghost use Rattle.std.specs.Char.{is_ascii_digit};
 ghost use Rattle.std.specs.List.{list_all};
 ghost use Rattle.sample.specs.declared.rows.TheConstants.{MOST_PERSONS};

@@ -2,13 +2,13 @@ ghost use Rattle.std.specs.Prelude.{◌≡◌, ◌++◌, IfOk, OnOk};
 ghost use Rattle.dep_model.specs.Schemas.{names_of, universe_of};
 ghost use Rattle.dep_model.specs.Deps.{dependency_of, IsDepWithin};
 ghost use Rattle.proof_grammar.specs.Complaints.{states_other, IsRefusalWithin};
-ghost use Rattle.desk_cli.specs.ProofTexts.{fault_text, complaint_number, complaint_text, place_text, proof_refusal_text, OfComplaint};
+ghost use Rattle.desk_texts.specs.ProofTexts.{fault_text, complaint_number, complaint_text, place_text, proof_refusal_text, OfComplaint};
 
 use crate::refusals::reason_of;
 use crate::text::{put, put_number, put_pair};
 use dep_model::{Dep, Schema, WantMemory};
 use derivation::FaultKind;
-use proof_text::{ProofRefusal, ProofRefusalKind};
+use proof_grammar::{ProofRefusal, ProofRefusalKind};
 use schema_printer::print_dep;
 use std::alloc::Global;
 

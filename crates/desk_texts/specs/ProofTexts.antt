@@ -7,7 +7,7 @@ use Rattle.derivation.specs.declared.fault.FaultKind.TheVariants as fault
 use Rattle.schema_printer.specs.Printing.{dependency_text}
 use Rattle.proof_grammar.specs.declared.refusal.ProofRefusalKind.{ProofRefusalKind}
 use Rattle.proof_grammar.specs.Complaints.{Complaint, bad_line, wrong_number, no_such_line, used_twice, never_used, too_many_lines, too_deep, unsound, states_other, empty_proof, LineComplaint, complaint_of}
-use Rattle.desk_cli.specs.Texts.{line, kind_text}
+use Rattle.desk_texts.specs.Texts.{line, kind_text}
 
 -- why a rule does not apply, with its number
 abbrev pub fault_text : FaultKind → List ℕ

@@ -1,9 +1,9 @@
 -- A command of the code, as its form.
-use Rattle.desk_cli.specs.declared.command.Command.{Command}
-use Rattle.desk_cli.specs.declared.command.Command.TheVariants.{OverSchema, Discover, Sample, Help, Version}
-use Rattle.desk_cli.specs.declared.command.Task.{Task}
-use Rattle.desk_cli.specs.declared.command.Task.TheVariants as task
-use Rattle.desk_cli.specs.Forms as form
+use Rattle.desk_words.specs.declared.command.Command.{Command}
+use Rattle.desk_words.specs.declared.command.Command.TheVariants.{OverSchema, Discover, Sample, Help, Version}
+use Rattle.desk_words.specs.declared.command.Task.{Task}
+use Rattle.desk_words.specs.declared.command.Task.TheVariants as task
+use Rattle.desk_words.specs.Forms as form
 
 abbrev pub task_form : Task → form.Task
 task_form (task.Implies goal) = form.implies goal.now

@@ -1,4 +1,4 @@
-use Rattle.desk_cli.proofs.proof_refusals.put_reason.Goals as goal
+use Rattle.desk_texts.proofs.proof_refusals.put_reason.Goals as goal
 
 pub returns-in-Unsound : goal.returns-in-Unsound
 returns-in-Unsound c = record { more = rw (c.in-Unsound.is, ← c.fault_of.ensures.text) c.put_pair.ensures.more }

@@ -1,6 +1,6 @@
 ghost use Rattle.std.specs.Prelude.{◌≡◌, ◌++◌, [], ◌∷◌, IfOk, OnOk};
 ghost use Rattle.std.specs.Fmt.{decimal};
-ghost use Rattle.desk_cli.specs.Texts.{line};
+ghost use Rattle.desk_texts.specs.Texts.{line};
 
 use dep_model::WantMemory;
 use std::alloc::Global;

@@ -1,0 +1,10 @@
+//! Pieces of what the program prints, and how it words the refusals of schemas and certificates.
+#![tactic(auto)]
+
+mod proof_refusals;
+mod refusals;
+mod text;
+
+pub use proof_refusals::proof_refusal_line;
+pub use refusals::{reason_of, refusal_line};
+pub use text::{line_of, put, put_number, put_pair};
