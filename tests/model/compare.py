@@ -21,7 +21,6 @@ import model
 
 from model import FD, MVD, members
 
-KEEP = pathlib.Path(os.environ.get("DESK_KEEP") or tempfile.mkdtemp())
 NAMES = ["A", "B", "C", "D", "E", "F", "G", "H", "I", "J", "K", "L", "M", "N", "O", "P"]
 LONG = ["City", "street_1", "ZIP", "Room", "x9", "Teacher", "HOUR", "grade", "given", "with", "yes", "Integers",
         "a_name_of_thirty_one_bytes_long", "Tn", "Id", "q"]
@@ -552,6 +551,7 @@ def main():
     program, family, count = os.path.abspath(sys.argv[1]), sys.argv[2], int(sys.argv[3])
     seed = int(sys.argv[4]) if sys.argv[4:] else 1
     same = differ = left_out = 0
+    kept = os.environ.get("DESK_KEEP")
     statuses = collections.Counter()
     for name in FAMILIES if family == "all" else [family]:
         for k in range(count):
@@ -567,7 +567,8 @@ def main():
                 continue
             differ += 1
             if differ <= 3:
-                keep = KEEP / f"{name}_{seed}_{k}"
+                kept = kept or tempfile.mkdtemp()
+                keep = pathlib.Path(kept) / f"{name}_{seed}_{k}"
                 shutil.rmtree(keep, ignore_errors=True)
                 keep.mkdir(parents=True)
                 for n, data in files.items():
