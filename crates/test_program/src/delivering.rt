@@ -124,25 +124,43 @@ fn check_files(
     Ok(())
 }
 
-// The folder of the first target fails at its first call, and the other two are written.
-#[test]
-fn files_are_written(rt: HostRuntime) -> Result<(), Fail> {
-    let alloc = rt.alloc();
-    let mut sink = slow_sink(alloc, 1000)?;
-    let mut targets: Vec<Box<dyn Target>> = Vec::new(alloc);
-    let first = MemoryFolder::make(alloc, Vec::from_slice(alloc, &[1])?);
-    targets.push(Box::new(alloc, CsvTarget::make(alloc, first)?)?)?;
-    let second = MemoryFolder::make(alloc, Vec::new(alloc));
-    targets.push(Box::new(alloc, CsvTarget::make(alloc, second)?)?)?;
-    let third = MemoryFolder::make(alloc, Vec::new(alloc));
-    targets.push(Box::new(alloc, SqlTarget::make(alloc, third)?)?)?;
-    let status = migrate(alloc, &mut sink, &mut targets)?;
-    assert!(rt; status == Status::TargetFailed);
+// CSV files in a folder that fails at these calls.
+fn csv_files(alloc: Global, fails: &[u64]) -> Result<CsvTarget<MemoryFolder>, WantMemory> {
+    let folder = MemoryFolder::make(alloc, Vec::from_slice(alloc, fails)?);
+    CsvTarget::make(alloc, folder)
+}
+
+// SQL files in a folder.
+fn sql_files(alloc: Global) -> Result<SqlTarget<MemoryFolder>, WantMemory> {
+    SqlTarget::make(alloc, MemoryFolder::make(alloc, Vec::new(alloc)))
+}
+
+// The first target has no file, and the second its three.
+fn check_written(
+    rt: &impl Abort,
+    ended: Status,
+    sink: &MemorySink,
+    targets: &[Box<dyn Target>],
+) -> Result<(), Fail> {
+    assert!(rt; ended == Status::TargetFailed);
     assert_eq!(rt; sink.taken(), b"target 1 failed\n".as_slice());
-    check_files(&rt, targets.get(0), 0, (b"", b""))?;
-    check_files(&rt, targets.get(1), 3, (b"t1.csv", b"A,B\n1,x\n2,O'Hara\n"))?;
+    check_files(rt, targets.get(0), 0, (b"", b""))?;
     let first = "INSERT INTO \"t1\" (\"A\", \"B\") VALUES ('1', 'x');
 INSERT INTO \"t1\" (\"A\", \"B\") VALUES ('2', 'O''Hara');
 ";
-    check_files(&rt, targets.get(2), 3, (b"t1.sql", first.as_bytes()))
+    check_files(rt, targets.get(1), 3, (b"t1.sql", first.as_bytes()))
+}
+
+// The folder of the first target fails at its first call, and the other is written.
+#[test]
+fn files_are_written(rt: HostRuntime) -> Result<(), Fail> {
+    let alloc = rt.alloc();
+    let csv = csv_files(alloc, &[1])?;
+    let sql = sql_files(alloc)?;
+    let mut targets: Vec<Box<dyn Target>> = Vec::new(alloc);
+    targets.push(Box::new(alloc, csv)?)?;
+    targets.push(Box::new(alloc, sql)?)?;
+    let mut sink = slow_sink(alloc, 1000)?;
+    let ended = migrate(alloc, &mut sink, &mut targets)?;
+    check_written(&rt, ended, &sink, &targets)
 }
