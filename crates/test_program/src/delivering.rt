@@ -1,5 +1,4 @@
 use crate::calls::{File, call, failing, slow_shelf, slow_sink};
-use crate::without_memory::WithoutMemory;
 use dep_model::WantMemory;
 use desk_cli::Status;
 use desk_outside::{MemoryFolder, MemorySink};
@@ -7,6 +6,7 @@ use std::alloc::Global;
 use std::process::Abort;
 use std::test::Fail;
 use targets::{CsvTarget, SqlTarget, Target};
+use test_outside::WithoutMemory;
 
 // Three tables of two columns, with two, two and three rows. Their calls are 4, 4 and 5.
 const FILES: [File; 3] = [

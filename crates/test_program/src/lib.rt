@@ -1,4 +1,4 @@
-//! Tests of the outside, of targets and of whole calls of the desk, where calls fail one at a time.
+//! Tests of whole calls of the desk, where calls of a shelf, a sink or a target fail one at a time.
 #![tactic(auto)]
 
 #[cfg(test)]
@@ -7,13 +7,3 @@ mod answering;
 mod calls;
 #[cfg(test)]
 mod delivering;
-#[cfg(test)]
-mod feeding;
-#[cfg(test)]
-mod outside;
-#[cfg(test)]
-mod storing;
-#[cfg(test)]
-mod three_tables;
-#[cfg(test)]
-mod without_memory;
