@@ -3,8 +3,8 @@ use Rattle.std.proofs.Common.{◌≡◌, ℕ, ◌+◌, ◌<◌, ◌≤◌, zero,
 use Rattle.std.proofs.lemmas.Bool.{true≢false, cases_eq, cases_Bool, eqb-true, ltb-true, lt-ltb}
 use Rattle.std.proofs.lemmas.Bool.Decides.{nat_tests}
 use Rattle.std.specs.Prelude.{All}
-use Rattle.attr_sets.specs.Places.{Places, below, only, union, meet, Within, Same, count_below}
-use Rattle.attr_sets.proofs.PlacesLemmas.{Same-within, tell_within, count_below-le, count_below-lt, count_below-full}
+use Rattle.attr_sets.specs.Places.{Places, below, only, union, meet, Within, count_below}
+use Rattle.attr_sets.proofs.PlacesLemmas.{same_from_within, tell_within, count_below-le, count_below-lt, count_below-full, same_at}
 use Rattle.dep_model.specs.Dependencies.{Dependency, functional_part, IsWithin}
 use Rattle.dep_model.specs.Keys.{InClosure}
 use Rattle.dep_model.proofs.RuleLemmas.{reflexivity_obeyed, transitivity_obeyed, fd_weaker_obeyed}
@@ -61,8 +61,8 @@ module _ (n : ℕ) (ds : List Dependency) where
   )
 
   -- a set has one closure
-  pub closure_same : (x c d : Places) → IsClosureOf n ds x c → IsClosureOf n ds x d → Same c d
-  closure_same x c d one other = Same-within c d (λ k m. (other k).1 ((one k).0 m)) (λ k m. (one k).1 ((other k).0 m))
+  pub closure_same : (x c d : Places) → IsClosureOf n ds x c → IsClosureOf n ds x d → c ≡ d
+  closure_same x c d one other = same_from_within c d (λ k m. (other k).1 ((one k).0 m)) (λ k m. (one k).1 ((other k).0 m))
 
   -- ---- the universe is closed, and so is the meet of two closed sets
   pub universe_closed : IsClosedSet n ds (below n)
@@ -111,11 +111,11 @@ module _ (n : ℕ) (ds : List Dependency) where
         (λ (k : ℕ) m. holds k (grind (arith, m))) (λ back. true≢false (sym (back a a_in) ∙ outside)))
 
     -- irreducible is what is not the meet beyond it
-    pub irreducible_no_meet : (c m : Places) → IsMeetBeyond n ds c m → IsIrreducible n ds c → Same m c → ⊥
+    pub irreducible_no_meet : (c m : Places) → IsMeetBeyond n ds c m → IsIrreducible n ds c → m ≡ c → ⊥
     irreducible_no_meet c m is irreducible same =
         let b = irreducible.attribute in
         let in_meet = (is b).1 (irreducible.universe, shared_in c b irreducible.closed irreducible.shared) in
-        true≢false (sym in_meet ∙ same b ∙ irreducible.outside)
+        true≢false (sym in_meet ∙ same_at same b ∙ irreducible.outside)
 
     -- ---- above a closed set without an attribute there is an irreducible one without it
     -- the closure of c with some attribute below m lacks y, or none does
@@ -178,7 +178,7 @@ module _ (n : ℕ) (ds : List Dependency) where
     above_lacking c y closed low lacks = above_within n c y closed low lacks (omega arith)
 
   -- a closed set that is not the meet beyond it is irreducible
-  pub no_meet_irreducible : (c m : Places) → IsClosedSet n ds c → IsMeetBeyond n ds c m → (Same m c → ⊥)
+  pub no_meet_irreducible : (c m : Places) → IsClosedSet n ds c → IsMeetBeyond n ds c m → (m ≡ c → ⊥)
       → IsIrreducible n ds c
   no_meet_irreducible c m closed is differ = ⊎_elim
       (λ found.
@@ -191,7 +191,7 @@ module _ (n : ℕ) (ds : List Dependency) where
         shared = shared_by_all c
             found.0 told.1;
       })
-      (λ inside. absurd (differ (Same-within m c inside (λ (k : ℕ) member. (is k).1 (
+      (λ inside. absurd (differ (same_from_within m c inside (λ (k : ℕ) member. (is k).1 (
         ltb-true k n (closed.universe k member),
         λ a low outside. closure_member (union c (only a)) k (ltb-true k n (closed.universe k member))
             (grind (arith, member)),

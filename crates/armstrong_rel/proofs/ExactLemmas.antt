@@ -8,7 +8,7 @@ use Rattle.std.proofs.lemmas.Fmt.{decimal_injective, decimal_nonempty, first_dec
 use Rattle.std.proofs.lemmas.List.Elements.{Contains-get_or}
 use Rattle.std.proofs.lemmas.Option.{slice_get_within}
 use Rattle.attr_sets.specs.Places.{Places, below, meet, Within}
-use Rattle.attr_sets.proofs.PlacesLemmas.{tell_within}
+use Rattle.attr_sets.proofs.PlacesLemmas.{tell_within, same_at}
 use Rattle.dep_model.specs.declared.column.Column.TheVariants.{Integer}
 use Rattle.attr_sets.specs.Sets.{places}
 use Rattle.dep_model.specs.declared.schema.Schema.{Schema}
@@ -111,12 +111,12 @@ module _ (n : ℕ) (ds : List Dependency) (sets : List Places) (few : length set
       let t = numbered_tuple n tuple.0 s in
       let agree : AgreeOn x (all_zeros n) t = λ (a : ℕ) h.
       let a_low : a < n = ltb-true a n (x_in a h) in
-      let a_in : s a ≡ true = listed.4 a ∙ above.2 a (closure_holds n ds x c x_in found.1 a h) in
+      let a_in : s a ≡ true = same_at listed.4 a ∙ above.2 a (closure_holds n ds x c x_in found.1 a h) in
       value_at-all_zeros n a a_low ∙ sym (value_inside n tuple.0 s a a_low a_in) in
       let same = obeys (all_zeros n) t
       (Contains-head (all_zeros n) (numbered_from n 1 sets)) tuple.3 agree k beyond.2 in
       absurd (decimal_not_zero tuple.0 tuple.1 (omega (arith, tuple.2, few))
-      (sym (value_outside n tuple.0 s k beyond.1 (listed.4 k ∙ above.3)) ∙ sym same ∙ value_at-all_zeros n k beyond.1)))
+      (sym (value_outside n tuple.0 s k beyond.1 (same_at listed.4 k ∙ above.3)) ∙ sym same ∙ value_at-all_zeros n k beyond.1)))
       (λ all. fd_each-from n ds x y (λ (a : ℕ) m. ((found.1 a).0 (all a m)).1))
       (tell_within n y c y_in)
 

@@ -6,7 +6,7 @@ use Rattle.std.proofs.Math.Seq.{get_or-append_seam}
 use Rattle.std.proofs.lemmas.List.{get_or-map, get_or_append_left, length-map, length_push}
 use Rattle.std.proofs.lemmas.List.Elements.{All-push, All-weaker, All-map, Contains-append_left, Contains-push}
 use Rattle.std.proofs.lemmas.List.Quantifiers.{all_pairs_push}
-use Rattle.attr_sets.specs.Places.{Places, below, Within, Same, IsBefore}
+use Rattle.attr_sets.specs.Places.{Places, below, Within, IsBefore}
 use Rattle.attr_sets.specs.Sets.{places}
 use Rattle.attr_sets.specs.declared.set.AttrSet.{AttrSet}
 use Rattle.attr_sets.specs.declared.set.TheConstants.{PLACES}
@@ -115,8 +115,8 @@ found_all n ds sets low found = record {
       (subst (λ (z : Places). z k ≡ true) place.2 m) in
       let has = found.all s (number_low n s low place.1 inside)
       (subst (IsIrreducible n ds) (sym place.2) irreducible) in
-      Any-from (λ (z : Places). Same z c) (schemes_of sets) (places s) (Contains-map places sets s has)
-      (λ k. ap (λ (z : Places). z k) place.2);
+      Any-from (λ (z : Places). z ≡ c) (schemes_of sets) (places s) (Contains-map places sets s has)
+      place.2;
   ascending = λ i j d before l.
       let few : j < length sets = omega (arith, l, length-map sets places) in
       let e : AttrSet = set_at 0 in

@@ -1,11 +1,11 @@
 -- The meet of the closures of a set with each attribute outside it, one attribute after the other.
 use Rattle.std.proofs.Common.{◌≡◌, ℕ, ◌+◌, ◌<◌, ◌↔◌, true, false, List, sym, subst, ap, ◌∙◌, inl, inr, arith}
 use Rattle.std.proofs.lemmas.Bool.{true≢false, cases_eq, lt-ltb, ltb-true}
-use Rattle.attr_sets.specs.Places.{Places, below, only, union, meet, Same}
-use Rattle.attr_sets.proofs.PlacesLemmas.{Same-path}
+use Rattle.attr_sets.specs.Places.{Places, below, only, union, meet}
 use Rattle.dep_model.specs.Dependencies.{Dependency}
 use Rattle.dep_model.specs.Keys.{InClosure}
 use Rattle.armstrong_rel.specs.Closures.{IsClosureOf}
+use Rattle.attr_sets.proofs.PlacesLemmas.{same_at}
 
 -- the meet as far as the attributes below this one
 abbrev pub IsMeetTo : ℕ → List Dependency → Places → ℕ → Places → Type 0
@@ -27,12 +27,12 @@ meet_inside n ds x m a member is k = (
 )
 
 pub meet_outside : (n : ℕ) (ds : List Dependency) (x more c m next : Places) (a : ℕ) → x a ≡ false
-    → Same more (union x (only a)) → IsClosureOf n ds more c → Same next (meet m c)
+    → more ≡ union x (only a) → IsClosureOf n ds more c → next ≡ meet m c
     → IsMeetTo n ds x a m → IsMeetTo n ds x (a + 1) next
 meet_outside n ds x more c m next a outside is closure both before k =
     let exact : IsClosureOf n ds (union x (only a)) c = subst (λ (z : Places). IsClosureOf n ds z c)
-    (Same-path more (union x (only a)) is) closure in
-    let here = both k in (
+    is closure in
+    let here = same_at both k in (
       (λ in_next.
           let in_m : m k ≡ true = grind (arith, here, in_next) in
           let in_c : c k ≡ true = grind (arith, here, in_next) in

@@ -3,7 +3,6 @@ use Rattle.std.proofs.Common.{◌≡◌, ℕ, suc, List, [], ◌∷◌, refl, sy
 use Rattle.std.specs.Prelude.{AllPairs, Contains}
 use Rattle.std.proofs.lemmas.List.Elements.{All-nil, All-contains}
 use Rattle.attr_sets.specs.Places.{Places, IsBefore}
-use Rattle.attr_sets.proofs.PlacesLemmas.{Same-path}
 use Rattle.attr_sets.proofs.OrderLemmas.{IsBefore-irrefl, IsBefore-trans}
 use Rattle.dep_model.specs.Dependencies.{Dependency}
 use Rattle.dep_model.specs.Tuples.{Relation}
@@ -67,7 +66,7 @@ listed_in : (n : ℕ) (ds : List Dependency) (xs ys : List Places) → AreIrredu
     → HoldsAll xs ys
 listed_in n ds xs ys one other c has =
     let found = other.all c (All-contains (IsIrreducible n ds) xs c one.each has) in
-    subst (λ (z : Places). Contains ys z) (Same-path found.1 c found.4) (found.0, found.2, found.3)
+    subst (λ (z : Places). Contains ys z) found.4 (found.0, found.2, found.3)
 
 pub exhibit_same : (n : ℕ) (ds : List Dependency) (r s : Relation) → IsExhibit n ds r → IsExhibit n ds s → r ≡ s
 exhibit_same n ds r s one other =

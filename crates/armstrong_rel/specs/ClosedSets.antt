@@ -1,5 +1,7 @@
+-- Closed sets of attributes, and the irreducible ones among them: `IsExhibit` of `Exhibits` is made
+-- of these.
 use Rattle.std.specs.Prelude.{◌≡◌, ℕ, ◌<◌, true, false, List, All, AllPairs, Any}
-use Rattle.attr_sets.specs.Places.{Places, below, Within, Same, IsBefore}
+use Rattle.attr_sets.specs.Places.{Places, below, Within, IsBefore}
 use Rattle.dep_model.specs.Dependencies.{Dependency}
 use Rattle.dep_model.specs.Keys.{InClosure}
 
@@ -20,5 +22,5 @@ pub record IsIrreducible (n : ℕ) (ds : List Dependency) (c : Places) : Type 0 
 -- exactly the irreducible closed sets, ascending: of two the greatest attribute that is in one alone decides
 pub record AreIrreducible (n : ℕ) (ds : List Dependency) (sets : List Places) : Type 0 where
   pub each : All (IsIrreducible n ds) sets
-  pub all : (c : Places) → IsIrreducible n ds c → Any (λ s. Same s c) sets
+  pub all : (c : Places) → IsIrreducible n ds c → Any (λ s. s ≡ c) sets
   pub ascending : AllPairs IsBefore sets

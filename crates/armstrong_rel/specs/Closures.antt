@@ -1,3 +1,5 @@
+-- The closures of all sets of attributes, as a table: for the functions of armstrong_rel and its
+-- law on irreducible sets. `Desk` does not cite it.
 use Rattle.std.specs.Prelude.{◌≡◌, ℕ, ◌<◌, ◌↔◌, true, false, List, length, slice_index_or}
 use Rattle.attr_sets.specs.Places.{Places, only, union}
 use Rattle.attr_sets.specs.Sets.{places}

@@ -2,7 +2,7 @@
 //! the law.
 
 ghost use Rattle.std.specs.Prelude.{◌≡◌, ℕ, ◌-◌, ◌<◌, ◌^◌, ◌↔◌, List, length, All};
-ghost use Rattle.attr_sets.specs.Places.{Places, below, Same};
+ghost use Rattle.attr_sets.specs.Places.{Places, below};
 ghost use Rattle.dep_model.specs.Dependencies.{Dependency, functional_part, IsWithin};
 ghost use Rattle.dep_model.specs.Tuples.{Relation};
 ghost use Rattle.armstrong_rel.specs.ClosedSets.{IsClosedSet, IsIrreducible, AreIrreducible};
@@ -14,7 +14,7 @@ ghost use Rattle.armstrong_rel.specs.Exhibits.{tuples_for, IsArmstrong, IsExhibi
 pub fn irreducible_where_no_meet()
     ensures law { (n : ℕ) (ds : List Dependency) (c m : Places) → All (IsWithin (below n)) ds
         → functional_part ds ≡ ds → IsClosedSet n ds c → IsMeetBeyond n ds c m
-        → IsIrreducible n ds c ↔ (Same m c → ⊥) }
+        → IsIrreducible n ds c ↔ (m ≡ c → ⊥) }
 {}
 
 /// The relation of the irreducible closed sets obeys exactly the functional dependencies that are

@@ -8,6 +8,4 @@ pub enum ExhibitRefusal {
     NotFunctional { dep: u16 },
     /// All dependencies are functional, and there are more than `WIDEST_EXHIBITED` attributes.
     TooWide,
-    /// Want of memory.
-    Memory,
 }

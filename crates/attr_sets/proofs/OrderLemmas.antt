@@ -1,17 +1,18 @@
 -- The order of sets by their numbers is the order by the greatest place in which they differ.
 use Rattle.std.proofs.Common.{◌≡◌, ℕ, zero, suc, ◌/◌, ◌^◌, ◌<◌, ◌≤◌, Bool, true, false, pow-suc, refl, sym, ap, ◌∙◌, ◌⊎◌, inl, inr, ⊎_elim, arith}
+use mathlib.Core.Path.{fun_ext}
 use Rattle.std.specs.Int.{bit_at}
 use Rattle.std.specs.Ordering.{nat_cmp, MatchOrdering}
 use Rattle.std.specs.Cmp.{ranks}
 use Rattle.std.specs.declared.cmp.Ordering.{Ordering}
 use Rattle.std.specs.declared.cmp.Ordering.TheVariants.{Less, Equal, Greater}
-use Rattle.attr_sets.proofs.PlacesLemmas.{places-at_number}
+use Rattle.attr_sets.proofs.PlacesLemmas.{places-at_number, same_at}
 use Rattle.std.proofs.lemmas.Bool.{cases_lt, cases_eq, cases_order, true≢false}
 use Rattle.std.proofs.lemmas.Bool.Decides.{nat_tests}
 use Rattle.std.proofs.lemmas.Nat.Bits.{bit_at_lowest, bit_at-suc, bit_at-lt, bit_at_above, same_from_bits}
 use Rattle.attr_sets.specs.declared.set.AttrSet.{AttrSet}
 use Rattle.attr_sets.specs.declared.set.TheConstants.{PLACES}
-use Rattle.attr_sets.specs.Places.{Places, below, only, none, union, minus, Within, Same, IsBefore, IsNextSubset, IsLeastFrom}
+use Rattle.attr_sets.specs.Places.{Places, below, only, none, union, minus, Within, IsBefore, IsNextSubset, IsLeastFrom}
 use Rattle.attr_sets.specs.Sets.{has_bit, places}
 
 -- b has the greatest bit in which it differs from a
@@ -80,7 +81,7 @@ in_each_order Greater less equal greater h = greater h
 
 -- what `a.cmp(b)` tells of two sets
 pub cmp-order : (a b : AttrSet) → a.0 < 2 ^ PLACES → b.0 < 2 ^ PLACES
-    → MatchOrdering (nat_cmp a.0 b.0) (IsBefore (places a) (places b)) (Same (places a) (places b)) (IsBefore (places b) (places a))
+    → MatchOrdering (nat_cmp a.0 b.0) (IsBefore (places a) (places b)) (places a ≡ places b) (IsBefore (places b) (places a))
 cmp-order a b a_fits b_fits =
     in_each_order (nat_cmp a.0 b.0) (before_from_lt a b b_fits) (places-at_number a b) (before_from_lt b a a_fits) (ranks a.0 b.0)
 
@@ -102,8 +103,8 @@ tell_equal false false = inl refl
 tell_equal false true = inr (inl (refl, refl))
 tell_equal true false = inr (inr (refl, refl))
 
-before_below : (n : ℕ) (x y : Places) → ((j : ℕ) → n ≤ j → x j ≡ y j) → Same x y ⊎ (IsBefore x y ⊎ IsBefore y x)
-before_below zero x y same = inl (λ j. same j (omega arith))
+before_below : (n : ℕ) (x y : Places) → ((j : ℕ) → n ≤ j → x j ≡ y j) → (x ≡ y) ⊎ (IsBefore x y ⊎ IsBefore y x)
+before_below zero x y same = inl (fun_ext (λ j. same j (omega arith)))
 before_below (suc n) x y same =
     ⊎_elim
     (λ (here : x n ≡ y n). before_below n x y (λ j on. ⊎_elim (λ (first : j ≡ n). ap x first ∙ here ∙ sym (ap y first)) (λ (later : j ≡ n → ⊥). same j (omega arith)) (cases_eq j n)))
@@ -113,29 +114,29 @@ before_below (suc n) x y same =
     (tell_equal (x n) (y n))
 
 -- of two sets of places below n that are not the same, one comes before the other
-pub tell_before : (n : ℕ) (x y : Places) → Within x (below n) → Within y (below n) → Same x y ⊎ (IsBefore x y ⊎ IsBefore y x)
+pub tell_before : (n : ℕ) (x y : Places) → Within x (below n) → Within y (below n) → (x ≡ y) ⊎ (IsBefore x y ⊎ IsBefore y x)
 tell_before n x y x_low y_low = before_below n x y (λ j on. grind (arith, nat_tests, x_low j, y_low j))
 
 -- ---- the subsets of a set, one after the other
 
 -- the least member of the set that x has not is added, and all below it is left out
-pub next_subset-is : (whole x y : Places) (i : ℕ) → Within x whole → IsLeastFrom (minus whole x) 0 i → Same y (union (minus x (below i)) (only i)) → IsNextSubset whole x y
+pub next_subset-is : (whole x y : Places) (i : ℕ) → Within x whole → IsLeastFrom (minus whole x) 0 i → y ≡ union (minus x (below i)) (only i) → IsNextSubset whole x y
 next_subset-is whole x y i inside least is = record {
   within = λ k m. elim (cases_eq k i) [
     | inl same ↦ grind (arith, ap whole same, least.member)
-    | inr other ↦ grind (arith, nat_tests, is k, inside k)
+    | inr other ↦ grind (arith, nat_tests, same_at is k, inside k)
   ];
   after = (
     i,
     grind (arith, least.member),
-    grind (arith, nat_tests, is i),
-    λ j more. grind (arith, nat_tests, is j),
+    grind (arith, nat_tests, same_at is i),
+    λ j more. grind (arith, nat_tests, same_at is j),
   );
   first = λ z z_in before after. none_between z z_in before after;
 }
   where
     same_above : (j : ℕ) → i < j → y j ≡ x j
-    same_above j more = grind (arith, nat_tests, is j)
+    same_above j more = grind (arith, nat_tests, same_at is j)
 
     -- a place of z that x has not is i or a later one
     from_i : (z : Places) (k : ℕ) → Within z whole → x k ≡ false → z k ≡ true → i ≤ k
@@ -152,13 +153,13 @@ next_subset-is whole x y i inside least is = record {
         (⊎_elim
         (λ (later : before.0 < after.0). true≢false (sym after.2 ∙ same_above after.0 (omega arith) ∙ before.3 after.0 later ∙ after.1))
         (λ (earlier : after.0 < before.0). ⊎_elim
-        (λ (at_i : before.0 ≡ i). true≢false (sym after.2 ∙ grind (arith, nat_tests, is after.0)))
+        (λ (at_i : before.0 ≡ i). true≢false (sym after.2 ∙ grind (arith, nat_tests, same_at is after.0)))
         (λ (above_i : before.0 ≡ i → ⊥). true≢false (sym before.2 ∙ after.3 before.0 earlier ∙ same_above before.0 (omega arith) ∙ before.1))
         (cases_eq before.0 i)))
         (cases_order before.0 after.0)
 
 -- a subset that comes before the next one is the last or comes before it
-pub next_subset-before : (n : ℕ) (whole x y z : Places) → Within whole (below n) → Within x whole → IsNextSubset whole x y → Within z whole → IsBefore z y → Same z x ⊎ IsBefore z x
+pub next_subset-before : (n : ℕ) (whole x y z : Places) → Within whole (below n) → Within x whole → IsNextSubset whole x y → Within z whole → IsBefore z y → (z ≡ x) ⊎ IsBefore z x
 next_subset-before n whole x y z low x_in next z_in before =
     ⊎_elim inl
     (⊎_elim inr (λ later. absurd (next.first z z_in later before)))

@@ -6,9 +6,22 @@ use Rattle.std.proofs.lemmas.Bool.{ltb-true, eqb-true, eq-eqb, cases_eq, cases_l
 use Rattle.std.proofs.lemmas.Bool.Decides.{nat_tests}
 use Rattle.attr_sets.specs.declared.set.AttrSet.{AttrSet}
 use Rattle.attr_sets.specs.declared.set.TheConstants.{PLACES}
-use Rattle.attr_sets.specs.Places.{Places, below, only, none, union, meet, minus, Within, Same, IsEmpty, Apart, Meets, IsLeastFrom, count_below, all_below}
+use Rattle.attr_sets.specs.Places.{Places, below, only, none, union, meet, minus, Within, IsEmpty, Apart, Meets, IsLeastFrom, count_below, all_below}
 use Rattle.attr_sets.specs.Sets.{has_bit, places, is_within, is_same, is_apart}
 use Rattle.attr_sets.proofs.BitLemmas.{has_bit-below, same_from_has_bit, number_with_bits}
+
+-- ---- equality
+
+-- equal sets have the same places
+pub same_at : {x y : Places} → x ≡ y → (k : ℕ) → x k ≡ y k
+same_at same k = ap (λ z. z k) same
+
+-- each within the other
+pub same_from_within : (x y : Places) → Within x y → Within y x → x ≡ y
+same_from_within x y there back = fun_ext (λ k. grind (arith, there k, back k))
+
+pub Within-same : (x y : Places) → x ≡ y → Within x y
+Within-same x y same k member = sym (same_at same k) ∙ member
 
 -- ---- sets of attributes
 
@@ -16,14 +29,14 @@ pub places_below : (s : AttrSet) → Within (places s) (below PLACES)
 unfolding places
 places_below s k = has_bit-below PLACES s.0 k
 
-pub places-at_number : (a b : AttrSet) → a.0 ≡ b.0 → Same (places a) (places b)
+pub places-at_number : (a b : AttrSet) → a.0 ≡ b.0 → places a ≡ places b
 unfolding places
-places-at_number a b same k = ap (λ n. has_bit PLACES n k) same
+places-at_number a b same = ap (has_bit PLACES) same
 
 -- two sets with the same members have the same number
-pub same_number : (a b : AttrSet) → a.0 < 2 ^ PLACES → b.0 < 2 ^ PLACES → Same (places a) (places b) → a.0 ≡ b.0
+pub same_number : (a b : AttrSet) → a.0 < 2 ^ PLACES → b.0 < 2 ^ PLACES → places a ≡ places b → a.0 ≡ b.0
 unfolding places
-same_number a b a_fits b_fits same = same_from_has_bit PLACES a.0 b.0 a_fits b_fits same
+same_number a b a_fits b_fits same = same_from_has_bit PLACES a.0 b.0 a_fits b_fits (same_at same)
 
 -- each set of places below the width is that of some set of attributes
 pub set_of_places : (x : Places) → Within x (below PLACES) → (s : AttrSet) × (s.0 < 2 ^ PLACES) × (places s ≡ x)
@@ -33,32 +46,11 @@ set_of_places x low =
     (record { 0 = found.0 }, found.1, fun_ext found.2)
 
 -- the test whether two sets have the same number tells whether they have the same members
-pub same_number-decides : (a b : AttrSet) → a.0 < 2 ^ PLACES → b.0 < 2 ^ PLACES → Decides (a.0 == b.0) (Same (places a) (places b))
+pub same_number-decides : (a b : AttrSet) → a.0 < 2 ^ PLACES → b.0 < 2 ^ PLACES → Decides (a.0 == b.0) (places a ≡ places b)
 same_number-decides a b a_fits b_fits = (
   λ equal. places-at_number a b (eqb-true a.0 b.0 equal),
   λ same. eq-eqb a.0 b.0 (same_number a b a_fits b_fits same),
 )
-
--- ---- equality
-
-pub Same-path : (x y : Places) → Same x y → x ≡ y
-Same-path x y same = fun_ext same
-
-pub Same-refl : (x : Places) → Same x x
-Same-refl x k = refl
-
-pub Same-sym : (x y : Places) → Same x y → Same y x
-Same-sym x y same k = sym (same k)
-
-pub Same-trans : (x y z : Places) → Same x y → Same y z → Same x z
-Same-trans x y z first second k = first k ∙ second k
-
--- each within the other
-pub Same-within : (x y : Places) → Within x y → Within y x → Same x y
-Same-within x y there back k = grind (arith, there k, back k)
-
-pub Within-same : (x y : Places) → Same x y → Within x y
-Within-same x y same k member = sym (same k) ∙ member
 
 -- ---- a test at every place below n
 
@@ -147,16 +139,16 @@ is_within-not x y low not_within = false_from_ne_true (is_within x y) (λ passes
 pub is_within-decides : (x y : Places) → Within x (below PLACES) → Decides (is_within x y) (Within x y)
 is_within-decides x y low = (is_within-true x y low, is_within-from x y)
 
-pub is_same-true : (x y : Places) → Within x (below PLACES) → Within y (below PLACES) → is_same x y ≡ true → Same x y
+pub is_same-true : (x y : Places) → Within x (below PLACES) → Within y (below PLACES) → is_same x y ≡ true → x ≡ y
 is_same-true x y x_low y_low passes =
     let both = and_parts (is_within x y) (is_within y x) passes in
-    Same-within x y (is_within-true x y x_low both.0) (is_within-true y x y_low both.1)
+    same_from_within x y (is_within-true x y x_low both.0) (is_within-true y x y_low both.1)
 
-pub is_same-from : (x y : Places) → Same x y → is_same x y ≡ true
+pub is_same-from : (x y : Places) → x ≡ y → is_same x y ≡ true
 is_same-from x y same =
-    and_from (is_within x y) (is_within y x) (is_within-from x y (Within-same x y same)) (is_within-from y x (Within-same y x (Same-sym x y same)))
+    and_from (is_within x y) (is_within y x) (is_within-from x y (Within-same x y same)) (is_within-from y x (Within-same y x (sym same)))
 
-pub is_same-decides : (x y : Places) → Within x (below PLACES) → Within y (below PLACES) → Decides (is_same x y) (Same x y)
+pub is_same-decides : (x y : Places) → Within x (below PLACES) → Within y (below PLACES) → Decides (is_same x y) (x ≡ y)
 is_same-decides x y x_low y_low = (is_same-true x y x_low y_low, is_same-from x y)
 
 pub is_apart-true : (x y : Places) → Within x (below PLACES) → is_apart x y ≡ true → Apart x y
@@ -195,9 +187,6 @@ pub count_below-equal : (n : ℕ) (x y : Places) → ((k : ℕ) → k < n → x 
 unfolding count_below
 count_below-equal zero x y same = refl
 count_below-equal (suc n) x y same = grind (arith, count_below-equal n x y (λ k lt. same k (omega arith)), same n (omega arith))
-
-pub count_below-same : (n : ℕ) (x y : Places) → Same x y → count_below x n ≡ count_below y n
-count_below-same n x y same = count_below-equal n x y (λ k lt. same k)
 
 -- fewer members, and a smaller count
 pub count_below-within : (n : ℕ) (x y : Places) → Within x y → count_below x n ≤ count_below y n

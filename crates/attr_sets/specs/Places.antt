@@ -1,3 +1,5 @@
+-- Sets of attributes as tests on numbers, with their operations, relations and order: for every
+-- definition of the theory.
 use Rattle.std.specs.Prelude.{◌≡◌, ℕ, ◌+◌, ◌<◌, ◌≤◌, ◌==◌, Bool, true, false, zero, suc, not, ◌&&◌, ◌||◌, nat_lt, if◌then◌else◌}
 
 -- a set of places, as its test
@@ -28,10 +30,6 @@ minus x y k = x k && not (y k)
 -- every member of x is in y
 abbrev pub Within : Places → Places → Type 0
 Within x y = (k : ℕ) → x k ≡ true → y k ≡ true
-
--- x and y have the same members
-abbrev pub Same : Places → Places → Type 0
-Same x y = (k : ℕ) → x k ≡ y k
 
 -- x has no member
 abbrev pub IsEmpty : Places → Type 0

@@ -1,3 +1,5 @@
+-- Which set of attributes an `AttrSet` of the code stands for, and tests of such sets: for every
+-- contract in which one stands.
 use Rattle.std.specs.Prelude.{ℕ, Bool, ◌==◌, ◌&&◌, ◌||◌, not, nat_lt}
 use Rattle.std.specs.Int.{bit_at}
 use Rattle.attr_sets.specs.declared.set.AttrSet.{AttrSet}

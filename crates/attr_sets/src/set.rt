@@ -1,5 +1,5 @@
 ghost use Rattle.std.specs.Prelude.{◌≡◌, ℕ, ◌+◌, ◌<◌, ◌≤◌, ◌↔◌, ◌==◌, false, not, IsTrue, IsNone, IfSome, refl};
-ghost use Rattle.attr_sets.specs.Places.{below, only, none, union, meet, minus, Within, Same, IsEmpty, Meets, IsBefore, IsLeastFrom, IsNextSubset, count_below};
+ghost use Rattle.attr_sets.specs.Places.{below, only, none, union, meet, minus, Within, IsEmpty, Meets, IsBefore, IsLeastFrom, IsNextSubset, count_below};
 ghost use Rattle.attr_sets.specs.Sets.{places, is_within, is_same, is_apart};
 
 use std::cmp::Ordering;
@@ -15,7 +15,7 @@ pub struct AttrSet(pub u128);
 impl AttrSet {
     /// The empty set.
     pub fn empty() -> AttrSet
-        ensures members { Same (places result) none }
+        ensures members { places result ≡ none }
     {
         AttrSet(0)
     }
@@ -23,7 +23,7 @@ impl AttrSet {
     /// The places below `n`.
     pub fn full(n: u8) -> AttrSet
         requires { n ≤ PLACES }
-        ensures members { Same (places result) (below n) }
+        ensures members { places result ≡ below n }
     {
         if n == 0 {
             AttrSet(0)
@@ -35,7 +35,7 @@ impl AttrSet {
     /// The set of place `i` alone.
     pub fn single(i: u8) -> AttrSet
         requires { i < PLACES }
-        ensures members { Same (places result) (only i) }
+        ensures members { places result ≡ only i }
     {
         AttrSet(1 << i)
     }
@@ -51,7 +51,7 @@ impl AttrSet {
     /// The set with place `i` added.
     pub fn with(self, i: u8) -> AttrSet
         requires { i < PLACES }
-        ensures members { Same (places result) (union (places self) (only i)) }
+        ensures members { places result ≡ union (places self) (only i) }
     {
         AttrSet(self.0 | 1 << i)
     }
@@ -59,28 +59,28 @@ impl AttrSet {
     /// The set with place `i` left out.
     pub fn without(self, i: u8) -> AttrSet
         requires { i < PLACES }
-        ensures members { Same (places result) (minus (places self) (only i)) }
+        ensures members { places result ≡ minus (places self) (only i) }
     {
         AttrSet(self.0 & !(1 << i))
     }
 
     /// The members of either set.
     pub fn union(self, other: AttrSet) -> AttrSet
-        ensures members { Same (places result) (union (places self) (places other)) }
+        ensures members { places result ≡ union (places self) (places other) }
     {
         AttrSet(self.0 | other.0)
     }
 
     /// The members of both sets.
     pub fn meet(self, other: AttrSet) -> AttrSet
-        ensures members { Same (places result) (meet (places self) (places other)) }
+        ensures members { places result ≡ meet (places self) (places other) }
     {
         AttrSet(self.0 & other.0)
     }
 
     /// The members of this set that are not in the other.
     pub fn minus(self, other: AttrSet) -> AttrSet
-        ensures members { Same (places result) (minus (places self) (places other)) }
+        ensures members { places result ≡ minus (places self) (places other) }
     {
         AttrSet(self.0 & !other.0)
     }
@@ -143,7 +143,7 @@ impl AttrSet {
     /// the subsets of a set are gone through from the empty one on, each once.
     pub fn next_subset(self, whole: AttrSet) -> Option<AttrSet>
         requires within { Within (places self) (places whole) }
-        ensures none { IsNone result ↔ Same (places self) (places whole) }
+        ensures none { IsNone result ↔ places self ≡ places whole }
         ensures next { IfSome result (λ next. IsNextSubset (places whole) (places self) (places next)) }
         ensures number { IfSome result (λ next. self.0 < next.0) }
     {
@@ -165,7 +165,7 @@ impl PartialEq for AttrSet {
     /// Whether the sets have the same members.
     fn eq(&self, other: &AttrSet) -> bool
         ensures number { result ≡ (self.now.0 == other.now.0) }
-        ensures same { IsTrue result ↔ Same (places self.now) (places other.now) }
+        ensures same { IsTrue result ↔ places self.now ≡ places other.now }
         ensures test { result ≡ is_same (places self.now) (places other.now) }
     {
         self.0 == other.0
@@ -189,7 +189,7 @@ impl Ord for AttrSet {
         ensures number { result ≡ nat_cmp self.now.0 other.now.0 }
         ensures order { MatchOrdering result
             (IsBefore (places self.now) (places other.now))
-            (Same (places self.now) (places other.now))
+            (places self.now ≡ places other.now)
             (IsBefore (places other.now) (places self.now)) }
     {
         let (x, y) = (self.0, other.0);

@@ -1,3 +1,5 @@
+-- The steps of the chase by a functional and by a multivalued dependency: for the rounds of
+-- `Rounds` and for tableau_chase.
 use Rattle.std.specs.Prelude.{◌≡◌, ℕ, ◌<◌, ◌⊎◌, ◌==◌, zero, suc, true, if◌then◌else◌, List, ◌∷◌, map, Contains, slice_set}
 use Rattle.std.specs.List.{range_with_len}
 use Rattle.attr_sets.specs.Places.{Places, union}

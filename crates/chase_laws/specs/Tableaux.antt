@@ -1,3 +1,5 @@
+-- Tableaux, and the one with which the chase of a plan begins: for the steps and rounds of the
+-- chase, and for tableau_chase.
 use Rattle.std.specs.Prelude.{◌≡◌, ℕ, ◌↔◌, suc, true, if◌then◌else◌, List, [], ◌∷◌, length, map, replicate, All, Contains, slice_index_or}
 use Rattle.std.specs.List.{range_with_len}
 use Rattle.attr_sets.specs.Places.{Places}

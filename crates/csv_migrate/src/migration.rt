@@ -12,9 +12,10 @@ ghost use Rattle.dep_model.specs.Tuples.{IsOver};
 use crate::projecting::projected;
 use attr_sets::AttrSet;
 use csv_rows::{Groups, Interned};
-use dep_model::{Name, Row, Schema, WantMemory};
-use named_tables::Table;
+use dep_model::{Name, Schema, WantMemory};
+use named_tables::{HeldTable, Table};
 use plans::Plan;
+use row_store::Rows;
 use std::alloc::Global;
 use table_names::{MOST_TABLES, table_name};
 
@@ -26,13 +27,14 @@ pub fn tables(
     alloc: Global,
     schema: &Schema,
     plan: &Plan,
-    rows: &[Row],
+    rows: &Rows,
 ) -> Result<Vec<Table>, WantMemory>
     requires over { IsOver (width_of schema.now) rows.now }
     requires few_rows { length rows.now < 2 ^ 32 }
     requires universe { IsPlanOver schema.now plan.now }
     requires few_schemes { length (scheme_sets plan.now) ≤ MOST_TABLES }
-    ensures tables { IfOk result (λ v. table_values v.items ≡ migrated schema.now (plan_of plan.now) rows.now) }
+    ensures tables { IfOk result (λ v.
+        table_values v.items ≡ migrated schema.now (plan_of plan.now) rows.now) }
     ensures schemes { IfOk result (λ v. schemes_in v.items ≡ scheme_sets plan.now) }
     ensures joins { LegalFor schema.now rows.now
         → IsLossless (width_of schema.now) (theory_of schema.now) (plan_of plan.now)
@@ -52,7 +54,7 @@ pub fn tables(
 fn table(
     alloc: Global,
     schema: &Schema,
-    rows: &[Row],
+    rows: &Rows,
     codes: &Interned,
     number: u32,
     scheme: AttrSet,
@@ -66,11 +68,14 @@ fn table(
     let groups = Groups::of(alloc, codes, scheme)?;
     let columns = columns(alloc, schema, scheme)?;
     let rows = projected(alloc, scheme, rows, groups.firsts())?;
+    let name = table_name(number);
     Ok(Table {
-        name: table_name(number),
         scheme,
-        columns,
-        rows,
+        held: HeldTable {
+            name,
+            columns,
+            rows,
+        },
     })
 }
 

@@ -5,14 +5,15 @@ ghost use Rattle.dep_model.specs.Projections.{project_tuple};
 ghost use Rattle.dep_model.specs.Tuples.{IsOver};
 
 use attr_sets::{AttrSet, PLACES};
-use dep_model::{Row, WantMemory};
+use dep_model::{Row, Value, WantMemory};
+use row_store::Rows;
 use std::alloc::Global;
 
 // The projections of the rows at these places, counted from 0.
 pub fn projected(
     alloc: Global,
     scheme: AttrSet,
-    rows: &[Row],
+    rows: &Rows,
     chosen: &[u32],
 ) -> Result<Vec<Row>, WantMemory>
     requires narrow { All (λ t. length t ≤ PLACES) rows.now }
@@ -22,7 +23,7 @@ pub fn projected(
 {
     let mut projections = Vec::with_capacity(alloc, chosen.len())?;
     for i in chosen {
-        let row = project(alloc, scheme, &rows[*i as usize])?;
+        let row = project(alloc, scheme, rows, *i as usize)?;
         projections.push(row)?;
     }
     Ok(projections)
@@ -30,14 +31,15 @@ pub fn projected(
 
 // The values of a row at the places of a scheme.
 #[tactic(auto, using(crate::proofs::ProjectionLemmas::value_steps))]
-fn project(alloc: Global, scheme: AttrSet, row: &Row) -> Result<Row, WantMemory>
-    requires narrow { length row.now ≤ PLACES }
-    ensures row { IfOk result (λ t. t ≡ project_tuple (places scheme) row.now) }
+fn project(alloc: Global, scheme: AttrSet, rows: &Rows, row: usize) -> Result<Row, WantMemory>
+    requires row { row < length rows.now }
+    requires narrow { length (row_at rows.now row) ≤ PLACES }
+    ensures row { IfOk result (λ t. t ≡ project_tuple (places scheme) (row_at rows.now row)) }
 {
     let mut values = Vec::with_capacity(alloc, scheme.len() as usize)?;
-    for place in 0..row.len() {
+    for place in 0..rows.width(row) {
         if scheme.has(place as u8) {
-            values.push(row.value(place).copy(alloc)?)?;
+            values.push(Value::make(alloc, rows.value(row, place))?)?;
         }
     }
     Ok(Row::make(values))

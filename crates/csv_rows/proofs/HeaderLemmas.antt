@@ -1,13 +1,14 @@
 -- The columns of a header, field by field.
 use Rattle.std.proofs.Common.{◌≡◌, ◌+◌, ◌<◌, ◌||◌, ◌==◌, ℕ, suc, Bool, true, false, if◌then◌else◌, nat_eq, List, [], ◌∷◌, ◌++◌, length, map, drop, Option, Some, None, Result, Ok, Err, slice_index_or, nat_lt, cond, refl, sym, ap, subst, ◌∙◌, arith}
+use mathlib.Core.Path.{fun_ext}
 use Rattle.std.specs.List.{position_or_len, position}
 use Rattle.std.proofs.Math.Seq.{drop-cons}
 use Rattle.std.proofs.lemmas.List.{map-append, append-nil, length-append}
 use Rattle.std.proofs.lemmas.List.Folds.{list_any-append, list_any_at, list_any_none}
 use Rattle.std.proofs.lemmas.List.Quantifiers.{position-Some}
 use Rattle.std.proofs.lemmas.List.Sums.{position_or_len_is, fails_before_first}
-use Rattle.attr_sets.proofs.PlacesLemmas.{count_below-none, count_below-union_only, count_below-same}
-use Rattle.attr_sets.specs.Places.{Places, Same, union, only, none, count_below}
+use Rattle.attr_sets.proofs.PlacesLemmas.{count_below-none, count_below-union_only, same_at}
+use Rattle.attr_sets.specs.Places.{Places, union, only, none, count_below}
 use Rattle.dep_model.specs.Projections.{members_below}
 use Rattle.dep_model.specs.Schemas.{place_named}
 use Rattle.csv_rows.specs.declared.header.Placed.{Placed}
@@ -16,17 +17,17 @@ use Rattle.csv_rows.specs.declared.refusal.RowRefusal.TheVariants as refusal
 use Rattle.csv_rows.specs.Columns.{with_columns, column_of, columns_of_header, columns_from, placed, order_of, ◌>>=◌}
 
 -- an attribute after others
-pub named_after : (columns : List ℕ) (a : ℕ) → Same (with_columns (columns ++ a ∷ [])) (union (with_columns columns) (only a))
-named_after columns a k = list_any-append (nat_eq k) columns (a ∷ []) ∙ ap (λ (b : Bool). with_columns columns k || b) (or_false (k == a))
+pub named_after : (columns : List ℕ) (a : ℕ) → with_columns (columns ++ a ∷ []) ≡ union (with_columns columns) (only a)
+named_after columns a = fun_ext (λ k. list_any-append (nat_eq k) columns (a ∷ []) ∙ ap (λ (b : Bool). with_columns columns k || b) (or_false (k == a)))
   where
     or_false : (b : Bool) → (b || false) ≡ b
     or_false true = refl
     or_false false = refl
 
 -- a column looks at the members of a set alone
-pub column_of-same : (column : ℕ) (x y : Places) (o : Option ℕ) → Same x y → column_of column x o ≡ column_of column y o
+pub column_of-same : (column : ℕ) (x y : Places) (o : Option ℕ) → x ≡ y → column_of column x o ≡ column_of column y o
 column_of-same column x y None e = refl
-column_of-same column x y (Some a) e = ap (λ (b : Bool). if b then Err (refusal.DoubleColumn column) else Ok a) (e a)
+column_of-same column x y (Some a) e = ap (λ (b : Bool). if b then Err (refusal.DoubleColumn column) else Ok a) (same_at e a)
 
 -- the fields from a place on are one and those after it
 columns_step : (names : List (List ℕ)) (before : List ℕ) (fields : List (List ℕ)) (i : ℕ) → i < length fields
@@ -38,14 +39,14 @@ columns_step names before fields i h =
     ap (columns_from names before) (drop-cons fields i [] h)
     ∙ ap (λ (j : ℕ). column_of (length before + 1) (with_columns before) (place_named names (slice_index_or fields i [])) >>= (λ a. columns_from names (before ++ a ∷ []) (drop j fields))) next
 
-pub columns_next : (names : List (List ℕ)) (before : List ℕ) (fields : List (List ℕ)) (i a : ℕ) (x : Places) → i < length fields → Same x (with_columns before)
+pub columns_next : (names : List (List ℕ)) (before : List ℕ) (fields : List (List ℕ)) (i a : ℕ) (x : Places) → i < length fields → x ≡ with_columns before
     → column_of (length before + 1) x (place_named names (slice_index_or fields i [])) ≡ Ok a
     → columns_from names before (drop i fields) ≡ columns_from names (before ++ a ∷ []) (drop (i + 1) fields)
 columns_next names before fields i a x h same e =
     columns_step names before fields i h
     ∙ ap (λ (r : Result ℕ RowRefusal). r >>= (λ b. columns_from names (before ++ b ∷ []) (drop (i + 1) fields))) (sym (column_of-same _ x (with_columns before) _ same) ∙ e)
 
-pub columns_refused : (names : List (List ℕ)) (before : List ℕ) (fields : List (List ℕ)) (i : ℕ) (x : Places) (e : RowRefusal) → i < length fields → Same x (with_columns before)
+pub columns_refused : (names : List (List ℕ)) (before : List ℕ) (fields : List (List ℕ)) (i : ℕ) (x : Places) (e : RowRefusal) → i < length fields → x ≡ with_columns before
     → column_of (length before + 1) x (place_named names (slice_index_or fields i [])) ≡ Err e
     → columns_from names before (drop i fields) ≡ Err e
 columns_refused names before fields i x e h same r =
@@ -106,14 +107,14 @@ order_same n columns order e h =
 
 -- a header of which some fields are read: their columns, the set of these, and what the rest gives
 pub record ReadsColumns (names : List (List ℕ)) (fields : List (List ℕ)) (i : ℕ) (columns : List ℕ) (x : Places) : Type 0 where
-  pub same : Same x (with_columns columns)
+  pub same : x ≡ with_columns columns
   pub count : length columns ≡ count_below x 128
   pub reads : columns_of_header names fields ≡ columns_from names columns (drop i fields)
 
-pub no_columns : (names fields : List (List ℕ)) (columns : List ℕ) (x : Places) → columns ≡ [] → Same x none → ReadsColumns names fields 0 columns x
+pub no_columns : (names fields : List (List ℕ)) (columns : List ℕ) (x : Places) → columns ≡ [] → x ≡ none → ReadsColumns names fields 0 columns x
 no_columns names fields columns x e same = subst (λ (l : List ℕ). ReadsColumns names fields 0 l x) (sym e) (record {
   same = same;
-  count = sym (count_below-none 128 x (λ k h. same k));
+  count = sym (count_below-none 128 x (λ k h. same_at same k));
   reads = refl;
 })
 
@@ -124,13 +125,13 @@ column_at : (names : List (List ℕ)) (fields : List (List ℕ)) (i n : ℕ) (co
 column_at names fields i n columns field x r count is e = rw (← count, ← is) (sym e)
 
 pub one_column : (names fields : List (List ℕ)) (i n : ℕ) (columns field : List ℕ) (x y : Places) (a : ℕ) → ReadsColumns names fields i columns x → i < length fields → a < 128
-    → n ≡ length columns → field ≡ slice_index_or fields i [] → Ok a ≡ column_of (n + 1) x (place_named names field) → Same y (union x (only a))
+    → n ≡ length columns → field ≡ slice_index_or fields i [] → Ok a ≡ column_of (n + 1) x (place_named names field) → y ≡ union x (only a)
     → ReadsColumns names fields (i + 1) (columns ++ a ∷ []) y
 one_column names fields i n columns field x y a r h small count is e more =
     let given = column_at names fields i n columns field x (Ok a) count is e in
     record {
-      same = λ k. more k ∙ ap (λ (b : Bool). b || (k == a)) (r.same k) ∙ sym (named_after columns a k);
-      count = length-append columns (a ∷ []) ∙ ap (λ (m : ℕ). m + 1) r.count ∙ sym (count_below-union_only 128 x a small (was_free _ a x _ given)) ∙ sym (count_below-same 128 y (union x (only a)) more);
+      same = more ∙ ap (λ (z : Places). union z (only a)) r.same ∙ sym (named_after columns a);
+      count = length-append columns (a ∷ []) ∙ ap (λ (m : ℕ). m + 1) r.count ∙ sym (count_below-union_only 128 x a small (was_free _ a x _ given)) ∙ sym (ap (λ (z : Places). count_below z 128) more);
       reads = r.reads ∙ columns_next names columns fields i a x h r.same given;
     }
 

@@ -1,5 +1,6 @@
 -- Numbers in the order of first occurrence.
 use Rattle.std.proofs.Common.{inl, inr, true≢false, unwrap_or, option_map, ◌||◌, ◌&&◌, ◌==◌, nat_lt, replicate, Bor, ◌≡◌, ◌≢◌, ◌+◌, ◌<◌, ◌≤◌, ◌↔◌, ◌⊎◌, ℕ, zero, suc, Bool, true, false, if◌then◌else◌, nat_eq, List, [], ◌∷◌, ◌++◌, length, map, Option, Some, slice_index_or, get_or, refl, sym, ap, subst, ◌∙◌, arith}
+use mathlib.Core.Path.{fun_ext}
 use Rattle.std.specs.List.{slice_get, list_any, position_or_len}
 use Rattle.std.proofs.Math.Seq.{get_or-append_seam}
 use Rattle.std.proofs.lemmas.Bool.{cases_Bool, cases_lt, eqb-true, eq-eqb}
@@ -9,12 +10,13 @@ use Rattle.std.proofs.lemmas.List.Sums.{position_or_len_is, fails_before_first, 
 use Rattle.std.proofs.lemmas.Slice.Eq.{bytes_eq-Decides}
 use Rattle.std.specs.Cmp.Lexicographic.{pointwise}
 use Rattle.std.proofs.lemmas.Option.{slice_get-map, slice_get_within, slice_get-get_or}
-use Rattle.attr_sets.specs.Places.{Places, Same, Within, below, meet, only, union, none}
+use Rattle.attr_sets.specs.Places.{Places, Within, below, meet, only, union, none}
 use Rattle.dep_model.specs.Tuples.{Tuple, Relation, AgreeOn, value_at}
 use Rattle.indexmap.specs.IndexSet.{insert_key}
 use Rattle.csv_rows.specs.Numberings.{row_at, number_at, AreGroups, AreFirsts, AreNumbered, AreInOrder}
 use Rattle.dep_model.proofs.TwoRowLemmas.{AgreeOn-union, AgreeOn-left, AgreeOn-right}
 use Rattle.std.specs.Prelude.{Contains}
+use Rattle.attr_sets.proofs.PlacesLemmas.{same_at}
 
 -- a value is given a number: that of an equal one that was seen, or the next one
 pub record Gets {X : Type 0} (v : X) (seen after : List X) (r : ℕ) : Type 0 where
@@ -189,12 +191,12 @@ single_group rows x k groups codes g zeros c = record {
 }
 
 -- a set looks at its members alone
-pub same_groups : (rows : Relation) (x y : Places) (groups : List ℕ) → Same x y → AreGroups rows x groups → AreGroups rows y groups
+pub same_groups : (rows : Relation) (x y : Places) (groups : List ℕ) → x ≡ y → AreGroups rows x groups → AreGroups rows y groups
 same_groups rows x y groups same g = record {
   one_each = g.one_each;
   equal = λ i j li lj. (
-    (λ e m has. (g.equal i j li lj).0 e m (same m ∙ has)),
-    (λ a. (g.equal i j li lj).1 (λ m has. a m (sym (same m) ∙ has))),
+    (λ e m has. (g.equal i j li lj).0 e m (same_at same m ∙ has)),
+    (λ a. (g.equal i j li lj).1 (λ m has. a m (sym (same_at same m) ∙ has))),
   );
   in_order = g.in_order;
 }
@@ -205,14 +207,13 @@ same_default (x ∷ xs) zero d e l = refl
 same_default (x ∷ xs) (suc i) d e l = same_default xs i d e (omega (arith, l))
 
 -- one value more of a column
-pub column_step : (rows : Relation) (k n : ℕ) (row : Tuple) (keys after : List (Bor (List ℕ))) (key : Bor (List ℕ)) (numbers items : List ℕ) (r : ℕ)
+pub column_step : (rows : Relation) (k n : ℕ) (keys after : List (Bor (List ℕ))) (key : Bor (List ℕ)) (numbers items : List ℕ) (r : ℕ)
     → AreNumbered (λ i. value_at (row_at rows i) k) n (map (λ (s : Bor (List ℕ)). s.now) keys) numbers
-    → n < length rows → row ≡ get_or rows n row → key.now ≡ value_at row k
+    → key.now ≡ value_at (row_at rows n) k
     → after ≡ insert_key (λ (x y : Bor (List ℕ)). pointwise nat_eq x.now y.now) keys key → r ≡ position_or_len (λ (y : Bor (List ℕ)). pointwise nat_eq key.now y.now) keys
     → items ≡ numbers ++ r ∷ []
     → AreNumbered (λ i. value_at (row_at rows i) k) (n + 1) (map (λ (s : Bor (List ℕ)). s.now) after) items
-column_step rows k n row keys after key numbers items r old within is_row is_key grown at pushed =
-    let value : key.now ≡ value_at (row_at rows n) k = is_key ∙ ap (λ (t : Tuple). value_at t k) (is_row ∙ same_default rows n row [] within) in
+column_step rows k n keys after key numbers items r old value grown at pushed =
     let gets = inserted (λ (x y : Bor (List ℕ)). pointwise nat_eq x.now y.now) (λ (s : Bor (List ℕ)). s.now)
     (λ x y. (bytes_eq-Decides x.now y.now).0) (λ x y. (bytes_eq-Decides x.now y.now).1) keys after key r grown at in
     subst (λ (l : List ℕ). AreNumbered (λ i. value_at (row_at rows i) k) (n + 1) (map (λ (s : Bor (List ℕ)). s.now) after) l) (sym pushed)
@@ -269,8 +270,8 @@ zeros_at zero i = refl
 zeros_at (suc n) zero = refl
 zeros_at (suc n) (suc i) = zeros_at n i
 
-pub meet_in : (x : Places) (k : ℕ) → x k ≡ true → Same (union (meet x (below k)) (only k)) (meet x (below (k + 1)))
-meet_in x k h m = elim (cases_Bool (m == k)) [
+pub meet_in : (x : Places) (k : ℕ) → x k ≡ true → union (meet x (below k)) (only k) ≡ meet x (below (k + 1))
+meet_in x k h = fun_ext (λ m. elim (cases_Bool (m == k)) [
   | inl same ↦
       let e : m ≡ k = eqb-true m k same in
       let has : x m ≡ true = ap x e ∙ h in
@@ -279,7 +280,7 @@ meet_in x k h m = elim (cases_Bool (m == k)) [
   | inr other ↦
       let low : nat_lt m k ≡ nat_lt m (k + 1) = grind (arith, other) in
       ap (λ (b : Bool). (x m && nat_lt m k) || b) other ∙ or_false (x m && nat_lt m k) ∙ ap (λ (b : Bool). x m && b) low
-]
+])
   where
     or_true : (b : Bool) → (b || true) ≡ true
     or_true true = refl
@@ -289,20 +290,20 @@ meet_in x k h m = elim (cases_Bool (m == k)) [
     or_false true = refl
     or_false false = refl
 
-pub meet_out : (x : Places) (k : ℕ) → x k ≡ false → Same (meet x (below k)) (meet x (below (k + 1)))
-meet_out x k h m = elim (cases_Bool (m == k)) [
+pub meet_out : (x : Places) (k : ℕ) → x k ≡ false → meet x (below k) ≡ meet x (below (k + 1))
+meet_out x k h = fun_ext (λ m. elim (cases_Bool (m == k)) [
   | inl same ↦
       let has : x m ≡ false = ap x (eqb-true m k same) ∙ h in
       ap (λ (b : Bool). b && nat_lt m k) has ∙ sym (ap (λ (b : Bool). b && nat_lt m (k + 1)) has)
   | inr other ↦ let low : nat_lt m k ≡ nat_lt m (k + 1) = grind (arith, other) in ap (λ (b : Bool). x m && b) low
-]
+])
 
-pub meet_all : (x : Places) (n : ℕ) → Within x (below n) → Same (meet x (below n)) x
-meet_all x n within m = by (x m) (within m)
+pub meet_all : (x : Places) (n : ℕ) → Within x (below n) → meet x (below n) ≡ x
+meet_all x n within = fun_ext (λ k. by k (x k) (within k))
   where
-    by : (b : Bool) → (b ≡ true → nat_lt m n ≡ true) → (b && nat_lt m n) ≡ b
-    by true h = h refl
-    by false h = refl
+    by : (k : ℕ) (b : Bool) → (b ≡ true → nat_lt k n ≡ true) → (b && nat_lt k n) ≡ b
+    by k true h = h refl
+    by k false h = refl
 
 -- the first rows of the numbers up to a row
 pub record FirstsBefore (numbers : List ℕ) (i : ℕ) (firsts : List ℕ) : Type 0 where

@@ -31,10 +31,11 @@ use Rattle.csv_rows.proofs.RecordLemmas.{one_more, no_more}
 use Rattle.csv_rows.specs.Columns.{with_columns, column_of, columns_of_header, columns_from, IsHeaderOf, ◌>>=◌}
 use Rattle.csv_rows.specs.Reading.{value_of, tuple_of, RowOf, AreFirstRows, RowsOf, TableOf}
 use Rattle.csv_rows.specs.Records.{records_of}
-use Rattle.csv_rows.specs.RowsText.{rows_only, rows_text}
+use Rattle.csv_text.specs.Rows.{rows_only, rows_text}
 use Rattle.csv_rows.specs.declared.reading.TheConstants.{MOST_ROWS}
 use Rattle.csv_rows.specs.declared.refusal.RowRefusal.{RowRefusal}
 use Rattle.csv_rows.specs.declared.refusal.RowRefusal.TheVariants as refusal
+use Rattle.attr_sets.proofs.PlacesLemmas.{same_at}
 
 -- ---- the records of the text
 back_same : (row : List (List ℕ)) → 0 < length row → read_back row ≡ row
@@ -132,10 +133,10 @@ range_more n = range_push 0 n ∙ ap (λ (m : ℕ). range_with_len 0 n ++ m ∷ 
 pub named_range : (n k : ℕ) → with_columns (range_with_len 0 n) k ≡ nat_lt k n
 named_range zero k = grind (arith, nat_tests)
 named_range (suc n) k =
-    ap (λ (l : List ℕ). with_columns l k) (range_more n) ∙ named_after (range_with_len 0 n) n k
+    ap (λ (l : List ℕ). with_columns l k) (range_more n) ∙ same_at (named_after (range_with_len 0 n) n) k
     ∙ ap (λ (b : Bool). b || (k == n)) (named_range n k) ∙ grind (arith, nat_tests)
 
-own_column : (column m : ℕ) (x : Places) (o : Option ℕ) → o ≡ Some m → x m ≡ false → column_of column x o ≡ Ok m
+pub own_column : (column m : ℕ) (x : Places) (o : Option ℕ) → o ≡ Some m → x m ≡ false → column_of column x o ≡ Ok m
 own_column column m x o e f = rw (e, f) refl
 
 seam : (before : List (List ℕ)) (name : List ℕ) (after : List (List ℕ)) (d : List ℕ)
@@ -143,7 +144,7 @@ seam : (before : List (List ℕ)) (name : List ℕ) (after : List (List ℕ)) (d
 seam [] name after d = refl
 seam (b ∷ before) name after d = seam before name after d
 
-other_name : (before : List (List ℕ)) (name : List ℕ) (after : List (List ℕ)) (k : ℕ) (d : List ℕ) → k < length before
+pub other_name : (before : List (List ℕ)) (name : List ℕ) (after : List (List ℕ)) (k : ℕ) (d : List ℕ) → k < length before
     → AllPairs (λ a b. same_name a b ≡ false) (before ++ name ∷ after)
     → same_name (slice_index_or before k d) name ≡ false
 other_name [] name after k d h differ = absurd (omega (arith, h))

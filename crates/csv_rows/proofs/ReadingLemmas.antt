@@ -1,5 +1,5 @@
 -- What a header and the records below it give, field by field and record by record.
-use Rattle.std.proofs.Common.{inl, inr, ◌≡◌, ◌≢◌, ◌+◌, ◌<◌, ◌≤◌, ℕ, zero, suc, Bool, true, false, if◌then◌else◌, not, ◌&&◌, nat_lt, nat_eq, List, [], ◌∷◌, ◌++◌, length, map, take, Option, Some, None, Result, Ok, Err, IfOk, IfErr, slice_index_or, get_or, add-one, refl, sym, ap, subst, ◌∙◌, arith}
+use Rattle.std.proofs.Common.{inl, inr, ◌≡◌, ◌+◌, ◌<◌, ◌≤◌, ℕ, zero, suc, Bool, true, false, if◌then◌else◌, not, ◌&&◌, nat_lt, nat_eq, List, [], ◌∷◌, ◌++◌, length, map, take, Option, Some, None, Result, Ok, Err, IfOk, IfErr, slice_index_or, get_or, add-one, refl, sym, ap, subst, ◌∙◌, arith}
 use Rattle.std.specs.Borrow.{Bor}
 use Rattle.std.specs.List.{slice_get, position_or_len}
 use Rattle.std.proofs.Math.ListN.{get_or-map}
@@ -7,9 +7,13 @@ use Rattle.std.proofs.Math.Seq.{take-suc, get_or-append_seam}
 use Rattle.std.proofs.lemmas.Bool.{cases_Bool, cases_lt}
 use Rattle.std.proofs.lemmas.List.{append-nil, length-append, length-map, map-append, take_all, append_assoc, get_or_append_left}
 use Rattle.std.proofs.lemmas.Option.{slice_get_within}
-use Rattle.attr_sets.specs.Places.{Places, Within, Same, IsEmpty, below, minus, IsLeastFrom, count_below}
-use Rattle.attr_sets.proofs.PlacesLemmas.{count_below-place, count_below-equal, count_below-below}
+use Rattle.attr_sets.specs.Places.{Places, Within, IsEmpty, below, minus, IsLeastFrom, count_below}
+use Rattle.attr_sets.proofs.PlacesLemmas.{count_below-place, count_below-equal, count_below-below, same_at}
 use Rattle.csv.specs.declared.reader.Reader.{Reader}
+use Rattle.dep_model.specs.Failures.{RefusesAs}
+use Rattle.dep_model.specs.declared.failure.Failure.{Failure}
+use Rattle.dep_model.specs.declared.failure.Failure.TheVariants.{Refused, OutOfMemory}
+use Rattle.dep_model.proofs.FailureLemmas.{refuses_also}
 use Rattle.dep_model.specs.Integers.{IsIntegerText}
 use Rattle.dep_model.specs.Projections.{members_below}
 use Rattle.dep_model.specs.Schemas.{names_of, width_of, place_named, columns_of as types_of, TypedFor}
@@ -30,7 +34,7 @@ use Rattle.csv_rows.specs.Columns.{with_columns, placed, order_of, column_of, co
 use Rattle.csv_rows.specs.Reading.{value_of, HasInteger, RowOf, RowAt, AreFirstRows, RowsUnder, TableOf, RowsOf, ReadsHeader, RefusesHeader}
 
 -- the first record is the header
-pub header_read : (s : Schema) (old new : Reader (Bor (List ℕ))) (fields : List (List ℕ)) (b : Bool) (r : Result Header RowRefusal) (rs : List (List (List ℕ)))
+pub header_read : (s : Schema) (old new : Reader (Bor (List ℕ))) (fields : List (List ℕ)) (b : Bool) (r : Result Header (Failure RowRefusal)) (rs : List (List (List ℕ)))
     → b ≡ true → TakesRecord b old new fields → HasLeft old rs
     → IfOk r (λ h. (columns : List ℕ) × (columns_of_header (names_of s) fields ≡ Ok columns) × IsHeader (width_of s) columns h)
     → IfOk r (λ h. ReadsHeader s rs new h)
@@ -40,15 +44,15 @@ header_read s old new fields b (Ok h) rs is takes left means =
     let (more, all, rest) = takes rs left in
     record { fields = fields; records = more; all = all; columns = means.0; means = means.1; kept = means.2; left = rest }
 
-pub header_refused : (names : List (List ℕ)) (old new : Reader (Bor (List ℕ))) (fields : List (List ℕ)) (b : Bool) (r : Result Header RowRefusal) (rs : List (List (List ℕ)))
+pub header_refused : (names : List (List ℕ)) (old new : Reader (Bor (List ℕ))) (fields : List (List ℕ)) (b : Bool) (r : Result Header (Failure RowRefusal)) (rs : List (List (List ℕ)))
     → b ≡ true → TakesRecord b old new fields → HasLeft old rs
-    → IfErr r (λ e. e ≢ refusal.Memory → columns_of_header names fields ≡ Err e)
-    → IfErr r (λ e. e ≢ refusal.Memory → RefusesHeader names rs e)
+    → IfErr r (RefusesAs (λ e. columns_of_header names fields ≡ Err e)) → IfErr r (RefusesAs (RefusesHeader names rs))
 header_refused names old new fields b (Ok h) rs is takes left means = tt
-header_refused names old new fields b (Err e) rs is takes left means =
+header_refused names old new fields b (Err OutOfMemory) rs is takes left means = tt
+header_refused names old new fields b (Err (Refused e)) rs is takes left means =
     let takes : TakesRecord true old new fields = subst (λ (t : Bool). TakesRecord t old new fields) is takes in
     let (more, all, rest) = takes rs left in
-    λ other. subst (λ (l : List (List (List ℕ))). RefusesHeader names l e) (sym all) (means other)
+    subst (λ (l : List (List (List ℕ))). RefusesHeader names l e) (sym all) means
 
 pub no_header : (names : List (List ℕ)) (old new : Reader (Bor (List ℕ))) (fields : List (List ℕ)) (b : Bool) (rs : List (List (List ℕ)))
     → b ≡ false → TakesRecord b old new fields → HasLeft old rs → RefusesHeader names rs refusal.NoHeader
@@ -86,7 +90,6 @@ refused_whole s (header ∷ records) e h = (Err e, whole e h, refl)
     whole (refusal.UnevenRow r) h = h
     whole refusal.TooManyRows h = h
     whole (refusal.NotInteger r a) h = h
-    whole refusal.Memory h = h
 
 pub refused_part : (s : Schema) (rs : List (List (List ℕ))) (e : RowRefusal) → RefusesHeader (names_of s) rs e
     → TableOf s (λ header columns. columns ≡ columns_of_header (names_of s) header) rs (Err e)
@@ -95,24 +98,24 @@ refused_part s (header ∷ records) e h = (Err e, sym h, refl)
 
 -- a header without a column for each attribute
 pub refused_missing : (s : Schema) (rs : List (List (List ℕ))) (reader : Reader (Bor (List ℕ))) (h : Header) (x : Places) (a : ℕ)
-    → ReadsHeader s rs reader h → Same x (minus (below (width_of s)) (places h.scheme)) → IsLeastFrom x 0 a
+    → ReadsHeader s rs reader h → x ≡ minus (below (width_of s)) (places h.scheme) → IsLeastFrom x 0 a
     → TableOf s (IsHeaderOf (width_of s) (names_of s)) rs (Err (refusal.MissingColumn a))
 refused_missing s rs reader h x a read same least =
-    let all : Same x (minus (below (width_of s)) (with_columns read.columns)) = λ k. same k ∙ ap (λ (b : Bool). nat_lt k (width_of s) && not b) (read.kept.scheme k) in
+    let all : x ≡ minus (below (width_of s)) (with_columns read.columns) = same ∙ ap (λ (z : Places). minus (below (width_of s)) z) read.kept.scheme in
     let moved : IsLeastFrom (minus (below (width_of s)) (with_columns read.columns)) 0 a = record {
       from_on = least.from_on;
-      member = sym (all a) ∙ least.member;
-      least = λ k f l. sym (all k) ∙ least.least k f l;
+      member = sym (same_at all a) ∙ least.member;
+      least = λ k f l. sym (same_at all k) ∙ least.least k f l;
     } in
     subst (λ (l : List (List (List ℕ))). TableOf s (IsHeaderOf (width_of s) (names_of s)) l (Err (refusal.MissingColumn a))) (sym read.all)
     (Err (refusal.MissingColumn a), (read.columns, read.means, moved), refl)
 
 -- the rows under a header with a column for each attribute
 pub whole_rows : (s : Schema) (rs : List (List (List ℕ))) (reader : Reader (Bor (List ℕ))) (h : Header) (x : Places) (result : Result Relation RowRefusal)
-    → (read : ReadsHeader s rs reader h) → Same x (minus (below (width_of s)) (places h.scheme)) → IsEmpty x → RowsUnder s (Ok read.columns) read.records result
+    → (read : ReadsHeader s rs reader h) → x ≡ minus (below (width_of s)) (places h.scheme) → IsEmpty x → RowsUnder s (Ok read.columns) read.records result
     → TableOf s (IsHeaderOf (width_of s) (names_of s)) rs result
 whole_rows s rs reader h x result read same empty rows =
-    let within : Within (below (width_of s)) (with_columns read.columns) = λ k has. inside k has (sym (read.kept.scheme k)) (sym (same k) ∙ empty k) in
+    let within : Within (below (width_of s)) (with_columns read.columns) = λ k has. inside k has (sym (same_at read.kept.scheme k)) (sym (same_at same k) ∙ empty k) in
     subst (λ (l : List (List (List ℕ))). TableOf s (IsHeaderOf (width_of s) (names_of s)) l result) (sym read.all)
     (Ok read.columns, (read.means, within), rows)
   where
@@ -320,16 +323,17 @@ row_refused s columns rs old new b fields rows n e p is takes count row =
     (rows, p.first, within, here)
 
 -- the attributes without a column, as the sets of the code have them
-pub lacking : (n m : ℕ) (full scheme x : Places) → n ≡ m → Same full (below n) → Same x (minus full scheme) → Same x (minus (below m) scheme)
-lacking n m full scheme x e whole rest k = rest k ∙ ap (λ (b : Bool). b && not (scheme k)) (whole k ∙ ap (λ (j : ℕ). nat_lt k j) e)
+pub lacking : (n m : ℕ) (full scheme x : Places) → n ≡ m → full ≡ below n → x ≡ minus full scheme → x ≡ minus (below m) scheme
+lacking n m full scheme x e whole rest = rest ∙ ap (λ (z : Places). minus z scheme) (whole ∙ ap below e)
 
-pub on_ok : {T : Type 0} (P Q : T → Type 0) (r : Result T RowRefusal) → ((v : T) → P v → Q v) → IfOk r P → IfOk r Q
+pub on_ok : {T E : Type 0} (P Q : T → Type 0) (r : Result T E) → ((v : T) → P v → Q v) → IfOk r P → IfOk r Q
 on_ok P Q (Ok v) f h = f v h
 on_ok P Q (Err e) f h = tt
 
-pub on_err : {T : Type 0} (P Q : RowRefusal → Type 0) (r : Result T RowRefusal) → ((e : RowRefusal) → P e → Q e) → IfErr r P → IfErr r Q
+pub on_err : {T R : Type 0} (P Q : R → Type 0) (r : Result T (Failure R)) → ((e : R) → P e → Q e) → IfErr r (RefusesAs P)
+    → IfErr r (RefusesAs Q)
 on_err P Q (Ok v) f h = tt
-on_err P Q (Err e) f h = f e h
+on_err P Q (Err e) f h = refuses_also P Q e f h
 
 -- the members of a set that has all places below n
 pub whole_count : (n : ℕ) (x : Places) → Within (below n) x → (k : ℕ) → k ≤ n → count_below x k ≡ k

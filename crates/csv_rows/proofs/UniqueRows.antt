@@ -37,7 +37,6 @@ seen_row s columns row fields (Err refusal.NoHeader) h = absurd h
 seen_row s columns row fields (Err (refusal.UnknownColumn c)) h = absurd h
 seen_row s columns row fields (Err (refusal.DoubleColumn c)) h = absurd h
 seen_row s columns row fields (Err (refusal.MissingColumn a)) h = absurd h
-seen_row s columns row fields (Err refusal.Memory) h = absurd h
 
 -- a record gives one tuple or one refusal
 row_same : (s : Schema) (columns : List ℕ) (row : ℕ) (fields : List (List ℕ)) (one other : Result Tuple RowRefusal)
@@ -134,7 +133,6 @@ seen_header n names header (Err (refusal.NotInteger r k)) h = inr (inr ((refusal
 seen_header n names header (Err refusal.NoHeader) h = inr (inr (refusal.NoHeader, refl, h))
 seen_header n names header (Err (refusal.UnknownColumn m)) h = inr (inr ((refusal.UnknownColumn m), refl, h))
 seen_header n names header (Err (refusal.DoubleColumn m)) h = inr (inr ((refusal.DoubleColumn m), refl, h))
-seen_header n names header (Err refusal.Memory) h = inr (inr (refusal.Memory, refl, h))
 
 columns_same : (r : Result (List ℕ) RowRefusal) (columns others : List ℕ) → r ≡ Ok columns → r ≡ Ok others
     → columns ≡ others

@@ -1,6 +1,8 @@
+-- Which attribute each column of a header stands for, or why it is no header: for `read_rows` and
+-- `read_part`, by `Reading`.
 use Rattle.std.specs.Prelude.{◌≡◌, ◌+◌, ℕ, if◌then◌else◌, List, [], ◌∷◌, ◌++◌, length, map, nat_eq, Option, None, Some, Result, Ok, Err}
 use Rattle.std.specs.List.{list_any, position_or_len}
-use Rattle.attr_sets.specs.Places.{Places, Same, Within, below, minus, IsLeastFrom}
+use Rattle.attr_sets.specs.Places.{Places, Within, below, minus, IsLeastFrom}
 use Rattle.attr_sets.specs.Sets.{places}
 use Rattle.dep_model.specs.Schemas.{place_named}
 use Rattle.dep_model.specs.Projections.{members_below}
@@ -54,5 +56,5 @@ order_of n columns = map (placed columns) (members_below n (with_columns columns
 -- what is kept of a header with these columns
 pub record IsHeader (n : ℕ) (columns : List ℕ) (h : Header) : Type 0 where
   pub count : h.columns ≡ length columns
-  pub scheme : Same (places h.scheme) (with_columns columns)
+  pub scheme : places h.scheme ≡ with_columns columns
   pub order : h.order.items ≡ order_of n columns

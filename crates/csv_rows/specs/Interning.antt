@@ -1,3 +1,5 @@
+-- What the numbers of values and of rows mean, as code holds them: for `Interned` and `Groups`, and
+-- the crates that use them. `Desk` does not cite it.
 use Rattle.std.specs.Prelude.{◌≡◌, ℕ, ◌<◌, List, [], length, slice_index_or}
 use Rattle.attr_sets.specs.Places.{only}
 use Rattle.dep_model.specs.Tuples.{Relation}

@@ -1,4 +1,3 @@
-pub mod RowsText
 pub mod Records
 pub mod Columns
 pub mod Reading

@@ -1,3 +1,5 @@
+-- Rows and values by numbers: for `Interned` and `Groups` of csv_rows and the crates that use them;
+-- of these `Desk` cites only `row_at`.
 use Rattle.std.specs.Prelude.{◌≡◌, ℕ, ◌<◌, ◌≤◌, ◌↔◌, ◌⊎◌, List, [], length, slice_index_or, Some}
 use Rattle.std.specs.List.{slice_get}
 use Rattle.attr_sets.specs.Places.{Places}

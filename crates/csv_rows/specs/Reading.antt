@@ -1,6 +1,7 @@
+-- What rows a CSV text means, or its first refusal: for `read_rows` and `read_part`, and for the
+-- commands that read rows (`desk_cli/Rows`, `desk_cli/Rejoining`).
 use Rattle.std.specs.Prelude.{◌≡◌, ◌≢◌, ◌+◌, ◌<◌, ◌≤◌, ℕ, true, List, [], ◌∷◌, length, map, nat_eq, slice_index_or, slice_get, Some, Result, Ok, Err}
 use Rattle.std.specs.List.{position_or_len}
-use Rattle.attr_sets.specs.Places.{Same}
 use Rattle.attr_sets.specs.Sets.{places}
 use Rattle.attr_sets.specs.declared.set.AttrSet.{AttrSet}
 use Rattle.dep_model.specs.Tuples.{Tuple, Relation}
@@ -49,7 +50,6 @@ RowOf s columns row fields (Err refusal.NoHeader) = ⊥
 RowOf s columns row fields (Err (refusal.UnknownColumn c)) = ⊥
 RowOf s columns row fields (Err (refusal.DoubleColumn c)) = ⊥
 RowOf s columns row fields (Err (refusal.MissingColumn a)) = ⊥
-RowOf s columns row fields (Err refusal.Memory) = ⊥
 
 -- what the record at a place gives
 abbrev pub RowAt : Schema → List ℕ → List (List (List ℕ)) → ℕ → Result Tuple RowRefusal → Type 0
@@ -92,7 +92,7 @@ abbrev pub HasScheme : Schema → List ℕ → AttrSet → Type 0
 HasScheme s text scheme =
     (header : List (List ℕ)) × (records : List (List (List ℕ))) × (records_of text ≡ header ∷ records)
     × (columns : List ℕ) × (columns_of_header (names_of s) header ≡ Ok columns)
-    × Same (places scheme) (with_columns columns)
+    × (places scheme ≡ with_columns columns)
 
 -- the header of a text was read, and the records below it are still to come
 pub record ReadsHeader (s : Schema) (rs : List (List (List ℕ))) (reader : Reader (Bor (List ℕ)))

@@ -1,3 +1,5 @@
+-- The records of a CSV text, as `csv` defines them, and what a reader has still to give: for
+-- `Reading`, and for `read_headed` of fd_discovery.
 use Rattle.std.specs.Prelude.{◌≡◌, ◌+◌, ℕ, Bool, true, false, List, [], ◌∷◌, length, Some, ⊤}
 use Rattle.std.specs.Borrow.{Bor}
 use Rattle.csv.specs.Machine.{ends_at_end}

@@ -1,16 +1,16 @@
-ghost use Rattle.std.specs.Prelude.{◌≡◌, ◌≢◌, ◌<◌, ◌≤◌, ℕ, List, [], ◌∷◌, length, slice_index_or, nat_eq, position, IfOk, IfErr, Ok, Err};
+ghost use Rattle.std.specs.Prelude.{◌≡◌, ◌<◌, ◌≤◌, ℕ, List, [], ◌∷◌, length, slice_index_or, nat_eq, position, IfOk, IfErr, Ok, Err};
 ghost use Rattle.attr_sets.specs.Places.{count_below};
 ghost use Rattle.attr_sets.specs.Sets.{places};
 ghost use Rattle.attr_sets.specs.declared.set.TheConstants.{PLACES};
 ghost use Rattle.csv.specs.Records.{fields_of};
 ghost use Rattle.csv_rows.specs.Columns.{column_of, columns_of_header, order_of, IsHeader};
+ghost use Rattle.dep_model.specs.Failures.{RefusesAs};
 ghost use Rattle.dep_model.specs.Schemas.{names_of, place_named, width_of};
-ghost use Rattle.csv_rows.specs.declared.refusal.RowRefusal.TheVariants.{Memory};
 
 use crate::RowRefusal;
 use attr_sets::AttrSet;
 use csv::ByteRecord;
-use dep_model::Schema;
+use dep_model::{Failure, Schema, WantMemory};
 use std::alloc::Global;
 
 // An attribute and its column, from 0.
@@ -31,13 +31,17 @@ pub struct Header {
 
 impl Header {
     // The header of these fields.
-    pub fn make(alloc: Global, schema: &Schema, fields: &ByteRecord) -> Result<Header, RowRefusal>
+    pub fn make(
+        alloc: Global,
+        schema: &Schema,
+        fields: &ByteRecord,
+    ) -> Result<Header, Failure<RowRefusal>>
         ensures ok { IfOk result
             (λ h. (columns : List ℕ)
             × (columns_of_header (names_of schema.now) (fields_of fields.now) ≡ Ok columns)
             × IsHeader (width_of schema.now) columns h) }
         ensures err { IfErr result
-            (λ e. e ≢ Memory → columns_of_header (names_of schema.now) (fields_of fields.now) ≡ Err e) }
+            (RefusesAs (λ e. columns_of_header (names_of schema.now) (fields_of fields.now) ≡ Err e)) }
     {
         let mut columns = Vec::new(alloc);
         let mut scheme = AttrSet::empty();
@@ -45,7 +49,7 @@ impl Header {
             let column = columns.len() as u32 + 1;
             let attribute = match attribute_of(schema, scheme, field(fields, i), column) {
                 Ok(attribute) => attribute,
-                Err(refusal) => return Err(refusal),
+                Err(refusal) => return Err(Failure::Refused(refusal)),
             };
             scheme = scheme.with(attribute);
             columns.push(attribute)?;
@@ -77,9 +81,8 @@ fn attribute_of(
 }
 
 // The attributes that have a column, ascending, each with it.
-fn in_order(alloc: Global, width: u8, columns: &[u8]) -> Result<Vec<Placed>, RowRefusal>
+fn in_order(alloc: Global, width: u8, columns: &[u8]) -> Result<Vec<Placed>, WantMemory>
     ensures order { IfOk result (λ v. v.items ≡ order_of width columns.now) }
-    ensures memory { IfErr result (λ e. e ≡ Memory) }
 {
     let mut order = Vec::new(alloc);
     for attribute in 0..width {

@@ -3,8 +3,9 @@ ghost use Rattle.attr_sets.specs.Places.{only};
 ghost use Rattle.csv_rows.specs.Numberings.{AreGroups, number_at};
 ghost use Rattle.dep_model.specs.Tuples.{IsOver};
 
-use dep_model::{Row, WantMemory};
+use dep_model::WantMemory;
 use indexmap::IndexSet;
+use row_store::Rows;
 use std::alloc::Global;
 use std::marker::Model;
 
@@ -36,7 +37,7 @@ impl Interned {
     ghost use Rattle.csv_rows.specs.Interning.{IsInterned, codes_at, count_of, places_of};
 
     /// The numbers of rows that have `width` values each.
-    pub fn intern(alloc: Global, width: u8, rows: &[Row]) -> Result<Interned, WantMemory>
+    pub fn intern(alloc: Global, width: u8, rows: &Rows) -> Result<Interned, WantMemory>
         requires over { IsOver width rows.now }
         requires few { length rows.now < 2 ^ 32 }
         ensures codes { IfOk result (λ t. IsInterned width rows.now t) }
@@ -79,15 +80,15 @@ impl Interned {
 }
 
 // The number of each row's value at a place, in the order of first occurrence.
-fn column_numbers(alloc: Global, place: u8, rows: &[Row]) -> Result<Vec<u32>, WantMemory>
+fn column_numbers(alloc: Global, place: u8, rows: &Rows) -> Result<Vec<u32>, WantMemory>
     requires place { All (λ t. place < length t) rows.now }
     requires few { length rows.now < 2 ^ 32 }
     ensures groups { IfOk result (λ v. AreGroups rows.now (only place) v.items) }
 {
     let mut values: IndexSet<&[u8]> = IndexSet::new(alloc);
     let mut numbers = Vec::with_capacity(alloc, rows.len())?;
-    for row in rows {
-        let (number, _) = values.insert_full(row.value(place as usize).bytes())?;
+    for row in 0..rows.len() {
+        let (number, _) = values.insert_full(rows.value(row, place as usize))?;
         numbers.push(number as u32)?;
     }
     Ok(numbers)

@@ -6,7 +6,7 @@ ghost use Rattle.dep_model.specs.Schemas.{names_of, width_of, TypedFor};
 ghost use Rattle.dep_model.specs.Tuples.{Relation, IsOver};
 ghost use Rattle.dep_model.specs.declared.schema.Schema.{Schema};
 ghost use Rattle.csv_rows.specs.Reading.{RowsOf, PartOf};
-ghost use Rattle.csv_rows.specs.RowsText.{rows_text};
+ghost use Rattle.csv_text.specs.Rows.{rows_text};
 ghost use Rattle.csv_rows.specs.declared.reading.TheConstants.{MOST_ROWS};
 ghost use Rattle.csv_rows.specs.declared.refusal.RowRefusal.{RowRefusal};
 

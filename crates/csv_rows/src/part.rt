@@ -1,12 +1,13 @@
-ghost use Rattle.std.specs.Prelude.{◌≡◌, ◌≢◌, Ok, Err, IfOk, IfErr};
+ghost use Rattle.std.specs.Prelude.{Ok, Err, IfOk, IfErr};
 ghost use Rattle.csv_rows.specs.Reading.{PartOf, HasScheme};
-ghost use Rattle.csv_rows.specs.declared.refusal.RowRefusal.TheVariants.{Memory};
+ghost use Rattle.dep_model.specs.Failures.{RefusesAs};
 
 use crate::RowRefusal;
 use crate::reading::{read_body, read_header};
 use crate::records::open;
 use attr_sets::AttrSet;
-use dep_model::{Row, Schema};
+use dep_model::{Failure, Schema};
+use row_store::Rows;
 use std::alloc::Global;
 
 /// Rows over some of the attributes of a schema.
@@ -15,24 +16,28 @@ pub struct Part {
     /// The attributes that have a column.
     pub scheme: AttrSet,
     /// The rows, each with its values in the order of the schema.
-    pub rows: Vec<Row>,
+    pub rows: Rows,
 }
 
 /// The rows of a CSV text that has a column for some of the attributes. It is read and refused as
 /// `read_rows` does it, but no column is missing.
-pub fn read_part(alloc: Global, schema: &Schema, text: &[u8]) -> Result<Part, RowRefusal>
-    ensures rows { IfOk result (λ part. PartOf schema.now text.now (Ok part.rows.items)) }
+pub fn read_part(
+    alloc: Global,
+    schema: &Schema,
+    text: &[u8],
+) -> Result<Part, Failure<RowRefusal>>
+    ensures rows { IfOk result (λ part. PartOf schema.now text.now (Ok part.rows)) }
     ensures scheme { IfOk result (λ part. HasScheme schema.now text.now part.scheme) }
-    ensures err { IfErr result (λ e. e ≢ Memory → PartOf schema.now text.now (Err e)) }
+    ensures err { IfErr result (RefusesAs (λ e. PartOf schema.now text.now (Err e))) }
 {
     let mut reader = open(alloc, text);
     let header = match read_header(alloc, schema, &mut reader) {
         Ok(header) => header,
-        Err(refusal) => return Err(refusal),
+        Err(failure) => return Err(failure),
     };
     let scheme = header.scheme;
-    match read_body(alloc, schema, &header, &mut reader) {
+    match read_body(alloc, schema, &header, &mut reader, text.len()) {
         Ok(rows) => Ok(Part { scheme, rows }),
-        Err(refusal) => Err(refusal),
+        Err(failure) => Err(failure),
     }
 }

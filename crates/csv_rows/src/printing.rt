@@ -1,16 +1,18 @@
-ghost use Rattle.std.specs.Prelude.{◌≡◌, IfOk, OnOk};
+ghost use Rattle.std.specs.Prelude.{◌≡◌, ◌<◌, length, IfOk, OnOk};
 ghost use Rattle.csv.specs.Records.{fields_of};
-ghost use Rattle.csv_rows.specs.RowsText.{rows_text, WritesRow};
+ghost use Rattle.csv_rows.specs.Numberings.{row_at};
+ghost use Rattle.csv_text.specs.Rows.{rows_text};
 ghost use Rattle.dep_model.specs.Schemas.{names_of, width_of};
 ghost use Rattle.dep_model.specs.Tuples.{IsOver};
 
 use csv::{ByteRecord, Writer};
-use dep_model::{Row, Schema, WantMemory};
+use csv_text::write_row;
+use dep_model::{Schema, WantMemory};
+use row_store::Rows;
 use std::alloc::Global;
-use std::io::Write;
 
 /// A header of the declared names, and then the rows in their order.
-pub fn print_rows(alloc: Global, schema: &Schema, rows: &[Row]) -> Result<Vec<u8>, WantMemory>
+pub fn print_rows(alloc: Global, schema: &Schema, rows: &Rows) -> Result<Vec<u8>, WantMemory>
     requires over { IsOver (width_of schema.now) rows.now }
     ensures text { IfOk result (λ v. v.items ≡ rows_text (names_of schema.now) rows.now) }
 {
@@ -18,8 +20,8 @@ pub fn print_rows(alloc: Global, schema: &Schema, rows: &[Row]) -> Result<Vec<u8
     let mut fields = ByteRecord::new(alloc);
     take_names(&mut fields, schema)?;
     write_row(&mut writer, &fields)?;
-    for row in rows {
-        take_values(&mut fields, row)?;
+    for row in 0..rows.len() {
+        take_row(&mut fields, rows, row)?;
         write_row(&mut writer, &fields)?;
     }
     match writer.into_inner() {
@@ -40,23 +42,14 @@ fn take_names(fields: &mut ByteRecord, schema: &Schema) -> Result<(), WantMemory
     Ok(())
 }
 
-// The fields become the values of the row.
-fn take_values(fields: &mut ByteRecord, row: &Row) -> Result<(), WantMemory>
-    ensures values { OnOk result (fields_of fields.new ≡ row.now) }
+// The fields become the values of a row.
+fn take_row(fields: &mut ByteRecord, rows: &Rows, row: usize) -> Result<(), WantMemory>
+    requires row { row < length rows.now }
+    ensures values { OnOk result (fields_of fields.new ≡ row_at rows.now row) }
 {
     fields.clear();
-    for i in 0..row.len() {
-        fields.push_field(row.value(i).bytes())?;
+    for i in 0..rows.width(row) {
+        fields.push_field(rows.value(row, i))?;
     }
     Ok(())
-}
-
-// Writes the fields as the next row.
-fn write_row<W: Write + Drop>(writer: &mut Writer<W>, fields: &ByteRecord) -> Result<(), WantMemory>
-    ensures row { OnOk result (WritesRow W.contents writer.old writer.new (fields_of fields.now)) }
-{
-    match writer.write_byte_record(fields) {
-        Ok(()) => Ok(()),
-        Err(_) => Err(WantMemory),
-    }
 }

@@ -1,6 +1,3 @@
-use dep_model::WantMemory;
-use std::alloc::{AllocError, AllocFailed};
-
 /// Why a CSV text is refused.
 #[derive(Clone, Copy, Debug, PartialEq, Eq, Hash)]
 pub enum RowRefusal {
@@ -19,39 +16,4 @@ pub enum RowRefusal {
     /// 7: in the row, from 1, the value of an integer column is no integer text. The attribute is
     /// the least such one.
     NotInteger { row: u32, attribute: u8 },
-    /// Want of memory.
-    Memory,
-}
-
-impl From<AllocError> for RowRefusal {
-    ghost use Rattle.csv_rows.specs.declared.refusal.RowRefusal.TheVariants.{Memory};
-    ghost use Rattle.std.specs.Prelude.{◌≡◌};
-
-    ghost from_gives = { λ _ e. e ≡ Memory };
-
-    fn from(_error: AllocError) -> Self {
-        RowRefusal::Memory
-    }
-}
-
-impl<T: Drop> From<AllocFailed<T>> for RowRefusal {
-    ghost use Rattle.csv_rows.specs.declared.refusal.RowRefusal.TheVariants.{Memory};
-    ghost use Rattle.std.specs.Prelude.{◌≡◌};
-
-    ghost from_gives = { λ _ e. e ≡ Memory };
-
-    fn from(_error: AllocFailed<T>) -> Self {
-        RowRefusal::Memory
-    }
-}
-
-impl From<WantMemory> for RowRefusal {
-    ghost use Rattle.csv_rows.specs.declared.refusal.RowRefusal.TheVariants.{Memory};
-    ghost use Rattle.std.specs.Prelude.{◌≡◌};
-
-    ghost from_gives = { λ _ e. e ≡ Memory };
-
-    fn from(_error: WantMemory) -> Self {
-        RowRefusal::Memory
-    }
 }

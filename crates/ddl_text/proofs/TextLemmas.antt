@@ -21,7 +21,8 @@ use Rattle.sql_names.specs.Names.{separator, listed, quoted_name, name_list, has
 use Rattle.ddl_text.specs.declared.table.TableDesign.{TableDesign}
 use Rattle.ddl_text.specs.Ddl.{column_type, column_element, is_empty, key_element, key_elements, reference_element, reference_elements, elements, opening, element_lines, comment, table_text}
 use Rattle.std.specs.List.{flat_map}
-use Rattle.sql_names.proofs.NameLemmas.{or_true, adds, some_pushed, some_more, name_is}
+use Rattle.sql_names.proofs.ListLemmas.{adds, some_pushed}
+use Rattle.sql_names.proofs.NameLemmas.{or_true, some_more, name_is}
 
 -- ---- the members of a set
 pub members_inside : (f : ℕ → List ℕ) (n : ℕ) (x : Places) → x n ≡ true

@@ -1,4 +1,5 @@
--- A design as SQL.
+-- A design as SQL: for `print_ddl` and the command `ddl` (`desk_cli/Designs`), and for the
+-- statements of `sql migrate`.
 use Rattle.std.specs.Prelude.{ℕ, Bool, true, false, if◌then◌else◌, List, [], ◌∷◌, ◌++◌, map, codes, slice_get, slice_index_or, unwrap_or, option_map}
 use Rattle.std.specs.List.{flat_map}
 use Rattle.attr_sets.specs.Places.{Places, none}
@@ -51,7 +52,8 @@ reference_elements s tables refs =
 -- the columns, the key and the references of a table
 abbrev pub elements : Schema → List TableDesign → TableDesign → List (List ℕ)
 elements s tables table =
-    column_elements s (places table.scheme) ++ key_elements s (places table.key) ++ reference_elements s tables
+    column_elements s (places table.scheme) ++ key_elements s (places table.key)
+    ++ reference_elements s tables
     table.refs.items
 
 -- what stands before an element on its line, after the end of the line before, if there is one

@@ -1,4 +1,5 @@
--- The design of tables for the schemes of a plan.
+-- The design of tables for the schemes of a plan: for `design` and the commands `ddl`, `draw` and
+-- `sql migrate` (`desk_cli/Designs`).
 use Rattle.std.specs.Prelude.{◌≡◌, ℕ, ◌+◌, ◌<◌, ◌↔◌, List, length, take, slice_get, slice_index_or, Some, IsSomeAnd, All, AllPairs, Contains}
 use Rattle.attr_sets.specs.Places.{Places, Within, IsEmpty}
 use Rattle.attr_sets.specs.Sets.{places}

@@ -1,4 +1,4 @@
--- Keys and references, over tables as relations.
+-- Keys and references, over tables as relations: for what `design` promises of them (`Laws`).
 use Rattle.std.specs.Prelude.{◌≡◌, ℕ, true, Contains}
 use Rattle.attr_sets.specs.Places.{Places}
 use Rattle.dep_model.specs.Tuples.{Tuple, Relation}
@@ -6,7 +6,8 @@ use Rattle.dep_model.specs.OnSchemes.{value_in, AgreeIn}
 
 -- any two rows of a table over a scheme that agree on the key are equal
 abbrev pub KeyHolds : Places → Relation → Places → Type 0
-KeyHolds scheme table key = (t u : Tuple) → Contains table t → Contains table u → AgreeIn scheme key t u → t ≡ u
+KeyHolds scheme table key =
+    (t u : Tuple) → Contains table t → Contains table u → AgreeIn scheme key t u → t ≡ u
 
 -- a row over a scheme and one over another scheme are equal at each place of x
 abbrev pub AgreeAcross : Places → Tuple → Places → Tuple → Places → Type 0

@@ -11,16 +11,6 @@ use Rattle.schema_grammar.specs.Refusals.{refused_by}
 use Rattle.plan_grammar.specs.declared.refusal.PlanRefusal.{PlanRefusal}
 use Rattle.plan_grammar.specs.declared.refusal.PlanRefusal.TheVariants as plan
 use Rattle.plan_grammar.specs.Reading.{attribute, read_words, read_words_lexed, read_scheme, read_scheme_line, read_scheme_lines}
-use Rattle.plan_grammar.specs.Refusals.{RefusesPlanAs}
-
--- ---- want of memory
-
-pub as_map : (e : PlanRefusal) (P Q : Type 0) → (P → Q) → RefusesPlanAs e P → RefusesPlanAs e Q
-as_map (plan.Text t) P Q f h = f h
-as_map (plan.EmptyScheme line) P Q f h = f h
-as_map (plan.NotCovered a) P Q f h = f h
-as_map (plan.TooManySchemes line) P Q f h = f h
-as_map plan.Memory P Q f h = tt
 
 -- ---- words
 -- to read the words that are left is to read all of them

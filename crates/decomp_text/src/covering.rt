@@ -1,6 +1,6 @@
-ghost use Rattle.std.specs.Prelude.{IsNone, IfSome};
+ghost use Rattle.std.specs.Prelude.{◌≡◌, IsNone, IfSome};
 ghost use Rattle.std.specs.List.{list_any};
-ghost use Rattle.attr_sets.specs.Places.{Same, IsLeastFrom};
+ghost use Rattle.attr_sets.specs.Places.{IsLeastFrom};
 ghost use Rattle.attr_sets.specs.Sets.{places};
 ghost use Rattle.dep_model.specs.Plans.{schemes_of};
 ghost use Rattle.dep_model.specs.Projections.{Covers};
@@ -20,7 +20,7 @@ pub fn first_uncovered(schema: &Schema, schemes: &[AttrSet]) -> Option<u8>
 
 // The attributes that are in some scheme.
 fn all_of(schemes: &[AttrSet]) -> AttrSet
-    ensures members { Same (places result) (λ k. list_any (λ scheme. scheme k) (schemes_of schemes.now)) }
+    ensures members { places result ≡ (λ k. list_any (λ scheme. scheme k) (schemes_of schemes.now)) }
 {
     let mut all = AttrSet::empty();
     for scheme in schemes {

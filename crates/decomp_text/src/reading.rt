@@ -1,22 +1,22 @@
 ghost use Rattle.std.specs.Prelude.{◌≡◌, ◌+◌, ◌<◌, ◌≤◌, ◌^◌, true, [], length, OnOk, IfOk, IfErr, Ok, Err};
-ghost use Rattle.attr_sets.specs.Places.{none, only, union};
+ghost use Rattle.attr_sets.specs.Places.{none};
 ghost use Rattle.attr_sets.specs.Sets.{places};
+ghost use Rattle.dep_model.specs.Failures.{RefusesAs};
 ghost use Rattle.dep_model.specs.Plans.{schemes_of};
 ghost use Rattle.dep_model.specs.Schemas.{names_of};
 ghost use Rattle.lexer.specs.Lines.{line_texts};
 ghost use Rattle.lexer.specs.Tokens.{lexed, lex};
 ghost use Rattle.line_reader.specs.Views.{names_in};
 ghost use Rattle.schema_grammar.specs.Declarations.{marked};
-ghost use Rattle.schema_grammar.specs.Refusals.{refusal};
+ghost use Rattle.schema_grammar.specs.Refusals.{Refuses, refusal};
 ghost use Rattle.plan_grammar.specs.Complaints.{RefusesPlan};
 ghost use Rattle.plan_grammar.specs.Meanings.{is_scheme, MeansPlan};
 ghost use Rattle.plan_grammar.specs.Reading.{attribute, no_scheme, read_words_lexed, read_scheme, read_scheme_line, read_scheme_lines};
-ghost use Rattle.plan_grammar.specs.Refusals.{RefusesPlanAs};
 ghost use Rattle.plans.specs.Plans.{plan_of, IsPlanOver};
 
 use crate::covering::first_uncovered;
 use attr_sets::{AttrSet, PLACES};
-use dep_model::Schema;
+use dep_model::{Failure, Schema};
 use lexer::{Mode, Next, Token, TokenKind, cut_line, next_token, without_mark};
 use line_reader::{Guide, Names, is_reserved, look_up};
 use plan_grammar::{MOST_SCHEMES, PlanRefusal};
@@ -29,30 +29,33 @@ pub const MOST_PLAN_BYTES: usize = 1_048_576;
 
 /// The plan that a text means over the names of a schema, or its first complaint. A byte-order mark at
 /// its very start is skipped.
-pub fn read_plan(alloc: Global, schema: &Schema, text: &[u8]) -> Result<Plan, PlanRefusal>
+pub fn read_plan(alloc: Global, schema: &Schema, text: &[u8]) -> Result<Plan, Failure<PlanRefusal>>
     requires { length text.now ≤ MOST_PLAN_BYTES }
     ensures universe { IfOk result (λ plan. IsPlanOver schema.now plan) }
     ensures ok { IfOk result (λ plan. MeansPlan (names_of schema.now) text.now (plan_of plan)) }
-    ensures err { IfErr result (λ refusal.
-        RefusesPlanAs refusal (RefusesPlan (names_of schema.now) text.now refusal)) }
+    ensures err { IfErr result (RefusesAs (RefusesPlan (names_of schema.now) text.now)) }
 {
     let schemes = match read_lines(alloc, schema, without_mark(text)) {
         Ok(schemes) => schemes,
-        Err(refusal) => return Err(refusal),
+        Err(failure) => return Err(failure),
     };
     match first_uncovered(schema, &schemes) {
-        Some(attribute) => Err(PlanRefusal::NotCovered { attribute }),
+        Some(attribute) => Err(Failure::Refused(PlanRefusal::NotCovered { attribute })),
         None => Ok(Plan::make(schema, schemes)),
     }
 }
 
 // Reads the lines of a text.
-fn read_lines(alloc: Global, schema: &Schema, text: &[u8]) -> Result<Vec<AttrSet>, PlanRefusal>
+fn read_lines(
+    alloc: Global,
+    schema: &Schema,
+    text: &[u8],
+) -> Result<Vec<AttrSet>, Failure<PlanRefusal>>
     requires { length text.now ≤ MOST_PLAN_BYTES }
     ensures ok { IfOk result (λ schemes. read_scheme_lines (names_of schema.now) 1 [] (line_texts text.now)
         ≡ Ok (schemes_of schemes.items)) }
-    ensures err { IfErr result (λ refusal. RefusesPlanAs refusal
-        (read_scheme_lines (names_of schema.now) 1 [] (line_texts text.now) ≡ Err refusal)) }
+    ensures err { IfErr result (λ failure. Refuses failure
+        (read_scheme_lines (names_of schema.now) 1 [] (line_texts text.now))) }
 {
     let guide = Guide::of(schema);
     let names = Names::Guided(schema, &guide);
@@ -62,7 +65,7 @@ fn read_lines(alloc: Global, schema: &Schema, text: &[u8]) -> Result<Vec<AttrSet
     'lines: loop {
         let (line, after) = cut_line(rest);
         match read_line(&names, number, line, &mut schemes) {
-            Err(refusal) => return Err(refusal),
+            Err(failure) => return Err(failure),
             Ok(()) => match after {
                 None => return Ok(schemes),
                 Some(lines) => {
@@ -81,25 +84,24 @@ fn read_line(
     number: u32,
     line: &[u8],
     schemes: &mut Vec<AttrSet>,
-) -> Result<(), PlanRefusal>
+) -> Result<(), Failure<PlanRefusal>>
     requires few { length (names_in names.now) ≤ PLACES }
     requires room { 1 + length line.now < 2 ^ 32 }
     ensures ok { OnOk result (read_scheme_line (names_in names.now) number (schemes_of schemes.old.items)
         (lex Mode.Plain line.now).marks (lex Mode.Plain line.now).stop ≡ Ok (schemes_of schemes.new.items)) }
-    ensures err { IfErr result (λ refusal. RefusesPlanAs refusal (read_scheme_line (names_in names.now) number
-        (schemes_of schemes.old.items) (lex Mode.Plain line.now).marks (lex Mode.Plain line.now).stop
-        ≡ Err refusal)) }
+    ensures err { IfErr result (λ failure. Refuses failure (read_scheme_line (names_in names.now) number
+        (schemes_of schemes.old.items) (lex Mode.Plain line.now).marks (lex Mode.Plain line.now).stop)) }
 {
     match next_token(Mode::Plain, 1, line) {
         Next::End => Ok(()),
-        Next::Stop(stop) => Err(PlanRefusal::Text(SchemaRefusal::by(number, stop))),
+        Next::Stop(stop) => {
+            let refusal = PlanRefusal::Text(SchemaRefusal::by(number, stop));
+            Err(Failure::Refused(refusal))
+        }
         Next::Token(token, word, rest) => {
             match read_scheme(names, number, schemes.len(), token, word, rest) {
-                Err(refusal) => Err(refusal),
-                Ok(scheme) => match schemes.push(scheme) {
-                    Ok(()) => Ok(()),
-                    Err(_) => Err(PlanRefusal::Memory),
-                },
+                Err(refusal) => Err(Failure::Refused(refusal)),
+                Ok(scheme) => Ok(schemes.push(scheme)?),
             }
         }
     }
@@ -117,7 +119,8 @@ fn read_scheme(
     requires few { length (names_in names.now) ≤ PLACES }
     requires room { token.column + token.length + length rest.now < 2 ^ 32 }
     requires word { token.length ≡ length word.now }
-    ensures ok { IfOk result (λ scheme. read_scheme (names_in names.now) number earlier (marked token word.now)
+    ensures ok { IfOk result (λ scheme.
+        read_scheme (names_in names.now) number earlier (marked token word.now)
         (lexed Mode.Plain 0 (token.column + token.length) rest.now) ≡ Ok (places scheme)) }
     ensures err { IfErr result
         (λ refusal. read_scheme (names_in names.now) number earlier (marked token word.now)
@@ -173,7 +176,7 @@ fn read_words(
     ensures err { IfErr result (λ refusal. read_words_lexed (names_in names.now) line true none
         (lexed Mode.Plain 0 column text.now) ≡ Err refusal) }
 {
-    let mut set = no_place();
+    let mut set = AttrSet::empty();
     let mut first = true;
     let mut column = column;
     let mut rest = text;
@@ -191,7 +194,7 @@ fn read_words(
                 match attribute(names, line, first, token, word) {
                     Err(refusal) => return Err(refusal),
                     Ok(place) => {
-                        set = added(set, place);
+                        set = set.with(place);
                         first = false;
                         column = token.column + token.length;
                         rest = others;
@@ -244,17 +247,4 @@ fn refused(line: u32, token: Token, kind: SchemaRefusalKind) -> PlanRefusal
     ensures refusal { result ≡ PlanRefusal.Text (refusal line token.column token.length kind) }
 {
     PlanRefusal::Text(SchemaRefusal::at(line, token.column, token.length, kind))
-}
-
-fn no_place() -> AttrSet
-    ensures members { places result ≡ none }
-{
-    AttrSet::empty()
-}
-
-fn added(set: AttrSet, place: u8) -> AttrSet
-    requires { place < PLACES }
-    ensures members { places result ≡ union (places set) (only place) }
-{
-    set.with(place)
 }

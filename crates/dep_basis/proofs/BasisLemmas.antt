@@ -1,15 +1,16 @@
 -- Traces decide what is implied on a scheme, and a left side may be taken for any set between it and
 -- its closure.
 use Rattle.std.proofs.Common.{◌≡◌, ℕ, suc, ◌↔◌, true, false, List, [], ◌∷◌, get_or, refl, sym, ap, subst, ◌∙◌, inl, inr, ⊎_elim, arith}
+use mathlib.Core.Path.{fun_ext}
 use Rattle.std.proofs.lemmas.Bool.{true≢false, cases_Bool, ltb-true, lt-ltb, or_cases}
 use Rattle.std.proofs.lemmas.Bool.Decides.{nat_tests}
 use Rattle.std.proofs.lemmas.List.Elements.{All-head, All-tail, All-cons, All-contains, All-weaker}
 use Rattle.std.specs.Prelude.{All, Any, Contains}
-use Rattle.attr_sets.specs.Places.{Places, below, only, none, union, meet, minus, Within, Same, Apart, Meets}
+use Rattle.attr_sets.specs.Places.{Places, below, only, none, union, meet, minus, Within, Apart, Meets}
 use Rattle.attr_sets.specs.declared.set.AttrSet.{AttrSet}
 use Rattle.attr_sets.specs.declared.set.TheConstants.{PLACES}
 use Rattle.attr_sets.specs.Sets.{places}
-use Rattle.attr_sets.proofs.PlacesLemmas.{places_below, tell_apart, tell_empty, Same-path, Same-within}
+use Rattle.attr_sets.proofs.PlacesLemmas.{places_below, tell_apart, tell_empty, same_from_within, same_at}
 use Rattle.dep_model.specs.declared.dep.Dep.{Dep}
 use Rattle.dep_model.specs.Tuples.{Tuple, Relation, value_at, AgreeOn, AgreeExactly}
 use Rattle.dep_model.specs.Dependencies.{Dependency, fd, mvd, ObeysFd, ObeysMvd, functional_part}
@@ -169,11 +170,11 @@ gathered n ds scheme x y (q ∷ qs) each =
         universe = λ k m. grind (arith, m, trace.is_block.universe k, rest.1.universe k);
         implied = λ r legal. mvd_union_obeyed (below n) x trace.block rest.0 r trace.is_block.universe (trace.is_block.implied r legal) (rest.1.implied r legal);
         member = λ k m s. elim (or_cases (trace.block k) (rest.0 k) m) [
-          | inl inside ↦ Any-here (λ (p : AttrSet). meets p k) q qs (common, grind (arith, trace.trace k, inside, s))
+          | inl inside ↦ Any-here (λ (p : AttrSet). meets p k) q qs (common, grind (arith, same_at trace.trace k, inside, s))
           | inr later ↦ Any-later (λ (p : AttrSet). meets p k) q qs (rest.1.member k later s)
         ];
         holds = All-cons (λ (p : AttrSet). Meets (places p) y → Within (places p) (union trace.block rest.0)) q qs
-            (λ _ k m. grind (arith, trace.trace k, m))
+            (λ _ k m. grind (arith, same_at trace.trace k, m))
             (All-weaker (λ (p : AttrSet). Meets (places p) y → Within (places p) rest.0) (λ (p : AttrSet). Meets (places p) y → Within (places p) (union trace.block rest.0))
             (λ (p : AttrSet) h both k m. grind (arith, h both k m)) qs rest.1.holds);
       },
@@ -196,7 +197,7 @@ module _ (n : ℕ) (ds : List Dep) (scheme x : Places) (found : Blocks) (within 
   traces_split : (y : Places) → Within y scheme → ((r : Relation) → IsLegal n (dependencies_of ds) r → ObeysMvd scheme x y r) → SplitsNone scheme y (blocks_of found)
   traces_split y y_in obeyed k d l split =
       let trace = traces.each k d l in
-      let same : places (get_or (blocks_of found) k d) ≡ meet trace.block scheme = Same-path (places (get_or (blocks_of found) k d)) (meet trace.block scheme) trace.trace in
+      let same : places (get_or (blocks_of found) k d) ≡ meet trace.block scheme = trace.trace in
       split_broken n scheme x y trace.block scheme_in x_in y_in (block_apart n (dependencies_of ds) x trace.block trace.is_block)
       (subst (λ (p : Places). IsSplitBy scheme y p) same split)
       (obeyed (two_tuples n (outside_of n trace.block)) (block_legal n ds x trace.block within (λ (j : ℕ) m. scheme_in j (x_in j m)) trace.is_block))
@@ -238,22 +239,22 @@ module _ (n : ℕ) (ds : List Dep) (scheme x : Places) (found : Blocks) (within 
   )
 
   trace_in : (q : Places) → IsTrace n (dependencies_of ds) scheme x q → Within q scheme
-  trace_in q trace k m = grind (arith, trace.trace k, m)
+  trace_in q trace k m = grind (arith, same_at trace.trace k, m)
 
   -- traces with a common member are the same
-  same_traces : (q p : Places) → IsTrace n (dependencies_of ds) scheme x q → IsTrace n (dependencies_of ds) scheme x p → Meets q p → Same q p
+  same_traces : (q p : Places) → IsTrace n (dependencies_of ds) scheme x q → IsTrace n (dependencies_of ds) scheme x p → Meets q p → q ≡ p
   same_traces q p one other common =
       let k = common.0 in
-      let blocks = blocks_same n (dependencies_of ds) x one.block other.block one.is_block other.is_block (k, grind (arith, one.trace k, common.1), grind (arith, other.trace k, common.2)) in
-      λ j. grind (arith, one.trace j, other.trace j, blocks j)
+      let blocks = blocks_same n (dependencies_of ds) x one.block other.block one.is_block other.is_block (k, grind (arith, same_at one.trace k, common.1), grind (arith, same_at other.trace k, common.2)) in
+      fun_ext (λ j. grind (arith, same_at one.trace j, same_at other.trace j, same_at blocks j))
 
   -- each trace is listed
-  traces_all : (q : Places) → IsTrace n (dependencies_of ds) scheme x q → Any (λ p. Same (places p) q) (blocks_of found)
+  traces_all : (q : Places) → IsTrace n (dependencies_of ds) scheme x q → Any (λ p. places p ≡ q) (blocks_of found)
   traces_all q trace = ⊎_elim
       (λ some.
       let a = some.0 in
       ⊎_elim
-      (λ closed. absurd (trace.is_block.outside a (grind (arith, trace.trace a, some.2)) ((traces.closed a).0 closed).1))
+      (λ closed. absurd (trace.is_block.outside a (grind (arith, same_at trace.trace a, some.2)) ((traces.closed a).0 closed).1))
       (λ one.
       let listed = All-contains (λ (p : AttrSet). IsTrace n (dependencies_of ds) scheme x (places p)) (blocks_of found) one.1 traces.each (one.0, one.2, one.3) in
       (one.0, one.1, one.2, one.3, same_traces (places one.1) q listed trace (a, one.4, some.2)))
@@ -266,7 +267,7 @@ module _ (n : ℕ) (ds : List Dep) (scheme x : Places) (found : Blocks) (within 
   trace_alone q trace k d l split =
       let same = same_traces (places (get_or (blocks_of found) k d)) q (traces.each k d l) trace split.0 in
       let j = split.1.0 in
-      true≢false (sym split.1.1 ∙ grind (arith, same j, split.1.2))
+      true≢false (sym split.1.1 ∙ grind (arith, same_at same j, split.1.2))
 
   closed_alone : (a : ℕ) → places found.closed a ≡ true → SplitsNone scheme (only a) (blocks_of found)
   closed_alone a closed k d l split =
@@ -274,7 +275,7 @@ module _ (n : ℕ) (ds : List Dep) (scheme x : Places) (found : Blocks) (within 
       let j = split.0.0 in
       let same : j ≡ a = grind (arith, nat_tests, split.0.2) in
       let in_q : places (get_or (blocks_of found) k d) a ≡ true = sym (ap (places (get_or (blocks_of found) k d)) same) ∙ split.0.1 in
-      listed.is_block.outside a (grind (arith, listed.trace a, in_q)) ((traces.closed a).0 closed).1
+      listed.is_block.outside a (grind (arith, same_at listed.trace a, in_q)) ((traces.closed a).0 closed).1
 
   -- a listed trace lies within each set that it shares some of and that splits none
   listed_inside : (q : AttrSet) (y : Places) (a : ℕ) → Contains (blocks_of found) q → Within (places q) scheme → places q a ≡ true → y a ≡ true → SplitsNone scheme y (blocks_of found) → Within (places q) y
@@ -284,14 +285,14 @@ module _ (n : ℕ) (ds : List Dep) (scheme x : Places) (found : Blocks) (within 
   ]
 
   -- a listed trace is a part
-  part_trace : (p : Places) → Any (λ q. Same (places q) p) (blocks_of found) → IsPart n (dependencies_of ds) scheme x p
+  part_trace : (p : Places) → Any (λ q. places q ≡ p) (blocks_of found) → IsPart n (dependencies_of ds) scheme x p
   part_trace p one =
       let q = one.1 in
       let listed : Contains (blocks_of found) q = (one.0, one.2, one.3) in
       let trace = All-contains (λ (s : AttrSet). IsTrace n (dependencies_of ds) scheme x (places s)) (blocks_of found) q traces.each listed in
       let apart = block_apart n (dependencies_of ds) x trace.block trace.is_block in
       let made : IsPart n (dependencies_of ds) scheme x (places q) = record {
-        outside = λ k m. apart k (grind (arith, trace.trace k, m));
+        outside = λ k m. apart k (grind (arith, same_at trace.trace k, m));
         some = trace.some;
         implied = (traces_decide (places q) (trace_in (places q) trace)).1 (trace_alone (places q) trace);
         minimal = λ y inside some implied. ⊎_elim
@@ -299,7 +300,7 @@ module _ (n : ℕ) (ds : List Dep) (scheme x : Places) (found : Blocks) (within 
             (λ none. absurd (some none))
             (tell_empty n y (λ (k : ℕ) m. scheme_in k (implied.within.1 k m)));
       } in
-      subst (λ (s : Places). IsPart n (dependencies_of ds) scheme x s) (Same-path (places q) p one.4) made
+      subst (λ (s : Places). IsPart n (dependencies_of ds) scheme x s) one.4 made
 
   -- so is a determined attribute outside x
   part_closed : (a : ℕ) → places found.closed a ≡ true → x a ≡ false → IsPart n (dependencies_of ds) scheme x (only a)
@@ -328,14 +329,14 @@ module _ (n : ℕ) (ds : List Dep) (scheme x : Places) (found : Blocks) (within 
       let out = part.outside a some.2 in
       let alone = part_closed a closed out in
       let inside : Within (only a) p = λ (k : ℕ) e. grind (arith, nat_tests, e, some.2) in
-      inr (a, closed, out, Same-within p (only a) (part.minimal (only a) inside alone.some alone.implied) inside))
+      inr (a, closed, out, same_from_within p (only a) (part.minimal (only a) inside alone.some alone.implied) inside))
       (λ one.
       let q = one.1 in
       let listed : Contains (blocks_of found) q = (one.0, one.2, one.3) in
       let trace = All-contains (λ (s : AttrSet). IsTrace n (dependencies_of ds) scheme x (places s)) (blocks_of found) q traces.each listed in
       let inside = listed_inside q p a listed (trace_in (places q) trace) one.4 some.2 splits in
       let back = part.minimal (places q) inside trace.some ((traces_decide (places q) (trace_in (places q) trace)).1 (trace_alone (places q) trace)) in
-      inl (one.0, q, one.2, one.3, Same-within (places q) p inside back))
+      inl (one.0, q, one.2, one.3, same_from_within (places q) p inside back))
       (traces.parts a (p_in a some.2)))
       (λ none. absurd (part.some none))
       (tell_empty n p (λ (k : ℕ) m. scheme_in k (p_in k m)))
@@ -353,7 +354,7 @@ module _ (n : ℕ) (ds : List Dep) (scheme x : Places) (found : Blocks) (within 
       part_listed p,
       (λ listed. ⊎_elim
           (λ one. part_trace p one)
-          (λ (a, closed, out, is). subst (λ (q : Places). IsPart n (dependencies_of ds) scheme x q) (sym (Same-path p (only a) is)) (part_closed a closed out))
+          (λ (a, closed, out, is). subst (λ (q : Places). IsPart n (dependencies_of ds) scheme x q) (sym is) (part_closed a closed out))
           listed),
     );
   }
@@ -363,10 +364,10 @@ module _ (n : ℕ) (ds : List Dep) (x : Places) (found : Blocks) (within : All (
     (traces : AreTraces n (dependencies_of ds) (below n) x found) where
   trace_block : (q : AttrSet) → IsTrace n (dependencies_of ds) (below n) x (places q) → IsBlock n (dependencies_of ds) x (places q)
   trace_block q trace =
-      let same : Same trace.block (places q) = λ (k : ℕ). grind (arith, trace.trace k, trace.is_block.universe k) in
-      subst (λ (p : Places). IsBlock n (dependencies_of ds) x p) (Same-path trace.block (places q) same) trace.is_block
+      let same : trace.block ≡ places q = fun_ext (λ (k : ℕ). grind (arith, same_at trace.trace k, trace.is_block.universe k)) in
+      subst (λ (p : Places). IsBlock n (dependencies_of ds) x p) same trace.is_block
 
-  blocks_listed : (p : Places) → IsBlock n (dependencies_of ds) x p → Any (λ q. Same (places q) p) (blocks_of found)
+  blocks_listed : (p : Places) → IsBlock n (dependencies_of ds) x p → Any (λ q. places q ≡ p) (blocks_of found)
   blocks_listed p block = ⊎_elim
       (λ some. ⊎_elim
       (λ closed. absurd (block.outside some.0 some.2 ((traces.closed some.0).0 closed).1))

@@ -4,9 +4,9 @@ use Rattle.std.proofs.Common.{◌≡◌, ℕ, true, List, get_or, sym, ◌∙◌
 use Rattle.std.proofs.lemmas.Bool.{true≢false, cases_Bool, true_from_ne_false, ltb-true}
 use Rattle.std.proofs.lemmas.Bool.Decides.{nat_tests}
 use Rattle.std.specs.Prelude.{All}
-use Rattle.attr_sets.specs.Places.{Places, below, only, meet, minus, Within, Same, IsEmpty, Apart, Meets}
+use Rattle.attr_sets.specs.Places.{Places, below, only, meet, minus, Within, IsEmpty, Apart, Meets}
 use Rattle.attr_sets.specs.Sets.{places}
-use Rattle.attr_sets.proofs.PlacesLemmas.{Same-within, tell_empty}
+use Rattle.attr_sets.proofs.PlacesLemmas.{same_from_within, tell_empty}
 use Rattle.dep_model.specs.declared.dep.Dep.{Dep}
 use Rattle.dep_model.specs.declared.dep.Dep.TheVariants.{Fd, Mvd}
 use Rattle.dep_model.specs.Dependencies.{Dependency, fd, mvd, Obeys, IsWithin}
@@ -98,10 +98,10 @@ block_apart n ds x p block a in_p = elim (cases_Bool (x a)) [
   | inl in_x ↦ absurd (block.outside a in_p (ltb-true a n (block.universe a in_p), λ r legal. reflexivity_obeyed x (only a) r (λ (k : ℕ) m. grind (arith, nat_tests, m, in_x))))
 ]
 
-pub blocks_same : (n : ℕ) (ds : List Dependency) (x p q : Places) → IsBlock n ds x p → IsBlock n ds x q → Meets p q → Same p q
+pub blocks_same : (n : ℕ) (ds : List Dependency) (x p q : Places) → IsBlock n ds x p → IsBlock n ds x q → Meets p q → p ≡ q
 blocks_same n ds x p q first second common =
     let shared : Implies n ds (mvd x (meet p q)) = λ r legal. mvd_meet_obeyed (below n) x p q r (first.implied r legal) (second.implied r legal) in
     let some : IsEmpty (meet p q) → ⊥ = λ none. true≢false (sym (grind (arith, common.1, common.2)) ∙ none common.0) in
-    Same-within p q
+    same_from_within p q
     (λ (k : ℕ) m. grind (arith, first.minimal (meet p q) (λ (j : ℕ) h. grind (arith, h)) some shared k m))
     (λ (k : ℕ) m. grind (arith, second.minimal (meet p q) (λ (j : ℕ) h. grind (arith, h)) some shared k m))

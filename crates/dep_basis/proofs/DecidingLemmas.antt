@@ -1,14 +1,14 @@
 -- Which block shows that a dependency is not implied, and that its two tuples do.
 use Rattle.std.proofs.Common.{◌≡◌, ℕ, ◌<◌, true, List, get_or, sym, ap, subst, ◌∙◌, inl, inr, ⊎_elim, arith}
+use mathlib.Core.Path.{fun_ext}
 use Rattle.std.proofs.lemmas.Bool.{true≢false, cases_lt, cases_eq, ltb-true}
 use Rattle.std.proofs.lemmas.Bool.Decides.{nat_tests}
 use Rattle.std.proofs.lemmas.List.{get_or_default}
 use Rattle.std.proofs.lemmas.List.Elements.{All-contains}
 use Rattle.std.specs.Prelude.{All}
-use Rattle.attr_sets.specs.Places.{Places, below, only, meet, minus, Within, Same, IsEmpty, Meets, IsLeastFrom}
+use Rattle.attr_sets.specs.Places.{Places, below, only, meet, minus, Within, IsEmpty, Meets, IsLeastFrom}
 use Rattle.attr_sets.specs.declared.set.AttrSet.{AttrSet}
 use Rattle.attr_sets.specs.Sets.{places}
-use Rattle.attr_sets.proofs.PlacesLemmas.{Same-path}
 use Rattle.dep_model.specs.declared.dep.Dep.{Dep}
 use Rattle.dep_model.specs.Dependencies.{Dependency, fd, mvd, ObeysFd, ObeysMvd, IsWithin}
 use Rattle.dep_model.specs.Implication.{Implies}
@@ -34,29 +34,29 @@ breaks_fd n ds x y p within (block, (a, in_p, in_y, least)) obeys =
 
 breaks_mvd : (n : ℕ) (ds : List Dependency) (x y p : Places) → IsWithin (below n) (mvd x y) → IsBreakingBlock n ds (mvd x y) p → ObeysMvd (below n) x y (two_tuples n (outside_of n p)) → ⊥
 breaks_mvd n ds x y p within (block, split, first) =
-    let same : Same p (meet p (below n)) = λ (k : ℕ). grind (arith, block.universe k) in
+    let same : p ≡ meet p (below n) = fun_ext (λ (k : ℕ). grind (arith, block.universe k)) in
     split_broken n (below n) x y p (λ (k : ℕ) m. m) within.0 within.1 (block_apart n ds x p block)
-    (subst (λ (q : Places). IsSplitBy (below n) y q) (Same-path p (meet p (below n)) same) split)
+    (subst (λ (q : Places). IsSplitBy (below n) y q) same split)
 
 pub breaking_broken : (n : ℕ) (ds : List Dep) (d : Dependency) (agreement p : Places) → All (IsDepWithin (below n)) ds → IsWithin (below n) d
-    → IsBreakingBlock n (dependencies_of ds) d p → Same agreement (minus (below n) p) → IsBrokenBy n (dependencies_of ds) d agreement
+    → IsBreakingBlock n (dependencies_of ds) d p → agreement ≡ minus (below n) p → IsBrokenBy n (dependencies_of ds) d agreement
 breaking_broken n ds (fd x y) agreement p each within breaking outside = record {
   block = p;
   is_breaking = breaking;
   outside = outside;
-  legal = rw (Same-path agreement (minus (below n) p) outside) (block_legal n ds x p each within.0 breaking.0);
-  breaks = rw (Same-path agreement (minus (below n) p) outside) (breaks_fd n (dependencies_of ds) x y p within breaking);
+  legal = rw outside (block_legal n ds x p each within.0 breaking.0);
+  breaks = rw outside (breaks_fd n (dependencies_of ds) x y p within breaking);
 }
 breaking_broken n ds (mvd x y) agreement p each within breaking outside = record {
   block = p;
   is_breaking = breaking;
   outside = outside;
-  legal = rw (Same-path agreement (minus (below n) p) outside) (block_legal n ds x p each within.0 breaking.0);
-  breaks = rw (Same-path agreement (minus (below n) p) outside) (breaks_mvd n (dependencies_of ds) x y p within breaking);
+  legal = rw outside (block_legal n ds x p each within.0 breaking.0);
+  breaks = rw outside (breaks_mvd n (dependencies_of ds) x y p within breaking);
 }
 
 -- ---- the block that a basis shows
-least_same : (p : Places) (i j : ℕ) → IsLeastFrom p 0 i → IsLeastFrom p 0 j → i ≡ j
+pub least_same : (p : Places) (i j : ℕ) → IsLeastFrom p 0 i → IsLeastFrom p 0 j → i ≡ j
 least_same p i j first second = elim (cases_lt i j) [
   | inl lt ↦ absurd (true≢false (sym first.member ∙ second.least i (omega arith) lt))
   | inr le ↦ elim (cases_eq i j) [
@@ -105,7 +105,7 @@ module _ (n : ℕ) (ds : List Dependency) (x y : Places) (found : Blocks) (basis
     first.holds,
     (λ q i j block split least_p least_q.
         let one = basis.all q block in
-        let same : q ≡ places one.1 = sym (Same-path (places one.1) q one.4) in
+        let same : q ≡ places one.1 = sym one.4 in
         let listed : IsSplitBy (below n) y (places (get_or (blocks_of found) one.0 one.1)) = rw (one.3, ← same) split in
         elim (cases_lt one.0 first.place) [
           | inl before ↦ absurd (first.first one.0 one.1 before listed)

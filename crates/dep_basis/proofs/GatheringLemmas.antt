@@ -5,7 +5,7 @@ use Rattle.std.proofs.lemmas.Bool.Decides.{nat_tests}
 use Rattle.std.proofs.lemmas.List.Elements.{All-push, All-weaker, All-contains}
 use Rattle.std.proofs.lemmas.List.Quantifiers.{Any-push, all_pairs_push}
 use Rattle.std.specs.Prelude.{All, AllPairs, Any}
-use Rattle.attr_sets.specs.Places.{Places, only, union, meet, minus, Within, Same, IsEmpty, Apart, IsLeastFrom}
+use Rattle.attr_sets.specs.Places.{Places, only, union, meet, minus, Within, IsEmpty, Apart, IsLeastFrom}
 use Rattle.attr_sets.specs.declared.set.AttrSet.{AttrSet}
 use Rattle.attr_sets.specs.Sets.{places}
 use Rattle.dep_model.specs.Dependencies.{Dependency}
@@ -13,6 +13,7 @@ use Rattle.dep_model.specs.Keys.{InClosure, IsBlock}
 use Rattle.dep_basis.specs.declared.gathering.Blocks.{Blocks}
 use Rattle.dep_basis.specs.declared.pieces.TheConstants.{MOST_BLOCKS}
 use Rattle.dep_basis.specs.Traces.{IsTrace, BeginsBefore, AreTraces, blocks_of}
+use Rattle.attr_sets.proofs.PlacesLemmas.{same_at}
 use Rattle.dep_basis.proofs.BlockLemmas.{blocks_same}
 use Rattle.dep_model.proofs.ListLemmas.{Any-left}
 
@@ -45,52 +46,52 @@ found_first n ds scheme x closed none = record {
 
 module _ (n : ℕ) (ds : List Dependency) (scheme x left closed : Places) (qs : List AttrSet) (before : IsFound n ds scheme x left closed qs) where
   -- the next attribute is closed
-  pub found_closed : (rest more : Places) (i : ℕ) → left i ≡ true → InClosure n ds x i → Same rest (minus left (only i)) → Same more (union closed (only i)) → IsFound n ds scheme x rest more qs
+  pub found_closed : (rest more : Places) (i : ℕ) → left i ≡ true → InClosure n ds x i → rest ≡ minus left (only i) → more ≡ union closed (only i) → IsFound n ds scheme x rest more qs
   found_closed rest more i member is_closed rest_is more_is = record {
-    left_in = λ k m. before.left_in k (grind (arith, rest_is k, m));
+    left_in = λ k m. before.left_in k (grind (arith, same_at rest_is k, m));
     closed_is = λ a. elim (cases_eq a i) [
       | inl same ↦ (
-        (λ m. (before.left_in a (ap left same ∙ member), rest_is a ∙ grind (arith, nat_tests, same), subst (λ (b : ℕ). InClosure n ds x b) (sym same) is_closed)),
-        (λ h. more_is a ∙ grind (arith, nat_tests, same)),
+        (λ m. (before.left_in a (ap left same ∙ member), same_at rest_is a ∙ grind (arith, nat_tests, same), subst (λ (b : ℕ). InClosure n ds x b) (sym same) is_closed)),
+        (λ h. same_at more_is a ∙ grind (arith, nat_tests, same)),
       )
       | inr other ↦ (
-        (λ m. let h = (before.closed_is a).0 (grind (arith, nat_tests, other, more_is a, m)) in (h.0, grind (arith, rest_is a, h.1), h.2)),
-        (λ h. grind (arith, more_is a, (before.closed_is a).1 (h.0, grind (arith, nat_tests, other, rest_is a, h.1), h.2))),
+        (λ m. let h = (before.closed_is a).0 (grind (arith, nat_tests, other, same_at more_is a, m)) in (h.0, grind (arith, same_at rest_is a, h.1), h.2)),
+        (λ h. grind (arith, same_at more_is a, (before.closed_is a).1 (h.0, grind (arith, nat_tests, other, same_at rest_is a, h.1), h.2))),
       )
     ];
     each = before.each;
     parts = λ a m out. elim (cases_eq a i) [
       | inl same ↦ inl (subst (λ (b : ℕ). InClosure n ds x b) (sym same) is_closed)
-      | inr other ↦ before.parts a m (grind (arith, nat_tests, other, rest_is a, out))
+      | inr other ↦ before.parts a m (grind (arith, nat_tests, other, same_at rest_is a, out))
     ];
-    gone = All-weaker (λ (q : AttrSet). Apart (places q) left) (λ (q : AttrSet). Apart (places q) rest) (λ (q : AttrSet) h k m. grind (arith, rest_is k, h k m)) qs before.gone;
-    begun = All-weaker (HasBegun left) (HasBegun rest) (λ (q : AttrSet) h j k l m. h j k l (grind (arith, rest_is k, m))) qs before.begun;
+    gone = All-weaker (λ (q : AttrSet). Apart (places q) left) (λ (q : AttrSet). Apart (places q) rest) (λ (q : AttrSet) h k m. grind (arith, same_at rest_is k, h k m)) qs before.gone;
+    begun = All-weaker (HasBegun left) (HasBegun rest) (λ (q : AttrSet) h j k l m. h j k l (grind (arith, same_at rest_is k, m))) qs before.begun;
     apart = before.apart;
     in_order = before.in_order;
   }
 
   -- the block of the next attribute, and what the scheme has of it
   module _ (block rest : Places) (q : AttrSet) (i : ℕ) (least : IsLeastFrom left 0 i) (is_block : IsBlock n ds x block) (member : block i ≡ true)
-      (trace : Same (places q) (meet block scheme)) (rest_is : Same rest (minus left block)) where
+      (trace : places q ≡ meet block scheme) (rest_is : rest ≡ minus left block) where
     -- all of it is left
     trace_left : Within (places q) left
     trace_left k m = elim (cases_Bool (left k)) [
       | inl in_left ↦ in_left
       | inr out ↦ absurd (⊎_elim
-          (λ is_closed. is_block.outside k (grind (arith, trace k, m)) is_closed)
+          (λ is_closed. is_block.outside k (grind (arith, same_at trace k, m)) is_closed)
           (λ (j, p, lt, is, in_p).
           let old = All-contains (λ (s : AttrSet). IsTrace n ds scheme x (places s)) qs p before.each (j, lt, is) in
-          let same = blocks_same n ds x old.block block old.is_block is_block (k, grind (arith, old.trace k, in_p), grind (arith, trace k, m)) in
-          let in_old : places p i ≡ true = grind (arith, old.trace i, same i, member, before.left_in i least.member) in
+          let same = blocks_same n ds x old.block block old.is_block is_block (k, grind (arith, same_at old.trace k, in_p), grind (arith, same_at trace k, m)) in
+          let in_old : places p i ≡ true = grind (arith, same_at old.trace i, same_at same i, member, before.left_in i least.member) in
           true≢false (sym least.member ∙ All-contains (λ (s : AttrSet). Apart (places s) left) qs p before.gone (j, lt, is) i in_old))
-          (before.parts k (grind (arith, trace k, m)) out))
+          (before.parts k (grind (arith, same_at trace k, m)) out))
     ]
 
     -- it begins with the next attribute
     trace_begun : HasBegun rest q
     trace_begun j k first m =
-        let in_q : places q i ≡ true = grind (arith, trace i, member, before.left_in i least.member) in
-        let in_left : left k ≡ true = grind (arith, rest_is k, m) in
+        let in_q : places q i ≡ true = grind (arith, same_at trace i, member, before.left_in i least.member) in
+        let in_left : left k ≡ true = grind (arith, same_at rest_is k, m) in
         let low : j ≤ i = elim (cases_lt i j) [
           | inl lt ↦ absurd (true≢false (sym in_q ∙ first.least i (omega arith) lt))
           | inr le ↦ le
@@ -98,32 +99,32 @@ module _ (n : ℕ) (ds : List Dependency) (scheme x left closed : Places) (qs : 
         elim (cases_lt i k) [
           | inl lt ↦ omega arith
           | inr le ↦ absurd (elim (cases_eq k i) [
-            | inl same ↦ true≢false (sym m ∙ grind (arith, rest_is k, ap block same, member))
+            | inl same ↦ true≢false (sym m ∙ grind (arith, same_at rest_is k, ap block same, member))
             | inr other ↦ true≢false (sym in_left ∙ least.least k (omega arith) (omega arith))
           ])
         ]
 
     pub found_block : IsFound n ds scheme x rest closed (qs ++ q ∷ [])
     found_block = record {
-      left_in = λ k m. before.left_in k (grind (arith, rest_is k, m));
+      left_in = λ k m. before.left_in k (grind (arith, same_at rest_is k, m));
       closed_is = λ a. (
-        (λ m. let h = (before.closed_is a).0 m in (h.0, grind (arith, rest_is a, h.1), h.2)),
+        (λ m. let h = (before.closed_is a).0 m in (h.0, grind (arith, same_at rest_is a, h.1), h.2)),
         (λ h. elim (cases_Bool (block a)) [
           | inl inside ↦ absurd (is_block.outside a inside h.2)
-          | inr out ↦ (before.closed_is a).1 (h.0, grind (arith, rest_is a, h.1, out), h.2)
+          | inr out ↦ (before.closed_is a).1 (h.0, grind (arith, same_at rest_is a, h.1, out), h.2)
         ]),
       );
       each = All-push (λ (s : AttrSet). IsTrace n ds scheme x (places s)) qs q before.each
-          (record { block = block; is_block = is_block; trace = trace; some = λ none. true≢false (sym (grind (arith, trace i, member, before.left_in i least.member)) ∙ none i) });
+          (record { block = block; is_block = is_block; trace = trace; some = λ none. true≢false (sym (grind (arith, same_at trace i, member, before.left_in i least.member)) ∙ none i) });
       parts = λ a m out. elim (cases_Bool (block a)) [
-        | inl inside ↦ inr (Any-push (λ (s : AttrSet). places s a ≡ true) qs q (grind (arith, trace a, inside, m)))
-        | inr outside ↦ ⊎_elim inl (λ found. inr (Any-left (λ (s : AttrSet). places s a ≡ true) qs q found)) (before.parts a m (grind (arith, rest_is a, outside, out)))
+        | inl inside ↦ inr (Any-push (λ (s : AttrSet). places s a ≡ true) qs q (grind (arith, same_at trace a, inside, m)))
+        | inr outside ↦ ⊎_elim inl (λ found. inr (Any-left (λ (s : AttrSet). places s a ≡ true) qs q found)) (before.parts a m (grind (arith, same_at rest_is a, outside, out)))
       ];
       gone = All-push (λ (s : AttrSet). Apart (places s) rest) qs q
-          (All-weaker (λ (s : AttrSet). Apart (places s) left) (λ (s : AttrSet). Apart (places s) rest) (λ (s : AttrSet) h k m. grind (arith, rest_is k, h k m)) qs before.gone)
-          (λ k m. grind (arith, rest_is k, trace k, m));
+          (All-weaker (λ (s : AttrSet). Apart (places s) left) (λ (s : AttrSet). Apart (places s) rest) (λ (s : AttrSet) h k m. grind (arith, same_at rest_is k, h k m)) qs before.gone)
+          (λ k m. grind (arith, same_at rest_is k, same_at trace k, m));
       begun = All-push (HasBegun rest) qs q
-          (All-weaker (HasBegun left) (HasBegun rest) (λ (s : AttrSet) h j k l m. h j k l (grind (arith, rest_is k, m))) qs before.begun)
+          (All-weaker (HasBegun left) (HasBegun rest) (λ (s : AttrSet) h j k l m. h j k l (grind (arith, same_at rest_is k, m))) qs before.begun)
           (λ j k first m. trace_begun j k first m);
       apart = all_pairs_push (λ (p s : AttrSet). Apart (places p) (places s)) qs q before.apart
           (λ k d l j m. false_from_ne_true (places q j) (λ in_q. true≢false (sym (trace_left j in_q) ∙ before.gone k d l j m)));

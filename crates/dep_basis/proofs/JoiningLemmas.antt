@@ -1,10 +1,11 @@
 -- Derivations that are joined: what is left of the right side, and how large they grow.
 use Rattle.std.proofs.Common.{◌≡◌, ℕ, ◌+◌, ◌*◌, ◌<◌, true, sym, ◌∙◌, arith}
+use mathlib.Core.Path.{fun_ext}
 use Rattle.std.proofs.lemmas.Bool.{true≢false}
-use Rattle.attr_sets.specs.Places.{Places, union, meet, minus, Within, Same, count_below}
+use Rattle.attr_sets.specs.Places.{Places, union, meet, minus, Within, count_below}
 use Rattle.attr_sets.specs.Sets.{places}
 use Rattle.attr_sets.specs.declared.set.TheConstants.{PLACES}
-use Rattle.attr_sets.proofs.PlacesLemmas.{count_below-lt, count_below-le}
+use Rattle.attr_sets.proofs.PlacesLemmas.{count_below-lt, count_below-le, same_at}
 use Rattle.dep_model.specs.declared.schema.Schema.{Schema}
 use Rattle.dep_model.specs.Dependencies.{mvd}
 use Rattle.dep_model.specs.Schemas.{width_of, universe_of, theory_of, ImpliedBy}
@@ -19,30 +20,30 @@ use Rattle.dep_basis.specs.Joined.{IsSetProof, IsLeft}
 use Rattle.dep_basis.proofs.ShowingLemmas.{part_size, size_grows}
 
 -- ---- what is left at first, and after each step
-pub left_first : (x y left : Places) (t : Tree) → Same left (minus y x) → HasSize t 1 1 → IsLeft x y left t
+pub left_first : (x y left : Places) (t : Tree) → left ≡ minus y x → HasSize t 1 1 → IsLeft x y left t
 left_first x y left t is size = record {
-  within = λ k m. grind (arith, is k, m);
-  apart = λ k m. grind (arith, is k, m);
+  within = λ k m. grind (arith, same_at is k, m);
+  apart = λ k m. grind (arith, same_at is k, m);
   few_nodes = omega (arith, size.few_nodes, count_below-le PLACES left);
   few_levels = omega (arith, size.few_levels, count_below-le PLACES left);
 }
 
-pub right_first : (x y left m : Places) → Same left (minus y x) → Same m (meet x y) → Same m (minus y left)
-right_first x y left m left_is m_is k = grind (arith, left_is k, m_is k)
+pub right_first : (x y left m : Places) → left ≡ minus y x → m ≡ meet x y → m ≡ minus y left
+right_first x y left m left_is m_is = fun_ext (λ k. grind (arith, same_at left_is k, same_at m_is k))
 
-pub right_next : (y left rest part : Places) → Within left y → Within part y → Same rest (minus left part) → Same (union (minus y left) part) (minus y rest)
-right_next y left rest part within inside is k = grind (arith, is k, inside k, within k)
+pub right_next : (y left rest part : Places) → Within left y → Within part y → rest ≡ minus left part → union (minus y left) part ≡ minus y rest
+right_next y left rest part within inside is = fun_ext (λ k. grind (arith, same_at is k, inside k, within k))
 
-pub left_fewer : (left rest part : Places) (a : ℕ) → a < PLACES → left a ≡ true → part a ≡ true → Same rest (minus left part) → count_below rest PLACES < count_below left PLACES
-left_fewer left rest part a low in_left in_part is = count_below-lt PLACES rest left a (λ k m. grind (arith, is k, m)) low (grind (arith, is a, in_part)) in_left
+pub left_fewer : (left rest part : Places) (a : ℕ) → a < PLACES → left a ≡ true → part a ≡ true → rest ≡ minus left part → count_below rest PLACES < count_below left PLACES
+left_fewer left rest part a low in_left in_part is = count_below-lt PLACES rest left a (λ k m. grind (arith, same_at is k, m)) low (grind (arith, same_at is a, in_part)) in_left
 
-pub left_next : (x y left rest part : Places) (a : ℕ) (t g u : Tree) → IsLeft x y left t → a < PLACES → left a ≡ true → part a ≡ true → Same rest (minus left part)
+pub left_next : (x y left rest part : Places) (a : ℕ) (t g u : Tree) → IsLeft x y left t → a < PLACES → left a ≡ true → part a ≡ true → rest ≡ minus left part
     → HasSize g (8 * PLACES + 8) (5 * PLACES + 8) → IsLittleMore t g u → IsLeft x y rest u
 left_next x y left rest part a t g u before low in_left in_part is size more =
     let fewer = left_fewer left rest part a low in_left in_part is in
     record {
-      within = λ k m. before.within k (grind (arith, is k, m));
-      apart = λ k m. before.apart k (grind (arith, is k, m));
+      within = λ k m. before.within k (grind (arith, same_at is k, m));
+      apart = λ k m. before.apart k (grind (arith, same_at is k, m));
       few_nodes = omega (arith, fewer, more.few_nodes, size.few_nodes, before.few_nodes);
       few_levels = grind (arith, fewer, more.few_levels, size.few_levels, before.few_levels, count_below-le PLACES left);
     }

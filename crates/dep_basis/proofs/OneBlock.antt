@@ -10,6 +10,7 @@ use Rattle.dep_model.specs.TwoTuples.{two_tuples}
 use Rattle.dep_model.proofs.TwoTupleLemmas.{two_tuples_mvd-to}
 use Rattle.dep_basis.specs.Breaking.{IsBreakingBlock}
 use Rattle.dep_basis.specs.Decisions.{IsBrokenBy}
+use Rattle.attr_sets.proofs.PlacesLemmas.{same_at}
 use Rattle.fd_closure.proofs.ClosedSets.{IsClosure, closure_set}
 
 -- ---- a block beside the closure c
@@ -52,10 +53,10 @@ agreement_is_closure n ds d agreement within same d_in broken a =
     let block = breaking_is_block n ds d p broken.is_breaking in
     let c = closure_set n ds (left_of d) within same d_in.0 in (
       (λ m. (c.1.exact a).0 (true_from_ne_false (c.0 a) (λ out.
-          let low : a < n = ltb-true a n (grind (arith, m, broken.outside a)) in
+          let low : a < n = ltb-true a n (grind (arith, m, same_at broken.outside a)) in
           let in_p : p a ≡ true = beyond_block n ds (left_of d) p c.0 d_in.0 c.1 block a low (λ h. true≢false (sym ((c.1.exact a).1 h) ∙ out)) in
-          true≢false (sym m ∙ grind (arith, in_p, broken.outside a))))),
+          true≢false (sym m ∙ grind (arith, in_p, same_at broken.outside a))))),
       (λ h.
           let outside : p a ≡ false = false_from_ne_true (p a) (λ m. block.outside a m h) in
-          grind (arith, lt-ltb a n h.0, outside, broken.outside a)),
+          grind (arith, lt-ltb a n h.0, outside, same_at broken.outside a)),
     )

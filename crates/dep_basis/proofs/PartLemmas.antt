@@ -3,7 +3,7 @@ use Rattle.std.proofs.Common.{◌≡◌, ℕ, true, false, List, sym, subst, ◌
 use Rattle.std.proofs.lemmas.Bool.{true≢false, cases_eq}
 use Rattle.std.proofs.lemmas.Bool.Decides.{nat_tests}
 use Rattle.std.specs.Prelude.{All}
-use Rattle.attr_sets.specs.Places.{Places, below, only, meet, minus, Within, Same, IsEmpty, Apart, Meets}
+use Rattle.attr_sets.specs.Places.{Places, below, only, meet, minus, Within, IsEmpty, Apart, Meets}
 use Rattle.dep_model.specs.declared.dep.Dep.{Dep}
 use Rattle.dep_model.specs.Tuples.{Relation}
 use Rattle.dep_model.specs.Dependencies.{Dependency, fd, mvd, ObeysMvd}
@@ -13,7 +13,7 @@ use Rattle.dep_model.specs.Keys.{IsPart}
 use Rattle.dep_model.specs.TwoTuples.{two_tuples}
 use Rattle.dep_model.proofs.RuleLemmas.{replication_obeyed}
 use Rattle.dep_model.proofs.SchemeLemmas.{mvd_in-to, mvd_in-from}
-use Rattle.attr_sets.proofs.PlacesLemmas.{tell_within, tell_empty}
+use Rattle.attr_sets.proofs.PlacesLemmas.{tell_within, tell_empty, same_at}
 use Rattle.dep_basis.specs.Refining.{LeavesWhole}
 use Rattle.dep_basis.specs.Pieces.{CanRefine}
 use Rattle.dep_basis.specs.Parts.{HasTwoParts, IsParted}
@@ -55,29 +55,29 @@ pub record TwoBeyond (beyond : Places) : Type 0 where
   pub second : beyond other ≡ true
   pub differ : one ≡ other → ⊥
 
-pub two_beyond : (beyond rest : Places) (i k : ℕ) → beyond i ≡ true → Same rest (minus beyond (only i)) → rest k ≡ true → TwoBeyond beyond
+pub two_beyond : (beyond rest : Places) (i k : ℕ) → beyond i ≡ true → rest ≡ minus beyond (only i) → rest k ≡ true → TwoBeyond beyond
 two_beyond beyond rest i k first is second = record {
   one = i;
   other = k;
   first = first;
-  second = grind (arith, is k, second);
-  differ = λ same. true≢false (sym second ∙ grind (arith, nat_tests, is k, same));
+  second = grind (arith, same_at is k, second);
+  differ = λ same. true≢false (sym second ∙ grind (arith, nat_tests, same_at is k, same));
 }
 
-module _ (n : ℕ) (ds : List Dep) (scheme x beyond : Places) (scheme_in : Within scheme (below n)) (x_in : Within x scheme) (is : Same beyond (minus scheme x)) where
+module _ (n : ℕ) (ds : List Dep) (scheme x beyond : Places) (scheme_in : Within scheme (below n)) (x_in : Within x scheme) (is : beyond ≡ minus scheme x) where
   pub parted_two : TwoBeyond beyond → IsParted n (dependencies_of ds) x beyond → HasTwoParts n (dependencies_of ds) scheme x
   parted_two two parted =
       ⊎_elim
       (λ closed.
       let a = closed.0 in
-      let a_in : Within (only a) scheme = λ (k : ℕ) e. grind (arith, nat_tests, e, is a, closed.1) in
+      let a_in : Within (only a) scheme = λ (k : ℕ) e. grind (arith, nat_tests, e, same_at is a, closed.1) in
       record {
         rhs = only a;
         implied = record { within = (x_in, a_in); obeyed = λ r legal. mvd_in-from scheme x (only a) r x_in a_in (replication_obeyed scheme x (only a) r (closed.2 r legal)) };
-        some = (a, grind (arith, is a, closed.1), grind (arith, nat_tests));
+        some = (a, grind (arith, same_at is a, closed.1), grind (arith, nat_tests));
         rest = elim (cases_eq two.one a) [
-          | inl same ↦ (two.other, grind (arith, is two.other, two.second), grind (arith, nat_tests, is two.other, two.second, other_differs two a same))
-          | inr differ ↦ (two.one, grind (arith, is two.one, two.first), grind (arith, nat_tests, is two.one, two.first, differ))
+          | inl same ↦ (two.other, grind (arith, same_at is two.other, two.second), grind (arith, nat_tests, same_at is two.other, two.second, other_differs two a same))
+          | inr differ ↦ (two.one, grind (arith, same_at is two.one, two.first), grind (arith, nat_tests, same_at is two.one, two.first, differ))
         ];
       })
       (λ split.
@@ -88,8 +88,8 @@ module _ (n : ℕ) (ds : List Dep) (scheme x beyond : Places) (scheme_in : Withi
       record {
         rhs = meet w scheme;
         implied = record { within = (x_in, y_in); obeyed = λ r legal. mvd_in-from scheme x (meet w scheme) r x_in y_in (mvd_on_scheme n scheme x w r scheme_in (split.2 r legal)) };
-        some = (in_w.0, grind (arith, is in_w.0, in_w.1), grind (arith, is in_w.0, in_w.1, in_w.2));
-        rest = (out.0, grind (arith, is out.0, out.1), grind (arith, is out.0, out.1, out.2));
+        some = (in_w.0, grind (arith, same_at is in_w.0, in_w.1), grind (arith, same_at is in_w.0, in_w.1, in_w.2));
+        rest = (out.0, grind (arith, same_at is out.0, out.1), grind (arith, same_at is out.0, out.1, out.2));
       })
       parted
     where
@@ -103,18 +103,18 @@ module _ (n : ℕ) (ds : List Dep) (scheme x beyond : Places) (scheme_in : Withi
       let y_in = two.implied.within.1 in
       let legal = whole_legal n ds w can.deps whole in
       split_broken n scheme x y w scheme_in x_in y_in can.outside (
-        (two.some.0, grind (arith, two.some.1, inside two.some.0, is two.some.0), two.some.2),
-        (two.rest.0, grind (arith, two.rest.1, inside two.rest.0, is two.rest.0), two.rest.2),
+        (two.some.0, grind (arith, two.some.1, inside two.some.0, same_at is two.some.0), two.some.2),
+        (two.rest.0, grind (arith, two.rest.1, inside two.rest.0, same_at is two.rest.0), two.rest.2),
       )
       (mvd_in-to scheme x y (two_tuples n (outside_of n w)) x_in y_in (two.implied.obeyed (two_tuples n (outside_of n w)) legal))
 
   -- at most one attribute lies beyond x
   pub none_beyond : IsEmpty beyond → HasTwoParts n (dependencies_of ds) scheme x → ⊥
-  none_beyond none two = true≢false (sym two.some.1 ∙ sym (is two.some.0) ∙ none two.some.0)
+  none_beyond none two = true≢false (sym two.some.1 ∙ sym (same_at is two.some.0) ∙ none two.some.0)
 
-  pub one_beyond : (i : ℕ) (rest : Places) → Same rest (minus beyond (only i)) → IsEmpty rest → HasTwoParts n (dependencies_of ds) scheme x → ⊥
+  pub one_beyond : (i : ℕ) (rest : Places) → rest ≡ minus beyond (only i) → IsEmpty rest → HasTwoParts n (dependencies_of ds) scheme x → ⊥
   one_beyond i rest rest_is none two =
-      let alone : (k : ℕ) → minus scheme x k ≡ true → k ≡ i = λ (k : ℕ) m. grind (arith, nat_tests, m, is k, rest_is k, none k) in
+      let alone : (k : ℕ) → minus scheme x k ≡ true → k ≡ i = λ (k : ℕ) m. grind (arith, nat_tests, m, same_at is k, same_at rest_is k, none k) in
       let k = two.some.0 in
       let j = two.rest.0 in
       let same : k ≡ j = alone k two.some.1 ∙ sym (alone j two.rest.1) in

@@ -1,15 +1,16 @@
 -- The refinement of a piece: what a dependency that cuts it gives back, and what is found in the end.
 use Rattle.std.proofs.Common.{◌≡◌, ℕ, ◌+◌, ◌<◌, ◌≤◌, ◌↔◌, true, false, List, [], ◌∷◌, ◌++◌, length, get_or, sym, subst, ◌∙◌, inl, inr, ⊎_elim, arith}
+use mathlib.Core.Path.{fun_ext}
 use Rattle.std.proofs.lemmas.Bool.{true≢false, cases_Bool, false_from_ne_true, ltb-true, lt-ltb}
 use Rattle.std.proofs.lemmas.Bool.Decides.{nat_tests}
 use Rattle.std.proofs.lemmas.List.Elements.{All-push, All-weaker, All-contains}
 use Rattle.std.proofs.lemmas.List.Quantifiers.{Any-push}
 use Rattle.std.specs.Prelude.{All, Any, Contains}
-use Rattle.attr_sets.specs.Places.{Places, below, only, none, union, meet, minus, Within, Same, IsEmpty, Apart, count_below}
+use Rattle.attr_sets.specs.Places.{Places, below, only, none, union, meet, minus, Within, IsEmpty, Apart, count_below}
 use Rattle.attr_sets.specs.declared.set.AttrSet.{AttrSet}
 use Rattle.attr_sets.specs.declared.set.TheConstants.{PLACES}
 use Rattle.attr_sets.specs.Sets.{places}
-use Rattle.attr_sets.proofs.PlacesLemmas.{Same-path, tell_empty, count_below-lt, count_below-within, count_below-minus}
+use Rattle.attr_sets.proofs.PlacesLemmas.{tell_empty, count_below-lt, count_below-within, count_below-minus, same_at}
 use Rattle.dep_model.specs.declared.dep.Dep.{Dep}
 use Rattle.dep_model.specs.Dependencies.{Dependency, fd, mvd, right_of}
 use Rattle.dep_model.specs.Deps.{dependency_of, dependencies_of, IsDepWithin}
@@ -31,34 +32,34 @@ HasAttribute a p = places p a ≡ true
 
 -- ---- what can be refined
 -- all that is outside a set
-pub first_refined : (n : ℕ) (ds : List Dep) (x w : Places) → All (IsDepWithin (below n)) ds → Within x (below n) → Same w (minus (below n) x) → CanRefine n ds x w
+pub first_refined : (n : ℕ) (ds : List Dep) (x w : Places) → All (IsDepWithin (below n)) ds → Within x (below n) → w ≡ minus (below n) x → CanRefine n ds x w
 first_refined n ds x w within x_in is = record {
   deps = within;
   lhs = x_in;
-  universe = λ k m. grind (arith, is k, m);
-  outside = λ k m. grind (arith, is k, m);
-  implied = λ r legal. rw (Same-path w (minus (below n) (union x none)) (λ (k : ℕ). grind (arith, is k)))
+  universe = λ k m. grind (arith, same_at is k, m);
+  outside = λ k m. grind (arith, same_at is k, m);
+  implied = λ r legal. rw (fun_ext {f = w} {g = minus (below n) (union x none)} (λ (k : ℕ). grind (arith, same_at is k)))
       (complementation_obeyed (below n) x none r (mreflexivity_obeyed (below n) x none r (λ (k : ℕ) m. absurd (true≢false (sym m)))));
 }
 
 -- what a cut gives back
 module _ (n : ℕ) (ds : List Dep) (x w v t : Places) (can : CanRefine n ds x w) (v_in : Within v (below n)) (apart : Apart v w) (given : Implies n (dependencies_of ds) (mvd v t)) where
-  pub outside_refined : (rest : Places) → Same rest (minus w t) → CanRefine n ds x rest
+  pub outside_refined : (rest : Places) → rest ≡ minus w t → CanRefine n ds x rest
   outside_refined rest is = record {
     deps = can.deps;
     lhs = can.lhs;
-    universe = λ k m. can.universe k (grind (arith, is k, m));
-    outside = λ k m. can.outside k (grind (arith, is k, m));
-    implied = λ r legal. rw (Same-path rest (minus w t) is) (split_outside n (dependencies_of ds) x w v t can.lhs can.universe v_in apart can.implied given r legal);
+    universe = λ k m. can.universe k (grind (arith, same_at is k, m));
+    outside = λ k m. can.outside k (grind (arith, same_at is k, m));
+    implied = λ r legal. rw is (split_outside n (dependencies_of ds) x w v t can.lhs can.universe v_in apart can.implied given r legal);
   }
 
-  pub inside_refined : (rest : Places) → Same rest (meet w t) → CanRefine n ds x rest
+  pub inside_refined : (rest : Places) → rest ≡ meet w t → CanRefine n ds x rest
   inside_refined rest is = record {
     deps = can.deps;
     lhs = can.lhs;
-    universe = λ k m. can.universe k (grind (arith, is k, m));
-    outside = λ k m. can.outside k (grind (arith, is k, m));
-    implied = λ r legal. rw (Same-path rest (meet w t) is) (split_inside n (dependencies_of ds) x w v t can.lhs can.universe v_in apart can.implied given r legal);
+    universe = λ k m. can.universe k (grind (arith, same_at is k, m));
+    outside = λ k m. can.outside k (grind (arith, same_at is k, m));
+    implied = λ r legal. rw is (split_inside n (dependencies_of ds) x w v t can.lhs can.universe v_in apart can.implied given r legal);
   }
 
 -- a given dependency
@@ -96,11 +97,11 @@ block_refined ds piece before after size sets count pos some whole = record {
 }
 
 -- a functional dependency determines what it shares
-pub fd_refined : (ds : List Dep) (w v t rest : Places) (before after : Pieces) → Same rest (minus w t) → Apart v w
+pub fd_refined : (ds : List Dep) (w v t rest : Places) (before after : Pieces) → rest ≡ minus w t → Apart v w
     → ((n : ℕ) → All (IsDepWithin (below n)) ds → Within v (below n)) → ((n : ℕ) → Implies n (dependencies_of ds) (fd v t)) → IsRefined ds rest before after → IsRefined ds w before after
 fd_refined ds w v t rest before after is apart v_in given old = record {
   size = old.size;
-  room = omega (arith, old.room, count_below-within PLACES rest w (λ k m. grind (arith, is k, m)));
+  room = omega (arith, old.room, count_below-within PLACES rest w (λ k m. grind (arith, same_at is k, m)));
   kept = old.kept;
   refined = λ n x can.
       let inner = old.refined n x (outside_refined n ds x w v t can (v_in n can.deps) apart (replicated n (dependencies_of ds) v t (given n)) rest is) in
@@ -108,18 +109,18 @@ fd_refined ds w v t rest before after is apart v_in given old = record {
         each = inner.each;
         told = λ a m. elim (cases_Bool (t a)) [
           | inl in_t ↦ inl (moves n (dependencies_of ds) x w v t can.lhs can.universe (v_in n can.deps) a apart m in_t can.implied (given n))
-          | inr out ↦ inner.told a (grind (arith, is a, m, out))
+          | inr out ↦ inner.told a (grind (arith, same_at is a, m, out))
         ];
       };
 }
 
 -- no attribute is lost or counted twice
-pub sides_count : (w t inside outside : Places) → Same inside (meet w t) → Same outside (minus w t) → count_below inside PLACES + count_below outside PLACES ≡ count_below w PLACES
+pub sides_count : (w t inside outside : Places) → inside ≡ meet w t → outside ≡ minus w t → count_below inside PLACES + count_below outside PLACES ≡ count_below w PLACES
 sides_count w t inside outside in_is out_is =
-    rw (Same-path inside (meet w t) in_is, Same-path outside (minus w t) out_is) (omega (arith, count_below-minus PLACES w t))
+    rw (in_is, out_is) (omega (arith, count_below-minus PLACES w t))
 
 -- a multivalued one gives both sides back
-pub mvd_refined : (ds : List Dep) (w v t inside outside : Places) (before middle after : Pieces) → Same inside (meet w t) → Same outside (minus w t) → Apart v w
+pub mvd_refined : (ds : List Dep) (w v t inside outside : Places) (before middle after : Pieces) → inside ≡ meet w t → outside ≡ minus w t → Apart v w
     → ((n : ℕ) → All (IsDepWithin (below n)) ds → Within v (below n)) → ((n : ℕ) → Implies n (dependencies_of ds) (mvd v t))
     → IsRefined ds inside before middle → IsRefined ds outside middle after → IsRefined ds w before after
 mvd_refined ds w v t inside outside before middle after in_is out_is apart v_in given first second = record {
@@ -132,28 +133,28 @@ mvd_refined ds w v t inside outside before middle after in_is out_is apart v_in 
       record {
         each = λ old. other.each (one.each old);
         told = λ a m. elim (cases_Bool (t a)) [
-          | inl in_t ↦ told_kept n (dependencies_of ds) x (sets_of middle) (sets_of after) a (second.kept a) (one.told a (grind (arith, in_is a, m, in_t)))
-          | inr out ↦ other.told a (grind (arith, out_is a, m, out))
+          | inl in_t ↦ told_kept n (dependencies_of ds) x (sets_of middle) (sets_of after) a (second.kept a) (one.told a (grind (arith, same_at in_is a, m, in_t)))
+          | inr out ↦ other.told a (grind (arith, same_at out_is a, m, out))
         ];
       };
 }
 
 -- both sides are smaller
-pub outside_fewer : (w t rest : Places) (d : Dependency) → Within w (below PLACES) → IsCutting w d → right_of d ≡ t → Same rest (minus w t) → count_below rest PLACES < count_below w PLACES
+pub outside_fewer : (w t rest : Places) (d : Dependency) → Within w (below PLACES) → IsCutting w d → right_of d ≡ t → rest ≡ minus w t → count_below rest PLACES < count_below w PLACES
 outside_fewer w t rest d low cutting right is =
     let k = cutting.shares.0 in
-    count_below-lt PLACES rest w k (λ j m. grind (arith, is j, m)) (ltb-true k PLACES (low k cutting.shares.1)) (grind (arith, is k, subst (λ (y : Places). y k ≡ true) right cutting.shares.2)) cutting.shares.1
+    count_below-lt PLACES rest w k (λ j m. grind (arith, same_at is j, m)) (ltb-true k PLACES (low k cutting.shares.1)) (grind (arith, same_at is k, subst (λ (y : Places). y k ≡ true) right cutting.shares.2)) cutting.shares.1
 
-pub inside_fewer : (w v t rest : Places) → Within w (below PLACES) → IsCutting w (mvd v t) → Same rest (meet w t) → count_below rest PLACES < count_below w PLACES
+pub inside_fewer : (w v t rest : Places) → Within w (below PLACES) → IsCutting w (mvd v t) → rest ≡ meet w t → count_below rest PLACES < count_below w PLACES
 inside_fewer w v t rest low cutting is =
     ⊎_elim
     (λ functional. absurd (true≢false (sym functional)))
-    (λ one. count_below-lt PLACES rest w one.0 (λ j m. grind (arith, is j, m)) (ltb-true one.0 PLACES (low one.0 one.1)) (grind (arith, is one.0, one.2)) one.1)
+    (λ one. count_below-lt PLACES rest w one.0 (λ j m. grind (arith, same_at is j, m)) (ltb-true one.0 PLACES (low one.0 one.1)) (grind (arith, same_at is one.0, one.2)) one.1)
     cutting.leaves
 
 -- ---- all pieces of a left side
 -- c lies between x and its closure, and all outside it was refined
-pub all_refined : (n : ℕ) (ds : List Dep) (x c w : Places) (found none : Pieces) → Within x c → Implies n (dependencies_of ds) (fd x c) → Same w (minus (below n) c)
+pub all_refined : (n : ℕ) (ds : List Dep) (x c w : Places) (found none : Pieces) → Within x c → Implies n (dependencies_of ds) (fd x c) → w ≡ minus (below n) c
     → CanRefine n ds c w → sets_of none ≡ [] → found.count ≤ 128 → IsRefined ds w none found → ArePieces n (dependencies_of ds) x found
 all_refined n ds x c w found none inside closed is can empty few done =
     let all = dependencies_of ds in
@@ -166,7 +167,7 @@ all_refined n ds x c w found none inside closed is can empty few done =
           (refined.each (rw empty (λ k d l. absurd (omega arith))));
       told = λ a low. elim (cases_Bool (c a)) [
         | inl in_c ↦ inl (wider a low (λ r legal. reflexivity_obeyed c (only a) r (λ (k : ℕ) h. grind (arith, nat_tests, h, in_c))))
-        | inr out ↦ ⊎_elim (λ h. inl (wider a low h)) (λ h. inr h) (refined.told a (grind (arith, is a, lt-ltb a n low, out)))
+        | inr out ↦ ⊎_elim (λ h. inl (wider a low h)) (λ h. inr h) (refined.told a (grind (arith, same_at is a, lt-ltb a n low, out)))
       ];
     }
 

@@ -1,10 +1,10 @@
 -- What a cut leaves: each step keeps a candidate.
 use Rattle.std.proofs.Common.{◌≡◌, ℕ, ◌<◌, true, false, List, get_or, sym, ap, ◌∙◌, inl, inr, ⊎_elim, arith}
+use mathlib.Core.Path.{fun_ext}
 use Rattle.std.proofs.lemmas.Bool.{true≢false, cases_Bool, false_from_ne_true}
 use Rattle.std.proofs.lemmas.Bool.Decides.{nat_tests}
 use Rattle.std.specs.Prelude.{All}
-use Rattle.attr_sets.specs.Places.{Places, below, only, none, union, meet, minus, Within, Same, IsEmpty, Apart, Meets}
-use Rattle.attr_sets.proofs.PlacesLemmas.{Same-path}
+use Rattle.attr_sets.specs.Places.{Places, below, only, none, union, meet, minus, Within, IsEmpty, Apart, Meets}
 use Rattle.dep_model.specs.declared.dep.Dep.{Dep}
 use Rattle.dep_model.specs.Deps.{dependency_of}
 use Rattle.dep_model.specs.Tuples.{Relation, AgreeOn}
@@ -12,6 +12,7 @@ use Rattle.dep_model.specs.Dependencies.{Dependency, fd, mvd, ObeysMvd, left_of,
 use Rattle.dep_model.specs.Implication.{Implies}
 use Rattle.dep_model.proofs.RuleLemmas.{complementation_obeyed, mreflexivity_obeyed, replication_obeyed, coalescence_obeyed, fd_weaker_obeyed}
 use Rattle.dep_basis.specs.Refining.{IsCandidate, LeavesWhole}
+use Rattle.attr_sets.proofs.PlacesLemmas.{same_at}
 
 -- ---- over one relation
 -- x ->> w and v ->> t, with v apart from w, give x ->> what w and t share
@@ -79,32 +80,32 @@ module _ (n : ℕ) (ds : List Dependency) (x w v t : Places) (x_in : Within x (b
 
 -- ---- candidates
 -- the attributes outside the left side
-pub candidate_first : (n : ℕ) (ds : List Dependency) (x w : Places) (a : ℕ) → a < n → x a ≡ false → Same w (minus (below n) x) → IsCandidate n ds x a w
+pub candidate_first : (n : ℕ) (ds : List Dependency) (x w : Places) (a : ℕ) → a < n → x a ≡ false → w ≡ minus (below n) x → IsCandidate n ds x a w
 candidate_first n ds x w a low out is = record {
-  universe = λ k m. grind (arith, is k, m);
-  outside = λ k m. grind (arith, is k, m);
-  implied = λ r legal. rw (Same-path w (minus (below n) (union x none)) (λ (k : ℕ). grind (arith, is k))) (complementation_obeyed (below n) x none r (mreflexivity_obeyed (below n) x none r (λ (k : ℕ) m. absurd (true≢false (sym m)))));
-  nothing = λ gone. absurd (true≢false (sym (is a ∙ grind (arith, nat_tests, out, low)) ∙ gone));
-  closed = λ gone. absurd (true≢false (sym (is a ∙ grind (arith, nat_tests, out, low)) ∙ gone));
+  universe = λ k m. grind (arith, same_at is k, m);
+  outside = λ k m. grind (arith, same_at is k, m);
+  implied = λ r legal. rw (fun_ext {f = w} {g = minus (below n) (union x none)} (λ (k : ℕ). grind (arith, same_at is k))) (complementation_obeyed (below n) x none r (mreflexivity_obeyed (below n) x none r (λ (k : ℕ) m. absurd (true≢false (sym m)))));
+  nothing = λ gone. absurd (true≢false (sym (same_at is a ∙ grind (arith, nat_tests, out, low)) ∙ gone));
+  closed = λ gone. absurd (true≢false (sym (same_at is a ∙ grind (arith, nat_tests, out, low)) ∙ gone));
 }
 
 -- what holds the attribute is left
-pub candidate_inside : (n : ℕ) (ds : List Dependency) (x w v t rest : Places) (a : ℕ) → Within x (below n) → Within v (below n) → t a ≡ true → Apart v w → Implies n ds (mvd v t) → Same rest (meet w t) → IsCandidate n ds x a w → IsCandidate n ds x a rest
+pub candidate_inside : (n : ℕ) (ds : List Dependency) (x w v t rest : Places) (a : ℕ) → Within x (below n) → Within v (below n) → t a ≡ true → Apart v w → Implies n ds (mvd v t) → rest ≡ meet w t → IsCandidate n ds x a w → IsCandidate n ds x a rest
 candidate_inside n ds x w v t rest a x_in v_in in_t apart given is before = record {
-  universe = λ k m. before.universe k (grind (arith, is k, m));
-  outside = λ k m. before.outside k (grind (arith, is k, m));
-  implied = λ r legal. rw (Same-path rest (meet w t) is) (split_inside n ds x w v t x_in before.universe v_in apart before.implied given r legal);
-  nothing = λ gone k. grind (arith, is k, before.nothing (grind (arith, is a, gone, in_t)) k);
-  closed = λ gone. before.closed (grind (arith, is a, gone, in_t));
+  universe = λ k m. before.universe k (grind (arith, same_at is k, m));
+  outside = λ k m. before.outside k (grind (arith, same_at is k, m));
+  implied = λ r legal. rw is (split_inside n ds x w v t x_in before.universe v_in apart before.implied given r legal);
+  nothing = λ gone k. grind (arith, same_at is k, before.nothing (grind (arith, same_at is a, gone, in_t)) k);
+  closed = λ gone. before.closed (grind (arith, same_at is a, gone, in_t));
 }
 
-pub candidate_outside : (n : ℕ) (ds : List Dependency) (x w v t rest : Places) (a : ℕ) → Within x (below n) → Within v (below n) → t a ≡ false → Apart v w → Implies n ds (mvd v t) → Same rest (minus w t) → IsCandidate n ds x a w → IsCandidate n ds x a rest
+pub candidate_outside : (n : ℕ) (ds : List Dependency) (x w v t rest : Places) (a : ℕ) → Within x (below n) → Within v (below n) → t a ≡ false → Apart v w → Implies n ds (mvd v t) → rest ≡ minus w t → IsCandidate n ds x a w → IsCandidate n ds x a rest
 candidate_outside n ds x w v t rest a x_in v_in out_t apart given is before = record {
-  universe = λ k m. before.universe k (grind (arith, is k, m));
-  outside = λ k m. before.outside k (grind (arith, is k, m));
-  implied = λ r legal. rw (Same-path rest (minus w t) is) (split_outside n ds x w v t x_in before.universe v_in apart before.implied given r legal);
-  nothing = λ gone k. grind (arith, is k, before.nothing (grind (arith, is a, gone, out_t)) k);
-  closed = λ gone. before.closed (grind (arith, is a, gone, out_t));
+  universe = λ k m. before.universe k (grind (arith, same_at is k, m));
+  outside = λ k m. before.outside k (grind (arith, same_at is k, m));
+  implied = λ r legal. rw is (split_outside n ds x w v t x_in before.universe v_in apart before.implied given r legal);
+  nothing = λ gone k. grind (arith, same_at is k, before.nothing (grind (arith, same_at is a, gone, out_t)) k);
+  closed = λ gone. before.closed (grind (arith, same_at is a, gone, out_t));
 }
 
 -- nothing is left where the attribute is determined

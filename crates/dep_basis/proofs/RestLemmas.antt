@@ -5,8 +5,8 @@ use Rattle.std.proofs.lemmas.Bool.{true≢false, cases_Bool, false_from_ne_true,
 use Rattle.std.proofs.lemmas.Bool.Decides.{nat_tests}
 use Rattle.std.proofs.lemmas.List.Elements.{All-nil, All-cons, All-head, All-tail}
 use Rattle.std.specs.Prelude.{All}
-use Rattle.attr_sets.specs.Places.{Places, below, only, union, meet, minus, Within, Same, IsEmpty, Apart, count_below}
-use Rattle.attr_sets.proofs.PlacesLemmas.{Same-path, tell_apart, tell_within, tell_empty, count_below-pos, count_below-le}
+use Rattle.attr_sets.specs.Places.{Places, below, only, union, meet, minus, Within, IsEmpty, Apart, count_below}
+use Rattle.attr_sets.proofs.PlacesLemmas.{tell_apart, tell_within, tell_empty, count_below-pos, count_below-le, same_at}
 use Rattle.dep_model.specs.declared.dep.Dep.{Dep}
 use Rattle.dep_model.specs.declared.dep.Dep.TheVariants.{Fd, Mvd}
 use Rattle.dep_model.specs.Tuples.{Relation}
@@ -85,9 +85,9 @@ next_from n ds x a w (Fd lhs rhs) few low can member cuts =
       | inl in_t ↦ inl (low, moves n (dependencies_of ds) x w v t can.lhs can.universe cuts.within.0 a cuts.cutting.apart member in_t can.implied cuts.given)
       | inr out ↦ inr (
         minus w t,
-        outside_refined n ds x w v t can cuts.within.0 cuts.cutting.apart (replicated n (dependencies_of ds) v t cuts.given) (minus w t) (λ k. refl),
+        outside_refined n ds x w v t can cuts.within.0 cuts.cutting.apart (replicated n (dependencies_of ds) v t cuts.given) (minus w t) refl,
         grind (arith, member, out),
-        outside_fewer w t (minus w t) (fd v t) w_low cuts.cutting refl (λ k. refl),
+        outside_fewer w t (minus w t) (fd v t) w_low cuts.cutting refl refl,
       )
     ]
 next_from n ds x a w (Mvd lhs rhs) few low can member cuts =
@@ -97,15 +97,15 @@ next_from n ds x a w (Mvd lhs rhs) few low can member cuts =
     elim (cases_Bool (t a)) [
       | inl in_t ↦ inr (
         meet w t,
-        inside_refined n ds x w v t can cuts.within.0 cuts.cutting.apart cuts.given (meet w t) (λ k. refl),
+        inside_refined n ds x w v t can cuts.within.0 cuts.cutting.apart cuts.given (meet w t) refl,
         grind (arith, member, in_t),
-        inside_fewer w v t (meet w t) w_low cuts.cutting (λ k. refl),
+        inside_fewer w v t (meet w t) w_low cuts.cutting refl,
       )
       | inr out ↦ inr (
         minus w t,
-        outside_refined n ds x w v t can cuts.within.0 cuts.cutting.apart cuts.given (minus w t) (λ k. refl),
+        outside_refined n ds x w v t can cuts.within.0 cuts.cutting.apart cuts.given (minus w t) refl,
         grind (arith, member, out),
-        outside_fewer w t (minus w t) (mvd v t) w_low cuts.cutting refl (λ k. refl),
+        outside_fewer w t (minus w t) (mvd v t) w_low cuts.cutting refl refl,
       )
     ]
 
@@ -137,7 +137,7 @@ block_at n ds x a few within x_in low = elim (cases_Bool (x a)) [
   | inl inside ↦ inl (low, λ r legal. reflexivity_obeyed x (only a) r (λ (k : ℕ) h. grind (arith, nat_tests, h, inside)))
   | inr out ↦
       let w = minus (below n) x in
-      let can = first_refined n ds x w within x_in (λ k. refl) in
+      let can = first_refined n ds x w within x_in refl in
       block_from n ds x a few low 128 w can (grind (arith, nat_tests, lt-ltb a n low, out)) (count_below-le 128 w)
 ]
 
@@ -215,7 +215,7 @@ module _ (n : ℕ) (ds : List Dep) (l x : Places) (few : n ≤ 128) (within : Al
         h),
   )
 
-  pub blocks_rest : (p : Places) → IsBlock n (dependencies_of ds) x p ↔ ((q : Places) × IsBlock n (dependencies_of ds) (meet x l) q × Same p (minus q x) × (IsEmpty p → ⊥))
+  pub blocks_rest : (p : Places) → IsBlock n (dependencies_of ds) x p ↔ ((q : Places) × IsBlock n (dependencies_of ds) (meet x l) q × (p ≡ minus q x) × (IsEmpty p → ⊥))
   blocks_rest p = (
     (λ block. ⊎_elim
         (λ some.
@@ -230,7 +230,7 @@ module _ (n : ℕ) (ds : List Dep) (l x : Places) (few : n ≤ 128) (within : Al
         (λ nothing. absurd (block.some nothing))
         (tell_empty n p block.universe)),
     (λ h. ⊎_elim
-        (λ some. subst (λ (w : Places). IsBlock n (dependencies_of ds) x w) (sym (Same-path p (minus h.0 x) h.2)) (rest_block h.0 h.1 some.0 (sym (h.2 some.0) ∙ some.2)))
+        (λ some. subst (λ (w : Places). IsBlock n (dependencies_of ds) x w) (sym h.2) (rest_block h.0 h.1 some.0 (sym (same_at h.2 some.0) ∙ some.2)))
         (λ nothing. absurd (h.3 nothing))
-        (tell_empty n p (λ (k : ℕ) m. h.1.universe k (grind (arith, h.2 k, m))))),
+        (tell_empty n p (λ (k : ℕ) m. h.1.universe k (grind (arith, same_at h.2 k, m))))),
   )

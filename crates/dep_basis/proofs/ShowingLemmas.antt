@@ -4,10 +4,10 @@ use Rattle.std.proofs.lemmas.Bool.{true≢false, cases_Bool, ltb-true}
 use Rattle.std.proofs.lemmas.Option.{slice_get-get_or, slice_get_within}
 use Rattle.std.proofs.lemmas.Bool.Decides.{nat_tests}
 use Rattle.std.specs.Prelude.{All, slice_get, IfOk}
-use Rattle.attr_sets.specs.Places.{Places, below, meet, minus, Within, Same, Apart, count_below}
+use Rattle.attr_sets.specs.Places.{Places, below, meet, minus, Within, Apart, count_below}
 use Rattle.attr_sets.specs.Sets.{places}
 use Rattle.attr_sets.specs.declared.set.TheConstants.{PLACES}
-use Rattle.attr_sets.proofs.PlacesLemmas.{places_below, count_below-lt, count_below-le}
+use Rattle.attr_sets.proofs.PlacesLemmas.{places_below, count_below-lt, count_below-le, same_at}
 use Rattle.dep_model.specs.declared.dep.Dep.{Dep}
 use Rattle.dep_model.specs.declared.schema.Schema.{Schema}
 use Rattle.dep_model.specs.Dependencies.{Dependency, mvd, left_of, right_of, is_fd, Obeys, IsWithin}
@@ -41,29 +41,29 @@ module _ (s : Schema) (x : Places) (a : ℕ) (w rest : Places) (d : Dependency) 
   few_levels : count_below rest PLACES < count_below w PLACES → depth u + 5 * count_below rest PLACES ≤ 5 * PLACES + 2
   few_levels fewer = grind (arith, fewer, more.few_levels, size.few_levels, part.few_levels, count_below-le PLACES w)
 
-  pub next_outside : right_of d a ≡ false → Same rest (minus w (right_of d)) → Proves s u (mvd x (minus w (right_of d))) → IsPartProof s x a rest u × (count_below rest PLACES < count_below w PLACES)
+  pub next_outside : right_of d a ≡ false → rest ≡ minus w (right_of d) → Proves s u (mvd x (minus w (right_of d))) → IsPartProof s x a rest u × (count_below rest PLACES < count_below w PLACES)
   next_outside without is proves =
-      let fewer = falls w rest cutting.shares.0 low (λ k m. grind (arith, is k, m)) cutting.shares.1 (grind (arith, is cutting.shares.0, cutting.shares.2)) in (
+      let fewer = falls w rest cutting.shares.0 low (λ k m. grind (arith, same_at is k, m)) cutting.shares.1 (grind (arith, same_at is cutting.shares.0, cutting.shares.2)) in (
         record {
           candidate = candidate_outside (width_of s) (theory_of s) x w (left_of d) (right_of d) rest a x_in within.0 without cutting.apart (as_mvd (width_of s) (theory_of s) d given) is part.candidate;
-          member = grind (arith, is a, part.member, without);
-          proves = mvd_restated s u x (minus w (right_of d)) x rest (λ k. refl) (λ k. sym (is k)) proves;
+          member = grind (arith, same_at is a, part.member, without);
+          proves = mvd_restated s u x (minus w (right_of d)) x rest refl (sym is) proves;
           few_nodes = omega (arith, fewer, more.few_nodes, size.few_nodes, part.few_nodes);
           few_levels = few_levels fewer;
         },
         fewer,
       )
 
-  pub next_inside : right_of d a ≡ true → is_fd d ≡ false → Same rest (meet w (right_of d)) → Proves s u (mvd x (meet w (right_of d))) → IsPartProof s x a rest u × (count_below rest PLACES < count_below w PLACES)
+  pub next_inside : right_of d a ≡ true → is_fd d ≡ false → rest ≡ meet w (right_of d) → Proves s u (mvd x (meet w (right_of d))) → IsPartProof s x a rest u × (count_below rest PLACES < count_below w PLACES)
   next_inside with multivalued is proves =
       let fewer = ⊎_elim
       (λ functional. absurd (true≢false (sym functional ∙ multivalued)))
-      (λ beyond. falls w rest beyond.0 low (λ k m. grind (arith, is k, m)) beyond.1 (grind (arith, is beyond.0, beyond.2)))
+      (λ beyond. falls w rest beyond.0 low (λ k m. grind (arith, same_at is k, m)) beyond.1 (grind (arith, same_at is beyond.0, beyond.2)))
       cutting.leaves in (
         record {
           candidate = candidate_inside (width_of s) (theory_of s) x w (left_of d) (right_of d) rest a x_in within.0 with cutting.apart (as_mvd (width_of s) (theory_of s) d given) is part.candidate;
-          member = grind (arith, is a, part.member, with);
-          proves = mvd_restated s u x (meet w (right_of d)) x rest (λ k. refl) (λ k. sym (is k)) proves;
+          member = grind (arith, same_at is a, part.member, with);
+          proves = mvd_restated s u x (meet w (right_of d)) x rest refl (sym is) proves;
           few_nodes = omega (arith, fewer, more.few_nodes, size.few_nodes, part.few_nodes);
           few_levels = few_levels fewer;
         },
@@ -96,7 +96,7 @@ next_part s a from w same h = record { same_lhs = same; shown = h.0; smaller = h
 
 pub next_part_outside : (s : Schema) (a k : ℕ) (dep : Dep) (from w : PartProof) (g : Tree) → CanCut s a k dep from → w.lhs ≡ from.lhs → HasSize g 2 2
     → IsLittleMore (tree_of from.deriv.value) g (tree_of w.deriv.value) → right_of (dependency_of dep) a ≡ false
-    → Same (places w.part) (minus (places from.part) (right_of (dependency_of dep)))
+    → places w.part ≡ minus (places from.part) (right_of (dependency_of dep))
     → Proves s (tree_of w.deriv.value) (mvd (places from.lhs) (minus (places from.part) (right_of (dependency_of dep)))) → IsNextPart s a from w
 next_part_outside s a k dep from w g cut same size more without is proves =
     next_part s a from w same
@@ -105,7 +105,7 @@ next_part_outside s a k dep from w g cut same size more without is proves =
 
 pub next_part_inside : (s : Schema) (a k : ℕ) (dep : Dep) (from w : PartProof) (g : Tree) → CanCut s a k dep from → w.lhs ≡ from.lhs → HasSize g 2 2
     → IsLittleMore (tree_of from.deriv.value) g (tree_of w.deriv.value) → right_of (dependency_of dep) a ≡ true → is_fd (dependency_of dep) ≡ false
-    → Same (places w.part) (meet (places from.part) (right_of (dependency_of dep)))
+    → places w.part ≡ meet (places from.part) (right_of (dependency_of dep))
     → Proves s (tree_of w.deriv.value) (mvd (places from.lhs) (meet (places from.part) (right_of (dependency_of dep)))) → IsNextPart s a from w
 next_part_inside s a k dep from w g cut same size more with multivalued is proves =
     next_part s a from w same
@@ -125,11 +125,11 @@ IfOk_both (Ok x) first second both = both x first second
 IfOk_both (Err e) first second both = tt
 
 -- ---- the first part, and the last
-pub part_first : (s : Schema) (x : Places) (a : ℕ) (w : Places) (t : Tree) → a < width_of s → x a ≡ false → Same w (minus (universe_of s) x) → Proves s t (mvd x (minus (universe_of s) x)) → HasSize t 2 2 → IsPartProof s x a w t
+pub part_first : (s : Schema) (x : Places) (a : ℕ) (w : Places) (t : Tree) → a < width_of s → x a ≡ false → w ≡ minus (universe_of s) x → Proves s t (mvd x (minus (universe_of s) x)) → HasSize t 2 2 → IsPartProof s x a w t
 part_first s x a w t low out is proves size = record {
   candidate = candidate_first (width_of s) (theory_of s) x w a low out is;
-  member = is a ∙ grind (arith, nat_tests, low, out);
-  proves = mvd_restated s t x (minus (universe_of s) x) x w (λ k. refl) (λ k. sym (is k)) proves;
+  member = same_at is a ∙ grind (arith, nat_tests, low, out);
+  proves = mvd_restated s t x (minus (universe_of s) x) x w refl (sym is) proves;
   few_nodes = omega (arith, size.few_nodes, count_below-le PLACES w);
   few_levels = omega (arith, size.few_levels, count_below-le PLACES w);
 }

@@ -1,5 +1,7 @@
+-- The dependency basis of a set of attributes, and its traces on a scheme: for `basis`,
+-- `trace_basis` and the command `basis` (`desk_cli/Bases`).
 use Rattle.std.specs.Prelude.{◌≡◌, ℕ, ◌<◌, ◌↔◌, ◌⊎◌, true, false, List, All, Any}
-use Rattle.attr_sets.specs.Places.{Places, below, only, minus, Within, Same, Meets}
+use Rattle.attr_sets.specs.Places.{Places, below, only, minus, Within, Meets}
 use Rattle.attr_sets.specs.declared.set.AttrSet.{AttrSet}
 use Rattle.attr_sets.specs.Sets.{places}
 use Rattle.dep_model.specs.Dependencies.{Dependency, fd, mvd}
@@ -21,7 +23,7 @@ SplitsNone scheme y ps = All (λ p. IsSplitBy scheme y (places p) → ⊥) ps
 pub record IsBasis (n : ℕ) (ds : List Dependency) (x : Places) (found : Blocks) : Type 0 where
   pub closed : (a : ℕ) → (places found.closed a ≡ true) ↔ InClosure n ds x a
   pub each : All (λ p. IsBlock n ds x (places p)) (blocks_of found)
-  pub all : (p : Places) → IsBlock n ds x p → Any (λ q. Same (places q) p) (blocks_of found)
+  pub all : (p : Places) → IsBlock n ds x p → Any (λ q. places q ≡ p) (blocks_of found)
   pub parts : (a : ℕ) → a < n
       → (places found.closed a ≡ true) ⊎ Any (λ p. places p a ≡ true) (blocks_of found)
   pub listed : AreListed found
@@ -31,8 +33,8 @@ pub record IsBasis (n : ℕ) (ds : List Dependency) (x : Places) (found : Blocks
 -- a listed trace, or a single determined attribute outside x
 abbrev pub IsListedPart : Places → Blocks → Places → Type 0
 IsListedPart x found p =
-    Any (λ q. Same (places q) p) (blocks_of found)
-    ⊎ ((a : ℕ) × (places found.closed a ≡ true) × (x a ≡ false) × Same p (only a))
+    Any (λ q. places q ≡ p) (blocks_of found)
+    ⊎ ((a : ℕ) × (places found.closed a ≡ true) × (x a ≡ false) × (p ≡ only a))
 
 -- the closed set of x and the traces of its blocks on a scheme, which decide what is implied there
 pub record IsTraceBasis (n : ℕ) (ds : List Dependency) (scheme x : Places) (found : Blocks) : Type 0 where
@@ -40,5 +42,5 @@ pub record IsTraceBasis (n : ℕ) (ds : List Dependency) (scheme x : Places) (fo
   pub functional : (a : ℕ) → (places found.closed a ≡ true) ↔ ImpliedOn n ds scheme (fd x (only a))
   pub multivalued : (y : Places) → Within y scheme
       → ImpliedOn n ds scheme (mvd x y) ↔ SplitsNone scheme y (blocks_of found)
-  pub all : (q : Places) → IsTrace n ds scheme x q → Any (λ p. Same (places p) q) (blocks_of found)
+  pub all : (q : Places) → IsTrace n ds scheme x q → Any (λ p. places p ≡ q) (blocks_of found)
   pub part : (p : Places) → IsPart n ds scheme x p ↔ IsListedPart x found p

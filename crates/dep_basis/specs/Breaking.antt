@@ -1,3 +1,4 @@
+-- Which block shows that a dependency is not implied: for `decide`, by `Decisions`.
 use Rattle.std.specs.Prelude.{◌≡◌, ℕ, ◌<◌, ◌≤◌, true, List}
 use Rattle.attr_sets.specs.Places.{Places, below, IsLeastFrom}
 use Rattle.dep_model.specs.Dependencies.{Dependency, fd, mvd}

@@ -1,5 +1,7 @@
-use Rattle.std.specs.Prelude.{ℕ, List}
-use Rattle.attr_sets.specs.Places.{Places, below, minus, Same}
+-- When a dependency is rightly said to be implied, or to be broken by two rows: for `decide`,
+-- `prove` and `implies` (`desk_cli/Implication`).
+use Rattle.attr_sets.specs.Places.{Places, below, minus}
+use Rattle.std.specs.Prelude.{List, ℕ, ◌≡◌}
 use Rattle.attr_sets.specs.Sets.{places}
 use Rattle.dep_model.specs.Dependencies.{Dependency, Obeys}
 use Rattle.dep_model.specs.Implication.{IsLegal, Implies}
@@ -13,7 +15,7 @@ use Rattle.dep_basis.specs.Breaking.{IsBreakingBlock}
 pub record IsBrokenBy (n : ℕ) (ds : List Dependency) (d : Dependency) (agreement : Places) : Type 0 where
   pub block : Places
   pub is_breaking : IsBreakingBlock n ds d block
-  pub outside : Same agreement (minus (below n) block)
+  pub outside : agreement ≡ minus (below n) block
   pub legal : IsLegal n ds (two_tuples n agreement)
   pub breaks : Obeys n d (two_tuples n agreement) → ⊥
 

@@ -1,3 +1,4 @@
+-- The first of a list with a property: for the functions below `decide`. `Desk` does not cite it.
 use Rattle.std.specs.Prelude.{◌≡◌, ℕ, ◌<◌, List, length, slice_index_or}
 
 -- the first of a list with a property

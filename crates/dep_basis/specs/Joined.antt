@@ -1,3 +1,5 @@
+-- A derivation within the limits of a certificate: for `prove` and `implies`
+-- (`desk_cli/Implication`). The rest is for the functions that put right sides together.
 use Rattle.std.specs.Prelude.{◌≡◌, ℕ, ◌+◌, ◌*◌, ◌≤◌, true}
 use Rattle.attr_sets.specs.Places.{Places, Within, Apart, count_below}
 use Rattle.attr_sets.specs.Sets.{places}

@@ -1,3 +1,5 @@
+-- The right side of a functional dependency that leads out of a set: for `functional_chain`. `Desk`
+-- does not cite it.
 use Rattle.std.specs.Prelude.{◌≡◌}
 use Rattle.attr_sets.specs.Places.{Places}
 use Rattle.dep_model.specs.Dependencies.{Dependency, fd, LeadsOut}

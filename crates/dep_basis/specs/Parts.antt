@@ -1,3 +1,5 @@
+-- When a left side has two parts on a scheme: for `has_two_parts`, the laws of dep_basis and
+-- form_tests. `Desk` does not cite it.
 use Rattle.std.specs.Prelude.{◌≡◌, ℕ, ◌⊎◌, true, List}
 use Rattle.attr_sets.specs.Places.{Places, below, only, minus, Within, Meets}
 use Rattle.dep_model.specs.Dependencies.{Dependency, fd, mvd}

@@ -1,3 +1,5 @@
+-- Blocks that were found so far: for the functions below `basis`, `block` and `has_two_parts`.
+-- `Desk` does not cite it.
 use Rattle.std.specs.Prelude.{◌≡◌, ℕ, ◌+◌, ◌<◌, ◌≤◌, ◌⊎◌, true, List, length, take, All, Any}
 use Rattle.attr_sets.specs.Places.{Places, below, only, Within, IsEmpty, Apart, count_below}
 use Rattle.attr_sets.specs.declared.set.AttrSet.{AttrSet}
@@ -40,7 +42,8 @@ pub record HasRoom (w : Places) (found : Pieces) : Type 0 where
   pub room : found.count + count_below w PLACES ≤ MOST_BLOCKS
 
 -- what holds once a piece of x is refined
-pub record AreRefined (n : ℕ) (ds : List Dependency) (x w : Places) (before after : List AttrSet) : Type 0 where
+pub record AreRefined (n : ℕ) (ds : List Dependency) (x w : Places) (before after : List AttrSet)
+    : Type 0 where
   pub each : All (λ p. IsBlock n ds x (places p)) before → All (λ p. IsBlock n ds x (places p)) after
   pub told : (a : ℕ) → w a ≡ true → IsTold n ds x after a
 

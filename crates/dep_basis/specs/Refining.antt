@@ -1,3 +1,5 @@
+-- A multidetermined set with an attribute in it, on its way to a block: for the functions that cut
+-- it. `Desk` does not cite it.
 use Rattle.std.specs.Prelude.{◌≡◌, ℕ, ◌⊎◌, false, List}
 use Rattle.attr_sets.specs.Places.{Places, below, only, Within, IsEmpty, Apart}
 use Rattle.dep_model.specs.Dependencies.{Dependency, fd, mvd}

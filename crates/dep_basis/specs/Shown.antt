@@ -1,3 +1,5 @@
+-- Derivations that go with the cutting of a set down to a block: for the functions below `prove`.
+-- `Desk` cites only `HasSize`.
 use Rattle.std.specs.Prelude.{◌≡◌, ℕ, ◌+◌, ◌*◌, ◌<◌, ◌≤◌, List, length, true, false, ◌⊎◌, Option, Some, IsSome, IfSome, slice_get, slice_index_or, if◌then◌else◌}
 use Rattle.attr_sets.specs.Places.{Places, only, none, meet, minus, Within, Apart, Meets, count_below}
 use Rattle.attr_sets.specs.Sets.{places}
@@ -24,8 +26,9 @@ pub record IsCutting (p : Places) (d : Dependency) : Type 0 where
   pub shares : Meets p (right_of d)
   pub leaves : (is_fd d ≡ true) ⊎ ((k : ℕ) × (p k ≡ true) × (right_of d k ≡ false))
 
--- what a dependency whose left side is apart from p leaves of it beside attribute a: of what it shares with the
--- right side and what it does not, that with the attribute; nothing where the attribute is determined
+-- what a dependency whose left side is apart from p leaves of it beside attribute a: of what it
+-- shares with the right side and what it does not, that with the attribute; nothing where the
+-- attribute is determined
 abbrev pub left_beside : ℕ → Places → Dependency → Places
 left_beside a p d =
     if right_of d a then if is_fd d then none else meet p (right_of d)
@@ -40,9 +43,11 @@ pub record IsBestCut (deps : List Dep) (p : Places) (a k : ℕ) : Type 0 where
   pub within : k < length deps
   pub cutting : (d : Dep) → IsCutting p (dependency_of (slice_index_or deps k d))
   pub least : (i : ℕ) (d : Dep) → i < length deps → IsCutting p (dependency_of (slice_index_or deps i d))
-      → count_left a p (dependency_of (slice_index_or deps k d)) ≤ count_left a p (dependency_of (slice_index_or deps i d))
+      → count_left a p (dependency_of (slice_index_or deps k d))
+      ≤ count_left a p (dependency_of (slice_index_or deps i d))
   pub first : (i : ℕ) (d : Dep) → i < k → IsCutting p (dependency_of (slice_index_or deps i d))
-      → count_left a p (dependency_of (slice_index_or deps k d)) < count_left a p (dependency_of (slice_index_or deps i d))
+      → count_left a p (dependency_of (slice_index_or deps k d))
+      < count_left a p (dependency_of (slice_index_or deps i d))
 
 -- the best cut so far stays, unless a dependency cuts the part too and leaves fewer
 abbrev pub IsBetterCut : ℕ → Places → Dependency → ℕ → Option Cut → Option Cut → Type 0

@@ -1,5 +1,7 @@
+-- The blocks that code holds, and their traces on a scheme: for `basis` and `trace_basis`, by
+-- `Bases`, and for the command `basis` (`desk_cli/Bases`).
 use Rattle.std.specs.Prelude.{◌≡◌, ℕ, ◌<◌, ◌≤◌, ◌↔◌, ◌⊎◌, true, List, All, AllPairs, Any, take, drop}
-use Rattle.attr_sets.specs.Places.{Places, meet, Same, IsEmpty, Apart, IsLeastFrom}
+use Rattle.attr_sets.specs.Places.{Places, meet, IsEmpty, Apart, IsLeastFrom}
 use Rattle.attr_sets.specs.declared.set.AttrSet.{AttrSet}
 use Rattle.attr_sets.specs.Sets.{places}
 use Rattle.dep_model.specs.Dependencies.{Dependency}
@@ -11,7 +13,7 @@ use Rattle.dep_basis.specs.declared.pieces.TheConstants.{MOST_BLOCKS}
 pub record IsTrace (n : ℕ) (ds : List Dependency) (scheme x q : Places) : Type 0 where
   pub block : Places
   pub is_block : IsBlock n ds x block
-  pub trace : Same q (meet block scheme)
+  pub trace : q ≡ meet block scheme
   pub some : IsEmpty q → ⊥
 
 -- the least member of p is smaller than that of q

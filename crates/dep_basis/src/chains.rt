@@ -16,7 +16,7 @@ ghost use Rattle.dep_basis.specs.Leads.{IsRightSideOut};
 
 use attr_sets::AttrSet;
 use dep_model::{Dep, Schema, WantMemory};
-use derivation::Deriv;
+use derivation::{Deriv, LeafRule, PairRule, StepRule};
 use std::alloc::Global;
 
 // A functional dependency that leads out of a set: its number, from 0, and its right side.
@@ -50,24 +50,24 @@ pub fn functional_chain(
     ensures few_levels { IfOk result (λ found. IfSome found (λ b. depth (tree_of b.value) ≤ PLACES + 3)) }
 {
     let mut closed = lhs;
-    let mut chain = Box::new(alloc, Deriv::Reflex { lhs, rhs: lhs })?;
+    let mut chain = Box::new(alloc, Deriv::Leaf(LeafRule::Reflexivity { lhs, rhs: lhs }))?;
     while !rhs.within(closed) {
         let Some(lead) = first_out(schema, closed) else {
             return Ok(None);
         };
-        let given = Box::new(alloc, Deriv::Given(lead.number))?;
+        let given = Box::new(alloc, Deriv::Leaf(LeafRule::Given(lead.number)))?;
         let lifted = Box::new(
             alloc,
-            Deriv::Augment {
-                by: closed,
-                from: given,
-            },
+            Deriv::Step(StepRule::Augmentation { by: closed }, given),
         )?;
-        chain = Box::new(alloc, Deriv::Trans(chain, lifted))?;
+        chain = Box::new(alloc, Deriv::Pair(PairRule::Transitivity, chain, lifted))?;
         closed = closed.union(lead.rhs);
     }
-    let last = Box::new(alloc, Deriv::Reflex { lhs: closed, rhs })?;
-    Ok(Some(Box::new(alloc, Deriv::Trans(chain, last))?))
+    let last = Box::new(
+        alloc,
+        Deriv::Leaf(LeafRule::Reflexivity { lhs: closed, rhs }),
+    )?;
+    Ok(Some(Box::new(alloc, Deriv::Pair(PairRule::Transitivity, chain, last))?))
 }
 
 // The first functional dependency that leads out of a set.

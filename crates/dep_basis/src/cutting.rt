@@ -10,7 +10,7 @@ use crate::refining::cut_by;
 use attr_sets::AttrSet;
 use dep_model::{Dep, sides};
 
-// The first dependency that cuts a part.
+// A dependency that cuts a part, by its number from 0; none only where each leaves the part whole.
 pub fn next_cut(deps: &[Dep], part: AttrSet) -> Option<usize>
     ensures none { IsNone result
         → All (LeavesWhole (places part) (places part)) (dependencies_of deps.now) }

@@ -11,7 +11,7 @@ use crate::makers::{mreflexivity, reflexivity};
 use crate::showing::{PartProof, Shown, show_attribute};
 use attr_sets::AttrSet;
 use dep_model::{Schema, WantMemory};
-use derivation::{Deriv, unite_fd, unite_mvd};
+use derivation::{Deriv, StepRule, unite_fd, unite_mvd};
 use std::alloc::Global;
 
 // A derivation of an implied functional dependency, which joins the attributes of its right side one
@@ -51,7 +51,8 @@ pub fn join_mvd(
     requires lhs { Within (places lhs) (universe_of schema.now) }
     requires rhs { Within (places rhs) (universe_of schema.now) }
     requires implied { ImpliedBy schema.now (mvd (places lhs) (places rhs)) }
-    ensures proof { IfOk result (λ b. IsProofOf schema.now (mvd (places lhs) (places rhs)) (tree_of b.value)) }
+    ensures proof { IfOk result (λ b.
+        IsProofOf schema.now (mvd (places lhs) (places rhs)) (tree_of b.value)) }
 {
     let mut joined = mreflexivity(alloc, schema, lhs, lhs.meet(rhs))?;
     let mut left = rhs.minus(lhs);
@@ -103,7 +104,7 @@ fn show_set(
         Shown::Closed(deriv) => Ok(PartProof {
             lhs,
             part: AttrSet::single(attribute),
-            deriv: Box::new(alloc, Deriv::Repl(deriv))?,
+            deriv: Box::new(alloc, Deriv::Step(StepRule::Replication, deriv))?,
         }),
         Shown::Part(block) => Ok(block),
     }

@@ -2,7 +2,7 @@
 //! asks for its proof.
 
 ghost use Rattle.std.specs.Prelude.{◌≡◌, ◌<◌, ◌≤◌, ◌↔◌, ◌⊎◌, ℕ, true, List, All};
-ghost use Rattle.attr_sets.specs.Places.{Places, below, meet, minus, Within, Same, IsEmpty};
+ghost use Rattle.attr_sets.specs.Places.{Places, below, meet, minus, Within, IsEmpty};
 ghost use Rattle.attr_sets.specs.declared.set.TheConstants.{PLACES};
 ghost use Rattle.dep_model.specs.declared.dep.Dep.{Dep};
 ghost use Rattle.dep_model.specs.Dependencies.{Dependency, functional_part, left_of, IsWithin};
@@ -46,7 +46,7 @@ pub fn adds_only_itself()
     ensures blocks { (n : ℕ) (ds : List Dep) (l x : Places) → n ≤ PLACES → All (IsDepWithin (below n)) ds
         → All (λ d. Within (left_of (dependency_of d)) l) ds → Within x (below n)
         → (p : Places) → IsBlock n (dependencies_of ds) x p
-        ↔ ((q : Places) × IsBlock n (dependencies_of ds) (meet x l) q × Same p (minus q x) × (IsEmpty p → ⊥)) }
+        ↔ ((q : Places) × IsBlock n (dependencies_of ds) (meet x l) q × (p ≡ minus q x) × (IsEmpty p → ⊥)) }
 {}
 
 /// A left side with two parts on a scheme, of which one is not within the other, has two parts.

@@ -6,7 +6,7 @@
 //! `decide` says whether a schema implies a dependency, and where it does not, names two rows that obey
 //! the schema and break it; `witness` makes these rows. The calls named `.._by` ask the same of a list of
 //! dependencies over a number of attributes. `prove` gives a derivation of each dependency that is
-//! implied, and `functional_chain` the one of those that the functional dependencies alone imply.
+//! implied, and `functional_chain` that of a functional one which the functional ones alone imply.
 //! `witness`, `prove` and `functional_chain` take memory, and no other call does. `laws` has what holds
 //! of bases beside what the calls say.
 #![tactic(auto)]

@@ -11,7 +11,7 @@ ghost use Rattle.dep_basis.specs.Shown.{HasSize};
 
 use attr_sets::AttrSet;
 use dep_model::{Dep, Schema, WantMemory};
-use derivation::Deriv;
+use derivation::{Deriv, LeafRule, PairRule, StepRule};
 use std::alloc::Global;
 
 // `lhs -> rhs`, by reflexivity.
@@ -27,7 +27,7 @@ pub fn reflexivity(
     ensures proves { IfOk result (λ b. Proves schema.now (tree_of b.value) (fd (places lhs) (places rhs))) }
     ensures size { IfOk result (λ b. HasSize (tree_of b.value) 1 1) }
 {
-    Ok(Box::new(alloc, Deriv::Reflex { lhs, rhs })?)
+    Ok(Box::new(alloc, Deriv::Leaf(LeafRule::Reflexivity { lhs, rhs }))?)
 }
 
 // `lhs ->> rhs`, by reflexivity.
@@ -42,7 +42,7 @@ pub fn mreflexivity(
     ensures proves { IfOk result (λ b. Proves schema.now (tree_of b.value) (mvd (places lhs) (places rhs))) }
     ensures size { IfOk result (λ b. HasSize (tree_of b.value) 1 1) }
 {
-    Ok(Box::new(alloc, Deriv::MReflex { lhs, rhs })?)
+    Ok(Box::new(alloc, Deriv::Leaf(LeafRule::MReflexivity { lhs, rhs }))?)
 }
 
 // `lhs ->>` all attributes outside it.
@@ -54,7 +54,7 @@ pub fn outside(alloc: Global, schema: &Schema, lhs: AttrSet) -> Result<Box<Deriv
     ensures size { IfOk result (λ b. HasSize (tree_of b.value) 2 2) }
 {
     let from = mreflexivity(alloc, schema, lhs, lhs)?;
-    Ok(Box::new(alloc, Deriv::Compl(from))?)
+    Ok(Box::new(alloc, Deriv::Step(StepRule::Complementation, from))?)
 }
 
 // A given functional dependency.
@@ -69,7 +69,7 @@ pub fn given_fd(
     ensures proves { IfOk result (λ b. Proves schema.now (tree_of b.value) (fd (places lhs) (places rhs))) }
     ensures size { IfOk result (λ b. HasSize (tree_of b.value) 1 1) }
 {
-    Ok(Box::new(alloc, Deriv::Given(k))?)
+    Ok(Box::new(alloc, Deriv::Leaf(LeafRule::Given(k)))?)
 }
 
 // A given dependency of either kind, as a multivalued one.
@@ -83,9 +83,9 @@ pub fn given_mvd(alloc: Global, schema: &Schema, k: u16, dep: Dep) -> Result<Box
     match dep {
         Dep::Fd { lhs, rhs } => {
             let from = given_fd(alloc, schema, k, lhs, rhs)?;
-            Ok(Box::new(alloc, Deriv::Repl(from))?)
+            Ok(Box::new(alloc, Deriv::Step(StepRule::Replication, from))?)
         }
-        Dep::Mvd { .. } => Ok(Box::new(alloc, Deriv::Given(k))?),
+        Dep::Mvd { .. } => Ok(Box::new(alloc, Deriv::Leaf(LeafRule::Given(k)))?),
     }
 }
 
@@ -109,6 +109,6 @@ pub fn moved(
         → IfOk result (λ b. HasSize (tree_of b.value) (n + 4) (m + 3)) }
 {
     let only = reflexivity(alloc, schema, rhs, AttrSet::single(attribute))?;
-    let gives = Box::new(alloc, Deriv::Trans(given, only))?;
-    Ok(Box::new(alloc, Deriv::Coalesce(part, gives))?)
+    let gives = Box::new(alloc, Deriv::Pair(PairRule::Transitivity, given, only))?;
+    Ok(Box::new(alloc, Deriv::Pair(PairRule::Coalescence, part, gives))?)
 }

@@ -31,7 +31,8 @@ pub fn has_two_parts_by(deps: &[Dep], width: u8, scheme: AttrSet, lhs: AttrSet) 
     requires deps { All (IsDepWithin (below width)) deps.now }
     requires scheme { Within (places scheme) (below width) }
     requires lhs { Within (places lhs) (places scheme) }
-    ensures parts { IsTrue result ↔ HasTwoParts width (dependencies_of deps.now) (places scheme) (places lhs) }
+    ensures parts { IsTrue result
+        ↔ HasTwoParts width (dependencies_of deps.now) (places scheme) (places lhs) }
 {
     let beyond = scheme.minus(lhs);
     let Some(first) = beyond.least() else {

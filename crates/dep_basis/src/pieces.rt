@@ -38,7 +38,7 @@ pub fn all_pieces(deps: &[Dep], width: u8, lhs: AttrSet) -> Pieces
     found
 }
 
-// Refines a piece by the first dependency that cuts it, and what that gives back in its turn: a
+// Refines a piece by a dependency that cuts it, and what that gives back in its turn: a
 // multivalued dependency both sides, a functional one what is outside its right side. A piece that
 // nothing cuts is a block.
 fn refine(deps: &[Dep], piece: AttrSet, found: &mut Pieces)

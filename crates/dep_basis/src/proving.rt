@@ -13,7 +13,7 @@ use crate::deciding::{Decision, decide};
 use crate::joining::{join_fd, join_mvd};
 use attr_sets::AttrSet;
 use dep_model::{Dep, Schema, WantMemory};
-use derivation::{Deriv, shorten};
+use derivation::{Deriv, LeafRule, shorten};
 use std::alloc::Global;
 
 /// Why a schema implies a dependency, or that it does not.
@@ -91,12 +91,13 @@ fn derivation_of_mvd(
     requires lhs { Within (places lhs) (universe_of schema.now) }
     requires rhs { Within (places rhs) (universe_of schema.now) }
     requires implied { ImpliedBy schema.now (mvd (places lhs) (places rhs)) }
-    ensures proof { IfOk result (λ b. IsProofOf schema.now (mvd (places lhs) (places rhs)) (tree_of b.value)) }
+    ensures proof { IfOk result (λ b.
+        IsProofOf schema.now (mvd (places lhs) (places rhs)) (tree_of b.value)) }
     ensures direct { IfOk result
         (λ b. IsDirectUnlessChain schema.now (mvd (places lhs) (places rhs)) (tree_of b.value)) }
 {
     match first_given(schema, lhs, rhs) {
-        Some(k) => Ok(Box::new(alloc, Deriv::Given(k))?),
+        Some(k) => Ok(Box::new(alloc, Deriv::Leaf(LeafRule::Given(k)))?),
         None => {
             let united = join_mvd(alloc, schema, lhs, rhs)?;
             Ok(shorten(schema, united))

@@ -120,7 +120,8 @@ fn cut_closed(
 ) -> Result<Box<Deriv>, WantMemory>
     requires cut { CanCut schema.now attribute k (Dep.Fd lhs rhs) from }
     requires with { places rhs attribute ≡ true }
-    ensures shown { IfOk result (λ b. IsClosedProof schema.now (places from.lhs) attribute (tree_of b.value)) }
+    ensures shown { IfOk result (λ b.
+        IsClosedProof schema.now (places from.lhs) attribute (tree_of b.value)) }
 {
     let given = given_fd(alloc, schema, k, lhs, rhs)?;
     moved(alloc, schema, from.deriv, given, rhs, attribute)

@@ -3,7 +3,7 @@ use Rattle.std.proofs.Common.{◌≡◌, ℕ, List, sym, ◌∙◌, subst, inl, 
 use Rattle.std.proofs.lemmas.Bool.{true≢false}
 use Rattle.std.proofs.lemmas.Bool.Decides.{nat_tests}
 use Rattle.attr_sets.specs.Places.{Places, below, only, union, Within}
-use Rattle.attr_sets.proofs.PlacesLemmas.{tell_within}
+use Rattle.attr_sets.proofs.PlacesLemmas.{tell_within, same_at}
 use Rattle.dep_model.specs.Dependencies.{Dependency, fd, mvd, functional_part}
 use Rattle.dep_model.specs.OnSchemes.{ImpliedOn}
 use Rattle.dep_model.specs.Keys.{IsSuperkey}
@@ -31,7 +31,7 @@ fourth_bcnf n ds scheme low fourth x a on out =
     ⊎_elim
     (λ more. fourth x (only a) (replicated_on n ds scheme x (only a) on)
     (λ inside. true≢false (sym (inside a (grind (arith, nat_tests))) ∙ out))
-    (λ same. true≢false (sym (same more.0 ∙ more.2) ∙ more.3)))
+    (λ same. true≢false (sym (same_at same more.0 ∙ more.2) ∙ more.3)))
     (λ all. whole_by_one n ds scheme x a on all)
     (tell_within n scheme (union x (only a)) low)
 

@@ -2,6 +2,7 @@ mod AddressLemmas
 pub mod ColumnLemmas
 pub mod DepLemmas
 pub mod DistinctLemmas
+pub mod FailureLemmas
 pub mod FormLemmas
 pub mod ImplicationLemmas
 pub mod JoinLemmas

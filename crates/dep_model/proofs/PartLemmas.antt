@@ -1,8 +1,8 @@
 -- What is implied on a part of a scheme, and the parts of a left side.
-use Rattle.std.proofs.Common.{ℕ, ◌↔◌, List, sym, ◌∙◌, arith}
+use Rattle.std.proofs.Common.{◌≡◌, ℕ, ◌↔◌, List, sym, ◌∙◌, arith}
 use Rattle.std.proofs.lemmas.Bool.{true≢false}
-use Rattle.attr_sets.specs.Places.{Places, meet, Within, Same, Meets}
-use Rattle.attr_sets.proofs.PlacesLemmas.{Same-within}
+use Rattle.attr_sets.specs.Places.{Places, meet, Within, Meets}
+use Rattle.attr_sets.proofs.PlacesLemmas.{same_from_within}
 use Rattle.dep_model.specs.Tuples.{Relation}
 use Rattle.dep_model.specs.Dependencies.{Dependency, fd, mvd, ObeysMvd}
 use Rattle.dep_model.specs.OnSchemes.{ImpliedOn}
@@ -57,7 +57,7 @@ part_within n ds scheme x p q first second common k m =
     grind (arith, shared)
 
 -- two parts with a common attribute are one
-pub parts_same : (n : ℕ) (ds : List Dependency) (scheme x p q : Places) → IsPart n ds scheme x p → IsPart n ds scheme x q → Meets p q → Same p q
+pub parts_same : (n : ℕ) (ds : List Dependency) (scheme x p q : Places) → IsPart n ds scheme x p → IsPart n ds scheme x q → Meets p q → p ≡ q
 parts_same n ds scheme x p q first second common =
-    Same-within p q (part_within n ds scheme x p q first second common)
+    same_from_within p q (part_within n ds scheme x p q first second common)
     (part_within n ds scheme x q p second first (common.0, common.2, common.1))

@@ -1,3 +1,5 @@
+-- City, street and zip: the example for the law that a scheme can be in third normal form and not
+-- in Boyce-Codd form. `Desk` does not cite it.
 use Rattle.std.specs.Prelude.{List, [], ◌∷◌}
 use Rattle.attr_sets.specs.Places.{only, union}
 use Rattle.dep_model.specs.Dependencies.{Dependency, fd}

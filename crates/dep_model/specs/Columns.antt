@@ -1,3 +1,5 @@
+-- The types of columns, and relations that fit them: for schemas (`Schemas`) and all that makes or
+-- reads rows.
 use Rattle.std.specs.Prelude.{◌≡◌, ℕ, if◌then◌else◌, List, map, All, slice_get, Some}
 use Rattle.std.specs.List.{range_with_len}
 use Rattle.attr_sets.specs.Places.{Places}

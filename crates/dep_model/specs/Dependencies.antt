@@ -1,3 +1,5 @@
+-- Functional and multivalued dependencies, and when a relation obeys one: for every definition of
+-- the theory.
 use Rattle.std.specs.Prelude.{ℕ, Bool, true, false, List, Contains, filter}
 use Rattle.attr_sets.specs.Places.{Places, below, union, minus, Within}
 use Rattle.dep_model.specs.Tuples.{Tuple, Relation, AgreeOn}

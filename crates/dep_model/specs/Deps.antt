@@ -1,3 +1,4 @@
+-- Which dependency a `Dep` of the code stands for: for every contract in which one stands.
 use Rattle.std.specs.Prelude.{List, map}
 use Rattle.attr_sets.specs.Places.{Places}
 use Rattle.attr_sets.specs.Sets.{places}

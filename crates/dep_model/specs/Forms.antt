@@ -1,5 +1,7 @@
+-- Third normal form, Boyce-Codd form and fourth normal form of a scheme: for form_tests, the crates
+-- that decompose, and their commands.
 use Rattle.std.specs.Prelude.{◌≡◌, ℕ, ◌⊎◌, false, List}
-use Rattle.attr_sets.specs.Places.{Places, only, union, Within, Same}
+use Rattle.attr_sets.specs.Places.{Places, only, union, Within}
 use Rattle.dep_model.specs.Dependencies.{Dependency, fd, mvd, functional_part}
 use Rattle.dep_model.specs.OnSchemes.{ImpliedOn}
 use Rattle.dep_model.specs.Keys.{IsSuperkey, IsPrime}
@@ -19,5 +21,5 @@ IsBcnf n ds scheme =
 -- what multidetermines a set that is neither within it nor all the rest is a superkey
 abbrev pub IsFourth : ℕ → List Dependency → Places → Type 0
 IsFourth n ds scheme =
-    (x y : Places) → ImpliedOn n ds scheme (mvd x y) → (Within y x → ⊥) → (Same (union x y) scheme → ⊥)
+    (x y : Places) → ImpliedOn n ds scheme (mvd x y) → (Within y x → ⊥) → (union x y ≡ scheme → ⊥)
     → IsSuperkey n ds scheme x

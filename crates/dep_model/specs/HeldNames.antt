@@ -1,3 +1,4 @@
+-- A name in an array of fixed length: for the type `Name`.
 use Rattle.std.specs.Prelude.{◌≡◌, ℕ, ◌-◌, ◌≤◌, IsTrue, List, ◌++◌, length, take, drop, replicate}
 use Rattle.std.proofs.Common.{sym, subst, ap, ◌∙◌}
 use Rattle.std.proofs.lemmas.List.{length-take-le, take-append-drop}
@@ -13,7 +14,8 @@ pub record IsHeldName (bytes : List ℕ) (len : ℕ) : Type 0 where
 
 -- the front has its length
 pub front_length : (bytes : List ℕ) (len : ℕ) → IsHeldName bytes len → length (take len bytes) ≡ len
-front_length bytes len held = length-take-le len bytes (subst (λ (n : ℕ). len ≤ n) (sym held.whole) held.within)
+front_length bytes len held =
+    length-take-le len bytes (subst (λ (n : ℕ). len ≤ n) (sym held.whole) held.within)
 
 -- the front and zeros are the whole array
 pub padded_is : (bytes : List ℕ) (len : ℕ) → IsHeldName bytes len

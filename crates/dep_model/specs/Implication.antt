@@ -1,3 +1,4 @@
+-- Legal relations, and implication over all of them: for nearly every theorem.
 use Rattle.std.specs.Prelude.{ℕ, List, All}
 use Rattle.dep_model.specs.Tuples.{Relation, IsOver}
 use Rattle.dep_model.specs.Dependencies.{Dependency, Obeys}

@@ -1,3 +1,5 @@
+-- Superkeys, keys, closures, the blocks of the dependency basis and the parts of a scheme: for
+-- normal forms, keys and bases.
 use Rattle.std.specs.Prelude.{◌≡◌, ℕ, ◌<◌, ◌↔◌, true, false, ◌&&◌, nat_lt, if◌then◌else◌, List}
 use Rattle.attr_sets.specs.Places.{Places, below, only, Within, IsEmpty, Apart}
 use Rattle.dep_model.specs.Dependencies.{Dependency, fd, mvd}

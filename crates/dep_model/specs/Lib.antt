@@ -1,5 +1,6 @@
 pub mod Tuples
 pub mod Dependencies
+pub mod Failures
 pub mod Implication
 pub mod Projections
 pub mod OnSchemes

@@ -1,3 +1,5 @@
+-- Implication on a scheme, by the projections of legal relations on it: for keys, normal forms and
+-- parts.
 use Rattle.std.specs.Prelude.{◌≡◌, ℕ, true, List, Contains}
 use Rattle.attr_sets.specs.Places.{Places, union, minus, count_below}
 use Rattle.dep_model.specs.Tuples.{Tuple, Relation, value_at}

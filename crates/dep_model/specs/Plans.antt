@@ -1,3 +1,4 @@
+-- Decompositions: schemes that cover the universe. For each contract in which a plan stands.
 use Rattle.std.specs.Prelude.{ℕ, List, map, All}
 use Rattle.attr_sets.specs.Places.{Places, below, Within, IsEmpty}
 use Rattle.attr_sets.specs.Sets.{places}

@@ -1,3 +1,4 @@
+-- When a plan keeps the functional dependencies: for `check keeps`, `synthesize` and preservation.
 use Rattle.std.specs.Prelude.{ℕ, List, Any}
 use Rattle.attr_sets.specs.Places.{Places, union, Within}
 use Rattle.dep_model.specs.Tuples.{Relation, IsOver}

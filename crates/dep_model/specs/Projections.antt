@@ -1,3 +1,4 @@
+-- Projections, natural joins and lossless joins: for plans, tables and what is migrated.
 use Rattle.std.specs.Prelude.{◌≡◌, ℕ, ◌<◌, zero, suc, true, if◌then◌else◌, List, [], ◌∷◌, ◌++◌, length, map, Any, Contains}
 use Rattle.std.specs.List.{AllZip}
 use Rattle.attr_sets.specs.Places.{Places}

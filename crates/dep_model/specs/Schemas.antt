@@ -1,3 +1,5 @@
+-- The parts of a schema of the code, as the definitions have them, and the same words of a schema:
+-- for every contract in which one stands.
 use Rattle.std.specs.Prelude.{ℕ, Option, List, length, position}
 use Rattle.attr_sets.specs.Places.{Places, below}
 use Rattle.attr_sets.specs.Sets.{places}

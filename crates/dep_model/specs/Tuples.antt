@@ -1,3 +1,4 @@
+-- Tuples and finite relations: for every definition of the theory.
 use Rattle.std.specs.Prelude.{◌≡◌, ℕ, ◌<◌, ◌↔◌, Bool, true, not, List, [], ◌∷◌, length, filter, All, Contains, nat_eq, slice_index_or}
 use Rattle.std.specs.Cmp.Lexicographic.{pointwise}
 use Rattle.attr_sets.specs.Places.{Places}

@@ -1,3 +1,5 @@
+-- The relation of two tuples that agree exactly on a set: for what refutes an implication, and for
+-- its printed rows.
 use Rattle.std.specs.Prelude.{ℕ, if◌then◌else◌, List, [], ◌∷◌, map, replicate}
 use Rattle.std.specs.List.{range_with_len}
 use Rattle.attr_sets.specs.Places.{Places}

@@ -1,3 +1,5 @@
+-- What makes names, dependencies and types of columns a schema: for the type `Schema`, its makers
+-- and the laws of printed schemas.
 use Rattle.std.specs.Prelude.{◌≡◌, ℕ, ◌<◌, ◌≤◌, false, List, length, All, AllPairs, Contains}
 use Rattle.attr_sets.specs.Places.{below}
 use Rattle.attr_sets.specs.declared.set.TheConstants.{PLACES}

@@ -24,7 +24,8 @@ pub fn tuples_are_in_the_join()
 /// The projection on a part of a scheme is the projection of the projection.
 pub fn projection_of_a_projection()
     ensures law { (n : ℕ) (scheme part : Places) (t : Tuple) → Within part scheme → length t ≡ n
-        → map (λ k. value_in scheme (project_tuple scheme t) k) (members_below n part) ≡ project_tuple part t }
+        → map (λ k. value_in scheme (project_tuple scheme t) k) (members_below n part)
+        ≡ project_tuple part t }
 {}
 
 /// The ordered projection is the same relation as the projection, and has no tuple twice.

@@ -1,7 +1,7 @@
 //! Laws of keys, prime attributes, parts and normal forms.
 
 ghost use Rattle.std.specs.Prelude.{◌≡◌, ℕ, ◌↔◌, List};
-ghost use Rattle.attr_sets.specs.Places.{Places, below, only, union, meet, Within, Same, Meets};
+ghost use Rattle.attr_sets.specs.Places.{Places, below, only, union, meet, Within, Meets};
 ghost use Rattle.dep_model.specs.Dependencies.{Dependency, fd, mvd, functional_part};
 ghost use Rattle.dep_model.specs.OnSchemes.{ImpliedOn};
 ghost use Rattle.dep_model.specs.Keys.{IsSuperkey, IsKey, IsPrime, IsPart};
@@ -33,14 +33,15 @@ pub fn functional_on_a_part()
 /// A multivalued dependency that is implied on a scheme is implied on a part of it that holds its left
 /// side, with its right side cut down to the part.
 pub fn multivalued_on_a_part()
-    ensures law { (n : ℕ) (ds : List Dependency) (scheme part x y : Places) → Within part scheme → Within x part
+    ensures law { (n : ℕ) (ds : List Dependency) (scheme part x y : Places)
+        → Within part scheme → Within x part
         → ImpliedOn n ds scheme (mvd x y) → ImpliedOn n ds part (mvd x (meet y part)) }
 {}
 
 /// Two parts of a left side with a common attribute are one.
 pub fn parts_are_apart()
     ensures law { (n : ℕ) (ds : List Dependency) (scheme x p q : Places) → IsPart n ds scheme x p
-        → IsPart n ds scheme x q → Meets p q → Same p q }
+        → IsPart n ds scheme x q → Meets p q → p ≡ q }
 {}
 
 /// Fourth normal form gives Boyce-Codd form (Fagin 1977).

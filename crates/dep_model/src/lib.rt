@@ -8,6 +8,7 @@
 
 mod column;
 mod dep;
+mod failure;
 mod integer;
 pub mod laws;
 pub mod laws_of_joins;
@@ -21,6 +22,7 @@ mod value;
 
 pub use column::Column;
 pub use dep::{Dep, sides};
+pub use failure::Failure;
 pub use integer::integer_text;
 pub use memory::WantMemory;
 pub use name::{MOST_NAME_BYTES, Name};

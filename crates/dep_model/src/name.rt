@@ -24,9 +24,15 @@ impl Model for Name {
     // The unused bytes are zero, so the list determines the value.
     ghost invariant = { λ n. IsHeldName n.bytes n.len };
 
-    ghost inverse = { λ bytes. record { bytes = bytes ++ replicate (MOST_NAME_BYTES - length bytes) 0; len = length bytes } };
+    ghost inverse = { λ bytes. record {
+      bytes = bytes ++ replicate (MOST_NAME_BYTES - length bytes) 0;
+      len = length bytes;
+    } };
 
-    ghost inverse_ok = { λ n held i. record { bytes = padded_is n.bytes n.len held i; len = front_length n.bytes n.len held i } };
+    ghost inverse_ok = { λ n held i. record {
+      bytes = padded_is n.bytes n.len held i;
+      len = front_length n.bytes n.len held i;
+    } };
 }
 
 impl Name {

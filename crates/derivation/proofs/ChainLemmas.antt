@@ -1,5 +1,6 @@
 -- The functional chain: what its stages prove, how large they are, and that there is one chain at most.
 use Rattle.std.proofs.Common.{◌≡◌, ℕ, zero, suc, ◌+◌, ◌*◌, ◌<◌, ◌≤◌, inl, inr, refl, sym, ◌∙◌, ap, subst, arith}
+use mathlib.Core.Path.{fun_ext}
 use Rattle.std.proofs.Common.{List, [], ◌∷◌}
 use Rattle.std.specs.Prelude.{Option, Some, slice_get, All}
 use Rattle.std.proofs.lemmas.Bool.{cases_eq, cases_lt}
@@ -119,10 +120,10 @@ reached_proves s x y x_in m a reached = (stage_keeps s x y (IsProved s x) start 
         let given_in = given_within s k first.lhs t first.given in
         let c = b.closed in
         let lifted = augmentation_proves s (leaf (given k)) first.lhs t c before.within (given_proves s k (fd first.lhs t) first.given) in
-        let whole = transitivity_proves s b.tree (step (augmentation c) (leaf (given k))) x c (union first.lhs c) (union t c) (λ j. grind (arith, first.out.inside j)) before.proves lifted in
+        let whole = transitivity_proves s b.tree (step (augmentation c) (leaf (given k))) x c (union first.lhs c) (union t c) (fun_ext (λ j. grind (arith, first.out.inside j))) before.proves lifted in
         record {
           within = λ j h. grind (arith, before.within j, given_in.1 j, h);
-          proves = fd_restated s (next_stage b k t).tree x (union t c) x (union c t) (λ j. refl) (λ j. grind arith) whole;
+          proves = fd_restated s (next_stage b k t).tree x (union t c) x (union c t) refl (fun_ext (λ j. grind arith)) whole;
         }
 
 -- by the functional dependencies alone
@@ -144,7 +145,7 @@ chain_proves s x y t x_in chain =
     let c = chain.last.closed in
     let last = reflexivity_proves s c y (reached_within s x y x_in chain.steps chain.last chain.reached) chain.holds in
     subst (λ (u : Tree). Proves s u (fd x y)) (sym chain.whole)
-    (transitivity_proves s chain.last.tree (leaf (reflexivity c y)) x c c y (λ k. refl) (reached_proves s x y x_in chain.steps chain.last chain.reached) last)
+    (transitivity_proves s chain.last.tree (leaf (reflexivity c y)) x c c y refl (reached_proves s x y x_in chain.steps chain.last chain.reached) last)
 
 -- ---- how large it is
 record IsOfSteps (x : Places) (m : ℕ) (a : Stage) : Type 0 where

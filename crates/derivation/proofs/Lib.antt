@@ -1,4 +1,5 @@
 pub mod TreeLemmas
+pub mod DerivLemmas
 pub mod RuleTableLemmas
 pub mod ConclusionLemmas
 pub mod SoundnessLemmas

@@ -13,9 +13,13 @@ use Rattle.dep_model.specs.Dependencies.{Dependency, fd, mvd, IsWithin}
 use Rattle.dep_model.specs.Schemas.{deps_of, theory_of, universe_of}
 use Rattle.dep_model.proofs.DepLemmas.{dependencies_all-from}
 use Rattle.derivation.specs.declared.fault.FaultKind.TheVariants.{NoSuchGiven, NotWithin, MiddleDiffers, NotDisjoint}
+use Rattle.derivation.specs.declared.rule.LeafRule.{LeafRule}
+use Rattle.derivation.specs.declared.rule.LeafRule.TheVariants as leaves
+use Rattle.derivation.specs.declared.rule.StepRule.{StepRule}
+use Rattle.derivation.specs.declared.rule.StepRule.TheVariants as steps
 use Rattle.derivation.specs.declared.deriv.Deriv as deriv
 use Rattle.derivation.specs.Trees.{Leaf, given, reflexivity, mreflexivity, Step, augmentation, complementation, maugmentation, replication, Pair, transitivity, mtransitivity, coalescence, Tree, leaf, step, pair}
-use Rattle.derivation.specs.Derivs.{tree_of}
+use Rattle.derivation.specs.Derivs.{leaf_of, step_of, tree_of}
 use Rattle.derivation.specs.Table.{leaf_conclusion, step_conclusion, pair_conclusion}
 use Rattle.derivation.specs.Conclusions.{Proves}
 use Rattle.derivation.proofs.RuleTableLemmas.{some_of_ok, the_ok, chosen, chosen_two}
@@ -40,17 +44,21 @@ TreeOfAttributes (leaf rule) = LeafOfAttributes rule
 TreeOfAttributes (step rule t) = StepOfAttributes rule × TreeOfAttributes t
 TreeOfAttributes (pair rule t u) = TreeOfAttributes t × TreeOfAttributes u
 
+leaf_of-attributes : (rule : LeafRule) → LeafOfAttributes (leaf_of rule)
+leaf_of-attributes (leaves.Given k) = tt {0}
+leaf_of-attributes (leaves.Reflexivity x y) = (places_below x, places_below y)
+leaf_of-attributes (leaves.MReflexivity x y) = (places_below x, places_below y)
+
+step_of-attributes : (rule : StepRule) → StepOfAttributes (step_of rule)
+step_of-attributes (steps.Augmentation z) = places_below z
+step_of-attributes steps.Complementation = tt {0}
+step_of-attributes (steps.MAugmentation w z) = (places_below w, places_below z)
+step_of-attributes steps.Replication = tt {0}
+
 pub tree_of-attributes : (d : deriv.Deriv) → TreeOfAttributes (tree_of d)
-tree_of-attributes (deriv.Given k) = tt {0}
-tree_of-attributes (deriv.Reflex x y) = (places_below x, places_below y)
-tree_of-attributes (deriv.Augment' z p from) = (places_below z, tree_of-attributes from)
-tree_of-attributes (deriv.Trans' p first q second) = (tree_of-attributes first, tree_of-attributes second)
-tree_of-attributes (deriv.Compl' p from) = (tt {0}, tree_of-attributes from)
-tree_of-attributes (deriv.MReflex x y) = (places_below x, places_below y)
-tree_of-attributes (deriv.MAugment' w z p from) = ((places_below w, places_below z), tree_of-attributes from)
-tree_of-attributes (deriv.MTrans' p first q second) = (tree_of-attributes first, tree_of-attributes second)
-tree_of-attributes (deriv.Repl' p from) = (tt {0}, tree_of-attributes from)
-tree_of-attributes (deriv.Coalesce' p first q second) = (tree_of-attributes first, tree_of-attributes second)
+tree_of-attributes (deriv.Leaf rule) = leaf_of-attributes rule
+tree_of-attributes (deriv.Step' rule p from) = (step_of-attributes rule, tree_of-attributes from)
+tree_of-attributes (deriv.Pair' rule p first q second) = (tree_of-attributes first, tree_of-attributes second)
 
 leaf_within : (s : Schema) (rule : Leaf) (d : Dependency) → LeafOfAttributes rule → leaf_conclusion s rule ≡ Ok d → IsWithin (universe_of s) d
 leaf_within s (given k) d own h =

@@ -1,3 +1,5 @@
+-- The functional chain, which is the run of the closure algorithm as a derivation: for `implies`,
+-- by `dep_basis/Proofs`, and for the laws of `chain_laws`.
 use Rattle.std.specs.Prelude.{◌≡◌, ℕ, zero, suc, ◌<◌, Some, slice_get}
 use Rattle.attr_sets.specs.Places.{Places, union, Within}
 use Rattle.dep_model.specs.declared.schema.Schema.{Schema}
@@ -36,7 +38,8 @@ Reaches s x y (suc m) a =
     (b : Stage) × (k : ℕ) × (t : Places) × Reaches s x y m b × (Within y b.closed → ⊥)
     × IsFirstOut s b.closed k t × (a ≡ next_stage b k t)
 
--- a tree is the functional chain of x -> y: steps until y is within the set, and at last the reflexivity that leaves y
+-- a tree is the functional chain of x -> y: steps until y is within the set, and at last the
+-- reflexivity that leaves y
 pub record IsFunctionalChain (s : Schema) (x y : Places) (tree : Tree) : Type 0 where
   pub steps : ℕ
   pub last : Stage

@@ -1,3 +1,5 @@
+-- What a tree proves, and its first fault where it proves nothing: for `conclude`, the law of
+-- soundness, certificates and all that derives.
 use Rattle.std.specs.Prelude.{◌≡◌, ℕ, ◌+◌, Result, Ok, Err}
 use Rattle.dep_model.specs.declared.schema.Schema.{Schema}
 use Rattle.dep_model.specs.Dependencies.{Dependency}

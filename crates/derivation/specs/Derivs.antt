@@ -1,3 +1,4 @@
+-- The tree that a `Deriv` of the code stands for: for every contract in which one stands.
 use Rattle.std.specs.Prelude.{Result, Ok, Err}
 use Rattle.attr_sets.specs.Sets.{places}
 use Rattle.dep_model.specs.declared.dep.Dep.{Dep}
@@ -6,8 +7,6 @@ use Rattle.dep_model.specs.Deps.{dependency_of}
 use Rattle.derivation.specs.declared.rule.LeafRule as leaves
 use Rattle.derivation.specs.declared.rule.StepRule as steps
 use Rattle.derivation.specs.declared.rule.PairRule as pairs
-use Rattle.derivation.specs.declared.rule.Node as node
-use Rattle.derivation.specs.declared.rule.Root as root
 use Rattle.derivation.specs.declared.deriv.Deriv as deriv
 use Rattle.derivation.specs.Trees.{Leaf, given, reflexivity, mreflexivity, Step, augmentation, complementation, maugmentation, replication, Pair, transitivity, mtransitivity, coalescence, Tree, leaf, step, pair}
 
@@ -29,29 +28,9 @@ pair_of pairs.TheVariants.Coalescence = coalescence
 
 -- a derivation as a tree, wherever its nodes lie in memory
 abbrev pub tree_of : deriv.Deriv → Tree
-tree_of (deriv.Given k) = leaf (given k)
-tree_of (deriv.Reflex x y) = leaf (reflexivity (places x) (places y))
-tree_of (deriv.Augment' z p from) = step (augmentation (places z)) (tree_of from)
-tree_of (deriv.Trans' p first q second) = pair transitivity (tree_of first) (tree_of second)
-tree_of (deriv.Compl' p from) = step complementation (tree_of from)
-tree_of (deriv.MReflex x y) = leaf (mreflexivity (places x) (places y))
-tree_of (deriv.MAugment' w z p from) = step (maugmentation (places w) (places z)) (tree_of from)
-tree_of (deriv.MTrans' p first q second) = pair mtransitivity (tree_of first) (tree_of second)
-tree_of (deriv.Repl' p from) = step replication (tree_of from)
-tree_of (deriv.Coalesce' p first q second) = pair coalescence (tree_of first) (tree_of second)
-
--- the tree of a node and its premises
-abbrev pub root_of : node.Node → Tree
-root_of (node.TheVariants.Leaf rule) = leaf (leaf_of rule)
-root_of (node.TheVariants.Step rule from) = step (step_of rule) (tree_of from.now)
-root_of (node.TheVariants.Pair rule first second) = pair (pair_of rule) (tree_of first.now) (tree_of second.now)
-
--- the tree of a root and the premises that were taken out
-abbrev pub taken_of : root.Root → Tree
-taken_of (root.TheVariants.Leaf rule) = leaf (leaf_of rule)
-taken_of (root.TheVariants.Step rule from) = step (step_of rule) (tree_of from.value)
-taken_of (root.TheVariants.Pair rule first second) =
-    pair (pair_of rule) (tree_of first.value) (tree_of second.value)
+tree_of (deriv.Leaf rule) = leaf (leaf_of rule)
+tree_of (deriv.Step' rule p from) = step (step_of rule) (tree_of from)
+tree_of (deriv.Pair' rule p first q second) = pair (pair_of rule) (tree_of first) (tree_of second)
 
 -- an outcome of the code, its dependency between sets of places
 abbrev pub outcome_of : {E : Type 0} → Result Dep E → Result Dependency E

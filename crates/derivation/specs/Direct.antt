@@ -1,3 +1,5 @@
+-- Trees in which no node repeats what a node below it concludes: for `shorten` and `prove`. `Desk`
+-- does not cite it.
 use Rattle.std.specs.Prelude.{◌≡◌, ◌⊎◌}
 use Rattle.dep_model.specs.declared.schema.Schema.{Schema}
 use Rattle.dep_model.specs.Dependencies.{Dependency}

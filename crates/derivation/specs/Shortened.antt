@@ -1,3 +1,4 @@
+-- A tree made shorter: for `shorten` and the functions below it. `Desk` does not cite it.
 use Rattle.std.specs.Prelude.{◌≡◌, ◌<◌, ◌≤◌, ◌^◌, Option, None, Some}
 use Rattle.dep_model.specs.declared.dep.Dep.{Dep}
 use Rattle.dep_model.specs.declared.schema.Schema.{Schema}

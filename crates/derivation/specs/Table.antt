@@ -1,3 +1,5 @@
+-- The ten rules, as a table of conclusions: for what a tree proves (`Conclusions`) and how a
+-- certificate line is judged.
 use Rattle.std.specs.Prelude.{Bool, ◌&&◌, if◌then◌else◌, Result, Ok, Err, ok_or, slice_get}
 use Rattle.attr_sets.specs.Places.{Places, union, minus}
 use Rattle.attr_sets.specs.Sets.{is_within, is_same, is_apart}
@@ -18,7 +20,8 @@ leaf_conclusion s (given k) = ok_or (slice_get (theory_of s) k) NoSuchGiven
 leaf_conclusion s (reflexivity x y) = if is_inside s x && is_within y x then Ok (fd x y) else Err NotWithin
 leaf_conclusion s (mreflexivity x y) = if is_inside s x && is_within y x then Ok (mvd x y) else Err NotWithin
 
--- from x -> y: xz -> yz, and x ->> y; from x ->> y: what is neither in x nor in y, and xw ->> yz where z is within w
+-- from x -> y: xz -> yz, and x ->> y; from x ->> y: what is neither in x nor in y, and xw ->> yz
+-- where z is within w
 abbrev pub step_conclusion : Schema → Step → Dependency → Result Dependency FaultKind
 step_conclusion s (augmentation z) (fd x y) = if is_inside s z then Ok (fd (union x z) (union y z))
     else Err NotWithin

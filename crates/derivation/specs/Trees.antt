@@ -1,3 +1,5 @@
+-- Derivations as trees, with a rule at each node: for the rule table, certificates and all that
+-- derives.
 use Rattle.std.specs.Prelude.{ℕ, ◌+◌, max}
 use Rattle.attr_sets.specs.Places.{Places}
 

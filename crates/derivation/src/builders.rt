@@ -7,7 +7,7 @@ ghost use Rattle.derivation.specs.Derivs.{tree_of};
 ghost use Rattle.derivation.specs.Conclusions.{Proves};
 ghost use Rattle.derivation.specs.Builders.{IsLittleMore};
 
-use crate::Deriv;
+use crate::{Deriv, LeafRule, PairRule, StepRule};
 use attr_sets::AttrSet;
 use dep_model::{Schema, WantMemory};
 use std::alloc::Global;
@@ -21,7 +21,7 @@ pub struct Returned {
 
 // Room for a node that is made later.
 fn room(alloc: Global) -> Result<Box<Deriv>, WantMemory> {
-    Ok(Box::new(alloc, Deriv::Given(0))?)
+    Ok(Box::new(alloc, Deriv::Leaf(LeafRule::Given(0)))?)
 }
 
 fn room_for_three(alloc: Global) -> Result<[Box<Deriv>; 3], WantMemory> {
@@ -62,15 +62,9 @@ pub fn unite_fd(
         return Err(Returned { first, second });
     };
     // X -> XZ and XZ -> YZ.
-    *low = Deriv::Augment {
-        by: lhs,
-        from: second,
-    };
-    *high = Deriv::Augment {
-        by: rhs,
-        from: first,
-    };
-    *top = Deriv::Trans(low, high);
+    *low = Deriv::Step(StepRule::Augmentation { by: lhs }, second);
+    *high = Deriv::Step(StepRule::Augmentation { by: rhs }, first);
+    *top = Deriv::Pair(PairRule::Transitivity, low, high);
     Ok(top)
 }
 
@@ -105,25 +99,31 @@ pub fn unite_mvd(
         return Err(Returned { first, second });
     };
     // X ->> XY, XY ->> Z, and XY ->> U - XYZ.
-    *wider = Deriv::MAugment {
-        wide: lhs,
-        narrow: lhs,
-        from: first,
-    };
-    *lifted = Deriv::MAugment {
-        wide: left,
-        narrow: AttrSet::empty(),
-        from: second,
-    };
-    *rest = Deriv::Compl(lifted);
+    *wider = Deriv::Step(
+        StepRule::MAugmentation {
+            wide: lhs,
+            narrow: lhs,
+        },
+        first,
+    );
+    *lifted = Deriv::Step(
+        StepRule::MAugmentation {
+            wide: left,
+            narrow: AttrSet::empty(),
+        },
+        second,
+    );
+    *rest = Deriv::Step(StepRule::Complementation, lifted);
     // X ->> U - XYZ, X ->> YZ - X, and X ->> YZ.
-    *outside = Deriv::MTrans(wider, rest);
-    *inside = Deriv::Compl(outside);
-    *top = Deriv::MAugment {
-        wide: lhs,
-        narrow: lhs.meet(left.union(right)),
-        from: inside,
-    };
+    *outside = Deriv::Pair(PairRule::MTransitivity, wider, rest);
+    *inside = Deriv::Step(StepRule::Complementation, outside);
+    *top = Deriv::Step(
+        StepRule::MAugmentation {
+            wide: lhs,
+            narrow: lhs.meet(left.union(right)),
+        },
+        inside,
+    );
     Ok(top)
 }
 
@@ -150,18 +150,22 @@ pub fn split_inside(
         return Err(Returned { first, second });
     };
     // X ->> U - W, U - W ->> T, and so X ->> T without U - W.
-    *rest = Deriv::Compl(first);
-    *wider = Deriv::MAugment {
-        wide: lhs,
-        narrow: lhs,
-        from: rest,
-    };
-    *lifted = Deriv::MAugment {
-        wide: outside,
-        narrow: AttrSet::empty(),
-        from: second,
-    };
-    *top = Deriv::MTrans(wider, lifted);
+    *rest = Deriv::Step(StepRule::Complementation, first);
+    *wider = Deriv::Step(
+        StepRule::MAugmentation {
+            wide: lhs,
+            narrow: lhs,
+        },
+        rest,
+    );
+    *lifted = Deriv::Step(
+        StepRule::MAugmentation {
+            wide: outside,
+            narrow: AttrSet::empty(),
+        },
+        second,
+    );
+    *top = Deriv::Pair(PairRule::MTransitivity, wider, lifted);
     Ok(top)
 }
 
@@ -188,18 +192,22 @@ pub fn split_outside(
         return Err(Returned { first, second });
     };
     // X ->> U - W, U - W ->> U - VT, and so X ->> what W has outside T.
-    *rest = Deriv::Compl(first);
-    *wider = Deriv::MAugment {
-        wide: lhs,
-        narrow: lhs,
-        from: rest,
-    };
-    *other = Deriv::Compl(second);
-    *lifted = Deriv::MAugment {
-        wide: outside,
-        narrow: AttrSet::empty(),
-        from: other,
-    };
-    *top = Deriv::MTrans(wider, lifted);
+    *rest = Deriv::Step(StepRule::Complementation, first);
+    *wider = Deriv::Step(
+        StepRule::MAugmentation {
+            wide: lhs,
+            narrow: lhs,
+        },
+        rest,
+    );
+    *other = Deriv::Step(StepRule::Complementation, second);
+    *lifted = Deriv::Step(
+        StepRule::MAugmentation {
+            wide: outside,
+            narrow: AttrSet::empty(),
+        },
+        other,
+    );
+    *top = Deriv::Pair(PairRule::MTransitivity, wider, lifted);
     Ok(top)
 }

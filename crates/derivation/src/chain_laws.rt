@@ -34,5 +34,6 @@ pub fn chain_is_functional()
 pub fn chain_is_small()
     ensures nodes { (s : Schema) (x y : Places) (t : Tree) → IsFunctionalChain s x y t
         → nodes t ≤ 3 * PLACES + 3 }
-    ensures levels { (s : Schema) (x y : Places) (t : Tree) → IsFunctionalChain s x y t → depth t ≤ PLACES + 3 }
+    ensures levels { (s : Schema) (x y : Places) (t : Tree)
+        → IsFunctionalChain s x y t → depth t ≤ PLACES + 3 }
 {}

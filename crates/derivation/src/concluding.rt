@@ -7,7 +7,7 @@ ghost use Rattle.derivation.specs.Derivs.{tree_of, outcome_of};
 ghost use Rattle.derivation.specs.Conclusions.{concluded, Proves};
 
 use crate::table::{leaf_conclusion, pair_conclusion, step_conclusion};
-use crate::{Deriv, Fault, Node};
+use crate::{Deriv, Fault};
 use dep_model::{Dep, Schema};
 
 /// What a derivation concludes from the dependencies of a schema, or its first fault.
@@ -32,16 +32,16 @@ fn conclude_after(schema: &Schema, deriv: &Deriv, passed: &mut u32) -> Result<De
     ensures exact { outcome_of result ≡ concluded schema.now passed.old (tree_of deriv.now) }
     ensures passed { OnOk result (passed.new ≡ passed.old + nodes (tree_of deriv.now)) }
 {
-    let outcome = match deriv.root() {
-        Node::Leaf(rule) => leaf_conclusion(schema, rule),
-        Node::Step(rule, premise) => {
+    let outcome = match deriv {
+        Deriv::Leaf(rule) => leaf_conclusion(schema, *rule),
+        Deriv::Step(rule, premise) => {
             let dep = conclude_after(schema, premise, passed)?;
-            step_conclusion(schema, rule, dep)
+            step_conclusion(schema, *rule, dep)
         }
-        Node::Pair(rule, first, second) => {
+        Deriv::Pair(rule, first, second) => {
             let left = conclude_after(schema, first, passed)?;
             let right = conclude_after(schema, second, passed)?;
-            pair_conclusion(rule, left, right)
+            pair_conclusion(*rule, left, right)
         }
     };
     *passed += 1;

@@ -1,7 +1,7 @@
 ghost use Rattle.std.specs.Prelude.{◌≡◌, IfOk};
 ghost use Rattle.derivation.specs.Derivs.{tree_of};
 
-use crate::{Deriv, Node};
+use crate::Deriv;
 use dep_model::WantMemory;
 use std::alloc::Global;
 
@@ -9,16 +9,16 @@ use std::alloc::Global;
 pub fn copy_deriv(alloc: Global, deriv: &Deriv) -> Result<Box<Deriv>, WantMemory>
     ensures equal { IfOk result (λ b. tree_of b.value ≡ tree_of deriv.now) }
 {
-    let copy = match deriv.root() {
-        Node::Leaf(rule) => rule.deriv(),
-        Node::Step(rule, premise) => {
+    let copy = match deriv {
+        Deriv::Leaf(rule) => Deriv::Leaf(*rule),
+        Deriv::Step(rule, premise) => {
             let from = copy_deriv(alloc, premise)?;
-            rule.over(from)
+            Deriv::Step(*rule, from)
         }
-        Node::Pair(rule, first, second) => {
+        Deriv::Pair(rule, first, second) => {
             let left = copy_deriv(alloc, first)?;
             let right = copy_deriv(alloc, second)?;
-            rule.over(left, right)
+            Deriv::Pair(*rule, left, right)
         }
     };
     Ok(Box::new(alloc, copy)?)

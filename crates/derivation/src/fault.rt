@@ -16,7 +16,8 @@ pub enum FaultKind {
 /// The first node of a derivation at which a rule gives no conclusion.
 #[derive(Clone, Copy, Debug, PartialEq, Eq, Hash)]
 pub struct Fault {
-    /// The node's number in post-order, from 1: the nodes of the first premise, those of the second, the node.
+    /// The node's number in post-order, from 1: the nodes of the first premise, those of the
+    /// second, the node.
     pub node: u32,
     pub kind: FaultKind,
 }

@@ -24,6 +24,6 @@ pub use copies::copy_deriv;
 pub use deriv::Deriv;
 pub use fault::{Fault, FaultKind};
 pub use measures::{MOST_LEVELS, MOST_NODES, depth, nodes};
-pub use rule::{LeafRule, Node, PairRule, StepRule};
+pub use rule::{LeafRule, PairRule, StepRule};
 pub use shortening::shorten;
 pub use table::{leaf_conclusion, pair_conclusion, step_conclusion};

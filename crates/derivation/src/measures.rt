@@ -2,7 +2,7 @@ ghost use Rattle.std.specs.Prelude.{◌≡◌, ℕ, ◌<◌, ◌^◌};
 ghost use Rattle.derivation.specs.Trees.{nodes, depth};
 ghost use Rattle.derivation.specs.Derivs.{tree_of};
 
-use crate::{Deriv, Node};
+use crate::Deriv;
 
 /// The most nodes of a derivation that is given for a proof, and the most lines of a certificate.
 pub const MOST_NODES: u32 = 262_144;
@@ -15,10 +15,10 @@ pub fn nodes(deriv: &Deriv) -> u32
     requires few { nodes (tree_of deriv.now) < 2 ^ 32 }
     ensures count { result ≡ nodes (tree_of deriv.now) }
 {
-    match deriv.root() {
-        Node::Leaf(_) => 1,
-        Node::Step(_, premise) => nodes(premise) + 1,
-        Node::Pair(_, first, second) => nodes(first) + nodes(second) + 1,
+    match deriv {
+        Deriv::Leaf(_) => 1,
+        Deriv::Step(_, premise) => nodes(premise) + 1,
+        Deriv::Pair(_, first, second) => nodes(first) + nodes(second) + 1,
     }
 }
 
@@ -27,9 +27,9 @@ pub fn depth(deriv: &Deriv) -> u32
     requires few { nodes (tree_of deriv.now) < 2 ^ 32 }
     ensures levels { result ≡ depth (tree_of deriv.now) }
 {
-    match deriv.root() {
-        Node::Leaf(_) => 1,
-        Node::Step(_, premise) => depth(premise) + 1,
-        Node::Pair(_, first, second) => depth(first).max(depth(second)) + 1,
+    match deriv {
+        Deriv::Leaf(_) => 1,
+        Deriv::Step(_, premise) => depth(premise) + 1,
+        Deriv::Pair(_, first, second) => depth(first).max(depth(second)) + 1,
     }
 }

@@ -1,95 +1,39 @@
-use crate::Deriv;
+//! The rules of derivations. In the comments `X -> Y` is a functional dependency, `X ->> Y` a multivalued
+//! one, `XZ` the union of `X` and `Z`, and `U` the universe.
+
 use attr_sets::AttrSet;
 
 /// A rule without premises.
 #[derive(Clone, Copy, Debug, PartialEq, Eq, Hash)]
 pub enum LeafRule {
+    /// The schema's dependency of this number, from 0.
     Given(u16),
+    /// `lhs -> rhs`, where `rhs` is within `lhs`.
     Reflexivity { lhs: AttrSet, rhs: AttrSet },
+    /// `lhs ->> rhs`, where `rhs` is within `lhs`.
     MReflexivity { lhs: AttrSet, rhs: AttrSet },
 }
 
 /// A rule with one premise.
 #[derive(Clone, Copy, Debug, PartialEq, Eq, Hash)]
 pub enum StepRule {
+    /// From `X -> Y`: `XZ -> YZ`, where `by` is `Z`.
     Augmentation { by: AttrSet },
+    /// From `X ->> Y`: `X ->> U - XY`.
     Complementation,
+    /// From `X ->> Y`: `XW ->> YZ`, where `wide` is `W` and `narrow` is `Z`, which is within `W`.
     MAugmentation { wide: AttrSet, narrow: AttrSet },
+    /// From `X -> Y`: `X ->> Y`.
     Replication,
 }
 
 /// A rule with two premises.
 #[derive(Clone, Copy, Debug, PartialEq, Eq, Hash)]
 pub enum PairRule {
+    /// From `X -> Y` and `Y -> Z`: `X -> Z`.
     Transitivity,
+    /// From `X ->> Y` and `Y ->> Z`: `X ->> Z - Y`.
     MTransitivity,
+    /// From `X ->> Y` and `Z -> W`: `X -> W`, where `W` is within `Y`, and `Z` has no member in `Y`.
     Coalescence,
-}
-
-/// A node of a derivation: its rule, and its premises.
-#[derive(Clone, Copy, Debug)]
-pub enum Node<'a> {
-    Leaf(LeafRule),
-    Step(StepRule, &'a Deriv),
-    Pair(PairRule, &'a Deriv, &'a Deriv),
-}
-
-/// A root whose premises were taken out.
-#[derive(Debug, Drop)]
-pub enum Root {
-    Leaf(LeafRule),
-    Step(StepRule, Box<Deriv>),
-    Pair(PairRule, Box<Deriv>, Box<Deriv>),
-}
-
-impl LeafRule {
-    ghost use Rattle.std.specs.Prelude.{◌≡◌};
-    ghost use Rattle.derivation.specs.Trees.{leaf};
-    ghost use Rattle.derivation.specs.Derivs.{tree_of, leaf_of};
-
-    /// The derivation of this rule alone.
-    pub fn deriv(self) -> Deriv
-        ensures tree { tree_of result ≡ leaf (leaf_of self) }
-    {
-        match self {
-            LeafRule::Given(k) => Deriv::Given(k),
-            LeafRule::Reflexivity { lhs, rhs } => Deriv::Reflex { lhs, rhs },
-            LeafRule::MReflexivity { lhs, rhs } => Deriv::MReflex { lhs, rhs },
-        }
-    }
-}
-
-impl StepRule {
-    ghost use Rattle.std.specs.Prelude.{◌≡◌};
-    ghost use Rattle.derivation.specs.Trees.{step};
-    ghost use Rattle.derivation.specs.Derivs.{tree_of, step_of};
-
-    /// The derivation of this rule over a premise.
-    pub fn over(self, from: Box<Deriv>) -> Deriv
-        ensures tree { tree_of result ≡ step (step_of self) (tree_of from.value) }
-    {
-        match self {
-            StepRule::Augmentation { by } => Deriv::Augment { by, from },
-            StepRule::Complementation => Deriv::Compl(from),
-            StepRule::MAugmentation { wide, narrow } => Deriv::MAugment { wide, narrow, from },
-            StepRule::Replication => Deriv::Repl(from),
-        }
-    }
-}
-
-impl PairRule {
-    ghost use Rattle.std.specs.Prelude.{◌≡◌};
-    ghost use Rattle.derivation.specs.Trees.{pair};
-    ghost use Rattle.derivation.specs.Derivs.{tree_of, pair_of};
-
-    /// The derivation of this rule over two premises.
-    pub fn over(self, first: Box<Deriv>, second: Box<Deriv>) -> Deriv
-        ensures tree { tree_of result ≡ pair (pair_of self) (tree_of first.value) (tree_of second.value) }
-    {
-        match self {
-            PairRule::Transitivity => Deriv::Trans(first, second),
-            PairRule::MTransitivity => Deriv::MTrans(first, second),
-            PairRule::Coalescence => Deriv::Coalesce(first, second),
-        }
-    }
 }

@@ -8,7 +8,6 @@ ghost use Rattle.derivation.specs.Conclusions.{Proves};
 ghost use Rattle.derivation.specs.Direct.{IsIn, NoneBelow, IsDirect};
 ghost use Rattle.derivation.specs.Shortened.{ConcludesOnly, IsConcluded, IsSought, HasFew, IsLeastPart, IsShortened};
 
-use crate::rule::Root;
 use crate::table::{leaf_conclusion, pair_conclusion, step_conclusion};
 use crate::{Deriv, LeafRule, PairRule, StepRule, conclude, nodes};
 use dep_model::{Dep, Schema};
@@ -62,13 +61,13 @@ fn shorten_all(schema: &Schema, deriv: Box<Deriv>) -> Concluded
     ensures shortened { IsShortened schema.now (tree_of deriv.value) result }
 {
     let mut place = deriv;
-    match mem::replace(&mut *place, Deriv::Given(0)).taken() {
-        Root::Leaf(rule) => conclude_leaf(schema, place, rule),
-        Root::Step(rule, premise) => {
+    match mem::replace(&mut *place, Deriv::Leaf(LeafRule::Given(0))) {
+        Deriv::Leaf(rule) => conclude_leaf(schema, place, rule),
+        Deriv::Step(rule, premise) => {
             let from = shorten_all(schema, premise);
             least_of(schema, conclude_step(schema, place, rule, from))
         }
-        Root::Pair(rule, first, second) => {
+        Deriv::Pair(rule, first, second) => {
             let left = shorten_all(schema, first);
             let right = shorten_all(schema, second);
             least_of(schema, conclude_pair(place, rule, left, right))
@@ -99,13 +98,13 @@ fn seek(schema: &Schema, deriv: Box<Deriv>, sought: Dep) -> Sought
     ensures sought { IsSought schema.now (tree_of deriv.value) (dependency_of sought) result }
 {
     let mut place = deriv;
-    match mem::replace(&mut *place, Deriv::Given(0)).taken() {
-        Root::Leaf(rule) => told(conclude_leaf(schema, place, rule), sought),
-        Root::Step(rule, premise) => {
+    match mem::replace(&mut *place, Deriv::Leaf(LeafRule::Given(0))) {
+        Deriv::Leaf(rule) => told(conclude_leaf(schema, place, rule), sought),
+        Deriv::Step(rule, premise) => {
             let from = seek(schema, premise, sought);
             seek_step(schema, place, rule, from, sought)
         }
-        Root::Pair(rule, first, second) => {
+        Deriv::Pair(rule, first, second) => {
             let left = seek(schema, first, sought);
             let right = seek(schema, second, sought);
             seek_pair(place, rule, left, right, sought)
@@ -215,7 +214,7 @@ fn conclude_leaf(schema: &Schema, room: Box<Deriv>, rule: LeafRule) -> Concluded
     ensures concluded { IsConcluded schema.now (leaf (leaf_of rule)) result }
 {
     let mut deriv = room;
-    *deriv = rule.deriv();
+    *deriv = Deriv::Leaf(rule);
     Concluded {
         deriv,
         dep: leaf_dep(schema, rule),
@@ -229,7 +228,7 @@ fn conclude_step(schema: &Schema, room: Box<Deriv>, rule: StepRule, from: Conclu
 {
     let mut deriv = room;
     let dep = step_dep(schema, rule, from.dep);
-    *deriv = rule.over(from.deriv);
+    *deriv = Deriv::Step(rule, from.deriv);
     Concluded { deriv, dep }
 }
 
@@ -240,6 +239,6 @@ fn conclude_pair(room: Box<Deriv>, rule: PairRule, first: Concluded, second: Con
 {
     let mut deriv = room;
     let dep = pair_dep(rule, first.dep, second.dep);
-    *deriv = rule.over(first.deriv, second.deriv);
+    *deriv = Deriv::Pair(rule, first.deriv, second.deriv);
     Concluded { deriv, dep }
 }

@@ -9,11 +9,9 @@ use desk_outside::{FileFolder, FileShelf, StdoutSink, Word};
 use std::env;
 use std::process::ExitCode;
 use std::rt::Runtime;
-use targets::{CsvTarget, SqlTarget, Target};
+use targets::{FileTarget, TableFormat, Target};
 
-type CsvFiles<R> = CsvTarget<FileFolder<R>>;
-
-type SqlFiles<R> = SqlTarget<FileFolder<R>>;
+type TableFiles<R> = FileTarget<FileFolder<R>>;
 
 // The status of a call that finds no memory.
 const NO_MEMORY: u8 = 6;
@@ -47,10 +45,10 @@ fn inputs<R: Runtime + AllocGlobal>(rt: &R) -> Result<(Vec<Word>, FileShelf<R>),
 // The targets whose tables become files.
 fn file_targets<R: Runtime + AllocGlobal>(
     rt: &R,
-) -> Result<(CsvFiles<R>, SqlFiles<R>), WantMemory> {
+) -> Result<(TableFiles<R>, TableFiles<R>), WantMemory> {
     let alloc = rt.alloc();
-    let csv = CsvTarget::make(alloc, FileFolder::make(another(rt)?))?;
-    let sql = SqlTarget::make(alloc, FileFolder::make(another(rt)?))?;
+    let csv = FileTarget::make(alloc, TableFormat::Csv, FileFolder::make(another(rt)?))?;
+    let sql = FileTarget::make(alloc, TableFormat::Sql, FileFolder::make(another(rt)?))?;
     Ok((csv, sql))
 }
 

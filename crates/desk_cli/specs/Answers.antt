@@ -1,4 +1,4 @@
--- What a command may answer.
+-- What a command may answer, and the steps of which commands are made: for all of them.
 use Rattle.std.specs.Prelude.{◌≡◌, ◌⊎◌, ℕ, List, Option, Some, None}
 use Rattle.named_tables.specs.Tables.{TableValue}
 use Rattle.desk_cli.specs.declared.status.Status.{Status}

@@ -1,4 +1,5 @@
--- What a set of attributes determines, and the blocks of the others that it multidetermines.
+-- What a set of attributes determines, and the blocks of the others that it multidetermines: for
+-- `basis`.
 use Rattle.std.specs.Prelude.{ℕ, List, ◌++◌, codes}
 use Rattle.std.specs.List.{flat_map}
 use Rattle.attr_sets.specs.Places.{Places}

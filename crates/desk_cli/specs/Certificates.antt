@@ -1,4 +1,4 @@
--- Whether a certificate proves a goal.
+-- Whether a certificate proves a goal: for `check proof`.
 use Rattle.std.specs.Prelude.{◌⊎◌, ℕ, List}
 use Rattle.dep_model.specs.Dependencies.{Dependency}
 use Rattle.dep_model.specs.Schemas.{names_of}

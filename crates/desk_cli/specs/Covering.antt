@@ -1,4 +1,4 @@
--- What says the same as a schema, shortened.
+-- What says the same as a schema, shortened: for `cover`.
 use Rattle.std.specs.Prelude.{List}
 use Rattle.dep_model.specs.Dependencies.{Dependency, functional_part}
 use Rattle.dep_model.specs.Schemas.{names_of, columns_of, width_of, theory_of}

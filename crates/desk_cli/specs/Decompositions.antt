@@ -1,4 +1,4 @@
--- Decompositions in a normal form.
+-- Decompositions in a normal form: for `split`, and for every command that takes a normal form.
 use Rattle.std.specs.Prelude.{◌⊎◌, ℕ, List, ◌++◌, codes, All, length, ◌≤◌}
 use Rattle.attr_sets.specs.Places.{Places}
 use Rattle.attr_sets.specs.declared.set.AttrSet.{AttrSet}

@@ -1,4 +1,4 @@
--- SQL tables of a plan.
+-- SQL tables of a plan: for `ddl`.
 use Rattle.std.specs.Prelude.{◌≡◌, ℕ, List}
 use Rattle.attr_sets.specs.Places.{Places}
 use Rattle.attr_sets.specs.declared.set.AttrSet.{AttrSet}

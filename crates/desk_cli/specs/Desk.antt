@@ -1,4 +1,4 @@
--- What the top call promises.
+-- What the top call promises: the record `Desk`, for `desk`.
 use Rattle.std.specs.Prelude.{◌≡◌, ◌⊎◌, ℕ, ◌≤◌, List, length, Option, Some, Result, Ok, Err}
 use Rattle.std.specs.Io.KnownBytes.{append_known}
 use Rattle.dep_model.specs.declared.memory.WantMemory.{WantMemory}

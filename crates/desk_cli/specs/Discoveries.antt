@@ -1,5 +1,5 @@
--- The functional dependencies that the rows of a file obey.
-use Rattle.std.specs.Prelude.{◌≢◌, ◌⊎◌, ◌↔◌, ℕ, Bool, true, false, List, [], ◌∷◌, ◌++◌, codes, length, map}
+-- The functional dependencies that the rows of a file obey: for `discover`.
+use Rattle.std.specs.Prelude.{List, codes, length, map, ℕ, ◌++◌, ◌↔◌, ◌∷◌, ◌⊎◌}
 use Rattle.std.specs.Fmt.{decimal}
 use Rattle.attr_sets.specs.Places.{Places, below, Within}
 use Rattle.csv_rows.specs.Records.{records_of}
@@ -20,7 +20,7 @@ use Rattle.desk_cli.specs.Readings.{Reading, IsContent}
 use Rattle.desk_texts.specs.Texts.{line}
 
 -- ---- texts
--- the number of a refusal; want of memory has none
+-- the number of a refusal
 abbrev pub headed_refusal_number : DiscoverRefusal → ℕ
 headed_refusal_number refusal.NoHeader = 1
 headed_refusal_number refusal.TooManyColumns = 2
@@ -28,7 +28,6 @@ headed_refusal_number (refusal.BadColumn column) = 3
 headed_refusal_number (refusal.DoubleColumn column) = 4
 headed_refusal_number (refusal.UnevenRow row) = 5
 headed_refusal_number refusal.TooManyRows = 6
-headed_refusal_number refusal.Memory = 0
 
 -- a refusal in words
 abbrev pub headed_reason_text : DiscoverRefusal → List ℕ
@@ -38,7 +37,6 @@ headed_reason_text (refusal.BadColumn column) = codes "bad column " ++ decimal c
 headed_reason_text (refusal.DoubleColumn column) = codes "column " ++ decimal column ++ codes " repeated"
 headed_reason_text (refusal.UnevenRow row) = codes "row " ++ decimal row ++ codes " has the wrong length"
 headed_reason_text refusal.TooManyRows = codes "too many rows"
-headed_reason_text refusal.Memory = []
 
 -- a refusal of a file of rows under names of its own
 abbrev pub headed_refusal_text : List ℕ → DiscoverRefusal → List ℕ
@@ -75,7 +73,8 @@ abbrev pub WithHeaded : Reading → List ℕ → (Headed → Allowed) → Allowe
 WithHeaded r name = With (HeadedStops r name) (IsHeadedFile r name)
 
 -- ---- answers
--- exactly the minimal functional dependencies of rows, in order; they imply those that the rows obey and no other
+-- exactly the minimal functional dependencies of rows, in order; they imply those that the rows
+-- obey and no other
 pub record AreRulesOf (n : ℕ) (rows : Relation) (ds : List Dependency) : Type 0 where
   pub minimal : AreAllMinimal n rows ds
   pub implied : (x y : Places) → Within x (below n) → Within y (below n)
@@ -90,13 +89,3 @@ FindsRules headed answer =
 -- of the rows of a file
 abbrev pub Discovers : Reading → List ℕ → Allowed
 Discovers r file = WithHeaded r file FindsRules
-
--- ---- replies
--- a refusal is want of memory
-abbrev pub headed_wants_memory : DiscoverRefusal → Bool
-headed_wants_memory refusal.Memory = true
-headed_wants_memory _ = false
-
--- a command ends with the refusal of such a file
-abbrev pub TellsHeaded : List ℕ → DiscoverRefusal → Allowed
-TellsHeaded name why answer = (why ≢ refusal.Memory) × Says Refused (headed_refusal_text name why) answer

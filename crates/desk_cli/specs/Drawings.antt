@@ -1,4 +1,4 @@
--- The tables of a plan as a picture.
+-- The tables of a plan as a picture: for `draw`.
 use Rattle.std.specs.Prelude.{◌≡◌, ℕ, List}
 use Rattle.attr_sets.specs.Places.{Places}
 use Rattle.attr_sets.specs.declared.set.AttrSet.{AttrSet}
@@ -17,7 +17,8 @@ use Rattle.desk_cli.specs.Readings.{Reading}
 -- yes, with the picture of a plan's tables
 abbrev pub DrawsTables : Schema → List AttrSet → Allowed
 DrawsTables schema plan answer =
-    (tables : List TableDesign) × IsSoundDesign schema plan tables × Says Yes (drawing_text schema tables) answer
+    (tables : List TableDesign) × IsSoundDesign schema plan tables
+    × Says Yes (drawing_text schema tables) answer
 
 -- of the plan of a normal form
 abbrev pub DrawsForm : Schema → Form → Allowed

@@ -1,4 +1,5 @@
--- What the whole call ends with, once the tables of an answer are handed to the targets.
+-- What the whole call ends with, once the tables of an answer are handed to the destinations: for
+-- `desk`, by `Desk`.
 use Rattle.std.specs.Prelude.{◌≡◌, ◌⊎◌, ℕ, ◌+◌, ◌<◌, Bool, true, false, if◌then◌else◌, List, [], ◌∷◌, ◌++◌, length, codes, Option, Some, MatchOption, slice_index_or}
 use Rattle.std.specs.Fmt.{decimal}
 use Rattle.std.specs.List.{list_all, list_any}

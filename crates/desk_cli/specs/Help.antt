@@ -1,4 +1,4 @@
--- What the program tells of itself.
+-- What the program tells of itself: for `help` and `version`.
 use Rattle.std.specs.Prelude.{ℕ, List, ◌++◌, codes}
 use Rattle.desk_texts.specs.Texts.{line}
 
@@ -7,15 +7,20 @@ version_text = line (codes "desk 0.1.0")
 
 abbrev pub help_text : List ℕ
 help_text =
-    line (codes "desk implies SCHEMA GOAL              whether the schema implies the goal, with a proof or two rows against it")
+    line (codes "desk implies SCHEMA GOAL              "
+    ++ codes "whether the schema implies the goal, with a proof or two rows against it")
     ++ line (codes "desk check proof SCHEMA FILE GOAL     whether the certificate in FILE proves the goal")
-    ++ line (codes "desk check rows SCHEMA CSV            whether the rows in CSV are legal, and which break what")
+    ++ line (codes "desk check rows SCHEMA CSV            "
+    ++ codes "whether the rows in CSV are legal, and which break what")
     ++ line (codes "desk check join SCHEMA PLAN           whether the plan in PLAN loses nothing")
-    ++ line (codes "desk check form FORM SCHEMA PLAN      whether each scheme of the plan is in the form: 3nf, bcnf or 4nf")
+    ++ line (codes "desk check form FORM SCHEMA PLAN      "
+    ++ codes "whether each scheme of the plan is in the form: 3nf, bcnf or 4nf")
     ++ line (codes "desk check keeps SCHEMA PLAN          whether the plan keeps the functional dependencies")
-    ++ line (codes "desk check same SCHEMA OTHER          whether two schemas over the same names say the same")
+    ++ line (codes "desk check same SCHEMA OTHER          "
+    ++ codes "whether two schemas over the same names say the same")
     ++ line (codes "desk cover SCHEMA                     what says the same, shortened")
-    ++ line (codes "desk basis SCHEMA SET                 what the set of attributes determines, and the blocks of the others")
+    ++ line (codes "desk basis SCHEMA SET                 "
+    ++ codes "what the set of attributes determines, and the blocks of the others")
     ++ line (codes "desk keys SCHEMA                      all keys")
     ++ line (codes "desk keys SCHEMA PLAN                 all keys of each scheme of the plan")
     ++ line (codes "desk synthesize SCHEMA                a plan in third normal form")
@@ -25,13 +30,17 @@ help_text =
     ++ line (codes "desk exhibit SCHEMA                   rows that obey just what follows from the schema")
     ++ line (codes "desk ddl FORM SCHEMA                  SQL tables in the form")
     ++ line (codes "desk ddl plan SCHEMA PLAN             SQL tables of the plan")
-    ++ line (codes "desk migrate FORM SCHEMA CSV          the rows in CSV as tables in the form, in files t1.csv, t1.sql and so on")
+    ++ line (codes "desk migrate FORM SCHEMA CSV          "
+    ++ codes "the rows in CSV as tables in the form, in files t1.csv, t1.sql and so on")
     ++ line (codes "desk migrate plan SCHEMA PLAN CSV     the same as tables of the plan")
     ++ line (codes "desk sample N                         the tables of N invented persons")
-    ++ line (codes "desk discover CSV                     the functional dependencies that the rows in CSV obey")
+    ++ line (codes "desk discover CSV                     "
+    ++ codes "the functional dependencies that the rows in CSV obey")
     ++ line (codes "desk rejoin SCHEMA CSV..              the join of the tables in files")
-    ++ line (codes "desk sql check SCHEMA TABLE           queries for the rows of TABLE in a database that break each rule")
-    ++ line (codes "desk sql migrate FORM SCHEMA TABLE    statements that make the tables in the form from TABLE")
+    ++ line (codes "desk sql check SCHEMA TABLE           "
+    ++ codes "queries for the rows of TABLE in a database that break each rule")
+    ++ line (codes "desk sql migrate FORM SCHEMA TABLE    "
+    ++ codes "statements that make the tables in the form from TABLE")
     ++ line (codes "desk sql migrate plan SCHEMA PLAN TABLE  the same of the plan")
     ++ line (codes "desk draw FORM SCHEMA                 a picture of the tables in the form, for Graphviz")
     ++ line (codes "desk draw plan SCHEMA PLAN            the same of the plan")

@@ -1,4 +1,4 @@
--- Whether a schema implies a goal.
+-- Whether a schema implies a goal: for `implies`.
 use Rattle.std.specs.Prelude.{◌⊎◌, ℕ, List, ◌++◌}
 use Rattle.attr_sets.specs.Places.{Places}
 use Rattle.dep_model.specs.Dependencies.{Dependency}
@@ -22,7 +22,8 @@ use Rattle.desk_texts.specs.Texts.{yes_text, no_text}
 abbrev pub Decided : Schema → Dependency → Allowed
 Decided schema goal answer =
     (ImpliedBy schema goal
-    × ((proof : Deriv) × IsProofOf schema goal (tree_of proof) × IsChainIfFunctional schema goal (tree_of proof)
+    × ((proof : Deriv) × IsProofOf schema goal (tree_of proof)
+    × IsChainIfFunctional schema goal (tree_of proof)
     × Says Yes (yes_text ++ canonical_certificate schema (tree_of proof)) answer))
     ⊎ ((ImpliedBy schema goal → ⊥)
     × ((agreement : Places) × IsBrokenBy (width_of schema) (theory_of schema) goal agreement

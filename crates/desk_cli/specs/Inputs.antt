@@ -1,5 +1,5 @@
 -- How a schema, a goal, a set and a certificate are read, and how their reading ends a command.
-use Rattle.std.specs.Prelude.{◌≡◌, ◌≢◌, ◌⊎◌, ℕ, Bool, true, false, ◌<◌, ◌≤◌, List, length, codes, Some}
+use Rattle.std.specs.Prelude.{◌⊎◌, ℕ, ◌<◌, ◌≤◌, List, length, codes}
 use Rattle.attr_sets.specs.Places.{Places}
 use Rattle.dep_model.specs.Dependencies.{Dependency}
 use Rattle.dep_model.specs.Schemas.{names_of}
@@ -9,16 +9,13 @@ use Rattle.schema_reader.specs.declared.goal.TheConstants.{MOST_GOAL_BYTES}
 use Rattle.schema_reader.specs.declared.set.TheConstants.{MOST_SET_BYTES}
 use Rattle.schema_reader.specs.declared.text.TheConstants.{MOST_TEXT_BYTES}
 use Rattle.schema_grammar.specs.declared.refusal.SchemaRefusal.{SchemaRefusal}
-use Rattle.schema_grammar.specs.declared.refusal.SchemaRefusalKind.{SchemaRefusalKind}
-use Rattle.schema_grammar.specs.declared.refusal.SchemaRefusalKind.TheVariants as kind
 use Rattle.schema_grammar.specs.Complaints.{RefusesGoal}
 use Rattle.schema_grammar.specs.Meanings.{MeansGoal}
 use Rattle.schema_grammar.specs.Schemas.{MeansSchema, RefusesSchema}
 use Rattle.schema_grammar.specs.Sets.{MeansSet, RefusesSet}
 use Rattle.schema_grammar.specs.Texts.{declarations_of}
 use Rattle.proof_text.specs.declared.text.TheConstants.{MOST_PROOF_BYTES}
-use Rattle.proof_grammar.specs.declared.refusal.ProofRefusal.{ProofRefusal}
-use Rattle.proof_grammar.specs.Complaints.{LineComplaint, Complaint, complaint_of}
+use Rattle.proof_grammar.specs.Complaints.{LineComplaint}
 use Rattle.proof_grammar.specs.Spelling.{SpellsWithin}
 use Rattle.proof_grammar.specs.Refusals.{IsRefusedCertificate}
 use Rattle.desk_cli.specs.declared.status.Status.TheVariants.{Refused, CannotRead}
@@ -125,21 +122,3 @@ ProofStops r schema name answer =
 -- a certificate file is read, and then the rest follows
 abbrev pub WithProof : Reading → Schema → List ℕ → (Tree → Allowed) → Allowed
 WithProof r schema name = With (ProofStops r schema name) (IsProofFile r schema name)
-
--- ---- replies
--- a refusal is want of memory
-abbrev pub wants_memory : SchemaRefusalKind → Bool
-wants_memory kind.Memory = true
-wants_memory _ = false
-
--- a command ends with the refusal of a text
-abbrev pub TellsRefusal : List ℕ → List ℕ → SchemaRefusal → Allowed
-TellsRefusal group name refusal answer =
-    (refusal.kind ≢ kind.Memory) × Says Refused (refusal_text group name refusal) answer
-
--- a command ends with the refusal of a certificate
-abbrev pub TellsProof : List (List ℕ) → List ℕ → ProofRefusal → Allowed
-TellsProof names name refusal answer =
-    (c : Complaint) × (complaint_of refusal.kind ≡ Some c)
-    × Says Refused
-    (proof_refusal_text names name (record { line = refusal.line; complaint = c })) answer

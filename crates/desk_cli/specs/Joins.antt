@@ -1,8 +1,8 @@
--- Whether a plan loses nothing.
+-- Whether a plan loses nothing: for `check join`, and for `ddl plan`, `migrate plan` and `sql
+-- migrate plan`.
 use Rattle.std.specs.Prelude.{◌⊎◌, ℕ, List, ◌++◌, length, codes}
 use Rattle.attr_sets.specs.Places.{Places}
-use Rattle.csv.specs.Writing.{row_text, default_writer}
-use Rattle.csv_rows.specs.RowsText.{rows_text}
+use Rattle.csv_text.specs.Rows.{csv_row, rows_text}
 use Rattle.chase_laws.specs.Answers.{IsClosedTableau, IsGaining}
 use Rattle.chase_laws.specs.Rounds.{RoundsExceed}
 use Rattle.dep_model.specs.Projections.{IsLossless}
@@ -23,7 +23,7 @@ lossless_text = line (codes "lossless")
 
 -- the tuple of n times `0`, as a row of CSV
 abbrev pub zeros_text : ℕ → List ℕ
-zeros_text n = row_text default_writer (all_zeros n)
+zeros_text n = csv_row (all_zeros n)
 
 -- a relation, and the tuple that it gains
 abbrev pub lossy_text : List (List ℕ) → Relation → List ℕ

@@ -1,9 +1,9 @@
--- Whether a plan keeps the functional dependencies.
+-- Whether a plan keeps the functional dependencies: for `check keeps`.
 use Rattle.std.specs.Prelude.{◌⊎◌, ℕ, List, ◌∷◌, ◌++◌, codes, slice_get}
 use Rattle.std.specs.List.{flat_map}
 use Rattle.attr_sets.specs.Places.{Places}
 use Rattle.attr_sets.specs.Sets.{places}
-use Rattle.csv_rows.specs.RowsText.{rows_text}
+use Rattle.csv_text.specs.Rows.{rows_text}
 use Rattle.dep_model.specs.Preservation.{KeepsDependencies}
 use Rattle.dep_model.specs.Schemas.{names_of, width_of, theory_of, deps_of, lines_of}
 use Rattle.dep_model.specs.TwoTuples.{two_tuples}

@@ -1,4 +1,4 @@
--- The keys of a schema, and of the schemes of a plan.
+-- The keys of a schema, and of the schemes of a plan: for `keys` and `keys plan`.
 use Rattle.std.specs.Prelude.{◌≡◌, ◌⊎◌, ℕ, ◌≤◌, List, ◌++◌, length, codes, map, All}
 use Rattle.std.specs.List.{flat_map}
 use Rattle.attr_sets.specs.Places.{Places}

@@ -1,4 +1,4 @@
--- Whether rows are legal for a schema.
+-- Whether rows are legal for a schema: for `check rows`, and for `migrate` before it makes tables.
 use Rattle.std.specs.Prelude.{ℕ, List, [], ◌++◌, codes, Option, Some, None, slice_get}
 use Rattle.std.specs.Fmt.{decimal}
 use Rattle.std.specs.List.{flat_map}

@@ -1,4 +1,4 @@
--- Rows, as tables for the targets.
+-- Rows, as tables for the destinations: for `migrate` and `sample`.
 use Rattle.std.specs.Prelude.{◌≡◌, ℕ, List, ◌++◌, codes, length}
 use Rattle.std.specs.Fmt.{decimal}
 use Rattle.std.specs.List.{flat_map}

@@ -1,4 +1,4 @@
--- Whether the schemes of a plan are in a normal form.
+-- Whether the schemes of a plan are in a normal form: for `check form`.
 use Rattle.std.specs.Prelude.{◌⊎◌, ℕ, List, ◌++◌, codes, All}
 use Rattle.attr_sets.specs.Places.{Places}
 use Rattle.dep_model.specs.Dependencies.{Dependency, fd, mvd}

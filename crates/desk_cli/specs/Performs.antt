@@ -1,4 +1,4 @@
--- Which answers a command allows.
+-- Which answers a command allows, and the words that form it: for `desk`, by `Desk`.
 use Rattle.std.specs.Prelude.{ℕ, List, MatchOption}
 use Rattle.dep_model.specs.declared.schema.Schema.{Schema}
 use Rattle.desk_cli.specs.declared.status.Status.TheVariants.{Yes, Refused}

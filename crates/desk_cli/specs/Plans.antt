@@ -1,5 +1,5 @@
 -- How a plan is read, and how its reading ends a command.
-use Rattle.std.specs.Prelude.{◌≡◌, ◌≢◌, ◌⊎◌, ℕ, Bool, true, false, List, [], ◌∷◌, ◌++◌, codes, slice_index_or, All}
+use Rattle.std.specs.Prelude.{◌≡◌, ◌⊎◌, ℕ, List, [], ◌∷◌, ◌++◌, codes, slice_index_or, All}
 use Rattle.std.specs.Fmt.{decimal}
 use Rattle.attr_sets.specs.Places.{Places}
 use Rattle.dep_model.specs.Schemas.{names_of}
@@ -17,15 +17,15 @@ use Rattle.desk_cli.specs.Readings.{Reading, IsContent}
 use Rattle.desk_texts.specs.Texts.{line, kind_text}
 
 -- ---- texts
--- the place of a refusal and its reason in words, over the names of the attributes; want of memory has none
+-- the place of a refusal and its reason in words, over the names of the attributes
 abbrev pub plan_reason_text : List (List ℕ) → PlanRefusal → List ℕ
 plan_reason_text names (plan.Text refusal) =
-    decimal refusal.span.line ++ codes ":" ++ decimal refusal.span.column ++ codes " " ++ kind_text refusal.kind
+    decimal refusal.span.line ++ codes ":" ++ decimal refusal.span.column ++ codes " "
+    ++ kind_text refusal.kind
 plan_reason_text names (plan.EmptyScheme at) = decimal at ++ codes " empty scheme"
 plan_reason_text names (plan.NotCovered attribute) =
     codes " " ++ slice_index_or names attribute [] ++ codes " is in no scheme"
 plan_reason_text names (plan.TooManySchemes at) = decimal at ++ codes " too many schemes"
-plan_reason_text names plan.Memory = []
 
 -- a refusal of a plan
 abbrev pub plan_refusal_text : List (List ℕ) → List ℕ → PlanRefusal → List ℕ
@@ -35,7 +35,8 @@ plan_refusal_text names file refusal =
 
 -- ---- plans
 -- the text of a file is refused so
-pub record IsRefusedPlan (r : Reading) (schema : Schema) (name : List ℕ) (refusal : PlanRefusal) : Type 0 where
+pub record IsRefusedPlan (r : Reading) (schema : Schema) (name : List ℕ) (refusal : PlanRefusal)
+    : Type 0 where
   pub bytes : List ℕ
   pub content : IsContent r name MOST_PLAN_BYTES bytes
   pub refused : RefusesPlan (names_of schema) bytes refusal
@@ -63,14 +64,3 @@ pub record IsFirstFailing (Passes : Places → Type 0) (plan : List Places) (sch
 -- a plan file is read, and then the rest follows
 abbrev pub WithPlan : Reading → Schema → List ℕ → (List Places → Allowed) → Allowed
 WithPlan r schema name = With (PlanStops r schema name) (IsPlanFile r schema name)
-
--- ---- replies
--- a refusal is want of memory
-abbrev pub is_want : PlanRefusal → Bool
-is_want plan.Memory = true
-is_want _ = false
-
--- a command ends with the refusal of a plan
-abbrev pub TellsPlan : List (List ℕ) → List ℕ → PlanRefusal → Allowed
-TellsPlan names name refusal answer =
-    (refusal ≢ plan.Memory) × Says Refused (plan_refusal_text names name refusal) answer

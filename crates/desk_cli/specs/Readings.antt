@@ -1,4 +1,4 @@
--- What is known of the files while a command reads them.
+-- What is known of the files while a command reads them: for every command that reads one.
 use Rattle.std.specs.Prelude.{⊤, ◌≡◌, ◌⊎◌, ℕ, ◌+◌, ◌≤◌, List, length, Option, Some}
 use Rattle.desk_outside.specs.Causes.{Rose}
 use Rattle.desk_outside.specs.Files.{Files, IsMissing, IsHeld, IsLonger}

@@ -1,11 +1,11 @@
--- The natural join of the tables of files.
+-- The natural join of the tables of files: for `rejoin`.
 use Rattle.std.specs.Prelude.{◌≡◌, ◌⊎◌, ℕ, List, ◌++◌, codes, take, slice_get, Some, Ok, Err}
 use Rattle.std.specs.Fmt.{decimal}
 use Rattle.std.specs.List.{AllZip}
 use Rattle.csv_rows.specs.declared.part.Part.{Part}
 use Rattle.csv_rows.specs.declared.refusal.RowRefusal.{RowRefusal}
 use Rattle.csv_rows.specs.Reading.{PartOf, HasScheme}
-use Rattle.csv_rows.specs.RowsText.{rows_text}
+use Rattle.csv_text.specs.Rows.{rows_text}
 use Rattle.dep_model.specs.Projections.{Covers}
 use Rattle.dep_model.specs.Schemas.{names_of, width_of, theory_of}
 use Rattle.dep_model.specs.Tuples.{Relation}
@@ -29,7 +29,8 @@ not_covered_text names attribute =
     line (codes "refused: join 1: " ++ name_at names attribute ++ codes " is in no file")
 
 abbrev pub too_many_joined_text : ℕ → List ℕ
-too_many_joined_text after = line (codes "refused: join 2: more than 200000 rows after file " ++ decimal after)
+too_many_joined_text after =
+    line (codes "refused: join 2: more than 200000 rows after file " ++ decimal after)
 
 -- ---- files
 -- the text of a file of some columns is refused so
@@ -42,7 +43,7 @@ pub record IsRefusedPart (r : Reading) (schema : Schema) (name : List ℕ) (why 
 pub record IsPartFile (r : Reading) (schema : Schema) (name : List ℕ) (part : Part) : Type 0 where
   pub bytes : List ℕ
   pub content : IsContent r name MOST_CSV_BYTES bytes
-  pub means : PartOf schema bytes (Ok part.rows.items)
+  pub means : PartOf schema bytes (Ok part.rows)
   pub columns : HasScheme schema bytes part.scheme
 
 -- how the reading of such a file ends a command

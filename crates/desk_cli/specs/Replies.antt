@@ -1,4 +1,4 @@
--- Replies of the parts of a command.
+-- Replies of the parts of a command: for the functions below `desk`. `Desk` does not cite it.
 use Rattle.std.specs.Prelude.{◌≡◌, option_map, Result, Ok, Err}
 use Rattle.named_tables.specs.Tables.{table_values}
 use Rattle.desk_cli.specs.declared.reply.Reply.{Reply}

@@ -1,5 +1,5 @@
 -- How the rows of a CSV file are read, and how their reading ends a command.
-use Rattle.std.specs.Prelude.{◌≢◌, ◌⊎◌, ℕ, Bool, true, false, List, [], ◌++◌, codes, slice_index_or, Ok, Err}
+use Rattle.std.specs.Prelude.{◌⊎◌, ℕ, List, [], ◌++◌, codes, slice_index_or, Ok, Err}
 use Rattle.std.specs.Fmt.{decimal}
 use Rattle.dep_model.specs.Schemas.{names_of}
 use Rattle.dep_model.specs.Tuples.{Relation}
@@ -15,7 +15,7 @@ use Rattle.desk_cli.specs.Readings.{Reading, IsContent}
 use Rattle.desk_texts.specs.Texts.{line}
 
 -- ---- texts
--- the number of a refusal; want of memory has none
+-- the number of a refusal
 abbrev pub row_refusal_number : RowRefusal → ℕ
 row_refusal_number refusal.NoHeader = 1
 row_refusal_number (refusal.UnknownColumn column) = 2
@@ -24,7 +24,6 @@ row_refusal_number (refusal.MissingColumn attribute) = 4
 row_refusal_number (refusal.UnevenRow row) = 5
 row_refusal_number refusal.TooManyRows = 6
 row_refusal_number (refusal.NotInteger row attribute) = 7
-row_refusal_number refusal.Memory = 0
 
 -- the declared name of an attribute
 abbrev pub name_at : List (List ℕ) → ℕ → List ℕ
@@ -40,7 +39,6 @@ row_reason_text names (refusal.UnevenRow row) = codes "row " ++ decimal row ++ c
 row_reason_text names refusal.TooManyRows = codes "too many rows"
 row_reason_text names (refusal.NotInteger row attribute) =
     codes "row " ++ decimal row ++ codes ": " ++ name_at names attribute ++ codes " is no integer"
-row_reason_text names refusal.Memory = []
 
 -- a refusal of a file of rows
 abbrev pub row_refusal_text : List (List ℕ) → List ℕ → RowRefusal → List ℕ
@@ -71,13 +69,3 @@ RowStops r schema name answer =
 -- a file of rows is read, and then the rest follows
 abbrev pub WithRows : Reading → Schema → List ℕ → (Relation → Allowed) → Allowed
 WithRows r schema name = With (RowStops r schema name) (IsRowsFile r schema name)
-
--- ---- replies
--- a refusal is want of memory
-abbrev pub rows_want_memory : RowRefusal → Bool
-rows_want_memory refusal.Memory = true
-rows_want_memory _ = false
-
--- a command ends with the refusal of rows
-abbrev pub TellsRows : List (List ℕ) → List ℕ → RowRefusal → Allowed
-TellsRows names name why answer = (why ≢ refusal.Memory) × Says Refused (row_refusal_text names name why) answer

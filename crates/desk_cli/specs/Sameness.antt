@@ -1,4 +1,4 @@
--- Whether two schemas say the same of the same attributes.
+-- Whether two schemas say the same of the same attributes: for `check same`.
 use Rattle.std.specs.Prelude.{◌⊎◌, ℕ, List, ◌++◌, codes, slice_get}
 use Rattle.std.specs.List.{flat_map}
 use Rattle.attr_sets.specs.Places.{IsLeastFrom}

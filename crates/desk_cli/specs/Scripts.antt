@@ -1,4 +1,4 @@
--- SQL scripts over a table of the user's.
+-- SQL scripts over a table of the user's: for `sql check` and `sql migrate`.
 use Rattle.std.specs.Prelude.{◌≡◌, ◌↔◌, ℕ, IsTrue, List, codes}
 use Rattle.attr_sets.specs.Places.{Places}
 use Rattle.attr_sets.specs.declared.set.AttrSet.{AttrSet}

@@ -1,4 +1,5 @@
--- A decomposition in third normal form.
+-- A decomposition in third normal form: for `synthesize`, and for every command that takes that
+-- form.
 use Rattle.std.specs.Prelude.{List, All}
 use Rattle.attr_sets.specs.declared.set.AttrSet.{AttrSet}
 use Rattle.dep_model.specs.Forms.{IsThird}

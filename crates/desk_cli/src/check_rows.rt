@@ -9,10 +9,11 @@ ghost use Rattle.desk_cli.specs.Replies.{answer_of, RepliesAs, StopsAs};
 use crate::Status;
 use crate::reply::{Reply, Stop};
 use crate::rows::open_rows;
-use dep_model::{Row, Schema, WantMemory};
+use dep_model::{Schema, WantMemory};
 use desk_outside::{Shelf, Word};
 use desk_texts::{line_of, put, put_number};
 use legality::{Offence, offences};
+use row_store::Rows;
 use schema_printer::add_dep;
 use std::alloc::Global;
 
@@ -40,7 +41,7 @@ pub fn check_rows<F: Shelf>(
 }
 
 /// Whether rows are legal.
-pub fn test_rows(alloc: Global, schema: &Schema, rows: &[Row]) -> Result<(), Stop>
+pub fn test_rows(alloc: Global, schema: &Schema, rows: &Rows) -> Result<(), Stop>
     requires over { IsOver (width_of schema.now) rows.now }
     requires few { length rows.now < 2 ^ 32 }
     ensures ok { IfOk result (λ _. LegalFor schema.now rows.now) }

@@ -12,7 +12,7 @@ ghost use Rattle.desk_cli.specs.Synthesis.{IsThirdFormPlan};
 use crate::Status;
 use crate::keys::too_wide;
 use crate::reply::{Reply, Stop};
-use dep_model::{Schema, WantMemory};
+use dep_model::{Failure, Schema, WantMemory};
 use desk_texts::{line_of, put};
 use form_tests::Form;
 use plans::{Plan, print_plan};
@@ -54,9 +54,11 @@ fn split_plan(alloc: Global, schema: &Schema, form: Form) -> Result<Plan, Stop>
 {
     match split(alloc, schema, form, MOST_SPLIT_SCHEMES) {
         Ok(plan) => Ok(plan),
-        Err(SplitRefusal::TooWide { scheme }) => Err(too_wide(alloc, schema, scheme)),
-        Err(SplitRefusal::TooManySchemes) => Err(too_many_schemes(alloc)),
-        Err(SplitRefusal::Memory) => Err(Stop::Memory),
+        Err(Failure::Refused(refusal)) => match refusal {
+            SplitRefusal::TooWide { scheme } => Err(too_wide(alloc, schema, scheme)),
+            SplitRefusal::TooManySchemes => Err(too_many_schemes(alloc)),
+        },
+        Err(Failure::OutOfMemory) => Err(Stop::Memory),
     }
 }
 

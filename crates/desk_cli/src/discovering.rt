@@ -6,7 +6,7 @@ ghost use Rattle.fd_discovery.specs.Headers.{IsColumnHeader};
 ghost use Rattle.fd_discovery.specs.Headings.{names_under, rows_under};
 ghost use Rattle.fd_discovery.specs.declared.headed.TheConstants.{MOST_HEADED_ROWS};
 ghost use Rattle.desk_cli.specs.Answers.{Says};
-ghost use Rattle.desk_cli.specs.Discoveries.{Discovers, FindsRules, HeadedStops, IsHeadedFile, TellsHeaded, found_text, headed_reason_text, headed_refusal_number, headed_refusal_text, headed_wants_memory};
+ghost use Rattle.desk_cli.specs.Discoveries.{Discovers, FindsRules, HeadedStops, IsHeadedFile, found_text, headed_reason_text, headed_refusal_number, headed_refusal_text};
 ghost use Rattle.desk_cli.specs.Readings.{Reading, files_in, Shows};
 ghost use Rattle.desk_cli.specs.Replies.{answer_of, RepliesAs, StopsAs};
 
@@ -15,7 +15,7 @@ use crate::read::open_file;
 use crate::reply::{Reply, Stop};
 use crate::row_refusals::{put_before_number, put_numbered};
 use crate::rows::MOST_CSV_BYTES;
-use dep_model::{Dep, Name, Schema, WantMemory};
+use dep_model::{Dep, Failure, Name, Schema, WantMemory};
 use desk_outside::{Shelf, Word};
 use desk_texts::{put, put_number};
 use fd_discovery::{DiscoverRefusal, Headed, discover, read_headed};
@@ -54,7 +54,8 @@ fn open_headed<F: Shelf>(alloc: Global, shelf: &mut F, name: &Word) -> Result<He
     };
     match read_headed(alloc, &bytes) {
         Ok(headed) => Ok(headed),
-        Err(refusal) => Err(headed_refused(alloc, name.bytes(), refusal)),
+        Err(Failure::Refused(refusal)) => Err(headed_refused(alloc, name.bytes(), refusal)),
+        Err(Failure::OutOfMemory) => Err(Stop::Memory),
     }
 }
 
@@ -82,20 +83,11 @@ fn rule_lines(alloc: Global, names: Vec<Name>, deps: &[Dep]) -> Result<Vec<u8>, 
     print_deps(alloc, &schema, deps)
 }
 
-// A command that ends with the refusal of such a file, or for want of memory.
+// A command that ends with the refusal of such a file.
 fn headed_refused(alloc: Global, name: &[u8], refusal: DiscoverRefusal) -> Stop
-    ensures refused { StopsAs (TellsHeaded name.now refusal) result }
+    ensures says { StopsAs (Says Status.Refused (headed_refusal_text name.now refusal)) result }
 {
-    if wants_memory(refusal) {
-        return Stop::Memory;
-    }
     Stop::says(Status::Refused, headed_refusal_line(alloc, name, refusal))
-}
-
-fn wants_memory(refusal: DiscoverRefusal) -> bool
-    ensures is { result ≡ headed_wants_memory refusal }
-{
-    matches!(refusal, DiscoverRefusal::Memory)
 }
 
 // The line that tells a refusal.
@@ -128,7 +120,6 @@ fn number_of(refusal: DiscoverRefusal) -> u32
         DiscoverRefusal::DoubleColumn { .. } => 4,
         DiscoverRefusal::UnevenRow { .. } => 5,
         DiscoverRefusal::TooManyRows => 6,
-        DiscoverRefusal::Memory => 0,
     }
 }
 
@@ -149,6 +140,5 @@ fn put_reason(alloc: Global, text: &mut Vec<u8>, refusal: DiscoverRefusal) -> Re
             put_numbered(alloc, text, b"row ", row, b" has the wrong length")
         }
         DiscoverRefusal::TooManyRows => put(text, b"too many rows"),
-        DiscoverRefusal::Memory => Ok(()),
     }
 }

@@ -1,7 +1,7 @@
 ghost use Rattle.std.specs.Prelude.{◌≡◌, ◌<◌, length, slice_get, IfOk};
 ghost use Rattle.dep_model.specs.Schemas.{deps_of, names_of, universe_of, width_of};
 ghost use Rattle.dep_model.specs.Tuples.{IsOver};
-ghost use Rattle.csv_rows.specs.RowsText.{rows_text};
+ghost use Rattle.csv_text.specs.Rows.{rows_text};
 ghost use Rattle.desk_cli.specs.Answers.{Says};
 ghost use Rattle.desk_cli.specs.Exhibits.{Exhibits, multivalued_text};
 ghost use Rattle.desk_cli.specs.Replies.{answer_of, RepliesAs, StopsAs};
@@ -13,8 +13,9 @@ use crate::reply::{Reply, Stop};
 use armstrong_rel::{ExhibitRefusal, exhibit};
 use attr_sets::AttrSet;
 use csv_rows::print_rows;
-use dep_model::{Row, Schema, WantMemory};
+use dep_model::{Failure, Row, Schema, WantMemory};
 use desk_texts::put;
+use row_store::Rows;
 use std::alloc::Global;
 
 /// A relation that obeys just the functional dependencies that follow from a schema.
@@ -23,9 +24,11 @@ pub fn exhibited(alloc: Global, schema: &Schema) -> Result<Reply, Stop>
 {
     match exhibit(alloc, schema) {
         Ok(rows) => Ok(shown(alloc, schema, &rows)?),
-        Err(ExhibitRefusal::NotFunctional { dep }) => Err(multivalued(alloc, schema, dep)),
-        Err(ExhibitRefusal::TooWide) => Err(too_wide(alloc, schema, AttrSet::full(schema.width()))),
-        Err(ExhibitRefusal::Memory) => Err(Stop::Memory),
+        Err(Failure::Refused(refusal)) => match refusal {
+            ExhibitRefusal::NotFunctional { dep } => Err(multivalued(alloc, schema, dep)),
+            ExhibitRefusal::TooWide => Err(too_wide(alloc, schema, AttrSet::full(schema.width()))),
+        },
+        Err(Failure::OutOfMemory) => Err(Stop::Memory),
     }
 }
 
@@ -35,7 +38,10 @@ fn shown(alloc: Global, schema: &Schema, rows: &[Row]) -> Result<Reply, WantMemo
     ensures says { IfOk result
         (λ reply. Says Status.Yes (rows_text (names_of schema.now) rows.now) (answer_of reply)) }
 {
-    Ok(Reply::says(Status::Yes, print_rows(alloc, schema, rows)?))
+    Ok(Reply::says(
+        Status::Yes,
+        print_rows(alloc, schema, &Rows::of(alloc, rows)?)?,
+    ))
 }
 
 // A multivalued dependency is given.

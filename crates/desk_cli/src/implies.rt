@@ -23,6 +23,7 @@ use derivation::{Deriv, MOST_LEVELS, MOST_NODES};
 use desk_outside::Word;
 use desk_texts::{line_of, put};
 use proof_text::print_proof;
+use row_store::Rows;
 use std::alloc::Global;
 
 /// Whether a schema implies a goal: `yes` with a certificate, or `no` with two tuples that obey the
@@ -70,7 +71,8 @@ fn refuted(alloc: Global, schema: &Schema, agreement: AttrSet) -> Result<Reply, 
         (no_text (names_of schema.now) (two_tuples (width_of schema.now) (places agreement)))
         (answer_of reply)) }
 {
-    let rows = witness(alloc, schema, agreement)?;
+    let pair = witness(alloc, schema, agreement)?;
+    let rows = Rows::of(alloc, &pair)?;
     let mut text = line_of(alloc, b"no", b"", b"")?;
     put(&mut text, &print_rows(alloc, schema, &rows)?)?;
     Ok(Reply::says(Status::No, text))

@@ -1,6 +1,5 @@
 ghost use Rattle.std.specs.Prelude.{◌≡◌, ◌≤◌, length, IfOk, IfErr, OnOk};
 ghost use Rattle.csv.specs.Records.{fields_of};
-ghost use Rattle.csv_rows.specs.RowsText.{WritesRow};
 ghost use Rattle.dep_model.specs.Plans.{schemes_of};
 ghost use Rattle.dep_model.specs.Projections.{Covers};
 ghost use Rattle.dep_model.specs.Schemas.{names_of, width_of};
@@ -15,12 +14,14 @@ use crate::Status;
 use crate::plan::open_plan;
 use crate::reply::{Reply, Stop};
 use attr_sets::AttrSet;
-use csv::{ByteRecord, Writer};
+use csv::ByteRecord;
 use csv_rows::print_rows;
+use csv_text::fields_line;
 use decomp_text::MOST_SCHEMES;
-use dep_model::{Row, Schema, WantMemory};
+use dep_model::{Failure, Row, Schema, WantMemory};
 use desk_outside::{Shelf, Word};
 use desk_texts::{line_of, put};
+use row_store::Rows;
 use std::alloc::Global;
 use tableau_chase::{ChaseRefusal, Chased, chase};
 
@@ -60,8 +61,8 @@ pub fn test_loss(alloc: Global, schema: &Schema, schemes: &[AttrSet]) -> Result<
     match chase(alloc, schema, schemes, MOST_TABLEAU_ROWS) {
         Ok(Chased::Lossless) => Ok(()),
         Ok(Chased::Lossy(rows)) => Err(lossy(alloc, schema, &rows)),
-        Err(ChaseRefusal::TooManyRows) => Err(too_many_rows(alloc)),
-        Err(ChaseRefusal::Memory) => Err(Stop::Memory),
+        Err(Failure::Refused(ChaseRefusal::TooManyRows)) => Err(too_many_rows(alloc)),
+        Err(Failure::OutOfMemory) => Err(Stop::Memory),
     }
 }
 
@@ -85,7 +86,10 @@ fn lossy_lines(alloc: Global, schema: &Schema, rows: &[Row]) -> Result<Vec<u8>, 
     ensures text { IfOk result (λ text. text.items ≡ lossy_text (names_of schema.now) rows.now) }
 {
     let mut text = line_of(alloc, b"lossy", b"", b"")?;
-    put(&mut text, &print_rows(alloc, schema, rows)?)?;
+    put(
+        &mut text,
+        &print_rows(alloc, schema, &Rows::of(alloc, rows)?)?,
+    )?;
     put(&mut text, b"gains\n")?;
     put(&mut text, &zeros_row(alloc, schema.width())?)?;
     Ok(text)
@@ -95,14 +99,9 @@ fn lossy_lines(alloc: Global, schema: &Schema, rows: &[Row]) -> Result<Vec<u8>, 
 fn zeros_row(alloc: Global, width: u8) -> Result<Vec<u8>, WantMemory>
     ensures text { IfOk result (λ text. text.items ≡ zeros_text width) }
 {
-    let mut writer = Writer::from_writer(Vec::new(alloc));
     let mut fields = ByteRecord::new(alloc);
     take_zeros(&mut fields, width)?;
-    write_row(&mut writer, &fields)?;
-    match writer.into_inner() {
-        Ok(text) => Ok(text),
-        Err(_) => Err(WantMemory),
-    }
+    fields_line(alloc, &fields)
 }
 
 // The fields become so many times `0`.
@@ -115,17 +114,6 @@ fn take_zeros(fields: &mut ByteRecord, width: u8) -> Result<(), WantMemory>
         fields.push_field(b"0")?;
     }
     Ok(())
-}
-
-// Writes the fields as the next row.
-fn write_row(writer: &mut Writer<Vec<u8>>, fields: &ByteRecord) -> Result<(), WantMemory>
-    ensures row { OnOk result
-        (WritesRow ⟦<Vec<u8> as std::io::Write>⟧.contents writer.old writer.new (fields_of fields.now)) }
-{
-    match writer.write_byte_record(fields) {
-        Ok(()) => Ok(()),
-        Err(_) => Err(WantMemory),
-    }
 }
 
 // The chase comes to too many rows.

@@ -19,6 +19,7 @@ use dep_model::{Schema, WantMemory};
 use desk_outside::{Shelf, Word};
 use desk_texts::{line_of, put};
 use preservation::{Loss, losses};
+use row_store::Rows;
 use std::alloc::Global;
 
 /// Whether the plan of a file keeps the functional dependencies.
@@ -94,7 +95,8 @@ fn shown_lines(alloc: Global, schema: &Schema, loss: Loss) -> Result<Vec<u8>, Wa
     requires within { Within (places loss.agreement) (universe_of schema.now) }
     ensures text { IfOk result (λ text. text.items ≡ shown_text schema.now loss) }
 {
-    let rows = witness(alloc, schema, loss.agreement)?;
+    let pair = witness(alloc, schema, loss.agreement)?;
+    let rows = Rows::of(alloc, &pair)?;
     let mut text = line_of(alloc, b"shown by", b"", b"")?;
     put(&mut text, &print_rows(alloc, schema, &rows)?)?;
     Ok(text)

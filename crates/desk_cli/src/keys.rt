@@ -10,7 +10,7 @@ ghost use Rattle.desk_texts.specs.Texts.{set_line};
 use crate::Status;
 use crate::reply::{Reply, Stop};
 use attr_sets::AttrSet;
-use dep_model::{Schema, WantMemory};
+use dep_model::{Failure, Schema, WantMemory};
 use desk_texts::{line_of, put};
 use key_listing::{KeyRefusal, keys};
 use schema_printer::{add, add_set, print_set};
@@ -22,9 +22,11 @@ pub fn list_keys(alloc: Global, schema: &Schema) -> Result<Reply, Stop>
 {
     match keys(alloc, schema) {
         Ok(keys) => Ok(listed(alloc, schema, &keys)?),
-        Err(KeyRefusal::TooManyKeys { .. }) => Err(too_many_keys(alloc)),
-        Err(KeyRefusal::TooWide) => Err(too_wide(alloc, schema, AttrSet::full(schema.width()))),
-        Err(KeyRefusal::Memory) => Err(Stop::Memory),
+        Err(Failure::Refused(refusal)) => match refusal {
+            KeyRefusal::TooManyKeys { .. } => Err(too_many_keys(alloc)),
+            KeyRefusal::TooWide => Err(too_wide(alloc, schema, AttrSet::full(schema.width()))),
+        },
+        Err(Failure::OutOfMemory) => Err(Stop::Memory),
     }
 }
 
@@ -81,7 +83,8 @@ fn too_many_keys_line(alloc: Global) -> Result<Vec<u8>, WantMemory>
 /// A scheme has more attributes than are looked at.
 pub fn too_wide(alloc: Global, schema: &Schema, scheme: AttrSet) -> Stop
     requires within { Within (places scheme) (universe_of schema.now) }
-    ensures says { StopsAs (Says Status.Refused (too_wide_text (names_of schema.now) (places scheme))) result }
+    ensures says { StopsAs (Says Status.Refused
+        (too_wide_text (names_of schema.now) (places scheme))) result }
 {
     Stop::says(Status::Refused, too_wide_line(alloc, schema, scheme))
 }

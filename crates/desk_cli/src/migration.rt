@@ -19,13 +19,14 @@ use crate::plan::open_plan;
 use crate::reply::{Reply, Stop};
 use crate::rows::open_rows;
 use csv_migrate::tables;
-use dep_model::{Name, Row, Schema, WantMemory};
+use dep_model::{Name, Schema, WantMemory};
 use desk_outside::{Shelf, Word};
 use desk_texts::{line_of, put};
 use form_tests::Form;
 use itoa::Buffer;
 use named_tables::Table;
 use plans::Plan;
+use row_store::Rows;
 use std::alloc::Global;
 use table_names::MOST_TABLES;
 
@@ -82,12 +83,7 @@ pub fn migrate_by_plan<F: Shelf>(
 }
 
 /// Rows as tables of a plan that loses nothing, if they are legal.
-pub fn migrate_rows(
-    alloc: Global,
-    schema: &Schema,
-    plan: &Plan,
-    rows: &[Row],
-) -> Result<Reply, Stop>
+pub fn migrate_rows(alloc: Global, schema: &Schema, plan: &Plan, rows: &Rows) -> Result<Reply, Stop>
     requires over { IsOver (width_of schema.now) rows.now }
     requires few { length rows.now < 2 ^ 32 }
     requires universe { IsPlanOver schema.now plan.now }
@@ -102,7 +98,7 @@ pub fn migrate_rows(
 }
 
 // Legal rows as the tables of a plan.
-fn given(alloc: Global, schema: &Schema, plan: &Plan, rows: &[Row]) -> Result<Reply, WantMemory>
+fn given(alloc: Global, schema: &Schema, plan: &Plan, rows: &Rows) -> Result<Reply, WantMemory>
     requires over { IsOver (width_of schema.now) rows.now }
     requires few { length rows.now < 2 ^ 32 }
     requires universe { IsPlanOver schema.now plan.now }
@@ -121,7 +117,7 @@ fn tables_of(
     alloc: Global,
     schema: &Schema,
     plan: &Plan,
-    rows: &[Row],
+    rows: &Rows,
 ) -> Result<Vec<Table>, WantMemory>
     requires over { IsOver (width_of schema.now) rows.now }
     requires few { length rows.now < 2 ^ 32 }
@@ -138,7 +134,7 @@ fn tables_of(
 }
 
 // How many rows were read, and the tables that they became.
-fn migrated_lines(alloc: Global, rows: &[Row], tables: &[Table]) -> Result<Vec<u8>, WantMemory>
+fn migrated_lines(alloc: Global, rows: &Rows, tables: &[Table]) -> Result<Vec<u8>, WantMemory>
     ensures text { IfOk result (λ text. text.items ≡ migrated_text rows.now (table_values tables.now)) }
 {
     let mut text = read_line(alloc, rows.len())?;
@@ -173,11 +169,11 @@ fn put_tables(text: &mut Vec<u8>, tables: &[Table]) -> Result<(), WantMemory>
 fn put_table(text: &mut Vec<u8>, table: &Table) -> Result<(), WantMemory>
     ensures more { OnOk result (text.new.items ≡ text.old.items ++ table_line (table_value table.now)) }
 {
-    put(text, table.name.bytes())?;
+    put(text, table.held.name.bytes())?;
     put(text, b" ")?;
-    put(text, Buffer::new().format(table.rows.len()).as_bytes())?;
+    put(text, Buffer::new().format(table.held.rows.len()).as_bytes())?;
     put(text, b" rows:")?;
-    put_names(text, &table.columns)?;
+    put_names(text, &table.held.columns)?;
     put(text, b"\n")
 }
 

@@ -143,7 +143,8 @@ fn breach_line(
     breach: Breach,
 ) -> Result<Vec<u8>, WantMemory>
     ensures text { IfOk result (λ text. text.items ≡ line (codes "violated by "
-        ++ dependency_text (names_of schema.now) (violation_of form (places breach.lhs) (places breach.rhs)))) }
+        ++ dependency_text (names_of schema.now)
+        (violation_of form (places breach.lhs) (places breach.rhs)))) }
 {
     let mut text = Vec::new(alloc);
     put(&mut text, b"violated by ")?;

@@ -5,7 +5,8 @@ ghost use Rattle.dep_model.specs.Schemas.{names_of, width_of};
 ghost use Rattle.plans.specs.Plans.{plan_of, IsPlanOver};
 ghost use Rattle.plan_grammar.specs.declared.refusal.TheConstants.{MOST_SCHEMES};
 ghost use Rattle.plan_grammar.specs.declared.refusal.PlanRefusal.TheVariants as refusals;
-ghost use Rattle.desk_cli.specs.Plans.{PlanStops, IsPlanFile, TellsPlan, is_want, plan_reason_text, plan_refusal_text};
+ghost use Rattle.desk_cli.specs.Answers.{Says};
+ghost use Rattle.desk_cli.specs.Plans.{PlanStops, IsPlanFile, plan_reason_text, plan_refusal_text};
 ghost use Rattle.desk_cli.specs.Readings.{Reading, files_in, Shows};
 ghost use Rattle.desk_cli.specs.Replies.{StopsAs};
 
@@ -14,7 +15,7 @@ use crate::read::open_file;
 use crate::reply::Stop;
 use crate::row_refusals::name_of;
 use decomp_text::{MOST_PLAN_BYTES, PlanRefusal, read_plan};
-use dep_model::{Schema, WantMemory};
+use dep_model::{Failure, Schema, WantMemory};
 use desk_outside::{Shelf, Word};
 use desk_texts::{put, put_number, reason_of};
 use plans::Plan;
@@ -44,27 +45,20 @@ pub fn open_plan<F: Shelf>(
     };
     match read_plan(alloc, schema, &bytes) {
         Ok(plan) => Ok(plan),
-        Err(refusal) => Err(plan_refused(alloc, schema, name.bytes(), refusal)),
+        Err(Failure::Refused(refusal)) => Err(plan_refused(alloc, schema, name.bytes(), refusal)),
+        Err(Failure::OutOfMemory) => Err(Stop::Memory),
     }
 }
 
-// A command that ends with the refusal of a plan, or for want of memory.
+// A command that ends with the refusal of a plan.
 fn plan_refused(alloc: Global, schema: &Schema, name: &[u8], refusal: PlanRefusal) -> Stop
-    ensures refused { StopsAs (TellsPlan (names_of schema.now) name.now refusal) result }
+    ensures says { StopsAs (Says Status.Refused
+        (plan_refusal_text (names_of schema.now) name.now refusal)) result }
 {
-    if is_want(refusal) {
-        return Stop::Memory;
-    }
     Stop::says(
         Status::Refused,
         plan_refusal_line(alloc, schema, name, refusal),
     )
-}
-
-fn is_want(refusal: PlanRefusal) -> bool
-    ensures is { result ≡ is_want refusal }
-{
-    matches!(refusal, PlanRefusal::Memory)
 }
 
 // The line that tells a refusal of a plan.
@@ -74,7 +68,8 @@ fn plan_refusal_line(
     name: &[u8],
     refusal: PlanRefusal,
 ) -> Result<Vec<u8>, WantMemory>
-    ensures text { IfOk result (λ text. text.items ≡ plan_refusal_text (names_of schema.now) name.now refusal) }
+    ensures text { IfOk result (λ text.
+        text.items ≡ plan_refusal_text (names_of schema.now) name.now refusal) }
 {
     let mut text = Vec::new(alloc);
     put(&mut text, b"refused: plan ")?;
@@ -96,7 +91,6 @@ fn plan_reason(alloc: Global, schema: &Schema, refusal: PlanRefusal) -> Result<V
         PlanRefusal::EmptyScheme { line } => line_reason(alloc, line, b" empty scheme"),
         PlanRefusal::NotCovered { attribute } => uncovered_reason(alloc, schema, attribute),
         PlanRefusal::TooManySchemes { line } => line_reason(alloc, line, b" too many schemes"),
-        PlanRefusal::Memory => Ok(Vec::new(alloc)),
     }
 }
 

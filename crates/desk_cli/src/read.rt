@@ -1,22 +1,23 @@
-ghost use Rattle.std.specs.Prelude.{◌≡◌, ◌^◌, ◌<◌, ◌≤◌, length, is_none, IfOk, IfErr};
+ghost use Rattle.std.specs.Prelude.{◌≡◌, ◌^◌, ◌<◌, ◌≤◌, length, IfOk, IfErr};
 ghost use Rattle.dep_model.specs.Schemas.{names_of, universe_of};
 ghost use Rattle.dep_model.specs.Deps.{dependency_of, IsDepWithin};
 ghost use Rattle.derivation.specs.Conclusions.{Proves};
 ghost use Rattle.derivation.specs.Derivs.{tree_of};
-ghost use Rattle.proof_grammar.specs.Complaints.{complaint_of, IsRefusalWithin};
+ghost use Rattle.proof_grammar.specs.Complaints.{line_complaint_of, IsRefusalWithin};
 ghost use Rattle.desk_cli.specs.Answers.{Says};
-ghost use Rattle.desk_texts.specs.Texts.{cannot_read_text, too_long_text};
-ghost use Rattle.desk_cli.specs.Inputs.{FileStops, SchemaStops, IsSchemaFile, ProofStops, IsProofFile, wants_memory, TellsRefusal, TellsProof};
+ghost use Rattle.desk_texts.specs.ProofTexts.{proof_refusal_text};
+ghost use Rattle.desk_texts.specs.Texts.{cannot_read_text, refusal_text, too_long_text};
+ghost use Rattle.desk_cli.specs.Inputs.{FileStops, SchemaStops, IsSchemaFile, ProofStops, IsProofFile};
 ghost use Rattle.desk_cli.specs.Readings.{Reading, files_in, Shows, IsContent};
 ghost use Rattle.desk_cli.specs.Replies.{StopsAs};
 
 use crate::Status;
 use crate::reply::Stop;
-use dep_model::{Schema, WantMemory};
+use dep_model::{Failure, Schema, WantMemory};
 use desk_outside::{LoadRefusal, Shelf, Word, load};
 use desk_texts::{line_of, proof_refusal_line, refusal_line};
-use proof_text::{Concluded, MOST_PROOF_BYTES, ProofRefusal, ProofRefusalKind, read_concluded};
-use schema_reader::{MOST_TEXT_BYTES, SchemaRefusal, SchemaRefusalKind, read_schema};
+use proof_text::{Concluded, MOST_PROOF_BYTES, ProofRefusal, read_concluded};
+use schema_reader::{MOST_TEXT_BYTES, SchemaRefusal, read_schema};
 use std::alloc::Global;
 
 /// The bytes of a file, of which there are at most so many.
@@ -83,24 +84,16 @@ pub fn open_schema<F: Shelf>(alloc: Global, shelf: &mut F, name: &Word) -> Resul
     };
     match read_schema(alloc, &bytes) {
         Ok(schema) => Ok(schema),
-        Err(refusal) => Err(refused(alloc, b"schema", name.bytes(), refusal)),
+        Err(Failure::Refused(refusal)) => Err(refused(alloc, b"schema", name.bytes(), refusal)),
+        Err(Failure::OutOfMemory) => Err(Stop::Memory),
     }
 }
 
-/// A command that ends with the refusal of a text, or for want of memory.
+/// A command that ends with the refusal of a text.
 pub fn refused(alloc: Global, group: &[u8], name: &[u8], refusal: SchemaRefusal) -> Stop
-    ensures refused { StopsAs (TellsRefusal group.now name.now refusal) result }
+    ensures says { StopsAs (Says Status.Refused (refusal_text group.now name.now refusal)) result }
 {
-    if wants_memory(refusal.kind) {
-        return Stop::Memory;
-    }
     Stop::says(Status::Refused, refusal_line(alloc, group, name, refusal))
-}
-
-fn wants_memory(kind: SchemaRefusalKind) -> bool
-    ensures is { result ≡ wants_memory kind }
-{
-    matches!(kind, SchemaRefusalKind::Memory)
 }
 
 /// The derivation of a certificate file, and the dependency that it concludes.
@@ -126,26 +119,19 @@ pub fn open_proof<F: Shelf>(
     };
     match read_concluded(alloc, schema, &bytes) {
         Ok(read) => Ok(read),
-        Err(refusal) => Err(proof_refused(alloc, schema, name.bytes(), refusal)),
+        Err(Failure::Refused(refusal)) => Err(proof_refused(alloc, schema, name.bytes(), refusal)),
+        Err(Failure::OutOfMemory) => Err(Stop::Memory),
     }
 }
 
-// A command that ends with the refusal of a certificate, or for want of memory.
+// A command that ends with the refusal of a certificate.
 fn proof_refused(alloc: Global, schema: &Schema, name: &[u8], refusal: ProofRefusal) -> Stop
     requires within { IsRefusalWithin (universe_of schema.now) refusal.kind }
-    ensures refused { StopsAs (TellsProof (names_of schema.now) name.now refusal) result }
+    ensures says { StopsAs (Says Status.Refused
+        (proof_refusal_text (names_of schema.now) name.now (line_complaint_of refusal))) result }
 {
-    if is_no_complaint(refusal.kind) {
-        return Stop::Memory;
-    }
     Stop::says(
         Status::Refused,
         proof_refusal_line(alloc, schema, name, refusal),
     )
-}
-
-fn is_no_complaint(kind: ProofRefusalKind) -> bool
-    ensures is { result ≡ is_none (complaint_of kind) }
-{
-    matches!(kind, ProofRefusalKind::Memory)
 }

@@ -15,7 +15,8 @@ pub fn row_refusal_line(
     name: &[u8],
     refusal: RowRefusal,
 ) -> Result<Vec<u8>, WantMemory>
-    ensures text { IfOk result (λ text. text.items ≡ row_refusal_text (names_of schema.now) name.now refusal) }
+    ensures text { IfOk result (λ text.
+        text.items ≡ row_refusal_text (names_of schema.now) name.now refusal) }
 {
     let mut text = Vec::new(alloc);
     put(&mut text, b"refused: rows ")?;
@@ -40,7 +41,6 @@ fn number_of(refusal: RowRefusal) -> u32
         RowRefusal::UnevenRow { .. } => 5,
         RowRefusal::TooManyRows => 6,
         RowRefusal::NotInteger { .. } => 7,
-        RowRefusal::Memory => 0,
     }
 }
 
@@ -72,7 +72,6 @@ fn put_reason(
         RowRefusal::NotInteger { row, attribute } => {
             put_no_integer(alloc, text, row, name_of(schema, attribute))
         }
-        RowRefusal::Memory => Ok(()),
     }
 }
 
@@ -117,7 +116,8 @@ pub fn put_numbered(
     number: u32,
     back: &[u8],
 ) -> Result<(), WantMemory>
-    ensures more { OnOk result (text.new.items ≡ text.old.items ++ (front.now ++ decimal number ++ back.now)) }
+    ensures more { OnOk result (text.new.items
+        ≡ text.old.items ++ (front.now ++ decimal number ++ back.now)) }
 {
     put(text, front)?;
     put_number(alloc, text, number)?;

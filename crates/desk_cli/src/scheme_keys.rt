@@ -12,7 +12,7 @@ use crate::keys::{put_set_line, too_many_keys, too_wide};
 use crate::plan::open_plan;
 use crate::reply::{Reply, Stop};
 use attr_sets::AttrSet;
-use dep_model::{Schema, WantMemory};
+use dep_model::{Failure, Schema, WantMemory};
 use desk_outside::{Shelf, Word};
 use key_listing::{SchemeKeyRefusal, keys_of_scheme};
 use std::alloc::Global;
@@ -61,9 +61,11 @@ fn keys_or_stop(alloc: Global, schema: &Schema, scheme: AttrSet) -> Result<Vec<A
 {
     match keys_of_scheme(alloc, schema, scheme) {
         Ok(keys) => Ok(keys),
-        Err(SchemeKeyRefusal::TooManyKeys { .. }) => Err(too_many_keys(alloc)),
-        Err(SchemeKeyRefusal::TooWide) => Err(too_wide(alloc, schema, scheme)),
-        Err(SchemeKeyRefusal::Memory) => Err(Stop::Memory),
+        Err(Failure::Refused(refusal)) => match refusal {
+            SchemeKeyRefusal::TooManyKeys { .. } => Err(too_many_keys(alloc)),
+            SchemeKeyRefusal::TooWide => Err(too_wide(alloc, schema, scheme)),
+        },
+        Err(Failure::OutOfMemory) => Err(Stop::Memory),
     }
 }
 

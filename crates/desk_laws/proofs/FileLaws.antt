@@ -1,8 +1,7 @@
 -- Where the files of `discover` and `rejoin` have their meaning, these commands answer yes or no.
 use Rattle.std.proofs.Common.{◌≡◌, ◌≤◌, ◌<◌, ℕ, true, zero, suc, Some, None, Result, Ok, Err, List, [], ◌∷◌, length, inl, inr, refl, sym, ap, subst, ◌∙◌, arith}
 use Rattle.std.specs.Prelude.{codes, slice_get}
-use Rattle.attr_sets.proofs.PlacesLemmas.{Same-path}
-use Rattle.attr_sets.specs.Places.{Places, Same}
+use Rattle.attr_sets.specs.Places.{Places}
 use Rattle.attr_sets.specs.Sets.{places}
 use Rattle.csv_rows.specs.Columns.{with_columns, columns_of_header}
 use Rattle.csv_rows.specs.Records.{records_of}
@@ -75,10 +74,10 @@ part_reading s text one other p q =
 
 -- what a file means for one schema, it means for another with the same declarations
 part_means : (files : Files) (s r : Schema) (name : List ℕ) (p : Part) (bytes : List ℕ) → AreSame s r
-    → (is : IsPartFile (told files) s name p) → is.bytes ≡ bytes → PartOf r bytes (Ok p.rows.items)
+    → (is : IsPartFile (told files) s name p) → is.bytes ≡ bytes → PartOf r bytes (Ok p.rows)
 part_means files s r name p bytes same is here =
-    subst (λ (b : List ℕ). PartOf r b (Ok p.rows.items)) here
-    (part_alike s r is.bytes p.rows.items same is.means)
+    subst (λ (b : List ℕ). PartOf r b (Ok p.rows)) here
+    (part_alike s r is.bytes p.rows same is.means)
 
 part_goes : (files : Files) (s r : Schema) (name : List ℕ) (p : Part) (answer : Answer) → AreSame s r
     → IsPartFile (told files) s name p → PartStops (told files) r name answer → ⊥
@@ -86,8 +85,8 @@ part_goes files s r name p answer same is (inl stop) =
     file_goes files name is.bytes MOST_CSV_BYTES answer is.content.0 is.content.1 stop
 part_goes files s r name p answer same is (inr (why, refused, says)) =
     let here = one_content files name is.bytes refused.bytes is.content.0 refused.content.0 in
-    let both : ◌≡◌ {A = Result Relation RowRefusal} (Ok p.rows.items) (Err why) =
-    part_reading r refused.bytes (Ok p.rows.items) (Err why)
+    let both : ◌≡◌ {A = Result Relation RowRefusal} (Ok p.rows) (Err why) =
+    part_reading r refused.bytes (Ok p.rows) (Err why)
     (part_means files s r name p refused.bytes same is here) refused.refused in
     cc
 
@@ -96,14 +95,14 @@ one_scheme : (s r : Schema) (text : List ℕ) (x y : Places) → AreSame s r
     → (header others : List (List ℕ)) (records rest : List (List (List ℕ))) (columns others_columns : List ℕ)
     → records_of text ≡ header ∷ records → records_of text ≡ others ∷ rest
     → columns_of_header (names_of s) header ≡ Ok columns → columns_of_header (names_of r) others ≡ Ok others_columns
-    → Same x (with_columns columns) → Same y (with_columns others_columns) → x ≡ y
+    → x ≡ with_columns columns → y ≡ with_columns others_columns → x ≡ y
 one_scheme s r text x y same header others records rest columns others_columns all also means too one two =
     let heads : header ≡ others = let both = sym all ∙ also in cc in
     let moved : columns_of_header (names_of r) others ≡ Ok columns =
     subst (λ (names : List (List ℕ)). columns_of_header names others ≡ Ok columns) (names_same s r same)
     (subst (λ (h : List (List ℕ)). columns_of_header (names_of s) h ≡ Ok columns) heads means) in
     let columns_same : columns ≡ others_columns = let both = sym moved ∙ too in cc in
-    Same-path x y (λ k. one k ∙ ap (λ (cs : List ℕ). with_columns cs k) columns_same ∙ sym (two k))
+    one ∙ ap with_columns columns_same ∙ sym two
 
 -- tuples over a scheme
 abbrev with_scheme : Places → Relation → Table
@@ -113,17 +112,17 @@ one_table : (files : Files) (s r : Schema) (name : List ℕ) (p q : Part) → Ar
     → IsPartFile (told files) s name p → IsPartFile (told files) r name q → table_of_part p ≡ table_of_part q
 one_table files s r name p q same is also =
     let here = one_content files name is.bytes also.bytes is.content.0 also.content.0 in
-    let both : ◌≡◌ {A = Result Relation RowRefusal} (Ok p.rows.items) (Ok q.rows.items) =
-    part_reading r also.bytes (Ok p.rows.items) (Ok q.rows.items)
+    let both : ◌≡◌ {A = Result Relation RowRefusal} (Ok p.rows) (Ok q.rows) =
+    part_reading r also.bytes (Ok p.rows) (Ok q.rows)
     (part_means files s r name p also.bytes same is here) also.means in
-    let rows : p.rows.items ≡ q.rows.items = cc in
+    let rows : p.rows ≡ q.rows = cc in
     let (header, records, all, columns, means, one) =
     subst (λ (b : List ℕ). HasScheme s b p.scheme) here is.columns in
     let (others, rest, all_also, more, means_also, two) = also.columns in
     let scheme : places p.scheme ≡ places q.scheme =
     one_scheme s r also.bytes (places p.scheme) (places q.scheme) same header others records rest columns more all
     all_also means means_also one two in
-    ap (λ (x : Places). with_scheme x p.rows.items) scheme ∙ ap (λ (r : Relation). with_scheme (places q.scheme) r) rows
+    ap (λ (x : Places). with_scheme x p.rows) scheme ∙ ap (λ (r : Relation). with_scheme (places q.scheme) r) rows
 
 tables_alike : (files : Files) (s r : Schema) (names : List (List ℕ)) (ps qs : List Part) → AreSame s r
     → ArePartFiles (told files) s names ps → ArePartFiles (told files) r names qs → tables_of ps ≡ tables_of qs

@@ -101,15 +101,15 @@ example s r answer same functional narrow (inr (inr (wide, says))) =
     absurd (narrow (subst (λ (d : Declarations). WIDEST_EXHIBITED < length d.names) (sym same) wide.1))
 
 -- ---- small universes
--- over at most 12 attributes splitting meets no limit
-small_split : (n : ℕ) (ds : List Dependency) (form : Form) → 0 < n → n ≤ 12 → (form ≡ Third → ⊥) → HasTooManySchemes n ds form MOST_SPLIT_SCHEMES → ⊥
+-- over at most 13 attributes splitting meets no limit
+small_split : (n : ℕ) (ds : List Dependency) (form : Form) → 0 < n → n ≤ 13 → (form ≡ Third → ⊥) → HasTooManySchemes n ds form MOST_SPLIT_SCHEMES → ⊥
 small_split n ds form some few other many =
     let short : MOST_SPLIT_SCHEMES < 2 ^ (n - 1) = too_many_short n ds form some other MOST_SPLIT_SCHEMES many in
-    let bound : n - 1 ≤ 11 = omega (arith, few) in
-    let grown : 2 ^ (n - 1) ≤ 2 ^ 11 = pow-le-pow_right (omega arith) bound in
+    let bound : n - 1 ≤ 12 = omega (arith, few) in
+    let grown : 2 ^ (n - 1) ≤ 2 ^ 12 = pow-le-pow_right (omega arith) bound in
     omega (arith, short, grown)
 
-small_narrow : (n : ℕ) (ds : List Dependency) (form : Form) (scheme : Places) → 0 < n → n ≤ 12 → (form ≡ Third → ⊥)
+small_narrow : (n : ℕ) (ds : List Dependency) (form : Form) (scheme : Places) → 0 < n → n ≤ 13 → (form ≡ Third → ⊥)
     → IsTooWideAt n ds form MOST_SPLIT_SCHEMES scheme → ⊥
 small_narrow n ds form scheme some few other wide =
     let within : Within scheme (below n) = stuck_within n ds form MOST_SPLIT_SCHEMES scheme some other wide in
@@ -120,7 +120,7 @@ third_is_not : (form : Form) → (form ≡ Bcnf) ⊎ (form ≡ Fourth) → form 
 third_is_not form (inl is) e = cc
 third_is_not form (inr is) e = cc
 
-pub small_is_splittable : (s : Schema) (form : Form) → width_of s ≤ 12 → (form ≡ Bcnf) ⊎ (form ≡ Fourth) → IsSplittable s form
+pub small_is_splittable : (s : Schema) (form : Form) → width_of s ≤ 13 → (form ≡ Bcnf) ⊎ (form ≡ Fourth) → IsSplittable s form
 small_is_splittable s form few which = record {
   narrow = λ scheme wide. small_narrow (width_of s) (theory_of s) form scheme s.valid.some_names few (third_is_not form which) wide;
   few = λ many. small_split (width_of s) (theory_of s) form s.valid.some_names few (third_is_not form which) many;
@@ -272,6 +272,6 @@ sample_asks files word answer is answered = (rw is at answered)
 pub sample_answered : (files : Files) (word : List ℕ) → is_count word ≡ true → IsAnswered files (codes "sample" ∷ word ∷ [])
 sample_answered files word is answer answered =
     let (schema, of_sample, found) = sample_asks files word answer is answered in
-    let few : width_of schema ≤ 12 = omega (arith, ap length of_sample.names) in
+    let few : width_of schema ≤ 13 = omega (arith, ap length of_sample.names) in
     after_form schema schema Fourth (λ plan. MigratesRows schema (schemes_of plan) (sample_relation (number_of word))) answer refl (small_is_splittable schema Fourth few (inr refl))
     (λ plan gives. given schema (schemes_of plan) (sample_relation (number_of word)) answer gives) found

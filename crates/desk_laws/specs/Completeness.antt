@@ -1,4 +1,5 @@
--- Words that are answered, and calls in which nothing fails.
+-- Words that are answered, and calls in which nothing fails: for the laws of desk_laws. `Desk` does
+-- not cite it.
 use Rattle.std.specs.Prelude.{◌≡◌, ◌⊎◌, ℕ, List, Some}
 use Rattle.attr_sets.specs.Places.{Places}
 use Rattle.dep_model.specs.Schemas.{width_of, theory_of}

@@ -14,7 +14,8 @@ ghost use Rattle.desk_laws.specs.Completeness.{IsAnswered, HasPlanInForm};
 
 /// `sql check` is answered where the schema file means a schema and the word names a table.
 pub fn sql_check_is_answered()
-    ensures law { (files : Files) (name table : List ℕ) (schema : Schema) → IsSchemaFile (told files) name schema
+    ensures law { (files : Files) (name table : List ℕ) (schema : Schema)
+        → IsSchemaFile (told files) name schema
         → IsTrue (is_table_name table)
         → IsAnswered files (codes "sql" ∷ codes "check" ∷ name ∷ table ∷ []) }
 {}
@@ -23,13 +24,16 @@ pub fn sql_check_is_answered()
 /// a plan whose chase keeps within its limit.
 pub fn sql_migrate_is_answered()
     ensures third { (files : Files) (name table : List ℕ) (schema : Schema)
-        → IsSchemaFile (told files) name schema → IsTrue (is_table_name table) → HasPlanInForm schema forms.Third
+        → IsSchemaFile (told files) name schema → IsTrue (is_table_name table)
+        → HasPlanInForm schema forms.Third
         → IsAnswered files (codes "sql" ∷ codes "migrate" ∷ codes "3nf" ∷ name ∷ table ∷ []) }
     ensures bcnf { (files : Files) (name table : List ℕ) (schema : Schema)
-        → IsSchemaFile (told files) name schema → IsTrue (is_table_name table) → HasPlanInForm schema forms.Bcnf
+        → IsSchemaFile (told files) name schema → IsTrue (is_table_name table)
+        → HasPlanInForm schema forms.Bcnf
         → IsAnswered files (codes "sql" ∷ codes "migrate" ∷ codes "bcnf" ∷ name ∷ table ∷ []) }
     ensures fourth { (files : Files) (name table : List ℕ) (schema : Schema)
-        → IsSchemaFile (told files) name schema → IsTrue (is_table_name table) → HasPlanInForm schema forms.Fourth
+        → IsSchemaFile (told files) name schema → IsTrue (is_table_name table)
+        → HasPlanInForm schema forms.Fourth
         → IsAnswered files (codes "sql" ∷ codes "migrate" ∷ codes "4nf" ∷ name ∷ table ∷ []) }
     ensures plan { (files : Files) (name file table : List ℕ) (schema : Schema) (plan : List Places)
         → IsSchemaFile (told files) name schema → IsPlanFile (told files) schema file plan

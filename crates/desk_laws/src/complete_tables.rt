@@ -113,10 +113,10 @@ pub fn migrate_is_answered()
         → IsAnswered files (codes "migrate" ∷ codes "plan" ∷ name ∷ plan_file ∷ file ∷ []) }
 {}
 
-/// Splitting a universe of at most 12 attributes meets no limit.
+/// Splitting a universe of at most 13 attributes meets no limit.
 pub fn small_universes_are_split()
-    ensures bcnf { (schema : Schema) → width_of schema ≤ 12 → HasPlanInForm schema forms.Bcnf }
-    ensures fourth { (schema : Schema) → width_of schema ≤ 12 → HasPlanInForm schema forms.Fourth }
+    ensures bcnf { (schema : Schema) → width_of schema ≤ 13 → HasPlanInForm schema forms.Bcnf }
+    ensures fourth { (schema : Schema) → width_of schema ≤ 13 → HasPlanInForm schema forms.Fourth }
 {}
 
 /// `sample` is answered with every number of persons that it takes.
@@ -134,7 +134,8 @@ pub fn discover_is_answered()
 /// `rejoin` is answered where the schema file means a schema, from one to 64 files are tables, each
 /// attribute has a column in one of them, and the joins of the first tables keep within their limit.
 pub fn rejoin_is_answered()
-    ensures law { (files : Files) (name : List ℕ) (names : List (List ℕ)) (schema : Schema) (parts : List Part)
+    ensures law { (files : Files) (name : List ℕ) (names : List (List ℕ)) (schema : Schema)
+        (parts : List Part)
         → IsSchemaFile (told files) name schema → are_few names ≡ true
         → ArePartFiles (told files) schema names parts
         → Covers (width_of schema) (plan_of_tables (tables_of parts))

@@ -1,4 +1,5 @@
--- Each fault that is answered was one: what a call does to its object's count of faults.
+-- Each fault that is answered was one: what a call does to its object's count of faults. For the
+-- traits of desk_outside and for destinations; `Desk` cites `Rose` and `TookPart`.
 use Rattle.std.specs.Prelude.{◌≡◌, ◌⊎◌, ℕ, ◌+◌, ◌-◌, ◌^◌, ◌<◌, ◌≤◌, min, List, length, take, Option, Result, OnOk, OnErr, Ok, Err, Bool, true, false}
 use Rattle.std.specs.Io.KnownBytes.{append_known}
 use Rattle.desk_outside.specs.declared.failure.OutsideFault.{OutsideFault}

@@ -1,4 +1,5 @@
--- The files of a shelf.
+-- Files as names with bytes: for what a command reads (`desk_cli/Readings`), and for the files that
+-- a folder keeps.
 use Rattle.std.specs.Prelude.{◌≡◌, ℕ, ◌<◌, if◌then◌else◌, List, [], ◌∷◌, length, map, Option, Some, None, unwrap_or, IfSome, IsSomeAnd}
 use Rattle.std.specs.Option.{option_map}
 use Rattle.std.specs.Str.{bytes_eq}

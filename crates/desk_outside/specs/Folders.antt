@@ -1,4 +1,5 @@
--- What a folder holds, and what its calls make of it.
+-- What a folder holds, and what its calls make of it: for folders and the destinations over one.
+-- `Desk` does not cite it.
 use Rattle.std.specs.Prelude.{ℕ, List, [], ◌++◌, Option, Some, None, option_map, option_to_list}
 use Rattle.desk_outside.specs.Files.{Files, StoredFile}
 

@@ -1,4 +1,4 @@
--- The objects in memory, as contracts see them.
+-- The objects in memory, as contracts see them: for those that tests use. `Desk` does not cite it.
 use Rattle.std.specs.Prelude.{ℕ, ◌-◌, ◌<◌, ◌≤◌, List, [], length, Option, Some, None, slice_get}
 use Rattle.std.specs.Option.{option_map_or}
 use Rattle.desk_outside.specs.declared.word.HeldFile.{HeldFile}

@@ -1,4 +1,5 @@
--- The faults that are planned for an object in memory.
+-- The faults that are planned for an object in memory: for the objects that tests use. `Desk` does
+-- not cite it.
 use Rattle.std.specs.Prelude.{◌≡◌, ℕ, ◌≤◌, Bool, if◌then◌else◌, List, [], Contains}
 use Rattle.desk_outside.specs.Causes.{count_on}
 

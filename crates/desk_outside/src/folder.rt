@@ -22,7 +22,8 @@ pub trait Folder: Drop {
 
     /// Gives up an open file and opens an empty one of this name.
     fn begin(&mut self, name: &[u8]) -> Result<(), OutsideFault>
-        ensures begun { OnOk result (contents self.new ≡ option_map (with_begun name.now) (contents self.old)) }
+        ensures begun { OnOk result (contents self.new
+            ≡ option_map (with_begun name.now) (contents self.old)) }
         ensures closed { OnErr result (contents self.new ≡ option_map with_none_open (contents self.old)) }
         ensures is_open { is_open self.new ≡ is_ok result }
         ensures cause { HasOutsideCause (faults self.old) (faults self.new) result };

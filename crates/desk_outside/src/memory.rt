@@ -141,7 +141,8 @@ impl Shelf for MemoryShelf {
         // It fails exactly where its number is planned, and gives as many bytes as it may.
         ensures failed { IsErr result ↔ FailsNext self.old.planned }
         ensures sound { NeverFails self.old.planned → IsOk result }
-        ensures count { IfOk result (λ n. n ≡ min (length buf.new) (min self.old.step (length self.old.left))) }
+        ensures count { IfOk result (λ n.
+            n ≡ min (length buf.new) (min self.old.step (length self.old.left))) }
         ensures bytes { IfOk result (λ n. self.old.left ≡ take n buf.new ++ self.new.left) }
         ensures end { IfOk result (λ n. n ≡ 0 → 0 < length buf.new → self.new.left ≡ []) }
         ensures taken { IfOk result (λ n. self.new.taken ≡ count_on self.old.taken n) }

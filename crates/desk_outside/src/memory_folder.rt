@@ -115,7 +115,8 @@ impl Folder for MemoryFolder {
     fn end(&mut self) -> Result<(), OutsideFault>
         requires is_open { IsTrue (is_some self.old.opened) }
         ensures finished { OnErr result (self.new.finished ≡ self.old.finished) }
-        ensures ended { OnOk result (self.new.finished ≡ self.old.finished ++ option_to_list self.old.opened) }
+        ensures ended { OnOk result (self.new.finished
+            ≡ self.old.finished ++ option_to_list self.old.opened) }
         ensures closed { self.new.opened ≡ None }
         ensures failed { IsErrOf result OutsideFault.Failed ↔ FailsNext self.old.planned }
         ensures counts { CountsCall self.old.planned self.new.planned (is_failed result) }

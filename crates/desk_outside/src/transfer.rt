@@ -85,7 +85,8 @@ pub fn write_all<G: Folder>(folder: &mut G, bytes: &[u8]) -> Result<(), OutsideF
     requires is_open { IsTrue (G.is_open folder.old) }
     ensures ok { OnOk result (G.contents folder.new
         ≡ option_map (with_bytes bytes.now) (G.contents folder.old)) }
-    ensures closed { OnErr result (G.contents folder.new ≡ option_map with_none_open (G.contents folder.old)) }
+    ensures closed { OnErr result (G.contents folder.new
+        ≡ option_map with_none_open (G.contents folder.old)) }
     ensures is_open { G.is_open folder.new ≡ is_ok result }
     ensures cause { HasOutsideCause (G.faults folder.old) (G.faults folder.new) result }
 {

@@ -1,12 +1,11 @@
--- What is printed of certificates.
-use Rattle.std.specs.Prelude.{⊤, ℕ, List, ◌++◌, codes, MatchOption}
+-- What is printed of certificates: for `check proof` and the refusals of certificates.
+use Rattle.std.specs.Prelude.{List, codes, ℕ, ◌++◌}
 use Rattle.std.specs.Fmt.{decimal}
 use Rattle.dep_model.specs.Dependencies.{Dependency}
 use Rattle.derivation.specs.declared.fault.FaultKind.{FaultKind}
 use Rattle.derivation.specs.declared.fault.FaultKind.TheVariants as fault
 use Rattle.schema_printer.specs.Printing.{dependency_text}
-use Rattle.proof_grammar.specs.declared.refusal.ProofRefusalKind.{ProofRefusalKind}
-use Rattle.proof_grammar.specs.Complaints.{Complaint, bad_line, wrong_number, no_such_line, used_twice, never_used, too_many_lines, too_deep, unsound, states_other, empty_proof, LineComplaint, complaint_of}
+use Rattle.proof_grammar.specs.Complaints.{Complaint, bad_line, wrong_number, no_such_line, used_twice, never_used, too_many_lines, too_deep, unsound, states_other, empty_proof, LineComplaint}
 use Rattle.desk_texts.specs.Texts.{line, kind_text}
 
 -- why a rule does not apply, with its number
@@ -56,10 +55,6 @@ proof_refusal_text names file refusal =
     line (codes "refused: proof " ++ decimal (complaint_number refusal.complaint) ++ codes " at "
     ++ file ++ codes ":"
     ++ place_text refusal.line refusal.complaint ++ codes " " ++ complaint_text names refusal.complaint)
-
--- of the complaint that a refusal is, if it is one; want of memory is none
-abbrev pub OfComplaint : ProofRefusalKind → (Complaint → Type 0) → Type 0
-OfComplaint why P = MatchOption (complaint_of why) ⊤ P
 
 abbrev pub checked_text : List (List ℕ) → Dependency → List ℕ
 checked_text names d = line (codes "checked " ++ dependency_text names d)

@@ -1,4 +1,5 @@
--- The texts that are printed.
+-- The texts that several commands print: refusals, sets of attributes, and a relation that shows a
+-- `no`.
 use Rattle.std.specs.Prelude.{ℕ, List, [], ◌∷◌, ◌++◌, codes}
 use Rattle.std.specs.Fmt.{decimal}
 use Rattle.attr_sets.specs.Places.{Places}
@@ -9,7 +10,7 @@ use Rattle.schema_grammar.specs.declared.refusal.SchemaRefusalKind.TheVariants a
 use Rattle.schema_grammar.specs.declared.refusal.SchemaRefusal.{SchemaRefusal}
 use Rattle.schema_grammar.specs.Complaints.{refusal_number}
 use Rattle.schema_printer.specs.Printing.{set_text}
-use Rattle.csv_rows.specs.RowsText.{rows_text}
+use Rattle.csv_text.specs.Rows.{rows_text}
 use Rattle.dep_model.specs.Tuples.{Relation}
 
 -- a line of a text
@@ -59,7 +60,6 @@ kind_text kind.TooManyAttributes = codes "too many attributes"
 kind_text kind.TooManyDependencies = codes "too many dependencies"
 kind_text kind.NoAttributes = codes "no attributes"
 kind_text kind.UnknownVersion = codes "unknown version"
-kind_text kind.Memory = []
 
 -- a refusal of a text at its place: the kind of text, its name, the line and the column
 abbrev pub refusal_text : List ℕ → List ℕ → SchemaRefusal → List ℕ

@@ -1,8 +1,8 @@
 ghost use Rattle.std.specs.Prelude.{◌≡◌, ◌++◌, IfOk, OnOk};
 ghost use Rattle.dep_model.specs.Schemas.{names_of, universe_of};
 ghost use Rattle.dep_model.specs.Deps.{dependency_of, IsDepWithin};
-ghost use Rattle.proof_grammar.specs.Complaints.{states_other, IsRefusalWithin};
-ghost use Rattle.desk_texts.specs.ProofTexts.{fault_text, complaint_number, complaint_text, place_text, proof_refusal_text, OfComplaint};
+ghost use Rattle.proof_grammar.specs.Complaints.{states_other, complaint_of, line_complaint_of, IsRefusalWithin};
+ghost use Rattle.desk_texts.specs.ProofTexts.{fault_text, complaint_number, complaint_text, place_text, proof_refusal_text};
 
 use crate::refusals::reason_of;
 use crate::text::{put, put_number, put_pair};
@@ -21,9 +21,8 @@ pub fn proof_refusal_line(
 ) -> Result<Vec<u8>, WantMemory>
     requires within { IsRefusalWithin (universe_of schema.now) refusal.kind }
     ensures text { IfOk result
-        (λ text. OfComplaint refusal.kind
-        (λ c. text.items ≡ proof_refusal_text (names_of schema.now) name.now
-        (record { line = refusal.line; complaint = c }))) }
+        (λ text. text.items
+        ≡ proof_refusal_text (names_of schema.now) name.now (line_complaint_of refusal)) }
 {
     let mut text = Vec::new(alloc);
     put(&mut text, b"refused: proof ")?;
@@ -40,7 +39,7 @@ pub fn proof_refusal_line(
 
 /// The number of a reason.
 fn number_of(kind: ProofRefusalKind) -> u32
-    ensures number { OfComplaint kind (λ c. result ≡ complaint_number c) }
+    ensures number { result ≡ complaint_number (complaint_of kind) }
 {
     match kind {
         ProofRefusalKind::BadLine(_) => 1,
@@ -53,14 +52,13 @@ fn number_of(kind: ProofRefusalKind) -> u32
         ProofRefusalKind::Unsound(_) => 8,
         ProofRefusalKind::StatesOther { .. } => 9,
         ProofRefusalKind::EmptyProof => 10,
-        ProofRefusalKind::Memory => 0,
     }
 }
 
 /// The place of a refusal, at the end of a text.
 fn put_place(alloc: Global, text: &mut Vec<u8>, refusal: ProofRefusal) -> Result<(), WantMemory>
-    ensures more { OnOk result (OfComplaint refusal.kind
-        (λ c. text.new.items ≡ text.old.items ++ place_text refusal.line c)) }
+    ensures more { OnOk result (text.new.items
+        ≡ text.old.items ++ place_text refusal.line (complaint_of refusal.kind)) }
 {
     match refusal.kind {
         ProofRefusalKind::BadLine(bad) => {
@@ -82,8 +80,8 @@ fn put_reason(
     kind: ProofRefusalKind,
 ) -> Result<(), WantMemory>
     requires within { IsRefusalWithin (universe_of schema.now) kind }
-    ensures more { OnOk result (OfComplaint kind
-        (λ c. text.new.items ≡ text.old.items ++ complaint_text (names_of schema.now) c)) }
+    ensures more { OnOk result (text.new.items
+        ≡ text.old.items ++ complaint_text (names_of schema.now) (complaint_of kind)) }
 {
     match kind {
         ProofRefusalKind::BadLine(bad) => put(text, reason_of(bad.kind)),
@@ -102,7 +100,6 @@ fn put_reason(
             alloc, text, schema, stated, concluded,
         ),
         ProofRefusalKind::EmptyProof => put(text, b"empty proof"),
-        ProofRefusalKind::Memory => Ok(()),
     }
 }
 

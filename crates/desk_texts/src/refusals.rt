@@ -47,7 +47,6 @@ pub fn reason_of(kind: SchemaRefusalKind) -> &'static [u8]
         SchemaRefusalKind::TooManyDependencies => b"too many dependencies",
         SchemaRefusalKind::NoAttributes => b"no attributes",
         SchemaRefusalKind::UnknownVersion => b"unknown version",
-        SchemaRefusalKind::Memory => b"",
     }
 }
 

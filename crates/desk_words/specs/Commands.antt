@@ -1,4 +1,4 @@
--- A command of the code, as its form.
+-- A command of the code, as its form: for `parse`. `Desk` does not cite it.
 use Rattle.desk_words.specs.declared.command.Command.{Command}
 use Rattle.desk_words.specs.declared.command.Command.TheVariants.{OverSchema, Discover, Sample, Help, Version}
 use Rattle.desk_words.specs.declared.command.Task.{Task}

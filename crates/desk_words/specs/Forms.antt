@@ -1,4 +1,5 @@
--- The commands, and the words that form them.
+-- The commands, and the words that form them: for `parse`, and for what words allow
+-- (`desk_cli/Performs`).
 use Rattle.std.specs.Prelude.{ℕ, Bool, ◌&&◌, Option, Some, None, List, [], ◌∷◌, length, nat_lt, if◌then◌else◌, codes}
 use Rattle.std.specs.Option.{option_and_then}
 use Rattle.std.specs.Str.{bytes_eq}
@@ -131,7 +132,8 @@ persons_alone _ = None
 -- after `check form`
 unfoldable pub after_check_form : List (List ℕ) → Option CommandForm
 after_check_form [] = None
-after_check_form (what ∷ rest) = option_and_then (λ form. schema_and (check_form form) rest) (normal_form what)
+after_check_form (what ∷ rest) =
+    option_and_then (λ form. schema_and (check_form form) rest) (normal_form what)
 
 -- after `check`
 unfoldable pub after_check : List (List ℕ) → Option CommandForm

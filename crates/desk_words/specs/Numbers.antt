@@ -1,4 +1,4 @@
--- How many persons a word asks for.
+-- How many persons a word asks for: for `sample` (`Forms`).
 use Rattle.std.specs.Prelude.{ℕ, Bool, ◌&&◌, List, length, nat_lt}
 use Rattle.std.specs.Char.{is_ascii_digit}
 use Rattle.std.specs.List.{list_all}

@@ -4,8 +4,8 @@ use Rattle.std.proofs.lemmas.Bool.{true≢false, cases_eq, or_cases}
 use Rattle.std.proofs.lemmas.Bool.Decides.{nat_tests}
 use Rattle.std.proofs.lemmas.List.Elements.{All-head, All-tail, All-contains}
 use Rattle.std.specs.Prelude.{All, Any, Contains}
-use Rattle.attr_sets.specs.Places.{Places, below, only, union, minus, Within, Same, count_below}
-use Rattle.attr_sets.proofs.PlacesLemmas.{tell_within, Same-within, count_below-le, count_below-lt}
+use Rattle.attr_sets.specs.Places.{Places, below, only, union, minus, Within, count_below}
+use Rattle.attr_sets.proofs.PlacesLemmas.{tell_within, same_from_within, count_below-le, count_below-lt}
 use Rattle.dep_model.specs.Dependencies.{Dependency, functional_part, left_of, right_of, IsWithin}
 use Rattle.dep_model.specs.Keys.{IsSuperkey, IsKey}
 use Rattle.dep_model.proofs.ListLemmas.{Contains-head, Contains-later, Contains-cases, Any-from}
@@ -88,11 +88,11 @@ module _ (n : ℕ) (ds : List Dependency) (keys : List Places) (within : All (Is
       ]) superkey)
       more.3
 
-  pub all_keys : (key : Places) → IsKey n ds (below n) key → Any (λ (k : Places). Same k key) keys
+  pub all_keys : (key : Places) → IsKey n ds (below n) key → Any (λ (k : Places). k ≡ key) keys
   all_keys key is_key =
       ⊎_elim
       (λ holds.
       let member = All-contains (IsKey n ds (below n)) keys holds.1 are_keys (holds.0, holds.2, holds.3) in
-      (holds.0, holds.1, holds.2, holds.3, Same-within holds.1 key holds.4 (is_key.minimal holds.1 holds.4 member.superkey)))
+      (holds.0, holds.1, holds.2, holds.3, same_from_within holds.1 key holds.4 (is_key.minimal holds.1 holds.4 member.superkey)))
       (λ none. absurd (none_without n key (omega arith) is_key.superkey none))
       (tell_holds n keys key keys_low)

@@ -1,12 +1,13 @@
 -- The loop that leaves the settled key: attributes are tried from the last to the first.
 use Rattle.std.proofs.Common.{◌≡◌, ℕ, ◌+◌, ◌<◌, ◌≤◌, ◌↔◌, true, false, List, sym, ◌∙◌, subst, ap, inl, inr, refl, arith}
+use mathlib.Core.Path.{fun_ext}
 use Rattle.std.proofs.lemmas.Bool.{cases_eq, true≢false}
 use Rattle.std.proofs.lemmas.Bool.Decides.{nat_tests}
-use Rattle.attr_sets.specs.Places.{Places, only, minus, Within, Same}
-use Rattle.attr_sets.proofs.PlacesLemmas.{Same-path}
+use Rattle.attr_sets.specs.Places.{Places, only, minus, Within}
 use Rattle.dep_model.specs.Dependencies.{Dependency, fd}
 use Rattle.dep_model.specs.Implication.{Implies}
 use Rattle.dep_model.specs.Keys.{IsSuperkey, IsSettledKey, left_beside}
+use Rattle.attr_sets.proofs.PlacesLemmas.{same_at}
 use Rattle.dep_model.proofs.KeyLemmas.{superkey-from, fd_on-to}
 
 -- what is left of a scheme once its attributes from i on were tried
@@ -17,11 +18,11 @@ pub record IsTriedFrom (n : ℕ) (ds : List Dependency) (scheme : Places) (i : �
 
 -- what stands beside an attribute depends on the later ones alone
 left_beside-later : (scheme key other : Places) (a : ℕ) → ((k : ℕ) → a < k → key k ≡ other k) → left_beside scheme key a ≡ left_beside scheme other a
-left_beside-later scheme key other a same = Same-path (left_beside scheme key a) (left_beside scheme other a) (λ (k : ℕ). grind (arith, nat_tests, same k))
+left_beside-later scheme key other a same = fun_ext (λ (k : ℕ). grind (arith, nat_tests, same k))
 
 -- before i is tried, it is all but i
-left_beside-untried : (scheme key rest : Places) (i : ℕ) → ((k : ℕ) → k < i + 1 → key k ≡ scheme k) → Same rest (minus key (only i)) → rest ≡ left_beside scheme key i
-left_beside-untried scheme key rest i untried is = Same-path rest (left_beside scheme key i) (λ (k : ℕ). grind (arith, nat_tests, untried k, is k))
+left_beside-untried : (scheme key rest : Places) (i : ℕ) → ((k : ℕ) → k < i + 1 → key k ≡ scheme k) → rest ≡ minus key (only i) → rest ≡ left_beside scheme key i
+left_beside-untried scheme key rest i untried is = fun_ext (λ (k : ℕ). grind (arith, nat_tests, untried k, same_at is k))
 
 module _ (n : ℕ) (ds : List Dependency) (scheme : Places) where
   -- no place of the scheme from i on: nothing was tried
@@ -33,27 +34,27 @@ module _ (n : ℕ) (ds : List Dependency) (scheme : Places) where
   }
 
   -- the rest determines the scheme: i is left out
-  pub tried_left_out : (i j : ℕ) (key rest : Places) → j ≡ i + 1 → IsTriedFrom n ds scheme j key → Same rest (minus key (only i)) → Implies n ds (fd rest scheme) → IsTriedFrom n ds scheme i rest
+  pub tried_left_out : (i j : ℕ) (key rest : Places) → j ≡ i + 1 → IsTriedFrom n ds scheme j key → rest ≡ minus key (only i) → Implies n ds (fd rest scheme) → IsTriedFrom n ds scheme i rest
   tried_left_out i j key rest e before is implied = record {
     within = inside;
-    untried = λ k l. grind (arith, nat_tests, is k, before.untried k);
+    untried = λ k l. grind (arith, nat_tests, same_at is k, before.untried k);
     tried = λ a from member. elim (cases_eq a i) [
       | inl same ↦
-          let beside : rest ≡ left_beside scheme rest a = left_beside-untried scheme key rest i (λ (k : ℕ) l. before.untried k (omega arith)) is ∙ left_beside-later scheme key rest i (λ (k : ℕ) l. grind (arith, nat_tests, is k)) ∙ ap (λ (b : ℕ). left_beside scheme rest b) (sym same) in
-          ((λ _. subst (λ (x : Places). IsSuperkey n ds scheme x) beside (superkey-from n ds scheme rest inside implied)), (λ _. grind (arith, nat_tests, is a, same)))
+          let beside : rest ≡ left_beside scheme rest a = left_beside-untried scheme key rest i (λ (k : ℕ) l. before.untried k (omega arith)) is ∙ left_beside-later scheme key rest i (λ (k : ℕ) l. grind (arith, nat_tests, same_at is k)) ∙ ap (λ (b : ℕ). left_beside scheme rest b) (sym same) in
+          ((λ _. subst (λ (x : Places). IsSuperkey n ds scheme x) beside (superkey-from n ds scheme rest inside implied)), (λ _. grind (arith, nat_tests, same_at is a, same)))
       | inr other ↦
           let old = before.tried a (omega arith) member in
-          let beside : left_beside scheme key a ≡ left_beside scheme rest a = left_beside-later scheme key rest a (λ (k : ℕ) l. grind (arith, nat_tests, is k)) in
-          let stays : rest a ≡ key a = grind (arith, nat_tests, is a) in
+          let beside : left_beside scheme key a ≡ left_beside scheme rest a = left_beside-later scheme key rest a (λ (k : ℕ) l. grind (arith, nat_tests, same_at is k)) in
+          let stays : rest a ≡ key a = grind (arith, nat_tests, same_at is a) in
           ((λ out. subst (λ (x : Places). IsSuperkey n ds scheme x) beside (old.0 (sym stays ∙ out))), (λ superkey. stays ∙ old.1 (rw beside superkey)))
     ];
   }
     where
       inside : Within rest scheme
-      inside k m = before.within k (grind (arith, is k, m))
+      inside k m = before.within k (grind (arith, same_at is k, m))
 
   -- it does not: i is kept
-  pub tried_kept : (i j : ℕ) (key rest : Places) → j ≡ i + 1 → IsTriedFrom n ds scheme j key → Same rest (minus key (only i)) → (Implies n ds (fd rest scheme) → ⊥) → IsTriedFrom n ds scheme i key
+  pub tried_kept : (i j : ℕ) (key rest : Places) → j ≡ i + 1 → IsTriedFrom n ds scheme j key → rest ≡ minus key (only i) → (Implies n ds (fd rest scheme) → ⊥) → IsTriedFrom n ds scheme i key
   tried_kept i j key rest e before is fails = record {
     within = before.within;
     untried = λ k l. before.untried k (omega arith);

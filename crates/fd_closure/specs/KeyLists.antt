@@ -1,3 +1,5 @@
+-- Lists of keys that exchanging leads not out of: for the law `all_keys_by_exchange`. `Desk` does
+-- not cite it.
 use Rattle.std.specs.Prelude.{List, All, Any}
 use Rattle.attr_sets.specs.Places.{Places, union, minus, Within}
 use Rattle.dep_model.specs.Dependencies.{Dependency, left_of, right_of}
@@ -9,4 +11,5 @@ HoldsOne keys x = Any (λ key. Within key x) keys
 -- where a dependency gives what a key of the list has on its right side, what is left with the left
 -- side holds a key of the list
 abbrev pub IsExchanged : List Dependency → List Places → Type 0
-IsExchanged ds keys = All (λ d. All (λ key. HoldsOne keys (union (left_of d) (minus key (right_of d)))) keys) ds
+IsExchanged ds keys =
+    All (λ d. All (λ key. HoldsOne keys (union (left_of d) (minus key (right_of d)))) keys) ds

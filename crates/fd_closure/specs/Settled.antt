@@ -1,3 +1,5 @@
+-- Sets that no dependency of a list leads out of: for the closure, and for the laws of fd_closure.
+-- `Desk` does not cite it.
 use Rattle.std.specs.Prelude.{List, All}
 use Rattle.attr_sets.specs.Places.{Places, Within}
 use Rattle.dep_model.specs.Dependencies.{Dependency, left_of, right_of}

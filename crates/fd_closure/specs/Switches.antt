@@ -1,3 +1,5 @@
+-- The members of a list that are switched on, and how a set grows by them: for the closure by
+-- counting. `Desk` does not cite it.
 use Rattle.std.specs.Prelude.{ℕ, Bool, if◌then◌else◌, List, [], ◌∷◌, All}
 use Rattle.attr_sets.specs.Places.{Places, Within}
 use Rattle.dep_model.specs.declared.dep.Dep.{Dep}

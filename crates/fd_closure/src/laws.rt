@@ -1,7 +1,7 @@
 //! Laws of closed sets and of keys, where all dependencies are functional.
 
 ghost use Rattle.std.specs.Prelude.{◌≡◌, ℕ, ◌<◌, ◌↔◌, true, false, List, length, All, Any, Contains};
-ghost use Rattle.attr_sets.specs.Places.{Places, below, Within, Same};
+ghost use Rattle.attr_sets.specs.Places.{Places, below, Within};
 ghost use Rattle.dep_model.specs.Dependencies.{Dependency, fd, functional_part, IsWithin, LeadsOut};
 ghost use Rattle.dep_model.specs.Implication.{Implies};
 ghost use Rattle.dep_model.specs.Keys.{InClosure, IsKey};
@@ -29,5 +29,5 @@ pub fn all_keys_by_exchange()
     ensures law { (n : ℕ) (ds : List Dependency) (keys : List Places) → All (IsWithin (below n)) ds
         → functional_part ds ≡ ds
         → 0 < length keys → All (IsKey n ds (below n)) keys → IsExchanged ds keys
-        → (key : Places) → IsKey n ds (below n) key → Any (λ k. Same k key) keys }
+        → (key : Places) → IsKey n ds (below n) key → Any (λ k. k ≡ key) keys }
 {}

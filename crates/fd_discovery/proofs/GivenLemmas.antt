@@ -6,11 +6,12 @@ use Rattle.std.proofs.lemmas.Bool.{cases_lt, cases_Bool, true≢false}
 use Rattle.std.proofs.lemmas.Bool.Decides.{nat_tests}
 use Rattle.std.proofs.lemmas.List.{length_push, get_or_append_left, take_more, map-append}
 use Rattle.std.proofs.lemmas.List.Quantifiers.{Any-push}
-use Rattle.attr_sets.specs.Places.{Places, Within, Same, below, minus, union}
+use Rattle.attr_sets.specs.Places.{Places, Within, below, minus, union}
 use Rattle.dep_model.specs.Dependencies.{Dependency, left_of, right_of}
 use Rattle.dep_model.specs.Deps.{dependency_of, dependencies_of}
 use Rattle.dep_model.specs.declared.dep.Dep.{Dep}
 use Rattle.fd_discovery.specs.Searching.{IsGivenFrom, AreNotGiven}
+use Rattle.attr_sets.proofs.PlacesLemmas.{same_at}
 use Rattle.dep_model.proofs.ListLemmas.{Any-weaker, Any-left}
 
 -- ---- some element is such
@@ -59,20 +60,20 @@ so_far_none x = record {
 }
 
 pub so_far_in : (ds : List Dependency) (d : Dependency) (x given more : Places) → IsSoFar ds x given
-    → Within (left_of d) x → Same more (union given (right_of d))
+    → Within (left_of d) x → more ≡ union given (right_of d)
     → IsSoFar (ds ++ d ∷ []) x more
 so_far_in ds d x given more old inside same = record {
-  grows = λ k m. same k ∙ left k (old.grows k m);
+  grows = λ k m. same_at same k ∙ left k (old.grows k m);
   known = λ a m. elim (cases_Bool (given a)) [
     | inl before ↦ elim (old.known a before) [
       | inl member ↦ inl member
       | inr was ↦ inr (given_still ds d x a was)
     ]
-    | inr new ↦ inr (given_now ds d x a inside (added a new (sym (same a) ∙ m)))
+    | inr new ↦ inr (given_now ds d x a inside (added a new (sym (same_at same a) ∙ m)))
   ];
   all = λ a h. elim (given_cases ds d x a h) [
-    | inl before ↦ same a ∙ left a (old.all a before)
-    | inr now ↦ same a ∙ right a now.1
+    | inl before ↦ same_at same a ∙ left a (old.all a before)
+    | inr now ↦ same_at same a ∙ right a now.1
   ];
 }
   where
@@ -104,22 +105,22 @@ so_far_out ds d x given old outside = record {
 }
 
 pub not_given_from : (n : ℕ) (ds : List Dependency) (x given full rest : Places) → IsSoFar ds x given
-    → Same full (below n) → Same rest (minus full given) → AreNotGiven n ds x rest
+    → full ≡ below n → rest ≡ minus full given → AreNotGiven n ds x rest
 not_given_from n ds x given full rest so_far whole same = record {
-  within = λ k m. sym (whole k) ∙ first (full k) (given k) (sym (same k) ∙ m);
+  within = λ k m. sym (same_at whole k) ∙ first (full k) (given k) (sym (same_at same k) ∙ m);
   outside = λ a m. elim (cases_Bool (x a)) [
-    | inl member ↦ absurd (true≢false (sym (so_far.grows a member) ∙ second (full a) (given a) (sym (same a) ∙ m)))
+    | inl member ↦ absurd (true≢false (sym (so_far.grows a member) ∙ second (full a) (given a) (sym (same_at same a) ∙ m)))
     | inr out ↦ out
   ];
-  none = λ a m h. true≢false (sym (so_far.all a h) ∙ second (full a) (given a) (sym (same a) ∙ m));
+  none = λ a m h. true≢false (sym (so_far.all a h) ∙ second (full a) (given a) (sym (same_at same a) ∙ m));
   rest = λ a l m out. elim (cases_Bool (given a)) [
     | inl has ↦ elim (so_far.known a has) [
       | inl member ↦ absurd (true≢false (sym member ∙ out))
       | inr was ↦ was
     ]
     | inr lacks ↦
-        let inside : full a ≡ true = whole a ∙ grind (arith, nat_tests, l) in
-        absurd (true≢false (sym (both (full a) (given a) inside lacks) ∙ sym (same a) ∙ m))
+        let inside : full a ≡ true = same_at whole a ∙ grind (arith, nat_tests, l) in
+        absurd (true≢false (sym (both (full a) (given a) inside lacks) ∙ sym (same_at same a) ∙ m))
   ];
 }
   where

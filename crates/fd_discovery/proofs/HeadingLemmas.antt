@@ -13,6 +13,8 @@ use Rattle.fd_discovery.specs.Headers.{IsColumnHeader, RefusesColumnHeader}
 use Rattle.fd_discovery.specs.Headings.{AreEven, RefusesRows, ReadsNames, RefusesNames, IsHeaded, IsRefusedDiscovery, names_under, rows_under}
 use Rattle.fd_discovery.specs.declared.headed.Headed.{Headed}
 use Rattle.fd_discovery.specs.declared.headed.TheConstants.{MOST_HEADED_ROWS}
+use Rattle.dep_model.specs.Failures.{RefusesAs}
+use Rattle.dep_model.specs.declared.failure.Failure.{Failure}
 use Rattle.fd_discovery.specs.declared.refusal.DiscoverRefusal.{DiscoverRefusal}
 use Rattle.fd_discovery.specs.declared.refusal.DiscoverRefusal.TheVariants as refusal
 
@@ -32,7 +34,7 @@ taken_none old new fields b rs is takes left =
 
 -- the first record is the header
 pub names_read : {T : Type 0} (names : T → List (List ℕ)) (old new : Reader (Bor (List ℕ))) (fields : List (List ℕ))
-    (b : Bool) (r : Result T DiscoverRefusal) (rs : List (List (List ℕ)))
+    (b : Bool) (r : Result T (Failure DiscoverRefusal)) (rs : List (List (List ℕ)))
     → b ≡ true → TakesRecord b old new fields → HasLeft old rs
     → IfOk r (λ v. names v ≡ fields) → IfOk r (λ _. IsColumnHeader fields) → IfOk r (λ v. ReadsNames rs new (names v))
 names_read names old new fields b (Err e) rs is takes left all header = tt
@@ -46,14 +48,13 @@ names_read names old new fields b (Ok v) rs is takes left all header =
     }
 
 pub names_refused : {T : Type 0} (old new : Reader (Bor (List ℕ))) (fields : List (List ℕ)) (b : Bool)
-    (r : Result T DiscoverRefusal) (rs : List (List (List ℕ)))
+    (r : Result T (Failure DiscoverRefusal)) (rs : List (List (List ℕ)))
     → b ≡ true → TakesRecord b old new fields → HasLeft old rs
-    → IfErr r (λ e. e ≢ refusal.Memory → RefusesColumnHeader fields e)
-    → IfErr r (λ e. e ≢ refusal.Memory → RefusesNames rs e)
+    → IfErr r (RefusesAs (RefusesColumnHeader fields)) → IfErr r (RefusesAs (RefusesNames rs))
 names_refused old new fields b (Ok v) rs is takes left refused = tt
 names_refused old new fields b (Err e) rs is takes left refused =
     let (more, whole, rest) = taken_one old new fields b rs is takes left in
-    λ other. subst (λ (l : List (List (List ℕ))). RefusesNames l e) (sym whole) (refused other)
+    subst (λ (l : List (List (List ℕ))). RefusesAs (RefusesNames l) e) (sym whole) refused
 
 pub no_names : (old new : Reader (Bor (List ℕ))) (fields : List (List ℕ)) (b : Bool) (rs : List (List (List ℕ)))
     → b ≡ false → TakesRecord b old new fields → HasLeft old rs → RefusesNames rs refusal.NoHeader

@@ -5,8 +5,7 @@ use Rattle.std.proofs.lemmas.Bool.{cases_lt, cases_eq, true≢false}
 use Rattle.std.proofs.lemmas.List.{get_or-set_same, get_or-set_other, get_or_default, get_or_append_left, get_or-replicate, length-replicate}
 use Rattle.std.proofs.Math.Seq.{get_or-append_seam}
 use Rattle.std.proofs.lemmas.List.Elements.{Contains-get_or}
-use Rattle.attr_sets.specs.Places.{Places, Same, IsEmpty, only, union}
-use Rattle.attr_sets.proofs.PlacesLemmas.{Same-path}
+use Rattle.attr_sets.specs.Places.{Places, IsEmpty, only, union}
 use Rattle.dep_model.specs.Tuples.{Tuple, Relation, AgreeOn}
 use Rattle.dep_model.specs.Dependencies.{ObeysFd}
 use Rattle.csv_rows.specs.Numberings.{row_at, number_at, AreGroups}
@@ -299,9 +298,9 @@ first_leads r x leaders empty is = record {
     zero i l = ap (λ (s : List ℕ). number_at s i) is ∙ get_or-replicate (length r) i 0 0 l
 
 -- a set looks at its members alone
-pub same_leaders : (r : Relation) (x y : Places) (leaders : List ℕ) → Same x y → AreLeaders r x leaders
+pub same_leaders : (r : Relation) (x y : Places) (leaders : List ℕ) → x ≡ y → AreLeaders r x leaders
     → AreLeaders r y leaders
-same_leaders r x y leaders same led = subst (λ (z : Places). AreLeaders r z leaders) (Same-path x y same) led
+same_leaders r x y leaders same led = subst (λ (z : Places). AreLeaders r z leaders) same led
 
 -- one order more
 pub orders_more : (P : ℕ → List ℕ → Type 0) (orders : List (List ℕ)) (order : List ℕ) (n : ℕ) → length orders ≡ n
@@ -328,7 +327,7 @@ column_groups n r t place codes table low is =
 pub leaders_with : (n : ℕ) (r : Relation) (t : Table) (set larger : Places) (place : ℕ)
     (codes row order finer : List ℕ) → IsTableOfRows n r t → place < n
     → codes ≡ codes_at t.codes place → order ≡ row → row ≡ slice_index_or t.orders.items place row
-    → Same larger (union set (only place))
+    → larger ≡ union set (only place)
     → (AreGroups r (only place) codes → IsOrderOf codes order → AreLeaders r (union set (only place)) finer)
     → AreLeaders r larger finer
 leaders_with n r t set larger place codes row order finer table low is_codes is_order is_row same refined =
@@ -337,5 +336,5 @@ leaders_with n r t set larger place codes row order finer table low is_codes is_
     let ordered : IsOrderOf codes order =
     subst (λ (l : List ℕ). IsOrderOf l order) (sym is_codes)
     (subst (λ (l : List ℕ). IsOrderOf (codes_at t.codes place) l) (sym order_is) (table.orders place low)) in
-    same_leaders r (union set (only place)) larger finer (λ k. sym (same k))
+    same_leaders r (union set (only place)) larger finer (sym same)
     (refined (column_groups n r t place codes table low is_codes) ordered)

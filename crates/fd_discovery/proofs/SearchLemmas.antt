@@ -1,12 +1,13 @@
 -- The search for minimal dependencies, set by set and attribute by attribute.
 use Rattle.std.proofs.Common.{inl, inr, ◌≡◌, ◌+◌, ◌<◌, ◌≤◌, ◌⊎◌, ◌↔◌, ◌||◌, ◌==◌, nat_lt, ℕ, Bool, true, false, List, [], ◌∷◌, ◌++◌, get_or, refl, sym, ap, subst, ◌∙◌, arith}
+use mathlib.Core.Path.{fun_ext}
 use Rattle.std.specs.Prelude.{All, Contains}
 use Rattle.std.proofs.lemmas.Bool.{cases_lt, cases_Bool, cases_order, true≢false, ltb-true, eqb-true}
 use Rattle.std.proofs.lemmas.Bool.Decides.{nat_tests}
 use Rattle.std.proofs.lemmas.List.Elements.{All-push, All-weaker, All-contains}
 use Rattle.std.proofs.lemmas.List.Quantifiers.{all_pairs_push}
-use Rattle.attr_sets.specs.Places.{Places, Within, Same, IsEmpty, IsBefore, IsLeastFrom, IsNextSubset, below, only, minus, union}
-use Rattle.attr_sets.proofs.PlacesLemmas.{Same-path, Same-within}
+use Rattle.attr_sets.specs.Places.{Places, Within, IsEmpty, IsBefore, IsLeastFrom, IsNextSubset, below, only, minus, union}
+use Rattle.attr_sets.proofs.PlacesLemmas.{same_from_within, same_at}
 use Rattle.attr_sets.proofs.OrderLemmas.{IsBefore-trans, tell_before, next_subset-is, next_subset-before}
 use Rattle.dep_model.specs.Tuples.{Relation, IsOver}
 use Rattle.dep_model.specs.Dependencies.{Dependency, fd, left_of, right_of, ObeysFd, Obeys, IsWithin}
@@ -28,17 +29,17 @@ only_before a b less = (
 
 -- x is the same as y or comes before it
 abbrev IsUpTo : Places → Places → Type 0
-IsUpTo x y = Same x y ⊎ IsBefore x y
+IsUpTo x y = (x ≡ y) ⊎ IsBefore x y
 
 up_to_before : (x y z : Places) → IsUpTo x y → IsBefore y z → IsBefore x z
 up_to_before x y z up before = elim up [
-  | inl same ↦ subst (λ (v : Places). IsBefore v z) (sym (Same-path x y same)) before
+  | inl same ↦ subst (λ (v : Places). IsBefore v z) (sym same) before
   | inr earlier ↦ IsBefore-trans x y z earlier before
 ]
 
 before_up_to : (x y z : Places) → IsBefore x y → IsUpTo y z → IsBefore x z
 before_up_to x y z before up = elim up [
-  | inl same ↦ subst (λ (v : Places). IsBefore x v) (Same-path y z same) before
+  | inl same ↦ subst (λ (v : Places). IsBefore x v) same before
   | inr earlier ↦ IsBefore-trans x y z before earlier
 ]
 
@@ -83,7 +84,7 @@ found_more n r y a d (x, b, is, minimal, tried) = (x, b, is, minimal, tried_more
 module _ (n : ℕ) (r : Relation) (y wanted : Places) (a : ℕ) (ds : List Dependency) (y_in : Within y (below n))
     (a_in : a < n) (old : AreAdded n r y wanted a ds) where
   -- nothing is to be added where the attribute is given already, or the rows do not obey the dependency
-  found_same : ((x : Places) → Same x y → x a ≡ false → ObeysFd x (only a) r → IsGivenFrom ds x a)
+  found_same : ((x : Places) → x ≡ y → x a ≡ false → ObeysFd x (only a) r → IsGivenFrom ds x a)
       → AreFound n r y (a + 1) ds
   found_same here = record {
     each = All-weaker (IsFoundBefore n r y a) (IsFoundBefore n r y (a + 1)) (λ d. found_more n r y a d) ds old.found.each;
@@ -100,7 +101,7 @@ module _ (n : ℕ) (r : Relation) (y wanted : Places) (a : ℕ) (ds : List Depen
     ];
   }
 
-  added_same : ((x : Places) → Same x y → x a ≡ false → ObeysFd x (only a) r → IsGivenFrom ds x a)
+  added_same : ((x : Places) → x ≡ y → x a ≡ false → ObeysFd x (only a) r → IsGivenFrom ds x a)
       → AreAdded n r y wanted (a + 1) ds
   added_same here = record {
     found = found_same here;
@@ -110,12 +111,12 @@ module _ (n : ℕ) (r : Relation) (y wanted : Places) (a : ℕ) (ds : List Depen
   }
 
   pub added_given : wanted a ≡ false → AreAdded n r y wanted (a + 1) ds
-  added_given lacks = added_same (λ x same out obeys. given_more ds y x a (λ k m. same k ∙ m)
-      (old.rest a a_in lacks (sym (same a) ∙ out)))
+  added_given lacks = added_same (λ x same out obeys. given_more ds y x a (λ k m. same_at same k ∙ m)
+      (old.rest a a_in lacks (sym (same_at same a) ∙ out)))
 
   pub added_broken : (ObeysFd y (only a) r → ⊥) → AreAdded n r y wanted (a + 1) ds
   added_broken breaks = added_same (λ x same out obeys. absurd
-      (breaks (subst (λ (v : Places). ObeysFd v (only a) r) (Same-path x y same) obeys)))
+      (breaks (subst (λ (v : Places). ObeysFd v (only a) r) same obeys)))
 
   -- an attribute that is not given, of which the rows obey the dependency
   module _ (has : wanted a ≡ true) (obeys : ObeysFd y (only a) r) where
@@ -127,7 +128,7 @@ module _ (n : ℕ) (r : Relation) (y wanted : Places) (a : ℕ) (ds : List Depen
         outside = old.outside a has;
         obeys = obeys;
         minimal = λ v inside v_obeys. elim (tell_before n v y (λ k m. y_in k (inside k m)) y_in) [
-          | inl same ↦ λ k m. same k ∙ m
+          | inl same ↦ λ k m. same_at same k ∙ m
           | inr other ↦ elim other [
             | inl before ↦
                 let out : v a ≡ false = without v inside in
@@ -158,7 +159,7 @@ module _ (n : ℕ) (r : Relation) (y wanted : Places) (a : ℕ) (ds : List Depen
       found = record {
         each = All-push (IsFoundBefore n r y (a + 1)) ds (fd y (only a))
             (All-weaker (IsFoundBefore n r y a) (IsFoundBefore n r y (a + 1)) (λ d. found_more n r y a d) ds old.found.each)
-            (y, a, refl, new_minimal, inr ((λ k. refl), omega arith));
+            (y, a, refl, new_minimal, inr (refl, omega arith));
         ascending = all_pairs_push Precedes ds (fd y (only a)) old.found.ascending
             (λ k d l. precedes_new (get_or ds k d) (old.found.each k d l));
         given = λ x b x_in b_in out tried x_obeys. elim tried [
@@ -168,7 +169,7 @@ module _ (n : ℕ) (r : Relation) (y wanted : Places) (a : ℕ) (ds : List Depen
                 (old.found.given x b x_in b_in out (inr (same.0, less)) x_obeys)
             | inr last ↦
                 let at : b ≡ a = omega (arith, same.1, last) in
-                given_now ds (fd y (only a)) x b (λ k m. same.0 k ∙ m) (grind (arith, nat_tests, at))
+                given_now ds (fd y (only a)) x b (λ k m. same_at same.0 k ∙ m) (grind (arith, nat_tests, at))
           ]
         ];
       };
@@ -212,18 +213,18 @@ found_next n r x y ds x_in next found = record {
       ]),
     )
 
-pub found_same_set : (n : ℕ) (r : Relation) (x y : Places) (b : ℕ) (ds : List Dependency) → Same x y
+pub found_same_set : (n : ℕ) (r : Relation) (x y : Places) (b : ℕ) (ds : List Dependency) → x ≡ y
     → AreFound n r x b ds → AreFound n r y b ds
-found_same_set n r x y b ds same found = subst (λ (v : Places). AreFound n r v b ds) (Same-path x y same) found
+found_same_set n r x y b ds same found = subst (λ (v : Places). AreFound n r v b ds) same found
 
 -- a set with members from `free` on, one place more below it, and the places below that
 module _ (n free i : ℕ) (set : Places) (set_in : Within set (below n)) (above : (k : ℕ) → set k ≡ true → free ≤ k)
-    (free_in : free ≤ n) (i_in : i < free) (larger : Places) (is : Same larger (union set (only i))) where
+    (free_in : free ≤ n) (i_in : i < free) (larger : Places) (is : larger ≡ union set (only i)) where
   pub larger_in : Within larger (below n)
   larger_in k m = elim (cases_Bool (set k)) [
     | inl member ↦ set_in k member
     | inr out ↦
-        let at : k ≡ i = eqb-true k i (sym (ap (λ (b : Bool). b || (k == i)) out) ∙ sym (is k) ∙ m) in
+        let at : k ≡ i = eqb-true k i (sym (ap (λ (b : Bool). b || (k == i)) out) ∙ sym (same_at is k) ∙ m) in
         grind (arith, nat_tests, at, i_in, free_in)
   ]
 
@@ -231,7 +232,7 @@ module _ (n free i : ℕ) (set : Places) (set_in : Within set (below n)) (above 
   larger_above k m = elim (cases_Bool (set k)) [
     | inl member ↦ omega (arith, above k member, i_in)
     | inr out ↦
-        let at : k ≡ i = eqb-true k i (sym (ap (λ (b : Bool). b || (k == i)) out) ∙ sym (is k) ∙ m) in
+        let at : k ≡ i = eqb-true k i (sym (ap (λ (b : Bool). b || (k == i)) out) ∙ sym (same_at is k) ∙ m) in
         omega (arith, at)
   ]
 
@@ -261,18 +262,18 @@ module _ (n free i : ℕ) (set : Places) (set_in : Within set (below n)) (above 
         least = λ k from l. grind (arith, nat_tests, l);
       }
 
-      next : Same larger (union (minus (union set (below i)) (below i)) (only i))
-      next k = is k ∙ elim (cases_lt k i) [
+      next : larger ≡ union (minus (union set (below i)) (below i)) (only i)
+      next = fun_ext (λ k. same_at is k ∙ elim (cases_lt k i) [
         | inl low ↦ let out : set k ≡ false = lacks k (omega (arith, low)) in grind (arith, nat_tests, low, out)
         | inr high ↦ grind (arith, nat_tests, high)
-      ]
+      ])
 
   -- the set with i and all places below it is the set with all places up to i
-  pub larger_filled : Same (union larger (below i)) (union set (below (i + 1)))
-  larger_filled k = ap (λ (b : Bool). b || nat_lt k i) (is k) ∙ elim (cases_order k i) [
+  pub larger_filled : union larger (below i) ≡ union set (below (i + 1))
+  larger_filled = fun_ext (λ k. ap (λ (b : Bool). b || nat_lt k i) (same_at is k) ∙ elim (cases_order k i) [
     | inl same ↦ grind (arith, nat_tests, same)
     | inr other ↦ elim other [ inl low ↦ grind (arith, nat_tests, low) | inr high ↦ grind (arith, nat_tests, high) ]
-  ]
+  ])
 
   top_in : Within (union set (below (i + 1))) (below n)
   top_in k m = elim (cases_Bool (set k)) [
@@ -284,28 +285,28 @@ module _ (n free i : ℕ) (set : Places) (set_in : Within set (below n)) (above 
 
   larger_up : IsUpTo larger (union set (below (i + 1)))
   larger_up = subset_up_to n larger (union set (below (i + 1))) top_in
-      (λ k m. sym (larger_filled k) ∙ ap (λ (b : Bool). b || nat_lt k i) m)
+      (λ k m. sym (same_at larger_filled k) ∙ ap (λ (b : Bool). b || nat_lt k i) m)
 
   -- a set after the set with i, up to the one with all places up to i, holds the set with i
   holds : (v : Places) → IsBefore larger v → IsUpTo v (union set (below (i + 1))) → Within larger v
   holds v after up = elim (cases_lt after.0 i) [
     | inl low ↦ λ k m. sym (after.3 k (omega (arith, larger_above k m, low))) ∙ m
     | inr high ↦ absurd (elim up [
-      | inl same ↦ true≢false (sym after.2 ∙ same after.0 ∙ beyond high)
+      | inl same ↦ true≢false (sym after.2 ∙ same_at same after.0 ∙ beyond high)
       | inr before ↦ elim (cases_order before.0 after.0) [
         | inl at ↦ true≢false (sym after.2 ∙ ap v (sym at) ∙ before.1)
         | inr other ↦ elim other [
           | inl lower ↦ true≢false (sym after.2 ∙ before.3 after.0 lower ∙ beyond high)
           | inr higher ↦
               let out : larger before.0 ≡ false = after.3 before.0 higher ∙ before.1 in
-              true≢false (sym before.2 ∙ sym (larger_filled before.0) ∙ grind (arith, nat_tests, out, higher, high))
+              true≢false (sym before.2 ∙ sym (same_at larger_filled before.0) ∙ grind (arith, nat_tests, out, higher, high))
         ]
       ]
     ])
   ]
     where
       beyond : i ≤ after.0 → union set (below (i + 1)) after.0 ≡ false
-      beyond high = sym (larger_filled after.0)
+      beyond high = sym (same_at larger_filled after.0)
           ∙ (let out : larger after.0 ≡ false = after.1 in grind (arith, nat_tests, out, high))
 
   pub found_at_larger : (r : Relation) (ds : List Dependency) → AreFound n r (union set (below i)) n ds
@@ -345,7 +346,7 @@ module _ (n free i : ℕ) (set : Places) (set_in : Within set (below n)) (above 
               let up : IsUpTo v (union set (below (i + 1))) =
               elim tried [ inl before ↦ inr before | inr same ↦ inl same.0 ] in
               elim (tell_before n v larger v_in larger_in) [
-                | inl same ↦ given_above v a (λ k m. same k ∙ m) a_in out
+                | inl same ↦ given_above v a (λ k m. same_at same k ∙ m) a_in out
                 | inr other ↦ elim other [
                   | inl before ↦ at.given v a v_in a_in out (inl before) obeys
                   | inr after ↦ given_above v a (holds v after up) a_in out
@@ -369,26 +370,26 @@ found_start n r set empty = record {
   ];
 }
 
-pub not_given_start : (n : ℕ) (set all : Places) → IsEmpty set → Same all (below n) → AreNotGiven n [] set all
+pub not_given_start : (n : ℕ) (set all : Places) → IsEmpty set → all ≡ below n → AreNotGiven n [] set all
 not_given_start n set all empty whole = record {
-  within = λ k m. sym (whole k) ∙ m;
+  within = λ k m. sym (same_at whole k) ∙ m;
   outside = λ a m. empty a;
   none = λ a m h. omega (arith, h.2);
-  rest = λ a l lacks out. absurd (true≢false (grind (arith, nat_tests, l, whole a, lacks)));
+  rest = λ a l lacks out. absurd (true≢false (grind (arith, nat_tests, l, same_at whole a, lacks)));
 }
 
 pub found_up_to : (n : ℕ) (r : Relation) (set : Places) (ds : List Dependency) → AreFound n r set n ds
     → AreFound n r (union set (below 0)) n ds
-found_up_to n r set ds found = found_same_set n r set (union set (below 0)) n ds (λ k. grind (arith, nat_tests)) found
+found_up_to n r set ds found = found_same_set n r set (union set (below 0)) n ds (fun_ext (λ k. grind (arith, nat_tests))) found
 
 pub found_whole : (n : ℕ) (r : Relation) (set : Places) (ds : List Dependency) → IsEmpty set
     → AreFound n r (union set (below n)) n ds → AreFound n r (below n) n ds
 found_whole n r set ds empty found = found_same_set n r (union set (below n)) (below n) n ds
-    (λ k. ap (λ (b : Bool). b || nat_lt k n) (empty k)) found
+    (fun_ext (λ k. ap (λ (b : Bool). b || nat_lt k n) (empty k))) found
 
 -- the search from the empty set on, by what its two steps say
 pub search_whole : (w n : ℕ) (r : Relation) (set all : Places) (ds added whole : List Dependency) → w ≡ n
-    → IsEmpty set → Same all (below n) → ds ≡ []
+    → IsEmpty set → all ≡ below n → ds ≡ []
     → (Within set (below w) → AreNotGiven w ds set all → AreFound w r set 0 ds → AreFound w r set w added)
     → (AreFound w r set w added → AreFound w r (union set (below n)) w whole)
     → AreFound n r (below n) n whole
@@ -430,8 +431,8 @@ module _ (n : ℕ) (r : Relation) (ds : List Dependency) (found : AreFound n r (
     all = λ x a m.
         let (v, listed, inside, minimal) = giver n r (below n) n ds x a found
         (all_given x a m.left m.right m.minimal.outside m.minimal.obeys) in
-        let same : v ≡ x = Same-path v x (Same-within v x inside
-        (m.minimal.minimal v inside minimal.minimal.obeys)) in
+        let same : v ≡ x = same_from_within v x inside
+        (m.minimal.minimal v inside minimal.minimal.obeys) in
         subst (λ (w : Places). Contains ds (fd w (only a))) same listed;
     ascending = found.ascending;
   }

@@ -28,7 +28,6 @@ seen_column before field column refusal.NoHeader p = absurd p
 seen_column before field column refusal.TooManyColumns p = absurd p
 seen_column before field column (refusal.UnevenRow r) p = absurd p
 seen_column before field column refusal.TooManyRows p = absurd p
-seen_column before field column refusal.Memory p = absurd p
 
 named_not_refused : (before : List (List ℕ)) (field : List ℕ) (column : ℕ) (e : DiscoverRefusal)
     → NamesColumn before field → RefusesColumn before field column e → ⊥
@@ -89,7 +88,6 @@ seen_rows n rows refusal.NoHeader p = absurd p
 seen_rows n rows refusal.TooManyColumns p = absurd p
 seen_rows n rows (refusal.BadColumn c) p = absurd p
 seen_rows n rows (refusal.DoubleColumn c) p = absurd p
-seen_rows n rows refusal.Memory p = absurd p
 
 uneven_same : (n : ℕ) (rows : Relation) (one other : ℕ) → HasUneven n rows one → HasUneven n rows other → one ≡ other
 uneven_same n rows one other p q = elim (cases_lt p.at q.at) [

@@ -1,3 +1,5 @@
+-- When the header of a file names its columns, or why it does not: for `read_headed`, by
+-- `Headings`.
 use Rattle.std.specs.Prelude.{◌≡◌, ◌≢◌, ◌+◌, ◌<◌, ◌≤◌, ◌⊎◌, ℕ, Bool, true, false, ◌&&◌, not, List, [], length, take, slice_index_or, None}
 use Rattle.dep_model.specs.Names.{is_name}
 use Rattle.dep_model.specs.Schemas.{place_named}
@@ -24,7 +26,6 @@ RefusesColumn before field column refusal.NoHeader = ⊥
 RefusesColumn before field column refusal.TooManyColumns = ⊥
 RefusesColumn before field column (refusal.UnevenRow r) = ⊥
 RefusesColumn before field column refusal.TooManyRows = ⊥
-RefusesColumn before field column refusal.Memory = ⊥
 
 -- the field at a place
 abbrev pub field_at : List (List ℕ) → ℕ → List ℕ

@@ -1,3 +1,5 @@
+-- What a CSV text means whose header is free, or its first refusal: for `read_headed` and
+-- `discover` (`desk_cli/Discoveries`).
 use Rattle.std.specs.Prelude.{◌≡◌, ◌≢◌, ◌+◌, ◌<◌, ◌≤◌, ◌⊎◌, ℕ, List, [], ◌∷◌, length}
 use Rattle.std.specs.Borrow.{Bor}
 use Rattle.csv.specs.declared.reader.Reader.{Reader}
@@ -16,7 +18,7 @@ names_under h = h.names.items
 
 -- the rows
 abbrev pub rows_under : Headed → Relation
-rows_under h = h.rows.items
+rows_under h = h.rows
 
 -- the records of a text are a header, which names the columns, and below it the rows
 pub record IsHeaded (records : List (List (List ℕ))) (h : Headed) : Type 0 where
@@ -51,7 +53,6 @@ RefusesRows n rows refusal.NoHeader = ⊥
 RefusesRows n rows refusal.TooManyColumns = ⊥
 RefusesRows n rows (refusal.BadColumn c) = ⊥
 RefusesRows n rows (refusal.DoubleColumn c) = ⊥
-RefusesRows n rows refusal.Memory = ⊥
 
 -- why the records of a text are no rows under a header
 abbrev pub IsRefusedDiscovery : List (List (List ℕ)) → DiscoverRefusal → Type 0

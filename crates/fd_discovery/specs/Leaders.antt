@@ -1,3 +1,4 @@
+-- Rows by what they have on a set: for the search of fd_discovery. `Desk` does not cite it.
 use Rattle.std.specs.Prelude.{◌≡◌, ◌<◌, ◌≤◌, ℕ, List, [], length, slice_index_or, All, Contains}
 use Rattle.attr_sets.specs.Places.{Places}
 use Rattle.dep_model.specs.Tuples.{Relation, AgreeOn}

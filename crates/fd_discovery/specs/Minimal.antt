@@ -1,5 +1,7 @@
+-- The minimal functional dependencies of rows, in order: for `discover` and the command of that
+-- name (`desk_cli/Discoveries`).
 use Rattle.std.specs.Prelude.{◌≡◌, ◌<◌, ◌⊎◌, ℕ, false, List, All, AllPairs, Contains}
-use Rattle.attr_sets.specs.Places.{Places, below, only, Within, Same, IsBefore}
+use Rattle.attr_sets.specs.Places.{Places, below, only, Within, IsBefore}
 use Rattle.dep_model.specs.Tuples.{Relation}
 use Rattle.dep_model.specs.Dependencies.{Dependency, fd, left_of, right_of, ObeysFd}
 
@@ -23,7 +25,7 @@ IsMinimalFd n r d = (x : Places) × (a : ℕ) × (d ≡ fd x (only a)) × IsMini
 abbrev pub Precedes : Dependency → Dependency → Type 0
 Precedes d e =
     IsBefore (left_of d) (left_of e)
-    ⊎ (Same (left_of d) (left_of e) × IsBefore (right_of d) (right_of e))
+    ⊎ ((left_of d ≡ left_of e) × IsBefore (right_of d) (right_of e))
 
 -- exactly the minimal dependencies of rows within n columns, in this order
 pub record AreAllMinimal (n : ℕ) (r : Relation) (ds : List Dependency) : Type 0 where

@@ -1,5 +1,6 @@
+-- What was found so far: for the functions below `discover`. `Desk` does not cite it.
 use Rattle.std.specs.Prelude.{◌≡◌, ◌<◌, ◌⊎◌, ℕ, true, false, List, All, AllPairs, Any}
-use Rattle.attr_sets.specs.Places.{Places, below, only, Within, Same, IsBefore}
+use Rattle.attr_sets.specs.Places.{Places, below, only, Within, IsBefore}
 use Rattle.dep_model.specs.Tuples.{Relation}
 use Rattle.dep_model.specs.Dependencies.{Dependency, fd, left_of, right_of, ObeysFd}
 use Rattle.dep_model.specs.Deps.{dependencies_of}
@@ -19,11 +20,12 @@ pub record AreNotGiven (n : ℕ) (ds : List Dependency) (x wanted : Places) : Ty
 
 -- x -> a is tried before y -> b: sets ascending, then attributes ascending
 abbrev pub IsTried : Places → ℕ → Places → ℕ → Type 0
-IsTried y b x a = IsBefore x y ⊎ (Same x y × (a < b))
+IsTried y b x a = IsBefore x y ⊎ ((x ≡ y) × (a < b))
 
 -- a listed dependency is one of the minimal ones that were tried before y -> b
 abbrev pub IsFoundBefore : ℕ → Relation → Places → ℕ → Dependency → Type 0
-IsFoundBefore n r y b d = (x : Places) × (a : ℕ) × (d ≡ fd x (only a)) × IsMinimalWithin n r x a × IsTried y b x a
+IsFoundBefore n r y b d =
+    (x : Places) × (a : ℕ) × (d ≡ fd x (only a)) × IsMinimalWithin n r x a × IsTried y b x a
 
 -- minimal dependencies that were tried before y -> b. They give all that the rows obey of what was tried
 pub record AreFound (n : ℕ) (r : Relation) (y : Places) (b : ℕ) (ds : List Dependency) : Type 0 where

@@ -1,31 +1,34 @@
-ghost use Rattle.std.specs.Prelude.{◌≡◌, ◌≢◌, ◌<◌, ◌≤◌, ◌^◌, ℕ, List, length, map, IfOk, IfErr};
+ghost use Rattle.std.specs.Prelude.{◌≡◌, ◌<◌, ◌≤◌, ◌^◌, ℕ, List, length, map, IfOk, IfErr};
 ghost use Rattle.csv.specs.Records.{fields_of};
+ghost use Rattle.dep_model.specs.Failures.{RefusesAs};
 ghost use Rattle.fd_discovery.specs.Headers.{NamesColumn, RefusesColumn, IsColumnHeader, RefusesColumnHeader};
-ghost use Rattle.fd_discovery.specs.declared.refusal.DiscoverRefusal.TheVariants.{Memory};
 
 use crate::DiscoverRefusal;
 use crate::headed::WIDEST_HEADED;
 use crate::records::field;
 use csv::ByteRecord;
-use dep_model::Name;
+use dep_model::{Failure, Name};
 use line_reader::{is_reserved, place_among};
 use schema_grammar::Format;
 use std::alloc::Global;
 
 // The names that a header gives its columns.
-pub fn column_names(alloc: Global, fields: &ByteRecord) -> Result<Vec<Name>, DiscoverRefusal>
+pub fn column_names(
+    alloc: Global,
+    fields: &ByteRecord,
+) -> Result<Vec<Name>, Failure<DiscoverRefusal>>
     ensures names { IfOk result (λ names. names.items ≡ fields_of fields.now) }
     ensures header { IfOk result (λ _. IsColumnHeader (fields_of fields.now)) }
-    ensures err { IfErr result (λ e. e ≢ Memory → RefusesColumnHeader (fields_of fields.now) e) }
+    ensures err { IfErr result (RefusesAs (RefusesColumnHeader (fields_of fields.now))) }
 {
     if fields.len() > WIDEST_HEADED as usize {
-        return Err(DiscoverRefusal::TooManyColumns);
+        return Err(Failure::Refused(DiscoverRefusal::TooManyColumns));
     }
     let mut names = Vec::new(alloc);
     for i in 0..fields.len() {
         let name = match column_name(&names, field(fields, i), i as u32 + 1) {
             Ok(name) => name,
-            Err(refusal) => return Err(refusal),
+            Err(refusal) => return Err(Failure::Refused(refusal)),
         };
         names.push(name)?;
     }
@@ -36,7 +39,7 @@ pub fn column_names(alloc: Global, fields: &ByteRecord) -> Result<Vec<Name>, Dis
 fn column_name(before: &[Name], field: &[u8], column: u32) -> Result<Name, DiscoverRefusal>
     ensures name { IfOk result (λ name. name ≡ field.now) }
     ensures fits { IfOk result (λ _. NamesColumn before.now field.now) }
-    ensures err { IfErr result (λ e. RefusesColumn before.now field.now column e) }
+    ensures err { IfErr result (RefusesColumn before.now field.now column) }
 {
     if is_reserved(Format::Plain, field) {
         return Err(DiscoverRefusal::BadColumn { column });

@@ -10,7 +10,8 @@ use crate::headed::WIDEST_HEADED;
 use crate::searching::{add_minimal, search_above};
 use crate::table::Table;
 use attr_sets::AttrSet;
-use dep_model::{Dep, Row, WantMemory};
+use dep_model::{Dep, WantMemory};
+use row_store::Rows;
 use std::alloc::Global;
 
 /// All minimal functional dependencies that rows of `width` columns obey, each with one attribute on
@@ -19,7 +20,7 @@ use std::alloc::Global;
 ///
 /// Sets are tried from the empty one on, so that one from which an attribute follows is the first of
 /// those that hold it (Huhtala, Kärkkäinen, Porkka and Toivonen 1999).
-pub fn discover(alloc: Global, width: u8, rows: &[Row]) -> Result<Vec<Dep>, WantMemory>
+pub fn discover(alloc: Global, width: u8, rows: &Rows) -> Result<Vec<Dep>, WantMemory>
     requires width { width ≤ WIDEST_HEADED }
     requires over { IsOver width rows.now }
     requires few { length rows.now < 2 ^ 32 }

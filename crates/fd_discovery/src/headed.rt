@@ -1,15 +1,16 @@
-ghost use Rattle.std.specs.Prelude.{◌≡◌, ◌≢◌, ◌<◌, ◌≤◌, ℕ, List, length, IfOk, IfErr};
+ghost use Rattle.std.specs.Prelude.{◌≡◌, ◌<◌, ◌≤◌, ℕ, List, length, IfOk, IfErr, OnOk};
 ghost use Rattle.csv.specs.Records.{fields_of};
 ghost use Rattle.csv_rows.specs.Records.{records_of, HasLeft};
+ghost use Rattle.dep_model.specs.Failures.{RefusesAs};
 ghost use Rattle.dep_model.specs.Tuples.{IsOver};
 ghost use Rattle.fd_discovery.specs.Headings.{IsHeaded, IsRefusedDiscovery, names_under, RefusesRows, ReadsNames, RefusesNames};
-ghost use Rattle.fd_discovery.specs.declared.refusal.DiscoverRefusal.TheVariants.{Memory};
 
 use crate::DiscoverRefusal;
 use crate::columns::column_names;
 use crate::records::{field, open, take_record};
 use csv::{ByteRecord, Reader};
-use dep_model::{Name, Row, Value};
+use dep_model::{Failure, Name, WantMemory};
+use row_store::{FlatValues, Rows};
 use std::alloc::Global;
 
 /// The most columns of a text whose dependencies are looked for.
@@ -24,85 +25,90 @@ pub struct Headed {
     /// The names of the columns, from left to right.
     pub names: Vec<Name>,
     /// The rows, each with its values in the order of the columns.
-    pub rows: Vec<Row>,
+    pub rows: Rows,
 }
 
 /// The rows of a CSV text under a header of different names, of which none is reserved. The records
 /// are those that `csv_rows` reads, after one byte-order mark. Of more than one refusal the first in
 /// the order of `DiscoverRefusal` decides, of the header's fields the first from the left, of the rows
 /// the first from the top; of one row `UnevenRow` comes before `TooManyRows`.
-pub fn read_headed(alloc: Global, text: &[u8]) -> Result<Headed, DiscoverRefusal>
+pub fn read_headed(alloc: Global, text: &[u8]) -> Result<Headed, Failure<DiscoverRefusal>>
     ensures ok { IfOk result (λ headed. IsHeaded (records_of text.now) headed) }
     ensures some { IfOk result (λ headed. 0 < length (names_under headed)) }
-    ensures err { IfErr result (λ e. e ≢ Memory → IsRefusedDiscovery (records_of text.now) e) }
+    ensures err { IfErr result (RefusesAs (IsRefusedDiscovery (records_of text.now))) }
 {
     let mut reader = open(alloc, text);
     let names = match read_names(alloc, &mut reader) {
         Ok(names) => names,
-        Err(refusal) => return Err(refusal),
+        Err(failure) => return Err(failure),
     };
-    match read_body(alloc, names.len(), &mut reader) {
+    match read_body(alloc, names.len(), &mut reader, text.len()) {
         Ok(rows) => Ok(Headed { names, rows }),
-        Err(refusal) => Err(refusal),
+        Err(failure) => Err(failure),
     }
 }
 
 // The names of the columns.
-fn read_names(alloc: Global, reader: &mut Reader<&[u8]>) -> Result<Vec<Name>, DiscoverRefusal>
+fn read_names(
+    alloc: Global,
+    reader: &mut Reader<&[u8]>,
+) -> Result<Vec<Name>, Failure<DiscoverRefusal>>
     ensures ok { (rs : List (List (List ℕ))) → HasLeft reader.old rs
         → IfOk result (λ names. ReadsNames rs reader.new names.items) }
     ensures err { (rs : List (List (List ℕ))) → HasLeft reader.old rs
-        → IfErr result (λ e. e ≢ Memory → RefusesNames rs e) }
+        → IfErr result (RefusesAs (RefusesNames rs)) }
 {
     let mut fields = ByteRecord::new(alloc);
     match take_record(reader, &mut fields) {
         Ok(true) => column_names(alloc, &fields),
-        Ok(false) => Err(DiscoverRefusal::NoHeader),
-        Err(_) => Err(DiscoverRefusal::Memory),
+        Ok(false) => Err(Failure::Refused(DiscoverRefusal::NoHeader)),
+        Err(_) => Err(Failure::OutOfMemory),
     }
 }
 
-// The rows under a header of this many columns.
+// The rows under a header of this many columns. Room is taken at once for so many bytes of values.
 fn read_body(
     alloc: Global,
     columns: usize,
     reader: &mut Reader<&[u8]>,
-) -> Result<Vec<Row>, DiscoverRefusal>
+    room: usize,
+) -> Result<Rows, Failure<DiscoverRefusal>>
     ensures all { (rs : List (List (List ℕ))) → HasLeft reader.old rs
-        → IfOk result (λ rows. rows.items ≡ rs) }
-    ensures even { IfOk result (λ rows. IsOver columns rows.items) }
-    ensures few { IfOk result (λ rows. length rows.items ≤ MOST_HEADED_ROWS) }
+        → IfOk result (λ rows. rows ≡ rs) }
+    ensures even { IfOk result (λ rows. IsOver columns rows) }
+    ensures few { IfOk result (λ rows. length rows ≤ MOST_HEADED_ROWS) }
     ensures err { (rs : List (List (List ℕ))) → HasLeft reader.old rs
-        → IfErr result (λ e. e ≢ Memory → RefusesRows columns rs e) }
+        → IfErr result (RefusesAs (RefusesRows columns rs)) }
 {
     let mut fields = ByteRecord::new(alloc);
-    let mut rows = Vec::new(alloc);
+    let mut row = FlatValues::new(alloc);
+    let mut rows = Rows::with_room(alloc, room)?;
     loop {
         match take_record(reader, &mut fields) {
             Ok(true) => {}
             Ok(false) => return Ok(rows),
-            Err(_) => return Err(DiscoverRefusal::Memory),
+            Err(_) => return Err(Failure::OutOfMemory),
         }
         if fields.len() != columns {
-            return Err(DiscoverRefusal::UnevenRow {
+            return Err(Failure::Refused(DiscoverRefusal::UnevenRow {
                 row: rows.len() as u32 + 1,
-            });
+            }));
         }
         if rows.len() >= MOST_HEADED_ROWS as usize {
-            return Err(DiscoverRefusal::TooManyRows);
+            return Err(Failure::Refused(DiscoverRefusal::TooManyRows));
         }
-        rows.push(row_of(alloc, &fields)?)?;
+        take_row(&fields, &mut row)?;
+        rows.push(&row)?;
     }
 }
 
-// The row of a record.
-fn row_of(alloc: Global, fields: &ByteRecord) -> Result<Row, DiscoverRefusal>
-    ensures row { IfOk result (λ row. row ≡ fields_of fields.now) }
-    ensures memory { IfErr result (λ e. e ≡ Memory) }
+// The values become those of a record.
+fn take_row(fields: &ByteRecord, values: &mut FlatValues) -> Result<(), WantMemory>
+    ensures row { OnOk result (values.new ≡ fields_of fields.now) }
 {
-    let mut values = Vec::with_capacity(alloc, fields.len())?;
+    values.clear();
     for i in 0..fields.len() {
-        values.push(Value::make(alloc, field(fields, i))?)?;
+        values.push(field(fields, i))?;
     }
-    Ok(Row::make(values))
+    Ok(())
 }

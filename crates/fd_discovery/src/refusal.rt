@@ -1,6 +1,3 @@
-use dep_model::WantMemory;
-use std::alloc::{AllocError, AllocFailed};
-
 /// Why a CSV text is refused whose columns are named by its header alone.
 #[derive(Clone, Copy, Debug, PartialEq, Eq, Hash)]
 pub enum DiscoverRefusal {
@@ -16,39 +13,4 @@ pub enum DiscoverRefusal {
     UnevenRow { row: u32 },
     /// 6: one row more than a file may have.
     TooManyRows,
-    /// Want of memory.
-    Memory,
-}
-
-impl From<AllocError> for DiscoverRefusal {
-    ghost use Rattle.fd_discovery.specs.declared.refusal.DiscoverRefusal.TheVariants.{Memory};
-    ghost use Rattle.std.specs.Prelude.{◌≡◌};
-
-    ghost from_gives = { λ _ e. e ≡ Memory };
-
-    fn from(_error: AllocError) -> Self {
-        DiscoverRefusal::Memory
-    }
-}
-
-impl<T: Drop> From<AllocFailed<T>> for DiscoverRefusal {
-    ghost use Rattle.fd_discovery.specs.declared.refusal.DiscoverRefusal.TheVariants.{Memory};
-    ghost use Rattle.std.specs.Prelude.{◌≡◌};
-
-    ghost from_gives = { λ _ e. e ≡ Memory };
-
-    fn from(_error: AllocFailed<T>) -> Self {
-        DiscoverRefusal::Memory
-    }
-}
-
-impl From<WantMemory> for DiscoverRefusal {
-    ghost use Rattle.fd_discovery.specs.declared.refusal.DiscoverRefusal.TheVariants.{Memory};
-    ghost use Rattle.std.specs.Prelude.{◌≡◌};
-
-    ghost from_gives = { λ _ e. e ≡ Memory };
-
-    fn from(_error: WantMemory) -> Self {
-        DiscoverRefusal::Memory
-    }
 }

@@ -5,7 +5,8 @@ ghost use Rattle.fd_discovery.specs.Leaders.{IsTableOfRows, order_at};
 
 use crate::ordering::RowOrder;
 use csv_rows::Interned;
-use dep_model::{Row, WantMemory};
+use dep_model::WantMemory;
+use row_store::Rows;
 use std::alloc::Global;
 
 // Rows by numbers in place of their values, and for each column the order of the rows by its numbers.
@@ -18,7 +19,7 @@ pub struct Table {
 
 impl Table {
     // The table of rows that have `width` values each.
-    pub fn make(alloc: Global, width: u8, rows: &[Row]) -> Result<Table, WantMemory>
+    pub fn make(alloc: Global, width: u8, rows: &Rows) -> Result<Table, WantMemory>
         requires over { IsOver width rows.now }
         requires few { length rows.now < 2 ^ 32 }
         ensures table { IfOk result (λ table. IsTableOfRows width rows.now table) }

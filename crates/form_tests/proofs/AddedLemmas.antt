@@ -1,11 +1,11 @@
 -- The attributes of a scheme that are in no given left side add only themselves to what is determined.
 use Rattle.std.proofs.Common.{◌≡◌, ℕ, ◌≤◌, true, false, List, [], ◌∷◌, get_or, refl, sym, ap, subst, ◌∙◌, inl, inr, ⊎_elim, arith}
+use mathlib.Core.Path.{fun_ext}
 use Rattle.std.proofs.lemmas.Bool.{true≢false, ltb-true, lt-ltb, or_cases}
 use Rattle.std.proofs.lemmas.Bool.Decides.{nat_tests}
 use Rattle.std.proofs.lemmas.List.Elements.{All-head, All-tail, All-filter}
 use Rattle.std.specs.Prelude.{All}
-use Rattle.attr_sets.specs.Places.{Places, below, only, union, meet, Within, Same}
-use Rattle.attr_sets.proofs.PlacesLemmas.{Same-path}
+use Rattle.attr_sets.specs.Places.{Places, below, only, union, meet, Within}
 use Rattle.attr_sets.specs.Sets.{places}
 use Rattle.dep_model.specs.declared.dep.Dep.{Dep}
 use Rattle.dep_model.specs.declared.dep.Dep.TheVariants.{Fd, Mvd}
@@ -18,6 +18,7 @@ use Rattle.fd_closure.specs.Settled.{IsSettled}
 use Rattle.fd_closure.proofs.ClosedSets.{IsClosure, closure_set, closed-to, closed-from}
 use Rattle.dep_basis.proofs.RestLemmas.{closure_rest}
 use Rattle.form_tests.specs.Adding.{AddOnlyThemselves}
+use Rattle.attr_sets.proofs.PlacesLemmas.{same_at}
 
 -- ---- left sides
 -- a list of functional dependencies is its own functional part
@@ -52,19 +53,19 @@ pub closure_more : (n : ℕ) (ds : List Dependency) (x y : Places) (a : ℕ) →
 closure_more n ds x y a inside h = (h.0, λ r legal. fd_weaker_obeyed x (only a) y (only a) r inside (λ (k : ℕ) m. m) (h.1 r legal))
 
 -- the subsets of a scheme have of a set what they have of its part in the scheme
-meet_scheme : (scheme l whole x : Places) → Within x scheme → Same whole (meet l scheme) → Same (meet x l) (meet x whole)
-meet_scheme scheme l whole x x_in is k = grind (arith, is k, x_in k)
+meet_scheme : (scheme l whole x : Places) → Within x scheme → whole ≡ meet l scheme → meet x l ≡ meet x whole
+meet_scheme scheme l whole x x_in is = fun_ext (λ k. grind (arith, same_at is k, x_in k))
 
 -- ---- by all dependencies
 pub added_by_all : (n : ℕ) (ds : List Dep) (scheme l whole : Places) → n ≤ 128 → All (IsDepWithin (below n)) ds → Within scheme (below n)
-    → All (λ d. Within (left_of (dependency_of d)) l) ds → Same whole (meet l scheme) → AddOnlyThemselves n (dependencies_of ds) scheme whole
+    → All (λ d. Within (left_of (dependency_of d)) l) ds → whole ≡ meet l scheme → AddOnlyThemselves n (dependencies_of ds) scheme whole
 added_by_all n ds scheme l whole few within low lefts is x a x_in h out =
     let there : InClosure n (dependencies_of ds) (meet x l) a =
     ⊎_elim
     (λ inside. absurd (true≢false (sym inside.1 ∙ out)))
     (λ closed. closed)
     ((closure_rest n ds l x few within lefts (λ k m. low k (x_in k m)) a).0 h) in
-    subst (λ (v : Places). InClosure n (dependencies_of ds) v a) (Same-path (meet x l) (meet x whole) (meet_scheme scheme l whole x x_in is)) there
+    subst (λ (v : Places). InClosure n (dependencies_of ds) v a) (meet_scheme scheme l whole x x_in is) there
 
 -- ---- by functional dependencies
 -- the set has all left sides that lie within what the scheme determines
@@ -116,7 +117,7 @@ module _ (n : ℕ) (ds : List Dependency) (scheme reach l x : Places) (within : 
       (found.1.exact a).0 (grind (arith, member, out))
 
 pub added_functional : (n : ℕ) (ds : List Dependency) (scheme reach l whole : Places) → All (IsWithin (below n)) ds → functional_part ds ≡ ds → Within scheme (below n)
-    → ((a : ℕ) → InClosure n ds scheme a → reach a ≡ true) → All (λ d. Within (left_of d) reach → Within (left_of d) l) ds → Same whole (meet l scheme) → AddOnlyThemselves n ds scheme whole
+    → ((a : ℕ) → InClosure n ds scheme a → reach a ≡ true) → All (λ d. Within (left_of d) reach → Within (left_of d) l) ds → whole ≡ meet l scheme → AddOnlyThemselves n ds scheme whole
 added_functional n ds scheme reach l whole within same low reaches lefts is x a x_in h out =
-    subst (λ (v : Places). InClosure n ds v a) (Same-path (meet x l) (meet x whole) (meet_scheme scheme l whole x x_in is))
+    subst (λ (v : Places). InClosure n ds v a) (meet_scheme scheme l whole x x_in is)
     (closure_kept n ds scheme reach l x within same low reaches lefts x_in a h out)

@@ -1,10 +1,11 @@
 -- Left sides that violate Boyce-Codd or fourth form, whatever their right sides.
 use Rattle.std.proofs.Common.{◌≡◌, ℕ, ◌≤◌, ◌↔◌, ◌⊎◌, Bool, true, false, not, List, refl, sym, subst, ◌∙◌, inl, inr, ⊎_elim, arith}
+use mathlib.Core.Path.{fun_ext}
 use Rattle.std.proofs.lemmas.Bool.{true≢false, false≢true, cases_Bool, ltb-true, lt-ltb}
 use Rattle.std.proofs.lemmas.Bool.Decides.{nat_tests}
 use Rattle.std.specs.Prelude.{All, IsTrue}
-use Rattle.attr_sets.specs.Places.{Places, below, only, meet, minus, Within, Same, IsLeastFrom}
-use Rattle.attr_sets.proofs.PlacesLemmas.{Same-path, tell_within}
+use Rattle.attr_sets.specs.Places.{Places, below, only, meet, minus, Within, IsLeastFrom}
+use Rattle.attr_sets.proofs.PlacesLemmas.{tell_within, same_at}
 use Rattle.dep_model.specs.declared.dep.Dep.{Dep}
 use Rattle.dep_model.specs.Dependencies.{Dependency, ObeysMvd, functional_part, left_of, IsWithin}
 use Rattle.dep_model.specs.Deps.{dependency_of, dependencies_of, IsDepWithin}
@@ -63,11 +64,11 @@ module _ (n : ℕ) (ds : List Dependency) (scheme x : Places) (low : Within sche
   c_low : (k : ℕ) → c k ≡ true → below n k ≡ true
   c_low k m = lt-ltb k n ((closure.exact k).0 m).0
 
-  outside_is : Same (outside_of n (outside_of n c)) c
-  outside_is k = elim (cases_Bool (c k)) [
+  outside_is : outside_of n (outside_of n c) ≡ c
+  outside_is = fun_ext (λ k. elim (cases_Bool (c k)) [
     | inl m ↦ let l = c_low k m in grind (arith, m, l)
     | inr m ↦ grind (arith, m)
-  ]
+  ])
 
   pub closed_at : (a : ℕ) → minus scheme x a ≡ true → c a ≡ true → DeterminesBeyond n ds scheme x a
   closed_at a m in_c = (only_on n ds scheme x a x_in (grind (arith, m)) ((closure.exact a).0 in_c), grind (arith, m))
@@ -95,7 +96,7 @@ module _ (n : ℕ) (ds : List Dependency) (scheme x : Places) (low : Within sche
                 | inl in_x ↦ absurd (true≢false (sym (closure.holds k in_x) ∙ grind (arith, m)))
                 | inr out ↦ out
               ])
-              split (subst (λ (v : Places). ObeysMvd scheme x y (two_tuples n v)) (sym (Same-path (outside_of n (outside_of n c)) c outside_is)) obeyed))
+              split (subst (λ (v : Places). ObeysMvd scheme x y (two_tuples n v)) (sym outside_is) obeyed))
         ]
       ]
 
@@ -122,17 +123,17 @@ bcnf_enough n ds scheme whole low added x b =
     )
 
 pub fourth_enough : (n : ℕ) (ds : List Dep) (scheme l whole : Places) → n ≤ 128 → All (IsDepWithin (below n)) ds → Within scheme (below n)
-    → All (λ d. Within (left_of (dependency_of d)) l) ds → Same whole (meet l scheme) → IsEnough n (dependencies_of ds) Fourth scheme whole
+    → All (λ d. Within (left_of (dependency_of d)) l) ds → whole ≡ meet l scheme → IsEnough n (dependencies_of ds) Fourth scheme whole
 fourth_enough n ds scheme l whole few within low lefts is x b =
     let x_in = b.1.implied.within.0 in
-    let same : Same (meet x l) (meet x whole) = λ k. grind (arith, is k, x_in k) in (
+    let same : meet x l ≡ meet x whole = fun_ext (λ k. grind (arith, same_at is k, x_in k)) in (
       no_superkey_less n (dependencies_of ds) scheme whole x x_in b.0,
-      subst (λ (v : Places). HasTwoParts n (dependencies_of ds) scheme v) (Same-path (meet x l) (meet x whole) same)
+      subst (λ (v : Places). HasTwoParts n (dependencies_of ds) scheme v) same
           (two_parts_less n ds scheme l x few within low x_in lefts b.1),
     )
 
 pub all_enough : (n : ℕ) (ds : List Dep) (form : Form) (scheme l whole : Places) → (form ≡ Third → ⊥) → n ≤ 128 → All (IsDepWithin (below n)) ds → Within scheme (below n)
-    → All (λ d. Within (left_of (dependency_of d)) l) ds → Same whole (meet l scheme) → IsEnough n (dependencies_of ds) form scheme whole
+    → All (λ d. Within (left_of (dependency_of d)) l) ds → whole ≡ meet l scheme → IsEnough n (dependencies_of ds) form scheme whole
 all_enough n ds Third scheme l whole other few within low lefts is = λ x b. absurd (other refl)
 all_enough n ds Bcnf scheme l whole other few within low lefts is = bcnf_enough n (dependencies_of ds) scheme whole low (added_by_all n ds scheme l whole few within low lefts is)
 all_enough n ds Fourth scheme l whole other few within low lefts is = fourth_enough n ds scheme l whole few within low lefts is
@@ -179,22 +180,22 @@ module _ (n : ℕ) (ds : List Dependency) (scheme x c : Places) (low : Within sc
   pub told_whole : Within scheme c → Breaks n ds Bcnf scheme x → ⊥
   told_whole all b = b.0 (closed_superkey n ds scheme x c x_in exact all)
 
-  pub told_itself : (found : Places) → Same found (meet c scheme) → Within found x → Breaks n ds Bcnf scheme x → ⊥
+  pub told_itself : (found : Places) → found ≡ meet c scheme → Within found x → Breaks n ds Bcnf scheme x → ⊥
   told_itself found is all b =
       let a = b.1.0 in
       let a_in = beyond_in n ds scheme x a b.1.1.0 in
       let closed = (exact a).1 (ltb-true a n (low a a_in), fd_on-to n ds scheme x (only a) b.1.1.0) in
-      true≢false (sym (all a (is a ∙ grind (arith, a_in, closed))) ∙ b.1.1.1)
+      true≢false (sym (all a (same_at is a ∙ grind (arith, a_in, closed))) ∙ b.1.1.1)
 
-  pub told_some : (found : Places) → Same found (meet c scheme) → (Within scheme c → ⊥) → (Within found x → ⊥) → Breaks n ds Bcnf scheme x
+  pub told_some : (found : Places) → found ≡ meet c scheme → (Within scheme c → ⊥) → (Within found x → ⊥) → Breaks n ds Bcnf scheme x
   told_some found is not_whole not_itself = (
     (λ superkey. not_whole (superkey_closed n ds scheme x c low exact superkey)),
     ⊎_elim
         (λ one.
-        let both : meet c scheme one.0 ≡ true = sym (is one.0) ∙ one.2 in
+        let both : meet c scheme one.0 ≡ true = sym (same_at is one.0) ∙ one.2 in
         (one.0, (only_on n ds scheme x one.0 x_in (grind (arith, both)) ((exact one.0).0 (grind (arith, both))), one.3)))
         (λ all. absurd (not_itself all))
-        (tell_within n found x (λ k m. low k (grind (arith, is k, m)))),
+        (tell_within n found x (λ k m. low k (grind (arith, same_at is k, m)))),
   )
 
 -- what violates a form has two parts
@@ -212,15 +213,15 @@ functional_breaks n ds Fourth scheme x other within same low = ((λ b. (b.0, bcn
 
 -- what x determines beyond itself is what its closed set has of the scheme beyond it
 pub right_told : (n : ℕ) (ds : List Dependency) (scheme x c found y : Places) → Within scheme (below n) → Within x scheme → ((a : ℕ) → (c a ≡ true) ↔ InClosure n ds x a)
-    → Same found (meet c scheme) → Same y (minus found x) → (a : ℕ) → (y a ≡ true) ↔ DeterminesBeyond n ds scheme x a
+    → found ≡ meet c scheme → y ≡ minus found x → (a : ℕ) → (y a ≡ true) ↔ DeterminesBeyond n ds scheme x a
 right_told n ds scheme x c found y low x_in exact found_is y_is a = (
   (λ m.
-      let both : minus found x a ≡ true = sym (y_is a) ∙ m in
-      (only_on n ds scheme x a x_in (grind (arith, both, found_is a)) ((exact a).0 (grind (arith, both, found_is a))), grind (arith, both))),
+      let both : minus found x a ≡ true = sym (same_at y_is a) ∙ m in
+      (only_on n ds scheme x a x_in (grind (arith, both, same_at found_is a)) ((exact a).0 (grind (arith, both, same_at found_is a))), grind (arith, both))),
   (λ h.
       let a_in = beyond_in n ds scheme x a h.0 in
       let closed = (exact a).1 (ltb-true a n (low a a_in), fd_on-to n ds scheme x (only a) h.0) in
-      grind (arith, y_is a, found_is a, a_in, closed, h.1)),
+      grind (arith, same_at y_is a, same_at found_is a, a_in, closed, h.1)),
 )
 
 -- where the form is neither third nor fourth

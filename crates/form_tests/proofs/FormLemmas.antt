@@ -5,8 +5,8 @@ use Rattle.std.proofs.lemmas.Bool.Decides.{nat_tests}
 use Rattle.std.proofs.lemmas.List.{get_or-map}
 use Rattle.std.specs.Prelude.{All, Option, Some, None, IsNone, IfSome}
 use Rattle.attr_sets.specs.Sets.{places}
-use Rattle.attr_sets.specs.Places.{Places, below, only, union, meet, Within, Same, IsBefore}
-use Rattle.attr_sets.proofs.PlacesLemmas.{Same-within, tell_within}
+use Rattle.attr_sets.specs.Places.{Places, below, only, union, meet, Within, IsBefore}
+use Rattle.attr_sets.proofs.PlacesLemmas.{same_from_within, tell_within}
 use Rattle.dep_model.specs.Dependencies.{Dependency, fd, mvd, functional_part, left_of, IsWithin}
 use Rattle.dep_model.specs.declared.dep.Dep.{Dep}
 use Rattle.dep_model.specs.Deps.{dependency_of, dependencies_of}
@@ -30,7 +30,7 @@ use Rattle.form_tests.proofs.SearchLemmas.{meet_before}
 
 -- ---- Boyce-Codd and fourth form
 -- what is neither within x nor all the rest shows that x has two parts
-two_from : (n : ℕ) (ds : List Dependency) (scheme x y : Places) → Within scheme (below n) → ImpliedOn n ds scheme (mvd x y) → (Within y x → ⊥) → (Same (union x y) scheme → ⊥) → HasTwoParts n ds scheme x
+two_from : (n : ℕ) (ds : List Dependency) (scheme x y : Places) → Within scheme (below n) → ImpliedOn n ds scheme (mvd x y) → (Within y x → ⊥) → (union x y ≡ scheme → ⊥) → HasTwoParts n ds scheme x
 two_from n ds scheme x y low on not_within not_whole = record {
   rhs = y;
   implied = on;
@@ -40,7 +40,7 @@ two_from n ds scheme x y low on not_within not_whole = record {
       (tell_within n y x (λ k m. low k (on.within.1 k m)));
   rest = ⊎_elim
       (λ one. (one.0, grind (arith, one.2, one.3), grind (arith, one.2, one.3)))
-      (λ all. absurd (not_whole (Same-within (union x y) scheme (λ k m. grind (arith, m, on.within.0 k, on.within.1 k)) all)))
+      (λ all. absurd (not_whole (same_from_within (union x y) scheme (λ k m. grind (arith, m, on.within.0 k, on.within.1 k)) all)))
       (tell_within n scheme (union x y) low);
 }
 

@@ -4,8 +4,8 @@ use Rattle.std.proofs.Common.{◌≡◌, ℕ, ◌≤◌, true, false, List, sym,
 use Rattle.std.proofs.lemmas.Bool.{true≢false, cases_Bool, ltb-true}
 use Rattle.std.proofs.lemmas.Bool.Decides.{nat_tests}
 use Rattle.std.specs.Prelude.{All}
-use Rattle.attr_sets.specs.Places.{Places, below, only, meet, minus, Within, Same}
-use Rattle.attr_sets.proofs.PlacesLemmas.{tell_empty}
+use Rattle.attr_sets.specs.Places.{Places, below, only, meet, minus, Within}
+use Rattle.attr_sets.proofs.PlacesLemmas.{tell_empty, same_at}
 use Rattle.dep_model.specs.declared.dep.Dep.{Dep}
 use Rattle.dep_model.specs.Dependencies.{Dependency, fd, mvd, left_of}
 use Rattle.dep_model.specs.Deps.{dependency_of, dependencies_of, IsDepWithin}
@@ -86,7 +86,7 @@ module _ (n : ℕ) (ds : List Dep) (scheme x : Places) (within : All (IsDepWithi
 
   -- where x has two parts, an attribute beyond it is in another part than this one
   pub other_part : n ≤ 128 → (y : Places) → IsPart n (dependencies_of ds) scheme x y → HasTwoParts n (dependencies_of ds) scheme x
-      → (p : Places) × IsPart n (dependencies_of ds) scheme x p × (Same p y → ⊥)
+      → (p : Places) × IsPart n (dependencies_of ds) scheme x p × (p ≡ y → ⊥)
   other_part few y part two =
       let a = two.some.0 in
       let b = two.rest.0 in
@@ -101,10 +101,10 @@ module _ (n : ℕ) (ds : List Dep) (scheme x : Places) (within : All (IsDepWithi
         ]
       ]
     where
-      other_at : (k : ℕ) → scheme k ≡ true → x k ≡ false → y k ≡ false → (p : Places) × IsPart n (dependencies_of ds) scheme x p × (Same p y → ⊥)
+      other_at : (k : ℕ) → scheme k ≡ true → x k ≡ false → y k ≡ false → (p : Places) × IsPart n (dependencies_of ds) scheme x p × (p ≡ y → ⊥)
       other_at k k_in out not_y =
           let p = part_at few k k_in out in
-          (p.0, p.1, λ same. true≢false (sym p.2 ∙ same k ∙ not_y))
+          (p.0, p.1, λ same. true≢false (sym p.2 ∙ same_at same k ∙ not_y))
 
 -- ---- what x has of the given left sides
 -- it has two parts where x has

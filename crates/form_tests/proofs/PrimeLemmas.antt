@@ -3,9 +3,9 @@
 use Rattle.std.proofs.Common.{◌≡◌, ℕ, ◌<◌, true, false, List, sym, ap, subst, ◌∙◌, inl, inr, ⊎_elim, arith}
 use Rattle.std.proofs.lemmas.Bool.{true≢false, cases_Bool, cases_eq, true_from_ne_false, ltb-true, or_cases}
 use Rattle.std.proofs.lemmas.Bool.Decides.{nat_tests}
-use Rattle.attr_sets.specs.Places.{Places, below, only, union, meet, minus, Within, Same, count_below}
+use Rattle.attr_sets.specs.Places.{Places, below, only, union, meet, minus, Within, count_below}
 use Rattle.attr_sets.specs.declared.set.TheConstants.{PLACES}
-use Rattle.attr_sets.proofs.PlacesLemmas.{Same-path, count_below-lt}
+use Rattle.attr_sets.proofs.PlacesLemmas.{count_below-lt, same_at}
 use Rattle.dep_model.specs.Dependencies.{Dependency}
 use Rattle.dep_model.specs.Keys.{IsSuperkey, IsKey, IsPrime, IsSettledKey, InClosure}
 use Rattle.dep_model.proofs.RuleLemmas.{reflexivity_obeyed, transitivity_obeyed, fd_union_obeyed, fd_weaker_obeyed}
@@ -15,13 +15,10 @@ use Rattle.form_tests.specs.Primes.{IsTurned, ArePrime}
 use Rattle.form_tests.proofs.AddedLemmas.{closure_more}
 
 -- ---- a key of a set that an attribute turned into a superkey
-module _ (n : ℕ) (ds : List Dependency) (scheme x w k : Places) (a : ℕ) (low : Within scheme (below n)) (x_in : Within x scheme) (turned : IsTurned n ds scheme x a) (is : Same w (union x (only a)))
+module _ (n : ℕ) (ds : List Dependency) (scheme x w k : Places) (a : ℕ) (low : Within scheme (below n)) (x_in : Within x scheme) (turned : IsTurned n ds scheme x a) (is : w ≡ union x (only a))
     (settled : IsSettledKey n ds w k) where
-  w_is : w ≡ union x (only a)
-  w_is = Same-path w (union x (only a)) is
-
   superkey : IsSuperkey n ds scheme w
-  superkey = subst (λ (v : Places). IsSuperkey n ds scheme v) (sym w_is) turned.0
+  superkey = subst (λ (v : Places). IsSuperkey n ds scheme v) (sym is) turned.0
 
   pub turned_key : IsKey n ds scheme k
   turned_key = key_of_superkey n ds scheme w k superkey (settled_is_key n ds w k (λ j m. low j (superkey.within.0 j m)) settled)
@@ -32,7 +29,7 @@ module _ (n : ℕ) (ds : List Dependency) (scheme x w k : Places) (a : ℕ) (low
       without_a : k a ≡ false → Within k x
       without_a out j m = elim (cases_eq j a) [
         | inl same ↦ absurd (true≢false (sym m ∙ ap k same ∙ out))
-        | inr other ↦ grind (arith, nat_tests, is j, settled.within j m)
+        | inr other ↦ grind (arith, nat_tests, same_at is j, settled.within j m)
       ]
 
 -- ---- no set is turned
@@ -41,30 +38,30 @@ abbrev with_rest : Places → Places → Places → Places
 with_rest x free rest = union (meet x free) rest
 
 -- what is left without an attribute
-pub without_in : (free whole : Places) (a : ℕ) → Same free (minus whole (only a)) → Within free whole
-without_in free whole a is k m = grind (arith, is k, m)
+pub without_in : (free whole : Places) (a : ℕ) → free ≡ minus whole (only a) → Within free whole
+without_in free whole a is k m = grind (arith, same_at is k, m)
 
 module _ (n : ℕ) (ds : List Dependency) (scheme whole free rest : Places) (a : ℕ) (low : Within scheme (below n)) (added : AddOnlyThemselves n ds scheme whole)
-    (free_is : Same free (minus whole (only a))) (rest_is : Same rest (minus (minus scheme whole) (only a))) where
+    (free_is : free ≡ minus whole (only a)) (rest_is : rest ≡ minus (minus scheme whole) (only a)) where
   -- the set beside the attribute
   pub beside_in : (y : Places) → Within whole scheme → Within y free → Within (union y rest) scheme
   beside_in y whole_in y_in k m = elim (or_cases (y k) (rest k) m) [
-    | inl in_y ↦ whole_in k (grind (arith, free_is k, y_in k in_y))
-    | inr in_rest ↦ grind (arith, rest_is k, in_rest)
+    | inl in_y ↦ whole_in k (grind (arith, same_at free_is k, y_in k in_y))
+    | inr in_rest ↦ grind (arith, same_at rest_is k, in_rest)
   ]
 
   module _ (x : Places) (x_in : Within x scheme) where
     beside_more : Within (union x (only a)) (union (with_rest x free rest) (only a))
     beside_more j m = elim (cases_eq j a) [
       | inl same ↦ grind (arith, nat_tests, same)
-      | inr other ↦ grind (arith, nat_tests, m, other, free_is j, rest_is j, x_in j)
+      | inr other ↦ grind (arith, nat_tests, m, other, same_at free_is j, same_at rest_is j, x_in j)
     ]
 
     -- it determines the attribute only where x does
     beside_closed : Within (with_rest x free rest) scheme → InClosure n ds (with_rest x free rest) a → InClosure n ds x a
     beside_closed inside closed =
-        let out : with_rest x free rest a ≡ false = grind (arith, nat_tests, free_is a, rest_is a) in
-        closure_more n ds (meet (with_rest x free rest) whole) x a (λ k m. grind (arith, m, free_is k, rest_is k)) (added (with_rest x free rest) a inside closed out)
+        let out : with_rest x free rest a ≡ false = grind (arith, nat_tests, same_at free_is a, same_at rest_is a) in
+        closure_more n ds (meet (with_rest x free rest) whole) x a (λ k m. grind (arith, m, same_at free_is k, same_at rest_is k)) (added (with_rest x free rest) a inside closed out)
 
   pub not_prime : Within whole scheme → ((y : Places) → Within y free → IsTurned n ds scheme (union y rest) a → ⊥) → IsPrime n ds scheme a → ⊥
   not_prime whole_in none prime =
@@ -92,17 +89,17 @@ module _ (n : ℕ) (ds : List Dependency) (scheme whole free rest : Places) (a :
 
 -- ---- what is known to be prime
 -- with a key
-pub primes_more : (n : ℕ) (ds : List Dependency) (scheme x k y : Places) → Same y (union x k) → ArePrime n ds scheme x → IsKey n ds scheme k → ArePrime n ds scheme y
-primes_more n ds scheme x k y is primes key a m = elim (or_cases (x a) (k a) (sym (is a) ∙ m)) [
+pub primes_more : (n : ℕ) (ds : List Dependency) (scheme x k y : Places) → y ≡ union x k → ArePrime n ds scheme x → IsKey n ds scheme k → ArePrime n ds scheme y
+primes_more n ds scheme x k y is primes key a m = elim (or_cases (x a) (k a) (sym (same_at is a) ∙ m)) [
   | inl in_x ↦ primes a in_x
   | inr in_k ↦ (k, key, in_k)
 ]
 
 -- what is still asked becomes less
-pub asked_less : (asked known more left : Places) (a : ℕ) → a < PLACES → Same left (minus asked known) → left a ≡ true → Within known more → more a ≡ true
+pub asked_less : (asked known more left : Places) (a : ℕ) → a < PLACES → left ≡ minus asked known → left a ≡ true → Within known more → more a ≡ true
     → count_below (minus asked more) PLACES < count_below (minus asked known) PLACES
 asked_less asked known more left a few is member grows now =
     count_below-lt PLACES (minus asked more) (minus asked known) a (λ k m. elim (cases_Bool (known k)) [
       | inl before ↦ absurd (true≢false (sym (grows k before) ∙ grind (arith, m)))
       | inr out ↦ grind (arith, m, out)
-    ]) few (grind (arith, now)) (sym (is a) ∙ member)
+    ]) few (grind (arith, now)) (sym (same_at is a) ∙ member)

@@ -5,9 +5,9 @@ use Rattle.std.specs.Prelude.{Option, Some, None, IsNone, IfSome}
 use Rattle.attr_sets.specs.declared.set.AttrSet.{AttrSet}
 use Rattle.attr_sets.specs.declared.set.TheConstants.{PLACES}
 use Rattle.attr_sets.specs.Sets.{places}
-use Rattle.attr_sets.specs.Places.{Places, below, none, meet, Within, Same, IsBefore, IsNextSubset}
-use Rattle.attr_sets.proofs.PlacesLemmas.{Same-path}
+use Rattle.attr_sets.specs.Places.{Places, below, none, meet, Within, IsBefore, IsNextSubset}
 use Rattle.attr_sets.proofs.OrderLemmas.{IsBefore-trans, tell_before, next_subset-before, none-first, whole-last}
+use Rattle.attr_sets.proofs.PlacesLemmas.{same_at}
 
 -- a set comes before the next one to try; where there is no next, each does
 abbrev pub IsPassed : Places → Option AttrSet → Type 0
@@ -19,10 +19,10 @@ pub record IsSearched (P : Places → Type 0) (whole : Places) (next : Option At
   pub within : IfSome next (λ set. Within (places set) whole)
   pub none : (x : Places) → Within x whole → IsPassed x next → P x → ⊥
 
-pub search_start : (P : Places → Type 0) (whole : Places) (set : AttrSet) → Same (places set) none → IsSearched P whole (Some set)
+pub search_start : (P : Places → Type 0) (whole : Places) (set : AttrSet) → places set ≡ none → IsSearched P whole (Some set)
 search_start P whole set empty = record {
-  within = λ k m. absurd (true≢false (sym m ∙ empty k));
-  none = λ x x_in before _. none-first x (subst (λ (v : Places). IsBefore x v) (Same-path (places set) none empty) before);
+  within = λ k m. absurd (true≢false (sym m ∙ same_at empty k));
+  none = λ x x_in before _. none-first x (subst (λ (v : Places). IsBefore x v) empty before);
 }
 
 -- what holds of fewer sets
@@ -34,20 +34,20 @@ search_weaker P Q whole next gives before = record {
 
 -- the set that was tried, and what comes before it
 tried : (n : ℕ) (P : Places → Type 0) (whole : Places) (set : AttrSet) (x : Places) → Within whole (below n) → IsSearched P whole (Some set) → (P (places set) → ⊥) → Within x whole
-    → Same x (places set) ⊎ IsBefore x (places set) → P x → ⊥
+    → (x ≡ places set) ⊎ IsBefore x (places set) → P x → ⊥
 tried n P whole set x low before not x_in up p =
     ⊎_elim
-    (λ (same : Same x (places set)). not (subst P (Same-path x (places set) same) p))
+    (λ (same : x ≡ places set). not (subst P same p))
     (λ (earlier : IsBefore x (places set)). before.none x x_in earlier p)
     up
 
 -- the search goes on, or ends
 pub search_on : (n : ℕ) (P : Places → Type 0) (whole : Places) (set : AttrSet) (next : Option AttrSet) → Within whole (below n) → IsSearched P whole (Some set) → (P (places set) → ⊥)
-    → (IsNone next → Same (places set) whole) → IfSome next (λ y. IsNextSubset whole (places set) (places y)) → IsSearched P whole next
+    → (IsNone next → places set ≡ whole) → IfSome next (λ y. IsNextSubset whole (places set) (places y)) → IsSearched P whole next
 search_on n P whole set None low before not last is = record {
   within = tt;
   none = λ x x_in _ p. tried n P whole set x low before not x_in
-      (⊎_elim inl (⊎_elim inr (λ after. absurd (whole-last whole x x_in (subst (λ (v : Places). IsBefore v x) (Same-path (places set) whole (last refl)) after))))
+      (⊎_elim inl (⊎_elim inr (λ after. absurd (whole-last whole x x_in (subst (λ (v : Places). IsBefore v x) (last refl) after))))
       (tell_before n x (places set) (λ k m. low k (x_in k m)) (λ k m. low k (before.within k m)))) p;
 }
 search_on n P whole set (Some next) low before not last is = record {
@@ -75,7 +75,7 @@ remaining_less set now next is fits more = subst (λ (o : Option AttrSet). remai
 pub meet_before : (n : ℕ) (whole v x : Places) → Within v (below n) → IsBefore v x → IsBefore (meet v whole) x
 meet_before n whole v x low before =
     ⊎_elim
-    (λ (same : Same (meet v whole) v). subst (λ (u : Places). IsBefore u x) (sym (Same-path (meet v whole) v same)) before)
+    (λ (same : meet v whole ≡ v). subst (λ (u : Places). IsBefore u x) (sym same) before)
     (⊎_elim
     (λ (first : IsBefore (meet v whole) v). IsBefore-trans (meet v whole) v x first before)
     (λ (back : IsBefore v (meet v whole)). absurd (true≢false (sym (grind (arith, back.2)) ∙ back.1))))

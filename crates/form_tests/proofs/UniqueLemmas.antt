@@ -3,8 +3,8 @@ use Rattle.std.proofs.Common.{◌≡◌, ℕ, ◌<◌, true, List, length, get_o
 use Rattle.std.proofs.lemmas.Bool.{cases_order, true≢false}
 use Rattle.std.proofs.lemmas.List.{get_or-take, length-take}
 use Rattle.std.proofs.lemmas.Option.{get_or_from_slice_get, slice_get_within}
-use Rattle.attr_sets.specs.Places.{Places, below, only, minus, Within, Same}
-use Rattle.attr_sets.proofs.PlacesLemmas.{Same-path, Same-within, tell_least}
+use Rattle.attr_sets.specs.Places.{Places, below, only, minus, Within}
+use Rattle.attr_sets.proofs.PlacesLemmas.{same_from_within, tell_least}
 use Rattle.attr_sets.proofs.OrderLemmas.{tell_before}
 use Rattle.dep_model.specs.Dependencies.{Dependency, left_of, functional_part}
 use Rattle.dep_model.proofs.PartLemmas.{parts_same}
@@ -15,17 +15,17 @@ use Rattle.form_tests.specs.Chosen.{IsInnocent, IsChosenViolation, IsVisibleViol
 use Rattle.form_tests.proofs.ViolationLemmas.{bcnf_left_in, part_place}
 
 -- ---- the right side of a left side
-third_right : (n : ℕ) (ds : List Dependency) (scheme x y w : Places) → ViolatesThird n ds scheme x y → ViolatesThird n ds scheme x w → Same y w
-third_right n ds scheme x y w one other k =
+third_right : (n : ℕ) (ds : List Dependency) (scheme x y w : Places) → ViolatesThird n ds scheme x y → ViolatesThird n ds scheme x w → y ≡ w
+third_right n ds scheme x y w one other =
     let same : one.attribute ≡ other.attribute =
     ⊎_elim (λ same. same)
     (⊎_elim
     (λ less. absurd (other.least one.attribute less one.determined))
     (λ more. absurd (one.least other.attribute more other.determined)))
     (cases_order one.attribute other.attribute) in
-    one.right k ∙ ap (λ (a : ℕ). only a k) same ∙ sym (other.right k)
+    one.right ∙ ap only same ∙ sym other.right
 
-fourth_right : (n : ℕ) (ds : List Dependency) (scheme x y w : Places) → Within scheme (below n) → ViolatesFourth n ds scheme x y → ViolatesFourth n ds scheme x w → Same y w
+fourth_right : (n : ℕ) (ds : List Dependency) (scheme x y w : Places) → Within scheme (below n) → ViolatesFourth n ds scheme x y → ViolatesFourth n ds scheme x w → y ≡ w
 fourth_right n ds scheme x y w low one other =
     ⊎_elim
     (λ least. parts_same n ds scheme x y w one.part other.part (least.0, one.first least.0 least.2, other.first least.0 least.2))
@@ -35,10 +35,10 @@ fourth_right n ds scheme x y w low one other =
     absurd (true≢false (sym member ∙ nothing k.0 (omega arith))))
     (tell_least n (minus scheme x) 0 (λ k m. low k (grind (arith, m))))
 
-same_right : (n : ℕ) (ds : List Dependency) (form : Form) (scheme x y w : Places) → Within scheme (below n) → Violates n ds form scheme x y → Violates n ds form scheme x w → Same y w
+same_right : (n : ℕ) (ds : List Dependency) (form : Form) (scheme x y w : Places) → Within scheme (below n) → Violates n ds form scheme x y → Violates n ds form scheme x w → y ≡ w
 same_right n ds Third scheme x y w low one other = third_right n (functional_part ds) scheme x y w one other
 same_right n ds Bcnf scheme x y w low one other =
-    Same-within y w (λ k m. (other.right k).1 ((one.right k).0 m)) (λ k m. (one.right k).1 ((other.right k).0 m))
+    same_from_within y w (λ k m. (other.right k).1 ((one.right k).0 m)) (λ k m. (one.right k).1 ((other.right k).0 m))
 same_right n ds Fourth scheme x y w low one other = fourth_right n ds scheme x y w low one other
 
 -- the left side lies within the scheme
@@ -48,12 +48,12 @@ violates_in n ds Bcnf scheme x y low v = bcnf_left_in n ds scheme x y low v
 violates_in n ds Fourth scheme x y low v = v.part.implied.within.0
 
 -- ---- one violation
-both_same : (n : ℕ) (ds : List Dependency) (form : Form) (scheme x y v w : Places) → Within scheme (below n) → Same x v → Violates n ds form scheme x y → Violates n ds form scheme v w → Same x v × Same y w
+both_same : (n : ℕ) (ds : List Dependency) (form : Form) (scheme x y v w : Places) → Within scheme (below n) → x ≡ v → Violates n ds form scheme x y → Violates n ds form scheme v w → (x ≡ v) × (y ≡ w)
 both_same n ds form scheme x y v w low same one other =
-    (same, same_right n ds form scheme x y w low one (subst (λ (u : Places). Violates n ds form scheme u w) (sym (Same-path x v same)) other))
+    (same, same_right n ds form scheme x y w low one (subst (λ (u : Places). Violates n ds form scheme u w) (sym same) other))
 
 pub one_chosen : (n : ℕ) (ds : List Dependency) (form : Form) (scheme x y v w : Places) → Within scheme (below n)
-    → IsChosenViolation n ds form scheme x y → IsChosenViolation n ds form scheme v w → Same x v × Same y w
+    → IsChosenViolation n ds form scheme x y → IsChosenViolation n ds form scheme v w → (x ≡ v) × (y ≡ w)
 one_chosen n ds form scheme x y v w low one other =
     ⊎_elim
     (λ same. both_same n ds form scheme x y v w low same one.violates other.violates)
@@ -71,16 +71,16 @@ earlier n ds form scheme x y v w one other less =
     let short : i < length (take other.place ds) = omega (arith, less, length-take other.place ds, slice_get_within ds i d one.stands, slice_get_within ds other.place other.given other.stands) in
     let is : get_or (take other.place ds) i d ≡ d = get_or-take other.place ds i d less ∙ get_or_from_slice_get ds i d d one.stands in
     let innocent : IsInnocent n ds form scheme d = subst (λ (e : Dependency). IsInnocent n ds form scheme e) is (other.first i d short) in
-    innocent y (subst (λ (u : Places). Violates n ds form scheme u y) (Same-path x (left_of d) one.left) one.violates)
+    innocent y (subst (λ (u : Places). Violates n ds form scheme u y) one.left one.violates)
 
 pub one_visible : (n : ℕ) (ds : List Dependency) (form : Form) (scheme x y v w : Places) → Within scheme (below n)
-    → IsVisibleViolation n ds form scheme x y → IsVisibleViolation n ds form scheme v w → Same x v × Same y w
+    → IsVisibleViolation n ds form scheme x y → IsVisibleViolation n ds form scheme v w → (x ≡ v) × (y ≡ w)
 one_visible n ds form scheme x y v w low one other =
     ⊎_elim
     (λ (same : one.place ≡ other.place).
     let given : one.given ≡ other.given = sym (get_or_from_slice_get ds one.place one.given one.given one.stands)
     ∙ ap (λ (i : ℕ). get_or ds i one.given) same ∙ get_or_from_slice_get ds other.place other.given one.given other.stands in
-    both_same n ds form scheme x y v w low (λ k. one.left k ∙ ap (λ (d : Dependency). left_of d k) given ∙ sym (other.left k)) one.violates other.violates)
+    both_same n ds form scheme x y v w low (one.left ∙ ap left_of given ∙ sym other.left) one.violates other.violates)
     (⊎_elim
     (λ less. absurd (earlier n ds form scheme x y v w one other less))
     (λ more. absurd (earlier n ds form scheme v w x y other one more)))

@@ -4,8 +4,8 @@ use Rattle.std.proofs.lemmas.Bool.{true≢false, cases_Bool}
 use Rattle.std.proofs.lemmas.Bool.Decides.{nat_tests}
 use Rattle.std.proofs.lemmas.Slice.Eq.{bytes_eq-Decides}
 use Rattle.std.specs.Str.{bytes_eq}
-use Rattle.attr_sets.specs.Places.{Places, below, only, union, Within, Same, IsEmpty}
-use Rattle.attr_sets.proofs.PlacesLemmas.{tell_empty, tell_within}
+use Rattle.attr_sets.specs.Places.{Places, below, only, union, Within, IsEmpty}
+use Rattle.attr_sets.proofs.PlacesLemmas.{tell_empty, tell_within, same_at}
 use Rattle.dep_model.specs.Tuples.{value_at}
 use Rattle.dep_model.specs.Dependencies.{Dependency, fd}
 use Rattle.dep_model.specs.Implication.{Implies}
@@ -121,8 +121,8 @@ violation_cut n ds Fourth scheme x y low other v = fourth_cut n ds scheme x y lo
 cut_not_within : (n : ℕ) (ds : List Dependency) (scheme x y : Places) → IsCut n ds scheme x y → Within y x → ⊥
 cut_not_within n ds scheme x y cut inside = true≢false (sym (inside cut.some.0 cut.some.2) ∙ cut.apart cut.some.0 cut.some.2)
 
-cut_not_whole : (n : ℕ) (ds : List Dependency) (scheme x y : Places) → IsCut n ds scheme x y → Same (union x y) scheme → ⊥
-cut_not_whole n ds scheme x y cut same = true≢false (sym (same cut.rest.0 ∙ cut.rest.1) ∙ grind (arith, cut.rest.2))
+cut_not_whole : (n : ℕ) (ds : List Dependency) (scheme x y : Places) → IsCut n ds scheme x y → union x y ≡ scheme → ⊥
+cut_not_whole n ds scheme x y cut same = true≢false (sym (same_at same cut.rest.0 ∙ cut.rest.1) ∙ grind (arith, cut.rest.2))
 
 pub not_in_form : (n : ℕ) (ds : List Dependency) (form : Form) (scheme x y : Places) → Within scheme (below n) → Violates n ds form scheme x y → IsInForm n ds form scheme → ⊥
 not_in_form n ds Third scheme x y low v third =

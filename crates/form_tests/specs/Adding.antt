@@ -1,3 +1,5 @@
+-- Attributes of a scheme that add only themselves: for the narrowing of a scheme before it is
+-- tested. `Desk` does not cite it.
 use Rattle.std.specs.Prelude.{◌≡◌, ℕ, false, List}
 use Rattle.attr_sets.specs.Places.{Places, meet, Within}
 use Rattle.dep_model.specs.Dependencies.{Dependency}

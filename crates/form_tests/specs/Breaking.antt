@@ -1,3 +1,5 @@
+-- Left sides that violate a form, whatever the right side: for the functions below `violation`.
+-- `Desk` does not cite it.
 use Rattle.std.specs.Prelude.{ℕ, List}
 use Rattle.attr_sets.specs.Places.{Places, meet, Within, IsBefore}
 use Rattle.dep_model.specs.Dependencies.{Dependency, functional_part}

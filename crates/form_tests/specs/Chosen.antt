@@ -1,5 +1,7 @@
+-- Which violation of a form is told of a scheme: for `violation`, `visible_violation`, `check form`
+-- (`desk_cli/NormalForms`) and split_forms.
 use Rattle.std.specs.Prelude.{◌≡◌, ℕ, ◌<◌, List, Some, All, take, slice_get}
-use Rattle.attr_sets.specs.Places.{Places, Within, Same, IsBefore, count_below}
+use Rattle.attr_sets.specs.Places.{Places, Within, IsBefore, count_below}
 use Rattle.attr_sets.specs.declared.set.TheConstants.{PLACES}
 use Rattle.dep_model.specs.Dependencies.{Dependency, left_of}
 use Rattle.dep_model.specs.Forms.{IsThird, IsBcnf, IsFourth}
@@ -41,6 +43,6 @@ pub record IsVisibleViolation (n : ℕ) (ds : List Dependency) (form : Form)
   pub place : ℕ
   pub given : Dependency
   pub stands : slice_get ds place ≡ Some given
-  pub left : Same x (left_of given)
+  pub left : x ≡ left_of given
   pub violates : Violates n ds form scheme x y
   pub first : All (IsInnocent n ds form scheme) (take place ds)

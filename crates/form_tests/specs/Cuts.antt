@@ -1,3 +1,5 @@
+-- What it is to part a scheme: for the law that a violation parts its scheme, and the proofs of
+-- split_forms. `Desk` does not cite it.
 use Rattle.std.specs.Prelude.{ℕ, List}
 use Rattle.attr_sets.specs.Places.{Places, union, minus, Apart, Meets}
 use Rattle.dep_model.specs.Dependencies.{Dependency, mvd}

@@ -1,3 +1,5 @@
+-- Prime attributes as they are told one after the other: for the test of third form. `Desk` does
+-- not cite it.
 use Rattle.std.specs.Prelude.{◌≡◌, ℕ, ◌<◌, true, List}
 use Rattle.attr_sets.specs.Places.{Places, only, union, Within}
 use Rattle.attr_sets.specs.Sets.{places}

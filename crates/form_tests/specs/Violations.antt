@@ -1,5 +1,7 @@
+-- What violates a normal form on a scheme, with the right side that is told: for `Chosen` and the
+-- laws of form_tests.
 use Rattle.std.specs.Prelude.{◌≡◌, ℕ, ◌<◌, ◌↔◌, false, true, List}
-use Rattle.attr_sets.specs.Places.{Places, only, minus, Same, IsEmpty, IsLeastFrom}
+use Rattle.attr_sets.specs.Places.{Places, only, minus, IsEmpty, IsLeastFrom}
 use Rattle.dep_model.specs.Dependencies.{Dependency, fd, functional_part}
 use Rattle.dep_model.specs.OnSchemes.{ImpliedOn}
 use Rattle.dep_model.specs.Keys.{IsSuperkey, IsPrime, IsPart}
@@ -20,7 +22,7 @@ pub record ViolatesThird (n : ℕ) (ds : List Dependency) (scheme x y : Places) 
   pub attribute : ℕ
   pub determined : DeterminesNonPrime n ds scheme x attribute
   pub least : (a : ℕ) → a < attribute → DeterminesNonPrime n ds scheme x a → ⊥
-  pub right : Same y (only attribute)
+  pub right : y ≡ only attribute
 
 -- x is no superkey and determines attributes beyond it; y has all of them
 pub record ViolatesBcnf (n : ℕ) (ds : List Dependency) (scheme x y : Places) : Type 0 where
@@ -35,7 +37,7 @@ pub record ViolatesFourth (n : ℕ) (ds : List Dependency) (scheme x y : Places)
   pub first : (a : ℕ) → IsLeastFrom (minus scheme x) 0 a → y a ≡ true
   pub other : Places
   pub other_part : IsPart n ds scheme x other
-  pub differ : Same other y → ⊥
+  pub differ : other ≡ y → ⊥
 
 -- x violates a form on a scheme, with the right side y; third normal form goes by the functional
 -- part

@@ -1,7 +1,7 @@
 //! Laws of violations. Each is a function that does nothing, whose clause is the law.
 
 ghost use Rattle.std.specs.Prelude.{◌≡◌, ℕ, List};
-ghost use Rattle.attr_sets.specs.Places.{Places, below, Within, Same};
+ghost use Rattle.attr_sets.specs.Places.{Places, below, Within};
 ghost use Rattle.dep_model.specs.Dependencies.{Dependency};
 ghost use Rattle.form_tests.specs.declared.forms.Form.{Form};
 ghost use Rattle.form_tests.specs.Violations.{Violates};
@@ -20,7 +20,7 @@ pub fn one_chosen_violation()
     ensures law { (n : ℕ) (ds : List Dependency) (form : Form) (scheme x y v w : Places)
         → Within scheme (below n)
         → IsChosenViolation n ds form scheme x y → IsChosenViolation n ds form scheme v w
-        → Same x v × Same y w }
+        → (x ≡ v) × (y ≡ w) }
 {}
 
 /// A scheme has one visible violation at most.
@@ -28,7 +28,7 @@ pub fn one_visible_violation()
     ensures law { (n : ℕ) (ds : List Dependency) (form : Form) (scheme x y v w : Places)
         → Within scheme (below n)
         → IsVisibleViolation n ds form scheme x y → IsVisibleViolation n ds form scheme v w
-        → Same x v × Same y w }
+        → (x ≡ v) × (y ≡ w) }
 {}
 
 /// The sides of a violation of Boyce-Codd or fourth form part the scheme; so it can be replaced

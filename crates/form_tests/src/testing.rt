@@ -18,6 +18,10 @@ use dep_model::{Schema, sides};
 /// is the least attribute beyond the left side that it determines and that is not prime, for
 /// Boyce-Codd form all that it determines beyond itself, for fourth form the part with the least
 /// attribute beyond it. A scheme of more than `WIDEST_TESTED` attributes is not tested.
+///
+/// The time is exponential at worst: with k attributes of given left sides in the scheme, 2 to the
+/// power k subsets are tried. For third form they are tried again for each attribute of which it is
+/// asked whether it is prime.
 pub fn violation(schema: &Schema, scheme: AttrSet, form: Form) -> Result<Option<Breach>, TooWide>
     requires scheme { Within (places scheme) (universe_of schema.now) }
     ensures wide { IsErr result ↔ IsWide (places scheme) }
@@ -60,7 +64,7 @@ fn first_violation(schema: &Schema, scheme: AttrSet, form: Form) -> Option<Breac
 
 /// The first given dependency, in the order of the file, whose left side lies within a scheme and
 /// violates Boyce-Codd or fourth form on it, with the right side as for `violation`. A scheme of
-/// any width is looked at.
+/// any width is looked at, with one test for each given left side.
 pub fn visible_violation(schema: &Schema, scheme: AttrSet, form: Form) -> Option<Breach>
     requires scheme { Within (places scheme) (universe_of schema.now) }
     requires form { form ≡ Form.Third → ⊥ }

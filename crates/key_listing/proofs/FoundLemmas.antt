@@ -10,12 +10,12 @@ use Rattle.std.specs.List.Sorted.{IsSorted, IsPermutation}
 use Rattle.std.specs.Ordering.{nat_cmp}
 use Rattle.attr_sets.specs.declared.set.AttrSet.{AttrSet}
 use Rattle.attr_sets.specs.declared.set.TheConstants.{PLACES}
-use Rattle.attr_sets.proofs.PlacesLemmas.{places-at_number}
+use Rattle.attr_sets.proofs.PlacesLemmas.{places-at_number, same_at}
 use Rattle.attr_sets.proofs.OrderLemmas.{before_from_lt}
 use Rattle.dep_model.specs.declared.dep.Dep.{Dep}
 use Rattle.dep_model.specs.Deps.{dependency_of, dependencies_of}
 use Rattle.attr_sets.specs.Sets.{places}
-use Rattle.attr_sets.specs.Places.{Places, below, union, Within, Same, IsBefore}
+use Rattle.attr_sets.specs.Places.{Places, below, union, Within, IsBefore}
 use Rattle.dep_model.specs.Dependencies.{Dependency, fd, mvd, Obeys, ObeysFd, is_fd, functional_part, IsWithin}
 use Rattle.dep_model.specs.Keys.{IsSuperkey, IsKey, IsSettledKey}
 use Rattle.dep_model.proofs.RuleLemmas.{reflexivity_obeyed, transitivity_obeyed, fd_weaker_obeyed, fd_union_obeyed}
@@ -53,8 +53,8 @@ pub some_more : (n : ℕ) (ds : List Dependency) (scheme set : Places) (found : 
     → IsKey n ds scheme (places k) → Within (places k) set → (HoldsAny found set → ⊥) → k.0 < 2 ^ PLACES → AreSomeKeys n ds scheme (found ++ k ∷ [])
 some_more n ds scheme set found k some few key inside none number = record {
   each = All-push (λ (j : AttrSet). IsKey n ds scheme (places j)) found k some.each key;
-  differ = all_pairs_push (λ (i j : AttrSet). Same (places i) (places j) → ⊥) found k some.differ
-      (λ i d l same. none (i, get_or found i d, l, get_or_default found i (get_or found i d) d l, λ p m. inside p (sym (same p) ∙ m)));
+  differ = all_pairs_push (λ (i j : AttrSet). places i ≡ places j → ⊥) found k some.differ
+      (λ i d l same. none (i, get_or found i d, l, get_or_default found i (get_or found i d) d l, λ p m. inside p (sym (same_at same p) ∙ m)));
   few = omega (arith, length_push found k, few);
   numbers = All-push (λ (j : AttrSet). j.0 < 2 ^ PLACES) found k some.numbers number;
 }
@@ -129,7 +129,7 @@ none_multivalued ds same some =
 
 -- ---- the keys in their order
 -- sorted keys ascend
-pub sorted_ascend : (found : List AttrSet) → AllPairs (λ j k. Same (places j) (places k) → ⊥) found → All (λ (k : AttrSet). k.0 < 2 ^ PLACES) found
+pub sorted_ascend : (found : List AttrSet) → AllPairs (λ j k. places j ≡ places k → ⊥) found → All (λ (k : AttrSet). k.0 < 2 ^ PLACES) found
     → IsSorted (λ (j k : AttrSet). nat_cmp j.0 k.0) found → AllPairs (λ j k. IsBefore (places j) (places k)) found
 sorted_ascend found differ fit sorted i j d before l =
     let x = get_or found i d in
@@ -144,12 +144,12 @@ sorted_ascend found differ fit sorted i j d before l =
 -- ---- all keys
 -- the law over lists of sets of attributes
 exchanged_all : (n : ℕ) (ds : List Dependency) (found : List AttrSet) → All (IsWithin (below n)) ds → functional_part ds ≡ ds → 0 < length found → All (λ (k : AttrSet). IsKey n ds (below n) (places k)) found
-    → ((i : ℕ) (d : AttrSet) → i < length found → IsExchangedBy ds found (places (get_or found i d))) → (k : Places) → IsKey n ds (below n) k → Any (λ (j : AttrSet). Same (places j) k) found
+    → ((i : ℕ) (d : AttrSet) → i < length found → IsExchangedBy ds found (places (get_or found i d))) → (k : Places) → IsKey n ds (below n) k → Any (λ (j : AttrSet). places j ≡ k) found
 exchanged_all n ds found within functional some each exchange k key =
     let held = all_keys n ds (map places found) within functional (get_or (map places found) 0 (below n)) (Contains-get_or (map places found) 0 (below n) (omega (arith, some, length-map found places)))
     (All-map (IsKey n ds (below n)) places found each) all_exchanged k key in
     let at = map-member places found held.1 (held.0, held.2, held.3) in
-    (at.1.0, at.0, at.1.1, at.1.2, subst (λ (v : Places). Same v k) (sym at.2) held.4)
+    (at.1.0, at.0, at.1.1, at.1.2, subst (λ (v : Places). v ≡ k) (sym at.2) held.4)
   where
     all_exchanged : IsExchanged ds (map places found)
     all_exchanged j e in_ds =
@@ -158,16 +158,16 @@ exchanged_all n ds found within functional some each exchange k key =
 
 -- what was found, once it is sorted
 pub sorted_keys : (n : ℕ) (ds : List Dependency) (scheme : Places) (found sorted : List AttrSet) → AreSomeKeys n ds scheme found
-    → (length found ≤ MOST_KEYS → (k : Places) → IsKey n ds scheme k → Any (λ (j : AttrSet). Same (places j) k) found)
+    → (length found ≤ MOST_KEYS → (k : Places) → IsKey n ds scheme k → Any (λ (j : AttrSet). places j ≡ k) found)
     → IsPermutation found sorted → IsSorted (λ (j k : AttrSet). nat_cmp j.0 k.0) sorted → AreFoundKeys n ds scheme sorted
 sorted_keys n ds scheme found sorted keys all moved in_order =
     let long = length_permutation found sorted moved in
-    let differ = AllPairs-permutation (λ (j k : AttrSet). Same (places j) (places k) → ⊥) (λ j k other same. other (λ i. sym (same i))) found sorted moved keys.differ in
+    let differ = AllPairs-permutation (λ (j k : AttrSet). places j ≡ places k → ⊥) (λ j k other same. other (sym same)) found sorted moved keys.differ in
     record {
       each = All-permutation (λ (k : AttrSet). IsKey n ds scheme (places k)) found sorted moved keys.each;
       ascending = sorted_ascend sorted differ (All-permutation (λ (k : AttrSet). k.0 < 2 ^ PLACES) found sorted moved keys.numbers) in_order;
       few = omega (arith, long, keys.few);
-      all = λ few k key. Any-permutation (λ (j : AttrSet). Same (places j) k) found sorted moved (all (omega (arith, long, few)) k key);
+      all = λ few k key. Any-permutation (λ (j : AttrSet). places j ≡ k) found sorted moved (all (omega (arith, long, few)) k key);
     }
 
 -- the same, once all were tried

@@ -6,7 +6,7 @@ use Rattle.std.proofs.lemmas.Bool.Decides.{nat_tests}
 use Rattle.std.specs.Prelude.{All}
 use Rattle.attr_sets.specs.declared.set.AttrSet.{AttrSet}
 use Rattle.attr_sets.specs.declared.set.TheConstants.{PLACES}
-use Rattle.attr_sets.specs.Places.{Places, below, only, union, meet, minus, Within, Same}
+use Rattle.attr_sets.specs.Places.{Places, below, only, union, meet, minus, Within}
 use Rattle.attr_sets.specs.Sets.{places}
 use Rattle.dep_model.specs.declared.dep.Dep.{Dep}
 use Rattle.dep_model.specs.Dependencies.{Dependency, fd, left_of}
@@ -20,6 +20,7 @@ use Rattle.fd_closure.proofs.ClosureLemmas.{fd_each-to, fd_each-from}
 use Rattle.dep_basis.proofs.RestLemmas.{closure_rest}
 use Rattle.key_listing.specs.Listing.{AreFoundKeys}
 use Rattle.key_listing.specs.Narrowing.{IsNeeded, IsNeedless, IsWithoutNeedless}
+use Rattle.attr_sets.proofs.PlacesLemmas.{same_at}
 
 -- ---- in each key
 pub needed_in_superkey : (n : ℕ) (ds : List Dependency) (scheme x : Places) (a : ℕ) → IsNeeded n ds scheme a → IsSuperkey n ds scheme x → x a ≡ true
@@ -32,13 +33,13 @@ needed_in_superkey n ds scheme x a needed superkey = true_from_ne_false (x a) (�
     ]
 
 -- those before a place are told, and so is that at it
-pub told_more : (P : ℕ → Type 0) (told more : Places) (i : ℕ) → ((a : ℕ) → (told a ≡ true) ↔ ((a < i) × P a)) → Same more (union told (only i)) → P i
+pub told_more : (P : ℕ → Type 0) (told more : Places) (i : ℕ) → ((a : ℕ) → (told a ≡ true) ↔ ((a < i) × P a)) → more ≡ union told (only i) → P i
     → (a : ℕ) → (more a ≡ true) ↔ ((a < i + 1) × P a)
 told_more P told more i before is here a = elim (cases_eq a i) [
-  | inl same ↦ ((λ _. (omega (arith, same), subst P (sym same) here)), (λ _. grind (arith, nat_tests, is a, same)))
+  | inl same ↦ ((λ _. (omega (arith, same), subst P (sym same) here)), (λ _. grind (arith, nat_tests, same_at is a, same)))
   | inr other ↦ (
-    (λ m. let old = (before a).0 (grind (arith, nat_tests, is a, m, other)) in (omega (arith, old.0), old.1)),
-    (λ h. let old = (before a).1 (omega (arith, h.0, other), h.1) in grind (arith, is a, old)),
+    (λ m. let old = (before a).0 (grind (arith, nat_tests, same_at is a, m, other)) in (omega (arith, old.0), old.1)),
+    (λ h. let old = (before a).1 (omega (arith, h.0, other), h.1) in grind (arith, same_at is a, old)),
   )
 ]
 
@@ -102,17 +103,17 @@ module _ (n : ℕ) (ds : List Dep) (few : n ≤ PLACES) (within : All (IsDepWith
 
     -- what is in no left side, and follows from what is in some, is needless; and nothing else
     pub without_needless-is : (used determined rest : Places) → ((a : ℕ) → (used a ≡ false) ↔ All (λ d. left_of d a ≡ false) (dependencies_of ds))
-        → ((a : ℕ) → (determined a ≡ true) ↔ InClosure n (dependencies_of ds) (meet scheme used) a) → Same rest (minus scheme (minus determined used))
+        → ((a : ℕ) → (determined a ≡ true) ↔ InClosure n (dependencies_of ds) (meet scheme used) a) → rest ≡ minus scheme (minus determined used)
         → IsWithoutNeedless n (dependencies_of ds) scheme rest
     without_needless-is used determined rest sides closed is = record {
-      within = λ k m. grind (arith, m, is k);
+      within = λ k m. grind (arith, m, same_at is k);
       left_out = λ a member. (
         (λ out. record {
           member = member;
-          unused = (sides a).0 (grind (arith, is a, member, out));
+          unused = (sides a).0 (grind (arith, same_at is a, member, out));
           others = superkey-from n (dependencies_of ds) scheme (minus scheme (only a)) (λ k m. grind (arith, m))
               (fd_each-from n (dependencies_of ds) (minus scheme (only a)) scheme
-              (others_each a (grind (arith, is a, member, out)) ((closed a).0 (grind (arith, is a, member, out))).1));
+              (others_each a (grind (arith, same_at is a, member, out)) ((closed a).0 (grind (arith, same_at is a, member, out))).1));
         }),
         (λ needless.
             let unused : used a ≡ false = (sides a).1 needless.unused in
@@ -121,7 +122,7 @@ module _ (n : ℕ) (ds : List Dep) (few : n ≤ PLACES) (within : All (IsDepWith
             determined_beyond used others (meet scheme used) a used_lefts (λ j h. low j (grind (arith, h))) (λ j h. grind (arith, h)) (grind (arith, nat_tests)) (ltb-true a n (low a member))
             (fd_each-to n (dependencies_of ds) others scheme (fd_on-to n (dependencies_of ds) scheme others scheme needless.others) a member) in
             let told = (closed a).1 (ltb-true a n (low a member), implied) in
-            grind (arith, is a, told, unused)),
+            grind (arith, same_at is a, told, unused)),
       );
     }
       where

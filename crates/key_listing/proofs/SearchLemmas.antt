@@ -6,9 +6,9 @@ use Rattle.std.proofs.lemmas.List.Elements.{All-contains}
 use Rattle.std.specs.Prelude.{Contains}
 use Rattle.attr_sets.specs.declared.set.AttrSet.{AttrSet}
 use Rattle.attr_sets.specs.declared.set.TheConstants.{PLACES}
-use Rattle.attr_sets.specs.Places.{Places, only, union, minus, Within, Same, IsEmpty, count_below}
+use Rattle.attr_sets.specs.Places.{Places, only, union, minus, Within, IsEmpty, count_below}
 use Rattle.attr_sets.specs.Sets.{places}
-use Rattle.attr_sets.proofs.PlacesLemmas.{Same-within, count_below-lt}
+use Rattle.attr_sets.proofs.PlacesLemmas.{same_from_within, count_below-lt, same_at}
 use Rattle.dep_model.specs.Dependencies.{Dependency}
 use Rattle.dep_model.specs.Keys.{IsSuperkey, IsKey}
 use Rattle.dep_model.proofs.KeyLemmas.{superkey_more}
@@ -34,36 +34,36 @@ module _ (n : ℕ) (ds : List Dependency) (scheme least most : Places) (most_in 
       (λ (out : least a ≡ false). absurd (true≢false (sym (grind (arith, m, out)) ∙ rest a)))
       (cases_Bool (least a)) in
       let j_key : IsKey n ds scheme (places j) = All-contains (λ (i : AttrSet). IsKey n ds scheme (places i)) found j some.each member in
-      (member.0, j, member.1, member.2, Same-within (places j) k inside (key.minimal (places j) inside j_key.superkey))
+      (member.0, j, member.1, member.2, same_from_within (places j) k inside (key.minimal (places j) inside j_key.superkey))
 
 -- those without an attribute and those with it are all
-pub between_both : (n : ℕ) (ds : List Dependency) (scheme least most without with_it : Places) (a : ℕ) (first found : List AttrSet) → Same without (minus most (only a)) → Same with_it (union least (only a))
+pub between_both : (n : ℕ) (ds : List Dependency) (scheme least most without with_it : Places) (a : ℕ) (first found : List AttrSet) → without ≡ minus most (only a) → with_it ≡ union least (only a)
     → take (length first) found ≡ first → HasKeysBetween n ds scheme least without first → HasKeysBetween n ds scheme with_it most found → HasKeysBetween n ds scheme least most found
 between_both n ds scheme least most without with_it a first found is_without is_with grows had_without had_with few k key from to =
     ⊎_elim
     (λ (inside : k a ≡ true). had_with few k key (holds inside) to)
     (λ (out : k a ≡ false).
     let longer : length first ≤ length found = grows_longer first found grows in
-    Any-grows (λ (j : AttrSet). Same (places j) k) first found grows (had_without (omega (arith, longer, few)) k key from (lacks out)))
+    Any-grows (λ (j : AttrSet). places j ≡ k) first found grows (had_without (omega (arith, longer, few)) k key from (lacks out)))
     (cases_Bool (k a))
   where
     holds : k a ≡ true → Within with_it k
     holds inside i m = ⊎_elim
         (λ (same : i ≡ a). ap k same ∙ inside)
-        (λ (other : i ≡ a → ⊥). from i (grind (arith, nat_tests, is_with i, m, other)))
+        (λ (other : i ≡ a → ⊥). from i (grind (arith, nat_tests, same_at is_with i, m, other)))
         (cases_eq i a)
 
     lacks : k a ≡ false → Within k without
     lacks out i m = ⊎_elim
         (λ (same : i ≡ a). absurd (true≢false (sym m ∙ ap k same ∙ out)))
-        (λ (other : i ≡ a → ⊥). grind (arith, nat_tests, is_without i, to i m, other))
+        (λ (other : i ≡ a → ⊥). grind (arith, nat_tests, same_at is_without i, to i m, other))
         (cases_eq i a)
 
 -- each of the two has fewer attributes to tell apart
-pub fewer_without : (least most without : Places) (a : ℕ) → a < PLACES → most a ≡ true → least a ≡ false → Same without (minus most (only a)) → count_below (minus without least) PLACES < count_below (minus most least) PLACES
+pub fewer_without : (least most without : Places) (a : ℕ) → a < PLACES → most a ≡ true → least a ≡ false → without ≡ minus most (only a) → count_below (minus without least) PLACES < count_below (minus most least) PLACES
 fewer_without least most without a low member out is =
-    count_below-lt PLACES (minus without least) (minus most least) a (λ i m. grind (arith, is i, m)) low (grind (arith, nat_tests, is a)) (grind (arith, member, out))
+    count_below-lt PLACES (minus without least) (minus most least) a (λ i m. grind (arith, same_at is i, m)) low (grind (arith, nat_tests, same_at is a)) (grind (arith, member, out))
 
-pub fewer_with : (least most with_it : Places) (a : ℕ) → a < PLACES → most a ≡ true → least a ≡ false → Same with_it (union least (only a)) → count_below (minus most with_it) PLACES < count_below (minus most least) PLACES
+pub fewer_with : (least most with_it : Places) (a : ℕ) → a < PLACES → most a ≡ true → least a ≡ false → with_it ≡ union least (only a) → count_below (minus most with_it) PLACES < count_below (minus most least) PLACES
 fewer_with least most with_it a low member out is =
-    count_below-lt PLACES (minus most with_it) (minus most least) a (λ i m. grind (arith, is i, m)) low (grind (arith, nat_tests, is a)) (grind (arith, member, out))
+    count_below-lt PLACES (minus most with_it) (minus most least) a (λ i m. grind (arith, same_at is i, m)) low (grind (arith, nat_tests, same_at is a)) (grind (arith, member, out))

@@ -1,5 +1,7 @@
+-- All keys of a scheme in order, or one too many: for `keys`, `keys_of_scheme` and the command
+-- `keys` (`desk_cli/Keys`); the rest is for the search.
 use Rattle.std.specs.Prelude.{◌≡◌, ℕ, ◌+◌, ◌^◌, ◌<◌, ◌≤◌, List, length, All, AllPairs, Any}
-use Rattle.attr_sets.specs.Places.{Places, union, minus, Within, Same, IsBefore}
+use Rattle.attr_sets.specs.Places.{Places, union, minus, Within, IsBefore}
 use Rattle.attr_sets.specs.declared.set.AttrSet.{AttrSet}
 use Rattle.attr_sets.specs.declared.set.TheConstants.{PLACES}
 use Rattle.attr_sets.specs.Sets.{places}
@@ -10,7 +12,7 @@ use Rattle.key_listing.specs.declared.refusal.TheConstants.{MOST_KEYS}
 -- exactly the keys of a scheme, ascending
 pub record AreAllKeys (n : ℕ) (ds : List Dependency) (scheme : Places) (keys : List AttrSet) : Type 0 where
   pub each : All (λ k. IsKey n ds scheme (places k)) keys
-  pub all : (k : Places) → IsKey n ds scheme k → Any (λ j. Same (places j) k) keys
+  pub all : (k : Places) → IsKey n ds scheme k → Any (λ j. places j ≡ k) keys
   pub ascending : AllPairs (λ j k. IsBefore (places j) (places k)) keys
 
 -- one key of a scheme more than are listed, ascending, so all different
@@ -22,7 +24,7 @@ pub record AreManyKeys (n : ℕ) (ds : List Dependency) (scheme : Places) (found
 -- different keys of a scheme, one more than are listed at most
 pub record AreSomeKeys (n : ℕ) (ds : List Dependency) (scheme : Places) (found : List AttrSet) : Type 0 where
   pub each : All (λ k. IsKey n ds scheme (places k)) found
-  pub differ : AllPairs (λ j k. Same (places j) (places k) → ⊥) found
+  pub differ : AllPairs (λ j k. places j ≡ places k → ⊥) found
   pub few : length found ≤ MOST_KEYS + 1
   -- each is the number of a set
   pub numbers : All (λ k. k.0 < 2 ^ PLACES) found
@@ -40,7 +42,7 @@ pub record AreFoundKeys (n : ℕ) (ds : List Dependency) (scheme : Places) (foun
   pub each : All (λ k. IsKey n ds scheme (places k)) found
   pub ascending : AllPairs (λ j k. IsBefore (places j) (places k)) found
   pub few : length found ≤ MOST_KEYS + 1
-  pub all : length found ≤ MOST_KEYS → (k : Places) → IsKey n ds scheme k → Any (λ j. Same (places j) k) found
+  pub all : length found ≤ MOST_KEYS → (k : Places) → IsKey n ds scheme k → Any (λ j. places j ≡ k) found
 
 -- what a dependency makes of a key: its left side, and the key without its right side
 abbrev pub exchanged_key : Dependency → Places → Places

@@ -1,3 +1,5 @@
+-- Attributes that are in every key, or in none: for the laws of key_listing and its search. `Desk`
+-- does not cite it.
 use Rattle.std.specs.Prelude.{◌≡◌, ℕ, ◌↔◌, true, false, List, All}
 use Rattle.attr_sets.specs.Places.{Places, only, minus, Within}
 use Rattle.dep_model.specs.Dependencies.{Dependency, left_of}

@@ -1,11 +1,15 @@
+-- Why the keys of a schema or of a scheme are not listed: for `keys`, `keys_of_scheme` and the
+-- command `keys` (`desk_cli/Keys`).
 use Rattle.std.specs.Prelude.{◌≡◌, ◌<◌, false, Any}
 use Rattle.attr_sets.specs.Places.{Places, count_below}
 use Rattle.attr_sets.specs.declared.set.TheConstants.{PLACES}
 use Rattle.dep_model.specs.Dependencies.{is_fd}
+use Rattle.dep_model.specs.declared.failure.Failure.{Failure}
+use Rattle.dep_model.specs.declared.failure.Failure.TheVariants.{Refused, OutOfMemory}
 use Rattle.dep_model.specs.declared.schema.Schema.{Schema}
 use Rattle.dep_model.specs.Schemas.{width_of, universe_of, theory_of}
 use Rattle.key_listing.specs.declared.refusal.KeyRefusal.{KeyRefusal}
-use Rattle.key_listing.specs.declared.refusal.KeyRefusal.TheVariants.{TooManyKeys, TooWide, Memory}
+use Rattle.key_listing.specs.declared.refusal.KeyRefusal.TheVariants.{TooManyKeys, TooWide}
 use Rattle.key_listing.specs.declared.refusal.SchemeKeyRefusal.{SchemeKeyRefusal}
 use Rattle.key_listing.specs.declared.refusal.SchemeKeyRefusal.TheVariants as of_scheme
 use Rattle.key_listing.specs.declared.refusal.TheConstants.{WIDEST_SEARCHED}
@@ -15,20 +19,20 @@ use Rattle.key_listing.specs.Listing.{AreManyKeys}
 abbrev pub IsTooWide : Schema → Type 0
 IsTooWide s = Any (λ d. is_fd d ≡ false) (theory_of s) × (WIDEST_SEARCHED < width_of s)
 
--- why the keys of a schema are not listed
-abbrev pub IsRefusedListing : Schema → KeyRefusal → Type 0
-IsRefusedListing s (TooManyKeys found) =
+-- why the keys of a schema are not listed; memory runs out only where they are searched
+abbrev pub IsRefusedListing : Schema → Failure KeyRefusal → Type 0
+IsRefusedListing s (Refused (TooManyKeys found)) =
     (IsTooWide s → ⊥) × AreManyKeys (width_of s) (theory_of s) (universe_of s) found.items
-IsRefusedListing s TooWide = IsTooWide s
-IsRefusedListing s Memory = IsTooWide s → ⊥
+IsRefusedListing s (Refused TooWide) = IsTooWide s
+IsRefusedListing s OutOfMemory = IsTooWide s → ⊥
 
 -- a scheme has more attributes than are searched
 abbrev pub IsWideScheme : Places → Type 0
 IsWideScheme scheme = WIDEST_SEARCHED < count_below scheme PLACES
 
 -- why the keys of a scheme are not listed
-abbrev pub IsRefusedFor : Schema → Places → SchemeKeyRefusal → Type 0
-IsRefusedFor s scheme (of_scheme.TooManyKeys found) =
+abbrev pub IsRefusedFor : Schema → Places → Failure SchemeKeyRefusal → Type 0
+IsRefusedFor s scheme (Refused (of_scheme.TooManyKeys found)) =
     (IsWideScheme scheme → ⊥) × AreManyKeys (width_of s) (theory_of s) scheme found.items
-IsRefusedFor s scheme of_scheme.TooWide = IsWideScheme scheme
-IsRefusedFor s scheme of_scheme.Memory = IsWideScheme scheme → ⊥
+IsRefusedFor s scheme (Refused of_scheme.TooWide) = IsWideScheme scheme
+IsRefusedFor s scheme OutOfMemory = IsWideScheme scheme → ⊥

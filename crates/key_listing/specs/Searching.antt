@@ -1,5 +1,6 @@
-use Rattle.std.specs.Prelude.{ℕ, ◌≤◌, List, length, Any}
-use Rattle.attr_sets.specs.Places.{Places, Within, Same}
+-- Which keys were found so far: for the search for keys. `Desk` does not cite it.
+use Rattle.attr_sets.specs.Places.{Places, Within}
+use Rattle.std.specs.Prelude.{Any, List, length, ℕ, ◌≡◌, ◌≤◌}
 use Rattle.attr_sets.specs.declared.set.AttrSet.{AttrSet}
 use Rattle.attr_sets.specs.Sets.{places}
 use Rattle.dep_model.specs.Dependencies.{Dependency}
@@ -11,4 +12,4 @@ use Rattle.key_listing.specs.declared.refusal.TheConstants.{MOST_KEYS}
 abbrev pub HasKeysBetween : ℕ → List Dependency → Places → Places → Places → List AttrSet → Type 0
 HasKeysBetween n ds scheme least most found =
     length found ≤ MOST_KEYS → (k : Places) → IsKey n ds scheme k → Within least k → Within k most
-    → Any (λ j. Same (places j) k) found
+    → Any (λ j. places j ≡ k) found

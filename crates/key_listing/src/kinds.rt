@@ -6,7 +6,8 @@ use dep_model::Dep;
 
 // Whether all dependencies are functional.
 pub fn is_functional(deps: &[Dep]) -> bool
-    ensures functional { IsTrue result ↔ functional_part (dependencies_of deps.now) ≡ dependencies_of deps.now }
+    ensures functional { IsTrue result
+        ↔ functional_part (dependencies_of deps.now) ≡ dependencies_of deps.now }
 {
     for dep in deps {
         if let Dep::Mvd { .. } = dep {

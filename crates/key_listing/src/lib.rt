@@ -1,11 +1,11 @@
 //! Keys: all keys of a schema, and all keys or one of a scheme, by functional and multivalued dependencies.
 //!
-//! `keys` gives exactly all keys of the universe, ascending. By functional dependencies alone they are
-//! found one from another, at any width (Lucchesi and Osborn 1978; `fd_closure::laws` has the theorem).
-//! Where a multivalued dependency is given, they are searched between what is in every key and what is in some,
-//! up to `WIDEST_SEARCHED` attributes. `keys_of_scheme` searches so for exactly all keys of a scheme of at most
-//! as many attributes, ascending. `laws` says which attributes are in every key, and which in none.
-//! `one_key` takes no memory.
+//! `keys` gives exactly all keys of the universe, ascending. By functional dependencies alone they
+//! are found one from another, at any width (Lucchesi and Osborn 1978; `fd_closure::laws` has the
+//! theorem). Where a multivalued dependency is given, they are searched between what is in every
+//! key and what is in some, up to `WIDEST_SEARCHED` attributes. `keys_of_scheme` searches so for
+//! exactly all keys of a scheme of at most as many attributes, ascending. `laws` says which
+//! attributes are in every key, and which in none. `one_key` takes no memory.
 #![tactic(auto)]
 
 mod exchanging;

@@ -8,13 +8,16 @@ use crate::kinds::is_functional;
 use crate::refusal::{KeyRefusal, MOST_KEYS, WIDEST_SEARCHED};
 use crate::searching::searched_keys;
 use attr_sets::AttrSet;
-use dep_model::{Schema, WantMemory};
+use dep_model::{Failure, Schema, WantMemory};
 use std::alloc::Global;
 
 /// All keys of the universe by all dependencies, ascending: of two keys the greatest attribute that is
 /// in one alone decides. There are at most `MOST_KEYS`; where there are more, or where a multivalued
 /// dependency is given over more than `WIDEST_SEARCHED` attributes, the keys are refused.
-pub fn keys(alloc: Global, schema: &Schema) -> Result<Vec<AttrSet>, KeyRefusal>
+///
+/// By functional dependencies alone the time grows with the number of keys. Where a multivalued one is
+/// given, it is exponential in the attributes at worst, as for `keys_of_scheme`.
+pub fn keys(alloc: Global, schema: &Schema) -> Result<Vec<AttrSet>, Failure<KeyRefusal>>
     ensures keys { IfOk result (λ keys.
         AreAllKeys (width_of schema.now) (theory_of schema.now) (universe_of schema.now) keys.items) }
     ensures few { IfOk result (λ keys. length keys.items ≤ MOST_KEYS) }
@@ -22,18 +25,14 @@ pub fn keys(alloc: Global, schema: &Schema) -> Result<Vec<AttrSet>, KeyRefusal>
     ensures refused { IfErr result (IsRefusedListing schema.now) }
 {
     if is_too_wide(schema) {
-        return Err(KeyRefusal::TooWide);
+        return Err(Failure::Refused(KeyRefusal::TooWide));
     }
-    match found_keys(alloc, schema) {
-        Err(WantMemory) => Err(KeyRefusal::Memory),
-        Ok(found) => {
-            let many = found.len() > MOST_KEYS;
-            if many {
-                Err(KeyRefusal::TooManyKeys { found })
-            } else {
-                Ok(found)
-            }
-        }
+    let found = found_keys(alloc, schema)?;
+    let many = found.len() > MOST_KEYS;
+    if many {
+        Err(Failure::Refused(KeyRefusal::TooManyKeys { found }))
+    } else {
+        Ok(found)
     }
 }
 

@@ -13,8 +13,6 @@ pub enum KeyRefusal {
     TooManyKeys { found: Vec<AttrSet> },
     /// A multivalued dependency is given, and there are more than `WIDEST_SEARCHED` attributes.
     TooWide,
-    /// Want of memory.
-    Memory,
 }
 
 /// Why the keys of a scheme are not listed.
@@ -24,6 +22,4 @@ pub enum SchemeKeyRefusal {
     TooManyKeys { found: Vec<AttrSet> },
     /// The scheme has more than `WIDEST_SEARCHED` attributes.
     TooWide,
-    /// Want of memory.
-    Memory,
 }

@@ -8,17 +8,21 @@ ghost use Rattle.key_listing.specs.Refusals.{IsWideScheme, IsRefusedFor};
 use crate::refusal::{MOST_KEYS, SchemeKeyRefusal, WIDEST_SEARCHED};
 use crate::searching::searched_keys;
 use attr_sets::AttrSet;
-use dep_model::{Schema, WantMemory};
+use dep_model::{Failure, Schema};
 use std::alloc::Global;
 
 /// All keys of a scheme by all dependencies, ascending: of two keys the greatest attribute that is in one
 /// alone decides. There are at most `MOST_KEYS`; the keys of a scheme of more than `WIDEST_SEARCHED`
 /// attributes are refused, whatever the dependencies, and then more keys than `MOST_KEYS` are.
+///
+/// The time is exponential at worst: where k attributes of the scheme are not known beforehand to be in
+/// every key or in none, there are fewer than 2 to the power k + 1 tests of a superkey or looks through
+/// the keys that were found.
 pub fn keys_of_scheme(
     alloc: Global,
     schema: &Schema,
     scheme: AttrSet,
-) -> Result<Vec<AttrSet>, SchemeKeyRefusal>
+) -> Result<Vec<AttrSet>, Failure<SchemeKeyRefusal>>
     requires scheme { Within (places scheme) (universe_of schema.now) }
     ensures keys { IfOk result (λ keys.
         AreAllKeys (width_of schema.now) (theory_of schema.now) (places scheme) keys.items) }
@@ -27,17 +31,13 @@ pub fn keys_of_scheme(
     ensures refused { IfErr result (IsRefusedFor schema.now (places scheme)) }
 {
     if scheme.len() > WIDEST_SEARCHED {
-        return Err(SchemeKeyRefusal::TooWide);
+        return Err(Failure::Refused(SchemeKeyRefusal::TooWide));
     }
-    match searched_keys(alloc, schema, scheme) {
-        Err(WantMemory) => Err(SchemeKeyRefusal::Memory),
-        Ok(found) => {
-            let many = found.len() > MOST_KEYS;
-            if many {
-                Err(SchemeKeyRefusal::TooManyKeys { found })
-            } else {
-                Ok(found)
-            }
-        }
+    let found = searched_keys(alloc, schema, scheme)?;
+    let many = found.len() > MOST_KEYS;
+    if many {
+        Err(Failure::Refused(SchemeKeyRefusal::TooManyKeys { found }))
+    } else {
+        Ok(found)
     }
 }

@@ -66,7 +66,8 @@ fn add_keys(
         AreSomeKeys (width_of schema.now) (theory_of schema.now) (places scheme) found.new.items) }
     ensures kept { IfOk result (λ _. take (length found.old.items) found.new.items ≡ found.old.items) }
     ensures all { IfOk result (λ _.
-        HasKeysBetween (width_of schema.now) (theory_of schema.now) (places scheme) (places least) (places most)
+        HasKeysBetween (width_of schema.now) (theory_of schema.now) (places scheme)
+        (places least) (places most)
         found.new.items) }
 {
     if found.len() > MOST_KEYS {
@@ -84,8 +85,8 @@ fn add_keys(
     }
 }
 
-// A found key within a set, with few attributes beyond a third. Where there is none and the set is a superkey,
-// one is added; where it is no superkey, there is none.
+// A found key within a set, with few attributes beyond a third. Where there is none and the set is
+// a superkey, one is added; where it is no superkey, there is none.
 fn key_within(
     schema: &Schema,
     scheme: AttrSet,

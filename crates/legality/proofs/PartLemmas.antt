@@ -1,10 +1,11 @@
 -- The least pair that breaks a multivalued dependency, by counts of parts.
 use Rattle.std.proofs.Common.{inl, inr, ◌≡◌, ◌+◌, ◌<◌, ◌≤◌, ◌==◌, ◌&&◌, ◌||◌, not, nat_lt, ℕ, Bool, true, false, true≢false, List, set, replicate, length, Option, Some, None, refl, sym, ap, subst, ◌∙◌, arith}
+use mathlib.Core.Path.{fun_ext}
 use Rattle.std.proofs.lemmas.List.{get_or-set_other, length-set}
 use Rattle.std.proofs.lemmas.Grind.{get_or-set_at}
 use Rattle.std.proofs.lemmas.Bool.{cases_Bool, cases_lt, eqb-true, eq-eqb}
-use Rattle.attr_sets.specs.Places.{Places, Within, Same, below, union, minus, only, count_below}
-use Rattle.attr_sets.proofs.PlacesLemmas.{Same-path, tell_some, count_below-minus_only, count_below-member, count_below-outside, union_within}
+use Rattle.attr_sets.specs.Places.{Places, Within, below, union, minus, only, count_below}
+use Rattle.attr_sets.proofs.PlacesLemmas.{tell_some, count_below-minus_only, count_below-member, count_below-outside, union_within, same_at}
 use Rattle.dep_model.specs.Tuples.{Tuple, Relation, AgreeOn, value_at}
 use Rattle.dep_model.specs.Dependencies.{mvd, Obeys}
 use Rattle.csv_rows.specs.Numberings.{row_at, number_at, AreGroups, AreFirsts}
@@ -211,22 +212,22 @@ module _ (n : ℕ) (r : Relation) (x y : Places) (g fg l fl z fz a fa : List ℕ
 -- ---- what the code finds out
 
 -- the sets by which the rows are grouped
-rest_set : (n : ℕ) (x y u s m t : Places) → Same u (below n) → Same s (union x y) → Same m (minus u s) → Same t (union x m) → Same t (union x (rest_of n x y))
-rest_set n x y u s m t hu hs hm ht k =
-    let rest : m k ≡ rest_of n x y k = hm k ∙ ap (λ (b : Bool). b && not (s k)) (hu k) ∙ ap (λ (b : Bool). nat_lt k n && not b) (hs k) in
-    ht k ∙ ap (λ (b : Bool). x k || b) rest
+rest_set : (n : ℕ) (x y u s m t : Places) → u ≡ below n → s ≡ union x y → m ≡ minus u s → t ≡ union x m → t ≡ union x (rest_of n x y)
+rest_set n x y u s m t hu hs hm ht = fun_ext (λ k.
+    let rest : m k ≡ rest_of n x y k = same_at hm k ∙ ap (λ (b : Bool). b && not (s k)) (same_at hu k) ∙ ap (λ (b : Bool). nat_lt k n && not b) (same_at hs k) in
+    same_at ht k ∙ ap (λ (b : Bool). x k || b) rest)
 
-pub grouping : (n : ℕ) (r : Relation) (x y u s m t : Places) (g fg l fl z fz a fa : List ℕ) → Same u (below n) → Same s (union x y) → Same m (minus u s) → Same t (union x m)
+pub grouping : (n : ℕ) (r : Relation) (x y u s m t : Places) (g fg l fl z fz a fa : List ℕ) → u ≡ below n → s ≡ union x y → m ≡ minus u s → t ≡ union x m
     → Within x (below n) → Within y (below n) → AreGroups r x g → AreFirsts g fg → AreGroups r s l → AreFirsts l fl → AreGroups r t z → AreFirsts z fz → AreGroups r u a → AreFirsts a fa
     → Grouping n r x y g fg l fl z fz a fa
 grouping n r x y u s m t g fg l fl z fz a fa hu hs hm ht hx hy left left_firsts both both_firsts rest rest_firsts all all_firsts = record {
   left = left;
   left_firsts = left_firsts;
-  both = subst (λ (p : Places). AreGroups r p l) (Same-path s (union x y) hs) both;
+  both = subst (λ (p : Places). AreGroups r p l) hs both;
   both_firsts = both_firsts;
-  rest = subst (λ (p : Places). AreGroups r p z) (Same-path t (union x (rest_of n x y)) (rest_set n x y u s m t hu hs hm ht)) rest;
+  rest = subst (λ (p : Places). AreGroups r p z) (rest_set n x y u s m t hu hs hm ht) rest;
   rest_firsts = rest_firsts;
-  all = subst (λ (p : Places). AreGroups r p a) (Same-path u (below n) hu) all;
+  all = subst (λ (p : Places). AreGroups r p a) hu all;
   all_firsts = all_firsts;
   x_within = hx;
   y_within = hy;

@@ -1,3 +1,5 @@
+-- The least pair of rows that breaks one dependency: for the functions below `offences`. `Desk`
+-- does not cite it.
 use Rattle.std.specs.Prelude.{ℕ, Option, None, Some}
 use Rattle.dep_model.specs.Tuples.{Relation}
 use Rattle.dep_model.specs.Dependencies.{Dependency, Obeys}

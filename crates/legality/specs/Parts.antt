@@ -1,3 +1,5 @@
+-- Groups of rows and the parts that each has, by numbers: for the search that goes by multivalued
+-- dependencies. `Desk` does not cite it.
 use Rattle.std.specs.Prelude.{◌≡◌, ◌<◌, ◌≤◌, ◌==◌, ℕ, Bool, true, false, List, length, slice_index_or, Option, None, Some}
 use Rattle.attr_sets.specs.Places.{count_below}
 use Rattle.csv_rows.specs.Numberings.{number_at}
@@ -19,7 +21,8 @@ pub record ArePartCounts (numbers firsts parts counts : List ℕ) : Type 0 where
 -- the row at this place is the first of fewer parts than its group has; or no row is
 abbrev pub IsFirstShort : List ℕ → List ℕ → List ℕ → List ℕ → Option ℕ → Type 0
 IsFirstShort groups wanted lefts present None =
-    (i : ℕ) → i < length groups → number_at wanted (number_at groups i) ≤ number_at present (number_at lefts i)
+    (i : ℕ) → i < length groups → number_at wanted (number_at groups i)
+    ≤ number_at present (number_at lefts i)
 IsFirstShort groups wanted lefts present (Some f) =
     (f < length groups) × (number_at present (number_at lefts f) < number_at wanted (number_at groups f))
     × ((i : ℕ) → i < f → number_at wanted (number_at groups i) ≤ number_at present (number_at lefts i))

@@ -13,7 +13,8 @@ use crate::offence::Offence;
 use crate::pair::Pair;
 use attr_sets::PLACES;
 use csv_rows::Interned;
-use dep_model::{Dep, Row, Schema, WantMemory};
+use dep_model::{Dep, Schema, WantMemory};
+use row_store::Rows;
 use std::alloc::Global;
 
 /// For each dependency that the rows do not obey, in the order of the file, the least pair of rows
@@ -21,7 +22,7 @@ use std::alloc::Global;
 /// break `X -> Y` where they agree on X and not on Y; they break `X ->> Y` where they agree on X and
 /// no row agrees with the first on X and Y and with the second on the rest.
 /// There is none exactly where the rows are legal.
-pub fn offences(alloc: Global, schema: &Schema, rows: &[Row]) -> Result<Vec<Offence>, WantMemory>
+pub fn offences(alloc: Global, schema: &Schema, rows: &Rows) -> Result<Vec<Offence>, WantMemory>
     requires over { IsOver (width_of schema.now) rows.now }
     requires few { length rows.now < 2 ^ 32 }
     ensures offences { IfOk result
@@ -58,7 +59,7 @@ fn offence(dep: u16, pair: Pair) -> Offence
 // The least pair of rows that breaks a dependency, if one does.
 fn least_pair(
     alloc: Global,
-    rows: &[Row],
+    rows: &Rows,
     width: u8,
     codes: &Interned,
     dep: Dep,

@@ -11,14 +11,15 @@ ghost use Rattle.legality.specs.declared.pair.Pair.{Pair};
 use crate::pair::Pair;
 use attr_sets::{AttrSet, PLACES};
 use csv_rows::{Groups, Interned};
-use dep_model::{Row, WantMemory};
+use dep_model::WantMemory;
+use row_store::Rows;
 use std::alloc::Global;
 
 // The least pair of rows that agree on `lhs` and differ on `rhs`. Its first row is the first of its
 // group.
 pub fn least_functional_pair(
     alloc: Global,
-    rows: &[Row],
+    rows: &Rows,
     width: u8,
     codes: &Interned,
     lhs: AttrSet,
@@ -62,7 +63,7 @@ fn lesser(least: Option<Pair>, pair: Pair) -> Option<Pair>
 
 // Whether two rows agree on a set.
 fn agree(
-    rows: &[Row],
+    rows: &Rows,
     width: u8,
     codes: &Interned,
     set: AttrSet,

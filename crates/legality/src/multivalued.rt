@@ -10,7 +10,8 @@ ghost use Rattle.legality.specs.Parts.{AreBelow, AreBeside, ArePartCounts, IsFir
 use crate::pair::Pair;
 use attr_sets::{AttrSet, PLACES};
 use csv_rows::{Groups, Interned};
-use dep_model::{Row, WantMemory};
+use dep_model::WantMemory;
+use row_store::Rows;
 use std::alloc::Global;
 
 // The least pair of rows that agree on `lhs` and have no row that is the first on `lhs` and `rhs`
@@ -18,7 +19,7 @@ use std::alloc::Global;
 // beside its left and right side than there are in its group.
 pub fn least_multivalued_pair(
     alloc: Global,
-    rows: &[Row],
+    rows: &Rows,
     width: u8,
     codes: &Interned,
     lhs: AttrSet,
@@ -28,7 +29,8 @@ pub fn least_multivalued_pair(
     requires codes { IsInterned width rows.now codes.now }
     requires lhs { Within (places lhs) (below width) }
     requires rhs { Within (places rhs) (below width) }
-    ensures pair { IfOk result (λ least. IsLeastOffence width rows.now (mvd (places lhs) (places rhs)) least) }
+    ensures pair { IfOk result (λ least.
+        IsLeastOffence width rows.now (mvd (places lhs) (places rhs)) least) }
 {
     let universe = AttrSet::full(width);
     let sides = lhs.union(rhs);

@@ -1,3 +1,5 @@
+-- The bytes of a text: gaps, runs and numbers. For the tokens (`Pieces`), and for the words of a
+-- command (`desk_words`).
 use Rattle.std.specs.Prelude.{ℕ, ◌+◌, ◌*◌, ◌-◌, ◌==◌, Bool, ◌&&◌, ◌||◌, List, length, nat_lt, fold}
 use Rattle.std.specs.Char.{is_ascii_digit}
 use Rattle.std.specs.List.{list_all, prefix_len}

@@ -1,3 +1,4 @@
+-- The lines of a text: for the grammars of schemas, plans and certificates, and their readers.
 use Rattle.std.specs.Prelude.{◌≡◌, ◌<◌, ◌≤◌, ℕ, ◌-◌, ◌==◌, Bool, Option, None, Some, List, [], ◌∷◌, length, take, drop, nat_eq, if◌then◌else◌}
 use Rattle.std.specs.List.{starts_with, ends_with, slice_split}
 use denote.Ref.{Bor}

@@ -1,3 +1,4 @@
+-- The longest piece at the front of a text: for `next_token`, by `Tokens`.
 use Rattle.std.specs.Prelude.{ℕ, ◌==◌, Bool, true, false, ◌&&◌, List, [], ◌∷◌, length, take, nat_eq, if◌then◌else◌}
 use Rattle.std.specs.List.{starts_with}
 use Rattle.lexer.specs.declared.piece.Piece.{Piece}

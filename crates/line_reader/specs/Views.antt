@@ -1,4 +1,5 @@
--- What the reader's values stand for, in the words of the grammar.
+-- What the reader's values stand for, in the words of the grammar: for line_reader and the readers
+-- above it. `Desk` does not cite it.
 use Rattle.std.specs.Prelude.{ℕ, List}
 use Rattle.dep_model.specs.Schemas.{names_of}
 use Rattle.lexer.specs.Tokens.{lexed}

@@ -1,5 +1,5 @@
 ghost use Rattle.std.specs.Prelude.{◌≡◌, ◌+◌, ◌<◌, ◌≤◌, ◌^◌, length, OnOk, IfOk, IfErr, Ok, Err, Some, None};
-ghost use Rattle.attr_sets.specs.Places.{only, none, union, below, Within};
+ghost use Rattle.attr_sets.specs.Places.{below, Within};
 ghost use Rattle.attr_sets.specs.Sets.{places};
 ghost use Rattle.schema_grammar.specs.Declarations.{marked};
 ghost use Rattle.schema_grammar.specs.Refusals.{refusal};
@@ -27,7 +27,8 @@ impl<'a> Cursor<'a> {
     /// The next token, its bytes, and what stands after it; `want` is what the line wants there.
     #[tactic(auto, unfolding(schema_grammar::specs::Rests::take))]
     pub fn take(self, want: What) -> Result<(Token, &'a [u8], Cursor<'a>), SchemaRefusal>
-        ensures ok { IfOk result (λ x. take want (rest_of self.entry) ≡ Ok (marked x.0 x.1.now, rest_of x.2)) }
+        ensures ok { IfOk result (λ x.
+            take want (rest_of self.entry) ≡ Ok (marked x.0 x.1.now, rest_of x.2)) }
         ensures length { IfOk result (λ x. x.0.length ≡ length x.1.now) }
         ensures shorter { IfOk result (λ x. length x.2.text.now < length self.entry.text.now) }
         ensures err { IfErr result (λ e. take want (rest_of self.entry) ≡ Err e) }
@@ -117,9 +118,9 @@ impl<'a> Cursor<'a> {
         match token.kind {
             TokenKind::Word => {
                 let first = place(names, rest.line, token, word)?;
-                rest.words(names, single(first))
+                rest.words(names, AttrSet::single(first))
             }
-            TokenKind::Empty => Ok((no_place(), rest)),
+            TokenKind::Empty => Ok((AttrSet::empty(), rest)),
             _ => Err(rest.expected(token, What::Side)),
         }
     }
@@ -132,7 +133,8 @@ impl<'a> Cursor<'a> {
             (λ x. words (names_in names.now) (places set) (rest_of self.entry)
             ≡ Ok (places x.0, rest_of x.1)) }
         ensures within { IfOk result (λ x. Within (places x.0) (below (length (names_in names.now)))) }
-        ensures err { IfErr result (λ e. words (names_in names.now) (places set) (rest_of self.entry) ≡ Err e) }
+        ensures err { IfErr result (λ e.
+            words (names_in names.now) (places set) (rest_of self.entry) ≡ Err e) }
     {
         let line = self.line;
         let mode = self.mode;
@@ -174,7 +176,7 @@ impl<'a> Cursor<'a> {
                     match place(names, line, token, word) {
                         Err(refusal) => return Err(refusal),
                         Ok(place) => {
-                            set = added(set, place);
+                            set = set.with(place);
                             column = token.column + token.length;
                             text = after;
                         }
@@ -183,24 +185,4 @@ impl<'a> Cursor<'a> {
             }
         }
     }
-}
-
-fn no_place() -> AttrSet
-    ensures members { places result ≡ none }
-{
-    AttrSet::empty()
-}
-
-fn single(place: u8) -> AttrSet
-    requires { place < PLACES }
-    ensures members { places result ≡ only place }
-{
-    AttrSet::single(place)
-}
-
-fn added(set: AttrSet, place: u8) -> AttrSet
-    requires { place < PLACES }
-    ensures members { places result ≡ union (places set) (only place) }
-{
-    set.with(place)
 }

@@ -1,5 +1,6 @@
 -- The members of a functional dependency say the same as it, also with their left sides shortened.
 use Rattle.std.proofs.Common.{◌≡◌, ℕ, ◌+◌, ◌<◌, zero, suc, true, false, List, [], ◌∷◌, ◌++◌, sym, ◌∙◌, subst, ap, inl, inr, arith}
+use mathlib.Core.Path.{fun_ext}
 use Rattle.std.proofs.lemmas.Bool.{cases_Bool, cases_eq, ltb-true, true≢false}
 use Rattle.std.proofs.lemmas.Bool.Decides.{nat_tests}
 use Rattle.std.proofs.lemmas.List.{map_push}
@@ -7,7 +8,7 @@ use Rattle.std.proofs.lemmas.List.Elements.{All-nil, All-push, All-contains, All
 use Rattle.std.specs.Prelude.{All, Contains, nat_lt, if◌then◌else◌}
 use Rattle.std.specs.List.{AllZip}
 use Rattle.attr_sets.specs.Places.{Places, below, only, minus, Within, count_below}
-use Rattle.attr_sets.proofs.PlacesLemmas.{Same-path, count_below-place}
+use Rattle.attr_sets.proofs.PlacesLemmas.{count_below-place}
 use Rattle.dep_model.specs.Tuples.{Relation}
 use Rattle.dep_model.specs.declared.dep.Dep.{Dep}
 use Rattle.dep_model.specs.Dependencies.{Dependency, fd, Obeys, ObeysFd, is_fd, functional_part}
@@ -52,13 +53,13 @@ abbrev tried_to : Places → Places → ℕ → Places
 tried_to left short m k = if nat_lt k m then short k else left k
 
 tried_next : (left short : Places) (m : ℕ) → short m ≡ left m → tried_to left short m ≡ tried_to left short (m + 1)
-tried_next left short m same = Same-path (tried_to left short m) (tried_to left short (m + 1)) (λ (k : ℕ). elim (cases_eq k m) [
+tried_next left short m same = fun_ext (λ (k : ℕ). elim (cases_eq k m) [
   | inl here ↦ let e : short k ≡ left k = ap short here ∙ same ∙ ap left (sym here) in grind (arith, nat_tests, e)
   | inr other ↦ grind (arith, nat_tests)
 ])
 
 tried_out : (left short : Places) (m : ℕ) → short m ≡ false → kept_beside left short m ≡ tried_to left short (m + 1)
-tried_out left short m out = Same-path (kept_beside left short m) (tried_to left short (m + 1)) (λ (k : ℕ). elim (cases_eq k m) [
+tried_out left short m out = fun_ext (λ (k : ℕ). elim (cases_eq k m) [
   | inl here ↦ let e : short k ≡ false = ap short here ∙ out in grind (arith, nat_tests, e)
   | inr other ↦ grind (arith, nat_tests)
 ])
@@ -67,7 +68,7 @@ module _ (n : ℕ) (ds : List Dependency) (x y short : Places) (is : IsShortLeft
   -- it determines the right side at each step
   short_tried : (m : ℕ) → Implies n (functional_part ds) (fd (tried_to x short m) y)
   short_tried zero =
-      subst (λ (v : Places). Implies n (functional_part ds) (fd v y)) (Same-path x (tried_to x short 0) (λ (k : ℕ). grind (arith, nat_tests))) implied
+      subst (λ (v : Places). Implies n (functional_part ds) (fd v y)) (fun_ext {f = x} {g = tried_to x short 0} (λ (k : ℕ). grind (arith, nat_tests))) implied
   short_tried (suc m) =
       let before = short_tried m in
       let e : m + 1 ≡ suc m = omega arith in
@@ -82,7 +83,7 @@ module _ (n : ℕ) (ds : List Dependency) (x y short : Places) (is : IsShortLeft
   -- and so does what is left
   pub short_implied : Implies n (functional_part ds) (fd short y)
   short_implied =
-      subst (λ (v : Places). Implies n (functional_part ds) (fd v y)) (Same-path (tried_to x short n) short (λ (k : ℕ). grind (arith, nat_tests, low k, is.within k))) (short_tried n)
+      subst (λ (v : Places). Implies n (functional_part ds) (fd v y)) (fun_ext {f = tried_to x short n} {g = short} (λ (k : ℕ). grind (arith, nat_tests, low k, is.within k))) (short_tried n)
 
 -- no attribute of it can be left out
 pub short_needed : (n : ℕ) (ds : List Dependency) (x y short : Places) (i : ℕ) → IsShortLeft n ds x y short → short i ≡ true → Implies n (functional_part ds) (fd (minus short (only i)) y) → ⊥

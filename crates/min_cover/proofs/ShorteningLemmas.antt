@@ -1,12 +1,13 @@
 -- The loop that shortens a left side: its attributes are tried from the first to the last.
 use Rattle.std.proofs.Common.{◌≡◌, ℕ, ◌+◌, ◌<◌, ◌≤◌, ◌↔◌, true, false, List, sym, ◌∙◌, subst, ap, inl, inr, refl, arith}
+use mathlib.Core.Path.{fun_ext}
 use Rattle.std.proofs.lemmas.Bool.{cases_eq, true≢false}
 use Rattle.std.proofs.lemmas.Bool.Decides.{nat_tests}
-use Rattle.attr_sets.specs.Places.{Places, only, minus, Within, Same}
-use Rattle.attr_sets.proofs.PlacesLemmas.{Same-path}
+use Rattle.attr_sets.specs.Places.{Places, only, minus, Within}
 use Rattle.dep_model.specs.Dependencies.{Dependency, fd, functional_part}
 use Rattle.dep_model.specs.Implication.{Implies}
 use Rattle.min_cover.specs.Members.{kept_beside, IsShortLeft}
+use Rattle.attr_sets.proofs.PlacesLemmas.{same_at}
 
 -- what is left of a left side once its attributes before i were tried
 pub record IsTriedTo (n : ℕ) (ds : List Dependency) (x y : Places) (i : ℕ) (short : Places) : Type 0 where
@@ -16,14 +17,14 @@ pub record IsTriedTo (n : ℕ) (ds : List Dependency) (x y : Places) (i : ℕ) (
 
 -- what stands beside an attribute depends on the earlier ones alone
 kept_beside-earlier : (x short other : Places) (a : ℕ) → ((k : ℕ) → k < a → short k ≡ other k) → kept_beside x short a ≡ kept_beside x other a
-kept_beside-earlier x short other a same = Same-path (kept_beside x short a) (kept_beside x other a) (λ (k : ℕ). grind (arith, nat_tests, same k))
+kept_beside-earlier x short other a same = fun_ext (λ (k : ℕ). grind (arith, nat_tests, same k))
 
 -- before i is tried, it is all but i
-kept_beside-untried : (x short rest : Places) (i : ℕ) → ((k : ℕ) → i ≤ k → short k ≡ x k) → Same rest (minus short (only i)) → rest ≡ kept_beside x short i
-kept_beside-untried x short rest i untried is = Same-path rest (kept_beside x short i) (λ (k : ℕ). grind (arith, nat_tests, untried k, is k))
+kept_beside-untried : (x short rest : Places) (i : ℕ) → ((k : ℕ) → i ≤ k → short k ≡ x k) → rest ≡ minus short (only i) → rest ≡ kept_beside x short i
+kept_beside-untried x short rest i untried is = fun_ext (λ (k : ℕ). grind (arith, nat_tests, untried k, same_at is k))
 
-left_out-before : (short rest : Places) (i : ℕ) → Same rest (minus short (only i)) → (k : ℕ) → k < i → short k ≡ rest k
-left_out-before short rest i is k l = grind (arith, nat_tests, is k)
+left_out-before : (short rest : Places) (i : ℕ) → rest ≡ minus short (only i) → (k : ℕ) → k < i → short k ≡ rest k
+left_out-before short rest i is k l = grind (arith, nat_tests, same_at is k)
 
 module _ (n : ℕ) (ds : List Dependency) (x y : Places) where
   -- nothing was tried
@@ -35,15 +36,15 @@ module _ (n : ℕ) (ds : List Dependency) (x y : Places) where
   }
 
   -- the rest determines y: i is left out
-  pub tried_left_out : (i j : ℕ) (short rest : Places) → j ≡ i + 1 → IsTriedTo n ds x y i short → Same rest (minus short (only i))
+  pub tried_left_out : (i j : ℕ) (short rest : Places) → j ≡ i + 1 → IsTriedTo n ds x y i short → rest ≡ minus short (only i)
       → Implies n (functional_part ds) (fd rest y) → IsTriedTo n ds x y j rest
   tried_left_out i j short rest e before is implied = record {
-    within = λ k m. before.within k (grind (arith, is k, m));
-    untried = λ k l. grind (arith, nat_tests, is k, before.untried k);
+    within = λ k m. before.within k (grind (arith, same_at is k, m));
+    untried = λ k l. grind (arith, nat_tests, same_at is k, before.untried k);
     tried = λ a l member. elim (cases_eq a i) [
       | inl same ↦
           let beside : rest ≡ kept_beside x rest a = kept_beside-untried x short rest i before.untried is ∙ kept_beside-earlier x short rest i (left_out-before short rest i is) ∙ ap (λ (b : ℕ). kept_beside x rest b) (sym same) in
-          ((λ _. subst (λ (v : Places). Implies n (functional_part ds) (fd v y)) beside implied), (λ _. grind (arith, nat_tests, is a, same)))
+          ((λ _. subst (λ (v : Places). Implies n (functional_part ds) (fd v y)) beside implied), (λ _. grind (arith, nat_tests, same_at is a, same)))
       | inr other ↦
           let upto : a < i = omega arith in
           let old = before.tried a upto member in
@@ -54,7 +55,7 @@ module _ (n : ℕ) (ds : List Dependency) (x y : Places) where
   }
 
   -- it does not: i is kept
-  pub tried_kept : (i j : ℕ) (short rest : Places) → j ≡ i + 1 → IsTriedTo n ds x y i short → Same rest (minus short (only i))
+  pub tried_kept : (i j : ℕ) (short rest : Places) → j ≡ i + 1 → IsTriedTo n ds x y i short → rest ≡ minus short (only i)
       → (Implies n (functional_part ds) (fd rest y) → ⊥) → IsTriedTo n ds x y j short
   tried_kept i j short rest e before is fails = record {
     within = before.within;

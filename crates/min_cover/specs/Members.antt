@@ -1,3 +1,5 @@
+-- Dependencies with one attribute on the right and a shortened left side: for the fixed cover of
+-- `Covers`.
 use Rattle.std.specs.Prelude.{◌≡◌, ℕ, ◌↔◌, ◌&&◌, true, false, nat_lt, if◌then◌else◌, List, [], map, All}
 use Rattle.std.specs.List.{AllZip}
 use Rattle.attr_sets.specs.Places.{Places, below, only, minus, Within}

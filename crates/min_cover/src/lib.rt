@@ -1,8 +1,8 @@
 //! Covers of a schema's dependencies: what says the same, shortened.
 //!
 //! `minimal` gives a minimal cover of the functional dependencies, the one that a fixed order of trying
-//! leaves (Maier 1980). `whole_cover` adds the multivalued dependencies that the others do not imply; it
-//! says all that the schema says.
+//! leaves (Ullman 1982; Maier 1983 has it as a canonical cover). `whole_cover` adds the multivalued
+//! dependencies that the others do not imply; it says all that the schema says.
 #![tactic(auto)]
 
 mod covering;

@@ -1,6 +1,8 @@
--- Tables as values, for what makes tables and for what takes them.
+-- Tables as values: for what makes tables, for what takes them, and for the answers that have some
+-- (`desk_cli/Answers`).
 use Rattle.std.specs.Prelude.{ℕ, List, [], ◌∷◌, ◌++◌, map}
 use Rattle.dep_model.specs.Tuples.{Tuple, Relation}
+use Rattle.named_tables.specs.declared.table.HeldTable.{HeldTable}
 use Rattle.named_tables.specs.declared.table.Table.{Table}
 
 -- a table: its name, the names of its columns, and its rows
@@ -17,8 +19,12 @@ empty_table name columns = record { name = name; columns = columns; rows = [] }
 abbrev pub with_row : Tuple → TableValue → TableValue
 with_row row table = record { name = table.name; columns = table.columns; rows = table.rows ++ row ∷ [] }
 
+-- a table that is held in memory
+abbrev pub held_value : HeldTable → TableValue
+held_value table = record { name = table.name; columns = table.columns.items; rows = table.rows.items }
+
 abbrev pub table_value : Table → TableValue
-table_value table = record { name = table.name; columns = table.columns.items; rows = table.rows.items }
+table_value table = held_value table.held
 
 abbrev pub table_values : List Table → List TableValue
 table_values tables = map table_value tables

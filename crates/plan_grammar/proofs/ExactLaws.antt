@@ -40,7 +40,6 @@ not_ten kind.TooManyAttributes e = omega (arith, e)
 not_ten kind.TooManyDependencies e = omega (arith, e)
 not_ten kind.NoAttributes e = omega (arith, e)
 not_ten kind.UnknownVersion e = omega (arith, e)
-not_ten kind.Memory e = omega (arith, e)
 
 not_twelve : (k : SchemaRefusalKind) → refusal_number k ≡ 12 → ⊥
 not_twelve kind.StrangeByte e = omega (arith, e)
@@ -53,7 +52,6 @@ not_twelve kind.TooManyAttributes e = omega (arith, e)
 not_twelve kind.TooManyDependencies e = omega (arith, e)
 not_twelve kind.NoAttributes e = omega (arith, e)
 not_twelve kind.UnknownVersion e = omega (arith, e)
-not_twelve kind.Memory e = omega (arith, e)
 
 same_there : (line : ℕ) (span : ℕ → Span) (want : ℕ → What) (p : ℕ) (e f : PlanRefusal) → SpansPlace line span want p e → SpansPlace line span want p f → plan_refusal_number e ≡ plan_refusal_number f → e ≡ f
 same_there line span want p (plan.Text a) (plan.Text b) first second same =
@@ -62,19 +60,15 @@ same_there line span want p (plan.Text a) (plan.Text b) first second same =
 same_there line span want p (plan.Text a) (plan.EmptyScheme l) first second same = absurd (not_ten a.kind same)
 same_there line span want p (plan.Text a) (plan.TooManySchemes l) first second same = absurd (not_twelve a.kind same)
 same_there line span want p (plan.Text a) (plan.NotCovered b) first second same = absurd second
-same_there line span want p (plan.Text a) plan.Memory first second same = absurd second
 same_there line span want p (plan.EmptyScheme l) (plan.Text b) first second same = absurd (not_ten b.kind (sym same))
 same_there line span want p (plan.EmptyScheme l) (plan.EmptyScheme m) first second same = ap (λ (n : ℕ). plan.EmptyScheme n) (first ∙ sym second)
 same_there line span want p (plan.EmptyScheme l) (plan.TooManySchemes m) first second same = absurd (omega (arith, same))
 same_there line span want p (plan.EmptyScheme l) (plan.NotCovered b) first second same = absurd second
-same_there line span want p (plan.EmptyScheme l) plan.Memory first second same = absurd second
 same_there line span want p (plan.TooManySchemes l) (plan.Text b) first second same = absurd (not_twelve b.kind (sym same))
 same_there line span want p (plan.TooManySchemes l) (plan.EmptyScheme m) first second same = absurd (omega (arith, same))
 same_there line span want p (plan.TooManySchemes l) (plan.TooManySchemes m) first second same = ap (λ (n : ℕ). plan.TooManySchemes n) (first ∙ sym second)
 same_there line span want p (plan.TooManySchemes l) (plan.NotCovered b) first second same = absurd second
-same_there line span want p (plan.TooManySchemes l) plan.Memory first second same = absurd second
 same_there line span want p (plan.NotCovered a) f first second same = absurd first
-same_there line span want p plan.Memory f first second same = absurd first
 
 one_first : (Complaint : ℕ → ℕ → Type 0) (line : ℕ) (span : ℕ → Span) (want : ℕ → What) (e f : PlanRefusal)
     → IsFirstOf Complaint (SpansPlace line span want) e → IsFirstOf Complaint (SpansPlace line span want) f → e ≡ f

@@ -3,8 +3,7 @@ use Rattle.std.proofs.Common.{◌≡◌, ◌<◌, ◌≤◌, ◌+◌, ℕ, Bool,
 use Rattle.std.specs.Prelude.{nat_le}
 use Rattle.std.proofs.lemmas.Bool.{true≢false, leb-true, leb-false}
 use Rattle.std.proofs.lemmas.List.{append-nil, length_push}
-use Rattle.attr_sets.specs.Places.{Places, none, union}
-use Rattle.attr_sets.proofs.PlacesLemmas.{Same-path}
+use Rattle.attr_sets.specs.Places.{Places, none}
 use Rattle.lexer.specs.declared.token.Mode.TheVariants as mode
 use Rattle.lexer.specs.declared.token.Stop.{Stop}
 use Rattle.lexer.specs.declared.token.TokenKind.{TokenKind}
@@ -15,7 +14,6 @@ use Rattle.schema_grammar.specs.declared.refusal.SchemaRefusalKind.{SchemaRefusa
 use Rattle.schema_grammar.specs.declared.refusal.SchemaRefusalKind.TheVariants as kind
 use Rattle.schema_grammar.specs.declared.refusal.What.TheVariants as what
 use Rattle.schema_grammar.specs.Complaints.{Carries, refusal_number, span_at}
-use Rattle.schema_grammar.specs.Meanings.{named}
 use Rattle.schema_grammar.specs.Refusals.{refusal, refused_by, and_then}
 use Rattle.schema_grammar.specs.Words.{is_reserved}
 use Rattle.schema_grammar.proofs.ComplaintLaws.{flaw_numbered, flaw_carries}
@@ -98,7 +96,7 @@ scheme_read names line schemes m ms stop (Ok x) is room fit = record {
   ended = fit.ended;
   adds = inr (record {
     x = x;
-    scheme = record { head = m; words = ms; whole = refl; scheme = is; some = fit.some refl; each = fit.each; members = fit.members ∙ Same-path (union none (named names ms)) (named names ms) (λ k. refl) };
+    scheme = record { head = m; words = ms; whole = refl; scheme = is; some = fit.some refl; each = fit.each; members = fit.members };
     one = refl;
     added = refl;
     room = room;

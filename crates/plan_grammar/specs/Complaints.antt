@@ -1,3 +1,5 @@
+-- What is wrong with a plan text, and which refusal is the first: for `read_plan` and the commands
+-- that read plans (`desk_cli/Plans`).
 use Rattle.std.specs.Prelude.{◌≡◌, ◌<◌, ◌≤◌, ◌⊎◌, ℕ, ◌+◌, zero, suc, Bool, true, false, not, ◌&&◌, if◌then◌else◌, List, [], ◌∷◌, length, Option, Some, None}
 use Rattle.std.specs.List.{list_any}
 use Rattle.attr_sets.specs.Places.{Places, below, IsLeastFrom}
@@ -49,7 +51,8 @@ WordsComplaint names first (m ∷ ms) stop (suc place) number = WordsComplaint n
 abbrev pub SchemeLineComplaint : List (List ℕ) → ℕ → List Mark → Option Stop → ℕ → ℕ → Type 0
 SchemeLineComplaint names earlier [] stop place number = (place ≡ 0) × FlawComplaint stop number
 SchemeLineComplaint names earlier (m ∷ ms) stop zero number = FirstTokenComplaint earlier m number
-SchemeLineComplaint names earlier (m ∷ ms) stop (suc place) number = WordsComplaint names true ms stop place number
+SchemeLineComplaint names earlier (m ∷ ms) stop (suc place) number =
+    WordsComplaint names true ms stop place number
 
 -- what a refusal 6 carries at a place after the word `scheme`
 abbrev pub wanted_after : Bool → ℕ → What
@@ -67,7 +70,6 @@ SpansPlace line span want place (plan.Text e) = (e.span ≡ span place) × Carri
 SpansPlace line span want place (plan.EmptyScheme l) = l ≡ line
 SpansPlace line span want place (plan.TooManySchemes l) = l ≡ line
 SpansPlace line span want place (plan.NotCovered a) = ⊥
-SpansPlace line span want place plan.Memory = ⊥
 
 -- a refusal is the complaint of the least place, and there that of the least number
 pub record IsFirstOf (Complaint : ℕ → ℕ → Type 0) (Stands : ℕ → PlanRefusal → Type 0) (e : PlanRefusal)
@@ -80,7 +82,8 @@ pub record IsFirstOf (Complaint : ℕ → ℕ → Type 0) (Stands : ℕ → Plan
 -- a line is refused by its first complaint
 abbrev pub RefusesLine : List (List ℕ) → ℕ → ℕ → List Mark → Option Stop → PlanRefusal → Type 0
 RefusesLine names line earlier ms stop e =
-    IsFirstOf (SchemeLineComplaint names earlier ms stop) (SpansPlace line (span_at line 1 ms stop) scheme_wanted) e
+    IsFirstOf (SchemeLineComplaint names earlier ms stop)
+    (SpansPlace line (span_at line 1 ms stop) scheme_wanted) e
 
 -- nothing is wrong with it
 abbrev pub IsFine : List (List ℕ) → ℕ → List Mark → Option Stop → Type 0

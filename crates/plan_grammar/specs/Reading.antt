@@ -1,3 +1,5 @@
+-- A plan text read from left to right: for `read_plan`. The laws of plan_grammar tie it to the
+-- meaning, and `Desk` does not cite it.
 use Rattle.std.specs.Prelude.{ℕ, ◌+◌, Bool, true, false, nat_le, if◌then◌else◌, List, [], ◌∷◌, ◌++◌, length, Option, Some, None, Result, Ok, Err}
 use Rattle.attr_sets.specs.Places.{Places, none, only, union}
 use Rattle.lexer.specs.declared.token.Mode.TheVariants as mode
@@ -46,7 +48,8 @@ read_words names line true x [] None = Err (plan.EmptyScheme line)
 read_words names line false x [] None = Ok x
 read_words names line first x [] (Some stop) = Err (plan.Text (refused_by line stop))
 read_words names line first x (m ∷ ms) stop =
-    and_then (attribute names line first m m.kind) (λ a. read_words names line false (union x (only a)) ms stop)
+    and_then (attribute names line first m m.kind)
+    (λ a. read_words names line false (union x (only a)) ms stop)
 
 abbrev pub read_words_lexed : List (List ℕ) → ℕ → Bool → Places → Lexed → Result Places PlanRefusal
 read_words_lexed names line first x l = read_words names line first x l.marks l.stop
@@ -75,7 +78,8 @@ read_scheme_line names line schemes (m ∷ ms) stop =
     (λ x. Ok (schemes ++ x ∷ []))
 
 -- the schemes of lines, of which the first has this number, after other schemes
-unfoldable pub read_scheme_lines : List (List ℕ) → ℕ → List Places → List (List ℕ) → Result (List Places) PlanRefusal
+unfoldable pub read_scheme_lines : List (List ℕ) → ℕ → List Places → List (List ℕ)
+    → Result (List Places) PlanRefusal
 read_scheme_lines names number schemes [] = Ok schemes
 read_scheme_lines names number schemes (line ∷ lines) =
     and_then (read_scheme_line names number schemes (lex mode.Plain line).marks (lex mode.Plain line).stop)

@@ -2,7 +2,6 @@ ghost use Rattle.std.specs.Prelude.{◌≡◌};
 ghost use Rattle.plan_grammar.specs.Refusals.{plan_refusal_number};
 
 use schema_grammar::SchemaRefusal;
-use std::alloc::{AllocError, AllocFailed};
 
 /// The most schemes of a plan text.
 pub const MOST_SCHEMES: usize = 256;
@@ -18,12 +17,10 @@ pub enum PlanRefusal {
     NotCovered { attribute: u8 },
     /// 12: one scheme more than a plan text holds.
     TooManySchemes { line: u32 },
-    /// Want of memory.
-    Memory,
 }
 
 impl PlanRefusal {
-    /// The number by which the documents and the program name it; want of memory has none.
+    /// The number by which the documents and the program name it.
     pub fn number(self) -> u32
         ensures number { result ≡ plan_refusal_number self }
     {
@@ -32,27 +29,6 @@ impl PlanRefusal {
             PlanRefusal::EmptyScheme { .. } => 10,
             PlanRefusal::NotCovered { .. } => 11,
             PlanRefusal::TooManySchemes { .. } => 12,
-            PlanRefusal::Memory => 0,
         }
-    }
-}
-
-impl From<AllocError> for PlanRefusal {
-    ghost use Rattle.plan_grammar.specs.declared.refusal.PlanRefusal.TheVariants.{Memory};
-
-    ghost from_gives = { λ _ e. e ≡ Memory };
-
-    fn from(_error: AllocError) -> Self {
-        PlanRefusal::Memory
-    }
-}
-
-impl<T: Drop> From<AllocFailed<T>> for PlanRefusal {
-    ghost use Rattle.plan_grammar.specs.declared.refusal.PlanRefusal.TheVariants.{Memory};
-
-    ghost from_gives = { λ _ e. e ≡ Memory };
-
-    fn from(_error: AllocFailed<T>) -> Self {
-        PlanRefusal::Memory
     }
 }

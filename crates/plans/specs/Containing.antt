@@ -1,3 +1,5 @@
+-- A list of schemes without those that lie within others: for `drop_contained` and the plans of
+-- synthesis_3nf, split_forms and wide_bcnf.
 use Rattle.std.specs.Prelude.{Bool, ◌&&◌, ◌||◌, not, if◌then◌else◌, List, [], ◌∷◌, ◌++◌}
 use Rattle.std.specs.List.{list_any}
 use Rattle.attr_sets.specs.declared.set.AttrSet.{AttrSet}

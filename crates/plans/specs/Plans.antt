@@ -1,3 +1,5 @@
+-- The schemes of a `Plan` of the code: for every contract in which one stands. `Desk` does not cite
+-- it.
 use Rattle.std.specs.Prelude.{◌≡◌, List}
 use Rattle.attr_sets.specs.Places.{Places}
 use Rattle.attr_sets.specs.declared.set.AttrSet.{AttrSet}

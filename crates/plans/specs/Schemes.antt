@@ -1,3 +1,4 @@
+-- What makes a list of sets a plan: for the type `Plan` and its makers.
 use Rattle.std.specs.Prelude.{◌≡◌, ℕ, ◌<◌, true, List, All}
 use Rattle.std.specs.List.{list_any}
 use Rattle.attr_sets.specs.Places.{below, Within, IsEmpty}

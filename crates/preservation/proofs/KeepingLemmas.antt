@@ -16,6 +16,7 @@ use Rattle.preservation.specs.Insides.{IsInsideOf}
 use Rattle.preservation.specs.Keeping.{IsInside, ObeysInside, FollowsInside, InKeptClosure}
 use Rattle.preservation.specs.Keeping.{ShowsLost, AgreesOnLoss}
 use Rattle.preservation.specs.Settled.{IsSettledIn, IsKeptClosure}
+use Rattle.attr_sets.proofs.PlacesLemmas.{same_at}
 
 -- ---- inside a scheme
 pub inside_of : (plan : List Places) (scheme x y : Places) → Contains plan scheme → Within (union x y) scheme
@@ -39,7 +40,7 @@ part_inside n ds scheme part closed known a m =
 
 -- what a scheme adds to a set follows from the dependencies inside it
 pub added_follows : (n : ℕ) (ds : List Dependency) (plan : List Places) (scheme c part closed result : Places)
-    (r : Relation) → IsInsideOf n ds scheme part closed → Within part c → ((k : ℕ) → result k ≡ union c closed k)
+    (r : Relation) → IsInsideOf n ds scheme part closed → Within part c → result ≡ union c closed
     → Contains plan scheme → ObeysInside n ds plan r → ObeysFd c result r
 added_follows n ds plan scheme c part closed result r known begins is_result at inside =
     let within : Within (union part closed) scheme = (λ (k : ℕ) m. elim (cases_Bool (part k)) [
@@ -48,12 +49,12 @@ added_follows n ds plan scheme c part closed result r known begins is_result at 
     ]) in
     let obeys : ObeysFd part closed r = inside.obeys part closed (inside_of plan scheme part closed at within)
     (inside_implied n ds scheme part closed known) in
-    fd_weaker_obeyed c (union c closed) c result r (λ (k : ℕ) m. m) (λ (k : ℕ) m. grind (arith, is_result k, m))
+    fd_weaker_obeyed c (union c closed) c result r (λ (k : ℕ) m. m) (λ (k : ℕ) m. grind (arith, same_at is_result k, m))
     (fd_added part closed c r begins obeys)
 
 -- what a part of the set determines inside the scheme is added
 pub added_settles : (n : ℕ) (ds : List Dependency) (scheme c part closed result : Places)
-    → IsInsideOf n ds scheme part closed → Within (meet c scheme) closed → ((k : ℕ) → result k ≡ union c closed k)
+    → IsInsideOf n ds scheme part closed → Within (meet c scheme) closed → result ≡ union c closed
     → IsSettledIn n ds scheme c result
 added_settles n ds scheme c part closed result known covers is_result x y within implied inside a m =
     let in_scheme : scheme a ≡ true = within a (grind (arith, m)) in
@@ -65,7 +66,7 @@ added_settles n ds scheme c part closed result known covers is_result x y within
     (implied r legal))) in
     let in_closed : closed a ≡ true =
     (known.closure a).1 (in_scheme, (ltb-true a n (known.universe a in_scheme), follows)) in
-    grind (arith, is_result a, in_closed)
+    grind (arith, same_at is_result a, in_closed)
 
 -- ---- a set that no scheme adds to
 -- the two tuples that agree exactly on it obey the dependencies inside the schemes

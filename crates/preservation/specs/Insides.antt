@@ -1,4 +1,5 @@
--- What is known of the schemes of a plan.
+-- What is known of the schemes of a plan: for the functions below `losses`. `Desk` does not cite
+-- it.
 use Rattle.std.specs.Prelude.{◌≡◌, ◌↔◌, ℕ, true, List, map, length, replicate}
 use Rattle.attr_sets.specs.Places.{Places, below, Within}
 use Rattle.attr_sets.specs.Sets.{places}

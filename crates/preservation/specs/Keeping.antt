@@ -1,4 +1,5 @@
--- What a plan keeps of the functional dependencies.
+-- What a plan keeps of the functional dependencies: for `losses` and `check keeps`
+-- (`desk_cli/Keeping`).
 use Rattle.std.specs.Prelude.{◌≡◌, ◌⊎◌, ◌↔◌, ◌+◌, ◌<◌, ℕ, true, List, [], ◌∷◌, Any}
 use Rattle.attr_sets.specs.Places.{Places, union, only, Within}
 use Rattle.dep_model.specs.Tuples.{Relation, IsOver}

@@ -1,4 +1,5 @@
--- Sets that the dependencies inside schemes do not lead out of.
+-- Sets that the dependencies inside schemes do not lead out of: for the functions below `losses`.
+-- `Desk` does not cite it.
 use Rattle.std.specs.Prelude.{◌≡◌, ◌↔◌, ℕ, true, List}
 use Rattle.attr_sets.specs.Places.{Places, union, Within}
 use Rattle.dep_model.specs.Dependencies.{Dependency, fd, functional_part}

@@ -2,7 +2,7 @@
 use Rattle.std.proofs.Common.{◌≡◌, ◌↔◌, IsTrue, true, refl, subst}
 use Rattle.std.proofs.lemmas.Bool.{and_parts}
 use Rattle.attr_sets.specs.Sets.{is_same}
-use Rattle.attr_sets.proofs.PlacesLemmas.{Same-path, Same-refl, is_same-true, is_same-from, places_below}
+use Rattle.attr_sets.proofs.PlacesLemmas.{is_same-true, is_same-from, places_below}
 use Rattle.dep_model.specs.declared.dep.Dep.{Dep}
 use Rattle.dep_model.specs.declared.dep.Dep.TheVariants.{Fd, Mvd}
 use Rattle.dep_model.specs.Dependencies.{Dependency, fd, mvd, left_of, right_of}
@@ -13,18 +13,18 @@ use Rattle.proof_grammar.specs.Nodes.{same_dependency}
 pub same_there : (d e : Dependency) → OfAttributes (left_of d) → OfAttributes (right_of d) → OfAttributes (left_of e) → OfAttributes (right_of e) → same_dependency d e ≡ true → d ≡ e
 same_there (fd x y) (fd v w) left right first second h =
     let parts = and_parts (is_same x v) (is_same y w) h in
-    (λ i. fd (Same-path x v (is_same-true x v left first parts.0) i)
-    (Same-path y w (is_same-true y w right second parts.1) i))
+    (λ i. fd (is_same-true x v left first parts.0 i)
+    (is_same-true y w right second parts.1 i))
 same_there (fd x y) (mvd v w) left right first second h = cc
 same_there (mvd x y) (fd v w) left right first second h = cc
 same_there (mvd x y) (mvd v w) left right first second h =
     let parts = and_parts (is_same x v) (is_same y w) h in
-    (λ i. mvd (Same-path x v (is_same-true x v left first parts.0) i)
-    (Same-path y w (is_same-true y w right second parts.1) i))
+    (λ i. mvd (is_same-true x v left first parts.0 i)
+    (is_same-true y w right second parts.1 i))
 
 pub same_self : (d : Dependency) → same_dependency d d ≡ true
-same_self (fd x y) = rw (is_same-from x x (Same-refl x), is_same-from y y (Same-refl y)) refl
-same_self (mvd x y) = rw (is_same-from x x (Same-refl x), is_same-from y y (Same-refl y)) refl
+same_self (fd x y) = rw (is_same-from x x refl, is_same-from y y refl) refl
+same_self (mvd x y) = rw (is_same-from x x refl, is_same-from y y refl) refl
 
 sides_attributes : (d : Dep)
     → OfAttributes (left_of (dependency_of d)) × OfAttributes (right_of (dependency_of d))

@@ -2,7 +2,6 @@
 use Rattle.std.proofs.Common.{◌≡◌, ◌⊎◌, ⊎_elim, ◌+◌, ◌-◌, inl, inr, ℕ, Bool, true, List, [], ◌∷◌, length, Err, refl, sym, ◌∙◌, ap, subst, arith, length-append}
 use Rattle.std.specs.Prelude.{slice_index}
 use Rattle.std.proofs.lemmas.List.{nil_from_length}
-use Rattle.std.proofs.lemmas.Option.{IfSome_then}
 use Rattle.dep_model.specs.declared.schema.Schema.{Schema}
 use Rattle.dep_model.specs.Schemas.{names_of}
 use Rattle.derivation.specs.Trees.{Tree}
@@ -12,7 +11,7 @@ use Rattle.lexer.specs.Tokens.{lex}
 use Rattle.proof_grammar.specs.declared.line_kind.LineKind.{LineKind}
 use Rattle.proof_grammar.specs.declared.line_kind.LineKind.TheVariants.{Blank, Opening, Certificate}
 use Rattle.proof_grammar.specs.Books.{Ledger, complaint_at}
-use Rattle.proof_grammar.specs.Complaints.{LineComplaint, complaint_of, IsFoundAt}
+use Rattle.proof_grammar.specs.Complaints.{LineComplaint, line_complaint_of, IsFoundAt}
 use Rattle.proof_grammar.specs.declared.refusal.ProofRefusal.{ProofRefusal}
 use Rattle.proof_grammar.specs.Lines.{Line}
 use Rattle.proof_grammar.specs.Meanings.{certificate_lines_of}
@@ -106,5 +105,4 @@ refused_back s text e (inr refused) =
 -- a refusal of the reading is one of the text
 pub refuses_there : (s : Schema) (text : List ℕ) (e : ProofRefusal) → IsFoundAt e (read_proof s text)
     → RefusesProof s text e
-refuses_there s text e h = IfSome_then (complaint_of e.kind) h
-    (λ c found. refused_there s text (record { line = e.line; complaint = c }) found)
+refuses_there s text e h = refused_there s text (line_complaint_of e) h

@@ -1,3 +1,5 @@
+-- The certificate lines that were read so far, as nodes, and what is still unused of them: for the
+-- reading of certificates (`Texts`). `Desk` does not cite it.
 use Rattle.std.specs.Prelude.{ℕ, ◌+◌, ◌-◌, ◌==◌, Bool, ◌&&◌, if◌then◌else◌, nat_lt, nat_le, List, [], ◌∷◌, ◌++◌, length, take, slice_get, slice_set, slice_index, position, Option, None, Some, option_map, is_some, Result, Ok, Err, max}
 use Rattle.dep_model.specs.declared.schema.Schema.{Schema}
 use Rattle.dep_model.specs.Dependencies.{Dependency, left_of, right_of}
@@ -78,9 +80,11 @@ pair_of_line rule unused p q =
 
 -- the node of a line: its premises are earlier lines that no line used
 unfoldable pub prepared : Schema → List (Option Opened) → Dependency → Body → Result Prepared Complaint
-prepared s unused stated (by_given k) = Ok (record { levels = 1; outcome = given_outcome s k; unused = unused })
+prepared s unused stated (by_given k) =
+    Ok (record { levels = 1; outcome = given_outcome s k; unused = unused })
 prepared s unused stated by_reflexivity = leaf_node s (reflexivity (left_of stated) (right_of stated)) unused
-prepared s unused stated by_mreflexivity = leaf_node s (mreflexivity (left_of stated) (right_of stated)) unused
+prepared s unused stated by_mreflexivity =
+    leaf_node s (mreflexivity (left_of stated) (right_of stated)) unused
 prepared s unused stated (by_step rule p) = step_of_line s rule unused p
 prepared s unused stated (by_pair rule p q) = pair_of_line rule unused p q
 

@@ -1,3 +1,5 @@
+-- A tree within the limits of a certificate that proves something: for `read_concluded`. `Desk`
+-- does not cite it.
 use Rattle.std.specs.Prelude.{◌≤◌}
 use Rattle.dep_model.specs.declared.schema.Schema.{Schema}
 use Rattle.dep_model.specs.Dependencies.{Dependency}

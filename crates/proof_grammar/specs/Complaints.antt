@@ -1,4 +1,6 @@
-use Rattle.std.specs.Prelude.{◌≡◌, ℕ, Option, None, Some, Result, Err, MatchOption, ⊤}
+-- Why a certificate is refused, as a kind and a line: for the readings and refusals of
+-- certificates, and for their texts (`desk_texts/ProofTexts`).
+use Rattle.std.specs.Prelude.{Err, Result, ℕ, ⊤, ◌≡◌}
 use Rattle.attr_sets.specs.Places.{Places}
 use Rattle.dep_model.specs.Dependencies.{Dependency}
 use Rattle.dep_model.specs.Deps.{dependency_of, IsDepWithin}
@@ -26,31 +28,31 @@ pub record LineComplaint : Type 0 where
   pub line : ℕ
   pub complaint : Complaint
 
--- the complaint that a refusal is; want of memory is none
-abbrev pub complaint_of : ProofRefusalKind → Option Complaint
-complaint_of (kind.BadLine e) = Some (bad_line e)
-complaint_of kind.WrongNumber = Some wrong_number
-complaint_of kind.NoSuchLine = Some no_such_line
-complaint_of kind.UsedTwice = Some used_twice
-complaint_of kind.NeverUsed = Some never_used
-complaint_of kind.TooManyLines = Some too_many_lines
-complaint_of kind.TooDeep = Some too_deep
-complaint_of (kind.Unsound fault) = Some (unsound fault)
-complaint_of (kind.StatesOther stated concluded) =
-    Some (states_other (dependency_of stated) (dependency_of concluded))
-complaint_of kind.EmptyProof = Some empty_proof
-complaint_of kind.Memory = None
+-- the complaint that a refusal is
+abbrev pub complaint_of : ProofRefusalKind → Complaint
+complaint_of (kind.BadLine e) = bad_line e
+complaint_of kind.WrongNumber = wrong_number
+complaint_of kind.NoSuchLine = no_such_line
+complaint_of kind.UsedTwice = used_twice
+complaint_of kind.NeverUsed = never_used
+complaint_of kind.TooManyLines = too_many_lines
+complaint_of kind.TooDeep = too_deep
+complaint_of (kind.Unsound fault) = unsound fault
+complaint_of (kind.StatesOther stated concluded) = states_other (dependency_of stated) (dependency_of concluded)
+complaint_of kind.EmptyProof = empty_proof
+
+-- and at its line
+abbrev pub line_complaint_of : ProofRefusal → LineComplaint
+line_complaint_of refusal = record { line = refusal.line; complaint = complaint_of refusal.kind }
 
 -- the dependencies that a refusal names lie within a set
 abbrev pub IsRefusalWithin : Places → ProofRefusalKind → Type 0
 IsRefusalWithin u (kind.StatesOther stated concluded) = IsDepWithin u stated × IsDepWithin u concluded
 IsRefusalWithin u _ = ⊤
 
--- the refusal is what is found, or want of memory
+-- the refusal is what is found
 abbrev pub IsFound : {X : Type 0} → ProofRefusalKind → Result X Complaint → Type 0
-IsFound why found = MatchOption (complaint_of why) (Unit {0}) (λ c. found ≡ Err c)
+IsFound why found = found ≡ Err (complaint_of why)
 
 abbrev pub IsFoundAt : {X : Type 0} → ProofRefusal → Result X LineComplaint → Type 0
-IsFoundAt refusal found =
-    MatchOption (complaint_of refusal.kind) (Unit {0})
-    (λ c. found ≡ Err (record { line = refusal.line; complaint = c }))
+IsFoundAt refusal found = found ≡ Err (line_complaint_of refusal)

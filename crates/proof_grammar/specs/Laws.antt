@@ -1,4 +1,5 @@
--- The laws that tie the reading of a certificate to what it spells, and what printed certificates spell.
+-- The laws that tie the reading of a certificate to what it spells, and what printed certificates
+-- spell: for the functions of `laws.rt`. `Desk` does not cite it.
 use Rattle.std.specs.Prelude.{◌≡◌, ◌≤◌, ◌↔◌, ℕ, List, ◌++◌, length, codes, Ok, Err}
 use Rattle.dep_model.specs.declared.schema.Schema.{Schema}
 use Rattle.dep_model.specs.Dependencies.{Dependency}

@@ -1,3 +1,5 @@
+-- What holds of the certificate lines that were read so far: for the reader of certificates,
+-- proof_text. `Desk` does not cite it.
 use Rattle.std.specs.Prelude.{◌≡◌, ◌≤◌, ◌+◌, ℕ, List, [], ◌∷◌, length, Option, Some, None}
 use Rattle.dep_model.specs.declared.schema.Schema.{Schema}
 use Rattle.derivation.specs.Trees.{nodes, depth}

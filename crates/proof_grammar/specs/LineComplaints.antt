@@ -1,4 +1,5 @@
--- What is wrong with a line of a certificate by its grammar, and how the grammar refuses the line.
+-- What is wrong with a line of a certificate by its grammar, and how the grammar refuses the line:
+-- for `Refusals`.
 use Rattle.std.specs.Prelude.{◌≡◌, ◌<◌, ◌⊎◌, ℕ, suc, Bool, true, false, List, [], ◌∷◌, ◌++◌, length, take, map, Option, Some, None, slice_get}
 use Rattle.lexer.specs.declared.token.Mode.TheVariants as mode
 use Rattle.lexer.specs.declared.token.Stop.{Stop}

@@ -1,4 +1,5 @@
--- What the lines of a certificate mean, by their grammar.
+-- What the lines of a certificate mean, by their grammar: for what a certificate spells
+-- (`Spelling`).
 use Rattle.std.specs.Prelude.{◌≡◌, ℕ, Bool, false, ◌&&◌, not, if◌then◌else◌, List, [], ◌∷◌, ◌++◌, filter, Option, codes}
 use Rattle.attr_sets.specs.Places.{Places}
 use Rattle.derivation.specs.Trees.{Step, augmentation, complementation, maugmentation, replication, Pair, transitivity, mtransitivity, coalescence}

@@ -1,4 +1,5 @@
--- What the lines of a certificate must be, so that they mean the same when they are printed.
+-- What the lines of a certificate must be, so that they mean the same when they are printed: for
+-- the laws of proof_grammar. `Desk` does not cite it.
 use Rattle.std.specs.Prelude.{◌<◌, ℕ, ◌^◌, List, [], ◌∷◌, length}
 use Rattle.attr_sets.specs.Places.{below}
 use Rattle.dep_model.specs.Dependencies.{IsWithin}

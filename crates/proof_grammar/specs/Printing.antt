@@ -1,3 +1,5 @@
+-- The one certificate in which a tree is printed: for `print_proof` and `implies`
+-- (`desk_cli/Implication`).
 use Rattle.std.specs.Prelude.{ℕ, ◌+◌, List, [], ◌∷◌, ◌++◌, codes, decimal, Result, Ok, Err}
 use Rattle.std.specs.List.{flat_map}
 use Rattle.attr_sets.specs.Places.{Places, Within}
@@ -39,7 +41,8 @@ body_text names (by_step rule p) = step_word rule ++ decimal p ++ sides_text nam
 body_text names (by_pair rule p q) = pair_word rule ++ decimal p ++ codes " " ++ decimal q
 
 unfoldable pub certificate_line_text : List (List ℕ) → Line → List ℕ
-certificate_line_text names l = decimal l.number ++ codes ": " ++ dependency_text names l.stated ++ codes " : "
+certificate_line_text names l =
+    decimal l.number ++ codes ": " ++ dependency_text names l.stated ++ codes " : "
     ++ body_text names l.body ++ codes "\n"
 
 -- ---- the lines of a tree
@@ -61,7 +64,8 @@ node_line n (Err fault) body = []
 abbrev pub node_lines_after : Schema → ℕ → Tree → List Line
 node_lines_after s n (leaf rule) = node_line (n + 1) (concluded s 0 (leaf rule)) (leaf_body rule)
 node_lines_after s n (step rule t) =
-    node_lines_after s n t ++ node_line (n + nodes t + 1) (concluded s 0 (step rule t)) (by_step rule (n + nodes t))
+    node_lines_after s n t
+    ++ node_line (n + nodes t + 1) (concluded s 0 (step rule t)) (by_step rule (n + nodes t))
 node_lines_after s n (pair rule t u) =
     node_lines_after s n t ++ node_lines_after s (n + nodes t) u
     ++ node_line (n + nodes t + nodes u + 1) (concluded s 0 (pair rule t u))

@@ -1,4 +1,5 @@
--- The colons and the words of a certificate line.
+-- The colons and the words of a certificate line, as they are read: for the reading of lines
+-- (`Lines`).
 use Rattle.std.specs.Prelude.{if◌then◌else◌, Result, Ok, Err, ok_or}
 use Rattle.schema_grammar.specs.declared.refusal.SchemaRefusal.{SchemaRefusal}
 use Rattle.schema_grammar.specs.declared.refusal.What.TheVariants as what

@@ -1,12 +1,13 @@
--- Why a certificate is refused, and at which line of the text.
-use Rattle.std.specs.Prelude.{◌≡◌, ◌⊎◌, ◌<◌, ℕ, ◌+◌, List, [], ◌∷◌, ◌++◌, length, MatchOption}
+-- Why a certificate is refused, and at which line of the text: for `read_proof` and the commands
+-- that read one (`desk_cli/Inputs`).
+use Rattle.std.specs.Prelude.{List, [], length, ℕ, ◌++◌, ◌+◌, ◌<◌, ◌∷◌, ◌≡◌, ◌⊎◌}
 use Rattle.dep_model.specs.declared.schema.Schema.{Schema}
 use Rattle.dep_model.specs.Schemas.{names_of}
 use Rattle.derivation.specs.Trees.{Tree}
 use Rattle.lexer.specs.Lines.{line_texts, without_mark}
 use Rattle.schema_grammar.specs.declared.refusal.SchemaRefusal.{SchemaRefusal}
 use Rattle.proof_grammar.specs.declared.refusal.ProofRefusal.{ProofRefusal}
-use Rattle.proof_grammar.specs.Complaints.{Complaint, LineComplaint, bad_line, never_used, empty_proof, complaint_of}
+use Rattle.proof_grammar.specs.Complaints.{Complaint, LineComplaint, bad_line, never_used, empty_proof, line_complaint_of}
 use Rattle.proof_grammar.specs.LineComplaints.{RefusesCertificateLine}
 use Rattle.proof_grammar.specs.Lines.{Line}
 use Rattle.proof_grammar.specs.Meanings.{certificate_lines_of, certificate_lines, MeansLine, MeanLines}
@@ -77,8 +78,6 @@ pub record IsUnfinished (s : Schema) (text : List ℕ) (e : LineComplaint) : Typ
 abbrev pub IsRefusedCertificate : Schema → List ℕ → LineComplaint → Type 0
 IsRefusedCertificate s text e = IsRefusedAt s text e ⊎ IsUnfinished s text e
 
--- the same of a refusal, which may be want of memory
+-- the same of a refusal
 abbrev pub RefusesProof : Schema → List ℕ → ProofRefusal → Type 0
-RefusesProof s text e =
-    MatchOption (complaint_of e.kind) (Unit {0})
-    (λ c. IsRefusedCertificate s text (record { line = e.line; complaint = c }))
+RefusesProof s text e = IsRefusedCertificate s text (line_complaint_of e)

@@ -1,3 +1,5 @@
+-- A certificate read from left to right: for `read_proof` and the laws that tie it to the meaning.
+-- `Desk` cites only the tests of lines that do not count.
 use Rattle.std.specs.Prelude.{ℕ, ◌+◌, ◌-◌, Bool, true, false, ◌&&◌, if◌then◌else◌, List, [], ◌∷◌, Option, None, Some, Result, Ok, Err, codes}
 use Rattle.std.specs.Str.{bytes_eq}
 use Rattle.dep_model.specs.declared.schema.Schema.{Schema}
@@ -56,7 +58,8 @@ read_as Certificate s fresh number book text =
 
 -- the ledger after one line of the text more, and whether a `yes` may still come
 unfoldable pub read_one : Schema → Bool → ℕ → Ledger → List ℕ → Result (Bool × Ledger) Complaint
-read_one s fresh number book text = read_as (line_kind fresh (lex mode.Numbered text)) s fresh number book text
+read_one s fresh number book text =
+    read_as (line_kind fresh (lex mode.Numbered text)) s fresh number book text
 
 -- a complaint gets its line
 abbrev pub at_line : {A : Type 0} → ℕ → Result A Complaint → Result A LineComplaint

@@ -1,3 +1,5 @@
+-- The words of a certificate line: for the meaning of lines (`LineComplaints`) and their reading
+-- (`Readers`).
 use Rattle.std.specs.Prelude.{ℕ, Bool, true, false, if◌then◌else◌, List, Option, Some, None, codes}
 use Rattle.std.specs.Str.{bytes_eq}
 use Rattle.lexer.specs.declared.token.TokenKind.{TokenKind}

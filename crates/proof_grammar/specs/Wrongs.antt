@@ -1,4 +1,4 @@
--- What is wrong with a certificate line, after lines that are nodes.
+-- What is wrong with a certificate line, after lines that are nodes: for `Refusals`.
 use Rattle.std.specs.Prelude.{◌≡◌, ◌⊎◌, ◌<◌, ◌≤◌, ℕ, ◌+◌, List, [], ◌∷◌, ◌++◌, length, All, Err}
 use Rattle.dep_model.specs.declared.schema.Schema.{Schema}
 use Rattle.dep_model.specs.Dependencies.{Dependency, left_of, right_of}

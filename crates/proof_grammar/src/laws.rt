@@ -32,7 +32,8 @@ pub fn printed_spells()
     ensures answered { PrintedSpells (codes "yes\n") }
 {}
 
-/// What is printed of a derivation within the limits is read again as its tree, also where the answer `yes` stands before it.
+/// What is printed of a derivation within the limits is read again as its tree, also where the
+/// answer `yes` stands before it.
 pub fn printed_is_read()
     ensures printed { PrintedIsRead [] }
     ensures answered { PrintedIsRead (codes "yes\n") }

@@ -1,7 +1,6 @@
 use dep_model::Dep;
 use derivation::Fault;
 use schema_grammar::SchemaRefusal;
-use std::alloc::{AllocError, AllocFailed};
 
 /// Why a certificate is refused.
 #[derive(Clone, Copy, Debug, PartialEq, Eq, Hash)]
@@ -26,8 +25,6 @@ pub enum ProofRefusalKind {
     StatesOther { stated: Dep, concluded: Dep },
     /// 10: there is no line.
     EmptyProof,
-    /// Want of memory.
-    Memory,
 }
 
 /// A refusal of a certificate, at a line of its text, from 1.
@@ -35,26 +32,4 @@ pub enum ProofRefusalKind {
 pub struct ProofRefusal {
     pub line: u32,
     pub kind: ProofRefusalKind,
-}
-
-impl From<AllocError> for ProofRefusalKind {
-    ghost use Rattle.proof_grammar.specs.declared.refusal.ProofRefusalKind.TheVariants.{Memory};
-    ghost use Rattle.std.specs.Prelude.{◌≡◌};
-
-    ghost from_gives = { λ _ e. e ≡ Memory };
-
-    fn from(_error: AllocError) -> Self {
-        ProofRefusalKind::Memory
-    }
-}
-
-impl<T: Drop> From<AllocFailed<T>> for ProofRefusalKind {
-    ghost use Rattle.proof_grammar.specs.declared.refusal.ProofRefusalKind.TheVariants.{Memory};
-    ghost use Rattle.std.specs.Prelude.{◌≡◌};
-
-    ghost from_gives = { λ _ e. e ≡ Memory };
-
-    fn from(_error: AllocFailed<T>) -> Self {
-        ProofRefusalKind::Memory
-    }
 }

@@ -1,12 +1,10 @@
 -- Reading a certificate line by line.
-use Rattle.std.proofs.Common.{◌≡◌, ◌≤◌, ◌+◌, ℕ, Bool, List, length, Option, Some, None, Result, Err}
-use Rattle.std.specs.Prelude.{MatchOption}
+use Rattle.std.proofs.Common.{◌≡◌, ◌≤◌, ◌+◌, ℕ, Bool, List, length, Option, Some, None}
 use denote.Ref.{Bor}
 use Rattle.dep_model.specs.declared.schema.Schema.{Schema}
 use Rattle.lexer.specs.Lines.{line_texts, CutsLine}
 use Rattle.proof_text.specs.declared.text.TheConstants.{MOST_PROOF_BYTES}
-use Rattle.proof_grammar.specs.Books.{Ledger, complaint_at}
-use Rattle.proof_grammar.specs.Complaints.{Complaint, LineComplaint}
+use Rattle.proof_grammar.specs.Books.{Ledger}
 use Rattle.proof_grammar.specs.Ledgers.{IsLedger}
 use Rattle.proof_grammar.specs.Texts.{read_certificate_lines, read_proof}
 
@@ -19,11 +17,3 @@ pub record Reads (s : Schema) (text : List ℕ) (fresh : Bool) (number : ℕ) (b
 pub line_within : (text line : List ℕ) (after : Option (Bor (List ℕ))) → CutsLine text line after → length line ≤ length text
 line_within text line None cut = cut.within
 line_within text line (Some after) cut = cut.within
-
--- a refusal within a part is one of the whole
-pub on_complaint : {A B : Type 0} (o : Option Complaint) (line : ℕ) (part : Result A Complaint)
-    (whole : Result B LineComplaint)
-    → ((why : Complaint) → part ≡ Err why → whole ≡ Err (complaint_at line why))
-    → MatchOption o (Unit {0}) (λ c. part ≡ Err c) → MatchOption o (Unit {0}) (λ c. whole ≡ Err (complaint_at line c))
-on_complaint None line part whole each h = tt {0}
-on_complaint (Some c) line part whole each h = each c h

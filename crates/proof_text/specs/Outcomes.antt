@@ -1,3 +1,5 @@
+-- What a node of the code concludes, as a tree and a dependency: for the reader of certificates.
+-- `Desk` does not cite it.
 use Rattle.std.specs.Prelude.{Result, Ok, Err}
 use Rattle.dep_model.specs.declared.dep.Dep.{Dep}
 use Rattle.dep_model.specs.Dependencies.{Dependency}

@@ -1,4 +1,5 @@
--- What the values of the reader and the printer stand for, in the words of the grammar.
+-- What the values of the reader and the printer stand for, in the words of the grammar: for
+-- proof_text. `Desk` does not cite it.
 use Rattle.std.specs.Prelude.{List, map, Option, option_map}
 use Rattle.dep_model.specs.Deps.{dependency_of}
 use Rattle.derivation.specs.Derivs.{tree_of, step_of, pair_of}

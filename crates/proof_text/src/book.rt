@@ -7,13 +7,14 @@ ghost use Rattle.proof_grammar.specs.Books.{root, settled};
 ghost use Rattle.proof_text.specs.Outcomes.{concluded_outcome};
 ghost use Rattle.proof_text.specs.Views.{opened_of, opened_all, line_of, body_of};
 ghost use Rattle.attr_sets.specs.Places.{Places};
+ghost use Rattle.dep_model.specs.Failures.{RefusesAs};
 ghost use Rattle.dep_model.specs.Schemas.{universe_of};
 ghost use Rattle.proof_grammar.specs.Complaints.{IsFound, IsFoundAt, IsRefusalWithin};
 
 use crate::line::{Body, Line};
 use crate::node::{Concluded, Open, given, leaf, pair, same_dependency, step};
 use attr_sets::AttrSet;
-use dep_model::{Dep, Schema};
+use dep_model::{Dep, Failure, Schema, WantMemory};
 use derivation::{Deriv, Fault, FaultKind, LeafRule, MOST_LEVELS, MOST_NODES, PairRule, StepRule};
 use proof_grammar::{ProofRefusal, ProofRefusalKind};
 use std::alloc::Global;
@@ -167,23 +168,30 @@ impl Book {
         schema: &Schema,
         at: u32,
         line: &Line,
-    ) -> Result<(), ProofRefusalKind>
+    ) -> Result<(), Failure<ProofRefusalKind>>
         requires ledger { IsLedger schema.now (ledger_of self.old) }
         requires within { IsDepWithin (universe_of schema.now) line.now.stated }
         ensures ok { OnOk result (entered schema.now at (ledger_of self.old) (line_of line.now)
             ≡ Ok (ledger_of self.new)) }
         ensures err { IfErr result
-            (λ why. IsFound why (entered schema.now at (ledger_of self.old) (line_of line.now))) }
-        ensures within { IfErr result (IsRefusalWithin (universe_of schema.now)) }
+            (RefusesAs (λ why. IsFound why (entered schema.now at (ledger_of self.old) (line_of line.now)))) }
+        ensures within { IfErr result (RefusesAs (IsRefusalWithin (universe_of schema.now))) }
     {
         let before = self.unused.len();
         if line.number as usize != before + 1 {
-            return Err(ProofRefusalKind::WrongNumber);
+            return Err(Failure::Refused(ProofRefusalKind::WrongNumber));
         }
-        let node = self.prepare(schema, line)?;
+        let node = match self.prepare(schema, line) {
+            Ok(node) => node,
+            Err(kind) => return Err(Failure::Refused(kind)),
+        };
         let levels = node.levels;
-        let (deriv, dep) = settle(before, line, node)?;
-        self.add(alloc, at, deriv, levels, dep)
+        let (deriv, dep) = match settle(before, line, node) {
+            Ok((deriv, dep)) => (deriv, dep),
+            Err(kind) => return Err(Failure::Refused(kind)),
+        };
+        self.add(alloc, at, deriv, levels, dep)?;
+        Ok(())
     }
 
     /// Adds a line.
@@ -194,13 +202,11 @@ impl Book {
         deriv: Deriv,
         levels: u32,
         dep: Dep,
-    ) -> Result<(), ProofRefusalKind>
+    ) -> Result<(), WantMemory>
         requires { levels ≤ MOST_LEVELS }
         ensures ok { OnOk result (ledger_of self.new
             ≡ add_line at self.old.lines.items (opened_all self.old.unused.items)
             (record { tree = tree_of deriv; levels = levels; conclusion = dependency_of dep })) }
-        ensures err { IfErr result (λ why. why ≡ ProofRefusalKind.Memory) }
-        ensures within { (u : Places) → IfErr result (IsRefusalWithin u) }
     {
         let deriv = Box::new(alloc, deriv)?;
         self.unused.push(Some(Open { deriv, levels, dep }))?;
@@ -212,7 +218,8 @@ impl Book {
     /// with line `last`.
     #[tactic(auto, unfolding(proof_grammar::specs::Books::finished_certificate))]
     pub fn finish(self, last: u32) -> Result<Concluded, ProofRefusal>
-        ensures ok { IfOk result (λ x. finished_certificate last (ledger_of self) ≡ Ok (tree_of x.deriv.value)) }
+        ensures ok { IfOk result (λ x.
+            finished_certificate last (ledger_of self) ≡ Ok (tree_of x.deriv.value)) }
         ensures root { IfOk result
             (λ x. rooted (opened_all self.unused.items)
             ≡ Some (tree_of x.deriv.value, dependency_of x.dep)) }
@@ -274,7 +281,8 @@ fn settle(before: usize, line: &Line, node: Node) -> Result<(Deriv, Dep), ProofR
         ≡ Ok (record { tree = tree_of x.0; levels = node.levels; conclusion = dependency_of x.1 })) }
     ensures shallow { OnOk result (node.levels ≤ MOST_LEVELS) }
     ensures err { IfErr result
-        (λ why. IsFound why (settled before (line_of line.now) node.levels (concluded_outcome node.outcome))) }
+        (λ why. IsFound why (settled before (line_of line.now) node.levels
+        (concluded_outcome node.outcome))) }
     ensures within { (u : Places) → IsDepWithin u line.now.stated
         → IfOk node.outcome (λ x. IsDepWithin u x.1) → IfErr result (IsRefusalWithin u) }
 {

@@ -50,7 +50,8 @@ pub fn read_line(
         ≡ Ok (line_of x)) }
     ensures within { IfOk result (λ x. IsDepWithin (below (length (names_in names.now))) x.stated) }
     ensures err { IfErr result
-        (λ e. certificate_line_from (names_in names.now) (marked first word.now) (rest_of rest.entry) ≡ Err e) }
+        (λ e. certificate_line_from (names_in names.now) (marked first word.now) (rest_of rest.entry)
+        ≡ Err e) }
 {
     let TokenKind::Number(number) = first.kind else {
         return Err(rest.expected(first, What::Number));

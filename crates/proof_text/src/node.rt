@@ -77,7 +77,7 @@ pub fn leaf(schema: &Schema, rule: LeafRule) -> Result<(Deriv, Dep), FaultKind>
         ≡ with_tree (leaf (leaf_of rule)) (leaf_conclusion schema.now (leaf_of rule)) }
 {
     match leaf_conclusion(schema, rule) {
-        Ok(dep) => Ok((rule.deriv(), dep)),
+        Ok(dep) => Ok((Deriv::Leaf(rule), dep)),
         Err(kind) => Err(kind),
     }
 }
@@ -99,7 +99,7 @@ pub fn step(schema: &Schema, rule: StepRule, premise: Open) -> Result<(Deriv, De
         (step_conclusion schema.now (step_of rule) (dependency_of premise.dep)) }
 {
     match step_conclusion(schema, rule, premise.dep) {
-        Ok(dep) => Ok((rule.over(premise.deriv), dep)),
+        Ok(dep) => Ok((Deriv::Step(rule, premise.deriv), dep)),
         Err(kind) => Err(kind),
     }
 }
@@ -111,7 +111,7 @@ pub fn pair(rule: PairRule, first: Open, second: Open) -> Result<(Deriv, Dep), F
         (pair_conclusion (pair_of rule) (dependency_of first.dep) (dependency_of second.dep)) }
 {
     match pair_conclusion(rule, first.dep, second.dep) {
-        Ok(dep) => Ok((rule.over(first.deriv, second.deriv), dep)),
+        Ok(dep) => Ok((Deriv::Pair(rule, first.deriv, second.deriv), dep)),
         Err(kind) => Err(kind),
     }
 }

@@ -16,8 +16,8 @@ use crate::line::{Body, Line};
 use attr_sets::AttrSet;
 use dep_model::{Dep, Schema, WantMemory};
 use derivation::{
-    Deriv, LeafRule, MOST_LEVELS, MOST_NODES, Node, PairRule, StepRule, leaf_conclusion,
-    pair_conclusion, step_conclusion,
+    Deriv, LeafRule, MOST_LEVELS, MOST_NODES, PairRule, StepRule, leaf_conclusion, pair_conclusion,
+    step_conclusion,
 };
 use schema_printer::{add, add_dep, add_number, add_set};
 use std::alloc::Global;
@@ -53,24 +53,25 @@ fn add_lines(
     ensures printed { OnOk result (printed.new ≡ printed.old + nodes (tree_of deriv.now)) }
     ensures proves { IfOk result (λ d. Proves schema.now (tree_of deriv.now) (dependency_of d)) }
 {
-    match deriv.root() {
-        Node::Leaf(rule) => {
-            let stated = stated_by_leaf(schema, rule);
-            add_node(text, alloc, schema, stated, body_of_leaf(rule), printed)
+    match deriv {
+        Deriv::Leaf(rule) => {
+            let stated = stated_by_leaf(schema, *rule);
+            add_node(text, alloc, schema, stated, body_of_leaf(*rule), printed)
         }
-        Node::Step(rule, premise) => {
+        Deriv::Step(rule, premise) => {
             let from = add_lines(text, alloc, schema, premise, printed)?;
             let p = *printed;
-            let stated = stated_by_step(schema, rule, from);
-            add_node(text, alloc, schema, stated, Body::Step(rule, p), printed)
+            let stated = stated_by_step(schema, *rule, from);
+            add_node(text, alloc, schema, stated, Body::Step(*rule, p), printed)
         }
-        Node::Pair(rule, first, second) => {
+        Deriv::Pair(rule, first, second) => {
             let left = add_lines(text, alloc, schema, first, printed)?;
             let p = *printed;
             let right = add_lines(text, alloc, schema, second, printed)?;
             let q = *printed;
-            let stated = stated_by_pair(rule, left, right);
-            add_node(text, alloc, schema, stated, Body::Pair(rule, p, q), printed)
+            let stated = stated_by_pair(*rule, left, right);
+            let body = Body::Pair(*rule, p, q);
+            add_node(text, alloc, schema, stated, body, printed)
         }
     }
 }
@@ -116,7 +117,8 @@ fn stated_by_leaf(schema: &Schema, rule: LeafRule) -> Dep
 
 // What a node with one premise states.
 fn stated_by_step(schema: &Schema, rule: StepRule, from: Dep) -> Dep
-    requires some { (d : Dependency) × (step_conclusion schema.now (step_of rule) (dependency_of from) ≡ Ok d) }
+    requires some { (d : Dependency) × (step_conclusion schema.now (step_of rule)
+        (dependency_of from) ≡ Ok d) }
     ensures stated { step_conclusion schema.now (step_of rule) (dependency_of from)
         ≡ Ok (dependency_of result) }
 {

@@ -1,6 +1,7 @@
 ghost use Rattle.std.specs.Prelude.{◌≡◌, ◌+◌, ◌<◌, ◌≤◌, ◌^◌, length, IfOk, IfErr, Ok, Err};
 ghost use Rattle.lexer.specs.Tokens.{lexed};
 ghost use Rattle.derivation.specs.Derivs.{tree_of};
+ghost use Rattle.dep_model.specs.Failures.{RefusesAs};
 ghost use Rattle.dep_model.specs.Schemas.{universe_of};
 ghost use Rattle.proof_grammar.specs.Ledgers.{IsLedger};
 ghost use Rattle.proof_text.specs.Views.{ledger_of};
@@ -15,7 +16,7 @@ ghost use Rattle.proof_grammar.specs.Texts.{is_yes, is_blank, read_one};
 use crate::book::Book;
 use crate::line::read_line;
 use crate::node::Concluded;
-use dep_model::Schema;
+use dep_model::{Failure, Schema};
 use derivation::Deriv;
 use lexer::{Mode, Next, TokenKind, cut_line, next_token, without_mark};
 use line_reader::{Cursor, Guide, Names};
@@ -29,18 +30,23 @@ pub const MOST_PROOF_BYTES: usize = 268_435_456;
 /// The derivation that a certificate spells, within the limits on lines and levels, or its refusal: the
 /// first line that goes wrong, and there the first complaint in the order of `ProofRefusalKind`, but that
 /// an unused line is told at the text's end.
-pub fn read_proof(alloc: Global, schema: &Schema, text: &[u8]) -> Result<Box<Deriv>, ProofRefusal>
+pub fn read_proof(
+    alloc: Global,
+    schema: &Schema,
+    text: &[u8],
+) -> Result<Box<Deriv>, Failure<ProofRefusal>>
     requires { length text.now ≤ MOST_PROOF_BYTES }
     ensures ok { IfOk result (λ deriv. SpellsWithin schema.now text.now (tree_of deriv.value)) }
     // It proves a dependency, within the limits of a certificate.
     ensures checked { IfOk result (λ deriv. IsChecked schema.now (tree_of deriv.value)) }
-    ensures err { IfErr result (RefusesProof schema.now text.now) }
+    ensures err { IfErr result (RefusesAs (RefusesProof schema.now text.now)) }
     // The dependencies that it names can be printed.
-    ensures within { IfErr result (λ refusal. IsRefusalWithin (universe_of schema.now) refusal.kind) }
+    ensures within { IfErr result
+        (RefusesAs (λ refusal. IsRefusalWithin (universe_of schema.now) refusal.kind)) }
 {
     match read_concluded(alloc, schema, text) {
         Ok(read) => Ok(read.deriv),
-        Err(refusal) => Err(refusal),
+        Err(failure) => Err(failure),
     }
 }
 
@@ -49,15 +55,16 @@ pub fn read_concluded(
     alloc: Global,
     schema: &Schema,
     text: &[u8],
-) -> Result<Concluded, ProofRefusal>
+) -> Result<Concluded, Failure<ProofRefusal>>
     requires { length text.now ≤ MOST_PROOF_BYTES }
     ensures ok { IfOk result (λ read. SpellsWithin schema.now text.now (tree_of read.deriv.value)) }
     ensures concludes { IfOk result
         (λ read. Proves schema.now (tree_of read.deriv.value) (dependency_of read.dep)) }
     ensures checked { IfOk result (λ read. IsChecked schema.now (tree_of read.deriv.value)) }
     ensures dep { IfOk result (λ read. IsDepWithin (universe_of schema.now) read.dep) }
-    ensures err { IfErr result (RefusesProof schema.now text.now) }
-    ensures within { IfErr result (λ refusal. IsRefusalWithin (universe_of schema.now) refusal.kind) }
+    ensures err { IfErr result (RefusesAs (RefusesProof schema.now text.now)) }
+    ensures within { IfErr result
+        (RefusesAs (λ refusal. IsRefusalWithin (universe_of schema.now) refusal.kind)) }
 {
     let guide = Guide::of(schema);
     let mut book = Book::new(alloc);
@@ -67,9 +74,17 @@ pub fn read_concluded(
     'lines: loop {
         let (line, after) = cut_line(rest);
         match read_one(alloc, schema, &guide, &mut book, fresh, number, line) {
-            Err(kind) => return Err(ProofRefusal { line: number, kind }),
+            Err(Failure::Refused(kind)) => {
+                return Err(Failure::Refused(ProofRefusal { line: number, kind }));
+            }
+            Err(Failure::OutOfMemory) => return Err(Failure::OutOfMemory),
             Ok(still_fresh) => match after {
-                None => return book.finish(number),
+                None => {
+                    return match book.finish(number) {
+                        Ok(read) => Ok(read),
+                        Err(refusal) => Err(Failure::Refused(refusal)),
+                    };
+                }
                 Some(lines) => {
                     fresh = still_fresh;
                     rest = lines;
@@ -90,21 +105,21 @@ fn read_one(
     fresh: bool,
     number: u32,
     text: &[u8],
-) -> Result<bool, ProofRefusalKind>
+) -> Result<bool, Failure<ProofRefusalKind>>
     requires room { 1 + length text.now < 2 ^ 32 }
     requires ledger { IsLedger schema.now (ledger_of book.old) }
     ensures ok { IfOk result
         (λ still. read_one schema.now fresh number (ledger_of book.old) text.now
         ≡ Ok (still, ledger_of book.new)) }
     ensures err { IfErr result
-        (λ why. IsFound why (read_one schema.now fresh number (ledger_of book.old) text.now)) }
-    ensures within { IfErr result (IsRefusalWithin (universe_of schema.now)) }
+        (RefusesAs (λ why. IsFound why (read_one schema.now fresh number (ledger_of book.old) text.now))) }
+    ensures within { IfErr result (RefusesAs (IsRefusalWithin (universe_of schema.now))) }
 {
     match next_token(Mode::Numbered, 1, text) {
         Next::End => Ok(fresh),
         Next::Stop(stop) => {
             let refusal = SchemaRefusal::by(number, stop);
-            Err(ProofRefusalKind::BadLine(refusal))
+            Err(Failure::Refused(ProofRefusalKind::BadLine(refusal)))
         }
         Next::Token(first, word, rest) => {
             let column = first.column + first.length;
@@ -118,7 +133,7 @@ fn read_one(
                 mode: Mode::Numbered,
             };
             match read_line(&Names::Guided(schema, guide), first, word, rest) {
-                Err(refusal) => Err(ProofRefusalKind::BadLine(refusal)),
+                Err(refusal) => Err(Failure::Refused(ProofRefusalKind::BadLine(refusal))),
                 Ok(line) => {
                     book.enter(alloc, schema, number, &line)?;
                     Ok(false)

@@ -4,7 +4,7 @@ use Rattle.std.specs.Prelude.{All, AllPairs, codes}
 use Rattle.std.proofs.lemmas.Bool.{eqb-true}
 use Rattle.std.proofs.lemmas.Bool.Decides.{nat_tests}
 use Rattle.std.proofs.lemmas.List.Kept.{AllPairs-cons}
-use Rattle.attr_sets.specs.Places.{Places, Same, Within, below, only}
+use Rattle.attr_sets.specs.Places.{Places, Within, below, only}
 use Rattle.attr_sets.specs.Sets.{places}
 use Rattle.attr_sets.specs.declared.set.AttrSet.{AttrSet}
 use Rattle.dep_model.specs.Names.{same_name}
@@ -13,11 +13,12 @@ use Rattle.dep_model.specs.Validity.{IsSchema}
 use Rattle.dep_model.specs.declared.dep.Dep.{Dep}
 use Rattle.dep_model.specs.declared.dep.Dep.TheVariants.{Fd, Mvd}
 use Rattle.sample.specs.Sample.{sample_names}
+use Rattle.attr_sets.proofs.PlacesLemmas.{same_at}
 
 -- one place below another lies within the places below it
-pub one_within : (x : Places) (i n : ℕ) → i < n → Same x (only i) → Within x (below n)
+pub one_within : (x : Places) (i n : ℕ) → i < n → x ≡ only i → Within x (below n)
 one_within x i n l same k member =
-    let at : k ≡ i = eqb-true k i (sym (same k) ∙ member) in
+    let at : k ≡ i = eqb-true k i (sym (same_at same k) ∙ member) in
     grind (arith, nat_tests, at)
 
 person_differs : All (λ (b : List ℕ). same_name (codes "PERSON") b ≡ false)

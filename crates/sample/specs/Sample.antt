@@ -1,4 +1,5 @@
--- The sample: persons, each in a city, with any of two skills beside any of two tongues.
+-- The sample: persons, each in a city, with any of two skills beside any of two tongues. For
+-- `sample` (`desk_cli/Migrations`).
 use Rattle.std.specs.Prelude.{ℕ, ◌+◌, ◌*◌, ◌%◌, List, [], ◌∷◌, ◌++◌, map, codes}
 use Rattle.std.specs.List.{flat_map, range_with_len}
 use Rattle.std.specs.Fmt.{decimal}
@@ -26,7 +27,8 @@ sample_row person skill tongue =
 -- the rows of a person: one for each skill, and within a skill one for each tongue
 abbrev pub person_rows : ℕ → Relation
 person_rows person =
-    flat_map (λ skill. map (λ tongue. sample_row person skill tongue) (range_with_len 0 2)) (range_with_len 0 2)
+    flat_map (λ skill. map (λ tongue. sample_row person skill tongue) (range_with_len 0 2))
+    (range_with_len 0 2)
 
 -- the rows of so many persons, who are numbered from 0
 abbrev pub sample_relation : ℕ → Relation

@@ -3,8 +3,9 @@ ghost use Rattle.std.specs.Fmt.{decimal};
 ghost use Rattle.dep_model.specs.Implication.{IsLegal};
 ghost use Rattle.sample.specs.Sample.{person_rows, sample_relation, sample_row, sample_theory};
 
-use dep_model::{Row, Value, WantMemory};
+use dep_model::WantMemory;
 use itoa::Buffer;
+use row_store::{FlatValues, Rows};
 use std::alloc::Global;
 
 /// The most persons of a sample.
@@ -12,14 +13,14 @@ pub const MOST_PERSONS: u32 = 25_000;
 
 /// The rows of so many persons, four each, no two of them equal. They are legal for the schema of the
 /// sample.
-pub fn sample_rows(alloc: Global, persons: u32) -> Result<Vec<Row>, WantMemory>
+pub fn sample_rows(alloc: Global, persons: u32) -> Result<Rows, WantMemory>
     requires few { persons ≤ MOST_PERSONS }
-    ensures rows { IfOk result (λ v. v.items ≡ sample_relation persons) }
-    ensures count { IfOk result (λ v. length v.items ≡ 4 * persons) }
-    ensures differ { IfOk result (λ v. AllPairs (λ t u. t ≡ u → ⊥) v.items) }
-    ensures legal { IfOk result (λ v. IsLegal 4 sample_theory v.items) }
+    ensures rows { IfOk result (λ rows. rows ≡ sample_relation persons) }
+    ensures count { IfOk result (λ rows. length rows ≡ 4 * persons) }
+    ensures differ { IfOk result (λ rows. AllPairs (λ t u. t ≡ u → ⊥) rows) }
+    ensures legal { IfOk result (λ rows. IsLegal 4 sample_theory rows) }
 {
-    let mut rows = Vec::with_capacity(alloc, persons as usize * 4)?;
+    let mut rows = Rows::new(alloc);
     for person in 0..persons {
         add_person(alloc, &mut rows, person)?;
     }
@@ -27,38 +28,38 @@ pub fn sample_rows(alloc: Global, persons: u32) -> Result<Vec<Row>, WantMemory>
 }
 
 // The rows of a person, after those of others.
-fn add_person(alloc: Global, rows: &mut Vec<Row>, person: u32) -> Result<(), WantMemory>
+fn add_person(alloc: Global, rows: &mut Rows, person: u32) -> Result<(), WantMemory>
     requires few { person < MOST_PERSONS }
-    ensures more { OnOk result (rows.new.items ≡ rows.old.items ++ person_rows person) }
+    ensures more { OnOk result (rows.new ≡ rows.old ++ person_rows person) }
 {
-    rows.push(row(alloc, person, 0, 0)?)?;
-    rows.push(row(alloc, person, 0, 1)?)?;
-    rows.push(row(alloc, person, 1, 0)?)?;
-    rows.push(row(alloc, person, 1, 1)?)?;
+    rows.push(&row(alloc, person, 0, 0)?)?;
+    rows.push(&row(alloc, person, 0, 1)?)?;
+    rows.push(&row(alloc, person, 1, 0)?)?;
+    rows.push(&row(alloc, person, 1, 1)?)?;
     Ok(())
 }
 
 // The row of a person with one of the two skills and one of the two tongues.
-fn row(alloc: Global, person: u32, skill: u32, tongue: u32) -> Result<Row, WantMemory>
+fn row(alloc: Global, person: u32, skill: u32, tongue: u32) -> Result<FlatValues, WantMemory>
     requires few { person < MOST_PERSONS }
     requires skill { skill < 2 }
     requires tongue { tongue < 2 }
     ensures row { IfOk result (λ t. t ≡ sample_row person skill tongue) }
 {
-    let mut values = Vec::with_capacity(alloc, 4)?;
-    values.push(labelled(alloc, b'p', person)?)?;
-    values.push(labelled(alloc, b'c', person % 100)?)?;
-    values.push(labelled(alloc, b's', (3 * person + skill) % 50)?)?;
-    values.push(labelled(alloc, b'l', (7 * person + tongue) % 20)?)?;
-    Ok(Row::make(values))
+    let mut values = FlatValues::new(alloc);
+    values.push(&labelled(alloc, b'p', person)?)?;
+    values.push(&labelled(alloc, b'c', person % 100)?)?;
+    values.push(&labelled(alloc, b's', (3 * person + skill) % 50)?)?;
+    values.push(&labelled(alloc, b'l', (7 * person + tongue) % 20)?)?;
+    Ok(values)
 }
 
 // A letter, and a number in decimal.
-fn labelled(alloc: Global, letter: u8, number: u32) -> Result<Value, WantMemory>
-    ensures value { IfOk result (λ v. v ≡ letter ∷ decimal number) }
+fn labelled(alloc: Global, letter: u8, number: u32) -> Result<Vec<u8>, WantMemory>
+    ensures value { IfOk result (λ v. v.items ≡ letter ∷ decimal number) }
 {
     let mut bytes = Vec::new(alloc);
     bytes.push(letter)?;
     bytes.extend_from_slice(Buffer::new().format(number).as_bytes())?;
-    Value::make(alloc, &bytes)
+    Ok(bytes)
 }

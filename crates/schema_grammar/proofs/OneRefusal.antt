@@ -21,7 +21,7 @@ OneWant Wanted = (w v : What) → Wanted w → Wanted v → w ≡ v
 -- a kind is its number, and what it carries
 same_kind : (Wanted : What → Type 0) (k l : SchemaRefusalKind) → OneWant Wanted → Carries Wanted k → Carries Wanted l → refusal_number k ≡ refusal_number l → k ≡ l
 same_kind Wanted (kind.Expected w) (kind.Expected v) one h g e = ap (λ x. kind.Expected x) (one w v h g)
-same_kind Wanted k kind.Memory one h g e = cc
+same_kind Wanted k kind.StrangeByte one h g e = cc
 same_kind Wanted k l one h g e = cc
 
 pub same_refusal : (e f : SchemaRefusal) → e.span ≡ f.span → e.kind ≡ f.kind → e ≡ f

@@ -1,5 +1,6 @@
 -- How the sides of a printed dependency are lexed, and what they mean.
 use Rattle.std.proofs.Common.{◌≡◌, ◌+◌, inl, inr, ℕ, suc, Bool, true, false, cond, ◌==◌, ◌&&◌, ◌||◌, List, [], ◌∷◌, ◌++◌, length, get_or, Some, refl, sym, ◌∙◌, ap, subst, arith, append_assoc, length-append, lt-ltb}
+use mathlib.Core.Path.{fun_ext}
 use Rattle.std.specs.Prelude.{nat_lt, nat_le}
 use Rattle.std.specs.List.{All, list_any, position_or_len}
 use Rattle.std.specs.Str.{str_to_ascii_lowercase}
@@ -10,7 +11,6 @@ use Rattle.std.proofs.lemmas.List.{get_or_append_left, get_or_at}
 use Rattle.std.proofs.lemmas.List.Elements.{All-cons, All-nil}
 use Rattle.std.proofs.lemmas.List.Sums.{position_or_len_is}
 use Rattle.std.proofs.lemmas.Slice.Eq.{bytes_eq-Decides}
-use Rattle.attr_sets.proofs.PlacesLemmas.{Same-path}
 use Rattle.attr_sets.specs.Places.{Places, none, below, Within}
 use Rattle.dep_model.specs.Names.{is_name, same_name}
 use Rattle.dep_model.specs.Schemas.{place_named}
@@ -120,7 +120,7 @@ members_set f x names before (name ∷ after) place i are cut =
 
 members_are : (f : Format) (x : Places) (names : List (List ℕ)) → AreNames f names → Within x (below (length names)) → x ≡ words_set names (members_from x 0 names)
 members_are f x names are within =
-    Same-path x (words_set names (members_from x 0 names)) (λ i. told i (x i) refl ∙ sym (members_set f x names [] names 0 i are (record { whole = refl; size = refl })))
+    fun_ext (λ i. told i (x i) refl ∙ sym (members_set f x names [] names 0 i are (record { whole = refl; size = refl })))
   where
     told : (i : ℕ) (b : Bool) → x i ≡ b → x i ≡ (within_window 0 (length names) i && x i)
     told i true is =
@@ -148,7 +148,7 @@ side_is f names x column [] known e = inl (record { column = column; bytes = 40 
 side_is f names x column (word ∷ words) (here, rest) e = inr (record {
   some = omega arith;
   each = All-cons (IsAttribute f names) _ _ (record { word = refl; free = here.1.free; place = here.0; known = here.1.found }) (marks_known f names (column + length word) words rest);
-  members = e ∙ Same-path _ _ (λ k. ap (λ b. is_at (place_named names word) k || b) (sym (marks_set names (column + length word) words k)));
+  members = e ∙ fun_ext (λ k. ap (λ b. is_at (place_named names word) k || b) (sym (marks_set names (column + length word) words k)));
 })
 
 -- what is printed of a set, is a side for the set

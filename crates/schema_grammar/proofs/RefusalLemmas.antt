@@ -1,32 +1,20 @@
 -- How a clause on what is read or refused carries over from a part to the whole.
-use Rattle.std.proofs.Common.{◌≡◌, ◌∙◌, ℕ, Result, Ok, Err, refl, sym, subst}
+use Rattle.std.proofs.Common.{◌≡◌, ◌∙◌, Result, Ok, Err, refl, subst}
 use Rattle.std.specs.Result.{IfOk, IfErr, OnOk}
+use Rattle.dep_model.specs.declared.failure.Failure.{Failure}
+use Rattle.dep_model.specs.declared.failure.Failure.TheVariants.{Refused}
+use Rattle.dep_model.proofs.FailureLemmas.{refuses_also}
 use Rattle.schema_grammar.specs.declared.refusal.SchemaRefusal.{SchemaRefusal}
-use Rattle.schema_grammar.specs.declared.refusal.SchemaRefusalKind.{SchemaRefusalKind}
-use Rattle.schema_grammar.specs.declared.refusal.SchemaRefusalKind.TheVariants as kind
-use Rattle.schema_grammar.specs.Refusals.{refusal, Refuses, RefusesAs, and_then}
+use Rattle.schema_grammar.specs.Refusals.{Refuses, and_then}
 
-pub RefusesAs-map : (k : SchemaRefusalKind) (P Q : Type 0) → (P → Q) → RefusesAs k P → RefusesAs k Q
-RefusesAs-map kind.Memory P Q f h = tt
-RefusesAs-map k P Q f h = f h
-
-pub Refuses-from : {X : Type 0} (e : SchemaRefusal) (reading : Result X SchemaRefusal) → reading ≡ Err e → Refuses e reading
-Refuses-from e reading h = elim (e.kind) as (λ k. RefusesAs k (reading ≡ Err e)) [ kind.Memory ↦ tt | _ ↦ h ]
-
--- the error of a part is that of the whole
-pub Refuses-whole : {X Y : Type 0} (e : SchemaRefusal) (part : Result X SchemaRefusal) (whole : Result Y SchemaRefusal)
-    → (part ≡ Err e → whole ≡ Err e) → Refuses e part → Refuses e whole
-Refuses-whole e part whole f h = RefusesAs-map e.kind (part ≡ Err e) (whole ≡ Err e) f h
-
--- an error gets its place
-pub Refuses-at : {X : Type 0} (e : SchemaRefusal) (reading : Result X SchemaRefusal) (line column size : ℕ) (why : SchemaRefusalKind) (P : Type 0)
-    → e ≡ refusal line column size why → (P → reading ≡ Err (refusal line column size why)) → RefusesAs why P → Refuses e reading
-Refuses-at e reading line column size why P same f h =
-    subst (λ (x : SchemaRefusal). Refuses x reading) (sym same) (RefusesAs-map why P (reading ≡ Err (refusal line column size why)) f h)
+-- the refusal of a part is that of the whole
+pub Refuses-whole : {X Y : Type 0} (e : Failure SchemaRefusal) (part : Result X SchemaRefusal) (whole : Result Y SchemaRefusal)
+    → ((refusal : SchemaRefusal) → part ≡ Err refusal → whole ≡ Err refusal) → Refuses e part → Refuses e whole
+Refuses-whole e part whole f h = refuses_also (λ refusal. part ≡ Err refusal) (λ refusal. whole ≡ Err refusal) e f h
 
 pub Refuses-here : {X : Type 0} (e : SchemaRefusal) (reading : Result X SchemaRefusal) (e' : SchemaRefusal)
-    → e ≡ e' → reading ≡ Err e' → Refuses e reading
-Refuses-here e reading e' same h = Refuses-from e reading cc
+    → e ≡ e' → reading ≡ Err e' → Refuses (Refused e) reading
+Refuses-here e reading e' same h = cc
 
 -- what a call gave of the reading of a part, it gave of the whole
 pub ok_whole : {X Y : Type 0} {E : Type 0} (g : X → Y) (r : Result X E) (part whole : Result Y SchemaRefusal) → whole ≡ part
@@ -39,15 +27,10 @@ pub err_whole : {X Y : Type 0} (r : Result X SchemaRefusal) (part whole : Result
 err_whole (Ok x) part whole e h = tt
 err_whole (Err why) part whole e h = e ∙ h
 
-pub err_refuses : {X Y : Type 0} (r : Result X SchemaRefusal) (part whole : Result Y SchemaRefusal) → whole ≡ part
-    → IfErr r (λ e. part ≡ Err e) → IfErr r (λ e. Refuses e whole)
-err_refuses (Ok x) part whole e h = tt
-err_refuses (Err why) part whole e h = Refuses-from why whole (e ∙ h)
-
-pub refuses_whole : {X Y : Type 0} (r : Result X SchemaRefusal) (part whole : Result Y SchemaRefusal) → whole ≡ part
+pub refuses_whole : {X Y : Type 0} (r : Result X (Failure SchemaRefusal)) (part whole : Result Y SchemaRefusal) → whole ≡ part
     → IfErr r (λ e. Refuses e part) → IfErr r (λ e. Refuses e whole)
 refuses_whole (Ok x) part whole e h = tt
-refuses_whole (Err why) part whole e h = Refuses-whole why part whole (λ same. e ∙ same) h
+refuses_whole (Err why) part whole e h = Refuses-whole why part whole (λ refusal same. e ∙ same) h
 
 pub ok_at : {X E : Type 0} (P : X → Type 0) (r : Result X E) (x : X) → r ≡ Ok x → IfOk r P → P x
 ok_at {X} {E} P r x e h = let at : Result X E → Type 0 = λ s. IfOk s P in subst at e h

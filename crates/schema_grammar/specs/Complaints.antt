@@ -1,3 +1,5 @@
+-- What is wrong with a dependency line, a declaring line or a goal, and which refusal is the first:
+-- for schema texts (`Schemas`), goals, and the lines of plans and certificates.
 use Rattle.std.specs.Prelude.{◌≡◌, ◌<◌, ◌≤◌, ◌⊎◌, ℕ, zero, suc, ◌+◌, true, List, [], ◌∷◌, ◌++◌, length, take, map, Option, Some, None, Result, Ok, Err, slice_get, is_some, All}
 use Rattle.attr_sets.specs.declared.set.TheConstants.{PLACES}
 use Rattle.dep_model.specs.declared.column.Column.{Column}
@@ -23,7 +25,7 @@ use Rattle.schema_grammar.specs.Declarations.{Declarations}
 use Rattle.schema_grammar.specs.Meanings.{IsDependency}
 use Rattle.schema_grammar.specs.Words.{is_reserved, declares}
 
--- the number of a refusal; want of memory has none
+-- the number of a refusal
 abbrev pub refusal_number : SchemaRefusalKind → ℕ
 refusal_number kind.StrangeByte = 1
 refusal_number kind.BadName = 2
@@ -35,7 +37,6 @@ refusal_number kind.TooManyAttributes = 7
 refusal_number kind.TooManyDependencies = 8
 refusal_number kind.NoAttributes = 9
 refusal_number kind.UnknownVersion = 13
-refusal_number kind.Memory = 0
 
 abbrev pub flaw_number : Flaw → ℕ
 flaw_number flaw.StrangeByte = 1
@@ -88,7 +89,8 @@ DependencyComplaint f declared ms stop place number =
 abbrev pub span_at : ℕ → ℕ → List Mark → Option Stop → ℕ → Span
 span_at line next_column [] None place = record { line = line; column = next_column; length = 0 }
 span_at line next_column [] (Some s) place = record { line = line; column = s.column; length = s.length }
-span_at line next_column (m ∷ ms) stop zero = record { line = line; column = m.column; length = length m.word }
+span_at line next_column (m ∷ ms) stop zero =
+    record { line = line; column = m.column; length = length m.word }
 span_at line next_column (m ∷ ms) stop (suc place) = span_at line (m.column + length m.word) ms stop place
 
 -- a refusal 6 carries what is wanted
@@ -137,7 +139,8 @@ abbrev pub NameComplaint : Format → Declarations → List Mark → ℕ → Mar
 NameComplaint f d words place m number =
     ((m.kind ≡ token.Word)
     × ((((number ≡ 3) × (is_reserved f m.word ≡ true))
-    ⊎ ((number ≡ 4) × (is_some (place_named (d.names ++ map (λ w. w.word) (take place words)) m.word) ≡ true)))
+    ⊎ ((number ≡ 4) × (is_some (place_named (d.names ++ map (λ w. w.word) (take place words)) m.word)
+    ≡ true)))
     ⊎ ((number ≡ 7) × (PLACES ≤ length d.names + place))))
     ⊎ ((number ≡ 6) × (m.kind ≡ token.Word → ⊥))
 

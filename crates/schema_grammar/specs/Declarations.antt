@@ -1,3 +1,5 @@
+-- What a schema text declares, line by line: for the meaning of schema texts (`Schemas`) and their
+-- reading (`Texts`).
 use Rattle.std.specs.Prelude.{ℕ, ◌+◌, Bool, true, false, if◌then◌else◌, List, [], ◌∷◌, ◌++◌, length, nat_le, Option, Some, None, is_some, Result, Ok, Err}
 use Rattle.attr_sets.specs.declared.set.TheConstants.{PLACES}
 use Rattle.dep_model.specs.declared.column.Column.{Column}
@@ -67,7 +69,8 @@ list_names f column line d some next_column (m ∷ ms) stop =
 
 abbrev pub list_names_lexed : Format → Column → ℕ → Declarations → Bool → ℕ → Lexed
     → Result Declarations SchemaRefusal
-list_names_lexed f column line d some next_column l = list_names f column line d some next_column l.marks l.stop
+list_names_lexed f column line d some next_column l =
+    list_names f column line d some next_column l.marks l.stop
 
 -- the first token of a dependency line: what the line can't begin with comes before one dependency
 -- too many
@@ -94,7 +97,8 @@ marked t word = record { kind = t.kind; column = t.column; word = word }
 -- a line whose first token is this: it declares names, or states a dependency
 abbrev pub line_from : Format → ℕ → Declarations → Mark → List Mark → Option Stop → Option Column
     → Result Declarations SchemaRefusal
-line_from f line d m ms stop (Some column) = list_names f column line d false (m.column + length m.word) ms stop
+line_from f line d m ms stop (Some column) =
+    list_names f column line d false (m.column + length m.word) ms stop
 line_from f line d m ms stop None = dependency_line f line d m ms stop
 
 abbrev pub line_of_marks : Format → ℕ → Declarations → List Mark → Option Stop

@@ -1,3 +1,5 @@
+-- The grammar of a dependency, one token after the other: for the reading of dependencies
+-- (`Reading`). Their meaning cites only `stated`.
 use Rattle.std.specs.Prelude.{◌<◌, Result, Ok, Err}
 use Rattle.attr_sets.specs.Places.{Places, only, none, union}
 use Rattle.attr_sets.specs.declared.set.TheConstants.{PLACES}

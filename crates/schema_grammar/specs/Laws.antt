@@ -1,4 +1,5 @@
--- The laws that tie the reading of a text to what it means, and what printed schemas mean.
+-- The laws that tie the reading of a text to what it means, and what printed schemas mean: for the
+-- functions of `laws.rt`. `Desk` does not cite it.
 use Rattle.std.specs.Prelude.{◌≡◌, ◌<◌, ◌≤◌, ◌↔◌, ℕ, List, length, Ok, Err}
 use Rattle.attr_sets.specs.Places.{Places}
 use Rattle.dep_model.specs.declared.schema.Schema.{Schema}
@@ -54,7 +55,8 @@ SchemaMeaning = (text : List ℕ) (whole : Declarations) → (read_text text ≡
 abbrev pub TextLineComplaints : Type 0
 TextLineComplaints =
     (f : Format) (number : ℕ) (d : Declarations) (line : List ℕ)
-    → FitsTextLine f d number (lex mode.Plain line).marks (lex mode.Plain line).stop (read_line f number d line)
+    → FitsTextLine f d number (lex mode.Plain line).marks (lex mode.Plain line).stop
+    (read_line f number d line)
 
 abbrev pub LinesComplaints : Type 0
 LinesComplaints =

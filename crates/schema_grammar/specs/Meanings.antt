@@ -1,3 +1,5 @@
+-- What dependency a goal or a dependency line means: for `read_goal`, schema texts (`Schemas`) and
+-- the lines of certificates.
 use Rattle.std.specs.Prelude.{◌≡◌, ◌<◌, ◌⊎◌, ℕ, ◌==◌, false, List, [], ◌∷◌, ◌++◌, length, Option, Some, None, All}
 use Rattle.std.specs.List.{list_any}
 use Rattle.attr_sets.specs.Places.{Places, none}
@@ -55,7 +57,8 @@ IsArrow sign.Functional k = k ≡ token.Arrow
 IsArrow sign.Multivalued k = k ≡ token.DoubleArrow
 
 -- a side, an arrow, a side
-pub record IsDependency (f : Format) (declared : List (List ℕ)) (ms : List Mark) (d : Dependency) : Type 0 where
+pub record IsDependency (f : Format) (declared : List (List ℕ)) (ms : List Mark) (d : Dependency)
+    : Type 0 where
   pub lhs : List Mark
   pub arrow : Mark
   pub rhs : List Mark

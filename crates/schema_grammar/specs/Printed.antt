@@ -1,3 +1,5 @@
+-- Schemas that can be printed and read again: for the laws of printed schemas, plans and
+-- certificates. `Desk` does not cite it.
 use Rattle.std.specs.Prelude.{◌≡◌, ◌<◌, ◌≤◌, ℕ, true, false, List, length, All, AllPairs}
 use Rattle.attr_sets.specs.Places.{below}
 use Rattle.attr_sets.specs.declared.set.TheConstants.{PLACES}

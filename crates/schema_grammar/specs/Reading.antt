@@ -1,3 +1,5 @@
+-- A dependency read from left to right: for `read_goal` and the laws of schema_grammar, which tie
+-- it to the meaning. `Desk` does not cite it.
 use Rattle.std.specs.Prelude.{ℕ, ◌+◌, List, [], ◌∷◌, length, Option, Some, None, Result, Ok, Err}
 use Rattle.dep_model.specs.Dependencies.{Dependency}
 use Rattle.lexer.specs.declared.token.Mode.TheVariants as mode
@@ -27,7 +29,8 @@ symbol_of f declared token.Colon word = Ok symbol.Other
 
 -- one token more: its word is looked up first, then the grammar decides
 unfoldable pub step : Format → List (List ℕ) → Reached → TokenKind → List ℕ → Result Reached SchemaRefusalKind
-step f declared reading kind word = and_then (symbol_of f declared kind word) (λ s. expecting (turn reading s))
+step f declared reading kind word =
+    and_then (symbol_of f declared kind word) (λ s. expecting (turn reading s))
 
 -- the dependency that the tokens from here on state; `column` is the place of the line's end where
 -- no token is left

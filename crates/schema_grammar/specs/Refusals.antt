@@ -1,4 +1,8 @@
+-- Refusals at a place of a text: for the meaning and the reading of schema texts, goals, sets,
+-- plans and certificates.
 use Rattle.std.specs.Prelude.{◌≡◌, ℕ, Result, Ok, Err}
+use Rattle.dep_model.specs.Failures.{RefusesAs}
+use Rattle.dep_model.specs.declared.failure.Failure.{Failure}
 use Rattle.lexer.specs.declared.token.Flaw.{Flaw}
 use Rattle.lexer.specs.declared.token.Flaw.TheVariants as flaw
 use Rattle.lexer.specs.declared.token.Stop.{Stop}
@@ -35,10 +39,6 @@ abbrev pub expecting : {X : Type 0} → Result X What → Result X SchemaRefusal
 expecting (Ok x) = Ok x
 expecting (Err what) = Err (kind.Expected what)
 
--- a refusal is that of the text, or want of memory
-abbrev pub RefusesAs : SchemaRefusalKind → Type 0 → Type 0
-RefusesAs kind.Memory of_text = Unit {0}
-RefusesAs _ of_text = of_text
-
-abbrev pub Refuses : {X : Type 0} → SchemaRefusal → Result X SchemaRefusal → Type 0
-Refuses e reading = RefusesAs e.kind (reading ≡ Err e)
+-- a refusal is that of the reading
+abbrev pub Refuses : {X R : Type 0} → Failure R → Result X R → Type 0
+Refuses failure reading = RefusesAs (λ refusal. reading ≡ Err refusal) failure

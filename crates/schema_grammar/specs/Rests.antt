@@ -1,4 +1,5 @@
--- What is left of a line, and what is read of it token by token.
+-- What is left of a line, and what is read of it token by token: for the reading of plans and
+-- certificates.
 use Rattle.std.specs.Prelude.{ℕ, ◌+◌, Bool, true, false, if◌then◌else◌, List, [], ◌∷◌, length, Option, Some, None, Result, Ok, Err, ok_or}
 use Rattle.attr_sets.specs.Places.{Places, only, none, union}
 use Rattle.lexer.specs.declared.token.Stop.{Stop}
@@ -38,7 +39,8 @@ pub record Rest : Type 0 where
   pub stop : Option Stop
 
 abbrev pub rest_from : ℕ → ℕ → Lexed → Rest
-rest_from line next_column l = record { line = line; next_column = next_column; marks = l.marks; stop = l.stop }
+rest_from line next_column l =
+    record { line = line; next_column = next_column; marks = l.marks; stop = l.stop }
 
 infixl 10 ◌>>=◌
 abbrev pub ◌>>=◌ : {A B E : Type 0} → Result A E → (A → Result B E) → Result B E

@@ -1,3 +1,5 @@
+-- What a schema text means, and which refusal is its first: for `read_schema` and all commands that
+-- read a schema (`desk_cli/Inputs`).
 use Rattle.std.specs.Prelude.{◌≡◌, ◌<◌, ◌≤◌, ◌⊎◌, ℕ, ◌+◌, ◌-◌, Result, Ok, Err, Bool, true, false, List, [], ◌∷◌, ◌++◌, length, Option, Some, None, All, slice_get, ◌==◌}
 use Rattle.attr_sets.specs.declared.set.TheConstants.{PLACES}
 use Rattle.dep_model.specs.declared.column.Column.{Column}
@@ -125,7 +127,8 @@ pub record LinesComplaint (f : Format) (first : ℕ) (d : Declarations) (lines :
   pub cut : lines ≡ before ++ line ∷ after
   pub means : MeansLines f first d before declared
   pub stands_on : number ≡ first + length before
-  pub complaint : TextLineComplaint f declared (lex mode.Plain line).marks (lex mode.Plain line).stop place why
+  pub complaint : TextLineComplaint f declared (lex mode.Plain line).marks
+      (lex mode.Plain line).stop place why
 
 -- a refusal is the complaint of the first line, there of the least place, and there of the least number;
 -- a refusal 6 carries what is wanted there

@@ -1,3 +1,5 @@
+-- A schema text read from left to right: for `read_schema` and the laws that tie it to the meaning.
+-- `Desk` cites `declarations_of` and the tests of a version line.
 use Rattle.std.specs.Prelude.{ℕ, ◌+◌, ◌-◌, ◌==◌, Bool, false, if◌then◌else◌, List, [], ◌∷◌, length, Option, Some, None, Result, Ok, Err, codes}
 use Rattle.std.specs.Str.{bytes_eq}
 use Rattle.dep_model.specs.declared.schema.Schema.{Schema}
@@ -18,7 +20,8 @@ use Rattle.schema_grammar.specs.Declarations.{Declarations, no_declaration, read
 use Rattle.schema_grammar.specs.Refusals.{refusal, refused_by, and_then}
 
 abbrev pub declarations_of : Schema → Declarations
-declarations_of s = record { names = names_of s; columns = columns_of s; deps = theory_of s; lines = lines_of s }
+declarations_of s =
+    record { names = names_of s; columns = columns_of s; deps = theory_of s; lines = lines_of s }
 
 -- a text ends with this line: it declares an attribute, or is refused there
 unfoldable pub finish : ℕ → Declarations → Result Declarations SchemaRefusal

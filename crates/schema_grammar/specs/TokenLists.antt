@@ -1,3 +1,5 @@
+-- The tokens of a line as a list: for the function of schema_reader that shows them. `Desk` does
+-- not cite it.
 use Rattle.std.specs.Prelude.{ℕ, Bool, true, false, List, Option, Some, None, Result, Ok, Err, map}
 use Rattle.lexer.specs.declared.token.Mode.{Mode}
 use Rattle.lexer.specs.declared.token.Mode.TheVariants as mode

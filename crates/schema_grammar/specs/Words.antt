@@ -1,3 +1,5 @@
+-- Reserved words, declaring words and the attributes that words name: for the grammars of schemas,
+-- plans and certificates.
 use Rattle.std.specs.Prelude.{ℕ, Bool, ◌||◌, List, Option, Some, None, Result, Ok, Err, codes, if◌then◌else◌}
 use Rattle.std.specs.Str.{bytes_eq}
 use Rattle.dep_model.specs.declared.column.Column.{Column}
@@ -14,7 +16,8 @@ use Rattle.schema_grammar.specs.declared.format.Format.TheVariants as format
 -- reserved in every text: `attributes`, `scheme` and `version`, in any case
 abbrev pub is_common_word : List ℕ → Bool
 is_common_word word =
-    (same_name word (codes "attributes") || same_name word (codes "scheme")) || same_name word (codes "version")
+    (same_name word (codes "attributes") || same_name word (codes "scheme"))
+    || same_name word (codes "version")
 
 -- a text with a version line reserves `integer` and `text` too
 unfoldable pub is_reserved : Format → List ℕ → Bool

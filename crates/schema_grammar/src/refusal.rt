@@ -3,7 +3,6 @@ ghost use Rattle.schema_grammar.specs.Complaints.{refusal_number};
 ghost use Rattle.schema_grammar.specs.Refusals.{refusal, refused_by};
 
 use lexer::{Flaw, Stop};
-use std::alloc::{AllocError, AllocFailed};
 
 /// A place in a text: its line and column, from 1, and how many bytes it has. Columns count bytes.
 #[derive(Clone, Copy, Debug, PartialEq, Eq, Hash)]
@@ -52,8 +51,6 @@ pub enum SchemaRefusalKind {
     NoAttributes,
     /// 13: a version that isn't 2.
     UnknownVersion,
-    /// Want of memory; the span says nothing.
-    Memory,
 }
 
 /// A refusal of a text, at its place.
@@ -64,12 +61,11 @@ pub struct SchemaRefusal {
 }
 
 impl SchemaRefusalKind {
-    /// The number by which the documents and the program name it; want of memory has none.
+    /// The number by which the documents and the program name it.
     pub fn number(self) -> u32
         ensures number { result ≡ refusal_number self }
     {
         match self {
-            SchemaRefusalKind::Memory => 0,
             SchemaRefusalKind::StrangeByte => 1,
             SchemaRefusalKind::BadName => 2,
             SchemaRefusalKind::ReservedName => 3,
@@ -108,25 +104,5 @@ impl SchemaRefusal {
             Flaw::BadName => SchemaRefusalKind::BadName,
         };
         SchemaRefusal::at(line, stop.column, stop.length, kind)
-    }
-}
-
-impl From<AllocError> for SchemaRefusalKind {
-    ghost use Rattle.schema_grammar.specs.declared.refusal.SchemaRefusalKind.TheVariants.{Memory};
-
-    ghost from_gives = { λ _ e. e ≡ Memory };
-
-    fn from(_error: AllocError) -> Self {
-        SchemaRefusalKind::Memory
-    }
-}
-
-impl<T: Drop> From<AllocFailed<T>> for SchemaRefusalKind {
-    ghost use Rattle.schema_grammar.specs.declared.refusal.SchemaRefusalKind.TheVariants.{Memory};
-
-    ghost from_gives = { λ _ e. e ≡ Memory };
-
-    fn from(_error: AllocFailed<T>) -> Self {
-        SchemaRefusalKind::Memory
     }
 }

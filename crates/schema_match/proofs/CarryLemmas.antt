@@ -6,8 +6,8 @@ use Rattle.std.proofs.lemmas.Grind.{common_steps}
 use Rattle.std.proofs.lemmas.List.{get_or_append_left}
 use Rattle.std.proofs.lemmas.Bool.{cases_eq, eqb-true, eq-eqb, or_cases, false≢true}
 use Rattle.std.proofs.lemmas.Option.{same_Some}
-use Rattle.attr_sets.specs.Places.{Places, Within, only, union, Same}
-use Rattle.attr_sets.proofs.PlacesLemmas.{Same-within, Same-path}
+use Rattle.attr_sets.specs.Places.{Places, Within, only, union}
+use Rattle.attr_sets.proofs.PlacesLemmas.{same_from_within, same_at}
 use Rattle.dep_model.specs.declared.schema.Schema.{Schema}
 use Rattle.dep_model.specs.Schemas.{names_of, width_of, universe_of, place_named}
 use Rattle.schema_match.specs.Columns.{name_of_attribute}
@@ -44,7 +44,7 @@ pub carried_set-is : (schema other : Schema) (namesakes : List ℕ) (x p : Place
     → AreNamesakes schema other namesakes → Within x (universe_of schema)
     → ((b : ℕ) → (p b ≡ true) ↔ IsNamesakeFrom namesakes x b) → p ≡ carried_set schema other x
 carried_set-is schema other namesakes x p are low members =
-    Same-path p (carried_set schema other x) (Same-within p (carried_set schema other x) there back)
+    (same_from_within p (carried_set schema other x) there back)
   where
     there : Within p (carried_set schema other x)
     there b member =
@@ -73,19 +73,19 @@ IsNamesakeTo n namesakes x b = (a : ℕ) × (a < n) × (x a ≡ true) × (slice_
 
 -- the next attribute is a member
 pub namesake_member : (n : ℕ) (namesakes : List ℕ) (x p q : Places) (c : ℕ) → x n ≡ true
-    → slice_index_or namesakes n 0 ≡ c → Same q (union p (only c))
+    → slice_index_or namesakes n 0 ≡ c → q ≡ union p (only c)
     → ((b : ℕ) → (p b ≡ true) ↔ IsNamesakeTo n namesakes x b) → (b : ℕ)
     → (q b ≡ true) ↔ IsNamesakeTo (n + 1) namesakes x b
 namesake_member n namesakes x p q c member read is before b = (there, back)
   where
     there : q b ≡ true → IsNamesakeTo (n + 1) namesakes x b
-    there h = elim (or_cases (p b) (b == c) (sym (is b) ∙ h)) [
+    there h = elim (or_cases (p b) (b == c) (sym (same_at is b) ∙ h)) [
       | inl old ↦ let found = (before b).0 old in (found.0, omega (arith, found.1), found.2, found.3)
       | inr new ↦ (n, omega arith, member, read ∙ sym (eqb-true b c new))
     ]
 
     back : IsNamesakeTo (n + 1) namesakes x b → q b ≡ true
-    back found = is b ∙ ⊎_elim
+    back found = same_at is b ∙ ⊎_elim
         (λ (last : found.0 ≡ n).
         let same : b ≡ c = sym found.3 ∙ ap (λ (k : ℕ). slice_index_or namesakes k 0) last ∙ read in
         let new : (b == c) ≡ true = eq-eqb b c same in

@@ -1,3 +1,5 @@
+-- Dependencies carried over to another schema by names, and when they follow there: for
+-- `differences` and `check same` (`desk_cli/Sameness`).
 use Rattle.std.specs.Prelude.{◌&&◌, nat_lt, ◌↔◌, false, All, option_map, unwrap_or}
 use Rattle.attr_sets.specs.Places.{Places}
 use Rattle.dep_model.specs.declared.schema.Schema.{Schema}
@@ -28,4 +30,5 @@ IsImpliedBy other schema = All (FollowsFrom other schema) (theory_of schema)
 -- two schemas have the same legal relations, columns taken by their names
 abbrev pub HaveSameLegalRelations : Schema → Schema → Type 0
 HaveSameLegalRelations schema other =
-    (r : Relation) → IsOver (width_of schema) r → LegalFor schema r ↔ LegalFor other (reordered schema other r)
+    (r : Relation) → IsOver (width_of schema) r → LegalFor schema r
+    ↔ LegalFor other (reordered schema other r)

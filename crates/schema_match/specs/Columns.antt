@@ -1,3 +1,5 @@
+-- Attributes and columns of two schemas, matched by names: for `missing`, `differences` and `check
+-- same` (`desk_cli/Sameness`).
 use Rattle.std.specs.Prelude.{ℕ, ◌&&◌, nat_lt, List, [], map, slice_index_or}
 use Rattle.std.specs.Prelude.{Option, is_none, option_map, unwrap_or}
 use Rattle.attr_sets.specs.Places.{Places, IsEmpty}

@@ -1,3 +1,5 @@
+-- For each attribute of a schema its namesake in another: for the functions that carry a set over.
+-- `Desk` does not cite it.
 use Rattle.std.specs.Prelude.{◌≡◌, ℕ, ◌<◌, true, List, length, slice_index_or, Some}
 use Rattle.attr_sets.specs.Places.{Places}
 use Rattle.dep_model.specs.declared.schema.Schema.{Schema}

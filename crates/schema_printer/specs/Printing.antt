@@ -1,3 +1,5 @@
+-- The texts of sets, dependencies and schemas: for schema_printer, and for every text that names
+-- attributes.
 use Rattle.std.specs.Prelude.{ℕ, ◌+◌, Bool, true, false, if◌then◌else◌, List, [], ◌∷◌, ◌++◌, map, codes}
 use Rattle.std.specs.List.{flat_map, list_any}
 use Rattle.attr_sets.specs.Places.{Places}

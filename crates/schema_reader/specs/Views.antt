@@ -1,4 +1,5 @@
--- What the reader's values stand for, in the words of the grammar.
+-- What the reader's values stand for, in the words of the grammar: for schema_reader. `Desk` does
+-- not cite it.
 use Rattle.std.specs.Prelude.{ℕ, ◌+◌, ◌<◌, ◌^◌, List, length, Option, Some, None}
 use denote.Ref.{Bor}
 use Rattle.attr_sets.specs.Sets.{places}
@@ -11,7 +12,12 @@ use Rattle.schema_reader.specs.declared.stage.Stage.TheVariants as stage
 
 abbrev pub drafted : Draft → Declarations
 drafted d =
-    record { names = d.names.items; columns = d.columns.items; deps = dependencies_of d.deps.items; lines = d.lines.items }
+    record {
+      names = d.names.items;
+      columns = d.columns.items;
+      deps = dependencies_of d.deps.items;
+      lines = d.lines.items;
+    }
 
 abbrev pub reached_of : Stage → Reached
 reached_of stage.Start = start

@@ -3,13 +3,13 @@ ghost use Rattle.dep_model.specs.Deps.{dependency_of};
 ghost use Rattle.dep_model.specs.Names.{is_name};
 ghost use Rattle.lexer.specs.Tokens.{lexed};
 ghost use Rattle.schema_reader.specs.Views.{reached_of};
-ghost use Rattle.schema_grammar.specs.Refusals.{Refuses, RefusesAs};
+ghost use Rattle.schema_grammar.specs.Refusals.{Refuses};
 
 use crate::goal::{follow, step};
 use crate::stage::Stage;
 use crate::words::declares;
 use attr_sets::PLACES;
-use dep_model::{Column, Dep, MOST_DEPENDENCIES, Name};
+use dep_model::{Column, Dep, Failure, MOST_DEPENDENCIES, Name, WantMemory};
 use lexer::{Mode, Next, Token, TokenKind, next_token};
 use line_reader::{Names, is_reserved, place_among};
 use schema_grammar::{Format, SchemaRefusal, SchemaRefusalKind, What};
@@ -41,16 +41,21 @@ impl Draft {
 
     /// Reads one line more.
     #[tactic(auto, unfolding(schema_grammar::specs::Declarations::read_line))]
-    pub fn read_line(&mut self, format: Format, line: u32, text: &[u8]) -> Result<(), SchemaRefusal>
+    pub fn read_line(
+        &mut self,
+        format: Format,
+        line: u32,
+        text: &[u8],
+    ) -> Result<(), Failure<SchemaRefusal>>
         requires few { length (drafted self.old).names ≤ PLACES }
         requires room { 1 + length text.now < 2 ^ 32 }
         ensures ok { OnOk result (read_line format line (drafted self.old) text.now ≡ Ok (drafted self.new)) }
         ensures err { IfErr result
-            (λ refusal. Refuses refusal (read_line format line (drafted self.old) text.now)) }
+            (λ failure. Refuses failure (read_line format line (drafted self.old) text.now)) }
     {
         match next_token(Mode::Plain, 1, text) {
             Next::End => Ok(()),
-            Next::Stop(stop) => Err(SchemaRefusal::by(line, stop)),
+            Next::Stop(stop) => Err(Failure::Refused(SchemaRefusal::by(line, stop))),
             Next::Token(token, word, rest) => {
                 let next_column = token.column + token.length;
                 match declares(format, token.kind, word) {
@@ -69,13 +74,13 @@ impl Draft {
         line: u32,
         next_column: u32,
         text: &[u8],
-    ) -> Result<(), SchemaRefusal>
+    ) -> Result<(), Failure<SchemaRefusal>>
         requires room { next_column + length text.now < 2 ^ 32 }
         ensures ok { OnOk result
             (list_names_lexed format column line (drafted self.old) false next_column
             (lexed Mode.Plain 0 next_column text.now) ≡ Ok (drafted self.new)) }
         ensures err { IfErr result
-            (λ refusal. Refuses refusal
+            (λ failure. Refuses failure
             (list_names_lexed format column line (drafted self.old) false next_column
             (lexed Mode.Plain 0 next_column text.now))) }
     {
@@ -88,20 +93,21 @@ impl Draft {
                     return if some {
                         Ok(())
                     } else {
-                        Err(SchemaRefusal::at(
-                            line,
-                            next_column,
-                            0,
-                            SchemaRefusalKind::Expected(What::Name),
-                        ))
+                        let kind = SchemaRefusalKind::Expected(What::Name);
+                        let refusal = SchemaRefusal::at(line, next_column, 0, kind);
+                        Err(Failure::Refused(refusal))
                     };
                 }
-                Next::Stop(stop) => return Err(SchemaRefusal::by(line, stop)),
+                Next::Stop(stop) => {
+                    return Err(Failure::Refused(SchemaRefusal::by(line, stop)));
+                }
                 Next::Token(token, word, others) => {
                     match self.name_step(format, column, some, token.kind, word) {
-                        Err(kind) => {
-                            return Err(SchemaRefusal::at(line, token.column, token.length, kind));
+                        Err(Failure::Refused(kind)) => {
+                            let refusal = SchemaRefusal::at(line, token.column, token.length, kind);
+                            return Err(Failure::Refused(refusal));
                         }
+                        Err(Failure::OutOfMemory) => return Err(Failure::OutOfMemory),
                         Ok(()) => {
                             some = true;
                             next_column = token.column + token.length;
@@ -121,17 +127,19 @@ impl Draft {
         some: bool,
         kind: TokenKind,
         word: &[u8],
-    ) -> Result<(), SchemaRefusalKind>
+    ) -> Result<(), Failure<SchemaRefusalKind>>
         requires { kind ≡ TokenKind.Word → is_name word.now ≡ true }
         ensures ok { OnOk result (name_step format column (drafted self.old) some kind word.now
             ≡ Ok (drafted self.new)) }
         ensures err { IfErr result
-            (λ why. RefusesAs why (name_step format column (drafted self.old) some kind word.now
-            ≡ Err why)) }
+            (λ failure. Refuses failure (name_step format column (drafted self.old) some kind word.now)) }
     {
         match kind {
             TokenKind::Word => self.declare(format, column, word),
-            _ => Err(SchemaRefusalKind::Expected(if some { What::LineEnd } else { What::Name })),
+            _ => {
+                let want = if some { What::LineEnd } else { What::Name };
+                Err(Failure::Refused(SchemaRefusalKind::Expected(want)))
+            }
         }
     }
 
@@ -142,27 +150,27 @@ impl Draft {
         format: Format,
         column: Column,
         word: &[u8],
-    ) -> Result<(), SchemaRefusalKind>
+    ) -> Result<(), Failure<SchemaRefusalKind>>
         requires { is_name word.now ≡ true }
         ensures ok { OnOk result (declare format column (drafted self.old) word.now ≡ Ok (drafted self.new)) }
         ensures err { IfErr result
-            (λ why. RefusesAs why (declare format column (drafted self.old) word.now ≡ Err why)) }
+            (λ failure. Refuses failure (declare format column (drafted self.old) word.now)) }
     {
         if is_reserved(format, word) {
-            return Err(SchemaRefusalKind::ReservedName);
+            return Err(Failure::Refused(SchemaRefusalKind::ReservedName));
         }
         if place_among(&self.names, word).is_some() {
-            return Err(SchemaRefusalKind::DoubleName);
+            return Err(Failure::Refused(SchemaRefusalKind::DoubleName));
         }
         if self.names.len() >= PLACES as usize {
-            return Err(SchemaRefusalKind::TooManyAttributes);
+            return Err(Failure::Refused(SchemaRefusalKind::TooManyAttributes));
         }
-        self.add_name(named(word), column)
+        self.add_name(named(word), column)?;
+        Ok(())
     }
 
-    fn add_name(&mut self, name: Name, column: Column) -> Result<(), SchemaRefusalKind>
+    fn add_name(&mut self, name: Name, column: Column) -> Result<(), WantMemory>
         ensures ok { OnOk result (drafted self.new ≡ add_name (drafted self.old) name column) }
-        ensures err { IfErr result (λ why. why ≡ SchemaRefusalKind.Memory) }
     {
         self.names.push(name)?;
         self.columns.push(column)?;
@@ -177,7 +185,7 @@ impl Draft {
         token: Token,
         word: &[u8],
         rest: &[u8],
-    ) -> Result<(), SchemaRefusal>
+    ) -> Result<(), Failure<SchemaRefusal>>
         requires few { length (drafted self.old).names ≤ PLACES }
         requires room { token.column + token.length + length rest.now < 2 ^ 32 }
         requires word { token.length ≡ length word.now }
@@ -185,24 +193,25 @@ impl Draft {
             (dependency_lexed format line (drafted self.old) (marked token word.now)
             (lexed Mode.Plain 0 (token.column + token.length) rest.now) ≡ Ok (drafted self.new)) }
         ensures err { IfErr result
-            (λ refusal. Refuses refusal
+            (λ failure. Refuses failure
             (dependency_lexed format line (drafted self.old) (marked token word.now)
             (lexed Mode.Plain 0 (token.column + token.length) rest.now))) }
     {
         let stage = match self.begin(format, token.kind, word) {
             Ok(stage) => stage,
-            Err(kind) => return Err(SchemaRefusal::at(line, token.column, token.length, kind)),
+            Err(kind) => {
+                let refusal = SchemaRefusal::at(line, token.column, token.length, kind);
+                return Err(Failure::Refused(refusal));
+            }
         };
         let next_column = token.column + token.length;
         let names = Names::Listed(&self.names);
         let dep = match follow(&names, format, Mode::Plain, line, stage, next_column, rest) {
             Ok(dep) => dep,
-            Err(refusal) => return Err(refusal),
+            Err(refusal) => return Err(Failure::Refused(refusal)),
         };
-        match self.add_dependency(dep, line) {
-            Ok(()) => Ok(()),
-            Err(kind) => Err(SchemaRefusal::at(line, next_column, 0, kind)),
-        }
+        self.add_dependency(dep, line)?;
+        Ok(())
     }
 
     /// Where the first token of a dependency line leads. A token that the line can't begin with is
@@ -232,10 +241,9 @@ impl Draft {
         Ok(stage)
     }
 
-    fn add_dependency(&mut self, dep: Dep, line: u32) -> Result<(), SchemaRefusalKind>
+    fn add_dependency(&mut self, dep: Dep, line: u32) -> Result<(), WantMemory>
         ensures ok { OnOk result (drafted self.new
             ≡ add_dependency (drafted self.old) (dependency_of dep) line) }
-        ensures err { IfErr result (λ why. why ≡ SchemaRefusalKind.Memory) }
     {
         self.deps.push(dep)?;
         self.lines.push(line)?;

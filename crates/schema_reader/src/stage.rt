@@ -1,12 +1,12 @@
-ghost use Rattle.std.specs.Prelude.{◌≡◌, ◌<◌, IfOk, IfErr, Ok, Err};
-ghost use Rattle.attr_sets.specs.Places.{only, union, none};
+ghost use Rattle.std.specs.Prelude.{◌≡◌, IfOk, IfErr, Ok, Err};
+ghost use Rattle.attr_sets.specs.Places.{none};
 ghost use Rattle.attr_sets.specs.Sets.{places};
 ghost use Rattle.dep_model.specs.Deps.{dependency_of};
 ghost use Rattle.schema_grammar.specs.Grammar.{after_sign, turn, finished, stated, IsPlaced};
 ghost use Rattle.schema_grammar.specs.declared.symbol.Sign.TheVariants as sign;
 ghost use Rattle.schema_reader.specs.Views.{reached_of};
 
-use attr_sets::{AttrSet, PLACES};
+use attr_sets::AttrSet;
 use dep_model::Dep;
 use schema_grammar::{Sign, Symbol, What};
 
@@ -41,21 +41,21 @@ pub fn turn(stage: Stage, symbol: Symbol) -> Result<Stage, What>
     ensures err { IfErr result (λ what. turn (reached_of stage) symbol ≡ Err what) }
 {
     match (stage, symbol) {
-        (Stage::Start, Symbol::Attribute(place)) => Ok(Stage::Left(single(place))),
+        (Stage::Start, Symbol::Attribute(place)) => Ok(Stage::Left(AttrSet::single(place))),
         (Stage::Start, Symbol::Empty) => Ok(Stage::LeftEmpty),
         (Stage::Start, _) => Err(What::Side),
-        (Stage::Left(lhs), Symbol::Attribute(place)) => Ok(Stage::Left(added(lhs, place))),
+        (Stage::Left(lhs), Symbol::Attribute(place)) => Ok(Stage::Left(lhs.with(place))),
         (Stage::Left(lhs), Symbol::Arrow(sign)) => Ok(Stage::AfterSign(sign, lhs)),
         (Stage::Left(_), _) => Err(What::Arrow),
-        (Stage::LeftEmpty, Symbol::Arrow(sign)) => Ok(Stage::AfterSign(sign, no_place())),
+        (Stage::LeftEmpty, Symbol::Arrow(sign)) => Ok(Stage::AfterSign(sign, AttrSet::empty())),
         (Stage::LeftEmpty, _) => Err(What::Arrow),
         (Stage::AfterSign(sign, lhs), Symbol::Attribute(place)) => {
-            Ok(Stage::Right(sign, lhs, single(place)))
+            Ok(Stage::Right(sign, lhs, AttrSet::single(place)))
         }
         (Stage::AfterSign(sign, lhs), Symbol::Empty) => Ok(Stage::RightEmpty(sign, lhs)),
         (Stage::AfterSign(_, _), _) => Err(What::Side),
         (Stage::Right(sign, lhs, rhs), Symbol::Attribute(place)) => {
-            Ok(Stage::Right(sign, lhs, added(rhs, place)))
+            Ok(Stage::Right(sign, lhs, rhs.with(place)))
         }
         (Stage::Right(_, _, _), _) => Err(What::LineEnd),
         (Stage::RightEmpty(_, _), _) => Err(What::LineEnd),
@@ -72,7 +72,7 @@ pub fn finish(stage: Stage) -> Result<Dep, What>
         Stage::Start | Stage::AfterSign(_, _) => Err(What::Side),
         Stage::Left(_) | Stage::LeftEmpty => Err(What::Arrow),
         Stage::Right(sign, lhs, rhs) => Ok(dependency(sign, lhs, rhs)),
-        Stage::RightEmpty(sign, lhs) => Ok(dependency(sign, lhs, no_place())),
+        Stage::RightEmpty(sign, lhs) => Ok(dependency(sign, lhs, AttrSet::empty())),
     }
 }
 
@@ -83,24 +83,4 @@ fn dependency(sign: Sign, lhs: AttrSet, rhs: AttrSet) -> Dep
         Sign::Functional => Dep::Fd { lhs, rhs },
         Sign::Multivalued => Dep::Mvd { lhs, rhs },
     }
-}
-
-fn no_place() -> AttrSet
-    ensures members { places result ≡ none }
-{
-    AttrSet::empty()
-}
-
-fn single(place: u8) -> AttrSet
-    requires { place < PLACES }
-    ensures members { places result ≡ only place }
-{
-    AttrSet::single(place)
-}
-
-fn added(set: AttrSet, place: u8) -> AttrSet
-    requires { place < PLACES }
-    ensures members { places result ≡ union (places set) (only place) }
-{
-    set.with(place)
 }

@@ -1,16 +1,17 @@
 ghost use Rattle.std.specs.Prelude.{All, false, ◌≡◌, ◌+◌, ◌<◌, ◌≤◌, ◌^◌, length, OnOk, IfOk, IfErr, Ok, Err};
+ghost use Rattle.dep_model.specs.Failures.{RefusesAs};
 ghost use Rattle.dep_model.specs.Schemas.{names_of};
 ghost use Rattle.schema_grammar.specs.Words.{is_reserved};
 ghost use Rattle.lexer.specs.Lines.{line_texts, lines_after};
 ghost use Rattle.lexer.specs.Tokens.{lexed};
 ghost use Rattle.schema_grammar.specs.Declarations.{no_declaration};
 ghost use Rattle.schema_reader.specs.Views.{drafted, AreFew};
-ghost use Rattle.schema_grammar.specs.Refusals.{Refuses, RefusesAs};
+ghost use Rattle.schema_grammar.specs.Refusals.{Refuses};
 ghost use Rattle.schema_grammar.specs.Schemas.{MeansSchema, RefusesSchema};
 ghost use Rattle.schema_grammar.specs.Texts.{finish, is_version, number_in, end_version_lexed, read_lines, read_version_lexed, read_typed, read_opening, declarations_of};
 
 use crate::draft::Draft;
-use dep_model::Schema;
+use dep_model::{Failure, Schema};
 use lexer::{Mode, Next, TokenKind, cut_line, next_token, without_mark};
 use schema_grammar::{Format, SchemaRefusal, SchemaRefusalKind, VERSION, What};
 use std::alloc::Global;
@@ -19,16 +20,16 @@ use std::alloc::Global;
 pub const MOST_TEXT_BYTES: usize = 1_048_576;
 
 /// The schema that a text means, or its first complaint. A byte-order mark at its very start is skipped.
-pub fn read_schema(alloc: Global, text: &[u8]) -> Result<Schema, SchemaRefusal>
+pub fn read_schema(alloc: Global, text: &[u8]) -> Result<Schema, Failure<SchemaRefusal>>
     requires { length text.now ≤ MOST_TEXT_BYTES }
     ensures ok { IfOk result (λ schema. MeansSchema text.now (declarations_of schema)) }
-    ensures err { IfErr result (λ refusal. RefusesAs refusal.kind (RefusesSchema text.now refusal)) }
+    ensures err { IfErr result (RefusesAs (RefusesSchema text.now)) }
     ensures free { IfOk result
         (λ schema. All (λ name. is_reserved Format.Plain name ≡ false) (names_of schema)) }
 {
     let draft = match read_opening(alloc, without_mark(text)) {
         Ok(draft) => draft,
-        Err(refusal) => return Err(refusal),
+        Err(failure) => return Err(failure),
     };
     let Draft {
         names,
@@ -40,10 +41,10 @@ pub fn read_schema(alloc: Global, text: &[u8]) -> Result<Schema, SchemaRefusal>
 }
 
 /// Reads a text from its beginning: lines without tokens, and then a version line or any other.
-fn read_opening(alloc: Global, text: &[u8]) -> Result<Draft, SchemaRefusal>
+fn read_opening(alloc: Global, text: &[u8]) -> Result<Draft, Failure<SchemaRefusal>>
     requires { length text.now ≤ MOST_TEXT_BYTES }
     ensures ok { IfOk result (λ draft. read_opening 1 (line_texts text.now) ≡ Ok (drafted draft)) }
-    ensures err { IfErr result (λ refusal. Refuses refusal (read_opening 1 (line_texts text.now))) }
+    ensures err { IfErr result (λ failure. Refuses failure (read_opening 1 (line_texts text.now))) }
 {
     let mut number = 1;
     let mut rest = text;
@@ -76,19 +77,19 @@ fn read_typed(
     next_column: u32,
     others: &[u8],
     after: Option<&[u8]>,
-) -> Result<Draft, SchemaRefusal>
+) -> Result<Draft, Failure<SchemaRefusal>>
     requires room { next_column + length others.now < 2 ^ 32 }
     requires lines { AreFew number after }
     ensures ok { IfOk result
         (λ draft. read_typed number (lines_after after.entry) next_column
         (lexed Mode.Numbered 0 next_column others.now) ≡ Ok (drafted draft)) }
     ensures err { IfErr result
-        (λ refusal. Refuses refusal
+        (λ failure. Refuses failure
         (read_typed number (lines_after after.entry) next_column
         (lexed Mode.Numbered 0 next_column others.now))) }
 {
     match read_version(number, next_column, others) {
-        Err(refusal) => Err(refusal),
+        Err(refusal) => Err(Failure::Refused(refusal)),
         Ok(()) => match after {
             None => finish(number, Draft::new(alloc)),
             Some(lines) => read_lines(alloc, Format::Typed, number + 1, lines),
@@ -173,12 +174,12 @@ fn read_lines(
     format: Format,
     number: u32,
     text: &[u8],
-) -> Result<Draft, SchemaRefusal>
+) -> Result<Draft, Failure<SchemaRefusal>>
     requires { number + length text.now < 2 ^ 31 }
     ensures ok { IfOk result
         (λ draft. read_lines format number no_declaration (line_texts text.now) ≡ Ok (drafted draft)) }
     ensures err { IfErr result
-        (λ refusal. Refuses refusal (read_lines format number no_declaration (line_texts text.now))) }
+        (λ failure. Refuses failure (read_lines format number no_declaration (line_texts text.now))) }
 {
     let mut draft = Draft::new(alloc);
     let mut number = number;
@@ -186,7 +187,7 @@ fn read_lines(
     'lines: loop {
         let (line, after) = cut_line(rest);
         match draft.read_line(format, number, line) {
-            Err(refusal) => return Err(refusal),
+            Err(failure) => return Err(failure),
             Ok(()) => match after {
                 None => return finish(number, draft),
                 Some(lines) => {
@@ -200,12 +201,13 @@ fn read_lines(
 
 /// A text ends with this line; it declares an attribute.
 #[tactic(auto, unfolding(schema_grammar::specs::Texts::finish))]
-fn finish(last: u32, draft: Draft) -> Result<Draft, SchemaRefusal>
+fn finish(last: u32, draft: Draft) -> Result<Draft, Failure<SchemaRefusal>>
     ensures ok { IfOk result (λ whole. finish last (drafted draft) ≡ Ok (drafted whole)) }
-    ensures err { IfErr result (λ refusal. finish last (drafted draft) ≡ Err refusal) }
+    ensures err { IfErr result (λ failure. Refuses failure (finish last (drafted draft))) }
 {
     if draft.names.is_empty() {
-        Err(SchemaRefusal::at(last, 1, 0, SchemaRefusalKind::NoAttributes))
+        let refusal = SchemaRefusal::at(last, 1, 0, SchemaRefusalKind::NoAttributes);
+        Err(Failure::Refused(refusal))
     } else {
         Ok(draft)
     }

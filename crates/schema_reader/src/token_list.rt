@@ -2,16 +2,17 @@ ghost use Rattle.std.specs.Prelude.{◌≡◌, ◌+◌, ◌<◌, ◌^◌, length
 ghost use Rattle.schema_grammar.specs.Refusals.{Refuses};
 ghost use Rattle.schema_grammar.specs.TokenLists.{tokens_of, mode_of};
 
+use dep_model::Failure;
 use lexer::{Mode, Next, Token, next_token};
-use schema_grammar::{SchemaRefusal, SchemaRefusalKind};
+use schema_grammar::SchemaRefusal;
 use std::alloc::Global;
 
 /// The tokens of one line, which is given without its end; with `proof` numbers and `:` are tokens
 /// too. It is refused at the first bytes that begin none, in line 1.
-pub fn tokens(alloc: Global, line: &[u8], proof: bool) -> Result<Vec<Token>, SchemaRefusal>
+pub fn tokens(alloc: Global, line: &[u8], proof: bool) -> Result<Vec<Token>, Failure<SchemaRefusal>>
     requires { length line.now + 1 < 2 ^ 32 }
     ensures ok { IfOk result (λ tokens. tokens_of proof line.now ≡ Ok tokens.items) }
-    ensures err { IfErr result (λ refusal. Refuses refusal (tokens_of proof line.now)) }
+    ensures err { IfErr result (λ failure. Refuses failure (tokens_of proof line.now)) }
 {
     let mode = mode_of(proof);
     let mut tokens = Vec::new(alloc);
@@ -20,12 +21,9 @@ pub fn tokens(alloc: Global, line: &[u8], proof: bool) -> Result<Vec<Token>, Sch
     'tokens: loop {
         match next_token(mode, column, rest) {
             Next::End => return Ok(tokens),
-            Next::Stop(stop) => return Err(SchemaRefusal::by(1, stop)),
+            Next::Stop(stop) => return Err(Failure::Refused(SchemaRefusal::by(1, stop))),
             Next::Token(token, _, others) => {
-                if tokens.push(token).is_err() {
-                    let kind = SchemaRefusalKind::Memory;
-                    return Err(SchemaRefusal::at(1, token.column, token.length, kind));
-                }
+                tokens.push(token)?;
                 column = token.column + token.length;
                 rest = others;
             }

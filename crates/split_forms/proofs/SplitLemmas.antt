@@ -3,9 +3,8 @@ use Rattle.std.proofs.Common.{◌≡◌, ℕ, ◌-◌, ◌^◌, ◌≤◌, ◌<�
 use Rattle.std.specs.Prelude.{All}
 use Rattle.std.proofs.lemmas.Option.{get_or_from_slice_get, slice_get_within}
 use Rattle.std.proofs.lemmas.List.Elements.{All-head}
-use Rattle.attr_sets.specs.Places.{Places, Same}
-use Rattle.attr_sets.proofs.PlacesLemmas.{Same-path}
-use Rattle.dep_model.specs.Dependencies.{Dependency, left_of}
+use Rattle.attr_sets.specs.Places.{Places}
+use Rattle.dep_model.specs.Dependencies.{Dependency}
 use Rattle.dep_model.specs.Projections.{IsLossless}
 use Rattle.form_tests.specs.declared.forms.Form.{Form}
 use Rattle.form_tests.specs.declared.forms.Form.TheVariants.{Third}
@@ -28,7 +27,7 @@ visible_is_some n ds form scheme x y none visible =
     (get_or_from_slice_get ds visible.place visible.given visible.given visible.stands)
     (none visible.place visible.given (slice_get_within ds visible.place visible.given visible.stands)) in
     innocent y (subst (λ (z : Places). Violates n ds form scheme z y)
-    (Same-path x (left_of visible.given) visible.left) visible.violates)
+    visible.left visible.violates)
 
 pub stuck_not_whole : (n : ℕ) (ds : List Dependency) (form : Form) (scheme : Places) → IsStuckScheme n ds form scheme
     → StaysWhole n ds form scheme → ⊥
@@ -49,7 +48,7 @@ cut_not_whole n ds form scheme x y proper cut whole =
     not_in_form n ds form scheme x y proper.within (cut_violates n ds form scheme x y cut) whole.in_form
 
 pub one_cut : (n : ℕ) (ds : List Dependency) (form : Form) (scheme x y v w : Places) → IsProper n scheme
-    → IsCutBy n ds form scheme x y → IsCutBy n ds form scheme v w → Same x v × Same y w
+    → IsCutBy n ds form scheme x y → IsCutBy n ds form scheme v w → (x ≡ v) × (y ≡ w)
 one_cut n ds form scheme x y v w proper p q =
     ⊎_elim
     (λ chosen. ⊎_elim (λ other. one_chosen n ds form scheme x y v w proper.within chosen.1 other.1)

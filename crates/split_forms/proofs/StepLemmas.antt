@@ -3,8 +3,7 @@ use Rattle.std.proofs.Common.{◌≡◌, ℕ, zero, suc, ◌+◌, ◌≤◌, Lis
 use Rattle.std.proofs.lemmas.Bool.{cases_eq}
 use Rattle.std.proofs.lemmas.List.Elements.{All-head, All-tail}
 use Rattle.std.specs.Prelude.{All}
-use Rattle.attr_sets.specs.Places.{Places, union, minus, Same}
-use Rattle.attr_sets.proofs.PlacesLemmas.{Same-path}
+use Rattle.attr_sets.specs.Places.{Places, union, minus}
 use Rattle.split_forms.specs.Lists.{IsSplitStep, ReachedIn}
 use Rattle.split_forms.proofs.SizeLemmas.{IsProper, all_after}
 
@@ -42,7 +41,7 @@ same_first {X} P (z ∷ a) (w ∷ b) s t c d e all_a all_b not_s not_t =
 -- ---- steps
 module _ (n : ℕ) (Whole : Places → Type 0) (Cut : Places → Places → Places → Type 0)
     (not_whole : (s x y : Places) → IsProper n s → Cut s x y → Whole s → ⊥)
-    (one_cut : (s x y v w : Places) → IsProper n s → Cut s x y → Cut s v w → Same x v × Same y w) where
+    (one_cut : (s x y v w : Places) → IsProper n s → Cut s x y → Cut s v w → (x ≡ v) × (y ≡ w)) where
   step_scheme : (l a : List Places) → All (IsProper n) l → (step : IsSplitStep Whole Cut l a) → IsProper n step.scheme
   step_scheme l a proper step =
       All-head (IsProper n) step.scheme step.later
@@ -62,8 +61,8 @@ module _ (n : ℕ) (Whole : Places → Type 0) (Cut : Places → Places → Plac
       ∙ ap (λ (e : List Places). e ++ union p.x p.y ∷ minus p.scheme p.y ∷ p.later) same.0
       ∙ ap (λ (s : Places). q.earlier ++ union p.x p.y ∷ minus s p.y ∷ p.later) same.1
       ∙ ap (λ (c : List Places). q.earlier ++ union p.x p.y ∷ minus q.scheme p.y ∷ c) same.2
-      ∙ ap (λ (x : Places). q.earlier ++ union x p.y ∷ minus q.scheme p.y ∷ q.later) (Same-path p.x q.x sides.0)
-      ∙ ap (λ (y : Places). q.earlier ++ union q.x y ∷ minus q.scheme y ∷ q.later) (Same-path p.y q.y sides.1)
+      ∙ ap (λ (x : Places). q.earlier ++ union x p.y ∷ minus q.scheme p.y ∷ q.later) sides.0
+      ∙ ap (λ (y : Places). q.earlier ++ union q.x y ∷ minus q.scheme y ∷ q.later) sides.1
       ∙ sym q.replaced
 
   -- a list all of whose schemes stay whole has no successor

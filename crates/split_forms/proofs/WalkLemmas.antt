@@ -5,10 +5,9 @@ use Rattle.std.specs.Prelude.{All}
 use Rattle.std.specs.List.{insert}
 use Rattle.std.proofs.lemmas.List.{take-append-drop, length-take, length-map, get_or-map, map-append, take_at, take_all, take_more_set, drop-set-lt}
 use Rattle.std.proofs.lemmas.List.Elements.{All-more, All-get_or, All-weaker}
-use Rattle.attr_sets.specs.Places.{Places, below, union, minus, Same, Within, IsEmpty}
+use Rattle.attr_sets.specs.Places.{Places, below, union, minus, Within, IsEmpty}
 use Rattle.attr_sets.specs.Sets.{places}
 use Rattle.attr_sets.specs.declared.set.AttrSet.{AttrSet}
-use Rattle.attr_sets.proofs.PlacesLemmas.{Same-path}
 use Rattle.dep_model.specs.Dependencies.{Dependency}
 use Rattle.dep_model.specs.Plans.{IsPlan, schemes_of}
 use Rattle.form_tests.specs.declared.forms.Form.{Form}
@@ -52,7 +51,7 @@ mapped_about xs i d lt = ap (λ (l : List AttrSet). schemes_of l) (about xs i d 
 
 pub cut_list : (xs ys : List AttrSet) (i : ℕ) (d first second : AttrSet) (x y : Places) → i < length xs
     → ys ≡ insert (set xs i first) (i + 1) second
-    → Same (places first) (union x y) → Same (places second) (minus (places (get_or xs i d)) y)
+    → places first ≡ union x y → places second ≡ minus (places (get_or xs i d)) y
     → (earlier later : List Places) (scheme : Places) → length earlier ≡ i → schemes_of xs ≡ earlier ++ scheme ∷ later
     → schemes_of ys ≡ earlier ++ union x y ∷ minus scheme y ∷ later
 cut_list xs ys i d first second x y lt items one other earlier later scheme count list =
@@ -66,9 +65,9 @@ cut_list xs ys i d first second x y lt items one other earlier later scheme coun
     ap (λ (l : List AttrSet). schemes_of l) (items ∙ two_for_one xs i first second lt)
     ∙ map-append places front (first ∷ second ∷ back)
     ∙ ap (λ (z : Places). schemes_of front ++ z ∷ places second ∷ schemes_of back)
-    (Same-path (places first) (union x y) one)
+    one
     ∙ ap (λ (z : Places). schemes_of front ++ union x y ∷ z ∷ schemes_of back)
-    (Same-path (places second) (minus s y) other)
+    other
     ∙ ap (λ (l : List Places). l ++ union x y ∷ minus s y ∷ schemes_of back) (sym parts.0)
     ∙ ap (λ (z : Places). earlier ++ union x y ∷ minus z y ∷ schemes_of back) (sym parts.1)
     ∙ ap (λ (l : List Places). earlier ++ union x y ∷ minus scheme y ∷ l) (sym parts.2)
@@ -84,13 +83,13 @@ module _ (n : ℕ) (ds : List Dependency) (form : Form) where
     pub whole : All Whole (take at (schemes_of xs))
     pub inside : at ≤ length xs
 
-  pub walk_start : (xs : List AttrSet) (universe : AttrSet) → xs ≡ universe ∷ [] → Same (places universe) (below n)
+  pub walk_start : (xs : List AttrSet) (universe : AttrSet) → xs ≡ universe ∷ [] → places universe ≡ below n
       → IsWalkedTo xs 0
   walk_start xs universe items same = record {
     reached = (
       0,
       ap (λ (l : List AttrSet). schemes_of l) items
-          ∙ ap (λ (u : Places). u ∷ []) (Same-path (places universe) (below n) same),
+          ∙ ap (λ (u : Places). u ∷ []) same,
     );
     whole = λ k d l. absurd (omega (arith, l, length-take 0 (schemes_of xs)));
     inside = omega arith;

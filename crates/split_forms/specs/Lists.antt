@@ -1,3 +1,5 @@
+-- Lists of schemes that splitting leads to, whatever schemes stay whole and whatever they are cut
+-- by: for `Splitting`.
 use Rattle.std.specs.Prelude.{◌≡◌, ℕ, zero, suc, List, [], ◌∷◌, ◌++◌, All}
 use Rattle.attr_sets.specs.Places.{Places, below, union, minus}
 

@@ -1,3 +1,4 @@
+-- What becomes of a scheme that is tried: for the functions below `split`. `Desk` does not cite it.
 use Rattle.std.specs.Prelude.{ℕ, List, All}
 use Rattle.attr_sets.specs.Places.{Places}
 use Rattle.attr_sets.specs.Sets.{places}

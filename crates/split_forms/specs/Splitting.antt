@@ -1,3 +1,5 @@
+-- The decomposition by violations, step by step: for `split`, the laws of split_forms and the
+-- command `split` (`desk_cli/Decompositions`).
 use Rattle.std.specs.Prelude.{◌≡◌, ℕ, ◌+◌, ◌≤◌, ◌⊎◌, List, ◌∷◌, ◌++◌, length, All}
 use Rattle.attr_sets.specs.Places.{Places}
 use Rattle.attr_sets.specs.declared.set.AttrSet.{AttrSet}
@@ -48,7 +50,8 @@ pub record IsStuckAt (n : ℕ) (ds : List Dependency) (form : Form) (schemes : L
   pub stuck : IsStuckScheme n ds form scheme
 
 -- a reached list of so many schemes at most is stuck at a scheme
-pub record IsTooWideAt (n : ℕ) (ds : List Dependency) (form : Form) (limit : ℕ) (scheme : Places) : Type 0 where
+pub record IsTooWideAt (n : ℕ) (ds : List Dependency) (form : Form) (limit : ℕ) (scheme : Places)
+    : Type 0 where
   pub schemes : List Places
   pub reached : ReachedList n ds form schemes
   pub few : length schemes ≤ limit

@@ -1,4 +1,5 @@
 ghost use Rattle.std.specs.Prelude.{◌≡◌, ◌-◌, ◌^◌, ◌<◌, ◌≤◌, IfOk, IfErr, All, Err};
+ghost use Rattle.dep_model.specs.Failures.{RefusesAs};
 ghost use Rattle.dep_model.specs.Plans.{schemes_of};
 ghost use Rattle.dep_model.specs.Projections.{IsLossless};
 ghost use Rattle.dep_model.specs.Schemas.{width_of, theory_of};
@@ -12,7 +13,7 @@ use crate::outcome::Outcome;
 use crate::refusal::SplitRefusal;
 use crate::trying::found_outcome;
 use attr_sets::AttrSet;
-use dep_model::Schema;
+use dep_model::{Failure, Schema};
 use form_tests::Form;
 use plans::{Plan, drop_contained};
 use std::alloc::Global;
@@ -25,9 +26,17 @@ use std::alloc::Global;
 /// lost.
 ///
 /// Where a list has more than `limit` schemes, the universe is not split. Over n attributes no list
-/// has more than 2 to the power n - 1; so with a limit of 4,096, or 2 to the power 12, 12 attributes
+/// has more than 2 to the power n - 1; so with a limit of 4,096, or 2 to the power 12, 13 attributes
 /// never make too many.
-pub fn split(alloc: Global, schema: &Schema, form: Form, limit: u32) -> Result<Plan, SplitRefusal>
+///
+/// The time is exponential at worst: each different scheme of the lists is tested once as `violation`
+/// does it, and there may be `limit` schemes.
+pub fn split(
+    alloc: Global,
+    schema: &Schema,
+    form: Form,
+    limit: u32,
+) -> Result<Plan, Failure<SplitRefusal>>
     requires form { form ≡ Form.Third → ⊥ }
     requires limit { 0 < limit }
     ensures universe { IfOk result (λ plan. IsPlanOver schema.now plan) }
@@ -40,13 +49,13 @@ pub fn split(alloc: Global, schema: &Schema, form: Form, limit: u32) -> Result<P
     ensures within_limits { IfOk result (λ _.
         IsWithinLimits (width_of schema.now) (theory_of schema.now) form limit) }
     ensures refused { IfErr result
-        (IsRefusedSplit (width_of schema.now) (theory_of schema.now) form limit) }
+        (RefusesAs (IsRefusedSplit (width_of schema.now) (theory_of schema.now) form limit)) }
     ensures never_too_many { 2 ^ (width_of schema.now - 1) ≤ limit
-        → result ≡ Err SplitRefusal.TooManySchemes → ⊥ }
+        → result ≡ Err (Failure.Refused SplitRefusal.TooManySchemes) → ⊥ }
 {
     match finished_list(alloc, schema, form, limit) {
         Ok(schemes) => Ok(drop_contained(schema, Plan::make(schema, schemes))),
-        Err(refusal) => Err(refusal),
+        Err(failure) => Err(failure),
     }
 }
 
@@ -57,7 +66,7 @@ fn finished_list(
     schema: &Schema,
     form: Form,
     limit: u32,
-) -> Result<Vec<AttrSet>, SplitRefusal>
+) -> Result<Vec<AttrSet>, Failure<SplitRefusal>>
     requires form { form ≡ Form.Third → ⊥ }
     requires limit { 0 < limit }
     ensures finished { IfOk result (λ all.
@@ -65,7 +74,7 @@ fn finished_list(
     ensures within_limits { IfOk result (λ _.
         IsWithinLimits (width_of schema.now) (theory_of schema.now) form limit) }
     ensures refused { IfErr result
-        (IsRefusedSplit (width_of schema.now) (theory_of schema.now) form limit) }
+        (RefusesAs (IsRefusedSplit (width_of schema.now) (theory_of schema.now) form limit)) }
 {
     let mut schemes = Vec::new(alloc);
     schemes.push(AttrSet::full(schema.width()))?;
@@ -76,10 +85,10 @@ fn finished_list(
         let scheme = schemes[at];
         match found_outcome(schema, form, scheme, &mut tried)? {
             Outcome::Whole => at += 1,
-            Outcome::Stuck => return Err(SplitRefusal::TooWide { scheme }),
+            Outcome::Stuck => return Err(Failure::Refused(SplitRefusal::TooWide { scheme })),
             Outcome::Cut(breach) => {
                 if schemes.len() >= most {
-                    return Err(SplitRefusal::TooManySchemes);
+                    return Err(Failure::Refused(SplitRefusal::TooManySchemes));
                 }
                 cut_at(&mut schemes, at, breach)?;
             }

@@ -1,5 +1,5 @@
 ghost use Rattle.std.specs.Prelude.{◌≡◌, IfOk, IfSome, Any};
-ghost use Rattle.attr_sets.specs.Places.{Same, Within};
+ghost use Rattle.attr_sets.specs.Places.{Within};
 ghost use Rattle.attr_sets.specs.Sets.{places};
 ghost use Rattle.dep_model.specs.Schemas.{width_of, universe_of, theory_of};
 ghost use Rattle.split_forms.specs.Outcomes.{IsOutcome, AreTried};
@@ -43,7 +43,7 @@ pub fn found_outcome(
 // What became of a scheme that was tried before.
 fn earlier_outcome(tried: &[Tried], scheme: AttrSet) -> Option<Outcome>
     ensures tried { IfSome result (λ outcome.
-        Any (λ one. Same (places one.scheme) (places scheme) × (one.outcome ≡ outcome)) tried.now) }
+        Any (λ one. (places one.scheme ≡ places scheme) × (one.outcome ≡ outcome)) tried.now) }
 {
     for one in tried {
         if one.scheme == scheme {

@@ -1,15 +1,15 @@
 -- Lists of quoted names: one more at the end.
-use Rattle.std.proofs.Common.{◌≡◌, ◌<◌, ◌+◌, ℕ, Bool, true, false, ◌||◌, List, [], ◌∷◌, ◌++◌, length, get_or, take, Some, inl, inr, refl, sym, ap, ◌∙◌, arith, append_assoc, append-nil}
+use Rattle.std.proofs.Common.{◌≡◌, ◌<◌, ◌+◌, ℕ, Bool, true, false, ◌||◌, List, [], ◌∷◌, ◌++◌, length, get_or, take, Some, inl, inr, refl, sym, ap, ◌∙◌, arith, append-nil}
 use Rattle.std.specs.Prelude.{if◌then◌else◌, slice_get}
-use Rattle.std.specs.List.{flat_map}
 use Rattle.std.proofs.lemmas.Bool.{cases_Bool}
-use Rattle.std.proofs.lemmas.List.{take_more, length-take-le, flat_map_more}
+use Rattle.std.proofs.lemmas.List.{take_more, length-take-le}
 use Rattle.std.proofs.lemmas.Option.{get_or_from_slice_get}
 use Rattle.attr_sets.specs.Places.{Places}
 use Rattle.dep_model.specs.declared.schema.Schema.{Schema}
 use Rattle.dep_model.specs.Schemas.{names_of}
 use Rattle.schema_printer.specs.Printing.{members_from}
 use Rattle.sql_names.specs.Names.{separator, listed, quoted_name, has_some}
+use Rattle.sql_names.proofs.ListLemmas.{listed_push, some_pushed, adds}
 
 -- ---- the names of a set's members
 members_append : (x : Places) (k : ℕ) (names more : List (List ℕ))
@@ -47,23 +47,10 @@ names_outside x names n lt outside =
     ∙ ap (λ (b : Bool). members_from x 0 (take n names) ++ (if b then get_or names n [] ∷ [] else [])) outside
     ∙ append-nil (members_from x 0 (take n names))
 
-pub some_pushed : (xs : List (List ℕ)) (x : List ℕ) → has_some (xs ++ x ∷ []) ≡ true
-some_pushed [] x = refl
-some_pushed (y ∷ xs) x = refl
-
 -- ---- names
-pub listed_push : (text : List ℕ → List ℕ) (xs : List (List ℕ)) (x : List ℕ)
-    → listed text (xs ++ x ∷ []) ≡ listed text xs ++ (if has_some xs then separator ++ text x else text x)
-listed_push text [] x = append-nil (text x)
-listed_push text (y ∷ xs) x = sym (flat_map_more (λ z. separator ++ text z) (text y) xs x)
-
 pub or_true : (b : Bool) → (b || true) ≡ true
 or_true true = refl
 or_true false = refl
-
--- two parts are added
-pub adds : (old a b mid new : List ℕ) → mid ≡ old ++ a → new ≡ mid ++ b → new ≡ old ++ (a ++ b)
-adds old a b mid new first second = second ∙ ap (λ (t : List ℕ). t ++ b) first ∙ append_assoc old a b
 
 -- a name more
 pub listed_more : (xs : List (List ℕ)) (x name : List ℕ) (some : Bool) (before text next : List ℕ)

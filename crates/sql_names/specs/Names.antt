@@ -1,4 +1,4 @@
--- Names in SQL, for all that prints statements.
+-- Names in SQL: for all that prints statements.
 use Rattle.std.specs.Prelude.{ℕ, Bool, true, false, List, [], ◌∷◌, ◌++◌, codes}
 use Rattle.std.specs.List.{flat_map}
 use Rattle.attr_sets.specs.Places.{Places}
@@ -15,10 +15,10 @@ abbrev pub listed : {X : Type 0} → (X → List ℕ) → List X → List ℕ
 listed text [] = []
 listed text (x ∷ xs) = text x ++ flat_map (λ y. separator ++ text y) xs
 
--- whether a list of texts has one
-abbrev pub has_some : List (List ℕ) → Bool
+-- whether a list has an item
+abbrev pub has_some : {X : Type 0} → List X → Bool
 has_some [] = false
-has_some (text ∷ texts) = true
+has_some (x ∷ xs) = true
 
 -- a name in double quotes
 abbrev pub quoted_name : List ℕ → List ℕ

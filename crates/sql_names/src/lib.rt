@@ -3,4 +3,4 @@
 
 mod name_list;
 
-pub use name_list::{add_name_list, add_quoted};
+pub use name_list::{add_listed, add_name_list, add_names, add_quoted};

@@ -1,6 +1,6 @@
 ghost use Rattle.std.specs.Prelude.{◌≡◌, ◌++◌, if◌then◌else◌, OnOk};
 ghost use Rattle.attr_sets.specs.Sets.{places};
-ghost use Rattle.sql_names.specs.Names.{separator, quoted_name, name_list};
+ghost use Rattle.sql_names.specs.Names.{separator, listed, quoted_name, name_list};
 
 use attr_sets::AttrSet;
 use dep_model::{Name, Schema, WantMemory};
@@ -13,15 +13,25 @@ pub fn add_name_list(text: &mut Vec<u8>, schema: &Schema, set: AttrSet) -> Resul
     let mut some = false;
     for place in 0..schema.width() {
         if set.has(place) {
-            add_listed(text, some, schema.name(place))?;
+            add_listed_name(text, some, schema.name(place))?;
             some = true;
         }
     }
     Ok(())
 }
 
+/// Adds quoted names, with a comma and a blank between.
+pub fn add_names(text: &mut Vec<u8>, names: &[Name]) -> Result<(), WantMemory>
+    ensures added { OnOk result (text.new.items ≡ text.old.items ++ listed quoted_name names.now) }
+{
+    for (i, name) in names.iter().enumerate() {
+        add_listed_name(text, i > 0, name)?;
+    }
+    Ok(())
+}
+
 // Adds a quoted name; after a comma and a blank where another one stands before it.
-fn add_listed(text: &mut Vec<u8>, some: bool, name: &Name) -> Result<(), WantMemory>
+fn add_listed_name(text: &mut Vec<u8>, some: bool, name: &Name) -> Result<(), WantMemory>
     ensures added { OnOk result (text.new.items
         ≡ text.old.items ++ (if some then separator ++ quoted_name name.now else quoted_name name.now)) }
 {
@@ -29,6 +39,17 @@ fn add_listed(text: &mut Vec<u8>, some: bool, name: &Name) -> Result<(), WantMem
         add(text, b", ")?;
     }
     add_quoted(text, name)
+}
+
+/// Adds an item; after a comma and a blank where another one stands before it.
+pub fn add_listed(text: &mut Vec<u8>, some: bool, item: &[u8]) -> Result<(), WantMemory>
+    ensures added { OnOk result (text.new.items
+        ≡ text.old.items ++ (if some then separator ++ item.now else item.now)) }
+{
+    if some {
+        add(text, b", ")?;
+    }
+    add(text, item)
 }
 
 /// Adds a name in double quotes.

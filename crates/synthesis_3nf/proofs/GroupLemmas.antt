@@ -5,9 +5,9 @@ use Rattle.std.specs.List.{list_any}
 use Rattle.std.proofs.lemmas.Bool.{cases_Bool, true≢false, eqb-true, eq-eqb, lt-ltb, ltb-true, or_cases, or_left, or_right, and_parts, and_from}
 use Rattle.std.proofs.lemmas.List.Elements.{All-contains, Contains-append_left, Contains-append_right}
 use Rattle.attr_sets.specs.declared.set.TheConstants.{PLACES}
-use Rattle.attr_sets.specs.Places.{Places, below, only, Within, Same}
+use Rattle.attr_sets.specs.Places.{Places, below, only, Within}
 use Rattle.attr_sets.specs.Sets.{is_same}
-use Rattle.attr_sets.proofs.PlacesLemmas.{is_same-true, is_same-from, Same-path, Same-refl}
+use Rattle.attr_sets.proofs.PlacesLemmas.{is_same-true, is_same-from}
 use Rattle.dep_model.specs.Dependencies.{Dependency, fd, left_of, right_of, IsWithin}
 use Rattle.dep_model.proofs.ListLemmas.{Contains-head, Contains-later, Contains-cases, Contains-map, map-member}
 use Rattle.min_cover.specs.Covers.{IsSingle}
@@ -62,7 +62,7 @@ left_holds earlier (e ∷ later) d has =
     let more = left_sides_after (earlier ++ left_of e ∷ []) later in
     subst (λ (xs : List Places). HasLeft (earlier ++ xs) d) (sym (left_added earlier e later new))
     (⊎_elim
-    (λ here. (left_of e, Contains-append_right earlier (left_of e ∷ more) (left_of e) (Contains-head (left_of e) more), subst (λ (f : Dependency). is_same (left_of e) (left_of f) ≡ true) (sym here) (is_same-from (left_of e) (left_of e) (Same-refl (left_of e)))))
+    (λ here. (left_of e, Contains-append_right earlier (left_of e ∷ more) (left_of e) (Contains-head (left_of e) more), subst (λ (f : Dependency). is_same (left_of e) (left_of f) ≡ true) (sym here) (is_same-from (left_of e) (left_of e) refl)))
     (λ there. subst (λ (xs : List Places). HasLeft xs d) (append_assoc earlier (left_of e ∷ []) more) (left_holds (earlier ++ left_of e ∷ []) later d there))
     (Contains-cases e later d has)))
     (cases_Bool (list_any (λ y. is_same y (left_of e)) earlier))
@@ -72,7 +72,7 @@ module _ (n : ℕ) (few : n ≤ PLACES) (cover : List Dependency) (single : All 
   wide x x_in k m = lt-ltb k PLACES (omega (arith, few, ltb-true k n (x_in k m)))
 
   same_left : (x y : Places) → Within x (below n) → Within y (below n) → is_same x y ≡ true → x ≡ y
-  same_left x y x_in y_in same = Same-path x y (is_same-true x y (wide x x_in) (wide y y_in) same)
+  same_left x y x_in y_in same = is_same-true x y (wide x x_in) (wide y y_in) same
 
   left_in : (d : Dependency) → Contains cover d → Within (left_of d) (below n)
   left_in d has = (All-contains (IsWithin (below n)) cover d within has).0
@@ -111,7 +111,7 @@ module _ (n : ℕ) (few : n ≤ PLACES) (cover : List Dependency) (single : All 
               member_is x a found.0 found.1 (sym (same_left x (left_of found.0) x_in (left_in found.0 found.1) found.2)) found.3)
               (or_cases (x a) (list_any (λ e. is_same x (left_of e) && right_of e a) cover) in_scheme);
           first = one.1;
-          some = (member_is x one.1 d has left right, given x one.1 d has (is_same-from x (left_of d) (λ k. ap (λ (y : Places). y k) (sym left))) right);
+          some = (member_is x one.1 d has left right, given x one.1 d has (is_same-from x (left_of d) (sym left)) right);
         },
         λ k m. ⊎_elim
             (λ own. x_in k own)

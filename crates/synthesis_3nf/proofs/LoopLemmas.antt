@@ -1,5 +1,6 @@
 -- One turn of each loop: a dependency grouped, a left side found, a scheme tried.
 use Rattle.std.proofs.Common.{◌≡◌, ℕ, ◌+◌, ◌<◌, suc, Bool, true, false, ◌&&◌, ◌||◌, List, [], ◌∷◌, ◌++◌, map, take, drop, length, get_or, refl, sym, subst, ap, ◌∙◌, ◌⊎◌, ⊎_elim, append_assoc}
+use mathlib.Core.Path.{fun_ext}
 use Rattle.std.specs.Prelude.{Any, Contains}
 use Rattle.std.specs.List.{list_any}
 use Rattle.std.proofs.Math.Seq.{drop-cons}
@@ -7,15 +8,15 @@ use Rattle.std.proofs.lemmas.List.{take_more, map-append}
 use Rattle.std.proofs.lemmas.List.Elements.{Contains-push_cases}
 use Rattle.std.proofs.lemmas.List.Folds.{list_any-append}
 use Rattle.attr_sets.specs.declared.set.AttrSet.{AttrSet}
-use Rattle.attr_sets.specs.Places.{Places, Same}
+use Rattle.attr_sets.specs.Places.{Places}
 use Rattle.attr_sets.specs.Sets.{places, is_same}
-use Rattle.attr_sets.proofs.PlacesLemmas.{Same-path}
 use Rattle.dep_model.specs.declared.dep.Dep.{Dep}
 use Rattle.dep_model.specs.Dependencies.{Dependency, left_of, right_of}
 use Rattle.dep_model.specs.Deps.{dependency_of, dependencies_of}
 use Rattle.dep_model.specs.Plans.{schemes_of}
 use Rattle.dep_model.proofs.ListLemmas.{Any-from}
 use Rattle.synthesis_3nf.specs.Groups.{left_sides_after, group_scheme}
+use Rattle.attr_sets.proofs.PlacesLemmas.{same_at}
 use Rattle.synthesis_3nf.proofs.GroupLemmas.{left_passed, left_added}
 
 -- the front of a list and one element more, mapped
@@ -29,18 +30,18 @@ arranged false false true = refl
 arranged false false false = refl
 
 -- ---- a dependency more in a group
-pub group_more : (deps : List Dep) (i : ℕ) (d : Dep) (x old new : Places) → i < length deps → Same old (group_scheme (dependencies_of (take i deps)) x)
-    → Same new (λ k. old k || (is_same x (left_of (dependency_of (get_or deps i d))) && right_of (dependency_of (get_or deps i d)) k))
-    → Same new (group_scheme (dependencies_of (take (i + 1) deps)) x)
-group_more deps i d x old new lt before step k =
+pub group_more : (deps : List Dep) (i : ℕ) (d : Dep) (x old new : Places) → i < length deps → old ≡ group_scheme (dependencies_of (take i deps)) x
+    → new ≡ (λ k. old k || (is_same x (left_of (dependency_of (get_or deps i d))) && right_of (dependency_of (get_or deps i d)) k))
+    → new ≡ group_scheme (dependencies_of (take (i + 1) deps)) x
+group_more deps i d x old new lt before step = fun_ext (λ k.
     let e = dependency_of (get_or deps i d) in
     let front = dependencies_of (take i deps) in
     let test : Dependency → Bool = λ f. is_same x (left_of f) && right_of f k in
     let here = is_same x (left_of e) && right_of e k in
-    step k
-    ∙ ap (λ (b : Bool). b || here) (before k)
+    same_at step k
+    ∙ ap (λ (b : Bool). b || here) (same_at before k)
     ∙ arranged (x k) (list_any test front) here
-    ∙ ap (λ (b : Bool). x k || b) (sym (list_any-append test front (e ∷ [])) ∙ ap (λ (es : List Dependency). list_any test es) (sym (mapped_more dependency_of deps i d lt)))
+    ∙ ap (λ (b : Bool). x k || b) (sym (list_any-append test front (e ∷ [])) ∙ ap (λ (es : List Dependency). list_any test es) (sym (mapped_more dependency_of deps i d lt))))
 
 -- ---- a left side more
 -- the left sides up to a place, and those to come
@@ -81,12 +82,12 @@ lefts_added deps lefts i next d left is_next lt before same told =
 
 -- ---- a scheme more
 pub schemes_more : (f : Places → Places) (lefts schemes : List AttrSet) (i : ℕ) (x scheme : AttrSet) → i < length lefts → schemes_of schemes ≡ map f (schemes_of (take i lefts))
-    → Same (places scheme) (f (places (get_or lefts i x))) → schemes_of (schemes ++ scheme ∷ []) ≡ map f (schemes_of (take (i + 1) lefts))
+    → places scheme ≡ f (places (get_or lefts i x)) → schemes_of (schemes ++ scheme ∷ []) ≡ map f (schemes_of (take (i + 1) lefts))
 schemes_more f lefts schemes i x scheme lt before is =
     let e = places (get_or lefts i x) in
     map-append places schemes (scheme ∷ [])
     ∙ ap (λ (xs : List Places). xs ++ places scheme ∷ []) before
-    ∙ ap (λ (y : Places). map f (schemes_of (take i lefts)) ++ y ∷ []) (Same-path (places scheme) (f e) is)
+    ∙ ap (λ (y : Places). map f (schemes_of (take i lefts)) ++ y ∷ []) is
     ∙ sym (map-append f (schemes_of (take i lefts)) (e ∷ []))
     ∙ ap (λ (xs : List Places). map f xs) (sym (mapped_more places lefts i x lt))
 

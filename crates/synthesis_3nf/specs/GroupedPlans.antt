@@ -1,3 +1,5 @@
+-- The decomposition in third normal form that is made of a cover: for `synthesize` and the command
+-- of that name (`desk_cli/Synthesis`).
 use Rattle.std.specs.Prelude.{◌≡◌, ℕ, ◌⊎◌, List, [], ◌∷◌, ◌++◌, Any}
 use Rattle.attr_sets.specs.Places.{Places, below}
 use Rattle.attr_sets.specs.declared.set.AttrSet.{AttrSet}

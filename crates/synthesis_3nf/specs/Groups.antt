@@ -1,3 +1,4 @@
+-- A cover grouped by left sides: for the plan of `GroupedPlans`.
 use Rattle.std.specs.Prelude.{◌||◌, ◌&&◌, if◌then◌else◌, List, [], ◌∷◌, ◌++◌, map}
 use Rattle.std.specs.List.{list_any}
 use Rattle.attr_sets.specs.Places.{Places}

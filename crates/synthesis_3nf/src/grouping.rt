@@ -1,6 +1,5 @@
 ghost use Rattle.std.specs.Prelude.{◌≡◌, ◌||◌, ◌&&◌, [], map, IfOk};
 ghost use Rattle.std.specs.List.{list_any};
-ghost use Rattle.attr_sets.specs.Places.{Same};
 ghost use Rattle.attr_sets.specs.Sets.{places, is_same};
 ghost use Rattle.dep_model.specs.Dependencies.{left_of, right_of};
 ghost use Rattle.dep_model.specs.Deps.{dependency_of, dependencies_of};
@@ -55,7 +54,7 @@ fn is_among(sets: &[AttrSet], set: AttrSet) -> bool
 
 // A left side with all that the dependencies of the list with this left side determine.
 fn group_scheme(deps: &[Dep], left: AttrSet) -> AttrSet
-    ensures scheme { Same (places result) (group_scheme (dependencies_of deps.now) (places left)) }
+    ensures scheme { places result ≡ group_scheme (dependencies_of deps.now) (places left) }
 {
     let mut scheme = left;
     for dep in deps {
@@ -66,7 +65,7 @@ fn group_scheme(deps: &[Dep], left: AttrSet) -> AttrSet
 
 // A scheme with the right side of a dependency, if this has the left side.
 fn with_member(scheme: AttrSet, dep: Dep, left: AttrSet) -> AttrSet
-    ensures scheme { Same (places result) (λ k. places scheme k
+    ensures scheme { places result ≡ (λ k. places scheme k
         || (is_same (places left) (left_of (dependency_of dep)) && right_of (dependency_of dep) k)) }
 {
     let (lhs, rhs) = sides(dep);

@@ -17,7 +17,8 @@ pub fn add_nodes(
     schema: &Schema,
     tables: &[TableDesign],
 ) -> Result<(), WantMemory>
-    ensures added { OnOk result (text.new.items ≡ text.old.items ++ flat_map (node_text schema.now) tables.now) }
+    ensures added { OnOk result (text.new.items
+        ≡ text.old.items ++ flat_map (node_text schema.now) tables.now) }
 {
     for table in tables {
         add(text, &node(alloc, schema, table)?)?;

@@ -7,10 +7,9 @@ use Rattle.std.proofs.lemmas.List.{length-map}
 use Rattle.std.proofs.lemmas.List.Elements.{All-nil, All-push, All-get_or}
 use Rattle.std.proofs.lemmas.List.Folds.{Any-from_list_any}
 use Rattle.std.proofs.lemmas.List.Quantifiers.{position-Some}
-use Rattle.attr_sets.specs.Places.{Places, below, Within}
+use Rattle.attr_sets.specs.Places.{count_below, Places, below, Within}
 use Rattle.attr_sets.specs.Sets.{places}
 use Rattle.attr_sets.specs.declared.set.AttrSet.{AttrSet}
-use Rattle.attr_sets.proofs.PlacesLemmas.{count_below-same}
 use Rattle.csv_rows.specs.Columns.{with_columns, column_of, columns_of_header, columns_from, ◌>>=◌}
 use Rattle.csv_rows.specs.Reading.{PartOf, HasScheme, TableOf, RowsUnder, value_of}
 use Rattle.csv_rows.specs.declared.refusal.RowRefusal.{RowRefusal}
@@ -23,6 +22,7 @@ use Rattle.dep_model.specs.Tuples.{Relation}
 use Rattle.dep_model.specs.declared.schema.Schema.{Schema}
 use Rattle.dep_model.proofs.SchemeLemmas.{length-members_below}
 use Rattle.table_join.specs.Tables.{IsTable}
+use Rattle.attr_sets.proofs.PlacesLemmas.{same_at}
 
 -- the attribute of a column is one that has a name
 named_low : (names : List (List ℕ)) (column a : ℕ) (before : Places) (field : List ℕ) → column_of column before
@@ -79,12 +79,12 @@ part_is_table s text rows scheme part has =
     has.1 (Ok rows)) (w.1 ∙ has.4) w.2 in
     let low = columns_low names [] has.0 columns has.4 (All-nil (λ (a : ℕ). a < length names)) in
     record {
-      within = λ k h. named_within n columns low k (sym (has.5 k) ∙ h);
+      within = λ k h. named_within n columns low k (sym (same_at has.5 k) ∙ h);
       over = λ k d l.
           let each = under.0.each k l in
           ap length (same_default rows k d [] l)
           ∙ ap length each.1
           ∙ length-map (members_below n (with_columns columns)) (value_of columns (slice_index_or has.1 k []))
           ∙ length-members_below n (with_columns columns)
-          ∙ sym (count_below-same n (places scheme) (with_columns columns) has.5);
+          ∙ sym (ap (λ x. count_below x n) has.5);
     }

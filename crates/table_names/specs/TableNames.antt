@@ -1,4 +1,4 @@
--- The names of the tables of a decomposition.
+-- The names of the tables of a decomposition: for all that makes or describes such tables.
 use Rattle.std.specs.Prelude.{ℕ, List, ◌++◌, codes}
 use Rattle.std.specs.Fmt.{decimal}
 

@@ -1,12 +1,13 @@
 -- What a query gives hangs on the values of its own attributes alone.
 use Rattle.std.proofs.Common.{◌≡◌, ℕ, List, [], ◌∷◌, length, map, sym, subst, inl, inr, ◌∙◌, arith}
+use mathlib.Core.Path.{fun_ext}
 use Rattle.std.proofs.lemmas.Bool.{cases_Bool, ltb-true}
 use Rattle.std.proofs.lemmas.Bool.Decides.{nat_tests}
 use Rattle.std.proofs.lemmas.List.{ext_get_or}
 use Rattle.std.specs.Prelude.{Contains, MatchOption, ⊤}
-use Rattle.attr_sets.specs.Places.{below, union, Within, Same}
+use Rattle.attr_sets.specs.Places.{below, union, Within}
 use Rattle.attr_sets.specs.Sets.{is_within}
-use Rattle.attr_sets.proofs.PlacesLemmas.{Same-within, Same-sym}
+use Rattle.attr_sets.proofs.PlacesLemmas.{same_from_within, same_at}
 use Rattle.dep_model.specs.Tuples.{Tuple, Relation, AgreeOn}
 use Rattle.dep_model.specs.Dependencies.{Dependency, fd, mvd, IsWithin}
 use Rattle.dep_model.specs.Projections.{projection, Covers}
@@ -43,7 +44,7 @@ own_values n (join p q) r t u even lt lu agree given = (
 )
 own_values n (except p q) r t u even lt lu agree given = (
   own_values n p r t u even.0 lt lu agree given.0,
-  λ back. given.1 (own_values n q r u t even.1 lu lt (λ (k : ℕ) m. sym (agree k (even.2 k ∙ m))) back),
+  λ back. given.1 (own_values n q r u t even.1 lu lt (λ (k : ℕ) m. sym (agree k (same_at even.2 k ∙ m))) back),
 )
 own_values n (kept name q) r t u even lt lu agree given = own_values n q r t u even lt lu agree given
 
@@ -57,7 +58,7 @@ breaches_even n (mvd x y) inside = elim (cases_Bool (is_within y x)) [
   | inl within ↦ rw within tt
   | inr beyond ↦ elim (cases_Bool (is_within (below n) (union x y))) [
     | inl all ↦ rw (beyond, all) tt
-    | inr some ↦ rw (beyond, some) ((tt, tt), tt, λ (k : ℕ). let in_x = inside.0 k in let in_y = inside.1 k in grind (arith, in_x, in_y))
+    | inr some ↦ rw (beyond, some) ((tt, tt), tt, fun_ext (λ (k : ℕ). let in_x = inside.0 k in let in_y = inside.1 k in grind (arith, in_x, in_y)))
   ]
 ]
 
@@ -86,13 +87,13 @@ join_within n (table ∷ tables) each =
     joined_within n (stored_query table) tables (each table (Contains-head table tables)) (λ other h. each other (Contains-later table tables other h))
 
 all_of_them : (n : ℕ) (tables : List StoredTable) → AreWithin n tables → Covers n (map (λ (table : StoredTable). table.scheme) tables)
-    → Same (attributes_of n (plan_join tables)) (below n)
+    → attributes_of n (plan_join tables) ≡ below n
 all_of_them n tables each covers =
-    Same-within (attributes_of n (plan_join tables)) (below n) (join_within n tables each)
+    same_from_within (attributes_of n (plan_join tables)) (below n) (join_within n tables each)
     (λ (k : ℕ) m. all_attributes n tables covers k (ltb-true k n m))
 
 pub differences_even : (n : ℕ) (name : List ℕ) (tables : List StoredTable) → AreWithin n tables
     → Covers n (map (λ (table : StoredTable). table.scheme) tables) → IsEven n (lacking name tables) × IsEven n (exceeding name tables)
 differences_even n name tables each covers =
     let all = all_of_them n tables each covers in
-    ((tt, join_even n tables, Same-sym (attributes_of n (plan_join tables)) (below n) all), (join_even n tables, tt, all))
+    ((tt, join_even n tables, sym all), (join_even n tables, tt, all))

@@ -1,6 +1,7 @@
--- What a query gives over a relation.
+-- What a query gives over a relation: for the laws of table_queries and the scripts (`Checking` and
+-- `Migrating` of table_scripts).
 use Rattle.std.specs.Prelude.{◌≡◌, ℕ, length, Contains}
-use Rattle.attr_sets.specs.Places.{Places, Same}
+use Rattle.attr_sets.specs.Places.{Places}
 use Rattle.dep_model.specs.Tuples.{Tuple, Relation, AgreeOn}
 use Rattle.dep_model.specs.Projections.{project_tuple, projection}
 use Rattle.table_queries.specs.Queries.{Query, whole, values_on, several, join, except, kept, attributes_of}
@@ -39,5 +40,5 @@ IsEven n whole = Unit {0}
 IsEven n (values_on x) = Unit {0}
 IsEven n (several x y) = Unit {0}
 IsEven n (join p q) = IsEven n p × IsEven n q
-IsEven n (except p q) = IsEven n p × IsEven n q × Same (attributes_of n p) (attributes_of n q)
+IsEven n (except p q) = IsEven n p × IsEven n q × (attributes_of n p ≡ attributes_of n q)
 IsEven n (kept name q) = IsEven n q

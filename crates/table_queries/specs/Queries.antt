@@ -1,4 +1,5 @@
--- Queries over one table, as terms, and the queries of the rules and of a plan.
+-- Queries over one table, as terms, and the queries of the rules and of a plan: for the scripts of
+-- table_scripts.
 use Rattle.std.specs.Prelude.{ℕ, ◌||◌, Option, Some, None, List, [], ◌∷◌, if◌then◌else◌}
 use Rattle.attr_sets.specs.Places.{Places, below, none, union, minus}
 use Rattle.attr_sets.specs.Sets.{is_within}
@@ -37,7 +38,8 @@ breaches_of_fd x y = if is_within y x then None else Some (several x (union x y)
 abbrev pub breaches_of_mvd : ℕ → Places → Places → Option Query
 breaches_of_mvd n x y =
     if is_within y x || is_within (below n) (union x y) then None
-    else Some (except (join (values_on (union x y)) (values_on (union x (minus (below n) (union x y))))) whole)
+    else Some (except (join (values_on (union x y))
+    (values_on (union x (minus (below n) (union x y))))) whole)
 
 -- the query for what breaks a dependency; none where every relation obeys it
 abbrev pub breaches_of : ℕ → Dependency → Option Query

@@ -1,9 +1,9 @@
 //! Queries over one table, as terms, and what they give over a relation: its values on a set of attributes,
 //! values beside more than one other, natural joins and differences.
 //!
-//! `breaches_of` is the query for the tuples that break a dependency, `plan_join` the natural join of the tables
-//! of a plan. The laws say what these give. Each is a function that does nothing, whose clause is the law; so
-//! the gate asks for its proof.
+//! `breaches_of` is the query for the tuples that break a dependency, `plan_join` the natural join
+//! of the tables of a plan. The laws say what these give. Each is a function that does nothing,
+//! whose clause is the law; so the gate asks for its proof.
 #![tactic(auto)]
 
 ghost use Rattle.std.specs.Prelude.{◌≡◌, ◌<◌, ◌≤◌, ◌↔◌, ℕ, List, length, map, Contains, MatchOption, ⊤};

@@ -1,32 +1,18 @@
 -- Lists of items: one more at the end.
-use Rattle.std.proofs.Common.{◌≡◌, ◌<◌, ◌≤◌, ◌+◌, ℕ, zero, suc, Bool, true, false, List, [], ◌∷◌, ◌++◌, length, get_or, take, drop, take_all, refl, sym, ap, ◌∙◌, append-nil, add-one, arith}
+use Rattle.std.proofs.Common.{◌≡◌, ◌<◌, ◌≤◌, ◌+◌, ℕ, zero, suc, Bool, true, false, List, [], ◌∷◌, ◌++◌, length, get_or, take, drop, take_all, sym, ap, ◌∙◌, append-nil, add-one, arith}
 use Rattle.std.specs.Prelude.{◌-◌, if◌then◌else◌, codes, nat_lt}
 use Rattle.std.specs.List.{zip}
 use Rattle.std.proofs.lemmas.List.{take_more, flat_map_more, length-drop}
-use Rattle.std.proofs.lemmas.Bool.Decides.{nat_tests}
 use Rattle.attr_sets.specs.Places.{Places}
 use Rattle.dep_model.specs.Projections.{members_below}
 use Rattle.dep_model.proofs.SchemeLemmas.{members_below-member, members_below-outside}
-use Rattle.sql_names.specs.Names.{separator, listed}
+use Rattle.sql_names.specs.Names.{separator, listed, has_some}
+use Rattle.sql_names.proofs.ListLemmas.{listed_push, some_pushed, some_before}
 use Rattle.table_scripts.specs.Checking.{null_test, null_tests}
 
--- whether a list has an item
-abbrev pub has_item : {X : Type 0} → List X → Bool
-has_item [] = false
-has_item (x ∷ xs) = true
-
-has_pushed : {X : Type 0} (xs : List X) (x : X) → has_item (xs ++ x ∷ []) ≡ true
-has_pushed [] x = refl
-has_pushed (y ∷ xs) x = refl
-
 -- ---- columns
-listed_push : {X : Type 0} (f : X → List ℕ) (xs : List X) (x : X)
-    → listed f (xs ++ x ∷ []) ≡ listed f xs ++ (if has_item xs then separator ++ f x else f x)
-listed_push f [] x = append-nil (f x)
-listed_push f (y ∷ xs) x = sym (flat_map_more (λ z. separator ++ f z) (f y) xs x)
-
 pub listed_more : (f : ℕ → List ℕ) (x : Places) (n : ℕ) (some : Bool) (text next piece : List ℕ) → x n ≡ true
-    → text ≡ listed f (members_below n x) → some ≡ has_item (members_below n x) → piece ≡ f n
+    → text ≡ listed f (members_below n x) → some ≡ has_some (members_below n x) → piece ≡ f n
     → next ≡ text ++ (if some then separator ++ piece else piece)
     → next ≡ listed f (members_below (n + 1) x)
 listed_more f x n some text next piece inside so_far is_some is added =
@@ -36,23 +22,18 @@ listed_more f x n some text next piece inside so_far is_some is added =
     ∙ sym (listed_push f (members_below n x) n)
     ∙ ap (listed f) (sym (rw add-one (members_below-member n x inside)))
 
-pub some_more : (x : Places) (n : ℕ) → x n ≡ true → true ≡ has_item (members_below (n + 1) x)
+pub some_more : (x : Places) (n : ℕ) → x n ≡ true → true ≡ has_some (members_below (n + 1) x)
 some_more x n inside =
-    sym (ap (λ (ks : List ℕ). has_item ks) (rw add-one (members_below-member n x inside)) ∙ has_pushed (members_below n x) n)
+    sym (ap (λ (ks : List ℕ). has_some ks) (rw add-one (members_below-member n x inside)) ∙ some_pushed (members_below n x) n)
 
 pub members_passed : (x : Places) (n : ℕ) → x n ≡ false → members_below (n + 1) x ≡ members_below n x
 members_passed x n outside = rw add-one (members_below-outside n x outside)
 
 -- ---- missing values
 null_push : (xs : List (List ℕ)) (x : List ℕ)
-    → null_tests (xs ++ x ∷ []) ≡ null_tests xs ++ (if has_item xs then codes " OR " ++ null_test x else null_test x)
+    → null_tests (xs ++ x ∷ []) ≡ null_tests xs ++ (if has_some xs then codes " OR " ++ null_test x else null_test x)
 null_push [] x = append-nil (null_test x)
 null_push (y ∷ xs) x = sym (flat_map_more (λ z. codes " OR " ++ null_test z) (null_test y) xs x)
-
-has_front : (names : List (List ℕ)) (n : ℕ) → n < length names → has_item (take n names) ≡ nat_lt 0 n
-has_front names zero lt = refl
-has_front [] (suc n) lt = absurd (omega (arith, lt))
-has_front (name ∷ names) (suc n) lt = let some : nat_lt 0 (suc n) ≡ true = grind (arith, nat_tests) in sym some
 
 pub null_more : (names : List (List ℕ)) (n : ℕ) (text next piece : List ℕ) → n < length names
     → text ≡ null_tests (take n names) → piece ≡ null_test (get_or names n [])
@@ -61,7 +42,7 @@ pub null_more : (names : List (List ℕ)) (n : ℕ) (text next piece : List ℕ)
 null_more names n text next piece lt so_far is added =
     added ∙ ap (λ (t : List ℕ). t ++ (if nat_lt 0 n then codes " OR " ++ piece else piece)) so_far
     ∙ ap (λ (p : List ℕ). null_tests (take n names) ++ (if nat_lt 0 n then codes " OR " ++ p else p)) is
-    ∙ ap (λ (b : Bool). null_tests (take n names) ++ (if b then codes " OR " ++ null_test (get_or names n []) else null_test (get_or names n []))) (sym (has_front names n lt))
+    ∙ ap (λ (b : Bool). null_tests (take n names) ++ (if b then codes " OR " ++ null_test (get_or names n []) else null_test (get_or names n []))) (sym (some_before names n lt))
     ∙ sym (null_push (take n names) (get_or names n []))
     ∙ ap null_tests (sym (take_more names n [] lt))
 

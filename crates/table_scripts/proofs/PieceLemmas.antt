@@ -2,9 +2,8 @@
 use Rattle.std.proofs.Common.{◌≡◌, ◌<◌, ℕ, Bool, false, ◌||◌, Some, None, List, ◌++◌, sym, ap, ◌∙◌}
 use Rattle.std.specs.Prelude.{if◌then◌else◌, codes, slice_get}
 use Rattle.attr_sets.specs.declared.set.AttrSet.{AttrSet}
-use Rattle.attr_sets.specs.Places.{Places, below, union, minus, Same, IsEmpty}
+use Rattle.attr_sets.specs.Places.{Places, below, union, minus, IsEmpty}
 use Rattle.attr_sets.specs.Sets.{places, is_within}
-use Rattle.attr_sets.proofs.PlacesLemmas.{Same-path}
 use Rattle.dep_model.specs.declared.column.Column.{Column}
 use Rattle.dep_model.specs.declared.schema.Schema.{Schema}
 use Rattle.dep_model.specs.Columns.{column_at}
@@ -50,28 +49,26 @@ several_grouped s t x y some =
 abbrev pub line_of : List ℕ → List ℕ
 line_of query = codes "\n" ++ query ++ codes ";\n"
 
-pub fd_text : (s : Schema) (t : List ℕ) (x y both : Places) → is_within y x ≡ false → Same both (union x y)
+pub fd_text : (s : Schema) (t : List ℕ) (x y both : Places) → is_within y x ≡ false → both ≡ union x y
     → line_of (several_text s t x both) ≡ breaches_text s t (breaches_of_fd x y)
 fd_text s t x y both beyond same =
-    ap (λ (z : Places). line_of (several_text s t x z)) (Same-path both (union x y) same)
+    ap (λ (z : Places). line_of (several_text s t x z)) same
     ∙ sym (ap (λ (b : Bool). breaches_text s t (if b then None else Some (several x (union x y)))) beyond)
 
 abbrev pub beyond_of : Places → Places → Query
 beyond_of left right = except (join (values_on left) (values_on right)) whole
 
-pub mvd_text : (s : Schema) (t : List ℕ) (x y universe both outside rest : Places) → Same universe (below (width_of s)) → Same both (union x y)
-    → Same outside (minus universe both) → Same rest (union x outside) → is_within y x ≡ false → is_within universe both ≡ false
+pub mvd_text : (s : Schema) (t : List ℕ) (x y universe both outside rest : Places) → universe ≡ below (width_of s) → both ≡ union x y
+    → outside ≡ minus universe both → rest ≡ union x outside → is_within y x ≡ false → is_within universe both ≡ false
     → line_of (query_text s t (beyond_of both rest)) ≡ breaches_text s t (breaches_of_mvd (width_of s) x y)
 mvd_text s t x y universe both outside rest is_universe is_both is_outside is_rest beyond some =
     let n = width_of s in
-    let to_universe = Same-path universe (below n) is_universe in
-    let to_both = Same-path both (union x y) is_both in
     let to_rest : rest ≡ union x (minus (below n) (union x y)) =
-    Same-path rest (union x outside) is_rest ∙ ap (λ (z : Places). union x z) (Same-path outside (minus universe both) is_outside
-    ∙ ap (λ (z : Places). minus z both) to_universe ∙ ap (λ (z : Places). minus (below n) z) to_both) in
+    is_rest ∙ ap (λ (z : Places). union x z) (is_outside
+    ∙ ap (λ (z : Places). minus z both) is_universe ∙ ap (λ (z : Places). minus (below n) z) is_both) in
     let not_all : is_within (below n) (union x y) ≡ false =
-    ap (λ (z : Places). is_within (below n) z) (sym to_both) ∙ ap (λ (z : Places). is_within z both) (sym to_universe) ∙ some in
-    ap (λ (z : Places). line_of (query_text s t (beyond_of z rest))) to_both
+    ap (λ (z : Places). is_within (below n) z) (sym is_both) ∙ ap (λ (z : Places). is_within z both) (sym is_universe) ∙ some in
+    ap (λ (z : Places). line_of (query_text s t (beyond_of z rest))) is_both
     ∙ ap (λ (z : Places). line_of (query_text s t (beyond_of (union x y) z))) to_rest
     ∙ sym (ap (λ (b : Bool). breaches_text s t (if b || is_within (below n) (union x y) then None else Some (beyond_of (union x y) (union x (minus (below n) (union x y)))))) beyond
     ∙ ap (λ (b : Bool). breaches_text s t (if b then None else Some (beyond_of (union x y) (union x (minus (below n) (union x y)))))) not_all)

@@ -1,4 +1,5 @@
--- The script that asks for what breaks the rules of a schema.
+-- The script that asks for what breaks the rules of a schema: for `check_script` and `sql check`
+-- (`desk_cli/Scripts`).
 use Rattle.std.specs.Prelude.{ℕ, Option, Some, None, List, [], ◌∷◌, ◌++◌, codes, All, MatchOption, ⊤}
 use Rattle.std.specs.Fmt.{decimal}
 use Rattle.std.specs.List.{flat_map, zip}

@@ -1,4 +1,4 @@
--- Queries as SQL, over a table whose columns are the attributes of a schema.
+-- Queries as SQL, over a table whose columns are the attributes of a schema: for both scripts.
 use Rattle.std.specs.Prelude.{ℕ, if◌then◌else◌, List, [], ◌++◌, codes, slice_index_or}
 use Rattle.attr_sets.specs.Places.{Places, meet}
 use Rattle.attr_sets.specs.Sets.{places}

@@ -1,13 +1,13 @@
-ghost use Rattle.std.specs.Prelude.{◌≡◌, ◌<◌, ◌++◌, if◌then◌else◌, IfOk, OnOk};
+ghost use Rattle.std.specs.Prelude.{◌≡◌, ◌<◌, IfOk};
 ghost use Rattle.attr_sets.specs.Sets.{places};
 ghost use Rattle.dep_model.specs.Schemas.{width_of, universe_of};
-ghost use Rattle.sql_names.specs.Names.{name_list, separator, quoted_name};
+ghost use Rattle.sql_names.specs.Names.{name_list, quoted_name};
 ghost use Rattle.table_scripts.specs.QueryTexts.{column_text, column_item, column_list};
 
 use attr_sets::AttrSet;
 use dep_model::{Column, Name, Schema, WantMemory};
 use schema_printer::add;
-use sql_names::{add_name_list, add_quoted};
+use sql_names::{add_listed, add_name_list, add_quoted};
 use std::alloc::Global;
 
 // The quoted names of a set's attributes.
@@ -39,17 +39,6 @@ pub fn columns(alloc: Global, schema: &Schema, set: AttrSet) -> Result<Vec<u8>, 
         }
     }
     Ok(text)
-}
-
-// Adds an item; after a comma and a blank where another one stands before it.
-fn add_listed(text: &mut Vec<u8>, some: bool, item: &[u8]) -> Result<(), WantMemory>
-    ensures added { OnOk result (text.new.items
-        ≡ text.old.items ++ (if some then separator ++ item.now else item.now)) }
-{
-    if some {
-        add(text, b", ")?;
-    }
-    add(text, item)
 }
 
 // The column of an attribute.

@@ -1,5 +1,4 @@
 ghost use Rattle.std.specs.Prelude.{◌≡◌, ℕ, IfOk};
-ghost use Rattle.attr_sets.specs.Places.{Same};
 ghost use Rattle.attr_sets.specs.Sets.{places};
 ghost use Rattle.dep_model.specs.Schemas.{width_of};
 ghost use Rattle.table_queries.specs.Queries.{attributes_of, plan_join, joined_with, stored_query};
@@ -35,7 +34,7 @@ pub fn joined(
 
 // The attributes of the tables of a design together.
 pub fn attributes(designs: &[TableDesign]) -> AttrSet
-    ensures attributes { (n : ℕ) → Same (places result) (attributes_of n (plan_join (stored_tables designs.now))) }
+    ensures attributes { (n : ℕ) → places result ≡ attributes_of n (plan_join (stored_tables designs.now)) }
 {
     let mut set = AttrSet::empty();
     for design in designs {

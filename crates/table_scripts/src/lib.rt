@@ -1,9 +1,9 @@
 //! SQL scripts over a table of the user's, whose columns are the attributes of a schema.
 //!
-//! `check_script` asks for the rows that break each rule, `migrate_script` makes the tables of a design from the
-//! table and compares their join with it. Each query of a script is the text of a term of `table_queries`,
-//! whose laws say what it gives; nothing is claimed of an engine. `is_table_name` tells the names that a script
-//! may hold.
+//! `check_script` asks for the rows that break each rule, `migrate_script` makes the tables of a
+//! design from the table and compares their join with it. Each query of a script is the text of a
+//! term of `table_queries`, whose laws say what it gives; nothing is claimed of an engine.
+//! `is_table_name` tells the names that a script may hold.
 #![tactic(auto)]
 
 mod checking;

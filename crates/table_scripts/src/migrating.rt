@@ -127,7 +127,8 @@ fn differences(
     table: &[u8],
     designs: &[TableDesign],
 ) -> Result<Vec<u8>, WantMemory>
-    ensures text { IfOk result (λ text. text.items ≡ difference_queries_text schema.now table.now designs.now) }
+    ensures text { IfOk result (λ text.
+        text.items ≡ difference_queries_text schema.now table.now designs.now) }
 {
     let whole = whole(alloc, schema, table)?;
     let view = of_view(alloc, schema, table, designs)?;

@@ -14,9 +14,9 @@ pub const MOST_PARTS: usize = 3;
 /// The most bytes of a part.
 pub const MOST_PART_BYTES: usize = 63;
 
-/// Whether the bytes name a table: from one to `MOST_PARTS` parts with a dot between two, each a letter or `_`
-/// and then letters, digits and `_`. The last part is no name that a script gives: neither `joined` nor `t`
-/// and digits. So a name brings nothing into a script but itself.
+/// Whether the bytes name a table: from one to `MOST_PARTS` parts with a dot between two, each a
+/// letter or `_` and then letters, digits and `_`. The last part is no name that a script gives:
+/// neither `joined` nor `t` and digits. So a name brings nothing into a script but itself.
 #[tactic(auto, unfolding(crate::specs::Naming::is_table_name))]
 pub fn is_table_name(bytes: &[u8]) -> bool
     ensures name { result ≡ is_table_name bytes.now }

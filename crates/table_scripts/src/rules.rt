@@ -22,7 +22,8 @@ pub fn rule(
     line: u32,
     dep: Dep,
 ) -> Result<Vec<u8>, WantMemory>
-    ensures text { IfOk result (λ text. text.items ≡ rule_text schema.now table.now line (dependency_of dep)) }
+    ensures text { IfOk result (λ text.
+        text.items ≡ rule_text schema.now table.now line (dependency_of dep)) }
 {
     let mut text = Vec::new(alloc);
     add(&mut text, b"-- line ")?;

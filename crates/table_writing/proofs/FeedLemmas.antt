@@ -1,16 +1,15 @@
 -- Tables one after the other, and targets one after the other.
 use Rattle.std.proofs.Common.{◌≡◌, ◌⊎◌, inl, inr, ℕ, ◌+◌, ◌<◌, ◌≤◌, arith, List, [], ◌∷◌, ◌++◌, length, get_or, set, take, sym, ap, ◌∙◌, subst, append_assoc}
 use Rattle.std.proofs.lemmas.Bool.{cases_eq}
-use Rattle.std.proofs.lemmas.List.{length-map, length-set, length_push, get_or-map, get_or-set_same, get_or-set_other, get_or_default, get_or_append_left, get_or_push}
+use Rattle.std.proofs.lemmas.List.{length-map, length-set, length_push, get_or-map, get_or-set_same, get_or-set_other, get_or_default, get_or_append_left, get_or_push, take_more}
 use Rattle.named_tables.specs.Tables.{TableValue, table_value, table_values}
 use Rattle.named_tables.specs.declared.table.Table.{Table}
 use Rattle.table_writing.specs.Feeding.{AtEachPlace}
-use Rattle.targets.proofs.SqlLemmas.{take_next}
 
 -- the rows before a place and the one that is there
 pub row_next : {X : Type 0} (rows : List X) (i : ℕ) (row : X) → i < length rows → row ≡ get_or rows i row
     → take i rows ++ row ∷ [] ≡ take (i + 1) rows
-row_next rows i row within is = ap (λ r. take i rows ++ r ∷ []) is ∙ sym (take_next rows i row within)
+row_next rows i row within is = ap (λ r. take i rows ++ r ∷ []) is ∙ sym (take_more rows i row within)
 
 -- the tables before a place and the one that is there, after others
 pub tables_next : (tables : List Table) (i : ℕ) (table : Table) (done : List TableValue) → i < length tables
@@ -22,7 +21,7 @@ tables_next tables i table done within is =
     append_assoc done (take i (table_values tables)) (table_value table ∷ [])
     ∙ ap (λ (v : TableValue). done ++ (take i (table_values tables) ++ v ∷ [])) value
     ∙ ap (λ (vs : List TableValue). done ++ vs)
-    (sym (take_next (table_values tables) i (table_value table) (omega (arith, within, length-map tables table_value))))
+    (sym (take_more (table_values tables) i (table_value table) (omega (arith, within, length-map tables table_value))))
 
 -- ---- targets
 -- the values before a place are done, with a result each, and the others are as they were

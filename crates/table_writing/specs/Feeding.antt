@@ -1,4 +1,5 @@
--- What the feeding of tables does to targets.
+-- What becomes of destinations to which tables are written: for table_writing, and for what the
+-- call ends with (`desk_cli/Endings`).
 use Rattle.std.specs.Prelude.{◌≡◌, ℕ, ◌<◌, ◌≤◌, Bool, List, ◌++◌, length, take, slice_index_or}
 use Rattle.desk_outside.specs.Causes.{Rose}
 use Rattle.named_tables.specs.Tables.{TableValue}

@@ -1,13 +1,15 @@
 ghost use Rattle.std.specs.Prelude.{◌≡◌, ◌≤◌, ◌^◌, ◌<◌, [], ◌∷◌, length, IfOk, OnOk, OnErr};
-ghost use Rattle.targets.specs.Targets.{KeepsFinished, HasTargetCause};
+ghost use Rattle.desk_outside.specs.Causes.{HasOutsideCause};
+ghost use Rattle.targets.specs.Targets.{KeepsFinished};
 ghost use Rattle.named_tables.specs.Tables.{table_value, table_values};
 ghost use Rattle.table_writing.specs.Feeding.{HasAll, FedTarget, AtEachPlace};
 
 use crate::end::FeedEnd;
 use dep_model::WantMemory;
+use desk_outside::OutsideFault;
 use named_tables::Table;
 use std::alloc::Global;
-use targets::{Target, TargetFault};
+use targets::Target;
 
 /// Each target in order gets each table in order, up to its first fault.
 ///
@@ -64,13 +66,14 @@ fn feed_each<T: Target>(
 
 // All tables into one target, up to its first fault.
 fn feed_one<T: Target>(target: &mut T, tables: &[Table]) -> FeedEnd
-    ensures fed { FedTarget T.tells T.finished T.faults (table_values tables.now) target.old target.new result }
+    ensures fed { FedTarget T.tells T.finished T.faults (table_values tables.now)
+        target.old target.new result }
 {
     for table in tables {
         match feed_table(target, table) {
             Ok(()) => {}
-            Err(TargetFault::Failed) => return FeedEnd::Failed,
-            Err(TargetFault::Memory) => return FeedEnd::NoMemory,
+            Err(OutsideFault::Failed) => return FeedEnd::Failed,
+            Err(OutsideFault::Memory) => return FeedEnd::NoMemory,
         }
     }
     FeedEnd::Done
@@ -78,15 +81,15 @@ fn feed_one<T: Target>(target: &mut T, tables: &[Table]) -> FeedEnd
 
 // One table into one target.
 #[tactic(auto, using(crate::proofs::FeedLemmas::row_next))]
-fn feed_table<T: Target>(target: &mut T, table: &Table) -> Result<(), TargetFault>
+fn feed_table<T: Target>(target: &mut T, table: &Table) -> Result<(), OutsideFault>
     ensures tells { T.tells target.new ≡ T.tells target.old }
     ensures ok { OnOk result (HasAll (table_value table.now
         ∷ []) (T.finished target.old) (T.finished target.new)) }
     ensures keeps { OnErr result (KeepsFinished (T.finished target.old) (T.finished target.new)) }
-    ensures cause { HasTargetCause (T.faults target.old) (T.faults target.new) result }
+    ensures cause { HasOutsideCause (T.faults target.old) (T.faults target.new) result }
 {
-    target.begin_table(&table.name, &table.columns)?;
-    for row in &table.rows {
+    target.begin_table(&table.held.name, &table.held.columns)?;
+    for row in &table.held.rows {
         target.put_row(row)?;
     }
     target.end_table()

@@ -1,12 +1,12 @@
 -- The rows that a multivalued dependency makes: each part of the first rows with each part of the second.
 use Rattle.std.proofs.Common.{◌≡◌, ℕ, ◌+◌, ◌<◌, ◌≤◌, Bool, true, cond, ◌⊎◌, List, [], ◌∷◌, ◌++◌, length, take, drop, get_or, refl, sym, ap, subst, ◌∙◌, inl, inr, ⊎_elim, arith}
+use mathlib.Core.Path.{fun_ext}
 use Rattle.std.proofs.lemmas.Bool.{cases_lt, cases_Bool}
 use Rattle.std.proofs.lemmas.Bool.Decides.{nat_tests}
 use Rattle.std.proofs.lemmas.List.{get_or_default, get_or_read, take-append-drop, get_or-take, length-take-le, take_more}
 use Rattle.std.proofs.lemmas.List.Elements.{All-contains, Contains-get_or, Contains-append_left, Contains-push, Contains-push_cases}
 use Rattle.std.specs.Prelude.{Contains}
-use Rattle.attr_sets.specs.Places.{Places, below, union, minus, Same}
-use Rattle.attr_sets.proofs.PlacesLemmas.{Same-path}
+use Rattle.attr_sets.specs.Places.{Places, below, union, minus}
 use Rattle.dep_model.specs.Dependencies.{Dependency, fd, mvd}
 use Rattle.chase_laws.specs.Tableaux.{SymbolRow, Tableau, symbol_at, SymbolsAgree, IsTableauOver}
 use Rattle.chase_laws.specs.Steps.{exchanged}
@@ -16,6 +16,7 @@ use Rattle.tableau_chase.specs.Groups.{symbol_row_at, AreSymbolLeaders, AreFollo
 use Rattle.tableau_chase.specs.Pools.{Extends}
 use Rattle.tableau_chase.proofs.PoolLemmas.{extends_length, extends_row, adds_join, overflow_after}
 use Rattle.tableau_chase.specs.Making.{IsExchangedRow, IsMadeFrom, IsExchangedWith, AddsAll, Overflows}
+use Rattle.attr_sets.proofs.PlacesLemmas.{same_at}
 
 -- ---- the same parts make the same row
 pub same_exchange : (n : ℕ) (x y : Places) (p q u v : SymbolRow) → SymbolsAgree (union x y) u p → SymbolsAgree (union (minus (below n) (union x y)) x) v q → exchanged n (union x y) u v ≡ exchanged n (union x y) p q
@@ -286,19 +287,18 @@ module _ (n : ℕ) (x y z : Places) (t : Tableau) (count : ℕ) (agreeing firsts
         (λ p h. parts_to i p (omega (arith, low)) h)
         (λ p h. parts_to (i + 1) p (omega (arith, low)) (product_new n z (take count t) agreeing firsts groups i (i + 1) refl p leads (with_to p h))) before over
 
-pub parts_of : (n count : ℕ) (x y both less rest full : Places) (t t1 t2 t3 : Tableau) (agreeing firsts seconds ls ss : List ℕ) (groups : List (List ℕ)) → count ≤ length t → IsTableauOver n (take count t) → Same both (union x y) → Same less (minus full both)
-    → Same rest (union less x) → Same full (below n) → t1 ≡ t → t2 ≡ t → t3 ≡ t → ls ≡ agreeing → ss ≡ seconds → AreSymbolLeaders x (take count t1) agreeing → AreSymbolLeaders both (take count t2) firsts → AreSymbolLeaders rest (take count t3) seconds → AreFollowers ls ss groups
+pub parts_of : (n count : ℕ) (x y both less rest full : Places) (t t1 t2 t3 : Tableau) (agreeing firsts seconds ls ss : List ℕ) (groups : List (List ℕ)) → count ≤ length t → IsTableauOver n (take count t) → both ≡ union x y → less ≡ minus full both
+    → rest ≡ union less x → full ≡ below n → t1 ≡ t → t2 ≡ t → t3 ≡ t → ls ≡ agreeing → ss ≡ seconds → AreSymbolLeaders x (take count t1) agreeing → AreSymbolLeaders both (take count t2) firsts → AreSymbolLeaders rest (take count t3) seconds → AreFollowers ls ss groups
     → AreParts n x y both t count agreeing firsts groups
 parts_of n count x y both less rest full t t1 t2 t3 agreeing firsts seconds ls ss groups few over both_is less_is rest_is full_is e1 e2 e3 le se agree first second are =
-    let both_path : both ≡ union x y = Same-path both (union x y) both_is in
-    let rest_path : rest ≡ union (minus (below n) (union x y)) x = Same-path rest (union (minus (below n) (union x y)) x) (λ (k : ℕ). grind (arith, both_is k, less_is k, rest_is k, full_is k)) in
+    let rest_path : rest ≡ union (minus (below n) (union x y)) x = fun_ext (λ (k : ℕ). grind (arith, same_at both_is k, same_at less_is k, same_at rest_is k, same_at full_is k)) in
     record {
       few = few;
       over = over;
-      z_is = both_path;
+      z_is = both_is;
       seconds = seconds;
       agree = subst (λ (u : Tableau). AreSymbolLeaders x (take count u) agreeing) e1 agree;
-      first = subst (λ (w : Places). AreSymbolLeaders w (take count t) firsts) both_path (subst (λ (u : Tableau). AreSymbolLeaders both (take count u) firsts) e2 first);
+      first = subst (λ (w : Places). AreSymbolLeaders w (take count t) firsts) both_is (subst (λ (u : Tableau). AreSymbolLeaders both (take count u) firsts) e2 first);
       second = subst (λ (w : Places). AreSymbolLeaders w (take count t) seconds) rest_path (subst (λ (u : Tableau). AreSymbolLeaders rest (take count u) seconds) e3 second);
       are = subst (λ (xs : List ℕ). AreFollowers xs seconds groups) le (subst (λ (xs : List ℕ). AreFollowers ls xs groups) se are);
     }

@@ -1,3 +1,4 @@
+-- A fact of the rows that `chase` gives: for its clauses. `Desk` does not cite it.
 use Rattle.std.specs.Prelude.{⊤}
 use Rattle.dep_model.specs.Tuples.{Relation}
 use Rattle.tableau_chase.specs.declared.chased.Chased.{Chased}

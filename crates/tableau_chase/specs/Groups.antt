@@ -1,3 +1,4 @@
+-- Rows of a tableau that agree on a set: for the functions below `chase`. `Desk` does not cite it.
 use Rattle.std.specs.Prelude.{◌≡◌, ℕ, ◌<◌, ◌≤◌, List, [], length, All, Contains, slice_index, slice_index_or}
 use Rattle.attr_sets.specs.Places.{Places}
 use Rattle.chase_laws.specs.Tableaux.{SymbolRow, Tableau, SymbolsAgree}
@@ -14,7 +15,8 @@ pub record AreSymbolLeaders (x : Places) (rows : Tableau) (leaders : List ℕ) :
   pub agree : (i : ℕ) → i < length rows
       → SymbolsAgree x (symbol_row_at rows (slice_index leaders i)) (symbol_row_at rows i)
   pub same : (i j : ℕ) → i < length rows → j < length rows
-      → SymbolsAgree x (symbol_row_at rows i) (symbol_row_at rows j) → slice_index leaders i ≡ slice_index leaders j
+      → SymbolsAgree x (symbol_row_at rows i) (symbol_row_at rows j)
+      → slice_index leaders i ≡ slice_index leaders j
 
 -- at each place, only rows that it leads, and of these all that lead others by the second list
 pub record AreFollowers (leaders seconds : List ℕ) (groups : List (List ℕ)) : Type 0 where

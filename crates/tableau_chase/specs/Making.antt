@@ -1,3 +1,5 @@
+-- The rows that multivalued dependencies make: for the functions below `chase`. `Desk` does not
+-- cite it.
 use Rattle.std.specs.Prelude.{◌≡◌, ℕ, ◌⊎◌, List, Contains}
 use Rattle.attr_sets.specs.Places.{Places, union}
 use Rattle.dep_model.specs.Dependencies.{Dependency, fd, mvd}

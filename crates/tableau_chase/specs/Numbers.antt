@@ -1,3 +1,4 @@
+-- The numbers of rows, by which a row is found: for `RowNumbers`. `Desk` does not cite it.
 use Rattle.std.specs.Prelude.{◌≡◌, ℕ, ◌<◌, List, [], length, Contains, Some, IsSome, nat_eq, slice_index_or, Vec}
 use Rattle.std.specs.declared.alloc.Global.{Global}
 use Rattle.std.specs.HashMap.{get}

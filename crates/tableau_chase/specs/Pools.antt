@@ -1,3 +1,4 @@
+-- Different rows that are gathered up to a limit: for `Pool`. `Desk` does not cite it.
 use Rattle.std.specs.Prelude.{◌≡◌, ℕ, ◌≤◌, ◌⊎◌, [], ◌∷◌, ◌++◌, length, AllPairs, Contains}
 use Rattle.chase_laws.specs.Tableaux.{SymbolRow, Tableau}
 use Rattle.tableau_chase.specs.declared.pool.Pool.{Pool}

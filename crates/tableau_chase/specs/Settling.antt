@@ -1,3 +1,5 @@
+-- A tableau that functional dependencies change until they change nothing: for the functions below
+-- `chase`. `Desk` does not cite it.
 use Rattle.std.specs.Prelude.{◌≡◌, ℕ, ◌<◌, ◌⊎◌, suc, Bool, true, false, List, length, Contains}
 use Rattle.attr_sets.specs.Places.{Places}
 use Rattle.dep_model.specs.Dependencies.{Dependency, fd, mvd}
@@ -37,7 +39,8 @@ pub record AreEquated (y : Places) (first second : ℕ) (t s : Tableau) (changed
 
 -- a tableau obeys x -> y
 abbrev pub AgreesBy : Places → Places → Tableau → Type 0
-AgreesBy x y t = (i j : ℕ) → i < length t → j < length t → SymbolsAgree x (symbol_row_at t i) (symbol_row_at t j)
+AgreesBy x y t =
+    (i j : ℕ) → i < length t → j < length t → SymbolsAgree x (symbol_row_at t i) (symbol_row_at t j)
     → SymbolsAgree y (symbol_row_at t i) (symbol_row_at t j)
 
 -- rows that agree on x were made to agree on y; no change shows that they did before

@@ -1,3 +1,5 @@
+-- The rows of a tableau as texts, in order: for the function that gives the lossy answer of
+-- `chase`. `Desk` does not cite it.
 use Rattle.std.specs.Prelude.{◌≡◌, length, AllPairs}
 use Rattle.dep_model.specs.Tuples.{Relation}
 use Rattle.chase_laws.specs.Tableaux.{Tableau, SameTableau}

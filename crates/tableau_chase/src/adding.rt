@@ -11,6 +11,7 @@ use crate::chased::ChaseRefusal;
 use crate::pool::Pool;
 use crate::symbol_row::SymbolRow;
 use attr_sets::AttrSet;
+use dep_model::Failure;
 use std::alloc::Global;
 
 /// The rows of a plan's tableau, equal ones once.
@@ -19,13 +20,13 @@ pub fn plan_pool(
     schemes: &[AttrSet],
     width: u8,
     limit: u32,
-) -> Result<Pool, ChaseRefusal>
+) -> Result<Pool, Failure<ChaseRefusal>>
     requires width { width ≤ PLACES }
     requires few { length schemes.now < 2 ^ 32 }
     ensures pool { IfOk result (IsPool limit) }
     ensures same { IfOk result
         (λ pool. SameTableau (plan_tableau width (schemes_of schemes.now)) pool.rows.items) }
-    ensures too_many { result ≡ Err ChaseRefusal.TooManyRows
+    ensures too_many { result ≡ Err (Failure.Refused ChaseRefusal.TooManyRows)
         → HasMoreThan limit (plan_tableau width (schemes_of schemes.now)) }
 {
     let mut pool = Pool::new(alloc, limit);
@@ -33,25 +34,25 @@ pub fn plan_pool(
         let row = SymbolRow::of_scheme(alloc, width, schemes[i], i as u32 + 1)?;
         match pool.add(alloc, row, limit) {
             Ok(()) => {}
-            Err(refusal) => return Err(refusal),
+            Err(failure) => return Err(failure),
         }
     }
     Ok(pool)
 }
 
 /// The rows of a tableau, equal ones once.
-pub fn pool_of(alloc: Global, rows: &[SymbolRow], limit: u32) -> Result<Pool, ChaseRefusal>
+pub fn pool_of(alloc: Global, rows: &[SymbolRow], limit: u32) -> Result<Pool, Failure<ChaseRefusal>>
     requires few { length rows.now ≤ limit }
     ensures pool { IfOk result (IsPool limit) }
     ensures same { IfOk result (λ pool. SameTableau rows.now pool.rows.items) }
-    ensures never_too_many { result ≡ Err ChaseRefusal.TooManyRows → ⊥ }
+    ensures never_too_many { result ≡ Err (Failure.Refused ChaseRefusal.TooManyRows) → ⊥ }
 {
     let mut pool = Pool::new(alloc, limit);
     for i in 0..rows.len() {
         let row = rows[i].copy(alloc)?;
         match pool.add(alloc, row, limit) {
             Ok(()) => {}
-            Err(refusal) => return Err(refusal),
+            Err(failure) => return Err(failure),
         }
     }
     Ok(pool)

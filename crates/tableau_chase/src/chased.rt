@@ -1,5 +1,4 @@
-use dep_model::{Row, WantMemory};
-use std::alloc::{AllocError, AllocFailed};
+use dep_model::Row;
 
 /// What the chase of a plan says.
 #[derive(Debug, Drop)]
@@ -16,39 +15,4 @@ pub enum Chased {
 pub enum ChaseRefusal {
     /// A tableau of the rounds has more rows than it may.
     TooManyRows,
-    /// There is not memory enough.
-    Memory,
-}
-
-impl From<WantMemory> for ChaseRefusal {
-    ghost use Rattle.std.specs.Prelude.{◌≡◌};
-    ghost use Rattle.tableau_chase.specs.declared.chased.ChaseRefusal.TheVariants as refusals;
-
-    ghost from_gives = { λ _ refusal. refusal ≡ refusals.Memory };
-
-    fn from(_want: WantMemory) -> ChaseRefusal {
-        ChaseRefusal::Memory
-    }
-}
-
-impl From<AllocError> for ChaseRefusal {
-    ghost use Rattle.std.specs.Prelude.{◌≡◌};
-    ghost use Rattle.tableau_chase.specs.declared.chased.ChaseRefusal.TheVariants as refusals;
-
-    ghost from_gives = { λ _ refusal. refusal ≡ refusals.Memory };
-
-    fn from(_want: AllocError) -> ChaseRefusal {
-        ChaseRefusal::Memory
-    }
-}
-
-impl<T: Drop> From<AllocFailed<T>> for ChaseRefusal {
-    ghost use Rattle.std.specs.Prelude.{◌≡◌};
-    ghost use Rattle.tableau_chase.specs.declared.chased.ChaseRefusal.TheVariants as refusals;
-
-    ghost from_gives = { λ _ refusal. refusal ≡ refusals.Memory };
-
-    fn from(_want: AllocFailed<T>) -> ChaseRefusal {
-        ChaseRefusal::Memory
-    }
 }

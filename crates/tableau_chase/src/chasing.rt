@@ -15,7 +15,7 @@ use crate::settling::settle;
 use crate::symbol_row::SymbolRow;
 use crate::texts::ascending_texts;
 use attr_sets::AttrSet;
-use dep_model::Schema;
+use dep_model::{Failure, Schema};
 use std::alloc::Global;
 
 /// Whether a plan is lossless, by the chase of its tableau; no tableau of the rounds may have more than
@@ -25,10 +25,10 @@ pub fn chase(
     schema: &Schema,
     schemes: &[AttrSet],
     limit: u32,
-) -> Result<Chased, ChaseRefusal>
+) -> Result<Chased, Failure<ChaseRefusal>>
     requires few { length schemes.now < 2 ^ 32 }
     requires cover { Covers (width_of schema.now) (schemes_of schemes.now) }
-    ensures too_many_rows { result ≡ Err ChaseRefusal.TooManyRows
+    ensures too_many_rows { result ≡ Err (Failure.Refused ChaseRefusal.TooManyRows)
         → RoundsExceed (width_of schema.now) (theory_of schema.now) (schemes_of schemes.now) limit }
     ensures within_limit { OnOk result
         (RoundsExceed (width_of schema.now) (theory_of schema.now) (schemes_of schemes.now) limit → ⊥) }
@@ -42,26 +42,26 @@ pub fn chase(
         (IfLossy (IsGaining (width_of schema.now) (theory_of schema.now) (schemes_of schemes.now))) }
     ensures typed { IfOk result (IfLossy (TypedFor schema.now)) }
     ensures never_too_many { functional_part (theory_of schema.now) ≡ theory_of schema.now
-        → length schemes.now ≤ limit → result ≡ Err ChaseRefusal.TooManyRows → ⊥ }
+        → length schemes.now ≤ limit → result ≡ Err (Failure.Refused ChaseRefusal.TooManyRows) → ⊥ }
 {
     let width = schema.width();
     let deps = schema.deps();
     let mut rows = match plan_pool(alloc, schemes, width, limit) {
         Ok(pool) => pool.rows,
-        Err(refusal) => return Err(refusal),
+        Err(failure) => return Err(failure),
     };
     loop {
         settle(alloc, &mut rows, deps, width)?;
         let mut pool = match pool_of(alloc, &rows, limit) {
             Ok(pool) => pool,
-            Err(refusal) => return Err(refusal),
+            Err(failure) => return Err(failure),
         };
         if has_distinguished(&pool.rows, width) {
             return Ok(Chased::Lossless);
         }
         let count = pool.rows.len();
-        if let Err(refusal) = add_next(alloc, &mut pool, deps, width, limit) {
-            return Err(refusal);
+        if let Err(failure) = add_next(alloc, &mut pool, deps, width, limit) {
+            return Err(failure);
         }
         if pool.rows.len() == count {
             return Ok(Chased::Lossy(ascending_texts(alloc, pool.rows)?));

@@ -15,7 +15,7 @@ use crate::chased::ChaseRefusal;
 use crate::pool::Pool;
 use crate::row_groups::{followers, leaders};
 use attr_sets::AttrSet;
-use dep_model::Dep;
+use dep_model::{Dep, Failure};
 use std::alloc::Global;
 
 /// Adds all rows that one step by a multivalued dependency makes of the rows that are there.
@@ -25,7 +25,7 @@ pub fn add_next(
     deps: &[Dep],
     width: u8,
     limit: u32,
-) -> Result<(), ChaseRefusal>
+) -> Result<(), Failure<ChaseRefusal>>
     requires width { width ≤ PLACES }
     requires pool { IsPool limit pool.old }
     requires over { IsTableauOver width pool.old.rows.items }
@@ -33,14 +33,14 @@ pub fn add_next(
     ensures next { OnOk result
         (AddsAll (IsMadeOf width
         (dependencies_of deps.now) pool.old.rows.items) pool.old.rows.items pool.new.rows.items) }
-    ensures too_many { result ≡ Err ChaseRefusal.TooManyRows
+    ensures too_many { result ≡ Err (Failure.Refused ChaseRefusal.TooManyRows)
         → Overflows (IsMadeOf width (dependencies_of deps.now) pool.old.rows.items) limit pool.old.rows.items }
 {
     let count = pool.rows.len();
     for dep in deps {
         match add_made(alloc, pool, count, *dep, width, limit) {
             Ok(()) => {}
-            Err(refusal) => return Err(refusal),
+            Err(failure) => return Err(failure),
         }
     }
     Ok(())
@@ -54,7 +54,7 @@ fn add_made(
     dep: Dep,
     width: u8,
     limit: u32,
-) -> Result<(), ChaseRefusal>
+) -> Result<(), Failure<ChaseRefusal>>
     requires width { width ≤ PLACES }
     requires pool { IsPool limit pool.old }
     requires count { count ≤ length pool.old.rows.items }
@@ -63,7 +63,7 @@ fn add_made(
     ensures made { OnOk result
         (AddsAll (IsMadeFrom width (dependency_of dep)
         (take count pool.old.rows.items)) pool.old.rows.items pool.new.rows.items) }
-    ensures too_many { result ≡ Err ChaseRefusal.TooManyRows
+    ensures too_many { result ≡ Err (Failure.Refused ChaseRefusal.TooManyRows)
         → Overflows (IsMadeFrom width (dependency_of dep)
         (take count pool.old.rows.items)) limit pool.old.rows.items }
 {
@@ -82,7 +82,7 @@ fn add_products(
     rhs: AttrSet,
     width: u8,
     limit: u32,
-) -> Result<(), ChaseRefusal>
+) -> Result<(), Failure<ChaseRefusal>>
     requires width { width ≤ PLACES }
     requires pool { IsPool limit pool.old }
     requires count { count ≤ length pool.old.rows.items }
@@ -91,7 +91,7 @@ fn add_products(
     ensures made { OnOk result
         (AddsAll (IsExchangedRow width (places lhs) (places rhs)
         (take count pool.old.rows.items)) pool.old.rows.items pool.new.rows.items) }
-    ensures too_many { result ≡ Err ChaseRefusal.TooManyRows
+    ensures too_many { result ≡ Err (Failure.Refused ChaseRefusal.TooManyRows)
         → Overflows (IsExchangedRow width (places lhs) (places rhs)
         (take count pool.old.rows.items)) limit pool.old.rows.items }
 {
@@ -106,7 +106,7 @@ fn add_products(
             let group = &groups[agreeing[i] as usize];
             match add_exchanged(alloc, pool, i, group.numbers(), both, width, limit) {
                 Ok(()) => {}
-                Err(refusal) => return Err(refusal),
+                Err(failure) => return Err(failure),
             }
         }
     }
@@ -122,7 +122,7 @@ fn add_exchanged(
     on: AttrSet,
     width: u8,
     limit: u32,
-) -> Result<(), ChaseRefusal>
+) -> Result<(), Failure<ChaseRefusal>>
     requires width { width ≤ PLACES }
     requires pool { IsPool limit pool.old }
     requires first { first < length pool.old.rows.items }
@@ -133,7 +133,7 @@ fn add_exchanged(
     ensures made { OnOk result
         (AddsAll (IsExchangedWith width
         (places on) pool.old.rows.items first seconds.now) pool.old.rows.items pool.new.rows.items) }
-    ensures too_many { result ≡ Err ChaseRefusal.TooManyRows
+    ensures too_many { result ≡ Err (Failure.Refused ChaseRefusal.TooManyRows)
         → Overflows (IsExchangedWith width
         (places on) pool.old.rows.items first seconds.now) limit pool.old.rows.items }
 {
@@ -142,7 +142,7 @@ fn add_exchanged(
         let row = pool.rows[first].exchange(alloc, &pool.rows[second], on, width)?;
         match pool.add(alloc, row, limit) {
             Ok(()) => {}
-            Err(refusal) => return Err(refusal),
+            Err(failure) => return Err(failure),
         }
     }
     Ok(())

@@ -5,6 +5,7 @@ ghost use Rattle.std.specs.Prelude.{◌≡◌, ◌≤◌, ◌<◌, ◌^◌, [], 
 use crate::chased::ChaseRefusal;
 use crate::numbers::RowNumbers;
 use crate::symbol_row::SymbolRow;
+use dep_model::Failure;
 use std::alloc::Global;
 
 /// Different rows, and their numbers.
@@ -29,12 +30,17 @@ impl Pool {
     }
 
     /// Adds a row, if it is not there.
-    pub fn add(&mut self, alloc: Global, row: SymbolRow, limit: u32) -> Result<(), ChaseRefusal>
+    pub fn add(
+        &mut self,
+        alloc: Global,
+        row: SymbolRow,
+        limit: u32,
+    ) -> Result<(), Failure<ChaseRefusal>>
         requires pool { IsPool limit self.old }
         ensures pool { OnOk result (IsPool limit self.new) }
         ensures rows { OnOk result (IsAdded self.old.rows.items row self.new.rows.items) }
-        ensures absent { result ≡ Err ChaseRefusal.TooManyRows → Contains self.old.rows.items row → ⊥ }
-        ensures full { result ≡ Err ChaseRefusal.TooManyRows → length self.old.rows.items ≡ limit }
+        ensures absent { result ≡ Err (Failure.Refused ChaseRefusal.TooManyRows) → Contains self.old.rows.items row → ⊥ }
+        ensures full { result ≡ Err (Failure.Refused ChaseRefusal.TooManyRows) → length self.old.rows.items ≡ limit }
     {
         let count = self.rows.len() as u32;
         let number = self.numbers.number(row.symbols(alloc)?, count)?;
@@ -42,7 +48,7 @@ impl Pool {
             return Ok(());
         }
         if count >= limit {
-            return Err(ChaseRefusal::TooManyRows);
+            return Err(Failure::Refused(ChaseRefusal::TooManyRows));
         }
         self.rows.push(row)?;
         Ok(())

@@ -92,7 +92,8 @@ fn equate_groups(
     requires width { width ≤ PLACES }
     requires over { IsTableauOver width rows.old }
     requires few { length rows.old < 2 ^ 32 }
-    ensures grouped { IfOk result (λ changed. AreGrouped (places lhs) (places rhs) rows.old rows.new changed) }
+    ensures grouped { IfOk result (λ changed.
+        AreGrouped (places lhs) (places rhs) rows.old rows.new changed) }
 {
     let leaders = leaders(alloc, rows, lhs, width)?;
     let attributes = members(alloc, rhs, width)?;

@@ -1,15 +1,14 @@
 -- What the calls of a folder do to the tables that its files stand for.
 use Rattle.std.proofs.Common.{◌≡◌, ℕ, List, [], ◌∷◌, ◌++◌, map, Option, None, Some, option_map, option_to_list, refl, sym, ap, ◌∙◌, append-nil}
-use Rattle.std.specs.Prelude.{codes, IfSome}
-use Rattle.std.specs.List.{flat_map}
+use Rattle.std.specs.Prelude.{IfSome}
 use Rattle.std.proofs.lemmas.List.{flat_map_more}
 use Rattle.dep_model.specs.Tuples.{Tuple}
 use Rattle.desk_outside.specs.Files.{StoredFile}
 use Rattle.desk_outside.specs.Folders.{FolderContents, with_begun, with_bytes, more_bytes, with_ended, with_none_open}
 use Rattle.named_tables.specs.Tables.{TableValue, empty_table, with_row}
 use Rattle.targets.specs.FileTables.{FilesAre, OpenIs}
-use Rattle.targets.specs.Csv.{csv_row, csv_file}
-use Rattle.targets.specs.Sql.{sql_head, sql_row, sql_file}
+use Rattle.targets.specs.Formats.{ending, opening, line_front, row_line, table_text, table_file}
+use Rattle.targets.specs.declared.format.TableFormat.{TableFormat}
 
 -- ---- finished files
 -- a folder without finished files, whatever is gathered
@@ -49,32 +48,18 @@ pub adds : (file : TableValue → StoredFile) (known : Option FolderContents) (t
 adds file None table more bytes grows is = is
 adds file (Some folder) table more bytes grows is = ap (option_map (more_bytes bytes)) is ∙ ap Some grows
 
-pub csv_opens : (known : Option FolderContents) (name head : List ℕ) (columns : List (List ℕ)) → head ≡ csv_row columns → OpenIs csv_file (option_map (with_bytes head) (option_map (with_begun (name ++ codes ".csv")) known)) (empty_table name columns)
-csv_opens known name head columns is =
-    opens csv_file known (empty_table name columns) (name ++ codes ".csv") head
-    (ap (λ (bytes : List ℕ). record { name = name ++ codes ".csv"; bytes = bytes }) (is ∙ sym (append-nil (csv_row columns))))
+pub table_opens : (format : TableFormat) (known : Option FolderContents) (name head : List ℕ) (columns : List (List ℕ)) → head ≡ opening format columns → OpenIs (table_file format) (option_map (with_bytes head) (option_map (with_begun (name ++ ending format)) known)) (empty_table name columns)
+table_opens format known name head columns is =
+    opens (table_file format) known (empty_table name columns) (name ++ ending format) head
+    (ap (λ (bytes : List ℕ). record { name = name ++ ending format; bytes = bytes }) (is ∙ sym (append-nil (opening format columns))))
 
-pub csv_adds : (known : Option FolderContents) (table : TableValue) (row : Tuple) (bytes : List ℕ) → bytes ≡ csv_row row → OpenIs csv_file known table → OpenIs csv_file (option_map (with_bytes bytes) known) (with_row row table)
-csv_adds known table row bytes is open_is =
-    adds csv_file known table (with_row row table) bytes
-    (ap (λ (text : List ℕ). record { name = table.name ++ codes ".csv"; bytes = text })
-    (ap (λ (more : List ℕ). flat_map csv_row (table.columns ∷ table.rows) ++ more) is
-    ∙ flat_map_more csv_row (csv_row table.columns) table.rows row))
-    open_is
-
-pub sql_opens : (known : Option FolderContents) (name : List ℕ) (columns : List (List ℕ)) → OpenIs sql_file (option_map (with_begun (name ++ codes ".sql")) known) (empty_table name columns)
-sql_opens None name columns = tt
-sql_opens (Some folder) name columns = refl
-
-pub sql_adds : (known : Option FolderContents) (table : TableValue) (row : Tuple) (head bytes : List ℕ) → head ≡ sql_head table.name table.columns → bytes ≡ sql_row head row → OpenIs sql_file known table → OpenIs sql_file (option_map (with_bytes bytes) known) (with_row row table)
-sql_adds known table row head bytes head_is is open_is =
-    adds sql_file known table (with_row row table) bytes
-    (ap (λ (text : List ℕ). record { name = table.name ++ codes ".sql"; bytes = text })
-    (ap (λ (more : List ℕ). flat_map (sql_row (sql_head table.name table.columns)) table.rows ++ more) (is ∙ ap (λ (h : List ℕ). sql_row h row) head_is)
-    ∙ flat_map_more (sql_row (sql_head table.name table.columns)) [] table.rows row))
+pub row_adds : (format : TableFormat) (known : Option FolderContents) (table : TableValue) (row : Tuple) (front bytes : List ℕ) → front ≡ line_front format table.name table.columns → bytes ≡ row_line format front row → OpenIs (table_file format) known table → OpenIs (table_file format) (option_map (with_bytes bytes) known) (with_row row table)
+row_adds format known table row front bytes front_is is open_is =
+    adds (table_file format) known table (with_row row table) bytes
+    (ap (λ (text : List ℕ). record { name = table.name ++ ending format; bytes = text })
+    (ap (λ (more : List ℕ). table_text format table ++ more) (is ∙ ap (λ (f : List ℕ). row_line format f row) front_is)
+    ∙ flat_map_more (row_line format (line_front format table.name table.columns)) (opening format table.columns) table.rows row))
     open_is
 
 -- ---- what the calls of a target over a folder need
-pub ruleset csv_steps = (csv_opens, csv_adds, finishes, keeps_begun, keeps_bytes, keeps_closed)
-
-pub ruleset sql_steps = (sql_opens, sql_adds, finishes, keeps_begun, keeps_bytes, keeps_closed)
+pub ruleset file_steps = (table_opens, row_adds, finishes, keeps_begun, keeps_bytes, keeps_closed)

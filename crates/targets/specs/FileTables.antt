@@ -1,4 +1,5 @@
--- Tables that a folder keeps, one file each.
+-- Tables that a folder keeps, one file each: for the destinations over a folder. `Desk` does not
+-- cite it.
 use Rattle.std.specs.Prelude.{◌≡◌, List, map, Option, Some, IfSome}
 use Rattle.desk_outside.specs.Files.{StoredFile}
 use Rattle.desk_outside.specs.Folders.{FolderContents}

@@ -1,6 +1,5 @@
-pub mod Tables
 pub mod Targets
 pub mod FileTables
-pub mod Csv
 pub mod Sql
+pub mod Formats
 pub mod Memory

@@ -1,4 +1,5 @@
--- A target in memory, as contracts see it.
+-- A destination in memory, as contracts see it: for the one that tests use. `Desk` does not cite
+-- it.
 use Rattle.std.specs.Prelude.{ℕ, List, [], Option, None}
 use Rattle.desk_outside.specs.Planned.{FaultPlan, new_plan}
 use Rattle.named_tables.specs.Tables.{TableValue}

@@ -1,11 +1,9 @@
--- A table as INSERT lines.
+-- A table as INSERT lines: for the destination that writes such files. `Desk` does not cite it.
 use Rattle.std.specs.Prelude.{ℕ, ◌==◌, ◌&&◌, Bool, not, if◌then◌else◌, List, [], ◌∷◌, ◌++◌, codes}
 use Rattle.std.specs.List.{flat_map, list_any}
 use Rattle.std.specs.Str.{is_utf8}
 use Rattle.hex.specs.Hex.{encode_upper}
 use Rattle.dep_model.specs.Tuples.{Tuple}
-use Rattle.desk_outside.specs.Files.{StoredFile}
-use Rattle.named_tables.specs.Tables.{TableValue}
 use Rattle.sql_names.specs.Names.{listed, quoted_name}
 
 -- a byte between single quotes: a single quote is doubled
@@ -31,9 +29,3 @@ sql_head name columns =
 -- a row after this front
 abbrev pub sql_row : List ℕ → Tuple → List ℕ
 sql_row head row = head ++ listed sql_value row ++ (codes ");" ++ 10 ∷ [])
-
-abbrev pub sql_text : TableValue → List ℕ
-sql_text table = flat_map (sql_row (sql_head table.name table.columns)) table.rows
-
-abbrev pub sql_file : TableValue → StoredFile
-sql_file table = record { name = table.name ++ codes ".sql"; bytes = sql_text table }

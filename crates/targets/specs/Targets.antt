@@ -1,11 +1,7 @@
--- What the calls of a target do to the tables that it stands for.
-use Rattle.std.specs.Prelude.{◌≡◌, ℕ, ◌≤◌, Bool, true, false, List, [], ◌∷◌, ◌++◌, Result, OnOk, Ok, Err}
+-- What the calls of a destination do to the tables that it stands for: for its trait, and for
+-- table_writing. `Desk` cites only `Finished`.
+use Rattle.std.specs.Prelude.{List, [], ◌++◌, ◌∷◌}
 use Rattle.dep_model.specs.Tuples.{Tuple}
-use Rattle.desk_outside.specs.Causes.{Rose}
-use Rattle.desk_outside.specs.declared.failure.OutsideFault.{OutsideFault}
-use Rattle.desk_outside.specs.declared.failure.OutsideFault.TheVariants as outside
-use Rattle.targets.specs.declared.fault.TargetFault.{TargetFault}
-use Rattle.targets.specs.declared.fault.TargetFault.TheVariants.{Failed, Memory}
 use Rattle.named_tables.specs.Tables.{TableValue, with_row}
 
 -- which lists of finished tables a target stands for
@@ -28,20 +24,3 @@ AddsRow row old new = (table : TableValue) → old table → new (with_row row t
 abbrev pub FinishesTable : Finished → OpenTables → Finished → Type 0
 FinishesTable old part new = (done : List TableValue) (table : TableValue) → old done → part table
     → new (done ++ table ∷ [])
-
--- a call's faults: the count has not fallen, at `Failed` it rose, and at Ok it is as before
-pub record HasTargetCause {T : Type 0} (before now : ℕ) (result : Result T TargetFault) : Type 0 where
-  pub later : before ≤ now
-  pub fine : OnOk result (now ≡ before)
-  pub failed : result ≡ Err Failed → Rose before now
-
--- how a fault of a folder ends a call
-abbrev pub fault_of : OutsideFault → TargetFault
-fault_of outside.Failed = Failed
-fault_of outside.Memory = Memory
-
--- whether a call failed, and did not only want memory
-abbrev pub is_failed_target : {T : Type 0} → Result T TargetFault → Bool
-is_failed_target (Ok _) = false
-is_failed_target (Err Failed) = true
-is_failed_target (Err Memory) = false

@@ -1,8 +1,7 @@
-use crate::fault::TargetFault;
-use crate::table::HeldTable;
 use crate::target::Target;
 use dep_model::{Name, Row};
-use desk_outside::HeldFile;
+use desk_outside::{HeldFile, OutsideFault};
+use named_tables::HeldTable;
 
 impl Target for Box<dyn Target> {
     ghost tells = { λ b. (Target-box b).tells b.value };
@@ -15,15 +14,15 @@ impl Target for Box<dyn Target> {
 
     ghost faults = { λ b. (Target-box b).faults b.value };
 
-    fn begin_table(&mut self, name: &Name, columns: &[Name]) -> Result<(), TargetFault> {
+    fn begin_table(&mut self, name: &Name, columns: &[Name]) -> Result<(), OutsideFault> {
         (**self).begin_table(name, columns)
     }
 
-    fn put_row(&mut self, row: &Row) -> Result<(), TargetFault> {
+    fn put_row(&mut self, row: &Row) -> Result<(), OutsideFault> {
         (**self).put_row(row)
     }
 
-    fn end_table(&mut self) -> Result<(), TargetFault> {
+    fn end_table(&mut self) -> Result<(), OutsideFault> {
         (**self).end_table()
     }
 

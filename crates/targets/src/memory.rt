@@ -1,15 +1,13 @@
 ghost use Rattle.std.specs.Prelude.{◌≡◌, ◌↔◌, true, [], ◌++◌, length, map, None, Some, is_ok, if◌then◌else◌, option_map, option_to_list, IsSome, IsSomeAnd, IsErrOf, OnOk, OnErr};
+ghost use Rattle.desk_outside.specs.Causes.{HasOutsideCause, is_failed};
 ghost use Rattle.desk_outside.specs.Planned.{FailsNext, CountsCall};
 ghost use Rattle.targets.specs.Memory.{new_target};
-ghost use Rattle.targets.specs.Tables.{held_value};
-ghost use Rattle.named_tables.specs.Tables.{empty_table, with_row};
-ghost use Rattle.targets.specs.Targets.{HasTargetCause, is_failed_target};
+ghost use Rattle.named_tables.specs.Tables.{held_value, empty_table, with_row};
 
-use crate::fault::TargetFault;
-use crate::table::HeldTable;
 use crate::target::Target;
 use dep_model::{Name, Row};
-use desk_outside::{HeldFile, PlannedFaults};
+use desk_outside::{HeldFile, OutsideFault, PlannedFaults};
+use named_tables::HeldTable;
 use std::alloc::Global;
 use std::marker::Model;
 
@@ -25,7 +23,7 @@ pub struct MemoryTarget {
 impl Model for MemoryTarget {
     ghost use Rattle.std.specs.Prelude.{map, option_map};
     ghost use Rattle.targets.specs.Memory.{TargetInMemory};
-    ghost use Rattle.targets.specs.Tables.{held_value};
+    ghost use Rattle.named_tables.specs.Tables.{held_value};
 
     ghost Value = { TargetInMemory };
 
@@ -68,20 +66,20 @@ impl Target for MemoryTarget {
 
     ghost faults = { λ target. target.planned.faults };
 
-    fn begin_table(&mut self, name: &Name, columns: &[Name]) -> Result<(), TargetFault>
+    fn begin_table(&mut self, name: &Name, columns: &[Name]) -> Result<(), OutsideFault>
         ensures finished { self.new.finished ≡ self.old.finished }
         ensures begun { OnOk result (self.new.opened ≡ Some (empty_table name.now columns.now)) }
         ensures closed { OnErr result (self.new.opened ≡ None) }
 
         // It fails exactly where its number is planned.
-        ensures failed { IsErrOf result TargetFault.Failed ↔ FailsNext self.old.planned }
-        ensures counts { CountsCall self.old.planned self.new.planned (is_failed_target result) }
-        ensures cause { HasTargetCause self.old.planned.faults self.new.planned.faults result }
+        ensures failed { IsErrOf result OutsideFault.Failed ↔ FailsNext self.old.planned }
+        ensures counts { CountsCall self.old.planned self.new.planned (is_failed result) }
+        ensures cause { HasOutsideCause self.old.planned.faults self.new.planned.faults result }
     {
         self.opened = None;
         if self.planned.next_fails() {
             self.planned.count_fault();
-            return Err(TargetFault::Failed);
+            return Err(OutsideFault::Failed);
         }
         let columns = Vec::from_slice(self.alloc, columns)?;
         self.opened = Some(HeldTable {
@@ -92,19 +90,19 @@ impl Target for MemoryTarget {
         Ok(())
     }
 
-    fn put_row(&mut self, row: &Row) -> Result<(), TargetFault>
+    fn put_row(&mut self, row: &Row) -> Result<(), OutsideFault>
         requires even { option_map (λ table. length table.columns) self.old.opened ≡ Some (length row.now) }
         ensures finished { self.new.finished ≡ self.old.finished }
         ensures adds { OnOk result (self.new.opened ≡ option_map (with_row row.now) self.old.opened) }
         ensures closed { OnErr result (self.new.opened ≡ None) }
-        ensures failed { IsErrOf result TargetFault.Failed ↔ FailsNext self.old.planned }
-        ensures counts { CountsCall self.old.planned self.new.planned (is_failed_target result) }
-        ensures cause { HasTargetCause self.old.planned.faults self.new.planned.faults result }
+        ensures failed { IsErrOf result OutsideFault.Failed ↔ FailsNext self.old.planned }
+        ensures counts { CountsCall self.old.planned self.new.planned (is_failed result) }
+        ensures cause { HasOutsideCause self.old.planned.faults self.new.planned.faults result }
     {
         let opened = self.opened.take();
         if self.planned.next_fails() {
             self.planned.count_fault();
-            return Err(TargetFault::Failed);
+            return Err(OutsideFault::Failed);
         }
         let Some(mut table) = opened else {
             unreachable!();
@@ -114,30 +112,31 @@ impl Target for MemoryTarget {
                 self.opened = Some(table);
                 Ok(())
             }
-            Err(_) => Err(TargetFault::Memory),
+            Err(_) => Err(OutsideFault::Memory),
         }
     }
 
-    fn end_table(&mut self) -> Result<(), TargetFault>
+    fn end_table(&mut self) -> Result<(), OutsideFault>
         requires is_open { IsSome (option_map (λ table. length table.columns) self.old.opened) }
-        ensures ended { OnOk result (self.new.finished ≡ self.old.finished ++ option_to_list self.old.opened) }
+        ensures ended { OnOk result (self.new.finished
+            ≡ self.old.finished ++ option_to_list self.old.opened) }
         ensures finished { OnErr result (self.new.finished ≡ self.old.finished) }
         ensures closed { self.new.opened ≡ None }
-        ensures failed { IsErrOf result TargetFault.Failed ↔ FailsNext self.old.planned }
-        ensures counts { CountsCall self.old.planned self.new.planned (is_failed_target result) }
-        ensures cause { HasTargetCause self.old.planned.faults self.new.planned.faults result }
+        ensures failed { IsErrOf result OutsideFault.Failed ↔ FailsNext self.old.planned }
+        ensures counts { CountsCall self.old.planned self.new.planned (is_failed result) }
+        ensures cause { HasOutsideCause self.old.planned.faults self.new.planned.faults result }
     {
         let opened = self.opened.take();
         if self.planned.next_fails() {
             self.planned.count_fault();
-            return Err(TargetFault::Failed);
+            return Err(OutsideFault::Failed);
         }
         let Some(table) = opened else {
             unreachable!();
         };
         match self.finished.push(table) {
             Ok(()) => Ok(()),
-            Err(_) => Err(TargetFault::Memory),
+            Err(_) => Err(OutsideFault::Memory),
         }
     }
 

@@ -1,26 +1,24 @@
-ghost use Rattle.std.specs.Prelude.{◌≡◌, [], ◌∷◌, ◌++◌, ◌==◌, if◌then◌else◌, IfOk, OnOk};
+ghost use Rattle.std.specs.Prelude.{◌≡◌, [], ◌∷◌, ◌++◌, IfOk, OnOk};
 ghost use Rattle.std.specs.List.{flat_map};
 ghost use Rattle.std.specs.Str.{is_utf8};
 ghost use Rattle.targets.specs.Sql.{doubled, is_sql_text, sql_value, sql_head, sql_row};
-ghost use Rattle.sql_names.specs.Names.{separator, listed, quoted_name};
+ghost use Rattle.sql_names.specs.Names.{listed};
 
-use crate::text::put;
 use dep_model::{Name, Row, WantMemory};
+use schema_printer::add;
+use sql_names::{add_listed, add_names, add_quoted};
 use std::alloc::Global;
-
-const QUOTE: u8 = b'\'';
 
 /// The front of each line of a table with these columns.
 pub fn head_of(alloc: Global, name: &Name, columns: &[Name]) -> Result<Vec<u8>, WantMemory>
     ensures head { IfOk result (λ head. head.items ≡ sql_head name.now columns.now) }
 {
     let mut text = Vec::new(alloc);
-    put(&mut text, b"INSERT INTO ")?;
-    put_name(&mut text, name)?;
-    put(&mut text, b" (")?;
-    let names = names_of(alloc, columns)?;
-    put(&mut text, &names)?;
-    put(&mut text, b") VALUES (")?;
+    add(&mut text, b"INSERT INTO ")?;
+    add_quoted(&mut text, name)?;
+    add(&mut text, b" (")?;
+    add_names(&mut text, columns)?;
+    add(&mut text, b") VALUES (")?;
     Ok(text)
 }
 
@@ -30,20 +28,8 @@ pub fn line_of(alloc: Global, head: &[u8], row: &Row) -> Result<Vec<u8>, WantMem
 {
     let mut text = Vec::from_slice(alloc, head)?;
     let values = values_of(alloc, row)?;
-    put(&mut text, &values)?;
-    put(&mut text, b");\n")?;
-    Ok(text)
-}
-
-// The names in double quotes, with a comma and a blank between.
-fn names_of(alloc: Global, columns: &[Name]) -> Result<Vec<u8>, WantMemory>
-    ensures names { IfOk result (λ text. text.items ≡ listed quoted_name columns.now) }
-{
-    let mut text = Vec::new(alloc);
-    for (i, column) in columns.iter().enumerate() {
-        put_separator(&mut text, i)?;
-        put_name(&mut text, column)?;
-    }
+    add(&mut text, &values)?;
+    add(&mut text, b");\n")?;
     Ok(text)
 }
 
@@ -53,30 +39,10 @@ fn values_of(alloc: Global, row: &Row) -> Result<Vec<u8>, WantMemory>
 {
     let mut text = Vec::new(alloc);
     for i in 0..row.len() {
-        put_separator(&mut text, i)?;
         let value = value_of(alloc, row.value(i).bytes())?;
-        put(&mut text, &value)?;
+        add_listed(&mut text, i > 0, &value)?;
     }
     Ok(text)
-}
-
-// What stands before the item at a place.
-fn put_separator(text: &mut Vec<u8>, place: usize) -> Result<(), WantMemory>
-    ensures more { OnOk result (text.new.items ≡ text.old.items ++ (if place == 0 then [] else separator)) }
-{
-    if place == 0 {
-        return Ok(());
-    }
-    put(text, b", ")
-}
-
-// A name in double quotes, at the end of a text.
-fn put_name(text: &mut Vec<u8>, name: &Name) -> Result<(), WantMemory>
-    ensures more { OnOk result (text.new.items ≡ text.old.items ++ quoted_name name.now) }
-{
-    put(text, b"\"")?;
-    put(text, name.bytes())?;
-    put(text, b"\"")
 }
 
 // The text of a value.
@@ -88,8 +54,8 @@ fn value_of(alloc: Global, value: &[u8]) -> Result<Vec<u8>, WantMemory>
     }
     let digits = hex::encode_upper(alloc, value)?;
     let mut text = Vec::from_slice(alloc, b"X'")?;
-    put(&mut text, digits.as_bytes())?;
-    put(&mut text, b"'")?;
+    add(&mut text, digits.as_bytes())?;
+    add(&mut text, b"'")?;
     Ok(text)
 }
 
@@ -117,18 +83,18 @@ fn quoted(alloc: Global, value: &[u8]) -> Result<Vec<u8>, WantMemory>
 {
     let mut text = Vec::from_slice(alloc, b"'")?;
     for (i, byte) in value.iter().enumerate() {
-        put_doubled(&mut text, *byte)?;
+        add_doubled(&mut text, *byte)?;
     }
-    put(&mut text, b"'")?;
+    add(&mut text, b"'")?;
     Ok(text)
 }
 
 // A byte between single quotes, at the end of a text.
-fn put_doubled(text: &mut Vec<u8>, byte: u8) -> Result<(), WantMemory>
+fn add_doubled(text: &mut Vec<u8>, byte: u8) -> Result<(), WantMemory>
     ensures more { OnOk result (text.new.items ≡ text.old.items ++ doubled byte) }
 {
-    if byte == QUOTE {
-        return put(text, b"''");
+    if byte == b'\'' {
+        return add(text, b"''");
     }
-    put(text, &[byte])
+    add(text, &[byte])
 }

@@ -1,12 +1,11 @@
 ghost use Rattle.std.specs.Prelude.{◌≡◌, ℕ, Bool, List, length, map, Option, None, Some, is_ok, if◌then◌else◌, IsSome, IfSome, OnOk, OnErr};
-ghost use Rattle.targets.specs.Tables.{held_value};
-ghost use Rattle.named_tables.specs.Tables.{TableValue, empty_table};
-ghost use Rattle.targets.specs.Targets.{KeepsFinished, AddsRow, FinishesTable, HasTargetCause};
+ghost use Rattle.named_tables.specs.Tables.{TableValue, held_value, empty_table};
+ghost use Rattle.desk_outside.specs.Causes.{HasOutsideCause};
+ghost use Rattle.targets.specs.Targets.{KeepsFinished, AddsRow, FinishesTable};
 
-use crate::fault::TargetFault;
-use crate::table::HeldTable;
 use dep_model::{Name, Row};
-use desk_outside::HeldFile;
+use desk_outside::{HeldFile, OutsideFault};
+use named_tables::HeldTable;
 
 /// A destination of tables, which come one at a time.
 ///
@@ -31,31 +30,31 @@ pub trait Target: Drop {
     ghost faults: { Self → ℕ };
 
     /// Gives up an open table and opens an empty one.
-    fn begin_table(&mut self, name: &Name, columns: &[Name]) -> Result<(), TargetFault>
+    fn begin_table(&mut self, name: &Name, columns: &[Name]) -> Result<(), OutsideFault>
         ensures tells { tells self.new ≡ tells self.old }
         ensures keeps { KeepsFinished (finished self.old) (finished self.new) }
         ensures opens { OnOk result (opened self.new (empty_table name.now columns.now)) }
         ensures width { width self.new ≡ (if is_ok result then Some (length columns.now) else None) }
-        ensures cause { HasTargetCause (faults self.old) (faults self.new) result };
+        ensures cause { HasOutsideCause (faults self.old) (faults self.new) result };
 
     /// Adds a row at the end of the open table.
-    fn put_row(&mut self, row: &Row) -> Result<(), TargetFault>
+    fn put_row(&mut self, row: &Row) -> Result<(), OutsideFault>
         requires even { width self.old ≡ Some (length row.now) }
         ensures tells { tells self.new ≡ tells self.old }
         ensures keeps { KeepsFinished (finished self.old) (finished self.new) }
         ensures adds { OnOk result (AddsRow row.now (opened self.old) (opened self.new)) }
         ensures width { width self.new ≡ (if is_ok result then width self.old else None) }
-        ensures cause { HasTargetCause (faults self.old) (faults self.new) result };
+        ensures cause { HasOutsideCause (faults self.old) (faults self.new) result };
 
     /// The open table becomes the last finished one.
-    fn end_table(&mut self) -> Result<(), TargetFault>
+    fn end_table(&mut self) -> Result<(), OutsideFault>
         requires is_open { IsSome (width self.old) }
         ensures tells { tells self.new ≡ tells self.old }
         ensures finishes { OnOk result
             (FinishesTable (finished self.old) (opened self.old) (finished self.new)) }
         ensures keeps { OnErr result (KeepsFinished (finished self.old) (finished self.new)) }
         ensures width { width self.new ≡ None }
-        ensures cause { HasTargetCause (faults self.old) (faults self.new) result };
+        ensures cause { HasOutsideCause (faults self.old) (faults self.new) result };
 
     /// The finished tables, of a target that keeps them in memory.
     fn held_tables(&self) -> Option<&[HeldTable]>

@@ -1,4 +1,5 @@
--- What is made for tests: sets from numbers, and the schemas of numbered attributes.
+-- What is made for tests: sets from numbers, and the schemas of numbered attributes. `Desk` does
+-- not cite it.
 use Rattle.std.specs.Prelude.{◌≡◌, ℕ, ◌+◌, ◌<◌, ◌≤◌, List, ◌++◌, length, map, slice_get, Some, All, codes}
 use Rattle.std.specs.List.{range_with_len}
 use Rattle.std.specs.Fmt.{decimal}

@@ -52,9 +52,9 @@ fn check_tables(
 ) -> Result<(), Fail> {
     assert_eq!(rt; target.tables().len(), count);
     for (held, table) in target.tables().iter().zip(made.iter()) {
-        assert_eq!(rt; held.name.bytes(), table.name.bytes());
-        assert_eq!(rt; held.columns.len(), table.columns.len());
-        assert_eq!(rt; held.rows.len(), table.rows.len());
+        assert_eq!(rt; held.name.bytes(), table.held.name.bytes());
+        assert_eq!(rt; held.columns.len(), table.held.columns.len());
+        assert_eq!(rt; held.rows.len(), table.held.rows.len());
     }
     Ok(())
 }

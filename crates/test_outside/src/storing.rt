@@ -1,10 +1,10 @@
 ghost use Rattle.std.specs.Prelude.{◌≡◌, length, IfOk};
 
 use dep_model::{Name, Row, Value, WantMemory};
-use desk_outside::{HeldFile, MemoryFolder};
+use desk_outside::{HeldFile, MemoryFolder, OutsideFault};
 use std::alloc::Global;
 use std::test::Fail;
-use targets::{CsvTarget, MemoryTarget, SqlTarget, Target, TargetFault};
+use targets::{FileTarget, MemoryTarget, TableFormat, Target};
 
 fn single(alloc: Global, value: &[u8]) -> Result<Row, WantMemory>
     ensures { IfOk result (λ row. length row ≡ 1) }
@@ -23,10 +23,10 @@ fn pair(alloc: Global, first: &[u8], second: &[u8]) -> Result<Row, WantMemory>
     Ok(Row::make(values))
 }
 
-fn name(bytes: &[u8]) -> Result<Name, TargetFault> {
+fn name(bytes: &[u8]) -> Result<Name, OutsideFault> {
     match Name::make(bytes) {
         Some(name) => Ok(name),
-        None => Err(TargetFault::Memory),
+        None => Err(OutsideFault::Memory),
     }
 }
 
@@ -36,7 +36,7 @@ fn put_table<T: Target>(
     target: &mut T,
     table: &[u8],
     value: &[u8],
-) -> Result<(), TargetFault> {
+) -> Result<(), OutsideFault> {
     let row = single(alloc, value)?;
     target.begin_table(&name(table)?, &[name(b"A")?])?;
     target.put_row(&row)?;
@@ -44,7 +44,7 @@ fn put_table<T: Target>(
 }
 
 // A table of two columns and two rows.
-fn put_pairs<T: Target>(alloc: Global, target: &mut T) -> Result<(), TargetFault> {
+fn put_pairs<T: Target>(alloc: Global, target: &mut T) -> Result<(), OutsideFault> {
     let first = pair(alloc, b"1", b"a,\"b\"")?;
     let second = pair(alloc, b"O'Hara", b"\0")?;
     target.begin_table(&name(b"t1")?, &[name(b"NAME")?, name(b"Note")?])?;
@@ -77,7 +77,7 @@ fn tables_in_memory(rt: HostRuntime) -> Result<(), Fail> {
     let mut target = MemoryTarget::make(alloc, Vec::from_slice(alloc, &[5])?);
     assert!(rt; put_pairs(alloc, &mut target) == Ok(()));
     // its fifth call begins a table
-    assert!(rt; put_table(alloc, &mut target, b"t2", b"x") == Err(TargetFault::Failed));
+    assert!(rt; put_table(alloc, &mut target, b"t2", b"x") == Err(OutsideFault::Failed));
     assert!(rt; put_table(alloc, &mut target, b"t3", b"y") == Ok(()));
     assert_eq!(rt; target.tables().len(), 2);
     assert!(rt; target.held_files().is_none());
@@ -113,7 +113,8 @@ fn a_table_begun_anew_is_given_up(rt: HostRuntime) -> Result<(), Fail> {
 #[test]
 fn tables_as_csv_files(rt: HostRuntime) -> Result<(), Fail> {
     let alloc = rt.alloc();
-    let mut target = CsvTarget::make(alloc, MemoryFolder::make(alloc, Vec::new(alloc)))?;
+    let folder = MemoryFolder::make(alloc, Vec::new(alloc));
+    let mut target = FileTarget::make(alloc, TableFormat::Csv, folder)?;
     assert!(rt; put_pairs(alloc, &mut target) == Ok(()));
     assert!(rt; put_table(alloc, &mut target, b"t2", b"") == Ok(()));
     assert!(rt; target.held_tables().is_none());
@@ -127,7 +128,8 @@ fn tables_as_csv_files(rt: HostRuntime) -> Result<(), Fail> {
 #[test]
 fn tables_as_sql_files(rt: HostRuntime) -> Result<(), Fail> {
     let alloc = rt.alloc();
-    let target = SqlTarget::make(alloc, MemoryFolder::make(alloc, Vec::new(alloc)))?;
+    let folder = MemoryFolder::make(alloc, Vec::new(alloc));
+    let target = FileTarget::make(alloc, TableFormat::Sql, folder)?;
     let mut boxed: Box<dyn Target> = Box::new(alloc, target)?;
     assert!(rt; put_pairs(alloc, &mut boxed) == Ok(()));
     assert!(rt; boxed.held_tables().is_none());
@@ -154,7 +156,8 @@ fn values_as_sql_texts(rt: HostRuntime) -> Result<(), Fail> {
     ];
     for (value, text) in cases {
         let alloc = rt.alloc();
-        let mut target = SqlTarget::make(alloc, MemoryFolder::make(alloc, Vec::new(alloc)))?;
+        let folder = MemoryFolder::make(alloc, Vec::new(alloc));
+        let mut target = FileTarget::make(alloc, TableFormat::Sql, folder)?;
         assert!(rt; put_table(alloc, &mut target, b"t1", value) == Ok(()));
         let mut line = Vec::from_slice(alloc, b"INSERT INTO \"t1\" (\"A\") VALUES (")?;
         line.extend_from_slice(text)?;
@@ -170,7 +173,7 @@ fn each_call_of_a_folder_may_fail(rt: HostRuntime) -> Result<(), Fail> {
     for failing in 1..=4 {
         let alloc = rt.alloc();
         let folder = MemoryFolder::make(alloc, Vec::from_slice(alloc, &[failing])?);
-        let mut target = CsvTarget::make(alloc, folder)?;
+        let mut target = FileTarget::make(alloc, TableFormat::Csv, folder)?;
         let first = put_table(alloc, &mut target, b"t1", b"x");
         let second = put_table(alloc, &mut target, b"t2", b"y");
         assert!(rt; first.is_ok() == (failing == 4));
@@ -186,7 +189,7 @@ fn each_call_of_a_folder_may_fail(rt: HostRuntime) -> Result<(), Fail> {
 }
 
 // A table that is longer than what is gathered.
-fn put_long<T: Target>(alloc: Global, target: &mut T, value: &[u8]) -> Result<(), TargetFault> {
+fn put_long<T: Target>(alloc: Global, target: &mut T, value: &[u8]) -> Result<(), OutsideFault> {
     let row = single(alloc, value)?;
     target.begin_table(&name(b"t1")?, &[name(b"A")?])?;
     target.put_row(&row)?;
@@ -207,7 +210,7 @@ fn what_is_gathered_is_written_out(rt: HostRuntime) -> Result<(), Fail> {
     }
     for failing in 1..=5 {
         let folder = MemoryFolder::make(alloc, Vec::from_slice(alloc, &[failing])?);
-        let mut target = CsvTarget::make(alloc, folder)?;
+        let mut target = FileTarget::make(alloc, TableFormat::Csv, folder)?;
         let ended = put_long(alloc, &mut target, &value);
         assert!(rt; ended.is_ok() == (failing == 5));
         if failing == 5 {

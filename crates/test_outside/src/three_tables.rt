@@ -3,7 +3,7 @@ ghost use Rattle.dep_model.specs.Tuples.{IsOver};
 
 use attr_sets::AttrSet;
 use dep_model::{Name, Row, Value, WantMemory};
-use named_tables::Table;
+use named_tables::{HeldTable, Table};
 use std::alloc::Global;
 
 // A row of one value.
@@ -21,11 +21,14 @@ fn table(alloc: Global, name: &[u8], rows: Vec<Row>) -> Result<Table, WantMemory
     let (Some(name), Some(column)) = (Name::make(name), Name::make(b"A")) else {
         return Err(WantMemory);
     };
+    let columns = Vec::from_slice(alloc, &[column])?;
     Ok(Table {
-        name,
         scheme: AttrSet::single(0),
-        columns: Vec::from_slice(alloc, &[column])?,
-        rows,
+        held: HeldTable {
+            name,
+            columns,
+            rows,
+        },
     })
 }
 

@@ -1,9 +1,10 @@
 ghost use Rattle.std.specs.Prelude.{◌≡◌, false, None, Err, ⊤};
-ghost use Rattle.targets.specs.declared.fault.TargetFault.TheVariants.{Memory};
+ghost use Rattle.desk_outside.specs.declared.failure.OutsideFault.TheVariants.{Memory};
 
 use dep_model::{Name, Row};
-use desk_outside::HeldFile;
-use targets::{HeldTable, Target, TargetFault};
+use desk_outside::{HeldFile, OutsideFault};
+use named_tables::HeldTable;
+use targets::Target;
 
 /// A target that wants memory at each call. What it holds it does not tell.
 #[derive(Drop)]
@@ -32,28 +33,28 @@ impl Target for WithoutMemory {
 
     ghost faults = { λ _. 0 };
 
-    fn begin_table(&mut self, _name: &Name, _columns: &[Name]) -> Result<(), TargetFault>
+    fn begin_table(&mut self, _name: &Name, _columns: &[Name]) -> Result<(), OutsideFault>
         ensures memory { result ≡ Err Memory }
         ensures closed { self.new.columns ≡ None }
     {
         self.columns = None;
-        Err(TargetFault::Memory)
+        Err(OutsideFault::Memory)
     }
 
-    fn put_row(&mut self, _row: &Row) -> Result<(), TargetFault>
+    fn put_row(&mut self, _row: &Row) -> Result<(), OutsideFault>
         ensures memory { result ≡ Err Memory }
         ensures closed { self.new.columns ≡ None }
     {
         self.columns = None;
-        Err(TargetFault::Memory)
+        Err(OutsideFault::Memory)
     }
 
-    fn end_table(&mut self) -> Result<(), TargetFault>
+    fn end_table(&mut self) -> Result<(), OutsideFault>
         ensures memory { result ≡ Err Memory }
         ensures closed { self.new.columns ≡ None }
     {
         self.columns = None;
-        Err(TargetFault::Memory)
+        Err(OutsideFault::Memory)
     }
 
     fn held_tables(&self) -> Option<&[HeldTable]>

@@ -5,7 +5,7 @@ use desk_outside::{MemoryFolder, MemorySink};
 use std::alloc::Global;
 use std::process::Abort;
 use std::test::Fail;
-use targets::{CsvTarget, SqlTarget, Target};
+use targets::{FileTarget, TableFormat, Target};
 use test_outside::WithoutMemory;
 
 // Three tables of two columns, with two, two and three rows. Their calls are 4, 4 and 5.
@@ -125,14 +125,15 @@ fn check_files(
 }
 
 // CSV files in a folder that fails at these calls.
-fn csv_files(alloc: Global, fails: &[u64]) -> Result<CsvTarget<MemoryFolder>, WantMemory> {
+fn csv_files(alloc: Global, fails: &[u64]) -> Result<FileTarget<MemoryFolder>, WantMemory> {
     let folder = MemoryFolder::make(alloc, Vec::from_slice(alloc, fails)?);
-    CsvTarget::make(alloc, folder)
+    FileTarget::make(alloc, TableFormat::Csv, folder)
 }
 
 // SQL files in a folder.
-fn sql_files(alloc: Global) -> Result<SqlTarget<MemoryFolder>, WantMemory> {
-    SqlTarget::make(alloc, MemoryFolder::make(alloc, Vec::new(alloc)))
+fn sql_files(alloc: Global) -> Result<FileTarget<MemoryFolder>, WantMemory> {
+    let folder = MemoryFolder::make(alloc, Vec::new(alloc));
+    FileTarget::make(alloc, TableFormat::Sql, folder)
 }
 
 // The first target has no file, and the second its three.

@@ -4,6 +4,7 @@ ghost use Rattle.dep_model.specs.Schemas.{width_of};
 
 use csv_rows::print_rows;
 use dep_model::{Name, Row, Schema, Value, WantMemory};
+use row_store::Rows;
 use std::alloc::Global;
 use std::process::Abort;
 use std::test::Fail;
@@ -50,7 +51,7 @@ fn check(rt: &(impl Alloc<A = Global> + Abort), case: (&str, &str, &str)) -> Res
     assert!(rt; !first.same(&second));
     let schema = two_attributes(alloc, first, second)?;
     let row = pair(alloc, one.as_bytes(), other.as_bytes())?;
-    let text = print_rows(alloc, &schema, &[row])?;
+    let text = print_rows(alloc, &schema, &Rows::of(alloc, &[row])?)?;
     assert_eq!(rt; text.as_slice(), want.as_bytes());
     Ok(())
 }
@@ -79,7 +80,7 @@ fn quotes_where_they_are_needed(rt: HostRuntime) -> Result<(), Fail> {
 fn an_empty_value_alone_has_quotes(rt: HostRuntime) -> Result<(), Fail> {
     let alloc = rt.alloc();
     let schema = one_attribute(alloc, Name::make(b"A").expect(&rt, "a name"))?;
-    let text = print_rows(alloc, &schema, &[single(alloc, b"")?])?;
+    let text = print_rows(alloc, &schema, &Rows::of(alloc, &[single(alloc, b"")?])?)?;
     assert_eq!(rt; text.as_slice(), b"A\n\"\"\n".as_slice());
     Ok(())
 }
@@ -88,10 +89,10 @@ fn an_empty_value_alone_has_quotes(rt: HostRuntime) -> Result<(), Fail> {
 fn rows_stand_in_their_order(rt: HostRuntime) -> Result<(), Fail> {
     let alloc = rt.alloc();
     let schema = one_attribute(alloc, Name::make(b"A").expect(&rt, "a name"))?;
-    let text = print_rows(alloc, &schema, &[])?;
+    let text = print_rows(alloc, &schema, &Rows::new(alloc))?;
     assert_eq!(rt; text.as_slice(), b"A\n".as_slice());
     let rows = [single(alloc, b"2")?, single(alloc, b"1")?];
-    let text = print_rows(alloc, &schema, &rows)?;
+    let text = print_rows(alloc, &schema, &Rows::of(alloc, &rows)?)?;
     assert_eq!(rt; text.as_slice(), b"A\n2\n1\n".as_slice());
     Ok(())
 }

@@ -1,12 +1,12 @@
 use attr_sets::AttrSet;
-use dep_model::Dep;
+use dep_model::{Dep, Failure};
 use fd_discovery::{DiscoverRefusal, discover, read_headed};
 use std::alloc::Global;
 use std::process::Abort;
 use std::test::Fail;
 
 // The dependencies of the rows of a text.
-fn discovered(alloc: Global, text: &[u8]) -> Result<Vec<Dep>, DiscoverRefusal> {
+fn discovered(alloc: Global, text: &[u8]) -> Result<Vec<Dep>, Failure<DiscoverRefusal>> {
     let headed = read_headed(alloc, text)?;
     let deps = discover(alloc, headed.names.len() as u8, &headed.rows)?;
     Ok(deps)

@@ -3,7 +3,7 @@ ghost use Rattle.dep_model.specs.Schemas.{width_of};
 ghost use Rattle.table_join.specs.Tables.{IsTable, tables_of};
 
 use csv_rows::{Part, print_rows, read_part};
-use dep_model::Schema;
+use dep_model::{Failure, Schema};
 use schema_reader::{MOST_TEXT_BYTES, read_schema};
 use std::alloc::Global;
 use std::process::Abort;
@@ -124,8 +124,8 @@ fn check_refused(rt: &(impl Alloc<A = Global> + Abort), case: Refused) -> Result
     let schema = read_schema(alloc, schema.as_bytes()).expect(rt, "a schema");
     let parts = parts_of(alloc, &schema, texts)?;
     assert!(rt; parts.len() < 10);
-    let refusal = join(alloc, &schema, &parts, limit).err();
-    assert_eq!(rt; refusal, Some(want));
+    let failure = join(alloc, &schema, &parts, limit).err();
+    assert_eq!(rt; failure, Some(Failure::Refused(want)));
     Ok(())
 }
 

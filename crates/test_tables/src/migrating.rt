@@ -12,12 +12,12 @@ use test_data::{ADDRESS, TIMETABLE, TIMETABLE_PLAN, TIMETABLE_ROWS};
 // A table on one line: its name, its columns, and each row after a bar.
 fn line_of(alloc: Global, table: &Table) -> Result<Vec<u8>, WantMemory> {
     let mut line = Vec::new(alloc);
-    line.extend_from_slice(table.name.bytes())?;
-    for column in &table.columns {
+    line.extend_from_slice(table.held.name.bytes())?;
+    for column in &table.held.columns {
         line.push(b' ')?;
         line.extend_from_slice(column.bytes())?;
     }
-    for row in &table.rows {
+    for row in &table.held.rows {
         line.push(b'|')?;
         for i in 0..row.len() {
             line.push(b'<')?;

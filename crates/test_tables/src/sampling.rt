@@ -1,5 +1,6 @@
 use attr_sets::AttrSet;
-use dep_model::{Column, Dep, Row, WantMemory};
+use dep_model::{Column, Dep};
+use row_store::Rows;
 use sample::{sample_rows, sample_schema};
 use std::process::Abort;
 use std::test::Fail;
@@ -30,14 +31,11 @@ fn the_schema(rt: HostRuntime) -> Result<(), Fail> {
 }
 
 // The values of a row.
-fn check(rt: &impl Abort, row: Option<&Row>, values: [&[u8]; 4]) -> Result<(), Fail> {
-    let Some(row) = row else {
-        return Err(Fail::from(WantMemory));
-    };
-    assert!(rt; row.len() == 4);
+fn check(rt: &impl Abort, rows: &Rows, row: usize, values: [&[u8]; 4]) -> Result<(), Fail> {
+    assert!(rt; row < rows.len() && rows.width(row) == 4);
     for (i, value) in values.iter().enumerate() {
-        assert!(rt; i < row.len());
-        assert_eq!(rt; row.value(i).bytes(), *value);
+        assert!(rt; i < rows.width(row));
+        assert_eq!(rt; rows.value(row, i), *value);
     }
     Ok(())
 }
@@ -59,7 +57,7 @@ fn the_rows(rt: HostRuntime) -> Result<(), Fail> {
         (99_999, [b"p24999", b"c99", b"s48", b"l14"]),
     ];
     for (place, values) in cases {
-        check(&rt, rows.get(place), values)?;
+        check(&rt, &rows, place, values)?;
     }
     Ok(())
 }

@@ -5,7 +5,7 @@ ghost use Rattle.derivation.specs.Derivs.{tree_of};
 use crate::made::schema;
 use attr_sets::AttrSet;
 use dep_model::{Schema, WantMemory};
-use derivation::{Deriv, conclude, depth, nodes};
+use derivation::{Deriv, LeafRule, PairRule, StepRule, conclude, depth, nodes};
 use proof_text::print_proof;
 use std::alloc::Global;
 use std::test::Fail;
@@ -34,9 +34,9 @@ fn further(
 ) -> Result<Box<Deriv>, WantMemory>
     ensures nodes { IfOk result (λ b. nodes (tree_of b.value) ≡ nodes (tree_of chain.value) + 3) }
 {
-    let from = grown(alloc, Deriv::Given(number))?;
-    let lifted = grown(alloc, Deriv::Augment { by, from })?;
-    grown(alloc, Deriv::Trans(chain, lifted))
+    let from = grown(alloc, Deriv::Leaf(LeafRule::Given(number)))?;
+    let lifted = grown(alloc, Deriv::Step(StepRule::Augmentation { by }, from))?;
+    grown(alloc, Deriv::Pair(PairRule::Transitivity, chain, lifted))
 }
 
 // The certificate of a derivation that concludes something, else the empty text.
@@ -53,12 +53,18 @@ fn printed(alloc: Global, schema: &Schema, deriv: &Deriv) -> Result<Vec<u8>, Wan
 #[test]
 fn prints_a_functional_chain(rt: HostRuntime) -> Result<(), Fail> {
     let schema = schema(&rt, GIVEN);
-    let start = grown(rt.alloc(), Deriv::Reflex { lhs: A, rhs: A })?;
+    let start = grown(
+        rt.alloc(),
+        Deriv::Leaf(LeafRule::Reflexivity { lhs: A, rhs: A }),
+    )?;
     let chain = further(rt.alloc(), start, A, 0)?;
     let chain = further(rt.alloc(), chain, A.union(B), 1)?;
     let abc = A.union(B).union(C);
-    let last = grown(rt.alloc(), Deriv::Reflex { lhs: abc, rhs: C })?;
-    let whole = grown(rt.alloc(), Deriv::Trans(chain, last))?;
+    let last = grown(
+        rt.alloc(),
+        Deriv::Leaf(LeafRule::Reflexivity { lhs: abc, rhs: C }),
+    )?;
+    let whole = grown(rt.alloc(), Deriv::Pair(PairRule::Transitivity, chain, last))?;
     let lines = b"1: A -> A : reflexivity\n\
         2: A -> B : given 1\n\
         3: A -> A B : augmentation 2 with A\n\
@@ -78,10 +84,13 @@ fn prints_a_functional_chain(rt: HostRuntime) -> Result<(), Fail> {
 #[test]
 fn prints_the_sets_of_a_rule(rt: HostRuntime) -> Result<(), Fail> {
     let schema = schema(&rt, GIVEN);
-    let from = grown(rt.alloc(), Deriv::Given(2))?;
+    let from = grown(rt.alloc(), Deriv::Leaf(LeafRule::Given(2)))?;
     let wide = AttrSet(5);
     let narrow = AttrSet(0);
-    let whole = grown(rt.alloc(), Deriv::MAugment { wide, narrow, from })?;
+    let whole = grown(
+        rt.alloc(),
+        Deriv::Step(StepRule::MAugmentation { wide, narrow }, from),
+    )?;
     let lines = b"1: A ->> B : given 3\n\
         2: A C ->> B : maugmentation 1 with A C : ()\n";
     assert_eq!(rt;

@@ -1,5 +1,6 @@
 use crate::made::{refusal, schema};
 use decomp_text::{MOST_PLAN_BYTES, PlanRefusal, read_plan};
+use dep_model::Failure;
 use plans::{drop_contained, print_plan};
 use schema_reader::SchemaRefusalKind::{BadName, Expected, ReservedName, UnknownName};
 use schema_reader::{SchemaRefusal, What};
@@ -53,7 +54,7 @@ fn check_refused(rt: &(impl Alloc<A = Global> + Abort), text: &[u8], want: PlanR
     assert!(rt; text.len() <= MOST_PLAN_BYTES);
     match read_plan(rt.alloc(), &schema, text) {
         Ok(_) => panic!(rt; "{text:?} is read"),
-        Err(refusal) => assert!(rt; refusal == want, "{text:?}: {refusal:?}"),
+        Err(failure) => assert!(rt; failure == Failure::Refused(want), "{text:?}: {failure:?}"),
     }
 }
 

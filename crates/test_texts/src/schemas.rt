@@ -1,5 +1,6 @@
 use crate::made::{refusal, schema};
 use attr_sets::AttrSet;
+use dep_model::Failure;
 use schema_printer::{print_schema, print_set};
 use schema_reader::SchemaRefusalKind::{
     BadName, DoubleName, Expected, NoAttributes, ReservedName, StrangeByte, TooManyDependencies,
@@ -25,7 +26,7 @@ fn check_refused(rt: &(impl Alloc<A = Global> + Abort), text: &[u8], want: Schem
     assert!(rt; text.len() <= MOST_TEXT_BYTES);
     match read_schema(rt.alloc(), text) {
         Ok(_) => panic!(rt; "{text:?} is read"),
-        Err(refusal) => assert!(rt; refusal == want, "{text:?}: {refusal:?}"),
+        Err(failure) => assert!(rt; failure == Failure::Refused(want), "{text:?}: {failure:?}"),
     }
 }
 

@@ -2,7 +2,7 @@ ghost use Rattle.std.specs.Prelude.{◌<◌, IfOk};
 ghost use Rattle.plans.specs.Plans.{IsPlanOver};
 
 use crate::made::schema;
-use dep_model::Schema;
+use dep_model::{Failure, Schema};
 use form_tests::Form;
 use plans::{Plan, print_plan};
 use split_forms::{SplitRefusal, split};
@@ -15,7 +15,12 @@ use test_data::ADDRESS;
 const LIMIT: u32 = 4_096;
 
 // Splits a schema to Boyce-Codd form, or to fourth form.
-fn cut(alloc: Global, schema: &Schema, fourth: bool, limit: u32) -> Result<Plan, SplitRefusal>
+fn cut(
+    alloc: Global,
+    schema: &Schema,
+    fourth: bool,
+    limit: u32,
+) -> Result<Plan, Failure<SplitRefusal>>
     requires limit { 0 < limit }
     ensures universe { IfOk result (λ plan. IsPlanOver schema.now plan) }
 {
@@ -38,7 +43,7 @@ fn check(
             let again = print_plan(rt.alloc(), &schema, &plan)?;
             assert!(rt; again.as_slice() == printed, "{text:?}: {again:?}");
         }
-        Err(refusal) => panic!(rt; "{text:?}: {refusal:?}"),
+        Err(failure) => panic!(rt; "{text:?}: {failure:?}"),
     }
     Ok(())
 }
@@ -82,11 +87,11 @@ fn cuts_at_violations(rt: HostRuntime) -> Result<(), Fail> {
 fn keeps_within_the_limit(rt: HostRuntime) {
     let schema = schema(&rt, ADDRESS.as_bytes());
     match cut(rt.alloc(), &schema, false, 1) {
-        Err(SplitRefusal::TooManySchemes) => {}
+        Err(Failure::Refused(SplitRefusal::TooManySchemes)) => {}
         _ => panic!(rt; "one scheme is enough"),
     }
     match cut(rt.alloc(), &schema, false, 2) {
         Ok(plan) => assert_eq!(rt; plan.schemes().len(), 2),
-        Err(refusal) => panic!(rt; "{refusal:?}"),
+        Err(failure) => panic!(rt; "{failure:?}"),
     }
 }

@@ -5,7 +5,8 @@ ghost use Rattle.derivation.specs.Derivs.{tree_of};
 use attr_sets::AttrSet;
 use dep_model::{Dep, Schema, WantMemory};
 use derivation::{
-    Deriv, conclude, copy_deriv, nodes, shorten, split_inside, split_outside, unite_fd, unite_mvd,
+    Deriv, LeafRule, StepRule, conclude, copy_deriv, nodes, shorten, split_inside, split_outside,
+    unite_fd, unite_mvd,
 };
 use std::alloc::Global;
 use std::test::Fail;
@@ -19,7 +20,7 @@ const ALL_BUT_COURSE: AttrSet = AttrSet(62);
 fn given(alloc: Global, k: u16) -> Result<Box<Deriv>, WantMemory>
     ensures one { IfOk result (λ b. nodes (tree_of b.value) ≡ 1) }
 {
-    Ok(Box::new(alloc, Deriv::Given(k))?)
+    Ok(Box::new(alloc, Deriv::Leaf(LeafRule::Given(k)))?)
 }
 
 // COURSE ->> TEACHER, of the first dependency.
@@ -27,7 +28,7 @@ fn replicated(alloc: Global) -> Result<Box<Deriv>, WantMemory>
     ensures two { IfOk result (λ b. nodes (tree_of b.value) ≡ 2) }
 {
     let from = given(alloc, 0)?;
-    Ok(Box::new(alloc, Deriv::Repl(from))?)
+    Ok(Box::new(alloc, Deriv::Step(StepRule::Replication, from))?)
 }
 
 // COURSE ->> all others.
@@ -36,12 +37,12 @@ fn others(alloc: Global) -> Result<Box<Deriv>, WantMemory>
 {
     let from = Box::new(
         alloc,
-        Deriv::MReflex {
+        Deriv::Leaf(LeafRule::MReflexivity {
             lhs: COURSE,
             rhs: COURSE,
-        },
+        }),
     )?;
-    Ok(Box::new(alloc, Deriv::Compl(from))?)
+    Ok(Box::new(alloc, Deriv::Step(StepRule::Complementation, from))?)
 }
 
 // Each builder, and how many nodes it makes.
@@ -52,10 +53,10 @@ fn built(alloc: Global, schema: &Schema, builder: u8) -> Result<Box<Deriv>, Want
         0 => {
             let same = Box::new(
                 alloc,
-                Deriv::Reflex {
+                Deriv::Leaf(LeafRule::Reflexivity {
                     lhs: COURSE,
                     rhs: COURSE,
-                },
+                }),
             )?;
             unite_fd(alloc, COURSE, COURSE, given(alloc, 0)?, same)
         }

@@ -5,7 +5,7 @@ ghost use Rattle.derivation.specs.Derivs.{tree_of};
 use attr_sets::AttrSet;
 use dep_basis::functional_chain;
 use dep_model::{Dep, Schema, WantMemory};
-use derivation::{Deriv, LeafRule, Node, PairRule, StepRule, depth, nodes};
+use derivation::{Deriv, LeafRule, PairRule, StepRule, depth, nodes};
 use std::alloc::Global;
 use std::test::Fail;
 use test_data::{NoSchema, schema_of};
@@ -45,26 +45,30 @@ fn chain_of(
 
 // What the transitivity at a root joins.
 fn joined(deriv: &Deriv) -> Option<(&Deriv, &Deriv)> {
-    match deriv.root() {
-        Node::Pair(PairRule::Transitivity, first, second) => Some((first, second)),
+    match deriv {
+        Deriv::Pair(PairRule::Transitivity, first, second) => Some((&**first, &**second)),
         _ => None,
     }
 }
 
 fn is_reflexivity(deriv: &Deriv, left: AttrSet, right: AttrSet) -> bool {
-    match deriv.root() {
-        Node::Leaf(LeafRule::Reflexivity { lhs, rhs }) => lhs == left && rhs == right,
+    match deriv {
+        Deriv::Leaf(LeafRule::Reflexivity { lhs, rhs }) => *lhs == left && *rhs == right,
         _ => false,
     }
 }
 
 // Whether a derivation augments the dependency of a number by a set.
 fn is_lifted(deriv: &Deriv, set: AttrSet, number: u16) -> bool {
-    match deriv.root() {
-        Node::Step(StepRule::Augmentation { by }, from) => match from.root() {
-            Node::Leaf(LeafRule::Given(k)) => by == set && k == number,
-            _ => false,
-        },
+    match deriv {
+        Deriv::Step(StepRule::Augmentation { by }, from) => *by == set && is_given(from, number),
+        _ => false,
+    }
+}
+
+fn is_given(deriv: &Deriv, number: u16) -> bool {
+    match deriv {
+        Deriv::Leaf(LeafRule::Given(k)) => *k == number,
         _ => false,
     }
 }

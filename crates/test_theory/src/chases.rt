@@ -3,7 +3,7 @@ ghost use Rattle.dep_model.specs.Projections.{Covers};
 ghost use Rattle.dep_model.specs.Plans.{schemes_of};
 
 use attr_sets::AttrSet;
-use dep_model::{Dep, Row, Schema, WantMemory};
+use dep_model::{Dep, Failure, Row, Schema, WantMemory};
 use std::alloc::Global;
 use std::process::Abort;
 use std::test::Fail;
@@ -23,8 +23,11 @@ fn told(
     match chase(alloc, schema, schemes, limit) {
         Ok(Chased::Lossless) => Ok(String::from_str(alloc, "lossless")?),
         Ok(Chased::Lossy(rows)) => text_of(alloc, &rows),
-        Err(ChaseRefusal::TooManyRows) => Ok(String::from_str(alloc, "too many rows")?),
-        Err(ChaseRefusal::Memory) => Err(WantMemory),
+        Err(Failure::Refused(ChaseRefusal::TooManyRows)) => Ok(String::from_str(
+            alloc,
+            "too many rows",
+        )?),
+        Err(Failure::OutOfMemory) => Err(WantMemory),
     }
 }
 

@@ -4,7 +4,10 @@ ghost use Rattle.derivation.specs.Derivs.{tree_of};
 
 use attr_sets::AttrSet;
 use dep_model::{Dep, Name, Schema, WantMemory};
-use derivation::{Deriv, Fault, FaultKind, conclude, copy_deriv, depth, nodes, shorten};
+use derivation::{
+    Deriv, Fault, FaultKind, LeafRule, PairRule, StepRule, conclude, copy_deriv, depth, nodes,
+    shorten,
+};
 use std::alloc::Global;
 use std::test::Fail;
 
@@ -26,14 +29,16 @@ fn tall(alloc: Global, given: u16, levels: u32) -> Result<Box<Deriv>, WantMemory
     requires { 0 < levels }
     ensures levels { IfOk result (λ b. nodes (tree_of b.value) ≡ levels) }
 {
-    let mut top = Box::new(alloc, Deriv::Given(given))?;
+    let mut top = Box::new(alloc, Deriv::Leaf(LeafRule::Given(given)))?;
     for _level in 1..levels {
         top = Box::new(
             alloc,
-            Deriv::Augment {
-                by: AttrSet::empty(),
-                from: top,
-            },
+            Deriv::Step(
+                StepRule::Augmentation {
+                    by: AttrSet::empty(),
+                },
+                top,
+            ),
         )?;
     }
     Ok(top)
@@ -45,11 +50,11 @@ fn wide(alloc: Global, leaves: u32) -> Result<Box<Deriv>, WantMemory>
     ensures leaves { IfOk result (λ b. nodes (tree_of b.value) + 1 ≡ 2 * leaves) }
 {
     if leaves == 1 {
-        return Ok(Box::new(alloc, Deriv::Given(0))?);
+        return Ok(Box::new(alloc, Deriv::Leaf(LeafRule::Given(0)))?);
     }
     let first = wide(alloc, leaves / 2)?;
     let second = wide(alloc, leaves - leaves / 2)?;
-    Ok(Box::new(alloc, Deriv::Trans(first, second))?)
+    Ok(Box::new(alloc, Deriv::Pair(PairRule::Transitivity, first, second))?)
 }
 
 #[test]
@@ -87,8 +92,11 @@ fn complementation_leaves_out_both_sides(rt: HostRuntime) -> Result<(), Fail> {
     let schema = one_attribute(rt.alloc())?;
     let (none, a) = (AttrSet::empty(), AttrSet::full(1));
     for (lhs, rest) in [(none, a), (a, none)] {
-        let from = Box::new(rt.alloc(), Deriv::MReflex { lhs, rhs: none })?;
-        let concluded = conclude(&schema, &Deriv::Compl(from));
+        let from = Box::new(
+            rt.alloc(),
+            Deriv::Leaf(LeafRule::MReflexivity { lhs, rhs: none }),
+        )?;
+        let concluded = conclude(&schema, &Deriv::Step(StepRule::Complementation, from));
         assert_eq!(rt; concluded, Ok(Dep::Mvd { lhs, rhs: rest }));
     }
     Ok(())
@@ -98,9 +106,9 @@ fn complementation_leaves_out_both_sides(rt: HostRuntime) -> Result<(), Fail> {
 #[test]
 fn coalescence_wants_disjoint_sets(rt: HostRuntime) -> Result<(), Fail> {
     let schema = one_attribute(rt.alloc())?;
-    let first = Box::new(rt.alloc(), Deriv::Given(1))?;
-    let second = Box::new(rt.alloc(), Deriv::Given(0))?;
-    let concluded = conclude(&schema, &Deriv::Coalesce(first, second));
+    let first = Box::new(rt.alloc(), Deriv::Leaf(LeafRule::Given(1)))?;
+    let second = Box::new(rt.alloc(), Deriv::Leaf(LeafRule::Given(0)))?;
+    let concluded = conclude(&schema, &Deriv::Pair(PairRule::Coalescence, first, second));
     let kind = FaultKind::NotDisjoint;
     assert_eq!(rt; concluded, Err(Fault { node: 3, kind }));
     Ok(())

@@ -1,17 +1,17 @@
 ghost use Rattle.std.specs.Prelude.{◌≤◌};
 
 use attr_sets::AttrSet;
-use dep_model::{Dep, WantMemory};
+use dep_model::{Dep, Failure, WantMemory};
 use key_listing::{KeyRefusal, SchemeKeyRefusal, keys, keys_of_scheme, one_key};
 use std::alloc::Global;
 use std::process::Abort;
 use std::test::Fail;
 use test_data::{fd, mvd, schema_of};
 
-fn keys_of(alloc: Global, width: u8, deps: &[Dep]) -> Result<Vec<AttrSet>, KeyRefusal> {
+fn keys_of(alloc: Global, width: u8, deps: &[Dep]) -> Result<Vec<AttrSet>, Failure<KeyRefusal>> {
     match schema_of(alloc, width, deps) {
         Ok(schema) => keys(alloc, &schema),
-        Err(_) => Err(KeyRefusal::Memory),
+        Err(_) => Err(Failure::OutOfMemory),
     }
 }
 
@@ -21,13 +21,13 @@ fn keys_in(
     width: u8,
     deps: &[Dep],
     scheme: u128,
-) -> Result<Vec<AttrSet>, SchemeKeyRefusal> {
+) -> Result<Vec<AttrSet>, Failure<SchemeKeyRefusal>> {
     match schema_of(alloc, width, deps) {
         Ok(schema) => {
             let part = AttrSet(scheme).meet(AttrSet::full(schema.width()));
             keys_of_scheme(alloc, &schema, part)
         }
-        Err(_) => Err(SchemeKeyRefusal::Memory),
+        Err(_) => Err(Failure::OutOfMemory),
     }
 }
 
@@ -114,13 +114,13 @@ fn lists_all_keys_of_schemes(rt: HostRuntime) {
     }
 }
 
-// How many keys of a scheme were listed, or told as too many; nothing of another refusal.
-fn counted_of_scheme(found: Result<Vec<AttrSet>, SchemeKeyRefusal>) -> (bool, usize) {
+// How many keys of a scheme were listed, or told as too many; nothing of another failure.
+fn counted_of_scheme(found: Result<Vec<AttrSet>, Failure<SchemeKeyRefusal>>) -> (bool, usize) {
     match found {
         Ok(found) => (true, found.len()),
-        Err(SchemeKeyRefusal::TooManyKeys { found }) => (false, found.len()),
-        Err(SchemeKeyRefusal::TooWide) => (false, 0),
-        Err(SchemeKeyRefusal::Memory) => (false, 0),
+        Err(Failure::Refused(SchemeKeyRefusal::TooManyKeys { found })) => (false, found.len()),
+        Err(Failure::Refused(SchemeKeyRefusal::TooWide)) => (false, 0),
+        Err(Failure::OutOfMemory) => (false, 0),
     }
 }
 
@@ -170,7 +170,7 @@ fn refuses_wide_schemes(rt: HostRuntime) {
     assert!(rt;
         matches!(
             &keys_in(rt.alloc(), 21, &[fd(1, 2)], next),
-            Err(SchemeKeyRefusal::TooWide)
+            Err(Failure::Refused(SchemeKeyRefusal::TooWide))
         )
     );
     assert!(rt; matches!(&keys_in(rt.alloc(), 21, &[fd(1, 2)], twenty), Ok(_)));

@@ -1,12 +1,13 @@
 -- Cores: what a scheme shrinks to, and what the last pair on the way says.
 use Rattle.std.proofs.Common.{◌≡◌, ℕ, ◌<◌, ◌==◌, zero, suc, Bool, true, false, not, ◌&&◌, ◌||◌, List, refl, sym, subst, ◌∙◌, arith}
+use mathlib.Core.Path.{fun_ext}
 use Rattle.std.proofs.lemmas.Bool.{true≢false, ltb-true}
 use Rattle.std.proofs.lemmas.Bool.Decides.{nat_tests}
-use Rattle.attr_sets.specs.Places.{Places, only, union, minus, Within, Same, count_below}
+use Rattle.attr_sets.specs.Places.{Places, only, union, minus, Within, count_below}
 use Rattle.attr_sets.specs.declared.set.AttrSet.{AttrSet}
 use Rattle.attr_sets.specs.declared.set.TheConstants.{PLACES}
 use Rattle.attr_sets.specs.Sets.{places}
-use Rattle.attr_sets.proofs.PlacesLemmas.{Same-path, places_below, count_below-lt}
+use Rattle.attr_sets.proofs.PlacesLemmas.{places_below, count_below-lt, same_at}
 use Rattle.dep_model.specs.Dependencies.{Dependency, fd}
 use Rattle.dep_model.specs.Implication.{Implies}
 use Rattle.wide_bcnf.specs.Pairs.{IsFirstPair, NoneBefore}
@@ -15,11 +16,11 @@ use Rattle.wide_bcnf.proofs.PairLemmas.{none_before_first, none_before_part}
 
 -- what is left out leaves a part
 pub left_within : (n : ℕ) (ds : List Dependency) (p q : Places) (a : ℕ) → ShrinksBy n ds p q a → Within q p
-left_within n ds p q a out k m = let e = out.rest k in grind (arith, e, m)
+left_within n ds p q a out k m = let e = same_at out.rest k in grind (arith, e, m)
 
 pub shrunk_within : (n : ℕ) (ds : List Dependency) (steps : ℕ) (scheme q : Places) → ShrinksTo n ds steps scheme q
     → Within q scheme
-shrunk_within n ds zero scheme q same k m = sym (same k) ∙ m
+shrunk_within n ds zero scheme q same k m = sym (same_at same k) ∙ m
 shrunk_within n ds (suc steps) scheme q shrinks k m =
     let p = shrinks.0 in
     shrunk_within n ds steps scheme p shrinks.1 k (left_within n ds p q shrinks.2.0 shrinks.2.1 k m)
@@ -30,20 +31,20 @@ pub record IsOnTheWay (n : ℕ) (ds : List Dependency) (scheme rest : Places) (a
   pub before : Places
   pub shrinks : ShrinksTo n ds steps scheme before
   pub pair : IsFirstPair n ds before a b
-  pub left : Same rest (minus before (only b))
+  pub left : rest ≡ minus before (only b)
 
 pub way_begins : (n : ℕ) (ds : List Dependency) (scheme rest : Places) (a b : ℕ) → IsFirstPair n ds scheme a b
-    → Same rest (minus scheme (only b)) → IsOnTheWay n ds scheme rest a b
+    → rest ≡ minus scheme (only b) → IsOnTheWay n ds scheme rest a b
 way_begins n ds scheme rest a b pair is = record {
   steps = 0;
   before = scheme;
-  shrinks = λ k. refl;
+  shrinks = refl;
   pair = pair;
   left = is;
 }
 
 pub way_goes_on : (n : ℕ) (ds : List Dependency) (scheme rest next : Places) (a b c d : ℕ)
-    → IsOnTheWay n ds scheme rest a b → IsFirstPair n ds rest c d → Same next (minus rest (only d))
+    → IsOnTheWay n ds scheme rest a b → IsFirstPair n ds rest c d → next ≡ minus rest (only d)
     → IsOnTheWay n ds scheme next c d
 way_goes_on n ds scheme rest next a b c d way pair is = record {
   steps = suc way.steps;
@@ -56,14 +57,14 @@ way_goes_on n ds scheme rest next a b c d way pair is = record {
 pub way_within : (n : ℕ) (ds : List Dependency) (scheme rest : Places) (a b : ℕ) → IsOnTheWay n ds scheme rest a b
     → Within rest scheme
 way_within n ds scheme rest a b way k m =
-    let e = way.left k in
+    let e = same_at way.left k in
     shrunk_within n ds way.steps scheme way.before way.shrinks k (grind (arith, e, m))
 
 -- no pair of it comes before the last one
 pub way_none_before : (n : ℕ) (ds : List Dependency) (scheme rest : Places) (a b : ℕ)
     → IsOnTheWay n ds scheme rest a b → NoneBefore n ds rest a b
 way_none_before n ds scheme rest a b way =
-    none_before_part n ds way.before rest a b (λ (k : ℕ) m. let e = way.left k in grind (arith, e, m))
+    none_before_part n ds way.before rest a b (λ (k : ℕ) m. let e = same_at way.left k in grind (arith, e, m))
     (none_before_first n ds way.before a b way.pair)
 
 same_rest : (before q one other : Bool) → q ≡ (before && not other) → (before && not (one || other)) ≡ (q && not one)
@@ -92,7 +93,7 @@ module _ (n : ℕ) (ds : List Dependency) (scheme q : Places) (a : ℕ) (core : 
 
   -- the attribute lies in the core
   pub core_member : q a ≡ true
-  core_member = let e = core.last.rest a in let pair = core.last.pair.pair in grind
+  core_member = let e = same_at core.last.rest a in let pair = core.last.pair.pair in grind
       (arith, nat_tests, e, pair.first, pair.differ)
 
   -- so it lies in the scheme
@@ -110,16 +111,16 @@ module _ (n : ℕ) (ds : List Dependency) (scheme q : Places) (a : ℕ) (core : 
   -- the others of the core determine it
   pub core_determined : Implies n ds (fd (minus q (only a)) (only a))
   core_determined = subst (λ (x : Places). Implies n ds (fd x (only a)))
-      (Same-path (minus core.before (union (only a) (only core.last.second))) (minus q (only a)) same)
+      same
       core.last.pair.pair.determined
     where
-      same : Same (minus core.before (union (only a) (only core.last.second))) (minus q (only a))
-      same k = same_rest (core.before k) (q k) (k == a) (k == core.last.second) (core.last.rest k)
+      same : minus core.before (union (only a) (only core.last.second)) ≡ minus q (only a)
+      same = fun_ext (λ k. same_rest (core.before k) (q k) (k == a) (k == core.last.second) (same_at core.last.rest k))
 
 -- ---- a set without one of its members has fewer
-pub count_left : (s left : AttrSet) (k : ℕ) → places s k ≡ true → Same (places left) (minus (places s) (only k))
+pub count_left : (s left : AttrSet) (k : ℕ) → places s k ≡ true → places left ≡ minus (places s) (only k)
     → count_below (places left) PLACES < count_below (places s) PLACES
 count_left s left k member is =
-    let here = is k in
-    count_below-lt PLACES (places left) (places s) k (λ (j : ℕ) m. let e = is j in grind (arith, e, m))
+    let here = same_at is k in
+    count_below-lt PLACES (places left) (places s) k (λ (j : ℕ) m. let e = same_at is j in grind (arith, e, m))
     (ltb-true k PLACES (places_below s k member)) (grind (arith, nat_tests, here)) member

@@ -1,8 +1,7 @@
 -- A scheme has one core, and one wide split.
-use Rattle.std.proofs.Common.{◌≡◌, ℕ, ◌+◌, ◌-◌, ◌<◌, ◌≤◌, zero, suc, List, [], ◌∷◌, sym, subst, ap, ◌∙◌, ◌⊎◌, inl, inr, ⊎_elim, arith}
+use Rattle.std.proofs.Common.{refl, ◌≡◌, ℕ, ◌+◌, ◌-◌, ◌<◌, ◌≤◌, zero, suc, List, [], ◌∷◌, sym, subst, ap, ◌∙◌, ◌⊎◌, inl, inr, ⊎_elim, arith}
 use Rattle.std.proofs.lemmas.Bool.{cases_lt}
-use Rattle.attr_sets.specs.Places.{Places, only, minus, Same}
-use Rattle.attr_sets.proofs.PlacesLemmas.{Same-path, Same-refl}
+use Rattle.attr_sets.specs.Places.{Places, only, minus}
 use Rattle.dep_model.specs.Dependencies.{Dependency}
 use Rattle.wide_bcnf.specs.Pairs.{IsPair, HasPair, IsFirstPair}
 use Rattle.wide_bcnf.specs.WideSplits.{ShrinksBy, ShrinksTo, IsCore, IsWideSplitOf}
@@ -22,15 +21,15 @@ module _ (n : ℕ) (ds : List Dependency) where
   left_same : (p q r : Places) (a c : ℕ) → ShrinksBy n ds p q a → ShrinksBy n ds p r c → (q ≡ r) × (a ≡ c)
   left_same p q r a c one other =
       let same = first_same p a one.second c other.second one.pair other.pair in (
-        Same-path q (minus p (only one.second)) one.rest ∙ ap (λ (i : ℕ). minus p (only i)) same.1
-            ∙ sym (Same-path r (minus p (only other.second)) other.rest),
+        one.rest ∙ ap (λ (i : ℕ). minus p (only i)) same.1
+            ∙ sym other.rest,
         same.0,
       )
 
   -- ---- as many steps have one result
   shrunk_same : (steps : ℕ) (scheme q r : Places) → ShrinksTo n ds steps scheme q → ShrinksTo n ds steps scheme r → q
       ≡ r
-  shrunk_same zero scheme q r one other = Same-path q scheme one ∙ sym (Same-path r scheme other)
+  shrunk_same zero scheme q r one other = one ∙ sym other
   shrunk_same (suc steps) scheme q r one other =
       let before = shrunk_same steps scheme one.0 other.0 one.1 other.1 in
       (left_same other.0 q r one.2.0 other.2.0
@@ -44,7 +43,7 @@ module _ (n : ℕ) (ds : List Dependency) where
         a,
         out.second,
         subst (λ (p : Places). IsPair n ds p a out.second)
-            (Same-path shrinks.0 scheme shrinks.1) out.pair.pair,
+            shrinks.1 out.pair.pair,
       )
   shrinks_by_pair (suc steps) scheme q shrinks = shrinks_by_pair steps scheme shrinks.0 shrinks.1
 
@@ -54,7 +53,7 @@ module _ (n : ℕ) (ds : List Dependency) where
   shrinks_on fewer zero scheme q r one other =
       let same : fewer + 0 ≡ fewer = omega arith in
       let path = shrunk_same fewer scheme r q (subst (λ (k : ℕ). ShrinksTo n ds k scheme r) same other) one in
-      subst (λ (x : Places). Same r x) path (Same-refl r)
+      path
   shrinks_on fewer (suc more) scheme q r one other =
       let next : fewer + suc more ≡ suc (fewer + more) = omega arith in
       let step : ShrinksTo n ds (suc (fewer + more)) scheme r = subst
@@ -102,7 +101,7 @@ module _ (n : ℕ) (ds : List Dependency) where
   one_split scheme (q ∷ xs) (r ∷ ys) one other = ⊎_elim
       (λ alone. ⊎_elim
       (λ both.
-      ap (λ (x : Places). x ∷ xs) (Same-path q scheme alone.1 ∙ sym (Same-path r scheme both.1))
+      ap (λ (x : Places). x ∷ xs) (alone.1 ∙ sym both.1)
       ∙ ap (λ (zs : List Places). r ∷ zs) (alone.2 ∙ sym both.2))
       (λ cut. absurd (alone.0 (core_by_pair scheme r cut.0 cut.1)))
       other)

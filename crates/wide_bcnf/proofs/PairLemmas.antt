@@ -4,7 +4,7 @@ use Rattle.std.proofs.lemmas.Bool.{true≢false, cases_eq, cases_Bool, eqb-true,
 use Rattle.std.proofs.lemmas.Bool.Decides.{nat_tests}
 use Rattle.std.specs.Prelude.{All}
 use Rattle.attr_sets.specs.declared.set.TheConstants.{PLACES}
-use Rattle.attr_sets.specs.Places.{Places, below, only, union, minus, Within, Same}
+use Rattle.attr_sets.specs.Places.{Places, below, only, union, minus, Within}
 use Rattle.dep_model.specs.declared.dep.Dep.{Dep}
 use Rattle.dep_model.specs.Dependencies.{Dependency, fd}
 use Rattle.dep_model.specs.Deps.{dependencies_of, IsDepWithin}
@@ -15,6 +15,7 @@ use Rattle.dep_model.proofs.RuleLemmas.{reflexivity_obeyed, fd_weaker_obeyed}
 use Rattle.fd_closure.proofs.ClosureLemmas.{fd_each-from}
 use Rattle.dep_basis.proofs.RestLemmas.{block_at}
 use Rattle.wide_bcnf.specs.Pairs.{IsPair, HasPair, IsFirstPair, NoneBefore}
+use Rattle.attr_sets.proofs.PlacesLemmas.{same_at}
 
 -- what a set determines, a larger one does
 pub wider_determines : (n : ℕ) (ds : List Dependency) (x v : Places) (a : ℕ) → Within x v
@@ -41,34 +42,34 @@ pair_of_part n ds scheme part a b inside pair = record {
 -- ---- pairs, as they are tried
 -- the others of the scheme determine the first attribute of a pair
 pub pair_begins : (n : ℕ) (ds : List Dependency) (scheme others : Places) (a d : ℕ)
-    → Same others (minus scheme (only a)) → IsPair n ds scheme a d → Implies n ds (fd others (only a))
+    → others ≡ minus scheme (only a) → IsPair n ds scheme a d → Implies n ds (fd others (only a))
 pair_begins n ds scheme others a d is pair =
     wider_determines n ds (minus scheme (union (only a) (only d))) others a
-    (λ (k : ℕ) m. let e = is k in grind (arith, e, m)) pair.determined
+    (λ (k : ℕ) m. let e = same_at is k in grind (arith, e, m)) pair.determined
 
 pub pair_from : (n : ℕ) (ds : List Dependency) (scheme others rest : Places) (a b : ℕ)
-    → Same others (minus scheme (only a)) → Same rest (minus others (only b))
+    → others ≡ minus scheme (only a) → rest ≡ minus others (only b)
     → scheme a ≡ true → others b ≡ true → Implies n ds (fd rest (only a)) → IsPair n ds scheme a b
 pair_from n ds scheme others rest a b is left a_in b_in implied =
-    let there = is b in
+    let there = same_at is b in
     record {
       first = a_in;
       second = grind (arith, nat_tests, there, b_in);
       differ = λ same. grind (arith, nat_tests, there, b_in, same);
       determined = wider_determines n ds rest (minus scheme (union (only a) (only b))) a
-          (λ (k : ℕ) m. let e = is k in let f = left k in grind (arith, e, f, m)) implied;
+          (λ (k : ℕ) m. let e = same_at is k in let f = same_at left k in grind (arith, e, f, m)) implied;
     }
 
 pub pair_second : (n : ℕ) (ds : List Dependency) (scheme others : Places) (a b : ℕ)
-    → Same others (minus scheme (only a)) → IsPair n ds scheme a b → others b ≡ true
-pair_second n ds scheme others a b is pair = let e = is b in grind (arith, nat_tests, e, pair.second, pair.differ)
+    → others ≡ minus scheme (only a) → IsPair n ds scheme a b → others b ≡ true
+pair_second n ds scheme others a b is pair = let e = same_at is b in grind (arith, nat_tests, e, pair.second, pair.differ)
 
 pub pair_rest : (n : ℕ) (ds : List Dependency) (scheme others rest : Places) (a b : ℕ)
-    → Same others (minus scheme (only a)) → Same rest (minus others (only b))
+    → others ≡ minus scheme (only a) → rest ≡ minus others (only b)
     → IsPair n ds scheme a b → Implies n ds (fd rest (only a))
 pair_rest n ds scheme others rest a b is left pair =
     wider_determines n ds (minus scheme (union (only a) (only b))) rest a
-    (λ (k : ℕ) m. let e = is k in let f = left k in grind (arith, e, f, m)) pair.determined
+    (λ (k : ℕ) m. let e = same_at is k in let f = same_at left k in grind (arith, e, f, m)) pair.determined
 
 -- ---- the order of pairs
 -- where none begins with a, the next may begin with the attribute after it

@@ -1,12 +1,13 @@
 -- Wide splits: lossless plans of schemes without pairs, at most as many as there are attributes.
 use Rattle.std.proofs.Common.{◌≡◌, ℕ, ◌≤◌, Bool, true, if◌then◌else◌, List, [], ◌∷◌, ◌++◌, length, sym, subst, ap, ◌∙◌, inl, inr, ⊎_elim, arith, append_assoc}
+use mathlib.Core.Path.{fun_ext}
 use Rattle.std.specs.Prelude.{All, Any, Contains}
 use Rattle.std.proofs.lemmas.Bool.{true≢false, ltb-true, lt-ltb, cases_eq, cases_Bool, eqb-true}
 use Rattle.std.proofs.lemmas.Bool.Decides.{nat_tests}
 use Rattle.std.proofs.lemmas.List.Elements.{All-nil, All-cons, All-weaker, All-map, All-contains}
 use Rattle.std.proofs.lemmas.List.{length-map}
-use Rattle.attr_sets.specs.Places.{Places, below, only, union, minus, Within, Same, IsEmpty, count_below}
-use Rattle.attr_sets.proofs.PlacesLemmas.{Same-path, count_below-minus_only, count_below-pos, count_below-below, tell_empty}
+use Rattle.attr_sets.specs.Places.{Places, below, only, union, minus, Within, IsEmpty, count_below}
+use Rattle.attr_sets.proofs.PlacesLemmas.{count_below-minus_only, count_below-pos, count_below-below, tell_empty}
 use Rattle.attr_sets.specs.Sets.{places}
 use Rattle.attr_sets.specs.declared.set.AttrSet.{AttrSet}
 use Rattle.dep_model.specs.declared.schema.Schema.{Schema}
@@ -38,11 +39,11 @@ cut_on n ds scheme q a core =
     (λ (k : ℕ) e. subst (λ (i : ℕ). scheme i ≡ true) (sym (eqb-true k a e)) (scheme_member n ds scheme q a core))
     (core_determined n ds scheme q a core))
 
-halves_same : (q : Places) (a : ℕ) → q a ≡ true → Same (union (minus q (only a)) (only a)) q
-halves_same q a member k = elim (cases_eq k a) [
+halves_same : (q : Places) (a : ℕ) → q a ≡ true → union (minus q (only a)) (only a) ≡ q
+halves_same q a member = fun_ext (λ k. elim (cases_eq k a) [
   | inl same ↦ grind (arith, nat_tests, ap q same, member, same)
   | inr other ↦ grind (arith, nat_tests, other)
-]
+])
 
 pub lossless_after : (n : ℕ) (ds : List Dependency) (before : List Places) (scheme : Places) (schemes : List Places)
     → IsWideSplitOf n ds scheme schemes
@@ -51,7 +52,7 @@ lossless_after n ds before scheme [] split lossless = absurd split
 lossless_after n ds before scheme (q ∷ later) split lossless = ⊎_elim
     (λ alone.
     let whole : IsLossless n ds (before ++ q ∷ []) = subst (λ (s : Places). IsLossless n ds (before ++ s ∷ []))
-    (sym (Same-path q scheme alone.1)) lossless in
+    (sym alone.1) lossless in
     subst (λ (rest : List Places). IsLossless n ds (before ++ q ∷ rest)) (sym alone.2) whole)
     (λ cut.
     let a = cut.0 in
@@ -60,7 +61,7 @@ lossless_after n ds before scheme (q ∷ later) split lossless = ⊎_elim
     (λ (k : ℕ) e. grind (arith, nat_tests, e)) lossless in
     let core : IsLossless n ds (before ++ q ∷ minus scheme (only a) ∷ []) =
     subst (λ (s : Places). IsLossless n ds (before ++ s ∷ minus scheme (only a) ∷ []))
-    (Same-path (union (minus q (only a)) (only a)) q (halves_same q a (core_member n ds scheme q a cut.1))) halves in
+    (halves_same q a (core_member n ds scheme q a cut.1)) halves in
     let front : IsLossless n ds ((before ++ q ∷ []) ++ minus scheme (only a) ∷ []) =
     subst (λ (plan : List Places). IsLossless n ds plan)
     (sym (append_assoc before (q ∷ []) (minus scheme (only a) ∷ []))) core in
@@ -125,7 +126,7 @@ split_parts n ds scheme [] low some split = absurd split
 split_parts n ds scheme (q ∷ later) low some split = ⊎_elim
     (λ alone.
     subst (λ (rest : List Places). AreParts n ds scheme (q ∷ rest)) (sym alone.2)
-    (subst (λ (s : Places). AreParts n ds scheme (s ∷ [])) (sym (Same-path q scheme alone.1))
+    (subst (λ (s : Places). AreParts n ds scheme (s ∷ [])) (sym alone.1)
     (parts_alone n ds scheme low some alone.0)))
     (λ cut.
     let a = cut.0 in

@@ -1,3 +1,5 @@
+-- Pairs of attributes that a scheme outside Boyce-Codd form has: for `split_wide`, by `WideSplits`,
+-- and for the laws of wide_bcnf.
 use Rattle.std.specs.Prelude.{◌≡◌, ◌≢◌, ℕ, ◌<◌, ◌≤◌, ◌⊎◌, true, List}
 use Rattle.attr_sets.specs.Places.{Places, only, union, minus}
 use Rattle.dep_model.specs.Dependencies.{Dependency, fd}

@@ -1,6 +1,8 @@
+-- The decomposition by pairs in Boyce-Codd form: for `split_wide`, the laws of wide_bcnf and `split
+-- wide-bcnf` (`desk_cli/Decompositions`).
 use Rattle.std.specs.Prelude.{◌≡◌, ℕ, ◌⊎◌, zero, suc, List, [], ◌∷◌}
 use Rattle.attr_sets.specs.declared.set.AttrSet.{AttrSet}
-use Rattle.attr_sets.specs.Places.{Places, below, only, minus, Same}
+use Rattle.attr_sets.specs.Places.{Places, below, only, minus}
 use Rattle.dep_model.specs.Dependencies.{Dependency}
 use Rattle.dep_model.specs.Plans.{schemes_of}
 use Rattle.plans.specs.Containing.{without_contained}
@@ -10,11 +12,11 @@ use Rattle.wide_bcnf.specs.Pairs.{HasPair, IsFirstPair}
 pub record ShrinksBy (n : ℕ) (ds : List Dependency) (p q : Places) (a : ℕ) : Type 0 where
   pub second : ℕ
   pub pair : IsFirstPair n ds p a second
-  pub rest : Same q (minus p (only second))
+  pub rest : q ≡ minus p (only second)
 
 -- a scheme shrinks to q by this many such steps
 abbrev pub ShrinksTo : ℕ → List Dependency → ℕ → Places → Places → Type 0
-ShrinksTo n ds zero scheme q = Same q scheme
+ShrinksTo n ds zero scheme q = q ≡ scheme
 ShrinksTo n ds (suc k) scheme q = (p : Places) × ShrinksTo n ds k scheme p × ((a : ℕ) × ShrinksBy n ds p q a)
 
 -- the core of a scheme that has a pair: what it shrinks to when such steps are made until no pair is left;
@@ -31,7 +33,7 @@ pub record IsCore (n : ℕ) (ds : List Dependency) (scheme q : Places) (a : ℕ)
 abbrev pub IsWideSplitOf : ℕ → List Dependency → Places → List Places → Type 0
 IsWideSplitOf n ds scheme [] = ⊥
 IsWideSplitOf n ds scheme (q ∷ later) =
-    ((HasPair n ds scheme → ⊥) × Same q scheme × (later ≡ []))
+    ((HasPair n ds scheme → ⊥) × (q ≡ scheme) × (later ≡ []))
     ⊎ ((a : ℕ) × IsCore n ds scheme q a × IsWideSplitOf n ds (minus scheme (only a)) later)
 
 -- the plan of a wide split of the universe: its schemes, without contained ones

@@ -1,7 +1,7 @@
 //! Laws of pairs and of wide splits. Each is a function that does nothing, whose clause is the law.
 
 ghost use Rattle.std.specs.Prelude.{◌≡◌, ℕ, ◌≤◌, List, ◌∷◌, [], All, length};
-ghost use Rattle.attr_sets.specs.Places.{Places, below, Within, Same, IsEmpty, count_below};
+ghost use Rattle.attr_sets.specs.Places.{Places, below, Within, IsEmpty, count_below};
 ghost use Rattle.attr_sets.specs.declared.set.TheConstants.{PLACES};
 ghost use Rattle.dep_model.specs.declared.dep.Dep.{Dep};
 ghost use Rattle.dep_model.specs.Dependencies.{Dependency};

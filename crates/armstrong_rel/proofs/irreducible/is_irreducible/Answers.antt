@@ -1,8 +1,8 @@
-use Rattle.std.proofs.Common.{◌==◌, not, sym, subst, ap, ◌∙◌, arith}
+use Rattle.std.proofs.Common.{◌≡◌, ◌==◌, not, sym, subst, ap, ◌∙◌, arith}
 use Rattle.std.proofs.lemmas.Bool.{true≢false, false_from_ne_true}
-use Rattle.attr_sets.specs.Places.{Places, Same}
+use Rattle.attr_sets.specs.Places.{Places}
 use Rattle.attr_sets.specs.Sets.{places}
-use Rattle.attr_sets.proofs.PlacesLemmas.{Same-path, same_number-decides}
+use Rattle.attr_sets.proofs.PlacesLemmas.{same_number-decides}
 use Rattle.armstrong_rel.specs.Closures.{IsClosureOf}
 use Rattle.armstrong_rel.proofs.ClosedLemmas.{closure_closed, closed_itself, closure_same, irreducible_no_meet, no_meet_irreducible}
 use Rattle.armstrong_rel.proofs.FoundLemmas.{table_closures}
@@ -15,11 +15,11 @@ returns-then-eq c =
     let found = places c.closure_of.result in
     let m = places c.meet_beyond.result in
     let told = same_number-decides c.meet_beyond.result c.args.set (omega arith) (omega arith) in
-    let same : Same found set = c.eq.ensures.same.0 c.if-eq.true in
+    let same : found ≡ set = c.eq.ensures.same.0 c.if-eq.true in
     record {
       irreducible = λ ds are.
           let closed = closure_closed n ds set set
-          (subst (λ (x : Places). IsClosureOf n ds set x) (Same-path found set same)
+          (subst (λ (x : Places). IsClosureOf n ds set x) same
           (c.closure_of.ensures.closure ds are)) in
           let meet = c.meet_beyond.ensures.meet ds are in (
             (λ yes. no_meet_irreducible n ds set m closed meet

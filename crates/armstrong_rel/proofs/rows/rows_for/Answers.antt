@@ -1,9 +1,8 @@
 use Rattle.std.proofs.Common.{◌≡◌, ℕ, ◌+◌, List, ◌∙◌, ◌++◌, [], ◌∷◌, length, take, get_or, sym, ap, take_all, arith}
 use Rattle.std.proofs.lemmas.List.{take_more, map-append, length-map, length-take-le}
 use Rattle.attr_sets.specs.declared.set.AttrSet.{AttrSet}
-use Rattle.attr_sets.specs.Places.{Places, below}
+use Rattle.attr_sets.specs.Places.{Places}
 use Rattle.attr_sets.specs.Sets.{places}
-use Rattle.attr_sets.proofs.PlacesLemmas.{Same-path}
 use Rattle.dep_model.specs.Plans.{schemes_of}
 use Rattle.dep_model.specs.Tuples.{Tuple, Relation}
 use Rattle.dep_model.specs.TwoTuples.{all_zeros}
@@ -18,7 +17,7 @@ loop-k-init c =
     let first : row ≡ all_zeros n =
     c.in_ok-numbered_row.ensures.row
     ∙ ap (λ (x : Places). numbered_tuple n 0 x)
-    (Same-path (places c.full.result) (below n) c.full.ensures.members) ∙ sym (zeros_numbered n) in
+    c.full.ensures.members ∙ sym (zeros_numbered n) in
     c.in_ok-push.ensures.items ∙ ap (λ (r : Relation). r ++ row ∷ []) c.new-rows.ensures.items
     ∙ ap (λ (t : Tuple). t ∷ []) first
 

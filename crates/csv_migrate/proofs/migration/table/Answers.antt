@@ -21,7 +21,7 @@ invariant_of-result c =
 pub returns-clause-value : goal.returns-clause-value
 returns-clause-value c =
     let n = width_of c.args.schema.now in
-    same_table _ _ _ _ _ _ c.table_name.ensures.name c.in_ok-columns.ensures.names
+    same_table _ _ _ _ _ _ c.table_name-name.ensures.name c.in_ok-columns.ensures.names
     (table_rows n c.args.rows.now (places c.args.scheme) (groups_of c.in_ok-groups.groups)
     (firsts_of c.in_ok-groups.groups) c.firsts.result.now
     c.in_ok-rows.rows.items c.requires.over

@@ -6,5 +6,5 @@ use Rattle.csv_rows.proofs.interned.column_numbers.Given as goal
 -- the rows so far have these numbers
 abbrev pub invariant-loop-row : goal.invariant-loop-row
 invariant-loop-row l = record {
-  numbered : AreNumbered (λ i. value_at (row_at l.rows i) l.place) l.row-index (map (λ (s : Bor (List ℕ)). s.now) l.values.keys) l.numbers.items;
+  numbered : AreNumbered (λ i. value_at (row_at l.rows i) l.place) l.row (map (λ (s : Bor (List ℕ)). s.now) l.values.keys) l.numbers.items;
 }

@@ -1,8 +1,10 @@
+use Rattle.std.proofs.Common.{Err}
+use Rattle.dep_model.proofs.FailureLemmas.{refuses_also}
 use Rattle.csv_rows.proofs.ReadingLemmas.{refused_part, part_rows}
 use Rattle.csv_rows.proofs.part.read_part.Goals as goal
 
 pub returns-in-Err-clause-err : goal.returns-in-Err-clause-err
-returns-in-Err-clause-err c = λ other. refused_part _ _ _ (c.in-Err.ensures.err _ c.open-reader.ensures.all other)
+returns-in-Err-clause-err c = refuses_also _ _ c.in-Err.failure (refused_part _ _) (c.in-Err.ensures.err _ c.open-reader.ensures.all)
 
 pub read_body-requires : goal.read_body-requires
 read_body-requires c = let read = c.in-Ok.ensures.ok _ c.open-reader.ensures.all in (read.columns, read.kept)
@@ -18,6 +20,7 @@ returns-in-Ok-read_body-clause-scheme c =
     (read.fields, read.records, read.all, read.columns, read.means, read.kept.scheme)
 
 pub returns-clause-err : goal.returns-clause-err
-returns-clause-err c = λ other.
+returns-clause-err c =
     let read = c.in-Ok.ensures.ok _ c.open-reader.ensures.all in
-    part_rows _ _ _ _ _ read (c.in-Err-read_body.ensures.err read.records read.columns read.left read.kept other)
+    refuses_also _ _ c.in-Err-read_body.failure (λ e rows. part_rows _ _ _ _ (Err e) read rows)
+    (c.in-Err-read_body.ensures.err read.records read.columns read.left read.kept)

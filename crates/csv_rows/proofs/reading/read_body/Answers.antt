@@ -1,5 +1,6 @@
 use Rattle.std.proofs.Common.{arith, ◌≡◌, ◌≤◌, ◌+◌, ◌∷◌, [], length, ap, ◌∙◌}
 use Rattle.std.proofs.lemmas.List.{length-append}
+use Rattle.dep_model.proofs.FailureLemmas.{refuses_also}
 use Rattle.csv_rows.proofs.ReadingLemmas.{progress_one, rows_read, row_refused}
 use Rattle.csv_rows.proofs.reading.read_body.Goals as goal
 
@@ -9,17 +10,19 @@ returns-in-Ok-false-clause-ok c = λ rs columns left kept.
 
 pub records-preserved : goal.records-preserved
 records-preserved c =
-    let count : c.len.result ≡ length c.records.rows.items = omega (arith, c.records.rows.ok.0, c.len.ensures) in
+    let count : c.len.result ≡ length c.records.rows = c.len.ensures.count in
     let row : c.len.result + 1 ≤ 100000 = (c.in-Ok.ensures.ok c.requires.0 c.requires.1).0.1 in
-    let items = c.in_ok-push-in-Ok.ensures.items in
-    let size : length c.push.new.self.items ≡ length c.records.rows.items + 1 = ap length items ∙ length-append c.records.rows.items (c.in-Ok.row ∷ []) in
+    let rows = c.in_ok-push-in-Ok.ensures.rows in
+    let size : length c.push.new.self ≡ length c.records.rows + 1 = ap length rows ∙ length-append c.records.rows (c.read_row.new.values ∷ []) in
     record {
       few = omega (arith, size, count, row);
-      progress = λ rs columns left kept. rw items
-          (progress_one _ columns rs _ _ _ _ _ c.len.result c.in-Ok.row (c.records.invariant.progress rs columns left kept) c.in-Ok-true.field-0-test c.in-Ok-true.ensures.record count (c.in-Ok.ensures.ok columns kept));
+      progress = λ rs columns left kept. rw rows
+          (progress_one _ columns rs _ _ _ _ _ c.len.result c.read_row.new.values (c.records.invariant.progress rs columns left kept) c.in-Ok-true.field-0-test c.in-Ok-true.ensures.record count (c.in-Ok.ensures.ok columns kept));
     }
 
 pub returns-in-Err-read_row-clause-err : goal.returns-in-Err-read_row-clause-err
-returns-in-Err-read_row-clause-err c = λ rs columns left kept other.
-    let count : c.len.result ≡ length c.records.rows.items = omega (arith, c.records.rows.ok.0, c.len.ensures) in
-    row_refused _ columns rs _ _ _ _ _ c.len.result _ (c.records.invariant.progress rs columns left kept) c.in-Ok-true.field-0-test c.in-Ok-true.ensures.record count (c.in-Err-read_row.ensures.err columns kept other)
+returns-in-Err-read_row-clause-err c = λ rs columns left kept.
+    let count : c.len.result ≡ length c.records.rows = c.len.ensures.count in
+    refuses_also _ _ c.in-Err-read_row.failure (λ e row.
+    row_refused _ columns rs _ _ _ _ _ c.len.result e (c.records.invariant.progress rs columns left kept) c.in-Ok-true.field-0-test c.in-Ok-true.ensures.record count row)
+    (c.in-Err-read_row.ensures.err columns kept)

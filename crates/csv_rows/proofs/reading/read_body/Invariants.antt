@@ -8,10 +8,10 @@ use Rattle.csv_rows.proofs.reading.read_body.Given as goal
 -- the records so far gave these rows
 abbrev pub invariant-records : goal.invariant-records
 invariant-records l = record {
-  few : length l.rows.items ≤ 100000;
+  few : length l.rows ≤ 100000;
   progress : (rs : List (List (List ℕ))) (columns : List ℕ) → HasLeft l.fn.reader rs → IsHeader (width_of l.schema) columns l.header
-      → Progress l.schema columns rs l.reader l.rows.items;
+      → Progress l.schema columns rs l.reader l.rows;
 }
 
 abbrev pub decreases-records : goal.decreases-records
-decreases-records l = 100000 - length l.rows.items
+decreases-records l = 100000 - length l.rows

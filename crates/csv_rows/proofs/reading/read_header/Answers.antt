@@ -10,5 +10,5 @@ returns-in-Ok-true-clause-err c = λ rs left.
     header_refused _ c.args.reader.now c.take_record.new.reader _ _ c.make.result rs c.in-Ok-true.field-0-test c.in-Ok-true.ensures.record left c.make.ensures.err
 
 pub returns-in-Ok-false-clause-err : goal.returns-in-Ok-false-clause-err
-returns-in-Ok-false-clause-err c = λ rs left other.
+returns-in-Ok-false-clause-err c = λ rs left.
     no_header _ c.args.reader.now c.take_record.new.reader _ _ rs c.in-Ok-false.field-0-test c.in-Ok-false.ensures.record left

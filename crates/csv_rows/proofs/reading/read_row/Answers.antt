@@ -10,10 +10,10 @@ column-requires c =
     (placed_in _ c.requires.0 _ c.deref-placed-items.result.now c.loop-placed.placed-index _ c.requires.1 c.deref-placed-items.ensures.value c.loop-placed-test.true).small
 
 pub loop-placed-init : goal.loop-placed-init
-loop-placed-init c = record { takes = λ columns kept. takes_none _ columns _ _ c.in_ok-values.ensures.items }
+loop-placed-init c = record { takes = λ columns kept. takes_none _ columns _ _ c.clear.ensures.empty }
 
 pub returns-then-not-fits-clause-err : goal.returns-then-not-fits-clause-err
-returns-then-not-fits-clause-err c = λ columns kept other.
+returns-then-not-fits-clause-err c = λ columns kept.
     let at = placed_in _ columns _ c.deref-placed-items.result.now c.loop-placed.placed-index _ kept c.deref-placed-items.ensures.value c.loop-placed-test.true in
     let broken : c.fits.result ≡ false = grind (arith, c.if-not-fits.true) in
     let even : length (fields_of c.args.fields.now) ≡ c.args.header.now.columns = omega (arith, c.len.ensures, c.if-len-header.false) in
@@ -25,9 +25,9 @@ loop-placed-preserved c = record {
   takes = λ columns kept.
       let at = placed_in _ columns _ c.deref-placed-items.result.now c.loop-placed.placed-index _ kept c.deref-placed-items.ensures.value c.loop-placed-test.true in
       let good : c.fits.result ≡ true = grind (arith, c.if-not-fits.false) in
-      rw c.in_ok-push.ensures.items
-      (takes_one _ columns _ _ _ _ _ c.column.result (c.loop-placed.invariant.takes columns kept) at (c.in_ok-make.ensures.value ∙ c.field-value.ensures.value) c.column.ensures.column
-      (λ integer. subst IsIntegerText (sym c.in_ok-make.ensures.value) (c.fits.ensures.fits good integer)));
+      rw c.in_ok-push.ensures.values
+      (takes_one _ columns _ _ _ _ _ c.column.result (c.loop-placed.invariant.takes columns kept) at c.field-value.ensures.value c.column.ensures.column
+      (c.fits.ensures.fits good));
 }
 
 pub returns-clause-ok : goal.returns-clause-ok
@@ -35,5 +35,4 @@ returns-clause-ok c = λ columns kept.
     let even : length (fields_of c.args.fields.now) ≡ c.args.header.now.columns = omega (arith, c.len.ensures, c.if-len-header.false) in
     let few : c.args.row ≤ 100000 = omega (arith, c.if-row-gt-MOST_ROWS.false) in
     let end : c.loop-placed.placed-index ≡ length c.args.header.now.order.items = omega (arith, c.loop-placed-test.false, c.loop-placed.auto.placed-index-end, ap length c.deref-placed-items.ensures.value) in
-    subst (λ (t : List (List ℕ)). RowOf c.args.schema.now columns c.args.row (fields_of c.args.fields.now) (Ok t)) (sym c.make-2.ensures.values)
-    (takes_all _ columns _ _ _ _ _ kept (c.loop-placed.invariant.takes columns kept) end even few)
+    takes_all _ columns _ _ _ _ _ kept (c.loop-placed.invariant.takes columns kept) end even few

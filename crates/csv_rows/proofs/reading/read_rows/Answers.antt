@@ -1,13 +1,14 @@
 use Rattle.std.proofs.Common.{refl}
 use Rattle.attr_sets.specs.Sets.{places}
+use Rattle.dep_model.proofs.FailureLemmas.{refuses_also}
 use Rattle.csv_rows.proofs.ReadingLemmas.{refused_whole, refused_missing, whole_rows, on_ok, on_err, lacking, rows_over, rows_typed}
 use Rattle.csv_rows.proofs.reading.read_rows.Goals as goal
 
 pub returns-in-Err-clause-err : goal.returns-in-Err-clause-err
-returns-in-Err-clause-err c = λ other. refused_whole _ _ _ (c.in-Err.ensures.err _ c.open-reader.ensures.all other)
+returns-in-Err-clause-err c = refuses_also _ _ c.in-Err.failure (refused_whole _ _) (c.in-Err.ensures.err _ c.open-reader.ensures.all)
 
 pub returns-in-Some-clause-err : goal.returns-in-Some-clause-err
-returns-in-Some-clause-err c = λ other.
+returns-in-Some-clause-err c =
     let read = c.in-Ok.ensures.ok _ c.open-reader.ensures.all in
     refused_missing _ _ _ _ (places c.minus-missing.result) _ read (lacking _ _ _ _ _ c.width.ensures.count c.full.ensures.members c.minus-missing.ensures.members) c.in-Some.ensures.least
 
@@ -24,12 +25,12 @@ returns-clause-ok c =
 pub returns-clause-err : goal.returns-clause-err
 returns-clause-err c =
     let read = c.in-Ok.ensures.ok _ c.open-reader.ensures.all in
-    on_err _ _ c.read_body.result (λ e rows other.
-    whole_rows _ _ _ _ (places c.minus-missing.result) _ read (lacking _ _ _ _ _ c.width.ensures.count c.full.ensures.members c.minus-missing.ensures.members) (c.in-None.ensures.none.0 refl) (rows other))
+    on_err _ _ c.read_body.result (λ e rows.
+    whole_rows _ _ _ _ (places c.minus-missing.result) _ read (lacking _ _ _ _ _ c.width.ensures.count c.full.ensures.members c.minus-missing.ensures.members) (c.in-None.ensures.none.0 refl) rows)
     (c.read_body.ensures.err read.records read.columns read.left read.kept)
 
 pub returns-clause-over : goal.returns-clause-over
-returns-clause-over c = on_ok _ _ c.read_body.result (λ v rows. rows_over c.args.schema.now c.args.text.now v.items rows) (returns-clause-ok c)
+returns-clause-over c = on_ok _ _ c.read_body.result (λ v rows. rows_over c.args.schema.now c.args.text.now v rows) (returns-clause-ok c)
 
 pub returns-clause-typed : goal.returns-clause-typed
-returns-clause-typed c = on_ok _ _ c.read_body.result (λ v rows. rows_typed c.args.schema.now c.args.text.now v.items rows) (returns-clause-ok c)
+returns-clause-typed c = on_ok _ _ c.read_body.result (λ v rows. rows_typed c.args.schema.now c.args.text.now v rows) (returns-clause-ok c)

@@ -1,21 +1,23 @@
-use Rattle.std.proofs.Common.{ℕ, ◌||◌, ◌+◌, ◌<◌, Bool, List, length, take, take_all, get_or, sym, ap, ◌∙◌}
+use Rattle.std.proofs.Common.{◌≡◌, ℕ, ◌||◌, ◌+◌, ◌<◌, Bool, List, length, take, take_all, get_or, sym, ap, ◌∙◌}
+use mathlib.Core.Path.{fun_ext}
 use Rattle.std.specs.List.{list_any}
 use Rattle.std.proofs.lemmas.List.Folds.{list_any_more}
 use Rattle.attr_sets.specs.declared.set.AttrSet.{AttrSet}
-use Rattle.attr_sets.specs.Places.{Places, Same}
+use Rattle.attr_sets.specs.Places.{Places}
 use Rattle.attr_sets.specs.Sets.{places}
 use Rattle.dep_model.specs.Plans.{schemes_of}
+use Rattle.attr_sets.proofs.PlacesLemmas.{same_at}
 use Rattle.plans.proofs.PlanLemmas.{schemes_any}
 use Rattle.decomp_text.proofs.covering.all_of.Goals as goal
 
 more : (schemes : List AttrSet) (i : ℕ) (d : AttrSet) (old new : Places) → i < length schemes
-    → Same old (λ k. list_any (λ (scheme : Places). scheme k) (schemes_of (take i schemes))) → Same new (λ k. old k || places (get_or schemes i d) k)
-    → Same new (λ k. list_any (λ (scheme : Places). scheme k) (schemes_of (take (i + 1) schemes)))
-more schemes i d old new lt before step k =
-    step k
-    ∙ ap (λ (b : Bool). b || places (get_or schemes i d) k) (before k ∙ schemes_any k (take i schemes))
+    → old ≡ (λ k. list_any (λ (scheme : Places). scheme k) (schemes_of (take i schemes))) → new ≡ (λ k. old k || places (get_or schemes i d) k)
+    → new ≡ (λ k. list_any (λ (scheme : Places). scheme k) (schemes_of (take (i + 1) schemes)))
+more schemes i d old new lt before step = fun_ext (λ k.
+    same_at step k
+    ∙ ap (λ (b : Bool). b || places (get_or schemes i d) k) (same_at before k ∙ schemes_any k (take i schemes))
     ∙ sym (list_any_more (λ (scheme : AttrSet). places scheme k) schemes i d lt)
-    ∙ sym (schemes_any k (take (i + 1) schemes))
+    ∙ sym (schemes_any k (take (i + 1) schemes)))
 
 pub loop-scheme-preserved : goal.loop-scheme-preserved
 loop-scheme-preserved c =

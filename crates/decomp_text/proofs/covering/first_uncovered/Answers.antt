@@ -1,11 +1,10 @@
-use Rattle.std.proofs.Common.{◌≡◌, ℕ, ◌&&◌, not, Bool, true, false, ap, subst, ◌∙◌}
+use Rattle.std.proofs.Common.{◌≡◌, ◌&&◌, not, Bool, true, false, ap, subst, ◌∙◌}
 use Rattle.std.specs.Prelude.{IfSome}
 use Rattle.std.specs.List.{list_any}
 use Rattle.std.proofs.lemmas.Bool.{lt-ltb, not-false}
 use Rattle.std.proofs.lemmas.List.Folds.{Any-from_list_any}
-use Rattle.attr_sets.specs.Places.{Places, below, IsEmpty, IsLeastFrom}
+use Rattle.attr_sets.specs.Places.{Places, below, minus, IsEmpty, IsLeastFrom}
 use Rattle.attr_sets.specs.Sets.{places}
-use Rattle.attr_sets.proofs.PlacesLemmas.{Same-path}
 use Rattle.dep_model.specs.Plans.{schemes_of}
 use Rattle.dep_model.specs.Schemas.{width_of}
 use Rattle.plan_grammar.specs.Complaints.{uncovered}
@@ -16,8 +15,9 @@ returns c =
     let n = width_of c.args.schema.now in
     let schemes = schemes_of c.args.schemes.now in
     let left : places c.minus.result ≡ uncovered n schemes =
-    Same-path (places c.minus.result) (uncovered n schemes)
-    (λ (k : ℕ). c.minus.ensures.members k ∙ ap (λ (b : Bool). b && not (places c.all_of.result k)) (c.full.ensures.members k ∙ ap (λ (m : ℕ). below m k) c.width.ensures.count) ∙ ap (λ (b : Bool). below n k && not b) (c.all_of.ensures.members k)) in
+    c.minus.ensures.members
+    ∙ ap (λ (z : Places). minus z (places c.all_of.result)) (c.full.ensures.members ∙ ap below c.width.ensures.count)
+    ∙ ap (λ (z : Places). minus (below n) z) c.all_of.ensures.members in
     record {
       covers = λ none k low.
           let empty : IsEmpty (uncovered n schemes) = subst (λ (x : Places). IsEmpty x) left (c.least.ensures.none.0 none) in

@@ -1,6 +1,7 @@
 use Rattle.std.proofs.Common.{refl, ◌∙◌, arith}
 use Rattle.lexer.proofs.LineEnds.{cut_any, cut_last, cut_more}
-use Rattle.decomp_text.proofs.ReadingLemmas.{as_map, line_refused, last_read, reads_more}
+use Rattle.dep_model.proofs.FailureLemmas.{refuses_also}
+use Rattle.decomp_text.proofs.ReadingLemmas.{line_refused, last_read, reads_more}
 use Rattle.decomp_text.proofs.reading.read_lines.Goals as goal
 
 pub lines-init : goal.lines-init
@@ -8,8 +9,8 @@ lines-init c = record { same = rw c.new-schemes.ensures.items refl; room = omega
 
 pub returns-in-Err-clause-err : goal.returns-in-Err-clause-err
 returns-in-Err-clause-err c =
-    as_map c.in-Err.refusal _ _
-    (λ refused. c.lines.invariant.same ∙ line_refused _ _ _ _ _ _ _ (cut_any _ _ _ c.cut_line.ensures.cut) refused) c.in-Err.ensures.err
+    refuses_also _ _ c.in-Err.failure
+    (λ refusal refused. c.lines.invariant.same ∙ line_refused _ _ _ _ _ _ _ (cut_any _ _ _ c.cut_line.ensures.cut) refused) c.in-Err.ensures.err
 
 pub returns-in-None-clause-ok : goal.returns-in-None-clause-ok
 returns-in-None-clause-ok c = c.lines.invariant.same ∙ last_read _ _ _ _ _ _ (cut_last _ _ _ c.in-None.is c.cut_line.ensures.cut).lines c.in-Ok.ensures.ok

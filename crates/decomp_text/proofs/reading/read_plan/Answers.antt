@@ -1,6 +1,7 @@
 use Rattle.std.proofs.Common.{◌≡◌, ℕ, ◌≤◌, [], List, length, Ok, Err, refl, sym, subst, inl, inr}
 use Rattle.attr_sets.specs.declared.set.AttrSet.{AttrSet}
 use Rattle.attr_sets.specs.Places.{Places, IsLeastFrom}
+use Rattle.dep_model.proofs.FailureLemmas.{refuses_also}
 use Rattle.dep_model.specs.Plans.{schemes_of}
 use Rattle.dep_model.specs.Projections.{Covers}
 use Rattle.dep_model.specs.Schemas.{names_of, width_of}
@@ -11,7 +12,6 @@ use Rattle.plan_grammar.specs.Meanings.{MeansSchemeLines, MeansPlan}
 use Rattle.plan_grammar.specs.Reading.{read_scheme_lines}
 use Rattle.plan_grammar.proofs.LineLemmas.{read_means, refused_refuses}
 use Rattle.plan_grammar.proofs.PlanLaws.{lines_within, lines_some}
-use Rattle.decomp_text.proofs.ReadingLemmas.{as_map}
 use Rattle.decomp_text.proofs.reading.read_plan.Goals as goal
 
 meant : (names : List (List ℕ)) (text rest : List ℕ) (schemes : List Places) → rest ≡ without_mark text → read_scheme_lines names 1 [] (line_texts rest) ≡ Ok schemes
@@ -47,6 +47,6 @@ returns-in-Some-clause-err c =
 pub returns-in-Err-clause-err : goal.returns-in-Err-clause-err
 returns-in-Err-clause-err c =
     let names = names_of c.args.schema.now in
-    as_map c.in-Err.refusal _ _
-    (λ is. inl (refused_refuses names (line_texts (without_mark c.args.text.now)) c.in-Err.refusal (subst (λ (t : List ℕ). read_scheme_lines names 1 [] (line_texts t) ≡ Err c.in-Err.refusal) c.without_mark.ensures.text is)))
+    refuses_also _ _ c.in-Err.failure
+    (λ refusal is. inl (refused_refuses names (line_texts (without_mark c.args.text.now)) refusal (subst (λ (t : List ℕ). read_scheme_lines names 1 [] (line_texts t) ≡ Err refusal) c.without_mark.ensures.text is)))
     c.in-Err.ensures.err

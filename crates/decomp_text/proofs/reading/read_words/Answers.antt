@@ -12,7 +12,7 @@ use Rattle.decomp_text.proofs.reading.read_words.Goals as goal
 
 pub words-init : goal.words-init
 words-init c = record {
-  same = ap (λ (x : Places). read_words_lexed (names_in c.args.names.now) c.args.line true x (lexed mode.Plain 0 c.args.column c.args.text.now)) (sym c.no_place-set.ensures.members);
+  same = ap (λ (x : Places). read_words_lexed (names_in c.args.names.now) c.args.line true x (lexed mode.Plain 0 c.args.column c.args.text.now)) (sym c.empty-set.ensures.members);
   room = c.requires.room;
 }
 
@@ -38,6 +38,6 @@ returns-in-Err-clause-err c = c.words.invariant.same ∙ words_refused _ _ _ _ _
 pub words-preserved : goal.words-preserved
 words-preserved c = record {
   same = c.words.invariant.same ∙ words_more _ _ _ _ _ _ _ _ _ c.in-Token.ensures.exact c.in-Ok.ensures.ok
-      ∙ ap (λ (x : Places). read_words_lexed (names_in c.args.names.now) c.args.line false x (lexed mode.Plain 0 (c.in-Token.token.column + c.in-Token.token.length) c.in-Token.others.now)) (sym c.added-set.ensures.members);
+      ∙ ap (λ (x : Places). read_words_lexed (names_in c.args.names.now) c.args.line false x (lexed mode.Plain 0 (c.in-Token.token.column + c.in-Token.token.length) c.in-Token.others.now)) (sym c.with-set.ensures.members);
   room = omega (arith, c.words.invariant.room, c.in-Token.ensures.advances.fits);
 }

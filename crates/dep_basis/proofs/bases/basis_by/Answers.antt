@@ -1,7 +1,6 @@
 use Rattle.std.proofs.Common.{subst}
-use Rattle.attr_sets.specs.Places.{Places, below}
+use Rattle.attr_sets.specs.Places.{Places}
 use Rattle.attr_sets.specs.Sets.{places}
-use Rattle.attr_sets.proofs.PlacesLemmas.{Same-path}
 use Rattle.dep_model.specs.Deps.{dependencies_of}
 use Rattle.dep_basis.specs.Traces.{AreTraces}
 use Rattle.dep_basis.proofs.BasisLemmas.{basis-from}
@@ -10,7 +9,7 @@ use Rattle.dep_basis.proofs.bases.basis_by.Goals as goal
 pub returns : goal.returns
 returns c =
     let n = c.args.width in
-    let whole = Same-path (places c.full.result) (below n) c.full.ensures.members in
+    let whole = c.full.ensures.members in
     record {
       basis = basis-from n c.args.deps.now (places c.args.lhs) c.traces.result c.requires.deps c.requires.lhs
           (subst (λ (scheme : Places). AreTraces n (dependencies_of c.args.deps.now) scheme (places c.args.lhs) c.traces.result) whole c.traces.ensures.traces);

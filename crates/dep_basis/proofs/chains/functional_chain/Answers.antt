@@ -3,7 +3,7 @@ use Rattle.std.proofs.lemmas.Bool.{false≢true}
 use Rattle.attr_sets.specs.declared.set.TheConstants.{PLACES}
 use Rattle.attr_sets.specs.Places.{Places, union, Within}
 use Rattle.attr_sets.specs.Sets.{places}
-use Rattle.attr_sets.proofs.PlacesLemmas.{Same-path, places_below, tell_within, count_below-lt, count_below-le}
+use Rattle.attr_sets.proofs.PlacesLemmas.{places_below, tell_within, count_below-lt, count_below-le, same_at}
 use Rattle.dep_model.specs.Schemas.{width_of, deps_of}
 use Rattle.fd_closure.proofs.ClosureLemmas.{settled_holds}
 use Rattle.derivation.specs.declared.deriv.Deriv.{Deriv}
@@ -38,7 +38,7 @@ loop-closed-smaller c =
     let more = places c.union-closed.result in
     let first = c.in-Some.ensures.first in
     elim (tell_within PLACES (places c.in-Some.lead.rhs) now (places_below c.in-Some.lead.rhs)) [
-      | inl new ↦ omega (arith, count_below-lt PLACES now more new.0 (λ k m. grind (arith, c.union-closed.ensures.members k, m)) new.1 new.3 (grind (arith, c.union-closed.ensures.members new.0, new.2)), count_below-le PLACES more)
+      | inl new ↦ omega (arith, count_below-lt PLACES now more new.0 (λ k m. grind (arith, same_at c.union-closed.ensures.members k, m)) new.1 new.3 (grind (arith, same_at c.union-closed.ensures.members new.0, new.2)), count_below-le PLACES more)
       | inr all ↦ absurd (first.out.beyond all)
     ]
 
@@ -54,7 +54,7 @@ loop-closed-preserved c =
     ap tree_of c.in_ok-chain-2.ensures.ok
     ∙ ap (λ (d : Deriv). pair transitivity tree (tree_of d)) c.in_ok-lifted.ensures.ok
     ∙ ap (λ (d : Deriv). pair transitivity tree (step (augmentation closed) (tree_of d))) c.in_ok-given.ensures.ok in
-    let wider : places c.union-closed.result ≡ union closed t = Same-path (places c.union-closed.result) (union closed t) c.union-closed.ensures.members in
+    let wider : places c.union-closed.result ≡ union closed t = c.union-closed.ensures.members in
     let with_set : Places → Stage = λ x. record { closed = x; tree = tree_of c.in_ok-chain-2.chain.value } in
     let with_tree : Tree → Stage = λ u. record { closed = union closed t; tree = u } in
     (suc c.loop-closed.invariant.0, (before, k, t, c.loop-closed.invariant.1, outside, c.in-Some.ensures.first, ap with_set wider ∙ ap with_tree grown))

@@ -5,7 +5,7 @@ use Rattle.std.specs.Prelude.{Option, None, Some, IfSome}
 use Rattle.attr_sets.specs.declared.set.AttrSet.{AttrSet}
 use Rattle.attr_sets.specs.Sets.{places}
 use Rattle.attr_sets.specs.declared.set.TheConstants.{PLACES}
-use Rattle.attr_sets.proofs.PlacesLemmas.{count_below-lt}
+use Rattle.attr_sets.proofs.PlacesLemmas.{count_below-lt, same_at}
 use Rattle.dep_model.specs.Deps.{dependencies_of}
 use Rattle.dep_model.specs.Keys.{InClosure}
 use Rattle.fd_closure.proofs.ClosureLemmas.{fd_each-to, fd_each-from}
@@ -25,10 +25,10 @@ loop-first-init c =
     let more = places c.closure.result in
     let between = closure_between n ds x more c.requires.lhs (c.closure.ensures.closure n c.requires.deps c.requires.lhs) in
     record {
-      within = λ k m. grind (arith, c.minus-left.ensures.members k, m);
+      within = λ k m. grind (arith, same_at c.minus-left.ensures.members k, m);
       closed = λ b in_y out. (
         ltb-true b n (c.requires.rhs b in_y),
-        fd_each-to n ds x more between.2 b (grind (arith, c.minus-left.ensures.members b, in_y, out)),
+        fd_each-to n ds x more between.2 b (grind (arith, same_at c.minus-left.ensures.members b, in_y, out)),
       );
     }
 
@@ -58,8 +58,8 @@ returns-then-is_some-clause-block c =
 
 pub loop-first-smaller : goal.loop-first-smaller
 loop-first-smaller c =
-    count_below-lt PLACES (places c.without-left.result) (places c.loop-first.left) c.in-Some.first (λ k m. grind (arith, c.without-left.ensures.members k, m))
-    c.in-Some.ensures.place (grind (arith, nat_tests, c.without-left.ensures.members c.in-Some.first)) c.in-Some.ensures.least.member
+    count_below-lt PLACES (places c.without-left.result) (places c.loop-first.left) c.in-Some.first (λ k m. grind (arith, same_at c.without-left.ensures.members k, m))
+    c.in-Some.ensures.place (grind (arith, nat_tests, same_at c.without-left.ensures.members c.in-Some.first)) c.in-Some.ensures.least.member
 
 pub loop-first-preserved : goal.loop-first-preserved
 loop-first-preserved c =
@@ -67,11 +67,11 @@ loop-first-preserved c =
     let a = c.in-Some.first in
     let is = c.without-left.ensures.members in
     record {
-      within = λ k m. now.within k (grind (arith, is k, m));
+      within = λ k m. now.within k (grind (arith, same_at is k, m));
       closed = λ b in_y out. elim (cases_eq b a) [
         | inl same ↦ subst (λ (k : ℕ). InClosure c.args.width (dependencies_of c.args.deps.now) (places c.args.lhs) k) (sym same)
             (c.block_by-block.ensures.none.0 (sym c.is_some.ensures ∙ c.if-is_some.false))
-        | inr differ ↦ now.closed b in_y (grind (arith, nat_tests, differ, is b, out))
+        | inr differ ↦ now.closed b in_y (grind (arith, nat_tests, differ, same_at is b, out))
       ];
     }
 

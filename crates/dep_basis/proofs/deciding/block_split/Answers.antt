@@ -1,19 +1,20 @@
 use Rattle.std.proofs.Common.{◌≡◌, ℕ, subst, arith}
+use mathlib.Core.Path.{fun_ext}
 use Rattle.std.proofs.lemmas.Option.{IfSome_then}
 use Rattle.std.specs.Prelude.{All}
 use Rattle.attr_sets.specs.Places.{Places, below, minus, Meets}
 use Rattle.attr_sets.specs.declared.set.AttrSet.{AttrSet}
 use Rattle.attr_sets.specs.Sets.{places}
-use Rattle.attr_sets.proofs.PlacesLemmas.{Same-path}
 use Rattle.dep_model.specs.Deps.{dependencies_of}
 use Rattle.dep_basis.specs.Traces.{blocks_of}
 use Rattle.dep_basis.specs.Firsts.{IsFirstWith}
+use Rattle.attr_sets.proofs.PlacesLemmas.{same_at}
 use Rattle.dep_basis.proofs.DecidingLemmas.{split_block}
 use Rattle.dep_basis.proofs.deciding.block_split.Goals as goal
 use Rattle.dep_basis.proofs.deciding.block_split.Goals.{After-minus}
 
 rest_is : (c : After-minus) → places c.minus.result ≡ minus (below c.args.width) (places c.args.rhs)
-rest_is c = Same-path (places c.minus.result) (minus (below c.args.width) (places c.args.rhs)) (λ (k : ℕ). grind (arith, c.minus.ensures.members k, c.full.ensures.members k))
+rest_is c = fun_ext (λ (k : ℕ). grind (arith, same_at c.minus.ensures.members k, same_at c.full.ensures.members k))
 
 pub returns-clause-none : goal.returns-clause-none
 returns-clause-none c =

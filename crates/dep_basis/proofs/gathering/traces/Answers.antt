@@ -1,13 +1,14 @@
 use Rattle.std.proofs.Common.{◌≡◌, ℕ, ◌+◌, ◌<◌, length, take, drop, true, refl, sym, ◌∙◌, arith}
+use mathlib.Core.Path.{fun_ext}
 use Rattle.std.proofs.lemmas.Bool.{false≢true, ltb-true}
 use Rattle.std.proofs.lemmas.Bool.Decides.{nat_tests}
 use Rattle.std.proofs.lemmas.List.{take_more_set, drop-set-lt, drop-drop, length-set}
 use Rattle.std.proofs.lemmas.List.Elements.{All-replicate, All-drop}
-use Rattle.attr_sets.specs.Places.{Places, minus, Same, IsEmpty, count_below}
+use Rattle.attr_sets.specs.Places.{Places, minus, IsEmpty, count_below}
 use Rattle.attr_sets.specs.declared.set.AttrSet.{AttrSet}
 use Rattle.attr_sets.specs.Sets.{places}
 use Rattle.attr_sets.specs.declared.set.TheConstants.{PLACES}
-use Rattle.attr_sets.proofs.PlacesLemmas.{count_below-le, count_below-pos, count_below-within, count_below-lt}
+use Rattle.attr_sets.proofs.PlacesLemmas.{count_below-le, count_below-pos, count_below-within, count_below-lt, same_at}
 use Rattle.dep_model.specs.Deps.{dependencies_of}
 use Rattle.dep_model.specs.Keys.{InClosure}
 use Rattle.dep_basis.proofs.GatheringLemmas.{found_first, found_closed, found_block, found_all}
@@ -16,40 +17,40 @@ use Rattle.dep_basis.proofs.gathering.traces.Goals as goal
 
 pub loop-first-init : goal.loop-first-init
 loop-first-init c = record {
-  found = found_first c.args.width (dependencies_of c.args.deps.now) (places c.args.scheme) (places c.args.lhs) (places c.empty-closed.result) c.empty-closed.ensures.members;
+  found = found_first c.args.width (dependencies_of c.args.deps.now) (places c.args.scheme) (places c.args.lhs) (places c.empty-closed.result) (same_at c.empty-closed.ensures.members);
   room = omega (arith, count_below-le PLACES (places c.args.scheme));
   size = refl;
-  rest = All-replicate (λ (q : AttrSet). IsEmpty (places q)) 128 c.empty-blocks.result c.empty-blocks.ensures.members;
+  rest = All-replicate (λ (q : AttrSet). IsEmpty (places q)) 128 c.empty-blocks.result (same_at c.empty-blocks.ensures.members);
 }
 
 pub loop-first-smaller-then-eq : goal.loop-first-smaller-then-eq
 loop-first-smaller-then-eq c =
-    count_below-lt PLACES (places c.without-left.result) (places c.loop-first.left) c.in-Some.first (λ k m. grind (arith, c.without-left.ensures.members k, m))
-    c.in-Some.ensures.place (grind (arith, nat_tests, c.without-left.ensures.members c.in-Some.first)) c.in-Some.ensures.least.member
+    count_below-lt PLACES (places c.without-left.result) (places c.loop-first.left) c.in-Some.first (λ k m. grind (arith, same_at c.without-left.ensures.members k, m))
+    c.in-Some.ensures.place (grind (arith, nat_tests, same_at c.without-left.ensures.members c.in-Some.first)) c.in-Some.ensures.least.member
 
 pub loop-first-preserved-then-eq : goal.loop-first-preserved-then-eq
 loop-first-preserved-then-eq c =
     let before = c.loop-first.invariant in
-    let none : IsEmpty (places c.piece_with-block.result) = λ k. c.if-eq.ensures.same.0 refl k ∙ c.empty.ensures.members k in
+    let none : IsEmpty (places c.piece_with-block.result) = λ k. same_at (c.if-eq.ensures.same.0 refl) k ∙ same_at c.empty.ensures.members k in
     let low = ltb-true c.in-Some.first c.args.width (c.requires.scheme c.in-Some.first (before.found.left_in c.in-Some.first c.in-Some.ensures.least.member)) in
     let piece = piece_is c.args.width (dependencies_of c.args.deps.now) (places c.args.lhs) c.all_pieces-found.result c.all_pieces-found.ensures.pieces c.in-Some.first c.piece_with-block.result low c.piece_with-block.ensures.none c.piece_with-block.ensures.some c.piece_with-block.ensures.member in
     let is_closed : InClosure c.args.width (dependencies_of c.args.deps.now) (places c.args.lhs) c.in-Some.first = (low, piece.nothing none) in
     record {
       found = found_closed c.args.width (dependencies_of c.args.deps.now) (places c.args.scheme) (places c.args.lhs) (places c.loop-first.left) (places c.loop-first.closed) (take c.loop-first.count c.loop-first.blocks)
           before.found (places c.without-left.result) (places c.with-closed.result) c.in-Some.first c.in-Some.ensures.least.member is_closed c.without-left.ensures.members c.with-closed.ensures.members;
-      room = omega (arith, before.room, count_below-within PLACES (places c.without-left.result) (places c.loop-first.left) (λ k m. grind (arith, c.without-left.ensures.members k, m)));
+      room = omega (arith, before.room, count_below-within PLACES (places c.without-left.result) (places c.loop-first.left) (λ k m. grind (arith, same_at c.without-left.ensures.members k, m)));
       size = before.size;
       rest = before.rest;
     }
 
 -- fewer attributes are left than before
-falls : (left rest block : Places) (i : ℕ) → i < PLACES → left i ≡ true → block i ≡ true → Same rest (minus left block) → count_below rest PLACES < count_below left PLACES
+falls : (left rest block : Places) (i : ℕ) → i < PLACES → left i ≡ true → block i ≡ true → rest ≡ minus left block → count_below rest PLACES < count_below left PLACES
 falls left rest block i low in_left in_block is =
-    count_below-lt PLACES rest left i (λ (k : ℕ) m. grind (arith, is k, m)) low (grind (arith, is i, in_block)) in_left
+    count_below-lt PLACES rest left i (λ (k : ℕ) m. grind (arith, same_at is k, m)) low (grind (arith, same_at is i, in_block)) in_left
 
 -- a set that does not equal the empty one
-not_empty : (block empty : Places) → IsEmpty empty → (Same block empty → ⊥) → IsEmpty block → ⊥
-not_empty block empty nothing differ none = differ (λ (k : ℕ). none k ∙ sym (nothing k))
+not_empty : (block empty : Places) → IsEmpty empty → (block ≡ empty → ⊥) → IsEmpty block → ⊥
+not_empty block empty nothing differ none = differ (fun_ext (λ (k : ℕ). none k ∙ sym (nothing k)))
 
 pub bounds-blocks-count : goal.bounds-blocks-count
 bounds-blocks-count c = omega (arith, c.loop-first.invariant.room, count_below-pos PLACES (places c.loop-first.left) c.in-Some.first c.in-Some.ensures.place c.in-Some.ensures.least.member)
@@ -59,7 +60,7 @@ loop-first-smaller c =
     let low = ltb-true c.in-Some.first c.args.width (c.requires.scheme c.in-Some.first (c.loop-first.invariant.found.left_in c.in-Some.first c.in-Some.ensures.least.member)) in
     let piece = piece_is c.args.width (dependencies_of c.args.deps.now) (places c.args.lhs) c.all_pieces-found.result c.all_pieces-found.ensures.pieces c.in-Some.first c.piece_with-block.result low c.piece_with-block.ensures.none c.piece_with-block.ensures.some c.piece_with-block.ensures.member in
     falls (places c.loop-first.left) (places c.minus-left.result) (places c.piece_with-block.result) c.in-Some.first c.in-Some.ensures.place c.in-Some.ensures.least.member
-    (piece.member (not_empty (places c.piece_with-block.result) (places c.empty.result) c.empty.ensures.members (λ same. false≢true (c.if-eq.ensures.same.1 same)))) c.minus-left.ensures.members
+    (piece.member (not_empty (places c.piece_with-block.result) (places c.empty.result) (same_at c.empty.ensures.members) (λ same. false≢true (c.if-eq.ensures.same.1 same)))) c.minus-left.ensures.members
 
 pub loop-first-preserved : goal.loop-first-preserved
 loop-first-preserved c =
@@ -70,7 +71,7 @@ loop-first-preserved c =
     let block = c.piece_with-block in
     let low = ltb-true c.in-Some.first n (c.requires.scheme c.in-Some.first (found.left_in c.in-Some.first c.in-Some.ensures.least.member)) in
     let piece = piece_is n ds (places c.args.lhs) c.all_pieces-found.result c.all_pieces-found.ensures.pieces c.in-Some.first block.result low block.ensures.none block.ensures.some block.ensures.member in
-    let some = not_empty (places block.result) (places c.empty.result) c.empty.ensures.members (λ same. false≢true (c.if-eq.ensures.same.1 same)) in
+    let some = not_empty (places block.result) (places c.empty.result) (same_at c.empty.ensures.members) (λ same. false≢true (c.if-eq.ensures.same.1 same)) in
     let count = c.loop-first.count in
     let blocks = c.loop-first.blocks in
     let fewer = falls (places c.loop-first.left) (places c.minus-left.result) (places block.result) c.in-Some.first c.in-Some.ensures.place c.in-Some.ensures.least.member (piece.member some) c.minus-left.ensures.members in

@@ -1,10 +1,12 @@
 use Rattle.std.proofs.Common.{◌≡◌, ◌+◌, ◌*◌, true, refl, arith, sym}
+use mathlib.Core.Path.{fun_ext}
 use Rattle.std.proofs.lemmas.Bool.Decides.{nat_tests}
 use Rattle.attr_sets.specs.Places.{only, union, minus}
 use Rattle.attr_sets.specs.Sets.{places}
 use Rattle.attr_sets.specs.declared.set.TheConstants.{PLACES}
 use Rattle.dep_model.specs.Schemas.{width_of, theory_of}
 use Rattle.derivation.specs.Derivs.{tree_of}
+use Rattle.attr_sets.proofs.PlacesLemmas.{same_at}
 use Rattle.derivation.proofs.ProvesLemmas.{fd_restated}
 use Rattle.fd_closure.proofs.ClosureLemmas.{fd_each-to}
 use Rattle.dep_basis.proofs.ShowingLemmas.{size_grows}
@@ -19,7 +21,7 @@ loop-first-init c =
     let t = tree_of c.in_ok-joined.joined.value in
     record {
       left = left_first x y left t c.minus-left.ensures.members c.in_ok-joined.ensures.size;
-      proves = fd_restated c.args.schema.now t x (places c.meet.result) x (minus y left) (λ k. refl)
+      proves = fd_restated c.args.schema.now t x (places c.meet.result) x (minus y left) refl
           (right_first x y left (places c.meet.result) c.minus-left.ensures.members c.meet.ensures.members) c.in_ok-joined.ensures.proves;
     }
 
@@ -50,7 +52,7 @@ loop-first-preserved c =
     record {
       left = left_next x y left rest (only a) a (tree_of c.loop-first.joined.value) g u before.left c.in-Some.ensures.place in_left (grind (arith, nat_tests)) c.without-left.ensures.members
           (size_grows g (8 * PLACES + 6) (5 * PLACES + 6) (8 * PLACES + 8) (5 * PLACES + 8) (omega arith) (omega arith) shown.size) c.in-Ok.ensures.little_more;
-      proves = fd_restated s u x (union (minus y left) alone) x (minus y rest) (λ k. refl)
-          (λ k. grind (arith, alone_is k, right_next y left rest (only a) before.left.within (λ j m. grind (arith, nat_tests, m, before.left.within a in_left)) c.without-left.ensures.members k))
-          (c.in-Ok.ensures.concludes s (minus y left) before.proves (fd_restated s g x (only a) x alone (λ k. refl) (λ k. sym (alone_is k)) shown.proves));
+      proves = fd_restated s u x (union (minus y left) alone) x (minus y rest) refl
+          (fun_ext (λ k. grind (arith, same_at alone_is k, same_at (right_next y left rest (only a) before.left.within (λ j m. grind (arith, nat_tests, m, before.left.within a in_left)) c.without-left.ensures.members) k)))
+          (c.in-Ok.ensures.concludes s (minus y left) before.proves (fd_restated s g x (only a) x alone refl (sym alone_is) shown.proves));
     }

@@ -1,7 +1,9 @@
 use Rattle.std.proofs.Common.{◌≡◌, true, refl, sym, arith}
+use mathlib.Core.Path.{fun_ext}
 use Rattle.attr_sets.specs.Places.{union, minus}
 use Rattle.attr_sets.specs.Sets.{places}
 use Rattle.derivation.specs.Derivs.{tree_of}
+use Rattle.attr_sets.proofs.PlacesLemmas.{same_at}
 use Rattle.derivation.proofs.ProvesLemmas.{mvd_restated}
 use Rattle.dep_basis.proofs.JoiningLemmas.{left_first, right_first, right_next, left_fewer, left_next}
 use Rattle.dep_basis.proofs.joining.join_mvd.Goals as goal
@@ -14,7 +16,7 @@ loop-first-init c =
     let t = tree_of c.in_ok-joined.joined.value in
     record {
       left = left_first x y left t c.minus-left.ensures.members c.in_ok-joined.ensures.size;
-      proves = mvd_restated c.args.schema.now t x (places c.meet.result) x (minus y left) (λ k. refl)
+      proves = mvd_restated c.args.schema.now t x (places c.meet.result) x (minus y left) refl
           (right_first x y left (places c.meet.result) c.minus-left.ensures.members c.meet.ensures.members) c.in_ok-joined.ensures.proves;
     }
 
@@ -41,7 +43,7 @@ loop-first-preserved c =
     record {
       left = left_next x y left rest (places next.part) a (tree_of c.loop-first.joined.value) (tree_of next.deriv.value) u before.left c.in-Some.ensures.place in_left shown.member c.minus-left-in-Some.ensures.members
           shown.size c.in-Ok.ensures.little_more;
-      proves = mvd_restated s u x (union done (places next.part)) x (minus y rest) (λ k. refl)
-          (λ k. grind (arith, done_is k, right_next y left rest (places next.part) before.left.within (shown.within y c.requires.implied (before.left.within a in_left)) c.minus-left-in-Some.ensures.members k))
-          (c.in-Ok.ensures.concludes s (mvd_restated s (tree_of c.loop-first.joined.value) x (minus y left) x done (λ k. refl) (λ k. sym (done_is k)) before.proves) shown.proves);
+      proves = mvd_restated s u x (union done (places next.part)) x (minus y rest) refl
+          (fun_ext (λ k. grind (arith, same_at done_is k, same_at (right_next y left rest (places next.part) before.left.within (shown.within y c.requires.implied (before.left.within a in_left)) c.minus-left-in-Some.ensures.members) k)))
+          (c.in-Ok.ensures.concludes s (mvd_restated s (tree_of c.loop-first.joined.value) x (minus y left) x done refl (sym done_is) before.proves) shown.proves);
     }

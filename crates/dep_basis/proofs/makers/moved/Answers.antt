@@ -7,6 +7,7 @@ use Rattle.derivation.specs.declared.deriv.Deriv.{Deriv}
 use Rattle.derivation.specs.Trees.{coalescence, pair}
 use Rattle.derivation.specs.Derivs.{tree_of}
 use Rattle.derivation.specs.Conclusions.{Proves}
+use Rattle.attr_sets.proofs.PlacesLemmas.{same_at}
 use Rattle.derivation.proofs.ProvesLemmas.{fd_restated, transitivity_proves, coalescence_proves}
 use Rattle.dep_basis.proofs.makers.moved.Goals as goal
 
@@ -22,8 +23,8 @@ returns-clause-proves c x w v apart member first second =
     let alone = places c.single.result in
     let Q : Deriv → Type 0 = λ d. Proves s (tree_of d) (fd v alone) in
     let gives_proves : Proves s (tree_of gives.value) (fd v alone) =
-    subst Q (sym c.in_ok-gives.ensures.ok) (transitivity_proves s given only_tree v t t alone (λ k. refl) second c.in_ok-only.ensures.proves) in
+    subst Q (sym c.in_ok-gives.ensures.ok) (transitivity_proves s given only_tree v t t alone refl second c.in_ok-only.ensures.proves) in
     let P : Deriv → Type 0 = λ d. Proves s (tree_of d) (fd x (only a)) in
     subst P (sym c.in_ok-new.ensures.ok)
-    (fd_restated s (pair coalescence part (tree_of gives.value)) x alone x (only a) (λ k. refl) c.single.ensures.members
-    (coalescence_proves s part (tree_of gives.value) x w v alone (λ k m. grind (arith, nat_tests, c.single.ensures.members k, m, member)) apart first gives_proves))
+    (fd_restated s (pair coalescence part (tree_of gives.value)) x alone x (only a) refl c.single.ensures.members
+    (coalescence_proves s part (tree_of gives.value) x w v alone (λ k m. grind (arith, nat_tests, same_at c.single.ensures.members k, m, member)) apart first gives_proves))

@@ -1,4 +1,5 @@
 use Rattle.std.proofs.Common.{subst, sym, refl, arith}
+use mathlib.Core.Path.{fun_ext}
 use Rattle.attr_sets.specs.Places.{union, minus}
 use Rattle.attr_sets.specs.Sets.{places}
 use Rattle.dep_model.specs.Dependencies.{mvd}
@@ -18,5 +19,5 @@ returns-clause-proves c =
     let P : Deriv → Type 0 = λ d. Proves s (tree_of d) (mvd x (minus (universe_of s) x)) in
     subst P (sym c.in_ok-new.ensures.ok)
     (mvd_restated s (step complementation from) x (minus (universe_of s) (union x x)) x (minus (universe_of s) x)
-    (λ k. refl) (λ k. grind arith)
+    refl (fun_ext (λ k. grind arith))
     (complementation_proves s from x x c.in_ok-from.ensures.proves))

@@ -1,18 +1,37 @@
 use Rattle.std.proofs.Common.{refl, sym, ◌∙◌, ⊎_elim, arith}
+use mathlib.Core.Path.{fun_ext}
 use Rattle.std.proofs.lemmas.Bool.{false≢true}
 use Rattle.attr_sets.specs.Places.{Within}
 use Rattle.attr_sets.specs.Sets.{places}
 use Rattle.attr_sets.specs.declared.set.TheConstants.{PLACES}
-use Rattle.attr_sets.proofs.PlacesLemmas.{places_below, tell_empty, tell_within, Same-within, count_below-lt}
+use Rattle.attr_sets.proofs.PlacesLemmas.{places_below, tell_empty, tell_within, same_from_within, count_below-lt, same_at}
 use Rattle.dep_basis.proofs.PieceLemmas.{first_refined}
-use Rattle.dep_basis.proofs.PartLemmas.{two_beyond, parted_two, whole_one}
+use Rattle.dep_basis.proofs.PartLemmas.{two_beyond, parted_two, whole_one, none_beyond, one_beyond}
 use Rattle.dep_basis.proofs.parts.has_two_parts_by.Goals as goal
+
+pub returns-in_default : goal.returns-in_default
+returns-in_default c = record {
+  parts = (
+    (λ no. absurd (false≢true no)),
+    (λ two. absurd (none_beyond c.args.width c.args.deps.now (places c.args.scheme) (places c.args.lhs) (places c.minus-beyond.result) c.requires.scheme c.requires.lhs c.minus-beyond.ensures.members
+        (c.in_default.ensures.none.0 refl) two)),
+  );
+}
+
+pub returns-then-is_empty : goal.returns-then-is_empty
+returns-then-is_empty c = record {
+  parts = (
+    (λ no. absurd (false≢true no)),
+    (λ two. absurd (one_beyond c.args.width c.args.deps.now (places c.args.scheme) (places c.args.lhs) (places c.minus-beyond.result) c.requires.scheme c.requires.lhs c.minus-beyond.ensures.members
+        c.in-Some.first (places c.without.result) c.without.ensures.members (c.is_empty.ensures.empty.0 c.if-is_empty.true) two)),
+  );
+}
 
 pub loop-rest-init : goal.loop-rest-init
 loop-rest-init c = record {
   can = first_refined c.args.width c.args.deps.now (places c.args.lhs) (places c.minus-piece.result) c.requires.deps (λ k m. c.requires.scheme k (c.requires.lhs k m))
-      (λ k. grind (arith, c.minus-piece.ensures.members k, c.full.ensures.members k));
-  beyond = λ k m. grind (arith, c.minus-piece.ensures.members k, c.full.ensures.members k, c.minus-beyond.ensures.members k, c.requires.scheme k, m);
+      (fun_ext (λ k. grind (arith, same_at c.minus-piece.ensures.members k, same_at c.full.ensures.members k)));
+  beyond = λ k m. grind (arith, same_at c.minus-piece.ensures.members k, same_at c.full.ensures.members k, same_at c.minus-beyond.ensures.members k, c.requires.scheme k, m);
 }
 
 pub narrowed_by_all-requires : goal.narrowed_by_all-requires
@@ -38,7 +57,7 @@ pub returns-then-eq : goal.returns-then-eq
 returns-then-eq c =
     let piece = places c.loop-rest.piece in
     let rest = places c.in-Some-narrowed_by_all.rest in
-    let back : Within piece rest = λ k m. grind (arith, c.if-eq.ensures.same.0 refl k, m) in
+    let back : Within piece rest = λ k m. grind (arith, same_at (c.if-eq.ensures.same.0 refl) k, m) in
     record {
       parts = (
         (λ no. absurd (false≢true no)),
@@ -54,7 +73,7 @@ loop-rest-smaller c =
     let inside = c.in-Some-narrowed_by_all.ensures.smaller in
     ⊎_elim
     (λ gone. count_below-lt PLACES rest piece gone.0 inside gone.1 gone.3 gone.2)
-    (λ same. absurd (false≢true (sym c.if-eq.false ∙ c.eq.ensures.same.1 (Same-within rest piece inside same))))
+    (λ same. absurd (false≢true (sym c.if-eq.false ∙ c.eq.ensures.same.1 (same_from_within rest piece inside same))))
     (tell_within PLACES piece rest (places_below c.loop-rest.piece))
 
 pub loop-rest-preserved : goal.loop-rest-preserved

@@ -1,6 +1,6 @@
 use Rattle.std.proofs.Common.{◌≡◌, true, sym, ap, subst, ◌∙◌, ⊎_elim}
 use Rattle.std.proofs.lemmas.Bool.{true≢false}
-use Rattle.attr_sets.specs.Places.{Places, meet, minus, Same, Apart, Meets}
+use Rattle.attr_sets.specs.Places.{Places, meet, minus, Apart, Meets}
 use Rattle.attr_sets.specs.Sets.{places}
 use Rattle.attr_sets.specs.declared.set.TheConstants.{PLACES}
 use Rattle.attr_sets.proofs.PlacesLemmas.{places_below, tell_within}
@@ -28,7 +28,7 @@ returns-then-not-meets-clause-refined c n ds x d_in given can =
     let d = dependency_of c.args.dep in
     let piece = places c.args.piece in
     let at = (goal.at.returns-then-not-meets-clause-refined c).After-meets-2 in
-    let is : Same (places c.minus.result) (minus piece (right_of d)) = subst (λ (t : Places). Same (places c.minus.result) (minus piece t)) c.sides.ensures.right c.minus.ensures.members in
+    let is : places c.minus.result ≡ minus piece (right_of d) = subst (λ (t : Places). places c.minus.result ≡ minus piece t) c.sides.ensures.right c.minus.ensures.members in
     outside_refined n ds x piece (left_of d) (right_of d) can d_in.0 (sides_apart at) (as_mvd n (dependencies_of ds) d given) (places c.minus.result) is
 
 pub returns-in-Fd-clause-none : goal.returns-in-Fd-clause-none
@@ -44,7 +44,7 @@ returns-then-within-clause-refined c n ds x d_in given can =
     let d = dependency_of c.args.dep in
     let piece = places c.args.piece in
     let at = (goal.at.returns-then-within-clause-refined c).After-meets-2 in
-    let is : Same (places c.meet.result) (meet piece (right_of d)) = subst (λ (t : Places). Same (places c.meet.result) (meet piece t)) c.sides.ensures.right c.meet.ensures.members in
+    let is : places c.meet.result ≡ meet piece (right_of d) = subst (λ (t : Places). places c.meet.result ≡ meet piece t) c.sides.ensures.right c.meet.ensures.members in
     inside_refined n ds x piece (left_of d) (right_of d) can d_in.0 (sides_apart at) (as_mvd n (dependencies_of ds) d given) (places c.meet.result) is
 
 pub returns-else-within-clause-none : goal.returns-else-within-clause-none

@@ -1,8 +1,9 @@
-use Rattle.std.proofs.Common.{refl, arith}
-use Rattle.attr_sets.specs.Places.{below, minus, Same}
+use Rattle.std.proofs.Common.{◌≡◌, refl, arith}
+use mathlib.Core.Path.{fun_ext}
+use Rattle.attr_sets.specs.Places.{below, minus}
 use Rattle.attr_sets.specs.Sets.{places}
 use Rattle.attr_sets.specs.declared.set.TheConstants.{PLACES}
-use Rattle.attr_sets.proofs.PlacesLemmas.{count_below-le}
+use Rattle.attr_sets.proofs.PlacesLemmas.{count_below-le, same_at}
 use Rattle.dep_model.specs.Deps.{dependencies_of}
 use Rattle.dep_basis.proofs.BasisLemmas.{closure_between}
 use Rattle.dep_basis.proofs.PieceLemmas.{first_refined, all_refined}
@@ -19,7 +20,7 @@ returns c =
     let more = places c.closure.result in
     let w = places c.minus-outside.result in
     let between = closure_between n (dependencies_of deps) x more c.requires.lhs (c.closure.ensures.closure n c.requires.deps c.requires.lhs) in
-    let is : Same w (minus (below n) more) = λ k. grind (arith, c.minus-outside.ensures.members k, c.full.ensures.members k) in
+    let is : w ≡ minus (below n) more = fun_ext (λ k. grind (arith, same_at c.minus-outside.ensures.members k, same_at c.full.ensures.members k)) in
     record {
       pieces = all_refined n deps x more w c.refine.new.found _ between.0 between.2 is (first_refined n deps more w c.requires.deps between.1 is) refl
           (omega (arith, c.refine.ensures.refined.room, count_below-le PLACES w)) c.refine.ensures.refined;

@@ -1,9 +1,10 @@
 use Rattle.std.proofs.Common.{◌≡◌, ℕ, ◌+◌, ◌<◌, ◌↔◌, true, false, List, length, get_or, sym, ap, subst, ◌∙◌, inl, inr, arith}
 use Rattle.std.proofs.lemmas.Bool.{cases_eq}
 use Rattle.std.proofs.lemmas.List.{get_or_default}
-use Rattle.attr_sets.specs.Places.{Places, minus, Same}
+use Rattle.attr_sets.specs.Places.{Places, minus}
 use Rattle.attr_sets.specs.declared.set.AttrSet.{AttrSet}
 use Rattle.attr_sets.specs.Sets.{places}
+use Rattle.attr_sets.proofs.PlacesLemmas.{same_at}
 use Rattle.dep_basis.proofs.pieces.outside_all.Goals as goal
 
 abbrev zero : AttrSet
@@ -12,20 +13,20 @@ zero = record { 0 = 0 }
 abbrev NoneBefore : List AttrSet → ℕ → ℕ → Type 0
 NoneBefore pieces a i = (j : ℕ) (d : AttrSet) → j < i → places (get_or pieces j d) a ≡ false
 
-one_more : (pieces : List AttrSet) (universe left rest : Places) (i : ℕ) → i < length pieces → Same rest (minus left (places (get_or pieces i zero)))
+one_more : (pieces : List AttrSet) (universe left rest : Places) (i : ℕ) → i < length pieces → rest ≡ minus left (places (get_or pieces i zero))
     → ((a : ℕ) → (left a ≡ true) ↔ (universe a ≡ true) × NoneBefore pieces a i) → (a : ℕ) → (rest a ≡ true) ↔ (universe a ≡ true) × NoneBefore pieces a (i + 1)
 one_more pieces universe left rest i short is before a = (
   (λ m.
-      let h = (before a).0 (grind (arith, is a, m)) in (
+      let h = (before a).0 (grind (arith, same_at is a, m)) in (
         h.0,
         (λ j d lt. elim (cases_eq j i) [
           | inl same ↦
               let at_i : get_or pieces j d ≡ get_or pieces i zero = ap (λ (k : ℕ). get_or pieces k d) same ∙ get_or_default pieces i d zero short in
-              subst (λ (p : AttrSet). places p a ≡ false) (sym at_i) (grind (arith, is a, m))
+              subst (λ (p : AttrSet). places p a ≡ false) (sym at_i) (grind (arith, same_at is a, m))
           | inr differ ↦ h.1 j d (omega arith)
         ]),
       )),
-  (λ h. grind (arith, is a, (before a).1 (h.0, (λ j d lt. h.1 j d (omega arith))), h.1 i zero (omega arith))),
+  (λ h. grind (arith, same_at is a, (before a).1 (h.0, (λ j d lt. h.1 j d (omega arith))), h.1 i zero (omega arith))),
 )
 
 pub loop-piece-init : goal.loop-piece-init

@@ -3,6 +3,7 @@ use Rattle.std.proofs.lemmas.Bool.{true≢false, cases_eq}
 use Rattle.std.proofs.lemmas.List.{get_or_default}
 use Rattle.attr_sets.specs.declared.set.AttrSet.{AttrSet}
 use Rattle.attr_sets.specs.Sets.{places}
+use Rattle.attr_sets.proofs.PlacesLemmas.{same_at}
 use Rattle.dep_basis.proofs.pieces.piece_with.Goals as goal
 
 abbrev zero : AttrSet
@@ -36,6 +37,6 @@ returns-then-has c =
 pub returns : goal.returns
 returns c = record {
   none = λ _ j d l. c.loop-piece.invariant j d (omega arith);
-  some = λ filled. absurd (filled c.empty.ensures.members);
-  member = λ filled. absurd (filled c.empty.ensures.members);
+  some = λ filled. absurd (filled (same_at c.empty.ensures.members));
+  member = λ filled. absurd (filled (same_at c.empty.ensures.members));
 }

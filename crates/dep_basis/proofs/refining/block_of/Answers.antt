@@ -1,10 +1,11 @@
 use Rattle.std.proofs.Common.{◌≡◌, true, refl, sym, ◌∙◌, ⊎_elim, inl, inr, arith}
+use mathlib.Core.Path.{fun_ext}
 use Rattle.std.proofs.lemmas.Bool.{false≢true, true≢false, cases_Bool}
 use Rattle.std.proofs.lemmas.Bool.Decides.{nat_tests}
 use Rattle.attr_sets.specs.Places.{only, Within}
 use Rattle.attr_sets.specs.Sets.{places}
 use Rattle.attr_sets.specs.declared.set.TheConstants.{PLACES}
-use Rattle.attr_sets.proofs.PlacesLemmas.{places_below, tell_within, Same-within, count_below-lt}
+use Rattle.attr_sets.proofs.PlacesLemmas.{places_below, tell_within, same_from_within, count_below-lt, same_at}
 use Rattle.dep_model.specs.Deps.{dependencies_of}
 use Rattle.dep_model.specs.Keys.{IsBlock}
 use Rattle.dep_model.proofs.RuleLemmas.{reflexivity_obeyed}
@@ -15,14 +16,14 @@ use Rattle.dep_basis.proofs.refining.block_of.Goals as goal
 
 pub returns-then-has : goal.returns-then-has
 returns-then-has c = record {
-  closed = ((λ _ r legal. reflexivity_obeyed (places c.args.lhs) (only c.args.attribute) r (λ k m. grind (arith, nat_tests, m, c.has.ensures.member, c.if-has.true))), (λ _. c.empty.ensures.members));
-  block = λ some. absurd (some c.empty.ensures.members);
-  member = λ some. absurd (some c.empty.ensures.members);
+  closed = ((λ _ r legal. reflexivity_obeyed (places c.args.lhs) (only c.args.attribute) r (λ k m. grind (arith, nat_tests, m, c.has.ensures.member, c.if-has.true))), (λ _. same_at c.empty.ensures.members));
+  block = λ some. absurd (some (same_at c.empty.ensures.members));
+  member = λ some. absurd (some (same_at c.empty.ensures.members));
 }
 
 pub loop-rest-init : goal.loop-rest-init
 loop-rest-init c = candidate_first c.args.width (dependencies_of c.args.deps.now) (places c.args.lhs) (places c.minus-part.result) c.args.attribute c.requires.attribute
-    (sym c.has.ensures.member ∙ c.if-has.false) (λ k. grind (arith, c.minus-part.ensures.members k, c.full.ensures.members k))
+    (sym c.has.ensures.member ∙ c.if-has.false) (fun_ext (λ k. grind (arith, same_at c.minus-part.ensures.members k, same_at c.full.ensures.members k)))
 
 pub loop-rest-preserved : goal.loop-rest-preserved
 loop-rest-preserved c = c.cut_by_all-rest.ensures.candidate c.args.width (places c.args.lhs) c.requires.deps c.requires.lhs c.loop-rest.invariant
@@ -33,7 +34,7 @@ loop-rest-smaller c =
     let rest = c.cut_by_all-rest in
     ⊎_elim
     (λ gone. count_below-lt PLACES (places rest.result) part gone.0 rest.ensures.smaller gone.1 gone.3 gone.2)
-    (λ same. absurd (false≢true (c.if-eq.ensures.same.1 (Same-within (places rest.result) part rest.ensures.smaller same))))
+    (λ same. absurd (false≢true (c.if-eq.ensures.same.1 (same_from_within (places rest.result) part rest.ensures.smaller same))))
     (tell_within PLACES part (places rest.result) (places_below c.loop-rest.part))
 
 pub returns-then-eq : goal.returns-then-eq
@@ -44,7 +45,7 @@ returns-then-eq c =
     let part = places c.loop-rest.part in
     let a = c.args.attribute in
     let candidate : IsCandidate n ds x a part = c.loop-rest.invariant in
-    let back : Within part (places c.cut_by_all-rest.result) = λ k m. grind (arith, c.if-eq.ensures.same.0 refl k, m) in
+    let back : Within part (places c.cut_by_all-rest.result) = λ k m. grind (arith, same_at (c.if-eq.ensures.same.0 refl) k, m) in
     let legal = whole_legal n c.args.deps.now part c.requires.deps (c.cut_by_all-rest.ensures.whole back) in
     let block : part a ≡ true → IsBlock n ds x part = λ member. candidate_block n ds x part a c.requires.lhs legal candidate member in
     elim (cases_Bool (part a)) [

@@ -1,5 +1,5 @@
-use Rattle.std.proofs.Common.{refl, subst}
-use Rattle.attr_sets.specs.Places.{Places, minus, Same}
+use Rattle.std.proofs.Common.{◌≡◌, refl, subst}
+use Rattle.attr_sets.specs.Places.{Places, minus}
 use Rattle.attr_sets.specs.Sets.{places}
 use Rattle.dep_model.specs.Dependencies.{left_of, right_of}
 use Rattle.dep_model.specs.Deps.{dependency_of}
@@ -11,8 +11,8 @@ pub returns-in-Ok : goal.returns-in-Ok
 returns-in-Ok c =
     let from = c.args.from in
     let d = dependency_of c.args.dep in
-    let is : Same (places c.minus.result) (minus (places from.part) (right_of d)) =
-    subst (λ (t : Places). Same (places c.minus.result) (minus (places from.part) t)) c.sides.ensures.right c.minus.ensures.members in
+    let is : places c.minus.result ≡ minus (places from.part) (right_of d) =
+    subst (λ (t : Places). places c.minus.result ≡ minus (places from.part) t) c.sides.ensures.right c.minus.ensures.members in
     record {
       shown = next_part_outside c.args.schema.now c.args.attribute c.args.k c.args.dep from (record { lhs = from.lhs; part = c.minus.result; deriv = c.in-Ok.deriv })
           (tree_of c.in_ok-given.given.value) c.requires.cut refl c.in_ok-given.ensures.size c.in-Ok.ensures.little_more c.requires.without is

@@ -1,7 +1,8 @@
 use Rattle.std.proofs.Common.{◌≡◌, ◌≤◌, ℕ, Some, List, get_or, refl, sym, ap, subst, ◌∙◌, arith}
+use mathlib.Core.Path.{fun_ext}
 use Rattle.std.proofs.lemmas.Option.{slice_get-get_or}
 use Rattle.std.specs.Prelude.{slice_get, All}
-use Rattle.attr_sets.specs.Places.{below, minus, Within, Same}
+use Rattle.attr_sets.specs.Places.{below, minus, Within}
 use Rattle.attr_sets.specs.declared.set.AttrSet.{AttrSet}
 use Rattle.attr_sets.specs.Sets.{places}
 use Rattle.dep_model.specs.declared.dep.Dep.{Dep}
@@ -11,6 +12,7 @@ use Rattle.dep_model.specs.Schemas.{width_of, universe_of, deps_of}
 use Rattle.derivation.specs.Derivs.{tree_of}
 use Rattle.dep_basis.specs.Refining.{LeavesWhole}
 use Rattle.dep_basis.specs.Shown.{IsPartProof}
+use Rattle.attr_sets.proofs.PlacesLemmas.{same_at}
 use Rattle.dep_basis.proofs.ShowingLemmas.{part_first, part_last}
 use Rattle.dep_basis.proofs.showing.show_attribute.Goals as goal
 
@@ -18,9 +20,9 @@ pub loop-k-init : goal.loop-k-init
 loop-k-init c =
     let s = c.args.schema.now in
     let x = places c.args.lhs in
-    let is : Same (places c.minus.result) (minus (universe_of s) x) = λ k.
-    let whole : places c.full.result k ≡ below (width_of s) k = c.full.ensures.members k ∙ ap (λ (m : ℕ). below m k) c.width.ensures.count in
-    grind (arith, c.minus.ensures.members k, whole) in
+    let is : places c.minus.result ≡ minus (universe_of s) x = fun_ext (λ k.
+    let whole : places c.full.result k ≡ below (width_of s) k = same_at c.full.ensures.members k ∙ ap (λ (m : ℕ). below m k) c.width.ensures.count in
+    grind (arith, same_at c.minus.ensures.members k, whole)) in
     record {
       same_lhs = refl;
       shown = part_first s x c.args.attribute (places c.minus.result) (tree_of c.in_ok-outside.field-0.value) c.requires.attribute c.requires.outside is c.in_ok-outside.ensures.proves c.in_ok-outside.ensures.size;

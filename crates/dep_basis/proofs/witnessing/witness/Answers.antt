@@ -4,6 +4,7 @@ use Rattle.attr_sets.specs.Sets.{places}
 use Rattle.dep_model.specs.Tuples.{Tuple, Relation}
 use Rattle.dep_model.specs.TwoTuples.{all_zeros, zeros_on, two_tuples}
 use Rattle.dep_model.specs.Schemas.{width_of, TypedFor}
+use Rattle.attr_sets.proofs.PlacesLemmas.{same_at}
 use Rattle.dep_model.proofs.TwoTupleLemmas.{two_tuples-is}
 use Rattle.dep_basis.proofs.WitnessLemmas.{zeros_on-all, two_tuples-typed}
 use Rattle.dep_basis.proofs.witnessing.witness.Goals as goal
@@ -17,7 +18,7 @@ returns c =
     let second_is : second ≡ zeros_on c.width-width.result (places c.args.agreement) = c.in_ok-second.ensures.row in
     let whole : first ≡ all_zeros n =
     first_is
-    ∙ zeros_on-all c.width-width.result (places c.full.result) (λ (k : ℕ) l. c.full.ensures.members k ∙ lt-ltb k c.width-width.result l)
+    ∙ zeros_on-all c.width-width.result (places c.full.result) (λ (k : ℕ) l. same_at c.full.ensures.members k ∙ lt-ltb k c.width-width.result l)
     ∙ ap all_zeros c.width-width.ensures.count in
     let rest : second ≡ zeros_on n (places c.args.agreement) = second_is ∙ ap (λ (m : ℕ). zeros_on m (places c.args.agreement)) c.width-width.ensures.count in
     let rows : ◌≡◌ {A = Relation} (first ∷ second ∷ []) (two_tuples n (places c.args.agreement)) =

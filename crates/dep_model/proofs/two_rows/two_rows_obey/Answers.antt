@@ -3,6 +3,7 @@ use Rattle.std.proofs.lemmas.Bool.{false≢true}
 use Rattle.attr_sets.specs.Places.{below, minus, union, Within}
 use Rattle.attr_sets.specs.Sets.{places}
 use Rattle.dep_model.specs.Dependencies.{IsWithin, mvd}
+use Rattle.attr_sets.proofs.PlacesLemmas.{same_at}
 use Rattle.dep_model.proofs.TwoRowLemmas.{mvd_two-to, mvd_two-from}
 use Rattle.dep_model.proofs.two_rows.two_rows_obey.Goals as goal
 
@@ -14,9 +15,9 @@ returns-else-within c =
     let y = places c.in-Mvd.rhs in
     let inside : IsWithin (below n) (mvd x y) = rw c.in-Mvd.is at c.requires.dep in
     let rest_from : Within (places c.minus.result) a → Within (minus (below n) (union x y)) a =
-    λ h k m. h k (grind (arith, m, c.minus.ensures.members k, c.union.ensures.members k, c.full.ensures.members k)) in
+    λ h k m. h k (grind (arith, m, same_at c.minus.ensures.members k, same_at c.union.ensures.members k, same_at c.full.ensures.members k)) in
     let rest_to : Within (minus (below n) (union x y)) a → Within (places c.minus.result) a =
-    λ h k m. h k (grind (arith, m, c.minus.ensures.members k, c.union.ensures.members k, c.full.ensures.members k)) in
+    λ h k m. h k (grind (arith, m, same_at c.minus.ensures.members k, same_at c.union.ensures.members k, same_at c.full.ensures.members k)) in
     let x_a : Within x a = c.if-not-within-2.ensures.within.0 refl in
     let y_not : Within y a → ⊥ = λ h. false≢true (c.if-within.ensures.within.1 h) in
     record {

@@ -14,4 +14,4 @@ returns-clause-concludes c s y first second =
     let z = places c.args.rhs in
     let first_in = conclusion_within s t (fd x y) (tree_of-attributes c.args.first.value) first in
     let second_in = conclusion_within s u (fd x z) (tree_of-attributes c.args.second.value) second in
-    united_fd_proves s t u x y z x z (λ k. refl) (λ k. refl) first_in.0 second_in.1 first second
+    united_fd_proves s t u x y z x z refl refl first_in.0 second_in.1 first second

@@ -1,7 +1,9 @@
 use Rattle.std.proofs.Common.{refl, arith}
+use mathlib.Core.Path.{fun_ext}
 use Rattle.attr_sets.specs.Sets.{places}
 use Rattle.dep_model.specs.Dependencies.{mvd}
 use Rattle.derivation.specs.Derivs.{tree_of}
+use Rattle.attr_sets.proofs.PlacesLemmas.{same_at}
 use Rattle.derivation.proofs.WithinLemmas.{tree_of-attributes, conclusion_within}
 use Rattle.derivation.proofs.BuilderLemmas.{united_mvd_proves}
 use Rattle.derivation.proofs.builders.unite_mvd.Goals as goal
@@ -15,5 +17,5 @@ returns-clause-concludes c s first second =
     let z = places c.args.right in
     let first_in = conclusion_within s t (mvd x y) (tree_of-attributes c.args.first.value) first in
     let second_in = conclusion_within s u (mvd x z) (tree_of-attributes c.args.second.value) second in
-    united_mvd_proves s t u x y z x y (places c.empty.result) (places c.meet.result) (λ k. refl) (λ k. refl) c.empty.ensures.members
-    (λ k. grind (arith, c.meet.ensures.members k, c.union.ensures.members k)) first_in second_in first second
+    united_mvd_proves s t u x y z x y (places c.empty.result) (places c.meet.result) refl refl c.empty.ensures.members
+    (fun_ext (λ k. grind (arith, same_at c.meet.ensures.members k, same_at c.union.ensures.members k))) first_in second_in first second

@@ -1,19 +1,21 @@
-use Rattle.std.proofs.Common.{◌≡◌, ◌+◌, ap, arith}
-use Rattle.derivation.specs.Trees.{nodes}
-use Rattle.derivation.specs.Derivs.{tree_of}
+use Rattle.std.proofs.Common.{arith}
+use Rattle.derivation.proofs.DerivLemmas.{same_nodes, step_nodes, pair_nodes}
 use Rattle.derivation.proofs.concluding.+conclude_after.Goals as goal
 
 pub conclude_after-requires : goal.conclude_after-requires
 conclude_after-requires t c =
-    let all : nodes (tree_of c.args.deriv.now) ≡ nodes (tree_of c.in-Step.premise.now) + 1 = ap nodes c.in-Step.ensures.root in
-    (omega arith, omega arith)
+    let all = step_nodes c.in-Step.is in
+    let premise = same_nodes c.deref.ensures in
+    (omega (arith, all, premise), omega (arith, all, premise, c.requires.room))
 
 pub conclude_after-requires-in-Pair : goal.conclude_after-requires-in-Pair
 conclude_after-requires-in-Pair t c =
-    let all : nodes (tree_of c.args.deriv.now) ≡ nodes (tree_of c.in-Pair.first.now) + nodes (tree_of c.in-Pair.second.now) + 1 = ap nodes c.in-Pair.ensures.root in
-    (omega arith, omega arith)
+    let all = pair_nodes c.in-Pair.is in
+    let premise = same_nodes c.deref-in-Pair.ensures in
+    (omega (arith, all, premise), omega (arith, all, premise, c.requires.room))
 
 pub conclude_after-requires-in-Pair-2 : goal.conclude_after-requires-in-Pair-2
 conclude_after-requires-in-Pair-2 t c =
-    let all : nodes (tree_of c.args.deriv.now) ≡ nodes (tree_of c.in-Pair.first.now) + nodes (tree_of c.in-Pair.second.now) + 1 = ap nodes c.in-Pair.ensures.root in
-    (omega arith, omega (arith, c.in_ok-left-in-Pair.ensures.passed))
+    let all = pair_nodes c.in-Pair.is in
+    let premise = same_nodes c.deref-in-Pair-2.ensures in
+    (omega (arith, all, premise), omega (arith, all, premise, same_nodes c.deref-in-Pair.ensures, c.requires.room, c.in_ok-left-in-Pair.ensures.passed))

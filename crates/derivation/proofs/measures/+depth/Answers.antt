@@ -1,30 +1,33 @@
-use Rattle.std.proofs.Common.{◌≡◌, ◌+◌, ap, arith}
-use Rattle.derivation.specs.Trees.{nodes}
+use Rattle.std.proofs.Common.{arith}
 use Rattle.derivation.specs.Derivs.{tree_of}
 use Rattle.derivation.proofs.TreeLemmas.{depth-le-nodes}
+use Rattle.derivation.proofs.DerivLemmas.{same_nodes, step_nodes, pair_nodes}
 use Rattle.derivation.proofs.measures.+depth.Goals as goal
 
 pub depth-requires : goal.depth-requires
 depth-requires t c =
-    let all : nodes (tree_of c.args.deriv.now) ≡ nodes (tree_of c.in-Step.premise.now) + 1 = ap nodes c.in-Step.ensures.root in
-    (omega arith, omega arith)
+    let all = step_nodes c.in-Step.is in
+    let premise = same_nodes c.deref.ensures in
+    (omega (arith, all, premise), omega (arith, all, premise, c.requires.few))
 
 pub overflow_add-result : goal.overflow_add-result
 overflow_add-result t c =
-    let all : nodes (tree_of c.args.deriv.now) ≡ nodes (tree_of c.in-Step.premise.now) + 1 = ap nodes c.in-Step.ensures.root in
-    omega (arith, depth-le-nodes (tree_of c.in-Step.premise.now))
+    omega (arith, step_nodes c.in-Step.is, same_nodes c.deref.ensures, depth-le-nodes (tree_of c.deref.result.now), c.requires.few)
 
 pub depth-requires-in-Pair : goal.depth-requires-in-Pair
 depth-requires-in-Pair t c =
-    let all : nodes (tree_of c.args.deriv.now) ≡ nodes (tree_of c.in-Pair.first.now) + nodes (tree_of c.in-Pair.second.now) + 1 = ap nodes c.in-Pair.ensures.root in
-    (omega arith, omega arith)
+    let all = pair_nodes c.in-Pair.is in
+    let premise = same_nodes c.deref-in-Pair.ensures in
+    (omega (arith, all, premise), omega (arith, all, premise, c.requires.few))
 
 pub depth-requires-in-Pair-2 : goal.depth-requires-in-Pair-2
 depth-requires-in-Pair-2 t c =
-    let all : nodes (tree_of c.args.deriv.now) ≡ nodes (tree_of c.in-Pair.first.now) + nodes (tree_of c.in-Pair.second.now) + 1 = ap nodes c.in-Pair.ensures.root in
-    (omega arith, omega arith)
+    let all = pair_nodes c.in-Pair.is in
+    let premise = same_nodes c.deref-in-Pair-2.ensures in
+    (omega (arith, all, premise), omega (arith, all, premise, c.requires.few))
 
 pub overflow_add-result-in-Pair : goal.overflow_add-result-in-Pair
 overflow_add-result-in-Pair t c =
-    let all : nodes (tree_of c.args.deriv.now) ≡ nodes (tree_of c.in-Pair.first.now) + nodes (tree_of c.in-Pair.second.now) + 1 = ap nodes c.in-Pair.ensures.root in
-    omega (arith, depth-le-nodes (tree_of c.in-Pair.first.now), depth-le-nodes (tree_of c.in-Pair.second.now))
+    let first = c.deref-in-Pair in
+    let second = c.deref-in-Pair-2 in
+    omega (arith, pair_nodes c.in-Pair.is, same_nodes first.ensures, same_nodes second.ensures, depth-le-nodes (tree_of first.result.now), depth-le-nodes (tree_of second.result.now), c.requires.few)

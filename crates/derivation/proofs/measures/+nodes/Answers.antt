@@ -1,19 +1,21 @@
-use Rattle.std.proofs.Common.{◌≡◌, ◌+◌, ap, arith}
-use Rattle.derivation.specs.Trees.{nodes}
-use Rattle.derivation.specs.Derivs.{tree_of}
+use Rattle.std.proofs.Common.{arith}
+use Rattle.derivation.proofs.DerivLemmas.{same_nodes, step_nodes, pair_nodes}
 use Rattle.derivation.proofs.measures.+nodes.Goals as goal
 
 pub nodes-requires : goal.nodes-requires
 nodes-requires t c =
-    let all : nodes (tree_of c.args.deriv.now) ≡ nodes (tree_of c.in-Step.premise.now) + 1 = ap nodes c.in-Step.ensures.root in
-    (omega arith, omega arith)
+    let all = step_nodes c.in-Step.is in
+    let premise = same_nodes c.deref.ensures in
+    (omega (arith, all, premise), omega (arith, all, premise, c.requires.few))
 
 pub nodes-requires-in-Pair : goal.nodes-requires-in-Pair
 nodes-requires-in-Pair t c =
-    let all : nodes (tree_of c.args.deriv.now) ≡ nodes (tree_of c.in-Pair.first.now) + nodes (tree_of c.in-Pair.second.now) + 1 = ap nodes c.in-Pair.ensures.root in
-    (omega arith, omega arith)
+    let all = pair_nodes c.in-Pair.is in
+    let premise = same_nodes c.deref-in-Pair.ensures in
+    (omega (arith, all, premise), omega (arith, all, premise, c.requires.few))
 
 pub nodes-requires-in-Pair-2 : goal.nodes-requires-in-Pair-2
 nodes-requires-in-Pair-2 t c =
-    let all : nodes (tree_of c.args.deriv.now) ≡ nodes (tree_of c.in-Pair.first.now) + nodes (tree_of c.in-Pair.second.now) + 1 = ap nodes c.in-Pair.ensures.root in
-    (omega arith, omega arith)
+    let all = pair_nodes c.in-Pair.is in
+    let premise = same_nodes c.deref-in-Pair-2.ensures in
+    (omega (arith, all, premise), omega (arith, all, premise, c.requires.few))

@@ -14,10 +14,10 @@ use Rattle.derivation.proofs.shortening.+seek.Goals as goal
 use Rattle.derivation.proofs.shortening.+seek.Goals.{In-Step, In-Pair}
 
 step_whole : (t : _) (c : In-Step t) → tree_of c.args.deriv.value ≡ step (step_of c.in-Step.rule) (tree_of c.in-Step.premise.value)
-step_whole t c = ap tree_of (sym (c.replace.ensures.value ∙ c.deref_mut.ensures.value)) ∙ c.in-Step.ensures.root
+step_whole t c = ap tree_of (sym (c.replace.ensures.value ∙ c.deref_mut.ensures.value) ∙ c.in-Step.is)
 
 pair_whole : (t : _) (c : In-Pair t) → tree_of c.args.deriv.value ≡ pair (pair_of c.in-Pair.rule) (tree_of c.in-Pair.first.value) (tree_of c.in-Pair.second.value)
-pair_whole t c = ap tree_of (sym (c.replace.ensures.value ∙ c.deref_mut.ensures.value)) ∙ c.in-Pair.ensures.root
+pair_whole t c = ap tree_of (sym (c.replace.ensures.value ∙ c.deref_mut.ensures.value) ∙ c.in-Pair.is)
 
 -- what is found in a tree is no larger
 few_found : (s : Schema) (t : Tree) (d : Dependency) (r : Sought) → nodes t < 2 ^ 32 → IsSought s t d r → HasFew r
@@ -49,7 +49,7 @@ seek_pair-requires-clause-few_right t c =
 
 pub returns-in-Leaf : goal.returns-in-Leaf
 returns-in-Leaf t c =
-    let whole = ap tree_of (sym (c.replace.ensures.value ∙ c.deref_mut.ensures.value)) ∙ c.in-Leaf.ensures.root in
+    let whole = ap tree_of (sym (c.replace.ensures.value ∙ c.deref_mut.ensures.value) ∙ c.in-Leaf.is) in
     record {
       sought = rw whole (c.told.ensures.sought c.args.schema.now (leaf (leaf_of c.in-Leaf.rule)) c.conclude_leaf.ensures.concluded (λ u below proves. below));
     }

@@ -7,10 +7,10 @@ use Rattle.derivation.proofs.shortening.+shorten_all.Goals as goal
 use Rattle.derivation.proofs.shortening.+shorten_all.Goals.{In-Step, In-Pair}
 
 step_whole : (t : _) (c : In-Step t) → tree_of c.args.deriv.value ≡ step (step_of c.in-Step.rule) (tree_of c.in-Step.premise.value)
-step_whole t c = ap tree_of (sym (c.replace.ensures.value ∙ c.deref_mut.ensures.value)) ∙ c.in-Step.ensures.root
+step_whole t c = ap tree_of (sym (c.replace.ensures.value ∙ c.deref_mut.ensures.value) ∙ c.in-Step.is)
 
 pair_whole : (t : _) (c : In-Pair t) → tree_of c.args.deriv.value ≡ pair (pair_of c.in-Pair.rule) (tree_of c.in-Pair.first.value) (tree_of c.in-Pair.second.value)
-pair_whole t c = ap tree_of (sym (c.replace.ensures.value ∙ c.deref_mut.ensures.value)) ∙ c.in-Pair.ensures.root
+pair_whole t c = ap tree_of (sym (c.replace.ensures.value ∙ c.deref_mut.ensures.value) ∙ c.in-Pair.is)
 
 pub shorten_all-from-requires : goal.shorten_all-from-requires
 shorten_all-from-requires t c = let all = ap nodes (step_whole t c) in (omega (arith, all), omega (arith, all, c.requires.few))

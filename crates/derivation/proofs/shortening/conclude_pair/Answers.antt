@@ -8,7 +8,7 @@ returns c = record {
   concluded = λ s t u first second.
       let rule = pair_of c.args.rule in
       record {
-        same = c.over.ensures.tree ∙ ap (λ (v : Tree). pair rule v (tree_of c.args.second.deriv.value)) first.same ∙ ap (λ (v : Tree). pair rule t v) second.same;
+        same = ap (λ (v : Tree). pair rule v (tree_of c.args.second.deriv.value)) first.same ∙ ap (λ (v : Tree). pair rule t v) second.same;
         only = c.pair_dep-dep.ensures.only s t u first.only second.only;
       };
 }

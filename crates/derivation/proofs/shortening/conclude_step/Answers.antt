@@ -1,4 +1,4 @@
-use Rattle.std.proofs.Common.{ap, ◌∙◌}
+use Rattle.std.proofs.Common.{ap}
 use Rattle.derivation.specs.Trees.{Tree, step}
 use Rattle.derivation.specs.Derivs.{step_of}
 use Rattle.derivation.proofs.shortening.conclude_step.Goals as goal
@@ -6,7 +6,7 @@ use Rattle.derivation.proofs.shortening.conclude_step.Goals as goal
 pub returns : goal.returns
 returns c = record {
   concluded = λ t from. record {
-    same = c.over.ensures.tree ∙ ap (λ (v : Tree). step (step_of c.args.rule) v) from.same;
+    same = ap (λ (v : Tree). step (step_of c.args.rule) v) from.same;
     only = c.step_dep-dep.ensures.only t from.only;
   };
 }

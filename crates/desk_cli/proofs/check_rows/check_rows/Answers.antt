@@ -8,15 +8,15 @@ use Rattle.desk_cli.proofs.check_rows.check_rows.Goals as goal
 pub returns-in-Err-test_rows-clause-reply : goal.returns-in-Err-test_rows-clause-reply
 returns-in-Err-test_rows-clause-reply g c = λ r shows reply is.
     inr (
-      c.in-Ok.rows.items,
+      c.in-Ok.rows,
       c.in-Ok.ensures.ok r shows.same,
-      inl (subst (λ (rows : Relation). OffenceStops c.args.schema.now rows (answer_of reply)) c.deref.ensures.value (c.in-Err-test_rows.ensures.stop reply is)),
+      inl (c.in-Err-test_rows.ensures.stop reply is),
     )
 
 pub returns-clause-reply : goal.returns-clause-reply
 returns-clause-reply g c = λ r shows.
     inr (
-      c.in-Ok.rows.items,
+      c.in-Ok.rows,
       c.in-Ok.ensures.ok r shows.same,
-      inr (subst (LegalFor c.args.schema.now) c.deref.ensures.value c.in-Ok-test_rows.ensures.ok, c.in_ok-legal.ensures.says),
+      inr (c.in-Ok-test_rows.ensures.ok, c.in_ok-legal.ensures.says),
     )

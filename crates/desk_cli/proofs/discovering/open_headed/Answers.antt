@@ -1,8 +1,10 @@
-use Rattle.std.proofs.Common.{◌≢◌, ℕ, List, subst}
+use Rattle.std.proofs.Common.{ℕ, List, subst}
 use Rattle.csv_rows.specs.Records.{records_of}
 use Rattle.fd_discovery.specs.Headings.{IsHeaded, IsRefusedDiscovery}
-use Rattle.fd_discovery.specs.declared.refusal.DiscoverRefusal.TheVariants.{Memory}
-use Rattle.desk_cli.specs.Discoveries.{TellsHeaded}
+use Rattle.dep_model.proofs.FailureLemmas.{refused_is}
+use Rattle.desk_cli.specs.Answers.{Says}
+use Rattle.desk_cli.specs.Discoveries.{headed_refusal_text}
+use Rattle.desk_cli.specs.declared.status.Status.TheVariants.{Refused}
 use Rattle.desk_cli.specs.Replies.{StopsAs}
 use Rattle.desk_cli.proofs.HeadedLemmas.{headed_stop}
 use Rattle.desk_cli.proofs.discovering.open_headed.Goals as goal
@@ -14,9 +16,10 @@ returns-in-Ok-read_headed-clause-ok g c = λ r same. record {
   means = subst (λ (bytes : List ℕ). IsHeaded (records_of bytes) c.in-Ok-read_headed.headed) c.deref.ensures.value c.in-Ok-read_headed.ensures.ok;
 }
 
-pub returns-clause-stop : goal.returns-clause-stop
-returns-clause-stop g c = λ r shows.
-    let refusal = c.in-Err-read_headed.refusal in
-    let refuses = subst (λ (bytes : List ℕ). refusal ≢ Memory → IsRefusedDiscovery (records_of bytes) refusal) c.deref.ensures.value c.in-Err-read_headed.ensures.err in
-    let tells = subst (λ (name : List ℕ). StopsAs (TellsHeaded name refusal) c.headed_refused.result) c.bytes.ensures.bytes c.headed_refused.ensures.refused in
-    headed_stop r c.args.name.now c.in-Ok.bytes.items refusal c.headed_refused.result (c.in-Ok.ensures.ok r shows.same) refuses tells
+pub returns-in-Err-Refused-clause-stop : goal.returns-in-Err-Refused-clause-stop
+returns-in-Err-Refused-clause-stop g c = λ r shows.
+    let refusal = c.in-Err-Refused.refusal in
+    let refuses = refused_is _ _ _ c.in-Err-Refused.field-0-is c.in-Err-Refused.ensures.err in
+    let refused = subst (λ (bytes : List ℕ). IsRefusedDiscovery (records_of bytes) refusal) c.deref.ensures.value refuses in
+    let tells = subst (λ (name : List ℕ). StopsAs (Says Refused (headed_refusal_text name refusal)) c.headed_refused.result) c.bytes.ensures.bytes (rw c.in-Err-Refused.field-0-is at c.headed_refused.ensures.says) in
+    headed_stop r c.args.name.now c.in-Ok.bytes.items refusal c.headed_refused.result (c.in-Ok.ensures.ok r shows.same) refused tells

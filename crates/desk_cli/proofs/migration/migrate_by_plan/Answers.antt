@@ -34,7 +34,7 @@ returns-in-Err-test_loss-clause-reply g c = λ r shows reply is.
       plan_of c.in-Ok.plan,
       c.in-Ok.ensures.ok r shows.same,
       inr (
-        c.in-Ok-open_rows.rows.items,
+        c.in-Ok-open_rows.rows,
         c.in-Ok-open_rows.ensures.ok r after.same,
         inl (subst (λ (schemes : List AttrSet). LossStops c.args.schema.now (schemes_of schemes) (answer_of reply)) c.schemes.ensures.schemes (c.in-Err-test_loss.ensures.stop reply is)),
       ),
@@ -49,10 +49,10 @@ pub returns-clause-reply : goal.returns-clause-reply
 returns-clause-reply g c = λ r shows.
     let s = c.args.schema.now in
     let plan = plan_of c.in-Ok.plan in
-    let rows = c.in-Ok-open_rows.rows.items in
+    let rows = c.in-Ok-open_rows.rows in
     let after = later g.F.Shelf.files g.F.Shelf.faults g.F.Shelf.taken c.args.shelf.now c.open_plan.new.shelf c.open_rows.new.shelf r shows c.in-Ok.ensures.files c.in-Ok.ensures.later in
     let shown = subst (λ (schemes : List AttrSet). IsShownLossless s (schemes_of schemes)) c.schemes.ensures.schemes c.in-Ok-test_loss.ensures.ok in
-    let replies = subst (λ (rows : Relation). RepliesAs (MigratesRows s plan rows) c.migrate_rows.result) c.deref.ensures.value c.migrate_rows.ensures.reply in
+    let replies = c.migrate_rows.ensures.reply in
     found (PlanStops r s c.args.plan.now) (IsPlanFile r s c.args.plan.now) (λ (plan : List Places). WithRows r s c.args.file.now (λ rows. WithoutLoss s plan (MigratesRows s plan rows)))
     plan c.migrate_rows.result (c.in-Ok.ensures.ok r shows.same)
     (found (RowStops r s c.args.file.now) (IsRowsFile r s c.args.file.now) (λ (rows : Relation). WithoutLoss s plan (MigratesRows s plan rows)) rows c.migrate_rows.result

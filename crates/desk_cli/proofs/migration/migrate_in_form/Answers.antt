@@ -16,8 +16,8 @@ returns-clause-reply g c = λ r shows.
     let form = c.args.form in
     let file = c.args.file.now in
     let plan = c.in-Ok-plan_in_form.plan in
-    let rows = c.in-Ok.rows.items in
-    let replies = subst (λ (rows : Relation). RepliesAs (MigratesRows s (plan_of plan) rows) c.migrate_rows.result) c.deref.ensures.value c.migrate_rows.ensures.reply in
+    let rows = c.in-Ok.rows in
+    let replies = c.migrate_rows.ensures.reply in
     found (RowStops r s file) (IsRowsFile r s file) (λ (rows : Relation). WithPlanInForm s form (λ plan. MigratesRows s (schemes_of plan) rows)) rows c.migrate_rows.result
     (c.in-Ok.ensures.ok r shows.same)
     (found (FormStops s form) (IsPlanInForm s form) (λ (plan : List AttrSet). MigratesRows s (schemes_of plan) rows) (scheme_sets plan) c.migrate_rows.result c.in-Ok-plan_in_form.ensures.ok replies)

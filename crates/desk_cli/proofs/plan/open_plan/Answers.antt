@@ -1,10 +1,12 @@
 use Rattle.std.proofs.Common.{ℕ, List, subst}
 use Rattle.plans.specs.Plans.{plan_of}
+use Rattle.dep_model.proofs.FailureLemmas.{refused_is}
 use Rattle.dep_model.specs.Schemas.{names_of}
 use Rattle.plan_grammar.specs.Complaints.{RefusesPlan}
 use Rattle.plan_grammar.specs.Meanings.{MeansPlan}
-use Rattle.plan_grammar.specs.Refusals.{RefusesPlanAs}
-use Rattle.desk_cli.specs.Plans.{TellsPlan}
+use Rattle.desk_cli.specs.Answers.{Says}
+use Rattle.desk_cli.specs.Plans.{plan_refusal_text}
+use Rattle.desk_cli.specs.declared.status.Status.TheVariants.{Refused}
 use Rattle.desk_cli.specs.Replies.{StopsAs}
 use Rattle.desk_cli.proofs.MeaningLemmas.{plan_stop}
 use Rattle.desk_cli.proofs.plan.open_plan.Goals as goal
@@ -22,10 +24,11 @@ returns-in-Ok-read_plan-clause-few g c = c.in-Ok-read_plan.ensures.ok.few
 pub returns-in-Ok-read_plan-clause-covers : goal.returns-in-Ok-read_plan-clause-covers
 returns-in-Ok-read_plan-clause-covers g c = c.in-Ok-read_plan.ensures.ok.covers
 
-pub returns-clause-stop : goal.returns-clause-stop
-returns-clause-stop g c = λ r shows.
+pub returns-in-Err-Refused-clause-stop : goal.returns-in-Err-Refused-clause-stop
+returns-in-Err-Refused-clause-stop g c = λ r shows.
     let s = c.args.schema.now in
-    let refusal = c.in-Err-read_plan.refusal in
-    let refuses = subst (λ (bytes : List ℕ). RefusesPlanAs refusal (RefusesPlan (names_of s) bytes refusal)) c.deref.ensures.value c.in-Err-read_plan.ensures.err in
-    let tells = subst (λ (name : List ℕ). StopsAs (TellsPlan (names_of s) name refusal) c.plan_refused.result) c.bytes.ensures.bytes c.plan_refused.ensures.refused in
-    plan_stop r s c.args.name.now c.in-Ok.bytes.items refusal c.plan_refused.result (c.in-Ok.ensures.ok r shows.same) refuses tells
+    let refusal = c.in-Err-Refused.refusal in
+    let refuses = refused_is _ _ _ c.in-Err-Refused.field-0-is c.in-Err-Refused.ensures.err in
+    let refused = subst (λ (bytes : List ℕ). RefusesPlan (names_of s) bytes refusal) c.deref.ensures.value refuses in
+    let tells = subst (λ (name : List ℕ). StopsAs (Says Refused (plan_refusal_text (names_of s) name refusal)) c.plan_refused.result) c.bytes.ensures.bytes (rw c.in-Err-Refused.field-0-is at c.plan_refused.ensures.says) in
+    plan_stop r s c.args.name.now c.in-Ok.bytes.items refusal c.plan_refused.result (c.in-Ok.ensures.ok r shows.same) refused tells

@@ -1,7 +1,12 @@
-use Rattle.std.proofs.Common.{inl, subst}
-use Rattle.csv_rows.specs.RowsText.{rows_text}
-use Rattle.dep_model.specs.Schemas.{names_of}
+use Rattle.csv_text.specs.Rows.{rows_text}
+use Rattle.dep_model.proofs.FailureLemmas.{refused_is}
+use Rattle.dep_model.specs.Schemas.{names_of, width_of}
+use Rattle.std.proofs.Common.{inl, inr, subst}
 use Rattle.dep_model.specs.Tuples.{Relation}
+use Rattle.table_join.specs.declared.refusal.JoinRefusal.{JoinRefusal}
+use Rattle.table_join.specs.Answers.{RefusesJoin}
+use Rattle.table_join.specs.Tables.{tables_of}
+use Rattle.desk_cli.specs.declared.rejoining.TheConstants.{MOST_JOINED_ROWS}
 use Rattle.desk_cli.specs.Answers.{Says}
 use Rattle.desk_cli.specs.Replies.{answer_of}
 use Rattle.desk_cli.specs.declared.status.Status.TheVariants.{Yes}
@@ -10,7 +15,7 @@ use Rattle.desk_cli.proofs.rejoining.join_parts.Goals as goal
 pub returns-in_ok-shown-in-Ok : goal.returns-in_ok-shown-in-Ok
 returns-in_ok-shown-in-Ok c = record {
   reply = inl (
-    c.in-Ok.rows.items,
+    c.in-Ok.rows,
     record {
       join = c.in-Ok.ensures.rows;
       natural = c.in-Ok.ensures.natural;
@@ -18,6 +23,20 @@ returns-in_ok-shown-in-Ok c = record {
       covered = c.in-Ok.ensures.covered;
       within_limit = c.in-Ok.ensures.within_limit;
     },
-    subst (λ (rows : Relation). Says Yes (rows_text (names_of c.args.schema.now) rows) (answer_of c.in_ok-shown-in-Ok.field-0)) c.deref.ensures.value c.in_ok-shown-in-Ok.ensures.says,
+    c.in_ok-shown-in-Ok.ensures.says,
   );
 }
+
+pub returns-in-NotCovered : goal.returns-in-NotCovered
+returns-in-NotCovered c =
+    let s = c.args.schema.now in
+    let refused = subst (λ (e : JoinRefusal). RefusesJoin (width_of s) MOST_JOINED_ROWS (tables_of c.args.parts.now) e) (rw c.in-Err-Refused.field-0-is at c.in-NotCovered.is)
+    (refused_is _ _ _ c.in-Err-Refused.field-0-is c.in-Err-Refused.ensures.refusal) in
+    record { reply = λ reply is. inr (inl (c.in-NotCovered.attribute, refused, c.not_covered.ensures.says reply is)) }
+
+pub returns-in-TooManyRows : goal.returns-in-TooManyRows
+returns-in-TooManyRows c =
+    let s = c.args.schema.now in
+    let refused = subst (λ (e : JoinRefusal). RefusesJoin (width_of s) MOST_JOINED_ROWS (tables_of c.args.parts.now) e) (rw c.in-Err-Refused.field-0-is at c.in-TooManyRows.is)
+    (refused_is _ _ _ c.in-Err-Refused.field-0-is c.in-Err-Refused.ensures.refusal) in
+    record { reply = λ reply is. inr (inr (c.in-TooManyRows.after, refused, c.too_many_joined.ensures.says reply is)) }

@@ -1,10 +1,12 @@
-use Rattle.std.proofs.Common.{◌≢◌, ℕ, List, Ok, Err, subst}
+use Rattle.std.proofs.Common.{ℕ, List, Ok, Err, subst}
 use Rattle.csv_rows.specs.Reading.{PartOf, HasScheme}
-use Rattle.csv_rows.specs.declared.refusal.RowRefusal.TheVariants.{Memory}
+use Rattle.dep_model.proofs.FailureLemmas.{refused_is}
 use Rattle.dep_model.specs.Schemas.{names_of}
 use Rattle.table_join.proofs.PartLemmas.{part_is_table}
 use Rattle.desk_cli.specs.Replies.{StopsAs}
-use Rattle.desk_cli.specs.Rows.{TellsRows}
+use Rattle.desk_cli.specs.Answers.{Says}
+use Rattle.desk_cli.specs.Rows.{row_refusal_text}
+use Rattle.desk_cli.specs.declared.status.Status.TheVariants.{Refused}
 use Rattle.desk_cli.proofs.RowLemmas.{part_stop}
 use Rattle.desk_cli.proofs.rejoining.open_part.Goals as goal
 
@@ -12,18 +14,19 @@ pub returns-in-Ok-read_part-clause-ok : goal.returns-in-Ok-read_part-clause-ok
 returns-in-Ok-read_part-clause-ok g c = λ r same. record {
   bytes = c.in-Ok.bytes.items;
   content = c.in-Ok.ensures.ok r same;
-  means = subst (λ (bytes : List ℕ). PartOf c.args.schema.now bytes (Ok c.in-Ok-read_part.part.rows.items)) c.deref.ensures.value c.in-Ok-read_part.ensures.rows;
+  means = subst (λ (bytes : List ℕ). PartOf c.args.schema.now bytes (Ok c.in-Ok-read_part.part.rows)) c.deref.ensures.value c.in-Ok-read_part.ensures.rows;
   columns = subst (λ (bytes : List ℕ). HasScheme c.args.schema.now bytes c.in-Ok-read_part.part.scheme) c.deref.ensures.value c.in-Ok-read_part.ensures.scheme;
 }
 
 pub returns-in-Ok-read_part-clause-table : goal.returns-in-Ok-read_part-clause-table
 returns-in-Ok-read_part-clause-table g c =
-    part_is_table c.args.schema.now _ c.in-Ok-read_part.part.rows.items c.in-Ok-read_part.part.scheme c.in-Ok-read_part.ensures.rows c.in-Ok-read_part.ensures.scheme
+    part_is_table c.args.schema.now _ c.in-Ok-read_part.part.rows c.in-Ok-read_part.part.scheme c.in-Ok-read_part.ensures.rows c.in-Ok-read_part.ensures.scheme
 
-pub returns-clause-stop : goal.returns-clause-stop
-returns-clause-stop g c = λ r shows.
+pub returns-in-Err-Refused-clause-stop : goal.returns-in-Err-Refused-clause-stop
+returns-in-Err-Refused-clause-stop g c = λ r shows.
     let s = c.args.schema.now in
-    let refusal = c.in-Err-read_part.refusal in
-    let refuses = subst (λ (bytes : List ℕ). refusal ≢ Memory → PartOf s bytes (Err refusal)) c.deref.ensures.value c.in-Err-read_part.ensures.err in
-    let tells = subst (λ (name : List ℕ). StopsAs (TellsRows (names_of s) name refusal) c.rows_refused.result) c.bytes.ensures.bytes c.rows_refused.ensures.refused in
-    part_stop r s c.args.name.now c.in-Ok.bytes.items refusal c.rows_refused.result (c.in-Ok.ensures.ok r shows.same) refuses tells
+    let refusal = c.in-Err-Refused.refusal in
+    let refuses = refused_is _ _ _ c.in-Err-Refused.field-0-is c.in-Err-Refused.ensures.err in
+    let refused = subst (λ (bytes : List ℕ). PartOf s bytes (Err refusal)) c.deref.ensures.value refuses in
+    let tells = subst (λ (name : List ℕ). StopsAs (Says Refused (row_refusal_text (names_of s) name refusal)) c.rows_refused.result) c.bytes.ensures.bytes (rw c.in-Err-Refused.field-0-is at c.rows_refused.ensures.says) in
+    part_stop r s c.args.name.now c.in-Ok.bytes.items refusal c.rows_refused.result (c.in-Ok.ensures.ok r shows.same) refused tells

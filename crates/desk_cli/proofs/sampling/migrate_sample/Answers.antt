@@ -26,7 +26,7 @@ returns c =
     let s = c.in_ok-schema.schema in
     let persons = c.args.persons.number in
     let plan = c.in-Ok.plan in
-    let replies = subst (λ (rows : Relation). RepliesAs (MigratesRows s (plan_of plan) rows) c.migrate_rows.result) (c.deref.ensures.value ∙ c.in_ok-rows.ensures.rows) c.migrate_rows.ensures.reply in
+    let replies = subst (λ (rows : Relation). RepliesAs (MigratesRows s (plan_of plan) rows) c.migrate_rows.result) c.in_ok-rows.ensures.rows c.migrate_rows.ensures.reply in
     record {
       reply = sampled persons s c.migrate_rows.result (record { names = c.in_ok-schema.ensures.names; theory = c.in_ok-schema.ensures.theory })
           (found (FormStops s Fourth) (IsPlanInForm s Fourth) (λ (plan : List AttrSet). MigratesRows s (schemes_of plan) (sample_relation persons)) (scheme_sets plan) c.migrate_rows.result c.in-Ok.ensures.ok replies);

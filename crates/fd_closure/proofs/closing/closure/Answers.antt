@@ -4,7 +4,7 @@ use Rattle.std.proofs.lemmas.Bool.Decides.{nat_tests}
 use Rattle.attr_sets.specs.Places.{only, below}
 use Rattle.attr_sets.specs.Sets.{places}
 use Rattle.attr_sets.specs.declared.set.TheConstants.{PLACES}
-use Rattle.attr_sets.proofs.PlacesLemmas.{places_below, tell_within, Same-within, Within-same, count_below-lt, count_below-le}
+use Rattle.attr_sets.proofs.PlacesLemmas.{places_below, tell_within, same_from_within, Within-same, count_below-lt, count_below-le}
 use Rattle.dep_model.specs.Dependencies.{functional_part}
 use Rattle.dep_model.specs.Deps.{dependencies_of}
 use Rattle.dep_model.proofs.RuleLemmas.{reflexivity_obeyed, transitivity_obeyed}
@@ -34,7 +34,7 @@ loop-more-smaller c =
     let more = c.with_right_sides-more in
     ⊎_elim
     (λ new. omega (arith, count_below-lt PLACES now (places more.result) new.0 more.ensures.grows new.1 new.3 new.2, count_below-le PLACES (places more.result)))
-    (λ back. absurd (false≢true (c.if-eq.ensures.same.1 (Same-within (places more.result) now back more.ensures.grows))))
+    (λ back. absurd (false≢true (c.if-eq.ensures.same.1 (same_from_within (places more.result) now back more.ensures.grows))))
     (tell_within PLACES (places more.result) now (places_below more.result))
 
 pub returns-then-eq : goal.returns-then-eq

@@ -2,6 +2,7 @@ use Rattle.std.proofs.Common.{◌∙◌, refl, sym, arith}
 use Rattle.std.proofs.lemmas.Bool.{false≢true}
 use Rattle.attr_sets.specs.Places.{Within}
 use Rattle.attr_sets.specs.Sets.{places}
+use Rattle.attr_sets.proofs.PlacesLemmas.{same_at}
 use Rattle.dep_model.proofs.RuleLemmas.{reflexivity_obeyed}
 use Rattle.fd_closure.proofs.ClosureLemmas.{fd_added}
 use Rattle.fd_closure.proofs.closing.with_right_side.Goals as goal
@@ -13,10 +14,10 @@ returns-then-within c =
     let now = places c.args.closed in
     let inside : Within x now = c.if-within.ensures.within.0 refl in
     rw c.in-Fd.is (record {
-      grows = λ k m. grind (arith, c.union.ensures.members k, m);
-      within = λ universe d_in now_in k m. grind (arith, c.union.ensures.members k, m, now_in k, d_in.1 k);
-      implied = λ r obeys t u t_in u_in agree k m. fd_added x y now r inside obeys t u t_in u_in agree k (sym (c.union.ensures.members k) ∙ m);
-      settled = λ _ k m. grind (arith, c.union.ensures.members k, m);
+      grows = λ k m. grind (arith, same_at c.union.ensures.members k, m);
+      within = λ universe d_in now_in k m. grind (arith, same_at c.union.ensures.members k, m, now_in k, d_in.1 k);
+      implied = λ r obeys t u t_in u_in agree k m. fd_added x y now r inside obeys t u t_in u_in agree k (sym (same_at c.union.ensures.members k) ∙ m);
+      settled = λ _ k m. grind (arith, same_at c.union.ensures.members k, m);
     })
 
 pub returns-else-within : goal.returns-else-within

@@ -8,6 +8,7 @@ use Rattle.dep_model.specs.Deps.{dependencies_of, IsDepWithin}
 use Rattle.fd_closure.specs.Settled.{IsSettled}
 use Rattle.fd_closure.specs.Counting.{switches_of}
 use Rattle.fd_closure.specs.Switches.{members_on, Grows}
+use Rattle.attr_sets.proofs.PlacesLemmas.{same_at}
 use Rattle.fd_closure.proofs.ClosureLemmas.{settled_holds, fd_each-to}
 use Rattle.fd_closure.proofs.SwitchLemmas.{members_on-all, full_settled}
 use Rattle.fd_closure.proofs.counting.closure_with.Goals as goal
@@ -20,7 +21,7 @@ returns-clause-closure c n within from_in a =
     let grows = subst (λ (on : List Bool). Grows (members_on on c.args.deps.now) x closed) c.deref.ensures.value c.close.ensures.grows in
     let found = subst (λ (on : List Bool). Within (places c.full-all.result) closed ⊎ IsSettled (functional_part (dependencies_of (members_on on c.args.deps.now))) closed) c.deref.ensures.value c.close.ensures.found in
     let all = members_on-all (IsDepWithin (below n)) (switches_of c.args.counters.now) c.args.deps.now within in
-    let settled = ⊎_elim (λ full. full_settled ds closed (λ k m. full k (c.full-all.ensures.members k ∙ m))) (λ stays. stays) found in (
+    let settled = ⊎_elim (λ full. full_settled ds closed (λ k m. full k (same_at c.full-all.ensures.members k ∙ m))) (λ stays. stays) found in (
       (λ m. (ltb-true a n (grows.within (below n) all from_in a m), fd_each-to n (functional_part (dependencies_of ds)) x closed (grows.implied n) a m)),
       (λ implied. settled_holds n ds x (only a) closed all from_in (λ k m. grind (arith, nat_tests, m, implied.0)) settled grows.holds implied.1 a (grind (arith, nat_tests))),
     )

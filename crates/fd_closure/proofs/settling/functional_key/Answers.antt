@@ -1,9 +1,9 @@
 use Rattle.std.proofs.Common.{◌≡◌, ℕ, ◌-◌, ◌∙◌, refl, sym, arith}
 use Rattle.std.proofs.lemmas.Bool.{ltb-true, false≢true}
-use Rattle.attr_sets.specs.Places.{Places, below, only, minus, Within, Same}
+use Rattle.attr_sets.specs.Places.{Places, below, only, minus, Within}
 use Rattle.attr_sets.specs.Sets.{places}
 use Rattle.attr_sets.specs.declared.set.TheConstants.{PLACES}
-use Rattle.attr_sets.proofs.PlacesLemmas.{places_below}
+use Rattle.attr_sets.proofs.PlacesLemmas.{places_below, same_at}
 use Rattle.dep_model.specs.Dependencies.{functional_part}
 use Rattle.dep_model.specs.Deps.{dependencies_of}
 use Rattle.fd_closure.proofs.SettlingLemmas.{IsTriedFrom, tried_none, tried_left_out, tried_kept, tried_outside, tried_settled}
@@ -15,8 +15,8 @@ loop-i-init c n within scheme_in =
     (λ a m. ltb-true a PLACES (places_below c.args.scheme a m))
 
 -- the rest lies within the scheme, and so below n
-rest_low : (n : ℕ) (scheme key rest : Places) (i : ℕ) → Within scheme (below n) → Within key scheme → Same rest (minus key (only i)) → Within rest (below n)
-rest_low n scheme key rest i scheme_in key_in is k m = scheme_in k (key_in k (grind (arith, is k, m)))
+rest_low : (n : ℕ) (scheme key rest : Places) (i : ℕ) → Within scheme (below n) → Within key scheme → rest ≡ minus key (only i) → Within rest (below n)
+rest_low n scheme key rest i scheme_in key_in is k m = scheme_in k (key_in k (grind (arith, same_at is k, m)))
 
 pub loop-i-preserved-then-follows : goal.loop-i-preserved-then-follows
 loop-i-preserved-then-follows c n within scheme_in =

@@ -11,17 +11,16 @@ returns-in-Ok-false-clause-all c = λ rs left.
     c.in-Ok-false.ensures.record
 
 pub returns-then-len-columns-clause-err : goal.returns-then-len-columns-clause-err
-returns-then-len-columns-clause-err c = λ rs left other.
-    let count : c.len-then-len-columns.result ≡ length c.loop-rows.rows.items =
-    omega (arith, c.loop-rows.rows.ok.0, c.len-then-len-columns.ensures) in
+returns-then-len-columns-clause-err c = λ rs left.
+    let count : c.len-then-len-columns.result ≡ length c.loop-rows.rows = c.len-then-len-columns.ensures.count in
     uneven_row c.args.columns rs _ _ _ _ _ (c.loop-rows.invariant.taken rs left) c.in-Ok-true.field-0-test
     c.in-Ok-true.ensures.record c.loop-rows.invariant.even
     _ count c.loop-rows.invariant.few (λ e. omega (arith, e, c.len.ensures, c.if-len-columns.true))
 
 pub returns-then-len-clause-err : goal.returns-then-len-clause-err
-returns-then-len-clause-err c = λ rs left other.
-    let many : 10000 ≤ length c.loop-rows.rows.items =
-    omega (arith, c.loop-rows.rows.ok.0, c.len-in-loop-rows.ensures, c.if-len.true) in
+returns-then-len-clause-err c = λ rs left.
+    let many : 10000 ≤ length c.loop-rows.rows =
+    omega (arith, c.len-in-loop-rows.ensures.count, c.if-len.true) in
     let fits : length (fields_of c.take_record.new.fields) ≡ c.args.columns =
     omega (arith, c.len.ensures, c.if-len-columns.false) in
     one_too_many c.args.columns rs _ _ _ _ _ (c.loop-rows.invariant.taken rs left) c.in-Ok-true.field-0-test
@@ -30,16 +29,16 @@ returns-then-len-clause-err c = λ rs left other.
 
 pub loop-rows-preserved : goal.loop-rows-preserved
 loop-rows-preserved c =
-    let items = c.in_ok-push.ensures.items in
+    let rows = c.in_ok-push.ensures.rows in
     let fits : length (fields_of c.take_record.new.fields) ≡ c.args.columns =
     omega (arith, c.len.ensures, c.if-len-columns.false) in
-    let size : length c.push.new.self.items ≡ length c.loop-rows.rows.items + 1 = ap length items
-    ∙ length-append c.loop-rows.rows.items (c.in_ok-row_of.field-0 ∷ []) in
+    let size : length c.push.new.self ≡ length c.loop-rows.rows + 1 = ap length rows
+    ∙ length-append c.loop-rows.rows (c.take_row.new.values ∷ []) in
     record {
-      few = omega (arith, size, c.loop-rows.rows.ok.0, c.len-in-loop-rows.ensures, c.if-len.false);
-      even = subst (λ (r : Relation). IsOver c.args.columns r) (sym items)
-          (over_more c.args.columns _ _ c.loop-rows.invariant.even (ap length c.in_ok-row_of.ensures.row ∙ fits));
-      taken = λ rs left. rw items
+      few = omega (arith, size, c.len-in-loop-rows.ensures.count, c.if-len.false);
+      even = subst (λ (r : Relation). IsOver c.args.columns r) (sym rows)
+          (over_more c.args.columns _ _ c.loop-rows.invariant.even (ap length c.in_ok-take_row.ensures.row ∙ fits));
+      taken = λ rs left. rw rows
           (takes_row rs _ _ _ _ _ _ (c.loop-rows.invariant.taken rs left) c.in-Ok-true.field-0-test
-          c.in-Ok-true.ensures.record c.in_ok-row_of.ensures.row);
+          c.in-Ok-true.ensures.record c.in_ok-take_row.ensures.row);
     }

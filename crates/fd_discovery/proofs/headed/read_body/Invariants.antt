@@ -7,10 +7,10 @@ use Rattle.fd_discovery.proofs.headed.read_body.Given as goal
 -- the records so far are the rows
 abbrev pub invariant-loop-rows : goal.invariant-loop-rows
 invariant-loop-rows l = record {
-  few : length l.rows.items ≤ 10000;
-  even : IsOver l.columns l.rows.items;
-  taken : (rs : List (List (List ℕ))) → HasLeft l.fn.reader rs → TakesRows rs l.reader l.rows.items;
+  few : length l.rows ≤ 10000;
+  even : IsOver l.columns l.rows;
+  taken : (rs : List (List (List ℕ))) → HasLeft l.fn.reader rs → TakesRows rs l.reader l.rows;
 }
 
 abbrev pub decreases-loop-rows : goal.decreases-loop-rows
-decreases-loop-rows l = 10000 - length l.rows.items
+decreases-loop-rows l = 10000 - length l.rows

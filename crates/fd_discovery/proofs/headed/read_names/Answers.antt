@@ -15,6 +15,6 @@ returns-in-Ok-true-clause-err c = λ rs left.
     c.in-Ok-true.field-0-test c.in-Ok-true.ensures.record left c.column_names.ensures.err
 
 pub returns-in-Ok-false-clause-err : goal.returns-in-Ok-false-clause-err
-returns-in-Ok-false-clause-err c = λ rs left other.
+returns-in-Ok-false-clause-err c = λ rs left.
     no_names c.args.reader.now c.take_record.new.reader _ _ rs c.in-Ok-false.field-0-test
     c.in-Ok-false.ensures.record left

@@ -3,7 +3,6 @@ use Rattle.std.proofs.lemmas.Bool.{false≢true}
 use Rattle.std.proofs.lemmas.List.{map-append}
 use Rattle.attr_sets.specs.Places.{Places, only}
 use Rattle.attr_sets.specs.Sets.{places}
-use Rattle.attr_sets.proofs.PlacesLemmas.{Same-path}
 use Rattle.dep_model.specs.Dependencies.{Dependency, fd, ObeysFd}
 use Rattle.dep_model.specs.Deps.{dependency_of, dependencies_of}
 use Rattle.dep_model.specs.declared.dep.Dep.{Dep}
@@ -36,7 +35,7 @@ loop-place-preserved c =
             ap (λ (v : Vec Dep Global). dependencies_of v.items) w.found-is
             ∙ ap dependencies_of w.in_ok-push.ensures.items ∙ map-append dependency_of old _
             ∙ ap (λ (x : Places). dependencies_of old ++ fd set x ∷ [])
-            (Same-path (places w.single-rhs.result) (only a) w.single-rhs.ensures.members) in
+            w.single-rhs.ensures.members in
             subst (λ (ds : List Dependency). AreAdded n r set wanted (a + 1) ds) (sym items)
             (added_new n r set wanted a (dependencies_of old) inside c.loop-place-test.true before has obeys);
       }

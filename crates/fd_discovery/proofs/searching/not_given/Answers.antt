@@ -1,6 +1,6 @@
-use Rattle.std.proofs.Common.{ℕ, List, [], ◌∷◌, ◌++◌, get_or, take, take_all, sym, subst, ◌∙◌}
+use Rattle.std.proofs.Common.{◌≡◌, ℕ, List, [], ◌∷◌, ◌++◌, get_or, take, take_all, sym, subst, ◌∙◌}
 use Rattle.std.proofs.lemmas.Bool.{false≢true}
-use Rattle.attr_sets.specs.Places.{Places, Same, Within, union}
+use Rattle.attr_sets.specs.Places.{Places, Within, union}
 use Rattle.attr_sets.specs.Sets.{places}
 use Rattle.attr_sets.specs.declared.set.AttrSet.{AttrSet}
 use Rattle.dep_model.specs.Dependencies.{Dependency, left_of, right_of}
@@ -29,11 +29,11 @@ loop-dep-preserved c =
                 let inside : Within (left_of d) set =
                 subst (λ (x : Places). Within x set) c.sides.ensures.left
                 (c.within.ensures.within.0 w.if-within.true) in
-                let same : Same (places w.union-given.result) (union given (right_of d)) =
-                subst (λ (y : Places). Same (places w.union-given.result) (union given y)) c.sides.ensures.right
+                let same : places w.union-given.result ≡ union given (right_of d) =
+                subst (λ (y : Places). places w.union-given.result ≡ union given y) c.sides.ensures.right
                 w.union-given.ensures.members in
                 so_far_in before d set given (places c.if-within.given) c.loop-dep.invariant.so_far inside
-                (subst (λ (s : AttrSet). Same (places s) (union given (right_of d))) (sym w.given-is) same)
+                (subst (λ (s : AttrSet). places s ≡ union given (right_of d)) (sym w.given-is) same)
             | else-within w ↦
                 let outside : Within (left_of d) set → ⊥ = λ inside.
                 false≢true (sym w.if-within.false

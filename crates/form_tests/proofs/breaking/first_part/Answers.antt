@@ -1,11 +1,35 @@
-use Rattle.std.proofs.Common.{◌≡◌, true, refl, sym, subst, ◌∙◌, arith}
-use Rattle.attr_sets.specs.Places.{Places, only, meet, minus}
+use Rattle.std.proofs.Common.{◌≡◌, ℕ, true, refl, sym, subst, ◌∙◌, arith}
+use Rattle.std.proofs.lemmas.Bool.{true≢false}
+use Rattle.std.proofs.lemmas.Bool.Decides.{nat_tests}
+use Rattle.attr_sets.specs.Places.{Places, minus, IsLeastFrom}
 use Rattle.attr_sets.specs.Sets.{places}
-use Rattle.attr_sets.proofs.PlacesLemmas.{Same-path}
 use Rattle.dep_model.specs.Keys.{IsPart}
 use Rattle.dep_model.specs.Schemas.{width_of, theory_of, deps_of}
+use Rattle.attr_sets.proofs.PlacesLemmas.{same_at}
+use Rattle.dep_basis.proofs.DecidingLemmas.{least_same}
 use Rattle.form_tests.proofs.PartLemmas.{part_of_block, part_of_one}
 use Rattle.form_tests.proofs.breaking.first_part.Goals as goal
+
+pub returns-in_default-clause-first : goal.returns-in_default-clause-first
+returns-in_default-clause-first c a least = absurd (true≢false (sym (same_at c.minus.ensures.members a ∙ least.member) ∙ c.in_default.ensures.none.0 refl a))
+
+pub returns-in_default-clause-part : goal.returns-in_default-clause-part
+returns-in_default-clause-part c some = absurd (some (λ k. sym (same_at c.minus.ensures.members k) ∙ c.in_default.ensures.none.0 refl k))
+
+pub returns-in-Some-block-clause-first : goal.returns-in-Some-block-clause-first
+returns-in-Some-block-clause-first c a least =
+    let beyond = minus (places c.args.scheme) (places c.args.lhs) in
+    let given : IsLeastFrom beyond 0 c.in-Some.first = subst (λ (x : Places). IsLeastFrom x 0 c.in-Some.first) c.minus.ensures.members c.in-Some.ensures.least in
+    let same : c.in-Some.first ≡ a = least_same beyond c.in-Some.first a given least in
+    let found : places c.in-Some-block.found a ≡ true = subst (λ (b : ℕ). places c.in-Some-block.found b ≡ true) same c.in-Some-block.ensures.member in
+    grind (arith, same_at c.meet.ensures.members a, found, least.member)
+
+pub returns-in-None-clause-first : goal.returns-in-None-clause-first
+returns-in-None-clause-first c a least =
+    let beyond = minus (places c.args.scheme) (places c.args.lhs) in
+    let given : IsLeastFrom beyond 0 c.in-Some.first = subst (λ (x : Places). IsLeastFrom x 0 c.in-Some.first) c.minus.ensures.members c.in-Some.ensures.least in
+    let same : c.in-Some.first ≡ a = least_same beyond c.in-Some.first a given least in
+    grind (arith, nat_tests, same_at c.single.ensures.members a, same)
 
 pub returns-in-Some-block-clause-part : goal.returns-in-Some-block-clause-part
 returns-in-Some-block-clause-part c _ =
@@ -15,8 +39,8 @@ returns-in-Some-block-clause-part c _ =
     let x = places c.args.lhs in
     let p = places c.in-Some-block.found in
     let a = c.in-Some.first in
-    let at : minus scheme x a ≡ true = sym (c.minus.ensures.members a) ∙ c.in-Some.ensures.least.member in
-    subst (λ (q : Places). IsPart n (theory_of s) scheme x q) (sym (Same-path (places c.meet.result) (meet p scheme) c.meet.ensures.members))
+    let at : minus scheme x a ≡ true = sym (same_at c.minus.ensures.members a) ∙ c.in-Some.ensures.least.member in
+    subst (λ (q : Places). IsPart n (theory_of s) scheme x q) (sym c.meet.ensures.members)
     (part_of_block n (deps_of s) scheme x s.valid.deps_within c.requires.scheme c.requires.lhs p a c.in-Some-block.ensures.block (grind (arith, at)) c.in-Some-block.ensures.member)
 
 pub returns-in-None-clause-part : goal.returns-in-None-clause-part
@@ -26,6 +50,6 @@ returns-in-None-clause-part c _ =
     let scheme = places c.args.scheme in
     let x = places c.args.lhs in
     let a = c.in-Some.first in
-    let at : minus scheme x a ≡ true = sym (c.minus.ensures.members a) ∙ c.in-Some.ensures.least.member in
-    subst (λ (q : Places). IsPart n (theory_of s) scheme x q) (sym (Same-path (places c.single.result) (only a) c.single.ensures.members))
+    let at : minus scheme x a ≡ true = sym (same_at c.minus.ensures.members a) ∙ c.in-Some.ensures.least.member in
+    subst (λ (q : Places). IsPart n (theory_of s) scheme x q) (sym c.single.ensures.members)
     (part_of_one n (deps_of s) scheme x s.valid.deps_within c.requires.scheme c.requires.lhs a (c.in-None.ensures.none.0 refl) (grind (arith, at)) (grind (arith, at)))

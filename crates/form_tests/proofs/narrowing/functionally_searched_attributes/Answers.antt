@@ -7,6 +7,7 @@ use Rattle.dep_model.specs.Dependencies.{functional_part, left_of}
 use Rattle.dep_model.specs.Deps.{dependencies_of, IsDepWithin}
 use Rattle.dep_model.specs.Keys.{InClosure}
 use Rattle.dep_model.specs.Schemas.{width_of, theory_of, deps_of}
+use Rattle.attr_sets.proofs.PlacesLemmas.{same_at}
 use Rattle.form_tests.proofs.AddedLemmas.{functional_twice, functional_within, added_functional}
 use Rattle.form_tests.proofs.narrowing.functionally_searched_attributes.Goals as goal
 
@@ -24,7 +25,7 @@ returns c =
     let each = subst (λ (es : List Dep). All (λ d. Within (left_of d) reach → Within (left_of d) lefts) (functional_part (dependencies_of es))) c.deps-2.ensures.deps
     c.functional_left_attributes.ensures.lefts in
     record {
-      within = λ k m. grind (arith, c.meet.ensures.members k, m);
+      within = λ k m. grind (arith, same_at c.meet.ensures.members k, m);
       added = added_functional n fs scheme reach lefts (places c.meet.result) (functional_within n (deps_of s) s.valid.deps_within) (functional_twice (theory_of s)) c.requires.scheme
           (λ a h. (closed a).1 h) each c.meet.ensures.members;
     }

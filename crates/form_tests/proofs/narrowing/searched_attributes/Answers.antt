@@ -8,6 +8,7 @@ use Rattle.dep_model.specs.Deps.{dependencies_of}
 use Rattle.dep_model.specs.Schemas.{width_of, theory_of, deps_of}
 use Rattle.dep_model.proofs.DepLemmas.{dependencies_all-to, dependencies_all-from}
 use Rattle.form_tests.specs.Adding.{AddOnlyThemselves}
+use Rattle.attr_sets.proofs.PlacesLemmas.{same_at}
 use Rattle.form_tests.proofs.BreakLemmas.{all_enough, functional_enough}
 use Rattle.form_tests.proofs.narrowing.searched_attributes.Goals as goal
 
@@ -33,6 +34,6 @@ returns-else-functional c =
     let each = dependencies_all-to (λ (d : Dependency). Within (left_of d) lefts) (deps_of s)
     (subst (λ (es : List Dep). All (λ (d : Dependency). Within (left_of d) lefts) (dependencies_of es)) c.deps.ensures.deps c.left_attributes.ensures.lefts) in
     record {
-      within = λ k m. grind (arith, c.meet.ensures.members k, m);
+      within = λ k m. grind (arith, same_at c.meet.ensures.members k, m);
       enough = all_enough n (deps_of s) c.args.form scheme lefts (places c.meet.result) c.requires.form s.valid.few_names s.valid.deps_within c.requires.scheme each c.meet.ensures.members;
     }

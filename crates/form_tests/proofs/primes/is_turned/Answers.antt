@@ -1,8 +1,7 @@
 use Rattle.std.proofs.Common.{sym, subst, ◌∙◌}
 use Rattle.std.proofs.lemmas.Bool.{false≢true}
-use Rattle.attr_sets.specs.Places.{Places, only, union}
+use Rattle.attr_sets.specs.Places.{Places}
 use Rattle.attr_sets.specs.Sets.{places}
-use Rattle.attr_sets.proofs.PlacesLemmas.{Same-path}
 use Rattle.dep_model.specs.Dependencies.{functional_part}
 use Rattle.dep_model.specs.Keys.{IsSuperkey}
 use Rattle.dep_model.specs.Schemas.{width_of, theory_of}
@@ -18,7 +17,7 @@ returns-then-is_superkey c =
     let scheme = places c.args.scheme in
     let x = places c.args.set in
     let a = c.args.attribute in
-    let more = subst (λ (v : Places). IsSuperkey n fs scheme v) (Same-path (places c.with.result) (union x (only a)) c.with.ensures.members) (c.is_superkey.ensures.superkey.0 c.if-is_superkey.true) in
+    let more = subst (λ (v : Places). IsSuperkey n fs scheme v) c.with.ensures.members (c.is_superkey.ensures.superkey.0 c.if-is_superkey.true) in
     record {
       turned = told_not c.is_superkey-then-is_superkey.result (IsSuperkey n fs scheme x) (IsTurned n fs scheme x a) c.is_superkey-then-is_superkey.ensures.superkey
           (λ superkey turned. turned.1 superkey)
@@ -36,6 +35,6 @@ returns-else-is_superkey c =
     record {
       turned = (
         (λ e. absurd (false≢true (sym c.if-is_superkey.false ∙ e))),
-        (λ turned. c.is_superkey.ensures.superkey.1 (subst (λ (v : Places). IsSuperkey n fs scheme v) (sym (Same-path (places c.with.result) (union x (only a)) c.with.ensures.members)) turned.0)),
+        (λ turned. c.is_superkey.ensures.superkey.1 (subst (λ (v : Places). IsSuperkey n fs scheme v) (sym c.with.ensures.members) turned.0)),
       );
     }

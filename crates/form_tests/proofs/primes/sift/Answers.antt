@@ -4,6 +4,7 @@ use Rattle.attr_sets.specs.Places.{minus}
 use Rattle.attr_sets.specs.Sets.{places}
 use Rattle.dep_model.specs.Dependencies.{functional_part}
 use Rattle.dep_model.specs.Schemas.{width_of, theory_of}
+use Rattle.attr_sets.proofs.PlacesLemmas.{same_at}
 use Rattle.form_tests.proofs.PrimeLemmas.{primes_more, asked_less}
 use Rattle.form_tests.proofs.primes.sift.Goals as goal
 
@@ -19,7 +20,7 @@ returns-in_default c =
         (λ k m. elim (cases_Bool (known k)) [
           | inl here ↦ here
           | inr out ↦
-              let left : places c.minus.result k ≡ true = c.minus.ensures.members k ∙ grind (arith, m, out) in
+              let left : places c.minus.result k ≡ true = same_at c.minus.ensures.members k ∙ grind (arith, m, out) in
               absurd (true≢false (sym left ∙ c.in_default.ensures.none.0 refl k))
         ]),
         c.loop-attribute.invariant.grows,
@@ -29,8 +30,8 @@ returns-in_default c =
 pub loop-attribute-smaller : goal.loop-attribute-smaller
 loop-attribute-smaller c =
     asked_less (places c.args.asked) (places c.loop-attribute.known) (places c.union-known.result) (places c.minus.result) c.in-Some.attribute c.in-Some.ensures.place c.minus.ensures.members
-    c.in-Some.ensures.least.member (λ k m. grind (arith, c.union-known.ensures.members k, m))
-    (grind (arith, c.union-known.ensures.members c.in-Some.attribute, c.in-Some-key_with.ensures.member))
+    c.in-Some.ensures.least.member (λ k m. grind (arith, same_at c.union-known.ensures.members k, m))
+    (grind (arith, same_at c.union-known.ensures.members c.in-Some.attribute, c.in-Some-key_with.ensures.member))
 
 pub loop-attribute-preserved : goal.loop-attribute-preserved
 loop-attribute-preserved c =
@@ -38,14 +39,14 @@ loop-attribute-preserved c =
     record {
       prime = primes_more (width_of s) (functional_part (theory_of s)) (places c.args.scheme) (places c.loop-attribute.known) (places c.in-Some-key_with.key) (places c.union-known.result)
           c.union-known.ensures.members c.loop-attribute.invariant.prime c.in-Some-key_with.ensures.key;
-      grows = λ k m. grind (arith, c.union-known.ensures.members k, c.loop-attribute.invariant.grows k m);
+      grows = λ k m. grind (arith, same_at c.union-known.ensures.members k, c.loop-attribute.invariant.grows k m);
     }
 
 pub returns-in-None : goal.returns-in-None
 returns-in-None c =
     let known = places c.loop-attribute.known in
     let least = c.in-Some.ensures.least in
-    let at : minus (places c.args.asked) known c.in-Some.attribute ≡ true = sym (c.minus.ensures.members c.in-Some.attribute) ∙ least.member in
+    let at : minus (places c.args.asked) known c.in-Some.attribute ≡ true = sym (same_at c.minus.ensures.members c.in-Some.attribute) ∙ least.member in
     record {
       sifted = (
         grind (arith, at),
@@ -53,7 +54,7 @@ returns-in-None c =
         (λ b less m. elim (cases_Bool (known b)) [
           | inl here ↦ c.loop-attribute.invariant.prime b here
           | inr out ↦
-              let left : places c.minus.result b ≡ true = c.minus.ensures.members b ∙ grind (arith, m, out) in
+              let left : places c.minus.result b ≡ true = same_at c.minus.ensures.members b ∙ grind (arith, m, out) in
               absurd (true≢false (sym left ∙ least.least b (omega arith) less))
         ]),
       );

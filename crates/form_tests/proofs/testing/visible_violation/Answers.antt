@@ -57,7 +57,7 @@ returns-then-breaks-clause-visible c =
       place = i;
       given = get_or ds i d;
       stands = slice_get-get_or ds i d short;
-      left = λ k. ap (λ (x : Places). x k) (sym left);
+      left = sym left;
       violates = c.right_side-rhs.ensures.violates;
       first = c.loop-dep.invariant;
     }

@@ -8,6 +8,7 @@ use Rattle.dep_model.specs.Dependencies.{functional_part}
 use Rattle.dep_model.specs.Deps.{dependencies_of, IsDepWithin}
 use Rattle.dep_model.specs.Keys.{InClosure}
 use Rattle.dep_model.specs.Schemas.{width_of, theory_of}
+use Rattle.attr_sets.proofs.PlacesLemmas.{same_at}
 use Rattle.form_tests.proofs.BreakLemmas.{superkey_closed, closed_superkey, right_told}
 use Rattle.form_tests.proofs.third.determined_beyond.Goals as goal
 
@@ -24,7 +25,7 @@ returns-then-within c =
     (c.closure-found.ensures.closure n within (λ k m. c.requires.scheme k (c.requires.lhs k m))) in
     record {
       beyond = λ a. (
-        (λ m. absurd (true≢false (sym m ∙ c.empty.ensures.members a))),
+        (λ m. absurd (true≢false (sym m ∙ same_at c.empty.ensures.members a))),
         (λ h. absurd (h.0 (closed_superkey n fs scheme x closed c.requires.lhs exact (c.within.ensures.within.0 c.if-within.true)))),
       );
     }

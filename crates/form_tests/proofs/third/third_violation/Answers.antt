@@ -4,7 +4,7 @@ use Rattle.std.specs.Prelude.{Option, Some}
 use Rattle.attr_sets.specs.declared.set.AttrSet.{AttrSet}
 use Rattle.attr_sets.specs.declared.set.TheConstants.{PLACES}
 use Rattle.attr_sets.specs.Sets.{places}
-use Rattle.attr_sets.proofs.PlacesLemmas.{places_below}
+use Rattle.attr_sets.proofs.PlacesLemmas.{places_below, same_at}
 use Rattle.dep_model.specs.Dependencies.{functional_part}
 use Rattle.dep_model.specs.Schemas.{width_of, theory_of, deps_of}
 use Rattle.form_tests.specs.Violations.{ViolatesThird}
@@ -17,7 +17,7 @@ pub loop-next-init : goal.loop-next-init
 loop-next-init c =
     let s = c.args.schema.now in
     record {
-      prime = λ a m. absurd (true≢false (sym m ∙ c.empty-primes.ensures.members a));
+      prime = λ a m. absurd (true≢false (sym m ∙ same_at c.empty-primes.ensures.members a));
       searched = search_start (IsUntold (width_of s) (functional_part (theory_of s)) (places c.args.scheme) (places c.empty-primes.result)) (places c.functionally_searched_attributes-whole.result)
           c.empty.result c.empty.ensures.members;
     }

@@ -1,8 +1,8 @@
 use Rattle.std.proofs.Common.{◌≡◌, ℕ, ◌<◌, true, List, take, take_all, length, get_or, sym, ◌∙◌, ap, subst, arith}
+use mathlib.Core.Path.{fun_ext}
 use Rattle.std.proofs.lemmas.Bool.{true≢false}
 use Rattle.attr_sets.specs.Places.{Places, below, union, minus}
 use Rattle.attr_sets.specs.Sets.{places}
-use Rattle.attr_sets.proofs.PlacesLemmas.{Same-path}
 use Rattle.dep_model.specs.declared.dep.Dep.{Dep}
 use Rattle.dep_model.specs.declared.dep.Dep.TheVariants.{Fd, Mvd}
 use Rattle.dep_model.specs.Dependencies.{Dependency, is_fd}
@@ -11,6 +11,7 @@ use Rattle.dep_model.specs.Deps.{dependency_of, dependencies_of, IsDepWithin}
 use Rattle.dep_model.specs.Schemas.{width_of, universe_of, theory_of, deps_of}
 use Rattle.dep_model.proofs.DepLemmas.{dependencies_all-to}
 use Rattle.key_listing.specs.Listing.{HoldsAnyUnlessMany, IsExchangedUnlessMany}
+use Rattle.attr_sets.proofs.PlacesLemmas.{same_at}
 use Rattle.key_listing.proofs.ListLemmas.{grows_none, grows_again}
 use Rattle.key_listing.proofs.FoundLemmas.{all_functional, exchanged_superkey, given_in, exchanged_none, exchanged_more}
 use Rattle.key_listing.proofs.exchanging.add_exchanged.Goals.{in-Fd+in_ok-add_key_within, in_default}
@@ -34,7 +35,7 @@ add_key_within-requires-clause-superkey c =
     let at = subst (λ (ds : List Dep). get_or ds c.loop-dep.dep-index (Fd (record { 0 = 0 }) (record { 0 = 0 })) ≡ Fd c.in-Fd.lhs c.in-Fd.rhs) c.deps-dep-items.ensures.deps c.in-Fd.is in
     let one_in : IsDepWithin (below n) (Fd c.in-Fd.lhs c.in-Fd.rhs) = subst (λ (d : Dep). IsDepWithin (below n) d) at (s.valid.deps_within c.loop-dep.dep-index _ lt) in
     let is : union x (minus k y) ≡ places c.union.result =
-    Same-path (union x (minus k y)) (places c.union.result) (λ (i : ℕ). grind (arith, c.union.ensures.members i, c.minus.ensures.members i)) in
+    fun_ext (λ (i : ℕ). grind (arith, same_at c.union.ensures.members i, same_at c.minus.ensures.members i)) in
     subst (λ (v : Places). IsSuperkey n (theory_of s) (universe_of s) v) is
     (exchanged_superkey n (theory_of s) (universe_of s) x y k (given_in (deps_of s) c.loop-dep.dep-index _ (Fd c.in-Fd.lhs c.in-Fd.rhs) lt at) one_in.0 c.requires.key.superkey)
 
@@ -52,7 +53,7 @@ loop-dep-preserved c =
           let y = places w.in-Fd.rhs in
           let at = subst (λ (ds : List Dep). get_or ds i (Fd (record { 0 = 0 }) (record { 0 = 0 })) ≡ Fd w.in-Fd.lhs w.in-Fd.rhs) c.deps-dep-items.ensures.deps w.in-Fd.is in
           let is : places w.union.result ≡ union x (minus k y) =
-          Same-path (places w.union.result) (union x (minus k y)) (λ (j : ℕ). grind (arith, w.union.ensures.members j, w.minus.ensures.members j)) in
+          fun_ext (λ (j : ℕ). grind (arith, same_at w.union.ensures.members j, same_at w.minus.ensures.members j)) in
           let held = subst (λ (v : Places). HoldsAnyUnlessMany w.add_key_within.new.found.items v) is w.in_ok-add_key_within.ensures.held in
           rw w.found-is (record {
             some = w.in_ok-add_key_within.ensures.some;

@@ -1,9 +1,8 @@
-use Rattle.std.proofs.Common.{◌≡◌, ℕ, ◌+◌, ◌<◌, ◌≤◌, List, [], ◌∷◌, ◌++◌, length, refl, sym, ◌∙◌, ap, subst, arith}
+use Rattle.std.proofs.Common.{◌≡◌, ◌+◌, ◌<◌, ◌≤◌, List, [], ◌∷◌, ◌++◌, length, refl, sym, ◌∙◌, ap, subst, arith}
 use Rattle.std.specs.Prelude.{All}
 use Rattle.attr_sets.specs.declared.set.AttrSet.{AttrSet}
 use Rattle.attr_sets.specs.Places.{Places, below}
 use Rattle.attr_sets.specs.Sets.{places}
-use Rattle.attr_sets.proofs.PlacesLemmas.{Same-path}
 use Rattle.dep_model.specs.declared.dep.Dep.{Dep}
 use Rattle.dep_model.specs.Dependencies.{functional_part, IsWithin}
 use Rattle.dep_model.specs.Keys.{IsSuperkey, IsKey, IsSettledKey}
@@ -23,7 +22,7 @@ loop-tried-init c =
     let ds = theory_of s in
     let set = places c.full.result in
     let k = c.functional_key.result in
-    let is : set ≡ universe_of s = Same-path set (universe_of s) (λ (i : ℕ). c.full.ensures.members i ∙ ap (λ (m : ℕ). below m i) c.width.ensures.count) in
+    let is : set ≡ universe_of s = c.full.ensures.members ∙ ap below c.width.ensures.count in
     let superkey : IsSuperkey n ds (universe_of s) set = subst (λ (v : Places). IsSuperkey n ds (universe_of s) v) (sym is) (scheme_superkey n ds (universe_of s)) in
     let within : All (IsDepWithin (below n)) c.deps.result.now = subst (λ (es : List Dep). All (IsDepWithin (below n)) es) (sym c.deps.ensures.deps) s.valid.deps_within in
     let settled : IsSettledKey n (functional_part ds) set (places k) =

@@ -3,7 +3,6 @@ use Rattle.std.proofs.lemmas.Bool.{false_from_ne_true}
 use Rattle.std.specs.Prelude.{IsTrue}
 use Rattle.attr_sets.specs.Places.{Places, only, minus}
 use Rattle.attr_sets.specs.Sets.{places}
-use Rattle.attr_sets.proofs.PlacesLemmas.{Same-path}
 use Rattle.dep_model.specs.Keys.{IsSuperkey}
 use Rattle.dep_model.specs.Schemas.{width_of, theory_of}
 use Rattle.key_listing.proofs.narrowing.is_needed.Goals as goal
@@ -14,7 +13,7 @@ returns-then-has c =
     let scheme = places c.args.scheme in
     let others : Places = minus scheme (only c.args.attribute) in
     let superkey : IsTrue c.is_superkey.result ↔ IsSuperkey (width_of s) (theory_of s) scheme others =
-    subst (λ (x : Places). IsTrue c.is_superkey.result ↔ IsSuperkey (width_of s) (theory_of s) scheme x) (Same-path (places c.without.result) others c.without.ensures.members) c.is_superkey.ensures.superkey in
+    subst (λ (x : Places). IsTrue c.is_superkey.result ↔ IsSuperkey (width_of s) (theory_of s) scheme x) c.without.ensures.members c.is_superkey.ensures.superkey in
     record {
       needed = (
         (λ e. record { member = sym c.has.ensures.member ∙ c.if-has.true; others = λ holds. let told = superkey.1 holds in absurd (grind (arith, e, told)) }),

@@ -7,13 +7,14 @@ use Rattle.dep_model.specs.declared.dep.Dep.{Dep}
 use Rattle.dep_model.specs.declared.dep.Dep.TheVariants.{Fd}
 use Rattle.dep_model.specs.Dependencies.{Dependency, left_of}
 use Rattle.dep_model.specs.Deps.{dependency_of}
+use Rattle.attr_sets.proofs.PlacesLemmas.{same_at}
 use Rattle.dep_model.proofs.DepLemmas.{dependencies_all-to, dependencies_all-from}
 use Rattle.key_listing.proofs.narrowing.left_sides.Goals as goal
 
 pub loop-dep-init : goal.loop-dep-init
 loop-dep-init c = record {
   told = λ a out k d l. absurd (omega (arith, l));
-  none = λ a all. c.empty-used.ensures.members a;
+  none = λ a all. same_at c.empty-used.ensures.members a;
 }
 
 pub loop-dep-preserved : goal.loop-dep-preserved
@@ -24,9 +25,9 @@ loop-dep-preserved c =
     let here : (a : ℕ) → places c.sides.result.0 a ≡ left_of (dependency_of (get_or deps i first)) a = λ a. ap (λ (x : Places). x a) c.sides.ensures.left in
     record {
       told = λ a out. All-more (λ (d : Dep). left_of (dependency_of d) a ≡ false) deps i first c.loop-dep-test.true
-          (c.loop-dep.invariant.told a (grind (arith, out, c.union-used.ensures.members a)))
-          (sym (here a) ∙ grind (arith, out, c.union-used.ensures.members a));
-      none = λ a all. grind (arith, c.union-used.ensures.members a, c.loop-dep.invariant.none a all, here a ∙ all i first c.loop-dep-test.true);
+          (c.loop-dep.invariant.told a (grind (arith, out, same_at c.union-used.ensures.members a)))
+          (sym (here a) ∙ grind (arith, out, same_at c.union-used.ensures.members a));
+      none = λ a all. grind (arith, same_at c.union-used.ensures.members a, c.loop-dep.invariant.none a all, here a ∙ all i first c.loop-dep-test.true);
     }
 
 pub returns : goal.returns

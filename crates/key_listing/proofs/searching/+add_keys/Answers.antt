@@ -4,6 +4,7 @@ use Rattle.attr_sets.specs.declared.set.AttrSet.{AttrSet}
 use Rattle.attr_sets.specs.Places.{minus, Within}
 use Rattle.attr_sets.specs.Sets.{places}
 use Rattle.dep_model.specs.Schemas.{width_of, theory_of}
+use Rattle.attr_sets.proofs.PlacesLemmas.{same_at}
 use Rattle.dep_basis.proofs.ShowingLemmas.{IfOk_both}
 use Rattle.key_listing.proofs.SearchLemmas.{between_none, between_one, between_both, fewer_without, fewer_with}
 use Rattle.key_listing.proofs.searching.+add_keys.Goals as goal
@@ -17,15 +18,15 @@ returns-in_default-clause-all t c =
 pub add_keys-requires : goal.add_keys-requires
 add_keys-requires t c =
     let a = c.in-Some-least.attribute in
-    let rest : minus (places c.in-Some.key) (places c.args.least) a ≡ true = sym (c.minus.ensures.members a) ∙ c.in-Some-least.ensures.least.member in
+    let rest : minus (places c.in-Some.key) (places c.args.least) a ≡ true = sym (same_at c.minus.ensures.members a) ∙ c.in-Some-least.ensures.least.member in
     let inside : Within (places c.in-Some.key) (places c.args.most) = subst (λ (o : Option AttrSet). IfSome o (λ k. Within (places k) (places c.args.most))) c.in-Some.is c.in_ok-key.ensures.within in
     let fewer = fewer_without (places c.args.least) (places c.args.most) (places c.without.result) a c.in-Some-least.ensures.place (inside a (grind (arith, rest))) (grind (arith, rest)) c.without.ensures.members in
-    (omega (arith, fewer), (c.requires.scheme, ((λ k m. c.requires.most k (grind (arith, m, c.without.ensures.members k))), c.in_ok-key.ensures.some)))
+    (omega (arith, fewer), (c.requires.scheme, ((λ k m. c.requires.most k (grind (arith, m, same_at c.without.ensures.members k))), c.in_ok-key.ensures.some)))
 
 pub add_keys-requires-in-Some-least : goal.add_keys-requires-in-Some-least
 add_keys-requires-in-Some-least t c =
     let a = c.in-Some-least.attribute in
-    let rest : minus (places c.in-Some.key) (places c.args.least) a ≡ true = sym (c.minus.ensures.members a) ∙ c.in-Some-least.ensures.least.member in
+    let rest : minus (places c.in-Some.key) (places c.args.least) a ≡ true = sym (same_at c.minus.ensures.members a) ∙ c.in-Some-least.ensures.least.member in
     let inside : Within (places c.in-Some.key) (places c.args.most) = subst (λ (o : Option AttrSet). IfSome o (λ k. Within (places k) (places c.args.most))) c.in-Some.is c.in_ok-key.ensures.within in
     let fewer = fewer_with (places c.args.least) (places c.args.most) (places c.with.result) a c.in-Some-least.ensures.place (inside a (grind (arith, rest))) (grind (arith, rest)) c.with.ensures.members in
     (omega (arith, fewer), (c.requires.scheme, (c.requires.most, c.in_ok-add_keys-in-Some-least.ensures.some)))
@@ -37,7 +38,7 @@ returns-in-None-clause-all t c =
     let found = c.key_within.new.found.items in
     let member : Contains found key = subst (λ (o : Option AttrSet). IfSome o (λ k. Contains found k)) c.in-Some.is c.in_ok-key.ensures.found in
     between_one (width_of s) (theory_of s) (places c.args.scheme) (places c.args.least) (places c.args.most) c.requires.most found key c.in_ok-key.ensures.some member
-    (λ a. sym (c.minus.ensures.members a) ∙ c.in-None.ensures.none.0 refl a)
+    (λ a. sym (same_at c.minus.ensures.members a) ∙ c.in-None.ensures.none.0 refl a)
 
 pub returns-in_ok-add_keys-in-Some-least-clause-all : goal.returns-in_ok-add_keys-in-Some-least-clause-all
 returns-in_ok-add_keys-in-Some-least-clause-all t c =

@@ -1,20 +1,25 @@
 use Rattle.std.proofs.Common.{◌≡◌, ℕ, ◌+◌, ◌-◌, sym, ◌∙◌, arith}
 use Rattle.std.proofs.lemmas.Bool.{ltb-true, false≢true}
+use Rattle.attr_sets.specs.Places.{Places, only, minus, Within}
 use Rattle.attr_sets.specs.Sets.{places}
 use Rattle.attr_sets.specs.declared.set.TheConstants.{PLACES}
-use Rattle.attr_sets.proofs.PlacesLemmas.{places_below}
+use Rattle.attr_sets.proofs.PlacesLemmas.{places_below, same_at}
 use Rattle.dep_model.specs.Schemas.{width_of, theory_of}
 use Rattle.dep_model.proofs.KeyLemmas.{superkey-from, fd_on-to}
 use Rattle.fd_closure.proofs.SettlingLemmas.{IsTriedFrom, tried_none, tried_left_out, tried_kept, tried_outside, tried_settled}
 use Rattle.key_listing.proofs.superkeys.one_key.Goals.{else-has-via-then-has+else-is_superkey, else-has-via-else-has}
 use Rattle.key_listing.proofs.superkeys.one_key.Goals as goal
 
+without_within : (key rest : Places) (i : ℕ) → rest ≡ minus key (only i) → Within rest key
+without_within key rest i is k m = grind (arith, same_at is k, m)
+
 pub loop-i-init : goal.loop-i-init
 loop-i-init c =
     tried_none (width_of c.args.schema.now) (theory_of c.args.schema.now) (places c.args.scheme) PLACES (λ a m. ltb-true a PLACES (places_below c.args.scheme a m))
 
 pub is_superkey-requires-clause-set : goal.is_superkey-requires-clause-set
-is_superkey-requires-clause-set c k m = c.loop-i.invariant.within k (grind (arith, c.without-rest.ensures.members k, m))
+is_superkey-requires-clause-set c k m =
+    c.loop-i.invariant.within k (without_within (places c.loop-i.key) (places c.without-rest.result) (c.loop-i.i - 1) c.without-rest.ensures.members k m)
 
 pub loop-i-preserved-then-is_superkey : goal.loop-i-preserved-then-is_superkey
 loop-i-preserved-then-is_superkey c =
@@ -38,7 +43,7 @@ loop-i-preserved c =
       | else-has-via-then-has+else-is_superkey w ↦
           tried_kept n ds scheme i c.loop-i.i (places c.loop-i.key) rest e c.loop-i.invariant c.without-rest.ensures.members
           (λ implied. false≢true (sym w.if-is_superkey.false ∙ w.is_superkey.ensures.superkey.1
-          (superkey-from n ds scheme rest (λ (k : ℕ) m. c.loop-i.invariant.within k (grind (arith, c.without-rest.ensures.members k, m))) implied)))
+          (superkey-from n ds scheme rest (λ (k : ℕ) m. c.loop-i.invariant.within k (without_within (places c.loop-i.key) rest i c.without-rest.ensures.members k m)) implied)))
       | else-has-via-else-has w ↦
           tried_outside n ds scheme i c.loop-i.i (places c.loop-i.key) e c.loop-i.invariant (sym c.has.ensures.member ∙ w.if-has.false)
     ]

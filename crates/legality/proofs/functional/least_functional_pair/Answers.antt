@@ -32,7 +32,7 @@ loop-second-preserved c =
 
 pub returns : goal.returns
 returns c =
-    let end : c.loop-second.second ≡ length c.args.rows.now = omega (arith, c.loop-second-test.false, c.loop-second.auto.second-end) in
+    let end : c.loop-second.second ≡ length c.args.rows.now = omega (arith, c.loop-second-test.false, c.len-second-end.ensures.count) in
     record {
       pair = functional_answer c.args.width c.args.rows.now (places c.args.lhs) (places c.args.rhs) (groups_of c.in_ok-groups.groups) (firsts_of c.in_ok-groups.groups) c.loop-second.least
           (c.in_ok-groups.ensures.groups c.args.width c.args.rows.now c.requires.codes) (c.in_ok-groups.ensures.firsts c.args.width c.args.rows.now c.requires.codes)

@@ -4,7 +4,6 @@ use Rattle.std.proofs.lemmas.List.{map_push}
 use Rattle.std.specs.Prelude.{All}
 use Rattle.attr_sets.specs.Places.{Places, below, only, minus, Within}
 use Rattle.attr_sets.specs.Sets.{places}
-use Rattle.attr_sets.proofs.PlacesLemmas.{Same-path}
 use Rattle.dep_model.specs.declared.dep.Dep.{Dep}
 use Rattle.dep_model.specs.declared.dep.Dep.TheVariants.{Fd}
 use Rattle.dep_model.specs.Deps.{dependencies_of, IsDepWithin}
@@ -12,6 +11,7 @@ use Rattle.dep_model.specs.Dependencies.{Dependency, fd}
 use Rattle.dep_model.specs.Schemas.{width_of, theory_of}
 use Rattle.dep_model.specs.Projections.{members_below}
 use Rattle.min_cover.specs.Members.{IsShortLeft, IsShortenedDependency, AreShortened}
+use Rattle.attr_sets.proofs.PlacesLemmas.{same_at}
 use Rattle.min_cover.proofs.MemberLemmas.{shortened_more}
 use Rattle.min_cover.proofs.shortening.add_members.Goals.{then-has+in_ok-push, else-has}
 use Rattle.min_cover.proofs.shortening.add_members.Goals as goal
@@ -47,10 +47,10 @@ loop-a-preserved c firsts before =
       | then-has+in_ok-push w ↦
           let right = places w.single-right.result in
           let short = places w.short_left.result in
-          let member : z a ≡ true = sym (c.minus-beyond.ensures.members a) ∙ sym c.has.ensures.member ∙ w.if-has.true in
+          let member : z a ≡ true = sym (same_at c.minus-beyond.ensures.members a) ∙ sym c.has.ensures.member ∙ w.if-has.true in
           let lt : a < n = omega (arith, c.loop-a-test.true, c.width-a-end.ensures.count) in
-          let right_is : right ≡ only a = Same-path right (only a) w.single-right.ensures.members in
-          let right_in : Within right (below n) = λ (k : ℕ) m. grind (arith, nat_tests, w.single-right.ensures.members k, m, lt) in
+          let right_is : right ≡ only a = w.single-right.ensures.members in
+          let right_in : Within right (below n) = λ (k : ℕ) m. grind (arith, nat_tests, same_at w.single-right.ensures.members k, m, lt) in
           let within : All (IsDepWithin (below n)) w.deps.result.now = subst (λ (es : List Dep). All (IsDepWithin (below n)) es) (sym w.deps.ensures.deps) s.valid.deps_within in
           let by_deps = w.short_left.ensures.short n within c.requires.lhs right_in in
           let is_short : IsShortLeft n (theory_of s) x right short = subst (λ (es : List Dep). IsShortLeft n (dependencies_of es) x right short) w.deps.ensures.deps by_deps in
@@ -62,7 +62,7 @@ loop-a-preserved c firsts before =
           subst (λ (es : List Dep). AreShortened n (theory_of s) (firsts ++ map f (members_below (a + 1) z)) es) (sym pushed)
           (subst (λ (es : List Dependency). AreShortened n (theory_of s) es (c.loop-a.members.items ++ Fd w.short_left.result w.single-right.result ∷ [])) (sym (more_is firsts x z a member)) more)
       | else-has w ↦
-          let outside : z a ≡ false = sym (c.minus-beyond.ensures.members a) ∙ sym c.has.ensures.member ∙ w.if-has.false in
+          let outside : z a ≡ false = sym (same_at c.minus-beyond.ensures.members a) ∙ sym c.has.ensures.member ∙ w.if-has.false in
           let same = ap (λ v. v.items) w.members-is in
           subst (λ (es : List Dep). AreShortened n (theory_of s) (firsts ++ map f (members_below (a + 1) z)) es) (sym same)
           (subst (λ (l : List ℕ). AreShortened n (theory_of s) (firsts ++ map f l) c.loop-a.members.items) (sym (members_below-no_more a (a + 1) z refl outside)) old)

@@ -1,9 +1,9 @@
-use Rattle.std.proofs.Common.{ℕ, ◌+◌, refl, sym, ◌∙◌, arith}
+use Rattle.std.proofs.Common.{◌≡◌, ℕ, ◌+◌, refl, sym, ◌∙◌, arith}
 use Rattle.std.proofs.lemmas.Bool.{ltb-true, false≢true}
-use Rattle.attr_sets.specs.Places.{Places, below, only, minus, Within, Same}
+use Rattle.attr_sets.specs.Places.{Places, below, only, minus, Within}
 use Rattle.attr_sets.specs.Sets.{places}
 use Rattle.attr_sets.specs.declared.set.TheConstants.{PLACES}
-use Rattle.attr_sets.proofs.PlacesLemmas.{places_below}
+use Rattle.attr_sets.proofs.PlacesLemmas.{places_below, same_at}
 use Rattle.dep_model.specs.Deps.{dependencies_of}
 use Rattle.min_cover.proofs.ShorteningLemmas.{tried_none, tried_left_out, tried_kept, tried_outside, tried_all}
 use Rattle.min_cover.proofs.shortening.short_left.Goals.{then-has+then-follows, then-has+else-follows, else-has}
@@ -13,8 +13,8 @@ pub loop-i-init : goal.loop-i-init
 loop-i-init c n within lhs_in rhs_in = tried_none n (dependencies_of c.args.deps.now) (places c.args.lhs) (places c.args.rhs)
 
 -- the rest lies within the left side, and so below n
-rest_low : (n : ℕ) (x short rest : Places) (i : ℕ) → Within x (below n) → Within short x → Same rest (minus short (only i)) → Within rest (below n)
-rest_low n x short rest i low inside is k m = low k (inside k (grind (arith, is k, m)))
+rest_low : (n : ℕ) (x short rest : Places) (i : ℕ) → Within x (below n) → Within short x → rest ≡ minus short (only i) → Within rest (below n)
+rest_low n x short rest i low inside is k m = low k (inside k (grind (arith, same_at is k, m)))
 
 pub loop-i-preserved : goal.loop-i-preserved
 loop-i-preserved c n within lhs_in rhs_in =

@@ -9,7 +9,7 @@ use Rattle.attr_sets.specs.declared.set.AttrSet.{AttrSet}
 use Rattle.attr_sets.proofs.PlacesLemmas.{
   places_below,
   tell_within,
-  Same-within,
+  same_from_within,
   Within-same,
   count_below-lt,
   count_below-le,
@@ -65,7 +65,7 @@ loop-wanted-smaller c =
       count_below-le PLACES (places more.result),
     ))
     (λ back. absurd (false≢true
-    (c.if-eq.ensures.same.1 (Same-within (places more.result) now back more.ensures.grows))))
+    (c.if-eq.ensures.same.1 (same_from_within (places more.result) now back more.ensures.grows))))
     (tell_within PLACES (places more.result) now (places_below more.result))
 
 pub returns-then-eq : goal.returns-then-eq

@@ -10,6 +10,7 @@ use Rattle.dep_model.specs.Schemas.{width_of, theory_of}
 use Rattle.preservation.specs.declared.inside.Inside.{Inside}
 use Rattle.preservation.specs.Insides.{IsInsideOf, IsKnown, known_schemes, known_plan}
 use Rattle.preservation.specs.Settled.{IsSettledIn}
+use Rattle.attr_sets.proofs.PlacesLemmas.{same_at}
 use Rattle.preservation.proofs.KeepingLemmas.{added_follows, added_settles}
 use Rattle.preservation.proofs.KnownLemmas.{scheme_of, scheme_at, same_schemes}
 use Rattle.preservation.proofs.closing.with_schemes.Goals as goal
@@ -44,12 +45,12 @@ loop-i-preserved c =
     let known : IsInsideOf n ds scheme (places inside.result.part) (places inside.result.closed) =
     subst (λ (scheme : AttrSet). IsInsideOf n ds (places scheme) (places inside.result.part)
     (places inside.result.closed)) inside.ensures.scheme inside.ensures.known in
-    let grows : Within now next = (λ k m. grind (arith, c.union-more.ensures.members k, m)) in
+    let grows : Within now next = (λ k m. grind (arith, same_at c.union-more.ensures.members k, m)) in
     record {
       grows = λ k m. grows k (before.grows k m);
       within = λ k m. elim (cases_Bool (now k)) [
         | inl had ↦ before.within k had
-        | inr new ↦ known.universe k ((known.closure k).0 (grind (arith, c.union-more.ensures.members k, new, m))).0
+        | inr new ↦ known.universe k ((known.closure k).0 (grind (arith, same_at c.union-more.ensures.members k, new, m))).0
       ];
       kept = λ r obeys. transitivity_obeyed from now next r (before.kept r obeys)
           (added_follows n ds (known_plan old) scheme now (places inside.result.part)

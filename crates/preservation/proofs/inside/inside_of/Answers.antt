@@ -4,6 +4,7 @@ use Rattle.dep_model.specs.Dependencies.{functional_part}
 use Rattle.dep_model.specs.Keys.{InClosure}
 use Rattle.dep_model.specs.Schemas.{width_of, theory_of}
 use Rattle.fd_closure.specs.Counting.{switches_of}
+use Rattle.attr_sets.proofs.PlacesLemmas.{same_at}
 use Rattle.preservation.proofs.KnownLemmas.{closure_over}
 use Rattle.preservation.proofs.inside.inside_of.Goals as goal
 
@@ -20,9 +21,9 @@ returns-clause-known c =
       within = c.requires.part;
       closure = λ a. (
         (λ m. (
-          grind (arith, c.meet-closed.ensures.members a, m),
-          (exact a).0 (grind (arith, c.meet-closed.ensures.members a, m)),
+          grind (arith, same_at c.meet-closed.ensures.members a, m),
+          (exact a).0 (grind (arith, same_at c.meet-closed.ensures.members a, m)),
         )),
-        (λ is. grind (arith, c.meet-closed.ensures.members a, is.0, (exact a).1 is.1)),
+        (λ is. grind (arith, same_at c.meet-closed.ensures.members a, is.0, (exact a).1 is.1)),
       );
     }

@@ -5,7 +5,7 @@ use Rattle.sample.proofs.rows.sample_rows.Goals as goal
 
 pub loop-person-preserved : goal.loop-person-preserved
 loop-person-preserved c =
-    let before : c.loop-person.rows.items ≡ sample_relation c.loop-person.person = c.loop-person.invariant.rows in
+    let before : c.loop-person.rows ≡ sample_relation c.loop-person.person = c.loop-person.invariant.rows in
     let more = person_more c.loop-person.person in
     let here = c.in_ok-add_person.ensures.more in
     record { rows = cc (before, more, here) }
@@ -17,8 +17,8 @@ returns-clause-count c =
 
 pub returns-clause-legal : goal.returns-clause-legal
 returns-clause-legal c =
-    rows_legal c.loop-person.person c.loop-person.rows.items (omega arith) c.loop-person.invariant.rows
+    rows_legal c.loop-person.person c.loop-person.rows (omega arith) c.loop-person.invariant.rows
 
 pub returns-clause-differ : goal.returns-clause-differ
 returns-clause-differ c =
-    rows_differ c.loop-person.person c.loop-person.rows.items (omega arith) c.loop-person.invariant.rows
+    rows_differ c.loop-person.person c.loop-person.rows (omega arith) c.loop-person.invariant.rows

@@ -4,4 +4,4 @@ use Rattle.sample.proofs.rows.sample_rows.Given as goal
 
 -- the rows of the persons so far
 abbrev pub invariant-loop-person : goal.invariant-loop-person
-invariant-loop-person l = record { rows : l.rows.items ≡ sample_relation l.person }
+invariant-loop-person l = record { rows : l.rows ≡ sample_relation l.person }

@@ -1,6 +1,6 @@
 use Rattle.std.proofs.Common.{◌≡◌, ◌+◌, ◌-◌, refl, arith}
 use Rattle.schema_grammar.specs.Texts.{read_lines}
-use Rattle.schema_grammar.proofs.RefusalLemmas.{ok_at, err_refuses, Refuses-whole}
+use Rattle.schema_grammar.proofs.RefusalLemmas.{ok_at, refuses_whole, Refuses-whole}
 use Rattle.schema_grammar.proofs.SoundLemmas.{IsSound, line_sound}
 use Rattle.lexer.proofs.LineEnds.{cut_any, cut_last, cut_more}
 use Rattle.schema_reader.proofs.text.read_lines.Goals as goal
@@ -8,8 +8,8 @@ use Rattle.schema_reader.proofs.text.read_lines.Goals as goal
 pub returns-in-Err-clause-err : goal.returns-in-Err-clause-err
 unfolding read_lines
 returns-in-Err-clause-err c =
-    Refuses-whole _ _ _
-    (λ refused. rw (c.lines.invariant.same, cut_any _ _ _ c.cut_line.ensures.cut, refused) refl)
+    Refuses-whole c.in-Err.failure _ _
+    (λ refusal refused. rw (c.lines.invariant.same, cut_any _ _ _ c.cut_line.ensures.cut, refused) refl)
     c.in-Err.ensures.err
 
 pub returns-in-None-clause-ok : goal.returns-in-None-clause-ok
@@ -25,7 +25,7 @@ returns-in-None-clause-err c =
     let cut = cut_last _ _ _ c.in-None.is c.cut_line.ensures.cut in
     let back : c.lines.number + 1 - 1 ≡ c.lines.number = omega arith in
     rw (c.lines.invariant.same, cut.lines, c.in-Ok.ensures.ok, back)
-    (err_refuses _ _ _ refl c.finish.ensures.err)
+    (refuses_whole _ _ _ refl c.finish.ensures.err)
 
 pub lines-preserved : goal.lines-preserved
 unfolding read_lines

@@ -1,7 +1,7 @@
 use Rattle.std.proofs.Common.{◌≡◌, ◌+◌, ◌-◌, sym, ap, refl, arith}
 use Rattle.schema_reader.specs.Views.{drafted}
 use Rattle.schema_grammar.specs.Texts.{finish, read_opening}
-use Rattle.schema_grammar.proofs.RefusalLemmas.{ok_whole, err_refuses}
+use Rattle.schema_grammar.proofs.RefusalLemmas.{ok_whole, refuses_whole}
 use Rattle.lexer.proofs.LineEnds.{cut_any, cut_last, cut_more}
 use Rattle.schema_reader.proofs.text.read_opening.Goals as goal
 
@@ -63,7 +63,7 @@ returns-in-None-clause-err c =
     let cut = cut_last _ _ _ c.in-None.is c.cut_line.ensures.cut in
     let back : c.lines.number + 1 - 1 ≡ c.lines.number = omega arith in
     rw (c.lines.invariant.same, cut.lines, c.in-End.ensures.exact, back)
-    (err_refuses _ _ _ (ap (finish c.lines.number) (sym c.new.ensures.empty)) c.finish.ensures.err)
+    (refuses_whole _ _ _ (ap (finish c.lines.number) (sym c.new.ensures.empty)) c.finish.ensures.err)
 
 pub lines-preserved : goal.lines-preserved
 unfolding read_opening

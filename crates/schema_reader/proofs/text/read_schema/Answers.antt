@@ -3,10 +3,11 @@ use Rattle.schema_grammar.specs.Words.{is_reserved}
 use Rattle.schema_grammar.specs.declared.format.Format.TheVariants as format
 use Rattle.std.proofs.Common.{◌≡◌, ◌∙◌, ℕ, List, subst, false, sym, ap, refl, Ok}
 use Rattle.dep_model.specs.Deps.{dependencies_of}
+use Rattle.dep_model.proofs.FailureLemmas.{refuses_also}
 use Rattle.lexer.specs.Lines.{line_texts}
 use Rattle.schema_reader.specs.Views.{drafted}
 use Rattle.schema_grammar.specs.Texts.{read_text, read_opening, declarations_of}
-use Rattle.schema_grammar.proofs.RefusalLemmas.{ok_at, RefusesAs-map}
+use Rattle.schema_grammar.proofs.RefusalLemmas.{ok_at}
 use Rattle.schema_grammar.proofs.SchemaLaws.{schema-law}
 use Rattle.schema_grammar.proofs.TextLaws.{schema_refused}
 use Rattle.schema_grammar.proofs.SoundLemmas.{IsWhole, opening_whole, forms_schema, forms_columns, whole_free}
@@ -16,7 +17,7 @@ pub returns-in-Err-clause-err : goal.returns-in-Err-clause-err
 unfolding read_text
 returns-in-Err-clause-err c =
     let here = ap (λ text. read_opening 1 (line_texts text)) (sym c.without_mark.ensures.text) in
-    RefusesAs-map _ _ _ (λ refused. schema_refused c.args.text.now c.in-Err.refusal (here ∙ refused)) c.in-Err.ensures.err
+    refuses_also _ _ c.in-Err.failure (λ refusal refused. schema_refused c.args.text.now refusal (here ∙ refused)) c.in-Err.ensures.err
 
 pub make_typed-requires-clause-schema : goal.make_typed-requires-clause-schema
 make_typed-requires-clause-schema c =

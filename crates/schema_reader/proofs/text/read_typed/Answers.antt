@@ -1,7 +1,7 @@
 use Rattle.std.proofs.Common.{◌≡◌, ◌+◌, ◌-◌, sym, ap, arith}
 use Rattle.schema_reader.specs.Views.{drafted}
 use Rattle.schema_grammar.specs.Texts.{finish, read_lines}
-use Rattle.schema_grammar.proofs.RefusalLemmas.{ok_whole, err_refuses}
+use Rattle.schema_grammar.proofs.RefusalLemmas.{ok_whole, refuses_whole}
 use Rattle.schema_reader.proofs.text.read_typed.Goals as goal
 
 pub returns-in-None-clause-ok : goal.returns-in-None-clause-ok
@@ -16,4 +16,4 @@ unfolding read_lines
 returns-in-None-clause-err c =
     let back : c.args.number + 1 - 1 ≡ c.args.number = omega arith in
     rw (c.in-None.is, c.in-Ok.ensures.ok, back)
-    (err_refuses _ _ _ (ap (finish c.args.number) (sym c.new.ensures.empty)) c.finish.ensures.err)
+    (refuses_whole _ _ _ (ap (finish c.args.number) (sym c.new.ensures.empty)) c.finish.ensures.err)

@@ -1,4 +1,4 @@
-use Rattle.std.proofs.Common.{◌∙◌, ap, cond, ◌++◌, ◌∷◌, [], refl, arith, append_assoc}
+use Rattle.std.proofs.Common.{◌∙◌, refl, arith, append_assoc}
 use Rattle.std.proofs.lemmas.List.{append-nil}
 use Rattle.schema_grammar.proofs.RefusalLemmas.{Refuses-here}
 use Rattle.schema_reader.proofs.token_list.tokens.Goals as goal
@@ -16,11 +16,8 @@ returns-in-Stop-clause-err c =
 pub tokens-preserved : goal.tokens-preserved
 tokens-preserved c =
     let leads = c.in-Token.ensures.exact in
-    let added = c.push.ensures.items
-    ∙ ap (λ b. cond b (c.tokens.tokens.items ++ c.in-Token.token ∷ []) c.tokens.tokens.items)
-    c.if-is_err.ensures.negation in
     record {
       same = c.tokens.invariant.same
-          ∙ (rw (leads.all_tokens, added, ← leads.same_length) (rw append_assoc refl));
+          ∙ (rw (leads.all_tokens, c.in_ok-push-in-Token.ensures.items, ← leads.same_length) (rw append_assoc refl));
       room = omega (arith, c.tokens.invariant.room, c.in-Token.ensures.advances.fits);
     }

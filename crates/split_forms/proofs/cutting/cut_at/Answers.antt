@@ -1,5 +1,5 @@
-use Rattle.std.proofs.Common.{subst}
-use Rattle.attr_sets.specs.Places.{minus, Same}
+use Rattle.std.proofs.Common.{◌≡◌, subst}
+use Rattle.attr_sets.specs.Places.{minus}
 use Rattle.attr_sets.specs.Sets.{places}
 use Rattle.attr_sets.specs.declared.set.AttrSet.{AttrSet}
 use Rattle.split_forms.proofs.WalkLemmas.{cut_list}
@@ -9,7 +9,7 @@ pub returns : goal.returns
 returns c =
     let xs = c.args.schemes.now.items in
     let old = c.index-scheme.result.now in
-    let rest = subst (λ (s : AttrSet). Same (places c.minus.result) (minus (places s) (places c.args.breach.rhs)))
+    let rest = subst (λ (s : AttrSet). places c.minus.result ≡ minus (places s) (places c.args.breach.rhs))
     c.index-scheme.ensures c.minus.ensures.members in
     record {
       cut = cut_list xs c.insert.new.self.items c.args.at old c.union.result c.minus.result (places c.args.breach.lhs)

@@ -4,6 +4,9 @@ use Rattle.std.proofs.lemmas.List.Elements.{All-weaker, All-contains, All-map}
 use Rattle.attr_sets.specs.Sets.{places}
 use Rattle.attr_sets.specs.declared.set.AttrSet.{AttrSet}
 use Rattle.dep_model.specs.declared.schema.Schema.{Schema}
+use Rattle.dep_model.specs.Failures.{RefusesAs}
+use Rattle.dep_model.specs.declared.failure.Failure.{Failure}
+use Rattle.dep_model.specs.declared.failure.Failure.TheVariants.{Refused}
 use Rattle.dep_model.specs.Plans.{schemes_of}
 use Rattle.dep_model.specs.Projections.{IsLossless}
 use Rattle.dep_model.specs.Schemas.{width_of, theory_of}
@@ -24,18 +27,18 @@ use Rattle.split_forms.proofs.splitting.split.Goals as goal
 some_places : (s : Schema) → 0 < width_of s
 some_places s = s.valid.some_names
 
-never : (n : ℕ) (ds : List Dependency) (form : Form) (limit : ℕ) (result : Result Plan SplitRefusal) → 0 < n
-    → (form ≡ Third → ⊥) → IfErr result (IsRefusedSplit n ds form limit)
-    → 2 ^ (n - 1) ≤ limit → result ≡ Err TooManySchemes → ⊥
+never : (n : ℕ) (ds : List Dependency) (form : Form) (limit : ℕ) (result : Result Plan (Failure SplitRefusal)) → 0 < n
+    → (form ≡ Third → ⊥) → IfErr result (RefusesAs (IsRefusedSplit n ds form limit))
+    → 2 ^ (n - 1) ≤ limit → result ≡ Err (Refused TooManySchemes) → ⊥
 never n ds form limit result some split refused large is =
     let many : IsRefusedSplit n ds form limit TooManySchemes =
-    subst (λ (r : Result Plan SplitRefusal). IfErr r (IsRefusedSplit n ds form limit)) is refused in
+    subst (λ (r : Result Plan (Failure SplitRefusal)). IfErr r (RefusesAs (IsRefusedSplit n ds form limit))) is refused in
     absurd (omega (arith, too_many_short n ds form some split limit many.0, large))
 
 pub returns-in-Err-clause-never_too_many : goal.returns-in-Err-clause-never_too_many
 returns-in-Err-clause-never_too_many c large is =
     let s = c.args.schema.now in
-    never (width_of s) (theory_of s) c.args.form c.args.limit (Err c.in-Err.refusal) (some_places s) c.requires.form
+    never (width_of s) (theory_of s) c.args.form c.args.limit (Err c.in-Err.failure) (some_places s) c.requires.form
     c.in-Err.ensures.refused large is
 
 pub make-requires : goal.make-requires

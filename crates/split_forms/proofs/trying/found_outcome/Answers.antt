@@ -2,7 +2,6 @@ use Rattle.std.proofs.Common.{List, sym, subst}
 use Rattle.std.proofs.lemmas.List.Elements.{All-contains}
 use Rattle.attr_sets.specs.Places.{Places}
 use Rattle.attr_sets.specs.Sets.{places}
-use Rattle.attr_sets.proofs.PlacesLemmas.{Same-path}
 use Rattle.dep_model.specs.Schemas.{width_of, theory_of}
 use Rattle.split_forms.specs.declared.outcome.Outcome.{Outcome}
 use Rattle.split_forms.specs.declared.trying.Tried.{Tried}
@@ -21,5 +20,5 @@ returns-in-Some-clause-outcome c =
     All-contains (λ (one : Tried). IsOutcome n ds form (places one.scheme) one.outcome) c.deref.result.now found.1 all
     (found.0, found.2, found.3) in
     subst (λ (s : Places). IsOutcome n ds form s c.in-Some.outcome)
-    (Same-path (places found.1.scheme) (places c.args.scheme) found.4.0)
+    found.4.0
     (subst (λ (o : Outcome). IsOutcome n ds form (places found.1.scheme) o) found.4.1 known)

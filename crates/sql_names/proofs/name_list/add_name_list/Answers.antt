@@ -5,7 +5,7 @@ use Rattle.schema_printer.specs.Printing.{members_from}
 use Rattle.sql_names.specs.Names.{quoted_name, listed}
 use Rattle.sql_names.proofs.NameLemmas.{names_inside, names_outside, listed_more, some_more, name_is}
 use Rattle.sql_names.proofs.name_list.add_name_list.Goals as goal
-use Rattle.sql_names.proofs.name_list.add_name_list.Goals.{then-has+in_ok-add_listed, else-has}
+use Rattle.sql_names.proofs.name_list.add_name_list.Goals.{then-has+in_ok-add_listed_name, else-has}
 
 pub loop-place-preserved : goal.loop-place-preserved
 loop-place-preserved c =
@@ -16,12 +16,12 @@ loop-place-preserved c =
     let before = c.loop-place.invariant in
     let lt : n < length names = omega (arith, c.loop-place-test.true, c.width-place-end.ensures.count) in
     elim c.if-has.branch [
-      | then-has+in_ok-add_listed w ↦
+      | then-has+in_ok-add_listed_name w ↦
           rw (names_inside x names n lt (sym w.if-has.ensures.member), w.text-is, w.some-is) (record {
             added = listed_more (members_from x 0 (take n names)) (get_or names n []) w.name.result.now
                 c.loop-place.some c.args.text.now.items c.loop-place.text.items
-                w.add_listed.new.text.items before.added before.some
-                (name_is s n w.name.result.now w.name.ensures.name) w.in_ok-add_listed.ensures.added;
+                w.add_listed_name.new.text.items before.added before.some
+                (name_is s n w.name.result.now w.name.ensures.name) w.in_ok-add_listed_name.ensures.added;
             some = some_more false (members_from x 0 (take n names)) (get_or names n []);
           })
       | else-has w ↦ rw (names_outside x names n lt (sym w.if-has.ensures.member), w.text-is, w.some-is) before

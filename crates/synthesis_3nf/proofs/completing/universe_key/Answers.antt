@@ -1,8 +1,7 @@
-use Rattle.std.proofs.Common.{◌≡◌, ℕ, List, sym, subst}
+use Rattle.std.proofs.Common.{◌≡◌, List, sym, subst, ap, ◌∙◌}
 use Rattle.std.specs.Prelude.{All}
-use Rattle.attr_sets.specs.Places.{Places, below, Within, Same}
+use Rattle.attr_sets.specs.Places.{Places, below, Within}
 use Rattle.attr_sets.specs.Sets.{places}
-use Rattle.attr_sets.proofs.PlacesLemmas.{Same-path}
 use Rattle.dep_model.specs.declared.dep.Dep.{Dep}
 use Rattle.dep_model.specs.Dependencies.{functional_part}
 use Rattle.dep_model.specs.Deps.{dependencies_of, IsDepWithin}
@@ -15,7 +14,7 @@ returns c =
     let s = c.args.schema.now in
     let n = width_of s in
     let key = places c.functional_key.result in
-    let universe : places c.full.result ≡ below n = Same-path (places c.full.result) (below n) (subst (λ (m : ℕ). Same (places c.full.result) (below m)) c.width.ensures.count c.full.ensures.members) in
+    let universe : places c.full.result ≡ below n = c.full.ensures.members ∙ ap below c.width.ensures.count in
     let within : All (IsDepWithin (below n)) c.deps.result.now = subst (λ (es : List Dep). All (IsDepWithin (below n)) es) (sym c.deps.ensures.deps) s.valid.deps_within in
     let u_in : Within (places c.full.result) (below n) = subst (λ (u : Places). Within u (below n)) (sym universe) (λ k m. m) in
     record {

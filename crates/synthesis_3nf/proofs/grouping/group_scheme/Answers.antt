@@ -1,4 +1,5 @@
 use Rattle.std.proofs.Common.{◌<◌, length, sym, take_all}
+use mathlib.Core.Path.{fun_ext}
 use Rattle.std.proofs.Math.Bool.{or-false}
 use Rattle.attr_sets.specs.Sets.{places}
 use Rattle.dep_model.specs.declared.dep.Dep.{Dep}
@@ -7,7 +8,7 @@ use Rattle.synthesis_3nf.proofs.LoopLemmas.{group_more}
 use Rattle.synthesis_3nf.proofs.grouping.group_scheme.Goals as goal
 
 pub loop-dep-init : goal.loop-dep-init
-loop-dep-init c k = sym (or-false (places c.args.left k))
+loop-dep-init c = fun_ext (λ k. sym (or-false (places c.args.left k)))
 
 pub loop-dep-preserved : goal.loop-dep-preserved
 loop-dep-preserved c =

@@ -1,5 +1,4 @@
-use Rattle.std.proofs.Common.{ℕ, take}
-use Rattle.attr_sets.specs.Places.{Same}
+use Rattle.std.proofs.Common.{◌≡◌, ℕ, take}
 use Rattle.attr_sets.specs.Sets.{places}
 use Rattle.table_queries.specs.Queries.{attributes_of, plan_join}
 use Rattle.table_scripts.specs.Migrating.{stored_tables}
@@ -8,4 +7,4 @@ use Rattle.table_scripts.proofs.joining.attributes.Given as goal
 -- the attributes of the tables so far
 abbrev pub invariant-loop-design : goal.invariant-loop-design
 invariant-loop-design l = (n : ℕ)
-    → Same (places l.set) (attributes_of n (plan_join (stored_tables (take l.design-index l.designs))))
+    → places l.set ≡ attributes_of n (plan_join (stored_tables (take l.design-index l.designs)))

@@ -1,5 +1,4 @@
 use Rattle.std.proofs.Common.{◌≡◌, take}
-use Rattle.attr_sets.specs.Places.{Same}
 use Rattle.attr_sets.specs.Sets.{places}
 use Rattle.dep_model.specs.Schemas.{width_of}
 use Rattle.table_queries.specs.Queries.{attributes_of, joined_with, stored_query}
@@ -12,6 +11,6 @@ abbrev pub invariant-loop-design : goal.invariant-loop-design
 invariant-loop-design l = record {
   text : l.text.items ≡ text_at l.schema l.table left
       (joined_with (stored_query (stored_of l.first)) (stored_tables (take l.design-index l.more)));
-  seen : Same (places l.seen) (attributes_of (width_of l.schema)
-      (joined_with (stored_query (stored_of l.first)) (stored_tables (take l.design-index l.more))));
+  seen : places l.seen ≡ attributes_of (width_of l.schema)
+      (joined_with (stored_query (stored_of l.first)) (stored_tables (take l.design-index l.more)));
 }

@@ -2,7 +2,6 @@ use Rattle.std.proofs.Common.{List, ℕ, ◌≡◌, subst, ap, ◌∙◌}
 use Rattle.std.specs.Prelude.{IfOk}
 use Rattle.attr_sets.specs.Places.{union}
 use Rattle.attr_sets.specs.Sets.{places}
-use Rattle.attr_sets.proofs.PlacesLemmas.{Same-path}
 use Rattle.sql_names.specs.Names.{name_list}
 use Rattle.table_queries.specs.Queries.{values_on, join}
 use Rattle.table_scripts.specs.QueryTexts.{select_text, except_text, query_text}
@@ -13,7 +12,7 @@ returns c =
     let s = c.args.schema.now in
     let first = places c.args.left in
     let second = places c.args.right in
-    let columns = c.deref.ensures.value ∙ c.in_ok-names.ensures.text ∙ ap (name_list s) (Same-path (places c.union.result) (union first second) c.union.ensures.members) in
+    let columns = c.deref.ensures.value ∙ c.in_ok-names.ensures.text ∙ ap (name_list s) c.union.ensures.members in
     let joined = c.in_ok-joined.ensures.text ∙ ap (λ (names : List ℕ). select_text names c.deref-2.result.now) columns
     ∙ ap (select_text (name_list s (union first second))) (c.deref-2.ensures.value ∙ c.in_ok-sources.ensures.text) in
     record {

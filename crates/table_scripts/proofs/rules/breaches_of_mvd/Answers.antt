@@ -1,6 +1,6 @@
 use Rattle.std.proofs.Common.{List, ℕ, ◌≡◌, sym, subst, ap, ◌∙◌}
 use Rattle.std.specs.Prelude.{IfOk}
-use Rattle.attr_sets.specs.Places.{below, Same}
+use Rattle.attr_sets.specs.Places.{below}
 use Rattle.attr_sets.specs.Sets.{places}
 use Rattle.dep_model.specs.Schemas.{width_of}
 use Rattle.table_scripts.proofs.PieceLemmas.{line_of, mvd_text}
@@ -9,8 +9,8 @@ use Rattle.table_scripts.proofs.rules.breaches_of_mvd.Goals as goal
 pub returns : goal.returns
 returns c =
     let s = c.args.schema.now in
-    let universe : Same (places c.full-universe.result) (below (width_of s)) =
-    subst (λ (n : ℕ). Same (places c.full-universe.result) (below n)) c.width.ensures.count c.full-universe.ensures.members in
+    let universe : places c.full-universe.result ≡ below (width_of s) =
+    c.full-universe.ensures.members ∙ ap below c.width.ensures.count in
     record {
       text = subst (λ (t : List ℕ). IfOk c.statement.result (λ text. text.items ≡ t))
           (ap line_of (c.deref.ensures.value ∙ c.in_ok-beyond.ensures.text)

@@ -2,7 +2,6 @@ use Rattle.std.proofs.Common.{List, ℕ, ◌++◌, ap, ◌∙◌}
 use Rattle.std.specs.Prelude.{codes}
 use Rattle.attr_sets.specs.Places.{Places, meet}
 use Rattle.attr_sets.specs.Sets.{places}
-use Rattle.attr_sets.proofs.PlacesLemmas.{Same-path}
 use Rattle.table_scripts.specs.QueryTexts.{derived_text, link_text, values_text}
 use Rattle.table_scripts.proofs.rules.sources.Goals as goal
 
@@ -23,5 +22,5 @@ returns c =
           ∙ ap (link_text s (places c.meet.result))
           (c.deref-3.ensures.value ∙ c.in_ok-source.ensures.text
           ∙ ap (λ (query : List ℕ). derived_text query (codes "r")) (c.deref-2.ensures.value ∙ c.in_ok-values-2.ensures.text))
-          ∙ ap (λ (shared : Places). link_text s shared back) (Same-path (places c.meet.result) (meet first second) c.meet.ensures.members));
+          ∙ ap (λ (shared : Places). link_text s shared back) c.meet.ensures.members);
     }

@@ -10,7 +10,7 @@ invariant-loop-row g l =
       tells : target.tells l.target ≡ target.tells l.fn.target;
       keeps : KeepsFinished (target.finished l.fn.target) (target.finished l.target);
       opened : target.opened l.target
-          (record { name = l.table.name; columns = l.table.columns.items; rows = take l.row-index l.table.rows.items });
-      width : target.width l.target ≡ Some (length l.table.columns.items);
+          (record { name = l.table.held.name; columns = l.table.held.columns.items; rows = take l.row-index l.table.held.rows.items });
+      width : target.width l.target ≡ Some (length l.table.held.columns.items);
       fine : target.faults l.target ≡ target.faults l.fn.target;
     }

@@ -8,6 +8,8 @@ use Rattle.attr_sets.specs.Sets.{places}
 use Rattle.chase_laws.specs.Tableaux.{SymbolRow, Tableau, SameTableau, scheme_row, plan_tableau}
 use Rattle.chase_laws.proofs.TableauLemmas.{Same-refl}
 use Rattle.std.specs.Prelude.{Result, Err}
+use Rattle.dep_model.specs.declared.failure.Failure.{Failure}
+use Rattle.dep_model.specs.declared.failure.Failure.TheVariants.{Refused}
 use Rattle.tableau_chase.specs.declared.chased.ChaseRefusal.{ChaseRefusal}
 use Rattle.tableau_chase.specs.declared.chased.ChaseRefusal.TheVariants.{TooManyRows}
 use Rattle.tableau_chase.specs.declared.pool.Pool.{Pool}
@@ -25,9 +27,9 @@ rows_more n schemes i d low =
     ap (plan_tableau n) (plan_more schemes i d low)
     ∙ scheme_rows-push n 1 (i + 1) (take i (schemes_of schemes)) (places (get_or schemes i d)) (omega (arith, length-take-le i (schemes_of schemes) (omega (arith, low, length-map schemes places))))
 
--- a refusal handed on
-refused : (refusal : ChaseRefusal) → ◌≡◌ {A = Result Pool ChaseRefusal} (Err refusal) (Err TooManyRows) → ◌≡◌ {A = Result (Unit {0}) ChaseRefusal} (Err refusal) (Err TooManyRows)
-refused refusal e = let same : refusal ≡ TooManyRows = cc in ap {B = Result (Unit {0}) ChaseRefusal} (λ (r : ChaseRefusal). Err r) same
+-- a failure handed on
+refused : (failure : Failure ChaseRefusal) → ◌≡◌ {A = Result Pool (Failure ChaseRefusal)} (Err failure) (Err (Refused TooManyRows)) → ◌≡◌ {A = Result (Unit {0}) (Failure ChaseRefusal)} (Err failure) (Err (Refused TooManyRows))
+refused failure e = let same : failure ≡ Refused TooManyRows = cc in ap {B = Result (Unit {0}) (Failure ChaseRefusal)} (λ (f : Failure ChaseRefusal). Err f) same
 
 pub loop-i-init : goal.loop-i-init
 loop-i-init c = record { pool = c.new-pool.ensures.pool; same = subst (λ (t : Tableau). SameTableau [] t) (sym c.new-pool.ensures.rows) (Same-refl []) }
@@ -50,7 +52,7 @@ loop-i-preserved c =
 
 pub returns-in-Err-clause-too_many : goal.returns-in-Err-clause-too_many
 returns-in-Err-clause-too_many c e' =
-    let e = refused c.in-Err.refusal e' in
+    let e = refused c.in-Err.failure e' in
     let n = c.args.width in
     let schemes = c.args.schemes.now in
     let i = c.loop-i.i in

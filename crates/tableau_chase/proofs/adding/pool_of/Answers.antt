@@ -3,15 +3,17 @@ use Rattle.std.proofs.lemmas.List.{take_more, get_or_read}
 use Rattle.chase_laws.specs.Tableaux.{SymbolRow, Tableau, SameTableau}
 use Rattle.chase_laws.proofs.TableauLemmas.{Same-refl}
 use Rattle.std.specs.Prelude.{Result, Err}
+use Rattle.dep_model.specs.declared.failure.Failure.{Failure}
+use Rattle.dep_model.specs.declared.failure.Failure.TheVariants.{Refused}
 use Rattle.tableau_chase.specs.declared.chased.ChaseRefusal.{ChaseRefusal}
 use Rattle.tableau_chase.specs.declared.chased.ChaseRefusal.TheVariants.{TooManyRows}
 use Rattle.tableau_chase.specs.declared.pool.Pool.{Pool}
 use Rattle.tableau_chase.proofs.PoolLemmas.{same_added, added_length}
 use Rattle.tableau_chase.proofs.adding.pool_of.Goals as goal
 
--- a refusal handed on
-refused : (refusal : ChaseRefusal) → ◌≡◌ {A = Result Pool ChaseRefusal} (Err refusal) (Err TooManyRows) → ◌≡◌ {A = Result (Unit {0}) ChaseRefusal} (Err refusal) (Err TooManyRows)
-refused refusal e = let same : refusal ≡ TooManyRows = cc in ap {B = Result (Unit {0}) ChaseRefusal} (λ (r : ChaseRefusal). Err r) same
+-- a failure handed on
+refused : (failure : Failure ChaseRefusal) → ◌≡◌ {A = Result Pool (Failure ChaseRefusal)} (Err failure) (Err (Refused TooManyRows)) → ◌≡◌ {A = Result (Unit {0}) (Failure ChaseRefusal)} (Err failure) (Err (Refused TooManyRows))
+refused failure e = let same : failure ≡ Refused TooManyRows = cc in ap {B = Result (Unit {0}) (Failure ChaseRefusal)} (λ (f : Failure ChaseRefusal). Err f) same
 
 pub loop-i-init : goal.loop-i-init
 loop-i-init c = record { pool = c.new-pool.ensures.pool; same = subst (λ (t : Tableau). SameTableau [] t) (sym c.new-pool.ensures.rows) (Same-refl []); count = omega (arith, ap (λ (t : Tableau). length t) c.new-pool.ensures.rows) }
@@ -32,7 +34,7 @@ loop-i-preserved c =
     }
 
 pub returns-in-Err-clause-never_too_many : goal.returns-in-Err-clause-never_too_many
-returns-in-Err-clause-never_too_many c e' = let e = refused c.in-Err.refusal e' in absurd (omega (arith, c.in-Err.ensures.full e, c.loop-i.invariant.count, c.loop-i-test.true, c.requires.few))
+returns-in-Err-clause-never_too_many c e' = let e = refused c.in-Err.failure e' in absurd (omega (arith, c.in-Err.ensures.full e, c.loop-i.invariant.count, c.loop-i-test.true, c.requires.few))
 
 pub returns-clause-same : goal.returns-clause-same
 returns-clause-same c = subst (λ (t : Tableau). SameTableau t c.loop-i.pool.rows.items) (take_all c.loop-i.i c.args.rows.now c.loop-i-test.false) c.loop-i.invariant.same

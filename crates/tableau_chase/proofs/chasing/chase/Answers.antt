@@ -4,6 +4,8 @@ use Rattle.std.proofs.lemmas.Bool.{false≢true}
 use Rattle.std.proofs.lemmas.List.{length-map, with_items_is}
 use Rattle.std.specs.Prelude.{Contains, Result, Err}
 use Rattle.tableau_chase.specs.declared.chased.Chased.{Chased}
+use Rattle.dep_model.specs.declared.failure.Failure.{Failure}
+use Rattle.dep_model.specs.declared.failure.Failure.TheVariants.{Refused}
 use Rattle.tableau_chase.specs.declared.chased.ChaseRefusal.{ChaseRefusal}
 use Rattle.tableau_chase.specs.declared.chased.ChaseRefusal.TheVariants.{TooManyRows}
 use Rattle.tableau_chase.specs.declared.pool.Pool.{Pool}
@@ -24,12 +26,12 @@ use Rattle.tableau_chase.proofs.ChaseLemmas.{EndsLossy, first_round, first_excee
 use Rattle.tableau_chase.proofs.PoolLemmas.{extends_length}
 use Rattle.tableau_chase.proofs.chasing.chase.Goals as goal
 
--- a refusal handed on
-refused : (refusal : ChaseRefusal) → ◌≡◌ {A = Result Chased ChaseRefusal} (Err refusal) (Err TooManyRows) → ◌≡◌ {A = Result (Unit {0}) ChaseRefusal} (Err refusal) (Err TooManyRows)
-refused refusal e = let same : refusal ≡ TooManyRows = cc in ap {B = Result (Unit {0}) ChaseRefusal} (λ (r : ChaseRefusal). Err r) same
+-- a failure handed on
+refused : (failure : Failure ChaseRefusal) → ◌≡◌ {A = Result Chased (Failure ChaseRefusal)} (Err failure) (Err (Refused TooManyRows)) → ◌≡◌ {A = Result (Unit {0}) (Failure ChaseRefusal)} (Err failure) (Err (Refused TooManyRows))
+refused failure e = let same : failure ≡ Refused TooManyRows = cc in ap {B = Result (Unit {0}) (Failure ChaseRefusal)} (λ (f : Failure ChaseRefusal). Err f) same
 
-refused_pool : (refusal : ChaseRefusal) → ◌≡◌ {A = Result Chased ChaseRefusal} (Err refusal) (Err TooManyRows) → ◌≡◌ {A = Result Pool ChaseRefusal} (Err refusal) (Err TooManyRows)
-refused_pool refusal e = let same : refusal ≡ TooManyRows = cc in ap {B = Result Pool ChaseRefusal} (λ (r : ChaseRefusal). Err r) same
+refused_pool : (failure : Failure ChaseRefusal) → ◌≡◌ {A = Result Chased (Failure ChaseRefusal)} (Err failure) (Err (Refused TooManyRows)) → ◌≡◌ {A = Result Pool (Failure ChaseRefusal)} (Err failure) (Err (Refused TooManyRows))
+refused_pool failure e = let same : failure ≡ Refused TooManyRows = cc in ap {B = Result Pool (Failure ChaseRefusal)} (λ (f : Failure ChaseRefusal). Err f) same
 
 pub loop-rows-init : goal.loop-rows-init
 loop-rows-init c = first_round c.width-width.result (theory_of c.args.schema.now) (schemes_of c.args.schemes.now) c.args.limit c.in-Ok.pool.rows.items c.in-Ok.ensures.same c.in-Ok.ensures.pool.differ c.in-Ok.ensures.pool.few
@@ -109,14 +111,14 @@ returns-then-has_distinguished-clause-lossless c =
 pub returns-in-Err-clause-too_many_rows : goal.returns-in-Err-clause-too_many_rows
 returns-in-Err-clause-too_many_rows c e =
     subst (λ (m : ℕ). RoundsExceed m (theory_of c.args.schema.now) (schemes_of c.args.schemes.now) c.args.limit) c.width-width.ensures.count
-    (first_exceeds c.width-width.result (theory_of c.args.schema.now) (schemes_of c.args.schemes.now) c.args.limit (c.in-Err.ensures.too_many (refused_pool c.in-Err.refusal e)))
+    (first_exceeds c.width-width.result (theory_of c.args.schema.now) (schemes_of c.args.schemes.now) c.args.limit (c.in-Err.ensures.too_many (refused_pool c.in-Err.failure e)))
 
 pub returns-in-Err-clause-never_too_many : goal.returns-in-Err-clause-never_too_many
 returns-in-Err-clause-never_too_many c whole low e =
     let ds = theory_of c.args.schema.now in
     let plan = schemes_of c.args.schemes.now in
     functional_few c.width-width.result ds plan c.args.limit (functional_none ds whole) (omega (arith, low, length-map c.args.schemes.now places))
-    (first_exceeds c.width-width.result ds plan c.args.limit (c.in-Err.ensures.too_many (refused_pool c.in-Err.refusal e)))
+    (first_exceeds c.width-width.result ds plan c.args.limit (c.in-Err.ensures.too_many (refused_pool c.in-Err.failure e)))
 
 pub returns-in-Err-add_next-clause-too_many_rows : goal.returns-in-Err-add_next-clause-too_many_rows
 returns-in-Err-add_next-clause-too_many_rows c e =
@@ -133,7 +135,7 @@ returns-in-Err-add_next-clause-too_many_rows c e =
     let back : c.deref.result.now ≡ s = c.deref.ensures.value ∙ with_items_is c.loop-rows.rows s (c.in_ok-settle.ensures.count ∙ c.deref_mut.ensures.len) in
     let same : SameTableau s t = subst (λ (r : Tableau). SameTableau r t) back c.in-Ok-pool_of.ensures.same in
     let lacks : Contains t (distinguished n) → ⊥ = λ h. false≢true (c.if-has_distinguished.ensures.found.1 (subst (λ (r : Tableau). Contains r (distinguished n)) (sym c.deref-in-loop-rows.ensures.value) h)) in
-    let over : Overflows (IsMadeOf n ds t) limit t = subst (λ (d : List Dep). Overflows (IsMadeOf n (dependencies_of d) t) limit t) c.deps-deps.ensures.deps (c.in-Err-add_next.ensures.too_many (refused c.in-Err-add_next.refusal e)) in
+    let over : Overflows (IsMadeOf n ds t) limit t = subst (λ (d : List Dep). Overflows (IsMadeOf n (dependencies_of d) t) limit t) c.deps-deps.ensures.deps (c.in-Err-add_next.ensures.too_many (refused c.in-Err-add_next.failure e)) in
     let exceeds : RoundsExceed n ds plan limit = next_exceeds n ds plan limit rows s t round settles same lacks c.in-Ok-pool_of.ensures.pool.few over in
     subst (λ (m : ℕ). RoundsExceed m ds plan limit) c.width-width.ensures.count exceeds
 
@@ -152,7 +154,7 @@ returns-in-Err-add_next-clause-never_too_many c whole low e =
     let back : c.deref.result.now ≡ s = c.deref.ensures.value ∙ with_items_is c.loop-rows.rows s (c.in_ok-settle.ensures.count ∙ c.deref_mut.ensures.len) in
     let same : SameTableau s t = subst (λ (r : Tableau). SameTableau r t) back c.in-Ok-pool_of.ensures.same in
     let lacks : Contains t (distinguished n) → ⊥ = λ h. false≢true (c.if-has_distinguished.ensures.found.1 (subst (λ (r : Tableau). Contains r (distinguished n)) (sym c.deref-in-loop-rows.ensures.value) h)) in
-    let over : Overflows (IsMadeOf n ds t) limit t = subst (λ (d : List Dep). Overflows (IsMadeOf n (dependencies_of d) t) limit t) c.deps-deps.ensures.deps (c.in-Err-add_next.ensures.too_many (refused c.in-Err-add_next.refusal e)) in
+    let over : Overflows (IsMadeOf n ds t) limit t = subst (λ (d : List Dep). Overflows (IsMadeOf n (dependencies_of d) t) limit t) c.deps-deps.ensures.deps (c.in-Err-add_next.ensures.too_many (refused c.in-Err-add_next.failure e)) in
     let exceeds : RoundsExceed n ds plan limit = next_exceeds n ds plan limit rows s t round settles same lacks c.in-Ok-pool_of.ensures.pool.few over in
     functional_few n ds plan limit (functional_none ds whole) (omega (arith, low, length-map c.args.schemes.now places)) exceeds
 

@@ -2,14 +2,13 @@ use Rattle.std.proofs.Common.{◌≡◌, rules, sym, subst}
 use Rattle.std.specs.Prelude.{All}
 use Rattle.attr_sets.specs.Places.{Places, below}
 use Rattle.attr_sets.specs.Sets.{places}
-use Rattle.attr_sets.proofs.PlacesLemmas.{Same-path}
 use Rattle.dep_model.specs.Deps.{IsDepWithin}
 use Rattle.test_data.proofs.schemas.are_fit.Goals as goal
 
 pub returns-then-deps-le-MOST_DEPENDENCIES : goal.returns-then-deps-le-MOST_DEPENDENCIES
 returns-then-deps-le-MOST_DEPENDENCIES c =
     let whole : places c.full.result ≡ below c.args.width =
-    Same-path (places c.full.result) (below c.args.width) c.full.ensures.members in
+    c.full.ensures.members in
     record {
       fit = (
         λ all. record {

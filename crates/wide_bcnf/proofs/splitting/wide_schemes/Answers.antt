@@ -5,7 +5,7 @@ use Rattle.attr_sets.specs.declared.set.AttrSet.{AttrSet}
 use Rattle.attr_sets.specs.declared.set.TheConstants.{PLACES}
 use Rattle.attr_sets.specs.Places.{Places, only, minus, Within}
 use Rattle.attr_sets.specs.Sets.{places}
-use Rattle.attr_sets.proofs.PlacesLemmas.{Same-path, Same-refl, places_below}
+use Rattle.attr_sets.proofs.PlacesLemmas.{places_below, same_at}
 use Rattle.dep_model.specs.Plans.{schemes_of}
 use Rattle.dep_model.specs.Schemas.{width_of, theory_of, universe_of}
 use Rattle.wide_bcnf.specs.WideSplits.{IsWideSplitOf}
@@ -37,8 +37,8 @@ loop-pair-preserved c =
     let next = places c.without-rest.result in
     let a = c.core_of-core.result.attribute in
     let core = places c.core_of-core.result.scheme in
-    let is : next ≡ minus rest (only a) = Same-path next (minus rest (only a)) c.without-rest.ensures.members in
-    let inside : Within next rest = λ (k : ℕ) m. let e = c.without-rest.ensures.members k in grind (arith, e, m) in
+    let is : next ≡ minus rest (only a) = c.without-rest.ensures.members in
+    let inside : Within next rest = λ (k : ℕ) m. let e = same_at c.without-rest.ensures.members k in grind (arith, e, m) in
     let found = schemes_of c.loop-pair.schemes.items in
     let more : schemes_of c.push.new.self.items ≡ found ++ core ∷ [] =
     ap (λ (xs : List AttrSet). schemes_of xs) c.in_ok-push.ensures.items
@@ -66,5 +66,5 @@ returns c =
     ∙ map-append places items (c.loop-pair.rest ∷ []) in
     record {
       split = subst (λ (xs : List Places). IsWideSplitOf (width_of s) (theory_of s) (universe_of s) xs) (sym all)
-          (c.loop-pair.invariant.goes_on (rest ∷ []) (inl (c.in_default.ensures.none refl, Same-refl rest, refl)));
+          (c.loop-pair.invariant.goes_on (rest ∷ []) (inl (c.in_default.ensures.none refl, refl, refl)));
     }

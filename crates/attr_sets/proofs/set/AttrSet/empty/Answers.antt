@@ -1,3 +1,4 @@
+use mathlib.Core.Path.{fun_ext}
 use Rattle.attr_sets.specs.Sets.{places}
 use Rattle.attr_sets.specs.declared.set.TheConstants.{PLACES}
 use Rattle.attr_sets.proofs.BitLemmas.{has_bit-zero}
@@ -5,4 +6,4 @@ use Rattle.attr_sets.proofs.set.AttrSet.empty.Goals as goal
 
 pub returns : goal.returns
 unfolding places
-returns c = record { members = has_bit-zero PLACES }
+returns c = record { members = fun_ext (has_bit-zero PLACES) }

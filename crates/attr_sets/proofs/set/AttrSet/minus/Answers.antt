@@ -1,9 +1,10 @@
 use Rattle.std.proofs.Common.{arith}
 use Rattle.std.specs.Int.{w128}
+use mathlib.Core.Path.{fun_ext}
 use Rattle.attr_sets.specs.Sets.{places}
 use Rattle.attr_sets.proofs.BitLemmas.{has_bit-and_not}
 use Rattle.attr_sets.proofs.set.AttrSet.minus.Goals as goal
 
 pub returns : goal.returns
 unfolding places
-returns c = record { members = λ k. has_bit-and_not w128 c.args.self.0 c.args.other.0 k (omega arith) }
+returns c = record { members = fun_ext (λ k. has_bit-and_not w128 c.args.self.0 c.args.other.0 k (omega arith)) }

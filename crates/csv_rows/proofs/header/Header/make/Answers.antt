@@ -22,7 +22,7 @@ overflow_add-column c =
     omega arith
 
 pub returns-in-Err-clause-err : goal.returns-in-Err-clause-err
-returns-in-Err-clause-err c = λ other.
+returns-in-Err-clause-err c =
     let end = c.len-i-end.ensures in
     let here = c.loop-i-test.true in
     refused_column _ _ c.loop-i.i c.len.result c.loop-i.columns.items c.field.result.now (places c.loop-i.scheme) _ c.loop-i.invariant (omega arith) (omega (arith, c.loop-i.columns.ok.0, c.len.ensures)) c.field.ensures.value c.in-Err.ensures.attribute

@@ -1,4 +1,4 @@
-use Rattle.std.proofs.Common.{◌≡◌, ◌+◌, ◌++◌, ◌∷◌, [], ℕ, List, length, slice_index_or, sym, ap, subst, ◌∙◌}
+use Rattle.std.proofs.Common.{All, arith, ◌≡◌, ◌+◌, ◌++◌, ◌∷◌, [], ℕ, List, length, slice_index_or, sym, ap, subst, ◌∙◌}
 use Rattle.std.proofs.lemmas.List.{length-append}
 use Rattle.attr_sets.specs.Places.{only}
 use Rattle.csv_rows.specs.Numberings.{AreGroups}
@@ -17,6 +17,7 @@ loop-place-preserved c =
 
 pub invariant_of-result : goal.invariant_of-result
 invariant_of-result c = record {
-  few = c.requires.few;
-  even = columns_even c.args.rows.now c.loop-place.columns.items c.loop-place.place c.loop-place.invariant.width c.loop-place.invariant.codes;
+  few = omega (arith, c.requires.few, c.len.ensures.count);
+  even = subst (λ (n : ℕ). All (λ (codes : List ℕ). length codes ≡ n) c.loop-place.columns.items) (sym c.len.ensures.count)
+      (columns_even c.args.rows.now c.loop-place.columns.items c.loop-place.place c.loop-place.invariant.width c.loop-place.invariant.codes);
 }

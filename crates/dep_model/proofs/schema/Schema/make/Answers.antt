@@ -1,13 +1,14 @@
 use Rattle.std.proofs.Common.{◌∙◌, ap, cond, Some, length}
 use Rattle.attr_sets.specs.Sets.{places}
 use Rattle.dep_model.specs.declared.column.Column.TheVariants.{Text, Integer}
+use Rattle.attr_sets.proofs.PlacesLemmas.{same_at}
 use Rattle.dep_model.proofs.ColumnLemmas.{AreColumns-text, slice_get-columns_on}
 use Rattle.dep_model.proofs.schema.Schema.make.Goals as goal
 
 pub invariant_of-result : goal.invariant_of-result
-invariant_of-result c = record { valid = c.requires.schema; typed = AreColumns-text c.args.names.items (places c.empty.result) c.empty.ensures.members }
+invariant_of-result c = record { valid = c.requires.schema; typed = AreColumns-text c.args.names.items (places c.empty.result) (same_at c.empty.ensures.members) }
 
 pub returns-clause-columns : goal.returns-clause-columns
 returns-clause-columns c i h =
     slice_get-columns_on (length c.args.names.items) (places c.empty.result) i h
-    ∙ ap (λ b. Some (cond b Integer Text)) (c.empty.ensures.members i)
+    ∙ ap (λ b. Some (cond b Integer Text)) (same_at c.empty.ensures.members i)

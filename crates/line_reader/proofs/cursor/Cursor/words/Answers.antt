@@ -1,7 +1,7 @@
-use Rattle.std.proofs.Common.{◌∙◌, sym, ap, refl, arith}
+use Rattle.std.proofs.Common.{◌∙◌, sym, refl, arith}
 use Rattle.std.proofs.lemmas.Bool.Decides.{nat_tests}
-use Rattle.attr_sets.specs.Places.{Places}
 use Rattle.schema_grammar.specs.Rests.{words_from}
+use Rattle.attr_sets.proofs.PlacesLemmas.{same_at}
 use Rattle.line_reader.proofs.cursor.Cursor.words.Goals as goal
 
 pub returns-in-End-clause-ok : goal.returns-in-End-clause-ok
@@ -30,13 +30,13 @@ words-preserved c =
     let word = sym c.is_word.ensures.exact ∙ c.if-not-is_word.false in
     record {
       same = rw (c.words.invariant.same, leads.all_tokens, word, c.in-Ok.ensures.ok)
-          (rw (c.added-set.ensures.members, ← leads.same_length) refl);
+          (rw (c.with-set.ensures.members, ← leads.same_length) refl);
       room = omega (arith, c.words.invariant.room, c.in-Token.ensures.advances.fits);
       within = λ k m. grind (
         arith,
         nat_tests,
         c.words.invariant.within k,
-        ap (λ (x : Places). x k) c.added-set.ensures.members,
+        same_at c.with-set.ensures.members k,
         m,
         c.in-Ok.ensures.inside,
       );

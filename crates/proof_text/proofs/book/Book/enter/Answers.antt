@@ -1,6 +1,5 @@
 use Rattle.std.proofs.Common.{◌≡◌, Result, Ok, Err, refl}
 use Rattle.std.specs.Prelude.{IfOk}
-use Rattle.std.proofs.lemmas.Result.{err_from_is_err_and}
 use Rattle.dep_model.specs.declared.dep.Dep.{Dep}
 use Rattle.dep_model.specs.declared.schema.Schema.{Schema}
 use Rattle.dep_model.specs.Dependencies.{Dependency}
@@ -22,14 +21,11 @@ outcome_within : (s : Schema) (outcome : Result (Deriv × Dep) FaultKind) → ((
 outcome_within s (Ok x) proves = conclusion_within s (tree_of x.0) (dependency_of x.1) (tree_of-attributes x.0) (proves (tree_of x.0) (dependency_of x.1) refl)
 outcome_within s (Err why) proves = tt {0}
 
-pub returns-in_err-node-clause-within : goal.returns-in_err-node-clause-within
-returns-in_err-node-clause-within c =
-    let p = err_from_is_err_and c.from_residual.result c.from_residual.ensures.1 in
-    rw (p.1, p.2) (c.in_err-node.ensures.within (universe_of c.args.schema.now))
+pub returns-in-Err-clause-within : goal.returns-in-Err-clause-within
+returns-in-Err-clause-within c = c.in-Err.ensures.within (universe_of c.args.schema.now)
 
-pub returns-in_err-deriv-clause-within : goal.returns-in_err-deriv-clause-within
-returns-in_err-deriv-clause-within c =
+pub returns-in-Err-settle-clause-within : goal.returns-in-Err-settle-clause-within
+returns-in-Err-settle-clause-within c =
     let s = c.args.schema.now in
-    let is = prepared_is s (opened_all c.args.self.now.unused.items) (dependency_of c.args.line.now.stated) (body_of c.args.line.now.body) _ c.requires.ledger.stand c.in_ok-node.ensures.ok in
-    let p = err_from_is_err_and c.from_residual-in_err-deriv.result c.from_residual-in_err-deriv.ensures.1 in
-    rw (p.1, p.2) (c.in_err-deriv.ensures.within (universe_of s) c.requires.within (outcome_within s c.in_ok-node.node.outcome is.proves))
+    let is = prepared_is s (opened_all c.args.self.now.unused.items) (dependency_of c.args.line.now.stated) (body_of c.args.line.now.body) _ c.requires.ledger.stand c.in-Ok.ensures.ok in
+    c.in-Err-settle.ensures.within (universe_of s) c.requires.within (outcome_within s c.in-Ok.node.outcome is.proves)

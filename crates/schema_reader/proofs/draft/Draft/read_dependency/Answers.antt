@@ -1,21 +1,20 @@
 use Rattle.std.proofs.Common.{refl}
 use Rattle.schema_grammar.specs.Declarations.{dependency_line}
-use Rattle.schema_grammar.proofs.RefusalLemmas.{Refuses-here, Refuses-from}
+use Rattle.schema_grammar.proofs.RefusalLemmas.{Refuses-here}
 use Rattle.schema_reader.proofs.draft.Draft.read_dependency.Goals as goal
 
 pub returns-in-Err-clause-err : goal.returns-in-Err-clause-err
 unfolding dependency_line
 returns-in-Err-clause-err c =
-    Refuses-here _ _ _ c.at.ensures.refusal (rw (c.in-Err.ensures.err, c.requires.word) refl)
+    Refuses-here _ _ _ c.at-refusal.ensures.refusal (rw (c.in-Err.ensures.err, c.requires.word) refl)
 
 pub returns-in-Err-follow-clause-err : goal.returns-in-Err-follow-clause-err
 unfolding dependency_line
 returns-in-Err-follow-clause-err c =
-    Refuses-from _ _ (rw
-    (c.in-Ok.ensures.ok, ← c.requires.word, ← c.deref.ensures.value, c.in-Err-follow.ensures.err) refl)
+    rw (c.in-Ok.ensures.ok, ← c.requires.word, ← c.deref.ensures.value, c.in-Err-follow.ensures.err) refl
 
-pub returns-in-Ok-add_dependency-clause-ok : goal.returns-in-Ok-add_dependency-clause-ok
+pub returns-clause-ok : goal.returns-clause-ok
 unfolding dependency_line
-returns-in-Ok-add_dependency-clause-ok c =
-    rw (c.in-Ok-add_dependency.ensures.ok, c.in-Ok.ensures.ok, ← c.requires.word, ← c.deref.ensures.value)
+returns-clause-ok c =
+    rw (c.in_ok-add_dependency.ensures.ok, c.in-Ok.ensures.ok, ← c.requires.word, ← c.deref.ensures.value)
     (rw c.in-Ok-follow.ensures.ok refl)

@@ -1,0 +1,40 @@
+ghost use Rattle.std.specs.Prelude.{◌≡◌, IfOk};
+ghost use Rattle.csv.specs.Records.{fields_of};
+ghost use Rattle.csv_text.specs.Rows.{csv_row};
+
+use crate::writing::{take_values, write_row};
+use csv::{ByteRecord, Writer};
+use dep_model::{Name, Row, WantMemory};
+use std::alloc::Global;
+
+/// The line of a row.
+pub fn row_line(alloc: Global, row: &Row) -> Result<Vec<u8>, WantMemory>
+    ensures text { IfOk result (λ text. text.items ≡ csv_row row.now) }
+{
+    let mut fields = ByteRecord::new(alloc);
+    take_values(&mut fields, row)?;
+    fields_line(alloc, &fields)
+}
+
+/// The line of a header of these names.
+pub fn header_line(alloc: Global, names: &[Name]) -> Result<Vec<u8>, WantMemory>
+    ensures text { IfOk result (λ text. text.items ≡ csv_row names.now) }
+{
+    let mut fields = ByteRecord::new(alloc);
+    for name in names {
+        fields.push_field(name.bytes())?;
+    }
+    fields_line(alloc, &fields)
+}
+
+/// The line of these fields.
+pub fn fields_line(alloc: Global, fields: &ByteRecord) -> Result<Vec<u8>, WantMemory>
+    ensures text { IfOk result (λ text. text.items ≡ csv_row (fields_of fields.now)) }
+{
+    let mut writer = Writer::from_writer(Vec::new(alloc));
+    write_row(&mut writer, fields)?;
+    match writer.into_inner() {
+        Ok(text) => Ok(text),
+        Err(_) => Err(WantMemory),
+    }
+}

@@ -1,0 +1,2 @@
+mod PartFiles
+mod MigratedFiles

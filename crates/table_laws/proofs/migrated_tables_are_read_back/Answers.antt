@@ -1,0 +1,6 @@
+-- The files of the tables of a migration.
+use Rattle.table_laws.proofs.MigratedFiles.{tables_back}
+use Rattle.table_laws.proofs.migrated_tables_are_read_back.Goals as goal
+
+pub returns : goal.returns
+returns c = record { law = λ s plan rows proper over typed few some. tables_back s rows 1 plan proper over typed few some }
