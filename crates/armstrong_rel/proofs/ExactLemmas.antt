@@ -7,10 +7,10 @@ use Rattle.std.proofs.lemmas.Bool.{true≢false, cases_eq, cases_Bool, ltb-true,
 use Rattle.std.proofs.lemmas.Fmt.{decimal_injective, decimal_nonempty, first_decimal, digits_decimal, digits_value-decimal}
 use Rattle.std.proofs.lemmas.List.Elements.{Contains-get_or}
 use Rattle.std.proofs.lemmas.Option.{slice_get_within}
-use Rattle.attr_sets.specs.Places.{Places, below, meet, Within}
-use Rattle.attr_sets.proofs.PlacesLemmas.{tell_within, same_at}
+use Rattle.attr_sets.specs.Attributes.{Attributes, below, intersection, IsSubset}
+use Rattle.attr_sets.proofs.AttributesLemmas.{tell_subset, same_at}
 use Rattle.dep_model.specs.declared.column.Column.TheVariants.{Integer}
-use Rattle.attr_sets.specs.Sets.{places}
+use Rattle.attr_sets.specs.Sets.{attributes}
 use Rattle.dep_model.specs.declared.schema.Schema.{Schema}
 use Rattle.dep_model.specs.Schemas.{width_of, theory_of, deps_of, LegalFor, TypedFor}
 use Rattle.dep_model.specs.Columns.{columns_on, IsTyped}
@@ -24,18 +24,18 @@ use Rattle.dep_model.proofs.DepLemmas.{dependencies_all-from}
 use Rattle.dep_model.proofs.ListLemmas.{Contains-head}
 use Rattle.dep_model.proofs.PreservationLemmas.{fd-obeys, fd-obeyed}
 use Rattle.dep_model.proofs.TwoTupleLemmas.{value_at-all_zeros}
-use Rattle.dep_model.proofs.NumeralLemmas.{decimal_zero, numerals}
+use Rattle.dep_model.proofs.NumeralLemmas.{decimal_zero, decimal_numeral_model}
 use Rattle.fd_closure.proofs.ClosureLemmas.{fd_each-to, fd_each-from}
 use Rattle.fd_closure.proofs.ClosedSets.{all_functional}
 use Rattle.armstrong_rel.specs.ClosedSets.{IsClosedSet, AreIrreducible}
 use Rattle.armstrong_rel.specs.Exhibits.{numbered_tuple, numbered_from, tuples_for, IsArmstrong, IsExhibit}
-use Rattle.armstrong_rel.proofs.ClosedLemmas.{HaveClosures, functional_closures, closure_more, closure_holds, closure_closed, universe_closed, meet_closed, above_lacking}
+use Rattle.armstrong_rel.proofs.ClosedLemmas.{HaveClosures, functional_closures, closure_more, closure_holds, closure_closed, universe_closed, intersection_closed, above_lacking}
 use Rattle.armstrong_rel.proofs.TupleLemmas.{value_inside, value_outside, decimal_not_zero, set_of, set_of_zero, tuple_of_number, tuple_of_set, set_of_all, tuples_over}
 
--- ---- two tuples with different numbers agree on the meet of their sets alone
-agree_inside : (n i j : ℕ) (x y : Places) (k : ℕ) → i < 2 ^ 64 → j < 2 ^ 64 → (i ≡ j → ⊥) → (i ≡ 0 → x k ≡ true)
+-- ---- two tuples with different numbers agree on the intersection of their sets alone
+agree_inside : (n i j : ℕ) (x y : Attributes) (k : ℕ) → i < 2 ^ 64 → j < 2 ^ 64 → (i ≡ j → ⊥) → (i ≡ 0 → x k ≡ true)
     → (j ≡ 0 → y k ≡ true) → k < n
-    → value_at (numbered_tuple n i x) k ≡ value_at (numbered_tuple n j y) k → meet x y k ≡ true
+    → value_at (numbered_tuple n i x) k ≡ value_at (numbered_tuple n j y) k → intersection x y k ≡ true
 agree_inside n i j x y k i_wide j_wide differ i_first j_first low same = ⊎_elim
     (λ in_x. ⊎_elim
     (λ in_y. grind (arith, in_x, in_y))
@@ -58,17 +58,17 @@ agree_inside n i j x y k i_wide j_wide differ i_first j_first low same = ⊎_eli
     some_x outside = elim (cases_eq i 0)
         [ inl none ↦ absurd (true≢false (sym (i_first none) ∙ outside)) | inr more ↦ omega arith ]
 
-module _ (n : ℕ) (ds : List Dependency) (sets : List Places) (few : length sets < 2 ^ 64 - 1)
+module _ (n : ℕ) (ds : List Dependency) (sets : List Attributes) (few : length sets < 2 ^ 64 - 1)
     (are : AreIrreducible n ds sets) where
   closed_at : (j : ℕ) → j ≤ length sets → IsClosedSet n ds (set_of n sets j)
   closed_at j low = set_of_all n sets (IsClosedSet n ds) (universe_closed n ds) (λ i d l. (are.each i d l).closed) j low
 
   universe_first : (j k : ℕ) → k < n → j ≡ 0 → set_of n sets j k ≡ true
   universe_first j k low first = ap (λ (i : ℕ). set_of n sets i k) first
-      ∙ ap (λ (x : Places). x k) (set_of_zero n sets) ∙ lt-ltb k n low
+      ∙ ap (λ (x : Attributes). x k) (set_of_zero n sets) ∙ lt-ltb k n low
 
   -- what is implied is obeyed
-  pub implied_obeyed : (x y : Places) → Within x (below n) → Within y (below n) → Implies n ds (fd x y)
+  pub implied_obeyed : (x y : Attributes) → IsSubset x (below n) → IsSubset y (below n) → Implies n ds (fd x y)
       → ObeysFd x y (tuples_for n sets)
   implied_obeyed x y x_in y_in implied t u t_in u_in agree k member =
       let one = tuple_of_number n sets t t_in in
@@ -82,20 +82,20 @@ module _ (n : ℕ) (ds : List Dependency) (sets : List Places) (few : length set
         | inl same ↦ ap (λ (v : Tuple). value_at v k)
             (one.2 ∙ ap (λ (m : ℕ). numbered_tuple n m (set_of n sets m)) same ∙ sym other.2)
         | inr differ ↦
-            let inside : Within x (meet c d) = λ (a : ℕ) m.
+            let inside : IsSubset x (intersection c d) = λ (a : ℕ) m.
             let a_low : a < n = ltb-true a n (x_in a m) in
             agree_inside n i j c d a (omega (arith, one.1, few)) (omega (arith, other.1, few)) differ
             (universe_first i a a_low) (universe_first j a a_low) a_low
             (ap (λ (v : Tuple). value_at v a) (sym one.2) ∙ agree a m ∙ ap (λ (v : Tuple). value_at v a) other.2) in
-            let both : meet c d k ≡ true =
-            (meet_closed n ds c d (closed_at i one.1) (closed_at j other.1)).closed k
-            (closure_more n ds x (meet c d) k inside (low, fd_each-to n ds x y implied k member)) in
+            let both : intersection c d k ≡ true =
+            (intersection_closed n ds c d (closed_at i one.1) (closed_at j other.1)).closed k
+            (closure_more n ds x (intersection c d) k inside (low, fd_each-to n ds x y implied k member)) in
             ap (λ (v : Tuple). value_at v k) one.2 ∙ value_inside n i c k low (grind (arith, both))
             ∙ sym (ap (λ (v : Tuple). value_at v k) other.2 ∙ value_inside n j d k low (grind (arith, both)))
       ]
 
   -- and what is obeyed is implied
-  pub obeyed_implied : HaveClosures n ds → (x y : Places) → Within x (below n) → Within y (below n)
+  pub obeyed_implied : HaveClosures n ds → (x y : Attributes) → IsSubset x (below n) → IsSubset y (below n)
       → ObeysFd x y (tuples_for n sets) → Implies n ds (fd x y)
   obeyed_implied closures x y x_in y_in obeys =
       let found = closures x x_in in
@@ -118,12 +118,12 @@ module _ (n : ℕ) (ds : List Dependency) (sets : List Places) (few : length set
       absurd (decimal_not_zero tuple.0 tuple.1 (omega (arith, tuple.2, few))
       (sym (value_outside n tuple.0 s k beyond.1 (same_at listed.4 k ∙ above.3)) ∙ sym same ∙ value_at-all_zeros n k beyond.1)))
       (λ all. fd_each-from n ds x y (λ (a : ℕ) m. ((found.1 a).0 (all a m)).1))
-      (tell_within n y c y_in)
+      (tell_subset n y c y_in)
 
-pub exact : (n : ℕ) (ds : List Dependency) (sets : List Places) → All (IsWithin (below n)) ds → functional_part ds
+pub tuples_for_armstrong : (n : ℕ) (ds : List Dependency) (sets : List Attributes) → All (IsWithin (below n)) ds → functional_part ds
     ≡ ds → AreIrreducible n ds sets → length sets < 2 ^ 64 - 1
     → IsArmstrong n ds (tuples_for n sets)
-exact n ds sets within same are few x y x_in y_in = (
+tuples_for_armstrong n ds sets within same are few x y x_in y_in = (
   obeyed_implied n ds sets few are (functional_closures n ds within same) x y x_in y_in,
   implied_obeyed n ds sets few are x y x_in y_in,
 )
@@ -150,16 +150,16 @@ decimal_integer v few = elim (cases_eq v 0) [
   | inr some ↦
       let wide : v < 2 ^ 64 = omega (arith, few) in
       let first : 48 < get_or (decimal v) 0 0 = first_decimal v (omega (arith, some)) wide in
-      let value : digits_value 10 (decimal v) ≡ v = digits_value-decimal numerals v wide in
+      let value : digits_value 10 (decimal v) ≡ v = digits_value-decimal decimal_numeral_model v wide in
       inr (inl (record {
         some = decimal_nonempty v wide;
         first = λ (e : get_or (decimal v) 0 0 ≡ 48). absurd (omega (arith, e, first));
-        digits = digits_decimal numerals v wide;
+        digits = digits_decimal decimal_numeral_model v wide;
         value = omega (arith, value, few);
       }))
 ]
 
-pub tuples_typed : (n : ℕ) (integers : Places) (sets : List Places) → length sets < 2 ^ 63
+pub tuples_typed : (n : ℕ) (integers : Attributes) (sets : List Attributes) → length sets < 2 ^ 63
     → IsTyped (columns_on n integers) (tuples_for n sets)
 tuples_typed n integers sets few i d l k is_integer =
     let low : k < n = omega (
@@ -180,21 +180,21 @@ tuples_typed n integers sets few i d l k is_integer =
     (cases_Bool (x k)))
 
 -- ---- what is shown of a schema of functional dependencies
-pub record IsShown (s : Schema) (r : Relation) : Type 0 where
+pub record IsLegalExhibit (s : Schema) (r : Relation) : Type 0 where
   pub exhibit : IsExhibit (width_of s) (theory_of s) r
   pub armstrong : IsArmstrong (width_of s) (theory_of s) r
   pub legal : LegalFor s r
   pub typed : TypedFor s r
 
-pub shown : (s : Schema) (sets : List Places) → functional_part (theory_of s) ≡ theory_of s
-    → AreIrreducible (width_of s) (theory_of s) sets → length sets < 2 ^ 63 → IsShown s (tuples_for (width_of s) sets)
-shown s sets same are few =
+pub tuples_for_exhibit : (s : Schema) (sets : List Attributes) → functional_part (theory_of s) ≡ theory_of s
+    → AreIrreducible (width_of s) (theory_of s) sets → length sets < 2 ^ 63 → IsLegalExhibit s (tuples_for (width_of s) sets)
+tuples_for_exhibit s sets same are few =
     let within = dependencies_all-from (IsWithin (below (width_of s))) (deps_of s) s.valid.deps_within in
-    let armstrong = exact (width_of s) (theory_of s) sets within same are (omega (arith, few)) in
+    let armstrong = tuples_for_armstrong (width_of s) (theory_of s) sets within same are (omega (arith, few)) in
     record {
       exhibit = record { sets = sets; irreducible = are; tuples = refl };
       armstrong = armstrong;
       legal = armstrong_legal (width_of s) (theory_of s) (tuples_for (width_of s) sets) within same
           (tuples_over (width_of s) sets) armstrong;
-      typed = tuples_typed (width_of s) (places s.integers) sets few;
+      typed = tuples_typed (width_of s) (attributes s.integers) sets few;
     }

@@ -1,7 +1,7 @@
 pub mod KindLemmas
 pub mod NumberLemmas
 pub mod ClosedLemmas
-pub mod MeetLemmas
+pub mod IntersectionLemmas
 pub mod FoundLemmas
 pub mod TupleLemmas
 pub mod ExactLemmas

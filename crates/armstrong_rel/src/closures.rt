@@ -1,5 +1,5 @@
 ghost use Rattle.std.specs.Prelude.{◌≡◌, ◌≤◌, ◌^◌, IfOk, All};
-ghost use Rattle.attr_sets.specs.Places.{below};
+ghost use Rattle.attr_sets.specs.Attributes.{below};
 ghost use Rattle.dep_model.specs.Dependencies.{functional_part};
 ghost use Rattle.dep_model.specs.Deps.{dependencies_of, IsDepWithin};
 ghost use Rattle.armstrong_rel.specs.declared.refusal.TheConstants.{WIDEST_EXHIBITED};
@@ -7,12 +7,12 @@ ghost use Rattle.armstrong_rel.specs.Closures.{AreClosures};
 
 use crate::refusal::WIDEST_EXHIBITED;
 use attr_sets::AttrSet;
-use dep_model::{Dep, WantMemory};
+use dep_model::{Dep, OutOfMemory};
 use fd_closure::closure;
 use std::alloc::Global;
 
 // The closure of each set of attributes, by the number of the set: each is found once.
-pub fn closures(alloc: Global, deps: &[Dep], width: u8) -> Result<Vec<AttrSet>, WantMemory>
+pub fn closures(alloc: Global, deps: &[Dep], width: u8) -> Result<Vec<AttrSet>, OutOfMemory>
     requires width { width ≤ WIDEST_EXHIBITED }
     requires deps { All (IsDepWithin (below width)) deps.now }
     requires functional { functional_part (dependencies_of deps.now) ≡ dependencies_of deps.now }

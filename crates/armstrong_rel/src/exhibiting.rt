@@ -10,7 +10,7 @@ use crate::irreducible::irreducible_sets;
 use crate::kinds::first_mvd;
 use crate::refusal::{ExhibitRefusal, WIDEST_EXHIBITED};
 use crate::rows::rows_for;
-use dep_model::{Failure, Row, Schema, WantMemory};
+use dep_model::{Failure, OutOfMemory, Row, Schema};
 use std::alloc::Global;
 
 /// A relation that obeys exactly the functional dependencies that a schema implies (Armstrong 1974): a
@@ -28,7 +28,7 @@ pub fn exhibit(alloc: Global, schema: &Schema) -> Result<Vec<Row>, Failure<Exhib
     ensures legal { IfOk result (λ rows. LegalFor schema.now rows.items) }
     ensures typed { IfOk result (λ rows. TypedFor schema.now rows.items) }
     ensures functional { IfOk result (λ _. IsFunctional schema.now) }
-    ensures narrow { IfOk result (λ _. width_of schema.now ≤ WIDEST_EXHIBITED) }
+    ensures not_too_wide { IfOk result (λ _. width_of schema.now ≤ WIDEST_EXHIBITED) }
     ensures refused { IfErr result (RefusesAs (IsRefusedExhibit schema.now)) }
 {
     if let Some(k) = first_mvd(schema.deps()) {
@@ -41,9 +41,9 @@ pub fn exhibit(alloc: Global, schema: &Schema) -> Result<Vec<Row>, Failure<Exhib
 }
 
 // The rows of the exhibit of a schema of functional dependencies that is narrow enough.
-fn exhibit_rows(alloc: Global, schema: &Schema) -> Result<Vec<Row>, WantMemory>
+fn exhibit_rows(alloc: Global, schema: &Schema) -> Result<Vec<Row>, OutOfMemory>
     requires functional { IsFunctional schema.now }
-    requires narrow { width_of schema.now ≤ WIDEST_EXHIBITED }
+    requires not_too_wide { width_of schema.now ≤ WIDEST_EXHIBITED }
     ensures rows { IfOk result (λ rows.
         IsExhibit (width_of schema.now) (theory_of schema.now) rows.items) }
     ensures exact { IfOk result (λ rows.

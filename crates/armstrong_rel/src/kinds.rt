@@ -9,7 +9,7 @@ use dep_model::Dep;
 pub fn first_mvd(deps: &[Dep]) -> Option<usize>
     ensures none { IsNone result
         → functional_part (dependencies_of deps.now) ≡ dependencies_of deps.now }
-    ensures place { IfSome result (λ k. k < length deps.now) }
+    ensures position { IfSome result (λ k. k < length deps.now) }
     ensures first { IfSome result (IsFirstMvd (dependencies_of deps.now)) }
 {
     for (k, dep) in deps.iter().enumerate() {

@@ -2,17 +2,17 @@
 //! the law.
 
 ghost use Rattle.std.specs.Prelude.{◌≡◌, ℕ, ◌-◌, ◌<◌, ◌^◌, ◌↔◌, List, length, All};
-ghost use Rattle.attr_sets.specs.Places.{Places, below};
+ghost use Rattle.attr_sets.specs.Attributes.{Attributes, below};
 ghost use Rattle.dep_model.specs.Dependencies.{Dependency, functional_part, IsWithin};
 ghost use Rattle.dep_model.specs.Tuples.{Relation};
 ghost use Rattle.armstrong_rel.specs.ClosedSets.{IsClosedSet, IsIrreducible, AreIrreducible};
 ghost use Rattle.armstrong_rel.specs.Closures.{IsMeetBeyond};
 ghost use Rattle.armstrong_rel.specs.Exhibits.{tuples_for, IsArmstrong, IsExhibit};
 
-/// A closed set is irreducible exactly where it is not the meet of the closures of itself with each
-/// attribute outside it, where all dependencies are functional.
-pub fn irreducible_where_no_meet()
-    ensures law { (n : ℕ) (ds : List Dependency) (c m : Places) → All (IsWithin (below n)) ds
+/// A closed set is irreducible exactly where it is not the intersection of the closures of itself with
+/// each attribute outside it, where all dependencies are functional.
+pub fn irreducible_where_no_intersection()
+    ensures law { (n : ℕ) (ds : List Dependency) (c m : Attributes) → All (IsWithin (below n)) ds
         → functional_part ds ≡ ds → IsClosedSet n ds c → IsMeetBeyond n ds c m
         → IsIrreducible n ds c ↔ (m ≡ c → ⊥) }
 {}
@@ -20,7 +20,7 @@ pub fn irreducible_where_no_meet()
 /// The relation of the irreducible closed sets obeys exactly the functional dependencies that are
 /// implied, where all are functional (Beeri, Dowd, Fagin and Statman 1984).
 pub fn exhibits_are_exact()
-    ensures law { (n : ℕ) (ds : List Dependency) (sets : List Places) → All (IsWithin (below n)) ds
+    ensures law { (n : ℕ) (ds : List Dependency) (sets : List Attributes) → All (IsWithin (below n)) ds
         → functional_part ds ≡ ds → AreIrreducible n ds sets → length sets < 2 ^ 64 - 1
         → IsArmstrong n ds (tuples_for n sets) }
 {}

@@ -8,7 +8,7 @@ use Rattle.std.proofs.lemmas.Bool.Decides.{nat_tests}
 use Rattle.std.proofs.lemmas.Nat.{one_shl, ones_cat, mod-pow-add, pow_pos, and_le_l, ones_le_self, zero_from_ones}
 use Rattle.std.proofs.Math.Nat.{mod-eq_of_lt}
 use Rattle.std.proofs.lemmas.Nat.Bits.{bit_at_and, bit_at_or, bit_at_not, bit_at-zero, bit_at-pow_same, bit_at-pow_other, bit_at_ones, bit_at_ones_above, ones_shr, bit_at-lt, bit_at-trailing_zeros, same_from_bits_below, shr_and_one, bit_at_lowest, bit_at-suc}
-use Rattle.attr_sets.specs.Places.{IsLeastFrom, Within, count_below}
+use Rattle.attr_sets.specs.Attributes.{IsFirstFrom, IsSubset, count_below}
 use Rattle.attr_sets.specs.Sets.{has_bit}
 
 pub has_bit-or : (width a b k : ℕ) → has_bit width (bit_or a b) k ≡ (has_bit width a k || has_bit width b k)
@@ -85,7 +85,7 @@ zero_from_has_bit width n fits clear =
 
 -- the test `a & !b == 0`
 pub and_not-zero : (w : Width) (a b : ℕ) → a < 2 ^ bits w → b < 2 ^ bits w
-    → Decides (nat_eq (bit_and a (bit_not w b)) 0) (Within (has_bit (bits w) a) (has_bit (bits w) b))
+    → Decides (nat_eq (bit_and a (bit_not w b)) 0) (IsSubset (has_bit (bits w) a) (has_bit (bits w) b))
 and_not-zero w a b a_fits b_fits =
     let rest = bit_and a (bit_not w b) in
     let fits : rest < 2 ^ bits w = omega (arith, and_le_l a (bit_not w b)) in (
@@ -95,8 +95,8 @@ and_not-zero w a b a_fits b_fits =
       λ within. eq-eqb rest 0 (zero_from_has_bit (bits w) rest fits (λ k. grind (arith, has_bit-and_not w a b k b_fits, within k))),
     )
 
--- a place that is the lowest set bit of a number is its least member
-pub trailing_zeros-least : (w : Width) (n : ℕ) → 0 < n → n < 2 ^ bits w → IsLeastFrom (has_bit (bits w) n) 0 (trailing_zeros w n)
+-- the lowest set bit of a number is the first member of its set
+pub trailing_zeros-least : (w : Width) (n : ℕ) → 0 < n → n < 2 ^ bits w → IsFirstFrom (has_bit (bits w) n) 0 (trailing_zeros w n)
 unfolding has_bit
 trailing_zeros-least w n some fits =
     let lowest = bit_at-trailing_zeros w n some fits in

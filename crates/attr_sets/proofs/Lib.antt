@@ -1,3 +1,3 @@
 pub mod BitLemmas
 pub mod OrderLemmas
-pub mod PlacesLemmas
+pub mod AttributesLemmas

@@ -1,4 +1,4 @@
--- The order of sets by their numbers is the order by the greatest place in which they differ.
+-- The order of sets by their numbers is the order by the greatest attribute in which they differ.
 use Rattle.std.proofs.Common.{◌≡◌, ℕ, zero, suc, ◌/◌, ◌^◌, ◌<◌, ◌≤◌, Bool, true, false, pow-suc, refl, sym, ap, ◌∙◌, ◌⊎◌, inl, inr, ⊎_elim, arith}
 use mathlib.Core.Path.{fun_ext}
 use Rattle.std.specs.Int.{bit_at}
@@ -6,14 +6,14 @@ use Rattle.std.specs.Ordering.{nat_cmp, MatchOrdering}
 use Rattle.std.specs.Cmp.{ranks}
 use Rattle.std.specs.declared.cmp.Ordering.{Ordering}
 use Rattle.std.specs.declared.cmp.Ordering.TheVariants.{Less, Equal, Greater}
-use Rattle.attr_sets.proofs.PlacesLemmas.{places-at_number, same_at}
+use Rattle.attr_sets.proofs.AttributesLemmas.{attributes-at_number, same_at}
 use Rattle.std.proofs.lemmas.Bool.{cases_lt, cases_eq, cases_order, true≢false}
 use Rattle.std.proofs.lemmas.Bool.Decides.{nat_tests}
 use Rattle.std.proofs.lemmas.Nat.Bits.{bit_at_lowest, bit_at-suc, bit_at-lt, bit_at_above, same_from_bits}
 use Rattle.attr_sets.specs.declared.set.AttrSet.{AttrSet}
-use Rattle.attr_sets.specs.declared.set.TheConstants.{PLACES}
-use Rattle.attr_sets.specs.Places.{Places, below, only, none, union, minus, Within, IsBefore, IsNextSubset, IsLeastFrom}
-use Rattle.attr_sets.specs.Sets.{has_bit, places}
+use Rattle.attr_sets.specs.declared.set.TheConstants.{MOST_ATTRIBUTES}
+use Rattle.attr_sets.specs.Attributes.{Attributes, below, only, none, union, difference, IsSubset, IsBefore, IsNextSubset, IsFirstFrom}
+use Rattle.attr_sets.specs.Sets.{has_bit, attributes}
 
 -- b has the greatest bit in which it differs from a
 abbrev pub HasHigherBit : ℕ → ℕ → Type 0
@@ -48,29 +48,29 @@ higher_bit (suc w) a b fits less =
     (0, omega (arith, bit_at_lowest a), omega (arith, bit_at_lowest b), same_above-zero a b half))
     (cases_lt (a / 2) (b / 2))
 
-pub lt_from_before : (a b : AttrSet) → a.0 < 2 ^ PLACES → b.0 < 2 ^ PLACES → IsBefore (places a) (places b) → a.0 < b.0
-unfolding places has_bit
+pub lt_from_before : (a b : AttrSet) → a.0 < 2 ^ MOST_ATTRIBUTES → b.0 < 2 ^ MOST_ATTRIBUTES → IsBefore (attributes a) (attributes b) → a.0 < b.0
+unfolding attributes has_bit
 lt_from_before a b a_fits b_fits before =
     let k = before.0 in
     lt_from_bit k a.0 b.0
     (grind (arith, nat_tests, before.1, before.2, bit_at-lt a.0 k))
     (grind (arith, nat_tests, before.2))
     (λ j more. ⊎_elim
-    (λ (low : j < PLACES). grind (arith, nat_tests, before.3 j more, bit_at-lt a.0 j, bit_at-lt b.0 j))
-    (λ (high : PLACES ≤ j). bit_at_above a.0 PLACES j a_fits high ∙ sym (bit_at_above b.0 PLACES j b_fits high))
-    (cases_lt j PLACES))
+    (λ (low : j < MOST_ATTRIBUTES). grind (arith, nat_tests, before.3 j more, bit_at-lt a.0 j, bit_at-lt b.0 j))
+    (λ (high : MOST_ATTRIBUTES ≤ j). bit_at_above a.0 MOST_ATTRIBUTES j a_fits high ∙ sym (bit_at_above b.0 MOST_ATTRIBUTES j b_fits high))
+    (cases_lt j MOST_ATTRIBUTES))
 
-pub before_from_lt : (a b : AttrSet) → b.0 < 2 ^ PLACES → a.0 < b.0 → IsBefore (places a) (places b)
-unfolding places has_bit
+pub before_from_lt : (a b : AttrSet) → b.0 < 2 ^ MOST_ATTRIBUTES → a.0 < b.0 → IsBefore (attributes a) (attributes b)
+unfolding attributes has_bit
 before_from_lt a b b_fits less =
-    let h = higher_bit PLACES a.0 b.0 b_fits less in
+    let h = higher_bit MOST_ATTRIBUTES a.0 b.0 b_fits less in
     let k = h.0 in (
       k,
       grind (arith, nat_tests, h.1),
       ⊎_elim
-          (λ (low : k < PLACES). grind (arith, nat_tests, h.2))
-          (λ (high : PLACES ≤ k). absurd (omega (arith, h.2, bit_at_above b.0 PLACES k b_fits high)))
-          (cases_lt k PLACES),
+          (λ (low : k < MOST_ATTRIBUTES). grind (arith, nat_tests, h.2))
+          (λ (high : MOST_ATTRIBUTES ≤ k). absurd (omega (arith, h.2, bit_at_above b.0 MOST_ATTRIBUTES k b_fits high)))
+          (cases_lt k MOST_ATTRIBUTES),
       λ j more. grind (arith, nat_tests, h.3 j more),
     )
 
@@ -80,15 +80,15 @@ in_each_order Equal less equal greater h = equal h
 in_each_order Greater less equal greater h = greater h
 
 -- what `a.cmp(b)` tells of two sets
-pub cmp-order : (a b : AttrSet) → a.0 < 2 ^ PLACES → b.0 < 2 ^ PLACES
-    → MatchOrdering (nat_cmp a.0 b.0) (IsBefore (places a) (places b)) (places a ≡ places b) (IsBefore (places b) (places a))
+pub cmp-order : (a b : AttrSet) → a.0 < 2 ^ MOST_ATTRIBUTES → b.0 < 2 ^ MOST_ATTRIBUTES
+    → MatchOrdering (nat_cmp a.0 b.0) (IsBefore (attributes a) (attributes b)) (attributes a ≡ attributes b) (IsBefore (attributes b) (attributes a))
 cmp-order a b a_fits b_fits =
-    in_each_order (nat_cmp a.0 b.0) (before_from_lt a b b_fits) (places-at_number a b) (before_from_lt b a a_fits) (ranks a.0 b.0)
+    in_each_order (nat_cmp a.0 b.0) (before_from_lt a b b_fits) (attributes-at_number a b) (before_from_lt b a a_fits) (ranks a.0 b.0)
 
-pub IsBefore-irrefl : (x : Places) → IsBefore x x → ⊥
+pub IsBefore-irrefl : (x : Attributes) → IsBefore x x → ⊥
 IsBefore-irrefl x before = true≢false (sym before.2 ∙ before.1)
 
-pub IsBefore-trans : (x y z : Places) → IsBefore x y → IsBefore y z → IsBefore x z
+pub IsBefore-trans : (x y z : Attributes) → IsBefore x y → IsBefore y z → IsBefore x z
 IsBefore-trans x y z first second =
     ⊎_elim
     (λ (same : first.0 ≡ second.0). absurd (true≢false (sym first.2 ∙ ap y same ∙ second.1)))
@@ -103,7 +103,7 @@ tell_equal false false = inl refl
 tell_equal false true = inr (inl (refl, refl))
 tell_equal true false = inr (inr (refl, refl))
 
-before_below : (n : ℕ) (x y : Places) → ((j : ℕ) → n ≤ j → x j ≡ y j) → (x ≡ y) ⊎ (IsBefore x y ⊎ IsBefore y x)
+before_below : (n : ℕ) (x y : Attributes) → ((j : ℕ) → n ≤ j → x j ≡ y j) → (x ≡ y) ⊎ (IsBefore x y ⊎ IsBefore y x)
 before_below zero x y same = inl (fun_ext (λ j. same j (omega arith)))
 before_below (suc n) x y same =
     ⊎_elim
@@ -113,14 +113,14 @@ before_below (suc n) x y same =
     (λ (down : (y n ≡ false) × (x n ≡ true)). inr (inr (n, down.0, down.1, λ j more. sym (same j more)))))
     (tell_equal (x n) (y n))
 
--- of two sets of places below n that are not the same, one comes before the other
-pub tell_before : (n : ℕ) (x y : Places) → Within x (below n) → Within y (below n) → (x ≡ y) ⊎ (IsBefore x y ⊎ IsBefore y x)
+-- of two sets of attributes below n that are not the same, one comes before the other
+pub tell_before : (n : ℕ) (x y : Attributes) → IsSubset x (below n) → IsSubset y (below n) → (x ≡ y) ⊎ (IsBefore x y ⊎ IsBefore y x)
 tell_before n x y x_low y_low = before_below n x y (λ j on. grind (arith, nat_tests, x_low j, y_low j))
 
 -- ---- the subsets of a set, one after the other
 
--- the least member of the set that x has not is added, and all below it is left out
-pub next_subset-is : (whole x y : Places) (i : ℕ) → Within x whole → IsLeastFrom (minus whole x) 0 i → y ≡ union (minus x (below i)) (only i) → IsNextSubset whole x y
+-- the first member of the set that x has not is added, and all below it is left out
+pub next_subset-is : (whole x y : Attributes) (i : ℕ) → IsSubset x whole → IsFirstFrom (difference whole x) 0 i → y ≡ union (difference x (below i)) (only i) → IsNextSubset whole x y
 next_subset-is whole x y i inside least is = record {
   within = λ k m. elim (cases_eq k i) [
     | inl same ↦ grind (arith, ap whole same, least.member)
@@ -138,14 +138,14 @@ next_subset-is whole x y i inside least is = record {
     same_above : (j : ℕ) → i < j → y j ≡ x j
     same_above j more = grind (arith, nat_tests, same_at is j)
 
-    -- a place of z that x has not is i or a later one
-    from_i : (z : Places) (k : ℕ) → Within z whole → x k ≡ false → z k ≡ true → i ≤ k
+    -- an attribute of z that x has not is i or a later one
+    from_i : (z : Attributes) (k : ℕ) → IsSubset z whole → x k ≡ false → z k ≡ true → i ≤ k
     from_i z k z_in out member = ⊎_elim
         (λ (low : k < i). absurd (true≢false (sym (grind (arith, z_in k member, out)) ∙ least.least k (omega arith) low)))
         (λ (on : i ≤ k). on)
         (cases_lt k i)
 
-    none_between : (z : Places) → Within z whole → IsBefore x z → IsBefore z y → ⊥
+    none_between : (z : Attributes) → IsSubset z whole → IsBefore x z → IsBefore z y → ⊥
     none_between z z_in before after =
         let on : i ≤ before.0 = from_i z before.0 z_in before.1 before.2 in
         ⊎_elim
@@ -159,16 +159,16 @@ next_subset-is whole x y i inside least is = record {
         (cases_order before.0 after.0)
 
 -- a subset that comes before the next one is the last or comes before it
-pub next_subset-before : (n : ℕ) (whole x y z : Places) → Within whole (below n) → Within x whole → IsNextSubset whole x y → Within z whole → IsBefore z y → (z ≡ x) ⊎ IsBefore z x
+pub next_subset-before : (n : ℕ) (whole x y z : Attributes) → IsSubset whole (below n) → IsSubset x whole → IsNextSubset whole x y → IsSubset z whole → IsBefore z y → (z ≡ x) ⊎ IsBefore z x
 next_subset-before n whole x y z low x_in next z_in before =
     ⊎_elim inl
     (⊎_elim inr (λ later. absurd (next.first z z_in later before)))
     (tell_before n z x (λ k m. low k (z_in k m)) (λ k m. low k (x_in k m)))
 
 -- the empty set is the first
-pub none-first : (z : Places) → IsBefore z none → ⊥
+pub none-first : (z : Attributes) → IsBefore z none → ⊥
 none-first z before = absurd (true≢false (sym before.2))
 
 -- and the whole set the last
-pub whole-last : (whole z : Places) → Within z whole → IsBefore whole z → ⊥
+pub whole-last : (whole z : Attributes) → IsSubset z whole → IsBefore whole z → ⊥
 whole-last whole z z_in before = true≢false (sym (z_in before.0 before.2) ∙ before.1)

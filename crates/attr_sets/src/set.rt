@@ -1,126 +1,127 @@
 ghost use Rattle.std.specs.Prelude.{◌≡◌, ℕ, ◌+◌, ◌<◌, ◌≤◌, ◌↔◌, ◌==◌, false, not, IsTrue, IsNone, IfSome, refl};
-ghost use Rattle.attr_sets.specs.Places.{below, only, none, union, meet, minus, Within, IsEmpty, Meets, IsBefore, IsLeastFrom, IsNextSubset, count_below};
-ghost use Rattle.attr_sets.specs.Sets.{places, is_within, is_same, is_apart};
+ghost use Rattle.attr_sets.specs.Attributes.{below, only, none, union, intersection, difference, IsSubset, IsEmpty, Intersects, IsBefore, IsFirstFrom, IsNextSubset, count_below};
+ghost use Rattle.attr_sets.specs.Sets.{attributes, is_subset, is_same, is_disjoint};
 
 use std::cmp::Ordering;
 
-/// How many places a set has: the most attributes of a universe.
-pub const PLACES: u8 = 128;
+/// How many attributes a set has: the most attributes of a universe.
+pub const MOST_ATTRIBUTES: u8 = 128;
 
-/// A set of attributes, each a place below `PLACES`. Bit `i` of the number stands for place `i`, and
-/// sets are ordered by this number, so the greatest place in which two sets differ decides.
+/// A set of attributes, each a number below `MOST_ATTRIBUTES`. Bit `i` of the field stands for
+/// attribute `i`, and sets are ordered by the field, so the greatest attribute in which two sets
+/// differ decides.
 #[derive(Clone, Copy, Debug, Eq, PartialOrd, Hash)]
 pub struct AttrSet(pub u128);
 
 impl AttrSet {
     /// The empty set.
     pub fn empty() -> AttrSet
-        ensures members { places result ≡ none }
+        ensures members { attributes result ≡ none }
     {
         AttrSet(0)
     }
 
-    /// The places below `n`.
+    /// The attributes below `n`.
     pub fn full(n: u8) -> AttrSet
-        requires { n ≤ PLACES }
-        ensures members { places result ≡ below n }
+        requires { n ≤ MOST_ATTRIBUTES }
+        ensures members { attributes result ≡ below n }
     {
         if n == 0 {
             AttrSet(0)
         } else {
-            AttrSet(u128::MAX >> (PLACES - n))
+            AttrSet(u128::MAX >> (MOST_ATTRIBUTES - n))
         }
     }
 
-    /// The set of place `i` alone.
+    /// The set of attribute `i` alone.
     pub fn single(i: u8) -> AttrSet
-        requires { i < PLACES }
-        ensures members { places result ≡ only i }
+        requires { i < MOST_ATTRIBUTES }
+        ensures members { attributes result ≡ only i }
     {
         AttrSet(1 << i)
     }
 
-    /// Whether place `i` is a member.
-    pub fn has(self, i: u8) -> bool
-        requires { i < PLACES }
-        ensures member { result ≡ places self i }
+    /// Whether attribute `i` is a member.
+    pub fn contains(self, i: u8) -> bool
+        requires { i < MOST_ATTRIBUTES }
+        ensures member { result ≡ attributes self i }
     {
         self.0 >> i & 1 == 1
     }
 
-    /// The set with place `i` added.
+    /// The set with attribute `i` added.
     pub fn with(self, i: u8) -> AttrSet
-        requires { i < PLACES }
-        ensures members { places result ≡ union (places self) (only i) }
+        requires { i < MOST_ATTRIBUTES }
+        ensures members { attributes result ≡ union (attributes self) (only i) }
     {
         AttrSet(self.0 | 1 << i)
     }
 
-    /// The set with place `i` left out.
+    /// The set with attribute `i` left out.
     pub fn without(self, i: u8) -> AttrSet
-        requires { i < PLACES }
-        ensures members { places result ≡ minus (places self) (only i) }
+        requires { i < MOST_ATTRIBUTES }
+        ensures members { attributes result ≡ difference (attributes self) (only i) }
     {
         AttrSet(self.0 & !(1 << i))
     }
 
     /// The members of either set.
     pub fn union(self, other: AttrSet) -> AttrSet
-        ensures members { places result ≡ union (places self) (places other) }
+        ensures members { attributes result ≡ union (attributes self) (attributes other) }
     {
         AttrSet(self.0 | other.0)
     }
 
     /// The members of both sets.
-    pub fn meet(self, other: AttrSet) -> AttrSet
-        ensures members { places result ≡ meet (places self) (places other) }
+    pub fn intersection(self, other: AttrSet) -> AttrSet
+        ensures members { attributes result ≡ intersection (attributes self) (attributes other) }
     {
         AttrSet(self.0 & other.0)
     }
 
     /// The members of this set that are not in the other.
-    pub fn minus(self, other: AttrSet) -> AttrSet
-        ensures members { places result ≡ minus (places self) (places other) }
+    pub fn difference(self, other: AttrSet) -> AttrSet
+        ensures members { attributes result ≡ difference (attributes self) (attributes other) }
     {
         AttrSet(self.0 & !other.0)
     }
 
     /// Whether every member is in the other set.
-    pub fn within(self, other: AttrSet) -> bool
-        ensures within { IsTrue result ↔ Within (places self) (places other) }
-        ensures test { result ≡ is_within (places self) (places other) }
+    pub fn is_subset(self, other: AttrSet) -> bool
+        ensures subset { IsTrue result ↔ IsSubset (attributes self) (attributes other) }
+        ensures test { result ≡ is_subset (attributes self) (attributes other) }
     {
         self.0 & !other.0 == 0
     }
 
     /// Whether the two sets have a common member.
-    pub fn meets(self, other: AttrSet) -> bool
-        ensures meets { IsTrue result ↔ Meets (places self) (places other) }
-        ensures test { result ≡ not (is_apart (places self) (places other)) }
+    pub fn intersects(self, other: AttrSet) -> bool
+        ensures intersects { IsTrue result ↔ Intersects (attributes self) (attributes other) }
+        ensures test { result ≡ not (is_disjoint (attributes self) (attributes other)) }
     {
-        !self.meet(other).is_empty()
+        !self.intersection(other).is_empty()
     }
 
     /// Whether the set has no member.
     pub fn is_empty(self) -> bool
-        ensures empty { IsTrue result ↔ IsEmpty (places self) }
+        ensures empty { IsTrue result ↔ IsEmpty (attributes self) }
     {
         self.0 == 0
     }
 
     /// How many members the set has.
     pub fn len(self) -> u8
-        ensures members { result ≡ count_below (places self) PLACES }
-        ensures few { result ≤ PLACES }
+        ensures members { result ≡ count_below (attributes self) MOST_ATTRIBUTES }
+        ensures within_limit { result ≤ MOST_ATTRIBUTES }
     {
         self.0.count_ones() as u8
     }
 
-    /// The least member.
-    pub fn least(self) -> Option<u8>
-        ensures none { IsNone result ↔ IsEmpty (places self) }
-        ensures least { IfSome result (IsLeastFrom (places self) 0) }
-        ensures place { IfSome result (λ i. i < PLACES) }
+    /// The first member.
+    pub fn first(self) -> Option<u8>
+        ensures none { IsNone result ↔ IsEmpty (attributes self) }
+        ensures first { IfSome result (IsFirstFrom (attributes self) 0) }
+        ensures attribute { IfSome result (λ i. i < MOST_ATTRIBUTES) }
     {
         if self.0 == 0 {
             None
@@ -129,26 +130,27 @@ impl AttrSet {
         }
     }
 
-    /// The least member above place `i`.
+    /// The first member above attribute `i`.
     pub fn after(self, i: u8) -> Option<u8>
-        requires { i < PLACES }
-        ensures none { IsNone result ↔ ((k : ℕ) → i < k → places self k ≡ false) }
-        ensures least { IfSome result (IsLeastFrom (places self) (i + 1)) }
-        ensures place { IfSome result (λ j. j < PLACES) }
+        requires { i < MOST_ATTRIBUTES }
+        ensures none { IsNone result ↔ ((k : ℕ) → i < k → attributes self k ≡ false) }
+        ensures first { IfSome result (IsFirstFrom (attributes self) (i + 1)) }
+        ensures attribute { IfSome result (λ j. j < MOST_ATTRIBUTES) }
     {
-        self.minus(AttrSet::full(i + 1)).least()
+        self.difference(AttrSet::full(i + 1)).first()
     }
 
     /// The least subset of `whole` after this one, in the order of sets; none after `whole` itself. So
     /// the subsets of a set are gone through from the empty one on, each once.
     pub fn next_subset(self, whole: AttrSet) -> Option<AttrSet>
-        requires within { Within (places self) (places whole) }
-        ensures none { IsNone result ↔ places self ≡ places whole }
-        ensures next { IfSome result (λ next. IsNextSubset (places whole) (places self) (places next)) }
+        requires within { IsSubset (attributes self) (attributes whole) }
+        ensures none { IsNone result ↔ attributes self ≡ attributes whole }
+        ensures next { IfSome result (λ next. IsNextSubset (attributes whole) (attributes self)
+            (attributes next)) }
         ensures number { IfSome result (λ next. self.0 < next.0) }
     {
-        match whole.minus(self).least() {
-            Some(i) => Some(self.minus(AttrSet::full(i)).with(i)),
+        match whole.difference(self).first() {
+            Some(i) => Some(self.difference(AttrSet::full(i)).with(i)),
             None => None,
         }
     }
@@ -165,8 +167,8 @@ impl PartialEq for AttrSet {
     /// Whether the sets have the same members.
     fn eq(&self, other: &AttrSet) -> bool
         ensures number { result ≡ (self.now.0 == other.now.0) }
-        ensures same { IsTrue result ↔ places self.now ≡ places other.now }
-        ensures test { result ≡ is_same (places self.now) (places other.now) }
+        ensures same { IsTrue result ↔ attributes self.now ≡ attributes other.now }
+        ensures test { result ≡ is_same (attributes self.now) (attributes other.now) }
     {
         self.0 == other.0
     }
@@ -188,9 +190,9 @@ impl Ord for AttrSet {
     fn cmp(&self, other: &AttrSet) -> Ordering
         ensures number { result ≡ nat_cmp self.now.0 other.now.0 }
         ensures order { MatchOrdering result
-            (IsBefore (places self.now) (places other.now))
-            (places self.now ≡ places other.now)
-            (IsBefore (places other.now) (places self.now)) }
+            (IsBefore (attributes self.now) (attributes other.now))
+            (attributes self.now ≡ attributes other.now)
+            (IsBefore (attributes other.now) (attributes self.now)) }
     {
         let (x, y) = (self.0, other.0);
         x.cmp(&y)

@@ -1,6 +1,6 @@
 pub mod TableauLemmas
-pub mod KeptLemmas
-pub mod SettlingLemmas
+pub mod InvariantLemmas
+pub mod FunctionalClosingLemmas
 pub mod SoundLemmas
 pub mod ClosedLemmas
 pub mod RoundLemmas

@@ -3,15 +3,15 @@ use Rattle.std.proofs.Common.{◌≡◌, ℕ, ◌+◌, ◌<◌, ◌≤◌, ◌�
 use Rattle.std.proofs.lemmas.Bool.{cases_lt, cases_eq, true≢false, eqb-true, eq-eqb, and_parts, and_cases, not-true, not-false}
 use Rattle.std.proofs.lemmas.List.Elements.{Contains-append_left, Contains-append_right, Contains-append_cases, All-head, All-tail}
 use Rattle.std.specs.Prelude.{Contains, All, AllPairs, nat_eq, not, ◌&&◌}
-use Rattle.attr_sets.specs.Places.{Places, union}
-use Rattle.attr_sets.proofs.PlacesLemmas.{tell_some}
+use Rattle.attr_sets.specs.Attributes.{Attributes, union}
+use Rattle.attr_sets.proofs.AttributesLemmas.{tell_member}
 use Rattle.dep_model.specs.Dependencies.{Dependency, fd, mvd}
-use Rattle.chase_laws.specs.Tableaux.{SymbolRow, Tableau, SameTableau, symbol_at, SymbolsAgree, distinguished, plan_tableau, scheme_rows}
-use Rattle.chase_laws.specs.Steps.{exchanged, replaced, IsFunctionalStep, IsMultivaluedStep, IsStep, IsClosed, IsSettledTableau, LeadsIn, LeadsTo}
-use Rattle.chase_laws.specs.Rounds.{SettlesTo, IsMadeOf, IsNext, EndsRounds, InRounds, HasMoreThan, RoundsExceed}
-use Rattle.chase_laws.proofs.TableauLemmas.{rows_tell, symbol_at_past, cons_cases, Same-sym, Same-trans, Same-replaced, Same-cons, length-exchanged}
-use Rattle.chase_laws.proofs.KeptLemmas.{Each, HasLength, Each-same, over-functional, plan_over}
-use Rattle.chase_laws.proofs.ClosingLemmas.{settling_unique}
+use Rattle.chase_laws.specs.Tableaux.{SymbolRow, Tableau, SameTableau, symbol_at, SymbolsAgree, distinguished_row, plan_tableau, scheme_rows}
+use Rattle.chase_laws.specs.Steps.{exchange_rows, replace_symbol, IsFunctionalStep, IsMultivaluedStep, IsStep, IsClosed, IsFunctionallyClosed, LeadsIn, LeadsTo}
+use Rattle.chase_laws.specs.Rounds.{ClosesFunctionallyTo, IsMadeOf, IsNext, EndsRounds, InRounds, HasMoreThan, RoundsExceed}
+use Rattle.chase_laws.proofs.TableauLemmas.{rows_tell, symbol_at_past, cons_cases, Same-sym, Same-trans, Same-replace_symbol, Same-cons, length-exchange_rows}
+use Rattle.chase_laws.proofs.InvariantLemmas.{Each, HasLength, Each-same, over-functional, plan_over}
+use Rattle.chase_laws.proofs.ClosingLemmas.{functional_closing_unique}
 use Rattle.dep_model.proofs.ListLemmas.{Contains-head, Contains-later}
 
 -- ---- equal tableaux are closed alike
@@ -28,10 +28,10 @@ step_same n ds t s u same (inl step) =
         first_in = (same one.first).1 one.first_in;
         second_in = (same one.second).1 one.second_in;
         agree = one.agree;
-        place = one.place;
+        attribute = one.attribute;
         member = one.member;
         differ = one.differ;
-        after = Same-trans (replaced one.place (symbol_at one.second one.place) (symbol_at one.first one.place) t) (replaced one.place (symbol_at one.second one.place) (symbol_at one.first one.place) s) u (Same-replaced one.place (symbol_at one.second one.place) (symbol_at one.first one.place) t s same) one.after;
+        after = Same-trans (replace_symbol one.attribute (symbol_at one.second one.attribute) (symbol_at one.first one.attribute) t) (replace_symbol one.attribute (symbol_at one.second one.attribute) (symbol_at one.first one.attribute) s) u (Same-replace_symbol one.attribute (symbol_at one.second one.attribute) (symbol_at one.first one.attribute) t s same) one.after;
       };
     })
 step_same n ds t s u same (inr step) =
@@ -46,8 +46,8 @@ step_same n ds t s u same (inr step) =
         first_in = (same one.first).1 one.first_in;
         second_in = (same one.second).1 one.second_in;
         agree = one.agree;
-        fresh = λ h. one.fresh ((same (exchanged n (union step.lhs step.rhs) one.first one.second)).0 h);
-        after = Same-trans (exchanged n (union step.lhs step.rhs) one.first one.second ∷ t) (exchanged n (union step.lhs step.rhs) one.first one.second ∷ s) u (Same-cons (exchanged n (union step.lhs step.rhs) one.first one.second) t s same) one.after;
+        fresh = λ h. one.fresh ((same (exchange_rows n (union step.lhs step.rhs) one.first one.second)).0 h);
+        after = Same-trans (exchange_rows n (union step.lhs step.rhs) one.first one.second ∷ t) (exchange_rows n (union step.lhs step.rhs) one.first one.second ∷ s) u (Same-cons (exchange_rows n (union step.lhs step.rhs) one.first one.second) t s same) one.after;
       };
     })
 
@@ -55,7 +55,7 @@ pub closed-same : (n : ℕ) (ds : List Dependency) (t s : Tableau) → SameTable
 closed-same n ds t s same closed u step = closed u (step_same n ds t s u same step)
 
 pub ends-same : (n : ℕ) (ds : List Dependency) (t s : Tableau) → SameTableau t s → EndsRounds n ds t → EndsRounds n ds s
-ends-same n ds t s same (inl has) = inl ((same (distinguished n)).0 has)
+ends-same n ds t s same (inl has) = inl ((same (distinguished_row n)).0 has)
 ends-same n ds t s same (inr closed) = inr (closed-same n ds t s same closed)
 
 -- ---- made rows
@@ -81,24 +81,24 @@ next_same n ds t t' s s' same next next' row = (next_into n ds t t' s s' same ne
 
 next_over : (n : ℕ) (ds : List Dependency) (t s : Tableau) → IsNext n ds t s → Each (HasLength n) t → Each (HasLength n) s
 next_over n ds t s next over row h =
-    ⊎_elim (over row) (λ (made : IsMadeOf n ds t row). ap (λ (r : SymbolRow). length r) made.row_is ∙ length-exchanged n (union made.lhs made.rhs) made.first made.second) ((next row).0 h)
+    ⊎_elim (over row) (λ (made : IsMadeOf n ds t row). ap (λ (r : SymbolRow). length r) made.row_is ∙ length-exchange_rows n (union made.lhs made.rhs) made.first made.second) ((next row).0 h)
 
 -- ---- one tableau a round
-pub rounds-over : (n : ℕ) (ds : List Dependency) (plan : List Places) (round : ℕ) (t : Tableau) → InRounds n ds plan round t → Each (HasLength n) t
+pub rounds-over : (n : ℕ) (ds : List Dependency) (plan : List Attributes) (round : ℕ) (t : Tableau) → InRounds n ds plan round t → Each (HasLength n) t
 rounds-over n ds plan zero t same = Each-same (HasLength n) (plan_tableau n plan) t same (plan_over n 1 plan)
 rounds-over n ds plan (suc round) t h =
     next_over n ds h.1 t h.5 (over-functional n ds h.3.leads.0 h.0 h.1 h.3.leads.1 (rounds-over n ds plan round h.0 h.2))
 
-pub rounds_unique : (n : ℕ) (ds : List Dependency) (plan : List Places) (round : ℕ) (t t' : Tableau) → InRounds n ds plan round t → InRounds n ds plan round t' → SameTableau t t'
+pub rounds_unique : (n : ℕ) (ds : List Dependency) (plan : List Attributes) (round : ℕ) (t t' : Tableau) → InRounds n ds plan round t → InRounds n ds plan round t' → SameTableau t t'
 rounds_unique n ds plan zero t t' same same' = Same-trans t (plan_tableau n plan) t' (Same-sym (plan_tableau n plan) t same) same'
 rounds_unique n ds plan (suc round) t t' h h' =
     let before = rounds_unique n ds plan round h.0 h'.0 h.2 h'.2 in
-    let settled = settling_unique n ds h.0 h'.0 h.1 h'.1 (rounds-over n ds plan round h.0 h.2) before h.3 h'.3 in
-    next_same n ds h.1 h'.1 t t' settled h.5 h'.5
+    let functionally_closed = functional_closing_unique n ds h.0 h'.0 h.1 h'.1 (rounds-over n ds plan round h.0 h.2) before h.3 h'.3 in
+    next_same n ds h.1 h'.1 t t' functionally_closed h.5 h'.5
 
--- where a round's tableau settles to one that ends the rounds, there is no later one
-pub rounds_end : (n : ℕ) (ds : List Dependency) (plan : List Places) (round : ℕ) (t s : Tableau) → InRounds n ds plan round t → SettlesTo ds t s → EndsRounds n ds s → (later : ℕ) (u : Tableau) → InRounds n ds plan later u → later ≤ round
-rounds_end n ds plan round t s here settles ends later u h = elim (cases_lt round later) [
+-- where a round's tableau closes functionally to one that ends the rounds, there is no later one
+pub rounds_end : (n : ℕ) (ds : List Dependency) (plan : List Attributes) (round : ℕ) (t s : Tableau) → InRounds n ds plan round t → ClosesFunctionallyTo ds t s → EndsRounds n ds s → (later : ℕ) (u : Tableau) → InRounds n ds plan later u → later ≤ round
+rounds_end n ds plan round t s here closes ends later u h = elim (cases_lt round later) [
   | inr le ↦ le
   | inl lt ↦ absurd (after later u h lt)
 ]
@@ -110,29 +110,29 @@ rounds_end n ds plan round t s here settles ends later u h = elim (cases_lt roun
       | inl equal ↦
           let same_round : InRounds n ds plan round h.0 = subst (λ (r : ℕ). InRounds n ds plan r h.0) equal h.2 in
           let same = rounds_unique n ds plan round t h.0 here same_round in
-          h.4 (ends-same n ds s h.1 (settling_unique n ds t h.0 s h.1 (rounds-over n ds plan round t here) same settles h.3) ends)
+          h.4 (ends-same n ds s h.1 (functional_closing_unique n ds t h.0 s h.1 (rounds-over n ds plan round t here) same closes h.3) ends)
     ]
 
 -- ---- how many rows
 -- a list without a row
-without : SymbolRow → Tableau → Tableau
-without row [] = []
-without row (p ∷ t) = ⊎_elim (λ _. t) (λ _. p ∷ without row t) (rows_tell p row)
+without_row : SymbolRow → Tableau → Tableau
+without_row row [] = []
+without_row row (p ∷ t) = ⊎_elim (λ _. t) (λ _. p ∷ without_row row t) (rows_tell p row)
 
-without-length : (row : SymbolRow) (t : Tableau) → Contains t row → length (without row t) + 1 ≡ length t
-unfolding without
-without-length row [] h = absurd (omega (arith, h.1))
-without-length row (p ∷ t) h = elim (rows_tell p row) as (λ w. length (⊎_elim (λ _. t) (λ _. p ∷ without row t) w) + 1 ≡ length (p ∷ t)) [
+length-without_row : (row : SymbolRow) (t : Tableau) → Contains t row → length (without_row row t) + 1 ≡ length t
+unfolding without_row
+length-without_row row [] h = absurd (omega (arith, h.1))
+length-without_row row (p ∷ t) h = elim (rows_tell p row) as (λ w. length (⊎_elim (λ _. t) (λ _. p ∷ without_row row t) w) + 1 ≡ length (p ∷ t)) [
   | inl equal ↦ omega arith
-  | inr differ ↦ ⊎_elim (λ e. absurd (differ e)) (λ inside. let e = without-length row t inside in omega (arith, e)) (cons_cases p t row h)
+  | inr differ ↦ ⊎_elim (λ e. absurd (differ e)) (λ inside. let e = length-without_row row t inside in omega (arith, e)) (cons_cases p t row h)
 ]
 
-without-keeps : (row : SymbolRow) (t : Tableau) (q : SymbolRow) → (row ≡ q → ⊥) → Contains t q → Contains (without row t) q
-unfolding without
-without-keeps row [] q other h = h
-without-keeps row (p ∷ t) q other h = elim (rows_tell p row) as (λ w. Contains (⊎_elim (λ _. t) (λ _. p ∷ without row t) w) q) [
+Contains-without_row : (row : SymbolRow) (t : Tableau) (q : SymbolRow) → (row ≡ q → ⊥) → Contains t q → Contains (without_row row t) q
+unfolding without_row
+Contains-without_row row [] q other h = h
+Contains-without_row row (p ∷ t) q other h = elim (rows_tell p row) as (λ w. Contains (⊎_elim (λ _. t) (λ _. p ∷ without_row row t) w) q) [
   | inl equal ↦ ⊎_elim (λ (e : p ≡ q). absurd (other (sym equal ∙ e))) (λ inside. inside) (cons_cases p t q h)
-  | inr differ ↦ ⊎_elim (λ (e : p ≡ q). subst (λ (r : SymbolRow). Contains (p ∷ without row t) r) e (Contains-head p (without row t))) (λ inside. Contains-later p (without row t) q (without-keeps row t q other inside)) (cons_cases p t q h)
+  | inr differ ↦ ⊎_elim (λ (e : p ≡ q). subst (λ (r : SymbolRow). Contains (p ∷ without_row row t) r) e (Contains-head p (without_row row t))) (λ inside. Contains-later p (without_row row t) q (Contains-without_row row t q other inside)) (cons_cases p t q h)
 ]
 
 -- different rows of a tableau are not more than it lists
@@ -141,57 +141,57 @@ differ_le [] t differ each = omega arith
 differ_le (row ∷ rows) t differ each =
     let here = All-head (Contains t) row rows each in
     let later = All-tail (Contains t) row rows each in
-    let others : All (Contains (without row t)) rows = λ (k : ℕ) (d : SymbolRow) l. without-keeps row t (get_or rows k d) (λ e. differ 0 (suc k) d (omega arith) (omega (arith, l)) e) (later k d l) in
-    let rest = differ_le rows (without row t) (λ (i j : ℕ) (d : SymbolRow) lt l. differ (suc i) (suc j) d (omega (arith, lt)) (omega (arith, l))) others in
-    omega (arith, rest, without-length row t here)
+    let others : All (Contains (without_row row t)) rows = λ (k : ℕ) (d : SymbolRow) l. Contains-without_row row t (get_or rows k d) (λ e. differ 0 (suc k) d (omega arith) (omega (arith, l)) e) (later k d l) in
+    let rest = differ_le rows (without_row row t) (λ (i j : ℕ) (d : SymbolRow) lt l. differ (suc i) (suc j) d (omega (arith, lt)) (omega (arith, l))) others in
+    omega (arith, rest, length-without_row row t here)
 
 pub no_more : (limit : ℕ) (t s : Tableau) → SameTableau t s → length s ≤ limit → HasMoreThan limit t → ⊥
 no_more limit t s same few more =
     absurd (omega (arith, few, more.many, differ_le more.rows s more.differ (λ (k : ℕ) (d : SymbolRow) l. (same (get_or more.rows k d)).0 (more.each k d l))))
 
 -- ---- without a multivalued dependency
-pub functional_closed : (n : ℕ) (ds : List Dependency) (t : Tableau) → ((x y : Places) → Contains ds (mvd x y) → ⊥) → IsSettledTableau ds t → IsClosed n ds t
-functional_closed n ds t none settled s (inl step) = settled s step
-functional_closed n ds t none settled s (inr step) = none step.lhs step.rhs step.given
+pub functional_closed : (n : ℕ) (ds : List Dependency) (t : Tableau) → ((x y : Attributes) → Contains ds (mvd x y) → ⊥) → IsFunctionallyClosed ds t → IsClosed n ds t
+functional_closed n ds t none functionally_closed s (inl step) = functionally_closed s step
+functional_closed n ds t none functionally_closed s (inr step) = none step.lhs step.rhs step.given
 
-length-scheme_rows : (n i : ℕ) (plan : List Places) → length (scheme_rows n i plan) ≡ length plan
+length-scheme_rows : (n i : ℕ) (plan : List Attributes) → length (scheme_rows n i plan) ≡ length plan
 length-scheme_rows n i [] = refl
 length-scheme_rows n i (scheme ∷ plan) = let e = length-scheme_rows n (suc i) plan in omega (arith, e)
 
-pub functional_few : (n : ℕ) (ds : List Dependency) (plan : List Places) (limit : ℕ) → ((x y : Places) → Contains ds (mvd x y) → ⊥) → length plan ≤ limit → RoundsExceed n ds plan limit → ⊥
+pub functional_few : (n : ℕ) (ds : List Dependency) (plan : List Attributes) (limit : ℕ) → ((x y : Attributes) → Contains ds (mvd x y) → ⊥) → length plan ≤ limit → RoundsExceed n ds plan limit → ⊥
 functional_few n ds plan limit none few exceed = exceeds exceed.round exceed.tableau exceed.in_rounds exceed.more
   where
     exceeds : (round : ℕ) (t : Tableau) → InRounds n ds plan round t → HasMoreThan limit t → ⊥
     exceeds zero t same more = no_more limit t (plan_tableau n plan) (Same-sym (plan_tableau n plan) t same) (omega (arith, few, length-scheme_rows n 1 plan)) more
-    exceeds (suc round) t h more = h.4 (inr (functional_closed n ds h.1 none h.3.settled))
+    exceeds (suc round) t h more = h.4 (inr (functional_closed n ds h.1 none h.3.functionally_closed))
 
 -- ---- the next tableau is one
--- the places of a set at which two rows differ
-differs : Places → SymbolRow → SymbolRow → Places
-differs x p q k = x k && not (nat_eq (symbol_at p k) (symbol_at q k))
+-- the attributes of a set at which two rows differ
+differing_attributes : Attributes → SymbolRow → SymbolRow → Attributes
+differing_attributes x p q k = x k && not (nat_eq (symbol_at p k) (symbol_at q k))
 
-differ_at : (x : Places) (p q : SymbolRow) (k : ℕ) → differs x p q k ≡ true → SymbolsAgree x p q → ⊥
-unfolding differs
-differ_at x p q k d agree =
+differing_attributes-disagree : (x : Attributes) (p q : SymbolRow) (k : ℕ) → differing_attributes x p q k ≡ true → SymbolsAgree x p q → ⊥
+unfolding differing_attributes
+differing_attributes-disagree x p q k d agree =
     let parts = and_parts (x k) (not (nat_eq (symbol_at p k) (symbol_at q k))) d in
     true≢false (sym (eq-eqb (symbol_at p k) (symbol_at q k) (agree k parts.0)) ∙ not-true (nat_eq (symbol_at p k) (symbol_at q k)) parts.1)
 
-agree_at : (x : Places) (p q : SymbolRow) (k : ℕ) → x k ≡ true → differs x p q k ≡ false → symbol_at p k ≡ symbol_at q k
-unfolding differs
+agree_at : (x : Attributes) (p q : SymbolRow) (k : ℕ) → x k ≡ true → differing_attributes x p q k ≡ false → symbol_at p k ≡ symbol_at q k
+unfolding differing_attributes
 agree_at x p q k m d = ⊎_elim
     (λ (out : x k ≡ false). absurd (true≢false (sym m ∙ out)))
     (λ e. eqb-true (symbol_at p k) (symbol_at q k) (not-false (nat_eq (symbol_at p k) (symbol_at q k)) e))
     (and_cases (x k) (not (nat_eq (symbol_at p k) (symbol_at q k))) d)
 
 -- whether two rows agree on a set
-agree_tell : (x : Places) (p q : SymbolRow) → SymbolsAgree x p q ⊎ (SymbolsAgree x p q → ⊥)
+agree_tell : (x : Attributes) (p q : SymbolRow) → SymbolsAgree x p q ⊎ (SymbolsAgree x p q → ⊥)
 agree_tell x p q = ⊎_elim
-    (λ (found : (k : ℕ) × (k < length p + length q) × (differs x p q k ≡ true)). inr (λ agree. differ_at x p q found.0 found.2 agree))
-    (λ (same : (k : ℕ) → k < length p + length q → differs x p q k ≡ false). inl (λ (k : ℕ) m. elim (cases_lt k (length p + length q)) [
+    (λ (found : (k : ℕ) × (k < length p + length q) × (differing_attributes x p q k ≡ true)). inr (λ agree. differing_attributes-disagree x p q found.0 found.2 agree))
+    (λ (same : (k : ℕ) → k < length p + length q → differing_attributes x p q k ≡ false). inl (λ (k : ℕ) m. elim (cases_lt k (length p + length q)) [
       | inl low ↦ agree_at x p q k m (same k low)
       | inr past ↦ symbol_at_past p k (omega (arith, past)) ∙ sym (symbol_at_past q k (omega (arith, past)))
     ]))
-    (tell_some (length p + length q) (differs x p q))
+    (tell_member (length p + length q) (differing_attributes x p q))
 
 -- the tableau has the rows with a property, and no others
 abbrev pub Lists : (SymbolRow → Type 0) → Tableau → Type 0
@@ -201,11 +201,11 @@ Lists P t = (row : SymbolRow) → Contains t row ↔ P row
 abbrev pub OfSome : {X : Type 0} → (X → SymbolRow → Type 0) → List X → SymbolRow → Type 0
 OfSome {X} P xs row = (x : X) × Contains xs x × P x row
 
-gather : {X : Type 0} (P : X → SymbolRow → Type 0) → ((x : X) → (t : Tableau) × Lists (P x) t) → (xs : List X) → (t : Tableau) × Lists (OfSome P xs) t
-gather P each [] = ([], λ row. ((λ h. absurd (omega (arith, h.1))), (λ h. absurd (omega (arith, h.1.1)))))
-gather P each (x ∷ xs) =
+Lists-of_some : {X : Type 0} (P : X → SymbolRow → Type 0) → ((x : X) → (t : Tableau) × Lists (P x) t) → (xs : List X) → (t : Tableau) × Lists (OfSome P xs) t
+Lists-of_some P each [] = ([], λ row. ((λ h. absurd (omega (arith, h.1))), (λ h. absurd (omega (arith, h.1.1)))))
+Lists-of_some P each (x ∷ xs) =
     let first = each x in
-    let rest = gather P each xs in (
+    let rest = Lists-of_some P each xs in (
       first.0 ++ rest.0,
       λ (row : SymbolRow). (
         (λ h. ⊎_elim
@@ -220,20 +220,20 @@ gather P each (x ∷ xs) =
     )
 
 -- a row that a dependency makes of two rows
-abbrev pub IsPairOf : ℕ → Places → Places → SymbolRow → SymbolRow → SymbolRow → Type 0
-IsPairOf n x y p q row = SymbolsAgree x p q × (exchanged n (union x y) p q ≡ row)
+abbrev pub IsPairOf : ℕ → Attributes → Attributes → SymbolRow → SymbolRow → SymbolRow → Type 0
+IsPairOf n x y p q row = SymbolsAgree x p q × (exchange_rows n (union x y) p q ≡ row)
 
 abbrev pub IsMadeBy : ℕ → Tableau → Dependency → SymbolRow → Type 0
 IsMadeBy n t (fd x y) row = ⊥
 IsMadeBy n t (mvd x y) row = OfSome (λ p. OfSome (IsPairOf n x y p) t) t row
 
-pair_listed : (n : ℕ) (x y : Places) (p q : SymbolRow) → (t : Tableau) × Lists (IsPairOf n x y p q) t
+pair_listed : (n : ℕ) (x y : Attributes) (p q : SymbolRow) → (t : Tableau) × Lists (IsPairOf n x y p q) t
 pair_listed n x y p q = elim (agree_tell x p q) [
   | inl agree ↦ (
-    exchanged n (union x y) p q ∷ [],
+    exchange_rows n (union x y) p q ∷ [],
     λ (row : SymbolRow). (
-      (λ h. ⊎_elim (λ (e : exchanged n (union x y) p q ≡ row). (agree, e)) (λ none. absurd (omega (arith, none.1))) (cons_cases (exchanged n (union x y) p q) [] row h)),
-      (λ h. subst (λ (r : SymbolRow). Contains (exchanged n (union x y) p q ∷ []) r) h.1 (Contains-head (exchanged n (union x y) p q) [])),
+      (λ h. ⊎_elim (λ (e : exchange_rows n (union x y) p q ≡ row). (agree, e)) (λ none. absurd (omega (arith, none.1))) (cons_cases (exchange_rows n (union x y) p q) [] row h)),
+      (λ h. subst (λ (r : SymbolRow). Contains (exchange_rows n (union x y) p q ∷ []) r) h.1 (Contains-head (exchange_rows n (union x y) p q) [])),
     ),
   )
   | inr differ ↦ ([], λ (row : SymbolRow). ((λ h. absurd (omega (arith, h.1))), (λ h. absurd (differ h.0))))
@@ -241,7 +241,7 @@ pair_listed n x y p q = elim (agree_tell x p q) [
 
 made_listed : (n : ℕ) (t : Tableau) (d : Dependency) → (s : Tableau) × Lists (IsMadeBy n t d) s
 made_listed n t (fd x y) = ([], λ (row : SymbolRow). ((λ h. absurd (omega (arith, h.1))), (λ h. absurd h)))
-made_listed n t (mvd x y) = gather (λ (p : SymbolRow). OfSome (IsPairOf n x y p) t) (λ (p : SymbolRow). gather (IsPairOf n x y p) (λ (q : SymbolRow). pair_listed n x y p q) t) t
+made_listed n t (mvd x y) = Lists-of_some (λ (p : SymbolRow). OfSome (IsPairOf n x y p) t) (λ (p : SymbolRow). Lists-of_some (IsPairOf n x y p) (λ (q : SymbolRow). pair_listed n x y p q) t) t
 
 made_to : (n : ℕ) (ds : List Dependency) (t : Tableau) (d : Dependency) (row : SymbolRow) → Contains ds d → IsMadeBy n t d row → IsMadeOf n ds t row
 made_to n ds t (fd x y) row given made = absurd made
@@ -262,7 +262,7 @@ made_from n ds t row made = (mvd made.lhs made.rhs, made.given, (made.first, mad
 
 pub next_exists : (n : ℕ) (ds : List Dependency) (t : Tableau) → (s : Tableau) × IsNext n ds t s
 next_exists n ds t =
-    let all = gather (IsMadeBy n t) (made_listed n t) ds in (
+    let all = Lists-of_some (IsMadeBy n t) (made_listed n t) ds in (
       t ++ all.0,
       λ (row : SymbolRow). (
         (λ h. ⊎_elim inl (λ later. let w = (all.1 row).0 later in inr (made_to n ds t w.0 row w.1 w.2)) (Contains-append_cases t all.0 row h)),
@@ -284,10 +284,10 @@ functional_end ds t s u step same =
         first_in = one.first_in;
         second_in = one.second_in;
         agree = one.agree;
-        place = one.place;
+        attribute = one.attribute;
         member = one.member;
         differ = one.differ;
-        after = Same-trans (replaced one.place (symbol_at one.second one.place) (symbol_at one.first one.place) t) s u one.after same;
+        after = Same-trans (replace_symbol one.attribute (symbol_at one.second one.attribute) (symbol_at one.first one.attribute) t) s u one.after same;
       };
     }
 
@@ -305,7 +305,7 @@ multivalued_end n ds t s u step same =
         second_in = one.second_in;
         agree = one.agree;
         fresh = one.fresh;
-        after = Same-trans (exchanged n (union step.lhs step.rhs) one.first one.second ∷ t) s u one.after same;
+        after = Same-trans (exchange_rows n (union step.lhs step.rhs) one.first one.second ∷ t) s u one.after same;
       };
     }
 
@@ -337,8 +337,8 @@ functional_leads ds zero t m s count one other = (count, functional_leads_end ds
 functional_leads ds (suc more) t m s count one other = let w = functional_leads_join ds more t m s count one other in (suc w.0, w.1)
 
 -- steps by functional dependencies are steps
-pub reaches_settled : (n : ℕ) (ds : List Dependency) (more count : ℕ) (t m s : Tableau) → LeadsIn (IsStep n ds) count t m → LeadsIn (IsFunctionalStep ds) more m s → LeadsTo (IsStep n ds) t s
-reaches_settled n ds zero count t m s one other = (count, step_leads_end n ds count t m s one other)
-reaches_settled n ds (suc more) count t m s one other =
-    let w = reaches_settled n ds more count t m other.0 one other.1 in
+pub reaches_functionally_closed : (n : ℕ) (ds : List Dependency) (more count : ℕ) (t m s : Tableau) → LeadsIn (IsStep n ds) count t m → LeadsIn (IsFunctionalStep ds) more m s → LeadsTo (IsStep n ds) t s
+reaches_functionally_closed n ds zero count t m s one other = (count, step_leads_end n ds count t m s one other)
+reaches_functionally_closed n ds (suc more) count t m s one other =
+    let w = reaches_functionally_closed n ds more count t m other.0 one other.1 in
     (suc w.0, (other.0, w.1, inl other.2))

@@ -8,10 +8,10 @@ use Rattle.std.proofs.lemmas.List.FromFn.{length-map-range_with_len, get_or-map-
 use Rattle.std.proofs.lemmas.Slice.Eq.{slice_eq-Decides}
 use Rattle.std.specs.Prelude.{Contains, nat_eq}
 use Rattle.std.specs.Cmp.Lexicographic.{pointwise}
-use Rattle.attr_sets.specs.Places.{Places}
+use Rattle.attr_sets.specs.Attributes.{Attributes}
 use Rattle.dep_model.proofs.ListLemmas.{Contains-map, map-member, Contains-head, Contains-later}
-use Rattle.chase_laws.specs.Tableaux.{SymbolRow, Tableau, SameTableau, symbol_at, distinguished, scheme_row}
-use Rattle.chase_laws.specs.Steps.{replaced_in, replaced, exchanged}
+use Rattle.chase_laws.specs.Tableaux.{SymbolRow, Tableau, SameTableau, symbol_at, distinguished_row, scheme_row}
+use Rattle.chase_laws.specs.Steps.{replace_in_row, replace_symbol, exchange_rows}
 
 -- ---- rows
 -- rows of one length are the same where their symbols are
@@ -21,39 +21,39 @@ same_rows n p q lp lq same = ext_get_or 0 p q (lp ∙ sym lq) (λ (k : ℕ) l. s
 pub symbol_at_past : (row : SymbolRow) (k : ℕ) → length row ≤ k → symbol_at row k ≡ 0
 symbol_at_past row k past = get_or_past row k 0 past
 
-pub length-distinguished : (n : ℕ) → length (distinguished n) ≡ n
-unfolding distinguished
-length-distinguished n = length-replicate n 0
+pub length-distinguished_row : (n : ℕ) → length (distinguished_row n) ≡ n
+unfolding distinguished_row
+length-distinguished_row n = length-replicate n 0
 
-pub symbol_at-distinguished : (n k : ℕ) → k < n → symbol_at (distinguished n) k ≡ 0
-unfolding distinguished
-symbol_at-distinguished n k h = get_or-replicate n k 0 0 h
+pub symbol_at-distinguished_row : (n k : ℕ) → k < n → symbol_at (distinguished_row n) k ≡ 0
+unfolding distinguished_row
+symbol_at-distinguished_row n k h = get_or-replicate n k 0 0 h
 
-pub length-scheme_row : (n : ℕ) (scheme : Places) (i : ℕ) → length (scheme_row n scheme i) ≡ n
+pub length-scheme_row : (n : ℕ) (scheme : Attributes) (i : ℕ) → length (scheme_row n scheme i) ≡ n
 unfolding scheme_row
 length-scheme_row n scheme i = length-map-range_with_len (λ (k : ℕ). cond (scheme k) 0 i) 0 n
 
-pub symbol_at-scheme_row : (n : ℕ) (scheme : Places) (i k : ℕ) → k < n → symbol_at (scheme_row n scheme i) k ≡ cond (scheme k) 0 i
+pub symbol_at-scheme_row : (n : ℕ) (scheme : Attributes) (i k : ℕ) → k < n → symbol_at (scheme_row n scheme i) k ≡ cond (scheme k) 0 i
 unfolding scheme_row
 symbol_at-scheme_row n scheme i k h = get_or-map-range_with_len (λ (j : ℕ). cond (scheme j) 0 i) 0 n k k 0 h (omega arith)
 
-pub length-exchanged : (n : ℕ) (z : Places) (p q : SymbolRow) → length (exchanged n z p q) ≡ n
-unfolding exchanged
-length-exchanged n z p q = length-map-range_with_len (λ (k : ℕ). cond (z k) (symbol_at p k) (symbol_at q k)) 0 n
+pub length-exchange_rows : (n : ℕ) (z : Attributes) (p q : SymbolRow) → length (exchange_rows n z p q) ≡ n
+unfolding exchange_rows
+length-exchange_rows n z p q = length-map-range_with_len (λ (k : ℕ). cond (z k) (symbol_at p k) (symbol_at q k)) 0 n
 
-pub symbol_at-exchanged : (n : ℕ) (z : Places) (p q : SymbolRow) (k : ℕ) → k < n → symbol_at (exchanged n z p q) k ≡ cond (z k) (symbol_at p k) (symbol_at q k)
-unfolding exchanged
-symbol_at-exchanged n z p q k h = get_or-map-range_with_len (λ (j : ℕ). cond (z j) (symbol_at p j) (symbol_at q j)) 0 n k k 0 h (omega arith)
+pub symbol_at-exchange_rows : (n : ℕ) (z : Attributes) (p q : SymbolRow) (k : ℕ) → k < n → symbol_at (exchange_rows n z p q) k ≡ cond (z k) (symbol_at p k) (symbol_at q k)
+unfolding exchange_rows
+symbol_at-exchange_rows n z p q k h = get_or-map-range_with_len (λ (j : ℕ). cond (z j) (symbol_at p j) (symbol_at q j)) 0 n k k 0 h (omega arith)
 
 -- ---- a symbol replaced throughout an attribute
-pub replaced_hit : (a former later : ℕ) (row : SymbolRow) → symbol_at row a ≡ former → replaced_in a former later row ≡ set row a later
+pub replaced_hit : (a former later : ℕ) (row : SymbolRow) → symbol_at row a ≡ former → replace_in_row a former later row ≡ set row a later
 replaced_hit a former later row e = cond-true (nat_eq (symbol_at row a) former) (set row a later) row (eq-eqb (symbol_at row a) former e)
 
-pub replaced_miss : (a former later : ℕ) (row : SymbolRow) → (symbol_at row a ≡ former → ⊥) → replaced_in a former later row ≡ row
+pub replaced_miss : (a former later : ℕ) (row : SymbolRow) → (symbol_at row a ≡ former → ⊥) → replace_in_row a former later row ≡ row
 replaced_miss a former later row ne = cond-false (nat_eq (symbol_at row a) former) (set row a later) row (ne_eqb (symbol_at row a) former ne)
 
-pub length-replaced_in : (a former later : ℕ) (row : SymbolRow) → length (replaced_in a former later row) ≡ length row
-length-replaced_in a former later row = elim (cases_eq (symbol_at row a) former) [
+pub length-replace_in_row : (a former later : ℕ) (row : SymbolRow) → length (replace_in_row a former later row) ≡ length row
+length-replace_in_row a former later row = elim (cases_eq (symbol_at row a) former) [
   | inl hit ↦ ap (λ (r : SymbolRow). length r) (replaced_hit a former later row hit) ∙ length-set row a later
   | inr miss ↦ ap (λ (r : SymbolRow). length r) (replaced_miss a former later row miss)
 ]
@@ -68,14 +68,14 @@ set_image {X} G a later row k same = elim (cases_eq k a) [
   ]
 ]
 
-pub replaced_image : {X : Type 0} (G : ℕ → ℕ → X) (a former later : ℕ) (row : SymbolRow) (k : ℕ) → G a former ≡ G a later → G k (symbol_at (replaced_in a former later row) k) ≡ G k (symbol_at row k)
+pub replaced_image : {X : Type 0} (G : ℕ → ℕ → X) (a former later : ℕ) (row : SymbolRow) (k : ℕ) → G a former ≡ G a later → G k (symbol_at (replace_in_row a former later row) k) ≡ G k (symbol_at row k)
 replaced_image {X} G a former later row k same = elim (cases_eq (symbol_at row a) former) [
   | inr miss ↦ ap (λ (r : SymbolRow). G k (symbol_at r k)) (replaced_miss a former later row miss)
   | inl hit ↦ ap (λ (r : SymbolRow). G k (symbol_at r k)) (replaced_hit a former later row hit) ∙ set_image G a later row k (ap (λ (v : ℕ). G a v) hit ∙ same)
 ]
 
 -- no symbol grows
-pub replaced_le : (a former later : ℕ) (row : SymbolRow) (k : ℕ) → later ≤ former → symbol_at (replaced_in a former later row) k ≤ symbol_at row k
+pub replaced_le : (a former later : ℕ) (row : SymbolRow) (k : ℕ) → later ≤ former → symbol_at (replace_in_row a former later row) k ≤ symbol_at row k
 replaced_le a former later row k le = elim (cases_eq (symbol_at row a) former) [
   | inr miss ↦ subst (λ (r : SymbolRow). symbol_at r k ≤ symbol_at row k) (sym (replaced_miss a former later row miss)) (omega arith)
   | inl hit ↦ subst (λ (r : SymbolRow). symbol_at r k ≤ symbol_at row k) (sym (replaced_hit a former later row hit)) (elim (cases_eq k a) [
@@ -91,32 +91,32 @@ replaced_le a former later row k le = elim (cases_eq (symbol_at row a) former) [
 ]
 
 -- the symbol after
-abbrev pub change : ℕ → ℕ → ℕ → ℕ → ℕ → ℕ
-change a former later k v = cond (nat_eq k a) (cond (nat_eq v former) later v) v
+abbrev pub symbol_after : ℕ → ℕ → ℕ → ℕ → ℕ → ℕ
+symbol_after a former later k v = cond (nat_eq k a) (cond (nat_eq v former) later v) v
 
-pub change_hit : (a former later k v : ℕ) → k ≡ a → v ≡ former → change a former later k v ≡ later
-change_hit a former later k v ka vf = cond-true (nat_eq k a) (cond (nat_eq v former) later v) v (eq-eqb k a ka) ∙ cond-true (nat_eq v former) later v (eq-eqb v former vf)
+pub symbol_after-hit : (a former later k v : ℕ) → k ≡ a → v ≡ former → symbol_after a former later k v ≡ later
+symbol_after-hit a former later k v ka vf = cond-true (nat_eq k a) (cond (nat_eq v former) later v) v (eq-eqb k a ka) ∙ cond-true (nat_eq v former) later v (eq-eqb v former vf)
 
-pub change_miss : (a former later k v : ℕ) → (v ≡ former → ⊥) → change a former later k v ≡ v
-change_miss a former later k v ne = elim (cases_eq k a) [
+pub symbol_after-miss : (a former later k v : ℕ) → (v ≡ former → ⊥) → symbol_after a former later k v ≡ v
+symbol_after-miss a former later k v ne = elim (cases_eq k a) [
   | inl ka ↦ cond-true (nat_eq k a) (cond (nat_eq v former) later v) v (eq-eqb k a ka) ∙ cond-false (nat_eq v former) later v (ne_eqb v former ne)
   | inr other ↦ cond-false (nat_eq k a) (cond (nat_eq v former) later v) v (ne_eqb k a other)
 ]
 
-pub change_other : (a former later k v : ℕ) → (k ≡ a → ⊥) → change a former later k v ≡ v
-change_other a former later k v other = cond-false (nat_eq k a) (cond (nat_eq v former) later v) v (ne_eqb k a other)
+pub symbol_after-other : (a former later k v : ℕ) → (k ≡ a → ⊥) → symbol_after a former later k v ≡ v
+symbol_after-other a former later k v other = cond-false (nat_eq k a) (cond (nat_eq v former) later v) v (ne_eqb k a other)
 
-pub symbol_at-replaced_in : (a former later : ℕ) (row : SymbolRow) (k : ℕ) → a < length row → symbol_at (replaced_in a former later row) k ≡ change a former later k (symbol_at row k)
-symbol_at-replaced_in a former later row k low = elim (cases_eq (symbol_at row a) former) [
+pub symbol_at-replace_in_row : (a former later : ℕ) (row : SymbolRow) (k : ℕ) → a < length row → symbol_at (replace_in_row a former later row) k ≡ symbol_after a former later k (symbol_at row k)
+symbol_at-replace_in_row a former later row k low = elim (cases_eq (symbol_at row a) former) [
   | inr miss ↦ ap (λ (r : SymbolRow). symbol_at r k) (replaced_miss a former later row miss) ∙ elim (cases_eq k a) [
-    | inl here ↦ sym (change_miss a former later k (symbol_at row k) (λ (e : symbol_at row k ≡ former). miss (ap (λ (j : ℕ). symbol_at row j) (sym here) ∙ e)))
-    | inr other ↦ sym (change_other a former later k (symbol_at row k) other)
+    | inl here ↦ sym (symbol_after-miss a former later k (symbol_at row k) (λ (e : symbol_at row k ≡ former). miss (ap (λ (j : ℕ). symbol_at row j) (sym here) ∙ e)))
+    | inr other ↦ sym (symbol_after-other a former later k (symbol_at row k) other)
   ]
   | inl hit ↦ ap (λ (r : SymbolRow). symbol_at r k) (replaced_hit a former later row hit) ∙ elim (cases_eq k a) [
     | inl here ↦
         ap (λ (j : ℕ). symbol_at (set row a later) j) here ∙ get_or-set_same row a later 0 low
-        ∙ sym (change_hit a former later k (symbol_at row k) here (ap (λ (j : ℕ). symbol_at row j) here ∙ hit))
-    | inr other ↦ get_or-set_other row a k later 0 other ∙ sym (change_other a former later k (symbol_at row k) other)
+        ∙ sym (symbol_after-hit a former later k (symbol_at row k) here (ap (λ (j : ℕ). symbol_at row j) here ∙ hit))
+    | inr other ↦ get_or-set_other row a k later 0 other ∙ sym (symbol_after-other a former later k (symbol_at row k) other)
   ]
 ]
 
@@ -128,8 +128,8 @@ cons_cases_at x xs y (suc k) l e = let low : k < length xs = omega arith in inr 
 pub cons_cases : {X : Type 0} (x : X) (xs : List X) (y : X) → Contains (x ∷ xs) y → (x ≡ y) ⊎ Contains xs y
 cons_cases x xs y h = cons_cases_at x xs y h.0 h.1 h.2
 
-none_here : {X : Type 0} (y : X) → Contains [] y → ⊥
-none_here y h = absurd (omega (arith, h.1))
+Contains-nil : {X : Type 0} (y : X) → Contains [] y → ⊥
+Contains-nil y h = absurd (omega (arith, h.1))
 
 -- whether two rows are equal, and whether a tableau has a row
 pub rows_tell : (p q : SymbolRow) → (p ≡ q) ⊎ (p ≡ q → ⊥)
@@ -141,7 +141,7 @@ rows_tell p q =
     ]
 
 pub tell_row : (t : Tableau) (row : SymbolRow) → Contains t row ⊎ (Contains t row → ⊥)
-tell_row [] row = inr (λ h. none_here row h)
+tell_row [] row = inr (λ h. Contains-nil row h)
 tell_row (p ∷ t) row = elim (rows_tell p row) [
   | inl equal ↦ inl (subst (λ (r : SymbolRow). Contains (p ∷ t) r) equal (Contains-head p t))
   | inr differ ↦ elim (tell_row t row) [
@@ -160,13 +160,13 @@ Same-sym t s same row = ((same row).1, (same row).0)
 pub Same-trans : (t s u : Tableau) → SameTableau t s → SameTableau s u → SameTableau t u
 Same-trans t s u ts su row = ((λ h. (su row).0 ((ts row).0 h)), (λ h. (ts row).1 ((su row).1 h)))
 
-replaced_kept : (a former later : ℕ) (t s : Tableau) → SameTableau t s → (row : SymbolRow) → Contains (replaced a former later t) row → Contains (replaced a former later s) row
+replaced_kept : (a former later : ℕ) (t s : Tableau) → SameTableau t s → (row : SymbolRow) → Contains (replace_symbol a former later t) row → Contains (replace_symbol a former later s) row
 replaced_kept a former later t s same row h =
-    let w = map-member (replaced_in a former later) t row h in
-    subst (λ (r : SymbolRow). Contains (replaced a former later s) r) w.2 (Contains-map (replaced_in a former later) s w.0 ((same w.0).0 w.1))
+    let w = map-member (replace_in_row a former later) t row h in
+    subst (λ (r : SymbolRow). Contains (replace_symbol a former later s) r) w.2 (Contains-map (replace_in_row a former later) s w.0 ((same w.0).0 w.1))
 
-pub Same-replaced : (a former later : ℕ) (t s : Tableau) → SameTableau t s → SameTableau (replaced a former later t) (replaced a former later s)
-Same-replaced a former later t s same row = (replaced_kept a former later t s same row, replaced_kept a former later s t (Same-sym t s same) row)
+pub Same-replace_symbol : (a former later : ℕ) (t s : Tableau) → SameTableau t s → SameTableau (replace_symbol a former later t) (replace_symbol a former later s)
+Same-replace_symbol a former later t s same row = (replaced_kept a former later t s same row, replaced_kept a former later s t (Same-sym t s same) row)
 
 cons_kept : (p : SymbolRow) (t s : Tableau) → SameTableau t s → (row : SymbolRow) → Contains (p ∷ t) row → Contains (p ∷ s) row
 cons_kept p t s same row h = ⊎_elim

@@ -2,7 +2,7 @@
 use Rattle.std.proofs.Common.{◌≡◌, ℕ, suc, List, [], ◌∷◌, refl, sym, ap, subst, ◌∙◌, ⊎_elim, arith}
 use Rattle.std.proofs.lemmas.Cmp.{nat_list_cmp_total, tied_itself}
 use Rattle.std.specs.Prelude.{AllPairs, Contains}
-use Rattle.attr_sets.specs.Places.{Places}
+use Rattle.attr_sets.specs.Attributes.{Attributes}
 use Rattle.dep_model.specs.Tuples.{Relation}
 use Rattle.dep_model.specs.Dependencies.{Dependency}
 use Rattle.dep_model.proofs.ListLemmas.{Contains-head, Contains-later}
@@ -65,7 +65,7 @@ one_list (p ∷ t) (q ∷ s) one other there back =
     (later_held p s t other_p back_p)) ∙ sym to_p
 
 -- ---- one closed tableau
-pub closed_unique : (n : ℕ) (ds : List Dependency) (plan : List Places) (limit : ℕ) (r s : Relation)
+pub closed_unique : (n : ℕ) (ds : List Dependency) (plan : List Attributes) (limit : ℕ) (r s : Relation)
     → IsClosedTableau n ds plan limit r → IsClosedTableau n ds plan limit s → r ≡ s
 closed_unique n ds plan limit r s one other =
     let same : SameTableau one.symbols other.symbols =

@@ -4,7 +4,7 @@ use Rattle.std.specs.Prelude.{◌≡◌, ℕ, ◌≤◌, List, length, map, AllP
 use Rattle.std.specs.Ordering.{nat_cmp}
 use Rattle.std.specs.declared.cmp.Ordering.TheVariants.{Less}
 use Rattle.std.specs.Cmp.Lexicographic.{slice_cmp}
-use Rattle.attr_sets.specs.Places.{Places}
+use Rattle.attr_sets.specs.Attributes.{Attributes}
 use Rattle.dep_model.specs.Tuples.{Relation}
 use Rattle.dep_model.specs.Dependencies.{Dependency}
 use Rattle.dep_model.specs.Implication.{IsLegal}
@@ -12,7 +12,7 @@ use Rattle.dep_model.specs.Projections.{InJoin, projections}
 use Rattle.dep_model.specs.TwoTuples.{all_zeros}
 use Rattle.chase_laws.specs.Tableaux.{SymbolRow, Tableau}
 use Rattle.chase_laws.specs.Steps.{IsClosed}
-use Rattle.chase_laws.specs.Rounds.{ReachesTableau, SettlesTo, InRounds}
+use Rattle.chase_laws.specs.Rounds.{ReachesTableau, ClosesFunctionallyTo, InRounds}
 
 -- a tableau as a relation: each symbol as a decimal text
 abbrev pub texts_of : Tableau → Relation
@@ -23,21 +23,21 @@ abbrev pub RowBefore : SymbolRow → SymbolRow → Type 0
 RowBefore p q = slice_cmp nat_cmp p q ≡ Less
 
 -- a legal relation whose projections have one tuple more in their join: that of n times `0`
-pub record IsGaining (n : ℕ) (ds : List Dependency) (plan : List Places) (r : Relation) : Type 0 where
+pub record IsGaining (n : ℕ) (ds : List Dependency) (plan : List Attributes) (r : Relation) : Type 0 where
   pub legal : IsLegal n ds r
   pub joined : InJoin n plan (projections plan r) (all_zeros n)
   pub gained : Contains r (all_zeros n) → ⊥
 
--- what the last tableau of the rounds settles to, which is closed and has at most so many rows: as
--- texts, its rows ascending
-pub record IsClosedTableau (n : ℕ) (ds : List Dependency) (plan : List Places) (limit : ℕ)
+-- what the last tableau of the rounds closes functionally to, which is closed and has at most so many
+-- rows: as texts, its rows ascending
+pub record IsClosedTableau (n : ℕ) (ds : List Dependency) (plan : List Attributes) (limit : ℕ)
     (r : Relation) : Type 0 where
   pub symbols : Tableau
   pub texts : r ≡ texts_of symbols
   pub round : ℕ
   pub last : Tableau
   pub in_rounds : InRounds n ds plan round last
-  pub settles : SettlesTo ds last symbols
+  pub closes : ClosesFunctionallyTo ds last symbols
   pub reached : ReachesTableau n ds plan symbols
   pub closed : IsClosed n ds symbols
   pub few : length symbols ≤ limit

@@ -2,7 +2,7 @@
 -- chase, and for tableau_chase.
 use Rattle.std.specs.Prelude.{◌≡◌, ℕ, ◌↔◌, suc, true, if◌then◌else◌, List, [], ◌∷◌, length, map, replicate, All, Contains, slice_index_or}
 use Rattle.std.specs.List.{range_with_len}
-use Rattle.attr_sets.specs.Places.{Places}
+use Rattle.attr_sets.specs.Attributes.{Attributes}
 
 -- a row of a tableau: a symbol for each attribute. Symbols are numbers, and 0 is the distinguished one
 abbrev pub SymbolRow : Type 0
@@ -25,22 +25,22 @@ abbrev pub symbol_at : SymbolRow → ℕ → ℕ
 symbol_at row k = slice_index_or row k 0
 
 -- the two rows have the same symbol at each attribute of x
-abbrev pub SymbolsAgree : Places → SymbolRow → SymbolRow → Type 0
+abbrev pub SymbolsAgree : Attributes → SymbolRow → SymbolRow → Type 0
 SymbolsAgree x p q = (k : ℕ) → x k ≡ true → symbol_at p k ≡ symbol_at q k
 
 -- the row of distinguished symbols
-unfoldable pub distinguished : ℕ → SymbolRow
-distinguished n = replicate n 0
+unfoldable pub distinguished_row : ℕ → SymbolRow
+distinguished_row n = replicate n 0
 
 -- the row of scheme number i: distinguished on the scheme, i elsewhere
-unfoldable pub scheme_row : ℕ → Places → ℕ → SymbolRow
+unfoldable pub scheme_row : ℕ → Attributes → ℕ → SymbolRow
 scheme_row n scheme i = map (λ k. if scheme k then 0 else i) (range_with_len 0 n)
 
 -- the rows of schemes that are numbered from i on
-abbrev pub scheme_rows : ℕ → ℕ → List Places → Tableau
+abbrev pub scheme_rows : ℕ → ℕ → List Attributes → Tableau
 scheme_rows n i [] = []
 scheme_rows n i (scheme ∷ plan) = scheme_row n scheme i ∷ scheme_rows n (suc i) plan
 
 -- the tableau of a plan: a row for each scheme, numbered from 1
-abbrev pub plan_tableau : ℕ → List Places → Tableau
+abbrev pub plan_tableau : ℕ → List Attributes → Tableau
 plan_tableau n plan = scheme_rows n 1 plan

@@ -5,77 +5,79 @@
 #![tactic(auto)]
 
 ghost use Rattle.std.specs.Prelude.{◌≡◌, ◌<◌, ◌≤◌, ◌^◌, ℕ, List, length, Contains};
-ghost use Rattle.attr_sets.specs.Places.{Places};
+ghost use Rattle.attr_sets.specs.Attributes.{Attributes};
 ghost use Rattle.dep_model.specs.Dependencies.{Dependency, mvd};
 ghost use Rattle.dep_model.specs.Tuples.{Relation};
 ghost use Rattle.dep_model.specs.Columns.{columns_on, IsTyped};
 ghost use Rattle.dep_model.specs.Projections.{Covers, IsLossless};
-ghost use Rattle.chase_laws.specs.Tableaux.{Tableau, SameTableau, IsTableauOver, distinguished};
+ghost use Rattle.chase_laws.specs.Tableaux.{Tableau, SameTableau, IsTableauOver, distinguished_row};
 ghost use Rattle.chase_laws.specs.Steps.{IsClosed};
-ghost use Rattle.chase_laws.specs.Rounds.{ReachesTableau, SettlesTo, EndsRounds, InRounds, RoundsExceed};
+ghost use Rattle.chase_laws.specs.Rounds.{ReachesTableau, ClosesFunctionallyTo, EndsRounds, InRounds, RoundsExceed};
 ghost use Rattle.chase_laws.specs.Answers.{texts_of, IsGaining, IsClosedTableau};
 
-/// What a tableau settles to does not depend on the order of the steps.
-pub fn settling_is_unique()
-    ensures law { (n : ℕ) (ds : List Dependency) (t s u : Tableau) → IsTableauOver n t → SettlesTo ds t s
-        → SettlesTo ds t u → SameTableau s u }
+/// What a tableau closes functionally to does not depend on the order of the steps.
+pub fn functional_closing_is_unique()
+    ensures law { (n : ℕ) (ds : List Dependency) (t s u : Tableau) → IsTableauOver n t
+        → ClosesFunctionallyTo ds t s
+        → ClosesFunctionallyTo ds t u → SameTableau s u }
 {}
 
 /// Each round has one tableau.
 pub fn rounds_are_unique()
-    ensures law { (n : ℕ) (ds : List Dependency) (plan : List Places) (round : ℕ) (t s : Tableau)
+    ensures law { (n : ℕ) (ds : List Dependency) (plan : List Attributes) (round : ℕ) (t s : Tableau)
         → InRounds n ds plan round t → InRounds n ds plan round s → SameTableau t s }
 {}
 
-/// No round comes after one whose tableau settles to one that ends the rounds.
+/// No round comes after one whose tableau closes functionally to one that ends the rounds.
 pub fn rounds_come_to_an_end()
-    ensures law { (n : ℕ) (ds : List Dependency) (plan : List Places) (round : ℕ) (t s : Tableau)
-        → InRounds n ds plan round t → SettlesTo ds t s → EndsRounds n ds s
+    ensures law { (n : ℕ) (ds : List Dependency) (plan : List Attributes) (round : ℕ) (t s : Tableau)
+        → InRounds n ds plan round t → ClosesFunctionallyTo ds t s → EndsRounds n ds s
         → (later : ℕ) (u : Tableau) → InRounds n ds plan later u → later ≤ round }
 {}
 
 /// Where no dependency is multivalued, no tableau of the rounds has more rows than the plan has schemes.
 pub fn functional_rounds_stay_small()
-    ensures law { (n : ℕ) (ds : List Dependency) (plan : List Places) (limit : ℕ)
-        → ((x y : Places) → Contains ds (mvd x y) → ⊥) → length plan ≤ limit
+    ensures law { (n : ℕ) (ds : List Dependency) (plan : List Attributes) (limit : ℕ)
+        → ((x y : Attributes) → Contains ds (mvd x y) → ⊥) → length plan ≤ limit
         → RoundsExceed n ds plan limit → ⊥ }
 {}
 
 /// The closed tableau that is reached does not depend on the order of the steps.
 pub fn closing_is_unique()
-    ensures law { (n : ℕ) (ds : List Dependency) (plan : List Places) (t s : Tableau)
+    ensures law { (n : ℕ) (ds : List Dependency) (plan : List Attributes) (t s : Tableau)
         → ReachesTableau n ds plan t → IsClosed n ds t → ReachesTableau n ds plan s → IsClosed n ds s
         → SameTableau t s }
 {}
 
 /// A plan has one closed tableau at most, as texts.
 pub fn closed_tableau_is_unique()
-    ensures law { (n : ℕ) (ds : List Dependency) (plan : List Places) (limit : ℕ) (r s : Relation)
+    ensures law { (n : ℕ) (ds : List Dependency) (plan : List Attributes) (limit : ℕ) (r s : Relation)
         → IsClosedTableau n ds plan limit r → IsClosedTableau n ds plan limit s → r ≡ s }
 {}
 
 /// A plan from whose tableau the row of distinguished symbols is reached is lossless.
 pub fn distinguished_row_is_lossless()
-    ensures law { (n : ℕ) (ds : List Dependency) (plan : List Places) (s : Tableau) → Covers n plan
-        → ReachesTableau n ds plan s → Contains s (distinguished n) → IsLossless n ds plan }
+    ensures law { (n : ℕ) (ds : List Dependency) (plan : List Attributes) (s : Tableau) → Covers n plan
+        → ReachesTableau n ds plan s → Contains s (distinguished_row n) → IsLossless n ds plan }
 {}
 
 /// A closed tableau that is reached and lacks this row is, as texts, a legal relation that gains a tuple.
 pub fn closed_tableau_gains()
-    ensures law { (n : ℕ) (ds : List Dependency) (plan : List Places) (s : Tableau)
+    ensures law { (n : ℕ) (ds : List Dependency) (plan : List Attributes) (s : Tableau)
         → length plan < 2 ^ 32 → ReachesTableau n ds plan s → IsClosed n ds s
-        → (Contains s (distinguished n) → ⊥) → IsGaining n ds plan (texts_of s) }
+        → (Contains s (distinguished_row n) → ⊥) → IsGaining n ds plan (texts_of s) }
 {}
 
 /// A plan for which a legal relation gains a tuple is not lossless.
 pub fn gaining_is_lossy()
-    ensures law { (n : ℕ) (ds : List Dependency) (plan : List Places) (s : Tableau)
+    ensures law { (n : ℕ) (ds : List Dependency) (plan : List Attributes) (s : Tableau)
         → IsGaining n ds plan (texts_of s) → IsLossless n ds plan → ⊥ }
 {}
 
 /// The texts of a tableau that is reached fit columns of either type.
 pub fn texts_are_typed()
-    ensures law { (n : ℕ) (integers : Places) (ds : List Dependency) (plan : List Places) (s : Tableau)
+    ensures law { (n : ℕ) (integers : Attributes) (ds : List Dependency) (plan : List Attributes)
+        (s : Tableau)
         → length plan < 2 ^ 32 → ReachesTableau n ds plan s
         → IsTyped (columns_on n integers) (texts_of s) }
 {}

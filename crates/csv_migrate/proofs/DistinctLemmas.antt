@@ -6,18 +6,18 @@ use Rattle.std.proofs.lemmas.List.{map-append, length-take-le, get_or-take, take
 use Rattle.std.proofs.lemmas.List.Elements.{filter-append}
 use Rattle.std.proofs.lemmas.List.Folds.{list_any_at, Any-from_list_any}
 use Rattle.std.proofs.Math.Seq.{take-suc}
-use Rattle.dep_model.specs.Tuples.{Tuple, Relation, same_tuple, distinct}
+use Rattle.dep_model.specs.Tuples.{Tuple, Relation, same_tuple, distinct_tuples}
 use Rattle.dep_model.proofs.DistinctLemmas.{same_tuple-decides}
 use Rattle.csv_rows.specs.Numberings.{row_at, number_at, AreInOrder, AreFirsts}
 use Rattle.csv_rows.proofs.NumberingLemmas.{same_default}
 
 -- ---- one tuple more
-abbrev others : Tuple → Tuple → Bool
-others t u = not (same_tuple t u)
+abbrev differs_from : Tuple → Tuple → Bool
+differs_from t u = not (same_tuple t u)
 
 -- whether a tuple is in a list
-abbrev has : Relation → Tuple → Bool
-has r t = list_any (λ u. same_tuple u t) r
+abbrev contains_tuple : Relation → Tuple → Bool
+contains_tuple r t = list_any (λ u. same_tuple u t) r
 
 neither_left : (a b : Bool) → (a || b) ≡ false → a ≡ false
 neither_left true b h = h
@@ -31,24 +31,24 @@ one_of : (a b : Bool) → (a || b) ≡ true → b ≡ false → a ≡ true
 one_of true b h none = refl
 one_of false b h none = absurd (true≢false (sym h ∙ none))
 
-distinct_new : (r : Relation) (t : Tuple) → has r t ≡ false → distinct (r ++ t ∷ []) ≡ distinct r ++ t ∷ []
+distinct_new : (r : Relation) (t : Tuple) → contains_tuple r t ≡ false → distinct_tuples (r ++ t ∷ []) ≡ distinct_tuples r ++ t ∷ []
 distinct_new [] t none = refl
 distinct_new (u ∷ r) t none =
-    ap (λ (l : Relation). u ∷ filter (others u) l) (distinct_new r t (neither_right (same_tuple u t) (has r t) none))
-    ∙ ap (λ (l : Relation). u ∷ l) (filter-append (others u) (distinct r) (t ∷ []))
-    ∙ ap (λ (b : Bool). u ∷ (filter (others u) (distinct r) ++ cond (not b) (t ∷ []) []))
-    (neither_left (same_tuple u t) (has r t) none)
+    ap (λ (l : Relation). u ∷ filter (differs_from u) l) (distinct_new r t (neither_right (same_tuple u t) (contains_tuple r t) none))
+    ∙ ap (λ (l : Relation). u ∷ l) (filter-append (differs_from u) (distinct_tuples r) (t ∷ []))
+    ∙ ap (λ (b : Bool). u ∷ (filter (differs_from u) (distinct_tuples r) ++ cond (not b) (t ∷ []) []))
+    (neither_left (same_tuple u t) (contains_tuple r t) none)
 
-distinct_seen : (r : Relation) (t : Tuple) → has r t ≡ true → distinct (r ++ t ∷ []) ≡ distinct r
+distinct_seen : (r : Relation) (t : Tuple) → contains_tuple r t ≡ true → distinct_tuples (r ++ t ∷ []) ≡ distinct_tuples r
 distinct_seen [] t some = absurd (true≢false (sym some))
-distinct_seen (u ∷ r) t some = elim (cases_Bool (has r t)) [
-  | inl later ↦ ap (λ (l : Relation). u ∷ filter (others u) l) (distinct_seen r t later)
+distinct_seen (u ∷ r) t some = elim (cases_Bool (contains_tuple r t)) [
+  | inl later ↦ ap (λ (l : Relation). u ∷ filter (differs_from u) l) (distinct_seen r t later)
   | inr none ↦
-      ap (λ (l : Relation). u ∷ filter (others u) l) (distinct_new r t none)
-      ∙ ap (λ (l : Relation). u ∷ l) (filter-append (others u) (distinct r) (t ∷ []))
-      ∙ ap (λ (b : Bool). u ∷ (filter (others u) (distinct r) ++ cond (not b) (t ∷ []) []))
-      (one_of (same_tuple u t) (has r t) some none)
-      ∙ ap (λ (l : Relation). u ∷ l) (append-nil (filter (others u) (distinct r)))
+      ap (λ (l : Relation). u ∷ filter (differs_from u) l) (distinct_new r t none)
+      ∙ ap (λ (l : Relation). u ∷ l) (filter-append (differs_from u) (distinct_tuples r) (t ∷ []))
+      ∙ ap (λ (b : Bool). u ∷ (filter (differs_from u) (distinct_tuples r) ++ cond (not b) (t ∷ []) []))
+      (one_of (same_tuple u t) (contains_tuple r t) some none)
+      ∙ ap (λ (l : Relation). u ∷ l) (append-nil (filter (differs_from u) (distinct_tuples r)))
 ]
 
 -- ---- values by numbers
@@ -68,7 +68,7 @@ record Found (values : Relation) (value : ℕ → Tuple) (firsts : List ℕ) (n 
   few : m ≤ length firsts
   before : (g : ℕ) → g < m → number_at firsts g < n
   after : (g : ℕ) → m ≤ g → g < length firsts → n ≤ number_at firsts g
-  found : distinct (take n values) ≡ map value (take m firsts)
+  found : distinct_tuples (take n values) ≡ map value (take m firsts)
 
 none_found : (values : Relation) (value : ℕ → Tuple) (firsts : List ℕ) → Found values value firsts 0 0
 none_found values value firsts = record {
@@ -87,7 +87,7 @@ next_value values value numbers n classes l =
 -- a value that stood before
 has_value : (values : Relation) (value : ℕ → Tuple) (numbers : List ℕ) (n i : ℕ) → AreClasses values value numbers
     → n < length values → i < n → number_at numbers i ≡ number_at numbers n
-    → has (take n values) (value n) ≡ true
+    → contains_tuple (take n values) (value n) ≡ true
 has_value values value numbers n i classes l front same =
     let here : get_or (take n values) i [] ≡ value n =
     get_or-take n values i [] front ∙ classes.at i (omega (arith, front, l))
@@ -99,8 +99,8 @@ has_value values value numbers n i classes l front same =
 -- a value that did not stand before
 lacks_value : (values : Relation) (value : ℕ → Tuple) (numbers : List ℕ) (n : ℕ) → AreClasses values value numbers
     → n < length values
-    → ((i : ℕ) → i < n → number_at numbers i ≡ number_at numbers n → ⊥) → has (take n values) (value n) ≡ false
-lacks_value values value numbers n classes l apart = elim (cases_Bool (has (take n values) (value n))) [
+    → ((i : ℕ) → i < n → number_at numbers i ≡ number_at numbers n → ⊥) → contains_tuple (take n values) (value n) ≡ false
+lacks_value values value numbers n classes l apart = elim (cases_Bool (contains_tuple (take n values) (value n))) [
   | inl some ↦
       let (i, t, within, is, same) = Any-from_list_any (λ u. same_tuple u (value n)) (take n values) some in
       let front : i < n = omega (arith, within, length-take-le n values (omega (arith, l))) in
@@ -127,7 +127,7 @@ old_row values value numbers firsts n m classes are l so_far old = record {
   ];
   found =
       let short : number_at numbers n < length firsts = omega (arith, old, so_far.few) in
-      ap distinct (next_value values value numbers n classes l)
+      ap distinct_tuples (next_value values value numbers n classes l)
       ∙ distinct_seen (take n values) (value n)
       (has_value values value numbers n (number_at firsts (number_at numbers n)) classes l
       (so_far.before (number_at numbers n) old) (are.number (number_at numbers n) short))
@@ -151,7 +151,7 @@ new_row values value numbers firsts n m classes are l so_far new = record {
         absurd (omega (arith, high, is_next, ap (number_at numbers) is, are.number g low))
   ];
   found =
-      ap distinct (next_value values value numbers n classes l)
+      ap distinct_tuples (next_value values value numbers n classes l)
       ∙ distinct_new (take n values) (value n) (lacks_value values value numbers n classes l no_earlier)
       ∙ ap (λ (r : Relation). r ++ value n ∷ []) so_far.found
       ∙ ap (λ (i : ℕ). map value (take m firsts) ++ value i ∷ []) (sym next_first)
@@ -206,12 +206,12 @@ found_up_to values value numbers firsts classes are (suc n) l =
     ]
 
 pub distinct_values : (values : Relation) (value : ℕ → Tuple) (numbers firsts : List ℕ)
-    → AreClasses values value numbers → AreFirsts numbers firsts → distinct values ≡ map value firsts
+    → AreClasses values value numbers → AreFirsts numbers firsts → distinct_tuples values ≡ map value firsts
 distinct_values values value numbers firsts classes are =
     let (m, all) = found_up_to values value numbers firsts classes are (length values) (omega arith) in
     let whole : length firsts ≤ m = elim (cases_lt m (length firsts)) [
       | inl short ↦ absurd (omega (arith, all.after m (omega arith) short, are.within m short, classes.one_each))
       | inr enough ↦ enough
     ] in
-    sym (ap distinct (take_all (length values) values (omega arith))) ∙ all.found
+    sym (ap distinct_tuples (take_all (length values) values (omega arith))) ∙ all.found
     ∙ ap (map value) (take_all m firsts whole)

@@ -5,8 +5,8 @@ use Rattle.std.specs.List.{AllZip}
 use Rattle.std.proofs.lemmas.List.{length-map, length-take-le, map-append, take_all}
 use Rattle.std.proofs.Math.ListN.{get_or-map}
 use Rattle.std.proofs.Math.Seq.{take-suc}
-use Rattle.attr_sets.specs.Places.{Places}
-use Rattle.attr_sets.specs.Sets.{places}
+use Rattle.attr_sets.specs.Attributes.{Attributes}
+use Rattle.attr_sets.specs.Sets.{attributes}
 use Rattle.attr_sets.specs.declared.set.AttrSet.{AttrSet}
 use Rattle.dep_model.specs.Tuples.{Tuple, Relation}
 use Rattle.dep_model.specs.Dependencies.{Dependency}
@@ -17,11 +17,11 @@ use Rattle.dep_model.specs.declared.schema.Schema.{Schema}
 use Rattle.dep_model.proofs.DistinctLemmas.{ordered_projection-same}
 use Rattle.dep_model.proofs.JoinLemmas.{tuple_in_join}
 use Rattle.named_tables.specs.Tables.{TableValue, table_value, table_values}
-use Rattle.named_tables.specs.declared.table.Table.{Table}
-use Rattle.csv_migrate.specs.Migration.{table_of, tables_from, migrated, schemes_in, relations_of, JoinIs}
+use Rattle.named_tables.specs.declared.table.NamedTable.{NamedTable}
+use Rattle.csv_migrate.specs.Migration.{table_of, tables_from, tables_of_migration, schemes_in, relations_of, JoinIs}
 
 -- one scheme more
-tables_more : (schema : Schema) (rows : Relation) (number : ℕ) (plan : List Places) (scheme : Places)
+tables_more : (schema : Schema) (rows : Relation) (number : ℕ) (plan : List Attributes) (scheme : Attributes)
     → tables_from schema rows number (plan ++ scheme ∷ [])
     ≡ tables_from schema rows number plan ++ table_of schema rows (number + length plan) scheme ∷ []
 tables_more schema rows number [] scheme = ap (λ (k : ℕ). table_of schema rows k scheme ∷ []) at
@@ -37,20 +37,20 @@ tables_more schema rows number (first ∷ plan) scheme =
 
 -- the table of the next scheme
 pub next_table : (schema : Schema) (rows : Relation) (sets : List AttrSet) (k : ℕ) (d : AttrSet) → k < length sets
-    → migrated schema (take (k + 1) (schemes_of sets)) rows
-    ≡ migrated schema (take k (schemes_of sets)) rows ++ table_of schema rows (k + 1) (places (get_or sets k d)) ∷ []
+    → tables_of_migration schema (take (k + 1) (schemes_of sets)) rows
+    ≡ tables_of_migration schema (take k (schemes_of sets)) rows ++ table_of schema rows (k + 1) (attributes (get_or sets k d)) ∷ []
 next_table schema rows sets k d l =
-    let low : k < length (schemes_of sets) = omega (arith, l, length-map sets places) in
-    let more : take (k + 1) (schemes_of sets) ≡ take k (schemes_of sets) ++ places (get_or sets k d) ∷ [] =
+    let low : k < length (schemes_of sets) = omega (arith, l, length-map sets attributes) in
+    let more : take (k + 1) (schemes_of sets) ≡ take k (schemes_of sets) ++ attributes (get_or sets k d) ∷ [] =
     rw add-one
-    (take-suc (schemes_of sets) k (places d) low
-    ∙ ap (λ (s : Places). take k (schemes_of sets) ++ s ∷ []) (get_or-map places sets k d)) in
+    (take-suc (schemes_of sets) k (attributes d) low
+    ∙ ap (λ (s : Attributes). take k (schemes_of sets) ++ s ∷ []) (get_or-map attributes sets k d)) in
     let at : 1 + length (take k (schemes_of sets)) ≡ k + 1 =
     omega (arith, length-take-le k (schemes_of sets) (omega (arith, low))) in
-    ap (λ (plan : List Places). migrated schema plan rows) more
-    ∙ tables_more schema rows 1 (take k (schemes_of sets)) (places (get_or sets k d))
-    ∙ ap (λ (n : ℕ). migrated schema (take k (schemes_of sets)) rows ++ table_of schema rows n
-    (places (get_or sets k d)) ∷ []) at
+    ap (λ (plan : List Attributes). tables_of_migration schema plan rows) more
+    ∙ tables_more schema rows 1 (take k (schemes_of sets)) (attributes (get_or sets k d))
+    ∙ ap (λ (n : ℕ). tables_of_migration schema (take k (schemes_of sets)) rows ++ table_of schema rows n
+    (attributes (get_or sets k d)) ∷ []) at
 
 pub same_table : (name name' : List ℕ) (columns columns' : List (List ℕ)) (rows rows' : Relation) → name ≡ name'
     → columns ≡ columns' → rows ≡ rows'
@@ -60,54 +60,54 @@ same_table name name' columns columns' rows rows' e f g = cc
 
 -- one table more, of the next scheme
 pub table_added : (schema : Schema) (rows : Relation) (sets shown : List AttrSet) (k : ℕ) (d : AttrSet)
-    (old new : List Table) (made : Table) → shown ≡ sets → k < length shown
-    → table_values old ≡ migrated schema (take k (schemes_of sets)) rows → new ≡ old ++ made ∷ []
-    → table_value made ≡ table_of schema rows (k + 1) (places (get_or shown k d))
-    → table_values new ≡ migrated schema (take (k + 1) (schemes_of sets)) rows
+    (old new : List NamedTable) (made : NamedTable) → shown ≡ sets → k < length shown
+    → table_values old ≡ tables_of_migration schema (take k (schemes_of sets)) rows → new ≡ old ++ made ∷ []
+    → table_value made ≡ table_of schema rows (k + 1) (attributes (get_or shown k d))
+    → table_values new ≡ tables_of_migration schema (take (k + 1) (schemes_of sets)) rows
 table_added schema rows sets shown k d old new made same low so_far pushed is =
     let l : k < length sets = subst (λ (xs : List AttrSet). k < length xs) same low in
     ap table_values pushed ∙ map-append table_value old (made ∷ [])
     ∙ ap (λ (ts : List TableValue). ts ++ table_value made ∷ []) so_far
-    ∙ ap (λ (t : TableValue). migrated schema (take k (schemes_of sets)) rows ++ t ∷ [])
-    (is ∙ ap (λ (xs : List AttrSet). table_of schema rows (k + 1) (places (get_or xs k d))) same)
+    ∙ ap (λ (t : TableValue). tables_of_migration schema (take k (schemes_of sets)) rows ++ t ∷ [])
+    (is ∙ ap (λ (xs : List AttrSet). table_of schema rows (k + 1) (attributes (get_or xs k d))) same)
     ∙ sym (next_table schema rows sets k d l)
 
-pub scheme_added : (sets shown : List AttrSet) (k : ℕ) (d : AttrSet) (old new : List Table) (made : Table)
+pub scheme_added : (sets shown : List AttrSet) (k : ℕ) (d : AttrSet) (old new : List NamedTable) (made : NamedTable)
     → shown ≡ sets → k < length shown
     → schemes_in old ≡ take k sets → new ≡ old ++ made ∷ [] → made.scheme ≡ get_or shown k d
     → schemes_in new ≡ take (k + 1) sets
 scheme_added sets shown k d old new made same low so_far pushed is =
     let l : k < length sets = subst (λ (xs : List AttrSet). k < length xs) same low in
     let more : take (k + 1) sets ≡ take k sets ++ get_or sets k d ∷ [] = rw add-one (take-suc sets k d l) in
-    ap schemes_in pushed ∙ map-append (λ (t : Table). t.scheme) old (made ∷ [])
+    ap schemes_in pushed ∙ map-append (λ (t : NamedTable). t.scheme) old (made ∷ [])
     ∙ ap (λ (xs : List AttrSet). xs ++ made.scheme ∷ []) so_far
     ∙ ap (λ (s : AttrSet). take k sets ++ s ∷ []) (is ∙ ap (λ (xs : List AttrSet). get_or xs k d) same) ∙ sym more
 
-pub all_tables : (schema : Schema) (rows : Relation) (sets shown : List AttrSet) (k : ℕ) (made : List Table)
+pub all_tables : (schema : Schema) (rows : Relation) (sets shown : List AttrSet) (k : ℕ) (made : List NamedTable)
     → shown ≡ sets → length shown ≤ k
-    → table_values made ≡ migrated schema (take k (schemes_of sets)) rows
-    → table_values made ≡ migrated schema (schemes_of sets) rows
+    → table_values made ≡ tables_of_migration schema (take k (schemes_of sets)) rows
+    → table_values made ≡ tables_of_migration schema (schemes_of sets) rows
 all_tables schema rows sets shown k made same whole so_far =
-    let long : length (schemes_of sets) ≤ k = omega (arith, whole, ap length same, length-map sets places) in
-    so_far ∙ ap (λ (plan : List Places). migrated schema plan rows) (take_all k (schemes_of sets) long)
+    let long : length (schemes_of sets) ≤ k = omega (arith, whole, ap length same, length-map sets attributes) in
+    so_far ∙ ap (λ (plan : List Attributes). tables_of_migration schema plan rows) (take_all k (schemes_of sets) long)
 
 -- ---- the join of the tables
-abbrev IsIn : Tuple → Places → Relation → Type 0
+abbrev IsIn : Tuple → Attributes → Relation → Type 0
 IsIn t scheme table = Contains table (project_tuple scheme t)
 
-in_projections : (schema : Schema) (rows : Relation) (number : ℕ) (plan : List Places) (t : Tuple)
-    → AllZip (λ (scheme : Places) (table : Relation). IsIn t scheme table) plan
+in_projections : (schema : Schema) (rows : Relation) (number : ℕ) (plan : List Attributes) (t : Tuple)
+    → AllZip (λ (scheme : Attributes) (table : Relation). IsIn t scheme table) plan
     (relations_of (tables_from schema rows number plan))
-    → AllZip (λ (scheme : Places) (table : Relation). IsIn t scheme table) plan (projections plan rows)
+    → AllZip (λ (scheme : Attributes) (table : Relation). IsIn t scheme table) plan (projections plan rows)
 in_projections schema rows number [] t each = tt
 in_projections schema rows number (scheme ∷ plan) t each = (
   (ordered_projection-same scheme rows (project_tuple scheme t)).1 each.0,
   in_projections schema rows (number + 1) plan t each.1,
 )
 
-in_tables : (schema : Schema) (rows : Relation) (number : ℕ) (plan : List Places) (t : Tuple)
-    → AllZip (λ (scheme : Places) (table : Relation). IsIn t scheme table) plan (projections plan rows)
-    → AllZip (λ (scheme : Places) (table : Relation). IsIn t scheme table) plan
+in_tables : (schema : Schema) (rows : Relation) (number : ℕ) (plan : List Attributes) (t : Tuple)
+    → AllZip (λ (scheme : Attributes) (table : Relation). IsIn t scheme table) plan (projections plan rows)
+    → AllZip (λ (scheme : Attributes) (table : Relation). IsIn t scheme table) plan
     (relations_of (tables_from schema rows number plan))
 in_tables schema rows number [] t each = tt
 in_tables schema rows number (scheme ∷ plan) t each = (
@@ -116,8 +116,8 @@ in_tables schema rows number (scheme ∷ plan) t each = (
 )
 
 -- the join of the tables of legal rows on a lossless plan is exactly the rows
-pub join_is_rows : (schema : Schema) (n : ℕ) (ds : List Dependency) (plan : List Places) (rows : Relation)
-    → IsLegal n ds rows → IsLossless n ds plan → JoinIs n plan (migrated schema plan rows) rows
+pub join_is_rows : (schema : Schema) (n : ℕ) (ds : List Dependency) (plan : List Attributes) (rows : Relation)
+    → IsLegal n ds rows → IsLossless n ds plan → JoinIs n plan (tables_of_migration schema plan rows) rows
 join_is_rows schema n ds plan rows legal lossless t = (
   (λ joined. lossless.gains_none rows legal t
       (record { over = joined.over; in_each = in_projections schema rows 1 plan t joined.in_each })),

@@ -5,8 +5,8 @@ use Rattle.std.proofs.lemmas.Bool.{cases_Bool}
 use Rattle.std.proofs.lemmas.List.{map-append, length-map, length-append, length-take-le, take_all, append-nil}
 use Rattle.std.proofs.lemmas.Option.{slice_get-get_or, slice_get_within}
 use Rattle.std.proofs.Math.ListN.{get_or-map}
-use Rattle.attr_sets.specs.Places.{Places, count_below}
-use Rattle.attr_sets.proofs.PlacesLemmas.{count_below-member, count_below-outside, count_below-none}
+use Rattle.attr_sets.specs.Attributes.{Attributes, count_below}
+use Rattle.attr_sets.proofs.AttributesLemmas.{count_below-member, count_below-outside, count_below-none}
 use Rattle.dep_model.specs.Tuples.{Tuple, Relation, IsOver, value_at}
 use Rattle.dep_model.specs.Projections.{members_below, project_tuple, projection, ordered_projection}
 use Rattle.dep_model.proofs.SchemeLemmas.{members_below-member, members_below-outside, members_below-none, length-project_tuple}
@@ -18,13 +18,13 @@ use Rattle.csv_rows.proofs.RowLemmas.{take_next}
 use Rattle.csv_migrate.proofs.DistinctLemmas.{AreClasses, distinct_values}
 
 -- ---- rows by the groups of a scheme
-abbrev pub projected_row : Places → Relation → ℕ → Tuple
+abbrev pub projected_row : Attributes → Relation → ℕ → Tuple
 projected_row scheme rows i = project_tuple scheme (row_at rows i)
 
 row_width : (n : ℕ) (rows : Relation) (i : ℕ) → IsOver n rows → i < length rows → length (row_at rows i) ≡ n
 row_width n rows i over l = over i [] l
 
-classes_of : (n : ℕ) (rows : Relation) (scheme : Places) (numbers : List ℕ) → IsOver n rows
+classes_of : (n : ℕ) (rows : Relation) (scheme : Attributes) (numbers : List ℕ) → IsOver n rows
     → AreGroups rows scheme numbers → AreClasses (projection scheme rows) (projected_row scheme rows) numbers
 classes_of n rows scheme numbers over groups = record {
   one_each = groups.one_each ∙ sym count;
@@ -47,7 +47,7 @@ classes_of n rows scheme numbers over groups = record {
     count = length-map rows (project_tuple scheme)
 
 -- the projections at the first rows of the groups are the ordered projection
-pub first_projections : (n : ℕ) (rows : Relation) (scheme : Places) (numbers firsts : List ℕ) → IsOver n rows
+pub first_projections : (n : ℕ) (rows : Relation) (scheme : Attributes) (numbers firsts : List ℕ) → IsOver n rows
     → AreGroups rows scheme numbers → AreFirsts numbers firsts
     → map (projected_row scheme rows) firsts ≡ ordered_projection scheme rows
 first_projections n rows scheme numbers firsts over groups are =
@@ -58,7 +58,7 @@ first_projections n rows scheme numbers firsts over groups are =
 abbrev if_member : Bool → List ℕ → List (List ℕ)
 if_member member name = if member then name ∷ [] else []
 
-members_more : (x : Places) (k : ℕ) (names : List (List ℕ)) (name : List ℕ)
+members_more : (x : Attributes) (k : ℕ) (names : List (List ℕ)) (name : List ℕ)
     → members_from x k (names ++ name ∷ []) ≡ members_from x k names ++ if_member (x (k + length names)) name
 members_more x k [] name = ap (λ (j : ℕ). if_member (x j) name) at
   where
@@ -76,7 +76,7 @@ members_more x k (first ∷ names) name =
     by false whole front last later = later
 
 -- the names at the members among the first n, and one more
-names_next : (x : Places) (names : List (List ℕ)) (n : ℕ) (name : List ℕ) → slice_get names n ≡ Some name
+names_next : (x : Attributes) (names : List (List ℕ)) (n : ℕ) (name : List ℕ) → slice_get names n ≡ Some name
     → members_from x 0 (take (n + 1) names) ≡ members_from x 0 (take n names) ++ if_member (x n) name
 names_next x names n name is =
     let l : n < length names = slice_get_within names n name is in
@@ -84,14 +84,14 @@ names_next x names n name is =
     ap (members_from x 0) (take_next names n name is) ∙ members_more x 0 (take n names) name
     ∙ ap (λ (j : ℕ). members_from x 0 (take n names) ++ if_member (x j) name) at
 
-pub name_taken : (x : Places) (names : List (List ℕ)) (n : ℕ) (name : List ℕ) → slice_get names n ≡ Some name
+pub name_taken : (x : Attributes) (names : List (List ℕ)) (n : ℕ) (name : List ℕ) → slice_get names n ≡ Some name
     → x n ≡ true
     → members_from x 0 (take (n + 1) names) ≡ members_from x 0 (take n names) ++ name ∷ []
 name_taken x names n name is member =
     names_next x names n name is
     ∙ ap (λ (b : Bool). members_from x 0 (take n names) ++ if_member b name) member
 
-pub name_passed : (x : Places) (names : List (List ℕ)) (n : ℕ) → n < length names → x n ≡ false
+pub name_passed : (x : Attributes) (names : List (List ℕ)) (n : ℕ) → n < length names → x n ≡ false
     → members_from x 0 (take (n + 1) names) ≡ members_from x 0 (take n names)
 name_passed x names n l outside =
     names_next x names n (get_or names n []) (slice_get-get_or names n [] l)
@@ -100,7 +100,7 @@ name_passed x names n l outside =
 
 pub ruleset name_steps = (name_taken, name_passed)
 
-names_counted : (x : Places) (names : List (List ℕ)) (n : ℕ) → n ≤ length names
+names_counted : (x : Attributes) (names : List (List ℕ)) (n : ℕ) → n ≤ length names
     → length (members_from x 0 (take n names)) ≡ count_below x n
 names_counted x names zero l = sym (count_below-none 0 x (λ k low. absurd (omega (arith, low))))
 names_counted x names (suc n) l =
@@ -118,13 +118,13 @@ names_counted x names (suc n) l =
     ]
 
 -- as many columns as there are members
-pub column_count : (x : Places) (names : List (List ℕ)) → length (members_from x 0 names) ≡ count_below x (length names)
+pub column_count : (x : Attributes) (names : List (List ℕ)) → length (members_from x 0 names) ≡ count_below x (length names)
 column_count x names =
     ap (λ (l : List (List ℕ)). length (members_from x 0 l)) (sym (take_all (length names) names (omega arith)))
     ∙ names_counted x names (length names) (omega arith)
 
 -- each projected row has a value for each column
-pub rows_even : (n : ℕ) (rows : Relation) (x : Places) (chosen : List ℕ) → IsOver n rows
+pub rows_even : (n : ℕ) (rows : Relation) (x : Attributes) (chosen : List ℕ) → IsOver n rows
     → All (λ i. i < length rows) chosen → IsOver (count_below x n) (map (projected_row x rows) chosen)
 rows_even n rows x chosen over within i d l =
     let low : i < length chosen = omega (arith, l, length-map chosen (projected_row x rows)) in
@@ -136,13 +136,13 @@ rows_even n rows x chosen over within i d l =
     ∙ ap (count_below x) (row_width n rows (get_or chosen i 0) over row)
 
 -- ---- what is made of the first rows of the groups
-pub table_rows : (n : ℕ) (rows : Relation) (x : Places) (numbers firsts chosen : List ℕ) (made : Relation)
+pub table_rows : (n : ℕ) (rows : Relation) (x : Attributes) (numbers firsts chosen : List ℕ) (made : Relation)
     → IsOver n rows → AreGroups rows x numbers → AreFirsts numbers firsts → chosen ≡ firsts
     → made ≡ map (λ i. project_tuple x (row_at rows i)) chosen → made ≡ ordered_projection x rows
 table_rows n rows x numbers firsts chosen made over groups are same is =
     is ∙ ap (map (projected_row x rows)) same ∙ first_projections n rows x numbers firsts over groups are
 
-pub table_even : (names : List (List ℕ)) (rows : Relation) (x : Places) (numbers firsts chosen : List ℕ)
+pub table_even : (names : List (List ℕ)) (rows : Relation) (x : Attributes) (numbers firsts chosen : List ℕ)
     (columns : List (List ℕ)) (made : Relation) → IsOver (length names) rows → AreGroups rows x numbers
     → AreFirsts numbers firsts → chosen ≡ firsts → columns ≡ members_from x 0 names
     → made ≡ map (λ i. project_tuple x (row_at rows i)) chosen → IsOver (length columns) made
@@ -159,14 +159,14 @@ table_even names rows x numbers firsts chosen columns made over groups are same 
 
 -- ---- the values of a projection
 -- the values of a tuple at the members of a scheme below n
-unfoldable pub values_below : Places → Tuple → ℕ → Tuple
+unfoldable pub values_below : Attributes → Tuple → ℕ → Tuple
 values_below x t n = map (λ k. value_at t k) (members_below n x)
 
-pub no_values : (x : Places) (t : Tuple) → values_below x t 0 ≡ []
+pub no_values : (x : Attributes) (t : Tuple) → values_below x t 0 ≡ []
 unfolding values_below
 no_values x t = ap (map (λ k. value_at t k)) (members_below-none x)
 
-pub value_taken : (x : Places) (t : Tuple) (n : ℕ) (v : List ℕ) → v ≡ value_at t n → x n ≡ true
+pub value_taken : (x : Attributes) (t : Tuple) (n : ℕ) (v : List ℕ) → v ≡ value_at t n → x n ≡ true
     → values_below x t (n + 1) ≡ values_below x t n ++ v ∷ []
 unfolding values_below
 value_taken x t n v is member =
@@ -175,11 +175,11 @@ value_taken x t n v is member =
     ∙ map-append (λ k. value_at t k) (members_below n x) (n ∷ []))
     ∙ ap (λ (w : List ℕ). map (λ k. value_at t k) (members_below n x) ++ w ∷ []) (sym is)
 
-pub value_passed : (x : Places) (t : Tuple) (n : ℕ) → x n ≡ false → values_below x t (n + 1) ≡ values_below x t n
+pub value_passed : (x : Attributes) (t : Tuple) (n : ℕ) → x n ≡ false → values_below x t (n + 1) ≡ values_below x t n
 unfolding values_below
 value_passed x t n outside = rw add-one (ap (map (λ k. value_at t k)) (members_below-outside n x outside))
 
-pub all_values : (x : Places) (t : Tuple) (n : ℕ) → n ≡ length t → values_below x t n ≡ project_tuple x t
+pub all_values : (x : Attributes) (t : Tuple) (n : ℕ) → n ≡ length t → values_below x t n ≡ project_tuple x t
 unfolding values_below
 all_values x t n whole = ap (λ (m : ℕ). map (λ k. value_at t k) (members_below m x)) whole
 

@@ -1,7 +1,7 @@
 -- The tables of a migration, and their join: for `tables`, and for `migrate` and `sample`
 -- (`desk_cli/Migrations`).
 use Rattle.std.specs.Prelude.{ℕ, ◌+◌, ◌↔◌, List, [], ◌∷◌, map, Contains}
-use Rattle.attr_sets.specs.Places.{Places}
+use Rattle.attr_sets.specs.Attributes.{Attributes}
 use Rattle.attr_sets.specs.declared.set.AttrSet.{AttrSet}
 use Rattle.dep_model.specs.Tuples.{Tuple, Relation}
 use Rattle.dep_model.specs.Projections.{ordered_projection, InJoin}
@@ -10,15 +10,15 @@ use Rattle.dep_model.specs.declared.schema.Schema.{Schema}
 use Rattle.schema_printer.specs.Printing.{members_from}
 use Rattle.table_names.specs.TableNames.{table_name}
 use Rattle.named_tables.specs.Tables.{TableValue}
-use Rattle.named_tables.specs.declared.table.Table.{Table}
+use Rattle.named_tables.specs.declared.table.NamedTable.{NamedTable}
 
 -- the names of the attributes of a scheme, ascending
-abbrev pub column_names : Schema → Places → List (List ℕ)
+abbrev pub column_names : Schema → Attributes → List (List ℕ)
 column_names schema scheme = members_from scheme 0 (names_of schema)
 
 -- the table of a scheme: its attributes are the columns, and each distinct projection of the rows
 -- stands in it once, at its first occurrence
-abbrev pub table_of : Schema → Relation → ℕ → Places → TableValue
+abbrev pub table_of : Schema → Relation → ℕ → Attributes → TableValue
 table_of schema rows number scheme = record {
   name = table_name number;
   columns = column_names schema scheme;
@@ -26,17 +26,17 @@ table_of schema rows number scheme = record {
 }
 
 -- the tables of schemes, in order, numbered from this number on
-abbrev pub tables_from : Schema → Relation → ℕ → List Places → List TableValue
+abbrev pub tables_from : Schema → Relation → ℕ → List Attributes → List TableValue
 tables_from schema rows number [] = []
 tables_from schema rows number (scheme ∷ schemes) =
     table_of schema rows number scheme ∷ tables_from schema rows (number + 1) schemes
 
 -- the tables of a migration: one of each scheme of the plan, in order, named `t1`, `t2` and so on
-abbrev pub migrated : Schema → List Places → Relation → List TableValue
-migrated schema plan rows = tables_from schema rows 1 plan
+abbrev pub tables_of_migration : Schema → List Attributes → Relation → List TableValue
+tables_of_migration schema plan rows = tables_from schema rows 1 plan
 
 -- the schemes of tables
-abbrev pub schemes_in : List Table → List AttrSet
+abbrev pub schemes_in : List NamedTable → List AttrSet
 schemes_in tables = map (λ table. table.scheme) tables
 
 -- the rows of each table
@@ -44,5 +44,5 @@ abbrev pub relations_of : List TableValue → List Relation
 relations_of tables = map (λ table. table.rows) tables
 
 -- a tuple is in the natural join of tables over the schemes of a plan exactly where it is in a relation
-abbrev pub JoinIs : ℕ → List Places → List TableValue → Relation → Type 0
+abbrev pub JoinIs : ℕ → List Attributes → List TableValue → Relation → Type 0
 JoinIs n plan tables r = (t : Tuple) → InJoin n plan (relations_of tables) t ↔ Contains r t

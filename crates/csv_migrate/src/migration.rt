@@ -1,7 +1,7 @@
 ghost use Rattle.std.specs.Prelude.{◌≡◌, ◌<◌, ◌≤◌, ◌^◌, length, IfOk};
-ghost use Rattle.attr_sets.specs.Places.{Within, below};
-ghost use Rattle.attr_sets.specs.Sets.{places};
-ghost use Rattle.csv_migrate.specs.Migration.{JoinIs, column_names, migrated, schemes_in, table_of};
+ghost use Rattle.attr_sets.specs.Attributes.{IsSubset, below};
+ghost use Rattle.attr_sets.specs.Sets.{attributes};
+ghost use Rattle.csv_migrate.specs.Migration.{JoinIs, column_names, tables_of_migration, schemes_in, table_of};
 ghost use Rattle.named_tables.specs.Tables.{table_value, table_values};
 ghost use Rattle.csv_rows.specs.Interning.{IsInterned};
 ghost use Rattle.plans.specs.Plans.{IsPlanOver, plan_of, scheme_sets};
@@ -9,18 +9,18 @@ ghost use Rattle.dep_model.specs.Projections.{IsLossless};
 ghost use Rattle.dep_model.specs.Schemas.{LegalFor, theory_of, width_of};
 ghost use Rattle.dep_model.specs.Tuples.{IsOver};
 
-use crate::projecting::projected;
+use crate::projecting::project_rows;
 use attr_sets::AttrSet;
 use csv_rows::{Groups, Interned};
-use dep_model::{Name, Schema, WantMemory};
-use named_tables::{HeldTable, Table};
+use dep_model::{Name, OutOfMemory, Schema};
+use named_tables::{HeldTable, NamedTable};
 use plans::Plan;
 use row_store::Rows;
 use std::alloc::Global;
 use table_names::{MOST_TABLES, table_name};
 
 /// For each scheme of a plan, in order, the table of the distinct projections of the rows on it, each at
-/// the place of its first occurrence. The tables are named `t1`, `t2` and so on; the columns of a table
+/// the position of its first occurrence. The tables are named `t1`, `t2` and so on; the columns of a table
 /// are the attributes of its scheme, ascending. If the rows are legal and the plan is lossless, the
 /// natural join of the tables is exactly the rows.
 pub fn tables(
@@ -28,13 +28,13 @@ pub fn tables(
     schema: &Schema,
     plan: &Plan,
     rows: &Rows,
-) -> Result<Vec<Table>, WantMemory>
+) -> Result<Vec<NamedTable>, OutOfMemory>
     requires over { IsOver (width_of schema.now) rows.now }
     requires few_rows { length rows.now < 2 ^ 32 }
     requires universe { IsPlanOver schema.now plan.now }
     requires few_schemes { length (scheme_sets plan.now) ≤ MOST_TABLES }
     ensures tables { IfOk result (λ v.
-        table_values v.items ≡ migrated schema.now (plan_of plan.now) rows.now) }
+        table_values v.items ≡ tables_of_migration schema.now (plan_of plan.now) rows.now) }
     ensures schemes { IfOk result (λ v. schemes_in v.items ≡ scheme_sets plan.now) }
     ensures joins { LegalFor schema.now rows.now
         → IsLossless (width_of schema.now) (theory_of schema.now) (plan_of plan.now)
@@ -58,18 +58,19 @@ fn table(
     codes: &Interned,
     number: u32,
     scheme: AttrSet,
-) -> Result<Table, WantMemory>
+) -> Result<NamedTable, OutOfMemory>
     requires over { IsOver (width_of schema.now) rows.now }
     requires codes { IsInterned (width_of schema.now) rows.now codes.now }
-    requires scheme { Within (places scheme) (below (width_of schema.now)) }
-    ensures value { IfOk result (λ t. table_value t ≡ table_of schema.now rows.now number (places scheme)) }
+    requires scheme { IsSubset (attributes scheme) (below (width_of schema.now)) }
+    ensures value { IfOk result (λ t. table_value t
+        ≡ table_of schema.now rows.now number (attributes scheme)) }
     ensures scheme { IfOk result (λ t. t.scheme ≡ scheme) }
 {
-    let groups = Groups::of(alloc, codes, scheme)?;
+    let groups = Groups::by_agreement(alloc, codes, scheme)?;
     let columns = columns(alloc, schema, scheme)?;
-    let rows = projected(alloc, scheme, rows, groups.firsts())?;
+    let rows = project_rows(alloc, scheme, rows, groups.firsts())?;
     let name = table_name(number);
-    Ok(Table {
+    Ok(NamedTable {
         scheme,
         held: HeldTable {
             name,
@@ -81,13 +82,13 @@ fn table(
 
 // The names of the attributes of a scheme.
 #[tactic(auto, using(crate::proofs::ProjectionLemmas::name_steps))]
-fn columns(alloc: Global, schema: &Schema, scheme: AttrSet) -> Result<Vec<Name>, WantMemory>
-    ensures names { IfOk result (λ v. v.items ≡ column_names schema.now (places scheme)) }
+fn columns(alloc: Global, schema: &Schema, scheme: AttrSet) -> Result<Vec<Name>, OutOfMemory>
+    ensures names { IfOk result (λ v. v.items ≡ column_names schema.now (attributes scheme)) }
 {
     let mut names = Vec::with_capacity(alloc, scheme.len() as usize)?;
-    for place in 0..schema.width() {
-        if scheme.has(place) {
-            names.push(*schema.name(place))?;
+    for attribute in 0..schema.width() {
+        if scheme.contains(attribute) {
+            names.push(*schema.name(attribute))?;
         }
     }
     Ok(names)

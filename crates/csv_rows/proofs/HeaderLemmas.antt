@@ -7,14 +7,14 @@ use Rattle.std.proofs.lemmas.List.{map-append, append-nil, length-append}
 use Rattle.std.proofs.lemmas.List.Folds.{list_any-append, list_any_at, list_any_none}
 use Rattle.std.proofs.lemmas.List.Quantifiers.{position-Some}
 use Rattle.std.proofs.lemmas.List.Sums.{position_or_len_is, fails_before_first}
-use Rattle.attr_sets.proofs.PlacesLemmas.{count_below-none, count_below-union_only, same_at}
-use Rattle.attr_sets.specs.Places.{Places, union, only, none, count_below}
+use Rattle.attr_sets.proofs.AttributesLemmas.{count_below-none, count_below-union_only, same_at}
+use Rattle.attr_sets.specs.Attributes.{Attributes, union, only, none, count_below}
 use Rattle.dep_model.specs.Projections.{members_below}
-use Rattle.dep_model.specs.Schemas.{place_named}
-use Rattle.csv_rows.specs.declared.header.Placed.{Placed}
+use Rattle.dep_model.specs.Schemas.{attribute_named}
+use Rattle.csv_rows.specs.declared.header.ColumnOfAttribute.{ColumnOfAttribute}
 use Rattle.csv_rows.specs.declared.refusal.RowRefusal.{RowRefusal}
 use Rattle.csv_rows.specs.declared.refusal.RowRefusal.TheVariants as refusal
-use Rattle.csv_rows.specs.Columns.{with_columns, column_of, columns_of_header, columns_from, placed, order_of, ◌>>=◌}
+use Rattle.csv_rows.specs.Columns.{with_columns, column_of, columns_of_header, columns_from, attribute_with_column, order_of, ◌>>=◌}
 
 -- an attribute after others
 pub named_after : (columns : List ℕ) (a : ℕ) → with_columns (columns ++ a ∷ []) ≡ union (with_columns columns) (only a)
@@ -25,29 +25,29 @@ named_after columns a = fun_ext (λ k. list_any-append (nat_eq k) columns (a ∷
     or_false false = refl
 
 -- a column looks at the members of a set alone
-pub column_of-same : (column : ℕ) (x y : Places) (o : Option ℕ) → x ≡ y → column_of column x o ≡ column_of column y o
+pub column_of-same : (column : ℕ) (x y : Attributes) (o : Option ℕ) → x ≡ y → column_of column x o ≡ column_of column y o
 column_of-same column x y None e = refl
 column_of-same column x y (Some a) e = ap (λ (b : Bool). if b then Err (refusal.DoubleColumn column) else Ok a) (same_at e a)
 
--- the fields from a place on are one and those after it
+-- the fields from a position on are one and those after it
 columns_step : (names : List (List ℕ)) (before : List ℕ) (fields : List (List ℕ)) (i : ℕ) → i < length fields
     → columns_from names before (drop i fields)
-    ≡ (column_of (length before + 1) (with_columns before) (place_named names (slice_index_or fields i [])) >>= (λ a. columns_from names (before ++ a ∷ []) (drop (i + 1) fields)))
+    ≡ (column_of (length before + 1) (with_columns before) (attribute_named names (slice_index_or fields i [])) >>= (λ a. columns_from names (before ++ a ∷ []) (drop (i + 1) fields)))
 unfolding columns_from
 columns_step names before fields i h =
     let next : suc i ≡ i + 1 = omega arith in
     ap (columns_from names before) (drop-cons fields i [] h)
-    ∙ ap (λ (j : ℕ). column_of (length before + 1) (with_columns before) (place_named names (slice_index_or fields i [])) >>= (λ a. columns_from names (before ++ a ∷ []) (drop j fields))) next
+    ∙ ap (λ (j : ℕ). column_of (length before + 1) (with_columns before) (attribute_named names (slice_index_or fields i [])) >>= (λ a. columns_from names (before ++ a ∷ []) (drop j fields))) next
 
-pub columns_next : (names : List (List ℕ)) (before : List ℕ) (fields : List (List ℕ)) (i a : ℕ) (x : Places) → i < length fields → x ≡ with_columns before
-    → column_of (length before + 1) x (place_named names (slice_index_or fields i [])) ≡ Ok a
+pub columns_next : (names : List (List ℕ)) (before : List ℕ) (fields : List (List ℕ)) (i a : ℕ) (x : Attributes) → i < length fields → x ≡ with_columns before
+    → column_of (length before + 1) x (attribute_named names (slice_index_or fields i [])) ≡ Ok a
     → columns_from names before (drop i fields) ≡ columns_from names (before ++ a ∷ []) (drop (i + 1) fields)
 columns_next names before fields i a x h same e =
     columns_step names before fields i h
     ∙ ap (λ (r : Result ℕ RowRefusal). r >>= (λ b. columns_from names (before ++ b ∷ []) (drop (i + 1) fields))) (sym (column_of-same _ x (with_columns before) _ same) ∙ e)
 
-pub columns_refused : (names : List (List ℕ)) (before : List ℕ) (fields : List (List ℕ)) (i : ℕ) (x : Places) (e : RowRefusal) → i < length fields → x ≡ with_columns before
-    → column_of (length before + 1) x (place_named names (slice_index_or fields i [])) ≡ Err e
+pub columns_refused : (names : List (List ℕ)) (before : List ℕ) (fields : List (List ℕ)) (i : ℕ) (x : Attributes) (e : RowRefusal) → i < length fields → x ≡ with_columns before
+    → column_of (length before + 1) x (attribute_named names (slice_index_or fields i [])) ≡ Err e
     → columns_from names before (drop i fields) ≡ Err e
 columns_refused names before fields i x e h same r =
     columns_step names before fields i h
@@ -59,7 +59,7 @@ columns_all names before [] = refl
 columns_all names before (f ∷ fs) = columns_all names before fs
 
 -- an attribute that gets a column had none
-pub was_free : (column a : ℕ) (x : Places) (o : Option ℕ) → column_of column x o ≡ Ok a → x a ≡ false
+pub was_free : (column a : ℕ) (x : Attributes) (o : Option ℕ) → column_of column x o ≡ Ok a → x a ≡ false
 was_free column a x None e = cc
 was_free column a x (Some b) e = by (x b) refl e
   where
@@ -68,14 +68,14 @@ was_free column a x (Some b) e = by (x b) refl e
     by false f g = let same : b ≡ a = cc in subst (λ (k : ℕ). x k ≡ false) same f
 
 -- the attributes that have a column, up to one more
-pub order_next : (n : ℕ) (columns : List ℕ) → order_of (n + 1) columns ≡ order_of n columns ++ (if with_columns columns n then placed columns n ∷ [] else [])
+pub order_next : (n : ℕ) (columns : List ℕ) → order_of (n + 1) columns ≡ order_of n columns ++ (if with_columns columns n then attribute_with_column columns n ∷ [] else [])
 unfolding members_below
 order_next n columns =
     let next : n + 1 ≡ suc n = omega arith in
-    ap (λ (m : ℕ). order_of m columns) next ∙ map-append (placed columns) (members_below n (with_columns columns)) (if with_columns columns n then n ∷ [] else [])
-    ∙ ap (λ (l : List Placed). order_of n columns ++ l) (by (with_columns columns n))
+    ap (λ (m : ℕ). order_of m columns) next ∙ map-append (attribute_with_column columns) (members_below n (with_columns columns)) (if with_columns columns n then n ∷ [] else [])
+    ∙ ap (λ (l : List ColumnOfAttribute). order_of n columns ++ l) (by (with_columns columns n))
   where
-    by : (b : Bool) → map (placed columns) (if b then n ∷ [] else []) ≡ (if b then placed columns n ∷ [] else [])
+    by : (b : Bool) → map (attribute_with_column columns) (if b then n ∷ [] else []) ≡ (if b then attribute_with_column columns n ∷ [] else [])
     by true = refl
     by false = refl
 
@@ -92,26 +92,26 @@ in_no_column columns a h = by (nat_lt (position_or_len (nat_eq a) columns) (leng
     by true e g = cc
     by false e g = list_any_none (nat_eq a) columns (λ k d l. fails_before_first (nat_eq a) columns k d (grind arith))
 
-pub order_more : (n i : ℕ) (columns : List ℕ) (order : List Placed) → order ≡ order_of n columns → position (nat_eq n) columns ≡ Some i
+pub order_more : (n i : ℕ) (columns : List ℕ) (order : List ColumnOfAttribute) → order ≡ order_of n columns → position (nat_eq n) columns ≡ Some i
     → order ++ record { attribute = n; column = i } ∷ [] ≡ order_of (n + 1) columns
 order_more n i columns order e h =
     let (has, at) = in_column columns n i h in
-    let step : order_of (n + 1) columns ≡ order_of n columns ++ placed columns n ∷ [] =
-    order_next n columns ∙ ap (λ (b : Bool). order_of n columns ++ (if b then placed columns n ∷ [] else [])) has in
-    ap (λ (l : List Placed). l ++ record { attribute = n; column = i } ∷ []) e
+    let step : order_of (n + 1) columns ≡ order_of n columns ++ attribute_with_column columns n ∷ [] =
+    order_next n columns ∙ ap (λ (b : Bool). order_of n columns ++ (if b then attribute_with_column columns n ∷ [] else [])) has in
+    ap (λ (l : List ColumnOfAttribute). l ++ record { attribute = n; column = i } ∷ []) e
     ∙ ap (λ (j : ℕ). order_of n columns ++ record { attribute = n; column = j } ∷ []) (sym at) ∙ sym step
 
-pub order_same : (n : ℕ) (columns : List ℕ) (order : List Placed) → order ≡ order_of n columns → position (nat_eq n) columns ≡ None → order ≡ order_of (n + 1) columns
+pub order_same : (n : ℕ) (columns : List ℕ) (order : List ColumnOfAttribute) → order ≡ order_of n columns → position (nat_eq n) columns ≡ None → order ≡ order_of (n + 1) columns
 order_same n columns order e h =
-    e ∙ sym (append-nil _) ∙ sym (order_next n columns ∙ ap (λ (b : Bool). order_of n columns ++ (if b then placed columns n ∷ [] else [])) (in_no_column columns n h))
+    e ∙ sym (append-nil _) ∙ sym (order_next n columns ∙ ap (λ (b : Bool). order_of n columns ++ (if b then attribute_with_column columns n ∷ [] else [])) (in_no_column columns n h))
 
 -- a header of which some fields are read: their columns, the set of these, and what the rest gives
-pub record ReadsColumns (names : List (List ℕ)) (fields : List (List ℕ)) (i : ℕ) (columns : List ℕ) (x : Places) : Type 0 where
+pub record ReadsColumns (names : List (List ℕ)) (fields : List (List ℕ)) (i : ℕ) (columns : List ℕ) (x : Attributes) : Type 0 where
   pub same : x ≡ with_columns columns
   pub count : length columns ≡ count_below x 128
   pub reads : columns_of_header names fields ≡ columns_from names columns (drop i fields)
 
-pub no_columns : (names fields : List (List ℕ)) (columns : List ℕ) (x : Places) → columns ≡ [] → x ≡ none → ReadsColumns names fields 0 columns x
+pub no_columns : (names fields : List (List ℕ)) (columns : List ℕ) (x : Attributes) → columns ≡ [] → x ≡ none → ReadsColumns names fields 0 columns x
 no_columns names fields columns x e same = subst (λ (l : List ℕ). ReadsColumns names fields 0 l x) (sym e) (record {
   same = same;
   count = sym (count_below-none 128 x (λ k h. same_at same k));
@@ -119,27 +119,27 @@ no_columns names fields columns x e same = subst (λ (l : List ℕ). ReadsColumn
 })
 
 -- what the next field gives, as the code looks at it
-column_at : (names : List (List ℕ)) (fields : List (List ℕ)) (i n : ℕ) (columns field : List ℕ) (x : Places) (r : Result ℕ RowRefusal)
-    → n ≡ length columns → field ≡ slice_index_or fields i [] → r ≡ column_of (n + 1) x (place_named names field)
-    → column_of (length columns + 1) x (place_named names (slice_index_or fields i [])) ≡ r
+column_at : (names : List (List ℕ)) (fields : List (List ℕ)) (i n : ℕ) (columns field : List ℕ) (x : Attributes) (r : Result ℕ RowRefusal)
+    → n ≡ length columns → field ≡ slice_index_or fields i [] → r ≡ column_of (n + 1) x (attribute_named names field)
+    → column_of (length columns + 1) x (attribute_named names (slice_index_or fields i [])) ≡ r
 column_at names fields i n columns field x r count is e = rw (← count, ← is) (sym e)
 
-pub one_column : (names fields : List (List ℕ)) (i n : ℕ) (columns field : List ℕ) (x y : Places) (a : ℕ) → ReadsColumns names fields i columns x → i < length fields → a < 128
-    → n ≡ length columns → field ≡ slice_index_or fields i [] → Ok a ≡ column_of (n + 1) x (place_named names field) → y ≡ union x (only a)
+pub one_column : (names fields : List (List ℕ)) (i n : ℕ) (columns field : List ℕ) (x y : Attributes) (a : ℕ) → ReadsColumns names fields i columns x → i < length fields → a < 128
+    → n ≡ length columns → field ≡ slice_index_or fields i [] → Ok a ≡ column_of (n + 1) x (attribute_named names field) → y ≡ union x (only a)
     → ReadsColumns names fields (i + 1) (columns ++ a ∷ []) y
 one_column names fields i n columns field x y a r h small count is e more =
     let given = column_at names fields i n columns field x (Ok a) count is e in
     record {
-      same = more ∙ ap (λ (z : Places). union z (only a)) r.same ∙ sym (named_after columns a);
-      count = length-append columns (a ∷ []) ∙ ap (λ (m : ℕ). m + 1) r.count ∙ sym (count_below-union_only 128 x a small (was_free _ a x _ given)) ∙ sym (ap (λ (z : Places). count_below z 128) more);
+      same = more ∙ ap (λ (z : Attributes). union z (only a)) r.same ∙ sym (named_after columns a);
+      count = length-append columns (a ∷ []) ∙ ap (λ (m : ℕ). m + 1) r.count ∙ sym (count_below-union_only 128 x a small (was_free _ a x _ given)) ∙ sym (ap (λ (z : Attributes). count_below z 128) more);
       reads = r.reads ∙ columns_next names columns fields i a x h r.same given;
     }
 
-pub refused_column : (names fields : List (List ℕ)) (i n : ℕ) (columns field : List ℕ) (x : Places) (e : RowRefusal) → ReadsColumns names fields i columns x → i < length fields
-    → n ≡ length columns → field ≡ slice_index_or fields i [] → Err e ≡ column_of (n + 1) x (place_named names field)
+pub refused_column : (names fields : List (List ℕ)) (i n : ℕ) (columns field : List ℕ) (x : Attributes) (e : RowRefusal) → ReadsColumns names fields i columns x → i < length fields
+    → n ≡ length columns → field ≡ slice_index_or fields i [] → Err e ≡ column_of (n + 1) x (attribute_named names field)
     → columns_of_header names fields ≡ Err e
 refused_column names fields i n columns field x e r h count is given =
     r.reads ∙ columns_refused names columns fields i x e h r.same (column_at names fields i n columns field x (Err e) count is given)
 
-pub all_read : (names fields : List (List ℕ)) (i : ℕ) (columns : List ℕ) (x : Places) → ReadsColumns names fields i columns x → i ≡ length fields → columns_of_header names fields ≡ Ok columns
+pub all_read : (names fields : List (List ℕ)) (i : ℕ) (columns : List ℕ) (x : Attributes) → ReadsColumns names fields i columns x → i ≡ length fields → columns_of_header names fields ≡ Ok columns
 all_read names fields i columns x r e = r.reads ∙ ap (λ (j : ℕ). columns_from names columns (drop j fields)) e ∙ columns_all names columns fields

@@ -10,13 +10,13 @@ use Rattle.std.proofs.lemmas.List.Sums.{position_or_len_is, fails_before_first, 
 use Rattle.std.proofs.lemmas.Slice.Eq.{bytes_eq-Decides}
 use Rattle.std.specs.Cmp.Lexicographic.{pointwise}
 use Rattle.std.proofs.lemmas.Option.{slice_get-map, slice_get_within, slice_get-get_or}
-use Rattle.attr_sets.specs.Places.{Places, Within, below, meet, only, union, none}
+use Rattle.attr_sets.specs.Attributes.{Attributes, IsSubset, below, intersection, only, union, none}
 use Rattle.dep_model.specs.Tuples.{Tuple, Relation, AgreeOn, value_at}
 use Rattle.indexmap.specs.IndexSet.{insert_key}
 use Rattle.csv_rows.specs.Numberings.{row_at, number_at, AreGroups, AreFirsts, AreNumbered, AreInOrder}
 use Rattle.dep_model.proofs.TwoRowLemmas.{AgreeOn-union, AgreeOn-left, AgreeOn-right}
 use Rattle.std.specs.Prelude.{Contains}
-use Rattle.attr_sets.proofs.PlacesLemmas.{same_at}
+use Rattle.attr_sets.proofs.AttributesLemmas.{same_at}
 
 -- a value is given a number: that of an equal one that was seen, or the next one
 pub record Gets {X : Type 0} (v : X) (seen after : List X) (r : ℕ) : Type 0 where
@@ -26,20 +26,20 @@ pub record Gets {X : Type 0} (v : X) (seen after : List X) (r : ℕ) : Type 0 wh
 some_inj : {X : Type 0} (v w : X) → Some v ≡ Some w → v ≡ w
 some_inj {X} v w e = ap (λ (o : Option X). unwrap_or o v) e
 
-get_front : {X : Type 0} (xs ys : List X) (g : ℕ) (v : X) → slice_get xs g ≡ Some v → slice_get (xs ++ ys) g ≡ Some v
-get_front [] ys g v h = cc
-get_front (x ∷ xs) ys zero v h = h
-get_front (x ∷ xs) ys (suc g) v h = get_front xs ys g v h
+get_or-front : {X : Type 0} (xs ys : List X) (g : ℕ) (v : X) → slice_get xs g ≡ Some v → slice_get (xs ++ ys) g ≡ Some v
+get_or-front [] ys g v h = cc
+get_or-front (x ∷ xs) ys zero v h = h
+get_or-front (x ∷ xs) ys (suc g) v h = get_or-front xs ys g v h
 
-get_last : {X : Type 0} (xs : List X) (v : X) → slice_get (xs ++ v ∷ []) (length xs) ≡ Some v
-get_last [] v = refl
-get_last (x ∷ xs) v = get_last xs v
+get_or-last : {X : Type 0} (xs : List X) (v : X) → slice_get (xs ++ v ∷ []) (length xs) ≡ Some v
+get_or-last [] v = refl
+get_or-last (x ∷ xs) v = get_or-last xs v
 
-get_either : {X : Type 0} (xs : List X) (w v : X) (g : ℕ) → slice_get (xs ++ w ∷ []) g ≡ Some v → (slice_get xs g ≡ Some v) ⊎ ((g ≡ length xs) × (w ≡ v))
-get_either [] w v zero h = inr (refl, some_inj w v h)
-get_either [] w v (suc g) h = cc
-get_either (x ∷ xs) w v zero h = inl h
-get_either (x ∷ xs) w v (suc g) h = elim (get_either xs w v g h) [
+get_or-either : {X : Type 0} (xs : List X) (w v : X) (g : ℕ) → slice_get (xs ++ w ∷ []) g ≡ Some v → (slice_get xs g ≡ Some v) ⊎ ((g ≡ length xs) × (w ≡ v))
+get_or-either [] w v zero h = inr (refl, some_inj w v h)
+get_or-either [] w v (suc g) h = cc
+get_or-either (x ∷ xs) w v zero h = inl h
+get_or-either (x ∷ xs) w v (suc g) h = elim (get_or-either xs w v g h) [
   | inl front ↦ inl front
   | inr last ↦ inr (ap (λ (n : ℕ). suc n) last.0, last.1)
 ]
@@ -75,16 +75,16 @@ numbered_more {X} value n seen after numbers r old gets = elim gets.number [
         one_each = size;
         few = omega (arith, old.few, length-append seen (value n ∷ []));
         read = λ i l. elim (cases_lt i n) [
-          | inl front ↦ get_front seen (value n ∷ []) _ (value i) (ap (slice_get seen) (at_front numbers n r i old.one_each front) ∙ old.read i front)
+          | inl front ↦ get_or-front seen (value n ∷ []) _ (value i) (ap (slice_get seen) (at_front numbers n r i old.one_each front) ∙ old.read i front)
           | inr last ↦ subst (λ (j : ℕ). slice_get (seen ++ value n ∷ []) (number_at (numbers ++ r ∷ []) j) ≡ Some (value j)) (at_end i n l last)
-              (ap (slice_get (seen ++ value n ∷ [])) (at_last numbers n r old.one_each ∙ new.1) ∙ get_last seen (value n))
+              (ap (slice_get (seen ++ value n ∷ [])) (at_last numbers n r old.one_each ∙ new.1) ∙ get_or-last seen (value n))
         ];
-        once = λ g h v a b. elim (get_either seen (value n) v g a) [
-          | inl ga ↦ elim (get_either seen (value n) v h b) [
+        once = λ g h v a b. elim (get_or-either seen (value n) v g a) [
+          | inl ga ↦ elim (get_or-either seen (value n) v h b) [
             | inl hb ↦ old.once g h v ga hb
             | inr hb ↦ absurd (new.2 g (ga ∙ ap Some (sym hb.1)))
           ]
-          | inr ga ↦ elim (get_either seen (value n) v h b) [
+          | inr ga ↦ elim (get_or-either seen (value n) v h b) [
             | inl hb ↦ absurd (new.2 h (hb ∙ ap Some (sym ga.1)))
             | inr hb ↦ ga.0 ∙ sym hb.0
           ]
@@ -116,10 +116,10 @@ numbered_more {X} value n seen after numbers r old gets = elim gets.number [
     ]
 
 -- what a set in the order of insertion does with a value
-pub inserted : {K X : Type 0} (eq : K → K → Bool) (view : K → X) → ((x y : K) → eq x y ≡ true → view x ≡ view y) → ((x y : K) → view x ≡ view y → eq x y ≡ true)
+pub insert_full-Gets : {K X : Type 0} (eq : K → K → Bool) (view : K → X) → ((x y : K) → eq x y ≡ true → view x ≡ view y) → ((x y : K) → view x ≡ view y → eq x y ≡ true)
     → (keys after : List K) (key : K) (r : ℕ) → after ≡ insert_key eq keys key → r ≡ position_or_len (eq key) keys
     → Gets (view key) (map view keys) (map view after) r
-inserted {K} {X} eq view same back keys after key r is at = elim (cases_lt (position_or_len (eq key) keys) (length keys)) [
+insert_full-Gets {K} {X} eq view same back keys after key r is at = elim (cases_lt (position_or_len (eq key) keys) (length keys)) [
   | inl l ↦
       let p : ℕ = position_or_len (eq key) keys in
       let hit : eq key (get_or keys p key) ≡ true = passes_at_first (eq key) keys key l in
@@ -151,7 +151,7 @@ inserted {K} {X} eq view same back keys after key r is at = elim (cases_lt (posi
         true≢false (sym (back key y (sym seen)) ∙ none g key l)
 
 -- numbers of values that are equal exactly where rows agree on a set
-pub groups_from : {X : Type 0} (rows : Relation) (x : Places) (value : ℕ → X) (seen : List X) (numbers : List ℕ) → AreNumbered value (length rows) seen numbers
+pub groups_from : {X : Type 0} (rows : Relation) (x : Attributes) (value : ℕ → X) (seen : List X) (numbers : List ℕ) → AreNumbered value (length rows) seen numbers
     → ((i j : ℕ) → i < length rows → j < length rows → (value i ≡ value j) ↔ AgreeOn x (row_at rows i) (row_at rows j))
     → AreGroups rows x numbers
 groups_from rows x value seen numbers n same = record {
@@ -163,12 +163,12 @@ groups_from rows x value seen numbers n same = record {
   in_order = λ i g l m. n.in_order i g (omega (arith, l, n.one_each)) m;
 }
 
--- one place
+-- one attribute
 pub column_groups : (rows : Relation) (k : ℕ) (seen : List (List ℕ)) (numbers : List ℕ) → AreNumbered (λ i. value_at (row_at rows i) k) (length rows) seen numbers → AreGroups rows (only k) numbers
 column_groups rows k seen numbers n = groups_from rows (only k) (λ i. value_at (row_at rows i) k) seen numbers n (λ i j li lj.
     ((λ e m at. subst (λ (p : ℕ). value_at (row_at rows i) p ≡ value_at (row_at rows j) p) (sym (eqb-true m k at)) e), (λ a. a k (grind arith))))
 
-pub refined_groups : (rows : Relation) (x y : Places) (groups codes : List ℕ) (seen : List (ℕ × ℕ)) (numbers : List ℕ) → AreGroups rows x groups → AreGroups rows y codes
+pub refined_groups : (rows : Relation) (x y : Attributes) (groups codes : List ℕ) (seen : List (ℕ × ℕ)) (numbers : List ℕ) → AreGroups rows x groups → AreGroups rows y codes
     → AreNumbered (λ i. (number_at groups i, number_at codes i)) (length rows) seen numbers → AreGroups rows (union x y) numbers
 refined_groups rows x y groups codes seen numbers g c n = groups_from rows (union x y) (λ i. (number_at groups i, number_at codes i)) seen numbers n (λ i j li lj. (
   (λ e. AgreeOn-union x y _ _ ((g.equal i j li lj).0 (ap (λ (p : ℕ × ℕ). p.0) e)) ((c.equal i j li lj).0 (ap (λ (p : ℕ × ℕ). p.1) e))),
@@ -178,8 +178,8 @@ refined_groups rows x y groups codes seen numbers g c n = groups_from rows (unio
     pair_path : (a b c d : ℕ) → a ≡ b → c ≡ d → ◌≡◌ {A = ℕ × ℕ} (a, c) (b, d)
     pair_path a b c d e f = cc
 
--- where all rows are in one group, one place more numbers them alone
-pub single_group : (rows : Relation) (x : Places) (k : ℕ) (groups codes : List ℕ) → AreGroups rows x groups → ((i : ℕ) → i < length rows → number_at groups i ≡ 0) → AreGroups rows (only k) codes
+-- where all rows are in one group, one attribute more numbers them alone
+pub single_group : (rows : Relation) (x : Attributes) (k : ℕ) (groups codes : List ℕ) → AreGroups rows x groups → ((i : ℕ) → i < length rows → number_at groups i ≡ 0) → AreGroups rows (only k) codes
     → AreGroups rows (union x (only k)) codes
 single_group rows x k groups codes g zeros c = record {
   one_each = c.one_each;
@@ -191,7 +191,7 @@ single_group rows x k groups codes g zeros c = record {
 }
 
 -- a set looks at its members alone
-pub same_groups : (rows : Relation) (x y : Places) (groups : List ℕ) → x ≡ y → AreGroups rows x groups → AreGroups rows y groups
+pub same_groups : (rows : Relation) (x y : Attributes) (groups : List ℕ) → x ≡ y → AreGroups rows x groups → AreGroups rows y groups
 same_groups rows x y groups same g = record {
   one_each = g.one_each;
   equal = λ i j li lj. (
@@ -214,7 +214,7 @@ pub column_step : (rows : Relation) (k n : ℕ) (keys after : List (Bor (List �
     → items ≡ numbers ++ r ∷ []
     → AreNumbered (λ i. value_at (row_at rows i) k) (n + 1) (map (λ (s : Bor (List ℕ)). s.now) after) items
 column_step rows k n keys after key numbers items r old value grown at pushed =
-    let gets = inserted (λ (x y : Bor (List ℕ)). pointwise nat_eq x.now y.now) (λ (s : Bor (List ℕ)). s.now)
+    let gets = insert_full-Gets (λ (x y : Bor (List ℕ)). pointwise nat_eq x.now y.now) (λ (s : Bor (List ℕ)). s.now)
     (λ x y. (bytes_eq-Decides x.now y.now).0) (λ x y. (bytes_eq-Decides x.now y.now).1) keys after key r grown at in
     subst (λ (l : List ℕ). AreNumbered (λ i. value_at (row_at rows i) k) (n + 1) (map (λ (s : Bor (List ℕ)). s.now) after) l) (sym pushed)
     (numbered_more (λ i. value_at (row_at rows i) k) n _ _ numbers r old (subst (λ (v : List ℕ). Gets v (map (λ (s : Bor (List ℕ)). s.now) keys) (map (λ (s : Bor (List ℕ)). s.now) after) r) value gets))
@@ -244,7 +244,7 @@ pub pair_step : (first second : List ℕ) (n : ℕ) (keys after : List (ℕ × �
     → items ≡ numbers ++ r ∷ []
     → AreNumbered (λ i. (number_at first i, number_at second i)) (n + 1) (map (λ (p : ℕ × ℕ). p) after) items
 pair_step first second n keys after key numbers items r old is_key grown at pushed =
-    let gets = inserted (λ (x y : ℕ × ℕ). (x.0 == y.0) && (x.1 == y.1)) (λ (p : ℕ × ℕ). p) pair_same pair_back keys after key r grown at in
+    let gets = insert_full-Gets (λ (x y : ℕ × ℕ). (x.0 == y.0) && (x.1 == y.1)) (λ (p : ℕ × ℕ). p) pair_same pair_back keys after key r grown at in
     subst (λ (l : List ℕ). AreNumbered (λ i. (number_at first i, number_at second i)) (n + 1) (map (λ (p : ℕ × ℕ). p) after) l) (sym pushed)
     (numbered_more (λ i. (number_at first i, number_at second i)) n _ _ numbers r old (subst (λ (v : ℕ × ℕ). Gets v (map (λ (p : ℕ × ℕ). p) keys) (map (λ (p : ℕ × ℕ). p) after) r) is_key gets))
 
@@ -270,8 +270,8 @@ zeros_at zero i = refl
 zeros_at (suc n) zero = refl
 zeros_at (suc n) (suc i) = zeros_at n i
 
-pub meet_in : (x : Places) (k : ℕ) → x k ≡ true → union (meet x (below k)) (only k) ≡ meet x (below (k + 1))
-meet_in x k h = fun_ext (λ m. elim (cases_Bool (m == k)) [
+pub intersection_in : (x : Attributes) (k : ℕ) → x k ≡ true → union (intersection x (below k)) (only k) ≡ intersection x (below (k + 1))
+intersection_in x k h = fun_ext (λ m. elim (cases_Bool (m == k)) [
   | inl same ↦
       let e : m ≡ k = eqb-true m k same in
       let has : x m ≡ true = ap x e ∙ h in
@@ -290,16 +290,16 @@ meet_in x k h = fun_ext (λ m. elim (cases_Bool (m == k)) [
     or_false true = refl
     or_false false = refl
 
-pub meet_out : (x : Places) (k : ℕ) → x k ≡ false → meet x (below k) ≡ meet x (below (k + 1))
-meet_out x k h = fun_ext (λ m. elim (cases_Bool (m == k)) [
+pub intersection_out : (x : Attributes) (k : ℕ) → x k ≡ false → intersection x (below k) ≡ intersection x (below (k + 1))
+intersection_out x k h = fun_ext (λ m. elim (cases_Bool (m == k)) [
   | inl same ↦
       let has : x m ≡ false = ap x (eqb-true m k same) ∙ h in
       ap (λ (b : Bool). b && nat_lt m k) has ∙ sym (ap (λ (b : Bool). b && nat_lt m (k + 1)) has)
   | inr other ↦ let low : nat_lt m k ≡ nat_lt m (k + 1) = grind (arith, other) in ap (λ (b : Bool). x m && b) low
 ])
 
-pub meet_all : (x : Places) (n : ℕ) → Within x (below n) → meet x (below n) ≡ x
-meet_all x n within = fun_ext (λ k. by k (x k) (within k))
+pub intersection_all : (x : Attributes) (n : ℕ) → IsSubset x (below n) → intersection x (below n) ≡ x
+intersection_all x n within = fun_ext (λ k. by k (x k) (within k))
   where
     by : (k : ℕ) (b : Bool) → (b ≡ true → nat_lt k n ≡ true) → (b && nat_lt k n) ≡ b
     by k true h = h refl
@@ -369,13 +369,13 @@ old_first numbers firsts i old order l other = elim (cases_lt (length firsts) (n
 ]
 
 -- groups by a column, from the numbers of pairs
-pub pair_groups : (rows : Relation) (x : Places) (k : ℕ) (groups codes items : List ℕ) → AreGroups rows x groups → AreGroups rows (only k) codes
+pub pair_groups : (rows : Relation) (x : Attributes) (k : ℕ) (groups codes items : List ℕ) → AreGroups rows x groups → AreGroups rows (only k) codes
     → (seen : List (ℕ × ℕ)) × AreNumbered (λ i. (number_at groups i, number_at codes i)) (length groups) seen items
     → AreGroups rows (union x (only k)) items
 pair_groups rows x k groups codes items g c n =
     refined_groups rows x (only k) groups codes n.0 items g c
     (subst (λ (m : ℕ). AreNumbered (λ i. (number_at groups i, number_at codes i)) m n.0 items) g.one_each n.1)
 
--- a tuple of a relation stands at a place of it
+-- a tuple of a relation stands at a position of it
 pub row_of : (r : Relation) (t : Tuple) → Contains r t → (i : ℕ) × (i < length r) × (row_at r i ≡ t)
 row_of r t has = (has.0, has.1, get_or_default r has.0 [] t has.1 ∙ has.2)

@@ -9,7 +9,7 @@ use Rattle.std.proofs.lemmas.Bool.Decides.{nat_tests}
 use Rattle.std.proofs.lemmas.List.{append_assoc, append-nil, length-append, length-map, ext_get_or}
 use Rattle.std.proofs.lemmas.List.FromFn.{length-range_with_len, get_or-range_with_len}
 use Rattle.std.proofs.lemmas.List.Sums.{position_or_len_is}
-use Rattle.attr_sets.specs.Places.{Places, Within, below}
+use Rattle.attr_sets.specs.Attributes.{Attributes, IsSubset, below}
 use Rattle.csv.specs.Machine.{next_record}
 use Rattle.csv.specs.Reading.{records_from, default_config, strip_bom}
 use Rattle.csv.specs.Writing.{default_writer, row_text, field_text, fields_text, needs_byte, read_back}
@@ -18,12 +18,12 @@ use Rattle.csv.proofs.RoundTrip.{read-write}
 use Rattle.dep_model.specs.Integers.{IsIntegerText}
 use Rattle.dep_model.specs.Names.{is_name, same_name}
 use Rattle.dep_model.specs.Projections.{members_below}
-use Rattle.dep_model.specs.Schemas.{names_of, width_of, place_named, columns_of as types_of, TypedFor}
+use Rattle.dep_model.specs.Schemas.{names_of, width_of, attribute_named, columns_of as types_of, TypedFor}
 use Rattle.dep_model.specs.Tuples.{Tuple, Relation, IsOver, value_at}
 use Rattle.dep_model.specs.declared.column.Column.TheVariants.{Integer}
 use Rattle.dep_model.specs.declared.schema.Schema.{Schema}
 use Rattle.dep_model.proofs.SchemeLemmas.{length-members_below, members_below-at}
-use Rattle.dep_model.proofs.NameLemmas.{found_at}
+use Rattle.dep_model.proofs.NameLemmas.{attribute_named-append}
 use Rattle.csv_rows.proofs.HeaderLemmas.{named_after}
 use Rattle.csv_rows.proofs.NumberingLemmas.{same_default}
 use Rattle.csv_rows.proofs.ReadingLemmas.{whole_count}
@@ -35,7 +35,7 @@ use Rattle.csv_text.specs.Rows.{rows_only, rows_text}
 use Rattle.csv_rows.specs.declared.reading.TheConstants.{MOST_ROWS}
 use Rattle.csv_rows.specs.declared.refusal.RowRefusal.{RowRefusal}
 use Rattle.csv_rows.specs.declared.refusal.RowRefusal.TheVariants as refusal
-use Rattle.attr_sets.proofs.PlacesLemmas.{same_at}
+use Rattle.attr_sets.proofs.AttributesLemmas.{same_at}
 
 -- ---- the records of the text
 back_same : (row : List (List ℕ)) → 0 < length row → read_back row ≡ row
@@ -82,8 +82,8 @@ row_begins : (c : ℕ) (cs : List ℕ) (values : List (List ℕ)) → (c == 239)
 row_begins c cs values other =
     text_begins c _ _ (text_begins c _ (fields_text default_writer values) (field_begins c cs other))
 
-unmarked : (c : ℕ) (text : List ℕ) → Begins c text → strip_bom text ≡ text
-unmarked c text (b, rest, is, other) = subst (λ (t : List ℕ). strip_bom t ≡ t) (sym is) (no_mark b rest other)
+strip_bom-none : (c : ℕ) (text : List ℕ) → Begins c text → strip_bom text ≡ text
+strip_bom-none c text (b, rest, is, other) = subst (λ (t : List ℕ). strip_bom t ≡ t) (sym is) (no_mark b rest other)
 
 second_of : (a b c d : Bool) → (((a && b) && c) && d) ≡ true → b ≡ true
 second_of true true c d e = refl
@@ -105,7 +105,7 @@ text_unmarked (name ∷ names) rows some proper =
     let (c, cs, is, other) = name_begins name (proper 0 [] (omega arith)) in
     let begins : Begins c (row_text default_writer (name ∷ names)) =
     subst (λ (n : List ℕ). Begins c (row_text default_writer (n ∷ names))) (sym is) (row_begins c cs names other) in
-    unmarked c _ (text_begins c _ (rows_only rows) begins)
+    strip_bom-none c _ (text_begins c _ (rows_only rows) begins)
 
 pub printed_records : (names : List (List ℕ)) (rows : Relation) → 0 < length names
     → All (λ name. IsTrue (is_name name)) names → All (λ row. 0 < length row) rows
@@ -136,13 +136,13 @@ named_range (suc n) k =
     ap (λ (l : List ℕ). with_columns l k) (range_more n) ∙ same_at (named_after (range_with_len 0 n) n) k
     ∙ ap (λ (b : Bool). b || (k == n)) (named_range n k) ∙ grind (arith, nat_tests)
 
-pub own_column : (column m : ℕ) (x : Places) (o : Option ℕ) → o ≡ Some m → x m ≡ false → column_of column x o ≡ Ok m
+pub own_column : (column m : ℕ) (x : Attributes) (o : Option ℕ) → o ≡ Some m → x m ≡ false → column_of column x o ≡ Ok m
 own_column column m x o e f = rw (e, f) refl
 
-seam : (before : List (List ℕ)) (name : List ℕ) (after : List (List ℕ)) (d : List ℕ)
+get_or-append : (before : List (List ℕ)) (name : List ℕ) (after : List (List ℕ)) (d : List ℕ)
     → get_or (before ++ name ∷ after) (length before) d ≡ name
-seam [] name after d = refl
-seam (b ∷ before) name after d = seam before name after d
+get_or-append [] name after d = refl
+get_or-append (b ∷ before) name after d = get_or-append before name after d
 
 pub other_name : (before : List (List ℕ)) (name : List ℕ) (after : List (List ℕ)) (k : ℕ) (d : List ℕ) → k < length before
     → AllPairs (λ a b. same_name a b ≡ false) (before ++ name ∷ after)
@@ -151,7 +151,7 @@ other_name [] name after k d h differ = absurd (omega (arith, h))
 other_name (b ∷ before) name after zero d h differ =
     let inside : suc (length before) < length (b ∷ (before ++ name ∷ after)) =
     omega (arith, length-append before (name ∷ after)) in
-    subst (λ (n : List ℕ). same_name b n ≡ false) (seam before name after d) (differ 0 (suc (length before)) d (omega arith) inside)
+    subst (λ (n : List ℕ). same_name b n ≡ false) (get_or-append before name after d) (differ 0 (suc (length before)) d (omega arith) inside)
 other_name (b ∷ before) name after (suc k) d h differ =
     other_name before name after k d (omega (arith, h))
     (λ i j e less in_list. differ (suc i) (suc j) e (omega (arith, less)) (omega (arith, in_list)))
@@ -168,11 +168,11 @@ own_columns_from before (name ∷ after) differ =
     let split : (before ++ name ∷ []) ++ after ≡ names = append_assoc before (name ∷ []) after in
     let size : length (before ++ name ∷ []) ≡ suc m = length-append before (name ∷ []) ∙ omega arith in
     let none : All (λ b. same_name b name ≡ false) before = λ k d h. other_name before name after k d h differ in
-    let place : place_named names name ≡ Some m = found_at before name after none in
+    let lookup : attribute_named names name ≡ Some m = attribute_named-append before name after none in
     let free : with_columns (range_with_len 0 m) m ≡ false = named_range m m ∙ grind (arith, nat_tests) in
     let column : column_of (length (range_with_len 0 m) + 1) (with_columns (range_with_len 0 m))
-    (place_named names name) ≡ Ok m =
-    own_column _ m _ _ place free in
+    (attribute_named names name) ≡ Ok m =
+    own_column _ m _ _ lookup free in
     let columns : range_with_len 0 m ++ m ∷ [] ≡ range_with_len 0 (length (before ++ name ∷ [])) =
     sym (range_more m) ∙ ap (range_with_len 0) (sym size) in
     let rest =
@@ -187,7 +187,7 @@ own_columns : (names : List (List ℕ)) → AllPairs (λ a b. same_name a b ≡ 
 own_columns names differ = own_columns_from [] names differ
 
 -- ---- the rows
-all_named : (n : ℕ) → Within (below n) (with_columns (range_with_len 0 n))
+all_named : (n : ℕ) → IsSubset (below n) (with_columns (range_with_len 0 n))
 all_named n k in_below = named_range n k ∙ in_below
 
 column_is : (n k : ℕ) → k < n → position_or_len (nat_eq k) (range_with_len 0 n) ≡ k

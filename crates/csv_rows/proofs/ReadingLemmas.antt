@@ -7,8 +7,8 @@ use Rattle.std.proofs.Math.Seq.{take-suc, get_or-append_seam}
 use Rattle.std.proofs.lemmas.Bool.{cases_Bool, cases_lt}
 use Rattle.std.proofs.lemmas.List.{append-nil, length-append, length-map, map-append, take_all, append_assoc, get_or_append_left}
 use Rattle.std.proofs.lemmas.Option.{slice_get_within}
-use Rattle.attr_sets.specs.Places.{Places, Within, IsEmpty, below, minus, IsLeastFrom, count_below}
-use Rattle.attr_sets.proofs.PlacesLemmas.{count_below-place, count_below-equal, count_below-below, same_at}
+use Rattle.attr_sets.specs.Attributes.{Attributes, IsSubset, IsEmpty, below, difference, IsFirstFrom, count_below}
+use Rattle.attr_sets.proofs.AttributesLemmas.{count_below-before_member, count_below-equal, count_below-below, same_at}
 use Rattle.csv.specs.declared.reader.Reader.{Reader}
 use Rattle.dep_model.specs.Failures.{RefusesAs}
 use Rattle.dep_model.specs.declared.failure.Failure.{Failure}
@@ -16,21 +16,21 @@ use Rattle.dep_model.specs.declared.failure.Failure.TheVariants.{Refused, OutOfM
 use Rattle.dep_model.proofs.FailureLemmas.{refuses_also}
 use Rattle.dep_model.specs.Integers.{IsIntegerText}
 use Rattle.dep_model.specs.Projections.{members_below}
-use Rattle.dep_model.specs.Schemas.{names_of, width_of, place_named, columns_of as types_of, TypedFor}
+use Rattle.dep_model.specs.Schemas.{names_of, width_of, attribute_named, columns_of as types_of, TypedFor}
 use Rattle.dep_model.specs.Tuples.{Tuple, Relation, IsOver, value_at}
 use Rattle.dep_model.specs.declared.column.Column.{Column}
 use Rattle.dep_model.specs.declared.column.Column.TheVariants.{Integer}
 use Rattle.dep_model.specs.declared.schema.Schema.{Schema}
 use Rattle.dep_model.proofs.ColumnLemmas.{length-columns_on}
 use Rattle.dep_model.proofs.SchemeLemmas.{length-members_below, members_below-at}
-use Rattle.attr_sets.specs.Sets.{places}
+use Rattle.attr_sets.specs.Sets.{attributes}
 use Rattle.csv_rows.proofs.NumberingLemmas.{same_default}
 use Rattle.csv_rows.specs.declared.header.Header.{Header}
-use Rattle.csv_rows.specs.declared.header.Placed.{Placed}
+use Rattle.csv_rows.specs.declared.header.ColumnOfAttribute.{ColumnOfAttribute}
 use Rattle.csv_rows.specs.declared.refusal.RowRefusal.{RowRefusal}
 use Rattle.csv_rows.specs.declared.refusal.RowRefusal.TheVariants as refusal
 use Rattle.csv_rows.specs.Records.{HasLeft, TakesRecord, records_of}
-use Rattle.csv_rows.specs.Columns.{with_columns, placed, order_of, column_of, columns_from, columns_of_header, ◌>>=◌, IsHeader, IsHeaderOf}
+use Rattle.csv_rows.specs.Columns.{with_columns, attribute_with_column, order_of, column_of, columns_from, columns_of_header, ◌>>=◌, IsHeader, IsHeaderOf}
 use Rattle.csv_rows.specs.Reading.{value_of, HasInteger, RowOf, RowAt, AreFirstRows, RowsUnder, TableOf, RowsOf, ReadsHeader, RefusesHeader}
 
 -- the first record is the header
@@ -64,7 +64,7 @@ no_header names old new fields b rs is takes left =
 never_missing : (names : List (List ℕ)) (before : List ℕ) (fields : List (List ℕ)) (a : ℕ) → columns_from names before fields ≡ Err (refusal.MissingColumn a) → ⊥
 unfolding columns_from
 never_missing names before [] a h = cc
-never_missing names before (f ∷ fs) a h = by (place_named names f) h (λ (b : ℕ) g. never_missing names (before ++ b ∷ []) fs a g)
+never_missing names before (f ∷ fs) a h = by (attribute_named names f) h (λ (b : ℕ) g. never_missing names (before ++ b ∷ []) fs a g)
   where
     tested : (t : Bool) (b : ℕ) → ((if t then Err (refusal.DoubleColumn (length before + 1)) else Ok b) >>= (λ c. columns_from names (before ++ c ∷ []) fs)) ≡ Err (refusal.MissingColumn a)
         → (columns_from names (before ++ b ∷ []) fs ≡ Err (refusal.MissingColumn a) → ⊥) → ⊥
@@ -97,12 +97,12 @@ refused_part s [] e h = ap Err h
 refused_part s (header ∷ records) e h = (Err e, sym h, refl)
 
 -- a header without a column for each attribute
-pub refused_missing : (s : Schema) (rs : List (List (List ℕ))) (reader : Reader (Bor (List ℕ))) (h : Header) (x : Places) (a : ℕ)
-    → ReadsHeader s rs reader h → x ≡ minus (below (width_of s)) (places h.scheme) → IsLeastFrom x 0 a
+pub refused_missing : (s : Schema) (rs : List (List (List ℕ))) (reader : Reader (Bor (List ℕ))) (h : Header) (x : Attributes) (a : ℕ)
+    → ReadsHeader s rs reader h → x ≡ difference (below (width_of s)) (attributes h.scheme) → IsFirstFrom x 0 a
     → TableOf s (IsHeaderOf (width_of s) (names_of s)) rs (Err (refusal.MissingColumn a))
 refused_missing s rs reader h x a read same least =
-    let all : x ≡ minus (below (width_of s)) (with_columns read.columns) = same ∙ ap (λ (z : Places). minus (below (width_of s)) z) read.kept.scheme in
-    let moved : IsLeastFrom (minus (below (width_of s)) (with_columns read.columns)) 0 a = record {
+    let all : x ≡ difference (below (width_of s)) (with_columns read.columns) = same ∙ ap (λ (z : Attributes). difference (below (width_of s)) z) read.kept.scheme in
+    let moved : IsFirstFrom (difference (below (width_of s)) (with_columns read.columns)) 0 a = record {
       from_on = least.from_on;
       member = sym (same_at all a) ∙ least.member;
       least = λ k f l. sym (same_at all k) ∙ least.least k f l;
@@ -111,16 +111,16 @@ refused_missing s rs reader h x a read same least =
     (Err (refusal.MissingColumn a), (read.columns, read.means, moved), refl)
 
 -- the rows under a header with a column for each attribute
-pub whole_rows : (s : Schema) (rs : List (List (List ℕ))) (reader : Reader (Bor (List ℕ))) (h : Header) (x : Places) (result : Result Relation RowRefusal)
-    → (read : ReadsHeader s rs reader h) → x ≡ minus (below (width_of s)) (places h.scheme) → IsEmpty x → RowsUnder s (Ok read.columns) read.records result
+pub whole_rows : (s : Schema) (rs : List (List (List ℕ))) (reader : Reader (Bor (List ℕ))) (h : Header) (x : Attributes) (result : Result Relation RowRefusal)
+    → (read : ReadsHeader s rs reader h) → x ≡ difference (below (width_of s)) (attributes h.scheme) → IsEmpty x → RowsUnder s (Ok read.columns) read.records result
     → TableOf s (IsHeaderOf (width_of s) (names_of s)) rs result
 whole_rows s rs reader h x result read same empty rows =
-    let within : Within (below (width_of s)) (with_columns read.columns) = λ k has. inside k has (sym (same_at read.kept.scheme k)) (sym (same_at same k) ∙ empty k) in
+    let within : IsSubset (below (width_of s)) (with_columns read.columns) = λ k has. inside k has (sym (same_at read.kept.scheme k)) (sym (same_at same k) ∙ empty k) in
     subst (λ (l : List (List (List ℕ))). TableOf s (IsHeaderOf (width_of s) (names_of s)) l result) (sym read.all)
     (Ok read.columns, (read.means, within), rows)
   where
-    inside : (k : ℕ) → nat_lt k (width_of s) ≡ true → {b : Bool} → b ≡ places h.scheme k → (nat_lt k (width_of s) && not (places h.scheme k)) ≡ false → b ≡ true
-    inside k has {b} e none = e ∙ by (places h.scheme k) (ap (λ (t : Bool). t && not (places h.scheme k)) (sym has) ∙ none)
+    inside : (k : ℕ) → nat_lt k (width_of s) ≡ true → {b : Bool} → b ≡ attributes h.scheme k → (nat_lt k (width_of s) && not (attributes h.scheme k)) ≡ false → b ≡ true
+    inside k has {b} e none = e ∙ by (attributes h.scheme k) (ap (λ (t : Bool). t && not (attributes h.scheme k)) (sym has) ∙ none)
       where
         by : (t : Bool) → (true && not t) ≡ false → t ≡ true
         by true f = refl
@@ -134,7 +134,7 @@ part_rows s rs reader h result read rows =
     (Ok read.columns, sym read.means, rows)
 
 -- the members of a set in their order
-pub member_at : (n : ℕ) (x : Places) (i a : ℕ) → i < length (members_below n x) → a ≡ get_or (members_below n x) i a → (a < n) × (x a ≡ true) × (i ≡ count_below x a)
+pub member_at : (n : ℕ) (x : Attributes) (i a : ℕ) → i < length (members_below n x) → a ≡ get_or (members_below n x) i a → (a < n) × (x a ≡ true) × (i ≡ count_below x a)
 unfolding members_below
 member_at zero x i a l h = absurd (omega arith)
 member_at (suc n) x i a l h = elim (cases_Bool (x n)) [
@@ -158,7 +158,7 @@ member_at (suc n) x i a l h = elim (cases_Bool (x n)) [
 ]
 
 -- an entry of the order of a header
-pub record IsPlaced (n : ℕ) (columns : List ℕ) (i : ℕ) (p : Placed) : Type 0 where
+pub record IsColumnOfAttribute (n : ℕ) (columns : List ℕ) (i : ℕ) (p : ColumnOfAttribute) : Type 0 where
   pub small : p.attribute < n
   pub has : with_columns columns p.attribute ≡ true
   pub column : p.column ≡ position_or_len (nat_eq p.attribute) columns
@@ -166,30 +166,30 @@ pub record IsPlaced (n : ℕ) (columns : List ℕ) (i : ℕ) (p : Placed) : Type
   pub at : i < length (members_below n (with_columns columns))
   pub is : get_or (members_below n (with_columns columns)) i p.attribute ≡ p.attribute
 
-placed_at : (n : ℕ) (columns : List ℕ) (h : Header) (i : ℕ) (p : Placed) → IsHeader n columns h → i < length h.order.items → p ≡ get_or h.order.items i p → IsPlaced n columns i p
-placed_at n columns h i p kept l e =
-    let size : length h.order.items ≡ length (members_below n (with_columns columns)) = ap length kept.order ∙ length-map (members_below n (with_columns columns)) (placed columns) in
+entry_at : (n : ℕ) (columns : List ℕ) (h : Header) (i : ℕ) (p : ColumnOfAttribute) → IsHeader n columns h → i < length h.order.items → p ≡ get_or h.order.items i p → IsColumnOfAttribute n columns i p
+entry_at n columns h i p kept l e =
+    let size : length h.order.items ≡ length (members_below n (with_columns columns)) = ap length kept.order ∙ length-map (members_below n (with_columns columns)) (attribute_with_column columns) in
     let at : i < length (members_below n (with_columns columns)) = omega (arith, l, size) in
     let a : ℕ = get_or (members_below n (with_columns columns)) i p.attribute in
-    let same : p ≡ placed columns a =
-    e ∙ ap (λ (o : List Placed). get_or o i p) kept.order ∙ same_default (order_of n columns) i p (placed columns p.attribute) (omega (arith, l, ap length kept.order))
-    ∙ get_or-map (placed columns) (members_below n (with_columns columns)) i p.attribute in
-    let attribute : p.attribute ≡ a = ap (λ (q : Placed). q.attribute) same in
+    let same : p ≡ attribute_with_column columns a =
+    e ∙ ap (λ (o : List ColumnOfAttribute). get_or o i p) kept.order ∙ same_default (order_of n columns) i p (attribute_with_column columns p.attribute) (omega (arith, l, ap length kept.order))
+    ∙ get_or-map (attribute_with_column columns) (members_below n (with_columns columns)) i p.attribute in
+    let attribute : p.attribute ≡ a = ap (λ (q : ColumnOfAttribute). q.attribute) same in
     let m = member_at n (with_columns columns) i p.attribute at attribute in
     record {
       small = m.0;
       has = m.1;
-      column = ap (λ (q : Placed). q.column) same ∙ ap (λ (b : ℕ). position_or_len (nat_eq b) columns) (sym attribute);
+      column = ap (λ (q : ColumnOfAttribute). q.column) same ∙ ap (λ (b : ℕ). position_or_len (nat_eq b) columns) (sym attribute);
       before = m.2;
       at = at;
       is = sym attribute;
     }
 
-pub placed_in : (n : ℕ) (columns : List ℕ) (h : Header) (items : List Placed) (i : ℕ) (d : Placed) → IsHeader n columns h → items ≡ h.order.items → i < length items
-    → IsPlaced n columns i (get_or items i d)
-placed_in n columns h items i d kept e l =
+pub entry_in : (n : ℕ) (columns : List ℕ) (h : Header) (items : List ColumnOfAttribute) (i : ℕ) (d : ColumnOfAttribute) → IsHeader n columns h → items ≡ h.order.items → i < length items
+    → IsColumnOfAttribute n columns i (get_or items i d)
+entry_in n columns h items i d kept e l =
     let within : i < length h.order.items = omega (arith, l, ap length e) in
-    placed_at n columns h i (get_or items i d) kept within (ap (λ (o : List Placed). get_or o i d) e ∙ same_default h.order.items i d (get_or items i d) within)
+    entry_at n columns h i (get_or items i d) kept within (ap (λ (o : List ColumnOfAttribute). get_or o i d) e ∙ same_default h.order.items i d (get_or items i d) within)
 
 -- the values of the first attributes that have a column
 pub record Takes (s : Schema) (columns : List ℕ) (fields : List (List ℕ)) (i : ℕ) (values : List (List ℕ)) : Type 0 where
@@ -200,17 +200,17 @@ pub takes_none : (s : Schema) (columns : List ℕ) (fields values : List (List �
 takes_none s columns fields values e = record { so_far = e; typed = λ b h l. absurd (omega (arith, l)) }
 
 -- two attributes with columns that have as many before them are one
-pub same_count : (x : Places) (a b : ℕ) → x a ≡ true → x b ≡ true → count_below x a ≡ count_below x b → a ≡ b
+pub same_count : (x : Attributes) (a b : ℕ) → x a ≡ true → x b ≡ true → count_below x a ≡ count_below x b → a ≡ b
 same_count x a b ha hb e = elim (cases_lt a b) [
-  | inl less ↦ absurd (omega (arith, count_below-place b a x less ha, e))
+  | inl less ↦ absurd (omega (arith, count_below-before_member b a x less ha, e))
   | inr other ↦ elim (cases_lt b a) [
-    | inl more ↦ absurd (omega (arith, count_below-place a b x more hb, e))
+    | inl more ↦ absurd (omega (arith, count_below-before_member a b x more hb, e))
     | inr same ↦ omega (arith, other, same)
   ]
 ]
 
-pub takes_one : (s : Schema) (columns : List ℕ) (fields values : List (List ℕ)) (i : ℕ) (p : Placed) (value : List ℕ) (column : Column)
-    → Takes s columns fields i values → IsPlaced (width_of s) columns i p → value ≡ slice_index_or fields p.column []
+pub takes_one : (s : Schema) (columns : List ℕ) (fields values : List (List ℕ)) (i : ℕ) (p : ColumnOfAttribute) (value : List ℕ) (column : Column)
+    → Takes s columns fields i values → IsColumnOfAttribute (width_of s) columns i p → value ≡ slice_index_or fields p.column []
     → slice_get (types_of s) p.attribute ≡ Some column → (column ≡ Integer → IsIntegerText value)
     → Takes s columns fields (i + 1) (values ++ value ∷ [])
 takes_one s columns fields values i p value column takes at is type fits =
@@ -238,18 +238,18 @@ pub takes_all : (s : Schema) (columns : List ℕ) (fields values : List (List �
     → length fields ≡ h.columns → row ≤ 100000 → RowOf s columns row fields (Ok values)
 takes_all s columns fields values h i row kept takes end even few =
     let ms = members_below (width_of s) (with_columns columns) in
-    let size : length h.order.items ≡ length ms = ap length kept.order ∙ length-map ms (placed columns) in
+    let size : length h.order.items ≡ length ms = ap length kept.order ∙ length-map ms (attribute_with_column columns) in
     let all : take i ms ≡ ms = take_all i ms (omega (arith, end, size)) in (
       (even ∙ kept.count, few),
       takes.so_far ∙ ap (map (value_of columns fields)) all,
       λ a has.
-          let small : a < width_of s = omega (arith, slice_get_within (types_of s) a Integer has.1, length-columns_on (width_of s) (places s.integers)) in
-          takes.typed a has (omega (arith, count_below-place (width_of s) a (with_columns columns) small has.0, length-members_below (width_of s) (with_columns columns), end, size)),
+          let small : a < width_of s = omega (arith, slice_get_within (types_of s) a Integer has.1, length-columns_on (width_of s) (attributes s.integers)) in
+          takes.typed a has (omega (arith, count_below-before_member (width_of s) a (with_columns columns) small has.0, length-members_below (width_of s) (with_columns columns), end, size)),
     )
 
 -- the value at hand is refused
-pub not_integer : (s : Schema) (columns : List ℕ) (fields values : List (List ℕ)) (h : Header) (i row : ℕ) (p : Placed) (value : List ℕ) (column : Column)
-    → IsHeader (width_of s) columns h → Takes s columns fields i values → IsPlaced (width_of s) columns i p → value ≡ slice_index_or fields p.column []
+pub not_integer : (s : Schema) (columns : List ℕ) (fields values : List (List ℕ)) (h : Header) (i row : ℕ) (p : ColumnOfAttribute) (value : List ℕ) (column : Column)
+    → IsHeader (width_of s) columns h → Takes s columns fields i values → IsColumnOfAttribute (width_of s) columns i p → value ≡ slice_index_or fields p.column []
     → slice_get (types_of s) p.attribute ≡ Some column → (column ≡ Integer) × (IsIntegerText value → ⊥)
     → length fields ≡ h.columns → row ≤ 100000 → RowOf s columns row fields (Err (refusal.NotInteger row p.attribute))
 not_integer s columns fields values h i row p value column kept takes at is type breaks even few =
@@ -259,7 +259,7 @@ not_integer s columns fields values h i row p value column kept takes at is type
       (at.has, type ∙ ap Some breaks.0),
       (λ t. breaks.1 (subst IsIntegerText (sym here) t)),
       λ b less has.
-          takes.typed b has (omega (arith, count_below-place p.attribute b (with_columns columns) less has.0, at.before)),
+          takes.typed b has (omega (arith, count_below-before_member p.attribute b (with_columns columns) less has.0, at.before)),
     )
 
 -- records of which some were taken, each giving a row
@@ -271,7 +271,7 @@ pub record Progress (s : Schema) (columns : List ℕ) (rs : List (List (List ℕ
   pub left : HasLeft reader rest
   pub first : AreFirstRows s columns rs rows
 
--- the record that was taken stands at the next place
+-- the record that was taken stands at the next position
 next_at : (rs taken more : List (List (List ℕ))) (fields : List (List ℕ)) (n : ℕ) → rs ≡ taken ++ fields ∷ more → length taken ≡ n
     → (n < length rs) × (slice_index_or rs n [] ≡ fields)
 next_at rs taken more fields n e size =
@@ -323,8 +323,8 @@ row_refused s columns rs old new b fields rows n e p is takes count row =
     (rows, p.first, within, here)
 
 -- the attributes without a column, as the sets of the code have them
-pub lacking : (n m : ℕ) (full scheme x : Places) → n ≡ m → full ≡ below n → x ≡ minus full scheme → x ≡ minus (below m) scheme
-lacking n m full scheme x e whole rest = rest ∙ ap (λ (z : Places). minus z scheme) (whole ∙ ap below e)
+pub without_column-same : (n m : ℕ) (full scheme x : Attributes) → n ≡ m → full ≡ below n → x ≡ difference full scheme → x ≡ difference (below m) scheme
+without_column-same n m full scheme x e whole rest = rest ∙ ap (λ (z : Attributes). difference z scheme) (whole ∙ ap below e)
 
 pub on_ok : {T E : Type 0} (P Q : T → Type 0) (r : Result T E) → ((v : T) → P v → Q v) → IfOk r P → IfOk r Q
 on_ok P Q (Ok v) f h = f v h
@@ -335,13 +335,13 @@ pub on_err : {T R : Type 0} (P Q : R → Type 0) (r : Result T (Failure R)) → 
 on_err P Q (Ok v) f h = tt
 on_err P Q (Err e) f h = refuses_also P Q e f h
 
--- the members of a set that has all places below n
-pub whole_count : (n : ℕ) (x : Places) → Within (below n) x → (k : ℕ) → k ≤ n → count_below x k ≡ k
+-- the members of a set that has all attributes below n
+pub whole_count : (n : ℕ) (x : Attributes) → IsSubset (below n) x → (k : ℕ) → k ≤ n → count_below x k ≡ k
 whole_count n x within k l =
     count_below-equal k x (below k) (λ j m. within j (grind (arith, l, m)) ∙ sym (grind (arith, m))) ∙ count_below-below k k (omega arith)
 
 -- a row of a text in which each attribute has a column
-row_whole : (s : Schema) (columns : List ℕ) (row : ℕ) (fields : List (List ℕ)) (t : Tuple) → Within (below (width_of s)) (with_columns columns) → RowOf s columns row fields (Ok t)
+row_whole : (s : Schema) (columns : List ℕ) (row : ℕ) (fields : List (List ℕ)) (t : Tuple) → IsSubset (below (width_of s)) (with_columns columns) → RowOf s columns row fields (Ok t)
     → (length t ≡ width_of s) × ((k : ℕ) → slice_get (types_of s) k ≡ Some Integer → IsIntegerText (value_at t k))
 row_whole s columns row fields t within (fits, is, typed) =
     let n : ℕ = width_of s in
@@ -349,7 +349,7 @@ row_whole s columns row fields t within (fits, is, typed) =
     let size : length ms ≡ n = length-members_below n (with_columns columns) ∙ whole_count n (with_columns columns) within n (omega arith) in (
       ap length is ∙ length-map ms (value_of columns fields) ∙ size,
       λ k integer.
-          let small : k < n = omega (arith, slice_get_within (types_of s) k Integer integer, length-columns_on n (places s.integers)) in
+          let small : k < n = omega (arith, slice_get_within (types_of s) k Integer integer, length-columns_on n (attributes s.integers)) in
           let has : with_columns columns k ≡ true = within k (grind (arith, small)) in
           let at : get_or ms k k ≡ k = ap (λ (j : ℕ). get_or ms j k) (sym (whole_count n (with_columns columns) within k (omega (arith, small)))) ∙ members_below-at n (with_columns columns) k k small has in
           let long : k < length (map (value_of columns fields) ms) = omega (arith, length-map ms (value_of columns fields), size, small) in

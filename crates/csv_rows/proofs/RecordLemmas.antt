@@ -18,9 +18,9 @@ use Rattle.csv_rows.specs.Records.{HasLeft, TakesRecord}
 abbrev EndsBetween : State × Action → Type 0
 EndsBetween p = is_end p.1 ≡ true → ends_at_end p.0 ≡ false
 
-either : (b : Bool) (x y : State × Action) → EndsBetween x → EndsBetween y → EndsBetween (if b then x else y)
-either true x y ex ey = ex
-either false x y ex ey = ey
+EndsBetween-cond : (b : Bool) (x y : State × Action) → EndsBetween x → EndsBetween y → EndsBetween (if b then x else y)
+EndsBetween-cond true x y ex ey = ex
+EndsBetween-cond false x y ex ey = ey
 
 no_end : (s : State) (a : Action) → is_end a ≡ false → EndsBetween (s, a)
 no_end s a e h = cc
@@ -31,25 +31,25 @@ after_between false = refl
 
 in_field_ends : (c : ℕ) → EndsBetween (in_field default_config c)
 in_field_ends c =
-    either (c == 44) _ _ (no_end st.StartField act.EndField refl)
-    (either ((c == 13) || (c == 10)) _ _ (λ e. after_between (c == 13)) (no_end st.InField act.Copy refl))
+    EndsBetween-cond (c == 44) _ _ (no_end st.StartField act.EndField refl)
+    (EndsBetween-cond ((c == 13) || (c == 10)) _ _ (λ e. after_between (c == 13)) (no_end st.InField act.Copy refl))
 
 start_field_ends : (c : ℕ) → EndsBetween (start_field default_config c)
-start_field_ends c = either (true && (c == 34)) _ _ (no_end st.InQuoted act.Skip refl) (in_field_ends c)
+start_field_ends c = EndsBetween-cond (true && (c == 34)) _ _ (no_end st.InQuoted act.Skip refl) (in_field_ends c)
 
 start_record_ends : (c : ℕ) → EndsBetween (start_record default_config c)
 start_record_ends c =
-    either ((c == 13) || (c == 10)) _ _ (no_end st.StartRecord act.Skip refl) (start_field_ends c)
+    EndsBetween-cond ((c == 13) || (c == 10)) _ _ (no_end st.StartRecord act.Skip refl) (start_field_ends c)
 
 step_ends : (s : State) (c : ℕ) → EndsBetween (step default_config s c)
 step_ends st.StartRecord c = start_record_ends c
 step_ends st.StartField c = start_field_ends c
 step_ends st.InField c = in_field_ends c
-step_ends st.InQuoted c = either (true && (c == 34)) _ _ (no_end st.AfterQuote act.Skip refl) (no_end st.InQuoted act.Copy refl)
+step_ends st.InQuoted c = EndsBetween-cond (true && (c == 34)) _ _ (no_end st.AfterQuote act.Skip refl) (no_end st.InQuoted act.Copy refl)
 step_ends st.InEscape c = no_end st.InQuoted act.Copy refl
-step_ends st.AfterQuote c = either (true && true && (c == 34)) _ _ (no_end st.InQuoted act.Copy refl) (in_field_ends c)
-step_ends st.InComment c = either (c == 10) _ _ (no_end st.StartRecord act.Skip refl) (no_end st.InComment act.Skip refl)
-step_ends st.AfterCr c = either (c == 10) _ _ (no_end st.StartRecord act.Skip refl) (start_record_ends c)
+step_ends st.AfterQuote c = EndsBetween-cond (true && true && (c == 34)) _ _ (no_end st.InQuoted act.Copy refl) (in_field_ends c)
+step_ends st.InComment c = EndsBetween-cond (c == 10) _ _ (no_end st.StartRecord act.Skip refl) (no_end st.InComment act.Skip refl)
+step_ends st.AfterCr c = EndsBetween-cond (c == 10) _ _ (no_end st.StartRecord act.Skip refl) (start_record_ends c)
 
 -- after a record the machine stands between two records, and at least one byte was taken unless the
 -- end of the text ended it
@@ -66,12 +66,12 @@ shrinks_at_end true s fields (f, t, rest) e h =
     record { between = subst (λ (z : State). ends_at_end z ≡ false) at refl; within = subst (λ (z : List ℕ). length z ≤ 0) none (omega arith); less = λ f. cc }
 shrinks_at_end false s fields p e h = cc
 
-pub shrinks : (xs : List ℕ) (s : State) (fields : List (List ℕ)) (field : List ℕ) (p : Read) → next_record default_config s fields field xs ≡ Some p → Shrinks s xs p
+pub next_record-Shrinks : (xs : List ℕ) (s : State) (fields : List (List ℕ)) (field : List ℕ) (p : Read) → next_record default_config s fields field xs ≡ Some p → Shrinks s xs p
 unfolding next_record
-shrinks [] s fields field p h = shrinks_at_end (ends_at_end s) s (fields ++ field ∷ []) p refl h
-shrinks (c ∷ rest) s fields field p h =
+next_record-Shrinks [] s fields field p h = shrinks_at_end (ends_at_end s) s (fields ++ field ∷ []) p refl h
+next_record-Shrinks (c ∷ rest) s fields field p h =
     by (is_end (step default_config s c).1) refl h
-    (λ g. shrinks rest (step default_config s c).0 (fields_after (step default_config s c).1 fields field) (field_after (step default_config s c).1 c field) p g)
+    (λ g. next_record-Shrinks rest (step default_config s c).0 (fields_after (step default_config s c).1 fields field) (field_after (step default_config s c).1 c field) p g)
   where
     by : (b : Bool) → is_end (step default_config s c).1 ≡ b
         → (if b then Some (fields_after (step default_config s c).1 fields field, (step default_config s c).0, rest)
@@ -90,31 +90,31 @@ shrinks (c ∷ rest) s fields field p h =
         record { between = deep.between; within = omega arith; less = λ f. omega arith }
 
 -- enough turns give all records
-pub enough : (n m : ℕ) (s : State) (xs : List ℕ) → ends_at_end s ≡ false → length xs < n → length xs < m → records_from default_config n s xs ≡ records_from default_config m s xs
+pub records_from-enough : (n m : ℕ) (s : State) (xs : List ℕ) → ends_at_end s ≡ false → length xs < n → length xs < m → records_from default_config n s xs ≡ records_from default_config m s xs
 unfolding records_from
-enough zero m s xs e below also = absurd (omega arith)
-enough (suc n) zero s xs e below also = absurd (omega arith)
-enough (suc n) (suc m) s xs e below also = by (next_record default_config s [] [] xs) refl (λ (p : Read) t less more. enough n m p.1 p.2 t less more)
+records_from-enough zero m s xs e below also = absurd (omega arith)
+records_from-enough (suc n) zero s xs e below also = absurd (omega arith)
+records_from-enough (suc n) (suc m) s xs e below also = by (next_record default_config s [] [] xs) refl (λ (p : Read) t less more. records_from-enough n m p.1 p.2 t less more)
   where
     by : (o : Option Read) → next_record default_config s [] [] xs ≡ o
         → ((p : Read) → ends_at_end p.1 ≡ false → length p.2 < n → length p.2 < m → records_from default_config n p.1 p.2 ≡ records_from default_config m p.1 p.2)
         → records_next (records_from default_config n) o ≡ records_next (records_from default_config m) o
     by None f later = refl
     by (Some p) f later =
-        let t = shrinks xs s [] [] p f in
+        let t = next_record-Shrinks xs s [] [] p f in
         let less = t.less e in
         ap (λ (rs : List (List (List ℕ))). p.0 ∷ rs) (later p t.between (omega arith) (omega arith))
 
--- the records from a place on are one and those from the place after it on
+-- the records from a position on are the one there and those from the next position on
 pub one_more : (s : State) (xs : List ℕ) (p : Read) → ends_at_end s ≡ false → next_record default_config s [] [] xs ≡ Some p
     → records_from default_config (length xs + 1) s xs ≡ p.0 ∷ records_from default_config (length p.2 + 1) p.1 p.2
 unfolding records_from
 one_more s xs p e f =
-    let t = shrinks xs s [] [] p f in
+    let t = next_record-Shrinks xs s [] [] p f in
     let less = t.less e in
     let first : records_from default_config (length xs + 1) s xs ≡ records_from default_config (suc (length xs)) s xs = let size : length xs + 1 ≡ suc (length xs) = omega arith in ap (λ (n : ℕ). records_from default_config n s xs) size in
     first ∙ ap (records_next (records_from default_config (length xs))) f
-    ∙ ap (λ (rs : List (List (List ℕ))). p.0 ∷ rs) (enough (length xs) (length p.2 + 1) p.1 p.2 t.between (omega arith) (omega arith))
+    ∙ ap (λ (rs : List (List (List ℕ))). p.0 ∷ rs) (records_from-enough (length xs) (length p.2 + 1) p.1 p.2 t.between (omega arith) (omega arith))
 
 pub no_more : (s : State) (xs : List ℕ) → next_record default_config s [] [] xs ≡ None → records_from default_config (length xs + 1) s xs ≡ []
 unfolding records_from
@@ -130,7 +130,7 @@ next_left old new fields rs has reads first flexible =
     let (z, source, reached) = rows-more (λ (s : Bor (List ℕ)). Some s.now) old new fields default_config old.state has.rest has.rest [] has.config has.source (refl, refl) reads in
     let (p, read, is_first, stands) = reached in
     let (state, rest) = stands in
-    let t = shrinks has.rest old.state [] [] p read in
+    let t = next_record-Shrinks has.rest old.state [] [] p read in
     let more = one_more old.state has.rest p has.between read in (
       records_from default_config (length p.2 + 1) p.1 p.2,
       sym has.left ∙ more ∙ ap (λ (f : List (List ℕ)). f ∷ records_from default_config (length p.2 + 1) p.1 p.2) (sym is_first),
@@ -155,18 +155,18 @@ end_left old new fields rs has reads =
     sym has.left ∙ no_more old.state has.rest (rows-end (λ (s : Bor (List ℕ)). Some s.now) old new fields default_config has.rest has.config has.source reads)
 
 -- what a read of a record says of the records to come
-pub taken : (r : Result Bool Error) (old new : Reader (Bor (List ℕ))) (fields : List (List ℕ))
+pub TakesRecord-from : (r : Result Bool Error) (old new : Reader (Bor (List ℕ))) (fields : List (List ℕ))
     → IfOk r (λ found. reader_trim old ≡ trim.None → Ready old → ReadRecord (λ s. Some s.now) old new found fields)
     → (reader_trim old ≡ trim.None → OnOk r (took_first new ≡ true)) → OnOk r (is_flexible new ≡ is_flexible old)
     → IfOk r (λ found. TakesRecord found old new fields)
-taken (Err e) old new fields reads first flexible = tt
-taken (Ok true) old new fields reads first flexible =
+TakesRecord-from (Err e) old new fields reads first flexible = tt
+TakesRecord-from (Ok true) old new fields reads first flexible =
     λ rs has. next_left old new fields rs has (reads has.trim has.ready) (first has.trim) flexible
-taken (Ok false) old new fields reads first flexible = λ rs has. end_left old new fields rs has (reads has.trim has.ready)
+TakesRecord-from (Ok false) old new fields reads first flexible = λ rs has. end_left old new fields rs has (reads has.trim has.ready)
 
--- a field by its place
-pub field_by_place : (fields : List (List ℕ)) (i : ℕ) → unwrap_or (field_at fields i) [] ≡ slice_index_or fields i []
+-- a field by its position
+pub field_at-slice_index : (fields : List (List ℕ)) (i : ℕ) → unwrap_or (field_at fields i) [] ≡ slice_index_or fields i []
 unfolding field_at
-field_by_place [] i = refl
-field_by_place (f ∷ fs) zero = refl
-field_by_place (f ∷ fs) (suc i) = field_by_place fs i
+field_at-slice_index [] i = refl
+field_at-slice_index (f ∷ fs) zero = refl
+field_at-slice_index (f ∷ fs) (suc i) = field_at-slice_index fs i

@@ -2,7 +2,7 @@
 use Rattle.std.proofs.Common.{inl, inr, ◌≡◌, ◌≢◌, ◌+◌, ◌<◌, ◌≤◌, ◌⊎◌, ℕ, false, List, [], ◌∷◌, length, Result, Ok, Err, slice_index_or, refl, sym, ap, subst, ◌∙◌, arith}
 use Rattle.std.proofs.lemmas.Bool.{cases_lt, true≢false}
 use Rattle.std.proofs.lemmas.List.{ext_get_or}
-use Rattle.attr_sets.specs.Places.{Within, below, minus, IsLeastFrom}
+use Rattle.attr_sets.specs.Attributes.{IsSubset, below, difference, IsFirstFrom}
 use Rattle.dep_model.specs.Schemas.{names_of, width_of}
 use Rattle.dep_model.specs.Tuples.{Tuple, Relation}
 use Rattle.dep_model.specs.declared.schema.Schema.{Schema}
@@ -118,8 +118,8 @@ under_same s (Ok columns) records (Err e) (Err f) (one, first, less, at) (other,
 -- what a header is: columns for all attributes, columns with a first one missing, or a refusal of a column
 abbrev SeenHeader : ℕ → List (List ℕ) → List (List ℕ) → Result (List ℕ) RowRefusal → Type 0
 SeenHeader n names header r =
-    ((columns : List ℕ) × (r ≡ Ok columns) × (columns_of_header names header ≡ Ok columns) × Within (below n) (with_columns columns))
-    ⊎ ((a : ℕ) × (r ≡ Err (refusal.MissingColumn a)) × (columns : List ℕ) × (columns_of_header names header ≡ Ok columns) × IsLeastFrom (minus (below n) (with_columns columns)) 0 a)
+    ((columns : List ℕ) × (r ≡ Ok columns) × (columns_of_header names header ≡ Ok columns) × IsSubset (below n) (with_columns columns))
+    ⊎ ((a : ℕ) × (r ≡ Err (refusal.MissingColumn a)) × (columns : List ℕ) × (columns_of_header names header ≡ Ok columns) × IsFirstFrom (difference (below n) (with_columns columns)) 0 a)
     ⊎ ((e : RowRefusal) × (r ≡ Err e) × (columns_of_header names header ≡ Err e))
 
 seen_header : (n : ℕ) (names header : List (List ℕ)) (r : Result (List ℕ) RowRefusal) → IsHeaderOf n names header r
@@ -143,22 +143,22 @@ columns_or_none : (r : Result (List ℕ) RowRefusal) (columns : List ℕ) (e : R
 columns_or_none r columns e f g =
     let same : ◌≡◌ {A = Result (List ℕ) RowRefusal} (Ok columns) (Err e) = sym f ∙ g in cc
 
-all_or_missing : (n a : ℕ) (columns others : List ℕ) → columns ≡ others → Within (below n) (with_columns columns)
-    → IsLeastFrom (minus (below n) (with_columns others)) 0 a → ⊥
+all_or_missing : (n a : ℕ) (columns others : List ℕ) → columns ≡ others → IsSubset (below n) (with_columns columns)
+    → IsFirstFrom (difference (below n) (with_columns others)) 0 a → ⊥
 all_or_missing n a columns others same within least =
-    let all : Within (below n) (with_columns others) = subst (λ (cs : List ℕ). Within (below n) (with_columns cs)) same within in
+    let all : IsSubset (below n) (with_columns others) = subst (λ (cs : List ℕ). IsSubset (below n) (with_columns cs)) same within in
     grind (arith, least.member, all a)
 
 least_same : (n a b : ℕ) (columns others : List ℕ) → columns ≡ others
-    → IsLeastFrom (minus (below n) (with_columns columns)) 0 a → IsLeastFrom (minus (below n) (with_columns others)) 0 b → a ≡ b
+    → IsFirstFrom (difference (below n) (with_columns columns)) 0 a → IsFirstFrom (difference (below n) (with_columns others)) 0 b → a ≡ b
 least_same n a b columns others same one other =
-    let also : IsLeastFrom (minus (below n) (with_columns columns)) 0 b =
-    subst (λ (cs : List ℕ). IsLeastFrom (minus (below n) (with_columns cs)) 0 b) (sym same) other in
+    let also : IsFirstFrom (difference (below n) (with_columns columns)) 0 b =
+    subst (λ (cs : List ℕ). IsFirstFrom (difference (below n) (with_columns cs)) 0 b) (sym same) other in
     elim (cases_lt a b) [
-      | inl before ↦ let not : minus (below n) (with_columns columns) a ≡ false = also.least a (omega arith) before in absurd
+      | inl before ↦ let not : difference (below n) (with_columns columns) a ≡ false = also.least a (omega arith) before in absurd
           (true≢false (sym one.member ∙ not))
       | inr on ↦ elim (cases_lt b a) [
-        | inl before ↦ let not : minus (below n) (with_columns columns) b ≡ false = one.least b (omega arith) before in absurd
+        | inl before ↦ let not : difference (below n) (with_columns columns) b ≡ false = one.least b (omega arith) before in absurd
             (true≢false (sym also.member ∙ not))
         | inr here ↦ omega (arith, on, here)
       ]

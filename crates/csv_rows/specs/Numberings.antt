@@ -2,18 +2,18 @@
 -- of these `Desk` cites only `row_at`.
 use Rattle.std.specs.Prelude.{◌≡◌, ℕ, ◌<◌, ◌≤◌, ◌↔◌, ◌⊎◌, List, [], length, slice_index_or, Some}
 use Rattle.std.specs.List.{slice_get}
-use Rattle.attr_sets.specs.Places.{Places}
+use Rattle.attr_sets.specs.Attributes.{Attributes}
 use Rattle.dep_model.specs.Tuples.{Tuple, Relation, AgreeOn}
 
--- the row at a place of a list of rows
+-- the row at a position of a list of rows
 abbrev pub row_at : Relation → ℕ → Tuple
 row_at rows i = slice_index_or rows i []
 
--- the number at a place of a list of numbers
+-- the number at a position of a list of numbers
 abbrev pub number_at : List ℕ → ℕ → ℕ
 number_at numbers i = slice_index_or numbers i 0
 
--- the first n values are numbered: a number is the place of its value among those that were seen
+-- the first n values are numbered: a number is the position of its value among those that were seen
 pub record AreNumbered {X : Type 0} (value : ℕ → X) (n : ℕ) (seen : List X) (numbers : List ℕ) : Type 0 where
   pub one_each : length numbers ≡ n
   pub read : (i : ℕ) → i < n → slice_get seen (number_at numbers i) ≡ Some (value i)
@@ -29,7 +29,7 @@ AreInOrder numbers = (i g : ℕ) → i < length numbers → g < number_at number
 
 -- rows by what they have on a set: two rows have one number exactly where they agree on it, and the
 -- numbers are given in the order of first occurrence, from 0
-pub record AreGroups (rows : Relation) (x : Places) (numbers : List ℕ) : Type 0 where
+pub record AreGroups (rows : Relation) (x : Attributes) (numbers : List ℕ) : Type 0 where
   pub one_each : length numbers ≡ length rows
   pub equal : (i j : ℕ) → i < length rows → j < length rows
       → (number_at numbers i ≡ number_at numbers j) ↔ AgreeOn x (row_at rows i) (row_at rows j)

@@ -2,7 +2,7 @@
 -- commands that read rows (`desk_cli/Rows`, `desk_cli/Rejoining`).
 use Rattle.std.specs.Prelude.{◌≡◌, ◌≢◌, ◌+◌, ◌<◌, ◌≤◌, ℕ, true, List, [], ◌∷◌, length, map, nat_eq, slice_index_or, slice_get, Some, Result, Ok, Err}
 use Rattle.std.specs.List.{position_or_len}
-use Rattle.attr_sets.specs.Sets.{places}
+use Rattle.attr_sets.specs.Sets.{attributes}
 use Rattle.attr_sets.specs.declared.set.AttrSet.{AttrSet}
 use Rattle.dep_model.specs.Tuples.{Tuple, Relation}
 use Rattle.dep_model.specs.Projections.{members_below}
@@ -51,7 +51,7 @@ RowOf s columns row fields (Err (refusal.UnknownColumn c)) = ⊥
 RowOf s columns row fields (Err (refusal.DoubleColumn c)) = ⊥
 RowOf s columns row fields (Err (refusal.MissingColumn a)) = ⊥
 
--- what the record at a place gives
+-- what the record at a position gives
 abbrev pub RowAt : Schema → List ℕ → List (List (List ℕ)) → ℕ → Result Tuple RowRefusal → Type 0
 RowAt s columns records i result = RowOf s columns (i + 1) (slice_index_or records i []) result
 
@@ -92,7 +92,7 @@ abbrev pub HasScheme : Schema → List ℕ → AttrSet → Type 0
 HasScheme s text scheme =
     (header : List (List ℕ)) × (records : List (List (List ℕ))) × (records_of text ≡ header ∷ records)
     × (columns : List ℕ) × (columns_of_header (names_of s) header ≡ Ok columns)
-    × (places scheme ≡ with_columns columns)
+    × (attributes scheme ≡ with_columns columns)
 
 -- the header of a text was read, and the records below it are still to come
 pub record ReadsHeader (s : Schema) (rs : List (List (List ℕ))) (reader : Reader (Bor (List ℕ)))

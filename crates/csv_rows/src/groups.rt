@@ -1,13 +1,13 @@
 ghost use Rattle.std.specs.Prelude.{◌≡◌, ◌<◌, ◌^◌, ℕ, true, List, length, replicate, IfOk};
-ghost use Rattle.attr_sets.specs.Places.{Places, Within, below, only, union};
-ghost use Rattle.attr_sets.specs.Sets.{places};
-ghost use Rattle.csv_rows.specs.Interning.{IsInterned, firsts_of, groups_of, places_of};
+ghost use Rattle.attr_sets.specs.Attributes.{Attributes, IsSubset, below, only, union};
+ghost use Rattle.attr_sets.specs.Sets.{attributes};
+ghost use Rattle.csv_rows.specs.Interning.{IsInterned, firsts_of, groups_of, width_of_rows};
 ghost use Rattle.csv_rows.specs.Numberings.{AreFirsts, AreGroups, AreInOrder, AreNumbered, number_at};
 ghost use Rattle.dep_model.specs.Tuples.{Relation};
 
 use crate::Interned;
-use attr_sets::{AttrSet, PLACES};
-use dep_model::WantMemory;
+use attr_sets::{AttrSet, MOST_ATTRIBUTES};
+use dep_model::OutOfMemory;
 use indexmap::IndexSet;
 use std::alloc::Global;
 
@@ -21,17 +21,21 @@ pub struct Groups {
 
 impl Groups {
     /// The groups of rows that agree on a set.
-    pub fn of(alloc: Global, codes: &Interned, set: AttrSet) -> Result<Groups, WantMemory>
-        requires within { Within (places set) (below (places_of codes.now)) }
+    pub fn by_agreement(
+        alloc: Global,
+        codes: &Interned,
+        set: AttrSet,
+    ) -> Result<Groups, OutOfMemory>
+        requires within { IsSubset (attributes set) (below (width_of_rows codes.now)) }
         ensures groups { (n : ℕ) (rows : Relation) → IsInterned n rows codes.now
-            → IfOk result (λ g. AreGroups rows (places set) (groups_of g)) }
+            → IfOk result (λ g. AreGroups rows (attributes set) (groups_of g)) }
         ensures firsts { (n : ℕ) (rows : Relation) → IsInterned n rows codes.now
             → IfOk result (λ g. AreFirsts (groups_of g) (firsts_of g)) }
     {
-        let mut numbers = zeros(alloc, codes.count())?;
-        for place in 0..PLACES as u8 {
-            if set.has(place) {
-                numbers = refined(alloc, &numbers, codes.column(place))?;
+        let mut numbers = one_group(alloc, codes.count())?;
+        for attribute in 0..MOST_ATTRIBUTES as u8 {
+            if set.contains(attribute) {
+                numbers = refine_groups(alloc, &numbers, codes.column(attribute))?;
             }
         }
         let firsts = first_rows(alloc, &numbers)?;
@@ -54,7 +58,7 @@ impl Groups {
 }
 
 // One group of this many rows.
-fn zeros(alloc: Global, count: usize) -> Result<Vec<u32>, WantMemory>
+fn one_group(alloc: Global, count: usize) -> Result<Vec<u32>, OutOfMemory>
     ensures zeros { IfOk result (λ v. v.items ≡ replicate count 0) }
 {
     let mut numbers = Vec::new(alloc);
@@ -63,11 +67,11 @@ fn zeros(alloc: Global, count: usize) -> Result<Vec<u32>, WantMemory>
 }
 
 // The groups of rows that are in one group and have one number in a column.
-fn refined(alloc: Global, groups: &[u32], codes: &[u32]) -> Result<Vec<u32>, WantMemory>
-    requires same { length groups.now ≡ length codes.now }
-    requires few { length groups.now < 2 ^ 32 }
+fn refine_groups(alloc: Global, groups: &[u32], codes: &[u32]) -> Result<Vec<u32>, OutOfMemory>
+    requires same_length { length groups.now ≡ length codes.now }
+    requires fits_u32 { length groups.now < 2 ^ 32 }
     ensures count { IfOk result (λ v. length v.items ≡ length groups.now) }
-    ensures groups { (rows : Relation) (x : Places) (k : ℕ) → AreGroups rows x groups.now
+    ensures groups { (rows : Relation) (x : Attributes) (k : ℕ) → AreGroups rows x groups.now
         → AreGroups rows (only k) codes.now
         → IfOk result (λ v. AreGroups rows (union x (only k)) v.items) }
 {
@@ -91,9 +95,9 @@ fn are_zeros(groups: &[u32]) -> bool
 }
 
 // The number of each pair, in the order of first occurrence.
-fn numbered_pairs(alloc: Global, first: &[u32], second: &[u32]) -> Result<Vec<u32>, WantMemory>
-    requires same { length first.now ≡ length second.now }
-    requires few { length first.now < 2 ^ 32 }
+fn numbered_pairs(alloc: Global, first: &[u32], second: &[u32]) -> Result<Vec<u32>, OutOfMemory>
+    requires same_length { length first.now ≡ length second.now }
+    requires fits_u32 { length first.now < 2 ^ 32 }
     ensures numbered { IfOk result
         (λ v. (seen : List (ℕ × ℕ))
         × AreNumbered (λ i. (number_at first.now i, number_at second.now i))
@@ -109,8 +113,8 @@ fn numbered_pairs(alloc: Global, first: &[u32], second: &[u32]) -> Result<Vec<u3
 }
 
 // The first row of each group.
-fn first_rows(alloc: Global, numbers: &[u32]) -> Result<Vec<u32>, WantMemory>
-    requires few { length numbers.now < 2 ^ 32 }
+fn first_rows(alloc: Global, numbers: &[u32]) -> Result<Vec<u32>, OutOfMemory>
+    requires fits_u32 { length numbers.now < 2 ^ 32 }
     ensures firsts { AreInOrder numbers.now → IfOk result (λ v. AreFirsts numbers.now v.items) }
 {
     let mut firsts = Vec::new(alloc);

@@ -1,21 +1,21 @@
 ghost use Rattle.std.specs.Prelude.{◌≡◌, ◌<◌, ◌≤◌, ℕ, List, [], ◌∷◌, length, slice_index_or, nat_eq, position, IfOk, IfErr, Ok, Err};
-ghost use Rattle.attr_sets.specs.Places.{count_below};
-ghost use Rattle.attr_sets.specs.Sets.{places};
-ghost use Rattle.attr_sets.specs.declared.set.TheConstants.{PLACES};
+ghost use Rattle.attr_sets.specs.Attributes.{count_below};
+ghost use Rattle.attr_sets.specs.Sets.{attributes};
+ghost use Rattle.attr_sets.specs.declared.set.TheConstants.{MOST_ATTRIBUTES};
 ghost use Rattle.csv.specs.Records.{fields_of};
 ghost use Rattle.csv_rows.specs.Columns.{column_of, columns_of_header, order_of, IsHeader};
 ghost use Rattle.dep_model.specs.Failures.{RefusesAs};
-ghost use Rattle.dep_model.specs.Schemas.{names_of, place_named, width_of};
+ghost use Rattle.dep_model.specs.Schemas.{names_of, attribute_named, width_of};
 
 use crate::RowRefusal;
 use attr_sets::AttrSet;
 use csv::ByteRecord;
-use dep_model::{Failure, Schema, WantMemory};
+use dep_model::{Failure, OutOfMemory, Schema};
 use std::alloc::Global;
 
 // An attribute and its column, from 0.
 #[derive(Clone, Copy, Debug)]
-pub struct Placed {
+pub struct ColumnOfAttribute {
     pub attribute: u8,
     pub column: usize,
 }
@@ -26,12 +26,12 @@ pub struct Placed {
 pub struct Header {
     pub columns: usize,
     pub scheme: AttrSet,
-    pub order: Vec<Placed>,
+    pub order: Vec<ColumnOfAttribute>,
 }
 
 impl Header {
     // The header of these fields.
-    pub fn make(
+    pub fn new(
         alloc: Global,
         schema: &Schema,
         fields: &ByteRecord,
@@ -57,7 +57,7 @@ impl Header {
         Ok(Header {
             columns: columns.len(),
             scheme,
-            order: in_order(alloc, schema.width(), &columns)?,
+            order: columns_in_order(alloc, schema.width(), &columns)?,
         })
     }
 }
@@ -70,24 +70,28 @@ fn attribute_of(
     column: u32,
 ) -> Result<u8, RowRefusal>
     ensures attribute { result
-        ≡ column_of column (places before) (place_named (names_of schema.now) field.now) }
+        ≡ column_of column (attributes before) (attribute_named (names_of schema.now) field.now) }
     ensures within { IfOk result (λ a. a < width_of schema.now) }
 {
-    match schema.place_of(field) {
+    match schema.attribute_named(field) {
         None => Err(RowRefusal::UnknownColumn { column }),
-        Some(attribute) if before.has(attribute) => Err(RowRefusal::DoubleColumn { column }),
+        Some(attribute) if before.contains(attribute) => Err(RowRefusal::DoubleColumn { column }),
         Some(attribute) => Ok(attribute),
     }
 }
 
 // The attributes that have a column, ascending, each with it.
-fn in_order(alloc: Global, width: u8, columns: &[u8]) -> Result<Vec<Placed>, WantMemory>
+fn columns_in_order(
+    alloc: Global,
+    width: u8,
+    columns: &[u8],
+) -> Result<Vec<ColumnOfAttribute>, OutOfMemory>
     ensures order { IfOk result (λ v. v.items ≡ order_of width columns.now) }
 {
     let mut order = Vec::new(alloc);
     for attribute in 0..width {
         match column_of(columns, attribute) {
-            Some(column) => order.push(Placed { attribute, column })?,
+            Some(column) => order.push(ColumnOfAttribute { attribute, column })?,
             None => {}
         }
     }
@@ -101,7 +105,7 @@ fn column_of(columns: &[u8], attribute: u8) -> Option<usize>
     columns.iter().position(|a| attribute == *a)
 }
 
-// The field at a place; beyond the last one nothing.
+// The field at a position; beyond the last one nothing.
 pub fn field(fields: &ByteRecord, i: usize) -> &[u8]
     ensures value { result.now ≡ slice_index_or (fields_of fields.now) i [] }
 {

@@ -13,7 +13,7 @@
 
 mod groups;
 mod header;
-mod interned;
+mod interning;
 mod laws;
 mod part;
 mod printing;
@@ -22,9 +22,9 @@ mod records;
 mod refusal;
 
 pub use groups::Groups;
-pub use interned::Interned;
+pub use interning::Interned;
 pub use laws::{one_reading, printed_rows_are_read_back};
-pub use part::{Part, read_part};
+pub use part::{PartialRows, read_part};
 pub use printing::print_rows;
 pub use reading::{MOST_ROWS, read_rows};
 pub use refusal::RowRefusal;

@@ -4,7 +4,7 @@ ghost use Rattle.dep_model.specs.Failures.{RefusesAs};
 
 use crate::RowRefusal;
 use crate::reading::{read_body, read_header};
-use crate::records::open;
+use crate::records::open_reader;
 use attr_sets::AttrSet;
 use dep_model::{Failure, Schema};
 use row_store::Rows;
@@ -12,7 +12,7 @@ use std::alloc::Global;
 
 /// Rows over some of the attributes of a schema.
 #[derive(Debug, Drop)]
-pub struct Part {
+pub struct PartialRows {
     /// The attributes that have a column.
     pub scheme: AttrSet,
     /// The rows, each with its values in the order of the schema.
@@ -25,19 +25,19 @@ pub fn read_part(
     alloc: Global,
     schema: &Schema,
     text: &[u8],
-) -> Result<Part, Failure<RowRefusal>>
+) -> Result<PartialRows, Failure<RowRefusal>>
     ensures rows { IfOk result (λ part. PartOf schema.now text.now (Ok part.rows)) }
     ensures scheme { IfOk result (λ part. HasScheme schema.now text.now part.scheme) }
     ensures err { IfErr result (RefusesAs (λ e. PartOf schema.now text.now (Err e))) }
 {
-    let mut reader = open(alloc, text);
+    let mut reader = open_reader(alloc, text);
     let header = match read_header(alloc, schema, &mut reader) {
         Ok(header) => header,
         Err(failure) => return Err(failure),
     };
     let scheme = header.scheme;
     match read_body(alloc, schema, &header, &mut reader, text.len()) {
-        Ok(rows) => Ok(Part { scheme, rows }),
+        Ok(rows) => Ok(PartialRows { scheme, rows }),
         Err(failure) => Err(failure),
     }
 }

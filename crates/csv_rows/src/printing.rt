@@ -7,12 +7,12 @@ ghost use Rattle.dep_model.specs.Tuples.{IsOver};
 
 use csv::{ByteRecord, Writer};
 use csv_text::write_row;
-use dep_model::{Schema, WantMemory};
+use dep_model::{OutOfMemory, Schema};
 use row_store::Rows;
 use std::alloc::Global;
 
 /// A header of the declared names, and then the rows in their order.
-pub fn print_rows(alloc: Global, schema: &Schema, rows: &Rows) -> Result<Vec<u8>, WantMemory>
+pub fn print_rows(alloc: Global, schema: &Schema, rows: &Rows) -> Result<Vec<u8>, OutOfMemory>
     requires over { IsOver (width_of schema.now) rows.now }
     ensures text { IfOk result (λ v. v.items ≡ rows_text (names_of schema.now) rows.now) }
 {
@@ -26,13 +26,13 @@ pub fn print_rows(alloc: Global, schema: &Schema, rows: &Rows) -> Result<Vec<u8>
     }
     match writer.into_inner() {
         Ok(text) => Ok(text),
-        Err(_) => Err(WantMemory),
+        Err(_) => Err(OutOfMemory),
     }
 }
 
 // The fields become the declared names.
 #[tactic(auto, using(crate::proofs::RowLemmas::take_next))]
-fn take_names(fields: &mut ByteRecord, schema: &Schema) -> Result<(), WantMemory>
+fn take_names(fields: &mut ByteRecord, schema: &Schema) -> Result<(), OutOfMemory>
     ensures names { OnOk result (fields_of fields.new ≡ names_of schema.now) }
 {
     fields.clear();
@@ -43,7 +43,7 @@ fn take_names(fields: &mut ByteRecord, schema: &Schema) -> Result<(), WantMemory
 }
 
 // The fields become the values of a row.
-fn take_row(fields: &mut ByteRecord, rows: &Rows, row: usize) -> Result<(), WantMemory>
+fn take_row(fields: &mut ByteRecord, rows: &Rows, row: usize) -> Result<(), OutOfMemory>
     requires row { row < length rows.now }
     ensures values { OnOk result (fields_of fields.new ≡ row_at rows.now row) }
 {

@@ -11,7 +11,7 @@ ghost use Rattle.dep_model.specs.Tuples.{IsOver};
 
 use crate::RowRefusal;
 use crate::header::{Header, field};
-use crate::records::{open, take_record};
+use crate::records::{open_reader, take_record};
 use attr_sets::AttrSet;
 use csv::{ByteRecord, Reader};
 use dep_model::{Column, Failure, Schema, integer_text};
@@ -25,24 +25,20 @@ pub const MOST_ROWS: u32 = 100_000;
 /// names each attribute once, in any order and ASCII case; one byte-order mark may stand before it.
 /// Of more than one refusal the first decides: those of the header in the order of `RowRefusal`, then
 /// those of the rows from the first row on, and of one row in that order.
-pub fn read_rows(
-    alloc: Global,
-    schema: &Schema,
-    text: &[u8],
-) -> Result<Rows, Failure<RowRefusal>>
+pub fn read_rows(alloc: Global, schema: &Schema, text: &[u8]) -> Result<Rows, Failure<RowRefusal>>
     ensures ok { IfOk result (λ rows. RowsOf schema.now text.now (Ok rows)) }
     ensures over { IfOk result (λ rows. IsOver (width_of schema.now) rows) }
-    ensures few { IfOk result (λ rows. length rows ≤ MOST_ROWS) }
+    ensures within_limit { IfOk result (λ rows. length rows ≤ MOST_ROWS) }
     ensures typed { IfOk result (λ rows. TypedFor schema.now rows) }
     ensures err { IfErr result (RefusesAs (λ e. RowsOf schema.now text.now (Err e))) }
 {
-    let mut reader = open(alloc, text);
+    let mut reader = open_reader(alloc, text);
     let header = match read_header(alloc, schema, &mut reader) {
         Ok(header) => header,
         Err(failure) => return Err(failure),
     };
-    let missing = AttrSet::full(schema.width()).minus(header.scheme);
-    match missing.least() {
+    let missing = AttrSet::full(schema.width()).difference(header.scheme);
+    match missing.first() {
         Some(attribute) => Err(Failure::Refused(RowRefusal::MissingColumn { attribute })),
         None => read_body(alloc, schema, &header, &mut reader, text.len()),
     }
@@ -61,7 +57,7 @@ pub fn read_header(
 {
     let mut fields = ByteRecord::new(alloc);
     match take_record(reader, &mut fields) {
-        Ok(true) => Header::make(alloc, schema, &fields),
+        Ok(true) => Header::new(alloc, schema, &fields),
         Ok(false) => Err(Failure::Refused(RowRefusal::NoHeader)),
         Err(_) => Err(Failure::OutOfMemory),
     }
@@ -82,7 +78,7 @@ pub fn read_body(
     ensures err { (rs : List (List (List ℕ))) (columns : List ℕ) → HasLeft reader.old rs
         → IsHeader (width_of schema.now) columns header.now
         → IfErr result (RefusesAs (λ e. RowsUnder schema.now (Ok columns) rs (Err e))) }
-    ensures few { IfOk result (λ rows. length rows ≤ MOST_ROWS) }
+    ensures within_limit { IfOk result (λ rows. length rows ≤ MOST_ROWS) }
 {
     let mut fields = ByteRecord::new(alloc);
     let mut row = FlatValues::new(alloc);
@@ -122,9 +118,9 @@ fn read_row(
         return Err(Failure::Refused(RowRefusal::TooManyRows));
     }
     values.clear();
-    for placed in &header.order {
-        let value = field(fields, placed.column);
-        let attribute = placed.attribute;
+    for entry in &header.order {
+        let value = field(fields, entry.column);
+        let attribute = entry.attribute;
         if !fits(schema.column(attribute), value) {
             return Err(Failure::Refused(RowRefusal::NotInteger { row, attribute }));
         }

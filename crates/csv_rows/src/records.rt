@@ -7,8 +7,8 @@ use std::alloc::Global;
 
 // A reader of the records of a text, with no header row and of any length each. It leaves out one
 // byte-order mark.
-pub fn open<'t>(alloc: Global, text: &'t [u8]) -> Reader<&'t [u8]>
-    ensures all { HasLeft result (records_of text.now) }
+pub fn open_reader<'t>(alloc: Global, text: &'t [u8]) -> Reader<&'t [u8]>
+    ensures records { HasLeft result (records_of text.now) }
 {
     ReaderBuilder::new()
         .has_headers(false)

@@ -4,11 +4,11 @@ ghost use Rattle.csv_text.specs.Rows.{csv_row};
 
 use crate::writing::{take_values, write_row};
 use csv::{ByteRecord, Writer};
-use dep_model::{Name, Row, WantMemory};
+use dep_model::{Name, OutOfMemory, Row};
 use std::alloc::Global;
 
 /// The line of a row.
-pub fn row_line(alloc: Global, row: &Row) -> Result<Vec<u8>, WantMemory>
+pub fn row_line(alloc: Global, row: &Row) -> Result<Vec<u8>, OutOfMemory>
     ensures text { IfOk result (λ text. text.items ≡ csv_row row.now) }
 {
     let mut fields = ByteRecord::new(alloc);
@@ -17,7 +17,7 @@ pub fn row_line(alloc: Global, row: &Row) -> Result<Vec<u8>, WantMemory>
 }
 
 /// The line of a header of these names.
-pub fn header_line(alloc: Global, names: &[Name]) -> Result<Vec<u8>, WantMemory>
+pub fn header_line(alloc: Global, names: &[Name]) -> Result<Vec<u8>, OutOfMemory>
     ensures text { IfOk result (λ text. text.items ≡ csv_row names.now) }
 {
     let mut fields = ByteRecord::new(alloc);
@@ -28,13 +28,13 @@ pub fn header_line(alloc: Global, names: &[Name]) -> Result<Vec<u8>, WantMemory>
 }
 
 /// The line of these fields.
-pub fn fields_line(alloc: Global, fields: &ByteRecord) -> Result<Vec<u8>, WantMemory>
+pub fn fields_line(alloc: Global, fields: &ByteRecord) -> Result<Vec<u8>, OutOfMemory>
     ensures text { IfOk result (λ text. text.items ≡ csv_row (fields_of fields.now)) }
 {
     let mut writer = Writer::from_writer(Vec::new(alloc));
     write_row(&mut writer, fields)?;
     match writer.into_inner() {
         Ok(text) => Ok(text),
-        Err(_) => Err(WantMemory),
+        Err(_) => Err(OutOfMemory),
     }
 }

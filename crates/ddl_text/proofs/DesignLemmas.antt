@@ -8,10 +8,10 @@ use Rattle.std.proofs.Math.Seq.{get_or-append_seam, take-append_seam}
 use Rattle.std.proofs.lemmas.List.Elements.{All-weaker, All-contains_itself, Contains-get_or, Contains-append_left, Contains-push, Contains-push_cases}
 use Rattle.std.proofs.lemmas.List.Quantifiers.{all_pairs_push}
 use Rattle.attr_sets.specs.declared.set.AttrSet.{AttrSet}
-use Rattle.attr_sets.specs.Places.{Places, Within}
-use Rattle.attr_sets.specs.Sets.{places}
+use Rattle.attr_sets.specs.Attributes.{Attributes, IsSubset}
+use Rattle.attr_sets.specs.Sets.{attributes}
 use Rattle.dep_model.specs.declared.schema.Schema.{Schema}
-use Rattle.dep_model.specs.Keys.{IsSettledKey}
+use Rattle.dep_model.specs.Keys.{IsGreedyKey}
 use Rattle.dep_model.specs.Schemas.{width_of, universe_of, theory_of}
 use Rattle.ddl_text.specs.declared.table.TableDesign.{TableDesign}
 use Rattle.ddl_text.specs.Designs.{RefersTo, AreReferences, IsTableOf, IsDesign, ReferToEarlier}
@@ -29,30 +29,30 @@ get_after [] x = refl
 get_after (y ∷ xs) x = get_after xs x
 
 -- ---- references
--- the table at a place is one that a scheme refers to
-abbrev RefersAt : Places → List TableDesign → ℕ → Type 0
+-- the table at a position is one that a scheme refers to
+abbrev RefersAt : Attributes → List TableDesign → ℕ → Type 0
 RefersAt scheme tables j = IsSomeAnd (slice_get tables j) (RefersTo scheme)
 
-abbrev IsReferred : Places → Option TableDesign → Type 0
+abbrev IsReferred : Attributes → Option TableDesign → Type 0
 IsReferred scheme found = IsSomeAnd found (RefersTo scheme)
 
-refers_within : (scheme : Places) (tables : List TableDesign) (j : ℕ) → RefersAt scheme tables j → j < length tables
+refers_within : (scheme : Attributes) (tables : List TableDesign) (j : ℕ) → RefersAt scheme tables j → j < length tables
 refers_within scheme tables j refers = ⊎_elim
     (λ found. found.1)
     (λ past. absurd (subst (IsReferred scheme) past.1 refers))
     (slice_get_cases tables j).1
 
-refers_in_front : (scheme : Places) (tables more : List TableDesign) (j : ℕ) → RefersAt scheme tables j
+refers_in_front : (scheme : Attributes) (tables more : List TableDesign) (j : ℕ) → RefersAt scheme tables j
     → RefersAt scheme (tables ++ more) j
 refers_in_front scheme tables more j refers =
     subst (IsReferred scheme) (sym (get_in_front tables more j (refers_within scheme tables j refers))) refers
 
-refers_last : (scheme : Places) (tables : List TableDesign) (table : TableDesign) → RefersTo scheme table
+refers_last : (scheme : Attributes) (tables : List TableDesign) (table : TableDesign) → RefersTo scheme table
     → RefersAt scheme (tables ++ table ∷ []) (length tables)
 refers_last scheme tables table refers = subst (IsReferred scheme) (sym (get_after tables table)) refers
 
 -- of the tables and one more, one of the former or the latter
-refers_cases : (scheme : Places) (tables : List TableDesign) (table : TableDesign) (j : ℕ)
+refers_cases : (scheme : Attributes) (tables : List TableDesign) (table : TableDesign) (j : ℕ)
     → RefersAt scheme (tables ++ table ∷ []) j
     → RefersAt scheme tables j ⊎ ((j ≡ length tables) × RefersTo scheme table)
 refers_cases scheme tables table j refers = elim (cases_lt j (length tables)) [
@@ -67,7 +67,7 @@ refers_cases scheme tables table j refers = elim (cases_lt j (length tables)) [
       )
 ]
 
-references_push : (tables : List TableDesign) (table : TableDesign) (scheme : Places) (refs : List ℕ)
+references_push : (tables : List TableDesign) (table : TableDesign) (scheme : Attributes) (refs : List ℕ)
     → AreReferences tables scheme refs → RefersTo scheme table
     → AreReferences (tables ++ table ∷ []) scheme (refs ++ length tables ∷ [])
 references_push tables table scheme refs are refers = record {
@@ -90,7 +90,7 @@ references_push tables table scheme refs are refers = record {
         (Contains-push refs (length tables)))
         (refers_cases scheme tables table j there)
 
-references_same : (tables : List TableDesign) (table : TableDesign) (scheme : Places) (refs : List ℕ)
+references_same : (tables : List TableDesign) (table : TableDesign) (scheme : Attributes) (refs : List ℕ)
     → AreReferences tables scheme refs → (RefersTo scheme table → ⊥)
     → AreReferences (tables ++ table ∷ []) scheme refs
 references_same tables table scheme refs are not = record {
@@ -102,8 +102,8 @@ references_same tables table scheme refs are not = record {
   ascending = are.ascending;
 }
 
--- the tables before a place and the one that is there
-pub references_more : (tables : List TableDesign) (i : ℕ) (d : TableDesign) (scheme : Places) (refs : List ℕ)
+-- the tables before a position and the one that is there
+pub references_more : (tables : List TableDesign) (i : ℕ) (d : TableDesign) (scheme : Attributes) (refs : List ℕ)
     → i < length tables → AreReferences (take i tables) scheme refs
     → RefersTo scheme (get_or tables i d) → AreReferences (take (i + 1) tables) scheme (refs ++ i ∷ [])
 references_more tables i d scheme refs lt are refers =
@@ -112,7 +112,7 @@ references_more tables i d scheme refs lt are refers =
     (refs ++ n ∷ [])) long
     (references_push (take i tables) (get_or tables i d) scheme refs are refers))
 
-pub references_passed : (tables : List TableDesign) (i : ℕ) (d : TableDesign) (scheme : Places) (refs : List ℕ)
+pub references_passed : (tables : List TableDesign) (i : ℕ) (d : TableDesign) (scheme : Attributes) (refs : List ℕ)
     → i < length tables → AreReferences (take i tables) scheme refs
     → (RefersTo scheme (get_or tables i d) → ⊥) → AreReferences (take (i + 1) tables) scheme refs
 references_passed tables i d scheme refs lt are not = rw (take_more tables i d lt)
@@ -146,7 +146,7 @@ design_push s schemes tables scheme table design last = record {
   ];
 }
 
--- the schemes before a place and the one that is there
+-- the schemes before a position and the one that is there
 pub design_more : (s : Schema) (schemes : List AttrSet) (i : ℕ) (d : AttrSet) (tables : List TableDesign)
     (table : TableDesign) → i < length schemes → IsDesign s (take i schemes) tables
     → IsTableOf s tables (get_or schemes i d) table → IsDesign s (take (i + 1) schemes) (tables ++ table ∷ [])
@@ -173,29 +173,29 @@ design_earlier s schemes tables design k table at =
     All-weaker (Contains refs) (λ (j : ℕ). j < k)
     (λ j has. omega (
       arith,
-      refers_within (places (get_or schemes k table.scheme)) (take k tables) j
+      refers_within (attributes (get_or schemes k table.scheme)) (take k tables) j
           ((is.refs.exactly j).0 has),
       long,
     ))
     refs (All-contains_itself refs)
 
-at_place : {X : Type 0} (xs : List X) (x : X) (has : Contains xs x) → slice_get xs has.0 ≡ Some x
-at_place xs x has = slice_get-get_or xs has.0 x has.1 ∙ ap Some has.2
+slice_get-member : {X : Type 0} (xs : List X) (x : X) (has : Contains xs x) → slice_get xs has.0 ≡ Some x
+slice_get-member xs x has = slice_get-get_or xs has.0 x has.1 ∙ ap Some has.2
 
 pub design_keys : (s : Schema) (schemes : List AttrSet) (tables : List TableDesign) → IsDesign s schemes tables
-    → All (λ (scheme : AttrSet). Within (places scheme) (universe_of s)) schemes → KeysHold s tables
+    → All (λ (scheme : AttrSet). IsSubset (attributes scheme) (universe_of s)) schemes → KeysHold s tables
 design_keys s schemes tables design within r legal table has =
-    let is = table_at s schemes tables has.0 table design (at_place tables table has) in
+    let is = table_at s schemes tables has.0 table design (slice_get-member tables table has) in
     let inside = within has.0 table.scheme (omega (arith, has.1, design.one_each)) in
-    key_holds (width_of s) (theory_of s) (places table.scheme) (places table.key) r
-    (subst (λ (x : AttrSet). Within (places x) (universe_of s)) (sym is.columns) inside) legal
-    (subst (λ (x : AttrSet). IsSettledKey (width_of s) (theory_of s) (places x) (places table.key)) (sym is.columns)
+    key_holds (width_of s) (theory_of s) (attributes table.scheme) (attributes table.key) r
+    (subst (λ (x : AttrSet). IsSubset (attributes x) (universe_of s)) (sym is.columns) inside) legal
+    (subst (λ (x : AttrSet). IsGreedyKey (width_of s) (theory_of s) (attributes x) (attributes table.key)) (sym is.columns)
     is.key)
 
 -- the table that a reference names
-referred : (scheme : Places) (tables : List TableDesign) (k j : ℕ) (other : TableDesign)
+referred_table : (scheme : Attributes) (tables : List TableDesign) (k j : ℕ) (other : TableDesign)
     → RefersAt scheme (take k tables) j → slice_get tables j ≡ Some other → RefersTo scheme other
-referred scheme tables k j other refers at =
+referred_table scheme tables k j other refers at =
     let lt = refers_within scheme (take k tables) j refers in
     let same : slice_get (take k tables) j ≡ Some other =
     sym (get_in_front (take k tables) (drop k tables) j lt)
@@ -205,10 +205,10 @@ referred scheme tables k j other refers at =
 pub design_references : (s : Schema) (schemes : List AttrSet) (tables : List TableDesign)
     → IsDesign s schemes tables → ReferencesHold s tables
 design_references s schemes tables design r legal table other j has named at =
-    let is = table_at s schemes tables has.0 table design (at_place tables table has) in
+    let is = table_at s schemes tables has.0 table design (slice_get-member tables table has) in
     let other_is = table_at s schemes tables j other design at in
-    let refers = referred (places (get_or schemes has.0 table.scheme)) tables has.0 j other
+    let refers = referred_table (attributes (get_or schemes has.0 table.scheme)) tables has.0 j other
     ((is.refs.exactly j).0 named) at in
-    reference_holds (places table.scheme) (places other.scheme) (places other.key) r
-    (subst (λ (x : AttrSet). Within (places other.key) (places x)) (sym is.columns) refers.within)
-    (subst (λ (x : AttrSet). Within (places other.key) (places x)) (sym other_is.columns) other_is.key.within)
+    reference_holds (attributes table.scheme) (attributes other.scheme) (attributes other.key) r
+    (subst (λ (x : AttrSet). IsSubset (attributes other.key) (attributes x)) (sym is.columns) refers.within)
+    (subst (λ (x : AttrSet). IsSubset (attributes other.key) (attributes x)) (sym other_is.columns) other_is.key.within)

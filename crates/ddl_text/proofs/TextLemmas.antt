@@ -6,9 +6,9 @@ use Rattle.std.proofs.lemmas.Bool.{true≢false, false_from_ne_true, cases_Bool}
 use Rattle.std.proofs.lemmas.List.{map-append, take_more, length-take-le, flat_map_more}
 use Rattle.std.proofs.lemmas.Option.{get_or_from_slice_get, slice_get_read}
 use Rattle.attr_sets.specs.declared.set.AttrSet.{AttrSet}
-use Rattle.attr_sets.specs.Places.{Places, none, IsEmpty}
-use Rattle.attr_sets.specs.Sets.{places}
-use Rattle.attr_sets.proofs.PlacesLemmas.{places_below, is_within-from, is_within-not}
+use Rattle.attr_sets.specs.Attributes.{Attributes, none, IsEmpty}
+use Rattle.attr_sets.specs.Sets.{attributes}
+use Rattle.attr_sets.proofs.AttributesLemmas.{attributes_below, is_subset-from, is_subset-not}
 use Rattle.dep_model.specs.declared.column.Column.{Column}
 use Rattle.dep_model.specs.declared.schema.Schema.{Schema}
 use Rattle.dep_model.specs.Columns.{column_at}
@@ -17,20 +17,20 @@ use Rattle.dep_model.specs.Projections.{members_below}
 use Rattle.dep_model.proofs.ColumnLemmas.{slice_get-columns_on}
 use Rattle.dep_model.proofs.SchemeLemmas.{members_below-member, members_below-outside}
 use Rattle.schema_printer.specs.Printing.{members_from}
-use Rattle.sql_names.specs.Names.{separator, listed, quoted_name, name_list, has_some}
+use Rattle.sql_names.specs.Names.{separator, comma_list, quoted_name, name_list, has_some}
 use Rattle.ddl_text.specs.declared.table.TableDesign.{TableDesign}
 use Rattle.ddl_text.specs.Ddl.{column_type, column_element, is_empty, key_element, key_elements, reference_element, reference_elements, elements, opening, element_lines, comment, table_text}
 use Rattle.std.specs.List.{flat_map}
-use Rattle.sql_names.proofs.ListLemmas.{adds, some_pushed}
+use Rattle.sql_names.proofs.ListLemmas.{append_two, some_pushed}
 use Rattle.sql_names.proofs.NameLemmas.{or_true, some_more, name_is}
 
 -- ---- the members of a set
-pub members_inside : (f : ℕ → List ℕ) (n : ℕ) (x : Places) → x n ≡ true
+pub members_inside : (f : ℕ → List ℕ) (n : ℕ) (x : Attributes) → x n ≡ true
     → map f (members_below (n + 1) x) ≡ map f (members_below n x) ++ f n ∷ []
 members_inside f n x inside =
     rw add-one (ap (map f) (members_below-member n x inside) ∙ map-append f (members_below n x) (n ∷ []))
 
-pub members_outside : (f : ℕ → List ℕ) (n : ℕ) (x : Places) → x n ≡ false
+pub members_outside : (f : ℕ → List ℕ) (n : ℕ) (x : Attributes) → x n ≡ false
     → map f (members_below (n + 1) x) ≡ map f (members_below n x)
 members_outside f n x outside = rw add-one (ap (map f) (members_below-outside n x outside))
 
@@ -47,7 +47,7 @@ lines_append some (x ∷ xs) ys =
 -- the same, where the last part is added unless there is no memory
 pub adds_last : {T E : Type 0} (r : Result T E) (old a b mid new : List ℕ) → mid ≡ old ++ a
     → OnOk r (new ≡ mid ++ b) → OnOk r (new ≡ old ++ (a ++ b))
-adds_last (Ok x) old a b mid new first second = adds old a b mid new first second
+adds_last (Ok x) old a b mid new first second = append_two old a b mid new first second
 adds_last (Err e) old a b mid new first second = tt
 
 on_ok : {T E : Type 0} (r : Result T E) (P Q : Type 0) → (P → Q) → OnOk r P → OnOk r Q
@@ -60,8 +60,8 @@ pub lines_more : (first some : Bool) (xs : List (List ℕ)) (x before text mid n
     → next ≡ mid ++ x
     → next ≡ before ++ element_lines first (xs ++ x ∷ [])
 lines_more first some xs x before text mid next so_far is_some opened added =
-    adds before (element_lines first xs) (opening some ++ x) text next so_far
-    (adds text (opening some) x mid next opened added)
+    append_two before (element_lines first xs) (opening some ++ x) text next so_far
+    (append_two text (opening some) x mid next opened added)
     ∙ ap (λ (b : Bool). before ++ (element_lines first xs ++ (opening b ++ x))) is_some
     ∙ ap (λ (t : List ℕ). before ++ (element_lines first xs ++ t))
     (sym (append-nil (opening (first || has_some xs) ++ x)))
@@ -69,11 +69,11 @@ lines_more first some xs x before text mid next so_far is_some opened added =
 
 -- ---- columns
 pub column_is : (s : Schema) (k : ℕ) (column : Column) → k < width_of s → slice_get (columns_of s) k ≡ Some column
-    → column ≡ column_at (places s.integers) k
+    → column ≡ column_at (attributes s.integers) k
 column_is s k column lt at =
     sym (get_or_from_slice_get (columns_of s) k column column at)
-    ∙ get_or_from_slice_get (columns_of s) k (column_at (places s.integers) k) column
-    (slice_get-columns_on (width_of s) (places s.integers) k lt)
+    ∙ get_or_from_slice_get (columns_of s) k (column_at (attributes s.integers) k) column
+    (slice_get-columns_on (width_of s) (attributes s.integers) k lt)
 
 pub column_added : {T E : Type 0} (r : Result T E) (s : Schema) (k : ℕ) (name : List ℕ) (column : Column)
     (old mid new : List ℕ) → k < width_of s
@@ -82,64 +82,64 @@ pub column_added : {T E : Type 0} (r : Result T E) (s : Schema) (k : ℕ) (name 
     → OnOk r (new ≡ old ++ column_element s k)
 unfolding column_element
 column_added r s k name column old mid new lt named typed first second =
-    adds_last r old (quoted_name (get_or (names_of s) k [])) (column_type (column_at (places s.integers) k)) mid new
+    adds_last r old (quoted_name (get_or (names_of s) k [])) (column_type (column_at (attributes s.integers) k)) mid new
     (first ∙ ap (λ (n : List ℕ). old ++ quoted_name n) (sym (name_is s k name named)))
-    (on_ok r (new ≡ mid ++ column_type column) (new ≡ mid ++ column_type (column_at (places s.integers) k))
+    (on_ok r (new ≡ mid ++ column_type column) (new ≡ mid ++ column_type (column_at (attributes s.integers) k))
     (λ e. e ∙ ap (λ (c : Column). mid ++ column_type c) (column_is s k column lt typed)) second)
 
 -- ---- keys
-pub empty_passes : (x : Places) → IsEmpty x → is_empty x ≡ true
-empty_passes x empty = is_within-from x none (λ k member. absurd (true≢false (sym member ∙ empty k)))
+pub empty_passes : (x : Attributes) → IsEmpty x → is_empty x ≡ true
+empty_passes x empty = is_subset-from x none (λ k member. absurd (true≢false (sym member ∙ empty k)))
 
-pub empty_fails : (x : AttrSet) → (IsEmpty (places x) → ⊥) → is_empty (places x) ≡ false
+pub empty_fails : (x : AttrSet) → (IsEmpty (attributes x) → ⊥) → is_empty (attributes x) ≡ false
 empty_fails x some =
-    is_within-not (places x) none (places_below x)
-    (λ within. some (λ k. false_from_ne_true (places x k) (λ member. true≢false (sym (within k member)))))
+    is_subset-not (attributes x) none (attributes_below x)
+    (λ within. some (λ k. false_from_ne_true (attributes x k) (λ member. true≢false (sym (within k member)))))
 
-pub no_key : (s : Schema) (key : Places) → IsEmpty key → key_elements s key ≡ []
+pub no_key : (s : Schema) (key : Attributes) → IsEmpty key → key_elements s key ≡ []
 no_key s key empty = ap (λ (b : Bool). if b then [] else key_element s key ∷ []) (empty_passes key empty)
 
-pub one_key : (s : Schema) (key : AttrSet) → (IsEmpty (places key) → ⊥)
-    → key_elements s (places key) ≡ key_element s (places key) ∷ []
-one_key s key some = ap (λ (b : Bool). if b then [] else key_element s (places key) ∷ []) (empty_fails key some)
+pub one_key : (s : Schema) (key : AttrSet) → (IsEmpty (attributes key) → ⊥)
+    → key_elements s (attributes key) ≡ key_element s (attributes key) ∷ []
+one_key s key some = ap (λ (b : Bool). if b then [] else key_element s (attributes key) ∷ []) (empty_fails key some)
 
 -- the key as the first element or after others
 pub key_added : (s : Schema) (key : AttrSet) (some : Bool) (old opened t u new : List ℕ)
-    → (IsEmpty (places key) → ⊥) → opened ≡ old ++ opening some
-    → t ≡ opened ++ codes "PRIMARY KEY (" → u ≡ t ++ name_list s (places key) → new ≡ u ++ codes ")"
-    → new ≡ old ++ element_lines some (key_elements s (places key))
+    → (IsEmpty (attributes key) → ⊥) → opened ≡ old ++ opening some
+    → t ≡ opened ++ codes "PRIMARY KEY (" → u ≡ t ++ name_list s (attributes key) → new ≡ u ++ codes ")"
+    → new ≡ old ++ element_lines some (key_elements s (attributes key))
 unfolding key_element
 key_added s key some old opened t u new not_empty is_opened first second last =
-    let names = name_list s (places key) in
-    let added = adds opened (codes "PRIMARY KEY (" ++ names) (codes ")") u new
-    (adds opened (codes "PRIMARY KEY (") names t u first second) last in
+    let names = name_list s (attributes key) in
+    let added = append_two opened (codes "PRIMARY KEY (" ++ names) (codes ")") u new
+    (append_two opened (codes "PRIMARY KEY (") names t u first second) last in
     lines_more some some [] (codes "PRIMARY KEY (" ++ names ++ codes ")") old old opened new (sym (append-nil old))
     (sym (or-false some)) is_opened added
     ∙ ap (λ (es : List (List ℕ)). old ++ element_lines some es) (sym (one_key s key not_empty))
 
-pub key_some : (s : Schema) (key : AttrSet) (some : Bool) → (IsEmpty (places key) → ⊥)
-    → true ≡ (some || has_some (key_elements s (places key)))
+pub key_some : (s : Schema) (key : AttrSet) (some : Bool) → (IsEmpty (attributes key) → ⊥)
+    → true ≡ (some || has_some (key_elements s (attributes key)))
 key_some s key some not_empty = sym (ap (λ (es : List (List ℕ)). some || has_some es) (one_key s key not_empty)
     ∙ or_true some)
 
 -- ---- references
 pub reference_added : {T E : Type 0} (r : Result T E) (s : Schema) (other : TableDesign) (old t u v w x y new : List ℕ)
-    → t ≡ old ++ codes "FOREIGN KEY (" → u ≡ t ++ name_list s (places other.key) → v ≡ u ++ codes ") REFERENCES "
+    → t ≡ old ++ codes "FOREIGN KEY (" → u ≡ t ++ name_list s (attributes other.key) → v ≡ u ++ codes ") REFERENCES "
     → w ≡ v ++ quoted_name other.name
-    → x ≡ w ++ codes " (" → y ≡ x ++ name_list s (places other.key) → OnOk r (new ≡ y ++ codes ")")
+    → x ≡ w ++ codes " (" → y ≡ x ++ name_list s (attributes other.key) → OnOk r (new ≡ y ++ codes ")")
     → OnOk r (new ≡ old ++ reference_element s other)
 unfolding reference_element
 reference_added r s other old t u v w x y new to_t to_u to_v to_w to_x to_y to_new =
-    let names = name_list s (places other.key) in
+    let names = name_list s (attributes other.key) in
     let name = quoted_name other.name in
     let head : List ℕ = codes "FOREIGN KEY (" in
     let middle : List ℕ = codes ") REFERENCES " in
     let open_names : List ℕ = codes " (" in
-    let at_u = adds old head names t u to_t to_u in
-    let at_v = adds old (head ++ names) middle u v at_u to_v in
-    let at_w = adds old (head ++ names ++ middle) name v w at_v to_w in
-    let at_x = adds old (head ++ names ++ middle ++ name) open_names w x at_w to_x in
-    let at_y = adds old (head ++ names ++ middle ++ name ++ open_names) names x y at_x to_y in
+    let at_u = append_two old head names t u to_t to_u in
+    let at_v = append_two old (head ++ names) middle u v at_u to_v in
+    let at_w = append_two old (head ++ names ++ middle) name v w at_v to_w in
+    let at_x = append_two old (head ++ names ++ middle ++ name) open_names w x at_w to_x in
+    let at_y = append_two old (head ++ names ++ middle ++ name ++ open_names) names x y at_x to_y in
     adds_last r old (head ++ names ++ middle ++ name ++ open_names ++ names) (codes ")") y new at_y to_new
 
 abbrev pub reference_at : Schema → List TableDesign → ℕ → List ℕ
@@ -152,7 +152,7 @@ reference_is s tables j other lt is =
     ap (λ (found : Option TableDesign). unwrap_or (option_map (reference_element s) found) [])
     (sym (slice_get_read tables (length tables) j other refl lt is))
 
--- the references before a place and the one that is there
+-- the references before a position and the one that is there
 pub references_next : (s : Schema) (tables : List TableDesign) (refs : List ℕ) (i : ℕ) (d : ℕ) → i < length refs
     → reference_elements s tables (take (i + 1) refs) ≡ reference_elements s tables (take i refs) ++ reference_at s
     tables (get_or refs i d) ∷ []
@@ -195,41 +195,41 @@ pub elements_added : {T E : Type 0} (r : Result T E) (columns keys references : 
     → OnOk r (new ≡ old ++ element_lines false (columns ++ keys ++ references))
 elements_added r columns keys references one two old t u new to_t is_one to_u is_two to_new =
     let keyed : u ≡ old ++ element_lines false (columns ++ keys) =
-    adds old (element_lines false columns) (element_lines one keys) t u to_t to_u
+    append_two old (element_lines false columns) (element_lines one keys) t u to_t to_u
     ∙ ap (λ (b : Bool). old ++ (element_lines false columns ++ element_lines b keys)) is_one
     ∙ ap (λ (t : List ℕ). old ++ t) (sym (lines_append false columns keys)) in
     let some : two ≡ has_some (columns ++ keys) = is_two ∙ ap (λ (b : Bool). b || has_some keys) is_one
     ∙ sym (some_append columns keys) in
     on_ok r (new ≡ u ++ element_lines two references) (new ≡ old ++ element_lines false (columns ++ keys ++ references))
-    (λ e. adds old (element_lines false (columns ++ keys)) (element_lines two references) u new keyed e
+    (λ e. append_two old (element_lines false (columns ++ keys)) (element_lines two references) u new keyed e
     ∙ ap (λ (b : Bool). old ++ (element_lines false (columns ++ keys) ++ element_lines b references)) some
     ∙ ap (λ (t : List ℕ). old ++ t) (sym (lines_append false (columns ++ keys) references))) to_new
 
-pub comment_some : (key : Places) → IsEmpty key → comment key ≡ codes "-- at most one row\n"
+pub comment_some : (key : Attributes) → IsEmpty key → comment key ≡ codes "-- at most one row\n"
 unfolding comment
 comment_some key empty = ap (λ (b : Bool). if b then codes "-- at most one row\n" else []) (empty_passes key empty)
 
-pub comment_none : (key : AttrSet) → (IsEmpty (places key) → ⊥) → comment (places key) ≡ []
+pub comment_none : (key : AttrSet) → (IsEmpty (attributes key) → ⊥) → comment (attributes key) ≡ []
 unfolding comment
 comment_none key some = ap (λ (b : Bool). if b then codes "-- at most one row\n" else []) (empty_fails key some)
 
 pub table_added : {T E : Type 0} (r : Result T E) (s : Schema) (tables : List TableDesign) (table : TableDesign)
     (old t u v w x new : List ℕ)
-    → t ≡ old ++ comment (places table.key) → u ≡ t ++ codes "CREATE TABLE " → v ≡ u ++ quoted_name table.name
+    → t ≡ old ++ comment (attributes table.key) → u ≡ t ++ codes "CREATE TABLE " → v ≡ u ++ quoted_name table.name
     → w ≡ v ++ codes " (\n"
     → x ≡ w ++ element_lines false (elements s tables table) → OnOk r (new ≡ x ++ codes "\n);\n")
     → OnOk r (new ≡ old ++ table_text s tables table)
 unfolding table_text
 table_added r s tables table old t u v w x new to_t to_u to_v to_w to_x to_new =
-    let head = comment (places table.key) in
+    let head = comment (attributes table.key) in
     let create : List ℕ = codes "CREATE TABLE " in
     let name = quoted_name table.name in
     let begin_lines : List ℕ = codes " (\n" in
     let lines = element_lines false (elements s tables table) in
-    let at_u = adds old head create t u to_t to_u in
-    let at_v = adds old (head ++ create) name u v at_u to_v in
-    let at_w = adds old (head ++ create ++ name) begin_lines v w at_v to_w in
-    let at_x = adds old (head ++ create ++ name ++ begin_lines) lines w x at_w to_x in
+    let at_u = append_two old head create t u to_t to_u in
+    let at_v = append_two old (head ++ create) name u v at_u to_v in
+    let at_w = append_two old (head ++ create ++ name) begin_lines v w at_v to_w in
+    let at_x = append_two old (head ++ create ++ name ++ begin_lines) lines w x at_w to_x in
     adds_last r old (head ++ create ++ name ++ begin_lines ++ lines) (codes "\n);\n") x new at_x to_new
 
 -- a text with one item more

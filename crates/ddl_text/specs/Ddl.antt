@@ -2,8 +2,8 @@
 -- statements of `sql migrate`.
 use Rattle.std.specs.Prelude.{ℕ, Bool, true, false, if◌then◌else◌, List, [], ◌∷◌, ◌++◌, map, codes, slice_get, slice_index_or, unwrap_or, option_map}
 use Rattle.std.specs.List.{flat_map}
-use Rattle.attr_sets.specs.Places.{Places, none}
-use Rattle.attr_sets.specs.Sets.{places, is_within}
+use Rattle.attr_sets.specs.Attributes.{Attributes, none}
+use Rattle.attr_sets.specs.Sets.{attributes, is_subset}
 use Rattle.dep_model.specs.declared.column.Column.{Column}
 use Rattle.dep_model.specs.declared.column.Column.TheVariants.{Text, Integer}
 use Rattle.dep_model.specs.declared.schema.Schema.{Schema}
@@ -21,30 +21,30 @@ column_type Integer = codes " BIGINT NOT NULL"
 -- the column of an attribute
 unfoldable pub column_element : Schema → ℕ → List ℕ
 column_element s k = quoted_name (slice_index_or (names_of s) k [])
-    ++ column_type (column_at (places s.integers) k)
+    ++ column_type (column_at (attributes s.integers) k)
 
 -- the columns of a scheme, ascending
-abbrev pub column_elements : Schema → Places → List (List ℕ)
+abbrev pub column_elements : Schema → Attributes → List (List ℕ)
 column_elements s scheme = map (column_element s) (members_below (width_of s) scheme)
 
-unfoldable pub key_element : Schema → Places → List ℕ
+unfoldable pub key_element : Schema → Attributes → List ℕ
 key_element s key = codes "PRIMARY KEY (" ++ name_list s key ++ codes ")"
 
 -- whether a set has no member
-abbrev pub is_empty : Places → Bool
-is_empty x = is_within x none
+abbrev pub is_empty : Attributes → Bool
+is_empty x = is_subset x none
 
 -- the key, where it is not empty
-abbrev pub key_elements : Schema → Places → List (List ℕ)
+abbrev pub key_elements : Schema → Attributes → List (List ℕ)
 key_elements s key = if is_empty key then [] else key_element s key ∷ []
 
 -- a reference to a table by its key
 unfoldable pub reference_element : Schema → TableDesign → List ℕ
 reference_element s other =
-    codes "FOREIGN KEY (" ++ name_list s (places other.key) ++ codes ") REFERENCES " ++ quoted_name other.name
-    ++ codes " (" ++ name_list s (places other.key) ++ codes ")"
+    codes "FOREIGN KEY (" ++ name_list s (attributes other.key) ++ codes ") REFERENCES " ++ quoted_name other.name
+    ++ codes " (" ++ name_list s (attributes other.key) ++ codes ")"
 
--- the references to the tables at these places, in order
+-- the references to the tables at these positions, in order
 abbrev pub reference_elements : Schema → List TableDesign → List ℕ → List (List ℕ)
 reference_elements s tables refs =
     map (λ j. unwrap_or (option_map (reference_element s) (slice_get tables j)) []) refs
@@ -52,7 +52,7 @@ reference_elements s tables refs =
 -- the columns, the key and the references of a table
 abbrev pub elements : Schema → List TableDesign → TableDesign → List (List ℕ)
 elements s tables table =
-    column_elements s (places table.scheme) ++ key_elements s (places table.key)
+    column_elements s (attributes table.scheme) ++ key_elements s (attributes table.key)
     ++ reference_elements s tables
     table.refs.items
 
@@ -67,13 +67,13 @@ element_lines some [] = []
 element_lines some (e ∷ es) = opening some ++ e ++ element_lines true es
 
 -- what stands before a table: a comment where its key is empty
-unfoldable pub comment : Places → List ℕ
+unfoldable pub comment : Attributes → List ℕ
 comment key = if is_empty key then codes "-- at most one row\n" else []
 
 -- the statement that creates a table
 unfoldable pub table_text : Schema → List TableDesign → TableDesign → List ℕ
 table_text s tables table =
-    comment (places table.key) ++ codes "CREATE TABLE " ++ quoted_name table.name ++ codes " (\n"
+    comment (attributes table.key) ++ codes "CREATE TABLE " ++ quoted_name table.name ++ codes " (\n"
     ++ element_lines false (elements s tables table) ++ codes "\n);\n"
 
 -- the statements that create the tables of a design, in order

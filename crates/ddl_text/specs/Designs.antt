@@ -1,22 +1,22 @@
 -- The design of tables for the schemes of a plan: for `design` and the commands `ddl`, `draw` and
 -- `sql migrate` (`desk_cli/Designs`).
 use Rattle.std.specs.Prelude.{◌≡◌, ℕ, ◌+◌, ◌<◌, ◌↔◌, List, length, take, slice_get, slice_index_or, Some, IsSomeAnd, All, AllPairs, Contains}
-use Rattle.attr_sets.specs.Places.{Places, Within, IsEmpty}
-use Rattle.attr_sets.specs.Sets.{places}
+use Rattle.attr_sets.specs.Attributes.{Attributes, IsSubset, IsEmpty}
+use Rattle.attr_sets.specs.Sets.{attributes}
 use Rattle.attr_sets.specs.declared.set.AttrSet.{AttrSet}
-use Rattle.dep_model.specs.Keys.{IsSettledKey}
+use Rattle.dep_model.specs.Keys.{IsGreedyKey}
 use Rattle.dep_model.specs.Schemas.{width_of, theory_of}
 use Rattle.dep_model.specs.declared.schema.Schema.{Schema}
 use Rattle.table_names.specs.TableNames.{table_name}
 use Rattle.ddl_text.specs.declared.table.TableDesign.{TableDesign}
 
 -- a scheme refers to a table whose key is not empty and lies within it
-pub record RefersTo (scheme : Places) (table : TableDesign) : Type 0 where
-  pub some : IsEmpty (places table.key) → ⊥
-  pub within : Within (places table.key) scheme
+pub record RefersTo (scheme : Attributes) (table : TableDesign) : Type 0 where
+  pub some : IsEmpty (attributes table.key) → ⊥
+  pub within : IsSubset (attributes table.key) scheme
 
--- exactly the places of those earlier tables that a scheme refers to, ascending
-pub record AreReferences (earlier : List TableDesign) (scheme : Places) (refs : List ℕ) : Type 0 where
+-- exactly the positions of those earlier tables that a scheme refers to, ascending
+pub record AreReferences (earlier : List TableDesign) (scheme : Attributes) (refs : List ℕ) : Type 0 where
   pub exactly : (j : ℕ) → Contains refs j ↔ IsSomeAnd (slice_get earlier j) (RefersTo scheme)
   pub ascending : AllPairs ◌<◌ refs
 
@@ -25,8 +25,8 @@ pub record IsTableOf (s : Schema) (earlier : List TableDesign) (scheme : AttrSet
     : Type 0 where
   pub name : table.name ≡ table_name (length earlier + 1)
   pub columns : table.scheme ≡ scheme
-  pub key : IsSettledKey (width_of s) (theory_of s) (places scheme) (places table.key)
-  pub refs : AreReferences earlier (places scheme) table.refs.items
+  pub key : IsGreedyKey (width_of s) (theory_of s) (attributes scheme) (attributes table.key)
+  pub refs : AreReferences earlier (attributes scheme) table.refs.items
 
 -- the design of a plan: a table for each scheme, in order
 pub record IsDesign (s : Schema) (schemes : List AttrSet) (tables : List TableDesign) : Type 0 where

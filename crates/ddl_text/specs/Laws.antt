@@ -1,7 +1,7 @@
 -- What a design promises of the tables of a legal relation: for `design` and the command `ddl`
 -- (`desk_cli/Designs`).
 use Rattle.std.specs.Prelude.{◌≡◌, ℕ, List, slice_get, Some, Contains}
-use Rattle.attr_sets.specs.Sets.{places}
+use Rattle.attr_sets.specs.Sets.{attributes}
 use Rattle.dep_model.specs.Tuples.{Relation}
 use Rattle.dep_model.specs.Projections.{ordered_projection}
 use Rattle.dep_model.specs.Schemas.{LegalFor}
@@ -11,18 +11,18 @@ use Rattle.ddl_text.specs.Holding.{KeyHolds, ReferenceHolds}
 
 -- the rows of a table: the ordered projection of a relation on its scheme
 abbrev pub rows_on : TableDesign → Relation → Relation
-rows_on table r = ordered_projection (places table.scheme) r
+rows_on table r = ordered_projection (attributes table.scheme) r
 
 -- in the tables of every legal relation each key holds
 abbrev pub KeysHold : Schema → List TableDesign → Type 0
 KeysHold s tables =
     (r : Relation) → LegalFor s r → (table : TableDesign) → Contains tables table
-    → KeyHolds (places table.scheme) (rows_on table r) (places table.key)
+    → KeyHolds (attributes table.scheme) (rows_on table r) (attributes table.key)
 
 -- in the tables of every legal relation each reference holds
 abbrev pub ReferencesHold : Schema → List TableDesign → Type 0
 ReferencesHold s tables =
     (r : Relation) → LegalFor s r → (table other : TableDesign) (j : ℕ)
     → Contains tables table → Contains table.refs.items j → slice_get tables j ≡ Some other
-    → ReferenceHolds (places table.scheme) (rows_on table r) (places other.scheme) (rows_on other r)
-    (places other.key)
+    → ReferenceHolds (attributes table.scheme) (rows_on table r) (attributes other.scheme) (rows_on other r)
+    (attributes other.key)

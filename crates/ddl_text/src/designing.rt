@@ -1,6 +1,6 @@
 ghost use Rattle.std.specs.Prelude.{◌≡◌, ◌↔◌, ◌<◌, ◌≤◌, length, All, IsTrue, IfOk};
-ghost use Rattle.attr_sets.specs.Places.{Within};
-ghost use Rattle.attr_sets.specs.Sets.{places};
+ghost use Rattle.attr_sets.specs.Attributes.{IsSubset};
+ghost use Rattle.attr_sets.specs.Sets.{attributes};
 ghost use Rattle.dep_model.specs.Schemas.{universe_of};
 ghost use Rattle.plans.specs.Plans.{scheme_sets, IsPlanOver};
 ghost use Rattle.table_names.specs.declared.numbered.TheConstants.{MOST_TABLES};
@@ -9,7 +9,7 @@ ghost use Rattle.ddl_text.specs.Laws.{KeysHold, ReferencesHold};
 
 use crate::TableDesign;
 use attr_sets::AttrSet;
-use dep_model::{Schema, WantMemory};
+use dep_model::{OutOfMemory, Schema};
 use key_listing::one_key;
 use plans::Plan;
 use std::alloc::Global;
@@ -48,9 +48,9 @@ impl DesignList {
 /// table is its scheme without each attribute, tried from the last to the first, that the rest still
 /// determines by all dependencies. It refers to each earlier table whose key lies within its scheme and is
 /// not empty.
-pub fn design(alloc: Global, schema: &Schema, plan: &Plan) -> Result<DesignList, WantMemory>
+pub fn design(alloc: Global, schema: &Schema, plan: &Plan) -> Result<DesignList, OutOfMemory>
     requires universe { IsPlanOver schema.now plan.now }
-    requires few { length (scheme_sets plan.now) ≤ MOST_TABLES }
+    requires within_limit { length (scheme_sets plan.now) ≤ MOST_TABLES }
     ensures design { IfOk result (λ tables. IsDesign schema.now (scheme_sets plan.now) tables) }
     ensures keys_hold { IfOk result (λ tables. KeysHold schema.now tables) }
     ensures references_hold { IfOk result (λ tables. ReferencesHold schema.now tables) }
@@ -64,9 +64,10 @@ fn tables_of(
     alloc: Global,
     schema: &Schema,
     schemes: &[AttrSet],
-) -> Result<Vec<TableDesign>, WantMemory>
-    requires within { All (λ scheme. Within (places scheme) (universe_of schema.now)) schemes.now }
-    requires few { length schemes.now ≤ MOST_TABLES }
+) -> Result<Vec<TableDesign>, OutOfMemory>
+    requires within { All (λ scheme. IsSubset (attributes scheme)
+        (universe_of schema.now)) schemes.now }
+    requires within_limit { length schemes.now ≤ MOST_TABLES }
     ensures design { IfOk result (λ tables. IsDesign schema.now schemes.now tables.items) }
 {
     let mut tables = Vec::new(alloc);
@@ -83,9 +84,9 @@ fn table_of(
     schema: &Schema,
     earlier: &[TableDesign],
     scheme: AttrSet,
-) -> Result<TableDesign, WantMemory>
-    requires scheme { Within (places scheme) (universe_of schema.now) }
-    requires few { length earlier.now < MOST_TABLES }
+) -> Result<TableDesign, OutOfMemory>
+    requires scheme { IsSubset (attributes scheme) (universe_of schema.now) }
+    requires within_limit { length earlier.now < MOST_TABLES }
     ensures table { IfOk result (IsTableOf schema.now earlier.now scheme) }
 {
     Ok(TableDesign {
@@ -96,14 +97,14 @@ fn table_of(
     })
 }
 
-// The places of the earlier tables that a scheme refers to.
+// The positions of the earlier tables that a scheme refers to.
 fn references(
     alloc: Global,
     earlier: &[TableDesign],
     scheme: AttrSet,
-) -> Result<Vec<u32>, WantMemory>
-    requires few { length earlier.now < MOST_TABLES }
-    ensures refs { IfOk result (λ refs. AreReferences earlier.now (places scheme) refs.items) }
+) -> Result<Vec<u32>, OutOfMemory>
+    requires within_limit { length earlier.now < MOST_TABLES }
+    ensures refs { IfOk result (λ refs. AreReferences earlier.now (attributes scheme) refs.items) }
 {
     let mut refs = Vec::new(alloc);
     for (j, table) in earlier.iter().enumerate() {
@@ -116,7 +117,7 @@ fn references(
 
 // Whether a scheme refers to a table.
 fn refers_to(scheme: AttrSet, table: &TableDesign) -> bool
-    ensures refers { IsTrue result ↔ RefersTo (places scheme) table.now }
+    ensures refers { IsTrue result ↔ RefersTo (attributes scheme) table.now }
 {
-    !table.key.is_empty() && table.key.within(scheme)
+    !table.key.is_empty() && table.key.is_subset(scheme)
 }

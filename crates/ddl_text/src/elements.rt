@@ -1,5 +1,5 @@
 ghost use Rattle.std.specs.Prelude.{◌≡◌, ◌<◌, ◌++◌, ◌||◌, false, length, All, IfOk, OnOk};
-ghost use Rattle.attr_sets.specs.Sets.{places};
+ghost use Rattle.attr_sets.specs.Sets.{attributes};
 ghost use Rattle.ddl_text.specs.Ddl.{opening, elements, element_lines, key_elements};
 ghost use Rattle.sql_names.specs.Names.{has_some};
 
@@ -7,7 +7,7 @@ use crate::TableDesign;
 use crate::columns::add_columns;
 use crate::references::add_references;
 use attr_sets::AttrSet;
-use dep_model::{Schema, WantMemory};
+use dep_model::{OutOfMemory, Schema};
 use schema_printer::add;
 use sql_names::add_name_list;
 
@@ -17,7 +17,7 @@ pub fn add_elements(
     schema: &Schema,
     tables: &[TableDesign],
     table: &TableDesign,
-) -> Result<(), WantMemory>
+) -> Result<(), OutOfMemory>
     requires refs { All (λ j. j < length tables.now) table.now.refs.items }
     ensures added { OnOk result (text.new.items
         ≡ text.old.items ++ element_lines false (elements schema.now tables.now table.now)) }
@@ -33,10 +33,11 @@ fn add_key(
     some: bool,
     schema: &Schema,
     key: AttrSet,
-) -> Result<bool, WantMemory>
+) -> Result<bool, OutOfMemory>
     ensures added { OnOk result (text.new.items
-        ≡ text.old.items ++ element_lines some (key_elements schema.now (places key))) }
-    ensures some { IfOk result (λ more. more ≡ (some || has_some (key_elements schema.now (places key)))) }
+        ≡ text.old.items ++ element_lines some (key_elements schema.now (attributes key))) }
+    ensures any_written { IfOk result (λ more. more
+        ≡ (some || has_some (key_elements schema.now (attributes key)))) }
 {
     if key.is_empty() {
         return Ok(some);
@@ -49,7 +50,7 @@ fn add_key(
 }
 
 // Adds what stands before an element on its line, and ends the line before, if there is one.
-pub fn add_opening(text: &mut Vec<u8>, some: bool) -> Result<(), WantMemory>
+pub fn add_opening(text: &mut Vec<u8>, some: bool) -> Result<(), OutOfMemory>
     ensures added { OnOk result (text.new.items ≡ text.old.items ++ opening some) }
 {
     if some {

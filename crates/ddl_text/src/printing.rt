@@ -1,12 +1,12 @@
 ghost use Rattle.std.specs.Prelude.{◌≡◌, ◌<◌, ◌++◌, length, All, IfOk, OnOk};
-ghost use Rattle.attr_sets.specs.Sets.{places};
+ghost use Rattle.attr_sets.specs.Sets.{attributes};
 ghost use Rattle.ddl_text.specs.Designs.{ReferToEarlier};
 ghost use Rattle.ddl_text.specs.Ddl.{comment, table_text, ddl_text};
 
 use crate::elements::add_elements;
 use crate::{DesignList, TableDesign};
 use attr_sets::AttrSet;
-use dep_model::{Schema, WantMemory};
+use dep_model::{OutOfMemory, Schema};
 use schema_printer::add;
 use sql_names::add_quoted;
 use std::alloc::Global;
@@ -14,7 +14,11 @@ use std::alloc::Global;
 /// A `CREATE TABLE` statement for each table of a design, in order: its columns, its key, if this is not
 /// empty, and its references. A table with an empty key has a comment before it, since SQL knows no such
 /// key.
-pub fn print_ddl(alloc: Global, schema: &Schema, design: &DesignList) -> Result<Vec<u8>, WantMemory>
+pub fn print_ddl(
+    alloc: Global,
+    schema: &Schema,
+    design: &DesignList,
+) -> Result<Vec<u8>, OutOfMemory>
     ensures text { IfOk result (λ text. text.items ≡ ddl_text schema.now design.now) }
 {
     let mut text = Vec::new(alloc);
@@ -23,7 +27,11 @@ pub fn print_ddl(alloc: Global, schema: &Schema, design: &DesignList) -> Result<
 }
 
 // Adds the statements that create these tables.
-fn add_tables(text: &mut Vec<u8>, schema: &Schema, tables: &[TableDesign]) -> Result<(), WantMemory>
+fn add_tables(
+    text: &mut Vec<u8>,
+    schema: &Schema,
+    tables: &[TableDesign],
+) -> Result<(), OutOfMemory>
     requires earlier { ReferToEarlier tables.now }
     ensures added { OnOk result (text.new.items ≡ text.old.items ++ ddl_text schema.now tables.now) }
 {
@@ -39,7 +47,7 @@ fn add_table(
     schema: &Schema,
     tables: &[TableDesign],
     table: &TableDesign,
-) -> Result<(), WantMemory>
+) -> Result<(), OutOfMemory>
     requires refs { All (λ j. j < length tables.now) table.now.refs.items }
     ensures added { OnOk result (text.new.items
         ≡ text.old.items ++ table_text schema.now tables.now table.now) }
@@ -53,8 +61,8 @@ fn add_table(
 }
 
 // Adds a comment where a key is empty.
-fn add_comment(text: &mut Vec<u8>, key: AttrSet) -> Result<(), WantMemory>
-    ensures added { OnOk result (text.new.items ≡ text.old.items ++ comment (places key)) }
+fn add_comment(text: &mut Vec<u8>, key: AttrSet) -> Result<(), OutOfMemory>
+    ensures added { OnOk result (text.new.items ≡ text.old.items ++ comment (attributes key)) }
 {
     if key.is_empty() {
         return add(text, b"-- at most one row\n");

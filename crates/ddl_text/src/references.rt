@@ -3,18 +3,18 @@ ghost use Rattle.ddl_text.specs.Ddl.{element_lines, reference_element, reference
 
 use crate::TableDesign;
 use crate::elements::add_opening;
-use dep_model::{Schema, WantMemory};
+use dep_model::{OutOfMemory, Schema};
 use schema_printer::add;
 use sql_names::{add_name_list, add_quoted};
 
-// Adds the references to the tables at these places, in order, where other elements stand before or not.
+// Adds the references to the tables at these positions, in order, where other elements stand before or not.
 pub fn add_references(
     text: &mut Vec<u8>,
     some: bool,
     schema: &Schema,
     tables: &[TableDesign],
     refs: &[u32],
-) -> Result<(), WantMemory>
+) -> Result<(), OutOfMemory>
     requires refs { All (λ j. j < length tables.now) refs.now }
     ensures added { OnOk result (text.new.items
         ≡ text.old.items ++ element_lines some (reference_elements schema.now tables.now refs.now)) }
@@ -29,7 +29,11 @@ pub fn add_references(
 }
 
 // Adds a reference to a table by its key.
-fn add_reference(text: &mut Vec<u8>, schema: &Schema, other: &TableDesign) -> Result<(), WantMemory>
+fn add_reference(
+    text: &mut Vec<u8>,
+    schema: &Schema,
+    other: &TableDesign,
+) -> Result<(), OutOfMemory>
     ensures added { OnOk result (text.new.items ≡ text.old.items ++ reference_element schema.now other.now) }
 {
     add(text, b"FOREIGN KEY (")?;

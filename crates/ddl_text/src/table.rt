@@ -9,6 +9,6 @@ pub struct TableDesign {
     pub scheme: AttrSet,
     /// A key of the scheme. Where it is empty, the table has one row at most.
     pub key: AttrSet,
-    /// The places, from 0 and ascending, of the tables that it refers to by their keys.
+    /// The positions, from 0 and ascending, of the tables that it refers to by their keys.
     pub refs: Vec<u32>,
 }

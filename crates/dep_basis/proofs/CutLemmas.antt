@@ -2,16 +2,16 @@
 use Rattle.std.proofs.Common.{◌≡◌, ◌⊎◌, ℕ, ◌+◌, ◌<◌, ◌≤◌, inl, inr, true, false, List, length, get_or, Option, None, Some, refl, sym, ap, subst, ◌∙◌, arith}
 use Rattle.std.specs.Prelude.{IsSome, IfSome, slice_index_or}
 use Rattle.std.proofs.lemmas.Bool.{true≢false, cases_lt}
-use Rattle.attr_sets.specs.Places.{Places}
+use Rattle.attr_sets.specs.Attributes.{Attributes}
 use Rattle.dep_model.specs.declared.dep.Dep.{Dep}
 use Rattle.dep_model.specs.Dependencies.{Dependency, fd, mvd}
 use Rattle.dep_model.specs.Deps.{dependency_of}
 use Rattle.dep_basis.specs.Refining.{LeavesWhole}
-use Rattle.dep_basis.specs.Shown.{IsCutting, IsBestCut, IsBetterCut, count_left}
+use Rattle.dep_basis.specs.CutProofs.{IsCutting, IsBestCut, IsBetterCut, count_left}
 use Rattle.dep_basis.specs.declared.cutting.Cut.{Cut}
 
 -- a dependency that cuts a part does not leave it whole
-pub cut_not_whole : (p : Places) (d : Dependency) → IsCutting p d → LeavesWhole p p d → ⊥
+pub cut_not_whole : (p : Attributes) (d : Dependency) → IsCutting p d → LeavesWhole p p d → ⊥
 cut_not_whole p (fd v t) cut whole =
     true≢false (sym cut.shares.2 ∙ whole cut.apart cut.shares.0 cut.shares.1)
 cut_not_whole p (mvd v t) cut whole = told (whole cut.apart) cut.leaves
@@ -23,7 +23,7 @@ cut_not_whole p (mvd v t) cut whole = told (whole cut.apart) cut.leaves
     told (inr within) (inr (k, has, lacks)) = true≢false (sym (within k has) ∙ lacks)
 
 -- the best of the cuts by the first dependencies
-pub record IsBestOf (deps : List Dep) (p : Places) (a upto : ℕ) (cut : Cut) : Type 0 where
+pub record IsBestOf (deps : List Dep) (p : Attributes) (a upto : ℕ) (cut : Cut) : Type 0 where
   pub early : cut.number < upto
   pub cutting : (d : Dep) → IsCutting p (dependency_of (slice_index_or deps cut.number d))
   pub left_is : (d : Dep) → cut.left ≡ count_left a p (dependency_of (slice_index_or deps cut.number d))
@@ -32,15 +32,15 @@ pub record IsBestOf (deps : List Dep) (p : Places) (a upto : ℕ) (cut : Cut) : 
   pub first : (i : ℕ) (d : Dep) → i < cut.number → IsCutting p (dependency_of (slice_index_or deps i d))
       → cut.left < count_left a p (dependency_of (slice_index_or deps i d))
 
-abbrev pub IsBestSoFar : List Dep → Places → ℕ → ℕ → Option Cut → Type 0
+abbrev pub IsBestSoFar : List Dep → Attributes → ℕ → ℕ → Option Cut → Type 0
 IsBestSoFar deps p a upto None = (i : ℕ) (d : Dep) → i < upto → IsCutting p (dependency_of (slice_index_or deps i d)) → ⊥
 IsBestSoFar deps p a upto (Some cut) = IsBestOf deps p a upto cut
 
 -- with one dependency more
-pub best_more : (deps : List Dep) (p : Places) (a k : ℕ) (dep : Dep) (best result : Option Cut)
+pub IsBestSoFar-next : (deps : List Dep) (p : Attributes) (a k : ℕ) (dep : Dep) (best result : Option Cut)
     → ((d : Dep) → slice_index_or deps k d ≡ dep) → IsBestSoFar deps p a k best
     → IsBetterCut a p (dependency_of dep) k best result → IsBestSoFar deps p a (k + 1) result
-best_more deps p a k dep best result at before (inl (same, beaten)) = subst (IsBestSoFar deps p a (k + 1)) (sym same) (stays best before beaten)
+IsBestSoFar-next deps p a k dep best result at before (inl (same, beaten)) = subst (IsBestSoFar deps p a (k + 1)) (sym same) (stays best before beaten)
   where
     here : (i : ℕ) (d : Dep) → i < k + 1 → k ≤ i → IsCutting p (dependency_of (slice_index_or deps i d)) → IsCutting p (dependency_of dep)
     here i d low on cuts = let is : i ≡ k = omega (arith, low, on) in
@@ -64,7 +64,7 @@ best_more deps p a k dep best result at before (inl (same, beaten)) = subst (IsB
       ];
       first = so_far.first;
     }
-best_more deps p a k dep best result at before (inr (cuts, is, beats)) = subst (IsBestSoFar deps p a (k + 1)) (sym is) (new best before beats)
+IsBestSoFar-next deps p a k dep best result at before (inr (cuts, is, beats)) = subst (IsBestSoFar deps p a (k + 1)) (sym is) (new best before beats)
   where
     new : (o : Option Cut) → IsBestSoFar deps p a k o → IfSome o (λ cut. count_left a p (dependency_of dep) < cut.left)
         → IsBestOf deps p a (k + 1) (record { number = k; left = count_left a p (dependency_of dep) })
@@ -87,7 +87,7 @@ best_more deps p a k dep best result at before (inr (cuts, is, beats)) = subst (
         fewer (Some cut) best beats i d less also = omega (arith, beats, best.least i d less also)
 
 -- the best of all
-pub best_of_all : (deps : List Dep) (p : Places) (a k : ℕ) (cut : Cut) → k ≤ length deps → length deps ≤ k → IsBestOf deps p a k cut
+pub best_of_all : (deps : List Dep) (p : Attributes) (a k : ℕ) (cut : Cut) → k ≤ length deps → length deps ≤ k → IsBestOf deps p a k cut
     → IsBestCut deps p a cut.number
 best_of_all deps p a k cut end all best = record {
   within = omega (arith, end, best.early);

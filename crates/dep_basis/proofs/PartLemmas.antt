@@ -3,17 +3,17 @@ use Rattle.std.proofs.Common.{◌≡◌, ℕ, true, false, List, sym, subst, ◌
 use Rattle.std.proofs.lemmas.Bool.{true≢false, cases_eq}
 use Rattle.std.proofs.lemmas.Bool.Decides.{nat_tests}
 use Rattle.std.specs.Prelude.{All}
-use Rattle.attr_sets.specs.Places.{Places, below, only, meet, minus, Within, IsEmpty, Apart, Meets}
+use Rattle.attr_sets.specs.Attributes.{Attributes, below, only, intersection, difference, IsSubset, IsEmpty, Disjoint, Intersects}
 use Rattle.dep_model.specs.declared.dep.Dep.{Dep}
 use Rattle.dep_model.specs.Tuples.{Relation}
 use Rattle.dep_model.specs.Dependencies.{Dependency, fd, mvd, ObeysMvd}
 use Rattle.dep_model.specs.Deps.{dependencies_of}
 use Rattle.dep_model.specs.Implication.{Implies}
-use Rattle.dep_model.specs.Keys.{IsPart}
+use Rattle.dep_model.specs.Keys.{IsBlockOn}
 use Rattle.dep_model.specs.TwoTuples.{two_tuples}
 use Rattle.dep_model.proofs.RuleLemmas.{replication_obeyed}
 use Rattle.dep_model.proofs.SchemeLemmas.{mvd_in-to, mvd_in-from}
-use Rattle.attr_sets.proofs.PlacesLemmas.{tell_within, tell_empty, same_at}
+use Rattle.attr_sets.proofs.AttributesLemmas.{tell_subset, tell_empty, same_at}
 use Rattle.dep_basis.specs.Refining.{LeavesWhole}
 use Rattle.dep_basis.specs.Pieces.{CanRefine}
 use Rattle.dep_basis.specs.Parts.{HasTwoParts, IsParted}
@@ -22,9 +22,9 @@ use Rattle.dep_basis.proofs.BlockLemmas.{outside_of, whole_legal}
 use Rattle.dep_basis.proofs.BasisLemmas.{split_broken}
 
 -- ---- what a dependency with a left side apart from a piece does to a set in the piece
-module _ (n : ℕ) (ds : List Dep) (x w v t beyond : Places) (can : CanRefine n ds x w) (v_in : Within v (below n)) (apart : Apart v w) (inside : Within beyond w) where
+module _ (n : ℕ) (ds : List Dep) (x w v t beyond : Attributes) (can : CanRefine n ds x w) (v_in : IsSubset v (below n)) (apart : Disjoint v w) (inside : IsSubset beyond w) where
   -- it determines some of it
-  pub parted_fd : Implies n (dependencies_of ds) (fd v t) → Meets t beyond → IsParted n (dependencies_of ds) x beyond
+  pub parted_fd : Implies n (dependencies_of ds) (fd v t) → Intersects t beyond → IsParted n (dependencies_of ds) x beyond
   parted_fd given common = inl (
     common.0,
     common.2,
@@ -32,9 +32,9 @@ module _ (n : ℕ) (ds : List Dep) (x w v t beyond : Places) (can : CanRefine n 
   )
 
   -- it parts it
-  pub parted_mvd : Implies n (dependencies_of ds) (mvd v t) → Meets t beyond → (k : ℕ) → beyond k ≡ true → t k ≡ false → IsParted n (dependencies_of ds) x beyond
+  pub parted_mvd : Implies n (dependencies_of ds) (mvd v t) → Intersects t beyond → (k : ℕ) → beyond k ≡ true → t k ≡ false → IsParted n (dependencies_of ds) x beyond
   parted_mvd given common k in_beyond out = inr (
-    meet w t,
+    intersection w t,
     (λ j m. can.universe j (grind (arith, m))),
     split_inside n (dependencies_of ds) x w v t can.lhs can.universe v_in apart can.implied given,
     (common.0, common.2, grind (arith, inside common.0 common.2, common.1)),
@@ -42,20 +42,20 @@ module _ (n : ℕ) (ds : List Dep) (x w v t beyond : Places) (can : CanRefine n 
   )
 
 -- ---- on a scheme
-pub mvd_on_scheme : (n : ℕ) (scheme x w : Places) (r : Relation) → Within scheme (below n) → ObeysMvd (below n) x w r → ObeysMvd scheme x (meet w scheme) r
+pub mvd_on_scheme : (n : ℕ) (scheme x w : Attributes) (r : Relation) → IsSubset scheme (below n) → ObeysMvd (below n) x w r → ObeysMvd scheme x (intersection w scheme) r
 mvd_on_scheme n scheme x w r scheme_in obeys t u t_in u_in agree =
     let v = obeys t u t_in u_in agree in
     (v.0, v.1, (λ (k : ℕ) m. v.2 k (grind (arith, m))), (λ (k : ℕ) m. v.3 k (grind (arith, m, scheme_in k))))
 
 -- two attributes lie beyond x
-pub record TwoBeyond (beyond : Places) : Type 0 where
+pub record TwoBeyond (beyond : Attributes) : Type 0 where
   pub one : ℕ
   pub other : ℕ
   pub first : beyond one ≡ true
   pub second : beyond other ≡ true
   pub differ : one ≡ other → ⊥
 
-pub two_beyond : (beyond rest : Places) (i k : ℕ) → beyond i ≡ true → rest ≡ minus beyond (only i) → rest k ≡ true → TwoBeyond beyond
+pub two_beyond : (beyond rest : Attributes) (i k : ℕ) → beyond i ≡ true → rest ≡ difference beyond (only i) → rest k ≡ true → TwoBeyond beyond
 two_beyond beyond rest i k first is second = record {
   one = i;
   other = k;
@@ -64,13 +64,13 @@ two_beyond beyond rest i k first is second = record {
   differ = λ same. true≢false (sym second ∙ grind (arith, nat_tests, same_at is k, same));
 }
 
-module _ (n : ℕ) (ds : List Dep) (scheme x beyond : Places) (scheme_in : Within scheme (below n)) (x_in : Within x scheme) (is : beyond ≡ minus scheme x) where
+module _ (n : ℕ) (ds : List Dep) (scheme x beyond : Attributes) (scheme_in : IsSubset scheme (below n)) (x_in : IsSubset x scheme) (is : beyond ≡ difference scheme x) where
   pub parted_two : TwoBeyond beyond → IsParted n (dependencies_of ds) x beyond → HasTwoParts n (dependencies_of ds) scheme x
   parted_two two parted =
       ⊎_elim
       (λ closed.
       let a = closed.0 in
-      let a_in : Within (only a) scheme = λ (k : ℕ) e. grind (arith, nat_tests, e, same_at is a, closed.1) in
+      let a_in : IsSubset (only a) scheme = λ (k : ℕ) e. grind (arith, nat_tests, e, same_at is a, closed.1) in
       record {
         rhs = only a;
         implied = record { within = (x_in, a_in); obeyed = λ r legal. mvd_in-from scheme x (only a) r x_in a_in (replication_obeyed scheme x (only a) r (closed.2 r legal)) };
@@ -82,12 +82,12 @@ module _ (n : ℕ) (ds : List Dep) (scheme x beyond : Places) (scheme_in : Withi
       })
       (λ split.
       let w = split.0 in
-      let y_in : Within (meet w scheme) scheme = λ (k : ℕ) m. grind (arith, m) in
+      let y_in : IsSubset (intersection w scheme) scheme = λ (k : ℕ) m. grind (arith, m) in
       let in_w = split.3 in
       let out = split.4 in
       record {
-        rhs = meet w scheme;
-        implied = record { within = (x_in, y_in); obeyed = λ r legal. mvd_in-from scheme x (meet w scheme) r x_in y_in (mvd_on_scheme n scheme x w r scheme_in (split.2 r legal)) };
+        rhs = intersection w scheme;
+        implied = record { within = (x_in, y_in); obeyed = λ r legal. mvd_in-from scheme x (intersection w scheme) r x_in y_in (mvd_on_scheme n scheme x w r scheme_in (split.2 r legal)) };
         some = (in_w.0, grind (arith, same_at is in_w.0, in_w.1), grind (arith, same_at is in_w.0, in_w.1, in_w.2));
         rest = (out.0, grind (arith, same_at is out.0, out.1), grind (arith, same_at is out.0, out.1, out.2));
       })
@@ -97,7 +97,7 @@ module _ (n : ℕ) (ds : List Dep) (scheme x beyond : Places) (scheme_in : Withi
       other_differs two a same again = two.differ (same ∙ sym again)
 
   -- no dependency cuts a piece that has all that lies beyond x
-  pub whole_one : (w : Places) → CanRefine n ds x w → Within beyond w → All (LeavesWhole w w) (dependencies_of ds) → HasTwoParts n (dependencies_of ds) scheme x → ⊥
+  pub whole_one : (w : Attributes) → CanRefine n ds x w → IsSubset beyond w → All (LeavesWhole w w) (dependencies_of ds) → HasTwoParts n (dependencies_of ds) scheme x → ⊥
   whole_one w can inside whole two =
       let y = two.rhs in
       let y_in = two.implied.within.1 in
@@ -112,16 +112,16 @@ module _ (n : ℕ) (ds : List Dep) (scheme x beyond : Places) (scheme_in : Withi
   pub none_beyond : IsEmpty beyond → HasTwoParts n (dependencies_of ds) scheme x → ⊥
   none_beyond none two = true≢false (sym two.some.1 ∙ sym (same_at is two.some.0) ∙ none two.some.0)
 
-  pub one_beyond : (i : ℕ) (rest : Places) → rest ≡ minus beyond (only i) → IsEmpty rest → HasTwoParts n (dependencies_of ds) scheme x → ⊥
+  pub one_beyond : (i : ℕ) (rest : Attributes) → rest ≡ difference beyond (only i) → IsEmpty rest → HasTwoParts n (dependencies_of ds) scheme x → ⊥
   one_beyond i rest rest_is none two =
-      let alone : (k : ℕ) → minus scheme x k ≡ true → k ≡ i = λ (k : ℕ) m. grind (arith, nat_tests, m, same_at is k, same_at rest_is k, none k) in
+      let alone : (k : ℕ) → difference scheme x k ≡ true → k ≡ i = λ (k : ℕ) m. grind (arith, nat_tests, m, same_at is k, same_at rest_is k, none k) in
       let k = two.some.0 in
       let j = two.rest.0 in
       let same : k ≡ j = alone k two.some.1 ∙ sym (alone j two.rest.1) in
       true≢false (sym (subst (λ (m : ℕ). two.rhs m ≡ true) same two.some.2) ∙ grind (arith, two.rest.2))
 
 -- ---- two parts that differ
-pub parts_two : (n : ℕ) (ds : List Dependency) (scheme x p q : Places) → Within scheme (below n) → IsPart n ds scheme x p → IsPart n ds scheme x q → (Within q p → ⊥) → HasTwoParts n ds scheme x
+pub parts_two : (n : ℕ) (ds : List Dependency) (scheme x p q : Attributes) → IsSubset scheme (below n) → IsBlockOn n ds scheme x p → IsBlockOn n ds scheme x q → (IsSubset q p → ⊥) → HasTwoParts n ds scheme x
 parts_two n ds scheme x p q scheme_in first second differ =
     let q_in = second.implied.within.1 in
     let p_in = first.implied.within.1 in
@@ -133,9 +133,9 @@ parts_two n ds scheme x p q scheme_in first second differ =
       rest = (out.0, grind (arith, q_in out.0 out.2, second.outside out.0 out.2), grind (arith, q_in out.0 out.2, out.3));
     })
     (λ inside. absurd (differ inside))
-    (tell_within n q p (λ (k : ℕ) m. scheme_in k (q_in k m)))
+    (tell_subset n q p (λ (k : ℕ) m. scheme_in k (q_in k m)))
   where
-    some_of : (p : Places) → Within p scheme → Apart p x → (IsEmpty p → ⊥) → Meets (minus scheme x) p
+    some_of : (p : Attributes) → IsSubset p scheme → Disjoint p x → (IsEmpty p → ⊥) → Intersects (difference scheme x) p
     some_of p p_in outside some = ⊎_elim
         (λ one. (one.0, grind (arith, p_in one.0 one.2, outside one.0 one.2), one.2))
         (λ none. absurd (some none))

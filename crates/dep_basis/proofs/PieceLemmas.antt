@@ -6,11 +6,11 @@ use Rattle.std.proofs.lemmas.Bool.Decides.{nat_tests}
 use Rattle.std.proofs.lemmas.List.Elements.{All-push, All-weaker, All-contains}
 use Rattle.std.proofs.lemmas.List.Quantifiers.{Any-push}
 use Rattle.std.specs.Prelude.{All, Any, Contains}
-use Rattle.attr_sets.specs.Places.{Places, below, only, none, union, meet, minus, Within, IsEmpty, Apart, count_below}
+use Rattle.attr_sets.specs.Attributes.{Attributes, below, only, none, union, intersection, difference, IsSubset, IsEmpty, Disjoint, count_below}
 use Rattle.attr_sets.specs.declared.set.AttrSet.{AttrSet}
-use Rattle.attr_sets.specs.declared.set.TheConstants.{PLACES}
-use Rattle.attr_sets.specs.Sets.{places}
-use Rattle.attr_sets.proofs.PlacesLemmas.{tell_empty, count_below-lt, count_below-within, count_below-minus, same_at}
+use Rattle.attr_sets.specs.declared.set.TheConstants.{MOST_ATTRIBUTES}
+use Rattle.attr_sets.specs.Sets.{attributes}
+use Rattle.attr_sets.proofs.AttributesLemmas.{tell_empty, count_below-lt, count_below-within, count_below-difference, same_at}
 use Rattle.dep_model.specs.declared.dep.Dep.{Dep}
 use Rattle.dep_model.specs.Dependencies.{Dependency, fd, mvd, right_of}
 use Rattle.dep_model.specs.Deps.{dependency_of, dependencies_of, IsDepWithin}
@@ -20,31 +20,31 @@ use Rattle.dep_model.proofs.RuleLemmas.{reflexivity_obeyed, complementation_obey
 use Rattle.dep_model.proofs.DepLemmas.{legal-to}
 use Rattle.dep_model.proofs.ListLemmas.{Any-left}
 use Rattle.dep_basis.specs.Refining.{LeavesWhole}
-use Rattle.dep_basis.specs.Shown.{IsCutting}
+use Rattle.dep_basis.specs.CutProofs.{IsCutting}
 use Rattle.dep_basis.specs.declared.pieces.Pieces.{Pieces}
 use Rattle.dep_basis.specs.Pieces.{sets_of, IsTold, ArePieces, CanRefine, IsRefined, IsPieceWith}
-use Rattle.dep_basis.proofs.RefiningLemmas.{replicated, split_inside, split_outside, moves}
+use Rattle.dep_basis.proofs.RefiningLemmas.{replication_implied, split_inside, split_outside, moves}
 use Rattle.dep_basis.proofs.BlockLemmas.{whole_legal, candidate_block}
 use Rattle.dep_basis.proofs.BasisLemmas.{closure_wider, block_wider}
 
 abbrev HasAttribute : ℕ → AttrSet → Type 0
-HasAttribute a p = places p a ≡ true
+HasAttribute a p = attributes p a ≡ true
 
 -- ---- what can be refined
 -- all that is outside a set
-pub first_refined : (n : ℕ) (ds : List Dep) (x w : Places) → All (IsDepWithin (below n)) ds → Within x (below n) → w ≡ minus (below n) x → CanRefine n ds x w
+pub first_refined : (n : ℕ) (ds : List Dep) (x w : Attributes) → All (IsDepWithin (below n)) ds → IsSubset x (below n) → w ≡ difference (below n) x → CanRefine n ds x w
 first_refined n ds x w within x_in is = record {
   deps = within;
   lhs = x_in;
   universe = λ k m. grind (arith, same_at is k, m);
   outside = λ k m. grind (arith, same_at is k, m);
-  implied = λ r legal. rw (fun_ext {f = w} {g = minus (below n) (union x none)} (λ (k : ℕ). grind (arith, same_at is k)))
+  implied = λ r legal. rw (fun_ext {f = w} {g = difference (below n) (union x none)} (λ (k : ℕ). grind (arith, same_at is k)))
       (complementation_obeyed (below n) x none r (mreflexivity_obeyed (below n) x none r (λ (k : ℕ) m. absurd (true≢false (sym m)))));
 }
 
 -- what a cut gives back
-module _ (n : ℕ) (ds : List Dep) (x w v t : Places) (can : CanRefine n ds x w) (v_in : Within v (below n)) (apart : Apart v w) (given : Implies n (dependencies_of ds) (mvd v t)) where
-  pub outside_refined : (rest : Places) → rest ≡ minus w t → CanRefine n ds x rest
+module _ (n : ℕ) (ds : List Dep) (x w v t : Attributes) (can : CanRefine n ds x w) (v_in : IsSubset v (below n)) (apart : Disjoint v w) (given : Implies n (dependencies_of ds) (mvd v t)) where
+  pub outside_refined : (rest : Attributes) → rest ≡ difference w t → CanRefine n ds x rest
   outside_refined rest is = record {
     deps = can.deps;
     lhs = can.lhs;
@@ -53,7 +53,7 @@ module _ (n : ℕ) (ds : List Dep) (x w v t : Places) (can : CanRefine n ds x w)
     implied = λ r legal. rw is (split_outside n (dependencies_of ds) x w v t can.lhs can.universe v_in apart can.implied given r legal);
   }
 
-  pub inside_refined : (rest : Places) → rest ≡ meet w t → CanRefine n ds x rest
+  pub inside_refined : (rest : Attributes) → rest ≡ intersection w t → CanRefine n ds x rest
   inside_refined rest is = record {
     deps = can.deps;
     lhs = can.lhs;
@@ -67,18 +67,18 @@ pub given_implied_at : (n : ℕ) (ds : List Dep) (k : ℕ) (d : Dep) → k < len
 given_implied_at n ds k d lt r legal = legal-to n ds r legal k d lt
 
 -- ---- what is told of each attribute
-told_kept : (n : ℕ) (ds : List Dependency) (x : Places) (before after : List AttrSet) (a : ℕ) → (Any (HasAttribute a) before → Any (HasAttribute a) after) → IsTold n ds x before a → IsTold n ds x after a
+told_kept : (n : ℕ) (ds : List Dependency) (x : Attributes) (before after : List AttrSet) (a : ℕ) → (Any (HasAttribute a) before → Any (HasAttribute a) after) → IsTold n ds x before a → IsTold n ds x after a
 told_kept n ds x before after a kept told = ⊎_elim (λ closed. inl closed) (λ one. inr (kept one)) told
 
 -- a piece that nothing cuts is a block
 pub block_refined : (ds : List Dep) (piece : AttrSet) (before after : Pieces) → length after.sets ≡ 128 → sets_of after ≡ sets_of before ++ piece ∷ [] → after.count ≡ before.count + 1
-    → 0 < count_below (places piece) PLACES → (IsEmpty (places piece) → ⊥) → All (LeavesWhole (places piece) (places piece)) (dependencies_of ds) → IsRefined ds (places piece) before after
+    → 0 < count_below (attributes piece) MOST_ATTRIBUTES → (IsEmpty (attributes piece) → ⊥) → All (LeavesWhole (attributes piece) (attributes piece)) (dependencies_of ds) → IsRefined ds (attributes piece) before after
 block_refined ds piece before after size sets count pos some whole = record {
   size = size;
   room = omega (arith, count, pos);
   kept = λ a h. rw sets (Any-left (HasAttribute a) (sets_of before) piece h);
   refined = λ n x can.
-      let w = places piece in
+      let w = attributes piece in
       let block : IsBlock n (dependencies_of ds) x w = ⊎_elim
       (λ one. candidate_block n (dependencies_of ds) x w one.0 can.lhs (whole_legal n ds w can.deps whole)
       (record {
@@ -91,20 +91,20 @@ block_refined ds piece before after size sets count pos some whole = record {
       (λ none. absurd (some none))
       (tell_empty n w can.universe) in
       record {
-        each = λ old. rw sets (All-push (λ (p : AttrSet). IsBlock n (dependencies_of ds) x (places p)) (sets_of before) piece old block);
+        each = λ old. rw sets (All-push (λ (p : AttrSet). IsBlock n (dependencies_of ds) x (attributes p)) (sets_of before) piece old block);
         told = λ a m. inr (rw sets (Any-push (HasAttribute a) (sets_of before) piece m));
       };
 }
 
 -- a functional dependency determines what it shares
-pub fd_refined : (ds : List Dep) (w v t rest : Places) (before after : Pieces) → rest ≡ minus w t → Apart v w
-    → ((n : ℕ) → All (IsDepWithin (below n)) ds → Within v (below n)) → ((n : ℕ) → Implies n (dependencies_of ds) (fd v t)) → IsRefined ds rest before after → IsRefined ds w before after
+pub fd_refined : (ds : List Dep) (w v t rest : Attributes) (before after : Pieces) → rest ≡ difference w t → Disjoint v w
+    → ((n : ℕ) → All (IsDepWithin (below n)) ds → IsSubset v (below n)) → ((n : ℕ) → Implies n (dependencies_of ds) (fd v t)) → IsRefined ds rest before after → IsRefined ds w before after
 fd_refined ds w v t rest before after is apart v_in given old = record {
   size = old.size;
-  room = omega (arith, old.room, count_below-within PLACES rest w (λ k m. grind (arith, same_at is k, m)));
+  room = omega (arith, old.room, count_below-within MOST_ATTRIBUTES rest w (λ k m. grind (arith, same_at is k, m)));
   kept = old.kept;
   refined = λ n x can.
-      let inner = old.refined n x (outside_refined n ds x w v t can (v_in n can.deps) apart (replicated n (dependencies_of ds) v t (given n)) rest is) in
+      let inner = old.refined n x (outside_refined n ds x w v t can (v_in n can.deps) apart (replication_implied n (dependencies_of ds) v t (given n)) rest is) in
       record {
         each = inner.each;
         told = λ a m. elim (cases_Bool (t a)) [
@@ -115,13 +115,13 @@ fd_refined ds w v t rest before after is apart v_in given old = record {
 }
 
 -- no attribute is lost or counted twice
-pub sides_count : (w t inside outside : Places) → inside ≡ meet w t → outside ≡ minus w t → count_below inside PLACES + count_below outside PLACES ≡ count_below w PLACES
+pub sides_count : (w t inside outside : Attributes) → inside ≡ intersection w t → outside ≡ difference w t → count_below inside MOST_ATTRIBUTES + count_below outside MOST_ATTRIBUTES ≡ count_below w MOST_ATTRIBUTES
 sides_count w t inside outside in_is out_is =
-    rw (in_is, out_is) (omega (arith, count_below-minus PLACES w t))
+    rw (in_is, out_is) (omega (arith, count_below-difference MOST_ATTRIBUTES w t))
 
 -- a multivalued one gives both sides back
-pub mvd_refined : (ds : List Dep) (w v t inside outside : Places) (before middle after : Pieces) → inside ≡ meet w t → outside ≡ minus w t → Apart v w
-    → ((n : ℕ) → All (IsDepWithin (below n)) ds → Within v (below n)) → ((n : ℕ) → Implies n (dependencies_of ds) (mvd v t))
+pub mvd_refined : (ds : List Dep) (w v t inside outside : Attributes) (before middle after : Pieces) → inside ≡ intersection w t → outside ≡ difference w t → Disjoint v w
+    → ((n : ℕ) → All (IsDepWithin (below n)) ds → IsSubset v (below n)) → ((n : ℕ) → Implies n (dependencies_of ds) (mvd v t))
     → IsRefined ds inside before middle → IsRefined ds outside middle after → IsRefined ds w before after
 mvd_refined ds w v t inside outside before middle after in_is out_is apart v_in given first second = record {
   size = second.size;
@@ -140,21 +140,21 @@ mvd_refined ds w v t inside outside before middle after in_is out_is apart v_in 
 }
 
 -- both sides are smaller
-pub outside_fewer : (w t rest : Places) (d : Dependency) → Within w (below PLACES) → IsCutting w d → right_of d ≡ t → rest ≡ minus w t → count_below rest PLACES < count_below w PLACES
+pub outside_fewer : (w t rest : Attributes) (d : Dependency) → IsSubset w (below MOST_ATTRIBUTES) → IsCutting w d → right_of d ≡ t → rest ≡ difference w t → count_below rest MOST_ATTRIBUTES < count_below w MOST_ATTRIBUTES
 outside_fewer w t rest d low cutting right is =
     let k = cutting.shares.0 in
-    count_below-lt PLACES rest w k (λ j m. grind (arith, same_at is j, m)) (ltb-true k PLACES (low k cutting.shares.1)) (grind (arith, same_at is k, subst (λ (y : Places). y k ≡ true) right cutting.shares.2)) cutting.shares.1
+    count_below-lt MOST_ATTRIBUTES rest w k (λ j m. grind (arith, same_at is j, m)) (ltb-true k MOST_ATTRIBUTES (low k cutting.shares.1)) (grind (arith, same_at is k, subst (λ (y : Attributes). y k ≡ true) right cutting.shares.2)) cutting.shares.1
 
-pub inside_fewer : (w v t rest : Places) → Within w (below PLACES) → IsCutting w (mvd v t) → rest ≡ meet w t → count_below rest PLACES < count_below w PLACES
+pub inside_fewer : (w v t rest : Attributes) → IsSubset w (below MOST_ATTRIBUTES) → IsCutting w (mvd v t) → rest ≡ intersection w t → count_below rest MOST_ATTRIBUTES < count_below w MOST_ATTRIBUTES
 inside_fewer w v t rest low cutting is =
     ⊎_elim
     (λ functional. absurd (true≢false (sym functional)))
-    (λ one. count_below-lt PLACES rest w one.0 (λ j m. grind (arith, same_at is j, m)) (ltb-true one.0 PLACES (low one.0 one.1)) (grind (arith, same_at is one.0, one.2)) one.1)
+    (λ one. count_below-lt MOST_ATTRIBUTES rest w one.0 (λ j m. grind (arith, same_at is j, m)) (ltb-true one.0 MOST_ATTRIBUTES (low one.0 one.1)) (grind (arith, same_at is one.0, one.2)) one.1)
     cutting.leaves
 
 -- ---- all pieces of a left side
 -- c lies between x and its closure, and all outside it was refined
-pub all_refined : (n : ℕ) (ds : List Dep) (x c w : Places) (found none : Pieces) → Within x c → Implies n (dependencies_of ds) (fd x c) → w ≡ minus (below n) c
+pub all_refined : (n : ℕ) (ds : List Dep) (x c w : Attributes) (found none : Pieces) → IsSubset x c → Implies n (dependencies_of ds) (fd x c) → w ≡ difference (below n) c
     → CanRefine n ds c w → sets_of none ≡ [] → found.count ≤ 128 → IsRefined ds w none found → ArePieces n (dependencies_of ds) x found
 all_refined n ds x c w found none inside closed is can empty few done =
     let all = dependencies_of ds in
@@ -163,7 +163,7 @@ all_refined n ds x c w found none inside closed is can empty few done =
     record {
       size = done.size;
       few = few;
-      each = All-weaker (λ (p : AttrSet). IsBlock n all c (places p)) (λ (p : AttrSet). IsBlock n all x (places p)) (λ (p : AttrSet) block. block_wider n all x c inside closed (places p) block) (sets_of found)
+      each = All-weaker (λ (p : AttrSet). IsBlock n all c (attributes p)) (λ (p : AttrSet). IsBlock n all x (attributes p)) (λ (p : AttrSet) block. block_wider n all x c inside closed (attributes p) block) (sets_of found)
           (refined.each (rw empty (λ k d l. absurd (omega arith))));
       told = λ a low. elim (cases_Bool (c a)) [
         | inl in_c ↦ inl (wider a low (λ r legal. reflexivity_obeyed c (only a) r (λ (k : ℕ) h. grind (arith, nat_tests, h, in_c))))
@@ -172,26 +172,26 @@ all_refined n ds x c w found none inside closed is can empty few done =
     }
 
 -- ---- one piece, and what is in none
-module _ (n : ℕ) (ds : List Dependency) (x : Places) (found : Pieces) (pieces : ArePieces n ds x found) where
-  pub piece_is : (a : ℕ) (p : AttrSet) → a < n → (IsEmpty (places p) → All (λ q. places q a ≡ false) (sets_of found)) → ((IsEmpty (places p) → ⊥) → Contains (sets_of found) p)
-      → ((IsEmpty (places p) → ⊥) → places p a ≡ true) → IsPieceWith n ds x a (places p)
+module _ (n : ℕ) (ds : List Dependency) (x : Attributes) (found : Pieces) (pieces : ArePieces n ds x found) where
+  pub piece_is : (a : ℕ) (p : AttrSet) → a < n → (IsEmpty (attributes p) → All (λ q. attributes q a ≡ false) (sets_of found)) → ((IsEmpty (attributes p) → ⊥) → Contains (sets_of found) p)
+      → ((IsEmpty (attributes p) → ⊥) → attributes p a ≡ true) → IsPieceWith n ds x a (attributes p)
   piece_is a p low none some member = record {
     nothing = λ empty. ⊎_elim
         (λ h. h)
-        (λ (j, q, lt, is, in_q). absurd (true≢false (sym in_q ∙ All-contains (λ (s : AttrSet). places s a ≡ false) (sets_of found) q (none empty) (j, lt, is))))
+        (λ (j, q, lt, is, in_q). absurd (true≢false (sym in_q ∙ All-contains (λ (s : AttrSet). attributes s a ≡ false) (sets_of found) q (none empty) (j, lt, is))))
         (pieces.told a low);
-    block = λ filled. All-contains (λ (s : AttrSet). IsBlock n ds x (places s)) (sets_of found) p pieces.each (some filled);
+    block = λ filled. All-contains (λ (s : AttrSet). IsBlock n ds x (attributes s)) (sets_of found) p pieces.each (some filled);
     member = member;
   }
 
-  pub rest_closed : (c : Places) → ((a : ℕ) → (c a ≡ true) ↔ (below n a ≡ true) × All (λ q. places q a ≡ false) (sets_of found)) → (a : ℕ) → (c a ≡ true) ↔ InClosure n ds x a
+  pub rest_closed : (c : Attributes) → ((a : ℕ) → (c a ≡ true) ↔ (below n a ≡ true) × All (λ q. attributes q a ≡ false) (sets_of found)) → (a : ℕ) → (c a ≡ true) ↔ InClosure n ds x a
   rest_closed c is a = (
     (λ m.
         let h = (is a).0 m in
         let low = ltb-true a n h.0 in
         ⊎_elim
         (λ closed. (low, closed))
-        (λ (j, q, lt, at, in_q). absurd (true≢false (sym in_q ∙ All-contains (λ (s : AttrSet). places s a ≡ false) (sets_of found) q h.1 (j, lt, at))))
+        (λ (j, q, lt, at, in_q). absurd (true≢false (sym in_q ∙ All-contains (λ (s : AttrSet). attributes s a ≡ false) (sets_of found) q h.1 (j, lt, at))))
         (pieces.told a low)),
-    (λ closed. (is a).1 (lt-ltb a n closed.0, λ j d l. false_from_ne_true (places (get_or (sets_of found) j d) a) (λ in_q. (pieces.each j d l).outside a in_q closed))),
+    (λ closed. (is a).1 (lt-ltb a n closed.0, λ j d l. false_from_ne_true (attributes (get_or (sets_of found) j d) a) (λ in_q. (pieces.each j d l).outside a in_q closed))),
   )

@@ -4,7 +4,7 @@ use mathlib.Core.Path.{fun_ext}
 use Rattle.std.proofs.lemmas.Bool.{true≢false, cases_Bool, false_from_ne_true}
 use Rattle.std.proofs.lemmas.Bool.Decides.{nat_tests}
 use Rattle.std.specs.Prelude.{All}
-use Rattle.attr_sets.specs.Places.{Places, below, only, none, union, meet, minus, Within, IsEmpty, Apart, Meets}
+use Rattle.attr_sets.specs.Attributes.{Attributes, below, only, none, union, intersection, difference, IsSubset, IsEmpty, Disjoint, Intersects}
 use Rattle.dep_model.specs.declared.dep.Dep.{Dep}
 use Rattle.dep_model.specs.Deps.{dependency_of}
 use Rattle.dep_model.specs.Tuples.{Relation, AgreeOn}
@@ -12,11 +12,11 @@ use Rattle.dep_model.specs.Dependencies.{Dependency, fd, mvd, ObeysMvd, left_of,
 use Rattle.dep_model.specs.Implication.{Implies}
 use Rattle.dep_model.proofs.RuleLemmas.{complementation_obeyed, mreflexivity_obeyed, replication_obeyed, coalescence_obeyed, fd_weaker_obeyed}
 use Rattle.dep_basis.specs.Refining.{IsCandidate, LeavesWhole}
-use Rattle.attr_sets.proofs.PlacesLemmas.{same_at}
+use Rattle.attr_sets.proofs.AttributesLemmas.{same_at}
 
 -- ---- over one relation
 -- x ->> w and v ->> t, with v apart from w, give x ->> what w and t share
-pub split_inside_obeyed : (scheme x w v t : Places) (r : Relation) → Within x scheme → Within v scheme → Apart v w → ObeysMvd scheme x w r → ObeysMvd scheme v t r → ObeysMvd scheme x (meet w t) r
+pub split_inside_obeyed : (scheme x w v t : Attributes) (r : Relation) → IsSubset x scheme → IsSubset v scheme → Disjoint v w → ObeysMvd scheme x w r → ObeysMvd scheme v t r → ObeysMvd scheme x (intersection w t) r
 split_inside_obeyed scheme x w v t r x_in v_in apart first second a b a_in b_in agree =
     let m = first a b a_in b_in agree in
     let on_v : AgreeOn v m.0 b = λ (k : ℕ) h. elim (cases_Bool (x k)) [
@@ -39,7 +39,7 @@ split_inside_obeyed scheme x w v t r x_in v_in apart first second a b a_in b_in 
     )
 
 -- and x ->> what w has beyond t
-pub split_outside_obeyed : (scheme x w v t : Places) (r : Relation) → Within x scheme → Within w scheme → Within v scheme → Apart v w → ObeysMvd scheme x w r → ObeysMvd scheme v t r → ObeysMvd scheme x (minus w t) r
+pub split_outside_obeyed : (scheme x w v t : Attributes) (r : Relation) → IsSubset x scheme → IsSubset w scheme → IsSubset v scheme → Disjoint v w → ObeysMvd scheme x w r → ObeysMvd scheme v t r → ObeysMvd scheme x (difference w t) r
 split_outside_obeyed scheme x w v t r x_in w_in v_in apart first second a b a_in b_in agree =
     let m = first a b a_in b_in agree in
     let on_v : AgreeOn v b m.0 = λ (k : ℕ) h. elim (cases_Bool (x k)) [
@@ -62,35 +62,35 @@ split_outside_obeyed scheme x w v t r x_in w_in v_in apart first second a b a_in
     )
 
 -- ---- implication
-pub replicated : (n : ℕ) (ds : List Dependency) (x y : Places) → Implies n ds (fd x y) → Implies n ds (mvd x y)
-replicated n ds x y implied r legal = replication_obeyed (below n) x y r (implied r legal)
+pub replication_implied : (n : ℕ) (ds : List Dependency) (x y : Attributes) → Implies n ds (fd x y) → Implies n ds (mvd x y)
+replication_implied n ds x y implied r legal = replication_obeyed (below n) x y r (implied r legal)
 
-module _ (n : ℕ) (ds : List Dependency) (x w v t : Places) (x_in : Within x (below n)) (w_in : Within w (below n)) (v_in : Within v (below n)) where
-  pub split_inside : Apart v w → Implies n ds (mvd x w) → Implies n ds (mvd v t) → Implies n ds (mvd x (meet w t))
+module _ (n : ℕ) (ds : List Dependency) (x w v t : Attributes) (x_in : IsSubset x (below n)) (w_in : IsSubset w (below n)) (v_in : IsSubset v (below n)) where
+  pub split_inside : Disjoint v w → Implies n ds (mvd x w) → Implies n ds (mvd v t) → Implies n ds (mvd x (intersection w t))
   split_inside apart first second r legal = split_inside_obeyed (below n) x w v t r x_in v_in apart (first r legal) (second r legal)
 
-  pub split_outside : Apart v w → Implies n ds (mvd x w) → Implies n ds (mvd v t) → Implies n ds (mvd x (minus w t))
+  pub split_outside : Disjoint v w → Implies n ds (mvd x w) → Implies n ds (mvd v t) → Implies n ds (mvd x (difference w t))
   split_outside apart first second r legal = split_outside_obeyed (below n) x w v t r x_in w_in v_in apart (first r legal) (second r legal)
 
   -- an attribute of w that v determines
-  pub moves : (a : ℕ) → Apart v w → w a ≡ true → t a ≡ true → Implies n ds (mvd x w) → Implies n ds (fd v t) → Implies n ds (fd x (only a))
+  pub moves : (a : ℕ) → Disjoint v w → w a ≡ true → t a ≡ true → Implies n ds (mvd x w) → Implies n ds (fd v t) → Implies n ds (fd x (only a))
   moves a apart in_w in_t first second r legal =
       coalescence_obeyed (below n) x w v (only a) r v_in (λ (k : ℕ) m. grind (arith, nat_tests, m, in_w)) apart (first r legal)
       (fd_weaker_obeyed v t v (only a) r (λ (k : ℕ) m. m) (λ (k : ℕ) m. grind (arith, nat_tests, m, in_t)) (second r legal))
 
 -- ---- candidates
 -- the attributes outside the left side
-pub candidate_first : (n : ℕ) (ds : List Dependency) (x w : Places) (a : ℕ) → a < n → x a ≡ false → w ≡ minus (below n) x → IsCandidate n ds x a w
+pub candidate_first : (n : ℕ) (ds : List Dependency) (x w : Attributes) (a : ℕ) → a < n → x a ≡ false → w ≡ difference (below n) x → IsCandidate n ds x a w
 candidate_first n ds x w a low out is = record {
   universe = λ k m. grind (arith, same_at is k, m);
   outside = λ k m. grind (arith, same_at is k, m);
-  implied = λ r legal. rw (fun_ext {f = w} {g = minus (below n) (union x none)} (λ (k : ℕ). grind (arith, same_at is k))) (complementation_obeyed (below n) x none r (mreflexivity_obeyed (below n) x none r (λ (k : ℕ) m. absurd (true≢false (sym m)))));
+  implied = λ r legal. rw (fun_ext {f = w} {g = difference (below n) (union x none)} (λ (k : ℕ). grind (arith, same_at is k))) (complementation_obeyed (below n) x none r (mreflexivity_obeyed (below n) x none r (λ (k : ℕ) m. absurd (true≢false (sym m)))));
   nothing = λ gone. absurd (true≢false (sym (same_at is a ∙ grind (arith, nat_tests, out, low)) ∙ gone));
   closed = λ gone. absurd (true≢false (sym (same_at is a ∙ grind (arith, nat_tests, out, low)) ∙ gone));
 }
 
 -- what holds the attribute is left
-pub candidate_inside : (n : ℕ) (ds : List Dependency) (x w v t rest : Places) (a : ℕ) → Within x (below n) → Within v (below n) → t a ≡ true → Apart v w → Implies n ds (mvd v t) → rest ≡ meet w t → IsCandidate n ds x a w → IsCandidate n ds x a rest
+pub candidate_inside : (n : ℕ) (ds : List Dependency) (x w v t rest : Attributes) (a : ℕ) → IsSubset x (below n) → IsSubset v (below n) → t a ≡ true → Disjoint v w → Implies n ds (mvd v t) → rest ≡ intersection w t → IsCandidate n ds x a w → IsCandidate n ds x a rest
 candidate_inside n ds x w v t rest a x_in v_in in_t apart given is before = record {
   universe = λ k m. before.universe k (grind (arith, same_at is k, m));
   outside = λ k m. before.outside k (grind (arith, same_at is k, m));
@@ -99,7 +99,7 @@ candidate_inside n ds x w v t rest a x_in v_in in_t apart given is before = reco
   closed = λ gone. before.closed (grind (arith, same_at is a, gone, in_t));
 }
 
-pub candidate_outside : (n : ℕ) (ds : List Dependency) (x w v t rest : Places) (a : ℕ) → Within x (below n) → Within v (below n) → t a ≡ false → Apart v w → Implies n ds (mvd v t) → rest ≡ minus w t → IsCandidate n ds x a w → IsCandidate n ds x a rest
+pub candidate_outside : (n : ℕ) (ds : List Dependency) (x w v t rest : Attributes) (a : ℕ) → IsSubset x (below n) → IsSubset v (below n) → t a ≡ false → Disjoint v w → Implies n ds (mvd v t) → rest ≡ difference w t → IsCandidate n ds x a w → IsCandidate n ds x a rest
 candidate_outside n ds x w v t rest a x_in v_in out_t apart given is before = record {
   universe = λ k m. before.universe k (grind (arith, same_at is k, m));
   outside = λ k m. before.outside k (grind (arith, same_at is k, m));
@@ -109,7 +109,7 @@ candidate_outside n ds x w v t rest a x_in v_in out_t apart given is before = re
 }
 
 -- nothing is left where the attribute is determined
-pub candidate_nothing : (n : ℕ) (ds : List Dependency) (x w v t rest : Places) (a : ℕ) → Within v (below n) → t a ≡ true → Apart v w → Within x (below n) → Implies n ds (fd v t) → IsEmpty rest → IsCandidate n ds x a w → IsCandidate n ds x a rest
+pub candidate_nothing : (n : ℕ) (ds : List Dependency) (x w v t rest : Attributes) (a : ℕ) → IsSubset v (below n) → t a ≡ true → Disjoint v w → IsSubset x (below n) → Implies n ds (fd v t) → IsEmpty rest → IsCandidate n ds x a w → IsCandidate n ds x a rest
 candidate_nothing n ds x w v t rest a v_in in_t apart x_in given is before = record {
   universe = λ k m. absurd (true≢false (sym m ∙ is k));
   outside = λ k m. absurd (true≢false (sym m ∙ is k));
@@ -123,26 +123,26 @@ candidate_nothing n ds x w v t rest a v_in in_t apart x_in given is before = rec
 
 -- ---- a dependency by its sides
 -- a dependency of either kind is implied as a multivalued one
-pub as_mvd : (n : ℕ) (ds : List Dependency) (d : Dependency) → Implies n ds d → Implies n ds (mvd (left_of d) (right_of d))
-as_mvd n ds (fd v t) given = replicated n ds v t given
-as_mvd n ds (mvd v t) given = given
+pub implied_as_mvd : (n : ℕ) (ds : List Dependency) (d : Dependency) → Implies n ds d → Implies n ds (mvd (left_of d) (right_of d))
+implied_as_mvd n ds (fd v t) given = replication_implied n ds v t given
+implied_as_mvd n ds (mvd v t) given = given
 
--- a left side that does not meet a set
-pub apart_from : (v lhs part : Places) → lhs ≡ v → (Meets lhs part → ⊥) → Apart v part
-apart_from v lhs part same none k m = false_from_ne_true (part k) (λ in_part. none (k, ap (λ (x : Places). x k) same ∙ m, in_part))
+-- a left side that is disjoint from a set
+pub left_disjoint : (v lhs part : Attributes) → lhs ≡ v → (Intersects lhs part → ⊥) → Disjoint v part
+left_disjoint v lhs part same none k m = false_from_ne_true (part k) (λ in_part. none (k, ap (λ (x : Attributes). x k) same ∙ m, in_part))
 
 -- ---- what cuts nothing off
 -- a left side that is not apart
-pub LeavesWhole-meets : (p q : Places) (d : Dependency) → Meets (left_of d) p → LeavesWhole p q d
-LeavesWhole-meets p q (fd v t) common = λ apart. absurd (true≢false (sym common.2 ∙ apart common.0 common.1))
-LeavesWhole-meets p q (mvd v t) common = λ apart. absurd (true≢false (sym common.2 ∙ apart common.0 common.1))
+pub LeavesWhole-intersects : (p q : Attributes) (d : Dependency) → Intersects (left_of d) p → LeavesWhole p q d
+LeavesWhole-intersects p q (fd v t) common = λ apart. absurd (true≢false (sym common.2 ∙ apart common.0 common.1))
+LeavesWhole-intersects p q (mvd v t) common = λ apart. absurd (true≢false (sym common.2 ∙ apart common.0 common.1))
 
 -- a larger set on the left, a smaller one on the right
-pub LeavesWhole-kept : (p more q less : Places) (d : Dependency) → Within p more → Within less q → LeavesWhole p q d → LeavesWhole more less d
+pub LeavesWhole-kept : (p more q less : Attributes) (d : Dependency) → IsSubset p more → IsSubset less q → LeavesWhole p q d → LeavesWhole more less d
 LeavesWhole-kept p more q less (fd v t) grows falls whole = λ apart k m. whole (λ (j : ℕ) h. grind (arith, apart j h, grows j)) k (falls k m)
 LeavesWhole-kept p more q less (mvd v t) grows falls whole = λ apart.
     ⊎_elim (λ out. inl (λ (k : ℕ) m. out k (falls k m))) (λ inside. inr (λ (k : ℕ) m. inside k (falls k m)))
     (whole (λ (j : ℕ) h. grind (arith, apart j h, grows j)))
 
-pub all_LeavesWhole-kept : (p more q less : Places) (ds : List Dep) → Within p more → Within less q → All (λ d. LeavesWhole p q (dependency_of d)) ds → All (λ d. LeavesWhole more less (dependency_of d)) ds
+pub all_LeavesWhole-kept : (p more q less : Attributes) (ds : List Dep) → IsSubset p more → IsSubset less q → All (λ d. LeavesWhole p q (dependency_of d)) ds → All (λ d. LeavesWhole more less (dependency_of d)) ds
 all_LeavesWhole-kept p more q less ds grows falls whole k d l = LeavesWhole-kept p more q less (dependency_of (get_or ds k d)) grows falls (whole k d l)

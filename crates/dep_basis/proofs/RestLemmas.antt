@@ -5,8 +5,8 @@ use Rattle.std.proofs.lemmas.Bool.{true≢false, cases_Bool, false_from_ne_true,
 use Rattle.std.proofs.lemmas.Bool.Decides.{nat_tests}
 use Rattle.std.proofs.lemmas.List.Elements.{All-nil, All-cons, All-head, All-tail}
 use Rattle.std.specs.Prelude.{All}
-use Rattle.attr_sets.specs.Places.{Places, below, only, union, meet, minus, Within, IsEmpty, Apart, count_below}
-use Rattle.attr_sets.proofs.PlacesLemmas.{tell_apart, tell_within, tell_empty, count_below-pos, count_below-le, same_at}
+use Rattle.attr_sets.specs.Attributes.{Attributes, below, only, union, intersection, difference, IsSubset, IsEmpty, Disjoint, count_below}
+use Rattle.attr_sets.proofs.AttributesLemmas.{tell_apart, tell_subset, tell_empty, count_below-pos, count_below-le, same_at}
 use Rattle.dep_model.specs.declared.dep.Dep.{Dep}
 use Rattle.dep_model.specs.declared.dep.Dep.TheVariants.{Fd, Mvd}
 use Rattle.dep_model.specs.Tuples.{Relation}
@@ -14,46 +14,46 @@ use Rattle.dep_model.specs.Dependencies.{Dependency, fd, mvd, ObeysMvd, left_of}
 use Rattle.dep_model.specs.Deps.{dependency_of, dependencies_of, IsDepWithin}
 use Rattle.dep_model.specs.Implication.{IsLegal, Implies}
 use Rattle.dep_model.specs.Keys.{InClosure, IsBlock}
-use Rattle.attr_sets.specs.Sets.{places}
+use Rattle.attr_sets.specs.Sets.{attributes}
 use Rattle.dep_model.specs.TwoTuples.{two_tuples}
 use Rattle.dep_model.proofs.RuleLemmas.{reflexivity_obeyed, transitivity_obeyed}
 use Rattle.dep_model.proofs.DepLemmas.{legal-to, dependencies_all-from}
 use Rattle.dep_basis.specs.Refining.{LeavesWhole}
-use Rattle.dep_basis.specs.Shown.{IsCutting}
+use Rattle.dep_basis.specs.CutProofs.{IsCutting}
 use Rattle.dep_basis.specs.Pieces.{CanRefine}
-use Rattle.dep_basis.proofs.RefiningLemmas.{replicated, moves, LeavesWhole-meets}
-use Rattle.dep_basis.proofs.BlockLemmas.{outside_of, whole_legal, block_whole, block_apart, blocks_same, candidate_block}
+use Rattle.dep_basis.proofs.RefiningLemmas.{replication_implied, moves, LeavesWhole-intersects}
+use Rattle.dep_basis.proofs.BlockLemmas.{outside_of, whole_legal, block_whole, block_disjoint, blocks_same, candidate_block}
 use Rattle.dep_basis.proofs.PieceLemmas.{first_refined, outside_refined, inside_refined, outside_fewer, inside_fewer}
 
 -- ---- whether a dependency cuts a set
-tell_cut : (n : ℕ) (w : Places) (d : Dep) → Within w (below n) → IsDepWithin (below n) d → IsCutting w (dependency_of d) ⊎ LeavesWhole w w (dependency_of d)
+tell_cut : (n : ℕ) (w : Attributes) (d : Dep) → IsSubset w (below n) → IsDepWithin (below n) d → IsCutting w (dependency_of d) ⊎ LeavesWhole w w (dependency_of d)
 tell_cut n w (Fd lhs rhs) w_in within =
     ⊎_elim
-    (λ common. inr (LeavesWhole-meets w w (fd (places lhs) (places rhs)) common))
+    (λ common. inr (LeavesWhole-intersects w w (fd (attributes lhs) (attributes rhs)) common))
     (λ apart. ⊎_elim
     (λ shared. inl (record { apart = apart; shares = (shared.0, shared.2, shared.1); leaves = inl refl }))
-    (λ out. inr (λ _ k m. false_from_ne_true (places rhs k) (λ in_t. true≢false (sym m ∙ out k in_t))))
-    (tell_apart n (places rhs) w within.1))
-    (tell_apart n (places lhs) w within.0)
+    (λ out. inr (λ _ k m. false_from_ne_true (attributes rhs k) (λ in_t. true≢false (sym m ∙ out k in_t))))
+    (tell_apart n (attributes rhs) w within.1))
+    (tell_apart n (attributes lhs) w within.0)
 tell_cut n w (Mvd lhs rhs) w_in within =
     ⊎_elim
-    (λ common. inr (LeavesWhole-meets w w (mvd (places lhs) (places rhs)) common))
+    (λ common. inr (LeavesWhole-intersects w w (mvd (attributes lhs) (attributes rhs)) common))
     (λ apart. ⊎_elim
     (λ shared. ⊎_elim
     (λ beyond. inl (record { apart = apart; shares = (shared.0, shared.2, shared.1); leaves = inr (beyond.0, beyond.2, beyond.3) }))
     (λ inside. inr (λ _. inr inside))
-    (tell_within n w (places rhs) w_in))
-    (λ out. inr (λ _. inl (λ k m. false_from_ne_true (places rhs k) (λ in_t. true≢false (sym m ∙ out k in_t)))))
-    (tell_apart n (places rhs) w within.1))
-    (tell_apart n (places lhs) w within.0)
+    (tell_subset n w (attributes rhs) w_in))
+    (λ out. inr (λ _. inl (λ k m. false_from_ne_true (attributes rhs k) (λ in_t. true≢false (sym m ∙ out k in_t)))))
+    (tell_apart n (attributes rhs) w within.1))
+    (tell_apart n (attributes lhs) w within.0)
 
-record CutsIt (n : ℕ) (all : List Dependency) (w : Places) (d : Dep) : Type 0 where
+record CutsIt (n : ℕ) (all : List Dependency) (w : Attributes) (d : Dep) : Type 0 where
   within : IsDepWithin (below n) d
   given : Implies n all (dependency_of d)
   cutting : IsCutting w (dependency_of d)
 
 -- some dependency of a list cuts the set, or none does
-tell_cuts : (n : ℕ) (all : List Dependency) (w : Places) (ds : List Dep) → Within w (below n) → All (IsDepWithin (below n)) ds → All (λ d. Implies n all (dependency_of d)) ds
+tell_cuts : (n : ℕ) (all : List Dependency) (w : Attributes) (ds : List Dep) → IsSubset w (below n) → All (IsDepWithin (below n)) ds → All (λ d. Implies n all (dependency_of d)) ds
     → ((d : Dep) × CutsIt n all w d) ⊎ All (λ d. LeavesWhole w w (dependency_of d)) ds
 tell_cuts n all w [] w_in within given = inr (All-nil (λ (d : Dep). LeavesWhole w w (dependency_of d)))
 tell_cuts n all w (d ∷ ds) w_in within given =
@@ -68,56 +68,56 @@ tell_cuts n all w (d ∷ ds) w_in within given =
     (tell_cut n w d w_in here)
 
 -- ---- each attribute is determined, or in a block
-abbrev IsTold : ℕ → List Dep → Places → ℕ → Type 0
-IsTold n ds x a = InClosure n (dependencies_of ds) x a ⊎ ((p : Places) × IsBlock n (dependencies_of ds) x p × (p a ≡ true))
+abbrev IsTold : ℕ → List Dep → Attributes → ℕ → Type 0
+IsTold n ds x a = InClosure n (dependencies_of ds) x a ⊎ ((p : Attributes) × IsBlock n (dependencies_of ds) x p × (p a ≡ true))
 
 all_implied : (n : ℕ) (ds : List Dep) → All (λ d. Implies n (dependencies_of ds) (dependency_of d)) ds
 all_implied n ds k d l r legal = legal-to n ds r legal k d l
 
 -- what is left once a dependency has cut
-next_from : (n : ℕ) (ds : List Dep) (x : Places) (a : ℕ) (w : Places) (d : Dep) → n ≤ 128 → a < n → CanRefine n ds x w → w a ≡ true → CutsIt n (dependencies_of ds) w d
-    → InClosure n (dependencies_of ds) x a ⊎ ((rest : Places) × CanRefine n ds x rest × (rest a ≡ true) × (count_below rest 128 < count_below w 128))
-next_from n ds x a w (Fd lhs rhs) few low can member cuts =
-    let v = places lhs in
-    let t = places rhs in
-    let w_low : Within w (below 128) = λ k m. grind (arith, nat_tests, can.universe k m, few) in
+next_piece : (n : ℕ) (ds : List Dep) (x : Attributes) (a : ℕ) (w : Attributes) (d : Dep) → n ≤ 128 → a < n → CanRefine n ds x w → w a ≡ true → CutsIt n (dependencies_of ds) w d
+    → InClosure n (dependencies_of ds) x a ⊎ ((rest : Attributes) × CanRefine n ds x rest × (rest a ≡ true) × (count_below rest 128 < count_below w 128))
+next_piece n ds x a w (Fd lhs rhs) few low can member cuts =
+    let v = attributes lhs in
+    let t = attributes rhs in
+    let w_low : IsSubset w (below 128) = λ k m. grind (arith, nat_tests, can.universe k m, few) in
     elim (cases_Bool (t a)) [
       | inl in_t ↦ inl (low, moves n (dependencies_of ds) x w v t can.lhs can.universe cuts.within.0 a cuts.cutting.apart member in_t can.implied cuts.given)
       | inr out ↦ inr (
-        minus w t,
-        outside_refined n ds x w v t can cuts.within.0 cuts.cutting.apart (replicated n (dependencies_of ds) v t cuts.given) (minus w t) refl,
+        difference w t,
+        outside_refined n ds x w v t can cuts.within.0 cuts.cutting.apart (replication_implied n (dependencies_of ds) v t cuts.given) (difference w t) refl,
         grind (arith, member, out),
-        outside_fewer w t (minus w t) (fd v t) w_low cuts.cutting refl refl,
+        outside_fewer w t (difference w t) (fd v t) w_low cuts.cutting refl refl,
       )
     ]
-next_from n ds x a w (Mvd lhs rhs) few low can member cuts =
-    let v = places lhs in
-    let t = places rhs in
-    let w_low : Within w (below 128) = λ k m. grind (arith, nat_tests, can.universe k m, few) in
+next_piece n ds x a w (Mvd lhs rhs) few low can member cuts =
+    let v = attributes lhs in
+    let t = attributes rhs in
+    let w_low : IsSubset w (below 128) = λ k m. grind (arith, nat_tests, can.universe k m, few) in
     elim (cases_Bool (t a)) [
       | inl in_t ↦ inr (
-        meet w t,
-        inside_refined n ds x w v t can cuts.within.0 cuts.cutting.apart cuts.given (meet w t) refl,
+        intersection w t,
+        inside_refined n ds x w v t can cuts.within.0 cuts.cutting.apart cuts.given (intersection w t) refl,
         grind (arith, member, in_t),
-        inside_fewer w v t (meet w t) w_low cuts.cutting refl,
+        inside_fewer w v t (intersection w t) w_low cuts.cutting refl,
       )
       | inr out ↦ inr (
-        minus w t,
-        outside_refined n ds x w v t can cuts.within.0 cuts.cutting.apart cuts.given (minus w t) refl,
+        difference w t,
+        outside_refined n ds x w v t can cuts.within.0 cuts.cutting.apart cuts.given (difference w t) refl,
         grind (arith, member, out),
-        outside_fewer w t (minus w t) (mvd v t) w_low cuts.cutting refl refl,
+        outside_fewer w t (difference w t) (mvd v t) w_low cuts.cutting refl refl,
       )
     ]
 
 -- the part with a becomes smaller, until it is a block
-block_from : (n : ℕ) (ds : List Dep) (x : Places) (a : ℕ) → n ≤ 128 → a < n → (left : ℕ) (w : Places) → CanRefine n ds x w → w a ≡ true → count_below w 128 ≤ left → IsTold n ds x a
+block_from : (n : ℕ) (ds : List Dep) (x : Attributes) (a : ℕ) → n ≤ 128 → a < n → (left : ℕ) (w : Attributes) → CanRefine n ds x w → w a ≡ true → count_below w 128 ≤ left → IsTold n ds x a
 block_from n ds x a few low zero w can member most = absurd (omega (arith, most, count_below-pos 128 w a (omega (arith, few, low)) member))
 block_from n ds x a few low (suc left) w can member most =
     ⊎_elim
     (λ found. ⊎_elim
     (λ closed. inl closed)
     (λ next. block_from n ds x a few low left next.0 next.1 next.2 (omega (arith, most, next.3)))
-    (next_from n ds x a w found.0 few low can member found.1))
+    (next_piece n ds x a w found.0 few low can member found.1))
     (λ whole. inr (
       w,
       candidate_block n (dependencies_of ds) x w a can.lhs (whole_legal n ds w can.deps (dependencies_all-from (LeavesWhole w w) ds whole))
@@ -132,23 +132,23 @@ block_from n ds x a few low (suc left) w can member most =
     ))
     (tell_cuts n (dependencies_of ds) w ds can.universe can.deps (all_implied n ds))
 
-pub block_at : (n : ℕ) (ds : List Dep) (x : Places) (a : ℕ) → n ≤ 128 → All (IsDepWithin (below n)) ds → Within x (below n) → a < n → IsTold n ds x a
+pub block_at : (n : ℕ) (ds : List Dep) (x : Attributes) (a : ℕ) → n ≤ 128 → All (IsDepWithin (below n)) ds → IsSubset x (below n) → a < n → IsTold n ds x a
 block_at n ds x a few within x_in low = elim (cases_Bool (x a)) [
   | inl inside ↦ inl (low, λ r legal. reflexivity_obeyed x (only a) r (λ (k : ℕ) h. grind (arith, nat_tests, h, inside)))
   | inr out ↦
-      let w = minus (below n) x in
+      let w = difference (below n) x in
       let can = first_refined n ds x w within x_in refl in
       block_from n ds x a few low 128 w can (grind (arith, nat_tests, lt-ltb a n low, out)) (count_below-le 128 w)
 ]
 
 -- ---- an attribute in no given left side
 -- a left side that x has in common with l multidetermines a set: x multidetermines what it has beyond x
-minus_obeyed : (n : ℕ) (x l q : Places) (r : Relation) → Within x (below n) → ObeysMvd (below n) (meet x l) q r → ObeysMvd (below n) x (minus q x) r
-minus_obeyed n x l q r x_in obeys t u t_in u_in agree =
+difference_obeyed : (n : ℕ) (x l q : Attributes) (r : Relation) → IsSubset x (below n) → ObeysMvd (below n) (intersection x l) q r → ObeysMvd (below n) x (difference q x) r
+difference_obeyed n x l q r x_in obeys t u t_in u_in agree =
     let v = obeys t u t_in u_in (λ (k : ℕ) m. agree k (grind (arith, m))) in (
       v.0,
       v.1,
-      (λ (k : ℕ) m. elim (cases_Bool (union (meet x l) q k)) [
+      (λ (k : ℕ) m. elim (cases_Bool (union (intersection x l) q k)) [
         | inl inside ↦ v.2 k inside
         | inr out ↦
             let in_x : x k ≡ true = grind (arith, m, out) in
@@ -157,80 +157,80 @@ minus_obeyed n x l q r x_in obeys t u t_in u_in agree =
       (λ (k : ℕ) m. v.3 k (grind (arith, m))),
     )
 
-module _ (n : ℕ) (ds : List Dep) (l x : Places) (few : n ≤ 128) (within : All (IsDepWithin (below n)) ds) (lefts : All (λ d. Within (left_of (dependency_of d)) l) ds) (x_in : Within x (below n)) where
-  common_in : Within (meet x l) (below n)
+module _ (n : ℕ) (ds : List Dep) (l x : Attributes) (few : n ≤ 128) (within : All (IsDepWithin (below n)) ds) (lefts : All (λ d. IsSubset (left_of (dependency_of d)) l) ds) (x_in : IsSubset x (below n)) where
+  common_in : IsSubset (intersection x l) (below n)
   common_in k m = x_in k (grind (arith, m))
 
-  wider : (a : ℕ) → InClosure n (dependencies_of ds) (meet x l) a → InClosure n (dependencies_of ds) x a
-  wider a h = (h.0, λ r legal. transitivity_obeyed x (meet x l) (only a) r (reflexivity_obeyed x (meet x l) r (λ (k : ℕ) m. grind (arith, m))) (h.1 r legal))
+  wider : (a : ℕ) → InClosure n (dependencies_of ds) (intersection x l) a → InClosure n (dependencies_of ds) x a
+  wider a h = (h.0, λ r legal. transitivity_obeyed x (intersection x l) (only a) r (reflexivity_obeyed x (intersection x l) r (λ (k : ℕ) m. grind (arith, m))) (h.1 r legal))
 
   -- a block of what x has in common with l, without x
-  module _ (q : Places) (block : IsBlock n (dependencies_of ds) (meet x l) q) where
-    rest_left : (v : Places) → Within v l → Apart v (minus q x) → Apart v q
+  module _ (q : Attributes) (block : IsBlock n (dependencies_of ds) (intersection x l) q) where
+    rest_left : (v : Attributes) → IsSubset v l → Disjoint v (difference q x) → Disjoint v q
     rest_left v in_l apart k m = elim (cases_Bool (q k)) [
       | inr out ↦ out
       | inl in_q ↦ elim (cases_Bool (x k)) [
         | inr out ↦ absurd (true≢false (sym (grind (arith, in_q, out)) ∙ apart k m))
-        | inl in_x ↦ absurd (true≢false (sym (grind (arith, in_x, in_l k m)) ∙ block_apart n (dependencies_of ds) (meet x l) q block k in_q))
+        | inl in_x ↦ absurd (true≢false (sym (grind (arith, in_x, in_l k m)) ∙ block_disjoint n (dependencies_of ds) (intersection x l) q block k in_q))
       ]
     ]
 
-    rest_whole_at : (d : Dep) → IsDepWithin (below n) d → Implies n (dependencies_of ds) (dependency_of d) → Within (left_of (dependency_of d)) l → LeavesWhole (minus q x) (minus q x) (dependency_of d)
+    rest_whole_at : (d : Dep) → IsDepWithin (below n) d → Implies n (dependencies_of ds) (dependency_of d) → IsSubset (left_of (dependency_of d)) l → LeavesWhole (difference q x) (difference q x) (dependency_of d)
     rest_whole_at (Fd lhs rhs) inside given in_l = λ apart k m.
-        block_whole n (dependencies_of ds) (meet x l) q (fd (places lhs) (places rhs)) common_in inside given block (rest_left (places lhs) in_l apart) k (grind (arith, m))
+        block_whole n (dependencies_of ds) (intersection x l) q (fd (attributes lhs) (attributes rhs)) common_in inside given block (rest_left (attributes lhs) in_l apart) k (grind (arith, m))
     rest_whole_at (Mvd lhs rhs) inside given in_l = λ apart.
         ⊎_elim
         (λ out. inl (λ (k : ℕ) m. out k (grind (arith, m))))
         (λ all. inr (λ (k : ℕ) m. all k (grind (arith, m))))
-        (block_whole n (dependencies_of ds) (meet x l) q (mvd (places lhs) (places rhs)) common_in inside given block (rest_left (places lhs) in_l apart))
+        (block_whole n (dependencies_of ds) (intersection x l) q (mvd (attributes lhs) (attributes rhs)) common_in inside given block (rest_left (attributes lhs) in_l apart))
 
-    rest_legal : IsLegal n (dependencies_of ds) (two_tuples n (outside_of n (minus q x)))
-    rest_legal = whole_legal n ds (minus q x) within
-        (dependencies_all-from (LeavesWhole (minus q x) (minus q x)) ds (λ k d short. rest_whole_at (get_or ds k d) (within k d short) (all_implied n ds k d short) (lefts k d short)))
+    rest_legal : IsLegal n (dependencies_of ds) (two_tuples n (outside_of n (difference q x)))
+    rest_legal = whole_legal n ds (difference q x) within
+        (dependencies_all-from (LeavesWhole (difference q x) (difference q x)) ds (λ k d short. rest_whole_at (get_or ds k d) (within k d short) (all_implied n ds k d short) (lefts k d short)))
 
-    pub rest_block : (a : ℕ) → minus q x a ≡ true → IsBlock n (dependencies_of ds) x (minus q x)
-    rest_block a member = candidate_block n (dependencies_of ds) x (minus q x) a x_in rest_legal
+    pub rest_block : (a : ℕ) → difference q x a ≡ true → IsBlock n (dependencies_of ds) x (difference q x)
+    rest_block a member = candidate_block n (dependencies_of ds) x (difference q x) a x_in rest_legal
         (record {
           universe = λ k m. block.universe k (grind (arith, m));
           outside = λ k m. grind (arith, m);
-          implied = λ r legal. minus_obeyed n x l q r x_in (block.implied r legal);
+          implied = λ r legal. difference_obeyed n x l q r x_in (block.implied r legal);
           nothing = λ gone. absurd (true≢false (sym member ∙ gone));
           closed = λ gone. absurd (true≢false (sym member ∙ gone));
         }) member
 
-  pub closure_rest : (a : ℕ) → InClosure n (dependencies_of ds) x a ↔ ((a < n) × (x a ≡ true)) ⊎ InClosure n (dependencies_of ds) (meet x l) a
+  pub closure_rest : (a : ℕ) → InClosure n (dependencies_of ds) x a ↔ ((a < n) × (x a ≡ true)) ⊎ InClosure n (dependencies_of ds) (intersection x l) a
   closure_rest a = (
     (λ h. ⊎_elim
         (λ closed. inr closed)
-        (λ (one : (q : Places) × IsBlock n (dependencies_of ds) (meet x l) q × (q a ≡ true)). elim (cases_Bool (x a)) [
+        (λ (one : (q : Attributes) × IsBlock n (dependencies_of ds) (intersection x l) q × (q a ≡ true)). elim (cases_Bool (x a)) [
           | inl inside ↦ inl (h.0, inside)
           | inr out ↦
-              let member : minus one.0 x a ≡ true = grind (arith, one.2, out) in
+              let member : difference one.0 x a ≡ true = grind (arith, one.2, out) in
               absurd ((rest_block one.0 one.1 a member).outside a member h)
         ])
-        (block_at n ds (meet x l) a few within common_in h.0)),
+        (block_at n ds (intersection x l) a few within common_in h.0)),
     (λ h. ⊎_elim
         (λ (here : (a < n) × (x a ≡ true)). (here.0, λ r legal. reflexivity_obeyed x (only a) r (λ (k : ℕ) e. grind (arith, nat_tests, e, here.1))))
         (λ closed. wider a closed)
         h),
   )
 
-  pub blocks_rest : (p : Places) → IsBlock n (dependencies_of ds) x p ↔ ((q : Places) × IsBlock n (dependencies_of ds) (meet x l) q × (p ≡ minus q x) × (IsEmpty p → ⊥))
+  pub blocks_rest : (p : Attributes) → IsBlock n (dependencies_of ds) x p ↔ ((q : Attributes) × IsBlock n (dependencies_of ds) (intersection x l) q × (p ≡ difference q x) × (IsEmpty p → ⊥))
   blocks_rest p = (
     (λ block. ⊎_elim
         (λ some.
         let a = some.0 in
-        let out : x a ≡ false = block_apart n (dependencies_of ds) x p block a some.2 in
+        let out : x a ≡ false = block_disjoint n (dependencies_of ds) x p block a some.2 in
         ⊎_elim
         (λ closed. absurd (block.outside a some.2 (wider a closed)))
-        (λ (one : (q : Places) × IsBlock n (dependencies_of ds) (meet x l) q × (q a ≡ true)).
-        let member : minus one.0 x a ≡ true = grind (arith, one.2, out) in
-        (one.0, one.1, blocks_same n (dependencies_of ds) x p (minus one.0 x) block (rest_block one.0 one.1 a member) (a, some.2, member), block.some))
-        (block_at n ds (meet x l) a few within common_in some.1))
+        (λ (one : (q : Attributes) × IsBlock n (dependencies_of ds) (intersection x l) q × (q a ≡ true)).
+        let member : difference one.0 x a ≡ true = grind (arith, one.2, out) in
+        (one.0, one.1, blocks_same n (dependencies_of ds) x p (difference one.0 x) block (rest_block one.0 one.1 a member) (a, some.2, member), block.some))
+        (block_at n ds (intersection x l) a few within common_in some.1))
         (λ nothing. absurd (block.some nothing))
         (tell_empty n p block.universe)),
     (λ h. ⊎_elim
-        (λ some. subst (λ (w : Places). IsBlock n (dependencies_of ds) x w) (sym h.2) (rest_block h.0 h.1 some.0 (sym (same_at h.2 some.0) ∙ some.2)))
+        (λ some. subst (λ (w : Attributes). IsBlock n (dependencies_of ds) x w) (sym h.2) (rest_block h.0 h.1 some.0 (sym (same_at h.2 some.0) ∙ some.2)))
         (λ nothing. absurd (h.3 nothing))
         (tell_empty n p (λ (k : ℕ) m. h.1.universe k (grind (arith, same_at h.2 k, m))))),
   )

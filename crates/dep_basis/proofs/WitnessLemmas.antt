@@ -6,7 +6,7 @@ use Rattle.std.proofs.lemmas.Option.{slice_get_within}
 use Rattle.std.proofs.lemmas.List.Elements.{All-cons, All-nil}
 use Rattle.std.specs.Prelude.{slice_get}
 use Rattle.std.proofs.Common.{Some}
-use Rattle.attr_sets.specs.Places.{Places}
+use Rattle.attr_sets.specs.Attributes.{Attributes}
 use Rattle.dep_model.specs.declared.column.Column.TheVariants.{Integer}
 use Rattle.dep_model.specs.Tuples.{Tuple, value_at}
 use Rattle.dep_model.specs.Columns.{columns_on, IsTyped}
@@ -15,16 +15,16 @@ use Rattle.dep_model.specs.TwoTuples.{zero_text, one_text, all_zeros, zeros_on, 
 use Rattle.dep_model.proofs.ColumnLemmas.{length-columns_on}
 use Rattle.dep_model.proofs.TwoTupleLemmas.{length-all_zeros, length-zeros_on, value_at-all_zeros, value_at-zeros_on, two_tuples-is}
 
-pub zeros_on-none : (x : Places) → zeros_on 0 x ≡ []
+pub zeros_on-none : (x : Attributes) → zeros_on 0 x ≡ []
 unfolding zeros_on
 zeros_on-none x = refl
 
-pub zeros_on-more : (n : ℕ) (x : Places) → zeros_on (n + 1) x ≡ zeros_on n x ++ cond (x n) zero_text one_text ∷ []
+pub zeros_on-more : (n : ℕ) (x : Attributes) → zeros_on (n + 1) x ≡ zeros_on n x ++ cond (x n) zero_text one_text ∷ []
 unfolding zeros_on
 zeros_on-more n x = map-range_with_len_more (λ (k : ℕ). cond (x k) zero_text one_text) 0 n n (omega arith)
 
 -- zeros everywhere
-pub zeros_on-all : (n : ℕ) (x : Places) → ((k : ℕ) → k < n → x k ≡ true) → zeros_on n x ≡ all_zeros n
+pub zeros_on-all : (n : ℕ) (x : Attributes) → ((k : ℕ) → k < n → x k ≡ true) → zeros_on n x ≡ all_zeros n
 zeros_on-all n x all = same_lists (zeros_on n x) (all_zeros n) (length-zeros_on n x ∙ sym (length-all_zeros n)) (λ (k : ℕ) (d : List ℕ) l.
     let low : k < n = omega (arith, length-zeros_on n x) in
     let lo : k < length (all_zeros n) = omega (arith, length-all_zeros n) in
@@ -43,16 +43,16 @@ digit_integer true = zero_integer
 digit_integer false = one_integer
 
 -- ---- so the two tuples fit columns of either type
-abbrev FitsTypes : ℕ → Places → Tuple → Type 0
+abbrev FitsTypes : ℕ → Attributes → Tuple → Type 0
 FitsTypes n integers t = (k : ℕ) → slice_get (columns_on n integers) k ≡ Some Integer → IsIntegerText (value_at t k)
 
-low : (n : ℕ) (integers : Places) (k : ℕ) → slice_get (columns_on n integers) k ≡ Some Integer → k < n
-low n integers k e = omega (arith, slice_get_within (columns_on n integers) k Integer e, length-columns_on n integers)
+integer_column-below : (n : ℕ) (integers : Attributes) (k : ℕ) → slice_get (columns_on n integers) k ≡ Some Integer → k < n
+integer_column-below n integers k e = omega (arith, slice_get_within (columns_on n integers) k Integer e, length-columns_on n integers)
 
-pub two_tuples-typed : (n : ℕ) (integers x : Places) → IsTyped (columns_on n integers) (two_tuples n x)
+pub two_tuples-typed : (n : ℕ) (integers x : Attributes) → IsTyped (columns_on n integers) (two_tuples n x)
 two_tuples-typed n integers x = rw (two_tuples-is n x)
     (All-cons (FitsTypes n integers) (all_zeros n) (zeros_on n x ∷ [])
-    (λ (k : ℕ) e. rw (value_at-all_zeros n k (low n integers k e)) zero_integer)
+    (λ (k : ℕ) e. rw (value_at-all_zeros n k (integer_column-below n integers k e)) zero_integer)
     (All-cons (FitsTypes n integers) (zeros_on n x) []
-    (λ (k : ℕ) e. rw (value_at-zeros_on n x k (low n integers k e)) (digit_integer (x k)))
+    (λ (k : ℕ) e. rw (value_at-zeros_on n x k (integer_column-below n integers k e)) (digit_integer (x k)))
     (All-nil (FitsTypes n integers))))

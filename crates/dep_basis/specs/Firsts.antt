@@ -3,8 +3,8 @@ use Rattle.std.specs.Prelude.{◌≡◌, ℕ, ◌<◌, List, length, slice_index
 
 -- the first of a list with a property
 pub record IsFirstWith {X : Type 0} (P : X → Type 0) (xs : List X) (x : X) : Type 0 where
-  pub place : ℕ
-  pub short : place < length xs
-  pub is : slice_index_or xs place x ≡ x
+  pub position : ℕ
+  pub short : position < length xs
+  pub is : slice_index_or xs position x ≡ x
   pub holds : P x
-  pub first : (j : ℕ) (d : X) → j < place → P (slice_index_or xs j d) → ⊥
+  pub first : (j : ℕ) (d : X) → j < position → P (slice_index_or xs j d) → ⊥

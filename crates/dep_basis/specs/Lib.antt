@@ -6,7 +6,7 @@ pub mod Bases
 pub mod Firsts
 pub mod Breaking
 pub mod Decisions
-pub mod Shown
+pub mod CutProofs
 pub mod Leads
-pub mod Joined
+pub mod JoinedProofs
 pub mod Proofs

@@ -1,10 +1,10 @@
 -- Blocks that were found so far: for the functions below `basis`, `block` and `has_two_parts`.
 -- `Desk` does not cite it.
 use Rattle.std.specs.Prelude.{◌≡◌, ℕ, ◌+◌, ◌<◌, ◌≤◌, ◌⊎◌, true, List, length, take, All, Any}
-use Rattle.attr_sets.specs.Places.{Places, below, only, Within, IsEmpty, Apart, count_below}
+use Rattle.attr_sets.specs.Attributes.{Attributes, below, only, IsSubset, IsEmpty, Disjoint, count_below}
 use Rattle.attr_sets.specs.declared.set.AttrSet.{AttrSet}
-use Rattle.attr_sets.specs.declared.set.TheConstants.{PLACES}
-use Rattle.attr_sets.specs.Sets.{places}
+use Rattle.attr_sets.specs.declared.set.TheConstants.{MOST_ATTRIBUTES}
+use Rattle.attr_sets.specs.Sets.{attributes}
 use Rattle.dep_model.specs.declared.dep.Dep.{Dep}
 use Rattle.dep_model.specs.Dependencies.{Dependency, fd, mvd}
 use Rattle.dep_model.specs.Deps.{dependencies_of, IsDepWithin}
@@ -18,46 +18,46 @@ abbrev pub sets_of : Pieces → List AttrSet
 sets_of found = take found.count found.sets
 
 -- attribute a is determined, or in one of the sets
-abbrev pub IsTold : ℕ → List Dependency → Places → List AttrSet → ℕ → Type 0
-IsTold n ds x ps a = Implies n ds (fd x (only a)) ⊎ Any (λ p. places p a ≡ true) ps
+abbrev pub IsTold : ℕ → List Dependency → Attributes → List AttrSet → ℕ → Type 0
+IsTold n ds x ps a = Implies n ds (fd x (only a)) ⊎ Any (λ p. attributes p a ≡ true) ps
 
 -- blocks of x, in which each attribute is that x does not determine
-pub record ArePieces (n : ℕ) (ds : List Dependency) (x : Places) (found : Pieces) : Type 0 where
+pub record ArePieces (n : ℕ) (ds : List Dependency) (x : Attributes) (found : Pieces) : Type 0 where
   pub size : length found.sets ≡ MOST_BLOCKS
   pub few : found.count ≤ MOST_BLOCKS
-  pub each : All (λ p. IsBlock n ds x (places p)) (sets_of found)
+  pub each : All (λ p. IsBlock n ds x (attributes p)) (sets_of found)
   pub told : (a : ℕ) → a < n → IsTold n ds x (sets_of found) a
 
 -- a set outside x that x multidetermines, over dependencies within the universe
-pub record CanRefine (n : ℕ) (ds : List Dep) (x w : Places) : Type 0 where
+pub record CanRefine (n : ℕ) (ds : List Dep) (x w : Attributes) : Type 0 where
   pub deps : All (IsDepWithin (below n)) ds
-  pub lhs : Within x (below n)
-  pub universe : Within w (below n)
-  pub outside : Apart w x
+  pub lhs : IsSubset x (below n)
+  pub universe : IsSubset w (below n)
+  pub outside : Disjoint w x
   pub implied : Implies n (dependencies_of ds) (mvd x w)
 
 -- there is room for one set for each attribute of a piece
-pub record HasRoom (w : Places) (found : Pieces) : Type 0 where
+pub record HasRoom (w : Attributes) (found : Pieces) : Type 0 where
   pub size : length found.sets ≡ MOST_BLOCKS
-  pub room : found.count + count_below w PLACES ≤ MOST_BLOCKS
+  pub room : found.count + count_below w MOST_ATTRIBUTES ≤ MOST_BLOCKS
 
 -- what holds once a piece of x is refined
-pub record AreRefined (n : ℕ) (ds : List Dependency) (x w : Places) (before after : List AttrSet)
+pub record AreRefined (n : ℕ) (ds : List Dependency) (x w : Attributes) (before after : List AttrSet)
     : Type 0 where
-  pub each : All (λ p. IsBlock n ds x (places p)) before → All (λ p. IsBlock n ds x (places p)) after
+  pub each : All (λ p. IsBlock n ds x (attributes p)) before → All (λ p. IsBlock n ds x (attributes p)) after
   pub told : (a : ℕ) → w a ≡ true → IsTold n ds x after a
 
 -- the blocks of a piece were added
-pub record IsRefined (ds : List Dep) (w : Places) (before after : Pieces) : Type 0 where
+pub record IsRefined (ds : List Dep) (w : Attributes) (before after : Pieces) : Type 0 where
   pub size : length after.sets ≡ MOST_BLOCKS
-  pub room : after.count ≤ before.count + count_below w PLACES
-  pub kept : (a : ℕ) → Any (λ p. places p a ≡ true) (sets_of before)
-      → Any (λ p. places p a ≡ true) (sets_of after)
-  pub refined : (n : ℕ) (x : Places) → CanRefine n ds x w
+  pub room : after.count ≤ before.count + count_below w MOST_ATTRIBUTES
+  pub kept : (a : ℕ) → Any (λ p. attributes p a ≡ true) (sets_of before)
+      → Any (λ p. attributes p a ≡ true) (sets_of after)
+  pub refined : (n : ℕ) (x : Attributes) → CanRefine n ds x w
       → AreRefined n (dependencies_of ds) x w (sets_of before) (sets_of after)
 
 -- the block of x with attribute a, or nothing where x determines a
-pub record IsPieceWith (n : ℕ) (ds : List Dependency) (x : Places) (a : ℕ) (p : Places) : Type 0 where
+pub record IsPieceWith (n : ℕ) (ds : List Dependency) (x : Attributes) (a : ℕ) (p : Attributes) : Type 0 where
   pub nothing : IsEmpty p → Implies n ds (fd x (only a))
   pub block : (IsEmpty p → ⊥) → IsBlock n ds x p
   pub member : (IsEmpty p → ⊥) → p a ≡ true

@@ -1,7 +1,7 @@
 -- When an answer of `prove` is right. Of this `implies` (`desk_cli/Implication`) cites that its
 -- derivation is the functional chain, where there is one.
 use Rattle.std.specs.Prelude.{◌≡◌, ℕ, ◌<◌, Some, slice_get}
-use Rattle.attr_sets.specs.Sets.{places}
+use Rattle.attr_sets.specs.Sets.{attributes}
 use Rattle.dep_model.specs.declared.schema.Schema.{Schema}
 use Rattle.dep_model.specs.Dependencies.{Dependency, fd, mvd, functional_part}
 use Rattle.dep_model.specs.Implication.{Implies}
@@ -11,7 +11,7 @@ use Rattle.derivation.specs.Derivs.{tree_of}
 use Rattle.dep_basis.specs.declared.proving.Proof.{Proof}
 use Rattle.dep_basis.specs.declared.proving.Proof.TheVariants.{Yes, No}
 use Rattle.dep_basis.specs.Decisions.{IsBrokenBy}
-use Rattle.dep_basis.specs.Joined.{IsProofOf}
+use Rattle.dep_basis.specs.JoinedProofs.{IsProofOf}
 use Rattle.derivation.specs.Chains.{IsFunctionalChain}
 use Rattle.derivation.specs.Direct.{IsDirect}
 
@@ -41,7 +41,7 @@ IsDirectAnswer s d (No agreement) = Unit {0}
 -- an answer is right: a derivation of the dependency, or two rows that obey the schema and break it
 abbrev pub IsAnswer : Schema → Dependency → Proof → Type 0
 IsAnswer s d (Yes b) = IsProofOf s d (tree_of b.value) × IsChainIfFunctional s d (tree_of b.value)
-IsAnswer s d (No agreement) = IsBrokenBy (width_of s) (theory_of s) d (places agreement)
+IsAnswer s d (No agreement) = IsBrokenBy (width_of s) (theory_of s) d (attributes agreement)
 
 -- the answer is a derivation
 abbrev pub IsYes : Proof → Type 0

@@ -1,7 +1,7 @@
 ghost use Rattle.std.specs.Prelude.{◌≡◌, ℕ, ◌<◌, ◌≤◌, ◌↔◌, true, All, IsNone, IfSome};
-ghost use Rattle.attr_sets.specs.Places.{below, Within};
-ghost use Rattle.attr_sets.specs.Sets.{places};
-ghost use Rattle.attr_sets.specs.declared.set.TheConstants.{PLACES};
+ghost use Rattle.attr_sets.specs.Attributes.{below, IsSubset};
+ghost use Rattle.attr_sets.specs.Sets.{attributes};
+ghost use Rattle.attr_sets.specs.declared.set.TheConstants.{MOST_ATTRIBUTES};
 ghost use Rattle.dep_model.specs.Deps.{dependencies_of, IsDepWithin};
 ghost use Rattle.dep_model.specs.Keys.{InClosure, IsBlock};
 ghost use Rattle.dep_model.specs.Schemas.{width_of, universe_of, theory_of};
@@ -15,61 +15,62 @@ use dep_model::{Dep, Schema};
 
 /// The dependency basis of a left side: the attributes that it determines, and the blocks, the least
 /// sets of other attributes that it multidetermines (Beeri 1980). A set is multidetermined exactly
-/// where no block meets both it and its complement.
+/// where no block intersects both it and its complement.
 pub fn basis(schema: &Schema, lhs: AttrSet) -> Blocks
-    requires within { Within (places lhs) (universe_of schema.now) }
-    ensures basis { IsBasis (width_of schema.now) (theory_of schema.now) (places lhs) result }
+    requires within { IsSubset (attributes lhs) (universe_of schema.now) }
+    ensures basis { IsBasis (width_of schema.now) (theory_of schema.now) (attributes lhs) result }
 {
     basis_by(schema.deps(), schema.width(), lhs)
 }
 
 /// The dependency basis by a list of dependencies over this many attributes.
 pub fn basis_by(deps: &[Dep], width: u8, lhs: AttrSet) -> Blocks
-    requires width { width ≤ PLACES }
+    requires width { width ≤ MOST_ATTRIBUTES }
     requires deps { All (IsDepWithin (below width)) deps.now }
-    requires lhs { Within (places lhs) (below width) }
-    ensures basis { IsBasis width (dependencies_of deps.now) (places lhs) result }
+    requires lhs { IsSubset (attributes lhs) (below width) }
+    ensures basis { IsBasis width (dependencies_of deps.now) (attributes lhs) result }
 {
     traces(deps, width, AttrSet::full(width), lhs)
 }
 
 /// What a scheme has of a dependency basis. It decides what is implied on the scheme.
 pub fn trace_basis(schema: &Schema, scheme: AttrSet, lhs: AttrSet) -> Blocks
-    requires scheme { Within (places scheme) (universe_of schema.now) }
-    requires lhs { Within (places lhs) (places scheme) }
-    ensures basis { IsTraceBasis (width_of schema.now) (theory_of schema.now) (places scheme)
-        (places lhs) result }
+    requires scheme { IsSubset (attributes scheme) (universe_of schema.now) }
+    requires lhs { IsSubset (attributes lhs) (attributes scheme) }
+    ensures basis { IsTraceBasis (width_of schema.now) (theory_of schema.now) (attributes scheme)
+        (attributes lhs) result }
 {
     trace_basis_by(schema.deps(), schema.width(), scheme, lhs)
 }
 
 /// What a scheme has of a dependency basis by a list of dependencies over this many attributes.
 pub fn trace_basis_by(deps: &[Dep], width: u8, scheme: AttrSet, lhs: AttrSet) -> Blocks
-    requires width { width ≤ PLACES }
+    requires width { width ≤ MOST_ATTRIBUTES }
     requires deps { All (IsDepWithin (below width)) deps.now }
-    requires scheme { Within (places scheme) (below width) }
-    requires lhs { Within (places lhs) (places scheme) }
-    ensures basis { IsTraceBasis width (dependencies_of deps.now) (places scheme) (places lhs) result }
+    requires scheme { IsSubset (attributes scheme) (below width) }
+    requires lhs { IsSubset (attributes lhs) (attributes scheme) }
+    ensures basis { IsTraceBasis width (dependencies_of deps.now) (attributes scheme)
+        (attributes lhs) result }
 {
     traces(deps, width, scheme, lhs)
 }
 
 /// The attributes that a left side determines.
-pub fn closed(schema: &Schema, lhs: AttrSet) -> AttrSet
-    requires within { Within (places lhs) (universe_of schema.now) }
-    ensures closed { (a : ℕ) → (places result a ≡ true)
-        ↔ InClosure (width_of schema.now) (theory_of schema.now) (places lhs) a }
+pub fn closure_of(schema: &Schema, lhs: AttrSet) -> AttrSet
+    requires within { IsSubset (attributes lhs) (universe_of schema.now) }
+    ensures closure { (a : ℕ) → (attributes result a ≡ true)
+        ↔ InClosure (width_of schema.now) (theory_of schema.now) (attributes lhs) a }
 {
-    closed_by(schema.deps(), schema.width(), lhs)
+    closure_by(schema.deps(), schema.width(), lhs)
 }
 
 /// The attributes that a left side determines by a list of dependencies over this many attributes.
-pub fn closed_by(deps: &[Dep], width: u8, lhs: AttrSet) -> AttrSet
-    requires width { width ≤ PLACES }
+pub fn closure_by(deps: &[Dep], width: u8, lhs: AttrSet) -> AttrSet
+    requires width { width ≤ MOST_ATTRIBUTES }
     requires deps { All (IsDepWithin (below width)) deps.now }
-    requires lhs { Within (places lhs) (below width) }
-    ensures closed { (a : ℕ) → (places result a ≡ true)
-        ↔ InClosure width (dependencies_of deps.now) (places lhs) a }
+    requires lhs { IsSubset (attributes lhs) (below width) }
+    ensures closure { (a : ℕ) → (attributes result a ≡ true)
+        ↔ InClosure width (dependencies_of deps.now) (attributes lhs) a }
 {
     let found = all_pieces(deps, width, lhs);
     outside_all(AttrSet::full(width), &found.sets[..found.count as usize])
@@ -77,26 +78,28 @@ pub fn closed_by(deps: &[Dep], width: u8, lhs: AttrSet) -> AttrSet
 
 /// The block of a left side with an attribute in it; none where the left side determines the attribute.
 pub fn block(schema: &Schema, lhs: AttrSet, attribute: u8) -> Option<AttrSet>
-    requires lhs { Within (places lhs) (universe_of schema.now) }
+    requires lhs { IsSubset (attributes lhs) (universe_of schema.now) }
     requires attribute { attribute < width_of schema.now }
     ensures none { IsNone result
-        ↔ InClosure (width_of schema.now) (theory_of schema.now) (places lhs) attribute }
+        ↔ InClosure (width_of schema.now) (theory_of schema.now) (attributes lhs) attribute }
     ensures block { IfSome result
-        (λ p. IsBlock (width_of schema.now) (theory_of schema.now) (places lhs) (places p)) }
-    ensures member { IfSome result (λ p. places p attribute ≡ true) }
+        (λ p. IsBlock (width_of schema.now) (theory_of schema.now) (attributes lhs) (attributes p)) }
+    ensures member { IfSome result (λ p. attributes p attribute ≡ true) }
 {
     block_by(schema.deps(), schema.width(), lhs, attribute)
 }
 
 /// The block with an attribute in it by a list of dependencies over this many attributes.
 pub fn block_by(deps: &[Dep], width: u8, lhs: AttrSet, attribute: u8) -> Option<AttrSet>
-    requires width { width ≤ PLACES }
+    requires width { width ≤ MOST_ATTRIBUTES }
     requires deps { All (IsDepWithin (below width)) deps.now }
-    requires lhs { Within (places lhs) (below width) }
+    requires lhs { IsSubset (attributes lhs) (below width) }
     requires attribute { attribute < width }
-    ensures none { IsNone result ↔ InClosure width (dependencies_of deps.now) (places lhs) attribute }
-    ensures block { IfSome result (λ p. IsBlock width (dependencies_of deps.now) (places lhs) (places p)) }
-    ensures member { IfSome result (λ p. places p attribute ≡ true) }
+    ensures none { IsNone result ↔ InClosure width (dependencies_of deps.now)
+        (attributes lhs) attribute }
+    ensures block { IfSome result (λ p. IsBlock width (dependencies_of deps.now) (attributes lhs)
+        (attributes p)) }
+    ensures member { IfSome result (λ p. attributes p attribute ≡ true) }
 {
     let found = block_of(deps, width, lhs, attribute);
     if found.is_empty() {

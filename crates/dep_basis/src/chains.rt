@@ -1,13 +1,13 @@
 ghost use Rattle.std.specs.Prelude.{◌≡◌, ◌↔◌, ◌<◌, ◌≤◌, ◌+◌, ◌*◌, IsTrue, IsNone, IsSome, IfSome, IfOk};
-ghost use Rattle.attr_sets.specs.declared.set.TheConstants.{PLACES};
-ghost use Rattle.attr_sets.specs.Places.{Places, Within};
-ghost use Rattle.attr_sets.specs.Sets.{places};
+ghost use Rattle.attr_sets.specs.declared.set.TheConstants.{MOST_ATTRIBUTES};
+ghost use Rattle.attr_sets.specs.Attributes.{Attributes, IsSubset};
+ghost use Rattle.attr_sets.specs.Sets.{attributes};
 ghost use Rattle.dep_model.specs.Dependencies.{fd, functional_part};
 ghost use Rattle.dep_model.specs.Deps.{dependency_of};
 ghost use Rattle.dep_model.specs.Implication.{Implies};
 ghost use Rattle.dep_model.specs.Schemas.{width_of, theory_of, universe_of};
 ghost use Rattle.dep_model.proofs.DepLemmas.{IfFd};
-ghost use Rattle.fd_closure.specs.Settled.{IsSettled};
+ghost use Rattle.fd_closure.specs.FunctionallyClosed.{IsFunctionallyClosed};
 ghost use Rattle.derivation.specs.Trees.{nodes, depth};
 ghost use Rattle.derivation.specs.Derivs.{tree_of};
 ghost use Rattle.derivation.specs.Conclusions.{Proves};
@@ -15,7 +15,7 @@ ghost use Rattle.derivation.specs.Chains.{IsFirstOut, IsFunctionalChain};
 ghost use Rattle.dep_basis.specs.Leads.{IsRightSideOut};
 
 use attr_sets::AttrSet;
-use dep_model::{Dep, Schema, WantMemory};
+use dep_model::{Dep, OutOfMemory, Schema};
 use derivation::{Deriv, LeafRule, PairRule, StepRule};
 use std::alloc::Global;
 
@@ -34,24 +34,26 @@ pub fn functional_chain(
     schema: &Schema,
     lhs: AttrSet,
     rhs: AttrSet,
-) -> Result<Option<Box<Deriv>>, WantMemory>
-    requires lhs { Within (places lhs) (universe_of schema.now) }
-    requires rhs { Within (places rhs) (universe_of schema.now) }
-    ensures some { IfOk result
+) -> Result<Option<Box<Deriv>>, OutOfMemory>
+    requires lhs { IsSubset (attributes lhs) (universe_of schema.now) }
+    requires rhs { IsSubset (attributes rhs) (universe_of schema.now) }
+    ensures found_where_implied { IfOk result
         (λ found. IsSome found ↔ Implies (width_of schema.now) (functional_part (theory_of schema.now))
-        (fd (places lhs) (places rhs))) }
+        (fd (attributes lhs) (attributes rhs))) }
     ensures chain { IfOk result
         (λ found. IfSome found
-        (λ b. IsFunctionalChain schema.now (places lhs) (places rhs) (tree_of b.value))) }
+        (λ b. IsFunctionalChain schema.now (attributes lhs) (attributes rhs) (tree_of b.value))) }
     ensures proves { IfOk result
         (λ found. IfSome found
-        (λ b. Proves schema.now (tree_of b.value) (fd (places lhs) (places rhs)))) }
-    ensures few_nodes { IfOk result (λ found. IfSome found (λ b. nodes (tree_of b.value) ≤ 3 * PLACES + 3)) }
-    ensures few_levels { IfOk result (λ found. IfSome found (λ b. depth (tree_of b.value) ≤ PLACES + 3)) }
+        (λ b. Proves schema.now (tree_of b.value) (fd (attributes lhs) (attributes rhs)))) }
+    ensures few_nodes { IfOk result (λ found. IfSome found (λ b. nodes
+        (tree_of b.value) ≤ 3 * MOST_ATTRIBUTES + 3)) }
+    ensures few_levels { IfOk result (λ found. IfSome found (λ b. depth
+        (tree_of b.value) ≤ MOST_ATTRIBUTES + 3)) }
 {
     let mut closed = lhs;
     let mut chain = Box::new(alloc, Deriv::Leaf(LeafRule::Reflexivity { lhs, rhs: lhs }))?;
-    while !rhs.within(closed) {
+    while !rhs.is_subset(closed) {
         let Some(lead) = first_out(schema, closed) else {
             return Ok(None);
         };
@@ -72,9 +74,10 @@ pub fn functional_chain(
 
 // The first functional dependency that leads out of a set.
 fn first_out(schema: &Schema, closed: AttrSet) -> Option<Lead>
-    ensures none { IsNone result → IsSettled (functional_part (theory_of schema.now)) (places closed) }
+    ensures none { IsNone result → IsFunctionallyClosed (functional_part (theory_of schema.now))
+        (attributes closed) }
     ensures first { IfSome result
-        (λ lead. IsFirstOut schema.now (places closed) lead.number (places lead.rhs)) }
+        (λ lead. IsFirstOut schema.now (attributes closed) lead.number (attributes lead.rhs)) }
 {
     for (number, dep) in schema.deps().iter().enumerate() {
         if let Some(rhs) = right_side_out(*dep, closed) {
@@ -89,12 +92,14 @@ fn first_out(schema: &Schema, closed: AttrSet) -> Option<Lead>
 
 // The right side of a functional dependency that leads out of a set.
 fn right_side_out(dep: Dep, closed: AttrSet) -> Option<AttrSet>
-    ensures none { IsNone result → IfFd (λ x y. Within x (places closed) → Within y (places closed)) dep }
-    ensures some { IfSome result (λ rhs. IsRightSideOut (places closed) (dependency_of dep) (places rhs)) }
+    ensures none { IsNone result → IfFd (λ x y. IsSubset x (attributes closed)
+        → IsSubset y (attributes closed)) dep }
+    ensures right_side { IfSome result (λ rhs. IsRightSideOut (attributes closed) (dependency_of dep)
+        (attributes rhs)) }
 {
     match dep {
         Dep::Fd { lhs, rhs } => {
-            if lhs.within(closed) && !rhs.within(closed) {
+            if lhs.is_subset(closed) && !rhs.is_subset(closed) {
                 Some(rhs)
             } else {
                 None

@@ -1,10 +1,10 @@
 ghost use Rattle.std.specs.Prelude.{◌≡◌, ◌<◌, true, false, All, length, slice_index_or, IsNone, IfSome, IsTrue};
-ghost use Rattle.attr_sets.specs.Sets.{places};
-ghost use Rattle.attr_sets.specs.declared.set.TheConstants.{PLACES};
+ghost use Rattle.attr_sets.specs.Sets.{attributes};
+ghost use Rattle.attr_sets.specs.declared.set.TheConstants.{MOST_ATTRIBUTES};
 ghost use Rattle.dep_model.specs.Deps.{dependency_of, dependencies_of};
 ghost use Rattle.dep_basis.specs.Refining.{LeavesWhole};
 ghost use Rattle.dep_model.specs.declared.dep.Dep.{Dep};
-ghost use Rattle.dep_basis.specs.Shown.{IsCutting, IsBestCut, IsBetterCut};
+ghost use Rattle.dep_basis.specs.CutProofs.{IsCutting, IsBestCut, IsBetterCut};
 
 use crate::refining::cut_by;
 use attr_sets::AttrSet;
@@ -13,10 +13,10 @@ use dep_model::{Dep, sides};
 // A dependency that cuts a part, by its number from 0; none only where each leaves the part whole.
 pub fn next_cut(deps: &[Dep], part: AttrSet) -> Option<usize>
     ensures none { IsNone result
-        → All (LeavesWhole (places part) (places part)) (dependencies_of deps.now) }
-    ensures place { IfSome result (λ k. k < length deps.now) }
+        → All (LeavesWhole (attributes part) (attributes part)) (dependencies_of deps.now) }
+    ensures position { IfSome result (λ k. k < length deps.now) }
     ensures cuts { IfSome result (λ k.
-        (d : Dep) → IsCutting (places part) (dependency_of (slice_index_or deps.now k d))) }
+        (d : Dep) → IsCutting (attributes part) (dependency_of (slice_index_or deps.now k d))) }
 {
     for (k, dep) in deps.iter().enumerate() {
         if is_cutting(*dep, part) {
@@ -35,10 +35,10 @@ struct Cut {
 
 // The first of the dependencies that cut a part which leaves the fewest attributes beside one of it.
 pub fn best_cut(deps: &[Dep], part: AttrSet, attribute: u8) -> Option<usize>
-    requires attribute { attribute < PLACES }
+    requires attribute { attribute < MOST_ATTRIBUTES }
     ensures none { IsNone result
-        → All (LeavesWhole (places part) (places part)) (dependencies_of deps.now) }
-    ensures best { IfSome result (IsBestCut deps.now (places part) attribute) }
+        → All (LeavesWhole (attributes part) (attributes part)) (dependencies_of deps.now) }
+    ensures best { IfSome result (IsBestCut deps.now (attributes part) attribute) }
 {
     let mut best = None;
     for (k, dep) in deps.iter().enumerate() {
@@ -58,9 +58,10 @@ fn better_cut(
     part: AttrSet,
     attribute: u8,
 ) -> Option<Cut>
-    requires attribute { attribute < PLACES }
-    ensures none { IsNone result → IsNone best × LeavesWhole (places part) (places part) (dependency_of dep) }
-    ensures better { IsBetterCut attribute (places part) (dependency_of dep) number best result }
+    requires attribute { attribute < MOST_ATTRIBUTES }
+    ensures none { IsNone result → IsNone best
+        × LeavesWhole (attributes part) (attributes part) (dependency_of dep) }
+    ensures better { IsBetterCut attribute (attributes part) (dependency_of dep) number best result }
 {
     if !is_cutting(dep, part) {
         return best;
@@ -80,15 +81,16 @@ fn better_cut(
 
 // Whether a dependency cuts a part.
 fn is_cutting(dep: Dep, part: AttrSet) -> bool
-    ensures cuts { IsTrue result → IsCutting (places part) (dependency_of dep) }
-    ensures whole { result ≡ false → LeavesWhole (places part) (places part) (dependency_of dep) }
+    ensures cuts { IsTrue result → IsCutting (attributes part) (dependency_of dep) }
+    ensures leaves_whole { result ≡ false
+        → LeavesWhole (attributes part) (attributes part) (dependency_of dep) }
 {
     let (lhs, rhs) = sides(dep);
-    if lhs.meets(part) || !rhs.meets(part) {
+    if lhs.intersects(part) || !rhs.intersects(part) {
         return false;
     }
     match dep {
         Dep::Fd { .. } => true,
-        Dep::Mvd { .. } => !part.within(rhs),
+        Dep::Mvd { .. } => !part.is_subset(rhs),
     }
 }

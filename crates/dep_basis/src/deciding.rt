@@ -1,7 +1,7 @@
 ghost use Rattle.std.specs.Prelude.{◌≡◌, ◌≤◌, ◌↔◌, IsNone, IfSome, All};
-ghost use Rattle.attr_sets.specs.Places.{below, Within, Meets};
-ghost use Rattle.attr_sets.specs.Sets.{places};
-ghost use Rattle.attr_sets.specs.declared.set.TheConstants.{PLACES};
+ghost use Rattle.attr_sets.specs.Attributes.{below, IsSubset, Intersects};
+ghost use Rattle.attr_sets.specs.Sets.{attributes};
+ghost use Rattle.attr_sets.specs.declared.set.TheConstants.{MOST_ATTRIBUTES};
 ghost use Rattle.dep_model.specs.Dependencies.{fd, mvd};
 ghost use Rattle.dep_model.specs.Deps.{dependency_of, dependencies_of, IsDepWithin};
 ghost use Rattle.dep_model.specs.Implication.{Implies};
@@ -25,8 +25,8 @@ pub enum Decision {
 }
 
 /// Decides whether a schema implies a dependency. Where it does not, the two rows agree outside one
-/// block of the left side: for a functional dependency that of the least attribute of the right side
-/// outside the closed set, for a multivalued one the first that meets both the right side and its
+/// block of the left side: for a functional dependency that of the first attribute of the right side
+/// outside the closed set, for a multivalued one the first that intersects both the right side and its
 /// complement.
 pub fn decide(schema: &Schema, dep: Dep) -> Decision
     requires within { IsDepWithin (universe_of schema.now) dep }
@@ -38,7 +38,7 @@ pub fn decide(schema: &Schema, dep: Dep) -> Decision
 
 /// Decides whether a list of dependencies over this many attributes implies a dependency.
 pub fn decide_by(deps: &[Dep], width: u8, dep: Dep) -> Decision
-    requires width { width ≤ PLACES }
+    requires width { width ≤ MOST_ATTRIBUTES }
     requires deps { All (IsDepWithin (below width)) deps.now }
     requires within { IsDepWithin (below width) dep }
     ensures decision { IsDecided width (dependencies_of deps.now) (dependency_of dep) result }
@@ -48,19 +48,19 @@ pub fn decide_by(deps: &[Dep], width: u8, dep: Dep) -> Decision
     match breaking_block(deps, width, dep) {
         None => Decision::Implied,
         Some(block) => Decision::Broken {
-            agreement: AttrSet::full(width).minus(block),
+            agreement: AttrSet::full(width).difference(block),
         },
     }
 }
 
 // The block that shows that a dependency is not implied.
 fn breaking_block(deps: &[Dep], width: u8, dep: Dep) -> Option<AttrSet>
-    requires width { width ≤ PLACES }
+    requires width { width ≤ MOST_ATTRIBUTES }
     requires deps { All (IsDepWithin (below width)) deps.now }
     requires within { IsDepWithin (below width) dep }
     ensures none { IsNone result ↔ Implies width (dependencies_of deps.now) (dependency_of dep) }
     ensures block { IfSome result (λ p.
-        IsBreakingBlock width (dependencies_of deps.now) (dependency_of dep) (places p)) }
+        IsBreakingBlock width (dependencies_of deps.now) (dependency_of dep) (attributes p)) }
 {
     match dep {
         Dep::Fd { lhs, rhs } => block_beyond(deps, width, lhs, rhs),
@@ -68,19 +68,20 @@ fn breaking_block(deps: &[Dep], width: u8, dep: Dep) -> Option<AttrSet>
     }
 }
 
-// The block of the least attribute of the right side that the left side does not determine. Those that
+// The block of the first attribute of the right side that the left side does not determine. Those that
 // the functional dependencies alone determine are passed over at once.
 fn block_beyond(deps: &[Dep], width: u8, lhs: AttrSet, rhs: AttrSet) -> Option<AttrSet>
-    requires width { width ≤ PLACES }
+    requires width { width ≤ MOST_ATTRIBUTES }
     requires deps { All (IsDepWithin (below width)) deps.now }
-    requires lhs { Within (places lhs) (below width) }
-    requires rhs { Within (places rhs) (below width) }
-    ensures none { IsNone result ↔ Implies width (dependencies_of deps.now) (fd (places lhs) (places rhs)) }
+    requires lhs { IsSubset (attributes lhs) (below width) }
+    requires rhs { IsSubset (attributes rhs) (below width) }
+    ensures none { IsNone result ↔ Implies width (dependencies_of deps.now) (fd (attributes lhs)
+        (attributes rhs)) }
     ensures block { IfSome result (λ p.
-        IsBreakingBlock width (dependencies_of deps.now) (fd (places lhs) (places rhs)) (places p)) }
+        IsBreakingBlock width (dependencies_of deps.now) (fd (attributes lhs) (attributes rhs)) (attributes p)) }
 {
-    let mut left = rhs.minus(closure(deps, lhs));
-    while let Some(first) = left.least() {
+    let mut left = rhs.difference(closure(deps, lhs));
+    while let Some(first) = left.first() {
         let block = block_by(deps, width, lhs, first);
         if block.is_some() {
             return block;
@@ -90,33 +91,36 @@ fn block_beyond(deps: &[Dep], width: u8, lhs: AttrSet, rhs: AttrSet) -> Option<A
     None
 }
 
-// The first block that meets both the right side and its complement.
+// The first block that intersects both the right side and its complement.
 fn block_split(deps: &[Dep], width: u8, lhs: AttrSet, rhs: AttrSet) -> Option<AttrSet>
-    requires width { width ≤ PLACES }
+    requires width { width ≤ MOST_ATTRIBUTES }
     requires deps { All (IsDepWithin (below width)) deps.now }
-    requires lhs { Within (places lhs) (below width) }
-    requires rhs { Within (places rhs) (below width) }
-    ensures none { IsNone result ↔ Implies width (dependencies_of deps.now) (mvd (places lhs) (places rhs)) }
+    requires lhs { IsSubset (attributes lhs) (below width) }
+    requires rhs { IsSubset (attributes rhs) (below width) }
+    ensures none { IsNone result ↔ Implies width (dependencies_of deps.now) (mvd (attributes lhs)
+        (attributes rhs)) }
     ensures block { IfSome result (λ p.
-        IsBreakingBlock width (dependencies_of deps.now) (mvd (places lhs) (places rhs)) (places p)) }
+        IsBreakingBlock width (dependencies_of deps.now) (mvd (attributes lhs) (attributes rhs)) (attributes p)) }
 {
     let found = basis_by(deps, width, lhs);
     first_meeting(
         &found.blocks[..found.count as usize],
         rhs,
-        AttrSet::full(width).minus(rhs),
+        AttrSet::full(width).difference(rhs),
     )
 }
 
-// The first block that meets two sets.
+// The first block that intersects two sets.
 fn first_meeting(blocks: &[AttrSet], one: AttrSet, other: AttrSet) -> Option<AttrSet>
     ensures none { IsNone result
-        ↔ All (λ p. Meets (places p) (places one) × Meets (places p) (places other) → ⊥) blocks.now }
+        ↔ All (λ p. Intersects (attributes p) (attributes one)
+        × Intersects (attributes p) (attributes other) → ⊥) blocks.now }
     ensures first { IfSome result
-        (IsFirstWith (λ p. Meets (places p) (places one) × Meets (places p) (places other)) blocks.now) }
+        (IsFirstWith (λ p. Intersects (attributes p) (attributes one)
+        × Intersects (attributes p) (attributes other)) blocks.now) }
 {
     for block in blocks {
-        if block.meets(one) && block.meets(other) {
+        if block.intersects(one) && block.intersects(other) {
             return Some(*block);
         }
     }

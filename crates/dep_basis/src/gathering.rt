@@ -1,7 +1,7 @@
 ghost use Rattle.std.specs.Prelude.{◌≤◌, All};
-ghost use Rattle.attr_sets.specs.Places.{below, Within};
-ghost use Rattle.attr_sets.specs.Sets.{places};
-ghost use Rattle.attr_sets.specs.declared.set.TheConstants.{PLACES};
+ghost use Rattle.attr_sets.specs.Attributes.{below, IsSubset};
+ghost use Rattle.attr_sets.specs.Sets.{attributes};
+ghost use Rattle.attr_sets.specs.declared.set.TheConstants.{MOST_ATTRIBUTES};
 ghost use Rattle.dep_model.specs.Deps.{dependencies_of, IsDepWithin};
 ghost use Rattle.dep_basis.specs.Traces.{AreTraces};
 
@@ -24,26 +24,27 @@ pub struct Blocks {
 // The closed set of a left side and its blocks, as a scheme has them. The least attribute that is left
 // of the scheme is closed, or it begins the next trace.
 pub fn traces(deps: &[Dep], width: u8, scheme: AttrSet, lhs: AttrSet) -> Blocks
-    requires width { width ≤ PLACES }
+    requires width { width ≤ MOST_ATTRIBUTES }
     requires deps { All (IsDepWithin (below width)) deps.now }
-    requires scheme { Within (places scheme) (below width) }
-    requires lhs { Within (places lhs) (below width) }
-    ensures traces { AreTraces width (dependencies_of deps.now) (places scheme) (places lhs) result }
+    requires scheme { IsSubset (attributes scheme) (below width) }
+    requires lhs { IsSubset (attributes lhs) (below width) }
+    ensures traces { AreTraces width (dependencies_of deps.now) (attributes scheme)
+        (attributes lhs) result }
 {
     let found = all_pieces(deps, width, lhs);
     let mut closed = AttrSet::empty();
     let mut blocks = [AttrSet::empty(); MOST_BLOCKS];
     let mut count: u8 = 0;
     let mut left = scheme;
-    while let Some(first) = left.least() {
+    while let Some(first) = left.first() {
         let block = piece_with(&found.sets[..found.count as usize], first);
         if block == AttrSet::empty() {
             closed = closed.with(first);
             left = left.without(first);
         } else {
-            blocks[count as usize] = block.meet(scheme);
+            blocks[count as usize] = block.intersection(scheme);
             count += 1;
-            left = left.minus(block);
+            left = left.difference(block);
         }
     }
     Blocks {

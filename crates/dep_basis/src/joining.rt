@@ -1,16 +1,16 @@
 ghost use Rattle.std.specs.Prelude.{◌≡◌, ◌<◌, false, IfOk};
-ghost use Rattle.attr_sets.specs.Places.{only, Within};
-ghost use Rattle.attr_sets.specs.Sets.{places};
+ghost use Rattle.attr_sets.specs.Attributes.{only, IsSubset};
+ghost use Rattle.attr_sets.specs.Sets.{attributes};
 ghost use Rattle.dep_model.specs.Dependencies.{fd, mvd};
 ghost use Rattle.dep_model.specs.Schemas.{width_of, universe_of, ImpliedBy};
 ghost use Rattle.derivation.specs.Derivs.{tree_of};
-ghost use Rattle.dep_basis.specs.Shown.{IsClosedProof};
-ghost use Rattle.dep_basis.specs.Joined.{IsProofOf, IsSetProof};
+ghost use Rattle.dep_basis.specs.CutProofs.{IsClosedProof};
+ghost use Rattle.dep_basis.specs.JoinedProofs.{IsProofOf, IsSetProof};
 
 use crate::makers::{mreflexivity, reflexivity};
 use crate::showing::{PartProof, Shown, show_attribute};
 use attr_sets::AttrSet;
-use dep_model::{Schema, WantMemory};
+use dep_model::{OutOfMemory, Schema};
 use derivation::{Deriv, StepRule, unite_fd, unite_mvd};
 use std::alloc::Global;
 
@@ -21,19 +21,20 @@ pub fn join_fd(
     schema: &Schema,
     lhs: AttrSet,
     rhs: AttrSet,
-) -> Result<Box<Deriv>, WantMemory>
-    requires lhs { Within (places lhs) (universe_of schema.now) }
-    requires rhs { Within (places rhs) (universe_of schema.now) }
-    requires implied { ImpliedBy schema.now (fd (places lhs) (places rhs)) }
-    ensures proof { IfOk result (λ b. IsProofOf schema.now (fd (places lhs) (places rhs)) (tree_of b.value)) }
+) -> Result<Box<Deriv>, OutOfMemory>
+    requires lhs { IsSubset (attributes lhs) (universe_of schema.now) }
+    requires rhs { IsSubset (attributes rhs) (universe_of schema.now) }
+    requires implied { ImpliedBy schema.now (fd (attributes lhs) (attributes rhs)) }
+    ensures proof { IfOk result (λ b. IsProofOf schema.now (fd (attributes lhs) (attributes rhs))
+        (tree_of b.value)) }
 {
-    let mut joined = reflexivity(alloc, schema, lhs, lhs.meet(rhs))?;
-    let mut left = rhs.minus(lhs);
-    while let Some(first) = left.least() {
+    let mut joined = reflexivity(alloc, schema, lhs, lhs.intersection(rhs))?;
+    let mut left = rhs.difference(lhs);
+    while let Some(first) = left.first() {
         let next = show_closed(alloc, schema, lhs, first)?;
         let only = AttrSet::single(first);
         let Ok(more) = unite_fd(alloc, lhs, only, joined, next) else {
-            return Err(WantMemory);
+            return Err(OutOfMemory);
         };
         joined = more;
         left = left.without(first);
@@ -47,23 +48,23 @@ pub fn join_mvd(
     schema: &Schema,
     lhs: AttrSet,
     rhs: AttrSet,
-) -> Result<Box<Deriv>, WantMemory>
-    requires lhs { Within (places lhs) (universe_of schema.now) }
-    requires rhs { Within (places rhs) (universe_of schema.now) }
-    requires implied { ImpliedBy schema.now (mvd (places lhs) (places rhs)) }
+) -> Result<Box<Deriv>, OutOfMemory>
+    requires lhs { IsSubset (attributes lhs) (universe_of schema.now) }
+    requires rhs { IsSubset (attributes rhs) (universe_of schema.now) }
+    requires implied { ImpliedBy schema.now (mvd (attributes lhs) (attributes rhs)) }
     ensures proof { IfOk result (λ b.
-        IsProofOf schema.now (mvd (places lhs) (places rhs)) (tree_of b.value)) }
+        IsProofOf schema.now (mvd (attributes lhs) (attributes rhs)) (tree_of b.value)) }
 {
-    let mut joined = mreflexivity(alloc, schema, lhs, lhs.meet(rhs))?;
-    let mut left = rhs.minus(lhs);
-    while let Some(first) = left.least() {
+    let mut joined = mreflexivity(alloc, schema, lhs, lhs.intersection(rhs))?;
+    let mut left = rhs.difference(lhs);
+    while let Some(first) = left.first() {
         let next = show_set(alloc, schema, lhs, first)?;
-        let done = rhs.minus(left);
+        let done = rhs.difference(left);
         let Ok(more) = unite_mvd(alloc, lhs, done, next.part, joined, next.deriv) else {
-            return Err(WantMemory);
+            return Err(OutOfMemory);
         };
         joined = more;
-        left = left.minus(next.part);
+        left = left.difference(next.part);
     }
     Ok(joined)
 }
@@ -74,12 +75,13 @@ fn show_closed(
     schema: &Schema,
     lhs: AttrSet,
     attribute: u8,
-) -> Result<Box<Deriv>, WantMemory>
-    requires lhs { Within (places lhs) (universe_of schema.now) }
+) -> Result<Box<Deriv>, OutOfMemory>
+    requires lhs { IsSubset (attributes lhs) (universe_of schema.now) }
     requires attribute { attribute < width_of schema.now }
-    requires outside { places lhs attribute ≡ false }
-    requires implied { ImpliedBy schema.now (fd (places lhs) (only attribute)) }
-    ensures shown { IfOk result (λ b. IsClosedProof schema.now (places lhs) attribute (tree_of b.value)) }
+    requires outside { attributes lhs attribute ≡ false }
+    requires implied { ImpliedBy schema.now (fd (attributes lhs) (only attribute)) }
+    ensures shown { IfOk result (λ b. IsClosedProof schema.now (attributes lhs) attribute
+        (tree_of b.value)) }
 {
     match show_attribute(alloc, schema, lhs, attribute)? {
         Shown::Closed(deriv) => Ok(deriv),
@@ -94,11 +96,11 @@ fn show_set(
     schema: &Schema,
     lhs: AttrSet,
     attribute: u8,
-) -> Result<PartProof, WantMemory>
-    requires lhs { Within (places lhs) (universe_of schema.now) }
+) -> Result<PartProof, OutOfMemory>
+    requires lhs { IsSubset (attributes lhs) (universe_of schema.now) }
     requires attribute { attribute < width_of schema.now }
-    requires outside { places lhs attribute ≡ false }
-    ensures shown { IfOk result (IsSetProof schema.now (places lhs) attribute) }
+    requires outside { attributes lhs attribute ≡ false }
+    ensures shown { IfOk result (IsSetProof schema.now (attributes lhs) attribute) }
 {
     match show_attribute(alloc, schema, lhs, attribute)? {
         Shown::Closed(deriv) => Ok(PartProof {

@@ -2,13 +2,13 @@
 //! and multivalued dependencies is decided (Beeri 1980).
 //!
 //! `basis` gives exactly the closed set and the blocks, `trace_basis` what a scheme has of them, and so
-//! its parts; `closed` and `block` give one of them alone, and `has_two_parts` stops as soon as it knows.
-//! `decide` says whether a schema implies a dependency, and where it does not, names two rows that obey
-//! the schema and break it; `witness` makes these rows. The calls named `.._by` ask the same of a list of
-//! dependencies over a number of attributes. `prove` gives a derivation of each dependency that is
-//! implied, and `functional_chain` that of a functional one which the functional ones alone imply.
-//! `witness`, `prove` and `functional_chain` take memory, and no other call does. `laws` has what holds
-//! of bases beside what the calls say.
+//! its parts; `closure_of` and `block` give one of them alone, and `has_two_parts` stops as soon as it
+//! knows. `decide` says whether a schema implies a dependency, and where it does not, names two rows
+//! that obey the schema and break it; `witness` makes these rows. The calls named `.._by` ask the same
+//! of a list of dependencies over a number of attributes. `prove` gives a derivation of each dependency
+//! that is implied, and `functional_chain` that of a functional one which the functional ones alone
+//! imply. `witness`, `prove` and `functional_chain` take memory, and no other call does. `laws` has
+//! what holds of bases beside what the calls say.
 #![tactic(auto)]
 
 mod bases;
@@ -26,7 +26,9 @@ mod refining;
 mod showing;
 mod witnessing;
 
-pub use bases::{basis, basis_by, block, block_by, closed, closed_by, trace_basis, trace_basis_by};
+pub use bases::{
+    basis, basis_by, block, block_by, closure_by, closure_of, trace_basis, trace_basis_by,
+};
 pub use chains::functional_chain;
 pub use deciding::{Decision, decide, decide_by};
 pub use gathering::Blocks;

@@ -1,16 +1,16 @@
 ghost use Rattle.std.specs.Prelude.{◌≡◌, ℕ, ◌+◌, ◌<◌, true, Some, slice_get, IfOk};
-ghost use Rattle.attr_sets.specs.Places.{Places, only, minus, Within, Apart};
-ghost use Rattle.attr_sets.specs.Sets.{places};
+ghost use Rattle.attr_sets.specs.Attributes.{Attributes, only, difference, IsSubset, Disjoint};
+ghost use Rattle.attr_sets.specs.Sets.{attributes};
 ghost use Rattle.dep_model.specs.Dependencies.{fd, mvd, left_of, right_of};
 ghost use Rattle.dep_model.specs.Deps.{dependency_of};
 ghost use Rattle.dep_model.specs.Schemas.{width_of, universe_of, deps_of};
 ghost use Rattle.derivation.specs.Trees.{leaf, reflexivity};
 ghost use Rattle.derivation.specs.Derivs.{tree_of};
 ghost use Rattle.derivation.specs.Conclusions.{Proves};
-ghost use Rattle.dep_basis.specs.Shown.{HasSize};
+ghost use Rattle.dep_basis.specs.CutProofs.{HasSize};
 
 use attr_sets::AttrSet;
-use dep_model::{Dep, Schema, WantMemory};
+use dep_model::{Dep, OutOfMemory, Schema};
 use derivation::{Deriv, LeafRule, PairRule, StepRule};
 use std::alloc::Global;
 
@@ -20,11 +20,13 @@ pub fn reflexivity(
     schema: &Schema,
     lhs: AttrSet,
     rhs: AttrSet,
-) -> Result<Box<Deriv>, WantMemory>
-    requires lhs { Within (places lhs) (universe_of schema.now) }
-    requires rhs { Within (places rhs) (places lhs) }
-    ensures tree { IfOk result (λ b. tree_of b.value ≡ leaf (reflexivity (places lhs) (places rhs))) }
-    ensures proves { IfOk result (λ b. Proves schema.now (tree_of b.value) (fd (places lhs) (places rhs))) }
+) -> Result<Box<Deriv>, OutOfMemory>
+    requires lhs { IsSubset (attributes lhs) (universe_of schema.now) }
+    requires rhs { IsSubset (attributes rhs) (attributes lhs) }
+    ensures tree { IfOk result (λ b. tree_of b.value
+        ≡ leaf (reflexivity (attributes lhs) (attributes rhs))) }
+    ensures proves { IfOk result (λ b. Proves schema.now (tree_of b.value) (fd (attributes lhs)
+        (attributes rhs))) }
     ensures size { IfOk result (λ b. HasSize (tree_of b.value) 1 1) }
 {
     Ok(Box::new(alloc, Deriv::Leaf(LeafRule::Reflexivity { lhs, rhs }))?)
@@ -36,21 +38,26 @@ pub fn mreflexivity(
     schema: &Schema,
     lhs: AttrSet,
     rhs: AttrSet,
-) -> Result<Box<Deriv>, WantMemory>
-    requires lhs { Within (places lhs) (universe_of schema.now) }
-    requires rhs { Within (places rhs) (places lhs) }
-    ensures proves { IfOk result (λ b. Proves schema.now (tree_of b.value) (mvd (places lhs) (places rhs))) }
+) -> Result<Box<Deriv>, OutOfMemory>
+    requires lhs { IsSubset (attributes lhs) (universe_of schema.now) }
+    requires rhs { IsSubset (attributes rhs) (attributes lhs) }
+    ensures proves { IfOk result (λ b. Proves schema.now (tree_of b.value) (mvd (attributes lhs)
+        (attributes rhs))) }
     ensures size { IfOk result (λ b. HasSize (tree_of b.value) 1 1) }
 {
     Ok(Box::new(alloc, Deriv::Leaf(LeafRule::MReflexivity { lhs, rhs }))?)
 }
 
 // `lhs ->>` all attributes outside it.
-pub fn outside(alloc: Global, schema: &Schema, lhs: AttrSet) -> Result<Box<Deriv>, WantMemory>
-    requires lhs { Within (places lhs) (universe_of schema.now) }
+pub fn complementation(
+    alloc: Global,
+    schema: &Schema,
+    lhs: AttrSet,
+) -> Result<Box<Deriv>, OutOfMemory>
+    requires lhs { IsSubset (attributes lhs) (universe_of schema.now) }
     ensures proves { IfOk result
         (λ b. Proves schema.now (tree_of b.value)
-        (mvd (places lhs) (minus (universe_of schema.now) (places lhs)))) }
+        (mvd (attributes lhs) (difference (universe_of schema.now) (attributes lhs)))) }
     ensures size { IfOk result (λ b. HasSize (tree_of b.value) 2 2) }
 {
     let from = mreflexivity(alloc, schema, lhs, lhs)?;
@@ -64,16 +71,22 @@ pub fn given_fd(
     k: u16,
     lhs: AttrSet,
     rhs: AttrSet,
-) -> Result<Box<Deriv>, WantMemory>
+) -> Result<Box<Deriv>, OutOfMemory>
     requires given { slice_get (deps_of schema.now) k ≡ Some (Dep.Fd lhs rhs) }
-    ensures proves { IfOk result (λ b. Proves schema.now (tree_of b.value) (fd (places lhs) (places rhs))) }
+    ensures proves { IfOk result (λ b. Proves schema.now (tree_of b.value) (fd (attributes lhs)
+        (attributes rhs))) }
     ensures size { IfOk result (λ b. HasSize (tree_of b.value) 1 1) }
 {
     Ok(Box::new(alloc, Deriv::Leaf(LeafRule::Given(k)))?)
 }
 
 // A given dependency of either kind, as a multivalued one.
-pub fn given_mvd(alloc: Global, schema: &Schema, k: u16, dep: Dep) -> Result<Box<Deriv>, WantMemory>
+pub fn given_mvd(
+    alloc: Global,
+    schema: &Schema,
+    k: u16,
+    dep: Dep,
+) -> Result<Box<Deriv>, OutOfMemory>
     requires given { slice_get (deps_of schema.now) k ≡ Some dep }
     ensures proves { IfOk result
         (λ b. Proves schema.now (tree_of b.value)
@@ -90,20 +103,20 @@ pub fn given_mvd(alloc: Global, schema: &Schema, k: u16, dep: Dep) -> Result<Box
 }
 
 // From `X ->> W` and a given `V -> T`, where `V` is apart from `W` and `a` is in `W` and in `T`: `X -> a`.
-pub fn moved(
+pub fn coalesce_with_given(
     alloc: Global,
     schema: &Schema,
     part: Box<Deriv>,
     given: Box<Deriv>,
     rhs: AttrSet,
     attribute: u8,
-) -> Result<Box<Deriv>, WantMemory>
+) -> Result<Box<Deriv>, OutOfMemory>
     requires attribute { attribute < 128 }
-    requires rhs { Within (places rhs) (universe_of schema.now) }
-    requires member { places rhs attribute ≡ true }
-    ensures proves { (x w v : Places) → Apart v w → w attribute ≡ true
+    requires rhs { IsSubset (attributes rhs) (universe_of schema.now) }
+    requires member { attributes rhs attribute ≡ true }
+    ensures proves { (x w v : Attributes) → Disjoint v w → w attribute ≡ true
         → Proves schema.now (tree_of part.value) (mvd x w)
-        → Proves schema.now (tree_of given.value) (fd v (places rhs))
+        → Proves schema.now (tree_of given.value) (fd v (attributes rhs))
         → IfOk result (λ b. Proves schema.now (tree_of b.value) (fd x (only attribute))) }
     ensures size { (n m : ℕ) → HasSize (tree_of part.value) n m → HasSize (tree_of given.value) 1 1
         → IfOk result (λ b. HasSize (tree_of b.value) (n + 4) (m + 3)) }

@@ -1,18 +1,18 @@
 ghost use Rattle.std.specs.Prelude.{◌≡◌, ℕ, ◌↔◌, Some, slice_get, IsTrue, IsNone, IfSome, IfOk};
-ghost use Rattle.attr_sets.specs.Places.{Within};
-ghost use Rattle.attr_sets.specs.Sets.{places};
+ghost use Rattle.attr_sets.specs.Attributes.{IsSubset};
+ghost use Rattle.attr_sets.specs.Sets.{attributes};
 ghost use Rattle.dep_model.specs.Dependencies.{fd, mvd};
 ghost use Rattle.dep_model.specs.Deps.{dependency_of, IsDepWithin};
 ghost use Rattle.dep_model.specs.Schemas.{universe_of, theory_of, ImpliedBy};
 ghost use Rattle.derivation.specs.Derivs.{tree_of};
-ghost use Rattle.dep_basis.specs.Joined.{IsProofOf};
+ghost use Rattle.dep_basis.specs.JoinedProofs.{IsProofOf};
 ghost use Rattle.dep_basis.specs.Proofs.{IsFirstGiven, IsAnswer, IsDirectAnswer, IsChainIfFunctional, IsDirectUnlessChain, IsYes};
 
 use crate::chains::functional_chain;
 use crate::deciding::{Decision, decide};
 use crate::joining::{join_fd, join_mvd};
 use attr_sets::AttrSet;
-use dep_model::{Dep, Schema, WantMemory};
+use dep_model::{Dep, OutOfMemory, Schema};
 use derivation::{Deriv, LeafRule, shorten};
 use std::alloc::Global;
 
@@ -30,7 +30,7 @@ pub enum Proof {
 /// a functional dependency which follows from the functional dependencies alone is their chain; a
 /// multivalued one that the schema gives is its first; any other follows the refinement of the left
 /// side's blocks (Beeri 1980), and no line of it concludes what a line that it stands on concludes.
-pub fn prove(alloc: Global, schema: &Schema, dep: Dep) -> Result<Proof, WantMemory>
+pub fn prove(alloc: Global, schema: &Schema, dep: Dep) -> Result<Proof, OutOfMemory>
     requires within { IsDepWithin (universe_of schema.now) dep }
     ensures answer { IfOk result (IsAnswer schema.now (dependency_of dep)) }
     ensures direct { IfOk result (IsDirectAnswer schema.now (dependency_of dep)) }
@@ -43,7 +43,7 @@ pub fn prove(alloc: Global, schema: &Schema, dep: Dep) -> Result<Proof, WantMemo
 }
 
 // A derivation of an implied dependency.
-fn derivation_of(alloc: Global, schema: &Schema, dep: Dep) -> Result<Box<Deriv>, WantMemory>
+fn derivation_of(alloc: Global, schema: &Schema, dep: Dep) -> Result<Box<Deriv>, OutOfMemory>
     requires within { IsDepWithin (universe_of schema.now) dep }
     requires implied { ImpliedBy schema.now (dependency_of dep) }
     ensures proof { IfOk result (λ b. IsProofOf schema.now (dependency_of dep) (tree_of b.value)) }
@@ -62,15 +62,16 @@ fn derivation_of_fd(
     schema: &Schema,
     lhs: AttrSet,
     rhs: AttrSet,
-) -> Result<Box<Deriv>, WantMemory>
-    requires lhs { Within (places lhs) (universe_of schema.now) }
-    requires rhs { Within (places rhs) (universe_of schema.now) }
-    requires implied { ImpliedBy schema.now (fd (places lhs) (places rhs)) }
-    ensures proof { IfOk result (λ b. IsProofOf schema.now (fd (places lhs) (places rhs)) (tree_of b.value)) }
+) -> Result<Box<Deriv>, OutOfMemory>
+    requires lhs { IsSubset (attributes lhs) (universe_of schema.now) }
+    requires rhs { IsSubset (attributes rhs) (universe_of schema.now) }
+    requires implied { ImpliedBy schema.now (fd (attributes lhs) (attributes rhs)) }
+    ensures proof { IfOk result (λ b. IsProofOf schema.now (fd (attributes lhs) (attributes rhs))
+        (tree_of b.value)) }
     ensures chain { IfOk result
-        (λ b. IsChainIfFunctional schema.now (fd (places lhs) (places rhs)) (tree_of b.value)) }
+        (λ b. IsChainIfFunctional schema.now (fd (attributes lhs) (attributes rhs)) (tree_of b.value)) }
     ensures direct { IfOk result
-        (λ b. IsDirectUnlessChain schema.now (fd (places lhs) (places rhs)) (tree_of b.value)) }
+        (λ b. IsDirectUnlessChain schema.now (fd (attributes lhs) (attributes rhs)) (tree_of b.value)) }
 {
     match functional_chain(alloc, schema, lhs, rhs)? {
         Some(chain) => Ok(chain),
@@ -87,14 +88,15 @@ fn derivation_of_mvd(
     schema: &Schema,
     lhs: AttrSet,
     rhs: AttrSet,
-) -> Result<Box<Deriv>, WantMemory>
-    requires lhs { Within (places lhs) (universe_of schema.now) }
-    requires rhs { Within (places rhs) (universe_of schema.now) }
-    requires implied { ImpliedBy schema.now (mvd (places lhs) (places rhs)) }
+) -> Result<Box<Deriv>, OutOfMemory>
+    requires lhs { IsSubset (attributes lhs) (universe_of schema.now) }
+    requires rhs { IsSubset (attributes rhs) (universe_of schema.now) }
+    requires implied { ImpliedBy schema.now (mvd (attributes lhs) (attributes rhs)) }
     ensures proof { IfOk result (λ b.
-        IsProofOf schema.now (mvd (places lhs) (places rhs)) (tree_of b.value)) }
+        IsProofOf schema.now (mvd (attributes lhs) (attributes rhs)) (tree_of b.value)) }
     ensures direct { IfOk result
-        (λ b. IsDirectUnlessChain schema.now (mvd (places lhs) (places rhs)) (tree_of b.value)) }
+        (λ b. IsDirectUnlessChain schema.now (mvd (attributes lhs) (attributes rhs))
+        (tree_of b.value)) }
 {
     match first_given(schema, lhs, rhs) {
         Some(k) => Ok(Box::new(alloc, Deriv::Leaf(LeafRule::Given(k)))?),
@@ -108,8 +110,8 @@ fn derivation_of_mvd(
 // The number, from 0, of the first given dependency that is `lhs ->> rhs`.
 fn first_given(schema: &Schema, lhs: AttrSet, rhs: AttrSet) -> Option<u16>
     ensures none { IsNone result → (k : ℕ)
-        → slice_get (theory_of schema.now) k ≡ Some (mvd (places lhs) (places rhs)) → ⊥ }
-    ensures first { IfSome result (IsFirstGiven schema.now (mvd (places lhs) (places rhs))) }
+        → slice_get (theory_of schema.now) k ≡ Some (mvd (attributes lhs) (attributes rhs)) → ⊥ }
+    ensures first { IfSome result (IsFirstGiven schema.now (mvd (attributes lhs) (attributes rhs))) }
 {
     for (number, dep) in schema.deps().iter().enumerate() {
         if is_mvd(*dep, lhs, rhs) {
@@ -121,7 +123,7 @@ fn first_given(schema: &Schema, lhs: AttrSet, rhs: AttrSet) -> Option<u16>
 
 // Whether a dependency is `lhs ->> rhs`.
 fn is_mvd(dep: Dep, lhs: AttrSet, rhs: AttrSet) -> bool
-    ensures is { IsTrue result ↔ (dependency_of dep ≡ mvd (places lhs) (places rhs)) }
+    ensures is_mvd { IsTrue result ↔ (dependency_of dep ≡ mvd (attributes lhs) (attributes rhs)) }
 {
     match dep {
         Dep::Fd { .. } => false,

@@ -1,16 +1,16 @@
 ghost use Rattle.std.specs.Prelude.{◌≡◌, ◌<◌, true, false, IfOk};
-ghost use Rattle.attr_sets.specs.Places.{Within};
-ghost use Rattle.attr_sets.specs.Sets.{places};
+ghost use Rattle.attr_sets.specs.Attributes.{IsSubset};
+ghost use Rattle.attr_sets.specs.Sets.{attributes};
 ghost use Rattle.dep_model.specs.Dependencies.{is_fd, right_of};
 ghost use Rattle.dep_model.specs.Deps.{dependency_of};
 ghost use Rattle.dep_model.specs.Schemas.{width_of, universe_of};
 ghost use Rattle.derivation.specs.Derivs.{tree_of};
-ghost use Rattle.dep_basis.specs.Shown.{CanCut, IsNextPart, IsClosedProof, IsCutShown, IsShown};
+ghost use Rattle.dep_basis.specs.CutProofs.{CanCut, IsNextPart, IsClosedProof, IsCutShown, IsShown};
 
 use crate::cutting::best_cut;
-use crate::makers::{given_fd, given_mvd, moved, outside};
+use crate::makers::{coalesce_with_given, complementation, given_fd, given_mvd};
 use attr_sets::AttrSet;
-use dep_model::{Dep, Schema, WantMemory, sides};
+use dep_model::{Dep, OutOfMemory, Schema, sides};
 use derivation::{Deriv, split_inside, split_outside};
 use std::alloc::Global;
 
@@ -39,12 +39,12 @@ fn cut_shown(
     dep: Dep,
     from: PartProof,
     attribute: u8,
-) -> Result<Shown, WantMemory>
+) -> Result<Shown, OutOfMemory>
     requires cut { CanCut schema.now attribute k dep from }
     ensures shown { IfOk result (IsCutShown schema.now attribute from) }
 {
     let (_, rhs) = sides(dep);
-    if !rhs.has(attribute) {
+    if !rhs.contains(attribute) {
         return Ok(Shown::Part(cut_outside(alloc, schema, k, dep, from, attribute)?));
     }
     match dep {
@@ -63,7 +63,7 @@ fn cut_outside(
     dep: Dep,
     from: PartProof,
     attribute: u8,
-) -> Result<PartProof, WantMemory>
+) -> Result<PartProof, OutOfMemory>
     requires cut { CanCut schema.now attribute k dep from }
     requires without { right_of (dependency_of dep) attribute ≡ false }
     ensures shown { IfOk result (IsNextPart schema.now attribute from) }
@@ -74,10 +74,10 @@ fn cut_outside(
     match split_outside(alloc, schema, lhs, part, deriv, given) {
         Ok(deriv) => Ok(PartProof {
             lhs,
-            part: part.minus(rhs),
+            part: part.difference(rhs),
             deriv,
         }),
-        Err(_) => Err(WantMemory),
+        Err(_) => Err(OutOfMemory),
     }
 }
 
@@ -89,7 +89,7 @@ fn cut_inside(
     dep: Dep,
     from: PartProof,
     attribute: u8,
-) -> Result<PartProof, WantMemory>
+) -> Result<PartProof, OutOfMemory>
     requires cut { CanCut schema.now attribute k dep from }
     requires with { right_of (dependency_of dep) attribute ≡ true }
     requires multivalued { is_fd (dependency_of dep) ≡ false }
@@ -101,10 +101,10 @@ fn cut_inside(
     match split_inside(alloc, schema, lhs, part, deriv, given) {
         Ok(deriv) => Ok(PartProof {
             lhs,
-            part: part.meet(rhs),
+            part: part.intersection(rhs),
             deriv,
         }),
-        Err(_) => Err(WantMemory),
+        Err(_) => Err(OutOfMemory),
     }
 }
 
@@ -117,14 +117,14 @@ fn cut_closed(
     rhs: AttrSet,
     from: PartProof,
     attribute: u8,
-) -> Result<Box<Deriv>, WantMemory>
+) -> Result<Box<Deriv>, OutOfMemory>
     requires cut { CanCut schema.now attribute k (Dep.Fd lhs rhs) from }
-    requires with { places rhs attribute ≡ true }
+    requires with { attributes rhs attribute ≡ true }
     ensures shown { IfOk result (λ b.
-        IsClosedProof schema.now (places from.lhs) attribute (tree_of b.value)) }
+        IsClosedProof schema.now (attributes from.lhs) attribute (tree_of b.value)) }
 {
     let given = given_fd(alloc, schema, k, lhs, rhs)?;
-    moved(alloc, schema, from.deriv, given, rhs, attribute)
+    coalesce_with_given(alloc, schema, from.deriv, given, rhs, attribute)
 }
 
 // What is shown of an attribute outside the left side.
@@ -133,17 +133,17 @@ pub fn show_attribute(
     schema: &Schema,
     lhs: AttrSet,
     attribute: u8,
-) -> Result<Shown, WantMemory>
-    requires lhs { Within (places lhs) (universe_of schema.now) }
+) -> Result<Shown, OutOfMemory>
+    requires lhs { IsSubset (attributes lhs) (universe_of schema.now) }
     requires attribute { attribute < width_of schema.now }
-    requires outside { places lhs attribute ≡ false }
-    ensures shown { IfOk result (IsShown schema.now (places lhs) attribute) }
+    requires outside { attributes lhs attribute ≡ false }
+    ensures shown { IfOk result (IsShown schema.now (attributes lhs) attribute) }
 {
     let deps = schema.deps();
     let mut from = PartProof {
         lhs,
-        part: AttrSet::full(schema.width()).minus(lhs),
-        deriv: outside(alloc, schema, lhs)?,
+        part: AttrSet::full(schema.width()).difference(lhs),
+        deriv: complementation(alloc, schema, lhs)?,
     };
     while let Some(k) = best_cut(deps, from.part, attribute) {
         match cut_shown(alloc, schema, k as u16, deps[k], from, attribute)? {

@@ -3,7 +3,7 @@ use Rattle.std.proofs.Common.{◌≡◌, ℕ, ◌<◌, zero, suc, true, false, [
 use Rattle.std.proofs.lemmas.Bool.{true≢false, false≢true, eqb-true, or_cases, true_from_ne_false, ltb-true}
 use Rattle.std.proofs.lemmas.Bool.Decides.{nat_tests}
 use Rattle.std.proofs.lemmas.List.Elements.{All-nil, All-cons, All-head, All-tail}
-use Rattle.attr_sets.specs.Places.{Places, below, only, union, Within}
+use Rattle.attr_sets.specs.Attributes.{Attributes, below, only, union, IsSubset}
 use Rattle.dep_model.specs.Tuples.{Relation}
 use Rattle.dep_model.specs.Dependencies.{Dependency, fd, Obeys}
 use Rattle.dep_model.specs.Implication.{IsLegal}
@@ -15,34 +15,34 @@ use Rattle.dep_model.proofs.RuleLemmas.{reflexivity_obeyed, fd_union_obeyed, fd_
 use Rattle.dep_model.proofs.TwoTupleLemmas.{two_tuples-over, two_tuples_fd-to, two_tuples_fd-from}
 use Rattle.dep_model.proofs.KeyLemmas.{superkey-from, fd_on-to, fd_on-from}
 
-abbrev first : Dependency
-first = fd (union (only 0) (only 1)) (only 2)
+abbrev city_street_to_zip : Dependency
+city_street_to_zip = fd (union (only 0) (only 1)) (only 2)
 
-abbrev second : Dependency
-second = fd (only 2) (only 0)
+abbrev zip_to_city : Dependency
+zip_to_city = fd (only 2) (only 0)
 
-zip_given : (r : Relation) → IsLegal 3 address r → Obeys 3 first r
-zip_given r legal = All-head (λ d. Obeys 3 d r) first (second ∷ []) legal.obeys
+zip_given : (r : Relation) → IsLegal 3 address r → Obeys 3 city_street_to_zip r
+zip_given r legal = All-head (λ d. Obeys 3 d r) city_street_to_zip (zip_to_city ∷ []) legal.obeys
 
-city_given : (r : Relation) → IsLegal 3 address r → Obeys 3 second r
-city_given r legal = All-head (λ d. Obeys 3 d r) second [] (All-tail (λ d. Obeys 3 d r) first (second ∷ []) legal.obeys)
+city_given : (r : Relation) → IsLegal 3 address r → Obeys 3 zip_to_city r
+city_given r legal = All-head (λ d. Obeys 3 d r) zip_to_city [] (All-tail (λ d. Obeys 3 d r) city_street_to_zip (zip_to_city ∷ []) legal.obeys)
 
 -- ---- two tuples that agree exactly on a
-legal_two : (a : Places) → (a 0 ≡ true → a 1 ≡ true → a 2 ≡ true) → (a 2 ≡ true → a 0 ≡ true) → IsLegal 3 address (two_tuples 3 a)
+legal_two : (a : Attributes) → (a 0 ≡ true → a 1 ≡ true → a 2 ≡ true) → (a 2 ≡ true → a 0 ≡ true) → IsLegal 3 address (two_tuples 3 a)
 legal_two a zip city = record {
   over = two_tuples-over 3 a;
-  obeys = All-cons (λ d. Obeys 3 d (two_tuples 3 a)) first (second ∷ [])
+  obeys = All-cons (λ d. Obeys 3 d (two_tuples 3 a)) city_street_to_zip (zip_to_city ∷ [])
       (two_tuples_fd-from 3 a (union (only 0) (only 1)) (only 2) (λ (k : ℕ) m. grind (arith, nat_tests, m)) (λ (k : ℕ) m. grind (arith, nat_tests, m))
       (λ inside k m. ap a (eqb-true k 2 m) ∙ zip (inside 0 refl) (inside 1 refl)))
-      (All-cons (λ d. Obeys 3 d (two_tuples 3 a)) second []
+      (All-cons (λ d. Obeys 3 d (two_tuples 3 a)) zip_to_city []
       (two_tuples_fd-from 3 a (only 2) (only 0) (λ (k : ℕ) m. grind (arith, nat_tests, m)) (λ (k : ℕ) m. grind (arith, nat_tests, m))
       (λ inside k m. ap a (eqb-true k 0 m) ∙ city (inside 2 refl)))
       (All-nil (λ d. Obeys 3 d (two_tuples 3 a))));
 }
 
 -- what determines all is not within such a set, unless the set is all
-reached : (a x : Places) → IsLegal 3 address (two_tuples 3 a) → IsSuperkey 3 address (below 3) x → Within x a → Within (below 3) a
-reached a x legal superkey inside =
+superkey_within_all : (a x : Attributes) → IsLegal 3 address (two_tuples 3 a) → IsSuperkey 3 address (below 3) x → IsSubset x a → IsSubset (below 3) a
+superkey_within_all a x legal superkey inside =
     two_tuples_fd-to 3 a x (below 3) superkey.within.0 (λ (k : ℕ) m. m) (fd_on-to 3 address (below 3) x (below 3) superkey (two_tuples 3 a) legal) inside
 
 -- ---- the two keys
@@ -54,14 +54,14 @@ city_street_key = record {
   minimal = λ j inside superkey i m. true_from_ne_false (j i) (λ out. absurd (true≢false (sym (all j inside superkey i m out i (grind (arith, nat_tests, m))) ∙ out)));
 }
   where
-    all : (j : Places) → Within j (union (only 0) (only 1)) → IsSuperkey 3 address (below 3) j → (i : ℕ) → union (only 0) (only 1) i ≡ true → j i ≡ false → Within (below 3) j
+    all : (j : Attributes) → IsSubset j (union (only 0) (only 1)) → IsSuperkey 3 address (below 3) j → (i : ℕ) → union (only 0) (only 1) i ≡ true → j i ≡ false → IsSubset (below 3) j
     all j inside superkey i m out =
         let zip : j 0 ≡ true → j 1 ≡ true → j 2 ≡ true = λ at_0 at_1. elim (or_cases (only 0 i) (only 1 i) m) [
           | inl is_0 ↦ absurd (true≢false (sym at_0 ∙ sym (ap j (eqb-true i 0 is_0)) ∙ out))
           | inr is_1 ↦ absurd (true≢false (sym at_1 ∙ sym (ap j (eqb-true i 1 is_1)) ∙ out))
         ] in
         let city : j 2 ≡ true → j 0 ≡ true = λ at_2. absurd (false≢true (inside 2 at_2)) in
-        reached j j (legal_two j zip city) superkey (λ (k : ℕ) h. h)
+        superkey_within_all j j (legal_two j zip city) superkey (λ (k : ℕ) h. h)
 
 street_zip_key : IsKey 3 address (below 3) (union (only 1) (only 2))
 street_zip_key = record {
@@ -75,15 +75,15 @@ street_zip_key = record {
   ]);
 }
   where
-    no_street : (j : Places) → Within j (union (only 1) (only 2)) → IsSuperkey 3 address (below 3) j → j 1 ≡ false → ⊥
+    no_street : (j : Attributes) → IsSubset j (union (only 1) (only 2)) → IsSuperkey 3 address (below 3) j → j 1 ≡ false → ⊥
     no_street j inside superkey out =
-        let a : Places = union j (only 0) in
-        let all = reached a j (legal_two a (λ at_0 at_1. absurd (true≢false (sym at_1 ∙ grind (arith, out)))) (λ at_2. grind arith)) superkey (λ (k : ℕ) h. grind (arith, h)) in
+        let a : Attributes = union j (only 0) in
+        let all = superkey_within_all a j (legal_two a (λ at_0 at_1. absurd (true≢false (sym at_1 ∙ grind (arith, out)))) (λ at_2. grind arith)) superkey (λ (k : ℕ) h. grind (arith, h)) in
         true≢false (sym (all 1 refl) ∙ grind (arith, out))
 
-    no_zip : (j : Places) → Within j (union (only 1) (only 2)) → IsSuperkey 3 address (below 3) j → j 2 ≡ false → ⊥
+    no_zip : (j : Attributes) → IsSubset j (union (only 1) (only 2)) → IsSuperkey 3 address (below 3) j → j 2 ≡ false → ⊥
     no_zip j inside superkey out =
-        let all = reached j j (legal_two j (λ at_0 at_1. absurd (false≢true (inside 0 at_0))) (λ at_2. absurd (true≢false (sym at_2 ∙ out)))) superkey (λ (k : ℕ) h. h) in
+        let all = superkey_within_all j j (legal_two j (λ at_0 at_1. absurd (false≢true (inside 0 at_0))) (λ at_2. absurd (true≢false (sym at_2 ∙ out)))) superkey (λ (k : ℕ) h. h) in
         true≢false (sym (all 2 refl) ∙ out)
 
 -- ---- the forms
@@ -100,6 +100,6 @@ pub address_not_bcnf : IsBcnf 3 address (below 3) → ⊥
 address_not_bcnf bcnf =
     let on = fd_on-from 3 address (below 3) (only 2) (only 0) (λ (k : ℕ) m. grind (arith, nat_tests, m)) (λ (k : ℕ) m. grind (arith, nat_tests, m)) city_given in
     let superkey = bcnf (only 2) 0 on refl in
-    let a : Places = union (only 0) (only 2) in
-    let all = reached a (only 2) (legal_two a (λ at_0 at_1. absurd (false≢true at_1)) (λ at_2. refl)) superkey (λ (k : ℕ) h. grind (arith, h)) in
+    let a : Attributes = union (only 0) (only 2) in
+    let all = superkey_within_all a (only 2) (legal_two a (λ at_0 at_1. absurd (false≢true at_1)) (λ at_2. refl)) superkey (λ (k : ℕ) h. grind (arith, h)) in
     false≢true (all 1 refl)

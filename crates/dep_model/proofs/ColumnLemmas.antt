@@ -3,7 +3,7 @@ use Rattle.std.proofs.Common.{◌≡◌, ℕ, ◌+◌, ◌<◌, zero, suc, Bool,
 use Rattle.std.specs.List.{slice_get, range_with_len, Contains}
 use Rattle.std.proofs.lemmas.List.FromFn.{length-map-range_with_len}
 use Rattle.std.proofs.lemmas.Option.{slice_get_read}
-use Rattle.attr_sets.specs.Places.{Places, IsEmpty}
+use Rattle.attr_sets.specs.Attributes.{Attributes, IsEmpty}
 use Rattle.dep_model.specs.declared.column.Column.{Column}
 use Rattle.dep_model.specs.declared.column.Column.TheVariants.{Text, Integer}
 use Rattle.dep_model.specs.Columns.{column_at, columns_on}
@@ -17,7 +17,7 @@ slice_get-map_range f a (suc n) (suc i) h =
     let below : i < n = omega arith in
     slice_get-map_range f (a + 1) n i below ∙ ap (λ (k : ℕ). Some (f k)) (omega arith)
 
--- a list is that of a function's values where it has them place by place
+-- a list is that of a function's values where it has them position by position
 pub map_range-same : {T : Type 0} (f : ℕ → T) (a : ℕ) (xs : List T) → ((i : ℕ) → i < length xs → slice_get xs i ≡ Some (f (a + i))) → map f (range_with_len a (length xs)) ≡ xs
 map_range-same f a [] h = refl
 map_range-same {T} f a (x ∷ xs) h =
@@ -25,19 +25,19 @@ map_range-same {T} f a (x ∷ xs) h =
     let rest = map_range-same f (a + 1) xs (λ (i : ℕ) (l : i < length xs). h (suc i) (omega arith) ∙ ap (λ (k : ℕ). Some (f k)) (omega arith)) in
     cc
 
--- the type of the column at a place
-pub slice_get-columns_on : (n : ℕ) (integers : Places) (i : ℕ) → i < n → slice_get (columns_on n integers) i ≡ Some (column_at integers i)
+-- the type of the column at an attribute
+pub slice_get-columns_on : (n : ℕ) (integers : Attributes) (i : ℕ) → i < n → slice_get (columns_on n integers) i ≡ Some (column_at integers i)
 slice_get-columns_on n integers i h = slice_get-map_range (column_at integers) 0 n i h ∙ ap (λ (k : ℕ). Some (column_at integers k)) (omega arith)
 
 -- the set that has just the integer columns stands for the list
-pub columns_on-same : (columns : List Column) (integers : Places) → ((i : ℕ) → i < length columns → slice_get columns i ≡ Some (column_at integers i)) → columns_on (length columns) integers ≡ columns
+pub columns_on-same : (columns : List Column) (integers : Attributes) → ((i : ℕ) → i < length columns → slice_get columns i ≡ Some (column_at integers i)) → columns_on (length columns) integers ≡ columns
 columns_on-same columns integers h = map_range-same (column_at integers) 0 columns (λ (i : ℕ) (l : i < length columns). h i l ∙ ap (λ (k : ℕ). Some (column_at integers k)) (omega arith))
 
-pub length-columns_on : (n : ℕ) (integers : Places) → length (columns_on n integers) ≡ n
+pub length-columns_on : (n : ℕ) (integers : Attributes) → length (columns_on n integers) ≡ n
 length-columns_on n integers = length-map-range_with_len (column_at integers) 0 n
 
 -- no column is an integer one
-no_integer : (integers : Places) → IsEmpty integers → (n : ℕ) → Contains (columns_on n integers) Integer → ⊥
+no_integer : (integers : Attributes) → IsEmpty integers → (n : ℕ) → Contains (columns_on n integers) Integer → ⊥
 no_integer integers none n h =
     let short : h.0 < n = omega (arith, h.1, length-columns_on n integers) in
     let e : slice_get (columns_on n integers) h.0 ≡ Some Integer = slice_get_read (columns_on n integers) (length (columns_on n integers)) h.0 Integer refl h.1 (sym h.2) in
@@ -46,7 +46,7 @@ no_integer integers none n h =
     cc
 
 -- text columns fit any names
-pub AreColumns-text : (names : List (List ℕ)) (integers : Places) → IsEmpty integers → AreColumns names (columns_on (length names) integers)
+pub AreColumns-text : (names : List (List ℕ)) (integers : Attributes) → IsEmpty integers → AreColumns names (columns_on (length names) integers)
 AreColumns-text names integers none = record {
   one_each = length-columns_on (length names) integers;
   no_type_name = λ h. absurd (no_integer integers none (length names) h);

@@ -2,7 +2,7 @@
 use Rattle.std.proofs.Common.{ℕ, List, [], ◌∷◌, ◌≡◌, ◌<◌, ◌+◌, true, take, ◌++◌, length, get_or, refl, ap, ◌∙◌, arith, add-one}
 use Rattle.std.specs.Prelude.{All}
 use Rattle.std.proofs.lemmas.List.Elements.{All-nil, All-cons, All-head, All-tail, All-map, All-filter}
-use Rattle.attr_sets.specs.Sets.{places}
+use Rattle.attr_sets.specs.Sets.{attributes}
 use Rattle.dep_model.specs.declared.dep.Dep.{Dep}
 use Rattle.dep_model.specs.declared.dep.Dep.TheVariants.{Fd, Mvd}
 use Rattle.dep_model.specs.Tuples.{Relation, IsOver}
@@ -14,7 +14,7 @@ use Rattle.std.proofs.Math.Seq.{take-suc}
 use Rattle.std.proofs.lemmas.List.{length-map}
 pub use Rattle.dep_model.specs.Deps.{IfFd}
 
--- ---- a fact of each dependency, as sets of attributes and as sets of places
+-- ---- a fact of each dependency, as one of the theory and as a `Dep`
 pub dependencies_all-to : (P : Dependency → Type 0) (ds : List Dep) → All P (dependencies_of ds) → All (λ d. P (dependency_of d)) ds
 dependencies_all-to P [] h = All-nil (λ d. P (dependency_of d))
 dependencies_all-to P (d ∷ ds) h =
@@ -28,14 +28,14 @@ dependencies_all-from P ds h = All-map P dependency_of ds h
 pub functional_all-to : (P : Dependency → Type 0) (ds : List Dep) → All P (functional_part (dependencies_of ds)) → All (IfFd (λ x y. P (fd x y))) ds
 functional_all-to P [] h = All-nil (IfFd (λ x y. P (fd x y)))
 functional_all-to P (Fd lhs rhs ∷ ds) h =
-    All-cons (IfFd (λ x y. P (fd x y))) (Fd lhs rhs) ds (All-head P (fd (places lhs) (places rhs)) (functional_part (dependencies_of ds)) h)
-    (functional_all-to P ds (All-tail P (fd (places lhs) (places rhs)) (functional_part (dependencies_of ds)) h))
+    All-cons (IfFd (λ x y. P (fd x y))) (Fd lhs rhs) ds (All-head P (fd (attributes lhs) (attributes rhs)) (functional_part (dependencies_of ds)) h)
+    (functional_all-to P ds (All-tail P (fd (attributes lhs) (attributes rhs)) (functional_part (dependencies_of ds)) h))
 functional_all-to P (Mvd lhs rhs ∷ ds) h = All-cons (IfFd (λ x y. P (fd x y))) (Mvd lhs rhs) ds tt (functional_all-to P ds h)
 
 pub functional_all-from : (P : Dependency → Type 0) (ds : List Dep) → All (IfFd (λ x y. P (fd x y))) ds → All P (functional_part (dependencies_of ds))
 functional_all-from P [] h = All-nil P
 functional_all-from P (Fd lhs rhs ∷ ds) h =
-    All-cons P (fd (places lhs) (places rhs)) (functional_part (dependencies_of ds)) (All-head (IfFd (λ x y. P (fd x y))) (Fd lhs rhs) ds h)
+    All-cons P (fd (attributes lhs) (attributes rhs)) (functional_part (dependencies_of ds)) (All-head (IfFd (λ x y. P (fd x y))) (Fd lhs rhs) ds h)
     (functional_all-from P ds (All-tail (IfFd (λ x y. P (fd x y))) (Fd lhs rhs) ds h))
 functional_all-from P (Mvd lhs rhs ∷ ds) h = functional_all-from P ds (All-tail (IfFd (λ x y. P (fd x y))) (Mvd lhs rhs) ds h)
 

@@ -5,8 +5,8 @@ use Rattle.std.specs.Bool.{Decides}
 use Rattle.std.specs.Cmp.Lexicographic.{pointwise_decides}
 use Rattle.std.specs.Prelude.{AllPairs, Contains}
 use Rattle.std.proofs.lemmas.List.Elements.{Contains-get_or}
-use Rattle.attr_sets.specs.Places.{Places}
-use Rattle.dep_model.specs.Tuples.{Tuple, Relation, SameRelation, same_tuple, distinct}
+use Rattle.attr_sets.specs.Attributes.{Attributes}
+use Rattle.dep_model.specs.Tuples.{Tuple, Relation, SameRelation, same_tuple, distinct_tuples}
 use Rattle.dep_model.specs.Projections.{projection, ordered_projection}
 use Rattle.dep_model.proofs.ListLemmas.{Contains-head, Contains-later, Contains-cases}
 
@@ -41,23 +41,23 @@ filter-keeps {X} p (y ∷ xs) x h passes = ⊎_elim
     (Contains-cases y xs x h)
 
 -- ---- the same tuples
-abbrev others : Tuple → Tuple → Bool
-others t u = not (same_tuple t u)
+abbrev differs_from : Tuple → Tuple → Bool
+differs_from t u = not (same_tuple t u)
 
-pub distinct-to : (r : Relation) (t : Tuple) → Contains (distinct r) t → Contains r t
-distinct-to [] t h = h
-distinct-to (u ∷ r) t h = ⊎_elim
+pub distinct_tuples-to : (r : Relation) (t : Tuple) → Contains (distinct_tuples r) t → Contains r t
+distinct_tuples-to [] t h = h
+distinct_tuples-to (u ∷ r) t h = ⊎_elim
     (λ (first : t ≡ u). subst (λ (z : Tuple). Contains (z ∷ r) t) first (Contains-head t r))
-    (λ later. Contains-later u r t (distinct-to r t (filter-member (others u) (distinct r) t later).0))
-    (Contains-cases u (filter (others u) (distinct r)) t h)
+    (λ later. Contains-later u r t (distinct_tuples-to r t (filter-member (differs_from u) (distinct_tuples r) t later).0))
+    (Contains-cases u (filter (differs_from u) (distinct_tuples r)) t h)
 
-pub distinct-from : (r : Relation) (t : Tuple) → Contains r t → Contains (distinct r) t
-distinct-from [] t h = h
-distinct-from (u ∷ r) t h = elim (cases_Bool (same_tuple u t)) [
-  | inl same ↦ subst (λ (z : Tuple). Contains (z ∷ filter (others u) (distinct r)) t) (sym ((same_tuple-decides u t).0 same)) (Contains-head t (filter (others u) (distinct r)))
+pub distinct_tuples-from : (r : Relation) (t : Tuple) → Contains r t → Contains (distinct_tuples r) t
+distinct_tuples-from [] t h = h
+distinct_tuples-from (u ∷ r) t h = elim (cases_Bool (same_tuple u t)) [
+  | inl same ↦ subst (λ (z : Tuple). Contains (z ∷ filter (differs_from u) (distinct_tuples r)) t) (sym ((same_tuple-decides u t).0 same)) (Contains-head t (filter (differs_from u) (distinct_tuples r)))
   | inr differ ↦ ⊎_elim
       (λ (first : t ≡ u). absurd (true≢false (sym ((same_tuple-decides u t).1 (sym first)) ∙ differ)))
-      (λ later. Contains-later u (filter (others u) (distinct r)) t (filter-keeps (others u) (distinct r) t (distinct-from r t later) (not_from_false (same_tuple u t) differ)))
+      (λ later. Contains-later u (filter (differs_from u) (distinct_tuples r)) t (filter-keeps (differs_from u) (distinct_tuples r) t (distinct_tuples-from r t later) (not_from_false (same_tuple u t) differ)))
       (Contains-cases u r t h)
 ]
 
@@ -83,12 +83,12 @@ filter-pairs p (t ∷ r) h =
     first_apart : (u : Tuple) → Contains r u → t ≡ u → ⊥
     first_apart u u_in same = h 0 (suc u_in.0) u (omega arith) (omega (arith, u_in.1)) (same ∙ sym u_in.2)
 
-pub distinct-differ : (r : Relation) → AllPairs Differ (distinct r)
-distinct-differ [] = λ i j d lt l. absurd (omega (arith, l))
-distinct-differ (t ∷ r) =
-    all_pairs_cons Differ t (filter (others t) (distinct r))
-    (λ u u_in same. true≢false (sym ((same_tuple-decides t u).1 same) ∙ not-true (same_tuple t u) (filter-member (others t) (distinct r) u u_in).1))
-    (filter-pairs (others t) (distinct r) (distinct-differ r))
+pub distinct_tuples-differ : (r : Relation) → AllPairs Differ (distinct_tuples r)
+distinct_tuples-differ [] = λ i j d lt l. absurd (omega (arith, l))
+distinct_tuples-differ (t ∷ r) =
+    all_pairs_cons Differ t (filter (differs_from t) (distinct_tuples r))
+    (λ u u_in same. true≢false (sym ((same_tuple-decides t u).1 same) ∙ not-true (same_tuple t u) (filter-member (differs_from t) (distinct_tuples r) u u_in).1))
+    (filter-pairs (differs_from t) (distinct_tuples r) (distinct_tuples-differ r))
 
-pub ordered_projection-same : (scheme : Places) (r : Relation) → SameRelation (projection scheme r) (ordered_projection scheme r)
-ordered_projection-same scheme r t = (distinct-from (projection scheme r) t, distinct-to (projection scheme r) t)
+pub ordered_projection-same : (scheme : Attributes) (r : Relation) → SameRelation (projection scheme r) (ordered_projection scheme r)
+ordered_projection-same scheme r t = (distinct_tuples-from (projection scheme r) t, distinct_tuples-to (projection scheme r) t)

@@ -3,87 +3,87 @@ use Rattle.std.proofs.Common.{◌≡◌, ℕ, ◌+◌, zero, suc, true, false, c
 use Rattle.std.proofs.lemmas.Bool.{cases_Bool, cases_eq, true≢false, true_from_ne_false}
 use Rattle.std.proofs.lemmas.Bool.Decides.{nat_tests}
 use Rattle.std.specs.Prelude.{nat_lt}
-use Rattle.attr_sets.specs.Places.{Places, below, only, union, minus, Within}
+use Rattle.attr_sets.specs.Attributes.{Attributes, below, only, union, difference, IsSubset}
 use Rattle.dep_model.specs.Dependencies.{Dependency, fd}
 use Rattle.dep_model.specs.Implication.{Implies}
 use Rattle.dep_model.specs.OnSchemes.{ImpliedOn}
-use Rattle.dep_model.specs.Keys.{IsSuperkey, IsKey, IsPrime, IsSettledKey, left_beside}
+use Rattle.dep_model.specs.Keys.{IsSuperkey, IsKey, IsPrime, IsGreedyKey, left_without}
 use Rattle.dep_model.proofs.RuleLemmas.{reflexivity_obeyed, transitivity_obeyed, fd_weaker_obeyed}
 use Rattle.dep_model.proofs.SchemeLemmas.{fd_in-to, fd_in-from}
 
 -- ---- a functional dependency is implied on a scheme exactly where it lies within it and is implied
-pub fd_on-to : (n : ℕ) (ds : List Dependency) (scheme x y : Places) → ImpliedOn n ds scheme (fd x y) → Implies n ds (fd x y)
+pub fd_on-to : (n : ℕ) (ds : List Dependency) (scheme x y : Attributes) → ImpliedOn n ds scheme (fd x y) → Implies n ds (fd x y)
 fd_on-to n ds scheme x y on r legal = fd_in-to scheme x y r on.within.0 on.within.1 (on.obeyed r legal)
 
-pub fd_on-from : (n : ℕ) (ds : List Dependency) (scheme x y : Places) → Within x scheme → Within y scheme → Implies n ds (fd x y) → ImpliedOn n ds scheme (fd x y)
+pub fd_on-from : (n : ℕ) (ds : List Dependency) (scheme x y : Attributes) → IsSubset x scheme → IsSubset y scheme → Implies n ds (fd x y) → ImpliedOn n ds scheme (fd x y)
 fd_on-from n ds scheme x y x_in y_in implied = record {
   within = (x_in, y_in);
   obeyed = λ r legal. fd_in-from scheme x y r x_in y_in (implied r legal);
 }
 
 -- ---- superkeys
-pub superkey-from : (n : ℕ) (ds : List Dependency) (scheme k : Places) → Within k scheme → Implies n ds (fd k scheme) → IsSuperkey n ds scheme k
+pub superkey-from : (n : ℕ) (ds : List Dependency) (scheme k : Attributes) → IsSubset k scheme → Implies n ds (fd k scheme) → IsSuperkey n ds scheme k
 superkey-from n ds scheme k inside implied = fd_on-from n ds scheme k scheme inside (λ (j : ℕ) m. m) implied
 
 -- a scheme is a superkey of itself
-pub scheme_superkey : (n : ℕ) (ds : List Dependency) (scheme : Places) → IsSuperkey n ds scheme scheme
+pub scheme_superkey : (n : ℕ) (ds : List Dependency) (scheme : Attributes) → IsSuperkey n ds scheme scheme
 scheme_superkey n ds scheme = superkey-from n ds scheme scheme (λ (j : ℕ) m. m) (λ r legal. reflexivity_obeyed scheme scheme r (λ (j : ℕ) m. m))
 
 -- what holds a superkey is one
-pub superkey_more : (n : ℕ) (ds : List Dependency) (scheme j k : Places) → Within j k → Within k scheme → IsSuperkey n ds scheme j → IsSuperkey n ds scheme k
+pub superkey_more : (n : ℕ) (ds : List Dependency) (scheme j k : Attributes) → IsSubset j k → IsSubset k scheme → IsSuperkey n ds scheme j → IsSuperkey n ds scheme k
 superkey_more n ds scheme j k inside within superkey =
     superkey-from n ds scheme k within (λ r legal. fd_weaker_obeyed j scheme k scheme r inside (λ (i : ℕ) m. m) (fd_on-to n ds scheme j scheme superkey r legal))
 
--- ---- the settled key
+-- ---- the greedy key
 -- what stands where the attributes from m on have been tried
-abbrev tried_from : Places → Places → ℕ → Places
+abbrev tried_from : Attributes → Attributes → ℕ → Attributes
 tried_from scheme kept m k = cond (nat_lt k m) (scheme k) (kept k)
 
-tried_kept : (scheme k : Places) (m : ℕ) → k m ≡ true → Within (tried_from scheme k (m + 1)) (tried_from scheme k m)
+tried_kept : (scheme k : Attributes) (m : ℕ) → k m ≡ true → IsSubset (tried_from scheme k (m + 1)) (tried_from scheme k m)
 tried_kept scheme k m kept j h = elim (cases_eq j m) [
   | inl same ↦ let e : k j ≡ true = ap k same ∙ kept in grind (arith, nat_tests, e)
   | inr other ↦ grind (arith, nat_tests)
 ]
 
-tried_outside : (scheme k : Places) (m : ℕ) → scheme m ≡ false → Within (tried_from scheme k (m + 1)) (tried_from scheme k m)
+tried_outside : (scheme k : Attributes) (m : ℕ) → scheme m ≡ false → IsSubset (tried_from scheme k (m + 1)) (tried_from scheme k m)
 tried_outside scheme k m outside j h = elim (cases_eq j m) [
   | inl same ↦ let e : scheme j ≡ false = ap scheme same ∙ outside in grind (arith, nat_tests, e)
   | inr other ↦ grind (arith, nat_tests)
 ]
 
 -- it is a superkey at each step, down to the key itself
-tried_superkey : (n : ℕ) (ds : List Dependency) (scheme k : Places) → IsSettledKey n ds scheme k → Within scheme (below n) → (m left : ℕ) → m + left ≡ n → IsSuperkey n ds scheme (tried_from scheme k m)
+tried_superkey : (n : ℕ) (ds : List Dependency) (scheme k : Attributes) → IsGreedyKey n ds scheme k → IsSubset scheme (below n) → (m left : ℕ) → m + left ≡ n → IsSuperkey n ds scheme (tried_from scheme k m)
 tried_superkey n ds scheme k settled low m zero e =
     superkey_more n ds scheme scheme (tried_from scheme k m) (λ (j : ℕ) h. grind (arith, nat_tests, low j h)) (λ (j : ℕ) h. grind (arith, nat_tests, settled.within j)) (scheme_superkey n ds scheme)
 tried_superkey n ds scheme k settled low m (suc left) e =
     let later = tried_superkey n ds scheme k settled low (m + 1) left (omega arith) in
-    let within : Within (tried_from scheme k m) scheme = λ (j : ℕ) h. grind (arith, nat_tests, settled.within j) in
+    let within : IsSubset (tried_from scheme k m) scheme = λ (j : ℕ) h. grind (arith, nat_tests, settled.within j) in
     elim (cases_Bool (k m)) [
       | inl kept ↦ superkey_more n ds scheme (tried_from scheme k (m + 1)) (tried_from scheme k m) (tried_kept scheme k m kept) within later
       | inr left_out ↦ elim (cases_Bool (scheme m)) [
-        | inl member ↦ superkey_more n ds scheme (left_beside scheme k m) (tried_from scheme k m) (λ (j : ℕ) h. grind (arith, nat_tests)) within ((settled.left_out m member).0 left_out)
+        | inl member ↦ superkey_more n ds scheme (left_without scheme k m) (tried_from scheme k m) (λ (j : ℕ) h. grind (arith, nat_tests)) within ((settled.left_out m member).0 left_out)
         | inr outside ↦ superkey_more n ds scheme (tried_from scheme k (m + 1)) (tried_from scheme k m) (tried_outside scheme k m outside) within later
       ]
     ]
 
-pub settled_is_key : (n : ℕ) (ds : List Dependency) (scheme k : Places) → Within scheme (below n) → IsSettledKey n ds scheme k → IsKey n ds scheme k
-settled_is_key n ds scheme k low settled = record {
+pub greedy_is_key : (n : ℕ) (ds : List Dependency) (scheme k : Attributes) → IsSubset scheme (below n) → IsGreedyKey n ds scheme k → IsKey n ds scheme k
+greedy_is_key n ds scheme k low settled = record {
   superkey = superkey_more n ds scheme (tried_from scheme k 0) k (λ (j : ℕ) h. grind (arith, nat_tests)) settled.within (tried_superkey n ds scheme k settled low 0 n (omega arith));
   minimal = λ j inside superkey a in_k. elim (cases_Bool (j a)) [
     | inl in_j ↦ in_j
     | inr out ↦
-        let beside : Within j (left_beside scheme k a) = λ (i : ℕ) m. elim (cases_eq i a) [
+        let beside : IsSubset j (left_without scheme k a) = λ (i : ℕ) m. elim (cases_eq i a) [
           | inl same ↦ absurd (true≢false (sym m ∙ ap j same ∙ out))
           | inr other ↦ grind (arith, nat_tests, inside i m, settled.within i (inside i m))
         ] in
-        let more = superkey_more n ds scheme j (left_beside scheme k a) beside (λ (i : ℕ) h. grind (arith, nat_tests, settled.within i)) superkey in
+        let more = superkey_more n ds scheme j (left_without scheme k a) beside (λ (i : ℕ) h. grind (arith, nat_tests, settled.within i)) superkey in
         absurd (true≢false (sym in_k ∙ (settled.left_out a (settled.within a in_k)).1 more))
   ];
 }
 
 -- ---- keys of a superkey, and the attributes of keys
 -- what a superkey of a scheme has for a key is a key of the scheme
-pub key_of_superkey : (n : ℕ) (ds : List Dependency) (scheme s k : Places) → IsSuperkey n ds scheme s → IsKey n ds s k → IsKey n ds scheme k
+pub key_of_superkey : (n : ℕ) (ds : List Dependency) (scheme s k : Attributes) → IsSuperkey n ds scheme s → IsKey n ds s k → IsKey n ds scheme k
 key_of_superkey n ds scheme s k superkey key = record {
   superkey = superkey-from n ds scheme k (λ (j : ℕ) m. superkey.within.0 j (key.superkey.within.0 j m))
       (λ r legal. transitivity_obeyed k s scheme r (fd_on-to n ds s k s key.superkey r legal) (fd_on-to n ds scheme s scheme superkey r legal));
@@ -94,25 +94,25 @@ key_of_superkey n ds scheme s k superkey key = record {
 }
 
 -- an attribute that turns a set into one with a key, where it was no superkey, is in that key
-pub prime-from : (n : ℕ) (ds : List Dependency) (scheme x k : Places) (a : ℕ) → Within x scheme → (IsSuperkey n ds scheme x → ⊥) → IsKey n ds scheme k → Within k (union x (only a))
+pub prime-from : (n : ℕ) (ds : List Dependency) (scheme x k : Attributes) (a : ℕ) → IsSubset x scheme → (IsSuperkey n ds scheme x → ⊥) → IsKey n ds scheme k → IsSubset k (union x (only a))
     → IsPrime n ds scheme a
 prime-from n ds scheme x k a x_in none key inside = (k, key, true_from_ne_false (k a) (λ out. none (superkey_more n ds scheme k x (without_a out) x_in key.superkey)))
   where
-    without_a : k a ≡ false → Within k x
+    without_a : k a ≡ false → IsSubset k x
     without_a out j m = elim (cases_eq j a) [
       | inl same ↦ absurd (true≢false (sym m ∙ ap k same ∙ out))
       | inr other ↦ grind (arith, nat_tests, inside j m)
     ]
 
 -- and each attribute of a key does so to the rest of it
-pub prime-to : (n : ℕ) (ds : List Dependency) (scheme : Places) (a : ℕ) → IsPrime n ds scheme a
-    → (x : Places) × (k : Places) × Within x scheme × (IsSuperkey n ds scheme x → ⊥) × IsKey n ds scheme k × Within k (union x (only a))
+pub prime-to : (n : ℕ) (ds : List Dependency) (scheme : Attributes) (a : ℕ) → IsPrime n ds scheme a
+    → (x : Attributes) × (k : Attributes) × IsSubset x scheme × (IsSuperkey n ds scheme x → ⊥) × IsKey n ds scheme k × IsSubset k (union x (only a))
 prime-to n ds scheme a prime =
     let k = prime.0 in (
-      minus k (only a),
+      difference k (only a),
       k,
       (λ (j : ℕ) m. prime.1.superkey.within.0 j (grind (arith, m))),
-      (λ superkey. true≢false (sym (prime.1.minimal (minus k (only a)) (λ (j : ℕ) m. grind (arith, m)) superkey a prime.2) ∙ grind (arith, nat_tests))),
+      (λ superkey. true≢false (sym (prime.1.minimal (difference k (only a)) (λ (j : ℕ) m. grind (arith, m)) superkey a prime.2) ∙ grind (arith, nat_tests))),
       prime.1,
       (λ (j : ℕ) m. grind (arith, nat_tests, m)),
     )

@@ -15,13 +15,13 @@ Contains-head x xs = (0, omega arith, refl)
 pub Contains-later : {X : Type 0} (x : X) (xs : List X) (y : X) → Contains xs y → Contains (x ∷ xs) y
 Contains-later x xs y h = (suc h.0, omega (arith, h.1), h.2)
 
-cases_at : {X : Type 0} (x : X) (xs : List X) (y : X) (k : ℕ) → k < length (x ∷ xs) → get_or (x ∷ xs) k y ≡ y → (y ≡ x) ⊎ Contains xs y
-cases_at x xs y zero l e = inl (sym e)
-cases_at x xs y (suc k) l e = inr (k, omega (arith, l), e)
+Contains-cases_at : {X : Type 0} (x : X) (xs : List X) (y : X) (k : ℕ) → k < length (x ∷ xs) → get_or (x ∷ xs) k y ≡ y → (y ≡ x) ⊎ Contains xs y
+Contains-cases_at x xs y zero l e = inl (sym e)
+Contains-cases_at x xs y (suc k) l e = inr (k, omega (arith, l), e)
 
 -- a member is the first or a later one
 pub Contains-cases : {X : Type 0} (x : X) (xs : List X) (y : X) → Contains (x ∷ xs) y → (y ≡ x) ⊎ Contains xs y
-Contains-cases x xs y h = cases_at x xs y h.0 h.1 h.2
+Contains-cases x xs y h = Contains-cases_at x xs y h.0 h.1 h.2
 
 -- something holds of some member where it holds of one that is named
 pub Any-from : {X : Type 0} (P : X → Type 0) (xs : List X) (x : X) → Contains xs x → P x → Any P xs

@@ -7,12 +7,12 @@ use Rattle.std.proofs.lemmas.List.{get_or_append_left, get_or_at}
 use Rattle.std.proofs.lemmas.List.Sums.{position_or_len_is}
 use Rattle.std.proofs.lemmas.Slice.Eq.{bytes_eq-Decides}
 use Rattle.dep_model.specs.Names.{same_name}
-use Rattle.dep_model.specs.Schemas.{place_named}
+use Rattle.dep_model.specs.Schemas.{attribute_named}
 
--- a name is found at its place
-pub found_at : (before : List (List ℕ)) (name : List ℕ) (after : List (List ℕ)) → All (λ b. same_name b name ≡ false) before
-    → place_named (before ++ name ∷ after) name ≡ Some (length before)
-found_at before name after none =
+-- a name is found at its position
+pub attribute_named-append : (before : List (List ℕ)) (name : List ℕ) (after : List (List ℕ)) → All (λ b. same_name b name ≡ false) before
+    → attribute_named (before ++ name ∷ after) name ≡ Some (length before)
+attribute_named-append before name after none =
     let size : length (before ++ name ∷ after) ≡ length before + suc (length after) = length-append before (name ∷ after) in
     let at : position_or_len (λ b. same_name b name) (before ++ name ∷ after) ≡ length before =
     position_or_len_is (λ b. same_name b name) (before ++ name ∷ after) (length before) [] (omega arith)

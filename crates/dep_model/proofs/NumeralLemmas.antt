@@ -34,8 +34,8 @@ digits_value-next bytes i short digit =
 pub decimal_zero : decimal 0 ≡ zero_text
 decimal_zero = decimal_digit 0 (omega arith)
 
-pub digits_told : IsDigitsTest (λ ds. list_all is_ascii_digit ds ≡ true)
-digits_told = search rules
+pub digits_value-model : IsDigitsTest (λ ds. list_all is_ascii_digit ds ≡ true)
+digits_value-model = search rules
 
-pub numerals : IsNumeralModel (λ ds. list_all is_ascii_digit ds ≡ true) (digits_value 10)
-numerals = numerals_by_value (λ ds. list_all is_ascii_digit ds ≡ true) digits_told
+pub decimal_numeral_model : IsNumeralModel (λ ds. list_all is_ascii_digit ds ≡ true) (digits_value 10)
+decimal_numeral_model = numerals_by_value (λ ds. list_all is_ascii_digit ds ≡ true) digits_value-model

@@ -3,7 +3,7 @@ use Rattle.std.proofs.Common.{◌≡◌, ℕ, true, List, get_or, sym}
 use Rattle.std.proofs.lemmas.Bool.{true≢false}
 use Rattle.std.proofs.lemmas.List.Elements.{filter_passes}
 use Rattle.std.specs.Prelude.{All, Any}
-use Rattle.attr_sets.specs.Places.{Places, union, Within}
+use Rattle.attr_sets.specs.Attributes.{Attributes, union, IsSubset}
 use Rattle.dep_model.specs.Tuples.{Relation}
 use Rattle.dep_model.specs.Dependencies.{Dependency, fd, mvd, Obeys, ObeysFd, is_fd, functional_part, left_of, right_of}
 use Rattle.dep_model.specs.Preservation.{KeepsDependencies}
@@ -17,8 +17,8 @@ pub fd-obeyed : (n : ℕ) (d : Dependency) (r : Relation) → is_fd d ≡ true �
 fd-obeyed n (fd x y) r is obeys = obeys
 fd-obeyed n (mvd x y) r is obeys = absurd (true≢false (sym is))
 
-pub keeps_from_given : (n : ℕ) (ds : List Dependency) (plan : List Places)
-    → All (λ d. Any (λ (scheme : Places). Within (union (left_of d) (right_of d)) scheme) plan) (functional_part ds) → KeepsDependencies n ds plan
+pub keeps_from_given : (n : ℕ) (ds : List Dependency) (plan : List Attributes)
+    → All (λ d. Any (λ (scheme : Attributes). IsSubset (union (left_of d) (right_of d)) scheme) plan) (functional_part ds) → KeepsDependencies n ds plan
 keeps_from_given n ds plan each r over inside = record {
   over = over;
   obeys = λ k d l.

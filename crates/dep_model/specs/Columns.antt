@@ -2,18 +2,18 @@
 -- reads rows.
 use Rattle.std.specs.Prelude.{◌≡◌, ℕ, if◌then◌else◌, List, map, All, slice_get, Some}
 use Rattle.std.specs.List.{range_with_len}
-use Rattle.attr_sets.specs.Places.{Places}
+use Rattle.attr_sets.specs.Attributes.{Attributes}
 use Rattle.dep_model.specs.declared.column.Column.{Column}
 use Rattle.dep_model.specs.declared.column.Column.TheVariants.{Text, Integer}
 use Rattle.dep_model.specs.Tuples.{Relation, value_at}
 use Rattle.dep_model.specs.Integers.{IsIntegerText}
 
--- the type of the column at a place, by the set of the integer ones
-abbrev pub column_at : Places → ℕ → Column
+-- the type of the column at an attribute, by the set of the integer ones
+abbrev pub column_at : Attributes → ℕ → Column
 column_at integers k = if integers k then Integer else Text
 
 -- the types of n columns
-abbrev pub columns_on : ℕ → Places → List Column
+abbrev pub columns_on : ℕ → Attributes → List Column
 columns_on n integers = map (column_at integers) (range_with_len 0 n)
 
 -- each value of a relation at an integer column is an integer text

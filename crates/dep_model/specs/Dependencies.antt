@@ -1,26 +1,26 @@
 -- Functional and multivalued dependencies, and when a relation obeys one: for every definition of
 -- the theory.
 use Rattle.std.specs.Prelude.{ℕ, Bool, true, false, List, Contains, filter}
-use Rattle.attr_sets.specs.Places.{Places, below, union, minus, Within}
+use Rattle.attr_sets.specs.Attributes.{Attributes, below, union, difference, IsSubset}
 use Rattle.dep_model.specs.Tuples.{Tuple, Relation, AgreeOn}
 
--- a dependency between sets of places: x -> y, or x ->> y
+-- a dependency between sets of attributes: x -> y, or x ->> y
 pub data Dependency : Type 0 where
-  fd : Places → Places → Dependency
-  mvd : Places → Places → Dependency
+  fd : Attributes → Attributes → Dependency
+  mvd : Attributes → Attributes → Dependency
 
 -- any two tuples that agree on x agree on y
-abbrev pub ObeysFd : Places → Places → Relation → Type 0
+abbrev pub ObeysFd : Attributes → Attributes → Relation → Type 0
 ObeysFd x y r = (t u : Tuple) → Contains r t → Contains r u → AgreeOn x t u → AgreeOn y t u
 
 -- for any two tuples that agree on x some tuple agrees with the first on x and y, and with the second
 -- on the rest of the scheme
-abbrev pub ObeysMvd : Places → Places → Places → Relation → Type 0
+abbrev pub ObeysMvd : Attributes → Attributes → Attributes → Relation → Type 0
 ObeysMvd scheme x y r =
     (t u : Tuple) → Contains r t → Contains r u → AgreeOn x t u
-    → (v : Tuple) × Contains r v × AgreeOn (union x y) v t × AgreeOn (minus scheme (union x y)) v u
+    → (v : Tuple) × Contains r v × AgreeOn (union x y) v t × AgreeOn (difference scheme (union x y)) v u
 
--- a relation over n places obeys a dependency; the scheme of a multivalued one is the universe
+-- a relation over n attributes obeys a dependency; the scheme of a multivalued one is the universe
 abbrev pub Obeys : ℕ → Dependency → Relation → Type 0
 Obeys n (fd x y) r = ObeysFd x y r
 Obeys n (mvd x y) r = ObeysMvd (below n) x y r
@@ -35,20 +35,20 @@ abbrev pub functional_part : List Dependency → List Dependency
 functional_part ds = filter is_fd ds
 
 -- the left side
-abbrev pub left_of : Dependency → Places
+abbrev pub left_of : Dependency → Attributes
 left_of (fd x y) = x
 left_of (mvd x y) = x
 
 -- the right side
-abbrev pub right_of : Dependency → Places
+abbrev pub right_of : Dependency → Attributes
 right_of (fd x y) = y
 right_of (mvd x y) = y
 
 -- the sets of a dependency lie within a set
-abbrev pub IsWithin : Places → Dependency → Type 0
-IsWithin universe d = Within (left_of d) universe × Within (right_of d) universe
+abbrev pub IsWithin : Attributes → Dependency → Type 0
+IsWithin universe d = IsSubset (left_of d) universe × IsSubset (right_of d) universe
 
 -- a dependency leads out of a set: its left side lies within, and its right side does not
-pub record LeadsOut (c : Places) (d : Dependency) : Type 0 where
-  pub inside : Within (left_of d) c
-  pub beyond : Within (right_of d) c → ⊥
+pub record LeadsOut (c : Attributes) (d : Dependency) : Type 0 where
+  pub inside : IsSubset (left_of d) c
+  pub beyond : IsSubset (right_of d) c → ⊥

@@ -3,7 +3,7 @@ use Rattle.std.specs.Prelude.{ℕ, List, All}
 use Rattle.dep_model.specs.Tuples.{Relation, IsOver}
 use Rattle.dep_model.specs.Dependencies.{Dependency, Obeys}
 
--- a relation over n places is legal where it obeys every given dependency
+-- a relation over n attributes is legal where it obeys every given dependency
 pub record IsLegal (n : ℕ) (ds : List Dependency) (r : Relation) : Type 0 where
   pub over : IsOver n r
   pub obeys : All (λ d. Obeys n d r) ds

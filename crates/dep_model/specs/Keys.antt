@@ -1,50 +1,50 @@
 -- Superkeys, keys, closures, the blocks of the dependency basis and the parts of a scheme: for
 -- normal forms, keys and bases.
 use Rattle.std.specs.Prelude.{◌≡◌, ℕ, ◌<◌, ◌↔◌, true, false, ◌&&◌, nat_lt, if◌then◌else◌, List}
-use Rattle.attr_sets.specs.Places.{Places, below, only, Within, IsEmpty, Apart}
+use Rattle.attr_sets.specs.Attributes.{Attributes, below, only, IsSubset, IsEmpty, Disjoint}
 use Rattle.dep_model.specs.Dependencies.{Dependency, fd, mvd}
 use Rattle.dep_model.specs.Implication.{Implies}
 use Rattle.dep_model.specs.OnSchemes.{ImpliedOn}
 
 -- k lies within the scheme and determines all of it
-abbrev pub IsSuperkey : ℕ → List Dependency → Places → Places → Type 0
+abbrev pub IsSuperkey : ℕ → List Dependency → Attributes → Attributes → Type 0
 IsSuperkey n ds scheme k = ImpliedOn n ds scheme (fd k scheme)
 
 -- a superkey of which no proper subset is one
-pub record IsKey (n : ℕ) (ds : List Dependency) (scheme k : Places) : Type 0 where
+pub record IsKey (n : ℕ) (ds : List Dependency) (scheme k : Attributes) : Type 0 where
   pub superkey : IsSuperkey n ds scheme k
-  pub minimal : (j : Places) → Within j k → IsSuperkey n ds scheme j → Within k j
+  pub minimal : (j : Attributes) → IsSubset j k → IsSuperkey n ds scheme j → IsSubset k j
 
 -- an attribute of some key of the scheme
-abbrev pub IsPrime : ℕ → List Dependency → Places → ℕ → Type 0
-IsPrime n ds scheme a = (k : Places) × IsKey n ds scheme k × (k a ≡ true)
+abbrev pub IsPrime : ℕ → List Dependency → Attributes → ℕ → Type 0
+IsPrime n ds scheme a = (k : Attributes) × IsKey n ds scheme k × (k a ≡ true)
 
 -- what stands beside attribute a where the attributes of a scheme are tried from the last to the
 -- first: those before a, which are still to be tried, and those after it that were kept
-abbrev pub left_beside : Places → Places → ℕ → Places
-left_beside scheme kept a k = if nat_lt k a then scheme k else (nat_lt a k && kept k)
+abbrev pub left_without : Attributes → Attributes → ℕ → Attributes
+left_without scheme kept a k = if nat_lt k a then scheme k else (nat_lt a k && kept k)
 
 -- the key that is left where each attribute of the scheme, from the last to the first, is left out
 -- exactly where what stands beside it is still a superkey
-pub record IsSettledKey (n : ℕ) (ds : List Dependency) (scheme k : Places) : Type 0 where
-  pub within : Within k scheme
-  pub left_out : (a : ℕ) → scheme a ≡ true → (k a ≡ false) ↔ IsSuperkey n ds scheme (left_beside scheme k a)
+pub record IsGreedyKey (n : ℕ) (ds : List Dependency) (scheme k : Attributes) : Type 0 where
+  pub within : IsSubset k scheme
+  pub left_out : (a : ℕ) → scheme a ≡ true → (k a ≡ false) ↔ IsSuperkey n ds scheme (left_without scheme k a)
 
 -- attribute a is in the closure of x
-abbrev pub InClosure : ℕ → List Dependency → Places → ℕ → Type 0
+abbrev pub InClosure : ℕ → List Dependency → Attributes → ℕ → Type 0
 InClosure n ds x a = (a < n) × Implies n ds (fd x (only a))
 
 -- a block of x: a minimal non-empty set of attributes outside the closure that x multidetermines
-pub record IsBlock (n : ℕ) (ds : List Dependency) (x p : Places) : Type 0 where
-  pub universe : Within p (below n)
+pub record IsBlock (n : ℕ) (ds : List Dependency) (x p : Attributes) : Type 0 where
+  pub universe : IsSubset p (below n)
   pub outside : (a : ℕ) → p a ≡ true → InClosure n ds x a → ⊥
   pub some : IsEmpty p → ⊥
   pub implied : Implies n ds (mvd x p)
-  pub minimal : (q : Places) → Within q p → (IsEmpty q → ⊥) → Implies n ds (mvd x q) → Within p q
+  pub minimal : (q : Attributes) → IsSubset q p → (IsEmpty q → ⊥) → Implies n ds (mvd x q) → IsSubset p q
 
--- a part of x on a scheme: a minimal non-empty set outside x that x multidetermines on the scheme
-pub record IsPart (n : ℕ) (ds : List Dependency) (scheme x p : Places) : Type 0 where
-  pub outside : Apart p x
+-- a block (or part) of x on a scheme: a minimal non-empty set outside x that x multidetermines on the scheme
+pub record IsBlockOn (n : ℕ) (ds : List Dependency) (scheme x p : Attributes) : Type 0 where
+  pub outside : Disjoint p x
   pub some : IsEmpty p → ⊥
   pub implied : ImpliedOn n ds scheme (mvd x p)
-  pub minimal : (q : Places) → Within q p → (IsEmpty q → ⊥) → ImpliedOn n ds scheme (mvd x q) → Within p q
+  pub minimal : (q : Attributes) → IsSubset q p → (IsEmpty q → ⊥) → ImpliedOn n ds scheme (mvd x q) → IsSubset p q

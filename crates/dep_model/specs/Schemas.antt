@@ -1,8 +1,8 @@
 -- The parts of a schema of the code, as the definitions have them, and the same words of a schema:
 -- for every contract in which one stands.
 use Rattle.std.specs.Prelude.{ℕ, Option, List, length, position}
-use Rattle.attr_sets.specs.Places.{Places, below}
-use Rattle.attr_sets.specs.Sets.{places}
+use Rattle.attr_sets.specs.Attributes.{Attributes, below}
+use Rattle.attr_sets.specs.Sets.{attributes}
 use Rattle.dep_model.specs.declared.dep.Dep.{Dep}
 use Rattle.dep_model.specs.declared.column.Column.{Column}
 use Rattle.dep_model.specs.declared.schema.Schema.{Schema}
@@ -23,7 +23,7 @@ width_of s = length (names_of s)
 
 -- the types of the columns
 abbrev pub columns_of : Schema → List Column
-columns_of s = columns_on (width_of s) (places s.integers)
+columns_of s = columns_on (width_of s) (attributes s.integers)
 
 -- the dependencies, in the order of the file
 abbrev pub deps_of : Schema → List Dep
@@ -34,16 +34,16 @@ abbrev pub lines_of : Schema → List ℕ
 lines_of s = s.lines.items
 
 -- all attributes
-abbrev pub universe_of : Schema → Places
+abbrev pub universe_of : Schema → Attributes
 universe_of s = below (width_of s)
 
--- the dependencies, between sets of places
+-- the dependencies, between sets of attributes
 abbrev pub theory_of : Schema → List Dependency
 theory_of s = dependencies_of (deps_of s)
 
 -- the attribute whose name is this, ASCII case aside
-abbrev pub place_named : List (List ℕ) → List ℕ → Option ℕ
-place_named names bytes = position (λ name. same_name name bytes) names
+abbrev pub attribute_named : List (List ℕ) → List ℕ → Option ℕ
+attribute_named names bytes = position (λ name. same_name name bytes) names
 
 -- a relation is legal for a schema
 abbrev pub LegalFor : Schema → Relation → Type 0

@@ -2,7 +2,7 @@
 -- its printed rows.
 use Rattle.std.specs.Prelude.{ℕ, if◌then◌else◌, List, [], ◌∷◌, map, replicate}
 use Rattle.std.specs.List.{range_with_len}
-use Rattle.attr_sets.specs.Places.{Places}
+use Rattle.attr_sets.specs.Attributes.{Attributes}
 use Rattle.dep_model.specs.Tuples.{Tuple, Relation}
 
 -- the texts `0` and `1`
@@ -16,10 +16,10 @@ one_text = 49 ∷ []
 unfoldable pub all_zeros : ℕ → Tuple
 all_zeros n = replicate n zero_text
 
--- the tuple over n places with `0` on a set and `1` elsewhere
-unfoldable pub zeros_on : ℕ → Places → Tuple
+-- the tuple over n attributes with `0` on a set and `1` elsewhere
+unfoldable pub zeros_on : ℕ → Attributes → Tuple
 zeros_on n x = map (λ k. if x k then zero_text else one_text) (range_with_len 0 n)
 
--- the relation of two tuples over n places that agree exactly on a set
-unfoldable pub two_tuples : ℕ → Places → Relation
+-- the relation of two tuples over n attributes that agree exactly on a set
+unfoldable pub two_tuples : ℕ → Attributes → Relation
 two_tuples n x = all_zeros n ∷ zeros_on n x ∷ []

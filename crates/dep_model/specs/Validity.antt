@@ -1,8 +1,8 @@
 -- What makes names, dependencies and types of columns a schema: for the type `Schema`, its makers
 -- and the laws of printed schemas.
 use Rattle.std.specs.Prelude.{◌≡◌, ℕ, ◌<◌, ◌≤◌, false, List, length, All, AllPairs, Contains}
-use Rattle.attr_sets.specs.Places.{below}
-use Rattle.attr_sets.specs.declared.set.TheConstants.{PLACES}
+use Rattle.attr_sets.specs.Attributes.{below}
+use Rattle.attr_sets.specs.declared.set.TheConstants.{MOST_ATTRIBUTES}
 use Rattle.dep_model.specs.declared.dep.Dep.{Dep}
 use Rattle.dep_model.specs.declared.column.Column.{Column}
 use Rattle.dep_model.specs.declared.column.Column.TheVariants.{Integer}
@@ -13,7 +13,7 @@ use Rattle.dep_model.specs.Deps.{IsDepWithin}
 -- names, dependencies and their lines form a schema
 pub record IsSchema (names : List (List ℕ)) (deps : List Dep) (lines : List ℕ) : Type 0 where
   pub some_names : 0 < length names
-  pub few_names : length names ≤ PLACES
+  pub few_names : length names ≤ MOST_ATTRIBUTES
   pub names_differ : AllPairs (λ a b. same_name a b ≡ false) names
   pub few_deps : length deps ≤ MOST_DEPENDENCIES
   pub deps_within : All (IsDepWithin (below (length names))) deps

@@ -1,5 +1,5 @@
 ghost use Rattle.std.specs.Prelude.{◌≡◌};
-ghost use Rattle.attr_sets.specs.Sets.{places};
+ghost use Rattle.attr_sets.specs.Sets.{attributes};
 ghost use Rattle.dep_model.specs.Dependencies.{left_of, right_of};
 ghost use Rattle.dep_model.specs.Deps.{dependency_of};
 
@@ -16,8 +16,8 @@ pub enum Dep {
 
 /// The left side and the right side of a dependency.
 pub fn sides(dep: Dep) -> (AttrSet, AttrSet)
-    ensures left { places result.0 ≡ left_of (dependency_of dep) }
-    ensures right { places result.1 ≡ right_of (dependency_of dep) }
+    ensures left { attributes result.0 ≡ left_of (dependency_of dep) }
+    ensures right { attributes result.1 ≡ right_of (dependency_of dep) }
 {
     match dep {
         Dep::Fd { lhs, rhs } | Dep::Mvd { lhs, rhs } => (lhs, rhs),

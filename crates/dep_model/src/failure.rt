@@ -1,7 +1,7 @@
 ghost use Rattle.std.specs.Prelude.{◌≡◌};
 ghost use Rattle.dep_model.specs.declared.failure.Failure.TheVariants.{OutOfMemory};
 
-use crate::WantMemory;
+use crate::OutOfMemory;
 use std::alloc::{AllocError, AllocFailed};
 
 /// Why a call gives no value: it refuses what it was given, or memory ran out.
@@ -11,10 +11,10 @@ pub enum Failure<R> {
     OutOfMemory,
 }
 
-impl<R> From<WantMemory> for Failure<R> {
+impl<R> From<OutOfMemory> for Failure<R> {
     ghost from_gives = { λ _ e. e ≡ OutOfMemory };
 
-    fn from(_error: WantMemory) -> Self {
+    fn from(_error: OutOfMemory) -> Self {
         Failure::OutOfMemory
     }
 }

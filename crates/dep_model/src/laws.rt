@@ -2,13 +2,13 @@
 //! whose clause is the law; so the gate asks for its proof.
 
 ghost use Rattle.std.specs.Prelude.{◌≡◌, ℕ, ◌↔◌, ◌⊎◌, true, List, [], ◌∷◌, Contains};
-ghost use Rattle.attr_sets.specs.Places.{Places, below, union, minus, Within, Apart};
+ghost use Rattle.attr_sets.specs.Attributes.{Attributes, below, union, difference, IsSubset, Disjoint};
 ghost use Rattle.dep_model.specs.Tuples.{Tuple, Relation, value_at, AgreeExactly};
 ghost use Rattle.dep_model.specs.Dependencies.{Dependency, Obeys, ObeysFd, ObeysMvd};
 ghost use Rattle.dep_model.specs.Implication.{IsLegal};
 ghost use Rattle.dep_model.specs.Projections.{project_tuple, IsLossless};
 ghost use Rattle.dep_model.specs.OnSchemes.{value_in};
-ghost use Rattle.dep_model.specs.Keys.{IsSuperkey, IsKey, IsSettledKey};
+ghost use Rattle.dep_model.specs.Keys.{IsSuperkey, IsKey, IsGreedyKey};
 ghost use Rattle.dep_model.specs.TwoTuples.{all_zeros, zeros_on};
 
 /// The relation without a tuple obeys every dependency.
@@ -29,59 +29,61 @@ pub fn given_dependency()
 
 /// Reflexivity: `y` within `x` gives `x -> y`.
 pub fn reflexivity()
-    ensures law { (x y : Places) (r : Relation) → Within y x → ObeysFd x y r }
+    ensures law { (x y : Attributes) (r : Relation) → IsSubset y x → ObeysFd x y r }
 {}
 
 /// Augmentation: `x -> y` gives `xz -> yz`.
 pub fn augmentation()
-    ensures law { (x y z : Places) (r : Relation) → ObeysFd x y r → ObeysFd (union x z) (union y z) r }
+    ensures law { (x y z : Attributes) (r : Relation) → ObeysFd x y r
+        → ObeysFd (union x z) (union y z) r }
 {}
 
 /// Transitivity: `x -> y` and `y -> z` give `x -> z`.
 pub fn transitivity()
-    ensures law { (x y z : Places) (r : Relation) → ObeysFd x y r → ObeysFd y z r → ObeysFd x z r }
+    ensures law { (x y z : Attributes) (r : Relation) → ObeysFd x y r → ObeysFd y z r → ObeysFd x z r }
 {}
 
 /// Complementation: `x ->> y` gives `x ->>` the rest of the scheme.
 pub fn complementation()
-    ensures law { (scheme x y : Places) (r : Relation) → ObeysMvd scheme x y r
-        → ObeysMvd scheme x (minus scheme (union x y)) r }
+    ensures law { (scheme x y : Attributes) (r : Relation) → ObeysMvd scheme x y r
+        → ObeysMvd scheme x (difference scheme (union x y)) r }
 {}
 
 /// Reflexivity of multivalued dependencies: `y` within `x` gives `x ->> y`.
 pub fn multivalued_reflexivity()
-    ensures law { (scheme x y : Places) (r : Relation) → Within y x → ObeysMvd scheme x y r }
+    ensures law { (scheme x y : Attributes) (r : Relation) → IsSubset y x → ObeysMvd scheme x y r }
 {}
 
 /// Augmentation of multivalued dependencies: `x ->> y` gives `xw ->> yz` for `z` within `w`.
 pub fn multivalued_augmentation()
-    ensures law { (scheme x y w z : Places) (r : Relation) → Within z w → Within w scheme
+    ensures law { (scheme x y w z : Attributes) (r : Relation) → IsSubset z w → IsSubset w scheme
         → ObeysMvd scheme x y r
         → ObeysMvd scheme (union x w) (union y z) r }
 {}
 
 /// Transitivity of multivalued dependencies: `x ->> y` and `y ->> z` give `x ->> z - y`.
 pub fn multivalued_transitivity()
-    ensures law { (scheme x y z : Places) (r : Relation) → Within x scheme → Within z scheme
+    ensures law { (scheme x y z : Attributes) (r : Relation) → IsSubset x scheme → IsSubset z scheme
         → ObeysMvd scheme x y r → ObeysMvd scheme y z r
-        → ObeysMvd scheme x (minus z y) r }
+        → ObeysMvd scheme x (difference z y) r }
 {}
 
 /// Replication: `x -> y` gives `x ->> y`.
 pub fn replication()
-    ensures law { (scheme x y : Places) (r : Relation) → ObeysFd x y r → ObeysMvd scheme x y r }
+    ensures law { (scheme x y : Attributes) (r : Relation) → ObeysFd x y r → ObeysMvd scheme x y r }
 {}
 
 /// Coalescence: `x ->> y` and `z -> w` give `x -> w` for `w` within `y` and `z` apart from `y`.
 pub fn coalescence()
-    ensures law { (scheme x y z w : Places) (r : Relation) → Within z scheme → Within w y → Apart z y
+    ensures law { (scheme x y z w : Attributes) (r : Relation) → IsSubset z scheme → IsSubset w y
+        → Disjoint z y
         → ObeysMvd scheme x y r → ObeysFd z w r
         → ObeysFd x w r }
 {}
 
-/// The value of a tuple at a place of a scheme is found in its projection.
+/// The value of a tuple at an attribute of a scheme is found in its projection.
 pub fn value_of_projection()
-    ensures law { (scheme : Places) (t : Tuple) (k : ℕ) → scheme k ≡ true
+    ensures law { (scheme : Attributes) (t : Tuple) (k : ℕ) → scheme k ≡ true
         → value_in scheme (project_tuple scheme t) k ≡ value_at t k }
 {}
 
@@ -92,39 +94,42 @@ pub fn universe_is_lossless()
 
 /// A scheme is a superkey of itself, so the universe is.
 pub fn scheme_is_superkey()
-    ensures law { (n : ℕ) (ds : List Dependency) (scheme : Places) → IsSuperkey n ds scheme scheme }
+    ensures law { (n : ℕ) (ds : List Dependency) (scheme : Attributes) → IsSuperkey n ds scheme scheme }
 {}
 
 /// A set of a scheme's attributes that holds a superkey is one.
 pub fn superkey_grows()
-    ensures law { (n : ℕ) (ds : List Dependency) (scheme j k : Places) → Within j k → Within k scheme
+    ensures law { (n : ℕ) (ds : List Dependency) (scheme j k : Attributes) → IsSubset j k
+        → IsSubset k scheme
         → IsSuperkey n ds scheme j
         → IsSuperkey n ds scheme k }
 {}
 
-/// The settled key of a scheme is a key.
-pub fn settled_key_is_key()
-    ensures law { (n : ℕ) (ds : List Dependency) (scheme k : Places) → Within scheme (below n)
-        → IsSettledKey n ds scheme k → IsKey n ds scheme k }
+/// The greedy key of a scheme is a key.
+pub fn greedy_key_is_key()
+    ensures law { (n : ℕ) (ds : List Dependency) (scheme k : Attributes) → IsSubset scheme (below n)
+        → IsGreedyKey n ds scheme k → IsKey n ds scheme k }
 {}
 
 /// The two tuples of a set agree exactly on it.
 pub fn two_tuples_agree()
-    ensures law { (n : ℕ) (a : Places) → AgreeExactly n a (all_zeros n) (zeros_on n a) }
+    ensures law { (n : ℕ) (a : Attributes) → AgreeExactly n a (all_zeros n) (zeros_on n a) }
 {}
 
 /// Two tuples that agree exactly on `a` obey `x -> y` exactly where `x` within `a` gives `y` within `a`
 /// (Sagiv, Delobel, Parker and Fagin 1981).
 pub fn two_tuples_functional()
-    ensures law { (n : ℕ) (a x y : Places) (t u : Tuple) → AgreeExactly n a t u → Within x (below n)
-        → Within y (below n)
-        → ObeysFd x y (t ∷ u ∷ []) ↔ (Within x a → Within y a) }
+    ensures law { (n : ℕ) (a x y : Attributes) (t u : Tuple) → AgreeExactly n a t u
+        → IsSubset x (below n)
+        → IsSubset y (below n)
+        → ObeysFd x y (t ∷ u ∷ []) ↔ (IsSubset x a → IsSubset y a) }
 {}
 
 /// They obey `x ->> y` exactly where it gives `y` or the rest within `a`.
 pub fn two_tuples_multivalued()
-    ensures law { (n : ℕ) (a x y : Places) (t u : Tuple) → AgreeExactly n a t u → Within x (below n)
-        → Within y (below n)
+    ensures law { (n : ℕ) (a x y : Attributes) (t u : Tuple) → AgreeExactly n a t u
+        → IsSubset x (below n)
+        → IsSubset y (below n)
         → ObeysMvd (below n) x y (t ∷ u ∷ [])
-        ↔ (Within x a → Within y a ⊎ Within (minus (below n) (union x y)) a) }
+        ↔ (IsSubset x a → IsSubset y a ⊎ IsSubset (difference (below n) (union x y)) a) }
 {}

@@ -1,7 +1,7 @@
 //! Laws of implication between lists, of projections and joins, and of plans.
 
 ghost use Rattle.std.specs.Prelude.{◌≡◌, ℕ, List, ◌∷◌, ◌++◌, length, map, All, AllPairs, Any, Contains};
-ghost use Rattle.attr_sets.specs.Places.{Places, union, minus, Within, Apart};
+ghost use Rattle.attr_sets.specs.Attributes.{Attributes, union, difference, IsSubset, Disjoint};
 ghost use Rattle.dep_model.specs.Tuples.{Tuple, Relation, IsOver, SameRelation};
 ghost use Rattle.dep_model.specs.Dependencies.{Dependency, mvd, functional_part, left_of, right_of};
 ghost use Rattle.dep_model.specs.Implication.{IsLegal, Implies};
@@ -17,20 +17,21 @@ pub fn legal_for_what_is_implied()
 
 /// A relation's tuples are in the join of its projections.
 pub fn tuples_are_in_the_join()
-    ensures law { (n : ℕ) (plan : List Places) (r : Relation) (t : Tuple) → IsOver n r → Contains r t
+    ensures law { (n : ℕ) (plan : List Attributes) (r : Relation) (t : Tuple) → IsOver n r
+        → Contains r t
         → InJoin n plan (projections plan r) t }
 {}
 
 /// The projection on a part of a scheme is the projection of the projection.
 pub fn projection_of_a_projection()
-    ensures law { (n : ℕ) (scheme part : Places) (t : Tuple) → Within part scheme → length t ≡ n
+    ensures law { (n : ℕ) (scheme part : Attributes) (t : Tuple) → IsSubset part scheme → length t ≡ n
         → map (λ k. value_in scheme (project_tuple scheme t) k) (members_below n part)
         ≡ project_tuple part t }
 {}
 
 /// The ordered projection is the same relation as the projection, and has no tuple twice.
 pub fn ordered_projection_is_distinct()
-    ensures law { (scheme : Places) (r : Relation)
+    ensures law { (scheme : Attributes) (r : Relation)
         → SameRelation (projection scheme r) (ordered_projection scheme r)
         × AllPairs (λ t u. t ≡ u → ⊥) (ordered_projection scheme r) }
 {}
@@ -38,23 +39,26 @@ pub fn ordered_projection_is_distinct()
 /// A plan stays lossless where a scheme is replaced by two: the sides of a multivalued dependency that
 /// is implied on it, and the scheme without the right side (Fagin 1977).
 pub fn split_is_lossless()
-    ensures law { (n : ℕ) (ds : List Dependency) (before after : List Places) (scheme x y : Places)
-        → ImpliedOn n ds scheme (mvd x y) → Apart y x
+    ensures law { (n : ℕ) (ds : List Dependency) (before after : List Attributes)
+        (scheme x y : Attributes)
+        → ImpliedOn n ds scheme (mvd x y) → Disjoint y x
         → IsLossless n ds (before ++ scheme ∷ after)
-        → IsLossless n ds (before ++ union x y ∷ minus scheme y ∷ after) }
+        → IsLossless n ds (before ++ union x y ∷ difference scheme y ∷ after) }
 {}
 
 /// A plan stays lossless where a scheme that lies within another one, or equals it, is dropped.
 pub fn contained_scheme_is_dropped()
-    ensures law { (n : ℕ) (ds : List Dependency) (before after : List Places) (scheme other : Places)
-        → Contains (before ++ after) other → Within scheme other
+    ensures law { (n : ℕ) (ds : List Dependency) (before after : List Attributes)
+        (scheme other : Attributes)
+        → Contains (before ++ after) other → IsSubset scheme other
         → IsLossless n ds (before ++ scheme ∷ after) → IsLossless n ds (before ++ after) }
 {}
 
 /// A plan in which each given functional dependency lies within some scheme keeps the dependencies.
 pub fn schemes_of_the_given_keep_dependencies()
-    ensures law { (n : ℕ) (ds : List Dependency) (plan : List Places)
-        → All (λ d. Any (λ (scheme : Places). Within (union (left_of d) (right_of d)) scheme) plan)
+    ensures law { (n : ℕ) (ds : List Dependency) (plan : List Attributes)
+        → All (λ d. Any (λ (scheme : Attributes). IsSubset (union (left_of d)
+        (right_of d)) scheme) plan)
         (functional_part ds)
         → KeepsDependencies n ds plan }
 {}

@@ -1,8 +1,8 @@
 //! Names, rows, dependencies and schemas, and the theory of dependencies that every crate cites.
 //!
 //! A `Schema` is valid as long as it stands: its names differ, its dependencies lie within its
-//! universe. `agree` and `two_rows_obey` look at two rows as the theory does. The definitions of the
-//! theory (relations, obedience, implication, projection and join, keys, normal forms) are in
+//! universe. `agreement_of` and `two_rows_obey` look at two rows as the theory does. The definitions of
+//! the theory (relations, obedience, implication, projection and join, keys, normal forms) are in
 //! `specs/`; `laws` has the theorems by which they were tried.
 #![tactic(auto)]
 
@@ -24,9 +24,9 @@ pub use column::Column;
 pub use dep::{Dep, sides};
 pub use failure::Failure;
 pub use integer::integer_text;
-pub use memory::WantMemory;
+pub use memory::OutOfMemory;
 pub use name::{MOST_NAME_BYTES, Name};
 pub use row::Row;
 pub use schema::{MOST_DEPENDENCIES, Schema};
-pub use two_rows::{agree, two_rows_obey};
+pub use two_rows::{agreement_of, two_rows_obey};
 pub use value::Value;

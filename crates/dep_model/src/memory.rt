@@ -2,22 +2,22 @@ ghost use Rattle.std.specs.Prelude.{⊤};
 
 use std::alloc::{AllocError, AllocFailed};
 
-/// Want of memory: the one answer of a call that could not take the memory that it needed.
+/// Out of memory: the one answer of a call that could not take the memory that it needed.
 #[derive(Clone, Copy, Debug, PartialEq, Eq, Hash)]
-pub struct WantMemory;
+pub struct OutOfMemory;
 
-impl From<AllocError> for WantMemory {
+impl From<AllocError> for OutOfMemory {
     ghost from_gives = { λ _ e. ⊤ };
 
     fn from(_error: AllocError) -> Self {
-        WantMemory
+        OutOfMemory
     }
 }
 
-impl<T: Drop> From<AllocFailed<T>> for WantMemory {
+impl<T: Drop> From<AllocFailed<T>> for OutOfMemory {
     ghost from_gives = { λ _ e. ⊤ };
 
     fn from(_error: AllocFailed<T>) -> Self {
-        WantMemory
+        OutOfMemory
     }
 }

@@ -37,15 +37,15 @@ impl Model for Name {
 
 impl Name {
     /// The name of these bytes, where they are a name.
-    pub fn make(bytes: &[u8]) -> Option<Name>
-        ensures some { IsSome result ↔ IsTrue (is_name bytes.now) }
+    pub fn new(bytes: &[u8]) -> Option<Name>
+        ensures is_name { IsSome result ↔ IsTrue (is_name bytes.now) }
         ensures value { IfSome result (λ name. name ≡ bytes.now) }
     {
         if !are_name(bytes) {
             return None;
         }
         Some(Name {
-            bytes: padded(bytes),
+            bytes: pad_with_zeros(bytes),
             len: bytes.len() as u8,
         })
     }
@@ -59,7 +59,7 @@ impl Name {
     }
 
     /// Whether the two are one name, ASCII case aside.
-    pub fn same(&self, other: &Name) -> bool
+    pub fn is_same(&self, other: &Name) -> bool
         ensures same { result ≡ same_name self.now other.now }
     {
         self.bytes().eq_ignore_ascii_case(other.bytes())
@@ -67,7 +67,7 @@ impl Name {
 }
 
 // The bytes, and zeros after them.
-fn padded(bytes: &[u8]) -> [u8; MOST_NAME_BYTES]
+fn pad_with_zeros(bytes: &[u8]) -> [u8; MOST_NAME_BYTES]
     requires { length bytes.now ≤ MOST_NAME_BYTES }
     ensures padded { result ≡ bytes.now ++ replicate (MOST_NAME_BYTES - length bytes.now) 0 }
 {
@@ -87,7 +87,7 @@ fn are_name(bytes: &[u8]) -> bool
 }
 
 fn are_name_bytes(bytes: &[u8]) -> bool
-    ensures all { result ≡ list_all is_name_byte bytes.now }
+    ensures name_bytes { result ≡ list_all is_name_byte bytes.now }
 {
     bytes
         .iter()

@@ -1,7 +1,7 @@
 ghost use Rattle.std.specs.Prelude.{◌≡◌, ℕ, ◌<◌, List, ◌==◌, length, IfOk};
 ghost use Rattle.dep_model.specs.Tuples.{value_at};
 
-use crate::{Value, WantMemory};
+use crate::{OutOfMemory, Value};
 use std::alloc::Global;
 use std::marker::Model;
 
@@ -19,7 +19,7 @@ impl Model for Row {
 
 impl Row {
     /// A row of these values.
-    pub fn make(values: Vec<Value>) -> Row
+    pub fn new(values: Vec<Value>) -> Row
         ensures values { result ≡ values.items }
     {
         Row { values }
@@ -39,7 +39,7 @@ impl Row {
         self.values.is_empty()
     }
 
-    /// The value at place `i`.
+    /// The value at attribute `i`.
     pub fn value(&self, i: usize) -> &Value
         requires { i < length self.now }
         ensures value { result.now ≡ value_at self.now i }
@@ -48,7 +48,7 @@ impl Row {
     }
 
     /// An equal row in memory of its own.
-    pub fn copy(&self, alloc: Global) -> Result<Row, WantMemory>
+    pub fn copy(&self, alloc: Global) -> Result<Row, OutOfMemory>
         ensures values { IfOk result (λ row. row ≡ self.now) }
     {
         let mut values = Vec::with_capacity(alloc, self.values.len())?;

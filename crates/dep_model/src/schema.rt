@@ -1,11 +1,11 @@
 ghost use Rattle.std.specs.Prelude.{◌≡◌, ℕ, ◌<◌, ◌≤◌, length, slice_get, Some, position};
-ghost use Rattle.attr_sets.specs.Sets.{places};
+ghost use Rattle.attr_sets.specs.Sets.{attributes};
 ghost use Rattle.dep_model.specs.Names.{same_name};
 ghost use Rattle.dep_model.specs.Columns.{columns_on};
 ghost use Rattle.dep_model.specs.Validity.{IsSchema, AreColumns};
 
 use crate::{Column, Dep, Name};
-use attr_sets::{AttrSet, PLACES};
+use attr_sets::{AttrSet, MOST_ATTRIBUTES};
 
 /// The most dependencies of a schema.
 pub const MOST_DEPENDENCIES: usize = 256;
@@ -20,14 +20,14 @@ pub struct Schema {
     deps: Vec<Dep>,
     lines: Vec<u32>,
     pub ghost valid: { IsSchema names.items deps.items lines.items },
-    pub ghost typed: { AreColumns names.items (columns_on (length names.items) (places integers)) },
+    pub ghost typed: { AreColumns names.items (columns_on (length names.items) (attributes integers)) },
 }
 
 impl Schema {
-    ghost use Rattle.dep_model.specs.Schemas.{names_of, width_of, columns_of, deps_of, lines_of, place_named};
+    ghost use Rattle.dep_model.specs.Schemas.{names_of, width_of, columns_of, deps_of, lines_of, attribute_named};
 
     /// A schema of text columns. The lines are counted from 1.
-    pub fn make(names: Vec<Name>, deps: Vec<Dep>, lines: Vec<u32>) -> Schema
+    pub fn new(names: Vec<Name>, deps: Vec<Dep>, lines: Vec<u32>) -> Schema
         requires schema { IsSchema names.items deps.items lines.items }
         ensures names { names_of result ≡ names.items }
         ensures columns { (i : ℕ) → i < width_of result → slice_get (columns_of result) i ≡ Some Column.Text }
@@ -85,7 +85,7 @@ impl Schema {
         requires { i < width_of self.now }
         ensures column { slice_get (columns_of self.now) i ≡ Some result }
     {
-        if self.integers.has(i) {
+        if self.integers.contains(i) {
             Column::Integer
         } else {
             Column::Text
@@ -108,8 +108,8 @@ impl Schema {
     }
 
     /// The attribute whose name these bytes are, ASCII case aside.
-    pub fn place_of(&self, bytes: &[u8]) -> Option<u8>
-        ensures place { result ≡ place_named (names_of self.now) bytes.now }
+    pub fn attribute_named(&self, bytes: &[u8]) -> Option<u8>
+        ensures attribute { result ≡ attribute_named (names_of self.now) bytes.now }
     {
         match position_named(&self.names, bytes) {
             Some(i) => Some(i as u8),
@@ -118,9 +118,9 @@ impl Schema {
     }
 }
 
-// The place of the first name that these bytes are.
+// The position of the first name that these bytes are.
 fn position_named(names: &[Name], bytes: &[u8]) -> Option<usize>
-    ensures place { result ≡ position (λ name. same_name name bytes.now) names.now }
+    ensures position { result ≡ position (λ name. same_name name bytes.now) names.now }
 {
     names
         .iter()
@@ -129,8 +129,8 @@ fn position_named(names: &[Name], bytes: &[u8]) -> Option<usize>
 
 // The set of the integer columns.
 fn integer_columns(columns: &[Column]) -> AttrSet
-    requires { length columns.now ≤ PLACES }
-    ensures columns { columns_on (length columns.now) (places result) ≡ columns.now }
+    requires { length columns.now ≤ MOST_ATTRIBUTES }
+    ensures columns { columns_on (length columns.now) (attributes result) ≡ columns.now }
 {
     let mut integers = AttrSet::empty();
     for (i, column) in columns.iter().enumerate() {

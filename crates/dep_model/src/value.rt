@@ -1,6 +1,6 @@
 ghost use Rattle.std.specs.Prelude.{◌≡◌, ℕ, List, IfOk};
 
-use crate::WantMemory;
+use crate::OutOfMemory;
 use std::alloc::Global;
 use std::marker::Model;
 
@@ -18,7 +18,7 @@ impl Model for Value {
 
 impl Value {
     /// A value of these bytes.
-    pub fn make(alloc: Global, bytes: &[u8]) -> Result<Value, WantMemory>
+    pub fn new(alloc: Global, bytes: &[u8]) -> Result<Value, OutOfMemory>
         ensures value { IfOk result (λ value. value ≡ bytes.now) }
     {
         Ok(Value {
@@ -33,9 +33,9 @@ impl Value {
     }
 
     /// An equal value in memory of its own.
-    pub fn copy(&self, alloc: Global) -> Result<Value, WantMemory>
+    pub fn copy(&self, alloc: Global) -> Result<Value, OutOfMemory>
         ensures value { IfOk result (λ value. value ≡ self.now) }
     {
-        Value::make(alloc, self.bytes())
+        Value::new(alloc, self.bytes())
     }
 }

@@ -10,11 +10,11 @@ pub the_ok : {A E : Type 0} (x y : A) → ◌≡◌ {A = Result A E} (Ok x) (Ok 
 the_ok x y h = cc
 
 -- a conclusion under a condition
-pub chosen : {A E : Type 0} (b : Bool) (e : E) (x y : A) → cond b (Ok x) (Err e) ≡ Ok y → (b ≡ true) × (x ≡ y)
-chosen true e x y h = (refl, cc)
-chosen false e x y h = cc
+pub cond-ok : {A E : Type 0} (b : Bool) (e : E) (x y : A) → cond b (Ok x) (Err e) ≡ Ok y → (b ≡ true) × (x ≡ y)
+cond-ok true e x y h = (refl, cc)
+cond-ok false e x y h = cc
 
 -- and under two
-pub chosen_two : {A E : Type 0} (a b : Bool) (e f : E) (x y : A) → cond a (cond b (Ok x) (Err e)) (Err f) ≡ Ok y → (a ≡ true) × (b ≡ true) × (x ≡ y)
-chosen_two true b e f x y h = let inner = chosen b e x y h in (refl, inner.0, inner.1)
-chosen_two false b e f x y h = cc
+pub cond-ok_two : {A E : Type 0} (a b : Bool) (e f : E) (x y : A) → cond a (cond b (Ok x) (Err e)) (Err f) ≡ Ok y → (a ≡ true) × (b ≡ true) × (x ≡ y)
+cond-ok_two true b e f x y h = let inner = cond-ok b e x y h in (refl, inner.0, inner.1)
+cond-ok_two false b e f x y h = cc

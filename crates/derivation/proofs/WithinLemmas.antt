@@ -4,10 +4,10 @@ use Rattle.std.specs.Prelude.{Ok, slice_get}
 use Rattle.std.proofs.lemmas.Option.{slice_get_within, get_or_from_slice_get}
 use Rattle.std.proofs.lemmas.List.Elements.{All-contains}
 use Rattle.std.proofs.lemmas.Bool.{and_parts}
-use Rattle.attr_sets.specs.declared.set.TheConstants.{PLACES}
-use Rattle.attr_sets.specs.Places.{Places, below, union, minus, Within}
-use Rattle.attr_sets.specs.Sets.{is_within, is_same, is_apart}
-use Rattle.attr_sets.proofs.PlacesLemmas.{places_below, is_within-true}
+use Rattle.attr_sets.specs.declared.set.TheConstants.{MOST_ATTRIBUTES}
+use Rattle.attr_sets.specs.Attributes.{Attributes, below, union, difference, IsSubset}
+use Rattle.attr_sets.specs.Sets.{is_subset, is_same, is_disjoint}
+use Rattle.attr_sets.proofs.AttributesLemmas.{attributes_below, is_subset-true}
 use Rattle.dep_model.specs.declared.schema.Schema.{Schema}
 use Rattle.dep_model.specs.Dependencies.{Dependency, fd, mvd, IsWithin}
 use Rattle.dep_model.specs.Schemas.{deps_of, theory_of, universe_of}
@@ -22,11 +22,11 @@ use Rattle.derivation.specs.Trees.{Leaf, given, reflexivity, mreflexivity, Step,
 use Rattle.derivation.specs.Derivs.{leaf_of, step_of, tree_of}
 use Rattle.derivation.specs.Table.{leaf_conclusion, step_conclusion, pair_conclusion}
 use Rattle.derivation.specs.Conclusions.{Proves}
-use Rattle.derivation.proofs.RuleTableLemmas.{some_of_ok, the_ok, chosen, chosen_two}
+use Rattle.derivation.proofs.RuleTableLemmas.{some_of_ok, the_ok, cond-ok, cond-ok_two}
 
 -- each set of a tree is one of attributes
-abbrev pub OfAttributes : Places → Type 0
-OfAttributes x = Within x (below PLACES)
+abbrev pub OfAttributes : Attributes → Type 0
+OfAttributes x = IsSubset x (below MOST_ATTRIBUTES)
 
 abbrev pub LeafOfAttributes : Leaf → Type 0
 LeafOfAttributes (given k) = Unit {0}
@@ -46,13 +46,13 @@ TreeOfAttributes (pair rule t u) = TreeOfAttributes t × TreeOfAttributes u
 
 leaf_of-attributes : (rule : LeafRule) → LeafOfAttributes (leaf_of rule)
 leaf_of-attributes (leaves.Given k) = tt {0}
-leaf_of-attributes (leaves.Reflexivity x y) = (places_below x, places_below y)
-leaf_of-attributes (leaves.MReflexivity x y) = (places_below x, places_below y)
+leaf_of-attributes (leaves.Reflexivity x y) = (attributes_below x, attributes_below y)
+leaf_of-attributes (leaves.MReflexivity x y) = (attributes_below x, attributes_below y)
 
 step_of-attributes : (rule : StepRule) → StepOfAttributes (step_of rule)
-step_of-attributes (steps.Augmentation z) = places_below z
+step_of-attributes (steps.Augmentation z) = attributes_below z
 step_of-attributes steps.Complementation = tt {0}
-step_of-attributes (steps.MAugmentation w z) = (places_below w, places_below z)
+step_of-attributes (steps.MAugmentation w z) = (attributes_below w, attributes_below z)
 step_of-attributes steps.Replication = tt {0}
 
 pub tree_of-attributes : (d : deriv.Deriv) → TreeOfAttributes (tree_of d)
@@ -66,46 +66,46 @@ leaf_within s (given k) d own h =
     All-contains (IsWithin (universe_of s)) (theory_of s) d (dependencies_all-from (IsWithin (universe_of s)) (deps_of s) s.valid.deps_within)
     (k, slice_get_within (theory_of s) k d found, get_or_from_slice_get (theory_of s) k d d found)
 leaf_within s (reflexivity x y) d own h =
-    let passed = chosen (is_within x (universe_of s) && is_within y x) NotWithin (fd x y) d h in
-    let both = and_parts (is_within x (universe_of s)) (is_within y x) passed.0 in
-    let x_in = is_within-true x (universe_of s) own.0 both.0 in
-    subst (IsWithin (universe_of s)) passed.1 (x_in, (λ k m. x_in k (is_within-true y x own.1 both.1 k m)))
+    let passed = cond-ok (is_subset x (universe_of s) && is_subset y x) NotWithin (fd x y) d h in
+    let both = and_parts (is_subset x (universe_of s)) (is_subset y x) passed.0 in
+    let x_in = is_subset-true x (universe_of s) own.0 both.0 in
+    subst (IsWithin (universe_of s)) passed.1 (x_in, (λ k m. x_in k (is_subset-true y x own.1 both.1 k m)))
 leaf_within s (mreflexivity x y) d own h =
-    let passed = chosen (is_within x (universe_of s) && is_within y x) NotWithin (mvd x y) d h in
-    let both = and_parts (is_within x (universe_of s)) (is_within y x) passed.0 in
-    let x_in = is_within-true x (universe_of s) own.0 both.0 in
-    subst (IsWithin (universe_of s)) passed.1 (x_in, (λ k m. x_in k (is_within-true y x own.1 both.1 k m)))
+    let passed = cond-ok (is_subset x (universe_of s) && is_subset y x) NotWithin (mvd x y) d h in
+    let both = and_parts (is_subset x (universe_of s)) (is_subset y x) passed.0 in
+    let x_in = is_subset-true x (universe_of s) own.0 both.0 in
+    subst (IsWithin (universe_of s)) passed.1 (x_in, (λ k m. x_in k (is_subset-true y x own.1 both.1 k m)))
 
 step_within : (s : Schema) (rule : Step) (x d : Dependency) → StepOfAttributes rule → IsWithin (universe_of s) x → step_conclusion s rule x ≡ Ok d → IsWithin (universe_of s) d
 step_within s (augmentation z) (fd x y) d own inside h =
-    let passed = chosen (is_within z (universe_of s)) NotWithin (fd (union x z) (union y z)) d h in
-    let z_in = is_within-true z (universe_of s) own passed.0 in
+    let passed = cond-ok (is_subset z (universe_of s)) NotWithin (fd (union x z) (union y z)) d h in
+    let z_in = is_subset-true z (universe_of s) own passed.0 in
     subst (IsWithin (universe_of s)) passed.1 ((λ k m. grind (arith, inside.0 k, z_in k, m)), (λ k m. grind (arith, inside.1 k, z_in k, m)))
 step_within s (augmentation z) (mvd x y) d own inside h = cc
 step_within s complementation (fd x y) d own inside h = cc
 step_within s complementation (mvd x y) d own inside h =
-    subst (IsWithin (universe_of s)) (the_ok (mvd x (minus (universe_of s) (union x y))) d h) (inside.0, (λ k m. grind (arith, m)))
+    subst (IsWithin (universe_of s)) (the_ok (mvd x (difference (universe_of s) (union x y))) d h) (inside.0, (λ k m. grind (arith, m)))
 step_within s (maugmentation w z) (fd x y) d own inside h = cc
 step_within s (maugmentation w z) (mvd x y) d own inside h =
-    let passed = chosen (is_within w (universe_of s) && is_within z w) NotWithin (mvd (union x w) (union y z)) d h in
-    let both = and_parts (is_within w (universe_of s)) (is_within z w) passed.0 in
-    let w_in = is_within-true w (universe_of s) own.0 both.0 in
-    let z_in = is_within-true z w own.1 both.1 in
+    let passed = cond-ok (is_subset w (universe_of s) && is_subset z w) NotWithin (mvd (union x w) (union y z)) d h in
+    let both = and_parts (is_subset w (universe_of s)) (is_subset z w) passed.0 in
+    let w_in = is_subset-true w (universe_of s) own.0 both.0 in
+    let z_in = is_subset-true z w own.1 both.1 in
     subst (IsWithin (universe_of s)) passed.1 ((λ k m. grind (arith, inside.0 k, w_in k, m)), (λ k m. grind (arith, inside.1 k, w_in k, z_in k, m)))
 step_within s replication (fd x y) d own inside h = subst (IsWithin (universe_of s)) (the_ok (mvd x y) d h) inside
 step_within s replication (mvd x y) d own inside h = cc
 
 pair_within : (s : Schema) (rule : Pair) (x y d : Dependency) → IsWithin (universe_of s) x → IsWithin (universe_of s) y → pair_conclusion rule x y ≡ Ok d → IsWithin (universe_of s) d
 pair_within s transitivity (fd x y) (fd v z) d first second h =
-    subst (IsWithin (universe_of s)) (chosen (is_same y v) MiddleDiffers (fd x z) d h).1 (first.0, second.1)
+    subst (IsWithin (universe_of s)) (cond-ok (is_same y v) MiddleDiffers (fd x z) d h).1 (first.0, second.1)
 pair_within s transitivity (fd x y) (mvd v z) d first second h = cc
 pair_within s transitivity (mvd x y) e d first second h = cc
 pair_within s mtransitivity (mvd x y) (mvd v z) d first second h =
-    subst (IsWithin (universe_of s)) (chosen (is_same y v) MiddleDiffers (mvd x (minus z y)) d h).1 (first.0, (λ k m. grind (arith, second.1 k, m)))
+    subst (IsWithin (universe_of s)) (cond-ok (is_same y v) MiddleDiffers (mvd x (difference z y)) d h).1 (first.0, (λ k m. grind (arith, second.1 k, m)))
 pair_within s mtransitivity (mvd x y) (fd v z) d first second h = cc
 pair_within s mtransitivity (fd x y) e d first second h = cc
 pair_within s coalescence (mvd x y) (fd z w) d first second h =
-    subst (IsWithin (universe_of s)) (chosen_two (is_within w y) (is_apart z y) NotDisjoint NotWithin (fd x w) d h).2 (first.0, second.1)
+    subst (IsWithin (universe_of s)) (cond-ok_two (is_subset w y) (is_disjoint z y) NotDisjoint NotWithin (fd x w) d h).2 (first.0, second.1)
 pair_within s coalescence (mvd x y) (mvd z w) d first second h = cc
 pair_within s coalescence (fd x y) e d first second h = cc
 

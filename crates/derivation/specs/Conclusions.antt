@@ -26,12 +26,12 @@ at_node n (Ok d) = Ok d
 at_node n (Err kind) = Err (record { node = n; kind = kind })
 
 -- what a tree concludes, or its first fault in post-order, after this many nodes
-abbrev pub concluded : Schema → ℕ → Tree → Result Dependency Fault
-concluded s before (leaf rule) = at_node (before + 1) (leaf_conclusion s rule)
-concluded s before (step rule t) = do
-  x ← concluded s before t
+abbrev pub conclusion_after : Schema → ℕ → Tree → Result Dependency Fault
+conclusion_after s before (leaf rule) = at_node (before + 1) (leaf_conclusion s rule)
+conclusion_after s before (step rule t) = do
+  x ← conclusion_after s before t
   at_node (before + nodes t + 1) (step_conclusion s rule x)
-concluded s before (pair rule t u) = do
-  x ← concluded s before t
-  y ← concluded s (before + nodes t) u
+conclusion_after s before (pair rule t u) = do
+  x ← conclusion_after s before t
+  y ← conclusion_after s (before + nodes t) u
   at_node (before + nodes t + nodes u + 1) (pair_conclusion rule x y)

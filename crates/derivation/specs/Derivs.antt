@@ -1,6 +1,6 @@
 -- The tree that a `Deriv` of the code stands for: for every contract in which one stands.
 use Rattle.std.specs.Prelude.{Result, Ok, Err}
-use Rattle.attr_sets.specs.Sets.{places}
+use Rattle.attr_sets.specs.Sets.{attributes}
 use Rattle.dep_model.specs.declared.dep.Dep.{Dep}
 use Rattle.dep_model.specs.Dependencies.{Dependency}
 use Rattle.dep_model.specs.Deps.{dependency_of}
@@ -12,13 +12,13 @@ use Rattle.derivation.specs.Trees.{Leaf, given, reflexivity, mreflexivity, Step,
 
 abbrev pub leaf_of : leaves.LeafRule → Leaf
 leaf_of (leaves.TheVariants.Given k) = given k
-leaf_of (leaves.TheVariants.Reflexivity x y) = reflexivity (places x) (places y)
-leaf_of (leaves.TheVariants.MReflexivity x y) = mreflexivity (places x) (places y)
+leaf_of (leaves.TheVariants.Reflexivity x y) = reflexivity (attributes x) (attributes y)
+leaf_of (leaves.TheVariants.MReflexivity x y) = mreflexivity (attributes x) (attributes y)
 
 abbrev pub step_of : steps.StepRule → Step
-step_of (steps.TheVariants.Augmentation z) = augmentation (places z)
+step_of (steps.TheVariants.Augmentation z) = augmentation (attributes z)
 step_of steps.TheVariants.Complementation = complementation
-step_of (steps.TheVariants.MAugmentation w z) = maugmentation (places w) (places z)
+step_of (steps.TheVariants.MAugmentation w z) = maugmentation (attributes w) (attributes z)
 step_of steps.TheVariants.Replication = replication
 
 abbrev pub pair_of : pairs.PairRule → Pair
@@ -32,7 +32,7 @@ tree_of (deriv.Leaf rule) = leaf (leaf_of rule)
 tree_of (deriv.Step' rule p from) = step (step_of rule) (tree_of from)
 tree_of (deriv.Pair' rule p first q second) = pair (pair_of rule) (tree_of first) (tree_of second)
 
--- an outcome of the code, its dependency between sets of places
+-- an outcome of the code, whose `Dep` becomes a dependency between sets of attributes
 abbrev pub outcome_of : {E : Type 0} → Result Dep E → Result Dependency E
 outcome_of (Ok d) = Ok (dependency_of d)
 outcome_of (Err e) = Err e

@@ -34,9 +34,9 @@ IsSought s t d (Found b) = IsLeast s t d (tree_of b.value)
 IsSought s t d (Whole whole) = IsConcluded s t whole × ((u : Tree) → IsIn u t → Proves s u d → ⊥)
 
 -- what was found has fewer than 2 ^ 32 nodes
-abbrev pub HasFew : Sought → Type 0
-HasFew (Found b) = nodes (tree_of b.value) < 2 ^ 32
-HasFew (Whole whole) = nodes (tree_of whole.deriv.value) < 2 ^ 32
+abbrev pub NodesFit : Sought → Type 0
+NodesFit (Found b) = nodes (tree_of b.value) < 2 ^ 32
+NodesFit (Whole whole) = nodes (tree_of whole.deriv.value) < 2 ^ 32
 
 -- the smallest part of a tree that concludes what the tree concludes
 pub record IsLeastPart (s : Schema) (t : Tree) (result : Concluded) : Type 0 where

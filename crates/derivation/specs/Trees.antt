@@ -1,19 +1,19 @@
 -- Derivations as trees, with a rule at each node: for the rule table, certificates and all that
 -- derives.
 use Rattle.std.specs.Prelude.{ℕ, ◌+◌, max}
-use Rattle.attr_sets.specs.Places.{Places}
+use Rattle.attr_sets.specs.Attributes.{Attributes}
 
 -- the rules without premises: a dependency of the schema, and two that state both sides
 pub data Leaf : Type 0 where
   given : ℕ → Leaf
-  reflexivity : Places → Places → Leaf
-  mreflexivity : Places → Places → Leaf
+  reflexivity : Attributes → Attributes → Leaf
+  mreflexivity : Attributes → Attributes → Leaf
 
 -- the rules with one premise: by a set, by a wide set and a narrow one, and without sets
 pub data Step : Type 0 where
-  augmentation : Places → Step
+  augmentation : Attributes → Step
   complementation : Step
-  maugmentation : Places → Places → Step
+  maugmentation : Attributes → Attributes → Step
   replication : Step
 
 -- the rules with two premises

@@ -1,6 +1,6 @@
 ghost use Rattle.std.specs.Prelude.{◌≡◌, IfOk, IfErr};
-ghost use Rattle.attr_sets.specs.Places.{Places, union, meet, minus, Apart};
-ghost use Rattle.attr_sets.specs.Sets.{places};
+ghost use Rattle.attr_sets.specs.Attributes.{Attributes, union, intersection, difference, Disjoint};
+ghost use Rattle.attr_sets.specs.Sets.{attributes};
 ghost use Rattle.dep_model.specs.declared.schema.Schema.{Schema};
 ghost use Rattle.dep_model.specs.Dependencies.{fd, mvd};
 ghost use Rattle.derivation.specs.Derivs.{tree_of};
@@ -9,10 +9,10 @@ ghost use Rattle.derivation.specs.Builders.{IsLittleMore};
 
 use crate::{Deriv, LeafRule, PairRule, StepRule};
 use attr_sets::AttrSet;
-use dep_model::{Schema, WantMemory};
+use dep_model::{OutOfMemory, Schema};
 use std::alloc::Global;
 
-/// Want of memory of a call that joins two derivations, which it hands back as they were.
+/// Out of memory in a call that joins two derivations, which it hands back as they were.
 #[derive(Debug, Drop)]
 pub struct Returned {
     pub first: Box<Deriv>,
@@ -20,24 +20,33 @@ pub struct Returned {
 }
 
 // Room for a node that is made later.
-fn room(alloc: Global) -> Result<Box<Deriv>, WantMemory> {
+fn room_for_one(alloc: Global) -> Result<Box<Deriv>, OutOfMemory> {
     Ok(Box::new(alloc, Deriv::Leaf(LeafRule::Given(0)))?)
 }
 
-fn room_for_three(alloc: Global) -> Result<[Box<Deriv>; 3], WantMemory> {
-    Ok([room(alloc)?, room(alloc)?, room(alloc)?])
+fn room_for_three(alloc: Global) -> Result<[Box<Deriv>; 3], OutOfMemory> {
+    Ok([
+        room_for_one(alloc)?,
+        room_for_one(alloc)?,
+        room_for_one(alloc)?,
+    ])
 }
 
-fn room_for_four(alloc: Global) -> Result<[Box<Deriv>; 4], WantMemory> {
-    Ok([room(alloc)?, room(alloc)?, room(alloc)?, room(alloc)?])
+fn room_for_four(alloc: Global) -> Result<[Box<Deriv>; 4], OutOfMemory> {
+    Ok([
+        room_for_one(alloc)?,
+        room_for_one(alloc)?,
+        room_for_one(alloc)?,
+        room_for_one(alloc)?,
+    ])
 }
 
-fn room_for_five(alloc: Global) -> Result<[Box<Deriv>; 5], WantMemory> {
+fn room_for_five(alloc: Global) -> Result<[Box<Deriv>; 5], OutOfMemory> {
     let [a, b, c, d] = room_for_four(alloc)?;
-    Ok([a, b, c, d, room(alloc)?])
+    Ok([a, b, c, d, room_for_one(alloc)?])
 }
 
-fn room_for_six(alloc: Global) -> Result<[Box<Deriv>; 6], WantMemory> {
+fn room_for_six(alloc: Global) -> Result<[Box<Deriv>; 6], OutOfMemory> {
     let [a, b, c] = room_for_three(alloc)?;
     let [d, e, f] = room_for_three(alloc)?;
     Ok([a, b, c, d, e, f])
@@ -51,10 +60,12 @@ pub fn unite_fd(
     first: Box<Deriv>,
     second: Box<Deriv>,
 ) -> Result<Box<Deriv>, Returned>
-    ensures concludes { (s : Schema) (y : Places) → Proves s (tree_of first.value) (fd (places lhs) y)
-        → Proves s (tree_of second.value) (fd (places lhs) (places rhs))
-        → IfOk result (λ b. Proves s (tree_of b.value) (fd (places lhs) (union y (places rhs)))) }
-    ensures little_more { IfOk result (λ b.
+    ensures concludes { (s : Schema) (y : Attributes)
+        → Proves s (tree_of first.value) (fd (attributes lhs) y)
+        → Proves s (tree_of second.value) (fd (attributes lhs) (attributes rhs))
+        → IfOk result (λ b. Proves s (tree_of b.value) (fd (attributes lhs) (union y
+        (attributes rhs)))) }
+    ensures size { IfOk result (λ b.
         IsLittleMore (tree_of first.value) (tree_of second.value) (tree_of b.value)) }
     ensures returned { IfErr result (λ r. (r.first ≡ first) × (r.second ≡ second)) }
 {
@@ -77,11 +88,13 @@ pub fn unite_mvd(
     first: Box<Deriv>,
     second: Box<Deriv>,
 ) -> Result<Box<Deriv>, Returned>
-    ensures concludes { (s : Schema) → Proves s (tree_of first.value) (mvd (places lhs) (places left))
-        → Proves s (tree_of second.value) (mvd (places lhs) (places right))
+    ensures concludes { (s : Schema)
+        → Proves s (tree_of first.value) (mvd (attributes lhs) (attributes left))
+        → Proves s (tree_of second.value) (mvd (attributes lhs) (attributes right))
         → IfOk result
-        (λ b. Proves s (tree_of b.value) (mvd (places lhs) (union (places left) (places right)))) }
-    ensures little_more { IfOk result (λ b.
+        (λ b. Proves s (tree_of b.value) (mvd (attributes lhs) (union (attributes left)
+        (attributes right)))) }
+    ensures size { IfOk result (λ b.
         IsLittleMore (tree_of first.value) (tree_of second.value) (tree_of b.value)) }
     ensures returned { IfErr result (λ r. (r.first ≡ first) × (r.second ≡ second)) }
 {
@@ -120,7 +133,7 @@ pub fn unite_mvd(
     *top = Deriv::Step(
         StepRule::MAugmentation {
             wide: lhs,
-            narrow: lhs.meet(left.union(right)),
+            narrow: lhs.intersection(left.union(right)),
         },
         inside,
     );
@@ -137,15 +150,17 @@ pub fn split_inside(
     first: Box<Deriv>,
     second: Box<Deriv>,
 ) -> Result<Box<Deriv>, Returned>
-    ensures concludes { (v t : Places) → Apart (places block) (places lhs) → Apart (places block) v
-        → Proves schema.now (tree_of first.value) (mvd (places lhs) (places block))
+    ensures concludes { (v t : Attributes) → Disjoint (attributes block) (attributes lhs)
+        → Disjoint (attributes block) v
+        → Proves schema.now (tree_of first.value) (mvd (attributes lhs) (attributes block))
         → Proves schema.now (tree_of second.value) (mvd v t)
-        → IfOk result (λ b. Proves schema.now (tree_of b.value) (mvd (places lhs) (meet (places block) t))) }
-    ensures little_more { IfOk result (λ b.
+        → IfOk result (λ b. Proves schema.now (tree_of b.value) (mvd (attributes lhs) (intersection
+        (attributes block) t))) }
+    ensures size { IfOk result (λ b.
         IsLittleMore (tree_of first.value) (tree_of second.value) (tree_of b.value)) }
     ensures returned { IfErr result (λ r. (r.first ≡ first) × (r.second ≡ second)) }
 {
-    let outside = AttrSet::full(schema.width()).minus(block);
+    let outside = AttrSet::full(schema.width()).difference(block);
     let Ok([mut rest, mut wider, mut lifted, mut top]) = room_for_four(alloc) else {
         return Err(Returned { first, second });
     };
@@ -179,15 +194,17 @@ pub fn split_outside(
     first: Box<Deriv>,
     second: Box<Deriv>,
 ) -> Result<Box<Deriv>, Returned>
-    ensures concludes { (v t : Places) → Apart (places block) (places lhs) → Apart (places block) v
-        → Proves schema.now (tree_of first.value) (mvd (places lhs) (places block))
+    ensures concludes { (v t : Attributes) → Disjoint (attributes block) (attributes lhs)
+        → Disjoint (attributes block) v
+        → Proves schema.now (tree_of first.value) (mvd (attributes lhs) (attributes block))
         → Proves schema.now (tree_of second.value) (mvd v t)
-        → IfOk result (λ b. Proves schema.now (tree_of b.value) (mvd (places lhs) (minus (places block) t))) }
-    ensures little_more { IfOk result (λ b.
+        → IfOk result (λ b. Proves schema.now (tree_of b.value) (mvd (attributes lhs) (difference
+        (attributes block) t))) }
+    ensures size { IfOk result (λ b.
         IsLittleMore (tree_of first.value) (tree_of second.value) (tree_of b.value)) }
     ensures returned { IfErr result (λ r. (r.first ≡ first) × (r.second ≡ second)) }
 {
-    let outside = AttrSet::full(schema.width()).minus(block);
+    let outside = AttrSet::full(schema.width()).difference(block);
     let Ok([mut rest, mut wider, mut other, mut lifted, mut top]) = room_for_five(alloc) else {
         return Err(Returned { first, second });
     };

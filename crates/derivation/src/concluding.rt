@@ -4,7 +4,7 @@ ghost use Rattle.dep_model.specs.Deps.{dependency_of, IsDepWithin};
 ghost use Rattle.dep_model.specs.Schemas.{universe_of, ImpliedBy};
 ghost use Rattle.derivation.specs.Trees.{nodes};
 ghost use Rattle.derivation.specs.Derivs.{tree_of, outcome_of};
-ghost use Rattle.derivation.specs.Conclusions.{concluded, Proves};
+ghost use Rattle.derivation.specs.Conclusions.{conclusion_after, Proves};
 
 use crate::table::{leaf_conclusion, pair_conclusion, step_conclusion};
 use crate::{Deriv, Fault};
@@ -12,15 +12,15 @@ use dep_model::{Dep, Schema};
 
 /// What a derivation concludes from the dependencies of a schema, or its first fault.
 pub fn conclude(schema: &Schema, deriv: &Deriv) -> Result<Dep, Fault>
-    requires few { nodes (tree_of deriv.now) < 2 ^ 32 }
+    requires fits_u32 { nodes (tree_of deriv.now) < 2 ^ 32 }
     // It concludes what it proves, and nothing else.
     ensures proves { IfOk result (λ d. Proves schema.now (tree_of deriv.now) (dependency_of d)) }
     ensures only { (d : Dependency) → Proves schema.now (tree_of deriv.now) d → outcome_of result ≡ Ok d }
     // Whoever made the derivation.
-    ensures sound { IfOk result (λ d. ImpliedBy schema.now (dependency_of d)) }
+    ensures implied { IfOk result (λ d. ImpliedBy schema.now (dependency_of d)) }
     ensures within { IfOk result (IsDepWithin (universe_of schema.now)) }
     // The first fault in post-order.
-    ensures exact { outcome_of result ≡ concluded schema.now 0 (tree_of deriv.now) }
+    ensures exact { outcome_of result ≡ conclusion_after schema.now 0 (tree_of deriv.now) }
 {
     let mut passed = 0;
     conclude_after(schema, deriv, &mut passed)
@@ -28,8 +28,8 @@ pub fn conclude(schema: &Schema, deriv: &Deriv) -> Result<Dep, Fault>
 
 // What a derivation concludes, whose nodes are numbered after those that were passed.
 fn conclude_after(schema: &Schema, deriv: &Deriv, passed: &mut u32) -> Result<Dep, Fault>
-    requires room { passed.old + nodes (tree_of deriv.now) < 2 ^ 32 }
-    ensures exact { outcome_of result ≡ concluded schema.now passed.old (tree_of deriv.now) }
+    requires fits_u32 { passed.old + nodes (tree_of deriv.now) < 2 ^ 32 }
+    ensures exact { outcome_of result ≡ conclusion_after schema.now passed.old (tree_of deriv.now) }
     ensures passed { OnOk result (passed.new ≡ passed.old + nodes (tree_of deriv.now)) }
 {
     let outcome = match deriv {

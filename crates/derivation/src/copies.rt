@@ -2,11 +2,11 @@ ghost use Rattle.std.specs.Prelude.{◌≡◌, IfOk};
 ghost use Rattle.derivation.specs.Derivs.{tree_of};
 
 use crate::Deriv;
-use dep_model::WantMemory;
+use dep_model::OutOfMemory;
 use std::alloc::Global;
 
 /// A copy of a derivation, for where two derivations need one premise.
-pub fn copy_deriv(alloc: Global, deriv: &Deriv) -> Result<Box<Deriv>, WantMemory>
+pub fn copy_deriv(alloc: Global, deriv: &Deriv) -> Result<Box<Deriv>, OutOfMemory>
     ensures equal { IfOk result (λ b. tree_of b.value ≡ tree_of deriv.now) }
 {
     let copy = match deriv {

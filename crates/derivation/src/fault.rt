@@ -9,7 +9,7 @@ pub enum FaultKind {
     WrongKind = 3,
     /// The right side of the first premise is not the left side of the second.
     MiddleDiffers = 4,
-    /// The left side of the second premise of a coalescence meets the right side of the first.
+    /// The left side of the second premise of a coalescence intersects the right side of the first.
     NotDisjoint = 5,
 }
 

@@ -7,7 +7,7 @@ ghost use Rattle.dep_model.specs.Dependencies.{Dependency};
 ghost use Rattle.dep_model.specs.Schemas.{ImpliedBy};
 ghost use Rattle.derivation.specs.declared.fault.Fault.{Fault};
 ghost use Rattle.derivation.specs.Trees.{Tree, nodes};
-ghost use Rattle.derivation.specs.Conclusions.{Proves, concluded};
+ghost use Rattle.derivation.specs.Conclusions.{Proves, conclusion_after};
 
 /// Soundness: what a tree proves is obeyed by every relation that obeys the schema's dependencies.
 pub fn soundness()
@@ -22,11 +22,11 @@ pub fn one_conclusion()
 /// What a tree concludes is what it proves, wherever its nodes are counted from.
 pub fn conclusion_is_proved()
     ensures law { (s : Schema) (before : ℕ) (t : Tree) (d : Dependency)
-        → concluded s before t ≡ Ok d ↔ Proves s t d }
+        → conclusion_after s before t ≡ Ok d ↔ Proves s t d }
 {}
 
 /// The first fault of a tree is at one of its nodes.
 pub fn fault_is_inside()
-    ensures law { (s : Schema) (before : ℕ) (t : Tree) (f : Fault) → concluded s before t ≡ Err f
+    ensures law { (s : Schema) (before : ℕ) (t : Tree) (f : Fault) → conclusion_after s before t ≡ Err f
         → (before < f.node) × (f.node ≤ before + nodes t) }
 {}

@@ -12,7 +12,7 @@ pub const MOST_LEVELS: u32 = 2_048;
 
 /// How many nodes a derivation has.
 pub fn nodes(deriv: &Deriv) -> u32
-    requires few { nodes (tree_of deriv.now) < 2 ^ 32 }
+    requires fits_u32 { nodes (tree_of deriv.now) < 2 ^ 32 }
     ensures count { result ≡ nodes (tree_of deriv.now) }
 {
     match deriv {
@@ -24,7 +24,7 @@ pub fn nodes(deriv: &Deriv) -> u32
 
 /// How many nodes the longest path of a derivation has, from the root to a leaf.
 pub fn depth(deriv: &Deriv) -> u32
-    requires few { nodes (tree_of deriv.now) < 2 ^ 32 }
+    requires fits_u32 { nodes (tree_of deriv.now) < 2 ^ 32 }
     ensures levels { result ≡ depth (tree_of deriv.now) }
 {
     match deriv {

@@ -6,7 +6,7 @@ ghost use Rattle.derivation.specs.Trees.{Tree, nodes, depth, leaf, step, pair};
 ghost use Rattle.derivation.specs.Derivs.{tree_of, leaf_of, step_of, pair_of};
 ghost use Rattle.derivation.specs.Conclusions.{Proves};
 ghost use Rattle.derivation.specs.Direct.{IsIn, NoneBelow, IsDirect};
-ghost use Rattle.derivation.specs.Shortened.{ConcludesOnly, IsConcluded, IsSought, HasFew, IsLeastPart, IsShortened};
+ghost use Rattle.derivation.specs.Shortened.{ConcludesOnly, IsConcluded, IsSought, NodesFit, IsLeastPart, IsShortened};
 
 use crate::table::{leaf_conclusion, pair_conclusion, step_conclusion};
 use crate::{Deriv, LeafRule, PairRule, StepRule, conclude, nodes};
@@ -33,7 +33,7 @@ enum Sought {
 /// smallest part that concludes it, in which, from the leaves on, each node gives way to the smallest
 /// one below it that concludes the same. It takes no memory.
 pub fn shorten(schema: &Schema, deriv: Box<Deriv>) -> Box<Deriv>
-    requires few { nodes (tree_of deriv.value) < 2 ^ 32 }
+    requires fits_u32 { nodes (tree_of deriv.value) < 2 ^ 32 }
     ensures same { (d : Dependency) → Proves schema.now (tree_of deriv.value) d
         → Proves schema.now (tree_of result.value) d }
     ensures few_nodes { nodes (tree_of result.value) ≤ nodes (tree_of deriv.value) }
@@ -57,27 +57,27 @@ pub fn shorten(schema: &Schema, deriv: Box<Deriv>) -> Box<Deriv>
 
 // A direct derivation of the same: each node is the smallest part of what was made of its premises.
 fn shorten_all(schema: &Schema, deriv: Box<Deriv>) -> Concluded
-    requires few { nodes (tree_of deriv.value) < 2 ^ 32 }
+    requires fits_u32 { nodes (tree_of deriv.value) < 2 ^ 32 }
     ensures shortened { IsShortened schema.now (tree_of deriv.value) result }
 {
-    let mut place = deriv;
-    match mem::replace(&mut *place, Deriv::Leaf(LeafRule::Given(0))) {
-        Deriv::Leaf(rule) => conclude_leaf(schema, place, rule),
+    let mut root = deriv;
+    match mem::replace(&mut *root, Deriv::Leaf(LeafRule::Given(0))) {
+        Deriv::Leaf(rule) => conclude_leaf(schema, root, rule),
         Deriv::Step(rule, premise) => {
             let from = shorten_all(schema, premise);
-            least_of(schema, conclude_step(schema, place, rule, from))
+            least_of(schema, conclude_step(schema, root, rule, from))
         }
         Deriv::Pair(rule, first, second) => {
             let left = shorten_all(schema, first);
             let right = shorten_all(schema, second);
-            least_of(schema, conclude_pair(place, rule, left, right))
+            least_of(schema, conclude_pair(root, rule, left, right))
         }
     }
 }
 
 // The smallest part that concludes the same.
 fn least_of(schema: &Schema, whole: Concluded) -> Concluded
-    requires few { nodes (tree_of whole.deriv.value) < 2 ^ 32 }
+    requires fits_u32 { nodes (tree_of whole.deriv.value) < 2 ^ 32 }
     ensures least { (t : Tree) → IsConcluded schema.now t whole → IsLeastPart schema.now t result }
 {
     match whole.dep {
@@ -94,20 +94,20 @@ fn least_of(schema: &Schema, whole: Concluded) -> Concluded
 
 // The smallest part that concludes a dependency.
 fn seek(schema: &Schema, deriv: Box<Deriv>, sought: Dep) -> Sought
-    requires few { nodes (tree_of deriv.value) < 2 ^ 32 }
+    requires fits_u32 { nodes (tree_of deriv.value) < 2 ^ 32 }
     ensures sought { IsSought schema.now (tree_of deriv.value) (dependency_of sought) result }
 {
-    let mut place = deriv;
-    match mem::replace(&mut *place, Deriv::Leaf(LeafRule::Given(0))) {
-        Deriv::Leaf(rule) => told(conclude_leaf(schema, place, rule), sought),
+    let mut root = deriv;
+    match mem::replace(&mut *root, Deriv::Leaf(LeafRule::Given(0))) {
+        Deriv::Leaf(rule) => seek_root(conclude_leaf(schema, root, rule), sought),
         Deriv::Step(rule, premise) => {
             let from = seek(schema, premise, sought);
-            seek_step(schema, place, rule, from, sought)
+            seek_step(schema, root, rule, from, sought)
         }
         Deriv::Pair(rule, first, second) => {
             let left = seek(schema, first, sought);
             let right = seek(schema, second, sought);
-            seek_pair(place, rule, left, right, sought)
+            seek_pair(root, rule, left, right, sought)
         }
     }
 }
@@ -118,13 +118,13 @@ fn seek_step(schema: &Schema, room: Box<Deriv>, rule: StepRule, from: Sought, so
 {
     match from {
         Sought::Found(part) => Sought::Found(part),
-        Sought::Whole(premise) => told(conclude_step(schema, room, rule, premise), sought),
+        Sought::Whole(premise) => seek_root(conclude_step(schema, room, rule, premise), sought),
     }
 }
 
 fn seek_pair(room: Box<Deriv>, rule: PairRule, left: Sought, right: Sought, sought: Dep) -> Sought
-    requires few_left { HasFew left }
-    requires few_right { HasFew right }
+    requires left_fits_u32 { NodesFit left }
+    requires right_fits_u32 { NodesFit right }
     ensures sought { (s : Schema) (t u : Tree) → IsSought s t (dependency_of sought) left
         → IsSought s u (dependency_of sought) right
         → IsSought s (pair (pair_of rule) t u) (dependency_of sought) result }
@@ -140,13 +140,13 @@ fn seek_pair(room: Box<Deriv>, rule: PairRule, left: Sought, right: Sought, soug
         (Sought::Found(one), Sought::Whole(_)) => Sought::Found(one),
         (Sought::Whole(_), Sought::Found(other)) => Sought::Found(other),
         (Sought::Whole(first), Sought::Whole(second)) => {
-            told(conclude_pair(room, rule, first, second), sought)
+            seek_root(conclude_pair(room, rule, first, second), sought)
         }
     }
 }
 
 // Whether a derivation concludes what is sought, where no node below its root does.
-fn told(whole: Concluded, sought: Dep) -> Sought
+fn seek_root(whole: Concluded, sought: Dep) -> Sought
     ensures sought { (s : Schema) (t : Tree) → IsConcluded s t whole → NoneBelow s t (dependency_of sought)
         → IsSought s t (dependency_of sought) result }
 {

@@ -1,5 +1,5 @@
 ghost use Rattle.std.specs.Prelude.{◌≡◌, ℕ};
-ghost use Rattle.attr_sets.specs.Sets.{places, is_same, is_apart};
+ghost use Rattle.attr_sets.specs.Sets.{attributes, is_same, is_disjoint};
 ghost use Rattle.dep_model.specs.Deps.{dependency_of};
 ghost use Rattle.derivation.specs.Table.{is_inside, leaf_conclusion, step_conclusion, pair_conclusion};
 ghost use Rattle.derivation.specs.Derivs.{leaf_of, step_of, pair_of, outcome_of};
@@ -10,23 +10,23 @@ use dep_model::{Dep, Schema};
 
 // Whether a set is within the universe.
 fn is_inside(schema: &Schema, set: AttrSet) -> bool
-    ensures inside { result ≡ is_inside schema.now (places set) }
+    ensures inside { result ≡ is_inside schema.now (attributes set) }
 {
-    set.within(AttrSet::full(schema.width()))
+    set.is_subset(AttrSet::full(schema.width()))
 }
 
 // Whether two sets have the same members.
 fn is_same(a: AttrSet, b: AttrSet) -> bool
-    ensures same { result ≡ is_same (places a) (places b) }
+    ensures same { result ≡ is_same (attributes a) (attributes b) }
 {
-    a.within(b) && b.within(a)
+    a.is_subset(b) && b.is_subset(a)
 }
 
 // Whether two sets have no common member.
-fn is_apart(a: AttrSet, b: AttrSet) -> bool
-    ensures apart { result ≡ is_apart (places a) (places b) }
+fn is_disjoint(a: AttrSet, b: AttrSet) -> bool
+    ensures apart { result ≡ is_disjoint (attributes a) (attributes b) }
 {
-    a.meet(b).least().is_none()
+    a.intersection(b).first().is_none()
 }
 
 /// What a rule without premises concludes.
@@ -39,14 +39,14 @@ pub fn leaf_conclusion(schema: &Schema, rule: LeafRule) -> Result<Dep, FaultKind
             None => Err(FaultKind::NoSuchGiven),
         },
         LeafRule::Reflexivity { lhs, rhs } => {
-            if is_inside(schema, lhs) && rhs.within(lhs) {
+            if is_inside(schema, lhs) && rhs.is_subset(lhs) {
                 Ok(Dep::Fd { lhs, rhs })
             } else {
                 Err(FaultKind::NotWithin)
             }
         }
         LeafRule::MReflexivity { lhs, rhs } => {
-            if is_inside(schema, lhs) && rhs.within(lhs) {
+            if is_inside(schema, lhs) && rhs.is_subset(lhs) {
                 Ok(Dep::Mvd { lhs, rhs })
             } else {
                 Err(FaultKind::NotWithin)
@@ -72,10 +72,10 @@ pub fn step_conclusion(schema: &Schema, rule: StepRule, premise: Dep) -> Result<
         }
         (StepRule::Complementation, Dep::Mvd { lhs, rhs }) => Ok(Dep::Mvd {
             lhs,
-            rhs: AttrSet::full(schema.width()).minus(lhs.union(rhs)),
+            rhs: AttrSet::full(schema.width()).difference(lhs.union(rhs)),
         }),
         (StepRule::MAugmentation { wide, narrow }, Dep::Mvd { lhs, rhs }) => {
-            if is_inside(schema, wide) && narrow.within(wide) {
+            if is_inside(schema, wide) && narrow.is_subset(wide) {
                 Ok(Dep::Mvd {
                     lhs: lhs.union(wide),
                     rhs: rhs.union(narrow),
@@ -120,7 +120,7 @@ pub fn pair_conclusion(rule: PairRule, first: Dep, second: Dep) -> Result<Dep, F
             if is_same(rhs, middle) {
                 Ok(Dep::Mvd {
                     lhs,
-                    rhs: last.minus(rhs),
+                    rhs: last.difference(rhs),
                 })
             } else {
                 Err(FaultKind::MiddleDiffers)
@@ -134,9 +134,9 @@ pub fn pair_conclusion(rule: PairRule, first: Dep, second: Dep) -> Result<Dep, F
                 rhs: right,
             },
         ) => {
-            if !right.within(rhs) {
+            if !right.is_subset(rhs) {
                 Err(FaultKind::NotWithin)
-            } else if is_apart(left, rhs) {
+            } else if is_disjoint(left, rhs) {
                 Ok(Dep::Fd { lhs, rhs: right })
             } else {
                 Err(FaultKind::NotDisjoint)

@@ -3,15 +3,15 @@ use Rattle.std.proofs.Common.{inr, ℕ, List}
 use Rattle.csv_rows.specs.Records.{records_of}
 use Rattle.fd_discovery.specs.declared.refusal.DiscoverRefusal.{DiscoverRefusal}
 use Rattle.fd_discovery.specs.Headings.{IsRefusedDiscovery}
-use Rattle.desk_cli.specs.declared.reply.Stop.{Stop}
+use Rattle.desk_cli.specs.declared.response.EarlyExit.{EarlyExit}
 use Rattle.desk_cli.specs.declared.rows.TheConstants.{MOST_CSV_BYTES}
 use Rattle.desk_cli.specs.declared.status.Status.TheVariants.{Refused}
-use Rattle.desk_cli.specs.Answers.{Says}
+use Rattle.desk_cli.specs.ResponseValues.{Says}
 use Rattle.desk_cli.specs.Discoveries.{HeadedStops, headed_refusal_text}
 use Rattle.desk_cli.specs.Readings.{Reading, IsContent}
-use Rattle.desk_cli.specs.Replies.{StopsAs}
+use Rattle.desk_cli.specs.Responses.{ExitsAs}
 
-pub headed_stop : (r : Reading) (name bytes : List ℕ) (refusal : DiscoverRefusal) (stop : Stop) → IsContent r name MOST_CSV_BYTES bytes
-    → IsRefusedDiscovery (records_of bytes) refusal → StopsAs (Says Refused (headed_refusal_text name refusal)) stop → StopsAs (HeadedStops r name) stop
-headed_stop r name bytes refusal stop content refused tells = λ reply is.
-    inr (refusal, record { bytes = bytes; content = content; refused = refused }, tells reply is)
+pub headed_stop : (r : Reading) (name bytes : List ℕ) (refusal : DiscoverRefusal) (exit : EarlyExit) → IsContent r name MOST_CSV_BYTES bytes
+    → IsRefusedDiscovery (records_of bytes) refusal → ExitsAs (Says Refused (headed_refusal_text name refusal)) exit → ExitsAs (HeadedStops r name) exit
+headed_stop r name bytes refusal exit content refused exits_as = λ response is.
+    inr (refusal, record { bytes = bytes; content = content; refused = refused }, exits_as response is)

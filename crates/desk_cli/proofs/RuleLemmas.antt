@@ -18,15 +18,15 @@ use Rattle.schema_printer.specs.Printing.{declared_text, declaring_lines, is_int
 use Rattle.desk_cli.specs.Discoveries.{found_text}
 
 -- ---- the names of a header differ
-no_place : (p : List ℕ → Bool) (names : List (List ℕ)) (i : ℕ) (d : List ℕ) → position p names ≡ None → i < length names → p (get_or names i d) ≡ false
-no_place p names i d none low = fails_before_first p names i d (grind (arith, common_steps, none, low))
+attribute_named-absent : (p : List ℕ → Bool) (names : List (List ℕ)) (i : ℕ) (d : List ℕ) → position p names ≡ None → i < length names → p (get_or names i d) ≡ false
+attribute_named-absent p names i d none low = fails_before_first p names i d (grind (arith, common_steps, none, low))
 
 names_apart : (names : List (List ℕ)) → IsColumnHeader names → (i j : ℕ) (d : List ℕ) → i < j → j < length names → same_name (get_or names i d) (get_or names j d) ≡ false
 names_apart names header i j d before within =
     let at = get_or names j [] in
     let few : length (take j names) ≡ j = length-take-le j names (omega (arith, within)) in
     let apart : same_name (get_or (take j names) i d) at ≡ false =
-    no_place (λ name. same_name name at) (take j names) i d (header.named j within).1 (omega (arith, few, before)) in
+    attribute_named-absent (λ name. same_name name at) (take j names) i d (header.named j within).1 (omega (arith, few, before)) in
     subst (λ (b : List ℕ). same_name (get_or names i d) b ≡ false) (get_or_default names j [] d within)
     (subst (λ (a : List ℕ). same_name a at ≡ false) (get_or-take j names i d before) apart)
 

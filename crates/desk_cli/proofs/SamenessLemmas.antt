@@ -12,11 +12,11 @@ pub say_the_same : (schema other : Schema) → SameNames schema other → IsImpl
     → SayTheSame schema other
 say_the_same schema other names there back = record { there = there; back = back; legal = have_same_legal_relations schema other names there back }
 
-pub differ : (schema other : Schema) (of_schema of_other : List ℕ) → SameNames schema other
+pub differences_differ : (schema other : Schema) (of_schema of_other : List ℕ) → SameNames schema other
     → AreDifferences schema other of_schema → AreDifferences other schema of_other
     → (of_schema ≡ []) ↔ IsImpliedBy other schema → (of_other ≡ []) ↔ IsImpliedBy schema other
     → ((of_schema ≡ []) × (of_other ≡ []) → ⊥) → Differ schema other of_schema of_other
-differ schema other of_schema of_other names there back none_there none_back some = record {
+differences_differ schema other of_schema of_other names there back none_there none_back some = record {
   there = there;
   back = back;
   implied = λ implied again. some (none_there.1 implied, none_back.1 again);

@@ -1,43 +1,43 @@
--- The steps of a command, under every reading of the shelf.
+-- The steps of a command, under every reading of the file source.
 use Rattle.std.proofs.Common.{◌≡◌, inl, inr, ℕ, ◌≤◌, arith, Option, Some, Ok, Err, Result, refl, sym, ◌∙◌}
-use Rattle.desk_outside.specs.Causes.{Rose}
+use Rattle.desk_outside.specs.Causes.{ErrorCountIncreased}
 use Rattle.desk_outside.specs.Files.{Files}
-use Rattle.desk_cli.specs.declared.reply.Reply.{Reply}
-use Rattle.desk_cli.specs.declared.reply.Stop.{Stop}
-use Rattle.desk_cli.specs.Answers.{Allowed, With, Unless}
-use Rattle.desk_cli.specs.Readings.{Reading, told, seen, Shows}
-use Rattle.desk_cli.specs.Replies.{StopsAs, RepliesAs}
+use Rattle.desk_cli.specs.declared.response.Response.{Response}
+use Rattle.desk_cli.specs.declared.response.EarlyExit.{EarlyExit}
+use Rattle.desk_cli.specs.ResponseValues.{Allowed, With, Unless}
+use Rattle.desk_cli.specs.Readings.{Reading, known_files, observed, Shows}
+use Rattle.desk_cli.specs.Responses.{ExitsAs, RespondsAs}
 
 -- ---- readings
--- what a shelf shows from one state on, it shows from a later one on
-pub later : {S : Type 0} (files : S → Option Files) (faults taken : S → ℕ) (old mid new : S) (r : Reading)
+-- what a file source shows from one state on, it shows from a later one on
+pub Shows-later : {S : Type 0} (files : S → Option Files) (faults taken : S → ℕ) (old mid new : S) (r : Reading)
     → Shows files faults taken old new r → files mid ≡ files old → faults old ≤ faults mid → Shows files faults taken mid new r
-later files faults taken old mid new r shows same before = record {
+Shows-later files faults taken old mid new r shows same before = record {
   same = shows.same ∙ sym same;
-  fails = λ rose. shows.fails (omega (arith, before, rose));
+  fails = λ increased. shows.fails (omega (arith, before, increased));
   takes = shows.takes;
 }
 
--- what is seen of a shelf it shows
-pub seen_shows : {S : Type 0} (files : S → Option Files) (faults taken : S → ℕ) (old new : S) → Shows files faults taken old new (seen (files old) (faults old) (faults new) (taken new))
-seen_shows files faults taken old new = record { same = refl; fails = λ rose. rose; takes = λ limit took. took }
+-- what is seen of a file source it shows
+pub observed_shows : {S : Type 0} (files : S → Option Files) (faults taken : S → ℕ) (old new : S) → Shows files faults taken old new (observed (files old) (faults old) (faults new) (taken new))
+observed_shows files faults taken old new = record { same = refl; fails = λ increased. increased; takes = λ limit took. took }
 
 -- where nothing failed, it shows the files
-pub told_shows : {S : Type 0} (files : S → Option Files) (faults taken : S → ℕ) (old new : S) (fs : Files) → files old ≡ Some fs → (Rose (faults old) (faults new) → ⊥) → Shows files faults taken old new (told fs)
-told_shows files faults taken old new fs are calm = record { same = sym are; fails = calm; takes = λ limit took. tt }
+pub known_files_shows : {S : Type 0} (files : S → Option Files) (faults taken : S → ℕ) (old new : S) (fs : Files) → files old ≡ Some fs → (ErrorCountIncreased (faults old) (faults new) → ⊥) → Shows files faults taken old new (known_files fs)
+known_files_shows files faults taken old new fs are calm = record { same = sym are; fails = calm; takes = λ limit took. tt }
 
 -- ---- ways to stop
 
 -- ---- steps
 
 -- what was found goes on
-pub found : {T : Type 0} (stops : Allowed) (is : T → Type 0) (rest : T → Allowed) (x : T) (result : Result Reply Stop) → is x → RepliesAs (rest x) result → RepliesAs (With stops is rest) result
-found stops is rest x (Ok reply) there goes = inr (x, there, goes)
-found stops is rest x (Err stop) there goes = λ reply e. inr (x, there, goes reply e)
+pub With-found : {T : Type 0} (stops : Allowed) (is : T → Type 0) (rest : T → Allowed) (x : T) (result : Result Response EarlyExit) → is x → RespondsAs (rest x) result → RespondsAs (With stops is rest) result
+With-found stops is rest x (Ok response) there goes = inr (x, there, goes)
+With-found stops is rest x (Err exit) there goes = λ response e. inr (x, there, goes response e)
 
 -- ---- tests
 
 -- a test that is passed goes on
-pub passed : (stops : Allowed) (is : Type 0) (rest : Allowed) (result : Result Reply Stop) → is → RepliesAs rest result → RepliesAs (Unless stops is rest) result
-passed stops is rest (Ok reply) there goes = inr (there, goes)
-passed stops is rest (Err stop) there goes = λ reply e. inr (there, goes reply e)
+pub Unless-passed : (stops : Allowed) (is : Type 0) (rest : Allowed) (result : Result Response EarlyExit) → is → RespondsAs rest result → RespondsAs (Unless stops is rest) result
+Unless-passed stops is rest (Ok response) there goes = inr (there, goes)
+Unless-passed stops is rest (Err exit) there goes = λ response e. inr (there, goes response e)

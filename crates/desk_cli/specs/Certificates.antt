@@ -6,18 +6,18 @@ use Rattle.dep_model.specs.declared.schema.Schema.{Schema}
 use Rattle.derivation.specs.Conclusions.{Proves}
 use Rattle.derivation.specs.Trees.{Tree}
 use Rattle.desk_cli.specs.declared.status.Status.TheVariants.{Yes, No}
-use Rattle.desk_cli.specs.Answers.{Allowed, Says}
+use Rattle.desk_cli.specs.ResponseValues.{Allowed, Says}
 use Rattle.desk_cli.specs.Inputs.{WithGoal, WithProof}
 use Rattle.desk_texts.specs.ProofTexts.{checked_text, concludes_text}
 use Rattle.desk_cli.specs.Readings.{Reading}
 
 -- yes exactly where the certificate concludes the goal; else no, with both
 abbrev pub Checked : Schema → Tree → Dependency → Allowed
-Checked schema tree goal answer =
-    (Proves schema tree goal × Says Yes (checked_text (names_of schema) goal) answer)
+Checked schema tree goal response =
+    (Proves schema tree goal × Says Yes (checked_text (names_of schema) goal) response)
     ⊎ ((Proves schema tree goal → ⊥)
     × ((concluded : Dependency) × Proves schema tree concluded
-    × Says No (concludes_text (names_of schema) concluded goal) answer))
+    × Says No (concludes_text (names_of schema) concluded goal) response))
 
 -- of a certificate file and a goal
 abbrev pub ChecksProof : Reading → Schema → List ℕ → List ℕ → Allowed

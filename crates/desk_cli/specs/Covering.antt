@@ -6,13 +6,13 @@ use Rattle.dep_model.specs.declared.schema.Schema.{Schema}
 use Rattle.schema_printer.specs.Printing.{declared_text}
 use Rattle.min_cover.specs.Covers.{IsFixedWholeCover, IsMinimalCover, IsWholeCover}
 use Rattle.desk_cli.specs.declared.status.Status.TheVariants.{Yes}
-use Rattle.desk_cli.specs.Answers.{Allowed, Says}
+use Rattle.desk_cli.specs.ResponseValues.{Allowed, Says}
 
 -- yes, with the fixed whole cover as a schema text: the same relations are legal for it, its functional part
 -- is a minimal cover of the functional dependencies, and none of its multivalued ones follows from the rest
 abbrev pub GivesCover : Schema → Allowed
-GivesCover schema answer =
+GivesCover schema response =
     (whole : List Dependency) × IsFixedWholeCover (width_of schema) (theory_of schema) whole
     × IsMinimalCover (width_of schema) (theory_of schema) (functional_part whole)
     × IsWholeCover (width_of schema) (theory_of schema) whole
-    × Says Yes (declared_text (columns_of schema) (names_of schema) whole) answer
+    × Says Yes (declared_text (columns_of schema) (names_of schema) whole) response

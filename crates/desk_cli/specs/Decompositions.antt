@@ -1,22 +1,22 @@
 -- Decompositions in a normal form: for `split`, and for every command that takes a normal form.
 use Rattle.std.specs.Prelude.{◌⊎◌, ℕ, List, ◌++◌, codes, All, length, ◌≤◌}
-use Rattle.attr_sets.specs.Places.{Places}
+use Rattle.attr_sets.specs.Attributes.{Attributes}
 use Rattle.attr_sets.specs.declared.set.AttrSet.{AttrSet}
 use Rattle.dep_model.specs.Forms.{IsBcnf}
 use Rattle.dep_model.specs.Plans.{schemes_of}
 use Rattle.dep_model.specs.Projections.{IsLossless}
 use Rattle.dep_model.specs.Schemas.{names_of, width_of, theory_of}
 use Rattle.dep_model.specs.declared.schema.Schema.{Schema}
-use Rattle.form_tests.specs.declared.forms.Form.{Form}
-use Rattle.form_tests.specs.declared.forms.Form.TheVariants.{Third, Bcnf, Fourth}
-use Rattle.form_tests.specs.Chosen.{IsInForm}
+use Rattle.normal_forms.specs.declared.forms.Form.{Form}
+use Rattle.normal_forms.specs.declared.forms.Form.TheVariants.{Third, Bcnf, Fourth}
+use Rattle.normal_forms.specs.Chosen.{IsInForm}
 use Rattle.plans.specs.Printing.{plan_text}
 use Rattle.split_forms.specs.Refusals.{IsWithinLimits}
 use Rattle.split_forms.specs.Splitting.{IsSplitPlan, IsTooWideAt, HasTooManySchemes}
 use Rattle.wide_bcnf.specs.WideSplits.{IsWidePlan}
 use Rattle.desk_cli.specs.declared.decomposition.TheConstants.{MOST_SPLIT_SCHEMES}
 use Rattle.desk_cli.specs.declared.status.Status.TheVariants.{Yes, Refused}
-use Rattle.desk_cli.specs.Answers.{Allowed, Says, With}
+use Rattle.desk_cli.specs.ResponseValues.{Allowed, Says, With}
 use Rattle.desk_cli.specs.Keys.{too_wide_text}
 use Rattle.desk_cli.specs.Synthesis.{IsThirdFormPlan}
 use Rattle.desk_texts.specs.Texts.{line}
@@ -25,7 +25,7 @@ use Rattle.desk_texts.specs.Texts.{line}
 abbrev pub too_many_schemes_text : List ℕ
 too_many_schemes_text = line (codes "refused: too many schemes")
 
-abbrev pub wide_text : List (List ℕ) → List Places → List ℕ
+abbrev pub wide_text : List (List ℕ) → List Attributes → List ℕ
 wide_text names plan = line (codes "# a scheme in form may have been cut") ++ plan_text names plan
 
 -- ---- plans
@@ -45,17 +45,17 @@ IsPlanInForm schema Fourth plan = IsSplitInForm schema Fourth plan
 
 -- the splitting comes to a scheme that is too wide to be tested, or to too many schemes
 abbrev pub SplitStops : Schema → Form → Allowed
-SplitStops schema form answer =
-    ((scheme : Places) × IsTooWideAt (width_of schema) (theory_of schema) form MOST_SPLIT_SCHEMES scheme
-    × Says Refused (too_wide_text (names_of schema) scheme) answer)
+SplitStops schema form response =
+    ((scheme : Attributes) × IsTooWideAt (width_of schema) (theory_of schema) form MOST_SPLIT_SCHEMES scheme
+    × Says Refused (too_wide_text (names_of schema) scheme) response)
     ⊎ (HasTooManySchemes (width_of schema) (theory_of schema) form MOST_SPLIT_SCHEMES
-    × Says Refused too_many_schemes_text answer)
+    × Says Refused too_many_schemes_text response)
 
 -- how the search for a plan in a normal form ends a command
 abbrev pub FormStops : Schema → Form → Allowed
-FormStops schema Third answer = ⊥
-FormStops schema Bcnf answer = SplitStops schema Bcnf answer
-FormStops schema Fourth answer = SplitStops schema Fourth answer
+FormStops schema Third response = ⊥
+FormStops schema Bcnf response = SplitStops schema Bcnf response
+FormStops schema Fourth response = SplitStops schema Fourth response
 
 -- a plan in a normal form is found, and then the rest follows
 abbrev pub WithPlanInForm : Schema → Form → (List AttrSet → Allowed) → Allowed
@@ -80,6 +80,6 @@ pub record IsWideSplit (schema : Schema) (plan : List AttrSet) : Type 0 where
 
 -- yes, with such a plan
 abbrev pub SplitsWide : Schema → Allowed
-SplitsWide schema answer =
+SplitsWide schema response =
     (plan : List AttrSet) × IsWideSplit schema plan
-    × Says Yes (wide_text (names_of schema) (schemes_of plan)) answer
+    × Says Yes (wide_text (names_of schema) (schemes_of plan)) response

@@ -1,6 +1,6 @@
 -- SQL tables of a plan: for `ddl`.
 use Rattle.std.specs.Prelude.{◌≡◌, ℕ, List}
-use Rattle.attr_sets.specs.Places.{Places}
+use Rattle.attr_sets.specs.Attributes.{Attributes}
 use Rattle.attr_sets.specs.declared.set.AttrSet.{AttrSet}
 use Rattle.dep_model.specs.Plans.{schemes_of}
 use Rattle.dep_model.specs.declared.schema.Schema.{Schema}
@@ -8,9 +8,9 @@ use Rattle.ddl_text.specs.declared.table.TableDesign.{TableDesign}
 use Rattle.ddl_text.specs.Ddl.{ddl_text}
 use Rattle.ddl_text.specs.Designs.{IsDesign}
 use Rattle.ddl_text.specs.Laws.{KeysHold, ReferencesHold}
-use Rattle.form_tests.specs.declared.forms.Form.{Form}
+use Rattle.normal_forms.specs.declared.forms.Form.{Form}
 use Rattle.desk_cli.specs.declared.status.Status.TheVariants.{Yes}
-use Rattle.desk_cli.specs.Answers.{Allowed, Says}
+use Rattle.desk_cli.specs.ResponseValues.{Allowed, Says}
 use Rattle.desk_cli.specs.Decompositions.{WithPlanInForm}
 use Rattle.desk_cli.specs.Joins.{WithoutLoss}
 use Rattle.desk_cli.specs.Plans.{WithPlan}
@@ -24,17 +24,17 @@ pub record IsSoundDesign (schema : Schema) (plan : List AttrSet) (tables : List 
 
 -- yes, with the statements that create the tables of a plan
 abbrev pub WritesTables : Schema → List AttrSet → Allowed
-WritesTables schema plan answer =
-    (tables : List TableDesign) × IsSoundDesign schema plan tables × Says Yes (ddl_text schema tables) answer
+WritesTables schema plan response =
+    (tables : List TableDesign) × IsSoundDesign schema plan tables × Says Yes (ddl_text schema tables) response
 
 -- of the plan of a normal form
 abbrev pub WritesForm : Schema → Form → Allowed
 WritesForm schema form = WithPlanInForm schema form (WritesTables schema)
 
 -- of schemes, as sets of attributes
-abbrev pub WritesSchemes : Schema → List Places → Allowed
-WritesSchemes schema schemes answer =
-    (plan : List AttrSet) × (schemes_of plan ≡ schemes) × WritesTables schema plan answer
+abbrev pub WritesSchemes : Schema → List Attributes → Allowed
+WritesSchemes schema schemes response =
+    (plan : List AttrSet) × (schemes_of plan ≡ schemes) × WritesTables schema plan response
 
 -- of a plan file, where it loses nothing
 abbrev pub WritesPlan : Reading → Schema → List ℕ → Allowed

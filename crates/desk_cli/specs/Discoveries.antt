@@ -1,12 +1,12 @@
 -- The functional dependencies that the rows of a file obey: for `discover`.
 use Rattle.std.specs.Prelude.{List, codes, length, map, ℕ, ◌++◌, ◌↔◌, ◌∷◌, ◌⊎◌}
 use Rattle.std.specs.Fmt.{decimal}
-use Rattle.attr_sets.specs.Places.{Places, below, Within}
+use Rattle.attr_sets.specs.Attributes.{Attributes, below, IsSubset}
 use Rattle.csv_rows.specs.Records.{records_of}
 use Rattle.dep_model.specs.Dependencies.{Dependency, fd, ObeysFd}
 use Rattle.dep_model.specs.Implication.{Implies}
 use Rattle.dep_model.specs.Tuples.{Relation}
-use Rattle.fd_discovery.specs.declared.headed.Headed.{Headed}
+use Rattle.fd_discovery.specs.declared.headed_rows.Headed.{Headed}
 use Rattle.fd_discovery.specs.declared.refusal.DiscoverRefusal.{DiscoverRefusal}
 use Rattle.fd_discovery.specs.declared.refusal.DiscoverRefusal.TheVariants as refusal
 use Rattle.fd_discovery.specs.Headings.{IsHeaded, IsRefusedDiscovery, names_under, rows_under}
@@ -14,7 +14,7 @@ use Rattle.fd_discovery.specs.Minimal.{AreAllMinimal}
 use Rattle.schema_printer.specs.Printing.{words_text, dependency_text, lines_text}
 use Rattle.desk_cli.specs.declared.rows.TheConstants.{MOST_CSV_BYTES}
 use Rattle.desk_cli.specs.declared.status.Status.TheVariants.{Yes, Refused}
-use Rattle.desk_cli.specs.Answers.{Allowed, Says, With}
+use Rattle.desk_cli.specs.ResponseValues.{Allowed, Says, With}
 use Rattle.desk_cli.specs.Inputs.{FileStops}
 use Rattle.desk_cli.specs.Readings.{Reading, IsContent}
 use Rattle.desk_texts.specs.Texts.{line}
@@ -63,10 +63,10 @@ pub record IsHeadedFile (r : Reading) (name : List ℕ) (headed : Headed) : Type
 
 -- how the reading of such a file ends a command
 abbrev pub HeadedStops : Reading → List ℕ → Allowed
-HeadedStops r name answer =
-    FileStops r name MOST_CSV_BYTES answer
+HeadedStops r name response =
+    FileStops r name MOST_CSV_BYTES response
     ⊎ ((why : DiscoverRefusal) × IsRefusedHeaded r name why
-    × Says Refused (headed_refusal_text name why) answer)
+    × Says Refused (headed_refusal_text name why) response)
 
 -- such a file is read, and then the rest follows
 abbrev pub WithHeaded : Reading → List ℕ → (Headed → Allowed) → Allowed
@@ -77,14 +77,14 @@ WithHeaded r name = With (HeadedStops r name) (IsHeadedFile r name)
 -- obey and no other
 pub record AreRulesOf (n : ℕ) (rows : Relation) (ds : List Dependency) : Type 0 where
   pub minimal : AreAllMinimal n rows ds
-  pub implied : (x y : Places) → Within x (below n) → Within y (below n)
+  pub implied : (x y : Attributes) → IsSubset x (below n) → IsSubset y (below n)
       → Implies n ds (fd x y) ↔ ObeysFd x y rows
 
 -- yes, with these
 abbrev pub FindsRules : Headed → Allowed
-FindsRules headed answer =
+FindsRules headed response =
     (ds : List Dependency) × AreRulesOf (length (names_under headed)) (rows_under headed) ds
-    × Says Yes (found_text (names_under headed) ds) answer
+    × Says Yes (found_text (names_under headed) ds) response
 
 -- of the rows of a file
 abbrev pub Discovers : Reading → List ℕ → Allowed

@@ -1,14 +1,14 @@
 -- The tables of a plan as a picture: for `draw`.
 use Rattle.std.specs.Prelude.{◌≡◌, ℕ, List}
-use Rattle.attr_sets.specs.Places.{Places}
+use Rattle.attr_sets.specs.Attributes.{Attributes}
 use Rattle.attr_sets.specs.declared.set.AttrSet.{AttrSet}
 use Rattle.dep_model.specs.Plans.{schemes_of}
 use Rattle.dep_model.specs.declared.schema.Schema.{Schema}
 use Rattle.ddl_text.specs.declared.table.TableDesign.{TableDesign}
-use Rattle.form_tests.specs.declared.forms.Form.{Form}
+use Rattle.normal_forms.specs.declared.forms.Form.{Form}
 use Rattle.table_drawing.specs.Drawing.{drawing_text}
 use Rattle.desk_cli.specs.declared.status.Status.TheVariants.{Yes}
-use Rattle.desk_cli.specs.Answers.{Allowed, Says}
+use Rattle.desk_cli.specs.ResponseValues.{Allowed, Says}
 use Rattle.desk_cli.specs.Decompositions.{WithPlanInForm}
 use Rattle.desk_cli.specs.Designs.{IsSoundDesign}
 use Rattle.desk_cli.specs.Plans.{WithPlan}
@@ -16,18 +16,18 @@ use Rattle.desk_cli.specs.Readings.{Reading}
 
 -- yes, with the picture of a plan's tables
 abbrev pub DrawsTables : Schema → List AttrSet → Allowed
-DrawsTables schema plan answer =
+DrawsTables schema plan response =
     (tables : List TableDesign) × IsSoundDesign schema plan tables
-    × Says Yes (drawing_text schema tables) answer
+    × Says Yes (drawing_text schema tables) response
 
 -- of the plan of a normal form
 abbrev pub DrawsForm : Schema → Form → Allowed
 DrawsForm schema form = WithPlanInForm schema form (DrawsTables schema)
 
 -- of schemes, as sets of attributes
-abbrev pub DrawsSchemes : Schema → List Places → Allowed
-DrawsSchemes schema schemes answer =
-    (plan : List AttrSet) × (schemes_of plan ≡ schemes) × DrawsTables schema plan answer
+abbrev pub DrawsSchemes : Schema → List Attributes → Allowed
+DrawsSchemes schema schemes response =
+    (plan : List AttrSet) × (schemes_of plan ≡ schemes) × DrawsTables schema plan response
 
 -- of a plan file, which may lose something
 abbrev pub DrawsPlan : Reading → Schema → List ℕ → Allowed

@@ -9,7 +9,7 @@ use Rattle.dep_model.specs.Schemas.{names_of, width_of, theory_of, lines_of, uni
 use Rattle.dep_model.specs.declared.schema.Schema.{Schema}
 use Rattle.dep_model.specs.Tuples.{Relation}
 use Rattle.desk_cli.specs.declared.status.Status.TheVariants.{Yes, Refused}
-use Rattle.desk_cli.specs.Answers.{Allowed, Says}
+use Rattle.desk_cli.specs.ResponseValues.{Allowed, Says}
 use Rattle.desk_cli.specs.Keys.{too_wide_text}
 use Rattle.desk_cli.specs.Legality.{line_number_text}
 use Rattle.desk_texts.specs.Texts.{line}
@@ -31,9 +31,9 @@ pub record IsExample (schema : Schema) (rows : Relation) : Type 0 where
 -- yes, with the relation; refused where a multivalued dependency is given, the first of which is named, and
 -- else where the universe is too wide
 abbrev pub Exhibits : Schema → Allowed
-Exhibits schema answer =
-    ((rows : Relation) × IsExample schema rows × Says Yes (rows_text (names_of schema) rows) answer)
+Exhibits schema response =
+    ((rows : Relation) × IsExample schema rows × Says Yes (rows_text (names_of schema) rows) response)
     ⊎ (((dep : ℕ) × IsRefusedExhibit schema (NotFunctional dep)
-    × Says Refused (multivalued_text schema dep) answer)
+    × Says Refused (multivalued_text schema dep) response)
     ⊎ (IsRefusedExhibit schema TooWide
-    × Says Refused (too_wide_text (names_of schema) (universe_of schema)) answer))
+    × Says Refused (too_wide_text (names_of schema) (universe_of schema)) response))

@@ -1,6 +1,6 @@
 -- How a schema, a goal, a set and a certificate are read, and how their reading ends a command.
 use Rattle.std.specs.Prelude.{◌⊎◌, ℕ, ◌<◌, ◌≤◌, List, length, codes}
-use Rattle.attr_sets.specs.Places.{Places}
+use Rattle.attr_sets.specs.Attributes.{Attributes}
 use Rattle.dep_model.specs.Dependencies.{Dependency}
 use Rattle.dep_model.specs.Schemas.{names_of}
 use Rattle.dep_model.specs.declared.schema.Schema.{Schema}
@@ -9,26 +9,26 @@ use Rattle.schema_reader.specs.declared.goal.TheConstants.{MOST_GOAL_BYTES}
 use Rattle.schema_reader.specs.declared.set.TheConstants.{MOST_SET_BYTES}
 use Rattle.schema_reader.specs.declared.text.TheConstants.{MOST_TEXT_BYTES}
 use Rattle.schema_grammar.specs.declared.refusal.SchemaRefusal.{SchemaRefusal}
-use Rattle.schema_grammar.specs.Complaints.{RefusesGoal}
+use Rattle.schema_grammar.specs.Diagnostics.{RefusesGoal}
 use Rattle.schema_grammar.specs.Meanings.{MeansGoal}
 use Rattle.schema_grammar.specs.Schemas.{MeansSchema, RefusesSchema}
 use Rattle.schema_grammar.specs.Sets.{MeansSet, RefusesSet}
 use Rattle.schema_grammar.specs.Texts.{declarations_of}
 use Rattle.proof_text.specs.declared.text.TheConstants.{MOST_PROOF_BYTES}
-use Rattle.proof_grammar.specs.Complaints.{LineComplaint}
+use Rattle.proof_grammar.specs.Diagnostics.{LineDiagnostic}
 use Rattle.proof_grammar.specs.Spelling.{SpellsWithin}
 use Rattle.proof_grammar.specs.Refusals.{IsRefusedCertificate}
 use Rattle.desk_cli.specs.declared.status.Status.TheVariants.{Refused, CannotRead}
-use Rattle.desk_cli.specs.Answers.{Allowed, Says, With}
+use Rattle.desk_cli.specs.ResponseValues.{Allowed, Says, With}
 use Rattle.desk_texts.specs.ProofTexts.{proof_refusal_text}
 use Rattle.desk_cli.specs.Readings.{Reading, CannotBeRead, IsTooLong, IsContent}
 use Rattle.desk_texts.specs.Texts.{cannot_read_text, too_long_text, goal_too_long_text, set_too_long_text, refusal_text, goal_refusal_text, set_refusal_text}
 
 -- how the reading of a file of at most so many bytes ends a command
 abbrev pub FileStops : Reading → List ℕ → ℕ → Allowed
-FileStops r name limit answer =
-    (CannotBeRead r name × Says CannotRead (cannot_read_text name) answer)
-    ⊎ (IsTooLong r name limit × Says Refused (too_long_text name) answer)
+FileStops r name limit response =
+    (CannotBeRead r name × Says CannotRead (cannot_read_text name) response)
+    ⊎ (IsTooLong r name limit × Says Refused (too_long_text name) response)
 
 -- ---- schemas
 -- the text of a file is refused so
@@ -45,10 +45,10 @@ pub record IsSchemaFile (r : Reading) (name : List ℕ) (schema : Schema) : Type
 
 -- how the reading of a schema file ends a command
 abbrev pub SchemaStops : Reading → List ℕ → Allowed
-SchemaStops r name answer =
-    FileStops r name MOST_TEXT_BYTES answer
+SchemaStops r name response =
+    FileStops r name MOST_TEXT_BYTES response
     ⊎ ((refusal : SchemaRefusal) × IsRefusedSchema r name refusal
-    × Says Refused (refusal_text (codes "schema") name refusal) answer)
+    × Says Refused (refusal_text (codes "schema") name refusal) response)
 
 -- a schema file is read, and then the rest follows
 abbrev pub WithSchema : Reading → List ℕ → (Schema → Allowed) → Allowed
@@ -67,10 +67,10 @@ pub record IsGoal (schema : Schema) (goal : List ℕ) (dep : Dependency) : Type 
 
 -- how the reading of a goal ends a command
 abbrev pub GoalStops : Schema → List ℕ → Allowed
-GoalStops schema goal answer =
-    ((MOST_GOAL_BYTES < length goal) × Says Refused goal_too_long_text answer)
+GoalStops schema goal response =
+    ((MOST_GOAL_BYTES < length goal) × Says Refused goal_too_long_text response)
     ⊎ ((refusal : SchemaRefusal) × IsRefusedGoal schema goal refusal
-    × Says Refused (goal_refusal_text refusal) answer)
+    × Says Refused (goal_refusal_text refusal) response)
 
 -- a goal is read, and then the rest follows
 abbrev pub WithGoal : Schema → List ℕ → (Dependency → Allowed) → Allowed
@@ -83,24 +83,24 @@ pub record IsRefusedSet (schema : Schema) (set : List ℕ) (refusal : SchemaRefu
   pub refused : RefusesSet (names_of schema) set refusal
 
 -- a text means this set of attributes
-pub record IsSetText (schema : Schema) (set : List ℕ) (x : Places) : Type 0 where
+pub record IsSetText (schema : Schema) (set : List ℕ) (x : Attributes) : Type 0 where
   pub few : length set ≤ MOST_SET_BYTES
   pub means : MeansSet (names_of schema) set x
 
 -- how the reading of a set ends a command
 abbrev pub SetStops : Schema → List ℕ → Allowed
-SetStops schema set answer =
-    ((MOST_SET_BYTES < length set) × Says Refused set_too_long_text answer)
+SetStops schema set response =
+    ((MOST_SET_BYTES < length set) × Says Refused set_too_long_text response)
     ⊎ ((refusal : SchemaRefusal) × IsRefusedSet schema set refusal
-    × Says Refused (set_refusal_text refusal) answer)
+    × Says Refused (set_refusal_text refusal) response)
 
 -- a set is read, and then the rest follows
-abbrev pub WithSet : Schema → List ℕ → (Places → Allowed) → Allowed
+abbrev pub WithSet : Schema → List ℕ → (Attributes → Allowed) → Allowed
 WithSet schema set = With (SetStops schema set) (IsSetText schema set)
 
 -- ---- certificates
--- the text of a file is refused so
-pub record IsRefusedProof (r : Reading) (schema : Schema) (name : List ℕ) (refusal : LineComplaint)
+-- the certificate in a file is refused so
+pub record IsRefusedProof (r : Reading) (schema : Schema) (name : List ℕ) (refusal : LineDiagnostic)
     : Type 0 where
   pub bytes : List ℕ
   pub content : IsContent r name MOST_PROOF_BYTES bytes
@@ -114,10 +114,10 @@ pub record IsProofFile (r : Reading) (schema : Schema) (name : List ℕ) (tree :
 
 -- how the reading of a certificate file ends a command
 abbrev pub ProofStops : Reading → Schema → List ℕ → Allowed
-ProofStops r schema name answer =
-    FileStops r name MOST_PROOF_BYTES answer
-    ⊎ ((refusal : LineComplaint) × IsRefusedProof r schema name refusal
-    × Says Refused (proof_refusal_text (names_of schema) name refusal) answer)
+ProofStops r schema name response =
+    FileStops r name MOST_PROOF_BYTES response
+    ⊎ ((refusal : LineDiagnostic) × IsRefusedProof r schema name refusal
+    × Says Refused (proof_refusal_text (names_of schema) name refusal) response)
 
 -- a certificate file is read, and then the rest follows
 abbrev pub WithProof : Reading → Schema → List ℕ → (Tree → Allowed) → Allowed

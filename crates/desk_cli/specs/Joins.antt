@@ -1,7 +1,7 @@
 -- Whether a plan loses nothing: for `check join`, and for `ddl plan`, `migrate plan` and `sql
 -- migrate plan`.
 use Rattle.std.specs.Prelude.{◌⊎◌, ℕ, List, ◌++◌, length, codes}
-use Rattle.attr_sets.specs.Places.{Places}
+use Rattle.attr_sets.specs.Attributes.{Attributes}
 use Rattle.csv_text.specs.Rows.{csv_row, rows_text}
 use Rattle.chase_laws.specs.Answers.{IsClosedTableau, IsGaining}
 use Rattle.chase_laws.specs.Rounds.{RoundsExceed}
@@ -12,7 +12,7 @@ use Rattle.dep_model.specs.Tuples.{Relation}
 use Rattle.dep_model.specs.TwoTuples.{all_zeros}
 use Rattle.desk_cli.specs.declared.join.TheConstants.{MOST_TABLEAU_ROWS}
 use Rattle.desk_cli.specs.declared.status.Status.TheVariants.{Yes, No, Refused}
-use Rattle.desk_cli.specs.Answers.{Allowed, Says, Unless}
+use Rattle.desk_cli.specs.ResponseValues.{Allowed, Says, Unless}
 use Rattle.desk_cli.specs.Plans.{WithPlan}
 use Rattle.desk_cli.specs.Readings.{Reading}
 use Rattle.desk_texts.specs.Texts.{line}
@@ -35,39 +35,39 @@ too_many_rows_text = line (codes "refused: too many tableau rows")
 
 -- ---- answers
 -- no legal relation loses by a plan
-abbrev pub LosesNothing : Schema → List Places → Type 0
+abbrev pub LosesNothing : Schema → List Attributes → Type 0
 LosesNothing schema plan = IsLossless (width_of schema) (theory_of schema) plan
 
 -- the chase of a plan comes to a tableau of more rows than it may have
-abbrev pub IsTooLarge : Schema → List Places → Type 0
+abbrev pub IsTooLarge : Schema → List Attributes → Type 0
 IsTooLarge schema plan = RoundsExceed (width_of schema) (theory_of schema) plan MOST_TABLEAU_ROWS
 
 -- a closed tableau of a plan, as a legal relation of the columns' types whose projections have the tuple
 -- of all `0` in their join, which it has not itself
-pub record ShowsLoss (schema : Schema) (plan : List Places) (rows : Relation) : Type 0 where
+pub record ShowsLoss (schema : Schema) (plan : List Attributes) (rows : Relation) : Type 0 where
   pub closed : IsClosedTableau (width_of schema) (theory_of schema) plan MOST_TABLEAU_ROWS rows
   pub gaining : IsGaining (width_of schema) (theory_of schema) plan rows
   pub typed : TypedFor schema rows
 
 -- the chase keeps within its limit, and no legal relation loses by a plan
-pub record IsShownLossless (schema : Schema) (plan : List Places) : Type 0 where
+pub record IsShownLossless (schema : Schema) (plan : List Attributes) : Type 0 where
   pub within_limit : IsTooLarge schema plan → ⊥
   pub lossless : LosesNothing schema plan
 
 -- how the test of a plan ends a command: refused exactly where the chase comes to too many rows; else
 -- no, with a relation that shows it, exactly where something is lost
-abbrev pub LossStops : Schema → List Places → Allowed
-LossStops schema plan answer =
+abbrev pub LossStops : Schema → List Attributes → Allowed
+LossStops schema plan response =
     ((IsTooLarge schema plan → ⊥) × (LosesNothing schema plan → ⊥)
-    × ((rows : Relation) × ShowsLoss schema plan rows × Says No (lossy_text (names_of schema) rows) answer))
-    ⊎ (IsTooLarge schema plan × Says Refused too_many_rows_text answer)
+    × ((rows : Relation) × ShowsLoss schema plan rows × Says No (lossy_text (names_of schema) rows) response))
+    ⊎ (IsTooLarge schema plan × Says Refused too_many_rows_text response)
 
 -- a plan loses nothing, and then the rest follows
-abbrev pub WithoutLoss : Schema → List Places → Allowed → Allowed
+abbrev pub WithoutLoss : Schema → List Attributes → Allowed → Allowed
 WithoutLoss schema plan = Unless (LossStops schema plan) (IsShownLossless schema plan)
 
 -- yes where a plan loses nothing
-abbrev pub JudgesJoin : Schema → List Places → Allowed
+abbrev pub JudgesJoin : Schema → List Attributes → Allowed
 JudgesJoin schema plan = WithoutLoss schema plan (Says Yes lossless_text)
 
 -- of a plan file

@@ -1,8 +1,8 @@
 -- Whether a plan keeps the functional dependencies: for `check keeps`.
 use Rattle.std.specs.Prelude.{◌⊎◌, ℕ, List, ◌∷◌, ◌++◌, codes, slice_get}
 use Rattle.std.specs.List.{flat_map}
-use Rattle.attr_sets.specs.Places.{Places}
-use Rattle.attr_sets.specs.Sets.{places}
+use Rattle.attr_sets.specs.Attributes.{Attributes}
+use Rattle.attr_sets.specs.Sets.{attributes}
 use Rattle.csv_text.specs.Rows.{rows_text}
 use Rattle.dep_model.specs.Preservation.{KeepsDependencies}
 use Rattle.dep_model.specs.Schemas.{names_of, width_of, theory_of, deps_of, lines_of}
@@ -11,7 +11,7 @@ use Rattle.dep_model.specs.declared.schema.Schema.{Schema}
 use Rattle.preservation.specs.declared.losing.Loss.{Loss}
 use Rattle.preservation.specs.Keeping.{LossesOf}
 use Rattle.desk_cli.specs.declared.status.Status.TheVariants.{Yes, No}
-use Rattle.desk_cli.specs.Answers.{Allowed, Says}
+use Rattle.desk_cli.specs.ResponseValues.{Allowed, Says}
 use Rattle.desk_cli.specs.Legality.{line_number_text, dep_text}
 use Rattle.desk_cli.specs.Plans.{WithPlan}
 use Rattle.desk_cli.specs.Readings.{Reading}
@@ -31,7 +31,7 @@ loss_text schema loss =
 abbrev pub shown_text : Schema → Loss → List ℕ
 shown_text schema loss =
     line (codes "shown by")
-    ++ rows_text (names_of schema) (two_tuples (width_of schema) (places loss.agreement))
+    ++ rows_text (names_of schema) (two_tuples (width_of schema) (attributes loss.agreement))
 
 -- each dependency that is lost, and two tuples that show the first
 abbrev pub losses_text : Schema → Loss → List Loss → List ℕ
@@ -39,12 +39,12 @@ losses_text schema first more = flat_map (loss_text schema) (first ∷ more) ++ 
 
 -- ---- answers
 -- yes exactly where a plan keeps the functional dependencies; else no, with those that it loses
-abbrev pub JudgesKeeping : Schema → List Places → Allowed
-JudgesKeeping schema plan answer =
-    (KeepsDependencies (width_of schema) (theory_of schema) plan × Says Yes kept_text answer)
+abbrev pub JudgesKeeping : Schema → List Attributes → Allowed
+JudgesKeeping schema plan response =
+    (KeepsDependencies (width_of schema) (theory_of schema) plan × Says Yes kept_text response)
     ⊎ ((KeepsDependencies (width_of schema) (theory_of schema) plan → ⊥)
     × ((first : Loss) × (more : List Loss) × LossesOf (width_of schema) (theory_of schema) plan (first ∷ more)
-    × Says No (losses_text schema first more) answer))
+    × Says No (losses_text schema first more) response))
 
 -- of a plan file
 abbrev pub ChecksKeeping : Reading → Schema → List ℕ → Allowed

@@ -11,7 +11,7 @@ use Rattle.schema_printer.specs.Printing.{dependency_text}
 use Rattle.legality.specs.declared.offence.Offence.{Offence}
 use Rattle.legality.specs.Offences.{OffencesOf}
 use Rattle.desk_cli.specs.declared.status.Status.TheVariants.{Yes, No}
-use Rattle.desk_cli.specs.Answers.{Allowed, Says, Unless}
+use Rattle.desk_cli.specs.ResponseValues.{Allowed, Says, Unless}
 use Rattle.desk_cli.specs.Readings.{Reading}
 use Rattle.desk_cli.specs.Rows.{WithRows}
 use Rattle.desk_texts.specs.Texts.{line}
@@ -43,10 +43,10 @@ offences_text schema offences = flat_map (offence_text schema) offences
 -- how the test of rows ends a command: no, exactly where they do not obey every dependency, with a line
 -- for each that they break and the least pair of rows that breaks it
 abbrev pub OffenceStops : Schema → Relation → Allowed
-OffenceStops schema rows answer =
+OffenceStops schema rows response =
     (LegalFor schema rows → ⊥)
     × ((offences : List Offence) × OffencesOf (width_of schema) (theory_of schema) rows offences
-    × Says No (offences_text schema offences) answer)
+    × Says No (offences_text schema offences) response)
 
 -- the rows are legal, and then the rest follows
 abbrev pub WithLegal : Schema → Relation → Allowed → Allowed

@@ -1,4 +1,4 @@
-pub mod Answers
+pub mod ResponseValues
 pub mod Readings
 pub mod Inputs
 pub mod Implication
@@ -24,6 +24,6 @@ pub mod Exhibits
 pub mod Discoveries
 pub mod Rejoining
 pub mod Performs
-pub mod Replies
-pub mod Endings
+pub mod Responses
+pub mod Outcomes
 pub mod Desk

@@ -2,18 +2,18 @@
 use Rattle.std.specs.Prelude.{◌≡◌, ℕ, List, ◌++◌, codes, length}
 use Rattle.std.specs.Fmt.{decimal}
 use Rattle.std.specs.List.{flat_map}
-use Rattle.attr_sets.specs.Places.{Places}
-use Rattle.csv_migrate.specs.Migration.{migrated, JoinIs}
+use Rattle.attr_sets.specs.Attributes.{Attributes}
+use Rattle.csv_migrate.specs.Migration.{tables_of_migration, JoinIs}
 use Rattle.dep_model.specs.Plans.{schemes_of}
 use Rattle.dep_model.specs.Schemas.{names_of, width_of, theory_of}
 use Rattle.dep_model.specs.declared.schema.Schema.{Schema}
 use Rattle.dep_model.specs.Tuples.{Relation}
-use Rattle.form_tests.specs.declared.forms.Form.{Form}
-use Rattle.form_tests.specs.declared.forms.Form.TheVariants.{Fourth}
-use Rattle.sample.specs.Sample.{sample_names, sample_theory, sample_relation}
+use Rattle.normal_forms.specs.declared.forms.Form.{Form}
+use Rattle.normal_forms.specs.declared.forms.Form.TheVariants.{Fourth}
+use Rattle.sample_rows.specs.Sample.{sample_names, sample_theory, sample_relation}
 use Rattle.schema_printer.specs.Printing.{words_text}
 use Rattle.named_tables.specs.Tables.{TableValue}
-use Rattle.desk_cli.specs.Answers.{Allowed, AnswersWithTables}
+use Rattle.desk_cli.specs.ResponseValues.{Allowed, RespondsWithTables}
 use Rattle.desk_cli.specs.Decompositions.{WithPlanInForm}
 use Rattle.desk_cli.specs.Joins.{WithoutLoss}
 use Rattle.desk_cli.specs.Legality.{WithLegal}
@@ -35,19 +35,19 @@ migrated_text rows tables =
 
 -- ---- answers
 -- the tables of a plan hold the ordered projections of the rows, and their natural join is exactly the rows
-pub record AreTablesOf (schema : Schema) (plan : List Places) (rows : Relation)
+pub record AreTablesOf (schema : Schema) (plan : List Attributes) (rows : Relation)
     (tables : List TableValue) : Type 0 where
-  pub projections : tables ≡ migrated schema plan rows
+  pub projections : tables ≡ tables_of_migration schema plan rows
   pub joins : JoinIs (width_of schema) plan tables rows
 
--- yes, with the tables of a plan, which the targets are given
-abbrev pub GivesTables : Schema → List Places → Relation → Allowed
-GivesTables schema plan rows answer =
+-- yes, with the tables of a plan, which the destinations are given
+abbrev pub GivesTables : Schema → List Attributes → Relation → Allowed
+GivesTables schema plan rows response =
     (tables : List TableValue) × AreTablesOf schema plan rows tables
-    × AnswersWithTables (migrated_text rows tables) tables answer
+    × RespondsWithTables (migrated_text rows tables) tables response
 
 -- legal rows as tables
-abbrev pub MigratesRows : Schema → List Places → Relation → Allowed
+abbrev pub MigratesRows : Schema → List Attributes → Relation → Allowed
 MigratesRows schema plan rows = WithLegal schema rows (GivesTables schema plan rows)
 
 -- the rows of a file, as tables in a normal form
@@ -69,7 +69,7 @@ pub record IsSampleSchema (schema : Schema) : Type 0 where
 
 -- the rows of so many invented persons, as tables in fourth normal form
 abbrev pub Samples : ℕ → Allowed
-Samples persons answer =
+Samples persons response =
     (schema : Schema) × IsSampleSchema schema
     × WithPlanInForm schema Fourth
-    (λ plan. MigratesRows schema (schemes_of plan) (sample_relation persons)) answer
+    (λ plan. MigratesRows schema (schemes_of plan) (sample_relation persons)) response

@@ -2,7 +2,7 @@
 use Rattle.std.specs.Prelude.{ℕ, List, MatchOption}
 use Rattle.dep_model.specs.declared.schema.Schema.{Schema}
 use Rattle.desk_cli.specs.declared.status.Status.TheVariants.{Yes, Refused}
-use Rattle.desk_cli.specs.Answers.{Allowed, Says}
+use Rattle.desk_cli.specs.ResponseValues.{Allowed, Says}
 use Rattle.desk_cli.specs.Bases.{GivesBasis}
 use Rattle.desk_cli.specs.Certificates.{ChecksProof}
 use Rattle.desk_cli.specs.Covering.{GivesCover}
@@ -67,5 +67,5 @@ Performs r form.version = Says Yes version_text
 
 -- the words
 abbrev pub Answers : Reading → List (List ℕ) → Allowed
-Answers r words answer =
-    MatchOption (form_of words) (Says Refused unknown_words_text answer) (λ form. Performs r form answer)
+Answers r words response =
+    MatchOption (form_of words) (Says Refused unknown_words_text response) (λ form. Performs r form response)

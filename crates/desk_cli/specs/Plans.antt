@@ -1,17 +1,17 @@
 -- How a plan is read, and how its reading ends a command.
 use Rattle.std.specs.Prelude.{◌≡◌, ◌⊎◌, ℕ, List, [], ◌∷◌, ◌++◌, codes, slice_index_or, All}
 use Rattle.std.specs.Fmt.{decimal}
-use Rattle.attr_sets.specs.Places.{Places}
+use Rattle.attr_sets.specs.Attributes.{Attributes}
 use Rattle.dep_model.specs.Schemas.{names_of}
 use Rattle.dep_model.specs.declared.schema.Schema.{Schema}
-use Rattle.decomp_text.specs.declared.reading.TheConstants.{MOST_PLAN_BYTES}
-use Rattle.plan_grammar.specs.Complaints.{RefusesPlan}
+use Rattle.plan_reader.specs.declared.reading.TheConstants.{MOST_PLAN_BYTES}
+use Rattle.plan_grammar.specs.Diagnostics.{RefusesPlan}
 use Rattle.plan_grammar.specs.Meanings.{MeansPlan}
 use Rattle.plan_grammar.specs.Refusals.{plan_refusal_number}
 use Rattle.plan_grammar.specs.declared.refusal.PlanRefusal.{PlanRefusal}
 use Rattle.plan_grammar.specs.declared.refusal.PlanRefusal.TheVariants as plan
 use Rattle.desk_cli.specs.declared.status.Status.TheVariants.{Refused}
-use Rattle.desk_cli.specs.Answers.{Allowed, Says, With}
+use Rattle.desk_cli.specs.ResponseValues.{Allowed, Says, With}
 use Rattle.desk_cli.specs.Inputs.{FileStops}
 use Rattle.desk_cli.specs.Readings.{Reading, IsContent}
 use Rattle.desk_texts.specs.Texts.{line, kind_text}
@@ -42,25 +42,25 @@ pub record IsRefusedPlan (r : Reading) (schema : Schema) (name : List ℕ) (refu
   pub refused : RefusesPlan (names_of schema) bytes refusal
 
 -- the text of a file means these schemes
-pub record IsPlanFile (r : Reading) (schema : Schema) (name : List ℕ) (schemes : List Places) : Type 0 where
+pub record IsPlanFile (r : Reading) (schema : Schema) (name : List ℕ) (schemes : List Attributes) : Type 0 where
   pub bytes : List ℕ
   pub content : IsContent r name MOST_PLAN_BYTES bytes
   pub means : MeansPlan (names_of schema) bytes schemes
 
 -- how the reading of a plan file ends a command
 abbrev pub PlanStops : Reading → Schema → List ℕ → Allowed
-PlanStops r schema name answer =
-    FileStops r name MOST_PLAN_BYTES answer
+PlanStops r schema name response =
+    FileStops r name MOST_PLAN_BYTES response
     ⊎ ((refusal : PlanRefusal) × IsRefusedPlan r schema name refusal
-    × Says Refused (plan_refusal_text (names_of schema) name refusal) answer)
+    × Says Refused (plan_refusal_text (names_of schema) name refusal) response)
 
 -- the first scheme of a plan that does not pass a test
-pub record IsFirstFailing (Passes : Places → Type 0) (plan : List Places) (scheme : Places) : Type 0 where
-  pub earlier : List Places
-  pub later : List Places
+pub record IsFirstFailing (Passes : Attributes → Type 0) (plan : List Attributes) (scheme : Attributes) : Type 0 where
+  pub earlier : List Attributes
+  pub later : List Attributes
   pub list : plan ≡ earlier ++ scheme ∷ later
   pub passed : All Passes earlier
 
 -- a plan file is read, and then the rest follows
-abbrev pub WithPlan : Reading → Schema → List ℕ → (List Places → Allowed) → Allowed
+abbrev pub WithPlan : Reading → Schema → List ℕ → (List Attributes → Allowed) → Allowed
 WithPlan r schema name = With (PlanStops r schema name) (IsPlanFile r schema name)

@@ -1,31 +1,31 @@
 -- What is known of the files while a command reads them: for every command that reads one.
 use Rattle.std.specs.Prelude.{⊤, ◌≡◌, ◌⊎◌, ℕ, ◌+◌, ◌≤◌, List, length, Option, Some}
-use Rattle.desk_outside.specs.Causes.{Rose}
+use Rattle.desk_outside.specs.Causes.{ErrorCountIncreased}
 use Rattle.desk_outside.specs.Files.{Files, IsMissing, IsHeld, IsLonger}
 
 pub data Reading : Type 0 where
   -- these are the files, and nothing fails
-  told : Files → Reading
-  -- a shelf in a call: its files, where told, its faults before and after, and the bytes taken since the
-  -- last file was begun
-  seen : Option Files → ℕ → ℕ → ℕ → Reading
+  known_files : Files → Reading
+  -- a file source in a call: its files, where known, its faults before and after, and the bytes taken
+  -- since the last file was begun
+  observed : Option Files → ℕ → ℕ → ℕ → Reading
 
--- the files, where told
+-- the files, where known
 abbrev pub files_in : Reading → Option Files
-files_in (told files) = Some files
-files_in (seen files before after taken) = files
+files_in (known_files files) = Some files
+files_in (observed files before after taken) = files
 
--- the faults rose
+-- the error count increased
 abbrev pub Fails : Reading → Type 0
-Fails (told files) = ⊥
-Fails (seen files before after taken) = Rose before after
+Fails (known_files files) = ⊥
+Fails (observed files before after taken) = ErrorCountIncreased before after
 
 -- one byte more than a limit was taken
 abbrev pub TookMore : Reading → ℕ → Type 0
-TookMore (told files) limit = ⊤
-TookMore (seen files before after taken) limit = taken ≡ limit + 1
+TookMore (known_files files) limit = ⊤
+TookMore (observed files before after taken) limit = taken ≡ limit + 1
 
--- a file can't be read only where the faults rose or the shelf lacks it
+-- a file can't be read only where the error count increased or the file source lacks it
 abbrev pub CannotBeRead : Reading → List ℕ → Type 0
 CannotBeRead r name = Fails r ⊎ IsMissing (files_in r) name
 
@@ -37,9 +37,9 @@ IsTooLong r name limit = TookMore r limit × IsLonger (files_in r) name limit
 abbrev pub IsContent : Reading → List ℕ → ℕ → List ℕ → Type 0
 IsContent r name limit bytes = IsHeld (files_in r) name bytes × (length bytes ≤ limit)
 
--- a reading tells what a shelf shows from one state to a later one
+-- a reading tells what a file source shows from one state to a later one
 pub record Shows {S : Type 0} (files : S → Option Files) (faults taken : S → ℕ) (old new : S)
     (r : Reading) : Type 0 where
   pub same : files_in r ≡ files old
-  pub fails : Rose (faults old) (faults new) → Fails r
+  pub fails : ErrorCountIncreased (faults old) (faults new) → Fails r
   pub takes : (limit : ℕ) → taken new ≡ limit + 1 → TookMore r limit

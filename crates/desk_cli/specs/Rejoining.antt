@@ -2,7 +2,7 @@
 use Rattle.std.specs.Prelude.{◌≡◌, ◌⊎◌, ℕ, List, ◌++◌, codes, take, slice_get, Some, Ok, Err}
 use Rattle.std.specs.Fmt.{decimal}
 use Rattle.std.specs.List.{AllZip}
-use Rattle.csv_rows.specs.declared.part.Part.{Part}
+use Rattle.csv_rows.specs.declared.part.PartialRows.{PartialRows}
 use Rattle.csv_rows.specs.declared.refusal.RowRefusal.{RowRefusal}
 use Rattle.csv_rows.specs.Reading.{PartOf, HasScheme}
 use Rattle.csv_text.specs.Rows.{rows_text}
@@ -13,11 +13,11 @@ use Rattle.dep_model.specs.declared.schema.Schema.{Schema}
 use Rattle.table_join.specs.declared.refusal.JoinRefusal.TheVariants.{NotCovered, TooManyRows}
 use Rattle.table_join.specs.Answers.{IsNaturalJoin, GivesBack, IsWithinLimit, RefusesJoin}
 use Rattle.table_join.specs.Joins.{join_of}
-use Rattle.table_join.specs.Tables.{Table, tables_of, plan_of_tables}
+use Rattle.table_join.specs.Tables.{PartialRelation, tables_of, plan_of_tables}
 use Rattle.desk_cli.specs.declared.rejoining.TheConstants.{MOST_JOINED_ROWS}
 use Rattle.desk_cli.specs.declared.rows.TheConstants.{MOST_CSV_BYTES}
 use Rattle.desk_cli.specs.declared.status.Status.TheVariants.{Yes, Refused}
-use Rattle.desk_cli.specs.Answers.{Allowed, Says, With}
+use Rattle.desk_cli.specs.ResponseValues.{Allowed, Says, With}
 use Rattle.desk_cli.specs.Inputs.{FileStops}
 use Rattle.desk_cli.specs.Readings.{Reading, IsContent}
 use Rattle.desk_cli.specs.Rows.{name_at, row_refusal_text}
@@ -40,7 +40,7 @@ pub record IsRefusedPart (r : Reading) (schema : Schema) (name : List ℕ) (why 
   pub refused : PartOf schema bytes (Err why)
 
 -- the text of a file has these columns and rows
-pub record IsPartFile (r : Reading) (schema : Schema) (name : List ℕ) (part : Part) : Type 0 where
+pub record IsPartFile (r : Reading) (schema : Schema) (name : List ℕ) (part : PartialRows) : Type 0 where
   pub bytes : List ℕ
   pub content : IsContent r name MOST_CSV_BYTES bytes
   pub means : PartOf schema bytes (Ok part.rows)
@@ -48,36 +48,36 @@ pub record IsPartFile (r : Reading) (schema : Schema) (name : List ℕ) (part : 
 
 -- how the reading of such a file ends a command
 abbrev pub PartStops : Reading → Schema → List ℕ → Allowed
-PartStops r schema name answer =
-    FileStops r name MOST_CSV_BYTES answer
+PartStops r schema name response =
+    FileStops r name MOST_CSV_BYTES response
     ⊎ ((why : RowRefusal) × IsRefusedPart r schema name why
-    × Says Refused (row_refusal_text (names_of schema) name why) answer)
+    × Says Refused (row_refusal_text (names_of schema) name why) response)
 
 -- the texts of files, one after the other
-abbrev pub ArePartFiles : Reading → Schema → List (List ℕ) → List Part → Type 0
+abbrev pub ArePartFiles : Reading → Schema → List (List ℕ) → List PartialRows → Type 0
 ArePartFiles r schema names parts = AllZip (IsPartFile r schema) names parts
 
 -- the files before one were read, and its reading ends the command
 pub record FirstPartStops (r : Reading) (schema : Schema) (names : List (List ℕ)) : Type 0 where
-  pub place : ℕ
+  pub position : ℕ
   pub name : List ℕ
-  pub stands : slice_get names place ≡ Some name
-  pub earlier : List Part
-  pub before : ArePartFiles r schema (take place names) earlier
+  pub stands : slice_get names position ≡ Some name
+  pub earlier : List PartialRows
+  pub before : ArePartFiles r schema (take position names) earlier
 
 -- how the reading of files ends a command: at the first that cannot be read
 abbrev pub PartsStop : Reading → Schema → List (List ℕ) → Allowed
-PartsStop r schema names answer =
-    (first : FirstPartStops r schema names) × PartStops r schema first.name answer
+PartsStop r schema names response =
+    (first : FirstPartStops r schema names) × PartStops r schema first.name response
 
 -- files are read, and then the rest follows
-abbrev pub WithParts : Reading → Schema → List (List ℕ) → (List Part → Allowed) → Allowed
+abbrev pub WithParts : Reading → Schema → List (List ℕ) → (List PartialRows → Allowed) → Allowed
 WithParts r schema names = With (PartsStop r schema names) (ArePartFiles r schema names)
 
 -- ---- answers
 -- the join of tables, which is their natural join, each tuple once; of the ordered projections of a legal
 -- relation on the schemes of a lossless plan it is that relation
-pub record IsJoinOf (schema : Schema) (tables : List Table) (rows : Relation) : Type 0 where
+pub record IsJoinOf (schema : Schema) (tables : List PartialRelation) (rows : Relation) : Type 0 where
   pub join : rows ≡ (join_of (width_of schema) tables).rows
   pub natural : IsNaturalJoin (width_of schema) tables rows
   pub gives_back : GivesBack (width_of schema) (theory_of schema) tables rows
@@ -85,13 +85,13 @@ pub record IsJoinOf (schema : Schema) (tables : List Table) (rows : Relation) : 
   pub within_limit : IsWithinLimit (width_of schema) MOST_JOINED_ROWS tables
 
 -- yes, with the join; refused where an attribute is in no table, or the join of the first tables is too large
-abbrev pub JoinsTables : Schema → List Table → Allowed
-JoinsTables schema tables answer =
-    ((rows : Relation) × IsJoinOf schema tables rows × Says Yes (rows_text (names_of schema) rows) answer)
+abbrev pub JoinsTables : Schema → List PartialRelation → Allowed
+JoinsTables schema tables response =
+    ((rows : Relation) × IsJoinOf schema tables rows × Says Yes (rows_text (names_of schema) rows) response)
     ⊎ (((a : ℕ) × RefusesJoin (width_of schema) MOST_JOINED_ROWS tables (NotCovered a)
-    × Says Refused (not_covered_text (names_of schema) a) answer)
+    × Says Refused (not_covered_text (names_of schema) a) response)
     ⊎ ((k : ℕ) × RefusesJoin (width_of schema) MOST_JOINED_ROWS tables (TooManyRows k)
-    × Says Refused (too_many_joined_text k) answer))
+    × Says Refused (too_many_joined_text k) response))
 
 -- of files
 abbrev pub Rejoins : Reading → Schema → List (List ℕ) → Allowed

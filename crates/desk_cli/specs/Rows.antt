@@ -9,7 +9,7 @@ use Rattle.csv_rows.specs.declared.refusal.RowRefusal.TheVariants as refusal
 use Rattle.csv_rows.specs.Reading.{RowsOf}
 use Rattle.desk_cli.specs.declared.rows.TheConstants.{MOST_CSV_BYTES}
 use Rattle.desk_cli.specs.declared.status.Status.TheVariants.{Refused}
-use Rattle.desk_cli.specs.Answers.{Allowed, Says, With}
+use Rattle.desk_cli.specs.ResponseValues.{Allowed, Says, With}
 use Rattle.desk_cli.specs.Inputs.{FileStops}
 use Rattle.desk_cli.specs.Readings.{Reading, IsContent}
 use Rattle.desk_texts.specs.Texts.{line}
@@ -61,10 +61,10 @@ pub record IsRowsFile (r : Reading) (schema : Schema) (name : List ℕ) (rows : 
 
 -- how the reading of a file of rows ends a command
 abbrev pub RowStops : Reading → Schema → List ℕ → Allowed
-RowStops r schema name answer =
-    FileStops r name MOST_CSV_BYTES answer
+RowStops r schema name response =
+    FileStops r name MOST_CSV_BYTES response
     ⊎ ((why : RowRefusal) × IsRefusedRows r schema name why
-    × Says Refused (row_refusal_text (names_of schema) name why) answer)
+    × Says Refused (row_refusal_text (names_of schema) name why) response)
 
 -- a file of rows is read, and then the rest follows
 abbrev pub WithRows : Reading → Schema → List ℕ → (Relation → Allowed) → Allowed

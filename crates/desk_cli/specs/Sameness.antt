@@ -1,14 +1,14 @@
 -- Whether two schemas say the same of the same attributes: for `check same`.
 use Rattle.std.specs.Prelude.{◌⊎◌, ℕ, List, ◌++◌, codes, slice_get}
 use Rattle.std.specs.List.{flat_map}
-use Rattle.attr_sets.specs.Places.{IsLeastFrom}
+use Rattle.attr_sets.specs.Attributes.{IsFirstFrom}
 use Rattle.dep_model.specs.Schemas.{names_of, deps_of, lines_of}
 use Rattle.dep_model.specs.declared.schema.Schema.{Schema}
 use Rattle.schema_match.specs.Carried.{IsImpliedBy, HaveSameLegalRelations}
-use Rattle.schema_match.specs.Columns.{IsDeclaredBy, SameNames, name_of_attribute, undeclared}
+use Rattle.schema_match.specs.Columns.{IsDeclaredBy, SameNames, name_of_attribute, undeclared_attributes}
 use Rattle.schema_match.specs.Differences.{AreDifferences}
 use Rattle.desk_cli.specs.declared.status.Status.TheVariants.{Yes, No, Refused}
-use Rattle.desk_cli.specs.Answers.{Allowed, Says, Unless}
+use Rattle.desk_cli.specs.ResponseValues.{Allowed, Says, Unless}
 use Rattle.desk_cli.specs.Inputs.{WithSchema}
 use Rattle.desk_cli.specs.Legality.{line_number_text, dep_text}
 use Rattle.desk_cli.specs.Readings.{Reading}
@@ -42,16 +42,16 @@ different_text schema other file other_file there back =
 -- ---- names
 -- the names of a schema are not all declared by the other, with the least of those that are not
 abbrev pub LacksName : Schema → Schema → List ℕ → Allowed
-LacksName schema other other_file answer =
-    (a : ℕ) × IsLeastFrom (undeclared schema other) 0 a
-    × Says Refused (not_in_text (name_of_attribute schema a) other_file) answer
+LacksName schema other other_file response =
+    (a : ℕ) × IsFirstFrom (undeclared_attributes schema other) 0 a
+    × Says Refused (not_in_text (name_of_attribute schema a) other_file) response
 
 -- how the names of two schemas end a command: refused exactly where they are not the same, by the first
 -- schema's names, and then by the other's
 abbrev pub NameStops : Schema → Schema → List ℕ → List ℕ → Allowed
-NameStops schema other file other_file answer =
-    LacksName schema other other_file answer
-    ⊎ (IsDeclaredBy other schema × LacksName other schema file answer)
+NameStops schema other file other_file response =
+    LacksName schema other other_file response
+    ⊎ (IsDeclaredBy other schema × LacksName other schema file response)
 
 -- the names are the same, and then the rest follows
 abbrev pub WithSameNames : Schema → Schema → List ℕ → List ℕ → Allowed → Allowed
@@ -76,10 +76,10 @@ pub record Differ (schema other : Schema) (of_schema of_other : List ℕ) : Type
 
 -- yes exactly where each follows from the other; else no, with the dependencies that do not
 abbrev pub Compares : Schema → Schema → List ℕ → List ℕ → Allowed
-Compares schema other file other_file answer =
-    (SayTheSame schema other × Says Yes equivalent_text answer)
+Compares schema other file other_file response =
+    (SayTheSame schema other × Says Yes equivalent_text response)
     ⊎ ((of_schema : List ℕ) × (of_other : List ℕ) × Differ schema other of_schema of_other
-    × Says No (different_text schema other file other_file of_schema of_other) answer)
+    × Says No (different_text schema other file other_file of_schema of_other) response)
 
 -- of two schema files
 abbrev pub ChecksSame : Reading → Schema → List ℕ → List ℕ → Allowed

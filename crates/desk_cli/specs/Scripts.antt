@@ -1,18 +1,18 @@
 -- SQL scripts over a table of the user's: for `sql check` and `sql migrate`.
 use Rattle.std.specs.Prelude.{◌≡◌, ◌↔◌, ℕ, IsTrue, List, codes}
-use Rattle.attr_sets.specs.Places.{Places}
+use Rattle.attr_sets.specs.Attributes.{Attributes}
 use Rattle.attr_sets.specs.declared.set.AttrSet.{AttrSet}
 use Rattle.dep_model.specs.Plans.{schemes_of}
 use Rattle.dep_model.specs.Schemas.{width_of, LegalFor}
 use Rattle.dep_model.specs.Tuples.{Relation, IsOver}
 use Rattle.dep_model.specs.declared.schema.Schema.{Schema}
 use Rattle.ddl_text.specs.declared.table.TableDesign.{TableDesign}
-use Rattle.form_tests.specs.declared.forms.Form.{Form}
+use Rattle.normal_forms.specs.declared.forms.Form.{Form}
 use Rattle.table_scripts.specs.Checking.{check_text, NothingBreaks}
 use Rattle.table_scripts.specs.Migrating.{migrate_text, FillsTables, ViewIsTable}
 use Rattle.table_scripts.specs.Naming.{is_table_name, quoted_table}
 use Rattle.desk_cli.specs.declared.status.Status.TheVariants.{Yes, Refused}
-use Rattle.desk_cli.specs.Answers.{Allowed, Says, Unless}
+use Rattle.desk_cli.specs.ResponseValues.{Allowed, Says, Unless}
 use Rattle.desk_cli.specs.Decompositions.{WithPlanInForm}
 use Rattle.desk_cli.specs.Designs.{IsSoundDesign}
 use Rattle.desk_cli.specs.Joins.{WithoutLoss}
@@ -26,7 +26,7 @@ bad_name_text = line (codes "refused: bad table name")
 
 -- how the name of a table ends a command: where it is none
 abbrev pub TableNameStops : List ℕ → Allowed
-TableNameStops name answer = (IsTrue (is_table_name name) → ⊥) × Says Refused bad_name_text answer
+TableNameStops name response = (IsTrue (is_table_name name) → ⊥) × Says Refused bad_name_text response
 
 -- a word names a table, and then the rest follows
 abbrev pub WithTableName : List ℕ → Allowed → Allowed
@@ -40,8 +40,8 @@ TellLegal schema =
 
 -- yes, with the queries for what breaks each rule
 abbrev pub AsksTable : Schema → List ℕ → Allowed
-AsksTable schema name answer =
-    TellLegal schema × Says Yes (check_text schema (quoted_table name)) answer
+AsksTable schema name response =
+    TellLegal schema × Says Yes (check_text schema (quoted_table name)) response
 
 abbrev pub ScriptsCheck : Schema → List ℕ → Allowed
 ScriptsCheck schema name = WithTableName name (AsksTable schema name)
@@ -54,9 +54,9 @@ pub record IsSoundScript (schema : Schema) (tables : List TableDesign) : Type 0 
 
 -- yes, with the statements that make the tables of a plan from the user's
 abbrev pub MakesTables : Schema → List ℕ → List AttrSet → Allowed
-MakesTables schema name plan answer =
+MakesTables schema name plan response =
     (tables : List TableDesign) × IsSoundDesign schema plan tables × IsSoundScript schema tables
-    × Says Yes (migrate_text schema (quoted_table name) tables) answer
+    × Says Yes (migrate_text schema (quoted_table name) tables) response
 
 -- of the plan of a normal form
 abbrev pub ScriptsMigration : Schema → Form → List ℕ → Allowed
@@ -64,9 +64,9 @@ ScriptsMigration schema form name =
     WithTableName name (WithPlanInForm schema form (MakesTables schema name))
 
 -- of schemes, as sets of attributes
-abbrev pub MakesSchemes : Schema → List ℕ → List Places → Allowed
-MakesSchemes schema name schemes answer =
-    (plan : List AttrSet) × (schemes_of plan ≡ schemes) × MakesTables schema name plan answer
+abbrev pub MakesSchemes : Schema → List ℕ → List Attributes → Allowed
+MakesSchemes schema name schemes response =
+    (plan : List AttrSet) × (schemes_of plan ≡ schemes) × MakesTables schema name plan response
 
 -- of a plan file, where it loses nothing
 abbrev pub ScriptsMigrationByPlan : Reading → Schema → List ℕ → List ℕ → Allowed

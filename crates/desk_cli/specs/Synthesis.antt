@@ -11,7 +11,7 @@ use Rattle.dep_model.specs.declared.schema.Schema.{Schema}
 use Rattle.plans.specs.Printing.{plan_text}
 use Rattle.synthesis_3nf.specs.GroupedPlans.{IsGroupedPlan}
 use Rattle.desk_cli.specs.declared.status.Status.TheVariants.{Yes}
-use Rattle.desk_cli.specs.Answers.{Allowed, Says}
+use Rattle.desk_cli.specs.ResponseValues.{Allowed, Says}
 
 -- the cover's groups: no legal relation loses by it, each scheme is in third normal form for every left
 -- side within it, and it keeps the functional dependencies
@@ -23,6 +23,6 @@ pub record IsThirdFormPlan (schema : Schema) (plan : List AttrSet) : Type 0 wher
 
 -- yes, with such a plan
 abbrev pub Synthesizes : Schema → Allowed
-Synthesizes schema answer =
+Synthesizes schema response =
     (plan : List AttrSet) × IsThirdFormPlan schema plan
-    × Says Yes (plan_text (names_of schema) (schemes_of plan)) answer
+    × Says Yes (plan_text (names_of schema) (schemes_of plan)) response

@@ -1,39 +1,40 @@
 ghost use Rattle.std.specs.Prelude.{◌≡◌, ◌++◌, All, IfOk, OnOk};
-ghost use Rattle.attr_sets.specs.Places.{Within};
-ghost use Rattle.attr_sets.specs.Sets.{places};
+ghost use Rattle.attr_sets.specs.Attributes.{IsSubset};
+ghost use Rattle.attr_sets.specs.Sets.{attributes};
 ghost use Rattle.dep_model.specs.Schemas.{names_of, universe_of};
 ghost use Rattle.desk_cli.specs.Bases.{GivesBasis, TellsBasis, basis_text, blocks_text};
-ghost use Rattle.desk_cli.specs.Replies.{answer_of, RepliesAs};
+ghost use Rattle.desk_cli.specs.Responses.{response_value, RespondsAs};
 
 use crate::Status;
 use crate::keys::put_set_line;
-use crate::reply::{Reply, Stop};
+use crate::response::{EarlyExit, Response};
 use crate::set::set_of;
 use attr_sets::AttrSet;
 use dep_basis::basis;
-use dep_model::{Schema, WantMemory};
-use desk_outside::Word;
+use dep_model::{OutOfMemory, Schema};
+use desk_outside::Argument;
 use std::alloc::Global;
 
 /// What a set determines, and the blocks of the other attributes.
-pub fn give_basis(alloc: Global, schema: &Schema, set: &Word) -> Result<Reply, Stop>
-    ensures reply { RepliesAs (GivesBasis schema.now set.now) result }
+pub fn give_basis(alloc: Global, schema: &Schema, set: &Argument) -> Result<Response, EarlyExit>
+    ensures response { RespondsAs (GivesBasis schema.now set.now) result }
 {
     let lhs = match set_of(alloc, schema, set) {
         Ok(lhs) => lhs,
-        Err(stop) => return Err(stop),
+        Err(exit) => return Err(exit),
     };
     Ok(tell_basis(alloc, schema, lhs)?)
 }
 
 // The dependency basis of a left side.
-fn tell_basis(alloc: Global, schema: &Schema, lhs: AttrSet) -> Result<Reply, WantMemory>
-    requires within { Within (places lhs) (universe_of schema.now) }
-    ensures answer { IfOk result (λ reply. TellsBasis schema.now (places lhs) (answer_of reply)) }
+fn tell_basis(alloc: Global, schema: &Schema, lhs: AttrSet) -> Result<Response, OutOfMemory>
+    requires within { IsSubset (attributes lhs) (universe_of schema.now) }
+    ensures response { IfOk result (λ response. TellsBasis schema.now (attributes lhs)
+        (response_value response)) }
 {
     let found = basis(schema, lhs);
     let blocks = &found.blocks[..found.count as usize];
-    Ok(Reply::says(
+    Ok(Response::with_text(
         Status::Yes,
         basis_lines(alloc, schema, found.closed, blocks)?,
     ))
@@ -45,11 +46,11 @@ fn basis_lines(
     schema: &Schema,
     closed: AttrSet,
     blocks: &[AttrSet],
-) -> Result<Vec<u8>, WantMemory>
-    requires closed { Within (places closed) (universe_of schema.now) }
-    requires blocks { All (λ block. Within (places block) (universe_of schema.now)) blocks.now }
+) -> Result<Vec<u8>, OutOfMemory>
+    requires closed { IsSubset (attributes closed) (universe_of schema.now) }
+    requires blocks { All (λ block. IsSubset (attributes block) (universe_of schema.now)) blocks.now }
     ensures text { IfOk result
-        (λ text. text.items ≡ basis_text (names_of schema.now) (places closed) blocks.now) }
+        (λ text. text.items ≡ basis_text (names_of schema.now) (attributes closed) blocks.now) }
 {
     let mut text = Vec::new(alloc);
     put_set_line(&mut text, schema, b"closure ", closed)?;
@@ -58,9 +59,9 @@ fn basis_lines(
 }
 
 // A line for each block, at the end of a text.
-fn put_blocks(text: &mut Vec<u8>, schema: &Schema, blocks: &[AttrSet]) -> Result<(), WantMemory>
-    requires within { All (λ block. Within (places block) (universe_of schema.now)) blocks.now }
-    ensures more { OnOk result (text.new.items
+fn put_blocks(text: &mut Vec<u8>, schema: &Schema, blocks: &[AttrSet]) -> Result<(), OutOfMemory>
+    requires within { All (λ block. IsSubset (attributes block) (universe_of schema.now)) blocks.now }
+    ensures added { OnOk result (text.new.items
         ≡ text.old.items ++ blocks_text (names_of schema.now) blocks.now) }
 {
     for block in blocks {

@@ -7,66 +7,77 @@ ghost use Rattle.desk_cli.specs.Certificates.{Checked, ChecksProof};
 ghost use Rattle.desk_cli.specs.Inputs.{WithGoal};
 ghost use Rattle.desk_texts.specs.ProofTexts.{checked_text, concludes_text};
 ghost use Rattle.desk_cli.specs.Readings.{Reading, Shows};
-ghost use Rattle.desk_cli.specs.Replies.{answer_of, RepliesAs};
+ghost use Rattle.desk_cli.specs.Responses.{response_value, RespondsAs};
 
 use crate::Status;
 use crate::goal::goal_of;
 use crate::read::open_proof;
-use crate::reply::{Reply, Stop};
-use dep_model::{Dep, Schema, WantMemory};
-use desk_outside::{Shelf, Word};
+use crate::response::{EarlyExit, Response};
+use dep_model::{Dep, OutOfMemory, Schema};
+use desk_outside::{Argument, FileSource};
 use desk_texts::{line_of, put};
 use proof_text::same_dependency;
 use schema_printer::print_dep;
 use std::alloc::Global;
 
 /// Whether the certificate of a file proves a goal over a schema, by the rules alone.
-pub fn check_proof<F: Shelf>(
+pub fn check_proof<F: FileSource>(
     alloc: Global,
-    shelf: &mut F,
+    source: &mut F,
     schema: &Schema,
-    file: &Word,
-    goal: &Word,
-) -> Result<Reply, Stop>
-    ensures files { F.files shelf.new ≡ F.files shelf.old }
-    ensures later { F.faults shelf.old ≤ F.faults shelf.new }
-    ensures reply { (r : Reading) → Shows F.files F.faults F.taken shelf.old shelf.new r
-        → RepliesAs (ChecksProof r schema.now file.now goal.now) result }
+    file: &Argument,
+    goal: &Argument,
+) -> Result<Response, EarlyExit>
+    ensures files { F.files source.new ≡ F.files source.old }
+    ensures later { F.faults source.old ≤ F.faults source.new }
+    ensures response { (r : Reading) → Shows F.files F.faults F.taken source.old source.new r
+        → RespondsAs (ChecksProof r schema.now file.now goal.now) result }
 {
-    let read = match open_proof(alloc, shelf, schema, file) {
+    let read = match open_proof(alloc, source, schema, file) {
         Ok(read) => read,
-        Err(stop) => return Err(stop),
+        Err(exit) => return Err(exit),
     };
     compare(alloc, schema, read.dep, goal)
 }
 
 // Whether a certificate that concludes this dependency proves a goal.
-fn compare(alloc: Global, schema: &Schema, concluded: Dep, goal: &Word) -> Result<Reply, Stop>
+fn compare(
+    alloc: Global,
+    schema: &Schema,
+    concluded: Dep,
+    goal: &Argument,
+) -> Result<Response, EarlyExit>
     requires within { IsDepWithin (universe_of schema.now) concluded }
-    ensures reply { (tree : Tree) → Proves schema.now tree (dependency_of concluded)
-        → RepliesAs (WithGoal schema.now goal.now (Checked schema.now tree)) result }
+    ensures response { (tree : Tree) → Proves schema.now tree (dependency_of concluded)
+        → RespondsAs (WithGoal schema.now goal.now (Checked schema.now tree)) result }
 {
     let dep = match goal_of(alloc, schema, goal) {
         Ok(dep) => dep,
-        Err(stop) => return Err(stop),
+        Err(exit) => return Err(exit),
     };
-    Ok(checked(alloc, schema, concluded, dep)?)
+    Ok(proof_response(alloc, schema, concluded, dep)?)
 }
 
 // The answer to what a certificate concludes and what is asked.
-fn checked(alloc: Global, schema: &Schema, concluded: Dep, dep: Dep) -> Result<Reply, WantMemory>
+fn proof_response(
+    alloc: Global,
+    schema: &Schema,
+    concluded: Dep,
+    dep: Dep,
+) -> Result<Response, OutOfMemory>
     requires concluded { IsDepWithin (universe_of schema.now) concluded }
     requires dep { IsDepWithin (universe_of schema.now) dep }
-    ensures answer { (tree : Tree) → Proves schema.now tree (dependency_of concluded)
-        → IfOk result (λ reply. Checked schema.now tree (dependency_of dep) (answer_of reply)) }
+    ensures response { (tree : Tree) → Proves schema.now tree (dependency_of concluded)
+        → IfOk result (λ response. Checked schema.now tree (dependency_of dep)
+        (response_value response)) }
 {
     if same_dependency(concluded, dep) {
-        return Ok(Reply::says(Status::Yes, checked_line(alloc, schema, dep)?));
+        return Ok(Response::with_text(Status::Yes, checked_line(alloc, schema, dep)?));
     }
-    Ok(Reply::says(Status::No, concludes_lines(alloc, schema, concluded, dep)?))
+    Ok(Response::with_text(Status::No, concludes_lines(alloc, schema, concluded, dep)?))
 }
 
-fn checked_line(alloc: Global, schema: &Schema, dep: Dep) -> Result<Vec<u8>, WantMemory>
+fn checked_line(alloc: Global, schema: &Schema, dep: Dep) -> Result<Vec<u8>, OutOfMemory>
     requires { IsDepWithin (universe_of schema.now) dep }
     ensures text { IfOk result (λ text. text.items ≡ checked_text (names_of schema.now) (dependency_of dep)) }
 {
@@ -77,13 +88,13 @@ fn concludes_lines(
     alloc: Global,
     schema: &Schema,
     concluded: Dep,
-    asked: Dep,
-) -> Result<Vec<u8>, WantMemory>
+    goal: Dep,
+) -> Result<Vec<u8>, OutOfMemory>
     requires concluded { IsDepWithin (universe_of schema.now) concluded }
-    requires asked { IsDepWithin (universe_of schema.now) asked }
+    requires goal { IsDepWithin (universe_of schema.now) goal }
     ensures text { IfOk result
         (λ text. text.items ≡ concludes_text (names_of schema.now) (dependency_of concluded)
-        (dependency_of asked)) }
+        (dependency_of goal)) }
 {
     let mut text = line_of(
         alloc,
@@ -91,7 +102,7 @@ fn concludes_lines(
         &print_dep(alloc, schema, concluded)?,
         b"",
     )?;
-    let asked = line_of(alloc, b"asked ", &print_dep(alloc, schema, asked)?, b"")?;
-    put(&mut text, &asked)?;
+    let goal = line_of(alloc, b"asked ", &print_dep(alloc, schema, goal)?, b"")?;
+    put(&mut text, &goal)?;
     Ok(text)
 }

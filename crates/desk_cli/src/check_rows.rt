@@ -2,15 +2,15 @@ ghost use Rattle.std.specs.Prelude.{◌≡◌, ◌≤◌, ◌<◌, ◌^◌, ◌+
 ghost use Rattle.dep_model.specs.Schemas.{deps_of, lines_of, names_of, width_of, LegalFor};
 ghost use Rattle.dep_model.specs.Tuples.{IsOver};
 ghost use Rattle.desk_cli.specs.Legality.{ChecksRows, OffenceStops, dep_text, legal_text, line_number_text, offence_text, offences_text};
-ghost use Rattle.desk_cli.specs.Answers.{Says};
+ghost use Rattle.desk_cli.specs.ResponseValues.{Says};
 ghost use Rattle.desk_cli.specs.Readings.{Reading, Shows};
-ghost use Rattle.desk_cli.specs.Replies.{answer_of, RepliesAs, StopsAs};
+ghost use Rattle.desk_cli.specs.Responses.{response_value, RespondsAs, ExitsAs};
 
 use crate::Status;
-use crate::reply::{Reply, Stop};
+use crate::response::{EarlyExit, Response};
 use crate::rows::open_rows;
-use dep_model::{Schema, WantMemory};
-use desk_outside::{Shelf, Word};
+use dep_model::{OutOfMemory, Schema};
+use desk_outside::{Argument, FileSource};
 use desk_texts::{line_of, put, put_number};
 use legality::{Offence, offences};
 use row_store::Rows;
@@ -18,61 +18,61 @@ use schema_printer::add_dep;
 use std::alloc::Global;
 
 /// Whether the rows of a CSV file are legal for a schema.
-pub fn check_rows<F: Shelf>(
+pub fn check_rows<F: FileSource>(
     alloc: Global,
-    shelf: &mut F,
+    source: &mut F,
     schema: &Schema,
-    file: &Word,
-) -> Result<Reply, Stop>
-    ensures files { F.files shelf.new ≡ F.files shelf.old }
-    ensures later { F.faults shelf.old ≤ F.faults shelf.new }
-    ensures reply { (r : Reading) → Shows F.files F.faults F.taken shelf.old shelf.new r
-        → RepliesAs (ChecksRows r schema.now file.now) result }
+    file: &Argument,
+) -> Result<Response, EarlyExit>
+    ensures files { F.files source.new ≡ F.files source.old }
+    ensures later { F.faults source.old ≤ F.faults source.new }
+    ensures response { (r : Reading) → Shows F.files F.faults F.taken source.old source.new r
+        → RespondsAs (ChecksRows r schema.now file.now) result }
 {
-    let rows = match open_rows(alloc, shelf, schema, file) {
+    let rows = match open_rows(alloc, source, schema, file) {
         Ok(rows) => rows,
-        Err(stop) => return Err(stop),
+        Err(exit) => return Err(exit),
     };
     match test_rows(alloc, schema, &rows) {
         Ok(()) => {}
-        Err(stop) => return Err(stop),
+        Err(exit) => return Err(exit),
     }
-    Ok(legal(alloc)?)
+    Ok(legal_response(alloc)?)
 }
 
 /// Whether rows are legal.
-pub fn test_rows(alloc: Global, schema: &Schema, rows: &Rows) -> Result<(), Stop>
+pub fn test_rows(alloc: Global, schema: &Schema, rows: &Rows) -> Result<(), EarlyExit>
     requires over { IsOver (width_of schema.now) rows.now }
-    requires few { length rows.now < 2 ^ 32 }
+    requires fits_u32 { length rows.now < 2 ^ 32 }
     ensures ok { IfOk result (λ _. LegalFor schema.now rows.now) }
-    ensures stop { IfErr result (StopsAs (OffenceStops schema.now rows.now)) }
+    ensures exit { IfErr result (ExitsAs (OffenceStops schema.now rows.now)) }
 {
     let found = offences(alloc, schema, rows)?;
     if found.is_empty() {
         return Ok(());
     }
-    Err(offended(alloc, schema, &found))
+    Err(offences_exit(alloc, schema, &found))
 }
 
 // Rows break dependencies.
-fn offended(alloc: Global, schema: &Schema, found: &[Offence]) -> Stop
-    ensures says { StopsAs (Says Status.No (offences_text schema.now found.now)) result }
+fn offences_exit(alloc: Global, schema: &Schema, found: &[Offence]) -> EarlyExit
+    ensures says { ExitsAs (Says Status.No (offences_text schema.now found.now)) result }
 {
-    Stop::says(Status::No, offence_lines(alloc, schema, found))
+    EarlyExit::with_text(Status::No, offence_lines(alloc, schema, found))
 }
 
 // The rows obey every dependency.
-fn legal(alloc: Global) -> Result<Reply, WantMemory>
-    ensures says { IfOk result (λ reply. Says Status.Yes legal_text (answer_of reply)) }
+fn legal_response(alloc: Global) -> Result<Response, OutOfMemory>
+    ensures says { IfOk result (λ response. Says Status.Yes legal_text (response_value response)) }
 {
-    Ok(Reply::says(Status::Yes, line_of(alloc, b"legal", b"", b"")?))
+    Ok(Response::with_text(Status::Yes, line_of(alloc, b"legal", b"", b"")?))
 }
 
 fn offence_lines(
     alloc: Global,
     schema: &Schema,
     offences: &[Offence],
-) -> Result<Vec<u8>, WantMemory>
+) -> Result<Vec<u8>, OutOfMemory>
     ensures text { IfOk result (λ text. text.items ≡ offences_text schema.now offences.now) }
 {
     let mut text = Vec::new(alloc);
@@ -82,7 +82,7 @@ fn offence_lines(
     Ok(text)
 }
 
-fn offence_line(alloc: Global, schema: &Schema, offence: Offence) -> Result<Vec<u8>, WantMemory>
+fn offence_line(alloc: Global, schema: &Schema, offence: Offence) -> Result<Vec<u8>, OutOfMemory>
     ensures text { IfOk result (λ text. text.items ≡ offence_text schema.now offence) }
 {
     let mut text = Vec::new(alloc);
@@ -104,8 +104,8 @@ pub fn put_line(
     text: &mut Vec<u8>,
     schema: &Schema,
     k: usize,
-) -> Result<(), WantMemory>
-    ensures more { OnOk result (text.new.items
+) -> Result<(), OutOfMemory>
+    ensures added { OnOk result (text.new.items
         ≡ text.old.items ++ line_number_text (slice_get (lines_of schema.now) k)) }
 {
     if k < schema.deps().len() {
@@ -116,8 +116,8 @@ pub fn put_line(
 }
 
 /// A dependency of a schema, at the end of a text.
-pub fn put_dep(text: &mut Vec<u8>, schema: &Schema, k: usize) -> Result<(), WantMemory>
-    ensures more { OnOk result (text.new.items
+pub fn put_dep(text: &mut Vec<u8>, schema: &Schema, k: usize) -> Result<(), OutOfMemory>
+    ensures added { OnOk result (text.new.items
         ≡ text.old.items ++ dep_text (names_of schema.now) (slice_get (deps_of schema.now) k)) }
 {
     match schema.deps().get(k) {

@@ -1,25 +1,25 @@
 ghost use Rattle.std.specs.Prelude.{IfOk};
 ghost use Rattle.desk_cli.specs.Covering.{GivesCover};
-ghost use Rattle.desk_cli.specs.Replies.{answer_of, RepliesAs};
+ghost use Rattle.desk_cli.specs.Responses.{response_value, RespondsAs};
 
 use crate::Status;
-use crate::reply::{Reply, Stop};
-use dep_model::{Schema, WantMemory};
+use crate::response::{EarlyExit, Response};
+use dep_model::{OutOfMemory, Schema};
 use min_cover::whole_cover;
 use schema_printer::print_deps;
 use std::alloc::Global;
 
 /// A cover of a schema: what says the same, in which no functional dependency follows from the other
 /// functional ones, and no multivalued one from the rest.
-pub fn cover(alloc: Global, schema: &Schema) -> Result<Reply, Stop>
-    ensures reply { RepliesAs (GivesCover schema.now) result }
+pub fn cover(alloc: Global, schema: &Schema) -> Result<Response, EarlyExit>
+    ensures response { RespondsAs (GivesCover schema.now) result }
 {
-    Ok(covered(alloc, schema)?)
+    Ok(cover_response(alloc, schema)?)
 }
 
-fn covered(alloc: Global, schema: &Schema) -> Result<Reply, WantMemory>
-    ensures answer { IfOk result (λ reply. GivesCover schema.now (answer_of reply)) }
+fn cover_response(alloc: Global, schema: &Schema) -> Result<Response, OutOfMemory>
+    ensures response { IfOk result (λ response. GivesCover schema.now (response_value response)) }
 {
     let whole = whole_cover(alloc, schema)?;
-    Ok(Reply::says(Status::Yes, print_deps(alloc, schema, &whole)?))
+    Ok(Response::with_text(Status::Yes, print_deps(alloc, schema, &whole)?))
 }

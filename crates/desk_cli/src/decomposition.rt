@@ -1,20 +1,20 @@
 ghost use Rattle.std.specs.Prelude.{◌≡◌, IfOk, IfErr};
-ghost use Rattle.attr_sets.specs.Places.{Within};
-ghost use Rattle.attr_sets.specs.Sets.{places};
+ghost use Rattle.attr_sets.specs.Attributes.{IsSubset};
+ghost use Rattle.attr_sets.specs.Sets.{attributes};
 ghost use Rattle.dep_model.specs.Schemas.{names_of, universe_of};
 ghost use Rattle.plans.specs.Plans.{IsPlanOver, plan_of, scheme_sets};
-ghost use Rattle.form_tests.specs.declared.forms.Form.TheVariants as forms;
-ghost use Rattle.desk_cli.specs.Answers.{Says};
+ghost use Rattle.normal_forms.specs.declared.forms.Form.TheVariants as forms;
+ghost use Rattle.desk_cli.specs.ResponseValues.{Says};
 ghost use Rattle.desk_cli.specs.Decompositions.{FormStops, IsPlanInForm, IsSplitInForm, ShowsPlan, SplitStops, Splits, SplitsWide, too_many_schemes_text, wide_text};
-ghost use Rattle.desk_cli.specs.Replies.{answer_of, RepliesAs, StopsAs};
+ghost use Rattle.desk_cli.specs.Responses.{response_value, RespondsAs, ExitsAs};
 ghost use Rattle.desk_cli.specs.Synthesis.{IsThirdFormPlan};
 
 use crate::Status;
-use crate::keys::too_wide;
-use crate::reply::{Reply, Stop};
-use dep_model::{Failure, Schema, WantMemory};
+use crate::keys::too_wide_exit;
+use crate::response::{EarlyExit, Response};
+use dep_model::{Failure, OutOfMemory, Schema};
 use desk_texts::{line_of, put};
-use form_tests::Form;
+use normal_forms::Form;
 use plans::{Plan, print_plan};
 use split_forms::{SplitRefusal, split};
 use std::alloc::Global;
@@ -25,10 +25,10 @@ use wide_bcnf::split_wide;
 pub const MOST_SPLIT_SCHEMES: u32 = 4_096;
 
 /// The plan of a normal form: by synthesis for third normal form, else by splitting.
-pub fn plan_in_form(alloc: Global, schema: &Schema, form: Form) -> Result<Plan, Stop>
+pub fn plan_in_form(alloc: Global, schema: &Schema, form: Form) -> Result<Plan, EarlyExit>
     ensures ok { IfOk result (λ plan. IsPlanInForm schema.now form (scheme_sets plan)) }
     ensures universe { IfOk result (IsPlanOver schema.now) }
-    ensures stop { IfErr result (StopsAs (FormStops schema.now form)) }
+    ensures exit { IfErr result (ExitsAs (FormStops schema.now form)) }
 {
     match form {
         Form::Third => Ok(third_form_plan(alloc, schema)?),
@@ -38,7 +38,7 @@ pub fn plan_in_form(alloc: Global, schema: &Schema, form: Form) -> Result<Plan, 
 }
 
 /// A plan in third normal form that keeps the functional dependencies.
-pub fn third_form_plan(alloc: Global, schema: &Schema) -> Result<Plan, WantMemory>
+pub fn third_form_plan(alloc: Global, schema: &Schema) -> Result<Plan, OutOfMemory>
     ensures third { IfOk result (λ plan. IsThirdFormPlan schema.now (scheme_sets plan)) }
     ensures universe { IfOk result (IsPlanOver schema.now) }
 {
@@ -46,69 +46,70 @@ pub fn third_form_plan(alloc: Global, schema: &Schema) -> Result<Plan, WantMemor
 }
 
 // A plan in Boyce-Codd or fourth normal form.
-fn split_plan(alloc: Global, schema: &Schema, form: Form) -> Result<Plan, Stop>
+fn split_plan(alloc: Global, schema: &Schema, form: Form) -> Result<Plan, EarlyExit>
     requires form { form ≡ forms.Third → ⊥ }
     ensures ok { IfOk result (λ plan. IsSplitInForm schema.now form (scheme_sets plan)) }
     ensures universe { IfOk result (IsPlanOver schema.now) }
-    ensures stop { IfErr result (StopsAs (SplitStops schema.now form)) }
+    ensures exit { IfErr result (ExitsAs (SplitStops schema.now form)) }
 {
     match split(alloc, schema, form, MOST_SPLIT_SCHEMES) {
         Ok(plan) => Ok(plan),
         Err(Failure::Refused(refusal)) => match refusal {
-            SplitRefusal::TooWide { scheme } => Err(too_wide(alloc, schema, scheme)),
-            SplitRefusal::TooManySchemes => Err(too_many_schemes(alloc)),
+            SplitRefusal::TooWide { scheme } => Err(too_wide_exit(alloc, schema, scheme)),
+            SplitRefusal::TooManySchemes => Err(too_many_schemes_exit(alloc)),
         },
-        Err(Failure::OutOfMemory) => Err(Stop::Memory),
+        Err(Failure::OutOfMemory) => Err(EarlyExit::OutOfMemory),
     }
 }
 
 // The splitting comes to too many schemes.
-fn too_many_schemes(alloc: Global) -> Stop
-    ensures says { StopsAs (Says Status.Refused too_many_schemes_text) result }
+fn too_many_schemes_exit(alloc: Global) -> EarlyExit
+    ensures says { ExitsAs (Says Status.Refused too_many_schemes_text) result }
 {
-    Stop::says(Status::Refused, too_many_schemes_line(alloc))
+    EarlyExit::with_text(Status::Refused, too_many_schemes_line(alloc))
 }
 
-fn too_many_schemes_line(alloc: Global) -> Result<Vec<u8>, WantMemory>
+fn too_many_schemes_line(alloc: Global) -> Result<Vec<u8>, OutOfMemory>
     ensures line { IfOk result (λ text. text.items ≡ too_many_schemes_text) }
 {
     line_of(alloc, b"refused: too many schemes", b"", b"")
 }
 
 /// The plan of a normal form, as text.
-pub fn split_in_form(alloc: Global, schema: &Schema, form: Form) -> Result<Reply, Stop>
-    ensures reply { RepliesAs (Splits schema.now form) result }
+pub fn split_in_form(alloc: Global, schema: &Schema, form: Form) -> Result<Response, EarlyExit>
+    ensures response { RespondsAs (Splits schema.now form) result }
 {
     let plan = match plan_in_form(alloc, schema, form) {
         Ok(plan) => plan,
-        Err(stop) => return Err(stop),
+        Err(exit) => return Err(exit),
     };
-    Ok(shown(alloc, schema, &plan)?)
+    Ok(response_of(alloc, schema, &plan)?)
 }
 
 // A plan as text.
-fn shown(alloc: Global, schema: &Schema, plan: &Plan) -> Result<Reply, WantMemory>
+fn response_of(alloc: Global, schema: &Schema, plan: &Plan) -> Result<Response, OutOfMemory>
     requires universe { IsPlanOver schema.now plan.now }
-    ensures answer { IfOk result (λ reply. ShowsPlan schema.now (scheme_sets plan.now) (answer_of reply)) }
+    ensures response { IfOk result (λ response. ShowsPlan schema.now (scheme_sets plan.now)
+        (response_value response)) }
 {
-    Ok(Reply::says(Status::Yes, print_plan(alloc, schema, plan)?))
+    Ok(Response::with_text(Status::Yes, print_plan(alloc, schema, plan)?))
 }
 
 /// A plan in Boyce-Codd normal form, at any width, as text.
-pub fn split_by_pairs(alloc: Global, schema: &Schema) -> Result<Reply, Stop>
-    ensures reply { RepliesAs (SplitsWide schema.now) result }
+pub fn split_by_pairs(alloc: Global, schema: &Schema) -> Result<Response, EarlyExit>
+    ensures response { RespondsAs (SplitsWide schema.now) result }
 {
-    Ok(shown_wide(alloc, schema)?)
+    Ok(wide_plan_response(alloc, schema)?)
 }
 
-fn shown_wide(alloc: Global, schema: &Schema) -> Result<Reply, WantMemory>
-    ensures answer { IfOk result (λ reply. SplitsWide schema.now (answer_of reply)) }
+fn wide_plan_response(alloc: Global, schema: &Schema) -> Result<Response, OutOfMemory>
+    ensures response { IfOk result (λ response. SplitsWide schema.now (response_value response)) }
 {
     let plan = split_wide(alloc, schema)?;
-    Ok(Reply::says(Status::Yes, wide_lines(alloc, schema, &plan)?))
+    Ok(Response::with_text(Status::Yes, wide_lines(alloc, schema, &plan)?))
 }
 
-fn wide_lines(alloc: Global, schema: &Schema, plan: &Plan) -> Result<Vec<u8>, WantMemory>
+fn wide_lines(alloc: Global, schema: &Schema, plan: &Plan) -> Result<Vec<u8>, OutOfMemory>
     requires universe { IsPlanOver schema.now plan.now }
     ensures text { IfOk result (λ text. text.items ≡ wide_text (names_of schema.now) (plan_of plan.now)) }
 {

@@ -1,93 +1,103 @@
 ghost use Rattle.std.specs.Prelude.{◌≡◌, ◌≤◌, ◌++◌, ◌<◌, length, All, IfOk, IfErr, OnOk};
-ghost use Rattle.attr_sets.specs.Places.{below};
+ghost use Rattle.attr_sets.specs.Attributes.{below};
 ghost use Rattle.dep_model.specs.Deps.{dependencies_of, IsDepWithin};
 ghost use Rattle.dep_model.specs.Tuples.{IsOver};
 ghost use Rattle.fd_discovery.specs.Headers.{IsColumnHeader};
 ghost use Rattle.fd_discovery.specs.Headings.{names_under, rows_under};
-ghost use Rattle.fd_discovery.specs.declared.headed.TheConstants.{MOST_HEADED_ROWS};
-ghost use Rattle.desk_cli.specs.Answers.{Says};
+ghost use Rattle.fd_discovery.specs.declared.headed_rows.TheConstants.{MOST_HEADED_ROWS};
+ghost use Rattle.desk_cli.specs.ResponseValues.{Says};
 ghost use Rattle.desk_cli.specs.Discoveries.{Discovers, FindsRules, HeadedStops, IsHeadedFile, found_text, headed_reason_text, headed_refusal_number, headed_refusal_text};
 ghost use Rattle.desk_cli.specs.Readings.{Reading, files_in, Shows};
-ghost use Rattle.desk_cli.specs.Replies.{answer_of, RepliesAs, StopsAs};
+ghost use Rattle.desk_cli.specs.Responses.{response_value, RespondsAs, ExitsAs};
 
 use crate::Status;
 use crate::read::open_file;
-use crate::reply::{Reply, Stop};
+use crate::response::{EarlyExit, Response};
 use crate::row_refusals::{put_before_number, put_numbered};
 use crate::rows::MOST_CSV_BYTES;
-use dep_model::{Dep, Failure, Name, Schema, WantMemory};
-use desk_outside::{Shelf, Word};
+use dep_model::{Dep, Failure, Name, OutOfMemory, Schema};
+use desk_outside::{Argument, FileSource};
 use desk_texts::{put, put_number};
 use fd_discovery::{DiscoverRefusal, Headed, discover, read_headed};
 use schema_printer::print_deps;
 use std::alloc::Global;
 
 /// The minimal functional dependencies that the rows of a file obey.
-pub fn discovered<F: Shelf>(alloc: Global, shelf: &mut F, file: &Word) -> Result<Reply, Stop>
-    ensures files { F.files shelf.new ≡ F.files shelf.old }
-    ensures later { F.faults shelf.old ≤ F.faults shelf.new }
-    ensures reply { (r : Reading) → Shows F.files F.faults F.taken shelf.old shelf.new r
-        → RepliesAs (Discovers r file.now) result }
+pub fn discover_rules<F: FileSource>(
+    alloc: Global,
+    source: &mut F,
+    file: &Argument,
+) -> Result<Response, EarlyExit>
+    ensures files { F.files source.new ≡ F.files source.old }
+    ensures later { F.faults source.old ≤ F.faults source.new }
+    ensures response { (r : Reading) → Shows F.files F.faults F.taken source.old source.new r
+        → RespondsAs (Discovers r file.now) result }
 {
-    let headed = match open_headed(alloc, shelf, file) {
+    let headed = match open_headed(alloc, source, file) {
         Ok(headed) => headed,
-        Err(stop) => return Err(stop),
+        Err(exit) => return Err(exit),
     };
-    Ok(found(alloc, headed)?)
+    Ok(rules_response(alloc, headed)?)
 }
 
 // The names and rows of a CSV file whose header names its columns.
-fn open_headed<F: Shelf>(alloc: Global, shelf: &mut F, name: &Word) -> Result<Headed, Stop>
-    ensures files { F.files shelf.new ≡ F.files shelf.old }
-    ensures later { F.faults shelf.old ≤ F.faults shelf.new }
-    ensures ok { (r : Reading) → files_in r ≡ F.files shelf.old → IfOk result (IsHeadedFile r name.now) }
+fn open_headed<F: FileSource>(
+    alloc: Global,
+    source: &mut F,
+    name: &Argument,
+) -> Result<Headed, EarlyExit>
+    ensures files { F.files source.new ≡ F.files source.old }
+    ensures later { F.faults source.old ≤ F.faults source.new }
+    ensures ok { (r : Reading) → files_in r ≡ F.files source.old
+        → IfOk result (IsHeadedFile r name.now) }
     ensures header { IfOk result (λ headed. IsColumnHeader (names_under headed)) }
-    ensures some { IfOk result (λ headed. 0 < length (names_under headed)) }
-    ensures even { IfOk result (λ headed. IsOver (length (names_under headed)) (rows_under headed)) }
-    ensures few { IfOk result (λ headed. length (rows_under headed) ≤ MOST_HEADED_ROWS) }
-    ensures stop { (r : Reading) → Shows F.files F.faults F.taken shelf.old shelf.new r
-        → IfErr result (StopsAs (HeadedStops r name.now)) }
+    ensures any_name { IfOk result (λ headed. 0 < length (names_under headed)) }
+    ensures same_width { IfOk result (λ headed. IsOver (length (names_under headed))
+        (rows_under headed)) }
+    ensures within_limit { IfOk result (λ headed. length (rows_under headed) ≤ MOST_HEADED_ROWS) }
+    ensures exit { (r : Reading) → Shows F.files F.faults F.taken source.old source.new r
+        → IfErr result (ExitsAs (HeadedStops r name.now)) }
 {
-    let bytes = match open_file(alloc, shelf, name, MOST_CSV_BYTES) {
+    let bytes = match open_file(alloc, source, name, MOST_CSV_BYTES) {
         Ok(bytes) => bytes,
-        Err(stop) => return Err(stop),
+        Err(exit) => return Err(exit),
     };
     match read_headed(alloc, &bytes) {
         Ok(headed) => Ok(headed),
-        Err(Failure::Refused(refusal)) => Err(headed_refused(alloc, name.bytes(), refusal)),
-        Err(Failure::OutOfMemory) => Err(Stop::Memory),
+        Err(Failure::Refused(refusal)) => Err(headed_refusal_exit(alloc, name.bytes(), refusal)),
+        Err(Failure::OutOfMemory) => Err(EarlyExit::OutOfMemory),
     }
 }
 
 // The minimal functional dependencies of rows, under the names of their columns.
-fn found(alloc: Global, headed: Headed) -> Result<Reply, WantMemory>
+fn rules_response(alloc: Global, headed: Headed) -> Result<Response, OutOfMemory>
     requires header { IsColumnHeader (names_under headed) }
-    requires some { 0 < length (names_under headed) }
-    requires even { IsOver (length (names_under headed)) (rows_under headed) }
-    requires few { length (rows_under headed) ≤ MOST_HEADED_ROWS }
-    ensures answer { IfOk result (λ reply. FindsRules headed (answer_of reply)) }
+    requires any_name { 0 < length (names_under headed) }
+    requires same_width { IsOver (length (names_under headed)) (rows_under headed) }
+    requires within_limit { length (rows_under headed) ≤ MOST_HEADED_ROWS }
+    ensures response { IfOk result (λ response. FindsRules headed (response_value response)) }
 {
     let Headed { names, rows } = headed;
     let deps = discover(alloc, names.len() as u8, &rows)?;
-    Ok(Reply::says(Status::Yes, rule_lines(alloc, names, &deps)?))
+    Ok(Response::with_text(Status::Yes, rule_lines(alloc, names, &deps)?))
 }
 
 // Names, and dependencies over them, as a schema text.
-fn rule_lines(alloc: Global, names: Vec<Name>, deps: &[Dep]) -> Result<Vec<u8>, WantMemory>
+fn rule_lines(alloc: Global, names: Vec<Name>, deps: &[Dep]) -> Result<Vec<u8>, OutOfMemory>
     requires header { IsColumnHeader names.items }
     requires within { All (IsDepWithin (below (length names.items))) deps.now }
-    requires some { 0 < length names.items }
+    requires any_name { 0 < length names.items }
     ensures text { IfOk result (λ text. text.items ≡ found_text names.items (dependencies_of deps.now)) }
 {
-    let schema = Schema::make(names, Vec::new(alloc), Vec::new(alloc));
+    let schema = Schema::new(names, Vec::new(alloc), Vec::new(alloc));
     print_deps(alloc, &schema, deps)
 }
 
 // A command that ends with the refusal of such a file.
-fn headed_refused(alloc: Global, name: &[u8], refusal: DiscoverRefusal) -> Stop
-    ensures says { StopsAs (Says Status.Refused (headed_refusal_text name.now refusal)) result }
+fn headed_refusal_exit(alloc: Global, name: &[u8], refusal: DiscoverRefusal) -> EarlyExit
+    ensures says { ExitsAs (Says Status.Refused (headed_refusal_text name.now refusal)) result }
 {
-    Stop::says(Status::Refused, headed_refusal_line(alloc, name, refusal))
+    EarlyExit::with_text(Status::Refused, headed_refusal_line(alloc, name, refusal))
 }
 
 // The line that tells a refusal.
@@ -95,7 +105,7 @@ fn headed_refusal_line(
     alloc: Global,
     name: &[u8],
     refusal: DiscoverRefusal,
-) -> Result<Vec<u8>, WantMemory>
+) -> Result<Vec<u8>, OutOfMemory>
     ensures text { IfOk result (λ text. text.items ≡ headed_refusal_text name.now refusal) }
 {
     let mut text = Vec::new(alloc);
@@ -124,7 +134,11 @@ fn number_of(refusal: DiscoverRefusal) -> u32
 }
 
 // A refusal in words, at the end of a text.
-fn put_reason(alloc: Global, text: &mut Vec<u8>, refusal: DiscoverRefusal) -> Result<(), WantMemory>
+fn put_reason(
+    alloc: Global,
+    text: &mut Vec<u8>,
+    refusal: DiscoverRefusal,
+) -> Result<(), OutOfMemory>
     ensures more { OnOk result (text.new.items ≡ text.old.items ++ headed_reason_text refusal) }
 {
     match refusal {

@@ -2,56 +2,61 @@ ghost use Rattle.std.specs.Prelude.{◌≡◌, ◌<◌, length, slice_get, IfOk}
 ghost use Rattle.dep_model.specs.Schemas.{deps_of, names_of, universe_of, width_of};
 ghost use Rattle.dep_model.specs.Tuples.{IsOver};
 ghost use Rattle.csv_text.specs.Rows.{rows_text};
-ghost use Rattle.desk_cli.specs.Answers.{Says};
+ghost use Rattle.desk_cli.specs.ResponseValues.{Says};
 ghost use Rattle.desk_cli.specs.Exhibits.{Exhibits, multivalued_text};
-ghost use Rattle.desk_cli.specs.Replies.{answer_of, RepliesAs, StopsAs};
+ghost use Rattle.desk_cli.specs.Responses.{response_value, RespondsAs, ExitsAs};
 
 use crate::Status;
 use crate::check_rows::put_line;
-use crate::keys::too_wide;
-use crate::reply::{Reply, Stop};
+use crate::keys::too_wide_exit;
+use crate::response::{EarlyExit, Response};
 use armstrong_rel::{ExhibitRefusal, exhibit};
 use attr_sets::AttrSet;
 use csv_rows::print_rows;
-use dep_model::{Failure, Row, Schema, WantMemory};
+use dep_model::{Failure, OutOfMemory, Row, Schema};
 use desk_texts::put;
 use row_store::Rows;
 use std::alloc::Global;
 
 /// A relation that obeys just the functional dependencies that follow from a schema.
-pub fn exhibited(alloc: Global, schema: &Schema) -> Result<Reply, Stop>
-    ensures reply { RepliesAs (Exhibits schema.now) result }
+pub fn exhibit_relation(alloc: Global, schema: &Schema) -> Result<Response, EarlyExit>
+    ensures response { RespondsAs (Exhibits schema.now) result }
 {
     match exhibit(alloc, schema) {
-        Ok(rows) => Ok(shown(alloc, schema, &rows)?),
+        Ok(rows) => Ok(response_of(alloc, schema, &rows)?),
         Err(Failure::Refused(refusal)) => match refusal {
-            ExhibitRefusal::NotFunctional { dep } => Err(multivalued(alloc, schema, dep)),
-            ExhibitRefusal::TooWide => Err(too_wide(alloc, schema, AttrSet::full(schema.width()))),
+            ExhibitRefusal::NotFunctional { dep } => Err(multivalued_exit(alloc, schema, dep)),
+            ExhibitRefusal::TooWide => Err(too_wide_exit(
+                alloc,
+                schema,
+                AttrSet::full(schema.width()),
+            )),
         },
-        Err(Failure::OutOfMemory) => Err(Stop::Memory),
+        Err(Failure::OutOfMemory) => Err(EarlyExit::OutOfMemory),
     }
 }
 
 // Rows as CSV.
-fn shown(alloc: Global, schema: &Schema, rows: &[Row]) -> Result<Reply, WantMemory>
+fn response_of(alloc: Global, schema: &Schema, rows: &[Row]) -> Result<Response, OutOfMemory>
     requires over { IsOver (width_of schema.now) rows.now }
     ensures says { IfOk result
-        (λ reply. Says Status.Yes (rows_text (names_of schema.now) rows.now) (answer_of reply)) }
+        (λ response. Says Status.Yes (rows_text (names_of schema.now) rows.now)
+        (response_value response)) }
 {
-    Ok(Reply::says(
+    Ok(Response::with_text(
         Status::Yes,
         print_rows(alloc, schema, &Rows::of(alloc, rows)?)?,
     ))
 }
 
 // A multivalued dependency is given.
-fn multivalued(alloc: Global, schema: &Schema, dep: u16) -> Stop
-    ensures says { StopsAs (Says Status.Refused (multivalued_text schema.now dep)) result }
+fn multivalued_exit(alloc: Global, schema: &Schema, dep: u16) -> EarlyExit
+    ensures says { ExitsAs (Says Status.Refused (multivalued_text schema.now dep)) result }
 {
-    Stop::says(Status::Refused, multivalued_line(alloc, schema, dep))
+    EarlyExit::with_text(Status::Refused, multivalued_line(alloc, schema, dep))
 }
 
-fn multivalued_line(alloc: Global, schema: &Schema, dep: u16) -> Result<Vec<u8>, WantMemory>
+fn multivalued_line(alloc: Global, schema: &Schema, dep: u16) -> Result<Vec<u8>, OutOfMemory>
     ensures line { IfOk result (λ text. text.items ≡ multivalued_text schema.now dep) }
 {
     let mut text = Vec::new(alloc);

@@ -1,9 +1,9 @@
-ghost use Rattle.desk_cli.specs.Answers.{Says};
+ghost use Rattle.desk_cli.specs.ResponseValues.{Says};
 ghost use Rattle.desk_cli.specs.Help.{help_text, version_text};
-ghost use Rattle.desk_cli.specs.Replies.{RepliesAs};
+ghost use Rattle.desk_cli.specs.Responses.{RespondsAs};
 
 use crate::Status;
-use crate::reply::{Reply, Stop};
+use crate::response::{EarlyExit, Response};
 use std::alloc::Global;
 
 const HELP: &[u8] =
@@ -42,21 +42,21 @@ The formats are told in docs/FORMATS.md.
 ";
 
 /// The commands, in a few lines.
-pub fn help(alloc: Global) -> Result<Reply, Stop>
-    ensures reply { RepliesAs (Says Status.Yes help_text) result }
+pub fn help(alloc: Global) -> Result<Response, EarlyExit>
+    ensures response { RespondsAs (Says Status.Yes help_text) result }
 {
     match Vec::from_slice(alloc, HELP) {
-        Ok(text) => Ok(Reply::says(Status::Yes, text)),
-        Err(_) => Err(Stop::Memory),
+        Ok(text) => Ok(Response::with_text(Status::Yes, text)),
+        Err(_) => Err(EarlyExit::OutOfMemory),
     }
 }
 
 /// The number of the release.
-pub fn version(alloc: Global) -> Result<Reply, Stop>
-    ensures reply { RepliesAs (Says Status.Yes version_text) result }
+pub fn version(alloc: Global) -> Result<Response, EarlyExit>
+    ensures response { RespondsAs (Says Status.Yes version_text) result }
 {
     match Vec::from_slice(alloc, b"desk 0.1.0\n") {
-        Ok(text) => Ok(Reply::says(Status::Yes, text)),
-        Err(_) => Err(Stop::Memory),
+        Ok(text) => Ok(Response::with_text(Status::Yes, text)),
+        Err(_) => Err(EarlyExit::OutOfMemory),
     }
 }

@@ -5,22 +5,22 @@ ghost use Rattle.dep_model.specs.Projections.{Covers};
 ghost use Rattle.dep_model.specs.Schemas.{names_of, width_of};
 ghost use Rattle.dep_model.specs.Tuples.{IsOver};
 ghost use Rattle.dep_model.specs.TwoTuples.{all_zeros};
-ghost use Rattle.desk_cli.specs.Answers.{Says};
+ghost use Rattle.desk_cli.specs.ResponseValues.{Says};
 ghost use Rattle.desk_cli.specs.Joins.{ChecksJoin, IsShownLossless, LossStops, lossless_text, lossy_text, zeros_text, too_many_rows_text};
 ghost use Rattle.desk_cli.specs.Readings.{Reading, Shows};
-ghost use Rattle.desk_cli.specs.Replies.{answer_of, RepliesAs, StopsAs};
+ghost use Rattle.desk_cli.specs.Responses.{response_value, RespondsAs, ExitsAs};
 
 use crate::Status;
 use crate::plan::open_plan;
-use crate::reply::{Reply, Stop};
+use crate::response::{EarlyExit, Response};
 use attr_sets::AttrSet;
 use csv::ByteRecord;
 use csv_rows::print_rows;
 use csv_text::fields_line;
-use decomp_text::MOST_SCHEMES;
-use dep_model::{Failure, Row, Schema, WantMemory};
-use desk_outside::{Shelf, Word};
+use dep_model::{Failure, OutOfMemory, Row, Schema};
+use desk_outside::{Argument, FileSource};
 use desk_texts::{line_of, put};
+use plan_reader::MOST_SCHEMES;
 use row_store::Rows;
 use std::alloc::Global;
 use tableau_chase::{ChaseRefusal, Chased, chase};
@@ -29,59 +29,59 @@ use tableau_chase::{ChaseRefusal, Chased, chase};
 pub const MOST_TABLEAU_ROWS: u32 = 1_024;
 
 /// Whether the plan of a file loses nothing.
-pub fn check_join<F: Shelf>(
+pub fn check_join<F: FileSource>(
     alloc: Global,
-    shelf: &mut F,
+    source: &mut F,
     schema: &Schema,
-    file: &Word,
-) -> Result<Reply, Stop>
-    ensures files { F.files shelf.new ≡ F.files shelf.old }
-    ensures later { F.faults shelf.old ≤ F.faults shelf.new }
-    ensures reply { (r : Reading) → Shows F.files F.faults F.taken shelf.old shelf.new r
-        → RepliesAs (ChecksJoin r schema.now file.now) result }
+    file: &Argument,
+) -> Result<Response, EarlyExit>
+    ensures files { F.files source.new ≡ F.files source.old }
+    ensures later { F.faults source.old ≤ F.faults source.new }
+    ensures response { (r : Reading) → Shows F.files F.faults F.taken source.old source.new r
+        → RespondsAs (ChecksJoin r schema.now file.now) result }
 {
-    let plan = match open_plan(alloc, shelf, schema, file) {
+    let plan = match open_plan(alloc, source, schema, file) {
         Ok(plan) => plan,
-        Err(stop) => return Err(stop),
+        Err(exit) => return Err(exit),
     };
     match test_loss(alloc, schema, plan.schemes()) {
         Ok(()) => {}
-        Err(stop) => return Err(stop),
+        Err(exit) => return Err(exit),
     }
-    Ok(lossless(alloc)?)
+    Ok(lossless_response(alloc)?)
 }
 
 /// Whether no legal relation loses by a plan.
-pub fn test_loss(alloc: Global, schema: &Schema, schemes: &[AttrSet]) -> Result<(), Stop>
-    requires few { length schemes.now ≤ MOST_SCHEMES }
+pub fn test_loss(alloc: Global, schema: &Schema, schemes: &[AttrSet]) -> Result<(), EarlyExit>
+    requires within_limit { length schemes.now ≤ MOST_SCHEMES }
     requires covers { Covers (width_of schema.now) (schemes_of schemes.now) }
     ensures ok { IfOk result (λ _. IsShownLossless schema.now (schemes_of schemes.now)) }
-    ensures stop { IfErr result (StopsAs (LossStops schema.now (schemes_of schemes.now))) }
+    ensures exit { IfErr result (ExitsAs (LossStops schema.now (schemes_of schemes.now))) }
 {
     match chase(alloc, schema, schemes, MOST_TABLEAU_ROWS) {
         Ok(Chased::Lossless) => Ok(()),
-        Ok(Chased::Lossy(rows)) => Err(lossy(alloc, schema, &rows)),
-        Err(Failure::Refused(ChaseRefusal::TooManyRows)) => Err(too_many_rows(alloc)),
-        Err(Failure::OutOfMemory) => Err(Stop::Memory),
+        Ok(Chased::Lossy(rows)) => Err(lossy_exit(alloc, schema, &rows)),
+        Err(Failure::Refused(ChaseRefusal::TooManyRows)) => Err(too_many_rows_exit(alloc)),
+        Err(Failure::OutOfMemory) => Err(EarlyExit::OutOfMemory),
     }
 }
 
 // Nothing is lost.
-fn lossless(alloc: Global) -> Result<Reply, WantMemory>
-    ensures says { IfOk result (λ reply. Says Status.Yes lossless_text (answer_of reply)) }
+fn lossless_response(alloc: Global) -> Result<Response, OutOfMemory>
+    ensures says { IfOk result (λ response. Says Status.Yes lossless_text (response_value response)) }
 {
-    Ok(Reply::says(Status::Yes, line_of(alloc, b"lossless", b"", b"")?))
+    Ok(Response::with_text(Status::Yes, line_of(alloc, b"lossless", b"", b"")?))
 }
 
 // A relation that gains the tuple of all `0`.
-fn lossy(alloc: Global, schema: &Schema, rows: &[Row]) -> Stop
+fn lossy_exit(alloc: Global, schema: &Schema, rows: &[Row]) -> EarlyExit
     requires over { IsOver (width_of schema.now) rows.now }
-    ensures says { StopsAs (Says Status.No (lossy_text (names_of schema.now) rows.now)) result }
+    ensures says { ExitsAs (Says Status.No (lossy_text (names_of schema.now) rows.now)) result }
 {
-    Stop::says(Status::No, lossy_lines(alloc, schema, rows))
+    EarlyExit::with_text(Status::No, lossy_lines(alloc, schema, rows))
 }
 
-fn lossy_lines(alloc: Global, schema: &Schema, rows: &[Row]) -> Result<Vec<u8>, WantMemory>
+fn lossy_lines(alloc: Global, schema: &Schema, rows: &[Row]) -> Result<Vec<u8>, OutOfMemory>
     requires over { IsOver (width_of schema.now) rows.now }
     ensures text { IfOk result (λ text. text.items ≡ lossy_text (names_of schema.now) rows.now) }
 {
@@ -96,7 +96,7 @@ fn lossy_lines(alloc: Global, schema: &Schema, rows: &[Row]) -> Result<Vec<u8>, 
 }
 
 // The tuple of all `0`, as a row of CSV.
-fn zeros_row(alloc: Global, width: u8) -> Result<Vec<u8>, WantMemory>
+fn zeros_row(alloc: Global, width: u8) -> Result<Vec<u8>, OutOfMemory>
     ensures text { IfOk result (λ text. text.items ≡ zeros_text width) }
 {
     let mut fields = ByteRecord::new(alloc);
@@ -106,7 +106,7 @@ fn zeros_row(alloc: Global, width: u8) -> Result<Vec<u8>, WantMemory>
 
 // The fields become so many times `0`.
 #[tactic(auto, unfolding(dep_model::specs::TwoTuples::all_zeros))]
-fn take_zeros(fields: &mut ByteRecord, width: u8) -> Result<(), WantMemory>
+fn take_zeros(fields: &mut ByteRecord, width: u8) -> Result<(), OutOfMemory>
     ensures zeros { OnOk result (fields_of fields.new ≡ all_zeros width) }
 {
     fields.clear();
@@ -117,13 +117,13 @@ fn take_zeros(fields: &mut ByteRecord, width: u8) -> Result<(), WantMemory>
 }
 
 // The chase comes to too many rows.
-fn too_many_rows(alloc: Global) -> Stop
-    ensures says { StopsAs (Says Status.Refused too_many_rows_text) result }
+fn too_many_rows_exit(alloc: Global) -> EarlyExit
+    ensures says { ExitsAs (Says Status.Refused too_many_rows_text) result }
 {
-    Stop::says(Status::Refused, too_many_rows_line(alloc))
+    EarlyExit::with_text(Status::Refused, too_many_rows_line(alloc))
 }
 
-fn too_many_rows_line(alloc: Global) -> Result<Vec<u8>, WantMemory>
+fn too_many_rows_line(alloc: Global) -> Result<Vec<u8>, OutOfMemory>
     ensures line { IfOk result (λ text. text.items ≡ too_many_rows_text) }
 {
     line_of(alloc, b"refused: too many tableau rows", b"", b"")

@@ -1,59 +1,67 @@
 ghost use Rattle.std.specs.Prelude.{◌≡◌, ◌≤◌, ◌∷◌, ◌++◌, codes, slice_get, All, IfOk, OnOk};
 ghost use Rattle.std.specs.List.{flat_map};
-ghost use Rattle.attr_sets.specs.Places.{Within};
-ghost use Rattle.attr_sets.specs.Sets.{places};
+ghost use Rattle.attr_sets.specs.Attributes.{IsSubset};
+ghost use Rattle.attr_sets.specs.Sets.{attributes};
 ghost use Rattle.dep_model.specs.Plans.{schemes_of};
 ghost use Rattle.dep_model.specs.Schemas.{universe_of};
 ghost use Rattle.desk_cli.specs.Keeping.{ChecksKeeping, JudgesKeeping, kept_text, loss_text, losses_text, shown_text};
 ghost use Rattle.desk_cli.specs.Readings.{Reading, Shows};
-ghost use Rattle.desk_cli.specs.Replies.{answer_of, RepliesAs};
+ghost use Rattle.desk_cli.specs.Responses.{response_value, RespondsAs};
 
 use crate::Status;
 use crate::check_rows::{put_dep, put_line};
 use crate::plan::open_plan;
-use crate::reply::{Reply, Stop};
+use crate::response::{EarlyExit, Response};
 use attr_sets::AttrSet;
 use csv_rows::print_rows;
 use dep_basis::witness;
-use dep_model::{Schema, WantMemory};
-use desk_outside::{Shelf, Word};
+use dep_model::{OutOfMemory, Schema};
+use desk_outside::{Argument, FileSource};
 use desk_texts::{line_of, put};
 use preservation::{Loss, losses};
 use row_store::Rows;
 use std::alloc::Global;
 
 /// Whether the plan of a file keeps the functional dependencies.
-pub fn check_keeps<F: Shelf>(
+pub fn check_keeps<F: FileSource>(
     alloc: Global,
-    shelf: &mut F,
+    source: &mut F,
     schema: &Schema,
-    file: &Word,
-) -> Result<Reply, Stop>
-    ensures files { F.files shelf.new ≡ F.files shelf.old }
-    ensures later { F.faults shelf.old ≤ F.faults shelf.new }
-    ensures reply { (r : Reading) → Shows F.files F.faults F.taken shelf.old shelf.new r
-        → RepliesAs (ChecksKeeping r schema.now file.now) result }
+    file: &Argument,
+) -> Result<Response, EarlyExit>
+    ensures files { F.files source.new ≡ F.files source.old }
+    ensures later { F.faults source.old ≤ F.faults source.new }
+    ensures response { (r : Reading) → Shows F.files F.faults F.taken source.old source.new r
+        → RespondsAs (ChecksKeeping r schema.now file.now) result }
 {
-    let plan = match open_plan(alloc, shelf, schema, file) {
+    let plan = match open_plan(alloc, source, schema, file) {
         Ok(plan) => plan,
-        Err(stop) => return Err(stop),
+        Err(exit) => return Err(exit),
     };
     Ok(judge_keeping(alloc, schema, plan.schemes())?)
 }
 
 // Whether these schemes keep the functional dependencies.
-fn judge_keeping(alloc: Global, schema: &Schema, schemes: &[AttrSet]) -> Result<Reply, WantMemory>
-    requires within { All (λ scheme. Within (places scheme) (universe_of schema.now)) schemes.now }
-    ensures answer { IfOk result
-        (λ reply. JudgesKeeping schema.now (schemes_of schemes.now) (answer_of reply)) }
+fn judge_keeping(
+    alloc: Global,
+    schema: &Schema,
+    schemes: &[AttrSet],
+) -> Result<Response, OutOfMemory>
+    requires within { All (λ scheme. IsSubset (attributes scheme)
+        (universe_of schema.now)) schemes.now }
+    ensures response { IfOk result
+        (λ response. JudgesKeeping schema.now (schemes_of schemes.now) (response_value response)) }
 {
     let losses = losses(alloc, schema, schemes)?;
     match losses.as_slice() {
-        [] => Ok(Reply::says(
+        [] => Ok(Response::with_text(
             Status::Yes,
             line_of(alloc, b"every functional dependency is kept", b"", b"")?,
         )),
-        [first, ..] => Ok(Reply::says(Status::No, losses_lines(alloc, schema, *first, &losses)?)),
+        [first, ..] => Ok(Response::with_text(
+            Status::No,
+            losses_lines(alloc, schema, *first, &losses)?,
+        )),
     }
 }
 
@@ -63,8 +71,8 @@ fn losses_lines(
     schema: &Schema,
     first: Loss,
     losses: &[Loss],
-) -> Result<Vec<u8>, WantMemory>
-    requires within { Within (places first.agreement) (universe_of schema.now) }
+) -> Result<Vec<u8>, OutOfMemory>
+    requires within { IsSubset (attributes first.agreement) (universe_of schema.now) }
     ensures text { IfOk result
         (λ text. text.items ≡ flat_map (loss_text schema.now) losses.now ++ shown_text schema.now first) }
 {
@@ -77,7 +85,7 @@ fn losses_lines(
 }
 
 // A dependency that is lost, with its line.
-fn loss_line(alloc: Global, schema: &Schema, loss: Loss) -> Result<Vec<u8>, WantMemory>
+fn loss_line(alloc: Global, schema: &Schema, loss: Loss) -> Result<Vec<u8>, OutOfMemory>
     ensures text { IfOk result (λ text. text.items ≡ loss_text schema.now loss) }
 {
     let mut text = Vec::new(alloc);
@@ -91,8 +99,8 @@ fn loss_line(alloc: Global, schema: &Schema, loss: Loss) -> Result<Vec<u8>, Want
 }
 
 // The two tuples that show a loss.
-fn shown_lines(alloc: Global, schema: &Schema, loss: Loss) -> Result<Vec<u8>, WantMemory>
-    requires within { Within (places loss.agreement) (universe_of schema.now) }
+fn shown_lines(alloc: Global, schema: &Schema, loss: Loss) -> Result<Vec<u8>, OutOfMemory>
+    requires within { IsSubset (attributes loss.agreement) (universe_of schema.now) }
     ensures text { IfOk result (λ text. text.items ≡ shown_text schema.now loss) }
 {
     let pair = witness(alloc, schema, loss.agreement)?;

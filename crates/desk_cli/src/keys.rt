@@ -1,46 +1,51 @@
 ghost use Rattle.std.specs.Prelude.{◌≡◌, ◌≤◌, ◌++◌, All, IfOk, OnOk, length};
-ghost use Rattle.attr_sets.specs.Places.{Within};
-ghost use Rattle.attr_sets.specs.Sets.{places};
+ghost use Rattle.attr_sets.specs.Attributes.{IsSubset};
+ghost use Rattle.attr_sets.specs.Sets.{attributes};
 ghost use Rattle.dep_model.specs.Schemas.{names_of, universe_of};
-ghost use Rattle.desk_cli.specs.Answers.{Says};
+ghost use Rattle.desk_cli.specs.ResponseValues.{Says};
 ghost use Rattle.desk_cli.specs.Keys.{ListsKeys, sets_text, too_wide_text, too_many_keys_text};
-ghost use Rattle.desk_cli.specs.Replies.{answer_of, RepliesAs, StopsAs};
+ghost use Rattle.desk_cli.specs.Responses.{response_value, RespondsAs, ExitsAs};
 ghost use Rattle.desk_texts.specs.Texts.{set_line};
 
 use crate::Status;
-use crate::reply::{Reply, Stop};
+use crate::response::{EarlyExit, Response};
 use attr_sets::AttrSet;
-use dep_model::{Failure, Schema, WantMemory};
+use dep_model::{Failure, OutOfMemory, Schema};
 use desk_texts::{line_of, put};
 use key_listing::{KeyRefusal, keys};
 use schema_printer::{add, add_set, print_set};
 use std::alloc::Global;
 
 /// All keys of a schema's universe, each on a line.
-pub fn list_keys(alloc: Global, schema: &Schema) -> Result<Reply, Stop>
-    ensures reply { RepliesAs (ListsKeys schema.now) result }
+pub fn list_keys(alloc: Global, schema: &Schema) -> Result<Response, EarlyExit>
+    ensures response { RespondsAs (ListsKeys schema.now) result }
 {
     match keys(alloc, schema) {
-        Ok(keys) => Ok(listed(alloc, schema, &keys)?),
-        Err(Failure::Refused(refusal)) => match refusal {
-            KeyRefusal::TooManyKeys { .. } => Err(too_many_keys(alloc)),
-            KeyRefusal::TooWide => Err(too_wide(alloc, schema, AttrSet::full(schema.width()))),
-        },
-        Err(Failure::OutOfMemory) => Err(Stop::Memory),
+        Ok(keys) => Ok(sets_response(alloc, schema, &keys)?),
+        Err(Failure::Refused(KeyRefusal::TooManyKeys { .. })) => Err(too_many_keys_exit(alloc)),
+        Err(Failure::Refused(KeyRefusal::TooWide)) => {
+            Err(too_wide_exit(alloc, schema, AttrSet::full(schema.width())))
+        }
+        Err(Failure::OutOfMemory) => Err(EarlyExit::OutOfMemory),
     }
 }
 
 /// Sets of attributes, each on a line.
-pub fn listed(alloc: Global, schema: &Schema, sets: &[AttrSet]) -> Result<Reply, WantMemory>
-    requires within { All (λ set. Within (places set) (universe_of schema.now)) sets.now }
+pub fn sets_response(
+    alloc: Global,
+    schema: &Schema,
+    sets: &[AttrSet],
+) -> Result<Response, OutOfMemory>
+    requires within { All (λ set. IsSubset (attributes set) (universe_of schema.now)) sets.now }
     ensures says { IfOk result
-        (λ reply. Says Status.Yes (sets_text (names_of schema.now) sets.now) (answer_of reply)) }
+        (λ response. Says Status.Yes (sets_text (names_of schema.now) sets.now)
+        (response_value response)) }
 {
-    Ok(Reply::says(Status::Yes, set_lines(alloc, schema, sets)?))
+    Ok(Response::with_text(Status::Yes, set_lines(alloc, schema, sets)?))
 }
 
-fn set_lines(alloc: Global, schema: &Schema, sets: &[AttrSet]) -> Result<Vec<u8>, WantMemory>
-    requires within { All (λ set. Within (places set) (universe_of schema.now)) sets.now }
+fn set_lines(alloc: Global, schema: &Schema, sets: &[AttrSet]) -> Result<Vec<u8>, OutOfMemory>
+    requires within { All (λ set. IsSubset (attributes set) (universe_of schema.now)) sets.now }
     ensures text { IfOk result (λ text. text.items ≡ sets_text (names_of schema.now) sets.now) }
 {
     let mut text = Vec::new(alloc);
@@ -57,10 +62,10 @@ pub fn put_set_line(
     schema: &Schema,
     word: &[u8],
     set: AttrSet,
-) -> Result<(), WantMemory>
-    requires within { Within (places set) (universe_of schema.now) }
-    ensures more { OnOk result (text.new.items
-        ≡ text.old.items ++ set_line word.now (names_of schema.now) (places set)) }
+) -> Result<(), OutOfMemory>
+    requires within { IsSubset (attributes set) (universe_of schema.now) }
+    ensures added { OnOk result (text.new.items
+        ≡ text.old.items ++ set_line word.now (names_of schema.now) (attributes set)) }
 {
     put(text, word)?;
     add_set(text, schema, set)?;
@@ -68,30 +73,31 @@ pub fn put_set_line(
 }
 
 /// There are more keys than are listed.
-pub fn too_many_keys(alloc: Global) -> Stop
-    ensures says { StopsAs (Says Status.Refused too_many_keys_text) result }
+pub fn too_many_keys_exit(alloc: Global) -> EarlyExit
+    ensures says { ExitsAs (Says Status.Refused too_many_keys_text) result }
 {
-    Stop::says(Status::Refused, too_many_keys_line(alloc))
+    EarlyExit::with_text(Status::Refused, too_many_keys_line(alloc))
 }
 
-fn too_many_keys_line(alloc: Global) -> Result<Vec<u8>, WantMemory>
+fn too_many_keys_line(alloc: Global) -> Result<Vec<u8>, OutOfMemory>
     ensures line { IfOk result (λ text. text.items ≡ too_many_keys_text) }
 {
     line_of(alloc, b"refused: too many keys", b"", b"")
 }
 
 /// A scheme has more attributes than are looked at.
-pub fn too_wide(alloc: Global, schema: &Schema, scheme: AttrSet) -> Stop
-    requires within { Within (places scheme) (universe_of schema.now) }
-    ensures says { StopsAs (Says Status.Refused
-        (too_wide_text (names_of schema.now) (places scheme))) result }
+pub fn too_wide_exit(alloc: Global, schema: &Schema, scheme: AttrSet) -> EarlyExit
+    requires within { IsSubset (attributes scheme) (universe_of schema.now) }
+    ensures says { ExitsAs (Says Status.Refused
+        (too_wide_text (names_of schema.now) (attributes scheme))) result }
 {
-    Stop::says(Status::Refused, too_wide_line(alloc, schema, scheme))
+    EarlyExit::with_text(Status::Refused, too_wide_line(alloc, schema, scheme))
 }
 
-fn too_wide_line(alloc: Global, schema: &Schema, scheme: AttrSet) -> Result<Vec<u8>, WantMemory>
-    requires within { Within (places scheme) (universe_of schema.now) }
-    ensures line { IfOk result (λ text. text.items ≡ too_wide_text (names_of schema.now) (places scheme)) }
+fn too_wide_line(alloc: Global, schema: &Schema, scheme: AttrSet) -> Result<Vec<u8>, OutOfMemory>
+    requires within { IsSubset (attributes scheme) (universe_of schema.now) }
+    ensures line { IfOk result (λ text. text.items
+        ≡ too_wide_text (names_of schema.now) (attributes scheme)) }
 {
     line_of(
         alloc,

@@ -1,12 +1,13 @@
-//! The top call: the words of a command, the files of a shelf, a text for a sink, tables for targets
-//! and a status.
+//! The top call: the words of a command, the files of a file source, a text for a sink, tables for
+//! destinations and a status.
 //!
 //! `desk` promises, in one record of clauses, that its answer is one that the words and the files
-//! allow, that the sink took just that answer's text and the targets just its tables, that each fault
-//! has its cause, and that where nothing fails the answer is the one that the theory fixes.
+//! allow, that the sink took just that answer's text and the destinations just its tables, that each
+//! fault has its cause, and that where nothing fails the answer is the one that the theory fixes.
 #![tactic(auto)]
 
 mod bases;
+mod check_form;
 mod check_proof;
 mod check_rows;
 mod cover;
@@ -24,11 +25,10 @@ mod keeping;
 mod keys;
 pub mod limits;
 mod migration;
-mod normal_forms;
 mod plan;
 mod read;
 mod rejoining;
-mod reply;
+mod response;
 mod row_refusals;
 mod rows;
 mod sameness;

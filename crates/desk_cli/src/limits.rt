@@ -1,10 +1,10 @@
 //! The limits, as the numbers that refusals and `docs/FORMATS.md` name.
 
 ghost use Rattle.std.specs.Prelude.{◌≡◌};
-ghost use Rattle.attr_sets.specs.declared.set.TheConstants.{PLACES};
+ghost use Rattle.attr_sets.specs.declared.set.TheConstants.{MOST_ATTRIBUTES};
 ghost use Rattle.armstrong_rel.specs.declared.refusal.TheConstants.{WIDEST_EXHIBITED};
 ghost use Rattle.csv_rows.specs.declared.reading.TheConstants.{MOST_ROWS};
-ghost use Rattle.decomp_text.specs.declared.reading.TheConstants.{MOST_PLAN_BYTES};
+ghost use Rattle.plan_reader.specs.declared.reading.TheConstants.{MOST_PLAN_BYTES};
 ghost use Rattle.dep_model.specs.declared.name.TheConstants.{MOST_NAME_BYTES};
 ghost use Rattle.dep_model.specs.declared.schema.TheConstants.{MOST_DEPENDENCIES};
 ghost use Rattle.derivation.specs.declared.measures.TheConstants.{MOST_LEVELS, MOST_NODES};
@@ -13,12 +13,12 @@ ghost use Rattle.desk_cli.specs.declared.join.TheConstants.{MOST_TABLEAU_ROWS};
 ghost use Rattle.desk_cli.specs.declared.rejoining.TheConstants.{MOST_JOINED_ROWS};
 ghost use Rattle.desk_cli.specs.declared.rows.TheConstants.{MOST_CSV_BYTES};
 ghost use Rattle.desk_words.specs.declared.shapes.TheConstants.{MOST_FILES};
-ghost use Rattle.fd_discovery.specs.declared.headed.TheConstants.{MOST_HEADED_ROWS, WIDEST_HEADED};
-ghost use Rattle.form_tests.specs.declared.forms.TheConstants.{WIDEST_TESTED};
+ghost use Rattle.fd_discovery.specs.declared.headed_rows.TheConstants.{MOST_HEADED_ROWS, WIDEST_HEADED};
+ghost use Rattle.normal_forms.specs.declared.forms.TheConstants.{WIDEST_TESTED};
 ghost use Rattle.key_listing.specs.declared.refusal.TheConstants.{MOST_KEYS, WIDEST_SEARCHED};
 ghost use Rattle.plan_grammar.specs.declared.refusal.TheConstants.{MOST_SCHEMES};
 ghost use Rattle.proof_text.specs.declared.text.TheConstants.{MOST_PROOF_BYTES};
-ghost use Rattle.sample.specs.declared.rows.TheConstants.{MOST_PERSONS};
+ghost use Rattle.sample_rows.specs.declared.rows.TheConstants.{MOST_PERSONS};
 ghost use Rattle.schema_reader.specs.declared.goal.TheConstants.{MOST_GOAL_BYTES};
 ghost use Rattle.schema_reader.specs.declared.set.TheConstants.{MOST_SET_BYTES};
 ghost use Rattle.schema_reader.specs.declared.text.TheConstants.{MOST_TEXT_BYTES};
@@ -26,7 +26,7 @@ ghost use Rattle.table_scripts.specs.declared.naming.TheConstants.{MOST_PARTS, M
 
 /// What a schema may have, and how many bytes a name.
 pub fn limits_of_schemas()
-    ensures attributes { PLACES ≡ 128 }
+    ensures attributes { MOST_ATTRIBUTES ≡ 128 }
     ensures dependencies { MOST_DEPENDENCIES ≡ 256 }
     ensures name { MOST_NAME_BYTES ≡ 31 }
 {}

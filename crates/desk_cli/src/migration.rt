@@ -9,107 +9,117 @@ ghost use Rattle.dep_model.specs.Tuples.{IsOver};
 ghost use Rattle.schema_printer.specs.Printing.{words_text};
 ghost use Rattle.desk_cli.specs.Migrations.{AreTablesOf, GivesTables, Migrates, MigratesPlan, MigratesRows, migrated_text, table_line};
 ghost use Rattle.desk_cli.specs.Readings.{Reading, Shows};
-ghost use Rattle.desk_cli.specs.Replies.{answer_of, RepliesAs};
+ghost use Rattle.desk_cli.specs.Responses.{response_value, RespondsAs};
 ghost use Rattle.desk_texts.specs.Texts.{line};
 
 use crate::check_rows::test_rows;
 use crate::decomposition::plan_in_form;
 use crate::join::test_loss;
 use crate::plan::open_plan;
-use crate::reply::{Reply, Stop};
+use crate::response::{EarlyExit, Response};
 use crate::rows::open_rows;
 use csv_migrate::tables;
-use dep_model::{Name, Schema, WantMemory};
-use desk_outside::{Shelf, Word};
+use dep_model::{Name, OutOfMemory, Schema};
+use desk_outside::{Argument, FileSource};
 use desk_texts::{line_of, put};
-use form_tests::Form;
 use itoa::Buffer;
-use named_tables::Table;
+use named_tables::NamedTable;
+use normal_forms::Form;
 use plans::Plan;
 use row_store::Rows;
 use std::alloc::Global;
 use table_names::MOST_TABLES;
 
 /// The rows of a file, as tables in a normal form.
-pub fn migrate_in_form<F: Shelf>(
+pub fn migrate_in_form<F: FileSource>(
     alloc: Global,
-    shelf: &mut F,
+    source: &mut F,
     schema: &Schema,
     form: Form,
-    file: &Word,
-) -> Result<Reply, Stop>
-    ensures files { F.files shelf.new ≡ F.files shelf.old }
-    ensures later { F.faults shelf.old ≤ F.faults shelf.new }
-    ensures reply { (r : Reading) → Shows F.files F.faults F.taken shelf.old shelf.new r
-        → RepliesAs (Migrates r schema.now form file.now) result }
+    file: &Argument,
+) -> Result<Response, EarlyExit>
+    ensures files { F.files source.new ≡ F.files source.old }
+    ensures later { F.faults source.old ≤ F.faults source.new }
+    ensures response { (r : Reading) → Shows F.files F.faults F.taken source.old source.new r
+        → RespondsAs (Migrates r schema.now form file.now) result }
 {
-    let rows = match open_rows(alloc, shelf, schema, file) {
+    let rows = match open_rows(alloc, source, schema, file) {
         Ok(rows) => rows,
-        Err(stop) => return Err(stop),
+        Err(exit) => return Err(exit),
     };
     let plan = match plan_in_form(alloc, schema, form) {
         Ok(plan) => plan,
-        Err(stop) => return Err(stop),
+        Err(exit) => return Err(exit),
     };
     migrate_rows(alloc, schema, &plan, &rows)
 }
 
 /// The rows of a file, as tables of the plan of another.
-pub fn migrate_by_plan<F: Shelf>(
+pub fn migrate_by_plan<F: FileSource>(
     alloc: Global,
-    shelf: &mut F,
+    source: &mut F,
     schema: &Schema,
-    plan: &Word,
-    file: &Word,
-) -> Result<Reply, Stop>
-    ensures files { F.files shelf.new ≡ F.files shelf.old }
-    ensures later { F.faults shelf.old ≤ F.faults shelf.new }
-    ensures reply { (r : Reading) → Shows F.files F.faults F.taken shelf.old shelf.new r
-        → RepliesAs (MigratesPlan r schema.now plan.now file.now) result }
+    plan: &Argument,
+    file: &Argument,
+) -> Result<Response, EarlyExit>
+    ensures files { F.files source.new ≡ F.files source.old }
+    ensures later { F.faults source.old ≤ F.faults source.new }
+    ensures response { (r : Reading) → Shows F.files F.faults F.taken source.old source.new r
+        → RespondsAs (MigratesPlan r schema.now plan.now file.now) result }
 {
-    let plan = match open_plan(alloc, shelf, schema, plan) {
+    let plan = match open_plan(alloc, source, schema, plan) {
         Ok(plan) => plan,
-        Err(stop) => return Err(stop),
+        Err(exit) => return Err(exit),
     };
-    let rows = match open_rows(alloc, shelf, schema, file) {
+    let rows = match open_rows(alloc, source, schema, file) {
         Ok(rows) => rows,
-        Err(stop) => return Err(stop),
+        Err(exit) => return Err(exit),
     };
     match test_loss(alloc, schema, plan.schemes()) {
         Ok(()) => {}
-        Err(stop) => return Err(stop),
+        Err(exit) => return Err(exit),
     }
     migrate_rows(alloc, schema, &plan, &rows)
 }
 
 /// Rows as tables of a plan that loses nothing, if they are legal.
-pub fn migrate_rows(alloc: Global, schema: &Schema, plan: &Plan, rows: &Rows) -> Result<Reply, Stop>
+pub fn migrate_rows(
+    alloc: Global,
+    schema: &Schema,
+    plan: &Plan,
+    rows: &Rows,
+) -> Result<Response, EarlyExit>
     requires over { IsOver (width_of schema.now) rows.now }
-    requires few { length rows.now < 2 ^ 32 }
+    requires fits_u32 { length rows.now < 2 ^ 32 }
     requires universe { IsPlanOver schema.now plan.now }
     requires lossless { IsLossless (width_of schema.now) (theory_of schema.now) (plan_of plan.now) }
-    ensures reply { RepliesAs (MigratesRows schema.now (plan_of plan.now) rows.now) result }
+    ensures response { RespondsAs (MigratesRows schema.now (plan_of plan.now) rows.now) result }
 {
     match test_rows(alloc, schema, rows) {
         Ok(()) => {}
-        Err(stop) => return Err(stop),
+        Err(exit) => return Err(exit),
     }
-    Ok(given(alloc, schema, plan, rows)?)
+    Ok(tables_response(alloc, schema, plan, rows)?)
 }
 
 // Legal rows as the tables of a plan.
-fn given(alloc: Global, schema: &Schema, plan: &Plan, rows: &Rows) -> Result<Reply, WantMemory>
+fn tables_response(
+    alloc: Global,
+    schema: &Schema,
+    plan: &Plan,
+    rows: &Rows,
+) -> Result<Response, OutOfMemory>
     requires over { IsOver (width_of schema.now) rows.now }
-    requires few { length rows.now < 2 ^ 32 }
+    requires fits_u32 { length rows.now < 2 ^ 32 }
     requires universe { IsPlanOver schema.now plan.now }
     requires lossless { IsLossless (width_of schema.now) (theory_of schema.now) (plan_of plan.now) }
     requires legal { LegalFor schema.now rows.now }
-    ensures answer { IfOk result
-        (λ reply. GivesTables schema.now (plan_of plan.now) rows.now (answer_of reply)) }
+    ensures response { IfOk result
+        (λ response. GivesTables schema.now (plan_of plan.now) rows.now (response_value response)) }
 {
     let tables = tables_of(alloc, schema, plan, rows)?;
     let text = migrated_lines(alloc, rows, &tables)?;
-    Ok(Reply::gives(text, tables))
+    Ok(Response::with_tables(text, tables))
 }
 
 // The tables of a plan. No memory holds a plan of more tables than have a name.
@@ -118,9 +128,9 @@ fn tables_of(
     schema: &Schema,
     plan: &Plan,
     rows: &Rows,
-) -> Result<Vec<Table>, WantMemory>
+) -> Result<Vec<NamedTable>, OutOfMemory>
     requires over { IsOver (width_of schema.now) rows.now }
-    requires few { length rows.now < 2 ^ 32 }
+    requires fits_u32 { length rows.now < 2 ^ 32 }
     requires universe { IsPlanOver schema.now plan.now }
     requires lossless { IsLossless (width_of schema.now) (theory_of schema.now) (plan_of plan.now) }
     requires legal { LegalFor schema.now rows.now }
@@ -128,13 +138,13 @@ fn tables_of(
         (λ tables. AreTablesOf schema.now (plan_of plan.now) rows.now (table_values tables.items)) }
 {
     if plan.schemes().len() > MOST_TABLES as usize {
-        return Err(WantMemory);
+        return Err(OutOfMemory);
     }
     tables(alloc, schema, plan, rows)
 }
 
 // How many rows were read, and the tables that they became.
-fn migrated_lines(alloc: Global, rows: &Rows, tables: &[Table]) -> Result<Vec<u8>, WantMemory>
+fn migrated_lines(alloc: Global, rows: &Rows, tables: &[NamedTable]) -> Result<Vec<u8>, OutOfMemory>
     ensures text { IfOk result (λ text. text.items ≡ migrated_text rows.now (table_values tables.now)) }
 {
     let mut text = read_line(alloc, rows.len())?;
@@ -143,7 +153,7 @@ fn migrated_lines(alloc: Global, rows: &Rows, tables: &[Table]) -> Result<Vec<u8
 }
 
 // How many rows were read.
-fn read_line(alloc: Global, rows: usize) -> Result<Vec<u8>, WantMemory>
+fn read_line(alloc: Global, rows: usize) -> Result<Vec<u8>, OutOfMemory>
     ensures line { IfOk result (λ text. text.items ≡ line (codes "read " ++ decimal rows ++ codes " rows")) }
 {
     line_of(
@@ -155,8 +165,8 @@ fn read_line(alloc: Global, rows: usize) -> Result<Vec<u8>, WantMemory>
 }
 
 // A line for each table, at the end of a text.
-fn put_tables(text: &mut Vec<u8>, tables: &[Table]) -> Result<(), WantMemory>
-    ensures more { OnOk result (text.new.items
+fn put_tables(text: &mut Vec<u8>, tables: &[NamedTable]) -> Result<(), OutOfMemory>
+    ensures added { OnOk result (text.new.items
         ≡ text.old.items ++ flat_map (λ table. table_line (table_value table)) tables.now) }
 {
     for table in tables {
@@ -166,8 +176,9 @@ fn put_tables(text: &mut Vec<u8>, tables: &[Table]) -> Result<(), WantMemory>
 }
 
 // A table: its name, how many rows it has, and its columns.
-fn put_table(text: &mut Vec<u8>, table: &Table) -> Result<(), WantMemory>
-    ensures more { OnOk result (text.new.items ≡ text.old.items ++ table_line (table_value table.now)) }
+fn put_table(text: &mut Vec<u8>, table: &NamedTable) -> Result<(), OutOfMemory>
+    ensures added { OnOk result (text.new.items ≡ text.old.items
+        ++ table_line (table_value table.now)) }
 {
     put(text, table.held.name.bytes())?;
     put(text, b" ")?;
@@ -178,8 +189,8 @@ fn put_table(text: &mut Vec<u8>, table: &Table) -> Result<(), WantMemory>
 }
 
 // Names, each after a blank, at the end of a text.
-fn put_names(text: &mut Vec<u8>, names: &[Name]) -> Result<(), WantMemory>
-    ensures more { OnOk result (text.new.items ≡ text.old.items ++ words_text names.now) }
+fn put_names(text: &mut Vec<u8>, names: &[Name]) -> Result<(), OutOfMemory>
+    ensures added { OnOk result (text.new.items ≡ text.old.items ++ words_text names.now) }
 {
     for name in names {
         put(text, b" ")?;

@@ -5,57 +5,62 @@ ghost use Rattle.dep_model.specs.Schemas.{names_of, width_of};
 ghost use Rattle.plans.specs.Plans.{plan_of, IsPlanOver};
 ghost use Rattle.plan_grammar.specs.declared.refusal.TheConstants.{MOST_SCHEMES};
 ghost use Rattle.plan_grammar.specs.declared.refusal.PlanRefusal.TheVariants as refusals;
-ghost use Rattle.desk_cli.specs.Answers.{Says};
+ghost use Rattle.desk_cli.specs.ResponseValues.{Says};
 ghost use Rattle.desk_cli.specs.Plans.{PlanStops, IsPlanFile, plan_reason_text, plan_refusal_text};
 ghost use Rattle.desk_cli.specs.Readings.{Reading, files_in, Shows};
-ghost use Rattle.desk_cli.specs.Replies.{StopsAs};
+ghost use Rattle.desk_cli.specs.Responses.{ExitsAs};
 
 use crate::Status;
 use crate::read::open_file;
-use crate::reply::Stop;
+use crate::response::EarlyExit;
 use crate::row_refusals::name_of;
-use decomp_text::{MOST_PLAN_BYTES, PlanRefusal, read_plan};
-use dep_model::{Failure, Schema, WantMemory};
-use desk_outside::{Shelf, Word};
+use dep_model::{Failure, OutOfMemory, Schema};
+use desk_outside::{Argument, FileSource};
 use desk_texts::{put, put_number, reason_of};
+use plan_reader::{MOST_PLAN_BYTES, PlanRefusal, read_plan};
 use plans::Plan;
 use schema_reader::SchemaRefusal;
 use std::alloc::Global;
 
 /// The plan of a file.
-pub fn open_plan<F: Shelf>(
+pub fn open_plan<F: FileSource>(
     alloc: Global,
-    shelf: &mut F,
+    source: &mut F,
     schema: &Schema,
-    name: &Word,
-) -> Result<Plan, Stop>
-    ensures files { F.files shelf.new ≡ F.files shelf.old }
-    ensures later { F.faults shelf.old ≤ F.faults shelf.new }
-    ensures ok { (r : Reading) → files_in r ≡ F.files shelf.old
+    name: &Argument,
+) -> Result<Plan, EarlyExit>
+    ensures files { F.files source.new ≡ F.files source.old }
+    ensures later { F.faults source.old ≤ F.faults source.new }
+    ensures ok { (r : Reading) → files_in r ≡ F.files source.old
         → IfOk result (λ plan. IsPlanFile r schema.now name.now (plan_of plan)) }
     ensures universe { IfOk result (IsPlanOver schema.now) }
-    ensures few { IfOk result (λ plan. length (plan_of plan) ≤ MOST_SCHEMES) }
+    ensures within_limit { IfOk result (λ plan. length (plan_of plan) ≤ MOST_SCHEMES) }
     ensures covers { IfOk result (λ plan. Covers (width_of schema.now) (plan_of plan)) }
-    ensures stop { (r : Reading) → Shows F.files F.faults F.taken shelf.old shelf.new r
-        → IfErr result (StopsAs (PlanStops r schema.now name.now)) }
+    ensures exit { (r : Reading) → Shows F.files F.faults F.taken source.old source.new r
+        → IfErr result (ExitsAs (PlanStops r schema.now name.now)) }
 {
-    let bytes = match open_file(alloc, shelf, name, MOST_PLAN_BYTES) {
+    let bytes = match open_file(alloc, source, name, MOST_PLAN_BYTES) {
         Ok(bytes) => bytes,
-        Err(stop) => return Err(stop),
+        Err(exit) => return Err(exit),
     };
     match read_plan(alloc, schema, &bytes) {
         Ok(plan) => Ok(plan),
-        Err(Failure::Refused(refusal)) => Err(plan_refused(alloc, schema, name.bytes(), refusal)),
-        Err(Failure::OutOfMemory) => Err(Stop::Memory),
+        Err(Failure::Refused(refusal)) => Err(plan_refusal_exit(
+            alloc,
+            schema,
+            name.bytes(),
+            refusal,
+        )),
+        Err(Failure::OutOfMemory) => Err(EarlyExit::OutOfMemory),
     }
 }
 
 // A command that ends with the refusal of a plan.
-fn plan_refused(alloc: Global, schema: &Schema, name: &[u8], refusal: PlanRefusal) -> Stop
-    ensures says { StopsAs (Says Status.Refused
+fn plan_refusal_exit(alloc: Global, schema: &Schema, name: &[u8], refusal: PlanRefusal) -> EarlyExit
+    ensures says { ExitsAs (Says Status.Refused
         (plan_refusal_text (names_of schema.now) name.now refusal)) result }
 {
-    Stop::says(
+    EarlyExit::with_text(
         Status::Refused,
         plan_refusal_line(alloc, schema, name, refusal),
     )
@@ -67,7 +72,7 @@ fn plan_refusal_line(
     schema: &Schema,
     name: &[u8],
     refusal: PlanRefusal,
-) -> Result<Vec<u8>, WantMemory>
+) -> Result<Vec<u8>, OutOfMemory>
     ensures text { IfOk result (λ text.
         text.items ≡ plan_refusal_text (names_of schema.now) name.now refusal) }
 {
@@ -83,7 +88,7 @@ fn plan_refusal_line(
 }
 
 // The place of a refusal and its reason in words.
-fn plan_reason(alloc: Global, schema: &Schema, refusal: PlanRefusal) -> Result<Vec<u8>, WantMemory>
+fn plan_reason(alloc: Global, schema: &Schema, refusal: PlanRefusal) -> Result<Vec<u8>, OutOfMemory>
     ensures text { IfOk result (λ text. text.items ≡ plan_reason_text (names_of schema.now) refusal) }
 {
     match refusal {
@@ -95,7 +100,7 @@ fn plan_reason(alloc: Global, schema: &Schema, refusal: PlanRefusal) -> Result<V
 }
 
 // A line, a column and a reason.
-fn text_reason(alloc: Global, refusal: SchemaRefusal) -> Result<Vec<u8>, WantMemory>
+fn text_reason(alloc: Global, refusal: SchemaRefusal) -> Result<Vec<u8>, OutOfMemory>
     ensures text { IfOk result (λ text. text.items ≡ plan_reason_text [] (refusals.Text refusal)) }
 {
     let mut text = Vec::new(alloc);
@@ -108,7 +113,7 @@ fn text_reason(alloc: Global, refusal: SchemaRefusal) -> Result<Vec<u8>, WantMem
 }
 
 // A line and a reason.
-fn line_reason(alloc: Global, line: u32, reason: &[u8]) -> Result<Vec<u8>, WantMemory>
+fn line_reason(alloc: Global, line: u32, reason: &[u8]) -> Result<Vec<u8>, OutOfMemory>
     ensures text { IfOk result (λ text. text.items ≡ decimal line ++ reason.now) }
 {
     let mut text = Vec::new(alloc);
@@ -118,7 +123,7 @@ fn line_reason(alloc: Global, line: u32, reason: &[u8]) -> Result<Vec<u8>, WantM
 }
 
 // An attribute that is in no scheme.
-fn uncovered_reason(alloc: Global, schema: &Schema, attribute: u8) -> Result<Vec<u8>, WantMemory>
+fn uncovered_reason(alloc: Global, schema: &Schema, attribute: u8) -> Result<Vec<u8>, OutOfMemory>
     ensures text { IfOk result
         (λ text. text.items ≡ plan_reason_text (names_of schema.now) (refusals.NotCovered attribute)) }
 {

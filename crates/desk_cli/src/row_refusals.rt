@@ -4,7 +4,7 @@ ghost use Rattle.dep_model.specs.Schemas.{names_of};
 ghost use Rattle.desk_cli.specs.Rows.{name_at, row_reason_text, row_refusal_number, row_refusal_text};
 
 use csv_rows::RowRefusal;
-use dep_model::{Schema, WantMemory};
+use dep_model::{OutOfMemory, Schema};
 use desk_texts::{put, put_number, put_pair};
 use std::alloc::Global;
 
@@ -14,7 +14,7 @@ pub fn row_refusal_line(
     schema: &Schema,
     name: &[u8],
     refusal: RowRefusal,
-) -> Result<Vec<u8>, WantMemory>
+) -> Result<Vec<u8>, OutOfMemory>
     ensures text { IfOk result (λ text.
         text.items ≡ row_refusal_text (names_of schema.now) name.now refusal) }
 {
@@ -50,8 +50,8 @@ fn put_reason(
     text: &mut Vec<u8>,
     schema: &Schema,
     refusal: RowRefusal,
-) -> Result<(), WantMemory>
-    ensures more { OnOk result (text.new.items
+) -> Result<(), OutOfMemory>
+    ensures added { OnOk result (text.new.items
         ≡ text.old.items ++ row_reason_text (names_of schema.now) refusal) }
 {
     match refusal {
@@ -81,8 +81,8 @@ pub fn put_before_number(
     text: &mut Vec<u8>,
     front: &[u8],
     number: u32,
-) -> Result<(), WantMemory>
-    ensures more { OnOk result (text.new.items ≡ text.old.items ++ (front.now ++ decimal number)) }
+) -> Result<(), OutOfMemory>
+    ensures added { OnOk result (text.new.items ≡ text.old.items ++ (front.now ++ decimal number)) }
 {
     put(text, front)?;
     put_number(alloc, text, number)
@@ -94,8 +94,8 @@ fn put_no_integer(
     text: &mut Vec<u8>,
     row: u32,
     name: &[u8],
-) -> Result<(), WantMemory>
-    ensures more { OnOk result (text.new.items
+) -> Result<(), OutOfMemory>
+    ensures added { OnOk result (text.new.items
         ≡ text.old.items ++ (codes "row " ++ decimal row ++ codes ": " ++ name.now
         ++ codes " is no integer")) }
 {
@@ -115,8 +115,8 @@ pub fn put_numbered(
     front: &[u8],
     number: u32,
     back: &[u8],
-) -> Result<(), WantMemory>
-    ensures more { OnOk result (text.new.items
+) -> Result<(), OutOfMemory>
+    ensures added { OnOk result (text.new.items
         ≡ text.old.items ++ (front.now ++ decimal number ++ back.now)) }
 {
     put(text, front)?;

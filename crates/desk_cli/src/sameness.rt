@@ -1,37 +1,37 @@
 ghost use Rattle.std.specs.Prelude.{◌≡◌, ◌≤◌, ◌↔◌, ◌++◌, [], IsTrue, IfOk, IfErr, OnOk};
-ghost use Rattle.desk_cli.specs.Answers.{Says};
+ghost use Rattle.desk_cli.specs.ResponseValues.{Says};
 ghost use Rattle.desk_cli.specs.Readings.{Reading, Shows};
-ghost use Rattle.desk_cli.specs.Replies.{answer_of, RepliesAs, StopsAs};
+ghost use Rattle.desk_cli.specs.Responses.{response_value, RespondsAs, ExitsAs};
 ghost use Rattle.desk_cli.specs.Sameness.{ChecksSame, Compares, NameStops, WithSameNames, difference_text, differences_text, not_in_text};
 ghost use Rattle.schema_match.specs.Columns.{SameNames, name_of_attribute};
 
 use crate::Status;
 use crate::check_rows::{put_dep, put_line};
 use crate::read::open_schema;
-use crate::reply::{Reply, Stop};
+use crate::response::{EarlyExit, Response};
 use crate::row_refusals::name_of;
-use dep_model::{Schema, WantMemory};
-use desk_outside::{Shelf, Word};
+use dep_model::{OutOfMemory, Schema};
+use desk_outside::{Argument, FileSource};
 use desk_texts::{line_of, put};
-use schema_match::{differences, missing};
+use schema_match::{differences, first_undeclared};
 use std::alloc::Global;
 
 /// Whether the schema of a file says the same as that of another.
-pub fn check_same<F: Shelf>(
+pub fn check_same<F: FileSource>(
     alloc: Global,
-    shelf: &mut F,
+    source: &mut F,
     schema: &Schema,
-    file: &Word,
-    other_file: &Word,
-) -> Result<Reply, Stop>
-    ensures files { F.files shelf.new ≡ F.files shelf.old }
-    ensures later { F.faults shelf.old ≤ F.faults shelf.new }
-    ensures reply { (r : Reading) → Shows F.files F.faults F.taken shelf.old shelf.new r
-        → RepliesAs (ChecksSame r schema.now file.now other_file.now) result }
+    file: &Argument,
+    other_file: &Argument,
+) -> Result<Response, EarlyExit>
+    ensures files { F.files source.new ≡ F.files source.old }
+    ensures later { F.faults source.old ≤ F.faults source.new }
+    ensures response { (r : Reading) → Shows F.files F.faults F.taken source.old source.new r
+        → RespondsAs (ChecksSame r schema.now file.now other_file.now) result }
 {
-    let other = match open_schema(alloc, shelf, other_file) {
+    let other = match open_schema(alloc, source, other_file) {
         Ok(other) => other,
-        Err(stop) => return Err(stop),
+        Err(exit) => return Err(exit),
     };
     compare_schemas(alloc, schema, &other, file, other_file)
 }
@@ -41,16 +41,16 @@ fn compare_schemas(
     alloc: Global,
     schema: &Schema,
     other: &Schema,
-    file: &Word,
-    other_file: &Word,
-) -> Result<Reply, Stop>
-    ensures reply { RepliesAs
+    file: &Argument,
+    other_file: &Argument,
+) -> Result<Response, EarlyExit>
+    ensures response { RespondsAs
         (WithSameNames schema.now other.now file.now other_file.now
         (Compares schema.now other.now file.now other_file.now)) result }
 {
     match test_names(alloc, schema, other, file, other_file) {
         Ok(()) => {}
-        Err(stop) => return Err(stop),
+        Err(exit) => return Err(exit),
     }
     Ok(compare(alloc, schema, other, file, other_file)?)
 }
@@ -60,35 +60,38 @@ fn test_names(
     alloc: Global,
     schema: &Schema,
     other: &Schema,
-    file: &Word,
-    other_file: &Word,
-) -> Result<(), Stop>
+    file: &Argument,
+    other_file: &Argument,
+) -> Result<(), EarlyExit>
     ensures ok { IfOk result (λ _. SameNames schema.now other.now) }
-    ensures stop { IfErr result (StopsAs (NameStops schema.now other.now file.now other_file.now)) }
+    ensures exit { IfErr result (ExitsAs (NameStops schema.now other.now file.now other_file.now)) }
 {
-    if let Some(attribute) = missing(schema, other) {
-        return Err(not_in(alloc, schema, attribute, other_file));
+    if let Some(attribute) = first_undeclared(schema, other) {
+        return Err(not_declared_exit(alloc, schema, attribute, other_file));
     }
-    if let Some(attribute) = missing(other, schema) {
-        return Err(not_in(alloc, other, attribute, file));
+    if let Some(attribute) = first_undeclared(other, schema) {
+        return Err(not_declared_exit(alloc, other, attribute, file));
     }
     Ok(())
 }
 
 // A file does not declare the name of an attribute of a schema.
-fn not_in(alloc: Global, schema: &Schema, attribute: u8, file: &Word) -> Stop
-    ensures says { StopsAs
+fn not_declared_exit(alloc: Global, schema: &Schema, attribute: u8, file: &Argument) -> EarlyExit
+    ensures says { ExitsAs
         (Says Status.Refused (not_in_text (name_of_attribute schema.now attribute) file.now)) result }
 {
-    Stop::says(Status::Refused, not_in_line(alloc, schema, attribute, file))
+    EarlyExit::with_text(
+        Status::Refused,
+        not_declared_line(alloc, schema, attribute, file),
+    )
 }
 
-fn not_in_line(
+fn not_declared_line(
     alloc: Global,
     schema: &Schema,
     attribute: u8,
-    file: &Word,
-) -> Result<Vec<u8>, WantMemory>
+    file: &Argument,
+) -> Result<Vec<u8>, OutOfMemory>
     ensures line { IfOk result
         (λ text. text.items ≡ not_in_text (name_of_attribute schema.now attribute) file.now) }
 {
@@ -106,26 +109,26 @@ fn compare(
     alloc: Global,
     schema: &Schema,
     other: &Schema,
-    file: &Word,
-    other_file: &Word,
-) -> Result<Reply, WantMemory>
+    file: &Argument,
+    other_file: &Argument,
+) -> Result<Response, OutOfMemory>
     requires names { SameNames schema.now other.now }
-    ensures answer { IfOk result
-        (λ reply. Compares schema.now other.now file.now other_file.now (answer_of reply)) }
+    ensures response { IfOk result
+        (λ response. Compares schema.now other.now file.now other_file.now (response_value response)) }
 {
     let of_schema = differences(alloc, schema, other)?;
     let of_other = differences(alloc, other, schema)?;
-    if are_none(&of_schema, &of_other) {
-        return Ok(Reply::says(Status::Yes, line_of(alloc, b"equivalent", b"", b"")?));
+    if are_empty(&of_schema, &of_other) {
+        return Ok(Response::with_text(Status::Yes, line_of(alloc, b"equivalent", b"", b"")?));
     }
     let mut text = line_of(alloc, b"different", b"", b"")?;
     put_differences(alloc, &mut text, schema, file, other_file, &of_schema)?;
     put_differences(alloc, &mut text, other, other_file, file, &of_other)?;
-    Ok(Reply::says(Status::No, text))
+    Ok(Response::with_text(Status::No, text))
 }
 
 // Whether neither schema has a difference.
-fn are_none(of_schema: &[u16], of_other: &[u16]) -> bool
+fn are_empty(of_schema: &[u16], of_other: &[u16]) -> bool
     ensures none { IsTrue result ↔ ((of_schema.now ≡ []) × (of_other.now ≡ [])) }
 {
     of_schema.is_empty() && of_other.is_empty()
@@ -136,11 +139,11 @@ fn put_differences(
     alloc: Global,
     text: &mut Vec<u8>,
     schema: &Schema,
-    file: &Word,
-    other_file: &Word,
+    file: &Argument,
+    other_file: &Argument,
     numbers: &[u16],
-) -> Result<(), WantMemory>
-    ensures more { OnOk result (text.new.items
+) -> Result<(), OutOfMemory>
+    ensures added { OnOk result (text.new.items
         ≡ text.old.items ++ differences_text schema.now file.now other_file.now numbers.now) }
 {
     for number in numbers {
@@ -156,10 +159,10 @@ fn put_differences(
 fn difference_line(
     alloc: Global,
     schema: &Schema,
-    file: &Word,
-    other_file: &Word,
+    file: &Argument,
+    other_file: &Argument,
     number: u16,
-) -> Result<Vec<u8>, WantMemory>
+) -> Result<Vec<u8>, OutOfMemory>
     ensures text { IfOk result
         (λ text. text.items ≡ difference_text schema.now file.now other_file.now number) }
 {

@@ -1,71 +1,74 @@
 ghost use Rattle.std.specs.Prelude.{◌≡◌, ◌≤◌, ◌++◌, All, IfOk, IfErr, OnOk};
-ghost use Rattle.attr_sets.specs.Places.{Within};
-ghost use Rattle.attr_sets.specs.Sets.{places};
+ghost use Rattle.attr_sets.specs.Attributes.{IsSubset};
+ghost use Rattle.attr_sets.specs.Sets.{attributes};
 ghost use Rattle.dep_model.specs.Plans.{schemes_of};
 ghost use Rattle.dep_model.specs.Schemas.{names_of, universe_of};
 ghost use Rattle.desk_cli.specs.Keys.{EndsKeys, HasKeys, ListsKeysOfPlan, TellsKeys, keyed_text, keys_text};
 ghost use Rattle.desk_cli.specs.Readings.{Reading, Shows};
-ghost use Rattle.desk_cli.specs.Replies.{RepliesAs, StopsAs};
+ghost use Rattle.desk_cli.specs.Responses.{RespondsAs, ExitsAs};
 
 use crate::Status;
-use crate::keys::{put_set_line, too_many_keys, too_wide};
+use crate::keys::{put_set_line, too_many_keys_exit, too_wide_exit};
 use crate::plan::open_plan;
-use crate::reply::{Reply, Stop};
+use crate::response::{EarlyExit, Response};
 use attr_sets::AttrSet;
-use dep_model::{Failure, Schema, WantMemory};
-use desk_outside::{Shelf, Word};
+use dep_model::{Failure, OutOfMemory, Schema};
+use desk_outside::{Argument, FileSource};
 use key_listing::{SchemeKeyRefusal, keys_of_scheme};
 use std::alloc::Global;
 
 /// The keys of the schemes of the plan of a file.
-pub fn list_keys_of_plan<F: Shelf>(
+pub fn list_keys_of_plan<F: FileSource>(
     alloc: Global,
-    shelf: &mut F,
+    source: &mut F,
     schema: &Schema,
-    file: &Word,
-) -> Result<Reply, Stop>
-    ensures files { F.files shelf.new ≡ F.files shelf.old }
-    ensures later { F.faults shelf.old ≤ F.faults shelf.new }
-    ensures reply { (r : Reading) → Shows F.files F.faults F.taken shelf.old shelf.new r
-        → RepliesAs (ListsKeysOfPlan r schema.now file.now) result }
+    file: &Argument,
+) -> Result<Response, EarlyExit>
+    ensures files { F.files source.new ≡ F.files source.old }
+    ensures later { F.faults source.old ≤ F.faults source.new }
+    ensures response { (r : Reading) → Shows F.files F.faults F.taken source.old source.new r
+        → RespondsAs (ListsKeysOfPlan r schema.now file.now) result }
 {
-    let plan = match open_plan(alloc, shelf, schema, file) {
+    let plan = match open_plan(alloc, source, schema, file) {
         Ok(plan) => plan,
-        Err(stop) => return Err(stop),
+        Err(exit) => return Err(exit),
     };
     tell_keys(alloc, schema, plan.schemes())
 }
 
 // The keys of these schemes.
-fn tell_keys(alloc: Global, schema: &Schema, schemes: &[AttrSet]) -> Result<Reply, Stop>
-    requires within { All (λ scheme. Within (places scheme) (universe_of schema.now)) schemes.now }
-    ensures reply { RepliesAs (TellsKeys schema.now (schemes_of schemes.now)) result }
+fn tell_keys(alloc: Global, schema: &Schema, schemes: &[AttrSet]) -> Result<Response, EarlyExit>
+    requires within { All (λ scheme. IsSubset (attributes scheme)
+        (universe_of schema.now)) schemes.now }
+    ensures response { RespondsAs (TellsKeys schema.now (schemes_of schemes.now)) result }
 {
     let mut text = Vec::new(alloc);
     for scheme in schemes {
         let keys = match keys_or_stop(alloc, schema, *scheme) {
             Ok(keys) => keys,
-            Err(stop) => return Err(stop),
+            Err(exit) => return Err(exit),
         };
         put_keyed(&mut text, schema, *scheme, &keys)?;
     }
-    Ok(Reply::says(Status::Yes, text))
+    Ok(Response::with_text(Status::Yes, text))
 }
 
 // All keys of a scheme.
-fn keys_or_stop(alloc: Global, schema: &Schema, scheme: AttrSet) -> Result<Vec<AttrSet>, Stop>
-    requires within { Within (places scheme) (universe_of schema.now) }
+fn keys_or_stop(alloc: Global, schema: &Schema, scheme: AttrSet) -> Result<Vec<AttrSet>, EarlyExit>
+    requires within { IsSubset (attributes scheme) (universe_of schema.now) }
     ensures ok { IfOk result
-        (λ keys. HasKeys schema.now (record { scheme = places scheme; keys = keys.items })) }
-    ensures ends { IfErr result (StopsAs (EndsKeys schema.now (places scheme))) }
+        (λ keys. HasKeys schema.now (record { scheme = attributes scheme; keys = keys.items })) }
+    ensures ends { IfErr result (ExitsAs (EndsKeys schema.now (attributes scheme))) }
 {
     match keys_of_scheme(alloc, schema, scheme) {
         Ok(keys) => Ok(keys),
-        Err(Failure::Refused(refusal)) => match refusal {
-            SchemeKeyRefusal::TooManyKeys { .. } => Err(too_many_keys(alloc)),
-            SchemeKeyRefusal::TooWide => Err(too_wide(alloc, schema, scheme)),
-        },
-        Err(Failure::OutOfMemory) => Err(Stop::Memory),
+        Err(Failure::Refused(SchemeKeyRefusal::TooManyKeys { .. })) => {
+            Err(too_many_keys_exit(alloc))
+        }
+        Err(Failure::Refused(SchemeKeyRefusal::TooWide)) => {
+            Err(too_wide_exit(alloc, schema, scheme))
+        }
+        Err(Failure::OutOfMemory) => Err(EarlyExit::OutOfMemory),
     }
 }
 
@@ -75,20 +78,21 @@ fn put_keyed(
     schema: &Schema,
     scheme: AttrSet,
     keys: &[AttrSet],
-) -> Result<(), WantMemory>
-    requires scheme { Within (places scheme) (universe_of schema.now) }
-    requires keys { All (λ key. Within (places key) (universe_of schema.now)) keys.now }
-    ensures more { OnOk result (text.new.items ≡ text.old.items
-        ++ keyed_text (names_of schema.now) (record { scheme = places scheme; keys = keys.now })) }
+) -> Result<(), OutOfMemory>
+    requires scheme { IsSubset (attributes scheme) (universe_of schema.now) }
+    requires keys { All (λ key. IsSubset (attributes key) (universe_of schema.now)) keys.now }
+    ensures added { OnOk result (text.new.items ≡ text.old.items
+        ++ keyed_text (names_of schema.now) (record { scheme = attributes scheme; keys = keys.now })) }
 {
     put_set_line(text, schema, b"scheme ", scheme)?;
     put_keys(text, schema, keys)
 }
 
 // A line for each key, at the end of a text.
-fn put_keys(text: &mut Vec<u8>, schema: &Schema, keys: &[AttrSet]) -> Result<(), WantMemory>
-    requires within { All (λ key. Within (places key) (universe_of schema.now)) keys.now }
-    ensures more { OnOk result (text.new.items ≡ text.old.items ++ keys_text (names_of schema.now) keys.now) }
+fn put_keys(text: &mut Vec<u8>, schema: &Schema, keys: &[AttrSet]) -> Result<(), OutOfMemory>
+    requires within { All (λ key. IsSubset (attributes key) (universe_of schema.now)) keys.now }
+    ensures added { OnOk result (text.new.items ≡ text.old.items
+        ++ keys_text (names_of schema.now) keys.now) }
 {
     for key in keys {
         put_set_line(text, schema, b"key ", *key)?;

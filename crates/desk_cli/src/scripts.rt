@@ -1,34 +1,34 @@
 ghost use Rattle.std.specs.Prelude.{◌≡◌, ◌≤◌, IsTrue, IfOk, IfErr};
 ghost use Rattle.plans.specs.Plans.{IsPlanOver, scheme_sets};
 ghost use Rattle.table_scripts.specs.Naming.{is_table_name};
-ghost use Rattle.desk_cli.specs.Answers.{Says};
+ghost use Rattle.desk_cli.specs.ResponseValues.{Says};
 ghost use Rattle.desk_cli.specs.Readings.{Reading, Shows};
-ghost use Rattle.desk_cli.specs.Replies.{answer_of, RepliesAs, StopsAs};
+ghost use Rattle.desk_cli.specs.Responses.{response_value, RespondsAs, ExitsAs};
 ghost use Rattle.desk_cli.specs.Scripts.{AsksTable, MakesTables, TableNameStops, ScriptsCheck, ScriptsMigration, ScriptsMigrationByPlan, bad_name_text};
 
 use crate::Status;
 use crate::decomposition::plan_in_form;
-use crate::designs::designed;
+use crate::designs::design_of_plan;
 use crate::join::test_loss;
 use crate::plan::open_plan;
-use crate::reply::{Reply, Stop};
-use dep_model::{Schema, WantMemory};
-use desk_outside::{Shelf, Word};
+use crate::response::{EarlyExit, Response};
+use dep_model::{OutOfMemory, Schema};
+use desk_outside::{Argument, FileSource};
 use desk_texts::line_of;
-use form_tests::Form;
+use normal_forms::Form;
 use plans::Plan;
 use std::alloc::Global;
 use table_scripts::{check_script, is_table_name, migrate_script};
 
 /// The queries for what breaks each rule in a table.
-pub fn script_check(alloc: Global, schema: &Schema, name: &Word) -> Result<Reply, Stop>
-    ensures reply { RepliesAs (ScriptsCheck schema.now name.now) result }
+pub fn script_check(alloc: Global, schema: &Schema, name: &Argument) -> Result<Response, EarlyExit>
+    ensures response { RespondsAs (ScriptsCheck schema.now name.now) result }
 {
     match test_name(alloc, name) {
         Ok(()) => {}
-        Err(stop) => return Err(stop),
+        Err(exit) => return Err(exit),
     }
-    Ok(asked(alloc, schema, name)?)
+    Ok(queries_response(alloc, schema, name)?)
 }
 
 /// The statements that make the tables of a normal form from a table.
@@ -36,90 +36,100 @@ pub fn script_migration(
     alloc: Global,
     schema: &Schema,
     form: Form,
-    name: &Word,
-) -> Result<Reply, Stop>
-    ensures reply { RepliesAs (ScriptsMigration schema.now form name.now) result }
+    name: &Argument,
+) -> Result<Response, EarlyExit>
+    ensures response { RespondsAs (ScriptsMigration schema.now form name.now) result }
 {
     match test_name(alloc, name) {
         Ok(()) => {}
-        Err(stop) => return Err(stop),
+        Err(exit) => return Err(exit),
     }
     let plan = match plan_in_form(alloc, schema, form) {
         Ok(plan) => plan,
-        Err(stop) => return Err(stop),
+        Err(exit) => return Err(exit),
     };
-    Ok(made(alloc, schema, name, &plan)?)
+    Ok(statements_response(alloc, schema, name, &plan)?)
 }
 
 /// The statements that make the tables of the plan of a file from a table.
-pub fn script_migration_by_plan<F: Shelf>(
+pub fn script_migration_by_plan<F: FileSource>(
     alloc: Global,
-    shelf: &mut F,
+    source: &mut F,
     schema: &Schema,
-    file: &Word,
-    name: &Word,
-) -> Result<Reply, Stop>
-    ensures files { F.files shelf.new ≡ F.files shelf.old }
-    ensures later { F.faults shelf.old ≤ F.faults shelf.new }
-    ensures reply { (r : Reading) → Shows F.files F.faults F.taken shelf.old shelf.new r
-        → RepliesAs (ScriptsMigrationByPlan r schema.now file.now name.now) result }
+    file: &Argument,
+    name: &Argument,
+) -> Result<Response, EarlyExit>
+    ensures files { F.files source.new ≡ F.files source.old }
+    ensures later { F.faults source.old ≤ F.faults source.new }
+    ensures response { (r : Reading) → Shows F.files F.faults F.taken source.old source.new r
+        → RespondsAs (ScriptsMigrationByPlan r schema.now file.now name.now) result }
 {
-    let plan = match open_plan(alloc, shelf, schema, file) {
+    let plan = match open_plan(alloc, source, schema, file) {
         Ok(plan) => plan,
-        Err(stop) => return Err(stop),
+        Err(exit) => return Err(exit),
     };
     match test_name(alloc, name) {
         Ok(()) => {}
-        Err(stop) => return Err(stop),
+        Err(exit) => return Err(exit),
     }
     match test_loss(alloc, schema, plan.schemes()) {
         Ok(()) => {}
-        Err(stop) => return Err(stop),
+        Err(exit) => return Err(exit),
     }
-    Ok(made(alloc, schema, name, &plan)?)
+    Ok(statements_response(alloc, schema, name, &plan)?)
 }
 
 // Whether a word names a table.
-fn test_name(alloc: Global, name: &Word) -> Result<(), Stop>
+fn test_name(alloc: Global, name: &Argument) -> Result<(), EarlyExit>
     ensures ok { IfOk result (λ _. IsTrue (is_table_name name.now)) }
-    ensures stop { IfErr result (StopsAs (TableNameStops name.now)) }
+    ensures exit { IfErr result (ExitsAs (TableNameStops name.now)) }
 {
     if is_table_name(name.bytes()) {
         return Ok(());
     }
-    Err(bad_name(alloc))
+    Err(bad_name_exit(alloc))
 }
 
 // A word names no table.
-fn bad_name(alloc: Global) -> Stop
-    ensures says { StopsAs (Says Status.Refused bad_name_text) result }
+fn bad_name_exit(alloc: Global) -> EarlyExit
+    ensures says { ExitsAs (Says Status.Refused bad_name_text) result }
 {
-    Stop::says(Status::Refused, bad_name_line(alloc))
+    EarlyExit::with_text(Status::Refused, bad_name_line(alloc))
 }
 
-fn bad_name_line(alloc: Global) -> Result<Vec<u8>, WantMemory>
+fn bad_name_line(alloc: Global) -> Result<Vec<u8>, OutOfMemory>
     ensures line { IfOk result (λ text. text.items ≡ bad_name_text) }
 {
     line_of(alloc, b"refused: bad table name", b"", b"")
 }
 
 // The queries for what breaks each rule.
-fn asked(alloc: Global, schema: &Schema, name: &Word) -> Result<Reply, WantMemory>
+fn queries_response(
+    alloc: Global,
+    schema: &Schema,
+    name: &Argument,
+) -> Result<Response, OutOfMemory>
     requires name { IsTrue (is_table_name name.now) }
-    ensures answer { IfOk result (λ reply. AsksTable schema.now name.now (answer_of reply)) }
+    ensures response { IfOk result (λ response. AsksTable schema.now name.now
+        (response_value response)) }
 {
     let script = check_script(alloc, schema, name.bytes())?;
-    Ok(Reply::says(Status::Yes, script))
+    Ok(Response::with_text(Status::Yes, script))
 }
 
 // The statements that make the tables of a plan.
-fn made(alloc: Global, schema: &Schema, name: &Word, plan: &Plan) -> Result<Reply, WantMemory>
+fn statements_response(
+    alloc: Global,
+    schema: &Schema,
+    name: &Argument,
+    plan: &Plan,
+) -> Result<Response, OutOfMemory>
     requires name { IsTrue (is_table_name name.now) }
     requires universe { IsPlanOver schema.now plan.now }
-    ensures answer { IfOk result
-        (λ reply. MakesTables schema.now name.now (scheme_sets plan.now) (answer_of reply)) }
+    ensures response { IfOk result
+        (λ response. MakesTables schema.now name.now (scheme_sets plan.now) (response_value response)) }
 {
-    let tables = designed(alloc, schema, plan)?;
+    let tables = design_of_plan(alloc, schema, plan)?;
     let script = migrate_script(alloc, schema, &tables, name.bytes())?;
-    Ok(Reply::says(Status::Yes, script))
+    Ok(Response::with_text(Status::Yes, script))
 }

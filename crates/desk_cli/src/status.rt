@@ -11,6 +11,6 @@ pub enum Status {
     CannotRead,
     /// 4: the text could not be written.
     CannotWrite,
-    /// 5: a target failed.
-    TargetFailed,
+    /// 5: a destination failed.
+    DestinationFailed,
 }

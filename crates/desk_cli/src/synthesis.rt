@@ -1,24 +1,24 @@
 ghost use Rattle.std.specs.Prelude.{IfOk};
-ghost use Rattle.desk_cli.specs.Replies.{answer_of, RepliesAs};
+ghost use Rattle.desk_cli.specs.Responses.{response_value, RespondsAs};
 ghost use Rattle.desk_cli.specs.Synthesis.{Synthesizes};
 
 use crate::Status;
 use crate::decomposition::third_form_plan;
-use crate::reply::{Reply, Stop};
-use dep_model::{Schema, WantMemory};
+use crate::response::{EarlyExit, Response};
+use dep_model::{OutOfMemory, Schema};
 use plans::print_plan;
 use std::alloc::Global;
 
 /// A plan in third normal form that loses nothing and keeps the functional dependencies.
-pub fn synthesized(alloc: Global, schema: &Schema) -> Result<Reply, Stop>
-    ensures reply { RepliesAs (Synthesizes schema.now) result }
+pub fn synthesize_plan(alloc: Global, schema: &Schema) -> Result<Response, EarlyExit>
+    ensures response { RespondsAs (Synthesizes schema.now) result }
 {
-    Ok(printed(alloc, schema)?)
+    Ok(synthesis_response(alloc, schema)?)
 }
 
-fn printed(alloc: Global, schema: &Schema) -> Result<Reply, WantMemory>
-    ensures answer { IfOk result (λ reply. Synthesizes schema.now (answer_of reply)) }
+fn synthesis_response(alloc: Global, schema: &Schema) -> Result<Response, OutOfMemory>
+    ensures response { IfOk result (λ response. Synthesizes schema.now (response_value response)) }
 {
     let plan = third_form_plan(alloc, schema)?;
-    Ok(Reply::says(Status::Yes, print_plan(alloc, schema, &plan)?))
+    Ok(Response::with_text(Status::Yes, print_plan(alloc, schema, &plan)?))
 }

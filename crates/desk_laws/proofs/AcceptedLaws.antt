@@ -9,8 +9,8 @@ use Rattle.derivation.specs.Conclusions.{Proves}
 use Rattle.derivation.specs.Derivs.{tree_of}
 use Rattle.derivation.specs.Trees.{Tree}
 use Rattle.derivation.proofs.RuleTableLemmas.{the_ok}
-use Rattle.dep_basis.specs.Joined.{IsProofOf}
-use Rattle.desk_outside.specs.Files.{Files, held}
+use Rattle.dep_basis.specs.JoinedProofs.{IsProofOf}
+use Rattle.desk_outside.specs.Files.{Files, bytes_of_file}
 use Rattle.schema_grammar.proofs.DeclaredNames.{declared_are_names}
 use Rattle.schema_reader.specs.declared.goal.TheConstants.{MOST_GOAL_BYTES}
 use Rattle.schema_reader.specs.declared.text.TheConstants.{MOST_TEXT_BYTES}
@@ -27,13 +27,13 @@ use Rattle.proof_grammar.specs.Spelling.{SpellsWithin}
 use Rattle.proof_grammar.proofs.OneTree.{one_tree}
 use Rattle.proof_grammar.proofs.PrintedSpells.{answered_spells}
 use Rattle.desk_cli.specs.declared.status.Status.TheVariants.{Yes, No}
-use Rattle.desk_cli.specs.Answers.{Answer}
+use Rattle.desk_cli.specs.ResponseValues.{ResponseValue}
 use Rattle.desk_cli.specs.Certificates.{Checked}
 use Rattle.desk_words.specs.Forms.{form_of, after_check, schema_and, schema_and_two, form_over_schema}
 use Rattle.desk_cli.specs.Implication.{Decided}
 use Rattle.desk_cli.specs.Inputs.{WithSchema, WithProof, WithGoal}
 use Rattle.desk_cli.specs.Performs.{Answers, Performs, Does}
-use Rattle.desk_cli.specs.Readings.{told}
+use Rattle.desk_cli.specs.Readings.{known_files}
 use Rattle.desk_texts.specs.Texts.{yes_text}
 use Rattle.desk_laws.proofs.SchemaLemmas.{AreAlike, proves_alike, spells_alike}
 use Rattle.desk_laws.proofs.StopLemmas.{schema_says, goal_says, one_content, schema_goes, proof_goes, goal_goes}
@@ -43,7 +43,7 @@ use Rattle.desk_laws.proofs.StopLemmas.{schema_says, goal_says, one_content, sch
 record SaidYes (files : Files) (schema goal text : List ℕ) : Type 0 where
   of : Schema
   bytes : List ℕ
-  has : held files schema ≡ Some bytes
+  has : bytes_of_file files schema ≡ Some bytes
   few_bytes : length bytes ≤ MOST_TEXT_BYTES
   means : MeansSchema bytes (declarations_of of)
   dep : Dependency
@@ -53,14 +53,14 @@ record SaidYes (files : Files) (schema goal text : List ℕ) : Type 0 where
   is_proof : IsProofOf of dep (tree_of proof)
   printed : text ≡ yes_text ++ canonical_certificate of (tree_of proof)
 
-no_says : (answer : Answer) → answer.status ≡ Yes → answer.status ≡ No → ⊥
-no_says answer says_yes is = cc
+no_says : (response : ResponseValue) → response.status ≡ Yes → response.status ≡ No → ⊥
+no_says response says_yes is = cc
 
-yes_there : (files : Files) (schema goal : List ℕ) (answer : Answer) → answer.status ≡ Yes → WithSchema (told files) schema (λ s. WithGoal s goal (Decided s)) answer → SaidYes files schema goal answer.text
-yes_there files schema goal answer says_yes (inl stop) = absurd (schema_says (told files) schema answer says_yes stop)
-yes_there files schema goal answer says_yes (inr (of, file, rest)) = after_goal rest
+yes_there : (files : Files) (schema goal : List ℕ) (response : ResponseValue) → response.status ≡ Yes → WithSchema (known_files files) schema (λ s. WithGoal s goal (Decided s)) response → SaidYes files schema goal response.text
+yes_there files schema goal response says_yes (inl exit) = absurd (schema_says (known_files files) schema response says_yes exit)
+yes_there files schema goal response says_yes (inr (of, file, rest)) = after_goal rest
   where
-    decided : (dep : Dependency) → length goal ≤ MOST_GOAL_BYTES → MeansGoal (names_of of) goal dep → Decided of dep answer → SaidYes files schema goal answer.text
+    decided : (dep : Dependency) → length goal ≤ MOST_GOAL_BYTES → MeansGoal (names_of of) goal dep → Decided of dep response → SaidYes files schema goal response.text
     decided dep few_goal means_goal (inl (implied, found)) = record {
       of = of;
       bytes = file.bytes;
@@ -72,12 +72,12 @@ yes_there files schema goal answer says_yes (inr (of, file, rest)) = after_goal 
       means_goal = means_goal;
       proof = found.0;
       is_proof = found.1;
-      printed = ap (λ (a : Answer). a.text) found.3;
+      printed = ap (λ (a : ResponseValue). a.text) found.3;
     }
-    decided dep few_goal means_goal (inr (broken, found)) = absurd (no_says answer says_yes (ap (λ (a : Answer). a.status) found.2))
+    decided dep few_goal means_goal (inr (broken, found)) = absurd (no_says response says_yes (ap (λ (a : ResponseValue). a.status) found.2))
 
-    after_goal : WithGoal of goal (Decided of) answer → SaidYes files schema goal answer.text
-    after_goal (inl stop) = absurd (goal_says of goal answer says_yes stop)
+    after_goal : WithGoal of goal (Decided of) response → SaidYes files schema goal response.text
+    after_goal (inl exit) = absurd (goal_says of goal response says_yes exit)
     after_goal (inr (dep, is, rest)) = decided dep is.few is.means rest
 
 -- ---- the second answer
@@ -106,14 +106,14 @@ printed_within files schema goal text r said alike =
     } in
     subst (λ (bytes : List ℕ). SpellsWithin r bytes t) (sym said.printed) within
 
-checked_yes : (s : Schema) (t : Tree) (d : Dependency) (answer : Answer) → Proves s t d → Checked s t d answer → answer.status ≡ Yes
-checked_yes s t d answer proves (inl (proved, says)) = ap (λ (a : Answer). a.status) says
-checked_yes s t d answer proves (inr (unproved, found)) = absurd (unproved proves)
+checked_yes : (s : Schema) (t : Tree) (d : Dependency) (response : ResponseValue) → Proves s t d → Checked s t d response → response.status ≡ Yes
+checked_yes s t d response proves (inl (proved, says)) = ap (λ (a : ResponseValue). a.status) says
+checked_yes s t d response proves (inr (unproved, found)) = absurd (unproved proves)
 
 -- the same goal is read, and the tree concludes it
-goal_yes : (files : Files) (schema goal text : List ℕ) (r : Schema) (answer : Answer) → (said : SaidYes files schema goal text) → AreAlike said.of r
-    → WithGoal r goal (Checked r (tree_of said.proof)) answer → answer.status ≡ Yes
-goal_yes files schema goal text r answer said alike go = after go
+goal_yes : (files : Files) (schema goal text : List ℕ) (r : Schema) (response : ResponseValue) → (said : SaidYes files schema goal text) → AreAlike said.of r
+    → WithGoal r goal (Checked r (tree_of said.proof)) response → response.status ≡ Yes
+goal_yes files schema goal text r response said alike go = after go
   where
     means : MeansGoal (names_of r) goal said.dep
     means = subst (λ (names : List (List ℕ)). MeansGoal names goal said.dep) alike.names said.means_goal
@@ -121,43 +121,43 @@ goal_yes files schema goal text r answer said alike go = after go
     proves : (d : Dependency) → MeansGoal (names_of r) goal d → Proves r (tree_of said.proof) d
     proves d other = subst (Proves r (tree_of said.proof)) (one_goal (names_of r) goal said.dep d means other) (proves_alike said.of r (tree_of said.proof) said.dep alike said.is_proof.proves)
 
-    after : WithGoal r goal (Checked r (tree_of said.proof)) answer → answer.status ≡ Yes
-    after (inl stop) = absurd (goal_goes r goal said.dep answer said.few_goal means stop)
-    after (inr (d, is, rest)) = checked_yes r (tree_of said.proof) d answer (proves d is.means) rest
+    after : WithGoal r goal (Checked r (tree_of said.proof)) response → response.status ≡ Yes
+    after (inl exit) = absurd (goal_goes r goal said.dep response said.few_goal means exit)
+    after (inr (d, is, rest)) = checked_yes r (tree_of said.proof) d response (proves d is.means) rest
 
 -- what was printed is read from a file, as the tree that was found
-proof_yes : (files after : Files) (schema goal file text : List ℕ) (r : Schema) (answer : Answer) → (said : SaidYes files schema goal text) → AreAlike said.of r
-    → held after file ≡ Some text → length text ≤ MOST_PROOF_BYTES
-    → WithProof (told after) r file (λ t. WithGoal r goal (Checked r t)) answer → answer.status ≡ Yes
-proof_yes files after schema goal file text r answer said alike kept few (inl stop) =
-    absurd (proof_goes after r file text (tree_of said.proof) answer kept few (printed_within files schema goal text r said alike) stop)
-proof_yes files after schema goal file text r answer said alike kept few (inr (t, is, go)) =
+proof_yes : (files after : Files) (schema goal file text : List ℕ) (r : Schema) (response : ResponseValue) → (said : SaidYes files schema goal text) → AreAlike said.of r
+    → bytes_of_file after file ≡ Some text → length text ≤ MOST_PROOF_BYTES
+    → WithProof (known_files after) r file (λ t. WithGoal r goal (Checked r t)) response → response.status ≡ Yes
+proof_yes files after schema goal file text r response said alike kept few (inl exit) =
+    absurd (proof_goes after r file text (tree_of said.proof) response kept few (printed_within files schema goal text r said alike) exit)
+proof_yes files after schema goal file text r response said alike kept few (inr (t, is, go)) =
     let spelled : SpellsWithin r text t = subst (λ (b : List ℕ). SpellsWithin r b t) (one_content after file is.bytes text is.content.0 kept) is.spells in
     let same : t ≡ tree_of said.proof = one_tree r text t (tree_of said.proof) spelled.spells (printed_within files schema goal text r said alike).spells in
-    goal_yes files schema goal text r answer said alike (subst (λ (u : Tree). WithGoal r goal (Checked r u) answer) same go)
+    goal_yes files schema goal text r response said alike (subst (λ (u : Tree). WithGoal r goal (Checked r u) response) same go)
 
-schema_yes : (files after : Files) (schema goal file text : List ℕ) (answer : Answer) → (said : SaidYes files schema goal text)
-    → held after schema ≡ Some said.bytes → held after file ≡ Some text → length text ≤ MOST_PROOF_BYTES
-    → WithSchema (told after) schema (λ r. WithProof (told after) r file (λ t. WithGoal r goal (Checked r t))) answer → answer.status ≡ Yes
-schema_yes files after schema goal file text answer said same kept few (inl stop) =
-    absurd (schema_goes after schema said.bytes (declarations_of said.of) answer same said.few_bytes said.means stop)
-schema_yes files after schema goal file text answer said same kept few (inr (r, is, go)) =
+schema_yes : (files after : Files) (schema goal file text : List ℕ) (response : ResponseValue) → (said : SaidYes files schema goal text)
+    → bytes_of_file after schema ≡ Some said.bytes → bytes_of_file after file ≡ Some text → length text ≤ MOST_PROOF_BYTES
+    → WithSchema (known_files after) schema (λ r. WithProof (known_files after) r file (λ t. WithGoal r goal (Checked r t))) response → response.status ≡ Yes
+schema_yes files after schema goal file text response said same kept few (inl exit) =
+    absurd (schema_goes after schema said.bytes (declarations_of said.of) response same said.few_bytes said.means exit)
+schema_yes files after schema goal file text response said same kept few (inr (r, is, go)) =
     let moved : MeansSchema said.bytes (declarations_of r) = subst (λ (b : List ℕ). MeansSchema b (declarations_of r)) (one_content after schema is.bytes said.bytes is.content.0 same) is.means in
-    proof_yes files after schema goal file text r answer said (one_schema said.bytes said.of r said.means moved) kept few go
+    proof_yes files after schema goal file text r response said (one_schema said.bytes said.of r said.means moved) kept few go
 
-implies_answers : (files : Files) (schema goal : List ℕ) (answer : Answer) → Answers (told files) (codes "implies" ∷ schema ∷ goal ∷ []) answer → WithSchema (told files) schema (λ s. WithGoal s goal (Decided s)) answer
+implies_answers : (files : Files) (schema goal : List ℕ) (response : ResponseValue) → Answers (known_files files) (codes "implies" ∷ schema ∷ goal ∷ []) response → WithSchema (known_files files) schema (λ s. WithGoal s goal (Decided s)) response
 unfolding form_of form_over_schema schema_and Performs Does
-implies_answers files schema goal answer answered = answered
+implies_answers files schema goal response answered = answered
 
-check_answers : (files : Files) (schema goal file : List ℕ) (answer : Answer) → Answers (told files) (codes "check" ∷ codes "proof" ∷ schema ∷ file ∷ goal ∷ []) answer
-    → WithSchema (told files) schema (λ r. WithProof (told files) r file (λ t. WithGoal r goal (Checked r t))) answer
+check_answers : (files : Files) (schema goal file : List ℕ) (response : ResponseValue) → Answers (known_files files) (codes "check" ∷ codes "proof" ∷ schema ∷ file ∷ goal ∷ []) response
+    → WithSchema (known_files files) schema (λ r. WithProof (known_files files) r file (λ t. WithGoal r goal (Checked r t))) response
 unfolding form_of form_over_schema after_check schema_and_two Performs Does
-check_answers files schema goal file answer answered = answered
+check_answers files schema goal file response answered = answered
 
 -- what is printed after yes and kept in a file is accepted for the same schema and goal
-pub printed_accepted : (before after : Files) (schema goal file : List ℕ) (printed : Answer) → Answers (told before) (codes "implies" ∷ schema ∷ goal ∷ []) printed → printed.status ≡ Yes
-    → held after schema ≡ held before schema → held after file ≡ Some printed.text → length printed.text ≤ MOST_PROOF_BYTES
-    → (answer : Answer) → Answers (told after) (codes "check" ∷ codes "proof" ∷ schema ∷ file ∷ goal ∷ []) answer → answer.status ≡ Yes
-printed_accepted before after schema goal file printed answered says_yes same kept few answer again =
+pub printed_accepted : (before after : Files) (schema goal file : List ℕ) (printed : ResponseValue) → Answers (known_files before) (codes "implies" ∷ schema ∷ goal ∷ []) printed → printed.status ≡ Yes
+    → bytes_of_file after schema ≡ bytes_of_file before schema → bytes_of_file after file ≡ Some printed.text → length printed.text ≤ MOST_PROOF_BYTES
+    → (response : ResponseValue) → Answers (known_files after) (codes "check" ∷ codes "proof" ∷ schema ∷ file ∷ goal ∷ []) response → response.status ≡ Yes
+printed_accepted before after schema goal file printed answered says_yes same kept few response again =
     let said = yes_there before schema goal printed says_yes (implies_answers before schema goal printed answered) in
-    schema_yes before after schema goal file printed.text answer said (same ∙ said.has) kept few (check_answers after schema goal file answer again)
+    schema_yes before after schema goal file printed.text response said (same ∙ said.has) kept few (check_answers after schema goal file response again)

@@ -1,14 +1,14 @@
 -- Where the inputs of a command have their meaning, it answers yes or no.
 use Rattle.std.proofs.Common.{◌≡◌, ◌<◌, ◌+◌, ℕ, false, List, [], ◌∷◌, length, Some, Result, Ok, Err, inl, inr, sym, ap, ◌∙◌, subst, arith}
 use Rattle.std.specs.Prelude.{codes, slice_get, Any}
-use Rattle.attr_sets.specs.Places.{Places, below}
+use Rattle.attr_sets.specs.Attributes.{Attributes, below}
 use Rattle.attr_sets.specs.declared.set.AttrSet.{AttrSet}
 use Rattle.dep_model.specs.Dependencies.{Dependency, is_fd}
 use Rattle.dep_model.specs.Schemas.{names_of, width_of, theory_of, columns_of as types_of}
 use Rattle.dep_model.specs.Tuples.{Tuple, Relation}
 use Rattle.dep_model.specs.declared.column.Column.{Column}
 use Rattle.dep_model.specs.declared.column.Column.TheVariants.{Integer}
-use Rattle.dep_model.specs.declared.memory.WantMemory.{WantMemory}
+use Rattle.dep_model.specs.declared.memory.OutOfMemory.{OutOfMemory}
 use Rattle.dep_model.specs.declared.schema.Schema.{Schema}
 use Rattle.derivation.specs.Trees.{Tree}
 use Rattle.derivation.proofs.RuleTableLemmas.{the_ok}
@@ -25,9 +25,9 @@ use Rattle.csv_rows.specs.Records.{records_of}
 use Rattle.csv_rows.specs.declared.refusal.RowRefusal.{RowRefusal}
 use Rattle.csv_rows.proofs.UniqueRows.{table_same, whole_header_same}
 use Rattle.plan_grammar.specs.Meanings.{MeansPlan}
-use Rattle.plan_grammar.specs.Complaints.{RefusesPlan}
+use Rattle.plan_grammar.specs.Diagnostics.{RefusesPlan}
 use Rattle.plan_grammar.proofs.ExactLaws.{plan_one_meaning, plan_never_both}
-use Rattle.decomp_text.specs.declared.reading.TheConstants.{MOST_PLAN_BYTES}
+use Rattle.plan_reader.specs.declared.reading.TheConstants.{MOST_PLAN_BYTES}
 use Rattle.key_listing.specs.Listing.{AreManyKeys}
 use Rattle.key_listing.specs.Refusals.{IsTooWide}
 use Rattle.key_listing.specs.declared.refusal.TheConstants.{WIDEST_SEARCHED}
@@ -36,12 +36,12 @@ use Rattle.desk_outside.specs.Files.{Files}
 use Rattle.desk_cli.specs.declared.join.TheConstants.{MOST_TABLEAU_ROWS}
 use Rattle.desk_cli.specs.declared.rows.TheConstants.{MOST_CSV_BYTES}
 use Rattle.desk_cli.specs.declared.status.Status.{Status}
-use Rattle.desk_cli.specs.Answers.{Answer, Allowed}
+use Rattle.desk_cli.specs.ResponseValues.{ResponseValue, Allowed}
 use Rattle.desk_cli.specs.Certificates.{Checked}
 use Rattle.desk_cli.specs.Covering.{GivesCover}
-use Rattle.desk_cli.specs.Desk.{Desk, ShelfInCall, SinkInCall}
-use Rattle.desk_cli.specs.Endings.{TargetsInCall}
-use Rattle.desk_words.specs.Forms.{form_of, after_check, schema_alone, schema_and, schema_and_two, alone, form_over_schema, after_keys}
+use Rattle.desk_cli.specs.Desk.{Desk, FileSourceInCall, SinkInCall}
+use Rattle.desk_cli.specs.Outcomes.{DestinationsInCall}
+use Rattle.desk_words.specs.Forms.{form_of, after_check, schema_alone, schema_and, schema_and_two, no_more_arguments, form_over_schema, after_keys}
 use Rattle.desk_cli.specs.Implication.{Decided}
 use Rattle.desk_cli.specs.Inputs.{WithSchema, WithProof, WithGoal, IsSchemaFile, IsGoal, IsProofFile}
 use Rattle.desk_cli.specs.Joins.{JudgesJoin, IsTooLarge}
@@ -49,7 +49,7 @@ use Rattle.desk_cli.specs.Keys.{ListsKeys, HasManyKeys}
 use Rattle.desk_cli.specs.Legality.{Judged}
 use Rattle.desk_cli.specs.Performs.{Answers, Performs, Does}
 use Rattle.desk_cli.specs.Plans.{WithPlan, IsPlanFile}
-use Rattle.desk_cli.specs.Readings.{told}
+use Rattle.desk_cli.specs.Readings.{known_files}
 use Rattle.desk_cli.specs.Rows.{WithRows, IsRowsFile}
 use Rattle.desk_cli.specs.Synthesis.{Synthesizes}
 use Rattle.desk_laws.specs.Completeness.{IsYesOrNo, IsAnswered, FailsNowhere}
@@ -57,11 +57,11 @@ use Rattle.desk_laws.proofs.SchemaLemmas.{AreAlike, spells_alike}
 use Rattle.desk_laws.proofs.StopLemmas.{one_content, file_goes, schema_goes, proof_goes, goal_goes}
 
 -- ---- the call
-pub calls_end : (words : List (List ℕ)) (files : Files) (shelf : ShelfInCall) (sink : SinkInCall)
-    (targets : TargetsInCall) (result : Result Status WantMemory)
-    → Desk words shelf sink targets result → FailsNowhere files shelf sink targets → IsAnswered files words
+pub calls_end : (words : List (List ℕ)) (files : Files) (source : FileSourceInCall) (sink : SinkInCall)
+    (destinations : DestinationsInCall) (result : Result Status OutOfMemory)
+    → Desk words source sink destinations result → FailsNowhere files source sink destinations → IsAnswered files words
     → (status : Status) → result ≡ Ok status → IsYesOrNo status
-calls_end words files shelf sink targets result desk nowhere answered status is =
+calls_end words files source sink destinations result desk nowhere answered status is =
     let delivers = desk.complete files nowhere.holds nowhere.reads nowhere.writes nowhere.feeds status is in
     subst IsYesOrNo (sym delivers.2) (answered delivers.0 delivers.1)
 
@@ -75,16 +75,16 @@ names_same s r same = ap (λ (d : Declarations). d.names) same
 types_same : (s r : Schema) → AreSame s r → types_of s ≡ types_of r
 types_same s r same = ap (λ (d : Declarations). d.columns) same
 
-alike : (s r : Schema) → AreSame s r → AreAlike s r
-alike s r same = record { names = names_same s r same; theory = ap (λ (d : Declarations). d.deps) same }
+AreSame-alike : (s r : Schema) → AreSame s r → AreAlike s r
+AreSame-alike s r same = record { names = names_same s r same; theory = ap (λ (d : Declarations). d.deps) same }
 
-pub after_schema : (files : Files) (name : List ℕ) (s : Schema) (rest : Schema → Allowed) (answer : Answer)
-    → IsSchemaFile (told files) name s
-    → ((r : Schema) → AreSame s r → rest r answer → IsYesOrNo answer.status)
-    → WithSchema (told files) name rest answer → IsYesOrNo answer.status
-after_schema files name s rest answer file go (inl stop) =
-    absurd (schema_goes files name file.bytes (declarations_of s) answer file.content.0 file.content.1 file.means stop)
-after_schema files name s rest answer file go (inr (r, is, more)) =
+pub after_schema : (files : Files) (name : List ℕ) (s : Schema) (rest : Schema → Allowed) (response : ResponseValue)
+    → IsSchemaFile (known_files files) name s
+    → ((r : Schema) → AreSame s r → rest r response → IsYesOrNo response.status)
+    → WithSchema (known_files files) name rest response → IsYesOrNo response.status
+after_schema files name s rest response file go (inl exit) =
+    absurd (schema_goes files name file.bytes (declarations_of s) response file.content.0 file.content.1 file.means exit)
+after_schema files name s rest response file go (inr (r, is, more)) =
     let moved : MeansSchema file.bytes (declarations_of r) =
     subst (λ (b : List ℕ). MeansSchema b (declarations_of r)) (one_content files name is.bytes file.bytes is.content.0 file.content.0) is.means in
     let same = the_ok {A = Declarations} {E = SchemaRefusal} (declarations_of s) (declarations_of r)
@@ -92,65 +92,65 @@ after_schema files name s rest answer file go (inr (r, is, more)) =
     go r same more
 
 -- ---- goals
-after_goal : (s r : Schema) (goal : List ℕ) (dep : Dependency) (rest : Dependency → Allowed) (answer : Answer)
+after_goal : (s r : Schema) (goal : List ℕ) (dep : Dependency) (rest : Dependency → Allowed) (response : ResponseValue)
     → AreSame s r → IsGoal s goal dep
-    → ((d : Dependency) → rest d answer → IsYesOrNo answer.status) → WithGoal r goal rest answer
-    → IsYesOrNo answer.status
-after_goal s r goal dep rest answer same is go (inl stop) =
-    absurd (goal_goes r goal dep answer is.few (subst (λ (names : List (List ℕ)). MeansGoal names goal dep) (names_same s r same) is.means) stop)
-after_goal s r goal dep rest answer same is go (inr (d, found, more)) = go d more
+    → ((d : Dependency) → rest d response → IsYesOrNo response.status) → WithGoal r goal rest response
+    → IsYesOrNo response.status
+after_goal s r goal dep rest response same is go (inl exit) =
+    absurd (goal_goes r goal dep response is.few (subst (λ (names : List (List ℕ)). MeansGoal names goal dep) (names_same s r same) is.means) exit)
+after_goal s r goal dep rest response same is go (inr (d, found, more)) = go d more
 
-decided : (r : Schema) (d : Dependency) (answer : Answer) → Decided r d answer → IsYesOrNo answer.status
-decided r d answer (inl (implied, found)) = inl (ap (λ (a : Answer). a.status) found.3)
-decided r d answer (inr (broken, found)) = inr (ap (λ (a : Answer). a.status) found.2)
+Decided-yes_or_no : (r : Schema) (d : Dependency) (response : ResponseValue) → Decided r d response → IsYesOrNo response.status
+Decided-yes_or_no r d response (inl (implied, found)) = inl (ap (λ (a : ResponseValue). a.status) found.3)
+Decided-yes_or_no r d response (inr (broken, found)) = inr (ap (λ (a : ResponseValue). a.status) found.2)
 
-implies_asks : (files : Files) (name goal : List ℕ) (answer : Answer)
-    → Answers (told files) (codes "implies" ∷ name ∷ goal ∷ []) answer
-    → WithSchema (told files) name (λ r. WithGoal r goal (Decided r)) answer
+implies_asks : (files : Files) (name goal : List ℕ) (response : ResponseValue)
+    → Answers (known_files files) (codes "implies" ∷ name ∷ goal ∷ []) response
+    → WithSchema (known_files files) name (λ r. WithGoal r goal (Decided r)) response
 unfolding form_of form_over_schema schema_and Performs Does
-implies_asks files name goal answer answered = answered
+implies_asks files name goal response answered = answered
 
 pub implies_answered : (files : Files) (name goal : List ℕ) (schema : Schema) (dep : Dependency)
-    → IsSchemaFile (told files) name schema → IsGoal schema goal dep
+    → IsSchemaFile (known_files files) name schema → IsGoal schema goal dep
     → IsAnswered files (codes "implies" ∷ name ∷ goal ∷ [])
-implies_answered files name goal schema dep file is answer answered =
-    after_schema files name schema (λ r. WithGoal r goal (Decided r)) answer file
-    (λ r same more. after_goal schema r goal dep (Decided r) answer same is (λ d found. decided r d answer found) more)
-    (implies_asks files name goal answer answered)
+implies_answered files name goal schema dep file is response answered =
+    after_schema files name schema (λ r. WithGoal r goal (Decided r)) response file
+    (λ r same more. after_goal schema r goal dep (Decided r) response same is (λ d found. Decided-yes_or_no r d response found) more)
+    (implies_asks files name goal response answered)
 
 -- ---- certificates
 within_alike : (s r : Schema) (text : List ℕ) (t : Tree) → AreSame s r → SpellsWithin s text t → SpellsWithin r text t
 within_alike s r text t same within =
-    let moved = spells_alike s r text t (alike s r same) within.spells in
+    let moved = spells_alike s r text t (AreSame-alike s r same) within.spells in
     record { spells = moved.0; few_lines = omega (arith, moved.1, within.few_lines); few_levels = within.few_levels }
 
-after_proof : (files : Files) (s r : Schema) (name : List ℕ) (t : Tree) (rest : Tree → Allowed) (answer : Answer)
-    → AreSame s r → IsProofFile (told files) s name t
-    → ((u : Tree) → rest u answer → IsYesOrNo answer.status) → WithProof (told files) r name rest answer
-    → IsYesOrNo answer.status
-after_proof files s r name t rest answer same file go (inl stop) =
-    absurd (proof_goes files r name file.bytes t answer file.content.0 file.content.1 (within_alike s r file.bytes t same file.spells) stop)
-after_proof files s r name t rest answer same file go (inr (u, is, more)) = go u more
+after_proof : (files : Files) (s r : Schema) (name : List ℕ) (t : Tree) (rest : Tree → Allowed) (response : ResponseValue)
+    → AreSame s r → IsProofFile (known_files files) s name t
+    → ((u : Tree) → rest u response → IsYesOrNo response.status) → WithProof (known_files files) r name rest response
+    → IsYesOrNo response.status
+after_proof files s r name t rest response same file go (inl exit) =
+    absurd (proof_goes files r name file.bytes t response file.content.0 file.content.1 (within_alike s r file.bytes t same file.spells) exit)
+after_proof files s r name t rest response same file go (inr (u, is, more)) = go u more
 
-checked : (r : Schema) (t : Tree) (d : Dependency) (answer : Answer) → Checked r t d answer → IsYesOrNo answer.status
-checked r t d answer (inl (proved, says)) = inl (ap (λ (a : Answer). a.status) says)
-checked r t d answer (inr (unproved, found)) = inr (ap (λ (a : Answer). a.status) found.2)
+Checked-yes_or_no : (r : Schema) (t : Tree) (d : Dependency) (response : ResponseValue) → Checked r t d response → IsYesOrNo response.status
+Checked-yes_or_no r t d response (inl (proved, says)) = inl (ap (λ (a : ResponseValue). a.status) says)
+Checked-yes_or_no r t d response (inr (unproved, found)) = inr (ap (λ (a : ResponseValue). a.status) found.2)
 
-proof_asks : (files : Files) (name file goal : List ℕ) (answer : Answer)
-    → Answers (told files) (codes "check" ∷ codes "proof" ∷ name ∷ file ∷ goal ∷ []) answer
-    → WithSchema (told files) name (λ r. WithProof (told files) r file (λ t. WithGoal r goal (Checked r t))) answer
+proof_asks : (files : Files) (name file goal : List ℕ) (response : ResponseValue)
+    → Answers (known_files files) (codes "check" ∷ codes "proof" ∷ name ∷ file ∷ goal ∷ []) response
+    → WithSchema (known_files files) name (λ r. WithProof (known_files files) r file (λ t. WithGoal r goal (Checked r t))) response
 unfolding form_of form_over_schema after_check schema_and_two Performs Does
-proof_asks files name file goal answer answered = answered
+proof_asks files name file goal response answered = answered
 
 pub proof_answered : (files : Files) (name file goal : List ℕ) (schema : Schema) (tree : Tree) (dep : Dependency)
-    → IsSchemaFile (told files) name schema → IsProofFile (told files) schema file tree → IsGoal schema goal dep
+    → IsSchemaFile (known_files files) name schema → IsProofFile (known_files files) schema file tree → IsGoal schema goal dep
     → IsAnswered files (codes "check" ∷ codes "proof" ∷ name ∷ file ∷ goal ∷ [])
-proof_answered files name file goal schema tree dep held_schema held_proof is answer answered =
+proof_answered files name file goal schema tree dep held_schema held_proof is response answered =
     after_schema files name schema
-    (λ r. WithProof (told files) r file (λ t. WithGoal r goal (Checked r t))) answer held_schema
-    (λ r same more. after_proof files schema r file tree (λ t. WithGoal r goal (Checked r t)) answer same held_proof
-    (λ t found. after_goal schema r goal dep (Checked r t) answer same is (λ d said. checked r t d answer said) found) more)
-    (proof_asks files name file goal answer answered)
+    (λ r. WithProof (known_files files) r file (λ t. WithGoal r goal (Checked r t))) response held_schema
+    (λ r same more. after_proof files schema r file tree (λ t. WithGoal r goal (Checked r t)) response same held_proof
+    (λ t found. after_goal schema r goal dep (Checked r t) response same is (λ d said. Checked-yes_or_no r t d response said) found) more)
+    (proof_asks files name file goal response answered)
 
 -- ---- rows
 row_alike : (s r : Schema) (columns : List ℕ) (row : ℕ) (fields : List (List ℕ)) (t : Tuple) → AreSame s r
@@ -189,106 +189,106 @@ rows_or_refusal r text rows why are refused =
     (Err why) are refused in cc
 
 pub after_rows : (files : Files) (s r : Schema) (name : List ℕ) (rows : Relation) (rest : Relation → Allowed)
-    (answer : Answer)
-    → AreSame s r → IsRowsFile (told files) s name rows
-    → ((x : Relation) → rest x answer → IsYesOrNo answer.status) → WithRows (told files) r name rest answer
-    → IsYesOrNo answer.status
-after_rows files s r name rows rest answer same file go (inl (inl stop)) =
-    absurd (file_goes files name file.bytes MOST_CSV_BYTES answer file.content.0 file.content.1 stop)
-after_rows files s r name rows rest answer same file go (inl (inr (why, is, says))) =
+    (response : ResponseValue)
+    → AreSame s r → IsRowsFile (known_files files) s name rows
+    → ((x : Relation) → rest x response → IsYesOrNo response.status) → WithRows (known_files files) r name rest response
+    → IsYesOrNo response.status
+after_rows files s r name rows rest response same file go (inl (inl exit)) =
+    absurd (file_goes files name file.bytes MOST_CSV_BYTES response file.content.0 file.content.1 exit)
+after_rows files s r name rows rest response same file go (inl (inr (why, is, says))) =
     let here : RowsOf r file.bytes (Err why) =
     subst (λ (b : List ℕ). RowsOf r b (Err why)) (one_content files name is.bytes file.bytes is.content.0 file.content.0) is.refused in
     absurd (rows_or_refusal r file.bytes rows why (rows_alike s r file.bytes rows same file.means) here)
-after_rows files s r name rows rest answer same file go (inr (x, is, more)) = go x more
+after_rows files s r name rows rest response same file go (inr (x, is, more)) = go x more
 
-judged : (r : Schema) (rows : Relation) (answer : Answer) → Judged r rows answer → IsYesOrNo answer.status
-judged r rows answer (inl (broken, found)) = inr (ap (λ (a : Answer). a.status) found.2)
-judged r rows answer (inr (legal, says)) = inl (ap (λ (a : Answer). a.status) says)
+Judged-yes_or_no : (r : Schema) (rows : Relation) (response : ResponseValue) → Judged r rows response → IsYesOrNo response.status
+Judged-yes_or_no r rows response (inl (broken, found)) = inr (ap (λ (a : ResponseValue). a.status) found.2)
+Judged-yes_or_no r rows response (inr (legal, says)) = inl (ap (λ (a : ResponseValue). a.status) says)
 
-rows_asks : (files : Files) (name file : List ℕ) (answer : Answer)
-    → Answers (told files) (codes "check" ∷ codes "rows" ∷ name ∷ file ∷ []) answer
-    → WithSchema (told files) name (λ r. WithRows (told files) r file (Judged r)) answer
+rows_asks : (files : Files) (name file : List ℕ) (response : ResponseValue)
+    → Answers (known_files files) (codes "check" ∷ codes "rows" ∷ name ∷ file ∷ []) response
+    → WithSchema (known_files files) name (λ r. WithRows (known_files files) r file (Judged r)) response
 unfolding form_of form_over_schema after_check schema_and Performs Does
-rows_asks files name file answer answered = answered
+rows_asks files name file response answered = answered
 
 pub rows_answered : (files : Files) (name file : List ℕ) (schema : Schema) (rows : Relation)
-    → IsSchemaFile (told files) name schema → IsRowsFile (told files) schema file rows
+    → IsSchemaFile (known_files files) name schema → IsRowsFile (known_files files) schema file rows
     → IsAnswered files (codes "check" ∷ codes "rows" ∷ name ∷ file ∷ [])
-rows_answered files name file schema rows held_schema held_rows answer answered =
-    after_schema files name schema (λ r. WithRows (told files) r file (Judged r)) answer held_schema
-    (λ r same more. after_rows files schema r file rows (Judged r) answer same held_rows (λ x found. judged r x answer found) more)
-    (rows_asks files name file answer answered)
+rows_answered files name file schema rows held_schema held_rows response answered =
+    after_schema files name schema (λ r. WithRows (known_files files) r file (Judged r)) response held_schema
+    (λ r same more. after_rows files schema r file rows (Judged r) response same held_rows (λ x found. Judged-yes_or_no r x response found) more)
+    (rows_asks files name file response answered)
 
 -- ---- plans
-pub after_plan : (files : Files) (s r : Schema) (name : List ℕ) (plan : List Places) (rest : List Places → Allowed)
-    (answer : Answer)
-    → AreSame s r → IsPlanFile (told files) s name plan
-    → ((p : List Places) → p ≡ plan → rest p answer → IsYesOrNo answer.status)
-    → WithPlan (told files) r name rest answer → IsYesOrNo answer.status
-after_plan files s r name plan rest answer same file go (inl (inl stop)) =
-    absurd (file_goes files name file.bytes MOST_PLAN_BYTES answer file.content.0 file.content.1 stop)
-after_plan files s r name plan rest answer same file go (inl (inr (refusal, is, says))) =
+pub after_plan : (files : Files) (s r : Schema) (name : List ℕ) (plan : List Attributes) (rest : List Attributes → Allowed)
+    (response : ResponseValue)
+    → AreSame s r → IsPlanFile (known_files files) s name plan
+    → ((p : List Attributes) → p ≡ plan → rest p response → IsYesOrNo response.status)
+    → WithPlan (known_files files) r name rest response → IsYesOrNo response.status
+after_plan files s r name plan rest response same file go (inl (inl exit)) =
+    absurd (file_goes files name file.bytes MOST_PLAN_BYTES response file.content.0 file.content.1 exit)
+after_plan files s r name plan rest response same file go (inl (inr (refusal, is, says))) =
     let means : MeansPlan (names_of r) file.bytes plan =
     subst (λ (names : List (List ℕ)). MeansPlan names file.bytes plan) (names_same s r same) file.means in
     let here : RefusesPlan (names_of r) file.bytes refusal =
     subst (λ (b : List ℕ). RefusesPlan (names_of r) b refusal) (one_content files name is.bytes file.bytes is.content.0 file.content.0) is.refused in
     absurd (plan_never_both (names_of r) file.bytes plan refusal means here)
-after_plan files s r name plan rest answer same file go (inr (p, is, more)) =
+after_plan files s r name plan rest response same file go (inr (p, is, more)) =
     let means : MeansPlan (names_of r) file.bytes plan =
     subst (λ (names : List (List ℕ)). MeansPlan names file.bytes plan) (names_same s r same) file.means in
     let here : MeansPlan (names_of r) file.bytes p =
     subst (λ (b : List ℕ). MeansPlan (names_of r) b p) (one_content files name is.bytes file.bytes is.content.0 file.content.0) is.means in
     go p (plan_one_meaning (names_of r) file.bytes p plan here means) more
 
-judges_join : (r : Schema) (plan : List Places) (answer : Answer) → (IsTooLarge r plan → ⊥) → JudgesJoin r plan answer
-    → IsYesOrNo answer.status
-judges_join r plan answer small (inl (inl (fits, lossy, found))) = inr (ap (λ (a : Answer). a.status) found.2)
-judges_join r plan answer small (inl (inr (large, says))) = absurd (small large)
-judges_join r plan answer small (inr (shown, says)) = inl (ap (λ (a : Answer). a.status) says)
+judges_join : (r : Schema) (plan : List Attributes) (response : ResponseValue) → (IsTooLarge r plan → ⊥) → JudgesJoin r plan response
+    → IsYesOrNo response.status
+judges_join r plan response small (inl (inl (fits, lossy, found))) = inr (ap (λ (a : ResponseValue). a.status) found.2)
+judges_join r plan response small (inl (inr (large, says))) = absurd (small large)
+judges_join r plan response small (inr (shown, says)) = inl (ap (λ (a : ResponseValue). a.status) says)
 
-pub small_same : (s r : Schema) (p plan : List Places) → AreSame s r → p ≡ plan → (IsTooLarge s plan → ⊥) → IsTooLarge r p
+pub small_same : (s r : Schema) (p plan : List Attributes) → AreSame s r → p ≡ plan → (IsTooLarge s plan → ⊥) → IsTooLarge r p
     → ⊥
 small_same s r p plan same is small large =
     small (subst (λ (d : Declarations). RoundsExceed (length d.names) d.deps plan MOST_TABLEAU_ROWS) (sym same)
-    (subst (λ (q : List Places). RoundsExceed (width_of r) (theory_of r) q MOST_TABLEAU_ROWS) is large))
+    (subst (λ (q : List Attributes). RoundsExceed (width_of r) (theory_of r) q MOST_TABLEAU_ROWS) is large))
 
-join_asks : (files : Files) (name file : List ℕ) (answer : Answer)
-    → Answers (told files) (codes "check" ∷ codes "join" ∷ name ∷ file ∷ []) answer
-    → WithSchema (told files) name (λ r. WithPlan (told files) r file (JudgesJoin r)) answer
+join_asks : (files : Files) (name file : List ℕ) (response : ResponseValue)
+    → Answers (known_files files) (codes "check" ∷ codes "join" ∷ name ∷ file ∷ []) response
+    → WithSchema (known_files files) name (λ r. WithPlan (known_files files) r file (JudgesJoin r)) response
 unfolding form_of form_over_schema after_check schema_and Performs Does
-join_asks files name file answer answered = answered
+join_asks files name file response answered = answered
 
-pub join_answered : (files : Files) (name file : List ℕ) (schema : Schema) (plan : List Places)
-    → IsSchemaFile (told files) name schema → IsPlanFile (told files) schema file plan
+pub join_answered : (files : Files) (name file : List ℕ) (schema : Schema) (plan : List Attributes)
+    → IsSchemaFile (known_files files) name schema → IsPlanFile (known_files files) schema file plan
     → (IsTooLarge schema plan → ⊥) → IsAnswered files (codes "check" ∷ codes "join" ∷ name ∷ file ∷ [])
-join_answered files name file schema plan held_schema held_plan small answer answered =
-    after_schema files name schema (λ r. WithPlan (told files) r file (JudgesJoin r)) answer held_schema
-    (λ r same more. after_plan files schema r file plan (JudgesJoin r) answer same held_plan
-    (λ p is found. judges_join r p answer (small_same schema r p plan same is small) found) more)
-    (join_asks files name file answer answered)
+join_answered files name file schema plan held_schema held_plan small response answered =
+    after_schema files name schema (λ r. WithPlan (known_files files) r file (JudgesJoin r)) response held_schema
+    (λ r same more. after_plan files schema r file plan (JudgesJoin r) response same held_plan
+    (λ p is found. judges_join r p response (small_same schema r p plan same is small) found) more)
+    (join_asks files name file response answered)
 
 -- ---- schemas alone
-cover_asks : (files : Files) (name : List ℕ) (answer : Answer)
-    → Answers (told files) (codes "cover" ∷ name ∷ []) answer → WithSchema (told files) name GivesCover answer
+cover_asks : (files : Files) (name : List ℕ) (response : ResponseValue)
+    → Answers (known_files files) (codes "cover" ∷ name ∷ []) response → WithSchema (known_files files) name GivesCover response
 unfolding form_of form_over_schema schema_alone Performs Does
-cover_asks files name answer answered = answered
+cover_asks files name response answered = answered
 
-pub cover_answered : (files : Files) (name : List ℕ) (schema : Schema) → IsSchemaFile (told files) name schema
+pub cover_answered : (files : Files) (name : List ℕ) (schema : Schema) → IsSchemaFile (known_files files) name schema
     → IsAnswered files (codes "cover" ∷ name ∷ [])
-cover_answered files name schema file answer answered =
-    after_schema files name schema GivesCover answer file (λ r same found. inl (ap (λ (a : Answer). a.status) found.4))
-    (cover_asks files name answer answered)
+cover_answered files name schema file response answered =
+    after_schema files name schema GivesCover response file (λ r same found. inl (ap (λ (a : ResponseValue). a.status) found.4))
+    (cover_asks files name response answered)
 
-synthesize_asks : (files : Files) (name : List ℕ) (answer : Answer)
-    → Answers (told files) (codes "synthesize" ∷ name ∷ []) answer → WithSchema (told files) name Synthesizes answer
+synthesize_asks : (files : Files) (name : List ℕ) (response : ResponseValue)
+    → Answers (known_files files) (codes "synthesize" ∷ name ∷ []) response → WithSchema (known_files files) name Synthesizes response
 unfolding form_of form_over_schema schema_alone Performs Does
-synthesize_asks files name answer answered = answered
+synthesize_asks files name response answered = answered
 
-pub synthesize_answered : (files : Files) (name : List ℕ) (schema : Schema) → IsSchemaFile (told files) name schema
+pub synthesize_answered : (files : Files) (name : List ℕ) (schema : Schema) → IsSchemaFile (known_files files) name schema
     → IsAnswered files (codes "synthesize" ∷ name ∷ [])
-synthesize_answered files name schema file answer answered =
-    after_schema files name schema Synthesizes answer file (λ r same found. inl (ap (λ (a : Answer). a.status) found.2))
-    (synthesize_asks files name answer answered)
+synthesize_answered files name schema file response answered =
+    after_schema files name schema Synthesizes response file (λ r same found. inl (ap (λ (a : ResponseValue). a.status) found.2))
+    (synthesize_asks files name response answered)
 
 narrow_same : (s r : Schema) → AreSame s r → (IsTooWide s → ⊥) → IsTooWide r → ⊥
 narrow_same s r same narrow wide =
@@ -298,37 +298,37 @@ few_same : (s r : Schema) → AreSame s r → (HasManyKeys s → ⊥) → HasMan
 few_same s r same few many =
     few (subst (λ (d : Declarations). (found : List AttrSet) × AreManyKeys (length d.names) d.deps (below (length d.names)) found) (sym same) many)
 
-lists_keys : (r : Schema) (answer : Answer) → (IsTooWide r → ⊥) → (HasManyKeys r → ⊥) → ListsKeys r answer
-    → IsYesOrNo answer.status
-lists_keys r answer narrow few (inl found) = inl (ap (λ (a : Answer). a.status) found.4)
-lists_keys r answer narrow few (inr (inl (wide, says))) = absurd (narrow wide)
-lists_keys r answer narrow few (inr (inr (fits, many, says))) = absurd (few many)
+lists_keys : (r : Schema) (response : ResponseValue) → (IsTooWide r → ⊥) → (HasManyKeys r → ⊥) → ListsKeys r response
+    → IsYesOrNo response.status
+lists_keys r response narrow few (inl found) = inl (ap (λ (a : ResponseValue). a.status) found.4)
+lists_keys r response narrow few (inr (inl (wide, says))) = absurd (narrow wide)
+lists_keys r response narrow few (inr (inr (fits, many, says))) = absurd (few many)
 
-keys_asks : (files : Files) (name : List ℕ) (answer : Answer) → Answers (told files) (codes "keys" ∷ name ∷ []) answer
-    → WithSchema (told files) name ListsKeys answer
+keys_asks : (files : Files) (name : List ℕ) (response : ResponseValue) → Answers (known_files files) (codes "keys" ∷ name ∷ []) response
+    → WithSchema (known_files files) name ListsKeys response
 unfolding form_of form_over_schema after_keys Performs Does
-keys_asks files name answer answered = answered
+keys_asks files name response answered = answered
 
-pub keys_answered : (files : Files) (name : List ℕ) (schema : Schema) → IsSchemaFile (told files) name schema
+pub keys_answered : (files : Files) (name : List ℕ) (schema : Schema) → IsSchemaFile (known_files files) name schema
     → (IsTooWide schema → ⊥) → (HasManyKeys schema → ⊥)
     → IsAnswered files (codes "keys" ∷ name ∷ [])
-keys_answered files name schema file narrow few answer answered =
-    after_schema files name schema ListsKeys answer file
-    (λ r same found. lists_keys r answer (narrow_same schema r same narrow) (few_same schema r same few) found) (keys_asks files name answer answered)
+keys_answered files name schema file narrow few response answered =
+    after_schema files name schema ListsKeys response file
+    (λ r same found. lists_keys r response (narrow_same schema r same narrow) (few_same schema r same few) found) (keys_asks files name response answered)
 
 -- ---- no schema
 pub help_answered : (files : Files) → IsAnswered files (codes "help" ∷ [])
-unfolding form_of form_over_schema alone Performs
-help_answered files answer answered = inl (ap (λ (a : Answer). a.status) answered)
+unfolding form_of form_over_schema no_more_arguments Performs
+help_answered files response answered = inl (ap (λ (a : ResponseValue). a.status) answered)
 
 pub long_help_answered : (files : Files) → IsAnswered files (codes "--help" ∷ [])
-unfolding form_of form_over_schema alone Performs
-long_help_answered files answer answered = inl (ap (λ (a : Answer). a.status) answered)
+unfolding form_of form_over_schema no_more_arguments Performs
+long_help_answered files response answered = inl (ap (λ (a : ResponseValue). a.status) answered)
 
 pub short_help_answered : (files : Files) → IsAnswered files (codes "-h" ∷ [])
-unfolding form_of form_over_schema alone Performs
-short_help_answered files answer answered = inl (ap (λ (a : Answer). a.status) answered)
+unfolding form_of form_over_schema no_more_arguments Performs
+short_help_answered files response answered = inl (ap (λ (a : ResponseValue). a.status) answered)
 
 pub version_answered : (files : Files) → IsAnswered files (codes "--version" ∷ [])
-unfolding form_of form_over_schema alone Performs
-version_answered files answer answered = inl (ap (λ (a : Answer). a.status) answered)
+unfolding form_of form_over_schema no_more_arguments Performs
+version_answered files response answered = inl (ap (λ (a : ResponseValue). a.status) answered)

@@ -1,12 +1,12 @@
 -- Where the files of `discover` and `rejoin` have their meaning, these commands answer yes or no.
 use Rattle.std.proofs.Common.{◌≡◌, ◌≤◌, ◌<◌, ℕ, true, zero, suc, Some, None, Result, Ok, Err, List, [], ◌∷◌, length, inl, inr, refl, sym, ap, subst, ◌∙◌, arith}
 use Rattle.std.specs.Prelude.{codes, slice_get}
-use Rattle.attr_sets.specs.Places.{Places}
-use Rattle.attr_sets.specs.Sets.{places}
+use Rattle.attr_sets.specs.Attributes.{Attributes}
+use Rattle.attr_sets.specs.Sets.{attributes}
 use Rattle.csv_rows.specs.Columns.{with_columns, columns_of_header}
 use Rattle.csv_rows.specs.Records.{records_of}
 use Rattle.csv_rows.specs.Reading.{PartOf, HasScheme}
-use Rattle.csv_rows.specs.declared.part.Part.{Part}
+use Rattle.csv_rows.specs.declared.part.PartialRows.{PartialRows}
 use Rattle.csv_rows.specs.declared.refusal.RowRefusal.{RowRefusal}
 use Rattle.csv_rows.proofs.UniqueRows.{table_same, part_header_same}
 use Rattle.dep_model.specs.Projections.{Covers}
@@ -15,46 +15,46 @@ use Rattle.dep_model.specs.Tuples.{Relation}
 use Rattle.dep_model.specs.declared.schema.Schema.{Schema}
 use Rattle.fd_discovery.proofs.UniqueHeaded.{never_both}
 use Rattle.fd_discovery.specs.Headings.{IsRefusedDiscovery}
-use Rattle.fd_discovery.specs.declared.headed.Headed.{Headed}
+use Rattle.fd_discovery.specs.declared.headed_rows.Headed.{Headed}
 use Rattle.table_join.specs.Answers.{IsWithinLimit}
-use Rattle.table_join.specs.Tables.{Table, table_of_part, tables_of, plan_of_tables}
+use Rattle.table_join.specs.Tables.{PartialRelation, table_of_part, tables_of, plan_of_tables}
 use Rattle.desk_outside.specs.Files.{Files}
 use Rattle.desk_cli.specs.declared.rejoining.TheConstants.{MOST_JOINED_ROWS}
 use Rattle.desk_cli.specs.declared.rows.TheConstants.{MOST_CSV_BYTES}
-use Rattle.desk_cli.specs.Answers.{Answer, Allowed}
+use Rattle.desk_cli.specs.ResponseValues.{ResponseValue, Allowed}
 use Rattle.desk_cli.specs.Discoveries.{IsHeadedFile, WithHeaded, FindsRules, Discovers}
 use Rattle.desk_words.specs.Forms.{form_of, form_over_schema, schema_and_few, word_alone, are_few}
 use Rattle.desk_cli.specs.Inputs.{WithSchema, IsSchemaFile}
 use Rattle.desk_cli.specs.Performs.{Answers, Performs, Does}
-use Rattle.desk_cli.specs.Readings.{told}
+use Rattle.desk_cli.specs.Readings.{known_files}
 use Rattle.desk_cli.specs.Rejoining.{IsPartFile, ArePartFiles, PartStops, WithParts, JoinsTables, Rejoins}
 use Rattle.desk_laws.specs.Completeness.{IsYesOrNo, IsAnswered}
 use Rattle.desk_laws.proofs.CompleteLaws.{AreSame, names_same, table_alike, after_schema}
 use Rattle.desk_laws.proofs.StopLemmas.{one_content, file_goes}
 
 -- ---- rows under a free header
-after_headed : (files : Files) (name : List ℕ) (h : Headed) (rest : Headed → Allowed) (answer : Answer)
-    → IsHeadedFile (told files) name h → ((k : Headed) → rest k answer → IsYesOrNo answer.status)
-    → WithHeaded (told files) name rest answer → IsYesOrNo answer.status
-after_headed files name h rest answer file go (inl (inl stop)) =
-    absurd (file_goes files name file.bytes MOST_CSV_BYTES answer file.content.0 file.content.1 stop)
-after_headed files name h rest answer file go (inl (inr (why, is, says))) =
+after_headed : (files : Files) (name : List ℕ) (h : Headed) (rest : Headed → Allowed) (response : ResponseValue)
+    → IsHeadedFile (known_files files) name h → ((k : Headed) → rest k response → IsYesOrNo response.status)
+    → WithHeaded (known_files files) name rest response → IsYesOrNo response.status
+after_headed files name h rest response file go (inl (inl exit)) =
+    absurd (file_goes files name file.bytes MOST_CSV_BYTES response file.content.0 file.content.1 exit)
+after_headed files name h rest response file go (inl (inr (why, is, says))) =
     let here : IsRefusedDiscovery (records_of file.bytes) why =
     subst (λ (b : List ℕ). IsRefusedDiscovery (records_of b) why)
     (one_content files name is.bytes file.bytes is.content.0 file.content.0) is.refused in
     absurd (never_both (records_of file.bytes) h why file.means here)
-after_headed files name h rest answer file go (inr (k, is, more)) = go k more
+after_headed files name h rest response file go (inr (k, is, more)) = go k more
 
-discover_asks : (files : Files) (file : List ℕ) (answer : Answer)
-    → Answers (told files) (codes "discover" ∷ file ∷ []) answer → Discovers (told files) file answer
+discover_asks : (files : Files) (file : List ℕ) (response : ResponseValue)
+    → Answers (known_files files) (codes "discover" ∷ file ∷ []) response → Discovers (known_files files) file response
 unfolding form_of word_alone Performs
-discover_asks files file answer answered = answered
+discover_asks files file response answered = answered
 
-pub discover_answered : (files : Files) (file : List ℕ) (headed : Headed) → IsHeadedFile (told files) file headed
+pub discover_answered : (files : Files) (file : List ℕ) (headed : Headed) → IsHeadedFile (known_files files) file headed
     → IsAnswered files (codes "discover" ∷ file ∷ [])
-discover_answered files file headed is answer answered =
-    after_headed files file headed FindsRules answer is (λ k found. inl (ap (λ (a : Answer). a.status) found.2))
-    (discover_asks files file answer answered)
+discover_answered files file headed is response answered =
+    after_headed files file headed FindsRules response is (λ k found. inl (ap (λ (a : ResponseValue). a.status) found.2))
+    (discover_asks files file response answered)
 
 -- ---- tables of some columns
 part_alike : (s r : Schema) (text : List ℕ) (rows : Relation) → AreSame s r → PartOf s text (Ok rows)
@@ -73,17 +73,17 @@ part_reading s text one other p q =
     (records_of text) one other p q
 
 -- what a file means for one schema, it means for another with the same declarations
-part_means : (files : Files) (s r : Schema) (name : List ℕ) (p : Part) (bytes : List ℕ) → AreSame s r
-    → (is : IsPartFile (told files) s name p) → is.bytes ≡ bytes → PartOf r bytes (Ok p.rows)
+part_means : (files : Files) (s r : Schema) (name : List ℕ) (p : PartialRows) (bytes : List ℕ) → AreSame s r
+    → (is : IsPartFile (known_files files) s name p) → is.bytes ≡ bytes → PartOf r bytes (Ok p.rows)
 part_means files s r name p bytes same is here =
     subst (λ (b : List ℕ). PartOf r b (Ok p.rows)) here
     (part_alike s r is.bytes p.rows same is.means)
 
-part_goes : (files : Files) (s r : Schema) (name : List ℕ) (p : Part) (answer : Answer) → AreSame s r
-    → IsPartFile (told files) s name p → PartStops (told files) r name answer → ⊥
-part_goes files s r name p answer same is (inl stop) =
-    file_goes files name is.bytes MOST_CSV_BYTES answer is.content.0 is.content.1 stop
-part_goes files s r name p answer same is (inr (why, refused, says)) =
+part_goes : (files : Files) (s r : Schema) (name : List ℕ) (p : PartialRows) (response : ResponseValue) → AreSame s r
+    → IsPartFile (known_files files) s name p → PartStops (known_files files) r name response → ⊥
+part_goes files s r name p response same is (inl exit) =
+    file_goes files name is.bytes MOST_CSV_BYTES response is.content.0 is.content.1 exit
+part_goes files s r name p response same is (inr (why, refused, says)) =
     let here = one_content files name is.bytes refused.bytes is.content.0 refused.content.0 in
     let both : ◌≡◌ {A = Result Relation RowRefusal} (Ok p.rows) (Err why) =
     part_reading r refused.bytes (Ok p.rows) (Err why)
@@ -91,7 +91,7 @@ part_goes files s r name p answer same is (inr (why, refused, says)) =
     cc
 
 -- the columns of a text
-one_scheme : (s r : Schema) (text : List ℕ) (x y : Places) → AreSame s r
+one_scheme : (s r : Schema) (text : List ℕ) (x y : Attributes) → AreSame s r
     → (header others : List (List ℕ)) (records rest : List (List (List ℕ))) (columns others_columns : List ℕ)
     → records_of text ≡ header ∷ records → records_of text ≡ others ∷ rest
     → columns_of_header (names_of s) header ≡ Ok columns → columns_of_header (names_of r) others ≡ Ok others_columns
@@ -105,11 +105,11 @@ one_scheme s r text x y same header others records rest columns others_columns a
     one ∙ ap with_columns columns_same ∙ sym two
 
 -- tuples over a scheme
-abbrev with_scheme : Places → Relation → Table
+abbrev with_scheme : Attributes → Relation → PartialRelation
 with_scheme x rows = record { scheme = x; rows = rows }
 
-one_table : (files : Files) (s r : Schema) (name : List ℕ) (p q : Part) → AreSame s r
-    → IsPartFile (told files) s name p → IsPartFile (told files) r name q → table_of_part p ≡ table_of_part q
+one_table : (files : Files) (s r : Schema) (name : List ℕ) (p q : PartialRows) → AreSame s r
+    → IsPartFile (known_files files) s name p → IsPartFile (known_files files) r name q → table_of_part p ≡ table_of_part q
 one_table files s r name p q same is also =
     let here = one_content files name is.bytes also.bytes is.content.0 also.content.0 in
     let both : ◌≡◌ {A = Result Relation RowRefusal} (Ok p.rows) (Ok q.rows) =
@@ -119,74 +119,74 @@ one_table files s r name p q same is also =
     let (header, records, all, columns, means, one) =
     subst (λ (b : List ℕ). HasScheme s b p.scheme) here is.columns in
     let (others, rest, all_also, more, means_also, two) = also.columns in
-    let scheme : places p.scheme ≡ places q.scheme =
-    one_scheme s r also.bytes (places p.scheme) (places q.scheme) same header others records rest columns more all
+    let scheme : attributes p.scheme ≡ attributes q.scheme =
+    one_scheme s r also.bytes (attributes p.scheme) (attributes q.scheme) same header others records rest columns more all
     all_also means means_also one two in
-    ap (λ (x : Places). with_scheme x p.rows) scheme ∙ ap (λ (r : Relation). with_scheme (places q.scheme) r) rows
+    ap (λ (x : Attributes). with_scheme x p.rows) scheme ∙ ap (λ (r : Relation). with_scheme (attributes q.scheme) r) rows
 
-tables_alike : (files : Files) (s r : Schema) (names : List (List ℕ)) (ps qs : List Part) → AreSame s r
-    → ArePartFiles (told files) s names ps → ArePartFiles (told files) r names qs → tables_of ps ≡ tables_of qs
+tables_alike : (files : Files) (s r : Schema) (names : List (List ℕ)) (ps qs : List PartialRows) → AreSame s r
+    → ArePartFiles (known_files files) s names ps → ArePartFiles (known_files files) r names qs → tables_of ps ≡ tables_of qs
 tables_alike files s r [] [] [] same are also = refl
 tables_alike files s r [] [] (q ∷ qs) same are also = absurd also
 tables_alike files s r [] (p ∷ ps) qs same are also = absurd are
 tables_alike files s r (name ∷ names) [] qs same are also = absurd are
 tables_alike files s r (name ∷ names) (p ∷ ps) [] same are also = absurd also
 tables_alike files s r (name ∷ names) (p ∷ ps) (q ∷ qs) same are also =
-    ap (λ (t : Table). t ∷ tables_of ps) (one_table files s r name p q same are.0 also.0)
-    ∙ ap (λ (ts : List Table). table_of_part q ∷ ts) (tables_alike files s r names ps qs same are.1 also.1)
+    ap (λ (t : PartialRelation). t ∷ tables_of ps) (one_table files s r name p q same are.0 also.0)
+    ∙ ap (λ (ts : List PartialRelation). table_of_part q ∷ ts) (tables_alike files s r names ps qs same are.1 also.1)
 
 -- the part of a file that stands among the names
-part_at : (files : Files) (s : Schema) (names : List (List ℕ)) (ps : List Part) (i : ℕ) (name : List ℕ)
-    → ArePartFiles (told files) s names ps → slice_get names i ≡ Some name
-    → (p : Part) × IsPartFile (told files) s name p
+part_at : (files : Files) (s : Schema) (names : List (List ℕ)) (ps : List PartialRows) (i : ℕ) (name : List ℕ)
+    → ArePartFiles (known_files files) s names ps → slice_get names i ≡ Some name
+    → (p : PartialRows) × IsPartFile (known_files files) s name p
 part_at files s [] ps i name are stands = let never : None ≡ Some name = stands in cc
 part_at files s (first ∷ names) [] i name are stands = absurd are
 part_at files s (first ∷ names) (p ∷ ps) zero name are stands =
     let here : first ≡ name = let both : Some first ≡ Some name = stands in cc in
-    (p, subst (λ (n : List ℕ). IsPartFile (told files) s n p) here are.0)
+    (p, subst (λ (n : List ℕ). IsPartFile (known_files files) s n p) here are.0)
 part_at files s (first ∷ names) (p ∷ ps) (suc i) name are stands = part_at files s names ps i name are.1 stands
 
-after_parts : (files : Files) (s r : Schema) (names : List (List ℕ)) (ps : List Part) (rest : List Part → Allowed)
-    (answer : Answer)
-    → AreSame s r → ArePartFiles (told files) s names ps
-    → ((qs : List Part) → tables_of ps ≡ tables_of qs → rest qs answer → IsYesOrNo answer.status)
-    → WithParts (told files) r names rest answer → IsYesOrNo answer.status
-after_parts files s r names ps rest answer same are go (inl (first, stop)) =
-    let (p, is) = part_at files s names ps first.place first.name are first.stands in
-    absurd (part_goes files s r first.name p answer same is stop)
-after_parts files s r names ps rest answer same are go (inr (qs, also, more)) =
+after_parts : (files : Files) (s r : Schema) (names : List (List ℕ)) (ps : List PartialRows) (rest : List PartialRows → Allowed)
+    (response : ResponseValue)
+    → AreSame s r → ArePartFiles (known_files files) s names ps
+    → ((qs : List PartialRows) → tables_of ps ≡ tables_of qs → rest qs response → IsYesOrNo response.status)
+    → WithParts (known_files files) r names rest response → IsYesOrNo response.status
+after_parts files s r names ps rest response same are go (inl (first, exit)) =
+    let (p, is) = part_at files s names ps first.position first.name are first.stands in
+    absurd (part_goes files s r first.name p response same is exit)
+after_parts files s r names ps rest response same are go (inr (qs, also, more)) =
     go qs (tables_alike files s r names ps qs same are also) more
 
 -- ---- the join
-joins_tables : (n : ℕ) (r : Schema) (tables : List Table) (answer : Answer) → width_of r ≡ n
-    → Covers n (plan_of_tables tables) → IsWithinLimit n MOST_JOINED_ROWS tables → JoinsTables r tables answer
-    → IsYesOrNo answer.status
-joins_tables n r tables answer width covers small (inl (rows, is, says)) = inl (ap (λ (a : Answer). a.status) says)
-joins_tables n r tables answer width covers small (inr (inl (a, first, says))) =
+joins_tables : (n : ℕ) (r : Schema) (tables : List PartialRelation) (response : ResponseValue) → width_of r ≡ n
+    → Covers n (plan_of_tables tables) → IsWithinLimit n MOST_JOINED_ROWS tables → JoinsTables r tables response
+    → IsYesOrNo response.status
+joins_tables n r tables response width covers small (inl (rows, is, says)) = inl (ap (λ (a : ResponseValue). a.status) says)
+joins_tables n r tables response width covers small (inr (inl (a, first, says))) =
     absurd (first.uncovered (covers a (omega (arith, width, first.within))))
-joins_tables n r tables answer width covers small (inr (inr (k, large, says))) =
+joins_tables n r tables response width covers small (inr (inr (k, large, says))) =
     let few = subst (λ (m : ℕ). IsWithinLimit m MOST_JOINED_ROWS tables) (sym width) small in
     absurd (over_and_under _ MOST_JOINED_ROWS (few k large.1.some large.1.among) large.1.beyond)
   where
     over_and_under : (m most : ℕ) → m ≤ most → most < m → ⊥
     over_and_under m most few many = omega (arith, few, many)
 
-rejoin_asks : (files : Files) (name : List ℕ) (names : List (List ℕ)) (answer : Answer) → are_few names ≡ true
-    → Answers (told files) (codes "rejoin" ∷ name ∷ names) answer
-    → WithSchema (told files) name (λ r. Rejoins (told files) r names) answer
+rejoin_asks : (files : Files) (name : List ℕ) (names : List (List ℕ)) (response : ResponseValue) → are_few names ≡ true
+    → Answers (known_files files) (codes "rejoin" ∷ name ∷ names) response
+    → WithSchema (known_files files) name (λ r. Rejoins (known_files files) r names) response
 unfolding form_of form_over_schema schema_and_few Performs Does
-rejoin_asks files name names answer few answered = (rw few at answered)
+rejoin_asks files name names response few answered = (rw few at answered)
 
-pub rejoin_answered : (files : Files) (name : List ℕ) (names : List (List ℕ)) (schema : Schema) (parts : List Part)
-    → IsSchemaFile (told files) name schema → are_few names ≡ true → ArePartFiles (told files) schema names parts
+pub rejoin_answered : (files : Files) (name : List ℕ) (names : List (List ℕ)) (schema : Schema) (parts : List PartialRows)
+    → IsSchemaFile (known_files files) name schema → are_few names ≡ true → ArePartFiles (known_files files) schema names parts
     → Covers (width_of schema) (plan_of_tables (tables_of parts))
     → IsWithinLimit (width_of schema) MOST_JOINED_ROWS (tables_of parts)
     → IsAnswered files (codes "rejoin" ∷ name ∷ names)
-rejoin_answered files name names schema parts file few are covers small answer answered =
-    after_schema files name schema (λ r. Rejoins (told files) r names) answer file
-    (λ r same more. after_parts files schema r names parts (λ qs. JoinsTables r (tables_of qs)) answer same are
-    (λ qs is found. joins_tables (width_of schema) r (tables_of qs) answer
+rejoin_answered files name names schema parts file few are covers small response answered =
+    after_schema files name schema (λ r. Rejoins (known_files files) r names) response file
+    (λ r same more. after_parts files schema r names parts (λ qs. JoinsTables r (tables_of qs)) response same are
+    (λ qs is found. joins_tables (width_of schema) r (tables_of qs) response
     (ap (λ (ns : List (List ℕ)). length ns) (sym (names_same schema r same)))
-    (subst (λ (ts : List Table). Covers (width_of schema) (plan_of_tables ts)) is covers)
-    (subst (λ (ts : List Table). IsWithinLimit (width_of schema) MOST_JOINED_ROWS ts) is small) found) more)
-    (rejoin_asks files name names answer few answered)
+    (subst (λ (ts : List PartialRelation). Covers (width_of schema) (plan_of_tables ts)) is covers)
+    (subst (λ (ts : List PartialRelation). IsWithinLimit (width_of schema) MOST_JOINED_ROWS ts) is small) found) more)
+    (rejoin_asks files name names response few answered)

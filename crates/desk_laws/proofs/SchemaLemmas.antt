@@ -1,8 +1,8 @@
 -- What a text spells rests on the names and the dependencies of the schema alone.
 use Rattle.std.proofs.Common.{◌≡◌, ℕ, List, [], ◌∷◌, ◌++◌, Ok, Err, refl, sym, ◌∙◌, ap, subst, slice_get}
 use Rattle.std.specs.Prelude.{◌&&◌, if◌then◌else◌, ok_or, length}
-use Rattle.attr_sets.specs.Places.{Places, below, union, minus}
-use Rattle.attr_sets.specs.Sets.{is_within}
+use Rattle.attr_sets.specs.Attributes.{Attributes, below, union, difference}
+use Rattle.attr_sets.specs.Sets.{is_subset}
 use Rattle.dep_model.specs.declared.schema.Schema.{Schema}
 use Rattle.dep_model.specs.Dependencies.{Dependency, fd, mvd}
 use Rattle.dep_model.specs.Schemas.{names_of, universe_of, theory_of}
@@ -22,22 +22,22 @@ pub record AreAlike (s r : Schema) : Type 0 where
 universe_alike : (s r : Schema) → AreAlike s r → universe_of s ≡ universe_of r
 universe_alike s r alike = ap (λ names. below (length names)) alike.names
 
-inside_alike : (s r : Schema) (x : Places) → AreAlike s r → is_inside s x ≡ is_inside r x
-inside_alike s r x alike = ap (is_within x) (universe_alike s r alike)
+inside_alike : (s r : Schema) (x : Attributes) → AreAlike s r → is_inside s x ≡ is_inside r x
+inside_alike s r x alike = ap (is_subset x) (universe_alike s r alike)
 
 leaf_alike : (s r : Schema) (rule : Leaf) → AreAlike s r → leaf_conclusion s rule ≡ leaf_conclusion r rule
 leaf_alike s r (given k) alike = ap (λ ds. ok_or (slice_get ds k) NoSuchGiven) alike.theory
-leaf_alike s r (reflexivity x y) alike = ap (λ inside. if inside && is_within y x then Ok (fd x y) else Err NotWithin) (inside_alike s r x alike)
-leaf_alike s r (mreflexivity x y) alike = ap (λ inside. if inside && is_within y x then Ok (mvd x y) else Err NotWithin) (inside_alike s r x alike)
+leaf_alike s r (reflexivity x y) alike = ap (λ inside. if inside && is_subset y x then Ok (fd x y) else Err NotWithin) (inside_alike s r x alike)
+leaf_alike s r (mreflexivity x y) alike = ap (λ inside. if inside && is_subset y x then Ok (mvd x y) else Err NotWithin) (inside_alike s r x alike)
 
 step_alike : (s r : Schema) (rule : Step) (d : Dependency) → AreAlike s r → step_conclusion s rule d ≡ step_conclusion r rule d
 step_alike s r (augmentation z) (fd x y) alike = ap (λ inside. if inside then Ok (fd (union x z) (union y z)) else Err NotWithin) (inside_alike s r z alike)
 step_alike s r (augmentation z) (mvd x y) alike = refl
 step_alike s r complementation (fd x y) alike = refl
-step_alike s r complementation (mvd x y) alike = ap (λ universe. Ok (mvd x (minus universe (union x y)))) (universe_alike s r alike)
+step_alike s r complementation (mvd x y) alike = ap (λ universe. Ok (mvd x (difference universe (union x y)))) (universe_alike s r alike)
 step_alike s r (maugmentation w z) (fd x y) alike = refl
 step_alike s r (maugmentation w z) (mvd x y) alike =
-    ap (λ inside. if inside && is_within z w then Ok (mvd (union x w) (union y z)) else Err NotWithin) (inside_alike s r w alike)
+    ap (λ inside. if inside && is_subset z w then Ok (mvd (union x w) (union y z)) else Err NotWithin) (inside_alike s r w alike)
 step_alike s r replication (fd x y) alike = refl
 step_alike s r replication (mvd x y) alike = refl
 

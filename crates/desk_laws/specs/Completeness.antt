@@ -1,22 +1,22 @@
 -- Words that are answered, and calls in which nothing fails: for the laws of desk_laws. `Desk` does
 -- not cite it.
 use Rattle.std.specs.Prelude.{◌≡◌, ◌⊎◌, ℕ, List, Some}
-use Rattle.attr_sets.specs.Places.{Places}
+use Rattle.attr_sets.specs.Attributes.{Attributes}
 use Rattle.dep_model.specs.Schemas.{width_of, theory_of}
 use Rattle.dep_model.specs.declared.schema.Schema.{Schema}
-use Rattle.form_tests.specs.declared.forms.Form.{Form}
-use Rattle.form_tests.specs.declared.forms.Form.TheVariants.{Third, Bcnf, Fourth}
+use Rattle.normal_forms.specs.declared.forms.Form.{Form}
+use Rattle.normal_forms.specs.declared.forms.Form.TheVariants.{Third, Bcnf, Fourth}
 use Rattle.split_forms.specs.Splitting.{IsTooWideAt, HasTooManySchemes}
 use Rattle.desk_cli.specs.declared.decomposition.TheConstants.{MOST_SPLIT_SCHEMES}
-use Rattle.desk_outside.specs.Causes.{Rose}
+use Rattle.desk_outside.specs.Causes.{ErrorCountIncreased}
 use Rattle.desk_outside.specs.Files.{Files}
 use Rattle.desk_cli.specs.declared.status.Status.{Status}
 use Rattle.desk_cli.specs.declared.status.Status.TheVariants.{Yes, No}
-use Rattle.desk_cli.specs.Answers.{Answer}
-use Rattle.desk_cli.specs.Desk.{ShelfInCall, SinkInCall}
-use Rattle.desk_cli.specs.Endings.{TargetsInCall, NoneFails}
+use Rattle.desk_cli.specs.ResponseValues.{ResponseValue}
+use Rattle.desk_cli.specs.Desk.{FileSourceInCall, SinkInCall}
+use Rattle.desk_cli.specs.Outcomes.{DestinationsInCall, NoneFails}
 use Rattle.desk_cli.specs.Performs.{Answers}
-use Rattle.desk_cli.specs.Readings.{told}
+use Rattle.desk_cli.specs.Readings.{known_files}
 
 -- yes or no
 abbrev pub IsYesOrNo : Status → Type 0
@@ -24,19 +24,19 @@ IsYesOrNo status = (status ≡ Yes) ⊎ (status ≡ No)
 
 -- over these files, each answer that the words may have is yes or no
 abbrev pub IsAnswered : Files → List (List ℕ) → Type 0
-IsAnswered files words = (answer : Answer) → Answers (told files) words answer → IsYesOrNo answer.status
+IsAnswered files words = (response : ResponseValue) → Answers (known_files files) words response → IsYesOrNo response.status
 
--- the shelf told that it holds these files, and no count of faults rose
-pub record FailsNowhere (files : Files) (shelf : ShelfInCall) (sink : SinkInCall) (targets : TargetsInCall)
+-- it is known that the file source holds these files, and no error count increased
+pub record FailsNowhere (files : Files) (source : FileSourceInCall) (sink : SinkInCall) (destinations : DestinationsInCall)
     : Type 0 where
-  pub holds : shelf.files ≡ Some files
-  pub reads : Rose shelf.before shelf.after → ⊥
-  pub writes : Rose sink.before sink.after → ⊥
-  pub feeds : NoneFails targets
+  pub holds : source.files ≡ Some files
+  pub reads : ErrorCountIncreased source.before source.after → ⊥
+  pub writes : ErrorCountIncreased sink.before sink.after → ⊥
+  pub feeds : NoneFails destinations
 
 -- splitting a schema comes to no scheme that is too wide, and to no more schemes than are allowed
 pub record IsSplittable (schema : Schema) (form : Form) : Type 0 where
-  pub narrow : (scheme : Places)
+  pub narrow : (scheme : Attributes)
       → IsTooWideAt (width_of schema) (theory_of schema) form MOST_SPLIT_SCHEMES scheme → ⊥
   pub few : HasTooManySchemes (width_of schema) (theory_of schema) form MOST_SPLIT_SCHEMES → ⊥
 

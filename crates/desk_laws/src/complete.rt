@@ -1,36 +1,37 @@
 //! Where the words form a command, its files and its goal have their meaning, and nothing fails, a call
-//! ends with yes or no, or wants memory. There is a law for each command, and one for the call.
+//! ends with yes or no, or runs out of memory. There is a law for each command, and one for the call.
 
 ghost use Rattle.std.specs.Prelude.{◌≡◌, ℕ, List, [], ◌∷◌, Result, Ok, codes};
-ghost use Rattle.attr_sets.specs.Places.{Places};
+ghost use Rattle.attr_sets.specs.Attributes.{Attributes};
 ghost use Rattle.dep_model.specs.Dependencies.{Dependency};
 ghost use Rattle.dep_model.specs.Tuples.{Relation};
-ghost use Rattle.dep_model.specs.declared.memory.WantMemory.{WantMemory};
+ghost use Rattle.dep_model.specs.declared.memory.OutOfMemory.{OutOfMemory};
 ghost use Rattle.dep_model.specs.declared.schema.Schema.{Schema};
 ghost use Rattle.derivation.specs.Trees.{Tree};
 ghost use Rattle.key_listing.specs.Refusals.{IsTooWide};
 ghost use Rattle.desk_outside.specs.Files.{Files};
 ghost use Rattle.desk_cli.specs.declared.status.Status.{Status};
-ghost use Rattle.desk_cli.specs.Desk.{Desk, ShelfInCall, SinkInCall};
-ghost use Rattle.desk_cli.specs.Endings.{targets_in_call};
+ghost use Rattle.desk_cli.specs.Desk.{Desk, FileSourceInCall, SinkInCall};
+ghost use Rattle.desk_cli.specs.Outcomes.{destinations_in_call};
 ghost use Rattle.desk_cli.specs.Inputs.{IsSchemaFile, IsGoal, IsProofFile};
 ghost use Rattle.desk_cli.specs.Joins.{IsTooLarge};
 ghost use Rattle.desk_cli.specs.Keys.{HasManyKeys};
 ghost use Rattle.desk_cli.specs.Plans.{IsPlanFile};
-ghost use Rattle.desk_cli.specs.Readings.{told};
+ghost use Rattle.desk_cli.specs.Readings.{known_files};
 ghost use Rattle.desk_cli.specs.Rows.{IsRowsFile};
 ghost use Rattle.desk_laws.specs.Completeness.{IsYesOrNo, IsAnswered, FailsNowhere};
 
-use targets::Target;
+use destinations::Destination;
 
-/// Where nothing fails, a call whose words are answered over the files ends with yes or no, or wants
-/// memory.
-pub fn answered_calls_end<T: Target>()
-    ensures law { (words : List (List ℕ)) (files : Files) (shelf : ShelfInCall) (sink : SinkInCall)
+/// Where nothing fails, a call whose words are answered over the files ends with yes or no, or runs
+/// out of memory.
+pub fn answered_calls_end<T: Destination>()
+    ensures law { (words : List (List ℕ)) (files : Files) (source : FileSourceInCall)
+        (sink : SinkInCall)
         (old new : List T)
-        (result : Result Status WantMemory)
-        → Desk words shelf sink (targets_in_call T.tells T.finished T.faults old new) result
-        → FailsNowhere files shelf sink (targets_in_call T.tells T.finished T.faults old new)
+        (result : Result Status OutOfMemory)
+        → Desk words source sink (destinations_in_call T.is_known T.finished T.faults old new) result
+        → FailsNowhere files source sink (destinations_in_call T.is_known T.finished T.faults old new)
         → IsAnswered files words
         → (status : Status) → result ≡ Ok status → IsYesOrNo status }
 {}
@@ -38,14 +39,14 @@ pub fn answered_calls_end<T: Target>()
 /// `implies` is answered where the schema file means a schema and the goal a dependency.
 pub fn implies_is_answered()
     ensures law { (files : Files) (name goal : List ℕ) (schema : Schema) (dep : Dependency)
-        → IsSchemaFile (told files) name schema → IsGoal schema goal dep
+        → IsSchemaFile (known_files files) name schema → IsGoal schema goal dep
         → IsAnswered files (codes "implies" ∷ name ∷ goal ∷ []) }
 {}
 
 /// `check proof` is answered where also the certificate file spells a tree.
 pub fn check_proof_is_answered()
     ensures law { (files : Files) (name file goal : List ℕ) (schema : Schema) (tree : Tree) (dep : Dependency)
-        → IsSchemaFile (told files) name schema → IsProofFile (told files) schema file tree
+        → IsSchemaFile (known_files files) name schema → IsProofFile (known_files files) schema file tree
         → IsGoal schema goal dep
         → IsAnswered files (codes "check" ∷ codes "proof" ∷ name ∷ file ∷ goal ∷ []) }
 {}
@@ -53,35 +54,35 @@ pub fn check_proof_is_answered()
 /// `check rows` is answered where the schema file means a schema and the CSV file rows.
 pub fn check_rows_is_answered()
     ensures law { (files : Files) (name file : List ℕ) (schema : Schema) (rows : Relation)
-        → IsSchemaFile (told files) name schema → IsRowsFile (told files) schema file rows
+        → IsSchemaFile (known_files files) name schema → IsRowsFile (known_files files) schema file rows
         → IsAnswered files (codes "check" ∷ codes "rows" ∷ name ∷ file ∷ []) }
 {}
 
 /// `check join` is answered where the schema file means a schema, the plan file a plan, and the chase
 /// comes to no tableau of too many rows.
 pub fn check_join_is_answered()
-    ensures law { (files : Files) (name file : List ℕ) (schema : Schema) (plan : List Places)
-        → IsSchemaFile (told files) name schema → IsPlanFile (told files) schema file plan
+    ensures law { (files : Files) (name file : List ℕ) (schema : Schema) (plan : List Attributes)
+        → IsSchemaFile (known_files files) name schema → IsPlanFile (known_files files) schema file plan
         → (IsTooLarge schema plan → ⊥)
         → IsAnswered files (codes "check" ∷ codes "join" ∷ name ∷ file ∷ []) }
 {}
 
 /// `cover` is answered where the schema file means a schema.
 pub fn cover_is_answered()
-    ensures law { (files : Files) (name : List ℕ) (schema : Schema) → IsSchemaFile (told files) name schema
+    ensures law { (files : Files) (name : List ℕ) (schema : Schema) → IsSchemaFile (known_files files) name schema
         → IsAnswered files (codes "cover" ∷ name ∷ []) }
 {}
 
 /// `keys` is answered where also the universe is not too wide, and has no more keys than are listed.
 pub fn keys_is_answered()
-    ensures law { (files : Files) (name : List ℕ) (schema : Schema) → IsSchemaFile (told files) name schema
+    ensures law { (files : Files) (name : List ℕ) (schema : Schema) → IsSchemaFile (known_files files) name schema
         → (IsTooWide schema → ⊥) → (HasManyKeys schema → ⊥)
         → IsAnswered files (codes "keys" ∷ name ∷ []) }
 {}
 
 /// `synthesize` is answered where the schema file means a schema.
 pub fn synthesize_is_answered()
-    ensures law { (files : Files) (name : List ℕ) (schema : Schema) → IsSchemaFile (told files) name schema
+    ensures law { (files : Files) (name : List ℕ) (schema : Schema) → IsSchemaFile (known_files files) name schema
         → IsAnswered files (codes "synthesize" ∷ name ∷ []) }
 {}
 
@@ -89,6 +90,6 @@ pub fn synthesize_is_answered()
 pub fn help_is_answered()
     ensures help { (files : Files) → IsAnswered files (codes "help" ∷ []) }
     ensures long { (files : Files) → IsAnswered files (codes "--help" ∷ []) }
-    ensures short { (files : Files) → IsAnswered files (codes "-h" ∷ []) }
+    ensures dash_h { (files : Files) → IsAnswered files (codes "-h" ∷ []) }
     ensures version { (files : Files) → IsAnswered files (codes "--version" ∷ []) }
 {}

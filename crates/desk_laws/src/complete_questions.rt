@@ -1,7 +1,7 @@
 //! The same for the commands on sets, keys of a plan, and two schemas.
 
 ghost use Rattle.std.specs.Prelude.{ℕ, List, [], ◌∷◌, codes, All};
-ghost use Rattle.attr_sets.specs.Places.{Places};
+ghost use Rattle.attr_sets.specs.Attributes.{Attributes};
 ghost use Rattle.attr_sets.specs.declared.set.AttrSet.{AttrSet};
 ghost use Rattle.dep_model.specs.Schemas.{width_of, theory_of};
 ghost use Rattle.dep_model.specs.declared.schema.Schema.{Schema};
@@ -11,21 +11,21 @@ ghost use Rattle.schema_match.specs.Columns.{SameNames};
 ghost use Rattle.desk_outside.specs.Files.{Files};
 ghost use Rattle.desk_cli.specs.Inputs.{IsSchemaFile, IsSetText};
 ghost use Rattle.desk_cli.specs.Plans.{IsPlanFile};
-ghost use Rattle.desk_cli.specs.Readings.{told};
+ghost use Rattle.desk_cli.specs.Readings.{known_files};
 ghost use Rattle.desk_laws.specs.Completeness.{IsAnswered};
 
 /// `basis` is answered where the schema file means a schema and the text a set.
 pub fn basis_is_answered()
-    ensures law { (files : Files) (name set : List ℕ) (schema : Schema) (x : Places)
-        → IsSchemaFile (told files) name schema → IsSetText schema set x
+    ensures law { (files : Files) (name set : List ℕ) (schema : Schema) (x : Attributes)
+        → IsSchemaFile (known_files files) name schema → IsSetText schema set x
         → IsAnswered files (codes "basis" ∷ name ∷ set ∷ []) }
 {}
 
 /// `keys` of a plan is answered where the schema file means a schema, the plan file a plan, and each scheme
 /// of the plan is not too wide and has no more keys than are listed.
 pub fn keys_of_plan_is_answered()
-    ensures law { (files : Files) (name file : List ℕ) (schema : Schema) (plan : List Places)
-        → IsSchemaFile (told files) name schema → IsPlanFile (told files) schema file plan
+    ensures law { (files : Files) (name file : List ℕ) (schema : Schema) (plan : List Attributes)
+        → IsSchemaFile (known_files files) name schema → IsPlanFile (known_files files) schema file plan
         → All (λ scheme. IsWideScheme scheme → ⊥) plan
         → All (λ scheme. (found : List AttrSet)
         → AreManyKeys (width_of schema) (theory_of schema) scheme found → ⊥) plan
@@ -35,7 +35,7 @@ pub fn keys_of_plan_is_answered()
 /// `check same` is answered where the two schema files mean schemas over the same names.
 pub fn check_same_is_answered()
     ensures law { (files : Files) (name other_name : List ℕ) (schema other : Schema)
-        → IsSchemaFile (told files) name schema → IsSchemaFile (told files) other_name other
+        → IsSchemaFile (known_files files) name schema → IsSchemaFile (known_files files) other_name other
         → SameNames schema other
         → IsAnswered files (codes "check" ∷ codes "same" ∷ name ∷ other_name ∷ []) }
 {}

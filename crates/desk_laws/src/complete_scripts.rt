@@ -1,21 +1,21 @@
 //! The same for the commands that print scripts and pictures.
 
 ghost use Rattle.std.specs.Prelude.{ℕ, List, [], ◌∷◌, IsTrue, codes};
-ghost use Rattle.attr_sets.specs.Places.{Places};
+ghost use Rattle.attr_sets.specs.Attributes.{Attributes};
 ghost use Rattle.dep_model.specs.declared.schema.Schema.{Schema};
-ghost use Rattle.form_tests.specs.declared.forms.Form.TheVariants as forms;
+ghost use Rattle.normal_forms.specs.declared.forms.Form.TheVariants as forms;
 ghost use Rattle.desk_outside.specs.Files.{Files};
 ghost use Rattle.table_scripts.specs.Naming.{is_table_name};
 ghost use Rattle.desk_cli.specs.Inputs.{IsSchemaFile};
 ghost use Rattle.desk_cli.specs.Joins.{IsTooLarge};
 ghost use Rattle.desk_cli.specs.Plans.{IsPlanFile};
-ghost use Rattle.desk_cli.specs.Readings.{told};
+ghost use Rattle.desk_cli.specs.Readings.{known_files};
 ghost use Rattle.desk_laws.specs.Completeness.{IsAnswered, HasPlanInForm};
 
 /// `sql check` is answered where the schema file means a schema and the word names a table.
 pub fn sql_check_is_answered()
     ensures law { (files : Files) (name table : List ℕ) (schema : Schema)
-        → IsSchemaFile (told files) name schema
+        → IsSchemaFile (known_files files) name schema
         → IsTrue (is_table_name table)
         → IsAnswered files (codes "sql" ∷ codes "check" ∷ name ∷ table ∷ []) }
 {}
@@ -24,19 +24,19 @@ pub fn sql_check_is_answered()
 /// a plan whose chase keeps within its limit.
 pub fn sql_migrate_is_answered()
     ensures third { (files : Files) (name table : List ℕ) (schema : Schema)
-        → IsSchemaFile (told files) name schema → IsTrue (is_table_name table)
+        → IsSchemaFile (known_files files) name schema → IsTrue (is_table_name table)
         → HasPlanInForm schema forms.Third
         → IsAnswered files (codes "sql" ∷ codes "migrate" ∷ codes "3nf" ∷ name ∷ table ∷ []) }
     ensures bcnf { (files : Files) (name table : List ℕ) (schema : Schema)
-        → IsSchemaFile (told files) name schema → IsTrue (is_table_name table)
+        → IsSchemaFile (known_files files) name schema → IsTrue (is_table_name table)
         → HasPlanInForm schema forms.Bcnf
         → IsAnswered files (codes "sql" ∷ codes "migrate" ∷ codes "bcnf" ∷ name ∷ table ∷ []) }
     ensures fourth { (files : Files) (name table : List ℕ) (schema : Schema)
-        → IsSchemaFile (told files) name schema → IsTrue (is_table_name table)
+        → IsSchemaFile (known_files files) name schema → IsTrue (is_table_name table)
         → HasPlanInForm schema forms.Fourth
         → IsAnswered files (codes "sql" ∷ codes "migrate" ∷ codes "4nf" ∷ name ∷ table ∷ []) }
-    ensures plan { (files : Files) (name file table : List ℕ) (schema : Schema) (plan : List Places)
-        → IsSchemaFile (told files) name schema → IsPlanFile (told files) schema file plan
+    ensures plan { (files : Files) (name file table : List ℕ) (schema : Schema) (plan : List Attributes)
+        → IsSchemaFile (known_files files) name schema → IsPlanFile (known_files files) schema file plan
         → IsTrue (is_table_name table) → (IsTooLarge schema plan → ⊥)
         → IsAnswered files (codes "sql" ∷ codes "migrate" ∷ codes "plan" ∷ name ∷ file ∷ table ∷ []) }
 {}
@@ -45,15 +45,15 @@ pub fn sql_migrate_is_answered()
 /// limits, or the plan file means a plan.
 pub fn draw_is_answered()
     ensures third { (files : Files) (name : List ℕ) (schema : Schema)
-        → IsSchemaFile (told files) name schema → HasPlanInForm schema forms.Third
+        → IsSchemaFile (known_files files) name schema → HasPlanInForm schema forms.Third
         → IsAnswered files (codes "draw" ∷ codes "3nf" ∷ name ∷ []) }
     ensures bcnf { (files : Files) (name : List ℕ) (schema : Schema)
-        → IsSchemaFile (told files) name schema → HasPlanInForm schema forms.Bcnf
+        → IsSchemaFile (known_files files) name schema → HasPlanInForm schema forms.Bcnf
         → IsAnswered files (codes "draw" ∷ codes "bcnf" ∷ name ∷ []) }
     ensures fourth { (files : Files) (name : List ℕ) (schema : Schema)
-        → IsSchemaFile (told files) name schema → HasPlanInForm schema forms.Fourth
+        → IsSchemaFile (known_files files) name schema → HasPlanInForm schema forms.Fourth
         → IsAnswered files (codes "draw" ∷ codes "4nf" ∷ name ∷ []) }
-    ensures plan { (files : Files) (name file : List ℕ) (schema : Schema) (plan : List Places)
-        → IsSchemaFile (told files) name schema → IsPlanFile (told files) schema file plan
+    ensures plan { (files : Files) (name file : List ℕ) (schema : Schema) (plan : List Attributes)
+        → IsSchemaFile (known_files files) name schema → IsPlanFile (known_files files) schema file plan
         → IsAnswered files (codes "draw" ∷ codes "plan" ∷ name ∷ file ∷ []) }
 {}

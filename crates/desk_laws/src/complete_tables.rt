@@ -1,17 +1,17 @@
 //! The same for the commands on normal forms, plans and tables.
 
 ghost use Rattle.std.specs.Prelude.{◌≡◌, ◌<◌, ◌≤◌, ℕ, true, List, [], ◌∷◌, codes, All};
-ghost use Rattle.attr_sets.specs.Places.{Places};
+ghost use Rattle.attr_sets.specs.Attributes.{Attributes};
 ghost use Rattle.armstrong_rel.specs.Refusals.{IsFirstMvd};
 ghost use Rattle.armstrong_rel.specs.declared.refusal.TheConstants.{WIDEST_EXHIBITED};
-ghost use Rattle.csv_rows.specs.declared.part.Part.{Part};
+ghost use Rattle.csv_rows.specs.declared.part.PartialRows.{PartialRows};
 ghost use Rattle.dep_model.specs.Projections.{Covers};
 ghost use Rattle.dep_model.specs.Schemas.{width_of, theory_of};
 ghost use Rattle.dep_model.specs.Tuples.{Relation};
 ghost use Rattle.dep_model.specs.declared.schema.Schema.{Schema};
-ghost use Rattle.fd_discovery.specs.declared.headed.Headed.{Headed};
-ghost use Rattle.form_tests.specs.Chosen.{IsWide};
-ghost use Rattle.form_tests.specs.declared.forms.Form.TheVariants as forms;
+ghost use Rattle.fd_discovery.specs.declared.headed_rows.Headed.{Headed};
+ghost use Rattle.normal_forms.specs.Chosen.{IsWide};
+ghost use Rattle.normal_forms.specs.declared.forms.Form.TheVariants as forms;
 ghost use Rattle.table_join.specs.Answers.{IsWithinLimit};
 ghost use Rattle.table_join.specs.Tables.{tables_of, plan_of_tables};
 ghost use Rattle.desk_outside.specs.Files.{Files};
@@ -22,7 +22,7 @@ ghost use Rattle.desk_cli.specs.Inputs.{IsSchemaFile};
 ghost use Rattle.desk_cli.specs.Joins.{IsTooLarge};
 ghost use Rattle.desk_words.specs.Numbers.{is_count};
 ghost use Rattle.desk_cli.specs.Plans.{IsPlanFile};
-ghost use Rattle.desk_cli.specs.Readings.{told};
+ghost use Rattle.desk_cli.specs.Readings.{known_files};
 ghost use Rattle.desk_cli.specs.Rejoining.{ArePartFiles};
 ghost use Rattle.desk_cli.specs.Rows.{IsRowsFile};
 ghost use Rattle.desk_laws.specs.Completeness.{IsAnswered, HasPlanInForm};
@@ -30,24 +30,24 @@ ghost use Rattle.desk_laws.specs.Completeness.{IsAnswered, HasPlanInForm};
 /// `check form` is answered where the schema file means a schema, the plan file a plan, and no scheme of
 /// the plan has more attributes than are tested.
 pub fn check_form_is_answered()
-    ensures third { (files : Files) (name file : List ℕ) (schema : Schema) (plan : List Places)
-        → IsSchemaFile (told files) name schema → IsPlanFile (told files) schema file plan
+    ensures third { (files : Files) (name file : List ℕ) (schema : Schema) (plan : List Attributes)
+        → IsSchemaFile (known_files files) name schema → IsPlanFile (known_files files) schema file plan
         → All (λ scheme. IsWide scheme → ⊥) plan
         → IsAnswered files (codes "check" ∷ codes "form" ∷ codes "3nf" ∷ name ∷ file ∷ []) }
-    ensures bcnf { (files : Files) (name file : List ℕ) (schema : Schema) (plan : List Places)
-        → IsSchemaFile (told files) name schema → IsPlanFile (told files) schema file plan
+    ensures bcnf { (files : Files) (name file : List ℕ) (schema : Schema) (plan : List Attributes)
+        → IsSchemaFile (known_files files) name schema → IsPlanFile (known_files files) schema file plan
         → All (λ scheme. IsWide scheme → ⊥) plan
         → IsAnswered files (codes "check" ∷ codes "form" ∷ codes "bcnf" ∷ name ∷ file ∷ []) }
-    ensures fourth { (files : Files) (name file : List ℕ) (schema : Schema) (plan : List Places)
-        → IsSchemaFile (told files) name schema → IsPlanFile (told files) schema file plan
+    ensures fourth { (files : Files) (name file : List ℕ) (schema : Schema) (plan : List Attributes)
+        → IsSchemaFile (known_files files) name schema → IsPlanFile (known_files files) schema file plan
         → All (λ scheme. IsWide scheme → ⊥) plan
         → IsAnswered files (codes "check" ∷ codes "form" ∷ codes "4nf" ∷ name ∷ file ∷ []) }
 {}
 
 /// `check keeps` is answered where the schema file means a schema and the plan file a plan.
 pub fn check_keeps_is_answered()
-    ensures law { (files : Files) (name file : List ℕ) (schema : Schema) (plan : List Places)
-        → IsSchemaFile (told files) name schema → IsPlanFile (told files) schema file plan
+    ensures law { (files : Files) (name file : List ℕ) (schema : Schema) (plan : List Attributes)
+        → IsSchemaFile (known_files files) name schema → IsPlanFile (known_files files) schema file plan
         → IsAnswered files (codes "check" ∷ codes "keeps" ∷ name ∷ file ∷ []) }
 {}
 
@@ -55,13 +55,13 @@ pub fn check_keeps_is_answered()
 /// it meets none.
 pub fn split_is_answered()
     ensures bcnf { (files : Files) (name : List ℕ) (schema : Schema)
-        → IsSchemaFile (told files) name schema → HasPlanInForm schema forms.Bcnf
+        → IsSchemaFile (known_files files) name schema → HasPlanInForm schema forms.Bcnf
         → IsAnswered files (codes "split" ∷ codes "bcnf" ∷ name ∷ []) }
     ensures fourth { (files : Files) (name : List ℕ) (schema : Schema)
-        → IsSchemaFile (told files) name schema → HasPlanInForm schema forms.Fourth
+        → IsSchemaFile (known_files files) name schema → HasPlanInForm schema forms.Fourth
         → IsAnswered files (codes "split" ∷ codes "4nf" ∷ name ∷ []) }
     ensures wide { (files : Files) (name : List ℕ) (schema : Schema)
-        → IsSchemaFile (told files) name schema
+        → IsSchemaFile (known_files files) name schema
         → IsAnswered files (codes "split" ∷ codes "wide-bcnf" ∷ name ∷ []) }
 {}
 
@@ -69,7 +69,7 @@ pub fn split_is_answered()
 /// too wide.
 pub fn exhibit_is_answered()
     ensures law { (files : Files) (name : List ℕ) (schema : Schema)
-        → IsSchemaFile (told files) name schema
+        → IsSchemaFile (known_files files) name schema
         → ((k : ℕ) → IsFirstMvd (theory_of schema) k → ⊥) → (WIDEST_EXHIBITED < width_of schema → ⊥)
         → IsAnswered files (codes "exhibit" ∷ name ∷ []) }
 {}
@@ -78,16 +78,16 @@ pub fn exhibit_is_answered()
 /// limits, or the plan file means a plan whose chase keeps within its limit.
 pub fn ddl_is_answered()
     ensures third { (files : Files) (name : List ℕ) (schema : Schema)
-        → IsSchemaFile (told files) name schema → HasPlanInForm schema forms.Third
+        → IsSchemaFile (known_files files) name schema → HasPlanInForm schema forms.Third
         → IsAnswered files (codes "ddl" ∷ codes "3nf" ∷ name ∷ []) }
     ensures bcnf { (files : Files) (name : List ℕ) (schema : Schema)
-        → IsSchemaFile (told files) name schema → HasPlanInForm schema forms.Bcnf
+        → IsSchemaFile (known_files files) name schema → HasPlanInForm schema forms.Bcnf
         → IsAnswered files (codes "ddl" ∷ codes "bcnf" ∷ name ∷ []) }
     ensures fourth { (files : Files) (name : List ℕ) (schema : Schema)
-        → IsSchemaFile (told files) name schema → HasPlanInForm schema forms.Fourth
+        → IsSchemaFile (known_files files) name schema → HasPlanInForm schema forms.Fourth
         → IsAnswered files (codes "ddl" ∷ codes "4nf" ∷ name ∷ []) }
-    ensures plan { (files : Files) (name file : List ℕ) (schema : Schema) (plan : List Places)
-        → IsSchemaFile (told files) name schema → IsPlanFile (told files) schema file plan
+    ensures plan { (files : Files) (name file : List ℕ) (schema : Schema) (plan : List Attributes)
+        → IsSchemaFile (known_files files) name schema → IsPlanFile (known_files files) schema file plan
         → (IsTooLarge schema plan → ⊥)
         → IsAnswered files (codes "ddl" ∷ codes "plan" ∷ name ∷ file ∷ []) }
 {}
@@ -95,21 +95,22 @@ pub fn ddl_is_answered()
 /// `migrate` is answered where also the CSV file has rows.
 pub fn migrate_is_answered()
     ensures third { (files : Files) (name file : List ℕ) (schema : Schema) (rows : Relation)
-        → IsSchemaFile (told files) name schema → IsRowsFile (told files) schema file rows
+        → IsSchemaFile (known_files files) name schema → IsRowsFile (known_files files) schema file rows
         → HasPlanInForm schema forms.Third
         → IsAnswered files (codes "migrate" ∷ codes "3nf" ∷ name ∷ file ∷ []) }
     ensures bcnf { (files : Files) (name file : List ℕ) (schema : Schema) (rows : Relation)
-        → IsSchemaFile (told files) name schema → IsRowsFile (told files) schema file rows
+        → IsSchemaFile (known_files files) name schema → IsRowsFile (known_files files) schema file rows
         → HasPlanInForm schema forms.Bcnf
         → IsAnswered files (codes "migrate" ∷ codes "bcnf" ∷ name ∷ file ∷ []) }
     ensures fourth { (files : Files) (name file : List ℕ) (schema : Schema) (rows : Relation)
-        → IsSchemaFile (told files) name schema → IsRowsFile (told files) schema file rows
+        → IsSchemaFile (known_files files) name schema → IsRowsFile (known_files files) schema file rows
         → HasPlanInForm schema forms.Fourth
         → IsAnswered files (codes "migrate" ∷ codes "4nf" ∷ name ∷ file ∷ []) }
-    ensures plan { (files : Files) (name plan_file file : List ℕ) (schema : Schema) (plan : List Places)
+    ensures plan { (files : Files) (name plan_file file : List ℕ) (schema : Schema)
+        (plan : List Attributes)
         (rows : Relation)
-        → IsSchemaFile (told files) name schema → IsPlanFile (told files) schema plan_file plan
-        → IsRowsFile (told files) schema file rows → (IsTooLarge schema plan → ⊥)
+        → IsSchemaFile (known_files files) name schema → IsPlanFile (known_files files) schema plan_file plan
+        → IsRowsFile (known_files files) schema file rows → (IsTooLarge schema plan → ⊥)
         → IsAnswered files (codes "migrate" ∷ codes "plan" ∷ name ∷ plan_file ∷ file ∷ []) }
 {}
 
@@ -127,7 +128,7 @@ pub fn sample_is_answered()
 
 /// `discover` is answered where the CSV file has a header that names its columns, and rows under it.
 pub fn discover_is_answered()
-    ensures law { (files : Files) (file : List ℕ) (headed : Headed) → IsHeadedFile (told files) file headed
+    ensures law { (files : Files) (file : List ℕ) (headed : Headed) → IsHeadedFile (known_files files) file headed
         → IsAnswered files (codes "discover" ∷ file ∷ []) }
 {}
 
@@ -135,9 +136,9 @@ pub fn discover_is_answered()
 /// attribute has a column in one of them, and the joins of the first tables keep within their limit.
 pub fn rejoin_is_answered()
     ensures law { (files : Files) (name : List ℕ) (names : List (List ℕ)) (schema : Schema)
-        (parts : List Part)
-        → IsSchemaFile (told files) name schema → are_few names ≡ true
-        → ArePartFiles (told files) schema names parts
+        (parts : List PartialRows)
+        → IsSchemaFile (known_files files) name schema → are_few names ≡ true
+        → ArePartFiles (known_files files) schema names parts
         → Covers (width_of schema) (plan_of_tables (tables_of parts))
         → IsWithinLimit (width_of schema) MOST_JOINED_ROWS (tables_of parts)
         → IsAnswered files (codes "rejoin" ∷ name ∷ names) }

@@ -11,10 +11,10 @@ mod complete_tables;
 
 ghost use Rattle.std.specs.Prelude.{◌≡◌, ◌≤◌, ℕ, List, [], ◌∷◌, length, Some, codes};
 ghost use Rattle.desk_cli.specs.declared.status.Status.TheVariants.{Yes};
-ghost use Rattle.desk_cli.specs.Answers.{Answer};
+ghost use Rattle.desk_cli.specs.ResponseValues.{ResponseValue};
 ghost use Rattle.desk_cli.specs.Performs.{Answers};
-ghost use Rattle.desk_cli.specs.Readings.{told};
-ghost use Rattle.desk_outside.specs.Files.{Files, held};
+ghost use Rattle.desk_cli.specs.Readings.{known_files};
+ghost use Rattle.desk_outside.specs.Files.{Files, bytes_of_file};
 ghost use Rattle.proof_text.specs.declared.text.TheConstants.{MOST_PROOF_BYTES};
 
 pub use complete::{
@@ -33,10 +33,11 @@ pub use complete_tables::{
 /// What `implies` prints after yes, kept in a file, is accepted by `check proof` for the same schema and
 /// goal, where the text is within the limit of certificate files.
 pub fn printed_proof_is_accepted()
-    ensures law { (before after : Files) (schema goal file : List ℕ) (printed : Answer)
-        → Answers (told before) (codes "implies" ∷ schema ∷ goal ∷ []) printed → printed.status ≡ Yes
-        → held after schema ≡ held before schema → held after file ≡ Some printed.text
+    ensures law { (before after : Files) (schema goal file : List ℕ) (printed : ResponseValue)
+        → Answers (known_files before) (codes "implies" ∷ schema ∷ goal ∷ []) printed → printed.status ≡ Yes
+        → bytes_of_file after schema ≡ bytes_of_file before schema → bytes_of_file after file
+        ≡ Some printed.text
         → length printed.text ≤ MOST_PROOF_BYTES
-        → (answer : Answer) → Answers (told after) (codes "check" ∷ codes "proof" ∷ schema ∷ file ∷ goal
-        ∷ []) answer → answer.status ≡ Yes }
+        → (response : ResponseValue) → Answers (known_files after) (codes "check" ∷ codes "proof" ∷ schema ∷ file ∷ goal
+        ∷ []) response → response.status ≡ Yes }
 {}

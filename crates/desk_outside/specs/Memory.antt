@@ -1,14 +1,14 @@
 -- The objects in memory, as contracts see them: for those that tests use. `Desk` does not cite it.
 use Rattle.std.specs.Prelude.{ℕ, ◌-◌, ◌<◌, ◌≤◌, List, [], length, Option, Some, None, slice_get}
 use Rattle.std.specs.Option.{option_map_or}
-use Rattle.desk_outside.specs.declared.word.HeldFile.{HeldFile}
+use Rattle.desk_outside.specs.declared.argument.HeldFile.{HeldFile}
 use Rattle.desk_outside.specs.Files.{Files, StoredFile}
 use Rattle.desk_outside.specs.Folders.{FolderContents}
 use Rattle.desk_outside.specs.Planned.{FaultPlan, new_plan}
 
--- a shelf: its files, what is left of the begun one, how many bytes were taken since it was begun,
--- how many bytes one read gives at most, and its planned faults
-pub record ShelfInMemory : Type 0 where
+-- a file source: its files, what is left of the begun one, how many bytes were taken since it was
+-- begun, how many bytes one read gives at most, and its planned faults
+pub record FileSourceInMemory : Type 0 where
   pub files : Files
   pub left : List ℕ
   pub taken : ℕ
@@ -16,8 +16,8 @@ pub record ShelfInMemory : Type 0 where
   pub planned : FaultPlan
 
 -- nothing is begun or taken, and no call was made
-abbrev pub new_shelf : Files → List ℕ → ℕ → ShelfInMemory
-new_shelf files fails step =
+abbrev pub new_source : Files → List ℕ → ℕ → FileSourceInMemory
+new_source files fails step =
     record { files = files; left = []; taken = 0; step = step; planned = new_plan fails }
 
 -- a sink: the bytes taken, how many it has room for in all, how many one write takes at most, and
@@ -37,15 +37,15 @@ new_sink capacity fails step =
 abbrev pub room : SinkInMemory → ℕ
 room sink = sink.capacity - length sink.contents
 
--- the bytes of the file at this place, where there is one
+-- the bytes of the file at this position, where there is one
 abbrev pub bytes_at : List HeldFile → Option ℕ → List ℕ
 bytes_at files None = []
-bytes_at files (Some place) = option_map_or (λ (file : HeldFile). file.bytes.items) (slice_get files place) []
+bytes_at files (Some position) = option_map_or (λ (file : HeldFile). file.bytes.items) (slice_get files position) []
 
 -- a begun file is one of the files, and no more of it was taken than it has
 abbrev pub IsBegun : List HeldFile → Option ℕ → ℕ → Type 0
 IsBegun files None taken = Unit {0}
-IsBegun files (Some place) taken = (place < length files) × (taken ≤ length (bytes_at files (Some place)))
+IsBegun files (Some position) taken = (position < length files) × (taken ≤ length (bytes_at files (Some position)))
 
 -- a folder: its finished files in the order of their ending, the open one, and its planned faults
 pub record FolderInMemory : Type 0 where

@@ -1,9 +1,9 @@
 ghost use Rattle.std.specs.Prelude.{◌≡◌, ⊤};
 ghost use Rattle.desk_outside.specs.declared.failure.OutsideFault.TheVariants as of_outside;
-ghost use Rattle.desk_outside.specs.declared.failure.LoadRefusal.TheVariants.{CannotRead, Memory};
+ghost use Rattle.desk_outside.specs.declared.failure.LoadRefusal.TheVariants.{CannotRead, OutOfMemory};
 ghost use Rattle.desk_outside.specs.Causes.{refusal_of};
 
-use dep_model::WantMemory;
+use dep_model::OutOfMemory;
 use std::alloc::AllocError;
 use thiserror::Error;
 
@@ -12,7 +12,7 @@ use thiserror::Error;
 #[error("a call failed")]
 pub struct Failed;
 
-/// Why a call of the outside that may want memory did not succeed.
+/// Why a call of the outside that may run out of memory did not succeed.
 #[derive(Clone, Copy, Debug, PartialEq, Eq, Error)]
 pub enum OutsideFault {
     /// It failed.
@@ -20,22 +20,22 @@ pub enum OutsideFault {
     Failed,
     /// It could not take the memory that it needed.
     #[error("out of memory")]
-    Memory,
+    OutOfMemory,
 }
 
 impl From<AllocError> for OutsideFault {
-    ghost from_gives = { λ _ fault. fault ≡ of_outside.Memory };
+    ghost from_gives = { λ _ fault. fault ≡ of_outside.OutOfMemory };
 
     fn from(_error: AllocError) -> Self {
-        OutsideFault::Memory
+        OutsideFault::OutOfMemory
     }
 }
 
-impl From<WantMemory> for OutsideFault {
-    ghost from_gives = { λ _ fault. fault ≡ of_outside.Memory };
+impl From<OutOfMemory> for OutsideFault {
+    ghost from_gives = { λ _ fault. fault ≡ of_outside.OutOfMemory };
 
-    fn from(_error: WantMemory) -> Self {
-        OutsideFault::Memory
+    fn from(_error: OutOfMemory) -> Self {
+        OutsideFault::OutOfMemory
     }
 }
 
@@ -50,7 +50,7 @@ pub enum LoadRefusal {
     TooLong,
     /// There was no memory for its bytes.
     #[error("out of memory")]
-    Memory,
+    OutOfMemory,
 }
 
 impl From<OutsideFault> for LoadRefusal {
@@ -59,7 +59,7 @@ impl From<OutsideFault> for LoadRefusal {
     fn from(fault: OutsideFault) -> Self {
         match fault {
             OutsideFault::Failed => LoadRefusal::CannotRead,
-            OutsideFault::Memory => LoadRefusal::Memory,
+            OutsideFault::OutOfMemory => LoadRefusal::OutOfMemory,
         }
     }
 }
@@ -73,10 +73,10 @@ impl From<Failed> for LoadRefusal {
 }
 
 impl From<AllocError> for LoadRefusal {
-    ghost from_gives = { λ _ refusal. refusal ≡ Memory };
+    ghost from_gives = { λ _ refusal. refusal ≡ OutOfMemory };
 
     fn from(_error: AllocError) -> Self {
-        LoadRefusal::Memory
+        LoadRefusal::OutOfMemory
     }
 }
 

@@ -1,8 +1,8 @@
 ghost use Rattle.std.specs.Prelude.{◌≡◌, ◌≤◌, false, None, IfOk, is_some, length};
 
+use crate::argument::HeldFile;
 use crate::failure::OutsideFault;
 use crate::folder::Folder;
-use crate::word::HeldFile;
 use std::fs::OpenOptions;
 use std::io;
 use std::io::Write;
@@ -10,7 +10,7 @@ use std::rt::Files;
 
 /// The system's current folder.
 ///
-/// It tells nothing of what it holds. A name that is not UTF-8, a write that takes nothing and any
+/// Nothing is known of what it holds. A name that is not UTF-8, a write that takes nothing and any
 /// error of the system are faults, and all are counted. A file of a name that is there is emptied.
 #[derive(Drop)]
 pub struct FileFolder<R: Files + Drop> {
@@ -21,7 +21,7 @@ pub struct FileFolder<R: Files + Drop> {
 
 impl<R: Files + Drop> FileFolder<R> {
     /// The folder that the runtime reaches. No file is open, and no fault is counted.
-    pub fn make(rt: R) -> FileFolder<R>
+    pub fn new(rt: R) -> FileFolder<R>
         ensures is_open { ⟦<FileFolder<R> as Folder>⟧.is_open result ≡ false }
         ensures faults { ⟦<FileFolder<R> as Folder>⟧.faults result ≡ 0 }
     {
@@ -87,7 +87,7 @@ impl<R: Files + Drop> Folder for FileFolder<R> {
         Ok(())
     }
 
-    fn shown(&self) -> Option<&[HeldFile]>
+    fn visible(&self) -> Option<&[HeldFile]>
         ensures none { result ≡ None }
     {
         None

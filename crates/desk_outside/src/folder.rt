@@ -4,20 +4,20 @@ ghost use Rattle.desk_outside.specs.Causes.{HasOutsideCause};
 ghost use Rattle.desk_outside.specs.Files.{files_of};
 ghost use Rattle.desk_outside.specs.Folders.{FolderContents, with_begun, with_bytes, with_ended, with_none_open};
 
+use crate::argument::HeldFile;
 use crate::failure::OutsideFault;
-use crate::word::HeldFile;
 
 /// A place for files to write, one at a time.
 ///
 /// After an error the finished files are as before and no file is open.
 pub trait Folder: Drop {
-    /// The finished files and the open one, where told.
+    /// The finished files and the open one, where known.
     ghost contents: { Self → Option FolderContents };
 
     /// Whether a file is open.
     ghost is_open: { Self → Bool };
 
-    /// A count of faults, which never falls.
+    /// An error count, which never falls.
     ghost faults: { Self → ℕ };
 
     /// Gives up an open file and opens an empty one of this name.
@@ -49,8 +49,8 @@ pub trait Folder: Drop {
         ensures is_open { is_open self.new ≡ false }
         ensures cause { HasOutsideCause (faults self.old) (faults self.new) result };
 
-    /// The finished files, of a folder that tells them.
-    fn shown(&self) -> Option<&[HeldFile]>
+    /// The finished files, of a folder that makes them known.
+    fn visible(&self) -> Option<&[HeldFile]>
         ensures told { is_some result ≡ is_some (contents self.now) }
         ensures shown { IfSome result (λ files.
             option_map (λ folder. folder.finished) (contents self.now) ≡ Some (files_of files.now)) };

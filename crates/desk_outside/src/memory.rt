@@ -1,21 +1,21 @@
 ghost use Rattle.std.specs.Prelude.{◌≡◌, ◌+◌, ◌^◌, ◌<◌, ◌↔◌, ◌⊎◌, ◌&&◌, [], ◌++◌, min, length, take, drop, is_err, is_some, unwrap_or, None, Some, IsSome, IsOk, IsErr, IfNone, IfSome, IfOk, OnErr, IsOkUnless, refl, if◌then◌else◌};
 ghost use Rattle.desk_outside.specs.Causes.{count_on, last_count, HasCause, HasBeginCause};
-ghost use Rattle.desk_outside.specs.Files.{held, files_of};
-ghost use Rattle.desk_outside.specs.Memory.{new_shelf, new_sink, room, bytes_at, IsBegun};
+ghost use Rattle.desk_outside.specs.Files.{bytes_of_file, files_of};
+ghost use Rattle.desk_outside.specs.Memory.{new_source, new_sink, room, bytes_at, IsBegun};
 ghost use Rattle.desk_outside.specs.Planned.{FailsNext, NeverFails, CountsCall};
 
+use crate::argument::HeldFile;
 use crate::failure::{Failed, OutsideFault};
-use crate::planned::PlannedFaults;
-use crate::shelf::Shelf;
+use crate::fault_plan::PlannedFaults;
+use crate::file_source::FileSource;
 use crate::sink::Sink;
-use crate::word::HeldFile;
-use dep_model::WantMemory;
+use dep_model::OutOfMemory;
 use std::alloc::Global;
 use std::marker::Model;
 
-/// Files in memory. It tells them all, and fails at chosen calls alone.
+/// Files in memory. It makes all of them known, and fails at chosen calls alone.
 #[derive(Debug, Drop)]
-pub struct MemoryShelf {
+pub struct MemoryFiles {
     files: Vec<HeldFile>,
     begun: Option<usize>,
     taken: usize,
@@ -23,12 +23,12 @@ pub struct MemoryShelf {
     planned: PlannedFaults,
 }
 
-impl Model for MemoryShelf {
+impl Model for MemoryFiles {
     ghost use Rattle.std.specs.Prelude.{◌<◌, drop};
     ghost use Rattle.desk_outside.specs.Files.{files_of};
-    ghost use Rattle.desk_outside.specs.Memory.{ShelfInMemory, bytes_at, IsBegun};
+    ghost use Rattle.desk_outside.specs.Memory.{FileSourceInMemory, bytes_at, IsBegun};
 
-    ghost Value = { ShelfInMemory };
+    ghost Value = { FileSourceInMemory };
 
     ghost view = { λ s. record {
       files = files_of s.files.items;
@@ -41,40 +41,40 @@ impl Model for MemoryShelf {
     ghost invariant = { λ s. (0 < s.step) × IsBegun s.files.items s.begun s.taken };
 }
 
-impl MemoryShelf {
-    /// A shelf of these files, of which the first of a name counts. The calls with these numbers,
+impl MemoryFiles {
+    /// A file source of these files, of which the first of a name counts. The calls with these numbers,
     /// from 1, fail.
-    pub fn make(files: Vec<HeldFile>, fails: Vec<u64>) -> MemoryShelf
-        ensures begins { result ≡ new_shelf (files_of files.items) fails.items last_count }
+    pub fn new(files: Vec<HeldFile>, fails: Vec<u64>) -> MemoryFiles
+        ensures begins { result ≡ new_source (files_of files.items) fails.items last_count }
     {
-        MemoryShelf::with_step(files, fails, usize::MAX)
+        MemoryFiles::with_step(files, fails, usize::MAX)
     }
 
     /// The same, of which each read gives at most `step` bytes.
-    pub fn with_step(files: Vec<HeldFile>, fails: Vec<u64>, step: usize) -> MemoryShelf
+    pub fn with_step(files: Vec<HeldFile>, fails: Vec<u64>, step: usize) -> MemoryFiles
         requires { 0 < step }
-        ensures begins { result ≡ new_shelf (files_of files.items) fails.items step }
+        ensures begins { result ≡ new_source (files_of files.items) fails.items step }
     {
-        MemoryShelf {
+        MemoryFiles {
             files,
             begun: None,
             taken: 0,
             step,
-            planned: PlannedFaults::make(fails),
+            planned: PlannedFaults::new(fails),
         }
     }
 }
 
-// The place of the first file of this name.
-fn place_of(files: &[HeldFile], name: &[u8]) -> Option<usize>
-    ensures found { IfSome result (λ place. place < length files.now) }
-    ensures bytes { IfSome result (λ place.
-        held (files_of files.now) name.now ≡ Some (bytes_at files.now (Some place))) }
-    ensures missing { IfNone result (held (files_of files.now) name.now ≡ None) }
+// The position of the first file of this name.
+fn position_of(files: &[HeldFile], name: &[u8]) -> Option<usize>
+    ensures found { IfSome result (λ position. position < length files.now) }
+    ensures bytes { IfSome result (λ position.
+        bytes_of_file (files_of files.now) name.now ≡ Some (bytes_at files.now (Some position))) }
+    ensures missing { IfNone result (bytes_of_file (files_of files.now) name.now ≡ None) }
 {
-    for (place, file) in files.iter().enumerate() {
+    for (position, file) in files.iter().enumerate() {
         if file.name.bytes() == name {
-            return Some(place);
+            return Some(position);
         }
     }
     None
@@ -84,22 +84,22 @@ fn place_of(files: &[HeldFile], name: &[u8]) -> Option<usize>
 fn rest_of(files: &[HeldFile], begun: Option<usize>, taken: usize) -> &[u8]
     requires { IsBegun files.now begun taken }
     ensures left { result.now ≡ drop taken (bytes_at files.now begun) }
-    ensures fits { taken + length result.now < 2 ^ 64 }
+    ensures fits_u64 { taken + length result.now < 2 ^ 64 }
 {
     match begun {
-        Some(place) => &files[place].bytes[taken..],
+        Some(position) => &files[position].bytes[taken..],
         None => &[],
     }
 }
 
-impl Shelf for MemoryShelf {
-    ghost files = { λ shelf. Some shelf.files };
+impl FileSource for MemoryFiles {
+    ghost files = { λ source. Some source.files };
 
-    ghost left = { λ shelf. Some shelf.left };
+    ghost left = { λ source. Some source.left };
 
-    ghost taken = { λ shelf. shelf.taken };
+    ghost taken = { λ source. source.taken };
 
-    ghost faults = { λ shelf. shelf.planned.faults };
+    ghost faults = { λ source. source.planned.faults };
 
     fn begin(&mut self, name: &[u8]) -> Result<(), OutsideFault>
         ensures files { self.new.files ≡ self.old.files }
@@ -109,20 +109,21 @@ impl Shelf for MemoryShelf {
         // It fails exactly where its number is planned or the file is not held, and never otherwise.
         ensures only { IsOkUnless result OutsideFault.Failed }
         ensures failed { IsErr result ↔
-            (FailsNext self.old.planned ⊎ (held self.old.files name.now ≡ None)) }
-        ensures sound { NeverFails self.old.planned → IsSome (held self.old.files name.now) → IsOk result }
+            (FailsNext self.old.planned ⊎ (bytes_of_file self.old.files name.now ≡ None)) }
+        ensures never_fails { NeverFails self.old.planned
+            → IsSome (bytes_of_file self.old.files name.now) → IsOk result }
         ensures left { self.new.left ≡
-            (if is_err result then [] else unwrap_or (held self.old.files name.now) []) }
+            (if is_err result then [] else unwrap_or (bytes_of_file self.old.files name.now) []) }
 
         // A file that is not held is no fault.
         ensures counts { CountsCall self.old.planned self.new.planned
-            (is_err result && is_some (held self.old.files name.now)) }
+            (is_err result && is_some (bytes_of_file self.old.files name.now)) }
         ensures cause { HasBeginCause (Some self.old.files) name.now
             self.old.planned.faults self.new.planned.faults result }
     {
         let fails = self.planned.next_fails();
         self.taken = 0;
-        self.begun = place_of(&self.files, name);
+        self.begun = position_of(&self.files, name);
         if self.begun.is_none() {
             return Err(OutsideFault::Failed);
         }
@@ -140,7 +141,7 @@ impl Shelf for MemoryShelf {
 
         // It fails exactly where its number is planned, and gives as many bytes as it may.
         ensures failed { IsErr result ↔ FailsNext self.old.planned }
-        ensures sound { NeverFails self.old.planned → IsOk result }
+        ensures never_fails { NeverFails self.old.planned → IsOk result }
         ensures count { IfOk result (λ n.
             n ≡ min (length buf.new) (min self.old.step (length self.old.left))) }
         ensures bytes { IfOk result (λ n. self.old.left ≡ take n buf.new ++ self.new.left) }
@@ -163,10 +164,10 @@ impl Shelf for MemoryShelf {
         Ok(count)
     }
 
-    ghost tells_all_or_none = { λ shelf. refl };
+    ghost tells_all_or_none = { λ source. refl };
 }
 
-/// A text in memory, with room for so many bytes. It tells what it took, and fails where it has no
+/// A text in memory, with room for so many bytes. What it took is known, and it fails where it has no
 /// room left and at chosen calls alone.
 #[derive(Debug, Drop)]
 pub struct MemorySink {
@@ -197,7 +198,7 @@ impl Model for MemorySink {
 impl MemorySink {
     /// A sink with room for so many bytes, which it takes at once. The calls with these numbers,
     /// from 1, fail.
-    pub fn make(alloc: Global, capacity: usize, fails: Vec<u64>) -> Result<MemorySink, WantMemory>
+    pub fn new(alloc: Global, capacity: usize, fails: Vec<u64>) -> Result<MemorySink, OutOfMemory>
         ensures begins { IfOk result (λ sink. sink ≡ new_sink capacity fails.items last_count) }
     {
         MemorySink::with_step(alloc, capacity, fails, usize::MAX)
@@ -209,7 +210,7 @@ impl MemorySink {
         capacity: usize,
         fails: Vec<u64>,
         step: usize,
-    ) -> Result<MemorySink, WantMemory>
+    ) -> Result<MemorySink, OutOfMemory>
         requires { 0 < step }
         ensures begins { IfOk result (λ sink. sink ≡ new_sink capacity fails.items step) }
     {
@@ -218,12 +219,12 @@ impl MemorySink {
             contents,
             capacity,
             step,
-            planned: PlannedFaults::make(fails),
+            planned: PlannedFaults::new(fails),
         })
     }
 
     /// The bytes taken.
-    pub fn taken(&self) -> &[u8]
+    pub fn bytes(&self) -> &[u8]
         ensures contents { result.now ≡ self.now.contents }
     {
         self.contents.as_slice()
@@ -242,7 +243,7 @@ impl Sink for MemorySink {
 
         // It fails exactly where its number is planned or no room is left, and takes what it may.
         ensures failed { IsErr result ↔ (FailsNext self.old.planned ⊎ (room self.old ≡ 0)) }
-        ensures sound { NeverFails self.old.planned → 0 < room self.old → IsOk result }
+        ensures never_fails { NeverFails self.old.planned → 0 < room self.old → IsOk result }
         ensures count { IfOk result (λ n. n ≡ min (length piece.now) (min self.old.step (room self.old))) }
         ensures some { IfOk result (λ n. 0 < n) }
         ensures bytes { IfOk result (λ n. self.new.contents ≡ self.old.contents ++ take n piece.now) }

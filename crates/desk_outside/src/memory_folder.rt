@@ -7,14 +7,14 @@ ghost use Rattle.desk_outside.specs.Folders.{more_bytes};
 ghost use Rattle.desk_outside.specs.Memory.{new_folder, contents_of};
 ghost use Rattle.desk_outside.specs.Planned.{FailsNext, CountsCall};
 
+use crate::argument::{Argument, HeldFile};
 use crate::failure::OutsideFault;
+use crate::fault_plan::PlannedFaults;
 use crate::folder::Folder;
-use crate::planned::PlannedFaults;
-use crate::word::{HeldFile, Word};
 use std::alloc::Global;
 use std::marker::Model;
 
-/// A folder in memory. It tells all its files, and fails at chosen calls alone.
+/// A folder in memory. It makes all its files known, and fails at chosen calls alone.
 #[derive(Drop)]
 pub struct MemoryFolder {
     alloc: Global,
@@ -25,33 +25,33 @@ pub struct MemoryFolder {
 
 impl Model for MemoryFolder {
     ghost use Rattle.std.specs.Option.{option_map};
-    ghost use Rattle.desk_outside.specs.Files.{files_of, stored};
+    ghost use Rattle.desk_outside.specs.Files.{files_of, stored_file};
     ghost use Rattle.desk_outside.specs.Memory.{FolderInMemory};
 
     ghost Value = { FolderInMemory };
 
     ghost view = { λ f. record {
       finished = files_of f.finished.items;
-      opened = option_map stored f.opened;
+      opened = option_map stored_file f.opened;
       planned = f.planned;
     } };
 }
 
 impl MemoryFolder {
     /// An empty folder. The calls with these numbers, from 1, fail.
-    pub fn make(alloc: Global, fails: Vec<u64>) -> MemoryFolder
+    pub fn new(alloc: Global, fails: Vec<u64>) -> MemoryFolder
         ensures begins { result ≡ new_folder fails.items }
     {
         MemoryFolder {
             alloc,
             finished: Vec::new(alloc),
             opened: None,
-            planned: PlannedFaults::make(fails),
+            planned: PlannedFaults::new(fails),
         }
     }
 
     /// The finished files, in the order of their ending.
-    pub fn finished(&self) -> &[HeldFile]
+    pub fn finished_files(&self) -> &[HeldFile]
         ensures files { files_of result.now ≡ self.now.finished }
     {
         &self.finished
@@ -80,7 +80,7 @@ impl Folder for MemoryFolder {
             self.planned.count_fault();
             return Err(OutsideFault::Failed);
         }
-        let name = Word::make(self.alloc, name)?;
+        let name = Argument::new(self.alloc, name)?;
         let bytes = Vec::new(self.alloc);
         self.opened = Some(HeldFile { name, bytes });
         Ok(())
@@ -88,7 +88,7 @@ impl Folder for MemoryFolder {
 
     fn write(&mut self, piece: &[u8]) -> Result<usize, OutsideFault>
         requires is_open { IsTrue (is_some self.old.opened) }
-        requires some { 0 < length piece.now }
+        requires positive { 0 < length piece.now }
         ensures finished { self.new.finished ≡ self.old.finished }
 
         // It takes the whole piece.
@@ -132,11 +132,11 @@ impl Folder for MemoryFolder {
         };
         match self.finished.push(file) {
             Ok(()) => Ok(()),
-            Err(_) => Err(OutsideFault::Memory),
+            Err(_) => Err(OutsideFault::OutOfMemory),
         }
     }
 
-    fn shown(&self) -> Option<&[HeldFile]>
+    fn visible(&self) -> Option<&[HeldFile]>
         ensures shown { IsSomeAnd result (λ files. files_of files.now ≡ self.now.finished) }
     {
         Some(&self.finished)

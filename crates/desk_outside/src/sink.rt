@@ -6,10 +6,10 @@ use crate::failure::Failed;
 
 /// A place for the printed text.
 pub trait Sink {
-    /// The bytes taken, where told.
+    /// The bytes taken, where known.
     ghost contents: { Self → Option (List ℕ) };
 
-    /// A count of faults, which never falls.
+    /// An error count, which never falls.
     ghost faults: { Self → ℕ };
 
     /// Takes bytes from the front of the piece, at least one, and answers how many. After an error

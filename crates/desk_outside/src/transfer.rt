@@ -1,12 +1,12 @@
 ghost use Rattle.std.specs.Prelude.{◌≡◌, ◌+◌, ◌^◌, ◌<◌, ◌≤◌, ◌↔◌, ◌⊎◌, length, is_ok, option_map, IsTrue, IfOk, OnOk, OnErr, IsErrOf, Err};
 ghost use Rattle.std.specs.Io.KnownBytes.{append_known, IsAtEnd};
-ghost use Rattle.desk_outside.specs.Causes.{Rose, TookPart, HasOutsideCause};
+ghost use Rattle.desk_outside.specs.Causes.{ErrorCountIncreased, TookPart, HasOutsideCause};
 ghost use Rattle.desk_outside.specs.Files.{none_left, IsMissing, IsHeld, IsLonger};
 ghost use Rattle.desk_outside.specs.Folders.{with_bytes, with_none_open};
 
 use crate::failure::{CannotWrite, LoadRefusal, OutsideFault};
+use crate::file_source::FileSource;
 use crate::folder::Folder;
-use crate::shelf::Shelf;
 use crate::sink::Sink;
 use std::alloc::Global;
 
@@ -14,47 +14,47 @@ use std::alloc::Global;
 const CHUNK: usize = 4096;
 
 /// Begins the file of this name and reads it to its end, which is at most `limit` bytes away.
-pub fn load<F: Shelf>(
+pub fn load<F: FileSource>(
     alloc: Global,
-    shelf: &mut F,
+    source: &mut F,
     name: &[u8],
     limit: usize,
 ) -> Result<Vec<u8>, LoadRefusal>
     requires { limit < 2 ^ 32 }
-    ensures files { F.files shelf.new ≡ F.files shelf.old }
-    ensures later { F.faults shelf.old ≤ F.faults shelf.new }
+    ensures files { F.files source.new ≡ F.files source.old }
+    ensures later { F.faults source.old ≤ F.faults source.new }
 
-    // No call of the shelf failed on the way.
-    ensures fine { OnOk result (F.faults shelf.new ≡ F.faults shelf.old) }
+    // No call of the file source failed on the way.
+    ensures no_new_error { OnOk result (F.faults source.new ≡ F.faults source.old) }
 
-    // The whole file, where the shelf tells its files.
-    ensures ok { IfOk result (λ bytes. IsHeld (F.files shelf.old) name.now bytes.items) }
+    // The whole file, where the file source makes its files known.
+    ensures ok { IfOk result (λ bytes. IsHeld (F.files source.old) name.now bytes.items) }
     ensures within { IfOk result (λ bytes. length bytes.items ≤ limit) }
-    ensures taken { IfOk result (λ bytes. F.taken shelf.new ≡ length bytes.items) }
-    ensures ended { OnOk result (IsAtEnd (F.left shelf.new)) }
+    ensures taken { IfOk result (λ bytes. F.taken source.new ≡ length bytes.items) }
+    ensures ended { OnOk result (IsAtEnd (F.left source.new)) }
 
     // A file is too long exactly where one byte more than the limit was taken.
-    ensures too_long { IsErrOf result LoadRefusal.TooLong ↔ (F.taken shelf.new ≡ limit + 1) }
+    ensures too_long { IsErrOf result LoadRefusal.TooLong ↔ (F.taken source.new ≡ limit + 1) }
     ensures longer { IsErrOf result LoadRefusal.TooLong →
-        IsLonger (F.files shelf.old) name.now limit }
-    ensures at_most { F.taken shelf.new ≤ limit + 1 }
+        IsLonger (F.files source.old) name.now limit }
+    ensures at_most { F.taken source.new ≤ limit + 1 }
 
     // Only a fault that was counted, or a missing file.
     ensures cannot_read { IsErrOf result LoadRefusal.CannotRead →
-        Rose (F.faults shelf.old) (F.faults shelf.new) ⊎ IsMissing (F.files shelf.old) name.now }
+        ErrorCountIncreased (F.faults source.old) (F.faults source.new) ⊎ IsMissing (F.files source.old) name.now }
     ensures closed { IsErrOf result LoadRefusal.CannotRead →
-        F.left shelf.new ≡ none_left (F.files shelf.old) }
+        F.left source.new ≡ none_left (F.files source.old) }
 
     // A missing file is told by `CannotRead` alone, and raises no count.
-    ensures missing { IsMissing (F.files shelf.old) name.now →
-        (result ≡ Err LoadRefusal.CannotRead) × (F.faults shelf.new ≡ F.faults shelf.old) }
+    ensures missing { IsMissing (F.files source.old) name.now →
+        (result ≡ Err LoadRefusal.CannotRead) × (F.faults source.new ≡ F.faults source.old) }
 {
-    shelf.begin(name)?;
+    source.begin(name)?;
     let mut bytes = Vec::new(alloc);
     let mut chunk = [0u8; CHUNK];
     loop {
         let room = (limit + 1 - bytes.len()).min(CHUNK);
-        let count = shelf.read(&mut chunk[..room])?;
+        let count = source.read(&mut chunk[..room])?;
         if count == 0 {
             return Ok(bytes);
         }
@@ -68,10 +68,10 @@ pub fn load<F: Shelf>(
 /// Writes all bytes, in order.
 pub fn send<K: Sink>(sink: &mut K, bytes: &[u8]) -> Result<(), CannotWrite>
     ensures later { K.faults sink.old ≤ K.faults sink.new }
-    ensures fine { OnOk result (K.faults sink.new ≡ K.faults sink.old) }
+    ensures no_new_error { OnOk result (K.faults sink.new ≡ K.faults sink.old) }
     ensures ok { OnOk result (K.contents sink.new ≡ append_known (K.contents sink.old) bytes.now) }
     ensures err { OnErr result (TookPart (K.contents sink.old) bytes.now (K.contents sink.new)) }
-    ensures cannot_write { OnErr result (Rose (K.faults sink.old) (K.faults sink.new)) }
+    ensures cannot_write { OnErr result (ErrorCountIncreased (K.faults sink.old) (K.faults sink.new)) }
 {
     let mut sent = 0;
     while sent < bytes.len() {

@@ -2,13 +2,13 @@
 -- `no`.
 use Rattle.std.specs.Prelude.{ℕ, List, [], ◌∷◌, ◌++◌, codes}
 use Rattle.std.specs.Fmt.{decimal}
-use Rattle.attr_sets.specs.Places.{Places}
+use Rattle.attr_sets.specs.Attributes.{Attributes}
 use Rattle.schema_grammar.specs.declared.refusal.What.{What}
 use Rattle.schema_grammar.specs.declared.refusal.What.TheVariants as what
 use Rattle.schema_grammar.specs.declared.refusal.SchemaRefusalKind.{SchemaRefusalKind}
 use Rattle.schema_grammar.specs.declared.refusal.SchemaRefusalKind.TheVariants as kind
 use Rattle.schema_grammar.specs.declared.refusal.SchemaRefusal.{SchemaRefusal}
-use Rattle.schema_grammar.specs.Complaints.{refusal_number}
+use Rattle.schema_grammar.specs.Diagnostics.{refusal_number}
 use Rattle.schema_printer.specs.Printing.{set_text}
 use Rattle.csv_text.specs.Rows.{rows_text}
 use Rattle.dep_model.specs.Tuples.{Relation}
@@ -18,7 +18,7 @@ abbrev pub line : List ℕ → List ℕ
 line text = text ++ 10 ∷ []
 
 -- a line of a word and a set of attributes
-abbrev pub set_line : List ℕ → List (List ℕ) → Places → List ℕ
+abbrev pub set_line : List ℕ → List (List ℕ) → Attributes → List ℕ
 set_line word names set = line (word ++ set_text names set)
 
 abbrev pub unknown_words_text : List ℕ
@@ -48,7 +48,7 @@ what_text what.Rule = codes "expected a rule"
 what_text what.With = codes "expected with"
 what_text what.Scheme = codes "expected scheme"
 
--- the reason of a refusal in words; want of memory has none
+-- the reason of a refusal in words; being out of memory has none
 abbrev pub kind_text : SchemaRefusalKind → List ℕ
 kind_text kind.StrangeByte = codes "strange byte"
 kind_text kind.BadName = codes "bad name"

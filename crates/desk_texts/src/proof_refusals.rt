@@ -1,12 +1,12 @@
 ghost use Rattle.std.specs.Prelude.{◌≡◌, ◌++◌, IfOk, OnOk};
 ghost use Rattle.dep_model.specs.Schemas.{names_of, universe_of};
 ghost use Rattle.dep_model.specs.Deps.{dependency_of, IsDepWithin};
-ghost use Rattle.proof_grammar.specs.Complaints.{states_other, complaint_of, line_complaint_of, IsRefusalWithin};
-ghost use Rattle.desk_texts.specs.ProofTexts.{fault_text, complaint_number, complaint_text, place_text, proof_refusal_text};
+ghost use Rattle.proof_grammar.specs.Diagnostics.{states_other, diagnostic_of, line_diagnostic_of, IsRefusalWithin};
+ghost use Rattle.desk_texts.specs.ProofTexts.{fault_text, diagnostic_number, diagnostic_text, position_text, proof_refusal_text};
 
 use crate::refusals::reason_of;
 use crate::text::{put, put_number, put_pair};
-use dep_model::{Dep, Schema, WantMemory};
+use dep_model::{Dep, OutOfMemory, Schema};
 use derivation::FaultKind;
 use proof_grammar::{ProofRefusal, ProofRefusalKind};
 use schema_printer::print_dep;
@@ -18,11 +18,11 @@ pub fn proof_refusal_line(
     schema: &Schema,
     name: &[u8],
     refusal: ProofRefusal,
-) -> Result<Vec<u8>, WantMemory>
+) -> Result<Vec<u8>, OutOfMemory>
     requires within { IsRefusalWithin (universe_of schema.now) refusal.kind }
     ensures text { IfOk result
         (λ text. text.items
-        ≡ proof_refusal_text (names_of schema.now) name.now (line_complaint_of refusal)) }
+        ≡ proof_refusal_text (names_of schema.now) name.now (line_diagnostic_of refusal)) }
 {
     let mut text = Vec::new(alloc);
     put(&mut text, b"refused: proof ")?;
@@ -30,7 +30,7 @@ pub fn proof_refusal_line(
     put(&mut text, b" at ")?;
     put(&mut text, name)?;
     put(&mut text, b":")?;
-    put_place(alloc, &mut text, refusal)?;
+    put_position(alloc, &mut text, refusal)?;
     put(&mut text, b" ")?;
     put_reason(alloc, &mut text, schema, refusal.kind)?;
     put(&mut text, b"\n")?;
@@ -39,7 +39,7 @@ pub fn proof_refusal_line(
 
 /// The number of a reason.
 fn number_of(kind: ProofRefusalKind) -> u32
-    ensures number { result ≡ complaint_number (complaint_of kind) }
+    ensures number { result ≡ diagnostic_number (diagnostic_of kind) }
 {
     match kind {
         ProofRefusalKind::BadLine(_) => 1,
@@ -56,17 +56,17 @@ fn number_of(kind: ProofRefusalKind) -> u32
 }
 
 /// The place of a refusal, at the end of a text.
-fn put_place(alloc: Global, text: &mut Vec<u8>, refusal: ProofRefusal) -> Result<(), WantMemory>
-    ensures more { OnOk result (text.new.items
-        ≡ text.old.items ++ place_text refusal.line (complaint_of refusal.kind)) }
+fn put_position(alloc: Global, text: &mut Vec<u8>, refusal: ProofRefusal) -> Result<(), OutOfMemory>
+    ensures added { OnOk result (text.new.items
+        ≡ text.old.items ++ position_text refusal.line (diagnostic_of refusal.kind)) }
 {
     match refusal.kind {
         ProofRefusalKind::BadLine(bad) => {
-            let mut place = Vec::new(alloc);
-            put_number(alloc, &mut place, bad.span.line)?;
-            put(&mut place, b":")?;
-            put_number(alloc, &mut place, bad.span.column)?;
-            put(text, &place)
+            let mut position = Vec::new(alloc);
+            put_number(alloc, &mut position, bad.span.line)?;
+            put(&mut position, b":")?;
+            put_number(alloc, &mut position, bad.span.column)?;
+            put(text, &position)
         }
         _ => put_number(alloc, text, refusal.line),
     }
@@ -78,10 +78,10 @@ fn put_reason(
     text: &mut Vec<u8>,
     schema: &Schema,
     kind: ProofRefusalKind,
-) -> Result<(), WantMemory>
+) -> Result<(), OutOfMemory>
     requires within { IsRefusalWithin (universe_of schema.now) kind }
-    ensures more { OnOk result (text.new.items
-        ≡ text.old.items ++ complaint_text (names_of schema.now) (complaint_of kind)) }
+    ensures added { OnOk result (text.new.items
+        ≡ text.old.items ++ diagnostic_text (names_of schema.now) (diagnostic_of kind)) }
 {
     match kind {
         ProofRefusalKind::BadLine(bad) => put(text, reason_of(bad.kind)),
@@ -110,11 +110,11 @@ fn put_states(
     schema: &Schema,
     stated: Dep,
     concluded: Dep,
-) -> Result<(), WantMemory>
+) -> Result<(), OutOfMemory>
     requires stated { IsDepWithin (universe_of schema.now) stated }
     requires concluded { IsDepWithin (universe_of schema.now) concluded }
-    ensures more { OnOk result (text.new.items
-        ≡ text.old.items ++ complaint_text (names_of schema.now)
+    ensures added { OnOk result (text.new.items
+        ≡ text.old.items ++ diagnostic_text (names_of schema.now)
         (states_other (dependency_of stated) (dependency_of concluded))) }
 {
     let mut reason = Vec::new(alloc);

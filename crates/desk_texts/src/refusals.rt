@@ -2,7 +2,7 @@ ghost use Rattle.std.specs.Prelude.{◌≡◌, IfOk};
 ghost use Rattle.desk_texts.specs.Texts.{what_text, kind_text, refusal_text};
 
 use crate::text::{put, put_number};
-use dep_model::WantMemory;
+use dep_model::OutOfMemory;
 use schema_grammar::{SchemaRefusal, SchemaRefusalKind, What};
 use std::alloc::Global;
 
@@ -12,7 +12,7 @@ pub fn refusal_line(
     group: &[u8],
     name: &[u8],
     refusal: SchemaRefusal,
-) -> Result<Vec<u8>, WantMemory>
+) -> Result<Vec<u8>, OutOfMemory>
     ensures text { IfOk result (λ text. text.items ≡ refusal_text group.now name.now refusal) }
 {
     let mut text = Vec::new(alloc);
@@ -42,7 +42,7 @@ pub fn reason_of(kind: SchemaRefusalKind) -> &'static [u8]
         SchemaRefusalKind::ReservedName => b"reserved name",
         SchemaRefusalKind::DoubleName => b"name declared twice",
         SchemaRefusalKind::UnknownName => b"unknown name",
-        SchemaRefusalKind::Expected(what) => wanted(what),
+        SchemaRefusalKind::Expected(what) => what_in_words(what),
         SchemaRefusalKind::TooManyAttributes => b"too many attributes",
         SchemaRefusalKind::TooManyDependencies => b"too many dependencies",
         SchemaRefusalKind::NoAttributes => b"no attributes",
@@ -51,7 +51,7 @@ pub fn reason_of(kind: SchemaRefusalKind) -> &'static [u8]
 }
 
 /// What the grammar wants, in words.
-fn wanted(what: What) -> &'static [u8]
+fn what_in_words(what: What) -> &'static [u8]
     ensures text { result.now ≡ what_text what }
 {
     match what {

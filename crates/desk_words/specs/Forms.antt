@@ -3,8 +3,8 @@
 use Rattle.std.specs.Prelude.{ℕ, Bool, ◌&&◌, Option, Some, None, List, [], ◌∷◌, length, nat_lt, if◌then◌else◌, codes}
 use Rattle.std.specs.Option.{option_and_then}
 use Rattle.std.specs.Str.{bytes_eq}
-use Rattle.form_tests.specs.declared.forms.Form.{Form as NormalForm}
-use Rattle.form_tests.specs.declared.forms.Form.TheVariants.{Third, Bcnf, Fourth}
+use Rattle.normal_forms.specs.declared.forms.Form.{Form as NormalForm}
+use Rattle.normal_forms.specs.declared.forms.Form.TheVariants.{Third, Bcnf, Fourth}
 use Rattle.lexer.specs.Bytes.{number_of}
 use Rattle.desk_words.specs.Numbers.{is_count}
 
@@ -110,9 +110,9 @@ word_alone form (word ∷ []) = Some (form word)
 word_alone form _ = None
 
 -- no word
-unfoldable pub alone : CommandForm → List (List ℕ) → Option CommandForm
-alone form [] = Some form
-alone form _ = None
+unfoldable pub no_more_arguments : CommandForm → List (List ℕ) → Option CommandForm
+no_more_arguments form [] = Some form
+no_more_arguments form _ = None
 
 -- ---- words with a meaning of their own
 -- a normal form
@@ -222,8 +222,8 @@ form_of [] = None
 form_of (verb ∷ rest) =
     if bytes_eq verb (codes "discover") then word_alone discover rest
     else if bytes_eq verb (codes "sample") then persons_alone rest
-    else if bytes_eq verb (codes "help") then alone help rest
-    else if bytes_eq verb (codes "--help") then alone help rest
-    else if bytes_eq verb (codes "-h") then alone help rest
-    else if bytes_eq verb (codes "--version") then alone version rest
+    else if bytes_eq verb (codes "help") then no_more_arguments help rest
+    else if bytes_eq verb (codes "--help") then no_more_arguments help rest
+    else if bytes_eq verb (codes "-h") then no_more_arguments help rest
+    else if bytes_eq verb (codes "--version") then no_more_arguments version rest
     else form_over_schema verb rest

@@ -5,73 +5,127 @@ ghost use Rattle.desk_words.specs.Forms.{after_check, after_check_form, after_dd
 use crate::persons::Persons;
 use crate::shapes::*;
 use crate::table_shapes::{of_draw, of_sql};
-use desk_outside::Word;
-use form_tests::Form;
+use desk_outside::Argument;
+use normal_forms::Form;
 
 /// What is asked of a schema, with the words that go with it.
 #[derive(Clone, Copy, Debug)]
 pub enum Task<'a> {
     /// Whether it implies a goal.
-    Implies { goal: &'a Word },
+    Implies {
+        goal: &'a Argument,
+    },
     /// Whether the certificate of a file proves a goal.
-    CheckProof { file: &'a Word, goal: &'a Word },
+    CheckProof {
+        file: &'a Argument,
+        goal: &'a Argument,
+    },
     /// Whether the rows of a file are legal.
-    CheckRows { file: &'a Word },
+    CheckRows {
+        file: &'a Argument,
+    },
     /// Whether the plan of a file loses nothing.
-    CheckJoin { plan: &'a Word },
+    CheckJoin {
+        plan: &'a Argument,
+    },
     /// Whether the schemes of the plan of a file are in a normal form.
-    CheckForm { form: Form, plan: &'a Word },
+    CheckForm {
+        form: Form,
+        plan: &'a Argument,
+    },
     /// Whether the plan of a file keeps the functional dependencies.
-    CheckKeeps { plan: &'a Word },
+    CheckKeeps {
+        plan: &'a Argument,
+    },
     /// Whether it, in the first file, says the same as the schema of a second file.
-    CheckSame { file: &'a Word, other: &'a Word },
+    CheckSame {
+        file: &'a Argument,
+        other: &'a Argument,
+    },
     /// What says the same, shortened.
     Cover,
     /// What a set of attributes determines, and its blocks.
-    Basis { set: &'a Word },
+    Basis {
+        set: &'a Argument,
+    },
     /// All its keys.
     Keys,
     /// The keys of the schemes of the plan of a file.
-    KeysOfPlan { plan: &'a Word },
+    KeysOfPlan {
+        plan: &'a Argument,
+    },
     /// A plan in third normal form.
     Synthesize,
     /// A plan in Boyce-Codd or fourth normal form.
-    Split { form: Form },
+    Split {
+        form: Form,
+    },
     /// A plan in Boyce-Codd normal form, at any width.
     SplitWide,
     /// A relation that obeys just what it implies.
     Exhibit,
     /// SQL tables in a normal form.
-    Ddl { form: Form },
+    Ddl {
+        form: Form,
+    },
     /// SQL tables of the plan of a file.
-    DdlPlan { plan: &'a Word },
+    DdlPlan {
+        plan: &'a Argument,
+    },
     /// The rows of a file, as tables in a normal form.
-    Migrate { form: Form, file: &'a Word },
+    Migrate {
+        form: Form,
+        file: &'a Argument,
+    },
     /// The rows of a file, as tables of the plan of another.
-    MigratePlan { plan: &'a Word, file: &'a Word },
+    MigratePlan {
+        plan: &'a Argument,
+        file: &'a Argument,
+    },
     /// The natural join of the tables of files.
-    Rejoin { files: &'a [Word] },
+    Rejoin {
+        files: &'a [Argument],
+    },
     /// Queries for what breaks each rule in a table of this name.
-    SqlCheck { name: &'a Word },
+    SqlCheck {
+        name: &'a Argument,
+    },
     /// Statements that make the tables of a normal form from a table of this name.
-    SqlMigrate { form: Form, name: &'a Word },
+    SqlMigrate {
+        form: Form,
+        name: &'a Argument,
+    },
     /// Statements that make the tables of the plan of a file from a table of this name.
-    SqlMigratePlan { plan: &'a Word, name: &'a Word },
+    SqlMigratePlan {
+        plan: &'a Argument,
+        name: &'a Argument,
+    },
     /// A picture of the tables of a normal form.
-    Draw { form: Form },
+    Draw {
+        form: Form,
+    },
     /// A picture of the tables of the plan of a file.
-    DrawPlan { plan: &'a Word },
+    DrawPlan {
+        plan: &'a Argument,
+    },
 }
 
 /// A command.
 #[derive(Clone, Copy, Debug)]
 pub enum Command<'a> {
     /// What is asked of the schema of a file.
-    OverSchema { schema: &'a Word, task: Task<'a> },
+    OverSchema {
+        schema: &'a Argument,
+        task: Task<'a>,
+    },
     /// The functional dependencies that the rows of a file obey.
-    Discover { file: &'a Word },
+    Discover {
+        file: &'a Argument,
+    },
     /// So many invented persons, as tables in fourth normal form.
-    Sample { persons: Persons },
+    Sample {
+        persons: Persons,
+    },
     /// The commands, in a few lines.
     Help,
     /// The number of the release.
@@ -80,7 +134,7 @@ pub enum Command<'a> {
 
 /// The command that the words form, if they form one.
 #[tactic(auto, unfolding(crate::specs::Forms::form_of))]
-pub fn parse(words: &[Word]) -> Option<Command<'_>>
+pub fn parse(words: &[Argument]) -> Option<Command<'_>>
     ensures form { option_map command_form result ≡ form_of words.now }
 {
     let [verb, rest @ ..] = words else {
@@ -94,17 +148,17 @@ pub fn parse(words: &[Word]) -> Option<Command<'_>>
     }
     let name = verb.bytes();
     if name == b"help".as_slice() || name == b"--help".as_slice() || name == b"-h".as_slice() {
-        return alone(Command::Help, rest);
+        return no_more_arguments(Command::Help, rest);
     }
     if verb.bytes() == b"--version".as_slice() {
-        return alone(Command::Version, rest);
+        return no_more_arguments(Command::Version, rest);
     }
     over_schema(verb, rest)
 }
 
 // What is asked of a schema.
 #[tactic(auto, unfolding(crate::specs::Forms::form_over_schema))]
-fn over_schema<'a>(verb: &Word, rest: &'a [Word]) -> Option<Command<'a>>
+fn over_schema<'a>(verb: &Argument, rest: &'a [Argument]) -> Option<Command<'a>>
     ensures form { option_map command_form result ≡ form_over_schema verb.now rest.now }
 {
     if verb.bytes() == b"implies".as_slice() {
@@ -151,7 +205,7 @@ fn over_schema<'a>(verb: &Word, rest: &'a [Word]) -> Option<Command<'a>>
 
 // After `check`.
 #[tactic(auto, unfolding(crate::specs::Forms::after_check))]
-fn of_check(words: &[Word]) -> Option<Command<'_>>
+fn of_check(words: &[Argument]) -> Option<Command<'_>>
     ensures form { option_map command_form result ≡ after_check words.now }
 {
     let [what, rest @ ..] = words else {
@@ -180,7 +234,7 @@ fn of_check(words: &[Word]) -> Option<Command<'_>>
 
 // After `check form`.
 #[tactic(auto, unfolding(crate::specs::Forms::after_check_form))]
-fn of_check_form(words: &[Word]) -> Option<Command<'_>>
+fn of_check_form(words: &[Argument]) -> Option<Command<'_>>
     ensures form { option_map command_form result ≡ after_check_form words.now }
 {
     let [what, rest @ ..] = words else {
@@ -194,7 +248,7 @@ fn of_check_form(words: &[Word]) -> Option<Command<'_>>
 
 // After `split`.
 #[tactic(auto, unfolding(crate::specs::Forms::after_split))]
-fn of_split(words: &[Word]) -> Option<Command<'_>>
+fn of_split(words: &[Argument]) -> Option<Command<'_>>
     ensures form { option_map command_form result ≡ after_split words.now }
 {
     let [what, rest @ ..] = words else {
@@ -214,7 +268,7 @@ fn of_split(words: &[Word]) -> Option<Command<'_>>
 
 // After `ddl`.
 #[tactic(auto, unfolding(crate::specs::Forms::after_ddl))]
-fn of_ddl(words: &[Word]) -> Option<Command<'_>>
+fn of_ddl(words: &[Argument]) -> Option<Command<'_>>
     ensures form { option_map command_form result ≡ after_ddl words.now }
 {
     let [what, rest @ ..] = words else {
@@ -231,7 +285,7 @@ fn of_ddl(words: &[Word]) -> Option<Command<'_>>
 
 // After `migrate`.
 #[tactic(auto, unfolding(crate::specs::Forms::after_migrate))]
-fn of_migrate(words: &[Word]) -> Option<Command<'_>>
+fn of_migrate(words: &[Argument]) -> Option<Command<'_>>
     ensures form { option_map command_form result ≡ after_migrate words.now }
 {
     let [what, rest @ ..] = words else {

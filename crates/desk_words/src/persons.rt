@@ -3,7 +3,7 @@ ghost use Rattle.lexer.specs.Bytes.{number_of};
 ghost use Rattle.desk_words.specs.Numbers.{is_count, is_short_number};
 ghost use Rattle.std.specs.Char.{is_ascii_digit};
 ghost use Rattle.std.specs.List.{list_all};
-ghost use Rattle.sample.specs.declared.rows.TheConstants.{MOST_PERSONS};
+ghost use Rattle.sample_rows.specs.declared.rows.TheConstants.{MOST_PERSONS};
 
 /// How many persons a sample has.
 #[derive(Clone, Copy, Debug)]
@@ -22,7 +22,7 @@ pub fn count_of(word: &[u8]) -> Option<Persons>
         return None;
     }
     let number = value_of(word);
-    if number == 0 || number > sample::MOST_PERSONS {
+    if number == 0 || number > sample_rows::MOST_PERSONS {
         return None;
     }
     Some(Persons { number })
@@ -31,7 +31,7 @@ pub fn count_of(word: &[u8]) -> Option<Persons>
 // One to five digits.
 #[tactic(auto, unfolding(crate::specs::Numbers::is_short_number))]
 fn is_short_number(word: &[u8]) -> bool
-    ensures is { result ≡ is_short_number word.now }
+    ensures short_number { result ≡ is_short_number word.now }
 {
     !word.is_empty() && word.len() < 6 && are_digits(word)
 }

@@ -4,15 +4,15 @@ ghost use Rattle.desk_words.specs.Forms as forms;
 
 use crate::command::{Command, Task};
 use crate::persons::count_of;
-use desk_outside::Word;
-use form_tests::Form;
+use desk_outside::Argument;
+use normal_forms::Form;
 
 /// The most files of a command.
 pub const MOST_FILES: usize = 64;
 
 /// The normal form that a word names.
 #[tactic(auto, unfolding(crate::specs::Forms::normal_form))]
-pub fn normal_form(word: &Word) -> Option<Form>
+pub fn normal_form(word: &Argument) -> Option<Form>
     ensures form { result ≡ forms.normal_form word.now }
 {
     match word.bytes() {
@@ -24,9 +24,10 @@ pub fn normal_form(word: &Word) -> Option<Form>
 }
 
 /// No word more.
-#[tactic(auto, unfolding(crate::specs::Forms::alone))]
-pub fn alone<'a>(command: Command<'a>, words: &[Word]) -> Option<Command<'a>>
-    ensures form { option_map command_form result ≡ forms.alone (command_form command.entry) words.now }
+#[tactic(auto, unfolding(crate::specs::Forms::no_more_arguments))]
+pub fn no_more_arguments<'a>(command: Command<'a>, words: &[Argument]) -> Option<Command<'a>>
+    ensures form { option_map command_form result
+        ≡ forms.no_more_arguments (command_form command.entry) words.now }
 {
     match words {
         [] => Some(command),
@@ -36,7 +37,7 @@ pub fn alone<'a>(command: Command<'a>, words: &[Word]) -> Option<Command<'a>>
 
 /// A schema, and no word more.
 #[tactic(auto, unfolding(crate::specs::Forms::schema_alone))]
-pub fn over_schema_alone<'a>(task: Task<'a>, words: &'a [Word]) -> Option<Command<'a>>
+pub fn over_schema_alone<'a>(task: Task<'a>, words: &'a [Argument]) -> Option<Command<'a>>
     ensures form { option_map command_form result ≡ forms.schema_alone (task_form task.entry) words.now }
 {
     match words {
@@ -47,7 +48,7 @@ pub fn over_schema_alone<'a>(task: Task<'a>, words: &'a [Word]) -> Option<Comman
 
 /// A schema and a goal.
 #[tactic(auto, unfolding(crate::specs::Forms::schema_and))]
-pub fn of_implies(words: &[Word]) -> Option<Command<'_>>
+pub fn of_implies(words: &[Argument]) -> Option<Command<'_>>
     ensures form { option_map command_form result ≡ forms.schema_and forms.implies words.now }
 {
     match words {
@@ -61,7 +62,7 @@ pub fn of_implies(words: &[Word]) -> Option<Command<'_>>
 
 /// A schema, a certificate and a goal.
 #[tactic(auto, unfolding(crate::specs::Forms::schema_and_two))]
-pub fn of_check_proof(words: &[Word]) -> Option<Command<'_>>
+pub fn of_check_proof(words: &[Argument]) -> Option<Command<'_>>
     ensures form { option_map command_form result ≡ forms.schema_and_two forms.check_proof words.now }
 {
     match words {
@@ -75,7 +76,7 @@ pub fn of_check_proof(words: &[Word]) -> Option<Command<'_>>
 
 /// A schema and rows.
 #[tactic(auto, unfolding(crate::specs::Forms::schema_and))]
-pub fn of_check_rows(words: &[Word]) -> Option<Command<'_>>
+pub fn of_check_rows(words: &[Argument]) -> Option<Command<'_>>
     ensures form { option_map command_form result ≡ forms.schema_and forms.check_rows words.now }
 {
     match words {
@@ -89,7 +90,7 @@ pub fn of_check_rows(words: &[Word]) -> Option<Command<'_>>
 
 /// A schema and a plan that may lose something.
 #[tactic(auto, unfolding(crate::specs::Forms::schema_and))]
-pub fn of_check_join(words: &[Word]) -> Option<Command<'_>>
+pub fn of_check_join(words: &[Argument]) -> Option<Command<'_>>
     ensures form { option_map command_form result ≡ forms.schema_and forms.check_join words.now }
 {
     match words {
@@ -103,7 +104,7 @@ pub fn of_check_join(words: &[Word]) -> Option<Command<'_>>
 
 /// A schema and a plan whose schemes may be in a normal form.
 #[tactic(auto, unfolding(crate::specs::Forms::schema_and))]
-pub fn of_check_of_form(form: Form, words: &[Word]) -> Option<Command<'_>>
+pub fn of_check_of_form(form: Form, words: &[Argument]) -> Option<Command<'_>>
     ensures form { option_map command_form result ≡ forms.schema_and (forms.check_form form) words.now }
 {
     match words {
@@ -117,7 +118,7 @@ pub fn of_check_of_form(form: Form, words: &[Word]) -> Option<Command<'_>>
 
 /// A schema and a plan that may keep the dependencies.
 #[tactic(auto, unfolding(crate::specs::Forms::schema_and))]
-pub fn of_check_keeps(words: &[Word]) -> Option<Command<'_>>
+pub fn of_check_keeps(words: &[Argument]) -> Option<Command<'_>>
     ensures form { option_map command_form result ≡ forms.schema_and forms.check_keeps words.now }
 {
     match words {
@@ -131,7 +132,7 @@ pub fn of_check_keeps(words: &[Word]) -> Option<Command<'_>>
 
 /// Two schemas.
 #[tactic(auto, unfolding(crate::specs::Forms::two_schemas))]
-pub fn of_check_same(words: &[Word]) -> Option<Command<'_>>
+pub fn of_check_same(words: &[Argument]) -> Option<Command<'_>>
     ensures form { option_map command_form result ≡ forms.two_schemas forms.check_same words.now }
 {
     match words {
@@ -148,7 +149,7 @@ pub fn of_check_same(words: &[Word]) -> Option<Command<'_>>
 
 /// A schema and a set.
 #[tactic(auto, unfolding(crate::specs::Forms::schema_and))]
-pub fn of_basis(words: &[Word]) -> Option<Command<'_>>
+pub fn of_basis(words: &[Argument]) -> Option<Command<'_>>
     ensures form { option_map command_form result ≡ forms.schema_and forms.basis words.now }
 {
     match words {
@@ -162,7 +163,7 @@ pub fn of_basis(words: &[Word]) -> Option<Command<'_>>
 
 /// A schema, or a schema and a plan.
 #[tactic(auto, unfolding(crate::specs::Forms::after_keys))]
-pub fn of_keys(words: &[Word]) -> Option<Command<'_>>
+pub fn of_keys(words: &[Argument]) -> Option<Command<'_>>
     ensures form { option_map command_form result ≡ forms.after_keys words.now }
 {
     match words {
@@ -180,7 +181,7 @@ pub fn of_keys(words: &[Word]) -> Option<Command<'_>>
 
 /// A schema and a plan for SQL tables.
 #[tactic(auto, unfolding(crate::specs::Forms::schema_and))]
-pub fn of_ddl_plan(words: &[Word]) -> Option<Command<'_>>
+pub fn of_ddl_plan(words: &[Argument]) -> Option<Command<'_>>
     ensures form { option_map command_form result ≡ forms.schema_and forms.ddl_plan words.now }
 {
     match words {
@@ -194,7 +195,7 @@ pub fn of_ddl_plan(words: &[Word]) -> Option<Command<'_>>
 
 /// A schema and rows for tables in a normal form.
 #[tactic(auto, unfolding(crate::specs::Forms::schema_and))]
-pub fn of_migrate_in_form(form: Form, words: &[Word]) -> Option<Command<'_>>
+pub fn of_migrate_in_form(form: Form, words: &[Argument]) -> Option<Command<'_>>
     ensures form { option_map command_form result ≡ forms.schema_and (forms.migrate form) words.now }
 {
     match words {
@@ -208,7 +209,7 @@ pub fn of_migrate_in_form(form: Form, words: &[Word]) -> Option<Command<'_>>
 
 /// A schema, a plan and rows for its tables.
 #[tactic(auto, unfolding(crate::specs::Forms::schema_and_two))]
-pub fn of_migrate_plan(words: &[Word]) -> Option<Command<'_>>
+pub fn of_migrate_plan(words: &[Argument]) -> Option<Command<'_>>
     ensures form { option_map command_form result ≡ forms.schema_and_two forms.migrate_plan words.now }
 {
     match words {
@@ -222,7 +223,7 @@ pub fn of_migrate_plan(words: &[Word]) -> Option<Command<'_>>
 
 /// A schema and from one to 64 files.
 #[tactic(auto, unfolding(crate::specs::Forms::schema_and_few))]
-pub fn of_rejoin(words: &[Word]) -> Option<Command<'_>>
+pub fn of_rejoin(words: &[Argument]) -> Option<Command<'_>>
     ensures form { option_map command_form result ≡ forms.schema_and_few forms.rejoin words.now }
 {
     let [schema, files @ ..] = words else {
@@ -239,7 +240,7 @@ pub fn of_rejoin(words: &[Word]) -> Option<Command<'_>>
 
 /// A file, and no word more.
 #[tactic(auto, unfolding(crate::specs::Forms::word_alone))]
-pub fn of_discover(words: &[Word]) -> Option<Command<'_>>
+pub fn of_discover(words: &[Argument]) -> Option<Command<'_>>
     ensures form { option_map command_form result ≡ forms.word_alone forms.discover words.now }
 {
     match words {
@@ -250,7 +251,7 @@ pub fn of_discover(words: &[Word]) -> Option<Command<'_>>
 
 /// How many persons, and no word more.
 #[tactic(auto, unfolding(crate::specs::Forms::persons_alone))]
-pub fn of_sample(words: &[Word]) -> Option<Command<'_>>
+pub fn of_sample(words: &[Argument]) -> Option<Command<'_>>
     ensures form { option_map command_form result ≡ forms.persons_alone words.now }
 {
     match words {

@@ -6,12 +6,12 @@ ghost use Rattle.desk_words.specs.Forms as forms;
 
 use crate::command::{Command, Task};
 use crate::shapes::{normal_form, over_schema_alone};
-use desk_outside::Word;
-use form_tests::Form;
+use desk_outside::Argument;
+use normal_forms::Form;
 
 /// After `sql`.
 #[tactic(auto, unfolding(crate::specs::Forms::after_sql))]
-pub fn of_sql(words: &[Word]) -> Option<Command<'_>>
+pub fn of_sql(words: &[Argument]) -> Option<Command<'_>>
     ensures form { option_map command_form result ≡ forms.after_sql words.now }
 {
     let [what, rest @ ..] = words else {
@@ -28,7 +28,7 @@ pub fn of_sql(words: &[Word]) -> Option<Command<'_>>
 
 // After `sql migrate`.
 #[tactic(auto, unfolding(crate::specs::Forms::after_sql_migrate))]
-fn of_sql_migrate(words: &[Word]) -> Option<Command<'_>>
+fn of_sql_migrate(words: &[Argument]) -> Option<Command<'_>>
     ensures form { option_map command_form result ≡ forms.after_sql_migrate words.now }
 {
     let [what, rest @ ..] = words else {
@@ -45,7 +45,7 @@ fn of_sql_migrate(words: &[Word]) -> Option<Command<'_>>
 
 /// After `draw`.
 #[tactic(auto, unfolding(crate::specs::Forms::after_draw))]
-pub fn of_draw(words: &[Word]) -> Option<Command<'_>>
+pub fn of_draw(words: &[Argument]) -> Option<Command<'_>>
     ensures form { option_map command_form result ≡ forms.after_draw words.now }
 {
     let [what, rest @ ..] = words else {
@@ -62,7 +62,7 @@ pub fn of_draw(words: &[Word]) -> Option<Command<'_>>
 
 // A schema and the name of a table that is asked.
 #[tactic(auto, unfolding(crate::specs::Forms::schema_and))]
-fn of_sql_check(words: &[Word]) -> Option<Command<'_>>
+fn of_sql_check(words: &[Argument]) -> Option<Command<'_>>
     ensures form { option_map command_form result ≡ forms.schema_and forms.sql_check words.now }
 {
     match words {
@@ -76,7 +76,7 @@ fn of_sql_check(words: &[Word]) -> Option<Command<'_>>
 
 // A schema and the name of a table from which those of a normal form are made.
 #[tactic(auto, unfolding(crate::specs::Forms::schema_and))]
-fn of_sql_migrate_in_form(form: Form, words: &[Word]) -> Option<Command<'_>>
+fn of_sql_migrate_in_form(form: Form, words: &[Argument]) -> Option<Command<'_>>
     ensures form { option_map command_form result ≡ forms.schema_and (forms.sql_migrate form) words.now }
 {
     match words {
@@ -90,7 +90,7 @@ fn of_sql_migrate_in_form(form: Form, words: &[Word]) -> Option<Command<'_>>
 
 // A schema, a plan and the name of a table from which those of the plan are made.
 #[tactic(auto, unfolding(crate::specs::Forms::schema_and_two))]
-fn of_sql_migrate_plan(words: &[Word]) -> Option<Command<'_>>
+fn of_sql_migrate_plan(words: &[Argument]) -> Option<Command<'_>>
     ensures form { option_map command_form result ≡ forms.schema_and_two forms.sql_migrate_plan words.now }
 {
     match words {
@@ -104,7 +104,7 @@ fn of_sql_migrate_plan(words: &[Word]) -> Option<Command<'_>>
 
 // A schema and a plan whose tables are drawn.
 #[tactic(auto, unfolding(crate::specs::Forms::schema_and))]
-fn of_draw_plan(words: &[Word]) -> Option<Command<'_>>
+fn of_draw_plan(words: &[Argument]) -> Option<Command<'_>>
     ensures form { option_map command_form result ≡ forms.schema_and forms.draw_plan words.now }
 {
     match words {

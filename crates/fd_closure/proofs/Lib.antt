@@ -1,5 +1,5 @@
 pub mod AllKeys
 pub mod ClosedSets
 pub mod ClosureLemmas
-pub mod SettlingLemmas
+pub mod GreedyKeyLemmas
 pub mod SwitchLemmas

@@ -1,4 +1,4 @@
-pub mod Settled
+pub mod FunctionallyClosed
 pub mod Switches
 pub mod Counting
 pub mod KeyLists

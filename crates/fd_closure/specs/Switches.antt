@@ -1,7 +1,7 @@
 -- The members of a list that are switched on, and how a set grows by them: for the closure by
 -- counting. `Desk` does not cite it.
 use Rattle.std.specs.Prelude.{ℕ, Bool, if◌then◌else◌, List, [], ◌∷◌, All}
-use Rattle.attr_sets.specs.Places.{Places, Within}
+use Rattle.attr_sets.specs.Attributes.{Attributes, IsSubset}
 use Rattle.dep_model.specs.declared.dep.Dep.{Dep}
 use Rattle.dep_model.specs.Dependencies.{fd, functional_part}
 use Rattle.dep_model.specs.Deps.{dependencies_of, IsDepWithin}
@@ -15,8 +15,8 @@ members_on (on ∷ others) (d ∷ ds) = if on then d ∷ members_on others ds el
 
 -- a set grows to another, which it determines by the functional dependencies of a list, with their
 -- attributes alone
-pub record Grows (ds : List Dep) (closed more : Places) : Type 0 where
-  pub holds : Within closed more
-  pub within : (universe : Places) → All (IsDepWithin universe) ds → Within closed universe
-      → Within more universe
+pub record Grows (ds : List Dep) (closed more : Attributes) : Type 0 where
+  pub holds : IsSubset closed more
+  pub within : (universe : Attributes) → All (IsDepWithin universe) ds → IsSubset closed universe
+      → IsSubset more universe
   pub implied : (n : ℕ) → Implies n (functional_part (dependencies_of ds)) (fd closed more)

@@ -1,12 +1,12 @@
 ghost use Rattle.std.specs.Prelude.{◌≡◌, ℕ, ◌↔◌, true, IsTrue, All};
-ghost use Rattle.attr_sets.specs.Places.{Places, below, Within};
-ghost use Rattle.attr_sets.specs.Sets.{places};
+ghost use Rattle.attr_sets.specs.Attributes.{Attributes, below, IsSubset};
+ghost use Rattle.attr_sets.specs.Sets.{attributes};
 ghost use Rattle.dep_model.specs.Tuples.{Relation};
 ghost use Rattle.dep_model.specs.Dependencies.{fd, ObeysFd, functional_part};
 ghost use Rattle.dep_model.specs.Deps.{IfFd, dependencies_of, IsDepWithin};
 ghost use Rattle.dep_model.specs.Implication.{Implies};
 ghost use Rattle.dep_model.specs.Keys.{InClosure};
-ghost use Rattle.fd_closure.specs.Settled.{IsSettled};
+ghost use Rattle.fd_closure.specs.FunctionallyClosed.{IsFunctionallyClosed};
 
 use attr_sets::AttrSet;
 use dep_model::Dep;
@@ -15,9 +15,9 @@ use dep_model::Dep;
 /// Multivalued ones are passed over.
 pub fn closure(deps: &[Dep], from: AttrSet) -> AttrSet
     ensures closure { (n : ℕ) → All (IsDepWithin (below n)) deps.now
-        → Within (places from) (below n)
-        → (a : ℕ) → (places result a ≡ true)
-        ↔ InClosure n (functional_part (dependencies_of deps.now)) (places from) a }
+        → IsSubset (attributes from) (below n)
+        → (a : ℕ) → (attributes result a ≡ true)
+        ↔ InClosure n (functional_part (dependencies_of deps.now)) (attributes from) a }
 {
     let mut closed = from;
     loop {
@@ -32,23 +32,25 @@ pub fn closure(deps: &[Dep], from: AttrSet) -> AttrSet
 /// Whether `lhs -> rhs` is implied by the functional dependencies of a list.
 pub fn follows(deps: &[Dep], lhs: AttrSet, rhs: AttrSet) -> bool
     ensures implied { (n : ℕ) → All (IsDepWithin (below n)) deps.now
-        → Within (places lhs) (below n) → Within (places rhs) (below n)
+        → IsSubset (attributes lhs) (below n) → IsSubset (attributes rhs) (below n)
         → IsTrue result
-        ↔ Implies n (functional_part (dependencies_of deps.now)) (fd (places lhs) (places rhs)) }
+        ↔ Implies n (functional_part (dependencies_of deps.now)) (fd (attributes lhs)
+        (attributes rhs)) }
 {
-    rhs.within(closure(deps, lhs))
+    rhs.is_subset(closure(deps, lhs))
 }
 
 // The set with the right side of each functional dependency whose left side it comes to hold, where
 // each is tried once.
 fn with_right_sides(deps: &[Dep], closed: AttrSet) -> AttrSet
-    ensures grows { Within (places closed) (places result) }
-    ensures within { (universe : Places) → All (IsDepWithin universe) deps.now
-        → Within (places closed) universe → Within (places result) universe }
+    ensures grows { IsSubset (attributes closed) (attributes result) }
+    ensures within { (universe : Attributes) → All (IsDepWithin universe) deps.now
+        → IsSubset (attributes closed) universe → IsSubset (attributes result) universe }
     ensures implied { (n : ℕ)
-        → Implies n (functional_part (dependencies_of deps.now)) (fd (places closed) (places result)) }
-    ensures settled { Within (places result) (places closed)
-        → IsSettled (functional_part (dependencies_of deps.now)) (places closed) }
+        → Implies n (functional_part (dependencies_of deps.now)) (fd (attributes closed)
+        (attributes result)) }
+    ensures functionally_closed { IsSubset (attributes result) (attributes closed)
+        → IsFunctionallyClosed (functional_part (dependencies_of deps.now)) (attributes closed) }
 {
     let mut more = closed;
     for dep in deps {
@@ -59,16 +61,17 @@ fn with_right_sides(deps: &[Dep], closed: AttrSet) -> AttrSet
 
 // The set with the right side of a functional dependency whose left side it holds.
 pub fn with_right_side(dep: Dep, closed: AttrSet) -> AttrSet
-    ensures grows { Within (places closed) (places result) }
-    ensures within { (universe : Places) → IsDepWithin universe dep
-        → Within (places closed) universe → Within (places result) universe }
+    ensures grows { IsSubset (attributes closed) (attributes result) }
+    ensures within { (universe : Attributes) → IsDepWithin universe dep
+        → IsSubset (attributes closed) universe → IsSubset (attributes result) universe }
     ensures implied { (r : Relation) → IfFd (λ x y. ObeysFd x y r) dep
-        → ObeysFd (places closed) (places result) r }
-    ensures settled { IfFd (λ x y. Within x (places closed) → Within y (places result)) dep }
+        → ObeysFd (attributes closed) (attributes result) r }
+    ensures functionally_closed { IfFd (λ x y. IsSubset x (attributes closed)
+        → IsSubset y (attributes result)) dep }
 {
     match dep {
         Dep::Fd { lhs, rhs } => {
-            if lhs.within(closed) {
+            if lhs.is_subset(closed) {
                 closed.union(rhs)
             } else {
                 closed

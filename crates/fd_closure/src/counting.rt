@@ -1,16 +1,16 @@
 ghost use Rattle.std.specs.Prelude.{◌≡◌, ℕ, ◌<◌, ◌≤◌, ◌⊎◌, ◌↔◌, true, IsTrue, IfOk, All, length, replicate, slice_set};
-ghost use Rattle.attr_sets.specs.Places.{below, Within};
-ghost use Rattle.attr_sets.specs.Sets.{places};
+ghost use Rattle.attr_sets.specs.Attributes.{below, IsSubset};
+ghost use Rattle.attr_sets.specs.Sets.{attributes};
 ghost use Rattle.dep_model.specs.Dependencies.{fd, functional_part};
 ghost use Rattle.dep_model.specs.Deps.{dependencies_of, IsDepWithin};
 ghost use Rattle.dep_model.specs.Implication.{Implies};
 ghost use Rattle.dep_model.specs.Keys.{InClosure};
-ghost use Rattle.fd_closure.specs.Settled.{IsSettled};
+ghost use Rattle.fd_closure.specs.FunctionallyClosed.{IsFunctionallyClosed};
 ghost use Rattle.fd_closure.specs.Switches.{members_on, Grows};
 
 use crate::closing::with_right_side;
-use attr_sets::{AttrSet, PLACES};
-use dep_model::{Dep, WantMemory, sides};
+use attr_sets::{AttrSet, MOST_ATTRIBUTES};
+use dep_model::{Dep, OutOfMemory, sides};
 use std::alloc::Global;
 
 /// Room for closures by those members of a list of dependencies that are on (Beeri and Bernstein 1979).
@@ -45,11 +45,11 @@ impl Counters {
     ghost use Rattle.fd_closure.specs.Counting.{switches_of};
 
     /// Counters for a list of dependencies over `width` attributes, all of them on.
-    pub fn make(alloc: Global, deps: &[Dep], width: u8) -> Result<Counters, WantMemory>
-        requires width { width ≤ PLACES }
+    pub fn new(alloc: Global, deps: &[Dep], width: u8) -> Result<Counters, OutOfMemory>
+        requires width { width ≤ MOST_ATTRIBUTES }
         ensures on { IfOk result (λ counters. switches_of counters ≡ replicate (length deps.now) true) }
     {
-        let index = Index::make(alloc, deps, width)?;
+        let index = Index::new(alloc, deps, width)?;
         let mut counts = Vec::with_capacity(alloc, deps.len())?;
         for dep in deps {
             let (lhs, _) = sides(*dep);
@@ -61,9 +61,9 @@ impl Counters {
     }
 
     /// Turns member `k` on or off.
-    pub fn turn(&mut self, k: usize, on: bool)
+    pub fn switch(&mut self, k: usize, on: bool)
         requires member { k < length (switches_of self.old) }
-        ensures turned { switches_of self.new ≡ slice_set (switches_of self.old) k on }
+        ensures switched { switches_of self.new ≡ slice_set (switches_of self.old) k on }
     {
         self.on[k] = on;
     }
@@ -75,14 +75,14 @@ ghost use Rattle.fd_closure.specs.Counting.{switches_of};
 pub fn closure_with(counters: &mut Counters, deps: &[Dep], from: AttrSet) -> AttrSet
     requires members { length (switches_of counters.old) ≡ length deps.now }
     ensures closure { (n : ℕ) → All (IsDepWithin (below n)) deps.now
-        → Within (places from) (below n)
-        → (a : ℕ) → (places result a ≡ true)
+        → IsSubset (attributes from) (below n)
+        → (a : ℕ) → (attributes result a ≡ true)
         ↔ InClosure n (functional_part (dependencies_of (members_on (switches_of counters.old) deps.now)))
-        (places from) a }
+        (attributes from) a }
     ensures switches { switches_of counters.new ≡ switches_of counters.old }
 {
-    let all = AttrSet::full(PLACES);
-    close(
+    let all = AttrSet::full(MOST_ATTRIBUTES);
+    close_from(
         &counters.index,
         &mut counters.counts,
         &counters.on,
@@ -97,13 +97,13 @@ pub fn closure_with(counters: &mut Counters, deps: &[Dep], from: AttrSet) -> Att
 pub fn follows_with(counters: &mut Counters, deps: &[Dep], lhs: AttrSet, rhs: AttrSet) -> bool
     requires members { length (switches_of counters.old) ≡ length deps.now }
     ensures implied { (n : ℕ) → All (IsDepWithin (below n)) deps.now
-        → Within (places lhs) (below n) → Within (places rhs) (below n)
+        → IsSubset (attributes lhs) (below n) → IsSubset (attributes rhs) (below n)
         → IsTrue result
         ↔ Implies n (functional_part (dependencies_of (members_on (switches_of counters.old) deps.now)))
-        (fd (places lhs) (places rhs)) }
+        (fd (attributes lhs) (attributes rhs)) }
     ensures switches { switches_of counters.new ≡ switches_of counters.old }
 {
-    let found = close(
+    let found = close_from(
         &counters.index,
         &mut counters.counts,
         &counters.on,
@@ -111,11 +111,11 @@ pub fn follows_with(counters: &mut Counters, deps: &[Dep], lhs: AttrSet, rhs: At
         lhs,
         rhs,
     );
-    rhs.within(found)
+    rhs.is_subset(found)
 }
 
 // What follows from a set: all of it, unless what is wanted is found before.
-fn close(
+fn close_from(
     index: &Index,
     counts: &mut [Count],
     on: &[bool],
@@ -124,14 +124,15 @@ fn close(
     wanted: AttrSet,
 ) -> AttrSet
     requires members { length on.now ≡ length deps.now }
-    ensures grows { Grows (members_on on.now deps.now) (places from) (places result) }
-    ensures found { Within (places wanted) (places result)
-        ⊎ IsSettled (functional_part (dependencies_of (members_on on.now deps.now))) (places result) }
+    ensures grows { Grows (members_on on.now deps.now) (attributes from) (attributes result) }
+    ensures found { IsSubset (attributes wanted) (attributes result)
+        ⊎ IsFunctionallyClosed (functional_part (dependencies_of (members_on on.now deps.now)))
+        (attributes result) }
 {
     let mut closed = from;
     loop {
-        let near = spread(index, counts, on, deps, closed, wanted);
-        if wanted.within(near) {
+        let near = spread_by_counts(index, counts, on, deps, closed, wanted);
+        if wanted.is_subset(near) {
             return near;
         }
         // what no count told: members with an empty left side, and in the end none
@@ -145,7 +146,7 @@ fn close(
 
 // What follows from a set as far as the counts tell: each attribute that is found lowers the count of
 // those that miss it.
-fn spread(
+fn spread_by_counts(
     index: &Index,
     counts: &mut [Count],
     on: &[bool],
@@ -154,20 +155,20 @@ fn spread(
     wanted: AttrSet,
 ) -> AttrSet
     requires members { length on.now ≡ length deps.now }
-    ensures grows { Grows (members_on on.now deps.now) (places from) (places result) }
+    ensures grows { Grows (members_on on.now deps.now) (attributes from) (attributes result) }
 {
     miss_all(counts);
     let mut closed = from;
-    let mut untold = from;
-    for _ in 0..PLACES {
-        let Some(attribute) = untold.least() else {
+    let mut untried = from;
+    for _ in 0..MOST_ATTRIBUTES {
+        let Some(attribute) = untried.first() else {
             return closed;
         };
-        if wanted.within(closed) {
+        if wanted.is_subset(closed) {
             return closed;
         }
-        let more = tell(index.members_with(attribute), counts, on, deps, closed);
-        untold = untold.without(attribute).union(more.minus(closed));
+        let more = add_told_members(index.members_with(attribute), counts, on, deps, closed);
+        untried = untried.without(attribute).union(more.difference(closed));
         closed = more;
     }
     closed
@@ -182,7 +183,7 @@ fn miss_all(counts: &mut [Count]) {
 
 // The set with the right sides of those of some members, each of which has found one more attribute,
 // that are on and miss none now.
-fn tell(
+fn add_told_members(
     members: &[usize],
     counts: &mut [Count],
     on: &[bool],
@@ -190,7 +191,7 @@ fn tell(
     closed: AttrSet,
 ) -> AttrSet
     requires members { length on.now ≡ length deps.now }
-    ensures grows { Grows (members_on on.now deps.now) (places closed) (places result) }
+    ensures grows { Grows (members_on on.now deps.now) (attributes closed) (attributes result) }
 {
     let mut more = closed;
     for k in members {
@@ -214,7 +215,7 @@ fn misses_none(counts: &mut [Count], k: usize) -> bool {
 // The set with the right side of member `k`, where it is on and the set holds its left side.
 fn with_right_side_on(on: &[bool], deps: &[Dep], k: usize, closed: AttrSet) -> AttrSet
     requires members { length on.now ≡ length deps.now }
-    ensures grows { Grows (members_on on.now deps.now) (places closed) (places result) }
+    ensures grows { Grows (members_on on.now deps.now) (attributes closed) (attributes result) }
 {
     if k < on.len() && on[k] {
         with_right_side(deps[k], closed)
@@ -227,9 +228,10 @@ fn with_right_side_on(on: &[bool], deps: &[Dep], k: usize, closed: AttrSet) -> A
 // hold, where each is tried once.
 fn with_right_sides_on(on: &[bool], deps: &[Dep], closed: AttrSet) -> AttrSet
     requires members { length on.now ≡ length deps.now }
-    ensures grows { Grows (members_on on.now deps.now) (places closed) (places result) }
-    ensures settled { Within (places result) (places closed)
-        → IsSettled (functional_part (dependencies_of (members_on on.now deps.now))) (places closed) }
+    ensures grows { Grows (members_on on.now deps.now) (attributes closed) (attributes result) }
+    ensures functionally_closed { IsSubset (attributes result) (attributes closed)
+        → IsFunctionallyClosed (functional_part (dependencies_of (members_on on.now deps.now)))
+        (attributes closed) }
 {
     let mut more = closed;
     for (k, dep) in deps.iter().enumerate() {
@@ -241,8 +243,8 @@ fn with_right_sides_on(on: &[bool], deps: &[Dep], closed: AttrSet) -> AttrSet
 }
 
 impl Index {
-    fn make(alloc: Global, deps: &[Dep], width: u8) -> Result<Index, WantMemory>
-        requires width { width ≤ PLACES }
+    fn new(alloc: Global, deps: &[Dep], width: u8) -> Result<Index, OutOfMemory>
+        requires width { width ≤ MOST_ATTRIBUTES }
     {
         let mut starts = Vec::with_capacity(alloc, width as usize + 1)?;
         let mut members = Vec::new(alloc);
@@ -268,12 +270,12 @@ impl Index {
 }
 
 // Adds the functional dependencies whose left side holds an attribute.
-fn add_members(members: &mut Vec<usize>, deps: &[Dep], attribute: u8) -> Result<(), WantMemory>
-    requires attribute { attribute < PLACES }
+fn add_members(members: &mut Vec<usize>, deps: &[Dep], attribute: u8) -> Result<(), OutOfMemory>
+    requires attribute { attribute < MOST_ATTRIBUTES }
 {
     for (k, dep) in deps.iter().enumerate() {
         match *dep {
-            Dep::Fd { lhs, .. } if lhs.has(attribute) => members.push(k)?,
+            Dep::Fd { lhs, .. } if lhs.contains(attribute) => members.push(k)?,
             _ => {}
         }
     }

@@ -8,9 +8,9 @@
 
 mod closing;
 mod counting;
+mod greedy_key;
 pub mod laws;
-mod settling;
 
 pub use closing::{closure, follows};
 pub use counting::{Counters, closure_with, follows_with};
-pub use settling::functional_key;
+pub use greedy_key::functional_key;

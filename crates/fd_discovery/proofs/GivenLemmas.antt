@@ -6,12 +6,12 @@ use Rattle.std.proofs.lemmas.Bool.{cases_lt, cases_Bool, true≢false}
 use Rattle.std.proofs.lemmas.Bool.Decides.{nat_tests}
 use Rattle.std.proofs.lemmas.List.{length_push, get_or_append_left, take_more, map-append}
 use Rattle.std.proofs.lemmas.List.Quantifiers.{Any-push}
-use Rattle.attr_sets.specs.Places.{Places, Within, below, minus, union}
+use Rattle.attr_sets.specs.Attributes.{Attributes, IsSubset, below, difference, union}
 use Rattle.dep_model.specs.Dependencies.{Dependency, left_of, right_of}
 use Rattle.dep_model.specs.Deps.{dependency_of, dependencies_of}
 use Rattle.dep_model.specs.declared.dep.Dep.{Dep}
 use Rattle.fd_discovery.specs.Searching.{IsGivenFrom, AreNotGiven}
-use Rattle.attr_sets.proofs.PlacesLemmas.{same_at}
+use Rattle.attr_sets.proofs.AttributesLemmas.{same_at}
 use Rattle.dep_model.proofs.ListLemmas.{Any-weaker, Any-left}
 
 -- ---- some element is such
@@ -28,39 +28,39 @@ Any-push_cases P xs y h = elim (cases_lt h.0 (length xs)) [
 
 -- ---- what is given
 -- one more is listed
-pub given_still : (ds : List Dependency) (d : Dependency) (x : Places) (a : ℕ) → IsGivenFrom ds x a
+pub given_still : (ds : List Dependency) (d : Dependency) (x : Attributes) (a : ℕ) → IsGivenFrom ds x a
     → IsGivenFrom (ds ++ d ∷ []) x a
-given_still ds d x a = Any-left (λ (e : Dependency). Within (left_of e) x × (right_of e a ≡ true)) ds d
+given_still ds d x a = Any-left (λ (e : Dependency). IsSubset (left_of e) x × (right_of e a ≡ true)) ds d
 
-pub given_now : (ds : List Dependency) (d : Dependency) (x : Places) (a : ℕ) → Within (left_of d) x
+pub given_now : (ds : List Dependency) (d : Dependency) (x : Attributes) (a : ℕ) → IsSubset (left_of d) x
     → right_of d a ≡ true → IsGivenFrom (ds ++ d ∷ []) x a
-given_now ds d x a left right = Any-push (λ (e : Dependency). Within (left_of e) x × (right_of e a ≡ true)) ds d
+given_now ds d x a left right = Any-push (λ (e : Dependency). IsSubset (left_of e) x × (right_of e a ≡ true)) ds d
     (left, right)
 
-pub given_cases : (ds : List Dependency) (d : Dependency) (x : Places) (a : ℕ) → IsGivenFrom (ds ++ d ∷ []) x a
-    → IsGivenFrom ds x a ⊎ (Within (left_of d) x × (right_of d a ≡ true))
-given_cases ds d x a = Any-push_cases (λ (e : Dependency). Within (left_of e) x × (right_of e a ≡ true)) ds d
+pub given_cases : (ds : List Dependency) (d : Dependency) (x : Attributes) (a : ℕ) → IsGivenFrom (ds ++ d ∷ []) x a
+    → IsGivenFrom ds x a ⊎ (IsSubset (left_of d) x × (right_of d a ≡ true))
+given_cases ds d x a = Any-push_cases (λ (e : Dependency). IsSubset (left_of e) x × (right_of e a ≡ true)) ds d
 
 -- from a larger set
-pub given_more : (ds : List Dependency) (x y : Places) (a : ℕ) → Within x y → IsGivenFrom ds x a → IsGivenFrom ds y a
-given_more ds x y a inside = Any-weaker (λ (e : Dependency). Within (left_of e) x × (right_of e a ≡ true))
-    (λ (e : Dependency). Within (left_of e) y × (right_of e a ≡ true)) ds (λ e h. ((λ k m. inside k (h.0 k m)), h.1))
+pub given_more : (ds : List Dependency) (x y : Attributes) (a : ℕ) → IsSubset x y → IsGivenFrom ds x a → IsGivenFrom ds y a
+given_more ds x y a inside = Any-weaker (λ (e : Dependency). IsSubset (left_of e) x × (right_of e a ≡ true))
+    (λ (e : Dependency). IsSubset (left_of e) y × (right_of e a ≡ true)) ds (λ e h. ((λ k m. inside k (h.0 k m)), h.1))
 
 -- a set and what is given from it
-pub record IsSoFar (ds : List Dependency) (x given : Places) : Type 0 where
-  pub grows : Within x given
+pub record IsSoFar (ds : List Dependency) (x given : Attributes) : Type 0 where
+  pub grows : IsSubset x given
   pub known : (a : ℕ) → given a ≡ true → (x a ≡ true) ⊎ IsGivenFrom ds x a
   pub all : (a : ℕ) → IsGivenFrom ds x a → given a ≡ true
 
-pub so_far_none : (x : Places) → IsSoFar [] x x
+pub so_far_none : (x : Attributes) → IsSoFar [] x x
 so_far_none x = record {
   grows = λ k m. m;
   known = λ a m. inl m;
   all = λ a h. absurd (omega (arith, h.2));
 }
 
-pub so_far_in : (ds : List Dependency) (d : Dependency) (x given more : Places) → IsSoFar ds x given
-    → Within (left_of d) x → more ≡ union given (right_of d)
+pub so_far_in : (ds : List Dependency) (d : Dependency) (x given more : Attributes) → IsSoFar ds x given
+    → IsSubset (left_of d) x → more ≡ union given (right_of d)
     → IsSoFar (ds ++ d ∷ []) x more
 so_far_in ds d x given more old inside same = record {
   grows = λ k m. same_at same k ∙ left k (old.grows k m);
@@ -90,8 +90,8 @@ so_far_in ds d x given more old inside same = record {
     added : (k : ℕ) → given k ≡ false → union given (right_of d) k ≡ true → right_of d k ≡ true
     added k out m = sym (ap (λ (b : Bool). b || right_of d k) out) ∙ m
 
-pub so_far_out : (ds : List Dependency) (d : Dependency) (x given : Places) → IsSoFar ds x given
-    → (Within (left_of d) x → ⊥) → IsSoFar (ds ++ d ∷ []) x given
+pub so_far_out : (ds : List Dependency) (d : Dependency) (x given : Attributes) → IsSoFar ds x given
+    → (IsSubset (left_of d) x → ⊥) → IsSoFar (ds ++ d ∷ []) x given
 so_far_out ds d x given old outside = record {
   grows = old.grows;
   known = λ a m. elim (old.known a m) [
@@ -104,8 +104,8 @@ so_far_out ds d x given old outside = record {
   ];
 }
 
-pub not_given_from : (n : ℕ) (ds : List Dependency) (x given full rest : Places) → IsSoFar ds x given
-    → full ≡ below n → rest ≡ minus full given → AreNotGiven n ds x rest
+pub not_given_from : (n : ℕ) (ds : List Dependency) (x given full rest : Attributes) → IsSoFar ds x given
+    → full ≡ below n → rest ≡ difference full given → AreNotGiven n ds x rest
 not_given_from n ds x given full rest so_far whole same = record {
   within = λ k m. sym (same_at whole k) ∙ first (full k) (given k) (sym (same_at same k) ∙ m);
   outside = λ a m. elim (cases_Bool (x a)) [

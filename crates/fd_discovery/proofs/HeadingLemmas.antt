@@ -10,25 +10,25 @@ use Rattle.csv_rows.specs.Records.{HasLeft, TakesRecord}
 use Rattle.csv_rows.specs.Numberings.{row_at}
 use Rattle.dep_model.specs.Tuples.{Tuple, Relation, IsOver}
 use Rattle.fd_discovery.specs.Headers.{IsColumnHeader, RefusesColumnHeader}
-use Rattle.fd_discovery.specs.Headings.{AreEven, RefusesRows, ReadsNames, RefusesNames, IsHeaded, IsRefusedDiscovery, names_under, rows_under}
-use Rattle.fd_discovery.specs.declared.headed.Headed.{Headed}
-use Rattle.fd_discovery.specs.declared.headed.TheConstants.{MOST_HEADED_ROWS}
+use Rattle.fd_discovery.specs.Headings.{HaveWidth, RefusesRows, ReadsNames, RefusesNames, IsHeaded, IsRefusedDiscovery, names_under, rows_under}
+use Rattle.fd_discovery.specs.declared.headed_rows.Headed.{Headed}
+use Rattle.fd_discovery.specs.declared.headed_rows.TheConstants.{MOST_HEADED_ROWS}
 use Rattle.dep_model.specs.Failures.{RefusesAs}
 use Rattle.dep_model.specs.declared.failure.Failure.{Failure}
 use Rattle.fd_discovery.specs.declared.refusal.DiscoverRefusal.{DiscoverRefusal}
 use Rattle.fd_discovery.specs.declared.refusal.DiscoverRefusal.TheVariants as refusal
 
 -- the first record was taken, or there was none
-taken_one : (old new : Reader (Bor (List ℕ))) (fields : List (List ℕ)) (b : Bool) (rs : List (List (List ℕ)))
+TakesRows-one : (old new : Reader (Bor (List ℕ))) (fields : List (List ℕ)) (b : Bool) (rs : List (List (List ℕ)))
     → b ≡ true → TakesRecord b old new fields → HasLeft old rs
     → (more : List (List (List ℕ))) × (rs ≡ fields ∷ more) × HasLeft new more
-taken_one old new fields b rs is takes left =
+TakesRows-one old new fields b rs is takes left =
     let takes : TakesRecord true old new fields = subst (λ (t : Bool). TakesRecord t old new fields) is takes in
     takes rs left
 
-taken_none : (old new : Reader (Bor (List ℕ))) (fields : List (List ℕ)) (b : Bool) (rs : List (List (List ℕ)))
+TakesRows-none : (old new : Reader (Bor (List ℕ))) (fields : List (List ℕ)) (b : Bool) (rs : List (List (List ℕ)))
     → b ≡ false → TakesRecord b old new fields → HasLeft old rs → rs ≡ []
-taken_none old new fields b rs is takes left =
+TakesRows-none old new fields b rs is takes left =
     let takes : TakesRecord false old new fields = subst (λ (t : Bool). TakesRecord t old new fields) is takes in
     takes rs left
 
@@ -39,7 +39,7 @@ pub names_read : {T : Type 0} (names : T → List (List ℕ)) (old new : Reader 
     → IfOk r (λ v. names v ≡ fields) → IfOk r (λ _. IsColumnHeader fields) → IfOk r (λ v. ReadsNames rs new (names v))
 names_read names old new fields b (Err e) rs is takes left all header = tt
 names_read names old new fields b (Ok v) rs is takes left all header =
-    let (more, whole, rest) = taken_one old new fields b rs is takes left in
+    let (more, whole, rest) = TakesRows-one old new fields b rs is takes left in
     record {
       records = more;
       all = whole ∙ ap (λ (f : List (List ℕ)). f ∷ more) (sym all);
@@ -53,14 +53,14 @@ pub names_refused : {T : Type 0} (old new : Reader (Bor (List ℕ))) (fields : L
     → IfErr r (RefusesAs (RefusesColumnHeader fields)) → IfErr r (RefusesAs (RefusesNames rs))
 names_refused old new fields b (Ok v) rs is takes left refused = tt
 names_refused old new fields b (Err e) rs is takes left refused =
-    let (more, whole, rest) = taken_one old new fields b rs is takes left in
+    let (more, whole, rest) = TakesRows-one old new fields b rs is takes left in
     subst (λ (l : List (List (List ℕ))). RefusesAs (RefusesNames l) e) (sym whole) refused
 
 pub no_names : (old new : Reader (Bor (List ℕ))) (fields : List (List ℕ)) (b : Bool) (rs : List (List (List ℕ)))
     → b ≡ false → TakesRecord b old new fields → HasLeft old rs → RefusesNames rs refusal.NoHeader
 no_names old new fields b rs is takes left =
     subst (λ (l : List (List (List ℕ))). RefusesNames l refusal.NoHeader)
-    (sym (taken_none old new fields b rs is takes left)) refl
+    (sym (TakesRows-none old new fields b rs is takes left)) refl
 
 -- records of which the first were taken as rows
 pub record TakesRows (rs : List (List (List ℕ))) (reader : Reader (Bor (List ℕ))) (rows : Relation) : Type 0 where
@@ -72,7 +72,7 @@ pub takes_row : (rs : List (List (List ℕ))) (old new : Reader (Bor (List ℕ))
     (rows : Relation) (t : Tuple)
     → TakesRows rs old rows → b ≡ true → TakesRecord b old new fields → t ≡ fields → TakesRows rs new (rows ++ t ∷ [])
 takes_row rs old new b fields rows t p is takes same =
-    let (more, whole, rest) = taken_one old new fields b p.rest is takes p.left in
+    let (more, whole, rest) = TakesRows-one old new fields b p.rest is takes p.left in
     record {
       rest = more;
       all = p.all ∙ ap (λ (l : List (List (List ℕ))). rows ++ l)
@@ -85,7 +85,7 @@ pub takes_all_rows : (rs : List (List (List ℕ))) (old new : Reader (Bor (List 
     → TakesRows rs old rows → b ≡ false → TakesRecord b old new fields → rows ≡ rs
 takes_all_rows rs old new b fields rows p is takes =
     sym (append-nil rows) ∙ ap (λ (l : List (List (List ℕ))). rows ++ l)
-    (sym (taken_none old new fields b p.rest is takes p.left)) ∙ sym p.all
+    (sym (TakesRows-none old new fields b p.rest is takes p.left)) ∙ sym p.all
 
 -- the record at hand stands after the rows
 module _ (n : ℕ) (rs : List (List (List ℕ))) (old new : Reader (Bor (List ℕ))) (b : Bool) (fields : List (List ℕ))
@@ -93,7 +93,7 @@ module _ (n : ℕ) (rs : List (List (List ℕ))) (old new : Reader (Bor (List �
     (is : b ≡ true) (takes : TakesRecord b old new fields) (even : IsOver n rows) where
   at_hand : (more : List (List (List ℕ))) × (rs ≡ rows ++ fields ∷ more)
   at_hand =
-      let (more, whole, rest) = taken_one old new fields b p.rest is takes p.left in
+      let (more, whole, rest) = TakesRows-one old new fields b p.rest is takes p.left in
       (more, p.all ∙ ap (λ (l : List (List (List ℕ))). rows ++ l) whole)
 
   here : row_at rs (length rows) ≡ fields
@@ -103,7 +103,7 @@ module _ (n : ℕ) (rs : List (List (List ℕ))) (old new : Reader (Bor (List �
   within : length rows < length rs
   within = omega (arith, ap length at_hand.1 ∙ length-append rows (fields ∷ at_hand.0))
 
-  even_before : AreEven n rs (length rows)
+  even_before : HaveWidth n rs (length rows)
   even_before i l =
       ap (λ (m : List (List (List ℕ))). length (row_at m i)) at_hand.1
       ∙ ap length (get_or_append_left rows (fields ∷ at_hand.0) [] i l)

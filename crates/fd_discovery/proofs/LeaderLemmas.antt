@@ -5,17 +5,17 @@ use Rattle.std.proofs.lemmas.Bool.{cases_lt, cases_eq, true≢false}
 use Rattle.std.proofs.lemmas.List.{get_or-set_same, get_or-set_other, get_or_default, get_or_append_left, get_or-replicate, length-replicate}
 use Rattle.std.proofs.Math.Seq.{get_or-append_seam}
 use Rattle.std.proofs.lemmas.List.Elements.{Contains-get_or}
-use Rattle.attr_sets.specs.Places.{Places, IsEmpty, only, union}
+use Rattle.attr_sets.specs.Attributes.{Attributes, IsEmpty, only, union}
 use Rattle.dep_model.specs.Tuples.{Tuple, Relation, AgreeOn}
 use Rattle.dep_model.specs.Dependencies.{ObeysFd}
 use Rattle.csv_rows.specs.Numberings.{row_at, number_at, AreGroups}
 use Rattle.csv_rows.specs.Interning.{codes_at}
 use Rattle.fd_discovery.specs.Leaders.{AreLeaders, IsOrderOf, IsTableOfRows, order_at}
-use Rattle.fd_discovery.specs.declared.table.Table.{Table}
+use Rattle.fd_discovery.specs.declared.table.CodeColumns.{CodeColumns}
 use Rattle.dep_model.proofs.TwoRowLemmas.{AgreeOn-union, AgreeOn-left, AgreeOn-right}
 use Rattle.csv_rows.proofs.NumberingLemmas.{row_of}
 
-module _ (r : Relation) (x : Places) (leaders : List ℕ) (led : AreLeaders r x leaders) where
+module _ (r : Relation) (x : Attributes) (leaders : List ℕ) (led : AreLeaders r x leaders) where
   abbrev lead : ℕ → ℕ
   lead i = number_at leaders i
 
@@ -50,9 +50,9 @@ module _ (r : Relation) (x : Places) (leaders : List ℕ) (led : AreLeaders r x 
       subst (λ (v : Tuple). AgreeOn (only k) v u) is_t
       (subst (λ (w : Tuple). AgreeOn (only k) (row_at r i) w) is_u there)
 
--- the rows of an order before a place have new leaders: the latest of their old leader at that time.
--- `lead` gives the old leader of a row, `code` its number in the column and `row` the row at a place
--- of the order; n is how many rows there are, m how many places
+-- the rows of an order before a position have new leaders: the latest of their old leader at that time.
+-- `lead` gives the old leader of a row, `code` its number in the column and `row` the row at a position
+-- of the order; n is how many rows there are, m how many positions
 pub record Refines (n m : ℕ) (lead code row : ℕ → ℕ) (p : ℕ) (latest finer : ℕ → ℕ) : Type 0 where
   pub latest_leads : (i : ℕ) → i < n → lead (latest (lead i)) ≡ lead i
   pub within : (q : ℕ) → q < p → finer (row q) < n
@@ -88,7 +88,7 @@ module _ (n m : ℕ) (lead code row : ℕ → ℕ) (p : ℕ) (latest finer : ℕ
       (at_leader : latest' (lead (row p)) ≡ to) (elsewhere : (g : ℕ) → g ≢ lead (row p) → latest' g ≡ latest g)
       (at_row : finer' (row p) ≡ to) (others : (i : ℕ) → i ≢ row p → finer' i ≡ finer i)
       (joins : (q : ℕ) → q < p → lead (row q) ≡ lead (row p) → code (row q) ≡ code (row p) → finer (row q) ≡ to) where
-    -- the row at an earlier place is this row again, or it is not
+    -- the row at an earlier position is this row again, or it is not
     which : (q : ℕ) → q < p + 1 → (row q ≡ row p) ⊎ ((q < p) × (finer' (row q) ≡ finer (row q)))
     which q l = elim (cases_eq (row q) (row p)) [
       | inl same ↦ inl same
@@ -247,17 +247,17 @@ module _ (leaders codes order latest finer : List ℕ) (p : ℕ)
       (number_at latest) (number_at finer) old ascending here equal)
 
 -- all rows have new leaders: those on the set and the column
-pub all_refined : (r : Relation) (x : Places) (k : ℕ) (leaders codes order latest finer : List ℕ) (p : ℕ)
+pub all_refined : (r : Relation) (x : Attributes) (k : ℕ) (leaders codes order latest finer : List ℕ) (p : ℕ)
     → AreLeaders r x leaders → AreGroups r (only k) codes → IsOrderOf codes order
     → Refines (length leaders) (length order) (number_at leaders) (number_at codes) (number_at order) p
     (number_at latest) (number_at finer)
     → length finer ≡ length leaders → p ≡ length order → AreLeaders r (union x (only k)) finer
 all_refined r x k leaders codes order latest finer p led groups ordered refined size end = record {
   one_each = size ∙ led.one_each;
-  within = λ i l. let (q, at, is) = place i l in
+  within = λ i l. let (q, at, is) = position i l in
       subst (λ (j : ℕ). number_at finer j < length r) is (omega (arith, refined.within q at, led.one_each));
   agrees = λ i l.
-      let (q, at, is) = place i l in
+      let (q, at, is) = position i l in
       let new : number_at finer i < length r =
       subst (λ (j : ℕ). number_at finer j < length r) is (omega (arith, refined.within q at, led.one_each)) in
       let lead_same : number_at leaders (number_at finer i) ≡ number_at leaders i =
@@ -267,8 +267,8 @@ all_refined r x k leaders codes order latest finer p led groups ordered refined 
       AgreeOn-union x (only k) _ _ (one_leader r x leaders led i (number_at finer i) l new (sym lead_same))
       ((groups.equal i (number_at finer i) l new).0 (sym code_same));
   same = λ i j li lj agree.
-      let (q, at_q, is_q) = place i li in
-      let (s, at_s, is_s) = place j lj in
+      let (q, at_q, is_q) = position i li in
+      let (s, at_s, is_s) = position j lj in
       let lead_same : number_at leaders i ≡ number_at leaders j =
       led.same i j li lj (AgreeOn-left x (only k) _ _ agree) in
       let code_same : number_at codes i ≡ number_at codes j =
@@ -279,13 +279,13 @@ all_refined r x k leaders codes order latest finer p led groups ordered refined 
       ∙ ap (number_at finer) is_s;
 }
   where
-    place : (i : ℕ) → i < length r → (q : ℕ) × (q < p) × (number_at order q ≡ i)
-    place i l =
+    position : (i : ℕ) → i < length r → (q : ℕ) × (q < p) × (number_at order q ≡ i)
+    position i l =
         let at = ordered.all i (omega (arith, l, groups.one_each)) in
         (at.0, omega (arith, at.1, end), at.2)
 
 -- all rows agree on nothing, so the first row leads them
-pub first_leads : (r : Relation) (x : Places) (leaders : List ℕ) → IsEmpty x → leaders ≡ replicate (length r) 0
+pub first_leads : (r : Relation) (x : Attributes) (leaders : List ℕ) → IsEmpty x → leaders ≡ replicate (length r) 0
     → AreLeaders r x leaders
 first_leads r x leaders empty is = record {
   one_each = ap length is ∙ length-replicate (length r) 0;
@@ -298,9 +298,9 @@ first_leads r x leaders empty is = record {
     zero i l = ap (λ (s : List ℕ). number_at s i) is ∙ get_or-replicate (length r) i 0 0 l
 
 -- a set looks at its members alone
-pub same_leaders : (r : Relation) (x y : Places) (leaders : List ℕ) → x ≡ y → AreLeaders r x leaders
+pub same_leaders : (r : Relation) (x y : Attributes) (leaders : List ℕ) → x ≡ y → AreLeaders r x leaders
     → AreLeaders r y leaders
-same_leaders r x y leaders same led = subst (λ (z : Places). AreLeaders r z leaders) same led
+same_leaders r x y leaders same led = subst (λ (z : Attributes). AreLeaders r z leaders) same led
 
 -- one order more
 pub orders_more : (P : ℕ → List ℕ → Type 0) (orders : List (List ℕ)) (order : List ℕ) (n : ℕ) → length orders ≡ n
@@ -317,24 +317,24 @@ orders_more P orders order n size old new k l = elim (cases_lt k n) [
       subst (λ (j : ℕ). P j (slice_index_or (orders ++ order ∷ []) j [])) at (subst (λ (o : List ℕ). P n o) is new)
 ]
 
--- what the table has of a column
-pub column_groups : (n : ℕ) (r : Relation) (t : Table) (place : ℕ) (codes : List ℕ) → IsTableOfRows n r t → place < n
-    → codes ≡ codes_at t.codes place → AreGroups r (only place) codes
-column_groups n r t place codes table low is =
-    subst (λ (l : List ℕ). AreGroups r (only place) l) (sym is) (table.codes.codes place low)
+-- the numbers of a column group the rows by that column
+pub column_groups : (n : ℕ) (r : Relation) (t : CodeColumns) (position : ℕ) (codes : List ℕ) → IsTableOfRows n r t → position < n
+    → codes ≡ codes_at t.codes position → AreGroups r (only position) codes
+column_groups n r t position codes table low is =
+    subst (λ (l : List ℕ). AreGroups r (only position) l) (sym is) (table.codes.codes position low)
 
--- the leaders on a set with one place more
-pub leaders_with : (n : ℕ) (r : Relation) (t : Table) (set larger : Places) (place : ℕ)
-    (codes row order finer : List ℕ) → IsTableOfRows n r t → place < n
-    → codes ≡ codes_at t.codes place → order ≡ row → row ≡ slice_index_or t.orders.items place row
-    → larger ≡ union set (only place)
-    → (AreGroups r (only place) codes → IsOrderOf codes order → AreLeaders r (union set (only place)) finer)
+-- the leaders on a set with one attribute more
+pub leaders_with : (n : ℕ) (r : Relation) (t : CodeColumns) (set larger : Attributes) (position : ℕ)
+    (codes row order finer : List ℕ) → IsTableOfRows n r t → position < n
+    → codes ≡ codes_at t.codes position → order ≡ row → row ≡ slice_index_or t.orders.items position row
+    → larger ≡ union set (only position)
+    → (AreGroups r (only position) codes → IsOrderOf codes order → AreLeaders r (union set (only position)) finer)
     → AreLeaders r larger finer
-leaders_with n r t set larger place codes row order finer table low is_codes is_order is_row same refined =
-    let within : place < length t.orders.items = omega (arith, low, table.one_each) in
-    let order_is : order ≡ order_at t place = is_order ∙ is_row ∙ get_or_default t.orders.items place row [] within in
+leaders_with n r t set larger position codes row order finer table low is_codes is_order is_row same refined =
+    let within : position < length t.orders.items = omega (arith, low, table.one_each) in
+    let order_is : order ≡ order_at t position = is_order ∙ is_row ∙ get_or_default t.orders.items position row [] within in
     let ordered : IsOrderOf codes order =
     subst (λ (l : List ℕ). IsOrderOf l order) (sym is_codes)
-    (subst (λ (l : List ℕ). IsOrderOf (codes_at t.codes place) l) (sym order_is) (table.orders place low)) in
-    same_leaders r (union set (only place)) larger finer (sym same)
-    (refined (column_groups n r t place codes table low is_codes) ordered)
+    (subst (λ (l : List ℕ). IsOrderOf (codes_at t.codes position) l) (sym order_is) (table.orders position low)) in
+    same_leaders r (union set (only position)) larger finer (sym same)
+    (refined (column_groups n r t position codes table low is_codes) ordered)

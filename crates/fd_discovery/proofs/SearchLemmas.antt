@@ -6,8 +6,8 @@ use Rattle.std.proofs.lemmas.Bool.{cases_lt, cases_Bool, cases_order, true≢fal
 use Rattle.std.proofs.lemmas.Bool.Decides.{nat_tests}
 use Rattle.std.proofs.lemmas.List.Elements.{All-push, All-weaker, All-contains}
 use Rattle.std.proofs.lemmas.List.Quantifiers.{all_pairs_push}
-use Rattle.attr_sets.specs.Places.{Places, Within, IsEmpty, IsBefore, IsLeastFrom, IsNextSubset, below, only, minus, union}
-use Rattle.attr_sets.proofs.PlacesLemmas.{same_from_within, same_at}
+use Rattle.attr_sets.specs.Attributes.{Attributes, IsSubset, IsEmpty, IsBefore, IsFirstFrom, IsNextSubset, below, only, difference, union}
+use Rattle.attr_sets.proofs.AttributesLemmas.{same_from_within, same_at}
 use Rattle.attr_sets.proofs.OrderLemmas.{IsBefore-trans, tell_before, next_subset-is, next_subset-before}
 use Rattle.dep_model.specs.Tuples.{Relation, IsOver}
 use Rattle.dep_model.specs.Dependencies.{Dependency, fd, left_of, right_of, ObeysFd, Obeys, IsWithin}
@@ -28,23 +28,23 @@ only_before a b less = (
 )
 
 -- x is the same as y or comes before it
-abbrev IsUpTo : Places → Places → Type 0
+abbrev IsUpTo : Attributes → Attributes → Type 0
 IsUpTo x y = (x ≡ y) ⊎ IsBefore x y
 
-up_to_before : (x y z : Places) → IsUpTo x y → IsBefore y z → IsBefore x z
+up_to_before : (x y z : Attributes) → IsUpTo x y → IsBefore y z → IsBefore x z
 up_to_before x y z up before = elim up [
-  | inl same ↦ subst (λ (v : Places). IsBefore v z) (sym same) before
+  | inl same ↦ subst (λ (v : Attributes). IsBefore v z) (sym same) before
   | inr earlier ↦ IsBefore-trans x y z earlier before
 ]
 
-before_up_to : (x y z : Places) → IsBefore x y → IsUpTo y z → IsBefore x z
+before_up_to : (x y z : Attributes) → IsBefore x y → IsUpTo y z → IsBefore x z
 before_up_to x y z before up = elim up [
-  | inl same ↦ subst (λ (v : Places). IsBefore x v) same before
+  | inl same ↦ subst (λ (v : Attributes). IsBefore x v) same before
   | inr earlier ↦ IsBefore-trans x y z before earlier
 ]
 
 -- a subset is the same or comes before
-subset_up_to : (n : ℕ) (x y : Places) → Within y (below n) → Within x y → IsUpTo x y
+subset_up_to : (n : ℕ) (x y : Attributes) → IsSubset y (below n) → IsSubset x y → IsUpTo x y
 subset_up_to n x y low inside = elim (tell_before n x y (λ k m. low k (inside k m)) low) [
   | inl same ↦ inl same
   | inr other ↦ elim other [
@@ -56,13 +56,13 @@ subset_up_to n x y low inside = elim (tell_before n x y (λ k m. low k (inside k
 -- ---- one attribute of a set after the other
 -- minimal dependencies that were tried before y -> a, where `wanted` has the attributes that were not
 -- given from y before the first of them was tried
-pub record AreAdded (n : ℕ) (r : Relation) (y wanted : Places) (a : ℕ) (ds : List Dependency) : Type 0 where
+pub record AreAdded (n : ℕ) (r : Relation) (y wanted : Attributes) (a : ℕ) (ds : List Dependency) : Type 0 where
   pub found : AreFound n r y a ds
   pub outside : (b : ℕ) → wanted b ≡ true → y b ≡ false
   pub none : (b : ℕ) → a ≤ b → wanted b ≡ true → IsGivenFrom ds y b → ⊥
   pub rest : (b : ℕ) → b < n → wanted b ≡ false → y b ≡ false → IsGivenFrom ds y b
 
-pub added_none : (n : ℕ) (r : Relation) (y wanted : Places) (ds : List Dependency) → AreFound n r y 0 ds
+pub added_none : (n : ℕ) (r : Relation) (y wanted : Attributes) (ds : List Dependency) → AreFound n r y 0 ds
     → AreNotGiven n ds y wanted → AreAdded n r y wanted 0 ds
 added_none n r y wanted ds found given = record {
   found = found;
@@ -71,20 +71,20 @@ added_none n r y wanted ds found given = record {
   rest = given.rest;
 }
 
-tried_more : (y x : Places) (a b : ℕ) → IsTried y a x b → IsTried y (a + 1) x b
+tried_more : (y x : Attributes) (a b : ℕ) → IsTried y a x b → IsTried y (a + 1) x b
 tried_more y x a b tried = elim tried [
   | inl before ↦ inl before
   | inr same ↦ inr (same.0, omega (arith, same.1))
 ]
 
-found_more : (n : ℕ) (r : Relation) (y : Places) (a : ℕ) (d : Dependency) → IsFoundBefore n r y a d
+found_more : (n : ℕ) (r : Relation) (y : Attributes) (a : ℕ) (d : Dependency) → IsFoundBefore n r y a d
     → IsFoundBefore n r y (a + 1) d
 found_more n r y a d (x, b, is, minimal, tried) = (x, b, is, minimal, tried_more y x a b tried)
 
-module _ (n : ℕ) (r : Relation) (y wanted : Places) (a : ℕ) (ds : List Dependency) (y_in : Within y (below n))
+module _ (n : ℕ) (r : Relation) (y wanted : Attributes) (a : ℕ) (ds : List Dependency) (y_in : IsSubset y (below n))
     (a_in : a < n) (old : AreAdded n r y wanted a ds) where
   -- nothing is to be added where the attribute is given already, or the rows do not obey the dependency
-  found_same : ((x : Places) → x ≡ y → x a ≡ false → ObeysFd x (only a) r → IsGivenFrom ds x a)
+  found_same : ((x : Attributes) → x ≡ y → x a ≡ false → ObeysFd x (only a) r → IsGivenFrom ds x a)
       → AreFound n r y (a + 1) ds
   found_same here = record {
     each = All-weaker (IsFoundBefore n r y a) (IsFoundBefore n r y (a + 1)) (λ d. found_more n r y a d) ds old.found.each;
@@ -101,7 +101,7 @@ module _ (n : ℕ) (r : Relation) (y wanted : Places) (a : ℕ) (ds : List Depen
     ];
   }
 
-  added_same : ((x : Places) → x ≡ y → x a ≡ false → ObeysFd x (only a) r → IsGivenFrom ds x a)
+  added_same : ((x : Attributes) → x ≡ y → x a ≡ false → ObeysFd x (only a) r → IsGivenFrom ds x a)
       → AreAdded n r y wanted (a + 1) ds
   added_same here = record {
     found = found_same here;
@@ -116,7 +116,7 @@ module _ (n : ℕ) (r : Relation) (y wanted : Places) (a : ℕ) (ds : List Depen
 
   pub added_broken : (ObeysFd y (only a) r → ⊥) → AreAdded n r y wanted (a + 1) ds
   added_broken breaks = added_same (λ x same out obeys. absurd
-      (breaks (subst (λ (v : Places). ObeysFd v (only a) r) same obeys)))
+      (breaks (subst (λ (v : Attributes). ObeysFd v (only a) r) same obeys)))
 
   -- an attribute that is not given, of which the rows obey the dependency
   module _ (has : wanted a ≡ true) (obeys : ObeysFd y (only a) r) where
@@ -141,7 +141,7 @@ module _ (n : ℕ) (r : Relation) (y wanted : Places) (a : ℕ) (ds : List Depen
       };
     }
       where
-        without : (v : Places) → Within v y → v a ≡ false
+        without : (v : Attributes) → IsSubset v y → v a ≡ false
         without v inside = elim (cases_Bool (v a)) [
           | inl member ↦ absurd (true≢false (sym (inside a member) ∙ old.outside a has))
           | inr out ↦ out
@@ -181,13 +181,13 @@ module _ (n : ℕ) (r : Relation) (y wanted : Places) (a : ℕ) (ds : List Depen
       rest = λ b b_in lacks out. given_still ds (fd y (only a)) y b (old.rest b b_in lacks out);
     }
 
-pub added_all : (n : ℕ) (r : Relation) (y wanted : Places) (a : ℕ) (ds : List Dependency) → a ≡ n
+pub added_all : (n : ℕ) (r : Relation) (y wanted : Attributes) (a : ℕ) (ds : List Dependency) → a ≡ n
     → AreAdded n r y wanted a ds → AreFound n r y n ds
 added_all n r y wanted a ds end added = subst (λ (m : ℕ). AreFound n r y m ds) end added.found
 
 -- ---- one set after the other
 -- a set whose attributes are all tried, and the next one
-pub found_next : (n : ℕ) (r : Relation) (x y : Places) (ds : List Dependency) → Within x (below n)
+pub found_next : (n : ℕ) (r : Relation) (x y : Attributes) (ds : List Dependency) → IsSubset x (below n)
     → IsNextSubset (below n) x y → AreFound n r x n ds → AreFound n r y 0 ds
 found_next n r x y ds x_in next found = record {
   each = All-weaker (IsFoundBefore n r x n) (IsFoundBefore n r y 0) (λ d h. moved d h) ds found.each;
@@ -213,14 +213,14 @@ found_next n r x y ds x_in next found = record {
       ]),
     )
 
-pub found_same_set : (n : ℕ) (r : Relation) (x y : Places) (b : ℕ) (ds : List Dependency) → x ≡ y
+pub found_same_set : (n : ℕ) (r : Relation) (x y : Attributes) (b : ℕ) (ds : List Dependency) → x ≡ y
     → AreFound n r x b ds → AreFound n r y b ds
-found_same_set n r x y b ds same found = subst (λ (v : Places). AreFound n r v b ds) same found
+found_same_set n r x y b ds same found = subst (λ (v : Attributes). AreFound n r v b ds) same found
 
--- a set with members from `free` on, one place more below it, and the places below that
-module _ (n free i : ℕ) (set : Places) (set_in : Within set (below n)) (above : (k : ℕ) → set k ≡ true → free ≤ k)
-    (free_in : free ≤ n) (i_in : i < free) (larger : Places) (is : larger ≡ union set (only i)) where
-  pub larger_in : Within larger (below n)
+-- a set with members from `free` on, one attribute more below them, and the attributes below that
+module _ (n free i : ℕ) (set : Attributes) (set_in : IsSubset set (below n)) (above : (k : ℕ) → set k ≡ true → free ≤ k)
+    (free_in : free ≤ n) (i_in : i < free) (larger : Attributes) (is : larger ≡ union set (only i)) where
+  pub larger_in : IsSubset larger (below n)
   larger_in k m = elim (cases_Bool (set k)) [
     | inl member ↦ set_in k member
     | inr out ↦
@@ -236,7 +236,7 @@ module _ (n free i : ℕ) (set : Places) (set_in : Within set (below n)) (above 
         omega (arith, at)
   ]
 
-  before_in : Within (union set (below i)) (below n)
+  before_in : IsSubset (union set (below i)) (below n)
   before_in k m = elim (cases_Bool (set k)) [
     | inl member ↦ set_in k member
     | inr out ↦
@@ -244,7 +244,7 @@ module _ (n free i : ℕ) (set : Places) (set_in : Within set (below n)) (above 
         grind (arith, nat_tests, low, i_in, free_in)
   ]
 
-  -- the set with all places below i is followed by the set with i
+  -- the set with all attributes below i is followed by the set with i
   pub larger_next : IsNextSubset (below n) (union set (below i)) larger
   larger_next = next_subset-is (below n) (union set (below i)) larger i before_in least next
     where
@@ -255,27 +255,27 @@ module _ (n free i : ℕ) (set : Places) (set_in : Within set (below n)) (above 
         | inr out ↦ out
       ]
 
-      least : IsLeastFrom (minus (below n) (union set (below i))) 0 i
+      least : IsFirstFrom (difference (below n) (union set (below i))) 0 i
       least = record {
         from_on = omega arith;
         member = (let out : set i ≡ false = lacks i (omega arith) in grind (arith, nat_tests, out, i_in, free_in));
         least = λ k from l. grind (arith, nat_tests, l);
       }
 
-      next : larger ≡ union (minus (union set (below i)) (below i)) (only i)
+      next : larger ≡ union (difference (union set (below i)) (below i)) (only i)
       next = fun_ext (λ k. same_at is k ∙ elim (cases_lt k i) [
         | inl low ↦ let out : set k ≡ false = lacks k (omega (arith, low)) in grind (arith, nat_tests, low, out)
         | inr high ↦ grind (arith, nat_tests, high)
       ])
 
-  -- the set with i and all places below it is the set with all places up to i
+  -- the set with i and all attributes below it is the set with all attributes up to i
   pub larger_filled : union larger (below i) ≡ union set (below (i + 1))
   larger_filled = fun_ext (λ k. ap (λ (b : Bool). b || nat_lt k i) (same_at is k) ∙ elim (cases_order k i) [
     | inl same ↦ grind (arith, nat_tests, same)
     | inr other ↦ elim other [ inl low ↦ grind (arith, nat_tests, low) | inr high ↦ grind (arith, nat_tests, high) ]
   ])
 
-  top_in : Within (union set (below (i + 1))) (below n)
+  top_in : IsSubset (union set (below (i + 1))) (below n)
   top_in k m = elim (cases_Bool (set k)) [
     | inl member ↦ set_in k member
     | inr out ↦
@@ -287,8 +287,8 @@ module _ (n free i : ℕ) (set : Places) (set_in : Within set (below n)) (above 
   larger_up = subset_up_to n larger (union set (below (i + 1))) top_in
       (λ k m. sym (same_at larger_filled k) ∙ ap (λ (b : Bool). b || nat_lt k i) m)
 
-  -- a set after the set with i, up to the one with all places up to i, holds the set with i
-  holds : (v : Places) → IsBefore larger v → IsUpTo v (union set (below (i + 1))) → Within larger v
+  -- a set after the set with i, up to the one with all attributes up to i, holds the set with i
+  holds : (v : Attributes) → IsBefore larger v → IsUpTo v (union set (below (i + 1))) → IsSubset larger v
   holds v after up = elim (cases_lt after.0 i) [
     | inl low ↦ λ k m. sym (after.3 k (omega (arith, larger_above k m, low))) ∙ m
     | inr high ↦ absurd (elim up [
@@ -314,9 +314,9 @@ module _ (n free i : ℕ) (set : Places) (set_in : Within set (below n)) (above 
   found_at_larger r ds found = found_next n r (union set (below i)) larger ds before_in larger_next found
 
   -- where every attribute is given from the set with i, the sets up to the last that holds it are passed over
-  module _ (r : Relation) (ds : List Dependency) (wanted : Places) (found : AreFound n r (union set (below i)) n ds)
+  module _ (r : Relation) (ds : List Dependency) (wanted : Attributes) (found : AreFound n r (union set (below i)) n ds)
       (given : AreNotGiven n ds larger wanted) (empty : IsEmpty wanted) where
-    given_above : (v : Places) (a : ℕ) → Within larger v → a < n → v a ≡ false → IsGivenFrom ds v a
+    given_above : (v : Attributes) (a : ℕ) → IsSubset larger v → a < n → v a ≡ false → IsGivenFrom ds v a
     given_above v a inside a_in out = given_more ds larger v a inside
         (given.rest a a_in (empty a) (without (larger a) refl))
       where
@@ -360,7 +360,7 @@ module _ (n free i : ℕ) (set : Places) (set_in : Within set (below n)) (above 
       (union set (below (i + 1))) n ds larger_filled found
 
 -- ---- the whole search
-pub found_start : (n : ℕ) (r : Relation) (set : Places) → IsEmpty set → AreFound n r set 0 []
+pub found_start : (n : ℕ) (r : Relation) (set : Attributes) → IsEmpty set → AreFound n r set 0 []
 found_start n r set empty = record {
   each = λ k d l. absurd (omega (arith, l));
   ascending = λ i j d less l. absurd (omega (arith, l));
@@ -370,7 +370,7 @@ found_start n r set empty = record {
   ];
 }
 
-pub not_given_start : (n : ℕ) (set all : Places) → IsEmpty set → all ≡ below n → AreNotGiven n [] set all
+pub not_given_start : (n : ℕ) (set all : Attributes) → IsEmpty set → all ≡ below n → AreNotGiven n [] set all
 not_given_start n set all empty whole = record {
   within = λ k m. sym (same_at whole k) ∙ m;
   outside = λ a m. empty a;
@@ -378,23 +378,23 @@ not_given_start n set all empty whole = record {
   rest = λ a l lacks out. absurd (true≢false (grind (arith, nat_tests, l, same_at whole a, lacks)));
 }
 
-pub found_up_to : (n : ℕ) (r : Relation) (set : Places) (ds : List Dependency) → AreFound n r set n ds
+pub found_up_to : (n : ℕ) (r : Relation) (set : Attributes) (ds : List Dependency) → AreFound n r set n ds
     → AreFound n r (union set (below 0)) n ds
 found_up_to n r set ds found = found_same_set n r set (union set (below 0)) n ds (fun_ext (λ k. grind (arith, nat_tests))) found
 
-pub found_whole : (n : ℕ) (r : Relation) (set : Places) (ds : List Dependency) → IsEmpty set
+pub found_whole : (n : ℕ) (r : Relation) (set : Attributes) (ds : List Dependency) → IsEmpty set
     → AreFound n r (union set (below n)) n ds → AreFound n r (below n) n ds
 found_whole n r set ds empty found = found_same_set n r (union set (below n)) (below n) n ds
     (fun_ext (λ k. ap (λ (b : Bool). b || nat_lt k n) (empty k))) found
 
 -- the search from the empty set on, by what its two steps say
-pub search_whole : (w n : ℕ) (r : Relation) (set all : Places) (ds added whole : List Dependency) → w ≡ n
+pub search_whole : (w n : ℕ) (r : Relation) (set all : Attributes) (ds added whole : List Dependency) → w ≡ n
     → IsEmpty set → all ≡ below n → ds ≡ []
-    → (Within set (below w) → AreNotGiven w ds set all → AreFound w r set 0 ds → AreFound w r set w added)
+    → (IsSubset set (below w) → AreNotGiven w ds set all → AreFound w r set 0 ds → AreFound w r set w added)
     → (AreFound w r set w added → AreFound w r (union set (below n)) w whole)
     → AreFound n r (below n) n whole
 search_whole w n r set all ds added whole width empty full nothing first rest =
-    let inside : Within set (below w) = λ k m. absurd (true≢false (sym m ∙ empty k)) in
+    let inside : IsSubset set (below w) = λ k m. absurd (true≢false (sym m ∙ empty k)) in
     let start : AreFound w r set 0 ds = subst (λ (es : List Dependency). AreFound w r set 0 es) (sym nothing)
     (found_start w r set empty) in
     let given : AreNotGiven w ds set all =
@@ -404,23 +404,23 @@ search_whole w n r set all ds added whole width empty full nothing first rest =
     found_whole n r set whole empty (subst (λ (m : ℕ). AreFound m r (union set (below n)) m whole) width found)
 
 -- what gives an attribute is listed, and minimal
-giver : (n : ℕ) (r : Relation) (y : Places) (b : ℕ) (ds : List Dependency) (x : Places) (a : ℕ) → AreFound n r y b ds
+minimal_giver : (n : ℕ) (r : Relation) (y : Attributes) (b : ℕ) (ds : List Dependency) (x : Attributes) (a : ℕ) → AreFound n r y b ds
     → IsGivenFrom ds x a
-    → (v : Places) × Contains ds (fd v (only a)) × Within v x × IsMinimalWithin n r v a
-giver n r y b ds x a found (k, d, l, is_d, gives) =
+    → (v : Attributes) × Contains ds (fd v (only a)) × IsSubset v x × IsMinimalWithin n r v a
+minimal_giver n r y b ds x a found (k, d, l, is_d, gives) =
     let (v, c, is, minimal, tried) = found.each k d l in
     let of : d ≡ fd v (only c) = sym is_d ∙ is in
     let same : a ≡ c = eqb-true a c (sym (ap (λ (e : Dependency). right_of e a) of) ∙ gives.1) in
     let listed : Contains ds (fd v (only c)) = subst (λ (e : Dependency). Contains ds e) of (k, l, is_d) in (
       v,
       subst (λ (e : ℕ). Contains ds (fd v (only e))) (sym same) listed,
-      subst (λ (e : Dependency). Within (left_of e) x) of gives.0,
+      subst (λ (e : Dependency). IsSubset (left_of e) x) of gives.0,
       subst (λ (e : ℕ). IsMinimalWithin n r v e) (sym same) minimal,
     )
 
 module _ (n : ℕ) (r : Relation) (ds : List Dependency) (found : AreFound n r (below n) n ds) where
   -- all that the rows obey is given
-  all_given : (x : Places) (a : ℕ) → Within x (below n) → a < n → x a ≡ false → ObeysFd x (only a) r → IsGivenFrom ds x a
+  all_given : (x : Attributes) (a : ℕ) → IsSubset x (below n) → a < n → x a ≡ false → ObeysFd x (only a) r → IsGivenFrom ds x a
   all_given x a x_in a_in out obeys =
       found.given x a x_in a_in out (elim (subset_up_to n x (below n) (λ k m. m) x_in)
       [ inl same ↦ inr (same, a_in) | inr before ↦ inl before ]) obeys
@@ -429,11 +429,11 @@ module _ (n : ℕ) (r : Relation) (ds : List Dependency) (found : AreFound n r (
   all_minimal = record {
     each = All-weaker (IsFoundBefore n r (below n) n) (IsMinimalFd n r) (λ d h. (h.0, h.1, h.2, h.3)) ds found.each;
     all = λ x a m.
-        let (v, listed, inside, minimal) = giver n r (below n) n ds x a found
+        let (v, listed, inside, minimal) = minimal_giver n r (below n) n ds x a found
         (all_given x a m.left m.right m.minimal.outside m.minimal.obeys) in
         let same : v ≡ x = same_from_within v x inside
         (m.minimal.minimal v inside minimal.minimal.obeys) in
-        subst (λ (w : Places). Contains ds (fd w (only a))) same listed;
+        subst (λ (w : Attributes). Contains ds (fd w (only a))) same listed;
     ascending = found.ascending;
   }
 
@@ -444,7 +444,7 @@ module _ (n : ℕ) (r : Relation) (ds : List Dependency) (found : AreFound n r (
         (λ d h. subst (λ (e : Dependency). Obeys n e r) (sym h.2) h.3.minimal.obeys) ds found.each;
   }
 
-  pub implied_by_rows : IsOver n r → (x y : Places) → Within x (below n) → Within y (below n)
+  pub implied_by_rows : IsOver n r → (x y : Attributes) → IsSubset x (below n) → IsSubset y (below n)
       → Implies n ds (fd x y) ↔ ObeysFd x y r
   implied_by_rows over x y x_in y_in = ((λ implied. implied r (legal over)), (λ obeys. implies obeys))
     where
@@ -455,7 +455,7 @@ module _ (n : ℕ) (r : Relation) (ds : List Dependency) (found : AreFound n r (
             let one : ObeysFd x (only k) r = fd_weaker_obeyed x y x (only k) r (λ j m. m)
             (λ j m. subst (λ (i : ℕ). y i ≡ true) (sym (eqb-true j k m)) y_k) obeys in
             let (v, listed, inside, minimal) =
-            giver n r (below n) n ds x k found (all_given x k x_in (ltb-true k n (y_in k y_k)) out one) in
+            minimal_giver n r (below n) n ds x k found (all_given x k x_in (ltb-true k n (y_in k y_k)) out one) in
             All-contains (λ d. Obeys n d other) ds (fd v (only k)) other_legal.obeys listed t u t_in u_in
             (λ j m. agree j (inside j m)) k (grind (arith, nat_tests))
       ]

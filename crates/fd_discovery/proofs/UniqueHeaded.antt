@@ -1,12 +1,12 @@
 -- The records of a text have one header with its rows, or one refusal.
 use Rattle.std.proofs.Common.{inl, inr, ◌≡◌, ◌≢◌, ◌+◌, ◌<◌, ◌≤◌, ◌⊎◌, ℕ, true, false, List, [], ◌∷◌, length, take, refl, sym, ap, subst, ◌∙◌, arith, None}
 use Rattle.std.proofs.lemmas.Bool.{cases_lt, true≢false}
-use Rattle.dep_model.specs.Schemas.{place_named}
+use Rattle.dep_model.specs.Schemas.{attribute_named}
 use Rattle.dep_model.specs.Tuples.{Relation, IsOver}
 use Rattle.fd_discovery.specs.Headers.{is_column_name, NamesColumn, RefusesColumn, field_at, IsColumnHeader, RefusesField, RefusesColumnHeader}
-use Rattle.fd_discovery.specs.Headings.{IsHeaded, IsRefusedDiscovery, RefusesRows, HasUneven, HasTooManyRows, names_under, rows_under}
-use Rattle.fd_discovery.specs.declared.headed.Headed.{Headed}
-use Rattle.fd_discovery.specs.declared.headed.TheConstants.{MOST_HEADED_ROWS, WIDEST_HEADED}
+use Rattle.fd_discovery.specs.Headings.{IsHeaded, IsRefusedDiscovery, RefusesRows, HasRowOfOtherWidth, HasTooManyRows, names_under, rows_under}
+use Rattle.fd_discovery.specs.declared.headed_rows.Headed.{Headed}
+use Rattle.fd_discovery.specs.declared.headed_rows.TheConstants.{MOST_HEADED_ROWS, WIDEST_HEADED}
 use Rattle.fd_discovery.specs.declared.refusal.DiscoverRefusal.{DiscoverRefusal}
 use Rattle.fd_discovery.specs.declared.refusal.DiscoverRefusal.TheVariants as refusal
 
@@ -18,7 +18,7 @@ few_not_many n most few many = omega (arith, few, many)
 abbrev SeenColumn : List (List ℕ) → List ℕ → ℕ → DiscoverRefusal → Type 0
 SeenColumn before field column e =
     ((e ≡ refusal.BadColumn column) × (is_column_name field ≡ false))
-    ⊎ ((e ≡ refusal.DoubleColumn column) × (is_column_name field ≡ true) × (place_named before field ≢ None))
+    ⊎ ((e ≡ refusal.DoubleColumn column) × (is_column_name field ≡ true) × (attribute_named before field ≢ None))
 
 seen_column : (before : List (List ℕ)) (field : List ℕ) (column : ℕ) (e : DiscoverRefusal)
     → RefusesColumn before field column e → SeenColumn before field column e
@@ -78,7 +78,7 @@ header_not_refused header e is (inr p) =
 -- the refusal of rows is that of an uneven one, or that there are too many
 abbrev SeenRows : ℕ → Relation → DiscoverRefusal → Type 0
 SeenRows n rows e =
-    ((row : ℕ) × (e ≡ refusal.UnevenRow row) × HasUneven n rows row)
+    ((row : ℕ) × (e ≡ refusal.UnevenRow row) × HasRowOfOtherWidth n rows row)
     ⊎ ((e ≡ refusal.TooManyRows) × HasTooManyRows n rows)
 
 seen_rows : (n : ℕ) (rows : Relation) (e : DiscoverRefusal) → RefusesRows n rows e → SeenRows n rows e
@@ -89,7 +89,7 @@ seen_rows n rows refusal.TooManyColumns p = absurd p
 seen_rows n rows (refusal.BadColumn c) p = absurd p
 seen_rows n rows (refusal.DoubleColumn c) p = absurd p
 
-uneven_same : (n : ℕ) (rows : Relation) (one other : ℕ) → HasUneven n rows one → HasUneven n rows other → one ≡ other
+uneven_same : (n : ℕ) (rows : Relation) (one other : ℕ) → HasRowOfOtherWidth n rows one → HasRowOfOtherWidth n rows other → one ≡ other
 uneven_same n rows one other p q = elim (cases_lt p.at q.at) [
   | inl before ↦ absurd (p.other (q.before p.at before))
   | inr on ↦ elim (cases_lt q.at p.at) [
@@ -98,7 +98,7 @@ uneven_same n rows one other p q = elim (cases_lt p.at q.at) [
   ]
 ]
 
-uneven_or_many : (n : ℕ) (rows : Relation) (row : ℕ) → HasUneven n rows row → HasTooManyRows n rows → ⊥
+uneven_or_many : (n : ℕ) (rows : Relation) (row : ℕ) → HasRowOfOtherWidth n rows row → HasTooManyRows n rows → ⊥
 uneven_or_many n rows row p q = p.other (q.even p.at (omega (arith, p.few)))
 
 under_same : (n : ℕ) (rows : Relation) (e f : DiscoverRefusal) → RefusesRows n rows e → RefusesRows n rows f → e ≡ f

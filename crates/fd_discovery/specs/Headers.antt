@@ -2,10 +2,10 @@
 -- `Headings`.
 use Rattle.std.specs.Prelude.{◌≡◌, ◌≢◌, ◌+◌, ◌<◌, ◌≤◌, ◌⊎◌, ℕ, Bool, true, false, ◌&&◌, not, List, [], length, take, slice_index_or, None}
 use Rattle.dep_model.specs.Names.{is_name}
-use Rattle.dep_model.specs.Schemas.{place_named}
+use Rattle.dep_model.specs.Schemas.{attribute_named}
 use Rattle.schema_grammar.specs.Words.{is_reserved}
 use Rattle.schema_grammar.specs.declared.format.Format.TheVariants as format
-use Rattle.fd_discovery.specs.declared.headed.TheConstants.{WIDEST_HEADED}
+use Rattle.fd_discovery.specs.declared.headed_rows.TheConstants.{WIDEST_HEADED}
 use Rattle.fd_discovery.specs.declared.refusal.DiscoverRefusal.{DiscoverRefusal}
 use Rattle.fd_discovery.specs.declared.refusal.DiscoverRefusal.TheVariants as refusal
 
@@ -15,19 +15,19 @@ is_column_name field = is_name field && not (is_reserved format.Plain field)
 
 -- a field names a column, and no column before it has this name, ASCII case aside
 abbrev pub NamesColumn : List (List ℕ) → List ℕ → Type 0
-NamesColumn before field = (is_column_name field ≡ true) × (place_named before field ≡ None)
+NamesColumn before field = (is_column_name field ≡ true) × (attribute_named before field ≡ None)
 
 -- why a field does not name the column of this number
 abbrev pub RefusesColumn : List (List ℕ) → List ℕ → ℕ → DiscoverRefusal → Type 0
 RefusesColumn before field column (refusal.BadColumn c) = (c ≡ column) × (is_column_name field ≡ false)
 RefusesColumn before field column (refusal.DoubleColumn c) =
-    (c ≡ column) × (is_column_name field ≡ true) × (place_named before field ≢ None)
+    (c ≡ column) × (is_column_name field ≡ true) × (attribute_named before field ≢ None)
 RefusesColumn before field column refusal.NoHeader = ⊥
 RefusesColumn before field column refusal.TooManyColumns = ⊥
 RefusesColumn before field column (refusal.UnevenRow r) = ⊥
 RefusesColumn before field column refusal.TooManyRows = ⊥
 
--- the field at a place
+-- the field at a position
 abbrev pub field_at : List (List ℕ) → ℕ → List ℕ
 field_at header i = slice_index_or header i []
 

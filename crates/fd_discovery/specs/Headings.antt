@@ -7,8 +7,8 @@ use Rattle.csv_rows.specs.Records.{HasLeft}
 use Rattle.csv_rows.specs.Numberings.{row_at}
 use Rattle.dep_model.specs.Tuples.{Relation, IsOver}
 use Rattle.fd_discovery.specs.Headers.{IsColumnHeader, RefusesColumnHeader}
-use Rattle.fd_discovery.specs.declared.headed.Headed.{Headed}
-use Rattle.fd_discovery.specs.declared.headed.TheConstants.{MOST_HEADED_ROWS}
+use Rattle.fd_discovery.specs.declared.headed_rows.Headed.{Headed}
+use Rattle.fd_discovery.specs.declared.headed_rows.TheConstants.{MOST_HEADED_ROWS}
 use Rattle.fd_discovery.specs.declared.refusal.DiscoverRefusal.{DiscoverRefusal}
 use Rattle.fd_discovery.specs.declared.refusal.DiscoverRefusal.TheVariants as refusal
 
@@ -28,26 +28,26 @@ pub record IsHeaded (records : List (List (List ℕ))) (h : Headed) : Type 0 whe
   pub few : length (rows_under h) ≤ MOST_HEADED_ROWS
 
 -- the first m rows have n values each
-abbrev pub AreEven : ℕ → Relation → ℕ → Type 0
-AreEven n rows m = (i : ℕ) → i < m → length (row_at rows i) ≡ n
+abbrev pub HaveWidth : ℕ → Relation → ℕ → Type 0
+HaveWidth n rows m = (i : ℕ) → i < m → length (row_at rows i) ≡ n
 
 -- the first row that is not as long as the header stands among the most rows and the one after them
-pub record HasUneven (n : ℕ) (rows : Relation) (row : ℕ) : Type 0 where
+pub record HasRowOfOtherWidth (n : ℕ) (rows : Relation) (row : ℕ) : Type 0 where
   pub at : ℕ
   pub number : row ≡ at + 1
   pub within : at < length rows
   pub few : at ≤ MOST_HEADED_ROWS
-  pub before : AreEven n rows at
+  pub before : HaveWidth n rows at
   pub other : length (row_at rows at) ≢ n
 
 -- there are more than the most rows, and they and the one after them are as long as the header
 pub record HasTooManyRows (n : ℕ) (rows : Relation) : Type 0 where
   pub many : MOST_HEADED_ROWS < length rows
-  pub even : AreEven n rows (MOST_HEADED_ROWS + 1)
+  pub even : HaveWidth n rows (MOST_HEADED_ROWS + 1)
 
 -- why the records below a header of n fields are no rows
 abbrev pub RefusesRows : ℕ → Relation → DiscoverRefusal → Type 0
-RefusesRows n rows (refusal.UnevenRow row) = HasUneven n rows row
+RefusesRows n rows (refusal.UnevenRow row) = HasRowOfOtherWidth n rows row
 RefusesRows n rows refusal.TooManyRows = HasTooManyRows n rows
 RefusesRows n rows refusal.NoHeader = ⊥
 RefusesRows n rows refusal.TooManyColumns = ⊥

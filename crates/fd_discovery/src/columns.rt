@@ -4,13 +4,13 @@ ghost use Rattle.dep_model.specs.Failures.{RefusesAs};
 ghost use Rattle.fd_discovery.specs.Headers.{NamesColumn, RefusesColumn, IsColumnHeader, RefusesColumnHeader};
 
 use crate::DiscoverRefusal;
-use crate::headed::WIDEST_HEADED;
+use crate::headed_rows::WIDEST_HEADED;
 use crate::records::field;
 use csv::ByteRecord;
 use dep_model::{Failure, Name};
-use line_reader::{is_reserved, place_among};
 use schema_grammar::Format;
 use std::alloc::Global;
+use tokens::{is_reserved, position_among};
 
 // The names that a header gives its columns.
 pub fn column_names(
@@ -44,9 +44,9 @@ fn column_name(before: &[Name], field: &[u8], column: u32) -> Result<Name, Disco
     if is_reserved(Format::Plain, field) {
         return Err(DiscoverRefusal::BadColumn { column });
     }
-    match Name::make(field) {
+    match Name::new(field) {
         None => Err(DiscoverRefusal::BadColumn { column }),
-        Some(name) => match place_among(before, field) {
+        Some(name) => match position_among(before, field) {
             Some(_) => Err(DiscoverRefusal::DoubleColumn { column }),
             None => Ok(name),
         },

@@ -1,16 +1,16 @@
 ghost use Rattle.std.specs.Prelude.{◌≡◌, ◌<◌, ◌≤◌, ◌^◌, ◌↔◌, All, length, IfOk};
-ghost use Rattle.attr_sets.specs.Places.{Places, Within, below};
+ghost use Rattle.attr_sets.specs.Attributes.{Attributes, IsSubset, below};
 ghost use Rattle.dep_model.specs.Dependencies.{fd, ObeysFd};
 ghost use Rattle.dep_model.specs.Deps.{IsDepWithin, dependencies_of};
 ghost use Rattle.dep_model.specs.Implication.{Implies};
 ghost use Rattle.dep_model.specs.Tuples.{IsOver};
 ghost use Rattle.fd_discovery.specs.Minimal.{AreAllMinimal};
 
-use crate::headed::WIDEST_HEADED;
+use crate::headed_rows::WIDEST_HEADED;
 use crate::searching::{add_minimal, search_above};
-use crate::table::Table;
+use crate::table::CodeColumns;
 use attr_sets::AttrSet;
-use dep_model::{Dep, WantMemory};
+use dep_model::{Dep, OutOfMemory};
 use row_store::Rows;
 use std::alloc::Global;
 
@@ -20,17 +20,17 @@ use std::alloc::Global;
 ///
 /// Sets are tried from the empty one on, so that one from which an attribute follows is the first of
 /// those that hold it (Huhtala, Kärkkäinen, Porkka and Toivonen 1999).
-pub fn discover(alloc: Global, width: u8, rows: &Rows) -> Result<Vec<Dep>, WantMemory>
+pub fn discover(alloc: Global, width: u8, rows: &Rows) -> Result<Vec<Dep>, OutOfMemory>
     requires width { width ≤ WIDEST_HEADED }
     requires over { IsOver width rows.now }
-    requires few { length rows.now < 2 ^ 32 }
+    requires fits_u32 { length rows.now < 2 ^ 32 }
     ensures minimal { IfOk result (λ found. AreAllMinimal width rows.now (dependencies_of found.items)) }
-    ensures implied { (x y : Places) → Within x (below width) → Within y (below width)
+    ensures implied { (x y : Attributes) → IsSubset x (below width) → IsSubset y (below width)
         → IfOk result (λ found.
         Implies width (dependencies_of found.items) (fd x y) ↔ ObeysFd x y rows.now) }
     ensures within { IfOk result (λ found. All (IsDepWithin (below width)) found.items) }
 {
-    let table = Table::make(alloc, width, rows)?;
+    let table = CodeColumns::new(alloc, width, rows)?;
     let leaders = Vec::from_elem(alloc, 0, rows.len())?;
     let none = AttrSet::empty();
     let all = AttrSet::full(width);

@@ -2,7 +2,7 @@
 
 ghost use Rattle.std.specs.Prelude.{◌≡◌, List, ℕ};
 ghost use Rattle.csv_rows.specs.Records.{records_of};
-ghost use Rattle.fd_discovery.specs.declared.headed.Headed.{Headed};
+ghost use Rattle.fd_discovery.specs.declared.headed_rows.Headed.{Headed};
 ghost use Rattle.fd_discovery.specs.declared.refusal.DiscoverRefusal.{DiscoverRefusal};
 ghost use Rattle.fd_discovery.specs.Headings.{IsHeaded, IsRefusedDiscovery, names_under, rows_under};
 

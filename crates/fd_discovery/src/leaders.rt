@@ -1,26 +1,26 @@
 ghost use Rattle.std.specs.Prelude.{◌≡◌, ◌<◌, ◌^◌, ◌↔◌, ℕ, All, List, length, IsTrue, IfOk};
-ghost use Rattle.attr_sets.specs.Places.{Places, only, union};
+ghost use Rattle.attr_sets.specs.Attributes.{Attributes, only, union};
 ghost use Rattle.csv_rows.specs.Numberings.{AreGroups};
 ghost use Rattle.dep_model.specs.Dependencies.{ObeysFd};
 ghost use Rattle.dep_model.specs.Tuples.{Relation};
 ghost use Rattle.fd_discovery.specs.Leaders.{AreLeaders, IsOrderOf};
 
-use dep_model::WantMemory;
+use dep_model::OutOfMemory;
 use std::alloc::Global;
 
 // The leaders on a set and one column more. The rows are gone through in the order of that column's
 // numbers, so those of one leader that have one number follow each other among the rows of that leader,
 // and the first of them leads the others.
-pub fn refined(
+pub fn refine_leaders(
     alloc: Global,
     leaders: &[u32],
     codes: &[u32],
     order: &[u32],
-) -> Result<Vec<u32>, WantMemory>
-    requires same { length codes.now ≡ length leaders.now }
+) -> Result<Vec<u32>, OutOfMemory>
+    requires same_length { length codes.now ≡ length leaders.now }
     requires leaders { All (λ row. row < length leaders.now) leaders.now }
     requires order { All (λ row. row < length leaders.now) order.now }
-    ensures leaders { (r : Relation) (x : Places) (k : ℕ) → AreLeaders r x leaders.now
+    ensures leaders { (r : Relation) (x : Attributes) (k : ℕ) → AreLeaders r x leaders.now
         → AreGroups r (only k) codes.now → IsOrderOf codes.now order.now
         → IfOk result (λ finer. AreLeaders r (union x (only k)) finer.items) }
 {
@@ -39,9 +39,9 @@ pub fn refined(
 
 // Whether the rows of one leader have one number.
 pub fn determines(leaders: &[u32], codes: &[u32]) -> bool
-    requires same { length codes.now ≡ length leaders.now }
+    requires same_length { length codes.now ≡ length leaders.now }
     requires leaders { All (λ row. row < length leaders.now) leaders.now }
-    ensures obeys { (r : Relation) (x : Places) (k : ℕ) → AreLeaders r x leaders.now
+    ensures obeys { (r : Relation) (x : Attributes) (k : ℕ) → AreLeaders r x leaders.now
         → AreGroups r (only k) codes.now → IsTrue result ↔ ObeysFd x (only k) r }
 {
     for row in 0..leaders.len() {

@@ -8,7 +8,7 @@
 
 mod columns;
 mod discovering;
-mod headed;
+mod headed_rows;
 mod laws;
 mod leaders;
 mod ordering;
@@ -18,6 +18,6 @@ mod searching;
 mod table;
 
 pub use discovering::discover;
-pub use headed::{Headed, MOST_HEADED_ROWS, WIDEST_HEADED, read_headed};
+pub use headed_rows::{Headed, MOST_HEADED_ROWS, WIDEST_HEADED, read_headed};
 pub use laws::one_reading;
 pub use refusal::DiscoverRefusal;

@@ -7,8 +7,8 @@ use std::alloc::Global;
 
 // A reader of the records of a text, with no header row and of any length each. It leaves out one
 // byte-order mark.
-pub fn open<'t>(alloc: Global, text: &'t [u8]) -> Reader<&'t [u8]>
-    ensures all { HasLeft result (records_of text.now) }
+pub fn open_reader<'t>(alloc: Global, text: &'t [u8]) -> Reader<&'t [u8]>
+    ensures records { HasLeft result (records_of text.now) }
 {
     ReaderBuilder::new()
         .has_headers(false)
@@ -25,7 +25,7 @@ pub fn take_record(reader: &mut Reader<&[u8]>, fields: &mut ByteRecord) -> Resul
     reader.read_byte_record(fields)
 }
 
-// The field at a place; beyond the last one nothing.
+// The field at a position; beyond the last one nothing.
 pub fn field(fields: &ByteRecord, i: usize) -> &[u8]
     ensures value { result.now ≡ slice_index_or (fields_of fields.now) i [] }
 {

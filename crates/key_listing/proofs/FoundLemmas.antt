@@ -9,17 +9,17 @@ use Rattle.std.specs.Prelude.{All, AllPairs, Any, Contains}
 use Rattle.std.specs.List.Sorted.{IsSorted, IsPermutation}
 use Rattle.std.specs.Ordering.{nat_cmp}
 use Rattle.attr_sets.specs.declared.set.AttrSet.{AttrSet}
-use Rattle.attr_sets.specs.declared.set.TheConstants.{PLACES}
-use Rattle.attr_sets.proofs.PlacesLemmas.{places-at_number, same_at}
+use Rattle.attr_sets.specs.declared.set.TheConstants.{MOST_ATTRIBUTES}
+use Rattle.attr_sets.proofs.AttributesLemmas.{attributes-at_number, same_at}
 use Rattle.attr_sets.proofs.OrderLemmas.{before_from_lt}
 use Rattle.dep_model.specs.declared.dep.Dep.{Dep}
 use Rattle.dep_model.specs.Deps.{dependency_of, dependencies_of}
-use Rattle.attr_sets.specs.Sets.{places}
-use Rattle.attr_sets.specs.Places.{Places, below, union, Within, IsBefore}
+use Rattle.attr_sets.specs.Sets.{attributes}
+use Rattle.attr_sets.specs.Attributes.{Attributes, below, union, IsSubset, IsBefore}
 use Rattle.dep_model.specs.Dependencies.{Dependency, fd, mvd, Obeys, ObeysFd, is_fd, functional_part, IsWithin}
-use Rattle.dep_model.specs.Keys.{IsSuperkey, IsKey, IsSettledKey}
+use Rattle.dep_model.specs.Keys.{IsSuperkey, IsKey, IsGreedyKey}
 use Rattle.dep_model.proofs.RuleLemmas.{reflexivity_obeyed, transitivity_obeyed, fd_weaker_obeyed, fd_union_obeyed}
-use Rattle.dep_model.proofs.KeyLemmas.{superkey-from, fd_on-to, settled_is_key, key_of_superkey}
+use Rattle.dep_model.proofs.KeyLemmas.{superkey-from, fd_on-to, greedy_is_key, key_of_superkey}
 use Rattle.key_listing.specs.declared.refusal.TheConstants.{MOST_KEYS}
 use Rattle.dep_model.proofs.ListLemmas.{Contains-map, map-member}
 use Rattle.key_listing.specs.Listing.{HoldsAny, HoldsAnyUnlessMany, AreSomeKeys, AreFoundKeys, exchanged_key, IsExchangedBy, IsExchangedUnlessMany}
@@ -28,7 +28,7 @@ use Rattle.fd_closure.proofs.AllKeys.{all_keys}
 use Rattle.key_listing.proofs.ListLemmas.{Any-map, Any-grows, Any-permutation, AllPairs-permutation, grows_longer}
 
 -- what a dependency makes of a key is a superkey
-pub exchanged_superkey : (n : ℕ) (ds : List Dependency) (scheme x y k : Places) → Contains ds (fd x y) → Within x scheme → IsSuperkey n ds scheme k → IsSuperkey n ds scheme (exchanged_key (fd x y) k)
+pub exchanged_superkey : (n : ℕ) (ds : List Dependency) (scheme x y k : Attributes) → Contains ds (fd x y) → IsSubset x scheme → IsSuperkey n ds scheme k → IsSuperkey n ds scheme (exchanged_key (fd x y) k)
 exchanged_superkey n ds scheme x y k given x_in superkey =
     superkey-from n ds scheme (exchanged_key (fd x y) k) (λ i m. grind (arith, m, x_in i, superkey.within.0 i))
     (λ r legal.
@@ -40,7 +40,7 @@ exchanged_superkey n ds scheme x y k given x_in superkey =
     transitivity_obeyed made k scheme r gives_key (fd_on-to n ds scheme k scheme superkey r legal))
 
 -- no key
-pub some_none : (n : ℕ) (ds : List Dependency) (scheme : Places) → AreSomeKeys n ds scheme []
+pub some_none : (n : ℕ) (ds : List Dependency) (scheme : Attributes) → AreSomeKeys n ds scheme []
 some_none n ds scheme = record {
   each = λ k d l. absurd (omega (arith, l));
   differ = λ i j d before l. absurd (omega (arith, l));
@@ -49,61 +49,61 @@ some_none n ds scheme = record {
 }
 
 -- one more key
-pub some_more : (n : ℕ) (ds : List Dependency) (scheme set : Places) (found : List AttrSet) (k : AttrSet) → AreSomeKeys n ds scheme found → length found ≤ MOST_KEYS
-    → IsKey n ds scheme (places k) → Within (places k) set → (HoldsAny found set → ⊥) → k.0 < 2 ^ PLACES → AreSomeKeys n ds scheme (found ++ k ∷ [])
+pub some_more : (n : ℕ) (ds : List Dependency) (scheme set : Attributes) (found : List AttrSet) (k : AttrSet) → AreSomeKeys n ds scheme found → length found ≤ MOST_KEYS
+    → IsKey n ds scheme (attributes k) → IsSubset (attributes k) set → (HoldsAny found set → ⊥) → k.0 < 2 ^ MOST_ATTRIBUTES → AreSomeKeys n ds scheme (found ++ k ∷ [])
 some_more n ds scheme set found k some few key inside none number = record {
-  each = All-push (λ (j : AttrSet). IsKey n ds scheme (places j)) found k some.each key;
-  differ = all_pairs_push (λ (i j : AttrSet). places i ≡ places j → ⊥) found k some.differ
+  each = All-push (λ (j : AttrSet). IsKey n ds scheme (attributes j)) found k some.each key;
+  differ = all_pairs_push (λ (i j : AttrSet). attributes i ≡ attributes j → ⊥) found k some.differ
       (λ i d l same. none (i, get_or found i d, l, get_or_default found i (get_or found i d) d l, λ p m. inside p (sym (same_at same p) ∙ m)));
   few = omega (arith, length_push found k, few);
-  numbers = All-push (λ (j : AttrSet). j.0 < 2 ^ PLACES) found k some.numbers number;
+  numbers = All-push (λ (j : AttrSet). j.0 < 2 ^ MOST_ATTRIBUTES) found k some.numbers number;
 }
 
--- the key on which a superkey settles is a key
-pub settled_found : (n : ℕ) (ds : List Dependency) (scheme s k : Places) → Within scheme (below n) → functional_part ds ≡ ds → IsSuperkey n ds scheme s → IsSettledKey n (functional_part ds) s k → IsKey n ds scheme k
-settled_found n ds scheme s k low functional superkey settled =
-    let by_all : IsSettledKey n ds s k = subst (λ (es : List Dependency). IsSettledKey n es s k) functional settled in
-    key_of_superkey n ds scheme s k superkey (settled_is_key n ds s k (λ i m. low i (superkey.within.0 i m)) by_all)
+-- the greedy key of a superkey is a key
+pub greedy_found : (n : ℕ) (ds : List Dependency) (scheme s k : Attributes) → IsSubset scheme (below n) → functional_part ds ≡ ds → IsSuperkey n ds scheme s → IsGreedyKey n (functional_part ds) s k → IsKey n ds scheme k
+greedy_found n ds scheme s k low functional superkey settled =
+    let by_all : IsGreedyKey n ds s k = subst (λ (es : List Dependency). IsGreedyKey n es s k) functional settled in
+    key_of_superkey n ds scheme s k superkey (greedy_is_key n ds s k (λ i m. low i (superkey.within.0 i m)) by_all)
 
 -- ---- with each dependency
 -- a dependency of a list of them
-pub given_in : (deps : List Dep) (i : ℕ) (first e : Dep) → i < length deps → get_or deps i first ≡ e → Contains (dependencies_of deps) (dependency_of e)
-given_in deps i first e lt at = Contains-map dependency_of deps e (i, lt, get_or_default deps i e first lt ∙ at)
+pub dependencies_of-Contains : (deps : List Dep) (i : ℕ) (first e : Dep) → i < length deps → get_or deps i first ≡ e → Contains (dependencies_of deps) (dependency_of e)
+dependencies_of-Contains deps i first e lt at = Contains-map dependency_of deps e (i, lt, get_or_default deps i e first lt ∙ at)
 
 -- none has been tried
-pub exchanged_none : (deps : List Dep) (found : List AttrSet) (k : Places) → IsExchangedUnlessMany (dependencies_of (take 0 deps)) found k
+pub exchanged_none : (deps : List Dep) (found : List AttrSet) (k : Attributes) → IsExchangedUnlessMany (dependencies_of (take 0 deps)) found k
 exchanged_none deps found k few i d l = absurd (omega (arith, l))
 
 -- one more
-pub exchanged_more : (deps : List Dep) (i : ℕ) (first e : Dep) (old found : List AttrSet) (k : Places) → i < length deps → get_or deps i first ≡ e → take (length old) found ≡ old
+pub exchanged_more : (deps : List Dep) (i : ℕ) (first e : Dep) (old found : List AttrSet) (k : Attributes) → i < length deps → get_or deps i first ≡ e → take (length old) found ≡ old
     → IsExchangedUnlessMany (dependencies_of (take i deps)) old k → HoldsAnyUnlessMany found (exchanged_key (dependency_of e) k) → IsExchangedUnlessMany (dependencies_of (take (i + 1) deps)) found k
 exchanged_more deps i first e old found k lt at grows before held few =
     let P : Dependency → Type 0 = λ (d : Dependency). HoldsAny found (exchanged_key d k) in
     let longer : length old ≤ length found = grows_longer old found grows in
-    let earlier : All P (dependencies_of (take i deps)) = λ j d l. Any-grows (λ (s : AttrSet). Within (places s) (exchanged_key (get_or (dependencies_of (take i deps)) j d) k)) old found grows (before (omega (arith, longer, few)) j d l) in
+    let earlier : All P (dependencies_of (take i deps)) = λ j d l. Any-grows (λ (s : AttrSet). IsSubset (attributes s) (exchanged_key (get_or (dependencies_of (take i deps)) j d) k)) old found grows (before (omega (arith, longer, few)) j d l) in
     let more : dependencies_of (take (i + 1) deps) ≡ dependencies_of (take i deps) ++ dependency_of e ∷ [] =
     map_more dependency_of deps i first lt ∙ ap (λ (d : Dep). dependencies_of (take i deps) ++ dependency_of d ∷ []) at in
     subst (λ (ds : List Dependency). All P ds) (sym more) (All-push P (dependencies_of (take i deps)) (dependency_of e) earlier (held few))
 
 -- a key that was tried stays so where more are found
-pub exchanged_grows : (ds : List Dependency) (old found : List AttrSet) (k : Places) → take (length old) found ≡ old → IsExchangedUnlessMany ds old k → IsExchangedUnlessMany ds found k
+pub exchanged_grows : (ds : List Dependency) (old found : List AttrSet) (k : Attributes) → take (length old) found ≡ old → IsExchangedUnlessMany ds old k → IsExchangedUnlessMany ds found k
 exchanged_grows ds old found k grows before few =
     let longer : length old ≤ length found = grows_longer old found grows in
-    λ j d l. Any-grows (λ (s : AttrSet). Within (places s) (exchanged_key (get_or ds j d) k)) old found grows (before (omega (arith, longer, few)) j d l)
+    λ j d l. Any-grows (λ (s : AttrSet). IsSubset (attributes s) (exchanged_key (get_or ds j d) k)) old found grows (before (omega (arith, longer, few)) j d l)
 
--- each key before a place was tried, and so was that at it
+-- each key before a position was tried, and so was that at it
 pub tried_more : (ds : List Dependency) (old found : List AttrSet) (tried j : ℕ) (key : AttrSet) → j ≡ tried + 1 → tried < length old → key ≡ get_or old tried key → take (length old) found ≡ old
-    → ((i : ℕ) (d : AttrSet) → i < tried → IsExchangedUnlessMany ds old (places (get_or old i d))) → IsExchangedUnlessMany ds found (places key)
-    → (i : ℕ) (d : AttrSet) → i < j → IsExchangedUnlessMany ds found (places (get_or found i d))
+    → ((i : ℕ) (d : AttrSet) → i < tried → IsExchangedUnlessMany ds old (attributes (get_or old i d))) → IsExchangedUnlessMany ds found (attributes key)
+    → (i : ℕ) (d : AttrSet) → i < j → IsExchangedUnlessMany ds found (attributes (get_or found i d))
 tried_more ds old found tried j key e lt at grows before now i d l =
     let short : i < length old = omega (arith, l, e, lt) in
     let same : get_or found i d ≡ get_or old i d = sym (get_or-take (length old) found i d short) ∙ ap (λ (xs : List AttrSet). get_or xs i d) grows in
-    subst (λ (k : AttrSet). IsExchangedUnlessMany ds found (places k)) (sym same)
+    subst (λ (k : AttrSet). IsExchangedUnlessMany ds found (attributes k)) (sym same)
     (⊎_elim
     (λ (here : i ≡ tried).
     let is : get_or old i d ≡ key = ap (λ (m : ℕ). get_or old m d) here ∙ get_or_default old tried d key lt ∙ sym at in
-    subst (λ (k : AttrSet). IsExchangedUnlessMany ds found (places k)) (sym is) now)
-    (λ (earlier : i ≡ tried → ⊥). exchanged_grows ds old found (places (get_or old i d)) grows (before i d (omega (arith, l, e, earlier))))
+    subst (λ (k : AttrSet). IsExchangedUnlessMany ds found (attributes k)) (sym is) now)
+    (λ (earlier : i ≡ tried → ⊥). exchanged_grows ds old found (attributes (get_or old i d)) grows (before i d (omega (arith, l, e, earlier))))
     (cases_eq i tried))
 
 -- ---- multivalued dependencies
@@ -129,50 +129,50 @@ none_multivalued ds same some =
 
 -- ---- the keys in their order
 -- sorted keys ascend
-pub sorted_ascend : (found : List AttrSet) → AllPairs (λ j k. places j ≡ places k → ⊥) found → All (λ (k : AttrSet). k.0 < 2 ^ PLACES) found
-    → IsSorted (λ (j k : AttrSet). nat_cmp j.0 k.0) found → AllPairs (λ j k. IsBefore (places j) (places k)) found
+pub sorted_ascend : (found : List AttrSet) → AllPairs (λ j k. attributes j ≡ attributes k → ⊥) found → All (λ (k : AttrSet). k.0 < 2 ^ MOST_ATTRIBUTES) found
+    → IsSorted (λ (j k : AttrSet). nat_cmp j.0 k.0) found → AllPairs (λ j k. IsBefore (attributes j) (attributes k)) found
 sorted_ascend found differ fit sorted i j d before l =
     let x = get_or found i d in
     let y = get_or found j d in
     let rises : x.0 ≤ y.0 = IsNonDecreasingBy-from_sort (λ (k : AttrSet). k.0) found sorted i j d (omega (arith, before)) l in
     before_from_lt x y (fit j d l)
     (⊎_elim
-    (λ (same : x.0 ≡ y.0). absurd (differ i j d before l (places-at_number x y same)))
+    (λ (same : x.0 ≡ y.0). absurd (differ i j d before l (attributes-at_number x y same)))
     (λ (other : x.0 ≡ y.0 → ⊥). omega (arith, rises, other))
     (cases_eq x.0 y.0))
 
 -- ---- all keys
 -- the law over lists of sets of attributes
-exchanged_all : (n : ℕ) (ds : List Dependency) (found : List AttrSet) → All (IsWithin (below n)) ds → functional_part ds ≡ ds → 0 < length found → All (λ (k : AttrSet). IsKey n ds (below n) (places k)) found
-    → ((i : ℕ) (d : AttrSet) → i < length found → IsExchangedBy ds found (places (get_or found i d))) → (k : Places) → IsKey n ds (below n) k → Any (λ (j : AttrSet). places j ≡ k) found
+exchanged_all : (n : ℕ) (ds : List Dependency) (found : List AttrSet) → All (IsWithin (below n)) ds → functional_part ds ≡ ds → 0 < length found → All (λ (k : AttrSet). IsKey n ds (below n) (attributes k)) found
+    → ((i : ℕ) (d : AttrSet) → i < length found → IsExchangedBy ds found (attributes (get_or found i d))) → (k : Attributes) → IsKey n ds (below n) k → Any (λ (j : AttrSet). attributes j ≡ k) found
 exchanged_all n ds found within functional some each exchange k key =
-    let held = all_keys n ds (map places found) within functional (get_or (map places found) 0 (below n)) (Contains-get_or (map places found) 0 (below n) (omega (arith, some, length-map found places)))
-    (All-map (IsKey n ds (below n)) places found each) all_exchanged k key in
-    let at = map-member places found held.1 (held.0, held.2, held.3) in
-    (at.1.0, at.0, at.1.1, at.1.2, subst (λ (v : Places). v ≡ k) (sym at.2) held.4)
+    let held = all_keys n ds (map attributes found) within functional (get_or (map attributes found) 0 (below n)) (Contains-get_or (map attributes found) 0 (below n) (omega (arith, some, length-map found attributes)))
+    (All-map (IsKey n ds (below n)) attributes found each) all_exchanged k key in
+    let at = map-member attributes found held.1 (held.0, held.2, held.3) in
+    (at.1.0, at.0, at.1.1, at.1.2, subst (λ (v : Attributes). v ≡ k) (sym at.2) held.4)
   where
-    all_exchanged : IsExchanged ds (map places found)
+    all_exchanged : IsExchanged ds (map attributes found)
     all_exchanged j e in_ds =
-        All-map (λ (v : Places). HoldsOne (map places found) (exchanged_key (get_or ds j e) v)) places found
-        (λ i d l. Any-map (λ (v : Places). Within v (exchanged_key (get_or ds j e) (places (get_or found i d)))) found (exchange i d l j e in_ds))
+        All-map (λ (v : Attributes). HoldsOne (map attributes found) (exchanged_key (get_or ds j e) v)) attributes found
+        (λ i d l. Any-map (λ (v : Attributes). IsSubset v (exchanged_key (get_or ds j e) (attributes (get_or found i d)))) found (exchange i d l j e in_ds))
 
 -- what was found, once it is sorted
-pub sorted_keys : (n : ℕ) (ds : List Dependency) (scheme : Places) (found sorted : List AttrSet) → AreSomeKeys n ds scheme found
-    → (length found ≤ MOST_KEYS → (k : Places) → IsKey n ds scheme k → Any (λ (j : AttrSet). places j ≡ k) found)
+pub sorted_keys : (n : ℕ) (ds : List Dependency) (scheme : Attributes) (found sorted : List AttrSet) → AreSomeKeys n ds scheme found
+    → (length found ≤ MOST_KEYS → (k : Attributes) → IsKey n ds scheme k → Any (λ (j : AttrSet). attributes j ≡ k) found)
     → IsPermutation found sorted → IsSorted (λ (j k : AttrSet). nat_cmp j.0 k.0) sorted → AreFoundKeys n ds scheme sorted
 sorted_keys n ds scheme found sorted keys all moved in_order =
     let long = length_permutation found sorted moved in
-    let differ = AllPairs-permutation (λ (j k : AttrSet). places j ≡ places k → ⊥) (λ j k other same. other (sym same)) found sorted moved keys.differ in
+    let differ = AllPairs-permutation (λ (j k : AttrSet). attributes j ≡ attributes k → ⊥) (λ j k other same. other (sym same)) found sorted moved keys.differ in
     record {
-      each = All-permutation (λ (k : AttrSet). IsKey n ds scheme (places k)) found sorted moved keys.each;
-      ascending = sorted_ascend sorted differ (All-permutation (λ (k : AttrSet). k.0 < 2 ^ PLACES) found sorted moved keys.numbers) in_order;
+      each = All-permutation (λ (k : AttrSet). IsKey n ds scheme (attributes k)) found sorted moved keys.each;
+      ascending = sorted_ascend sorted differ (All-permutation (λ (k : AttrSet). k.0 < 2 ^ MOST_ATTRIBUTES) found sorted moved keys.numbers) in_order;
       few = omega (arith, long, keys.few);
-      all = λ few k key. Any-permutation (λ (j : AttrSet). places j ≡ k) found sorted moved (all (omega (arith, long, few)) k key);
+      all = λ few k key. Any-permutation (λ (j : AttrSet). attributes j ≡ k) found sorted moved (all (omega (arith, long, few)) k key);
     }
 
 -- the same, once all were tried
 pub sorted_found : (n : ℕ) (ds : List Dependency) (found sorted : List AttrSet) → All (IsWithin (below n)) ds → functional_part ds ≡ ds → 0 < length found → AreSomeKeys n ds (below n) found
-    → (length found ≤ MOST_KEYS → (i : ℕ) (d : AttrSet) → i < length found → IsExchangedBy ds found (places (get_or found i d)))
+    → (length found ≤ MOST_KEYS → (i : ℕ) (d : AttrSet) → i < length found → IsExchangedBy ds found (attributes (get_or found i d)))
     → IsPermutation found sorted → IsSorted (λ (j k : AttrSet). nat_cmp j.0 k.0) sorted → AreFoundKeys n ds (below n) sorted
 sorted_found n ds found sorted within functional some keys exchange =
     sorted_keys n ds (below n) found sorted keys (λ few k key. exchanged_all n ds found within functional some keys.each (exchange few) k key)

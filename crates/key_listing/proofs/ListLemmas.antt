@@ -8,16 +8,16 @@ use Rattle.std.proofs.lemmas.List.Sorted.{IsPermutation-keeps, Contains-permutat
 use Rattle.std.specs.Prelude.{All, AllPairs, Any, Contains, Option, Some, None, IsNone, IfSome}
 use Rattle.std.specs.List.{swap}
 use Rattle.attr_sets.specs.declared.set.AttrSet.{AttrSet}
-use Rattle.attr_sets.specs.Places.{Places, Within}
-use Rattle.attr_sets.specs.Sets.{places}
+use Rattle.attr_sets.specs.Attributes.{Attributes, IsSubset}
+use Rattle.attr_sets.specs.Sets.{attributes}
 use Rattle.std.specs.List.Sorted.{IsPermutation}
 
 -- ---- some element is such
 
-pub Any-map : (P : Places → Type 0) (xs : List AttrSet) → Any (λ (x : AttrSet). P (places x)) xs → Any P (map places xs)
+pub Any-map : (P : Attributes → Type 0) (xs : List AttrSet) → Any (λ (x : AttrSet). P (attributes x)) xs → Any P (map attributes xs)
 Any-map P xs h =
-    let short : h.0 < length (map places xs) = omega (arith, h.2, length-map xs places) in
-    (h.0, places h.1, short, get_or-map places xs h.0 h.1 (places h.1) h.2 ∙ ap places h.3, h.4)
+    let short : h.0 < length (map attributes xs) = omega (arith, h.2, length-map xs attributes) in
+    (h.0, attributes h.1, short, get_or-map attributes xs h.0 h.1 (attributes h.1) h.2 ∙ ap attributes h.3, h.4)
 
 -- the list grows
 pub Any-grows : {X : Type 0} (P : X → Type 0) (xs ys : List X) → take (length xs) ys ≡ xs → Any P xs → Any P ys
@@ -42,7 +42,7 @@ pub grows_none : {X : Type 0} (xs : List X) → take (length xs) xs ≡ xs
 grows_none xs = take_all (length xs) xs (omega arith)
 
 -- ---- any two differ
--- a relation that goes both ways holds of any two places
+-- a relation that goes both ways holds at any two positions
 pairs_apart : {X : Type 0} (R : X → X → Type 0) → ((x y : X) → R x y → R y x) → (xs : List X) → AllPairs R xs → (i j : ℕ) (d : X) → (i ≡ j → ⊥) → i < length xs → j < length xs → R (get_or xs i d) (get_or xs j d)
 pairs_apart R back xs all i j d other i_in j_in =
     ⊎_elim
@@ -52,9 +52,9 @@ pairs_apart R back xs all i j d other i_in j_in =
     (λ (after : j < i). back (get_or xs j d) (get_or xs i d) (all j i d after i_in)))
     (cases_order i j)
 
--- and is kept where two change places
+-- and is kept where two elements change their positions
 module _ {X : Type 0} (R : X → X → Type 0) (back : (x y : X) → R x y → R y x) (xs : List X) (a b : ℕ) (a_in : a < length xs) (b_in : b < length xs) (all : AllPairs R xs) where
-  -- the place from which an element came
+  -- the position from which an element came
   came : (p : ℕ) (d : X) → p < length xs → (q : ℕ) × (q < length xs) × (get_or (swap xs a b) p d ≡ get_or xs q d) × (((p ≡ a) × (q ≡ b)) ⊎ (((p ≡ a → ⊥) × (p ≡ b) × (q ≡ a)) ⊎ ((p ≡ a → ⊥) × (p ≡ b → ⊥) × (q ≡ p))))
   came p d p_in =
       let moved = swapped_from_swap xs (swap xs a b) a b d a_in b_in refl in
@@ -81,22 +81,22 @@ AllPairs-permutation R back xs ys moved all =
 
 -- ---- a set at hand
 -- of the first sets of a list, one that lies within a set; none where none does
-pub record IsHeldSoFar (found : List AttrSet) (set : Places) (i : ℕ) (held : Option AttrSet) : Type 0 where
-  pub none : IsNone held → All (λ k. Within (places k) set → ⊥) (take i found)
+pub record IsHeldSoFar (found : List AttrSet) (set : Attributes) (i : ℕ) (held : Option AttrSet) : Type 0 where
+  pub none : IsNone held → All (λ k. IsSubset (attributes k) set → ⊥) (take i found)
   pub member : IfSome held (Contains found)
-  pub within : IfSome held (λ k. Within (places k) set)
+  pub within : IfSome held (λ k. IsSubset (attributes k) set)
 
-pub held_none : (found : List AttrSet) (set : Places) → IsHeldSoFar found set 0 None
+pub held_none : (found : List AttrSet) (set : Attributes) → IsHeldSoFar found set 0 None
 held_none found set = record { none = λ _ k d l. absurd (omega (arith, l)); member = tt; within = tt }
 
-pub held_same : (found : List AttrSet) (set : Places) (i : ℕ) (held : Option AttrSet) (zero : AttrSet) → i < length found → IsHeldSoFar found set i held → (Within (places (get_or found i zero)) set → ⊥) → IsHeldSoFar found set (i + 1) held
+pub held_same : (found : List AttrSet) (set : Attributes) (i : ℕ) (held : Option AttrSet) (zero : AttrSet) → i < length found → IsHeldSoFar found set i held → (IsSubset (attributes (get_or found i zero)) set → ⊥) → IsHeldSoFar found set (i + 1) held
 held_same found set i held zero lt before out = record {
-  none = λ e. All-more (λ (k : AttrSet). Within (places k) set → ⊥) found i zero lt (before.none e) out;
+  none = λ e. All-more (λ (k : AttrSet). IsSubset (attributes k) set → ⊥) found i zero lt (before.none e) out;
   member = before.member;
   within = before.within;
 }
 
-pub held_more : (found : List AttrSet) (set : Places) (i : ℕ) (held : Option AttrSet) (zero result : AttrSet) → i < length found → IsHeldSoFar found set i held → Within (places (get_or found i zero)) set
+pub held_more : (found : List AttrSet) (set : Attributes) (i : ℕ) (held : Option AttrSet) (zero result : AttrSet) → i < length found → IsHeldSoFar found set i held → IsSubset (attributes (get_or found i zero)) set
     → (result ≡ get_or found i zero) ⊎ (held ≡ Some result) → IsHeldSoFar found set (i + 1) (Some result)
 held_more found set i held zero result lt before inside either = record {
   none = λ e. absurd (true≢false e);
@@ -105,7 +105,7 @@ held_more found set i held zero result lt before inside either = record {
       (λ (old : held ≡ Some result). subst (λ (o : Option AttrSet). IfSome o (Contains found)) old before.member)
       either;
   within = ⊎_elim
-      (λ (same : result ≡ get_or found i zero). subst (λ (k : AttrSet). Within (places k) set) (sym same) inside)
-      (λ (old : held ≡ Some result). subst (λ (o : Option AttrSet). IfSome o (λ k. Within (places k) set)) old before.within)
+      (λ (same : result ≡ get_or found i zero). subst (λ (k : AttrSet). IsSubset (attributes k) set) (sym same) inside)
+      (λ (old : held ≡ Some result). subst (λ (o : Option AttrSet). IfSome o (λ k. IsSubset (attributes k) set)) old before.within)
       either;
 }

@@ -1,8 +1,8 @@
 -- Why the keys of a schema or of a scheme are not listed: for `keys`, `keys_of_scheme` and the
 -- command `keys` (`desk_cli/Keys`).
 use Rattle.std.specs.Prelude.{◌≡◌, ◌<◌, false, Any}
-use Rattle.attr_sets.specs.Places.{Places, count_below}
-use Rattle.attr_sets.specs.declared.set.TheConstants.{PLACES}
+use Rattle.attr_sets.specs.Attributes.{Attributes, count_below}
+use Rattle.attr_sets.specs.declared.set.TheConstants.{MOST_ATTRIBUTES}
 use Rattle.dep_model.specs.Dependencies.{is_fd}
 use Rattle.dep_model.specs.declared.failure.Failure.{Failure}
 use Rattle.dep_model.specs.declared.failure.Failure.TheVariants.{Refused, OutOfMemory}
@@ -27,11 +27,11 @@ IsRefusedListing s (Refused TooWide) = IsTooWide s
 IsRefusedListing s OutOfMemory = IsTooWide s → ⊥
 
 -- a scheme has more attributes than are searched
-abbrev pub IsWideScheme : Places → Type 0
-IsWideScheme scheme = WIDEST_SEARCHED < count_below scheme PLACES
+abbrev pub IsWideScheme : Attributes → Type 0
+IsWideScheme scheme = WIDEST_SEARCHED < count_below scheme MOST_ATTRIBUTES
 
 -- why the keys of a scheme are not listed
-abbrev pub IsRefusedFor : Schema → Places → Failure SchemeKeyRefusal → Type 0
+abbrev pub IsRefusedFor : Schema → Attributes → Failure SchemeKeyRefusal → Type 0
 IsRefusedFor s scheme (Refused (of_scheme.TooManyKeys found)) =
     (IsWideScheme scheme → ⊥) × AreManyKeys (width_of s) (theory_of s) scheme found.items
 IsRefusedFor s scheme (Refused of_scheme.TooWide) = IsWideScheme scheme

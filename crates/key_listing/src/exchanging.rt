@@ -1,6 +1,6 @@
 ghost use Rattle.std.specs.Prelude.{◌≡◌, ℕ, ◌≤◌, ◌<◌, List, length, take, IfOk, All};
-ghost use Rattle.attr_sets.specs.Places.{Places};
-ghost use Rattle.attr_sets.specs.Sets.{places};
+ghost use Rattle.attr_sets.specs.Attributes.{Attributes};
+ghost use Rattle.attr_sets.specs.Sets.{attributes};
 ghost use Rattle.dep_model.specs.Dependencies.{functional_part};
 ghost use Rattle.dep_model.specs.Keys.{IsSuperkey, IsKey};
 ghost use Rattle.dep_model.specs.Schemas.{width_of, universe_of, theory_of};
@@ -9,13 +9,13 @@ ghost use Rattle.key_listing.specs.Listing.{AreFoundKeys, AreSomeKeys, HoldsAnyU
 use crate::holding::holds_any;
 use crate::refusal::MOST_KEYS;
 use attr_sets::AttrSet;
-use dep_model::{Dep, Schema, WantMemory};
+use dep_model::{Dep, OutOfMemory, Schema};
 use fd_closure::functional_key;
 use std::alloc::Global;
 
 // The keys of the universe by functional dependencies: one, and from each with each dependency another,
 // until all have been had, or one more than are listed.
-pub fn exchanged_keys(alloc: Global, schema: &Schema) -> Result<Vec<AttrSet>, WantMemory>
+pub fn exchanged_keys(alloc: Global, schema: &Schema) -> Result<Vec<AttrSet>, OutOfMemory>
     requires functional { functional_part (theory_of schema.now) ≡ theory_of schema.now }
     ensures keys { IfOk result (λ found.
         AreFoundKeys (width_of schema.now) (theory_of schema.now) (universe_of schema.now) found.items) }
@@ -33,36 +33,41 @@ pub fn exchanged_keys(alloc: Global, schema: &Schema) -> Result<Vec<AttrSet>, Wa
 }
 
 // Adds a key within each set that a dependency makes of a key, where no found one lies within it.
-fn add_exchanged(schema: &Schema, key: AttrSet, found: &mut Vec<AttrSet>) -> Result<(), WantMemory>
+fn add_exchanged(schema: &Schema, key: AttrSet, found: &mut Vec<AttrSet>) -> Result<(), OutOfMemory>
     requires functional { functional_part (theory_of schema.now) ≡ theory_of schema.now }
-    requires key { IsKey (width_of schema.now) (theory_of schema.now) (universe_of schema.now) (places key) }
-    requires some { AreSomeKeys (width_of schema.now) (theory_of schema.now)
+    requires key { IsKey (width_of schema.now) (theory_of schema.now) (universe_of schema.now)
+        (attributes key) }
+    requires keys { AreSomeKeys (width_of schema.now) (theory_of schema.now)
         (universe_of schema.now) found.old.items }
-    ensures some { IfOk result (λ _.
+    ensures keys { IfOk result (λ _.
         AreSomeKeys (width_of schema.now) (theory_of schema.now) (universe_of schema.now) found.new.items) }
     ensures kept { IfOk result (λ _. take (length found.old.items) found.new.items ≡ found.old.items) }
     ensures exchanged { IfOk result
-        (λ _. IsExchangedUnlessMany (theory_of schema.now) found.new.items (places key)) }
+        (λ _. IsExchangedUnlessMany (theory_of schema.now) found.new.items (attributes key)) }
 {
     for dep in schema.deps() {
         if let Dep::Fd { lhs, rhs } = *dep {
-            add_key_within(schema, lhs.union(key.minus(rhs)), found)?;
+            add_key_within(schema, lhs.union(key.difference(rhs)), found)?;
         }
     }
     Ok(())
 }
 
 // Adds a key within a superkey, where no found one lies within it and they are not more than are listed.
-fn add_key_within(schema: &Schema, set: AttrSet, found: &mut Vec<AttrSet>) -> Result<(), WantMemory>
+fn add_key_within(
+    schema: &Schema,
+    set: AttrSet,
+    found: &mut Vec<AttrSet>,
+) -> Result<(), OutOfMemory>
     requires functional { functional_part (theory_of schema.now) ≡ theory_of schema.now }
     requires superkey { IsSuperkey (width_of schema.now) (theory_of schema.now) (universe_of schema.now)
-        (places set) }
-    requires some { AreSomeKeys (width_of schema.now) (theory_of schema.now)
+        (attributes set) }
+    requires keys { AreSomeKeys (width_of schema.now) (theory_of schema.now)
         (universe_of schema.now) found.old.items }
-    ensures some { IfOk result (λ _.
+    ensures keys { IfOk result (λ _.
         AreSomeKeys (width_of schema.now) (theory_of schema.now) (universe_of schema.now) found.new.items) }
     ensures kept { IfOk result (λ _. take (length found.old.items) found.new.items ≡ found.old.items) }
-    ensures held { IfOk result (λ _. HoldsAnyUnlessMany found.new.items (places set)) }
+    ensures held { IfOk result (λ _. HoldsAnyUnlessMany found.new.items (attributes set)) }
 {
     if found.len() <= MOST_KEYS && !holds_any(found, set) {
         found.push(functional_key(schema.deps(), set))?;

@@ -8,7 +8,7 @@ use crate::kinds::is_functional;
 use crate::refusal::{KeyRefusal, MOST_KEYS, WIDEST_SEARCHED};
 use crate::searching::searched_keys;
 use attr_sets::AttrSet;
-use dep_model::{Failure, Schema, WantMemory};
+use dep_model::{Failure, OutOfMemory, Schema};
 use std::alloc::Global;
 
 /// All keys of the universe by all dependencies, ascending: of two keys the greatest attribute that is
@@ -20,8 +20,8 @@ use std::alloc::Global;
 pub fn keys(alloc: Global, schema: &Schema) -> Result<Vec<AttrSet>, Failure<KeyRefusal>>
     ensures keys { IfOk result (λ keys.
         AreAllKeys (width_of schema.now) (theory_of schema.now) (universe_of schema.now) keys.items) }
-    ensures few { IfOk result (λ keys. length keys.items ≤ MOST_KEYS) }
-    ensures narrow { IfOk result (λ _. IsTooWide schema.now → ⊥) }
+    ensures within_limit { IfOk result (λ keys. length keys.items ≤ MOST_KEYS) }
+    ensures not_too_wide { IfOk result (λ _. IsTooWide schema.now → ⊥) }
     ensures refused { IfErr result (IsRefusedListing schema.now) }
 {
     if is_too_wide(schema) {
@@ -38,7 +38,7 @@ pub fn keys(alloc: Global, schema: &Schema) -> Result<Vec<AttrSet>, Failure<KeyR
 
 // Whether a multivalued dependency is given, and there are more attributes than are searched.
 fn is_too_wide(schema: &Schema) -> bool
-    ensures wide { IsTrue result ↔ IsTooWide schema.now }
+    ensures too_wide { IsTrue result ↔ IsTooWide schema.now }
 {
     if is_functional(schema.deps()) {
         return false;
@@ -47,7 +47,7 @@ fn is_too_wide(schema: &Schema) -> bool
 }
 
 // The keys of the universe, one more than are listed at most.
-fn found_keys(alloc: Global, schema: &Schema) -> Result<Vec<AttrSet>, WantMemory>
+fn found_keys(alloc: Global, schema: &Schema) -> Result<Vec<AttrSet>, OutOfMemory>
     ensures keys { IfOk result (λ found.
         AreFoundKeys (width_of schema.now) (theory_of schema.now) (universe_of schema.now) found.items) }
 {

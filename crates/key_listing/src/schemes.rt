@@ -1,6 +1,6 @@
 ghost use Rattle.std.specs.Prelude.{◌≤◌, length, IfOk, IfErr};
-ghost use Rattle.attr_sets.specs.Places.{Within};
-ghost use Rattle.attr_sets.specs.Sets.{places};
+ghost use Rattle.attr_sets.specs.Attributes.{IsSubset};
+ghost use Rattle.attr_sets.specs.Sets.{attributes};
 ghost use Rattle.dep_model.specs.Schemas.{width_of, universe_of, theory_of};
 ghost use Rattle.key_listing.specs.Listing.{AreAllKeys};
 ghost use Rattle.key_listing.specs.Refusals.{IsWideScheme, IsRefusedFor};
@@ -23,12 +23,12 @@ pub fn keys_of_scheme(
     schema: &Schema,
     scheme: AttrSet,
 ) -> Result<Vec<AttrSet>, Failure<SchemeKeyRefusal>>
-    requires scheme { Within (places scheme) (universe_of schema.now) }
+    requires scheme { IsSubset (attributes scheme) (universe_of schema.now) }
     ensures keys { IfOk result (λ keys.
-        AreAllKeys (width_of schema.now) (theory_of schema.now) (places scheme) keys.items) }
-    ensures few { IfOk result (λ keys. length keys.items ≤ MOST_KEYS) }
-    ensures narrow { IfOk result (λ _. IsWideScheme (places scheme) → ⊥) }
-    ensures refused { IfErr result (IsRefusedFor schema.now (places scheme)) }
+        AreAllKeys (width_of schema.now) (theory_of schema.now) (attributes scheme) keys.items) }
+    ensures within_limit { IfOk result (λ keys. length keys.items ≤ MOST_KEYS) }
+    ensures not_too_wide { IfOk result (λ _. IsWideScheme (attributes scheme) → ⊥) }
+    ensures refused { IfErr result (IsRefusedFor schema.now (attributes scheme)) }
 {
     if scheme.len() > WIDEST_SEARCHED {
         return Err(Failure::Refused(SchemeKeyRefusal::TooWide));

@@ -1,6 +1,6 @@
 ghost use Rattle.std.specs.Prelude.{◌≡◌, ◌≤◌, length, take, Contains, IsNone, IfOk, IfSome};
-ghost use Rattle.attr_sets.specs.Places.{Within};
-ghost use Rattle.attr_sets.specs.Sets.{places};
+ghost use Rattle.attr_sets.specs.Attributes.{IsSubset};
+ghost use Rattle.attr_sets.specs.Sets.{attributes};
 ghost use Rattle.dep_model.specs.Schemas.{width_of, universe_of, theory_of};
 ghost use Rattle.dep_model.specs.Keys.{IsSuperkey};
 ghost use Rattle.key_listing.specs.Listing.{AreFoundKeys, AreSomeKeys};
@@ -8,11 +8,11 @@ ghost use Rattle.key_listing.specs.Narrowing.{AreInEachSuperkey};
 ghost use Rattle.key_listing.specs.Searching.{HasKeysBetween};
 
 use crate::holding::held_key;
-use crate::narrowing::{needed_of, without_needless};
+use crate::narrowing::{attributes_in_every_key, without_attributes_in_no_key};
 use crate::refusal::MOST_KEYS;
 use crate::superkeys::{is_superkey, one_key};
 use attr_sets::AttrSet;
-use dep_model::{Schema, WantMemory};
+use dep_model::{OutOfMemory, Schema};
 use std::alloc::Global;
 
 // The keys of a scheme, ascending: all of them, or one more than are listed. Only those subsets are tried
@@ -21,30 +21,31 @@ pub fn searched_keys(
     alloc: Global,
     schema: &Schema,
     scheme: AttrSet,
-) -> Result<Vec<AttrSet>, WantMemory>
-    requires scheme { Within (places scheme) (universe_of schema.now) }
+) -> Result<Vec<AttrSet>, OutOfMemory>
+    requires scheme { IsSubset (attributes scheme) (universe_of schema.now) }
     ensures keys { IfOk result (λ found.
-        AreFoundKeys (width_of schema.now) (theory_of schema.now) (places scheme) found.items) }
+        AreFoundKeys (width_of schema.now) (theory_of schema.now) (attributes scheme) found.items) }
 {
-    let rest = without_needless(schema, scheme);
-    keys_with(alloc, schema, rest, needed_of(schema, rest))
+    let rest = without_attributes_in_no_key(schema, scheme);
+    keys_with(alloc, schema, rest, attributes_in_every_key(schema, rest))
 }
 
-// The keys of a scheme, each of which has the needed attributes.
+// The keys of a scheme, each of which has the attributes in every key.
 fn keys_with(
     alloc: Global,
     schema: &Schema,
     scheme: AttrSet,
-    needed: AttrSet,
-) -> Result<Vec<AttrSet>, WantMemory>
-    requires scheme { Within (places scheme) (universe_of schema.now) }
-    requires needed { AreInEachSuperkey (width_of schema.now) (theory_of schema.now) (places scheme)
-        (places needed) }
+    in_every_key: AttrSet,
+) -> Result<Vec<AttrSet>, OutOfMemory>
+    requires scheme { IsSubset (attributes scheme) (universe_of schema.now) }
+    requires in_every_key { AreInEachSuperkey (width_of schema.now) (theory_of schema.now)
+        (attributes scheme)
+        (attributes in_every_key) }
     ensures keys { IfOk result (λ found.
-        AreFoundKeys (width_of schema.now) (theory_of schema.now) (places scheme) found.items) }
+        AreFoundKeys (width_of schema.now) (theory_of schema.now) (attributes scheme) found.items) }
 {
     let mut found = Vec::new(alloc);
-    add_keys(schema, scheme, scheme, needed, &mut found)?;
+    add_keys(schema, scheme, scheme, in_every_key, &mut found)?;
     found.sort_unstable();
     Ok(found)
 }
@@ -58,16 +59,17 @@ fn add_keys(
     most: AttrSet,
     least: AttrSet,
     found: &mut Vec<AttrSet>,
-) -> Result<(), WantMemory>
-    requires scheme { Within (places scheme) (universe_of schema.now) }
-    requires most { Within (places most) (places scheme) }
-    requires some { AreSomeKeys (width_of schema.now) (theory_of schema.now) (places scheme) found.old.items }
-    ensures some { IfOk result (λ _.
-        AreSomeKeys (width_of schema.now) (theory_of schema.now) (places scheme) found.new.items) }
+) -> Result<(), OutOfMemory>
+    requires scheme { IsSubset (attributes scheme) (universe_of schema.now) }
+    requires within_scheme { IsSubset (attributes most) (attributes scheme) }
+    requires keys { AreSomeKeys (width_of schema.now) (theory_of schema.now)
+        (attributes scheme) found.old.items }
+    ensures keys { IfOk result (λ _.
+        AreSomeKeys (width_of schema.now) (theory_of schema.now) (attributes scheme) found.new.items) }
     ensures kept { IfOk result (λ _. take (length found.old.items) found.new.items ≡ found.old.items) }
-    ensures all { IfOk result (λ _.
-        HasKeysBetween (width_of schema.now) (theory_of schema.now) (places scheme)
-        (places least) (places most)
+    ensures all_keys { IfOk result (λ _.
+        HasKeysBetween (width_of schema.now) (theory_of schema.now) (attributes scheme)
+        (attributes least) (attributes most)
         found.new.items) }
 {
     if found.len() > MOST_KEYS {
@@ -76,7 +78,7 @@ fn add_keys(
     let Some(key) = key_within(schema, scheme, most, least, found)? else {
         return Ok(());
     };
-    match key.minus(least).least() {
+    match key.difference(least).first() {
         None => Ok(()),
         Some(attribute) => {
             add_keys(schema, scheme, most.without(attribute), least, found)?;
@@ -93,17 +95,19 @@ fn key_within(
     set: AttrSet,
     least: AttrSet,
     found: &mut Vec<AttrSet>,
-) -> Result<Option<AttrSet>, WantMemory>
-    requires scheme { Within (places scheme) (universe_of schema.now) }
-    requires set { Within (places set) (places scheme) }
-    requires some { AreSomeKeys (width_of schema.now) (theory_of schema.now) (places scheme) found.old.items }
-    requires few { length found.old.items ≤ MOST_KEYS }
-    ensures some { IfOk result (λ _.
-        AreSomeKeys (width_of schema.now) (theory_of schema.now) (places scheme) found.new.items) }
+) -> Result<Option<AttrSet>, OutOfMemory>
+    requires scheme { IsSubset (attributes scheme) (universe_of schema.now) }
+    requires set { IsSubset (attributes set) (attributes scheme) }
+    requires keys { AreSomeKeys (width_of schema.now) (theory_of schema.now)
+        (attributes scheme) found.old.items }
+    requires within_limit { length found.old.items ≤ MOST_KEYS }
+    ensures keys { IfOk result (λ _.
+        AreSomeKeys (width_of schema.now) (theory_of schema.now) (attributes scheme) found.new.items) }
     ensures kept { IfOk result (λ _. take (length found.old.items) found.new.items ≡ found.old.items) }
     ensures none { IfOk result (λ key. IsNone key
-        → IsSuperkey (width_of schema.now) (theory_of schema.now) (places scheme) (places set) → ⊥) }
-    ensures within { IfOk result (λ key. IfSome key (λ k. Within (places k) (places set))) }
+        → IsSuperkey (width_of schema.now) (theory_of schema.now) (attributes scheme) (attributes set)
+        → ⊥) }
+    ensures within { IfOk result (λ key. IfSome key (λ k. IsSubset (attributes k) (attributes set))) }
     ensures found { IfOk result (λ key. IfSome key (Contains found.new.items)) }
 {
     if let Some(key) = held_key(found, set, least) {

@@ -1,19 +1,19 @@
 ghost use Rattle.std.specs.Prelude.{◌↔◌, IsTrue};
-ghost use Rattle.attr_sets.specs.Places.{Within};
-ghost use Rattle.attr_sets.specs.Sets.{places};
-ghost use Rattle.dep_model.specs.Keys.{IsSuperkey, IsSettledKey};
+ghost use Rattle.attr_sets.specs.Attributes.{IsSubset};
+ghost use Rattle.attr_sets.specs.Sets.{attributes};
+ghost use Rattle.dep_model.specs.Keys.{IsSuperkey, IsGreedyKey};
 ghost use Rattle.dep_model.specs.Schemas.{width_of, universe_of, theory_of};
 
-use attr_sets::{AttrSet, PLACES};
+use attr_sets::{AttrSet, MOST_ATTRIBUTES};
 use dep_basis::{Decision, decide};
 use dep_model::{Dep, Schema};
 
 // Whether a set determines all of a scheme.
 pub fn is_superkey(schema: &Schema, scheme: AttrSet, set: AttrSet) -> bool
-    requires scheme { Within (places scheme) (universe_of schema.now) }
-    requires set { Within (places set) (places scheme) }
+    requires scheme { IsSubset (attributes scheme) (universe_of schema.now) }
+    requires set { IsSubset (attributes set) (attributes scheme) }
     ensures superkey { IsTrue result
-        ↔ IsSuperkey (width_of schema.now) (theory_of schema.now) (places scheme) (places set) }
+        ↔ IsSuperkey (width_of schema.now) (theory_of schema.now) (attributes scheme) (attributes set) }
 {
     let goal = Dep::Fd {
         lhs: set,
@@ -28,14 +28,14 @@ pub fn is_superkey(schema: &Schema, scheme: AttrSet, set: AttrSet) -> bool
 /// The key of a scheme by all dependencies that is left where each attribute, from the last to the
 /// first, is left out if the rest still determines the scheme.
 pub fn one_key(schema: &Schema, scheme: AttrSet) -> AttrSet
-    requires scheme { Within (places scheme) (universe_of schema.now) }
-    ensures settled { IsSettledKey (width_of schema.now) (theory_of schema.now) (places scheme)
-        (places result) }
+    requires scheme { IsSubset (attributes scheme) (universe_of schema.now) }
+    ensures greedy { IsGreedyKey (width_of schema.now) (theory_of schema.now) (attributes scheme)
+        (attributes result) }
 {
     let mut key = scheme;
-    for i in (0..PLACES).rev() {
+    for i in (0..MOST_ATTRIBUTES).rev() {
         let rest = key.without(i);
-        if key.has(i) && is_superkey(schema, scheme, rest) {
+        if key.contains(i) && is_superkey(schema, scheme, rest) {
             key = rest;
         }
     }

@@ -55,13 +55,13 @@ same_pair n r d i j k l p q = by (p.least k l q.breaks) (q.least i j p.breaks)
     by (inr (same, le)) (inl after) = absurd (omega (arith, same, after))
     by (inr (same, le)) (inr (also, ge)) = (same, omega (arith, le, ge))
 
-abbrev made : ℕ → ℕ → ℕ → Offence
-made k i j = record { dep = k; first = i; second = j }
+abbrev offence_at : ℕ → ℕ → ℕ → Offence
+offence_at k i j = record { dep = k; first = i; second = j }
 
 offence_path : (o p : Offence) → o.dep ≡ p.dep → o.first ≡ p.first → o.second ≡ p.second → o ≡ p
 offence_path o p dep first second =
-    ap (λ (k : ℕ). made k o.first o.second) dep ∙ ap (λ (i : ℕ). made p.dep i o.second) first
-    ∙ ap (λ (j : ℕ). made p.dep p.first j) second
+    ap (λ (k : ℕ). offence_at k o.first o.second) dep ∙ ap (λ (i : ℕ). offence_at p.dep i o.second) first
+    ∙ ap (λ (j : ℕ). offence_at p.dep p.first j) second
 
 same_offence : (n : ℕ) (r : Relation) (k : ℕ) (d : Dependency) (o p : Offence) → IsOffence n r k d o
     → IsOffence n r k d p → o ≡ p

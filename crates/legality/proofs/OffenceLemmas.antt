@@ -2,7 +2,7 @@
 use Rattle.std.proofs.Common.{inl, inr, ◌≡◌, ◌+◌, ◌<◌, ◌≤◌, Option, Some, None, ℕ, zero, suc, List, [], ◌∷◌, ◌++◌, length, take, get_or, refl, sym, ap, subst, ◌∙◌, arith}
 use Rattle.std.specs.Prelude.{All}
 use Rattle.std.proofs.lemmas.List.{length-map, length-take-le, take_all}
-use Rattle.attr_sets.specs.Places.{below}
+use Rattle.attr_sets.specs.Attributes.{below}
 use Rattle.dep_model.specs.Tuples.{Relation}
 use Rattle.dep_model.specs.Dependencies.{Dependency, fd, mvd, Obeys}
 use Rattle.dep_model.specs.Deps.{dependency_of, dependencies_of, IsDepWithin}
@@ -36,7 +36,7 @@ broken_more n r k (e ∷ ds) os d o (inl h) is = inl (h.0, broken_more n r (k + 
 broken_more n r k (e ∷ ds) os d o (inr (p, rest, at, first, h)) is =
     inr (p, rest ++ o ∷ [], ap (λ (l : List Offence). l ++ o ∷ []) at, first, broken_more n r (k + 1) ds rest d o h (subst (λ (m : ℕ). IsOffence n r m d o) (omega arith) is))
 
--- a dependency of a schema, by its place
+-- a dependency of a schema, by its position
 pub dep_within : (n w : ℕ) (deps ds : List Dep) (k : ℕ) (d : Dep) → ds ≡ deps → w ≡ n → All (IsDepWithin (below n)) deps → k < length ds → IsDepWithin (below w) (get_or ds k d)
 dep_within n w deps ds k d e f all l =
     let low : k < length deps = subst (λ (xs : List Dep). k < length xs) e l in
@@ -64,10 +64,10 @@ next_broken n w r deps ds k d least p o os new e f l old answer is number first 
     let pair : IsLeastPair n r (dependency_of (get_or deps k d)) p.first p.second =
     subst (λ (q : Option Pair). IsLeastOffence n r (dependency_of (get_or deps k d)) q) is (answer_known n w r deps ds k d least e f answer) in
     let before : k ≤ length (dependencies_of deps) = omega (arith, low, length-map deps dependency_of) in
-    let place : k ≡ 0 + length (take k (dependencies_of deps)) = omega (arith, length-take-le k (dependencies_of deps) before) in
+    let position : k ≡ 0 + length (take k (dependencies_of deps)) = omega (arith, length-take-le k (dependencies_of deps) before) in
     subst (λ (l : List Dependency). OffencesFrom n r 0 l new) (sym (theory_next deps k d low))
     (subst (λ (l : List Offence). OffencesFrom n r 0 (take k (dependencies_of deps) ++ dependency_of (get_or deps k d) ∷ []) l) (sym pushed)
-    (broken_more n r 0 (take k (dependencies_of deps)) os (dependency_of (get_or deps k d)) o old (number ∙ place, p.first, p.second, pair, first, second)))
+    (broken_more n r 0 (take k (dependencies_of deps)) os (dependency_of (get_or deps k d)) o old (number ∙ position, p.first, p.second, pair, first, second)))
 
 -- each dependency is looked at
 pub all_looked_at : (n : ℕ) (r : Relation) (deps ds : List Dep) (k : ℕ) (os : List Offence) → ds ≡ deps → length ds ≤ k → OffencesFrom n r 0 (take k (dependencies_of deps)) os → OffencesFrom n r 0 (dependencies_of deps) os

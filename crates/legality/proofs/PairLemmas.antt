@@ -1,8 +1,8 @@
--- Rows by their places, and the least pair that breaks a functional dependency.
+-- Rows by their positions, and the least pair that breaks a functional dependency.
 use Rattle.std.proofs.Common.{inl, inr, ◌≡◌, ◌+◌, ◌<◌, ◌≤◌, ◌⊎◌, ℕ, List, [], length, Option, Some, None, refl, sym, ap, subst, ◌∙◌, arith}
 use Rattle.std.specs.Prelude.{Contains}
 use Rattle.std.proofs.lemmas.Bool.{cases_lt}
-use Rattle.attr_sets.specs.Places.{Places}
+use Rattle.attr_sets.specs.Attributes.{Attributes}
 use Rattle.dep_model.specs.Tuples.{Tuple, Relation, AgreeOn, value_at}
 use Rattle.dep_model.specs.Dependencies.{fd}
 use Rattle.csv_rows.specs.Numberings.{row_at, number_at, AreGroups, AreFirsts}
@@ -17,8 +17,8 @@ member_of r i l = (i, l, same_default r i (row_at r i) [] l)
 abbrev pub leader : List ℕ → List ℕ → ℕ → ℕ
 leader numbers firsts i = number_at firsts (number_at numbers i)
 
--- which pair is the least among the rows before a place
-unfoldable pub Leads : Relation → Places → (ℕ → ℕ) → ℕ → Option Pair → Type 0
+-- which pair is the least among the rows before a position
+unfoldable pub Leads : Relation → Attributes → (ℕ → ℕ) → ℕ → Option Pair → Type 0
 Leads r y lead i None = (j : ℕ) → j < i → AgreeOn y (row_at r (lead j)) (row_at r j)
 Leads r y lead i (Some p) =
     (p.second < i) × (p.first ≡ lead p.second) × (AgreeOn y (row_at r p.first) (row_at r p.second) → ⊥)
@@ -27,12 +27,12 @@ Leads r y lead i (Some p) =
 at_end : (j i : ℕ) → j < i + 1 → i ≤ j → i ≡ j
 at_end j i l m = omega (arith, l, m)
 
-pub leads_none : (r : Relation) (y : Places) (lead : ℕ → ℕ) → Leads r y lead 0 None
+pub leads_none : (r : Relation) (y : Attributes) (lead : ℕ → ℕ) → Leads r y lead 0 None
 unfolding Leads
 leads_none r y lead j l = absurd (omega (arith, l))
 
 -- a row that agrees with its leader
-pub leads_on : (r : Relation) (y : Places) (lead : ℕ → ℕ) (i : ℕ) (least : Option Pair) → Leads r y lead i least → AgreeOn y (row_at r (lead i)) (row_at r i) → Leads r y lead (i + 1) least
+pub leads_on : (r : Relation) (y : Attributes) (lead : ℕ → ℕ) (i : ℕ) (least : Option Pair) → Leads r y lead i least → AgreeOn y (row_at r (lead i)) (row_at r i) → Leads r y lead (i + 1) least
 unfolding Leads
 leads_on r y lead i None old a = λ j l. elim (cases_lt j i) [
   | inl front ↦ old j front
@@ -49,7 +49,7 @@ leads_on r y lead i (Some p) old a = (
 )
 
 -- a row that differs from its leader
-pub leads_more : (r : Relation) (y : Places) (lead : ℕ → ℕ) (i : ℕ) (old new : Option Pair) (q : Pair) → Leads r y lead i old
+pub leads_more : (r : Relation) (y : Attributes) (lead : ℕ → ℕ) (i : ℕ) (old new : Option Pair) (q : Pair) → Leads r y lead i old
     → q.first ≡ lead i → q.second ≡ i → (AgreeOn y (row_at r q.first) (row_at r q.second) → ⊥)
     → (old ≡ None → new ≡ Some q) → ((p : Pair) → old ≡ Some p → p.first ≤ q.first → new ≡ Some p) → ((p : Pair) → old ≡ Some p → q.first < p.first → new ≡ Some q)
     → Leads r y lead (i + 1) new
@@ -95,7 +95,7 @@ leads_more r y lead i (Some p) new q l first second differs none kept replaced =
 ]
 
 -- all rows looked at
-pub functional_answer : (n : ℕ) (r : Relation) (x y : Places) (numbers firsts : List ℕ) (least : Option Pair) → AreGroups r x numbers → AreFirsts numbers firsts
+pub functional_answer : (n : ℕ) (r : Relation) (x y : Attributes) (numbers firsts : List ℕ) (least : Option Pair) → AreGroups r x numbers → AreFirsts numbers firsts
     → Leads r y (leader numbers firsts) (length r) least → IsLeastOffence n r (fd x y) least
 unfolding Leads
 functional_answer n r x y numbers firsts None g f l = λ t u ht hu a.

@@ -4,8 +4,8 @@ use mathlib.Core.Path.{fun_ext}
 use Rattle.std.proofs.lemmas.List.{get_or-set_other, length-set}
 use Rattle.std.proofs.lemmas.Grind.{get_or-set_at}
 use Rattle.std.proofs.lemmas.Bool.{cases_Bool, cases_lt, eqb-true, eq-eqb}
-use Rattle.attr_sets.specs.Places.{Places, Within, below, union, minus, only, count_below}
-use Rattle.attr_sets.proofs.PlacesLemmas.{tell_some, count_below-minus_only, count_below-member, count_below-outside, union_within, same_at}
+use Rattle.attr_sets.specs.Attributes.{Attributes, IsSubset, below, union, difference, only, count_below}
+use Rattle.attr_sets.proofs.AttributesLemmas.{tell_member, count_below-difference_only, count_below-member, count_below-outside, union_within, same_at}
 use Rattle.dep_model.specs.Tuples.{Tuple, Relation, AgreeOn, value_at}
 use Rattle.dep_model.specs.Dependencies.{mvd, Obeys}
 use Rattle.csv_rows.specs.Numberings.{row_at, number_at, AreGroups, AreFirsts}
@@ -14,17 +14,17 @@ use Rattle.legality.specs.Offences.{BreaksAt}
 use Rattle.legality.specs.Answers.{IsLeastOffence}
 use Rattle.legality.specs.Parts.{part_count, ArePartCounts, IsFirstShort, flag_at, AreBeside, IsFirstMissing}
 use Rattle.legality.specs.declared.pair.Pair.{Pair}
-use Rattle.legality.proofs.CountLemmas.{matched, other_number}
+use Rattle.legality.proofs.CountLemmas.{count_below-injection, other_number}
 use Rattle.legality.proofs.PairLemmas.{member_of}
 use Rattle.dep_model.proofs.TwoRowLemmas.{AgreeOn-union, AgreeOn-left, AgreeOn-right, AgreeOn-trans}
 use Rattle.dep_model.proofs.SchemeLemmas.{count_below-start}
 
 -- what is outside x and y
-abbrev pub rest_of : ℕ → Places → Places → Places
-rest_of n x y = minus (below n) (union x y)
+abbrev pub rest_of : ℕ → Attributes → Attributes → Attributes
+rest_of n x y = difference (below n) (union x y)
 
--- rows over n places, grouped by x, by x and y, by x and the rest, and by all places
-pub record Grouping (n : ℕ) (r : Relation) (x y : Places) (g fg l fl z fz a fa : List ℕ) : Type 0 where
+-- rows over n attributes, grouped by x, by x and y, by x and the rest, and by all attributes
+pub record Grouping (n : ℕ) (r : Relation) (x y : Attributes) (g fg l fl z fz a fa : List ℕ) : Type 0 where
   pub left : AreGroups r x g
   pub left_firsts : AreFirsts g fg
   pub both : AreGroups r (union x y) l
@@ -33,33 +33,33 @@ pub record Grouping (n : ℕ) (r : Relation) (x y : Places) (g fg l fl z fz a fa
   pub rest_firsts : AreFirsts z fz
   pub all : AreGroups r (below n) a
   pub all_firsts : AreFirsts a fa
-  pub x_within : Within x (below n)
-  pub y_within : Within y (below n)
+  pub x_within : IsSubset x (below n)
+  pub y_within : IsSubset y (below n)
 
-agree_of : (r : Relation) (x : Places) (g : List ℕ) (i j : ℕ) → AreGroups r x g → i < length r → j < length r → number_at g i ≡ number_at g j → AgreeOn x (row_at r i) (row_at r j)
+agree_of : (r : Relation) (x : Attributes) (g : List ℕ) (i j : ℕ) → AreGroups r x g → i < length r → j < length r → number_at g i ≡ number_at g j → AgreeOn x (row_at r i) (row_at r j)
 agree_of r x g i j k li lj e = (k.equal i j li lj).0 e
 
-number_of : (r : Relation) (x : Places) (g : List ℕ) (i j : ℕ) → AreGroups r x g → i < length r → j < length r → AgreeOn x (row_at r i) (row_at r j) → number_at g i ≡ number_at g j
+number_of : (r : Relation) (x : Attributes) (g : List ℕ) (i j : ℕ) → AreGroups r x g → i < length r → j < length r → AgreeOn x (row_at r i) (row_at r j) → number_at g i ≡ number_at g j
 number_of r x g i j k li lj e = (k.equal i j li lj).1 e
 
 -- what agrees on both parts agrees everywhere
-agree_all : (n : ℕ) (x y : Places) (t u : Tuple) → AgreeOn (union x y) t u → AgreeOn (union x (rest_of n x y)) t u → AgreeOn (below n) t u
+agree_all : (n : ℕ) (x y : Attributes) (t u : Tuple) → AgreeOn (union x y) t u → AgreeOn (union x (rest_of n x y)) t u → AgreeOn (below n) t u
 agree_all n x y t u a b m low = elim (cases_Bool (union x y m)) [
   | inl has ↦ a m has
   | inr lacks ↦ AgreeOn-right x (rest_of n x y) t u b m (ap (λ (c : Bool). c && not (union x y m)) low ∙ ap not lacks)
 ]
 
-agree_part : (n : ℕ) (x : Places) (t u : Tuple) → Within x (below n) → AgreeOn (below n) t u → AgreeOn x t u
+agree_part : (n : ℕ) (x : Attributes) (t u : Tuple) → IsSubset x (below n) → AgreeOn (below n) t u → AgreeOn x t u
 agree_part n x t u within a m has = a m (within m has)
 
-pub rest_within : (n : ℕ) (x y : Places) → Within (rest_of n x y) (below n)
+pub rest_within : (n : ℕ) (x y : Attributes) → IsSubset (rest_of n x y) (below n)
 rest_within n x y m has = by (nat_lt m n) has
   where
     by : (c : Bool) → (c && not (union x y m)) ≡ true → c ≡ true
     by true h = refl
     by false h = h
 
-module _ (n : ℕ) (r : Relation) (x y : Places) (g fg l fl z fz a fa : List ℕ) (k : Grouping n r x y g fg l fl z fz a fa) where
+module _ (n : ℕ) (r : Relation) (x y : Attributes) (g fg l fl z fz a fa : List ℕ) (k : Grouping n r x y g fg l fl z fz a fa) where
   first_in : (xs firsts : List ℕ) → AreFirsts xs firsts → length xs ≡ length r → (h : ℕ) → h < length firsts → number_at firsts h < length r
   first_in xs firsts f size h low = omega (arith, f.within h low, size)
 
@@ -78,7 +78,7 @@ module _ (n : ℕ) (r : Relation) (x y : Places) (g fg l fl z fz a fa : List ℕ
 
   -- where a row has all parts of its group, it has the rest of each row of the group beside it
   enough : (i j : ℕ) → i < length r → j < length r → number_at g j ≡ number_at g i → part_count g fz (number_at g i) ≤ part_count l fa (number_at l i) → Beside i j
-  enough i j li lj same counts = elim (tell_some (length r) (λ v. (number_at l v == number_at l i) && (number_at z v == number_at z j))) [
+  enough i j li lj same counts = elim (tell_member (length r) (λ v. (number_at l v == number_at l i) && (number_at z v == number_at z j))) [
     | inl found ↦ (found.0, found.1, eqb-true _ _ (and_left _ _ found.2), eqb-true _ _ (and_right _ _ found.2))
     | inr none ↦
         let z0 : ℕ = number_at z j in
@@ -86,7 +86,7 @@ module _ (n : ℕ) (r : Relation) (x y : Places) (g fg l fl z fz a fa : List ℕ
         let f0 : number_at fz z0 < length r = first_in z fz k.rest_firsts k.rest.one_each z0 low in
         let owner : number_at g (number_at fz z0) ≡ number_at g i =
         number_of r x g _ _ k.left f0 lj (AgreeOn-left x (rest_of n x y) _ _ (agree_of r _ z _ _ k.rest f0 lj (k.rest_firsts.number z0 low))) ∙ same in
-        let fewer = matched (length fa) (length fz) (λ h. number_at l (number_at fa h) == number_at l i) (minus (λ h. number_at g (number_at fz h) == number_at g i) (only z0)) (λ h p. number_at z (number_at fa h) ≡ p)
+        let fewer = count_below-injection (length fa) (length fz) (λ h. number_at l (number_at fa h) == number_at l i) (difference (λ h. number_at g (number_at fz h) == number_at g i) (only z0)) (λ h p. number_at z (number_at fa h) ≡ p)
         (λ h hl is.
         let v : ℕ = number_at fa h in
         let lv : v < length r = first_in a fa k.all_firsts k.all.one_each h hl in
@@ -100,7 +100,7 @@ module _ (n : ℕ) (r : Relation) (x y : Places) (g fg l fl z fz a fa : List ℕ
         let apart : (p == z0) ≡ false = other_number p z0 (λ e. true≢false (sym (ap (λ (b : Bool). b && (number_at z v == z0)) is ∙ eq-eqb p z0 e) ∙ none v lv)) in
         (p, pl, ap (λ (b : Bool). b && not (p == z0)) (eq-eqb _ _ mine) ∙ ap not apart, refl))
         (λ h q p hl ql ih iq eh eq. one_row i h q li hl ql (eqb-true _ _ ih) (eqb-true _ _ iq) (eh ∙ sym eq)) in
-        absurd (omega (arith, fewer, counts, count_below-minus_only (length fz) (λ h. number_at g (number_at fz h) == number_at g i) z0 low (eq-eqb _ _ owner)))
+        absurd (omega (arith, fewer, counts, count_below-difference_only (length fz) (λ h. number_at g (number_at fz h) == number_at g i) z0 low (eq-eqb _ _ owner)))
   ]
     where
       and_left : (b c : Bool) → (b && c) ≡ true → b ≡ true
@@ -115,7 +115,7 @@ module _ (n : ℕ) (r : Relation) (x y : Places) (g fg l fl z fz a fa : List ℕ
   short : (i : ℕ) → i < length r → part_count l fa (number_at l i) < part_count g fz (number_at g i)
       → ((j : ℕ) → j < length r → number_at g j ≡ number_at g i → Beside i j) → ⊥
   short i li less every =
-      let all = matched (length fz) (length fa) (λ p. number_at g (number_at fz p) == number_at g i) (λ h. number_at l (number_at fa h) == number_at l i) (λ p h. number_at z (number_at fa h) ≡ p)
+      let all = count_below-injection (length fz) (length fa) (λ p. number_at g (number_at fz p) == number_at g i) (λ h. number_at l (number_at fa h) == number_at l i) (λ p h. number_at z (number_at fa h) ≡ p)
       (λ p pl is.
       let lp : number_at fz p < length r = first_in z fz k.rest_firsts k.rest.one_each p pl in
       let (v, lv, left, rest) = every (number_at fz p) lp (eqb-true _ _ is) in
@@ -212,22 +212,22 @@ module _ (n : ℕ) (r : Relation) (x y : Places) (g fg l fl z fz a fa : List ℕ
 -- ---- what the code finds out
 
 -- the sets by which the rows are grouped
-rest_set : (n : ℕ) (x y u s m t : Places) → u ≡ below n → s ≡ union x y → m ≡ minus u s → t ≡ union x m → t ≡ union x (rest_of n x y)
+rest_set : (n : ℕ) (x y u s m t : Attributes) → u ≡ below n → s ≡ union x y → m ≡ difference u s → t ≡ union x m → t ≡ union x (rest_of n x y)
 rest_set n x y u s m t hu hs hm ht = fun_ext (λ k.
     let rest : m k ≡ rest_of n x y k = same_at hm k ∙ ap (λ (b : Bool). b && not (s k)) (same_at hu k) ∙ ap (λ (b : Bool). nat_lt k n && not b) (same_at hs k) in
     same_at ht k ∙ ap (λ (b : Bool). x k || b) rest)
 
-pub grouping : (n : ℕ) (r : Relation) (x y u s m t : Places) (g fg l fl z fz a fa : List ℕ) → u ≡ below n → s ≡ union x y → m ≡ minus u s → t ≡ union x m
-    → Within x (below n) → Within y (below n) → AreGroups r x g → AreFirsts g fg → AreGroups r s l → AreFirsts l fl → AreGroups r t z → AreFirsts z fz → AreGroups r u a → AreFirsts a fa
+pub grouping : (n : ℕ) (r : Relation) (x y u s m t : Attributes) (g fg l fl z fz a fa : List ℕ) → u ≡ below n → s ≡ union x y → m ≡ difference u s → t ≡ union x m
+    → IsSubset x (below n) → IsSubset y (below n) → AreGroups r x g → AreFirsts g fg → AreGroups r s l → AreFirsts l fl → AreGroups r t z → AreFirsts z fz → AreGroups r u a → AreFirsts a fa
     → Grouping n r x y g fg l fl z fz a fa
 grouping n r x y u s m t g fg l fl z fz a fa hu hs hm ht hx hy left left_firsts both both_firsts rest rest_firsts all all_firsts = record {
   left = left;
   left_firsts = left_firsts;
-  both = subst (λ (p : Places). AreGroups r p l) hs both;
+  both = subst (λ (p : Attributes). AreGroups r p l) hs both;
   both_firsts = both_firsts;
-  rest = subst (λ (p : Places). AreGroups r p z) (rest_set n x y u s m t hu hs hm ht) rest;
+  rest = subst (λ (p : Attributes). AreGroups r p z) (rest_set n x y u s m t hu hs hm ht) rest;
   rest_firsts = rest_firsts;
-  all = subst (λ (p : Places). AreGroups r p a) hu all;
+  all = subst (λ (p : Attributes). AreGroups r p a) hu all;
   all_firsts = all_firsts;
   x_within = hx;
   y_within = hy;

@@ -1,7 +1,7 @@
 -- The offences of rows: for each dependency that they break, the least pair of rows that breaks it.
 -- For `offences` and `check rows` (`desk_cli/Legality`).
 use Rattle.std.specs.Prelude.{◌≡◌, ◌+◌, ◌<◌, ◌≤◌, ◌⊎◌, ℕ, List, [], ◌∷◌, length, Contains}
-use Rattle.attr_sets.specs.Places.{below, union, minus}
+use Rattle.attr_sets.specs.Attributes.{below, union, difference}
 use Rattle.dep_model.specs.Tuples.{Tuple, Relation, AgreeOn}
 use Rattle.dep_model.specs.Dependencies.{Dependency, fd, mvd, Obeys}
 use Rattle.csv_rows.specs.Numberings.{row_at}
@@ -13,9 +13,9 @@ abbrev pub PairBreaks : ℕ → Relation → Dependency → Tuple → Tuple → 
 PairBreaks n r (fd x y) t u = AgreeOn x t u × (AgreeOn y t u → ⊥)
 PairBreaks n r (mvd x y) t u =
     AgreeOn x t u
-    × ((v : Tuple) → Contains r v → AgreeOn (union x y) v t → AgreeOn (minus (below n) (union x y)) v u → ⊥)
+    × ((v : Tuple) → Contains r v → AgreeOn (union x y) v t → AgreeOn (difference (below n) (union x y)) v u → ⊥)
 
--- the rows at two places, from 0, break a dependency
+-- the rows at two positions, from 0, break a dependency
 abbrev pub BreaksAt : ℕ → Relation → Dependency → ℕ → ℕ → Type 0
 BreaksAt n r d i j = (i < length r) × (j < length r) × PairBreaks n r d (row_at r i) (row_at r j)
 

@@ -1,7 +1,7 @@
 -- Groups of rows and the parts that each has, by numbers: for the search that goes by multivalued
 -- dependencies. `Desk` does not cite it.
 use Rattle.std.specs.Prelude.{◌≡◌, ◌<◌, ◌≤◌, ◌==◌, ℕ, Bool, true, false, List, length, slice_index_or, Option, None, Some}
-use Rattle.attr_sets.specs.Places.{count_below}
+use Rattle.attr_sets.specs.Attributes.{count_below}
 use Rattle.csv_rows.specs.Numberings.{number_at}
 use Rattle.legality.specs.declared.pair.Pair.{Pair}
 
@@ -18,7 +18,7 @@ pub record ArePartCounts (numbers firsts parts counts : List ℕ) : Type 0 where
   pub one_each : length counts ≡ length firsts
   pub count : (h : ℕ) → h < length firsts → number_at counts h ≡ part_count numbers parts h
 
--- the row at this place is the first of fewer parts than its group has; or no row is
+-- the row at this position is the first of fewer parts than its group has; or no row is
 abbrev pub IsFirstShort : List ℕ → List ℕ → List ℕ → List ℕ → Option ℕ → Type 0
 IsFirstShort groups wanted lefts present None =
     (i : ℕ) → i < length groups → number_at wanted (number_at groups i)

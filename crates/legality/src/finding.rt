@@ -1,5 +1,5 @@
 ghost use Rattle.std.specs.Prelude.{◌≡◌, ◌+◌, ◌<◌, ◌≤◌, ◌^◌, ◌↔◌, [], length, IfOk};
-ghost use Rattle.attr_sets.specs.Places.{below};
+ghost use Rattle.attr_sets.specs.Attributes.{below};
 ghost use Rattle.csv_rows.specs.Interning.{IsInterned};
 ghost use Rattle.dep_model.specs.Deps.{IsDepWithin, dependency_of};
 ghost use Rattle.dep_model.specs.Schemas.{LegalFor, theory_of, width_of};
@@ -11,9 +11,9 @@ use crate::functional::least_functional_pair;
 use crate::multivalued::least_multivalued_pair;
 use crate::offence::Offence;
 use crate::pair::Pair;
-use attr_sets::PLACES;
+use attr_sets::MOST_ATTRIBUTES;
 use csv_rows::Interned;
-use dep_model::{Dep, Schema, WantMemory};
+use dep_model::{Dep, OutOfMemory, Schema};
 use row_store::Rows;
 use std::alloc::Global;
 
@@ -22,9 +22,9 @@ use std::alloc::Global;
 /// break `X -> Y` where they agree on X and not on Y; they break `X ->> Y` where they agree on X and
 /// no row agrees with the first on X and Y and with the second on the rest.
 /// There is none exactly where the rows are legal.
-pub fn offences(alloc: Global, schema: &Schema, rows: &Rows) -> Result<Vec<Offence>, WantMemory>
+pub fn offences(alloc: Global, schema: &Schema, rows: &Rows) -> Result<Vec<Offence>, OutOfMemory>
     requires over { IsOver (width_of schema.now) rows.now }
-    requires few { length rows.now < 2 ^ 32 }
+    requires fits_u32 { length rows.now < 2 ^ 32 }
     ensures offences { IfOk result
         (λ v. OffencesOf (width_of schema.now) (theory_of schema.now) rows.now v.items) }
     ensures legal { IfOk result (λ v. (v.items ≡ []) ↔ LegalFor schema.now rows.now) }
@@ -34,7 +34,7 @@ pub fn offences(alloc: Global, schema: &Schema, rows: &Rows) -> Result<Vec<Offen
     for k in 0..schema.deps().len() {
         let least = least_pair(alloc, rows, schema.width(), &codes, schema.deps()[k])?;
         match least {
-            Some(pair) => offences.push(offence(k as u16, pair))?,
+            Some(pair) => offences.push(offence_of(k as u16, pair))?,
             None => {}
         }
     }
@@ -42,7 +42,7 @@ pub fn offences(alloc: Global, schema: &Schema, rows: &Rows) -> Result<Vec<Offen
 }
 
 // The offence of a dependency, with rows from 1.
-fn offence(dep: u16, pair: Pair) -> Offence
+fn offence_of(dep: u16, pair: Pair) -> Offence
     requires first { pair.first + 1 < 2 ^ 32 }
     requires second { pair.second + 1 < 2 ^ 32 }
     ensures dep { result.dep ≡ dep }
@@ -63,8 +63,8 @@ fn least_pair(
     width: u8,
     codes: &Interned,
     dep: Dep,
-) -> Result<Option<Pair>, WantMemory>
-    requires width { width ≤ PLACES }
+) -> Result<Option<Pair>, OutOfMemory>
+    requires width { width ≤ MOST_ATTRIBUTES }
     requires codes { IsInterned width rows.now codes.now }
     requires dep { IsDepWithin (below width) dep }
     ensures pair { IfOk result (λ least. IsLeastOffence width rows.now (dependency_of dep) least) }

@@ -1,6 +1,6 @@
 ghost use Rattle.std.specs.Prelude.{◌≡◌, ◌<◌, ◌≤◌, true, false, length, Some, None, IfOk};
-ghost use Rattle.attr_sets.specs.Places.{Within, below};
-ghost use Rattle.attr_sets.specs.Sets.{places};
+ghost use Rattle.attr_sets.specs.Attributes.{IsSubset, below};
+ghost use Rattle.attr_sets.specs.Sets.{attributes};
 ghost use Rattle.csv_rows.specs.Interning.{IsInterned};
 ghost use Rattle.csv_rows.specs.Numberings.{row_at};
 ghost use Rattle.dep_model.specs.Dependencies.{fd};
@@ -9,9 +9,9 @@ ghost use Rattle.legality.specs.Answers.{IsLeastOffence};
 ghost use Rattle.legality.specs.declared.pair.Pair.{Pair};
 
 use crate::pair::Pair;
-use attr_sets::{AttrSet, PLACES};
+use attr_sets::{AttrSet, MOST_ATTRIBUTES};
 use csv_rows::{Groups, Interned};
-use dep_model::WantMemory;
+use dep_model::OutOfMemory;
 use row_store::Rows;
 use std::alloc::Global;
 
@@ -24,27 +24,28 @@ pub fn least_functional_pair(
     codes: &Interned,
     lhs: AttrSet,
     rhs: AttrSet,
-) -> Result<Option<Pair>, WantMemory>
-    requires width { width ≤ PLACES }
+) -> Result<Option<Pair>, OutOfMemory>
+    requires width { width ≤ MOST_ATTRIBUTES }
     requires codes { IsInterned width rows.now codes.now }
-    requires lhs { Within (places lhs) (below width) }
-    requires rhs { Within (places rhs) (below width) }
-    ensures pair { IfOk result (λ least. IsLeastOffence width rows.now (fd (places lhs) (places rhs)) least) }
+    requires lhs { IsSubset (attributes lhs) (below width) }
+    requires rhs { IsSubset (attributes rhs) (below width) }
+    ensures pair { IfOk result (λ least. IsLeastOffence width rows.now (fd (attributes lhs)
+        (attributes rhs)) least) }
 {
-    let groups = Groups::of(alloc, codes, lhs)?;
+    let groups = Groups::by_agreement(alloc, codes, lhs)?;
     let mut least = None;
     for second in 0..rows.len() {
         let group = groups.numbers()[second] as usize;
         let first = groups.firsts()[group] as usize;
-        if !agree(rows, width, codes, rhs, first, second) {
-            least = lesser(least, Pair { first, second });
+        if !rows_agree(rows, width, codes, rhs, first, second) {
+            least = earlier_of(least, Pair { first, second });
         }
     }
     Ok(least)
 }
 
 // The pair of the lesser first row; of two with one first row the one that came earlier.
-fn lesser(least: Option<Pair>, pair: Pair) -> Option<Pair>
+fn earlier_of(least: Option<Pair>, pair: Pair) -> Option<Pair>
     ensures first { least ≡ None → result ≡ Some pair }
     ensures kept { (p : Pair) → least ≡ Some p → p.first ≤ pair.first → result ≡ Some p }
     ensures replaced { (p : Pair) → least ≡ Some p → pair.first < p.first → result ≡ Some pair }
@@ -62,7 +63,7 @@ fn lesser(least: Option<Pair>, pair: Pair) -> Option<Pair>
 }
 
 // Whether two rows agree on a set.
-fn agree(
+fn rows_agree(
     rows: &Rows,
     width: u8,
     codes: &Interned,
@@ -70,18 +71,19 @@ fn agree(
     first: usize,
     second: usize,
 ) -> bool
-    requires width { width ≤ PLACES }
+    requires width { width ≤ MOST_ATTRIBUTES }
     requires codes { IsInterned width rows.now codes.now }
-    requires set { Within (places set) (below width) }
+    requires set { IsSubset (attributes set) (below width) }
     requires first { first < length rows.now }
     requires second { second < length rows.now }
-    ensures agree { result ≡ true → AgreeOn (places set) (row_at rows.now first) (row_at rows.now second) }
+    ensures agree { result ≡ true
+        → AgreeOn (attributes set) (row_at rows.now first) (row_at rows.now second) }
     ensures differ { result ≡ false
-        → AgreeOn (places set) (row_at rows.now first) (row_at rows.now second) → ⊥ }
+        → AgreeOn (attributes set) (row_at rows.now first) (row_at rows.now second) → ⊥ }
 {
-    for place in 0..width {
-        if set.has(place) {
-            if codes.code(first, place) != codes.code(second, place) {
+    for attribute in 0..width {
+        if set.contains(attribute) {
+            if codes.code(first, attribute) != codes.code(second, attribute) {
                 return false;
             }
         }

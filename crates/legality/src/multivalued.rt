@@ -1,6 +1,6 @@
 ghost use Rattle.std.specs.Prelude.{◌≡◌, ◌<◌, ◌≤◌, false, length, replicate, IfOk};
-ghost use Rattle.attr_sets.specs.Places.{Within, below};
-ghost use Rattle.attr_sets.specs.Sets.{places};
+ghost use Rattle.attr_sets.specs.Attributes.{IsSubset, below};
+ghost use Rattle.attr_sets.specs.Sets.{attributes};
 ghost use Rattle.csv_rows.specs.Interning.{IsInterned, firsts_of, groups_of};
 ghost use Rattle.csv_rows.specs.Numberings.{AreFirsts};
 ghost use Rattle.dep_model.specs.Dependencies.{mvd};
@@ -8,9 +8,9 @@ ghost use Rattle.legality.specs.Answers.{IsLeastOffence};
 ghost use Rattle.legality.specs.Parts.{AreBelow, AreBeside, ArePartCounts, IsFirstMissing, IsFirstShort};
 
 use crate::pair::Pair;
-use attr_sets::{AttrSet, PLACES};
+use attr_sets::{AttrSet, MOST_ATTRIBUTES};
 use csv_rows::{Groups, Interned};
-use dep_model::WantMemory;
+use dep_model::OutOfMemory;
 use row_store::Rows;
 use std::alloc::Global;
 
@@ -24,28 +24,28 @@ pub fn least_multivalued_pair(
     codes: &Interned,
     lhs: AttrSet,
     rhs: AttrSet,
-) -> Result<Option<Pair>, WantMemory>
-    requires width { width ≤ PLACES }
+) -> Result<Option<Pair>, OutOfMemory>
+    requires width { width ≤ MOST_ATTRIBUTES }
     requires codes { IsInterned width rows.now codes.now }
-    requires lhs { Within (places lhs) (below width) }
-    requires rhs { Within (places rhs) (below width) }
+    requires lhs { IsSubset (attributes lhs) (below width) }
+    requires rhs { IsSubset (attributes rhs) (below width) }
     ensures pair { IfOk result (λ least.
-        IsLeastOffence width rows.now (mvd (places lhs) (places rhs)) least) }
+        IsLeastOffence width rows.now (mvd (attributes lhs) (attributes rhs)) least) }
 {
     let universe = AttrSet::full(width);
     let sides = lhs.union(rhs);
-    let outside = universe.minus(sides);
+    let outside = universe.difference(sides);
     let others = lhs.union(outside);
-    let groups = Groups::of(alloc, codes, lhs)?;
-    let lefts = Groups::of(alloc, codes, sides)?;
-    let rests = Groups::of(alloc, codes, others)?;
-    let all = Groups::of(alloc, codes, universe)?;
+    let groups = Groups::by_agreement(alloc, codes, lhs)?;
+    let lefts = Groups::by_agreement(alloc, codes, sides)?;
+    let rests = Groups::by_agreement(alloc, codes, others)?;
+    let all = Groups::by_agreement(alloc, codes, universe)?;
     let wanted = part_counts(alloc, &groups, &rests)?;
     let present = part_counts(alloc, &lefts, &all)?;
     match first_short(groups.numbers(), &wanted, lefts.numbers(), &present) {
         Some(first) => {
             let count = rests.firsts().len();
-            let beside = marked(alloc, lefts.numbers(), rests.numbers(), count, first)?;
+            let beside = rests_beside(alloc, lefts.numbers(), rests.numbers(), count, first)?;
             let least = first_missing(groups.numbers(), rests.numbers(), &beside, first);
             Ok(least)
         }
@@ -54,14 +54,14 @@ pub fn least_multivalued_pair(
 }
 
 // How many of the parts each group has.
-fn part_counts(alloc: Global, groups: &Groups, parts: &Groups) -> Result<Vec<usize>, WantMemory>
-    requires same { length (groups_of groups.now) ≡ length (groups_of parts.now) }
+fn part_counts(alloc: Global, groups: &Groups, parts: &Groups) -> Result<Vec<usize>, OutOfMemory>
+    requires same_length { length (groups_of groups.now) ≡ length (groups_of parts.now) }
     requires groups { AreFirsts (groups_of groups.now) (firsts_of groups.now) }
     requires parts { AreFirsts (groups_of parts.now) (firsts_of parts.now) }
     ensures counts { IfOk result (λ v. ArePartCounts (groups_of groups.now) (firsts_of groups.now)
         (firsts_of parts.now) v.items) }
 {
-    let mut counts = zeros(alloc, groups.firsts().len())?;
+    let mut counts = zero_counts(alloc, groups.firsts().len())?;
     for row in parts.firsts() {
         let group = groups.numbers()[*row as usize] as usize;
         counts[group] += 1;
@@ -70,7 +70,7 @@ fn part_counts(alloc: Global, groups: &Groups, parts: &Groups) -> Result<Vec<usi
 }
 
 // This many counts of nothing.
-fn zeros(alloc: Global, count: usize) -> Result<Vec<usize>, WantMemory>
+fn zero_counts(alloc: Global, count: usize) -> Result<Vec<usize>, OutOfMemory>
     ensures zeros { IfOk result (λ v. v.items ≡ replicate count 0) }
 {
     let mut counts = Vec::new(alloc);
@@ -80,7 +80,7 @@ fn zeros(alloc: Global, count: usize) -> Result<Vec<usize>, WantMemory>
 
 // The first row whose left and right side has fewer rests beside it than there are in its group.
 fn first_short(groups: &[u32], wanted: &[usize], lefts: &[u32], present: &[usize]) -> Option<usize>
-    requires same { length lefts.now ≡ length groups.now }
+    requires same_length { length lefts.now ≡ length groups.now }
     requires wanted { AreBelow groups.now (length wanted.now) }
     requires present { AreBelow lefts.now (length present.now) }
     ensures first { IsFirstShort groups.now wanted.now lefts.now present.now result }
@@ -95,20 +95,20 @@ fn first_short(groups: &[u32], wanted: &[usize], lefts: &[u32], present: &[usize
 }
 
 // Which of this many rests stand beside the left and right side of a row.
-fn marked(
+fn rests_beside(
     alloc: Global,
     lefts: &[u32],
     rests: &[u32],
     count: usize,
     first: usize,
-) -> Result<Vec<bool>, WantMemory>
-    requires same { length rests.now ≡ length lefts.now }
+) -> Result<Vec<bool>, OutOfMemory>
+    requires same_length { length rests.now ≡ length lefts.now }
     requires first { first < length lefts.now }
     requires count { AreBelow rests.now count }
     ensures count { IfOk result (λ v. length v.items ≡ count) }
     ensures beside { IfOk result (λ v. AreBeside lefts.now rests.now first (length lefts.now) v.items) }
 {
-    let mut beside = unmarked(alloc, count)?;
+    let mut beside = no_rests(alloc, count)?;
     for row in 0..lefts.len() {
         if lefts[row] == lefts[first] {
             let rest = rests[row] as usize;
@@ -119,7 +119,7 @@ fn marked(
 }
 
 // This many rests, of which none is marked.
-fn unmarked(alloc: Global, count: usize) -> Result<Vec<bool>, WantMemory>
+fn no_rests(alloc: Global, count: usize) -> Result<Vec<bool>, OutOfMemory>
     ensures unmarked { IfOk result (λ v. v.items ≡ replicate count false) }
 {
     let mut beside = Vec::new(alloc);
@@ -129,7 +129,7 @@ fn unmarked(alloc: Global, count: usize) -> Result<Vec<bool>, WantMemory>
 
 // The first row of the group of `first` whose rest is not marked.
 fn first_missing(groups: &[u32], rests: &[u32], beside: &[bool], first: usize) -> Option<Pair>
-    requires same { length rests.now ≡ length groups.now }
+    requires same_length { length rests.now ≡ length groups.now }
     requires first { first < length groups.now }
     requires beside { AreBelow rests.now (length beside.now) }
     ensures missing { IsFirstMissing groups.now rests.now beside.now first result }

@@ -31,17 +31,17 @@ digit_at run i e h = IsDigit-from (get_or run i 0) (at (is_ascii_digit (get_or r
     at true f = f
     at false f = let wrong : list_all is_ascii_digit run ≡ false = list_all_at is_ascii_digit run i 0 h f in let right : list_all is_ascii_digit run ≡ true = all_digits run e in cc
 
-pub few : (run : List ℕ) → is_number run ≡ true → length run ≤ 9
+pub number-length : (run : List ℕ) → is_number run ≡ true → length run ≤ 9
 unfolding is_number
-few run e = grind (arith, nat_tests)
+number-length run e = grind (arith, nat_tests)
 
-pub more : (run : List ℕ) (i v x : ℕ) → i < length run → x ≡ get_or run i 0 - 48 → IsDigit (get_or run i 0) → SoFar run i v → SoFar run (i + 1) (v * 10 + x)
-more run i v x h e digit so_far = record {
+pub SoFar-next : (run : List ℕ) (i v x : ℕ) → i < length run → x ≡ get_or run i 0 - 48 → IsDigit (get_or run i 0) → SoFar run i v → SoFar run (i + 1) (v * 10 + x)
+SoFar-next run i v x h e digit so_far = record {
   read = let whole : number_of (take (i + 1) run) ≡ number_of (take i run) * 10 + (get_or run i 0 - 48) = fold_more (λ value d. value * 10 + (d - 48)) 0 run i 0 h in cc;
   small = let grown : 10 ^ (i + 1) ≡ 10 ^ i * 10 = rw add-one (pow-suc 10 i) in let value = so_far.small in let high = digit.high in omega arith;
 }
 
-pub bounded : (i v n : ℕ) → v < 10 ^ i → i < n → n ≤ 9 → v < 10 ^ 8
-bounded i v n small below short =
-    let few : i ≤ 8 = omega arith in
-    let grown : 10 ^ i ≤ 10 ^ 8 = pow-le-pow_right (omega arith) few in omega arith
+pub fits_u32_below : (i v n : ℕ) → v < 10 ^ i → i < n → n ≤ 9 → v < 10 ^ 8
+fits_u32_below i v n small below short =
+    let at_most_8 : i ≤ 8 = omega arith in
+    let grown : 10 ^ i ≤ 10 ^ 8 = pow-le-pow_right (omega arith) at_most_8 in omega arith

@@ -3,9 +3,9 @@ use Rattle.std.proofs.Common.{◌≡◌, ℕ, List, ◌∷◌, Option, Some, Non
 use denote.Ref.{Bor}
 use Rattle.lexer.specs.Lines.{line_texts, lines_after, CutsAt, CutsLine, IsLastLine}
 
-pub cut_any : (text line : List ℕ) (after : Option (Bor (List ℕ))) → CutsLine text line after → line_texts text ≡ line ∷ lines_after after
-cut_any text line None cut = cut.lines
-cut_any text line (Some after) cut = cut.lines
+pub CutsAt-any : (text line : List ℕ) (after : Option (Bor (List ℕ))) → CutsLine text line after → line_texts text ≡ line ∷ lines_after after
+CutsAt-any text line None cut = cut.lines
+CutsAt-any text line (Some after) cut = cut.lines
 
 pub cut_last : (text line : List ℕ) (after : Option (Bor (List ℕ))) → after ≡ None → CutsLine text line after → IsLastLine text line
 cut_last text line after e cut = let at : Option (Bor (List ℕ)) → Type 0 = λ o. CutsLine text line o in subst at e cut

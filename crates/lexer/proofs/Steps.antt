@@ -14,12 +14,12 @@ use Rattle.lexer.specs.declared.token.TokenKind.{TokenKind}
 use Rattle.lexer.specs.declared.token.TokenKind.TheVariants as token
 use Rattle.dep_model.specs.Names.{is_name, is_name_byte}
 use Rattle.lexer.specs.Bytes.{is_gap, is_number, number_of, run_length}
-use Rattle.lexer.specs.Pieces.{front, run_piece, takes_numbers, takes_comments}
-use Rattle.lexer.specs.Tokens.{lexed, led_by_mark, Leads, StandsAfter}
+use Rattle.lexer.specs.Pieces.{front_piece, run_piece, takes_numbers, takes_comments}
+use Rattle.lexer.specs.Tokens.{tokens_after, led_by_mark, Leads, StandsAfter}
 
 -- only gaps stand before what is left of the text
 pub record IsReached (m : Mode) (start : ℕ) (text : List ℕ) (column : ℕ) (rest : List ℕ) : Type 0 where
-  pub same : lexed m 0 start text ≡ lexed m 0 column rest
+  pub same : tokens_after m 0 start text ≡ tokens_after m 0 column rest
   pub from_on : start ≤ column
   pub fits : column + length rest ≡ start + length text
 
@@ -32,12 +32,12 @@ pub record LiesIn (text : List ℕ) (n : ℕ) : Type 0 where
 abbrev pub FitsPiece : List ℕ → Piece → Type 0
 FitsPiece text piece.Gap = Unit {0}
 FitsPiece text piece.Comment = Unit {0}
-FitsPiece text (piece.Token k n) = LiesIn text n × (k ≡ token.Word → is_name (take n text) ≡ true)
+FitsPiece text (piece.Token k n) = LiesIn text n × (k ≡ token.Identifier → is_name (take n text) ≡ true)
 FitsPiece text (piece.Flaw why n) = LiesIn text n
 
-either : (text : List ℕ) (b : Bool) (x y : Piece) → (b ≡ true → FitsPiece text x) → (b ≡ false → FitsPiece text y) → FitsPiece text (cond b x y)
-either text true x y here there = here refl
-either text false x y here there = there refl
+FitsPiece-cond : (text : List ℕ) (b : Bool) (x y : Piece) → (b ≡ true → FitsPiece text x) → (b ≡ false → FitsPiece text y) → FitsPiece text (cond b x y)
+FitsPiece-cond text true x y here there = here refl
+FitsPiece-cond text false x y here there = there refl
 
 run_lies : (text : List ℕ) → 0 < run_length text → LiesIn text (length (take (run_length text) text))
 run_lies text h =
@@ -55,73 +55,73 @@ unfolding run_piece
 run_fits m text h =
     let lies = run_lies text h in
     let same : length (take (run_length text) text) ≡ run_length text = length-prefix_len is_name_byte text in
-    either text (is_name (take (run_length text) text)) _ _
+    FitsPiece-cond text (is_name (take (run_length text) text)) _ _
     (λ word. (lies, λ _. rw same word))
-    (λ _. either text (takes_numbers m && is_number (take (run_length text) text)) (number_piece text) _ (λ _. number_fits text lies) (λ _. lies))
+    (λ _. FitsPiece-cond text (takes_numbers m && is_number (take (run_length text) text)) (number_piece text) _ (λ _. number_fits text lies) (λ _. lies))
 
 starts_lies : (text needle : List ℕ) → starts_with nat_eq text needle ≡ true → 0 < length needle → LiesIn text (length needle)
 starts_lies text needle e some =
     let whole : text ≡ _ = (starts_is Decides-eqb text needle _ refl).0 e in record { some = some; within = omega (arith, simp length-append at (ap length whole)) }
 
-mark_fits : (text : List ℕ) (k : TokenKind) (n : ℕ) → LiesIn text n → (k ≡ token.Word → ⊥) → FitsPiece text (piece.Token k n)
+mark_fits : (text : List ℕ) (k : TokenKind) (n : ℕ) → LiesIn text n → (k ≡ token.Identifier → ⊥) → FitsPiece text (piece.Token k n)
 mark_fits text k n lies other = (lies, λ word. absurd (other word))
 
-arrow_fits : (text needle : List ℕ) (k : TokenKind) → starts_with nat_eq text needle ≡ true → 0 < length needle → (k ≡ token.Word → ⊥)
+arrow_fits : (text needle : List ℕ) (k : TokenKind) → starts_with nat_eq text needle ≡ true → 0 < length needle → (k ≡ token.Identifier → ⊥)
     → FitsPiece text (piece.Token k (length needle))
 arrow_fits text needle k starts some other = mark_fits text k (length needle) (starts_lies text needle starts some) other
 
 byte_lies : (b : ℕ) (bs : List ℕ) → LiesIn (b ∷ bs) 1
 byte_lies b bs = record { some = lit< tt; within = omega arith }
 
-pub front_fits : (m : Mode) (text : List ℕ) → 0 < length text → FitsPiece text (front m text)
-unfolding front
+pub front_fits : (m : Mode) (text : List ℕ) → 0 < length text → FitsPiece text (front_piece m text)
+unfolding front_piece
 front_fits m [] h = absurd (omega arith)
 front_fits m (b ∷ bs) h =
-    either (b ∷ bs) (is_gap b) _ _ (λ _. tt)
-    (λ _. either (b ∷ bs) (b == 35 && takes_comments m) _ _ (λ _. tt)
-    (λ _. either (b ∷ bs) (is_name_byte b) _ _ (λ run. run_fits m (b ∷ bs) (rw run (omega arith)))
-    (λ _. either (b ∷ bs) (starts_with nat_eq (b ∷ bs) (45 ∷ 62 ∷ 62 ∷ [])) _ _ (λ starts. arrow_fits (b ∷ bs) (45 ∷ 62 ∷ 62 ∷ []) token.DoubleArrow starts (lit< tt) (λ word. cc))
-    (λ _. either (b ∷ bs) (starts_with nat_eq (b ∷ bs) (45 ∷ 62 ∷ [])) _ _ (λ starts. arrow_fits (b ∷ bs) (45 ∷ 62 ∷ []) token.Arrow starts (lit< tt) (λ word. cc))
-    (λ _. either (b ∷ bs) (starts_with nat_eq (b ∷ bs) (40 ∷ 41 ∷ [])) _ _ (λ starts. arrow_fits (b ∷ bs) (40 ∷ 41 ∷ []) token.Empty starts (lit< tt) (λ word. cc))
-    (λ _. either (b ∷ bs) (b == 58 && takes_numbers m) _ _ (λ _. mark_fits (b ∷ bs) token.Colon 1 (byte_lies b bs) (λ word. cc))
+    FitsPiece-cond (b ∷ bs) (is_gap b) _ _ (λ _. tt)
+    (λ _. FitsPiece-cond (b ∷ bs) (b == 35 && takes_comments m) _ _ (λ _. tt)
+    (λ _. FitsPiece-cond (b ∷ bs) (is_name_byte b) _ _ (λ run. run_fits m (b ∷ bs) (rw run (omega arith)))
+    (λ _. FitsPiece-cond (b ∷ bs) (starts_with nat_eq (b ∷ bs) (45 ∷ 62 ∷ 62 ∷ [])) _ _ (λ starts. arrow_fits (b ∷ bs) (45 ∷ 62 ∷ 62 ∷ []) token.DoubleArrow starts (lit< tt) (λ word. cc))
+    (λ _. FitsPiece-cond (b ∷ bs) (starts_with nat_eq (b ∷ bs) (45 ∷ 62 ∷ [])) _ _ (λ starts. arrow_fits (b ∷ bs) (45 ∷ 62 ∷ []) token.Arrow starts (lit< tt) (λ word. cc))
+    (λ _. FitsPiece-cond (b ∷ bs) (starts_with nat_eq (b ∷ bs) (40 ∷ 41 ∷ [])) _ _ (λ starts. arrow_fits (b ∷ bs) (40 ∷ 41 ∷ []) token.Empty starts (lit< tt) (λ word. cc))
+    (λ _. FitsPiece-cond (b ∷ bs) (b == 58 && takes_numbers m) _ _ (λ _. mark_fits (b ∷ bs) token.Colon 1 (byte_lies b bs) (λ word. cc))
     (λ _. byte_lies b bs)))))))
 
 -- after so many bytes of a piece, the tokens are those of what is left
-pub lexed_after : (m : Mode) (skip column : ℕ) (text : List ℕ) → lexed m skip column text ≡ lexed m 0 (column + skip) (drop skip text)
-unfolding lexed
+pub lexed_after : (m : Mode) (skip column : ℕ) (text : List ℕ) → tokens_after m skip column text ≡ tokens_after m 0 (column + skip) (drop skip text)
+unfolding tokens_after
 lexed_after m zero column [] = refl
 lexed_after m (suc n) column [] = refl
 lexed_after m zero column (b ∷ bs) = rw add-zero refl
 lexed_after m (suc n) column (b ∷ bs) =
     let same : (column + 1) + n ≡ column + suc n = omega arith in
-    lexed_after m n (column + 1) bs ∙ ap (λ k. lexed m 0 k (drop n bs)) same
+    lexed_after m n (column + 1) bs ∙ ap (λ k. tokens_after m 0 k (drop n bs)) same
 
-pub after_gap : (m : Mode) (column : ℕ) (text : List ℕ) → 0 < length text → piece.Gap ≡ front m text → lexed m 0 column text ≡ lexed m 0 (column + 1) (drop 1 text)
-unfolding lexed
+pub after_gap : (m : Mode) (column : ℕ) (text : List ℕ) → 0 < length text → piece.Gap ≡ front_piece m text → tokens_after m 0 column text ≡ tokens_after m 0 (column + 1) (drop 1 text)
+unfolding tokens_after
 after_gap m column [] h e = absurd (omega arith)
 after_gap m column (b ∷ bs) h e = rw (← e) refl
 
-pub at_comment : (m : Mode) (column : ℕ) (text : List ℕ) → 0 < length text → piece.Comment ≡ front m text → lexed m 0 column text ≡ record { marks = []; stop = None }
-unfolding lexed
+pub at_comment : (m : Mode) (column : ℕ) (text : List ℕ) → 0 < length text → piece.Comment ≡ front_piece m text → tokens_after m 0 column text ≡ record { marks = []; stop = None }
+unfolding tokens_after
 at_comment m column [] h e = refl
 at_comment m column (b ∷ bs) h e = rw (← e) refl
 
-pub at_flaw : (m : Mode) (column : ℕ) (text : List ℕ) (why : Flaw) (n : ℕ) → 0 < length text → piece.Flaw why n ≡ front m text
-    → lexed m 0 column text ≡ record { marks = []; stop = Some (record { flaw = why; column = column; length = n }) }
-unfolding lexed
+pub at_flaw : (m : Mode) (column : ℕ) (text : List ℕ) (why : Flaw) (n : ℕ) → 0 < length text → piece.Flaw why n ≡ front_piece m text
+    → tokens_after m 0 column text ≡ record { marks = []; stop = Some (record { flaw = why; column = column; length = n }) }
+unfolding tokens_after
 at_flaw m column [] why n h e = absurd (omega arith)
 at_flaw m column (b ∷ bs) why n h e = rw (← e) refl
 
-pub at_token : (m : Mode) (column : ℕ) (text : List ℕ) (k : TokenKind) (n : ℕ) → 0 < length text → piece.Token k n ≡ front m text
-    → lexed m 0 column text ≡ led_by_mark (record { kind = k; column = column; word = take n text }) (lexed m 0 (column + n) (drop n text))
-unfolding lexed
+pub at_token : (m : Mode) (column : ℕ) (text : List ℕ) (k : TokenKind) (n : ℕ) → 0 < length text → piece.Token k n ≡ front_piece m text
+    → tokens_after m 0 column text ≡ led_by_mark (record { kind = k; column = column; word = take n text }) (tokens_after m 0 (column + n) (drop n text))
+unfolding tokens_after
 at_token m column [] k n h e = absurd (omega arith)
 at_token m column (b ∷ bs) k zero h e =
     let lies : FitsPiece (b ∷ bs) (piece.Token k zero) = subst (FitsPiece (b ∷ bs)) (sym e) (front_fits m (b ∷ bs) h) in
     let some : 0 < 0 = lies.0.some in absurd (omega arith)
 at_token m column (b ∷ bs) k (suc n) h e =
     let one : suc n - 1 ≡ n = omega arith in
-    let after : lexed m n (column + 1) bs ≡ lexed m 0 (column + suc n) (drop n bs) = lexed_after m (suc n) column (b ∷ bs) in
+    let after : tokens_after m n (column + 1) bs ≡ tokens_after m 0 (column + suc n) (drop n bs) = lexed_after m (suc n) column (b ∷ bs) in
     rw (← e) (rw one (ap (led_by_mark _) after))
 
 pub is_some : (text : List ℕ) → false ≡ (length text == 0) → 0 < length text
@@ -130,25 +130,25 @@ is_some text e = grind (arith, nat_tests)
 pub is_none : (text : List ℕ) → true ≡ (length text == 0) → length text ≡ 0
 is_none text e = grind (arith, nat_tests)
 
-pub at_end : (m : Mode) (column : ℕ) (text : List ℕ) → length text ≡ 0 → lexed m 0 column text ≡ record { marks = []; stop = None }
-unfolding lexed
+pub at_end : (m : Mode) (column : ℕ) (text : List ℕ) → length text ≡ 0 → tokens_after m 0 column text ≡ record { marks = []; stop = None }
+unfolding tokens_after
 at_end m column [] e = refl
 at_end m column (b ∷ bs) e = absurd (omega arith)
 
-pub lies_in : (m : Mode) (text : List ℕ) (k : TokenKind) (n : ℕ) → 0 < length text → piece.Token k n ≡ front m text → LiesIn text n
+pub lies_in : (m : Mode) (text : List ℕ) (k : TokenKind) (n : ℕ) → 0 < length text → piece.Token k n ≡ front_piece m text → LiesIn text n
 lies_in m text k n h e =
     let fits : FitsPiece text (piece.Token k n) = subst (FitsPiece text) (sym e) (front_fits m text h) in fits.0
 
-pub is_a_word : (m : Mode) (text : List ℕ) (k : TokenKind) (n : ℕ) → 0 < length text → piece.Token k n ≡ front m text → k ≡ token.Word → is_name (take n text) ≡ true
+pub is_a_word : (m : Mode) (text : List ℕ) (k : TokenKind) (n : ℕ) → 0 < length text → piece.Token k n ≡ front_piece m text → k ≡ token.Identifier → is_name (take n text) ≡ true
 is_a_word m text k n h e =
     let fits : FitsPiece text (piece.Token k n) = subst (FitsPiece text) (sym e) (front_fits m text h) in fits.1
 
-pub flaw_lies_in : (m : Mode) (text : List ℕ) (why : Flaw) (n : ℕ) → 0 < length text → piece.Flaw why n ≡ front m text → LiesIn text n
+pub flaw_lies_in : (m : Mode) (text : List ℕ) (why : Flaw) (n : ℕ) → 0 < length text → piece.Flaw why n ≡ front_piece m text → LiesIn text n
 flaw_lies_in m text why n h e = subst (FitsPiece text) (sym e) (front_fits m text h)
 
 pub token_leads : (m : Mode) (start : ℕ) (text : List ℕ) (column : ℕ) (rest : List ℕ) (k : TokenKind) (n : ℕ) (word after : List ℕ)
-    → IsReached m start text column rest → 0 < length rest → piece.Token k n ≡ front m rest → word ≡ take n rest → after ≡ drop n rest
-    → Leads m (record { kind = k; column = column; length = n }) word after (lexed m 0 start text)
+    → IsReached m start text column rest → 0 < length rest → piece.Token k n ≡ front_piece m rest → word ≡ take n rest → after ≡ drop n rest
+    → Leads m (record { kind = k; column = column; length = n }) word after (tokens_after m 0 start text)
 token_leads m start text column rest k n word after reached some e is_word_here is_after_it =
     let lies = lies_in m rest k n some e in
     record {

@@ -25,15 +25,15 @@ takes_comments mode.Numbered = true
 -- what a run of letters, digits and `_` is
 unfoldable pub run_piece : Mode → List ℕ → Piece
 run_piece m run =
-    if is_name run then piece.Token token.Word (length run)
+    if is_name run then piece.Token token.Identifier (length run)
     else if takes_numbers m && is_number run then piece.Token (token.Number (number_of run)) (length run)
     else piece.Flaw flaw.BadName (length run)
 
 -- the longest piece at the front of a text: a blank, a tab or a comma; a comment; a token; or
 -- bytes that are none
-unfoldable pub front : Mode → List ℕ → Piece
-front m [] = piece.Comment
-front m (b ∷ bs) =
+unfoldable pub front_piece : Mode → List ℕ → Piece
+front_piece m [] = piece.Comment
+front_piece m (b ∷ bs) =
     if is_gap b then piece.Gap
     else if (b == 35) && takes_comments m then piece.Comment
     else if is_name_byte b then run_piece m (take (run_length (b ∷ bs)) (b ∷ bs))

@@ -5,12 +5,12 @@ use Rattle.lexer.specs.declared.piece.Piece.TheVariants as piece
 use Rattle.lexer.specs.declared.token.Mode.{Mode}
 use Rattle.lexer.specs.declared.token.Next.{Next}
 use Rattle.lexer.specs.declared.token.Next.TheVariants as next
-use Rattle.lexer.specs.declared.token.Stop.{Stop}
+use Rattle.lexer.specs.declared.token.LexError.{LexError}
 use Rattle.lexer.specs.declared.token.Token.{Token}
 use Rattle.lexer.specs.declared.token.TokenKind.{TokenKind}
 use Rattle.lexer.specs.declared.token.TokenKind.TheVariants as token
 use Rattle.dep_model.specs.Names.{is_name}
-use Rattle.lexer.specs.Pieces.{front}
+use Rattle.lexer.specs.Pieces.{front_piece}
 
 -- a token with its bytes
 pub record Mark : Type 0 where
@@ -21,7 +21,7 @@ pub record Mark : Type 0 where
 -- the tokens of a line up to the first bytes that are none, and these bytes if there are any
 pub record Lexed : Type 0 where
   pub marks : List Mark
-  pub stop : Option Stop
+  pub stop : Option LexError
 
 abbrev pub led_by_mark : Mark → Lexed → Lexed
 led_by_mark m l = record { marks = m ∷ l.marks; stop = l.stop }
@@ -37,15 +37,15 @@ led_by (piece.Flaw why n) column text after =
     record { marks = []; stop = Some (record { flaw = why; column = column; length = n }) }
 
 -- the tokens of a text that begins in a column, after so many bytes that belong to the piece before
-unfoldable pub lexed : Mode → ℕ → ℕ → List ℕ → Lexed
-lexed m skip column [] = record { marks = []; stop = None }
-lexed m zero column (b ∷ bs) =
-    led_by (front m (b ∷ bs)) column (b ∷ bs) (λ skip. lexed m skip (column + 1) bs)
-lexed m (suc n) column (b ∷ bs) = lexed m n (column + 1) bs
+unfoldable pub tokens_after : Mode → ℕ → ℕ → List ℕ → Lexed
+tokens_after m skip column [] = record { marks = []; stop = None }
+tokens_after m zero column (b ∷ bs) =
+    led_by (front_piece m (b ∷ bs)) column (b ∷ bs) (λ skip. tokens_after m skip (column + 1) bs)
+tokens_after m (suc n) column (b ∷ bs) = tokens_after m n (column + 1) bs
 
 -- the tokens of a line
 abbrev pub lex : Mode → List ℕ → Lexed
-lex m line = lexed m 0 1 line
+lex m line = tokens_after m 0 1 line
 
 -- a token, as code has it
 abbrev pub token_of : Mark → Token
@@ -54,15 +54,15 @@ token_of m = record { kind = m.kind; column = m.column; length = length m.word }
 -- the token stands in front of the others; where it is a word, its bytes form one
 pub record Leads (m : Mode) (t : Token) (word rest : List ℕ) (all : Lexed) : Type 0 where
   pub all_tokens : all ≡ led_by_mark (record { kind = t.kind; column = t.column; word = word })
-      (lexed m 0 (t.column + t.length) rest)
+      (tokens_after m 0 (t.column + t.length) rest)
   pub same_length : t.length ≡ length word
-  pub is_a_word : t.kind ≡ token.Word → is_name word ≡ true
+  pub is_a_word : t.kind ≡ token.Identifier → is_name word ≡ true
 
 -- what comes next is the first of these tokens, or why there is none
 abbrev pub GoesOn : Mode → Next → Lexed → Type 0
 GoesOn m next.End all = all ≡ record { marks = []; stop = None }
 GoesOn m (next.Token t word rest) all = Leads m t word.now rest.now all
-GoesOn m (next.Stop s) all = all ≡ record { marks = []; stop = Some s }
+GoesOn m (next.Error s) all = all ≡ record { marks = []; stop = Some s }
 
 -- a token stands after the column, and takes at least one byte of the text
 pub record StandsAfter (column : ℕ) (text : List ℕ) (t : Token) (rest : List ℕ) : Type 0 where
@@ -73,4 +73,4 @@ pub record StandsAfter (column : ℕ) (text : List ℕ) (t : Token) (rest : List
 abbrev pub Advances : ℕ → List ℕ → Next → Type 0
 Advances column text next.End = Unit {0}
 Advances column text (next.Token t word rest) = StandsAfter column text t rest.now
-Advances column text (next.Stop s) = Unit {0}
+Advances column text (next.Error s) = Unit {0}

@@ -1,7 +1,7 @@
 //! The lines and tokens of the texts that a designer writes: schemas, goals, plans, certificates.
 //!
 //! A text is cut into lines by `cut_line`, and a line into tokens by `next_token`, one at a time and
-//! without memory. Which tokens a line has is `lexed`: each as long as possible, from left to right,
+//! without memory. `lex` says which tokens a line has: each as long as possible, from left to right,
 //! up to the first byte or run of bytes that begins no token.
 #![tactic(auto)]
 
@@ -11,4 +11,4 @@ mod piece;
 mod token;
 
 pub use line::{cut_line, without_mark};
-pub use token::{Flaw, Mode, Next, Stop, Token, TokenKind, next_token};
+pub use token::{Flaw, LexError, Mode, Next, Token, TokenKind, next_token};

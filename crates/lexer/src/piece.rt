@@ -1,7 +1,7 @@
 ghost use Rattle.std.specs.Prelude.{◌≡◌, ◌<◌, ◌≤◌, length, IsTrue};
 ghost use Rattle.std.specs.List.{list_all};
 ghost use Rattle.dep_model.specs.Names.{is_name_byte};
-ghost use Rattle.lexer.specs.Pieces.{front, run_piece};
+ghost use Rattle.lexer.specs.Pieces.{front_piece, run_piece};
 
 use crate::bytes::{is_gap, is_name, is_number, is_run, number_of, run_length};
 use crate::token::{Flaw, Mode, TokenKind};
@@ -20,10 +20,10 @@ pub enum Piece {
 }
 
 /// The longest piece at the front of a text that is not empty.
-#[tactic(auto, unfolding(crate::specs::Pieces::front))]
-pub fn front(mode: Mode, text: &[u8]) -> Piece
+#[tactic(auto, unfolding(crate::specs::Pieces::front_piece))]
+pub fn front_piece(mode: Mode, text: &[u8]) -> Piece
     requires { 0 < length text.now }
-    ensures exact { result ≡ front mode text.now }
+    ensures exact { result ≡ front_piece mode text.now }
 {
     let first = text[0];
     if is_gap(first) {
@@ -52,7 +52,7 @@ fn run_piece(mode: Mode, run: &[u8]) -> Piece
     ensures exact { result ≡ run_piece mode run.now }
 {
     if is_name(run) {
-        Piece::Token(TokenKind::Word, run.len())
+        Piece::Token(TokenKind::Identifier, run.len())
     } else if mode.takes_numbers() && is_number(run) {
         Piece::Token(TokenKind::Number(number_of(run)), run.len())
     } else {

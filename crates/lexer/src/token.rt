@@ -1,8 +1,8 @@
 ghost use Rattle.std.specs.Prelude.{◌≡◌, ◌+◌, ◌^◌, ◌<◌, length};
 ghost use Rattle.lexer.specs.Pieces.{takes_numbers, takes_comments};
-ghost use Rattle.lexer.specs.Tokens.{lexed, GoesOn, Advances};
+ghost use Rattle.lexer.specs.Tokens.{tokens_after, GoesOn, Advances};
 
-use crate::piece::{Piece, front};
+use crate::piece::{Piece, front_piece};
 
 /// Which tokens a line may have.
 #[derive(Clone, Copy, Debug, PartialEq, Eq)]
@@ -39,7 +39,7 @@ impl Mode {
 #[derive(Clone, Copy, Debug, PartialEq, Eq)]
 pub enum TokenKind {
     /// A letter, then letters, digits and `_`; 1 to 31 bytes.
-    Word,
+    Identifier,
     /// 1 to 9 digits, and their value.
     Number(u32),
     /// `->`
@@ -71,7 +71,7 @@ pub enum Flaw {
 
 /// Where the tokens of a line stop before its end, and why.
 #[derive(Clone, Copy, Debug, PartialEq, Eq)]
-pub struct Stop {
+pub struct LexError {
     pub flaw: Flaw,
     pub column: u32,
     pub length: u32,
@@ -85,19 +85,19 @@ pub enum Next<'a> {
     /// A token, its bytes, and what stands after it.
     Token(Token, &'a [u8], &'a [u8]),
     /// Bytes that are no token.
-    Stop(Stop),
+    Error(LexError),
 }
 
 /// The next token of a line of which `text` is what is left, from `column` on.
 pub fn next_token(mode: Mode, column: u32, text: &[u8]) -> Next<'_>
     requires { column + length text.now < 2 ^ 32 }
-    ensures exact { GoesOn mode result (lexed mode 0 column text.now) }
+    ensures exact { GoesOn mode result (tokens_after mode 0 column text.now) }
     ensures advances { Advances column text.now result }
 {
     let mut column = column;
     let mut rest = text;
     'pieces: while !rest.is_empty() {
-        match front(mode, rest) {
+        match front_piece(mode, rest) {
             Piece::Gap => {
                 rest = rest.split_at(1).1;
                 column += 1;
@@ -116,7 +116,7 @@ pub fn next_token(mode: Mode, column: u32, text: &[u8]) -> Next<'_>
                 );
             }
             Piece::Flaw(flaw, length) => {
-                return Next::Stop(Stop {
+                return Next::Error(LexError {
                     flaw,
                     column,
                     length: length as u32,

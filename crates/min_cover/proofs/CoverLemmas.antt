@@ -5,17 +5,17 @@ use Rattle.std.proofs.lemmas.Bool.Decides.{nat_tests}
 use Rattle.std.proofs.lemmas.List.Elements.{All-nil, All-cons, All-head, All-tail, All-append, All-weaker, All-contains, All-map, All-filter, filter-append, filter_passes}
 use Rattle.std.specs.Prelude.{All}
 use Rattle.std.specs.List.{flat_map}
-use Rattle.attr_sets.specs.Places.{below, only, minus, Within}
+use Rattle.attr_sets.specs.Attributes.{below, only, difference, IsSubset}
 use Rattle.dep_model.specs.Tuples.{Relation}
 use Rattle.dep_model.specs.Dependencies.{Dependency, fd, mvd, Obeys, is_fd, functional_part, left_of, right_of, IsWithin}
 use Rattle.dep_model.specs.Implication.{IsLegal, Implies}
 use Rattle.dep_model.specs.Projections.{members_below}
 use Rattle.dep_model.proofs.RuleLemmas.{fd_weaker_obeyed, replication_obeyed}
 use Rattle.dep_model.proofs.ListLemmas.{cons_parts}
-use Rattle.min_cover.specs.Members.{members_of, IsShortenedDependency}
+use Rattle.min_cover.specs.Members.{members_of, IsLeftReducedDependency}
 use Rattle.min_cover.specs.Covers.{IsThinned, IsFixedCover, IsFixedWholeCover, multivalued_part, HaveSameLegal, IsSingle, IsMinimalCover, IsWholeCover}
 use Rattle.min_cover.proofs.ListLemmas.{All-left, All-right, All-flat_map-to, All-flat_map-from, AllZip-to, AllZip-from, nil_not_split, split_later}
-use Rattle.min_cover.proofs.MemberLemmas.{members_are, members_obeyed-to, short_implied, short_needed}
+use Rattle.min_cover.proofs.MemberLemmas.{members_are, members_obeyed-to, short_implied, left_reduced-needed}
 
 -- a relation obeys each of a list
 abbrev Each : ℕ → Relation → List Dependency → Type 0
@@ -114,19 +114,19 @@ thinned_left n kept (d ∷ later) rest thinned =
     thinned
 
 -- ---- the members
--- an implied functional dependency within n places, with one attribute on the right
+-- an implied functional dependency within n attributes, with one attribute on the right
 record IsFirst (n : ℕ) (ds : List Dependency) (d : Dependency) : Type 0 where
   pub single : IsSingle d
-  pub within : Within (left_of d) (below n)
+  pub within : IsSubset (left_of d) (below n)
   pub implied : Implies n (functional_part ds) (fd (left_of d) (right_of d))
 
 -- the members of one dependency are such
 first_of : (n : ℕ) (ds : List Dependency) (d : Dependency) → IsWithin (below n) d → (is_fd d ≡ true → Implies n (functional_part ds) d) → All (IsFirst n ds) (members_of n d)
 first_of n ds (fd x y) within implied =
-    All-map (IsFirst n ds) (λ (a : ℕ). fd x (only a)) (members_below n (minus y x))
-    (All-weaker (λ (a : ℕ). minus y x a ≡ true) (λ (a : ℕ). IsFirst n ds (fd x (only a))) one (members_below n (minus y x)) (members_are n (minus y x)))
+    All-map (IsFirst n ds) (λ (a : ℕ). fd x (only a)) (members_below n (difference y x))
+    (All-weaker (λ (a : ℕ). difference y x a ≡ true) (λ (a : ℕ). IsFirst n ds (fd x (only a))) one (members_below n (difference y x)) (members_are n (difference y x)))
   where
-    one : (a : ℕ) → minus y x a ≡ true → IsFirst n ds (fd x (only a))
+    one : (a : ℕ) → difference y x a ≡ true → IsFirst n ds (fd x (only a))
     one a member = record {
       single = (x, a, refl);
       within = within.0;
@@ -157,28 +157,28 @@ both_parts P (mvd x y ∷ ds) f m =
     All-cons P (mvd x y) ds (All-head P (mvd x y) (multivalued_part ds) m) (both_parts P ds f (All-tail P (mvd x y) (multivalued_part ds) m))
 
 -- a member with its left side shortened says as much
-shortened_obeyed : (n : ℕ) (ds : List Dependency) (r : Relation) (d e : Dependency) → IsShortenedDependency n ds d e → Obeys n e r → Obeys n d r
+shortened_obeyed : (n : ℕ) (ds : List Dependency) (r : Relation) (d e : Dependency) → IsLeftReducedDependency n ds d e → Obeys n e r → Obeys n d r
 shortened_obeyed n ds r (fd x y) e is obeys =
     fd_weaker_obeyed is.0 y x y r is.2.within (λ (k : ℕ) m. m) (subst (λ (f : Dependency). Obeys n f r) is.1 obeys)
 shortened_obeyed n ds r (mvd x y) e is obeys =
     replication_obeyed (below n) x y r (fd_weaker_obeyed is.0 y x y r is.2.within (λ (k : ℕ) m. m) (subst (λ (f : Dependency). Obeys n f r) is.1 obeys))
 
-shortened_implied : (n : ℕ) (ds : List Dependency) (d e : Dependency) → IsShortenedDependency n ds d e → IsFirst n ds d → Implies n (functional_part ds) e
+shortened_implied : (n : ℕ) (ds : List Dependency) (d e : Dependency) → IsLeftReducedDependency n ds d e → IsFirst n ds d → Implies n (functional_part ds) e
 shortened_implied n ds d e is first =
     subst (λ (f : Dependency). Implies n (functional_part ds) f) (sym is.1) (short_implied n ds (left_of d) (right_of d) is.0 is.2 first.within first.implied)
 
-shortened_single : (n : ℕ) (ds : List Dependency) (d e : Dependency) → IsShortenedDependency n ds d e → IsFirst n ds d → IsSingle e
+shortened_single : (n : ℕ) (ds : List Dependency) (d e : Dependency) → IsLeftReducedDependency n ds d e → IsFirst n ds d → IsSingle e
 shortened_single n ds d e is first =
     let single = first.single in
     (is.0, single.1, is.1 ∙ ap (λ (f : Dependency). fd is.0 (right_of f)) single.2)
 
 -- no attribute of its left side can be left out
 abbrev IsShort : ℕ → List Dependency → Dependency → Type 0
-IsShort n ds d = (i : ℕ) → left_of d i ≡ true → Implies n (functional_part ds) (fd (minus (left_of d) (only i)) (right_of d)) → ⊥
+IsShort n ds d = (i : ℕ) → left_of d i ≡ true → Implies n (functional_part ds) (fd (difference (left_of d) (only i)) (right_of d)) → ⊥
 
-shortened_short : (n : ℕ) (ds : List Dependency) (d e : Dependency) → IsShortenedDependency n ds d e → IsShort n ds e
+shortened_short : (n : ℕ) (ds : List Dependency) (d e : Dependency) → IsLeftReducedDependency n ds d e → IsShort n ds e
 shortened_short n ds d e is =
-    subst (λ (f : Dependency). IsShort n ds f) (sym is.1) (λ i member. short_needed n ds (left_of d) (right_of d) is.0 i is.2 member)
+    subst (λ (f : Dependency). IsShort n ds f) (sym is.1) (λ i member. left_reduced-needed n ds (left_of d) (right_of d) is.0 i is.2 member)
 
 -- ---- the fixed cover
 module _ (n : ℕ) (ds cover : List Dependency) (within : All (IsWithin (below n)) ds) (is : IsFixedCover n ds cover) where
@@ -193,7 +193,7 @@ module _ (n : ℕ) (ds cover : List Dependency) (within : All (IsWithin (below n
   obeyed_to : (r : Relation) → Each n r is.members → Each n r (functional_part ds)
   obeyed_to r each =
       let P : Dependency → Type 0 = λ (d : Dependency). Obeys n d r in
-      let parts = All-flat_map-to P (members_of n) ds (AllZip-from (IsShortenedDependency n ds) P P firsts is.members (shortened_obeyed n ds r) is.shortened each) in
+      let parts = All-flat_map-to P (members_of n) ds (AllZip-from (IsLeftReducedDependency n ds) P P firsts is.members (shortened_obeyed n ds r) is.shortened each) in
       functional_from P ds (λ k d l. member_obeyed r _ (within k d l) (parts k d l))
     where
       member_obeyed : (r : Relation) (d : Dependency) → IsWithin (below n) d → All (λ (e : Dependency). Obeys n e r) (members_of n d) → is_fd d ≡ true → Obeys n d r
@@ -203,7 +203,7 @@ module _ (n : ℕ) (ds cover : List Dependency) (within : All (IsWithin (below n
   -- and the other way round
   obeyed_from : (r : Relation) → IsLegal n (functional_part ds) r → Each n r is.members
   obeyed_from r legal =
-      AllZip-to (IsShortenedDependency n ds) (IsFirst n ds) (λ (d : Dependency). Obeys n d r) firsts is.members
+      AllZip-to (IsLeftReducedDependency n ds) (IsFirst n ds) (λ (d : Dependency). Obeys n d r) firsts is.members
       (λ d e short first. shortened_implied n ds d e short first r legal) is.shortened all_first
 
   same : HaveSameLegal n cover (functional_part ds)
@@ -215,7 +215,7 @@ module _ (n : ℕ) (ds cover : List Dependency) (within : All (IsWithin (below n
   all_single : All IsSingle cover
   all_single =
       thinned_all n IsSingle [] is.members cover is.thinned (All-nil IsSingle)
-      (AllZip-to (IsShortenedDependency n ds) (IsFirst n ds) IsSingle firsts is.members (shortened_single n ds) is.shortened all_first)
+      (AllZip-to (IsLeftReducedDependency n ds) (IsFirst n ds) IsSingle firsts is.members (shortened_single n ds) is.shortened all_first)
 
   pub fixed_is_minimal : IsMinimalCover n ds cover
   fixed_is_minimal = record {
@@ -225,7 +225,7 @@ module _ (n : ℕ) (ds cover : List Dependency) (within : All (IsWithin (below n
         let left = thinned_left n [] is.members cover is.thinned in
         left.1.needed before after d (sym left.1.whole ∙ split) implied;
     short = λ d member.
-        let all = AllZip-to (IsShortenedDependency n ds) (IsFirst n ds) (IsShort n ds) firsts is.members (λ (e f : Dependency) short first. shortened_short n ds e f short) is.shortened all_first in
+        let all = AllZip-to (IsLeftReducedDependency n ds) (IsFirst n ds) (IsShort n ds) firsts is.members (λ (e f : Dependency) short first. shortened_short n ds e f short) is.shortened all_first in
         All-contains (IsShort n ds) cover d (thinned_all n (IsShort n ds) [] is.members cover is.thinned (All-nil (IsShort n ds)) all) member;
   }
 

@@ -17,15 +17,15 @@ use Rattle.min_cover.proofs.ListLemmas.{All-left, All-right}
 abbrev pub ObeysEach : ℕ → Relation → List Dep → Type 0
 ObeysEach n r ds = All (λ (d : Dep). Obeys n (dependency_of d) r) ds
 
--- how far the list from a place on is thinned: those before k were tried, and `kept` are those kept
+-- how far the list from a position on is thinned: those before k were tried, and `kept` are those kept
 pub record IsThinnedTo (n : ℕ) (first first_kept others kept : List Dep) (k : ℕ) : Type 0 where
   pub same : (r : Relation) → ObeysEach n r (take k others) ↔ ObeysEach n r kept
   pub onward : (rest : List Dependency) → IsThinned n (dependencies_of kept) (dependencies_of (drop k others)) rest
       → IsThinned n (dependencies_of first_kept) (dependencies_of first) rest
 
 -- what was left out is put back
-pub restored : (others : List Dep) (k : ℕ) (d nothing : Dep) → d ≡ get_or others k d → set (set others k nothing) k d ≡ others
-restored others k d nothing at = set-set others k nothing d ∙ ap (λ (e : Dep). set others k e) at ∙ set-get_or others k d
+pub set-set_back : (others : List Dep) (k : ℕ) (d nothing : Dep) → d ≡ get_or others k d → set (set others k nothing) k d ≡ others
+set-set_back others k d nothing at = set-set others k nothing d ∙ ap (λ (e : Dep). set others k e) at ∙ set-get_or others k d
 
 -- nothing was tried
 pub thinned_none : (n : ℕ) (ds : List Dep) (from : ℕ) → IsThinnedTo n (drop from ds) (take from ds) ds (take from ds) from
@@ -152,7 +152,7 @@ module _ (n : ℕ) (first first_kept others kept : List Dep) (k : ℕ) (d nothin
   pub thinned_kept : (j : ℕ) → j ≡ k + 1 → (Implies n (dependencies_of without) (dependency_of d) → ⊥) → IsThinnedTo n first first_kept (set without k d) (kept ++ d ∷ []) j
   thinned_kept j e fails =
       subst (λ (i : ℕ). IsThinnedTo n first first_kept (set without k d) (kept ++ d ∷ []) i) (sym e)
-      (subst (λ (es : List Dep). IsThinnedTo n first first_kept es (kept ++ d ∷ []) (k + 1)) (sym (restored others k d nothing at)) (kept_at fails))
+      (subst (λ (es : List Dep). IsThinnedTo n first first_kept es (kept ++ d ∷ []) (k + 1)) (sym (set-set_back others k d nothing at)) (kept_at fails))
 
 -- ---- multivalued dependencies added to a cover
 -- they stand after it
@@ -169,9 +169,9 @@ added_kinds cover others ds added =
     inr (dependencies_all-to M (drop (length cover) others) (subst (λ (es : List Dependency). All M es) (sym (added_later cover others (multivalued_part ds) added)) all))
 
 -- one more of a list
-more_is : (deps : List Dep) (i : ℕ) (first : Dep) → i < length deps
+multivalued_part-take : (deps : List Dep) (i : ℕ) (first : Dep) → i < length deps
     → multivalued_part (dependencies_of (take (i + 1) deps)) ≡ multivalued_part (dependencies_of (take i deps)) ++ multivalued_part (dependency_of (get_or deps i first) ∷ [])
-more_is deps i first lt =
+multivalued_part-take deps i first lt =
     let test : Dependency → Bool = λ (d : Dependency). not (is_fd d) in
     ap (λ (ds : List Dependency). filter test ds) (map_more dependency_of deps i first lt) ∙ filter-append test (dependencies_of (take i deps)) (dependency_of (get_or deps i first) ∷ [])
 
@@ -186,12 +186,12 @@ functional_one (mvd x y) is = absurd (true≢false (sym is))
 pub multivalued_more : (deps : List Dep) (i : ℕ) (first : Dep) → i < length deps → is_fd (dependency_of (get_or deps i first)) ≡ false
     → multivalued_part (dependencies_of (take (i + 1) deps)) ≡ multivalued_part (dependencies_of (take i deps)) ++ dependency_of (get_or deps i first) ∷ []
 multivalued_more deps i first lt is =
-    more_is deps i first lt ∙ ap (λ (ds : List Dependency). multivalued_part (dependencies_of (take i deps)) ++ ds) (multivalued_one (dependency_of (get_or deps i first)) is)
+    multivalued_part-take deps i first lt ∙ ap (λ (ds : List Dependency). multivalued_part (dependencies_of (take i deps)) ++ ds) (multivalued_one (dependency_of (get_or deps i first)) is)
 
 pub multivalued_no_more : (deps : List Dep) (i : ℕ) (first : Dep) → i < length deps → is_fd (dependency_of (get_or deps i first)) ≡ true
     → multivalued_part (dependencies_of (take (i + 1) deps)) ≡ multivalued_part (dependencies_of (take i deps))
 multivalued_no_more deps i first lt is =
-    more_is deps i first lt ∙ ap (λ (ds : List Dependency). multivalued_part (dependencies_of (take i deps)) ++ ds) (functional_one (dependency_of (get_or deps i first)) is)
+    multivalued_part-take deps i first lt ∙ ap (λ (ds : List Dependency). multivalued_part (dependencies_of (take i deps)) ++ ds) (functional_one (dependency_of (get_or deps i first)) is)
     ∙ append-nil (multivalued_part (dependencies_of (take i deps)))
 
 -- the front stays

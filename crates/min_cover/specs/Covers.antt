@@ -1,12 +1,12 @@
--- Minimal covers and whole covers, and the ones that a fixed order leaves: for `minimal`,
+-- Minimal covers and whole covers, and the ones that a fixed order leaves: for `minimal_cover`,
 -- `whole_cover`, `synthesize` and the command `cover` (`desk_cli/Covering`).
 use Rattle.std.specs.Prelude.{◌≡◌, ℕ, ◌⊎◌, ◌↔◌, true, false, not, List, [], ◌∷◌, ◌++◌, filter, All, Contains}
 use Rattle.std.specs.List.{AllZip, flat_map}
-use Rattle.attr_sets.specs.Places.{Places, only, minus}
+use Rattle.attr_sets.specs.Attributes.{Attributes, only, difference}
 use Rattle.dep_model.specs.Tuples.{Relation}
 use Rattle.dep_model.specs.Dependencies.{Dependency, fd, is_fd, functional_part, left_of, right_of}
 use Rattle.dep_model.specs.Implication.{IsLegal, Implies}
-use Rattle.min_cover.specs.Members.{members_of, IsShortenedDependency}
+use Rattle.min_cover.specs.Members.{members_of, IsLeftReducedDependency}
 
 -- what is left where, from the first dependency to the last, each is left out exactly where those kept
 -- before it together with all after it imply it
@@ -20,7 +20,7 @@ IsThinned n kept (d ∷ later) rest =
 -- shortened, without those that the others imply
 pub record IsFixedCover (n : ℕ) (ds cover : List Dependency) : Type 0 where
   pub members : List Dependency
-  pub shortened : AllZip (IsShortenedDependency n ds) (flat_map (members_of n) ds) members
+  pub shortened : AllZip (IsLeftReducedDependency n ds) (flat_map (members_of n) ds) members
   pub thinned : IsThinned n [] members cover
 
 -- the multivalued dependencies of a list
@@ -40,7 +40,7 @@ HaveSameLegal n ds es = (r : Relation) → IsLegal n ds r ↔ IsLegal n es r
 
 -- a functional dependency with one attribute on the right
 abbrev pub IsSingle : Dependency → Type 0
-IsSingle d = (x : Places) × (a : ℕ) × (d ≡ fd x (only a))
+IsSingle d = (x : Attributes) × (a : ℕ) × (d ≡ fd x (only a))
 
 -- a minimal cover of the functional dependencies of a list
 pub record IsMinimalCover (n : ℕ) (ds cover : List Dependency) : Type 0 where
@@ -51,7 +51,7 @@ pub record IsMinimalCover (n : ℕ) (ds cover : List Dependency) : Type 0 where
       → Implies n (before ++ after) d → ⊥
   -- no attribute of a left side can be left out
   pub short : (d : Dependency) → Contains cover d → (i : ℕ) → left_of d i ≡ true
-      → Implies n (functional_part ds) (fd (minus (left_of d) (only i)) (right_of d)) → ⊥
+      → Implies n (functional_part ds) (fd (difference (left_of d) (only i)) (right_of d)) → ⊥
 
 -- a list that says the same as another, and none of whose multivalued dependencies follows from the
 -- rest

@@ -2,7 +2,7 @@
 -- `Covers`.
 use Rattle.std.specs.Prelude.{◌≡◌, ℕ, ◌↔◌, ◌&&◌, true, false, nat_lt, if◌then◌else◌, List, [], map, All}
 use Rattle.std.specs.List.{AllZip}
-use Rattle.attr_sets.specs.Places.{Places, below, only, minus, Within}
+use Rattle.attr_sets.specs.Attributes.{Attributes, below, only, difference, IsSubset}
 use Rattle.dep_model.specs.declared.dep.Dep.{Dep}
 use Rattle.dep_model.specs.Dependencies.{Dependency, fd, mvd, is_fd, functional_part, left_of, right_of}
 use Rattle.dep_model.specs.Implication.{Implies}
@@ -12,28 +12,28 @@ use Rattle.dep_model.specs.Deps.{dependency_of, dependencies_of, IsDepWithin}
 -- a functional dependency as its members: the same left side and one attribute on the right, for each
 -- attribute of its right side outside the left side, ascending
 abbrev pub members_of : ℕ → Dependency → List Dependency
-members_of n (fd x y) = map (λ a. fd x (only a)) (members_below n (minus y x))
+members_of n (fd x y) = map (λ a. fd x (only a)) (members_below n (difference y x))
 members_of n (mvd x y) = []
 
 -- what stands beside attribute i where the attributes of a left side are tried from the first to the
 -- last: those before i that were kept, and those after it, which are still to be tried
-abbrev pub kept_beside : Places → Places → ℕ → Places
+abbrev pub kept_beside : Attributes → Attributes → ℕ → Attributes
 kept_beside left kept i k = if nat_lt k i then kept k else (nat_lt i k && left k)
 
 -- the left side that is left of x where each attribute, from the first to the last, is left out exactly
 -- where what stands beside it determines y by the functional dependencies
-pub record IsShortLeft (n : ℕ) (ds : List Dependency) (x y short : Places) : Type 0 where
-  pub within : Within short x
+pub record IsLeftReduced (n : ℕ) (ds : List Dependency) (x y short : Attributes) : Type 0 where
+  pub within : IsSubset short x
   pub left_out : (i : ℕ) → x i ≡ true
       → (short i ≡ false) ↔ Implies n (functional_part ds) (fd (kept_beside x short i) y)
 
 -- e is d with its left side shortened
-abbrev pub IsShortenedDependency : ℕ → List Dependency → Dependency → Dependency → Type 0
-IsShortenedDependency n ds d e =
-    (short : Places) × (e ≡ fd short (right_of d)) × IsShortLeft n ds (left_of d) (right_of d) short
+abbrev pub IsLeftReducedDependency : ℕ → List Dependency → Dependency → Dependency → Type 0
+IsLeftReducedDependency n ds d e =
+    (short : Attributes) × (e ≡ fd short (right_of d)) × IsLeftReduced n ds (left_of d) (right_of d) short
 
--- functional dependencies within n places, one for each of a list, with its left side shortened
-pub record AreShortened (n : ℕ) (ds firsts : List Dependency) (members : List Dep) : Type 0 where
-  pub short : AllZip (IsShortenedDependency n ds) firsts (dependencies_of members)
+-- functional dependencies within n attributes, one for each of a list, with its left side shortened
+pub record AreLeftReduced (n : ℕ) (ds firsts : List Dependency) (members : List Dep) : Type 0 where
+  pub short : AllZip (IsLeftReducedDependency n ds) firsts (dependencies_of members)
   pub within : All (IsDepWithin (below n)) members
   pub functional : All (λ d. is_fd (dependency_of d) ≡ true) members

@@ -4,39 +4,39 @@ ghost use Rattle.dep_model.specs.Deps.{dependencies_of, IsDepWithin};
 ghost use Rattle.dep_model.specs.Schemas.{width_of, universe_of, theory_of};
 ghost use Rattle.min_cover.specs.Covers.{IsFixedCover, IsFixedWholeCover, IsMinimalCover, IsWholeCover};
 
-use crate::shortening::short_members;
-use crate::thinning::{add_multivalued, needed_from};
-use dep_model::{Dep, Schema, WantMemory};
+use crate::shortening::left_reduced_members;
+use crate::thinning::{add_multivalued, nonredundant_from};
+use dep_model::{Dep, OutOfMemory, Schema};
 use std::alloc::Global;
 
 /// A minimal cover of the functional dependencies of a schema. Each is taken as its members, with one
 /// attribute on the right; from each, the attributes of its left side are left out that can be, from the
 /// first on; then, from the first member on, those are left out that the others imply.
-pub fn minimal(alloc: Global, schema: &Schema) -> Result<Vec<Dep>, WantMemory>
+pub fn minimal_cover(alloc: Global, schema: &Schema) -> Result<Vec<Dep>, OutOfMemory>
     ensures fixed { IfOk result (λ cover.
         IsFixedCover (width_of schema.now) (theory_of schema.now) (dependencies_of cover.items)) }
     ensures minimal { IfOk result (λ cover.
         IsMinimalCover (width_of schema.now) (theory_of schema.now) (dependencies_of cover.items)) }
     ensures within { IfOk result (λ cover. All (IsDepWithin (universe_of schema.now)) cover.items) }
 {
-    let members = short_members(alloc, schema)?;
-    needed_from(alloc, schema.width(), members, 0)
+    let members = left_reduced_members(alloc, schema)?;
+    nonredundant_from(alloc, schema.width(), members, 0)
 }
 
 /// A minimal cover of the functional dependencies, and those multivalued ones that are left where, from
 /// the first to the last, each is left out that the cover and the others imply. It says all that the
 /// schema says.
-pub fn whole_cover(alloc: Global, schema: &Schema) -> Result<Vec<Dep>, WantMemory>
+pub fn whole_cover(alloc: Global, schema: &Schema) -> Result<Vec<Dep>, OutOfMemory>
     ensures fixed { IfOk result (λ whole.
         IsFixedWholeCover (width_of schema.now) (theory_of schema.now) (dependencies_of whole.items)) }
     ensures minimal { IfOk result (λ whole. IsMinimalCover (width_of schema.now) (theory_of schema.now)
         (functional_part (dependencies_of whole.items))) }
-    ensures whole { IfOk result (λ whole.
+    ensures whole_cover { IfOk result (λ whole.
         IsWholeCover (width_of schema.now) (theory_of schema.now) (dependencies_of whole.items)) }
     ensures within { IfOk result (λ whole. All (IsDepWithin (universe_of schema.now)) whole.items) }
 {
-    let mut cover = minimal(alloc, schema)?;
+    let mut cover = minimal_cover(alloc, schema)?;
     let from = cover.len();
     add_multivalued(schema.deps(), &mut cover)?;
-    needed_from(alloc, schema.width(), cover, from)
+    nonredundant_from(alloc, schema.width(), cover, from)
 }

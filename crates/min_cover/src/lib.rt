@@ -1,12 +1,12 @@
 //! Covers of a schema's dependencies: what says the same, shortened.
 //!
-//! `minimal` gives a minimal cover of the functional dependencies, the one that a fixed order of trying
-//! leaves (Ullman 1982; Maier 1983 has it as a canonical cover). `whole_cover` adds the multivalued
-//! dependencies that the others do not imply; it says all that the schema says.
+//! `minimal_cover` gives a minimal cover of the functional dependencies, the one that a fixed order of
+//! trying leaves (Ullman 1982; Maier 1983 has it as a canonical cover). `whole_cover` adds the
+//! multivalued dependencies that the others do not imply; it says all that the schema says.
 #![tactic(auto)]
 
 mod covering;
 mod shortening;
 mod thinning;
 
-pub use covering::{minimal, whole_cover};
+pub use covering::{minimal_cover, whole_cover};

@@ -1,6 +1,6 @@
 ghost use Rattle.std.specs.Prelude.{◌≡◌, ◌≤◌, ◌⊎◌, ◌↔◌, ℕ, true, false, ◌++◌, length, take, drop, IsTrue, IfOk, All};
-ghost use Rattle.attr_sets.specs.Places.{below};
-ghost use Rattle.attr_sets.specs.declared.set.TheConstants.{PLACES};
+ghost use Rattle.attr_sets.specs.Attributes.{below};
+ghost use Rattle.attr_sets.specs.declared.set.TheConstants.{MOST_ATTRIBUTES};
 ghost use Rattle.dep_model.specs.Tuples.{Relation};
 ghost use Rattle.dep_model.specs.Dependencies.{is_fd, Obeys};
 ghost use Rattle.dep_model.specs.Deps.{dependency_of, dependencies_of, IsDepWithin};
@@ -9,12 +9,12 @@ ghost use Rattle.min_cover.specs.Covers.{IsThinned, multivalued_part};
 
 use attr_sets::AttrSet;
 use dep_basis::{Decision, decide_by};
-use dep_model::{Dep, WantMemory};
+use dep_model::{Dep, OutOfMemory};
 use fd_closure::follows;
 use std::alloc::Global;
 
 // A dependency that every relation obeys, which stands where one was left out.
-fn nothing() -> Dep
+fn trivial_dependency() -> Dep
     ensures functional { is_fd (dependency_of result) ≡ true }
     ensures within { (n : ℕ) → IsDepWithin (below n) result }
     ensures obeyed { (n : ℕ) (r : Relation) → Obeys n (dependency_of result) r }
@@ -28,7 +28,7 @@ fn nothing() -> Dep
 // Whether dependencies imply one more. A functional one is asked of functional ones alone, since their
 // closures are found sooner than blocks.
 fn is_implied(deps: &[Dep], width: u8, dep: Dep) -> bool
-    requires width { width ≤ PLACES }
+    requires width { width ≤ MOST_ATTRIBUTES }
     requires deps { All (IsDepWithin (below width)) deps.now }
     requires within { IsDepWithin (below width) dep }
     requires kind { is_fd (dependency_of dep) ≡ true
@@ -37,13 +37,13 @@ fn is_implied(deps: &[Dep], width: u8, dep: Dep) -> bool
 {
     match dep {
         Dep::Fd { lhs, rhs } => follows(deps, lhs, rhs),
-        Dep::Mvd { .. } => is_decided(deps, width, dep),
+        Dep::Mvd { .. } => is_implied_by_blocks(deps, width, dep),
     }
 }
 
 // Whether dependencies imply one more, by the blocks of its left side.
-fn is_decided(deps: &[Dep], width: u8, dep: Dep) -> bool
-    requires width { width ≤ PLACES }
+fn is_implied_by_blocks(deps: &[Dep], width: u8, dep: Dep) -> bool
+    requires width { width ≤ MOST_ATTRIBUTES }
     requires deps { All (IsDepWithin (below width)) deps.now }
     requires within { IsDepWithin (below width) dep }
     ensures implied { IsTrue result ↔ Implies width (dependencies_of deps.now) (dependency_of dep) }
@@ -54,14 +54,14 @@ fn is_decided(deps: &[Dep], width: u8, dep: Dep) -> bool
     }
 }
 
-// What is left of a list where, from a place on, each dependency is left out that the others imply.
-pub fn needed_from(
+// What is left of a list where, from a position on, each dependency is left out that the others imply.
+pub fn nonredundant_from(
     alloc: Global,
     width: u8,
     mut others: Vec<Dep>,
     from: usize,
-) -> Result<Vec<Dep>, WantMemory>
-    requires width { width ≤ PLACES }
+) -> Result<Vec<Dep>, OutOfMemory>
+    requires width { width ≤ MOST_ATTRIBUTES }
     requires from { from ≤ length others.items }
     requires within { All (IsDepWithin (below width)) others.items }
     requires kinds { All (λ d. is_fd (dependency_of d) ≡ true) others.items
@@ -74,7 +74,7 @@ pub fn needed_from(
     let mut kept = Vec::from_slice(alloc, &others[..from])?;
     for k in from..others.len() {
         let dep = others[k];
-        others[k] = nothing();
+        others[k] = trivial_dependency();
         let implied = is_implied(&others, width, dep);
         if !implied {
             others[k] = dep;
@@ -85,7 +85,7 @@ pub fn needed_from(
 }
 
 // Adds the multivalued dependencies of a list to others.
-pub fn add_multivalued(deps: &[Dep], others: &mut Vec<Dep>) -> Result<(), WantMemory>
+pub fn add_multivalued(deps: &[Dep], others: &mut Vec<Dep>) -> Result<(), OutOfMemory>
     ensures added { IfOk result (λ _. dependencies_of others.new.items
         ≡ dependencies_of others.old.items ++ multivalued_part (dependencies_of deps.now)) }
     ensures front { IfOk result (λ _. take (length others.old.items) others.new.items ≡ others.old.items) }

@@ -1,9 +1,9 @@
 -- Tables as values: for what makes tables, for what takes them, and for the answers that have some
--- (`desk_cli/Answers`).
+-- (`desk_cli/ResponseValues`).
 use Rattle.std.specs.Prelude.{ℕ, List, [], ◌∷◌, ◌++◌, map}
 use Rattle.dep_model.specs.Tuples.{Tuple, Relation}
 use Rattle.named_tables.specs.declared.table.HeldTable.{HeldTable}
-use Rattle.named_tables.specs.declared.table.Table.{Table}
+use Rattle.named_tables.specs.declared.table.NamedTable.{NamedTable}
 
 -- a table: its name, the names of its columns, and its rows
 pub record TableValue : Type 0 where
@@ -23,8 +23,8 @@ with_row row table = record { name = table.name; columns = table.columns; rows =
 abbrev pub held_value : HeldTable → TableValue
 held_value table = record { name = table.name; columns = table.columns.items; rows = table.rows.items }
 
-abbrev pub table_value : Table → TableValue
+abbrev pub table_value : NamedTable → TableValue
 table_value table = held_value table.held
 
-abbrev pub table_values : List Table → List TableValue
+abbrev pub table_values : List NamedTable → List TableValue
 table_values tables = map table_value tables

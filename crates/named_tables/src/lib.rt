@@ -1,6 +1,6 @@
-//! Tables with names of their own: what a migration makes and a target takes.
+//! Tables with names of their own: what a migration makes and a destination takes.
 #![tactic(auto)]
 
 mod table;
 
-pub use table::{HeldTable, Table};
+pub use table::{HeldTable, NamedTable};

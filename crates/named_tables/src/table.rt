@@ -14,9 +14,9 @@ pub struct HeldTable {
     pub rows: Vec<Row>,
 }
 
-/// A table for the targets.
+/// A table for the destinations.
 #[derive(Debug, Drop)]
-pub struct Table {
+pub struct NamedTable {
     /// The attributes of its columns.
     pub scheme: AttrSet,
     pub held: HeldTable,

@@ -5,7 +5,7 @@ use Rattle.std.specs.List.{list_any}
 use Rattle.std.proofs.lemmas.Bool.{false≢true, true≢false, ltb-true, and_parts, not-true, cases_order}
 use Rattle.std.proofs.lemmas.List.Elements.{All-head, All-tail}
 use Rattle.std.proofs.lemmas.List.Folds.{list_any-from_Any}
-use Rattle.attr_sets.specs.Places.{Places, below, IsLeastFrom}
+use Rattle.attr_sets.specs.Attributes.{Attributes, below, IsFirstFrom}
 use Rattle.dep_model.specs.Projections.{Covers}
 use Rattle.lexer.specs.declared.token.Mode.TheVariants as mode
 use Rattle.lexer.specs.declared.token.TokenKind.TheVariants as token
@@ -17,15 +17,15 @@ use Rattle.schema_grammar.specs.declared.refusal.SchemaRefusalKind.{SchemaRefusa
 use Rattle.schema_grammar.specs.declared.refusal.SchemaRefusalKind.TheVariants as kind
 use Rattle.schema_grammar.specs.declared.refusal.Span.{Span}
 use Rattle.schema_grammar.specs.declared.refusal.What.{What}
-use Rattle.schema_grammar.specs.Complaints.{refusal_number, span_at}
-use Rattle.schema_grammar.specs.Meanings.{HasTokens, IsAttribute, named}
+use Rattle.schema_grammar.specs.Diagnostics.{refusal_number, span_at}
+use Rattle.schema_grammar.specs.Meanings.{HasTokens, IsAttribute, attributes_of_words}
 use Rattle.schema_grammar.proofs.OneRefusal.{both_least, same_carried, same_refusal}
 use Rattle.plan_grammar.specs.declared.refusal.PlanRefusal.{PlanRefusal}
 use Rattle.plan_grammar.specs.declared.refusal.PlanRefusal.TheVariants as plan
 use Rattle.plan_grammar.specs.declared.refusal.TheConstants.{MOST_SCHEMES}
 use Rattle.plan_grammar.specs.Meanings.{IsSchemeLine, MeansScheme, MeansSchemeLines, MeansPlan}
 use Rattle.plan_grammar.specs.Refusals.{plan_refusal_number}
-use Rattle.plan_grammar.specs.Complaints.{WordComplaint, WordsComplaint, SchemeLineComplaint, SpansPlace, IsFirstOf, IsFine, RefusesSchemeLines, scheme_count, scheme_wanted, uncovered, RefusesPlan}
+use Rattle.plan_grammar.specs.Diagnostics.{WordDiagnostic, WordsDiagnostic, SchemeLineDiagnostic, SpansPosition, IsFirstOf, IsFine, RefusesSchemeLines, scheme_count, scheme_wanted, uncovered_attributes, RefusesPlan}
 use Rattle.plan_grammar.proofs.FirstLemmas.{later_fine, no_flaw}
 
 -- ---- one refusal
@@ -53,7 +53,7 @@ not_twelve kind.TooManyDependencies e = omega (arith, e)
 not_twelve kind.NoAttributes e = omega (arith, e)
 not_twelve kind.UnknownVersion e = omega (arith, e)
 
-same_there : (line : ℕ) (span : ℕ → Span) (want : ℕ → What) (p : ℕ) (e f : PlanRefusal) → SpansPlace line span want p e → SpansPlace line span want p f → plan_refusal_number e ≡ plan_refusal_number f → e ≡ f
+same_there : (line : ℕ) (span : ℕ → Span) (want : ℕ → What) (p : ℕ) (e f : PlanRefusal) → SpansPosition line span want p e → SpansPosition line span want p f → plan_refusal_number e ≡ plan_refusal_number f → e ≡ f
 same_there line span want p (plan.Text a) (plan.Text b) first second same =
     ap (λ (t : SchemaRefusal). plan.Text t)
     (same_refusal a b (first.0 ∙ sym second.0) (same_carried (λ w. w ≡ want p) a b (λ w v h g. h ∙ sym g) first.1 second.1 same))
@@ -70,18 +70,18 @@ same_there line span want p (plan.TooManySchemes l) (plan.TooManySchemes m) firs
 same_there line span want p (plan.TooManySchemes l) (plan.NotCovered b) first second same = absurd second
 same_there line span want p (plan.NotCovered a) f first second same = absurd first
 
-one_first : (Complaint : ℕ → ℕ → Type 0) (line : ℕ) (span : ℕ → Span) (want : ℕ → What) (e f : PlanRefusal)
-    → IsFirstOf Complaint (SpansPlace line span want) e → IsFirstOf Complaint (SpansPlace line span want) f → e ≡ f
-one_first Complaint line span want e f first second =
-    let same = both_least first.place second.place (plan_refusal_number e) (plan_refusal_number f) (first.least second.place (plan_refusal_number f) second.complaint) (second.least first.place (plan_refusal_number e) first.complaint) in
-    same_there line span want first.place e f first.there (subst (λ (p : ℕ). SpansPlace line span want p f) (sym same.0) second.there) same.1
+one_first : (Diagnostic : ℕ → ℕ → Type 0) (line : ℕ) (span : ℕ → Span) (want : ℕ → What) (e f : PlanRefusal)
+    → IsFirstOf Diagnostic (SpansPosition line span want) e → IsFirstOf Diagnostic (SpansPosition line span want) f → e ≡ f
+one_first Diagnostic line span want e f first second =
+    let same = both_least first.position second.position (plan_refusal_number e) (plan_refusal_number f) (first.least second.position (plan_refusal_number f) second.diagnostic) (second.least first.position (plan_refusal_number e) first.diagnostic) in
+    same_there line span want first.position e f first.there (subst (λ (p : ℕ). SpansPosition line span want p f) (sym same.0) second.there) same.1
 
 pub one_refusal : (names : List (List ℕ)) (number earlier : ℕ) (lines : List (List ℕ)) (e f : PlanRefusal) → RefusesSchemeLines names number earlier lines e → RefusesSchemeLines names number earlier lines f → e ≡ f
 one_refusal names number earlier [] e f first second = absurd first
 one_refusal names number earlier (line ∷ lines) e f (inl first) (inl second) =
-    one_first (SchemeLineComplaint names earlier (lex mode.Plain line).marks (lex mode.Plain line).stop) number (span_at number 1 (lex mode.Plain line).marks (lex mode.Plain line).stop) scheme_wanted e f first second
-one_refusal names number earlier (line ∷ lines) e f (inl first) (inr second) = absurd (second.0 first.place (plan_refusal_number e) first.complaint)
-one_refusal names number earlier (line ∷ lines) e f (inr first) (inl second) = absurd (first.0 second.place (plan_refusal_number f) second.complaint)
+    one_first (SchemeLineDiagnostic names earlier (lex mode.Plain line).marks (lex mode.Plain line).stop) number (span_at number 1 (lex mode.Plain line).marks (lex mode.Plain line).stop) scheme_wanted e f first second
+one_refusal names number earlier (line ∷ lines) e f (inl first) (inr second) = absurd (second.0 first.position (plan_refusal_number e) first.diagnostic)
+one_refusal names number earlier (line ∷ lines) e f (inr first) (inl second) = absurd (first.0 second.position (plan_refusal_number f) second.diagnostic)
 one_refusal names number earlier (line ∷ lines) e f (inr first) (inr second) =
     one_refusal names (number + 1) (earlier + scheme_count (lex mode.Plain line).marks) lines e f first.1 second.1
 
@@ -89,58 +89,58 @@ one_refusal names number earlier (line ∷ lines) e f (inr first) (inr second) =
 marks_of : (l : Lexed) (ms ns : List Mark) → HasTokens l ms → HasTokens l ns → ms ≡ ns
 marks_of l ms ns first second = ap (λ (x : Lexed). x.marks) (sym first ∙ second)
 
-blank_scheme : (names : List (List ℕ)) (line : List ℕ) (x : Places) → HasTokens (lex mode.Plain line) [] → MeansScheme names line x → ⊥
+blank_scheme : (names : List (List ℕ)) (line : List ℕ) (x : Attributes) → HasTokens (lex mode.Plain line) [] → MeansScheme names line x → ⊥
 blank_scheme names line x blank is =
     let same : [] ≡ is.scheme.head ∷ is.scheme.words = marks_of (lex mode.Plain line) [] is.marks blank is.tokens ∙ is.scheme.whole in
     absurd (omega (arith, ap (λ (ms : List Mark). length ms) same))
 
-one_scheme : (names : List (List ℕ)) (line : List ℕ) (x y : Places) → MeansScheme names line x → MeansScheme names line y → x ≡ y
+one_scheme : (names : List (List ℕ)) (line : List ℕ) (x y : Attributes) → MeansScheme names line x → MeansScheme names line y → x ≡ y
 one_scheme names line x y first second =
     let same : first.scheme.head ∷ first.scheme.words ≡ second.scheme.head ∷ second.scheme.words = sym first.scheme.whole ∙ marks_of (lex mode.Plain line) first.marks second.marks first.tokens second.tokens ∙ second.scheme.whole in
     let words : first.scheme.words ≡ second.scheme.words = cc in
-    first.scheme.members ∙ ap (λ (ws : List Mark). named names ws) words ∙ sym second.scheme.members
+    first.scheme.members ∙ ap (λ (ws : List Mark). attributes_of_words names ws) words ∙ sym second.scheme.members
 
-pub one_meaning : (names : List (List ℕ)) (lines : List (List ℕ)) (xs ys : List Places) → MeansSchemeLines names lines xs → MeansSchemeLines names lines ys → xs ≡ ys
+pub one_meaning : (names : List (List ℕ)) (lines : List (List ℕ)) (xs ys : List Attributes) → MeansSchemeLines names lines xs → MeansSchemeLines names lines ys → xs ≡ ys
 one_meaning names [] xs ys first second = first ∙ sym second
 one_meaning names (line ∷ lines) xs ys (inl first) (inl second) = one_meaning names lines xs ys first.1 second.1
 one_meaning names (line ∷ lines) xs ys (inl first) (inr second) = absurd (blank_scheme names line second.0 first.0 second.2)
 one_meaning names (line ∷ lines) xs ys (inr first) (inl second) = absurd (blank_scheme names line first.0 second.0 first.2)
 one_meaning names (line ∷ lines) xs ys (inr first) (inr second) =
-    first.4 ∙ ap (λ (x : Places). x ∷ first.1) (one_scheme names line first.0 second.0 first.2 second.2)
-    ∙ ap (λ (zs : List Places). second.0 ∷ zs) (one_meaning names lines first.1 second.1 first.3 second.3) ∙ sym second.4
+    first.4 ∙ ap (λ (x : Attributes). x ∷ first.1) (one_scheme names line first.0 second.0 first.2 second.2)
+    ∙ ap (λ (zs : List Attributes). second.0 ∷ zs) (one_meaning names lines first.1 second.1 first.3 second.3) ∙ sym second.4
 
 -- ---- never both
-attribute_fine : (names : List (List ℕ)) (first : Bool) (m : Mark) (n : ℕ) → IsAttribute format.Plain names m → WordComplaint names first m n → ⊥
+attribute_fine : (names : List (List ℕ)) (first : Bool) (m : Mark) (n : ℕ) → IsAttribute format.Plain names m → WordDiagnostic names first m n → ⊥
 attribute_fine names first m n is h =
     ⊎_elim
     (λ word. ⊎_elim (λ three. true≢false (sym three.1 ∙ is.free)) (λ five. unknown (sym five.1 ∙ is.known)) word.1)
     (λ rest. ⊎_elim (λ ten. apart (sym is.word ∙ ten.1)) (λ six. six.0 is.word) rest)
     h
   where
-    unknown : None ≡ Some is.place → ⊥
+    unknown : None ≡ Some is.index → ⊥
     unknown e = cc
 
-    apart : token.Word ≡ token.Empty → ⊥
+    apart : token.Identifier ≡ token.Empty → ⊥
     apart e = cc
 
-words_fine : (names : List (List ℕ)) (first : Bool) (ms : List Mark) → All (IsAttribute format.Plain names) ms → (first ≡ true → 0 < length ms) → (p n : ℕ) → WordsComplaint names first ms None p n → ⊥
+words_fine : (names : List (List ℕ)) (first : Bool) (ms : List Mark) → All (IsAttribute format.Plain names) ms → (first ≡ true → 0 < length ms) → (p n : ℕ) → WordsDiagnostic names first ms None p n → ⊥
 words_fine names first [] each some p n h = ⊎_elim (λ ended. omega (arith, some ended.1)) (λ flaw. no_flaw n flaw) h.1
 words_fine names first (m ∷ ms) each some p n h =
-    later_fine (WordsComplaint names first (m ∷ ms) None) (λ k g. attribute_fine names first m k (All-head (IsAttribute format.Plain names) m ms each) g)
+    later_fine (WordsDiagnostic names first (m ∷ ms) None) (λ k g. attribute_fine names first m k (All-head (IsAttribute format.Plain names) m ms each) g)
     (λ q k g. words_fine names false ms (All-tail (IsAttribute format.Plain names) m ms each) (λ never. absurd (false≢true never)) q k g) p n h
 
-scheme_fine : (names : List (List ℕ)) (earlier : ℕ) (ms : List Mark) (x : Places) → IsSchemeLine names ms x → earlier < MOST_SCHEMES → IsFine names earlier ms None
+scheme_fine : (names : List (List ℕ)) (earlier : ℕ) (ms : List Mark) (x : Attributes) → IsSchemeLine names ms x → earlier < MOST_SCHEMES → IsFine names earlier ms None
 scheme_fine names earlier ms x is room =
     subst (λ (ns : List Mark). IsFine names earlier ns None) (sym is.whole)
-    (later_fine (SchemeLineComplaint names earlier (is.head ∷ is.words) None)
+    (later_fine (SchemeLineDiagnostic names earlier (is.head ∷ is.words) None)
     (λ n h. ⊎_elim (λ other. true≢false (sym is.scheme ∙ other.0)) (λ many. omega (arith, many.1, room)) h)
     (words_fine names true is.words is.each (λ _. is.some)))
 
-pub never_both : (names : List (List ℕ)) (number earlier : ℕ) (lines : List (List ℕ)) (xs : List Places) (e : PlanRefusal) → MeansSchemeLines names lines xs → earlier + length xs ≤ MOST_SCHEMES
+pub never_both : (names : List (List ℕ)) (number earlier : ℕ) (lines : List (List ℕ)) (xs : List Attributes) (e : PlanRefusal) → MeansSchemeLines names lines xs → earlier + length xs ≤ MOST_SCHEMES
     → RefusesSchemeLines names number earlier lines e → ⊥
 never_both names number earlier [] xs e means few refused = refused
 never_both names number earlier (line ∷ lines) xs e (inl blank) few (inl first) =
-    no_flaw (plan_refusal_number e) (subst (λ (l : Lexed). SchemeLineComplaint names earlier l.marks l.stop first.place (plan_refusal_number e)) blank.0 first.complaint).1
+    no_flaw (plan_refusal_number e) (subst (λ (l : Lexed). SchemeLineDiagnostic names earlier l.marks l.stop first.position (plan_refusal_number e)) blank.0 first.diagnostic).1
 never_both names number earlier (line ∷ lines) xs e (inl blank) few (inr later) =
     let same : earlier + scheme_count (lex mode.Plain line).marks ≡ earlier = ap (λ (l : Lexed). earlier + scheme_count l.marks) blank.0 ∙ zero_more earlier in
     never_both names (number + 1) earlier lines xs e blank.1 few (subst (λ (n : ℕ). RefusesSchemeLines names (number + 1) n lines e) same later.1)
@@ -148,21 +148,21 @@ never_both names number earlier (line ∷ lines) xs e (inl blank) few (inr later
     zero_more : (n : ℕ) → n + 0 ≡ n
     zero_more n = omega arith
 never_both names number earlier (line ∷ lines) xs e (inr adds) few (inl first) =
-    let count : length xs ≡ suc (length adds.1) = ap (λ (zs : List Places). length zs) adds.4 in
-    scheme_fine names earlier adds.2.marks adds.0 adds.2.scheme (omega (arith, few, count)) first.place (plan_refusal_number e)
-    (subst (λ (l : Lexed). SchemeLineComplaint names earlier l.marks l.stop first.place (plan_refusal_number e)) adds.2.tokens first.complaint)
+    let count : length xs ≡ suc (length adds.1) = ap (λ (zs : List Attributes). length zs) adds.4 in
+    scheme_fine names earlier adds.2.marks adds.0 adds.2.scheme (omega (arith, few, count)) first.position (plan_refusal_number e)
+    (subst (λ (l : Lexed). SchemeLineDiagnostic names earlier l.marks l.stop first.position (plan_refusal_number e)) adds.2.tokens first.diagnostic)
 never_both names number earlier (line ∷ lines) xs e (inr adds) few (inr later) =
-    let count : length xs ≡ suc (length adds.1) = ap (λ (zs : List Places). length zs) adds.4 in
+    let count : length xs ≡ suc (length adds.1) = ap (λ (zs : List Attributes). length zs) adds.4 in
     let one : scheme_count (lex mode.Plain line).marks ≡ 1 = ap (λ (l : Lexed). scheme_count l.marks) adds.2.tokens ∙ ap (λ (ms : List Mark). scheme_count ms) adds.2.scheme.whole in
     never_both names (number + 1) (earlier + scheme_count (lex mode.Plain line).marks) lines adds.1 e adds.3 (omega (arith, few, count, one)) later.1
 
 -- ---- plans
-covered : (n : ℕ) (schemes : List Places) (a : ℕ) → Covers n schemes → IsLeastFrom (uncovered n schemes) 0 a → ⊥
-covered n schemes a covers least =
+Covers-none_left_out : (n : ℕ) (schemes : List Attributes) (a : ℕ) → Covers n schemes → IsFirstFrom (uncovered_attributes n schemes) 0 a → ⊥
+Covers-none_left_out n schemes a covers least =
     let parts = and_parts (below n a) (not (list_any (λ scheme. scheme a) schemes)) least.member in
     true≢false (sym (list_any-from_Any (λ scheme. scheme a) schemes (covers a (ltb-true a n parts.0))) ∙ not-true (list_any (λ scheme. scheme a) schemes) parts.1)
 
-one_least : (x : Places) (a b : ℕ) → IsLeastFrom x 0 a → IsLeastFrom x 0 b → a ≡ b
+one_least : (x : Attributes) (a b : ℕ) → IsFirstFrom x 0 a → IsFirstFrom x 0 b → a ≡ b
 one_least x a b first second =
     ⊎_elim
     (λ same. same)
@@ -172,13 +172,13 @@ one_least x a b first second =
     apart)
     (cases_order a b)
 
-pub plan_never_both : (names : List (List ℕ)) (text : List ℕ) (schemes : List Places) (e : PlanRefusal) → MeansPlan names text schemes → RefusesPlan names text e → ⊥
+pub plan_never_both : (names : List (List ℕ)) (text : List ℕ) (schemes : List Attributes) (e : PlanRefusal) → MeansPlan names text schemes → RefusesPlan names text e → ⊥
 plan_never_both names text schemes e means (inl lines) = never_both names 1 0 (line_texts (without_mark text)) schemes e means.lines (omega (arith, means.few)) lines
 plan_never_both names text schemes e means (inr left) =
     let same = one_meaning names (line_texts (without_mark text)) left.schemes schemes left.means means.lines in
-    covered (length names) schemes left.attribute means.covers (subst (λ (xs : List Places). IsLeastFrom (uncovered (length names) xs) 0 left.attribute) same left.least)
+    Covers-none_left_out (length names) schemes left.attribute means.covers (subst (λ (xs : List Attributes). IsFirstFrom (uncovered_attributes (length names) xs) 0 left.attribute) same left.least)
 
-pub plan_one_meaning : (names : List (List ℕ)) (text : List ℕ) (xs ys : List Places) → MeansPlan names text xs → MeansPlan names text ys → xs ≡ ys
+pub plan_one_meaning : (names : List (List ℕ)) (text : List ℕ) (xs ys : List Attributes) → MeansPlan names text xs → MeansPlan names text ys → xs ≡ ys
 plan_one_meaning names text xs ys first second = one_meaning names (line_texts (without_mark text)) xs ys first.lines second.lines
 
 pub plan_one_refusal : (names : List (List ℕ)) (text : List ℕ) (e f : PlanRefusal) → RefusesPlan names text e → RefusesPlan names text f → e ≡ f
@@ -187,5 +187,5 @@ plan_one_refusal names text e f (inl first) (inr second) = absurd (never_both na
 plan_one_refusal names text e f (inr first) (inl second) = absurd (never_both names 1 0 (line_texts (without_mark text)) first.schemes f first.means (omega (arith, first.few)) second)
 plan_one_refusal names text e f (inr first) (inr second) =
     let schemes = one_meaning names (line_texts (without_mark text)) second.schemes first.schemes second.means first.means in
-    let same = one_least (uncovered (length names) first.schemes) first.attribute second.attribute first.least (subst (λ (xs : List Places). IsLeastFrom (uncovered (length names) xs) 0 second.attribute) schemes second.least) in
+    let same = one_least (uncovered_attributes (length names) first.schemes) first.attribute second.attribute first.least (subst (λ (xs : List Attributes). IsFirstFrom (uncovered_attributes (length names) xs) 0 second.attribute) schemes second.least) in
     first.told ∙ ap (λ (a : ℕ). plan.NotCovered a) same ∙ sym second.told

@@ -1,11 +1,11 @@
--- A line, and lines: read as the schemes that they mean, or refused by the first complaint.
+-- A line, and lines: read as the schemes that they mean, or refused by the first diagnostic.
 use Rattle.std.proofs.Common.{◌≡◌, ◌<◌, ◌≤◌, ◌+◌, ℕ, Bool, true, false, cond, List, [], ◌∷◌, ◌++◌, length, Option, Some, None, Result, Ok, Err, refl, sym, ap, subst, ◌∙◌, ◌⊎◌, inl, inr, ⊎_elim, arith, append_assoc}
 use Rattle.std.specs.Prelude.{nat_le}
 use Rattle.std.proofs.lemmas.Bool.{true≢false, leb-true, leb-false}
 use Rattle.std.proofs.lemmas.List.{append-nil, length_push}
-use Rattle.attr_sets.specs.Places.{Places, none}
+use Rattle.attr_sets.specs.Attributes.{Attributes, none}
 use Rattle.lexer.specs.declared.token.Mode.TheVariants as mode
-use Rattle.lexer.specs.declared.token.Stop.{Stop}
+use Rattle.lexer.specs.declared.token.LexError.{LexError}
 use Rattle.lexer.specs.declared.token.TokenKind.{TokenKind}
 use Rattle.lexer.specs.declared.token.TokenKind.TheVariants as token
 use Rattle.lexer.specs.Tokens.{Mark, lex}
@@ -13,83 +13,83 @@ use Rattle.schema_grammar.specs.declared.format.Format.TheVariants as format
 use Rattle.schema_grammar.specs.declared.refusal.SchemaRefusalKind.{SchemaRefusalKind}
 use Rattle.schema_grammar.specs.declared.refusal.SchemaRefusalKind.TheVariants as kind
 use Rattle.schema_grammar.specs.declared.refusal.What.TheVariants as what
-use Rattle.schema_grammar.specs.Complaints.{Carries, refusal_number, span_at}
+use Rattle.schema_grammar.specs.Diagnostics.{Carries, refusal_number, span_at}
 use Rattle.schema_grammar.specs.Refusals.{refusal, refused_by, and_then}
 use Rattle.schema_grammar.specs.Words.{is_reserved}
-use Rattle.schema_grammar.proofs.ComplaintLaws.{flaw_numbered, flaw_carries}
+use Rattle.schema_grammar.proofs.DiagnosticLaws.{flaw_numbered, flaw_carries}
 use Rattle.schema_grammar.proofs.DeclaringLaws.{has_tokens}
 use Rattle.plan_grammar.specs.declared.refusal.PlanRefusal.{PlanRefusal}
 use Rattle.plan_grammar.specs.declared.refusal.PlanRefusal.TheVariants as plan
 use Rattle.plan_grammar.specs.declared.refusal.TheConstants.{MOST_SCHEMES}
 use Rattle.plan_grammar.specs.Meanings.{is_scheme, IsSchemeLine, MeansSchemeLines}
-use Rattle.plan_grammar.specs.Complaints.{FirstTokenComplaint, SchemeLineComplaint, SpansPlace, IsFine, RefusesLine, RefusesSchemeLines, scheme_count, scheme_wanted}
+use Rattle.plan_grammar.specs.Diagnostics.{FirstTokenDiagnostic, SchemeLineDiagnostic, SpansPosition, IsFine, RefusesLine, RefusesSchemeLines, scheme_count, scheme_wanted}
 use Rattle.plan_grammar.specs.Reading.{no_scheme, read_words, read_scheme_line, read_scheme_lines}
 use Rattle.plan_grammar.proofs.FirstLemmas.{first_here, first_later, later_fine, no_flaw, flaw_least}
 use Rattle.plan_grammar.proofs.WordLemmas.{WordsFit, words_fit}
 
 -- ---- one line
 -- a line adds nothing, or its scheme
-pub record AddsScheme (names : List (List ℕ)) (schemes : List Places) (ms : List Mark) (more : List Places) : Type 0 where
-  pub x : Places
+pub record AddsScheme (names : List (List ℕ)) (schemes : List Attributes) (ms : List Mark) (more : List Attributes) : Type 0 where
+  pub x : Attributes
   pub scheme : IsSchemeLine names ms x
   pub one : scheme_count ms ≡ 1
   pub added : more ≡ schemes ++ x ∷ []
   pub room : length schemes < MOST_SCHEMES
 
-pub record IsRead (names : List (List ℕ)) (schemes : List Places) (ms : List Mark) (stop : Option Stop) (more : List Places) : Type 0 where
+pub record IsRead (names : List (List ℕ)) (schemes : List Attributes) (ms : List Mark) (stop : Option LexError) (more : List Attributes) : Type 0 where
   pub ended : stop ≡ None
   pub adds : ((ms ≡ []) × (more ≡ schemes)) ⊎ AddsScheme names schemes ms more
   pub fine : IsFine names (length schemes) ms stop
 
-abbrev pub LineFits : List (List ℕ) → ℕ → List Places → List Mark → Option Stop → Result (List Places) PlanRefusal → Type 0
+abbrev pub LineFits : List (List ℕ) → ℕ → List Attributes → List Mark → Option LexError → Result (List Attributes) PlanRefusal → Type 0
 LineFits names line schemes ms stop (Ok more) = IsRead names schemes ms stop more
 LineFits names line schemes ms stop (Err e) = RefusesLine names line (length schemes) ms stop e
 
 -- why a line can't begin with a token
 record IsOther (earlier : ℕ) (m : Mark) (why : SchemaRefusalKind) : Type 0 where
-  complaint : FirstTokenComplaint earlier m (refusal_number why)
+  diagnostic : FirstTokenDiagnostic earlier m (refusal_number why)
   carries : Carries (λ w. w ≡ scheme_wanted 0) why
-  least : (n : ℕ) → FirstTokenComplaint earlier m n → refusal_number why ≤ n
+  least : (n : ℕ) → FirstTokenDiagnostic earlier m n → refusal_number why ≤ n
 
-head_least : (earlier : ℕ) (m : Mark) (low n : ℕ) → is_scheme m.kind m.word ≡ false → (low ≤ 6) → ((m.kind ≡ token.Word) → is_reserved format.Plain m.word ≡ true → low ≤ 3) → FirstTokenComplaint earlier m n → low ≤ n
+head_least : (earlier : ℕ) (m : Mark) (low n : ℕ) → is_scheme m.kind m.word ≡ false → (low ≤ 6) → ((m.kind ≡ token.Identifier) → is_reserved format.Plain m.word ≡ true → low ≤ 3) → FirstTokenDiagnostic earlier m n → low ≤ n
 head_least earlier m low n other most reserved h =
     ⊎_elim
     (λ not_scheme. ⊎_elim (λ three. omega (arith, reserved three.1 three.2, three.0)) (λ six. omega (arith, most, six)) not_scheme.1)
     (λ many. absurd (true≢false (sym many.0 ∙ other)))
     h
 
-other_six : (earlier : ℕ) (m : Mark) → is_scheme m.kind m.word ≡ false → ((m.kind ≡ token.Word) → is_reserved format.Plain m.word ≡ true → ⊥) → IsOther earlier m (kind.Expected what.Scheme)
+other_six : (earlier : ℕ) (m : Mark) → is_scheme m.kind m.word ≡ false → ((m.kind ≡ token.Identifier) → is_reserved format.Plain m.word ≡ true → ⊥) → IsOther earlier m (kind.Expected what.Scheme)
 other_six earlier m other free = record {
-  complaint = inl (other, inr refl);
+  diagnostic = inl (other, inr refl);
   carries = refl;
   least = λ n h. head_least earlier m 6 n other (omega arith) (λ word reserved. absurd (free word reserved)) h;
 }
 
-other_word : (earlier : ℕ) (m : Mark) (b : Bool) → is_reserved format.Plain m.word ≡ b → is_scheme m.kind m.word ≡ false → m.kind ≡ token.Word
+other_word : (earlier : ℕ) (m : Mark) (b : Bool) → is_reserved format.Plain m.word ≡ b → is_scheme m.kind m.word ≡ false → m.kind ≡ token.Identifier
     → IsOther earlier m (cond b kind.ReservedName (kind.Expected what.Scheme))
 other_word earlier m true reserved other word = record {
-  complaint = inl (other, inl (refl, word, reserved));
+  diagnostic = inl (other, inl (refl, word, reserved));
   carries = tt;
   least = λ n h. head_least earlier m 3 n other (omega arith) (λ _ _. omega arith) h;
 }
 other_word earlier m false free other word = other_six earlier m other (λ _ reserved. true≢false (sym reserved ∙ free))
 
 other_kind : (earlier : ℕ) (m : Mark) (k : TokenKind) → m.kind ≡ k → is_scheme m.kind m.word ≡ false → IsOther earlier m (no_scheme k m.word)
-other_kind earlier m token.Word is other = other_word earlier m (is_reserved format.Plain m.word) refl other is
-other_kind earlier m token.Empty is other = other_six earlier m other (λ word _. (let wrong : token.Empty ≡ token.Word = sym is ∙ word in cc))
-other_kind earlier m token.Arrow is other = other_six earlier m other (λ word _. (let wrong : token.Arrow ≡ token.Word = sym is ∙ word in cc))
-other_kind earlier m token.DoubleArrow is other = other_six earlier m other (λ word _. (let wrong : token.DoubleArrow ≡ token.Word = sym is ∙ word in cc))
-other_kind earlier m token.Colon is other = other_six earlier m other (λ word _. (let wrong : token.Colon ≡ token.Word = sym is ∙ word in cc))
-other_kind earlier m (token.Number n) is other = other_six earlier m other (λ word _. (let wrong : token.Number n ≡ token.Word = sym is ∙ word in cc))
+other_kind earlier m token.Identifier is other = other_word earlier m (is_reserved format.Plain m.word) refl other is
+other_kind earlier m token.Empty is other = other_six earlier m other (λ word _. (let wrong : token.Empty ≡ token.Identifier = sym is ∙ word in cc))
+other_kind earlier m token.Arrow is other = other_six earlier m other (λ word _. (let wrong : token.Arrow ≡ token.Identifier = sym is ∙ word in cc))
+other_kind earlier m token.DoubleArrow is other = other_six earlier m other (λ word _. (let wrong : token.DoubleArrow ≡ token.Identifier = sym is ∙ word in cc))
+other_kind earlier m token.Colon is other = other_six earlier m other (λ word _. (let wrong : token.Colon ≡ token.Identifier = sym is ∙ word in cc))
+other_kind earlier m (token.Number n) is other = other_six earlier m other (λ word _. (let wrong : token.Number n ≡ token.Identifier = sym is ∙ word in cc))
 
 -- the first token of a scheme line for which there is room
-head_fine : (earlier : ℕ) (m : Mark) (n : ℕ) → is_scheme m.kind m.word ≡ true → earlier < MOST_SCHEMES → FirstTokenComplaint earlier m n → ⊥
+head_fine : (earlier : ℕ) (m : Mark) (n : ℕ) → is_scheme m.kind m.word ≡ true → earlier < MOST_SCHEMES → FirstTokenDiagnostic earlier m n → ⊥
 head_fine earlier m n is room h = ⊎_elim (λ other. true≢false (sym is ∙ other.0)) (λ many. omega (arith, many.1, room)) h
 
-head_many : (earlier : ℕ) (m : Mark) (n : ℕ) → is_scheme m.kind m.word ≡ true → FirstTokenComplaint earlier m n → 12 ≤ n
+head_many : (earlier : ℕ) (m : Mark) (n : ℕ) → is_scheme m.kind m.word ≡ true → FirstTokenDiagnostic earlier m n → 12 ≤ n
 head_many earlier m n is h = ⊎_elim (λ other. absurd (true≢false (sym is ∙ other.0))) (λ many. omega (arith, many.2)) h
 
-scheme_read : (names : List (List ℕ)) (line : ℕ) (schemes : List Places) (m : Mark) (ms : List Mark) (stop : Option Stop) (r : Result Places PlanRefusal)
+scheme_read : (names : List (List ℕ)) (line : ℕ) (schemes : List Attributes) (m : Mark) (ms : List Mark) (stop : Option LexError) (r : Result Attributes PlanRefusal)
     → is_scheme m.kind m.word ≡ true → length schemes < MOST_SCHEMES → WordsFit names line true none (m.column + length m.word) ms stop r
     → LineFits names line schemes (m ∷ ms) stop (and_then r (λ x. Ok (schemes ++ x ∷ [])))
 scheme_read names line schemes m ms stop (Ok x) is room fit = record {
@@ -101,65 +101,65 @@ scheme_read names line schemes m ms stop (Ok x) is room fit = record {
     added = refl;
     room = room;
   });
-  fine = later_fine (SchemeLineComplaint names (length schemes) (m ∷ ms) stop) (λ n h. head_fine (length schemes) m n is room h) fit.fine;
+  fine = later_fine (SchemeLineDiagnostic names (length schemes) (m ∷ ms) stop) (λ n h. head_fine (length schemes) m n is room h) fit.fine;
 }
 scheme_read names line schemes m ms stop (Err e) is room fit =
-    first_later (SchemeLineComplaint names (length schemes) (m ∷ ms) stop) (SpansPlace line (span_at line 1 (m ∷ ms) stop) scheme_wanted) e
+    first_later (SchemeLineDiagnostic names (length schemes) (m ∷ ms) stop) (SpansPosition line (span_at line 1 (m ∷ ms) stop) scheme_wanted) e
     (λ n h. head_fine (length schemes) m n is room h) fit
 
-head_fit : (names : List (List ℕ)) (line : ℕ) (schemes : List Places) (m : Mark) (ms : List Mark) (stop : Option Stop) (b l : Bool)
+head_fit : (names : List (List ℕ)) (line : ℕ) (schemes : List Attributes) (m : Mark) (ms : List Mark) (stop : Option LexError) (b l : Bool)
     → is_scheme m.kind m.word ≡ b → nat_le MOST_SCHEMES (length schemes) ≡ l
     → LineFits names line schemes (m ∷ ms) stop (and_then
     (cond b (cond l (Err (plan.TooManySchemes line)) (read_words names line true none ms stop)) (Err (plan.Text (refusal line m.column (length m.word) (no_scheme m.kind m.word)))))
     (λ x. Ok (schemes ++ x ∷ [])))
 head_fit names line schemes m ms stop true true is many =
-    first_here (SchemeLineComplaint names (length schemes) (m ∷ ms) stop) (SpansPlace line (span_at line 1 (m ∷ ms) stop) scheme_wanted) (plan.TooManySchemes line)
+    first_here (SchemeLineDiagnostic names (length schemes) (m ∷ ms) stop) (SpansPosition line (span_at line 1 (m ∷ ms) stop) scheme_wanted) (plan.TooManySchemes line)
     (inr (is, leb-true MOST_SCHEMES (length schemes) many, refl)) refl (λ n h. head_many (length schemes) m n is h)
 head_fit names line schemes m ms stop true false is few =
     scheme_read names line schemes m ms stop (read_words names line true none ms stop) is (leb-false MOST_SCHEMES (length schemes) few)
     (words_fit names line true none (m.column + length m.word) ms stop)
 head_fit names line schemes m ms stop false l other few =
     let told = other_kind (length schemes) m m.kind refl other in
-    first_here (SchemeLineComplaint names (length schemes) (m ∷ ms) stop) (SpansPlace line (span_at line 1 (m ∷ ms) stop) scheme_wanted)
-    (plan.Text (refusal line m.column (length m.word) (no_scheme m.kind m.word))) told.complaint (refl, told.carries) told.least
+    first_here (SchemeLineDiagnostic names (length schemes) (m ∷ ms) stop) (SpansPosition line (span_at line 1 (m ∷ ms) stop) scheme_wanted)
+    (plan.Text (refusal line m.column (length m.word) (no_scheme m.kind m.word))) told.diagnostic (refl, told.carries) told.least
 
-pub line_fits : (names : List (List ℕ)) (line : ℕ) (schemes : List Places) (ms : List Mark) (stop : Option Stop)
+pub line_fits : (names : List (List ℕ)) (line : ℕ) (schemes : List Attributes) (ms : List Mark) (stop : Option LexError)
     → LineFits names line schemes ms stop (read_scheme_line names line schemes ms stop)
 unfolding read_scheme_line
 line_fits names line schemes [] None = record { ended = refl; adds = inl (refl, refl); fine = λ p n h. no_flaw n h.1 }
 line_fits names line schemes [] (Some s) =
-    first_here (SchemeLineComplaint names (length schemes) [] (Some s)) (SpansPlace line (span_at line 1 [] (Some s)) scheme_wanted) (plan.Text (refused_by line s))
+    first_here (SchemeLineDiagnostic names (length schemes) [] (Some s)) (SpansPosition line (span_at line 1 [] (Some s)) scheme_wanted) (plan.Text (refused_by line s))
     (refl, (s, refl, flaw_numbered s.flaw)) (refl, flaw_carries (λ w. w ≡ scheme_wanted 0) s.flaw) (λ n h. flaw_least s n h.1)
 line_fits names line schemes (m ∷ ms) stop =
     head_fit names line schemes m ms stop (is_scheme m.kind m.word) (nat_le MOST_SCHEMES (length schemes)) refl refl
 
 -- ---- all lines
 -- the lines mean the schemes that they add
-pub record AreRead (names : List (List ℕ)) (schemes : List Places) (lines : List (List ℕ)) (whole : List Places) : Type 0 where
-  pub others : List Places
+pub record AreRead (names : List (List ℕ)) (schemes : List Attributes) (lines : List (List ℕ)) (whole : List Attributes) : Type 0 where
+  pub others : List Attributes
   pub means : MeansSchemeLines names lines others
   pub added : whole ≡ schemes ++ others
   pub few : length schemes ≤ MOST_SCHEMES → length whole ≤ MOST_SCHEMES
 
-abbrev pub LinesFit : List (List ℕ) → ℕ → List Places → List (List ℕ) → Result (List Places) PlanRefusal → Type 0
+abbrev pub LinesFit : List (List ℕ) → ℕ → List Attributes → List (List ℕ) → Result (List Attributes) PlanRefusal → Type 0
 LinesFit names number schemes lines (Ok whole) = AreRead names schemes lines whole
 LinesFit names number schemes lines (Err e) = RefusesSchemeLines names number (length schemes) lines e
 
-lines_after : (names : List (List ℕ)) (number : ℕ) (schemes : List Places) (line : List ℕ) (lines : List (List ℕ)) (more : List Places) (r : Result (List Places) PlanRefusal)
+lines_after : (names : List (List ℕ)) (number : ℕ) (schemes : List Attributes) (line : List ℕ) (lines : List (List ℕ)) (more : List Attributes) (r : Result (List Attributes) PlanRefusal)
     → IsRead names schemes (lex mode.Plain line).marks (lex mode.Plain line).stop more → LinesFit names (number + 1) more lines r → LinesFit names number schemes (line ∷ lines) r
 lines_after names number schemes line lines more (Ok whole) read fit =
     ⊎_elim
     (λ blank. record {
       others = fit.others;
       means = inl (has_tokens (lex mode.Plain line) [] blank.0 read.ended, fit.means);
-      added = fit.added ∙ ap (λ (xs : List Places). xs ++ fit.others) blank.1;
-      few = λ few. fit.few (subst (λ (xs : List Places). length xs ≤ MOST_SCHEMES) (sym blank.1) few);
+      added = fit.added ∙ ap (λ (xs : List Attributes). xs ++ fit.others) blank.1;
+      few = λ few. fit.few (subst (λ (xs : List Attributes). length xs ≤ MOST_SCHEMES) (sym blank.1) few);
     })
     (λ adds. record {
       others = adds.x ∷ fit.others;
       means = inr (adds.x, fit.others, record { marks = (lex mode.Plain line).marks; tokens = has_tokens (lex mode.Plain line) (lex mode.Plain line).marks refl read.ended; scheme = adds.scheme }, fit.means, refl);
-      added = fit.added ∙ ap (λ (xs : List Places). xs ++ fit.others) adds.added ∙ append_assoc schemes (adds.x ∷ []) fit.others;
-      few = λ few. fit.few (subst (λ (xs : List Places). length xs ≤ MOST_SCHEMES) (sym adds.added) (omega (arith, length_push schemes adds.x, adds.room)));
+      added = fit.added ∙ ap (λ (xs : List Attributes). xs ++ fit.others) adds.added ∙ append_assoc schemes (adds.x ∷ []) fit.others;
+      few = λ few. fit.few (subst (λ (xs : List Attributes). length xs ≤ MOST_SCHEMES) (sym adds.added) (omega (arith, length_push schemes adds.x, adds.room)));
     })
     read.adds
 lines_after names number schemes line lines more (Err e) read fit =
@@ -167,21 +167,21 @@ lines_after names number schemes line lines more (Err e) read fit =
   where
     count : length more ≡ length schemes + scheme_count (lex mode.Plain line).marks
     count = ⊎_elim
-        (λ blank. ap (λ (xs : List Places). length xs) blank.1 ∙ sym (ap (λ (ms : List Mark). length schemes + scheme_count ms) blank.0 ∙ zero_more (length schemes)))
-        (λ adds. ap (λ (xs : List Places). length xs) adds.added ∙ length_push schemes adds.x ∙ ap (λ (n : ℕ). length schemes + n) (sym adds.one))
+        (λ blank. ap (λ (xs : List Attributes). length xs) blank.1 ∙ sym (ap (λ (ms : List Mark). length schemes + scheme_count ms) blank.0 ∙ zero_more (length schemes)))
+        (λ adds. ap (λ (xs : List Attributes). length xs) adds.added ∙ length_push schemes adds.x ∙ ap (λ (n : ℕ). length schemes + n) (sym adds.one))
         read.adds
       where
         zero_more : (n : ℕ) → n + 0 ≡ n
         zero_more n = omega arith
 
-lines_join : (names : List (List ℕ)) (number : ℕ) (schemes : List Places) (line : List ℕ) (lines : List (List ℕ)) (r : Result (List Places) PlanRefusal)
-    → ((more : List Places) → LinesFit names (number + 1) more lines (read_scheme_lines names (number + 1) more lines))
+lines_join : (names : List (List ℕ)) (number : ℕ) (schemes : List Attributes) (line : List ℕ) (lines : List (List ℕ)) (r : Result (List Attributes) PlanRefusal)
+    → ((more : List Attributes) → LinesFit names (number + 1) more lines (read_scheme_lines names (number + 1) more lines))
     → LineFits names number schemes (lex mode.Plain line).marks (lex mode.Plain line).stop r
     → LinesFit names number schemes (line ∷ lines) (and_then r (λ more. read_scheme_lines names (number + 1) more lines))
 lines_join names number schemes line lines (Ok more) later fit = lines_after names number schemes line lines more (read_scheme_lines names (number + 1) more lines) fit (later more)
 lines_join names number schemes line lines (Err e) later fit = inl fit
 
-pub lines_fit : (names : List (List ℕ)) (number : ℕ) (schemes : List Places) (lines : List (List ℕ)) → LinesFit names number schemes lines (read_scheme_lines names number schemes lines)
+pub lines_fit : (names : List (List ℕ)) (number : ℕ) (schemes : List Attributes) (lines : List (List ℕ)) → LinesFit names number schemes lines (read_scheme_lines names number schemes lines)
 unfolding read_scheme_lines
 lines_fit names number schemes [] = record { others = []; means = refl; added = sym (append-nil schemes); few = λ few. few }
 lines_fit names number schemes (line ∷ lines) =
@@ -189,10 +189,10 @@ lines_fit names number schemes (line ∷ lines) =
     (λ more. lines_fit names (number + 1) more lines) (line_fits names number schemes (lex mode.Plain line).marks (lex mode.Plain line).stop)
 
 -- so what is read of a text is what its lines mean
-pub read_means : (names : List (List ℕ)) (lines : List (List ℕ)) (whole : List Places) → read_scheme_lines names 1 [] lines ≡ Ok whole → MeansSchemeLines names lines whole × (length whole ≤ MOST_SCHEMES)
+pub read_means : (names : List (List ℕ)) (lines : List (List ℕ)) (whole : List Attributes) → read_scheme_lines names 1 [] lines ≡ Ok whole → MeansSchemeLines names lines whole × (length whole ≤ MOST_SCHEMES)
 read_means names lines whole is =
-    let fit : AreRead names [] lines whole = subst (λ (r : Result (List Places) PlanRefusal). LinesFit names 1 [] lines r) is (lines_fit names 1 [] lines) in
-    (subst (λ (xs : List Places). MeansSchemeLines names lines xs) (sym fit.added) fit.means, fit.few (omega arith))
+    let fit : AreRead names [] lines whole = subst (λ (r : Result (List Attributes) PlanRefusal). LinesFit names 1 [] lines r) is (lines_fit names 1 [] lines) in
+    (subst (λ (xs : List Attributes). MeansSchemeLines names lines xs) (sym fit.added) fit.means, fit.few (omega arith))
 
 pub refused_refuses : (names : List (List ℕ)) (lines : List (List ℕ)) (e : PlanRefusal) → read_scheme_lines names 1 [] lines ≡ Err e → RefusesSchemeLines names 1 0 lines e
-refused_refuses names lines e is = subst (λ (r : Result (List Places) PlanRefusal). LinesFit names 1 [] lines r) is (lines_fit names 1 [] lines)
+refused_refuses names lines e is = subst (λ (r : Result (List Attributes) PlanRefusal). LinesFit names 1 [] lines r) is (lines_fit names 1 [] lines)

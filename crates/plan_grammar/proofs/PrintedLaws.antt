@@ -2,7 +2,7 @@
 use Rattle.std.proofs.Common.{◌≡◌, ◌≤◌, ◌+◌, ℕ, List, [], ◌∷◌, ◌++◌, map, length, refl, sym, ap, subst, ◌∙◌, ⊎_elim, inl, inr}
 use Rattle.std.specs.Prelude.{All, codes}
 use Rattle.std.proofs.lemmas.List.Elements.{All-head, All-tail}
-use Rattle.attr_sets.specs.Places.{Places, below, Within, IsEmpty}
+use Rattle.attr_sets.specs.Attributes.{Attributes, below, IsSubset, IsEmpty}
 use Rattle.dep_model.specs.Plans.{IsPlan}
 use Rattle.lexer.specs.declared.token.Mode.TheVariants as mode
 use Rattle.lexer.specs.declared.token.TokenKind.TheVariants as token
@@ -22,15 +22,15 @@ use Rattle.plan_grammar.specs.Meanings.{is_scheme, MeansScheme, MeansSchemeLines
 use Rattle.plans.specs.Printing.{scheme_text, plan_text}
 
 -- the words of a set with attributes are a side for it
-side_named : (names words : List (List ℕ)) (x : Places) → (IsEmpty x → ⊥) → IsSide format.Plain names (side_marks 8 words) x → IsNamedSide format.Plain names (word_marks 7 words) x
+side_named : (names words : List (List ℕ)) (x : Attributes) → (IsEmpty x → ⊥) → IsSide format.Plain names (side_marks 8 words) x → IsNamedSide format.Plain names (word_marks 7 words) x
 side_named names [] x some side =
     ⊎_elim
-    (λ empty. absurd (some (λ k. ap (λ (y : Places). y k) empty.nothing)))
+    (λ empty. absurd (some (λ k. ap (λ (y : Attributes). y k) empty.nothing)))
     (λ named. absurd (no_word (All-head (IsAttribute format.Plain names) (record { kind = token.Empty; column = 8; word = 40 ∷ 41 ∷ [] }) [] named.each)))
     side
   where
     no_word : IsAttribute format.Plain names (record { kind = token.Empty; column = 8; word = 40 ∷ 41 ∷ [] }) → ⊥
-    no_word is = let wrong : token.Empty ≡ token.Word = is.word in cc
+    no_word is = let wrong : token.Empty ≡ token.Identifier = is.word in cc
 side_named names (word ∷ words) x some side =
     ⊎_elim
     (λ empty. absurd (no_empty empty.column empty.bytes empty.alone))
@@ -39,21 +39,21 @@ side_named names (word ∷ words) x some side =
   where
     no_empty : (column : ℕ) (bytes : List ℕ) → side_marks 8 (word ∷ words) ≡ record { kind = token.Empty; column = column; word = bytes } ∷ [] → ⊥
     no_empty column bytes same =
-        let first : Mark = record { kind = token.Word; column = 8; word = word } in
+        let first : Mark = record { kind = token.Identifier; column = 8; word = word } in
         let other : Mark = record { kind = token.Empty; column = column; word = bytes } in
         let heads : first ≡ other = cc in
-        let kinds : token.Word ≡ token.Empty = ap (λ (m : Mark). m.kind) heads in cc
+        let kinds : token.Identifier ≡ token.Empty = ap (λ (m : Mark). m.kind) heads in cc
 
-scheme_means : (names : List (List ℕ)) (x : Places) → AreNames format.Plain names → Within x (below (length names)) → (IsEmpty x → ⊥) → MeansScheme names (scheme_text names x) x
+scheme_means : (names : List (List ℕ)) (x : Attributes) → AreNames format.Plain names → IsSubset x (below (length names)) → (IsEmpty x → ⊥) → MeansScheme names (scheme_text names x) x
 unfolding is_scheme
 scheme_means names x are within some =
     let words = members_from x 0 names in
     let side = side_named names words x some (printed_side format.Plain names x 8 are within) in
     record {
-      marks = record { kind = token.Word; column = 1; word = codes "scheme" } ∷ word_marks 7 words;
+      marks = record { kind = token.Identifier; column = 1; word = codes "scheme" } ∷ word_marks 7 words;
       tokens = word_line (codes "scheme") words refl (printed_names format.Plain names x are);
       scheme = record {
-        head = record { kind = token.Word; column = 1; word = codes "scheme" };
+        head = record { kind = token.Identifier; column = 1; word = codes "scheme" };
         words = word_marks 7 words;
         whole = refl;
         scheme = refl;
@@ -63,28 +63,28 @@ scheme_means names x are within some =
       };
     }
 
-lines_mean : (names : List (List ℕ)) (schemes : List Places) → AreNames format.Plain names → All (λ x. Within x (below (length names))) schemes → All (λ x. IsEmpty x → ⊥) schemes
+lines_mean : (names : List (List ℕ)) (schemes : List Attributes) → AreNames format.Plain names → All (λ x. IsSubset x (below (length names))) schemes → All (λ x. IsEmpty x → ⊥) schemes
     → MeansSchemeLines names (map (scheme_text names) schemes ++ [] ∷ []) schemes
 lines_mean names [] are within some = inl (nothing_left mode.Plain 1, refl)
 lines_mean names (x ∷ schemes) are within some =
     inr (
       x,
       schemes,
-      scheme_means names x are (All-head (λ (y : Places). Within y (below (length names))) x schemes within) (All-head (λ (y : Places). IsEmpty y → ⊥) x schemes some),
-      lines_mean names schemes are (All-tail (λ (y : Places). Within y (below (length names))) x schemes within) (All-tail (λ (y : Places). IsEmpty y → ⊥) x schemes some),
+      scheme_means names x are (All-head (λ (y : Attributes). IsSubset y (below (length names))) x schemes within) (All-head (λ (y : Attributes). IsEmpty y → ⊥) x schemes some),
+      lines_mean names schemes are (All-tail (λ (y : Attributes). IsSubset y (below (length names))) x schemes within) (All-tail (λ (y : Attributes). IsEmpty y → ⊥) x schemes some),
       refl,
     )
 
-each_bytes : (names : List (List ℕ)) (schemes : List Places) → AreNames format.Plain names → EachBytes (map (scheme_text names) schemes)
+each_bytes : (names : List (List ℕ)) (schemes : List Attributes) → AreNames format.Plain names → EachBytes (map (scheme_text names) schemes)
 each_bytes names [] are = tt
 each_bytes names (x ∷ schemes) are =
     (bytes_both (codes "scheme") (words_text (members_from x 0 names)) refl (words_bytes (members_from x 0 names) (printed_names format.Plain names x are)), each_bytes names schemes are)
 
-no_mark : (names : List (List ℕ)) (schemes : List Places) → without_mark (plan_text names schemes) ≡ plan_text names schemes
+no_mark : (names : List (List ℕ)) (schemes : List Attributes) → without_mark (plan_text names schemes) ≡ plan_text names schemes
 no_mark names [] = refl
 no_mark names (x ∷ schemes) = refl
 
-pub printed_plan_means : (names : List (List ℕ)) (schemes : List Places) → AreNames format.Plain names → IsPlan (length names) schemes → length schemes ≤ MOST_SCHEMES → MeansPlan names (plan_text names schemes) schemes
+pub printed_plan_means : (names : List (List ℕ)) (schemes : List Attributes) → AreNames format.Plain names → IsPlan (length names) schemes → length schemes ≤ MOST_SCHEMES → MeansPlan names (plan_text names schemes) schemes
 printed_plan_means names schemes are plan few = record {
   lines = subst (λ (lines : List (List ℕ)). MeansSchemeLines names lines schemes)
       (sym (ap (λ (text : List ℕ). line_texts text) (no_mark names schemes) ∙ lines_cut (map (scheme_text names) schemes) (each_bytes names schemes are)))

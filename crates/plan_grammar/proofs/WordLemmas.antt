@@ -1,32 +1,32 @@
--- The words after `scheme`: read where nothing is wrong with them, or refused by the first complaint.
+-- The words after `scheme`: read where nothing is wrong with them, or refused by the first diagnostic.
 use Rattle.std.proofs.Common.{◌≡◌, ◌<◌, ◌≤◌, ◌+◌, ℕ, Bool, true, false, cond, List, [], ◌∷◌, length, Option, Some, None, Result, Ok, Err, refl, sym, ap, ◌∙◌, ◌⊎◌, inl, inr, ⊎_elim, arith}
 use Rattle.std.specs.Prelude.{All}
 use Rattle.std.proofs.lemmas.Bool.{false≢true, true≢false}
 use Rattle.std.proofs.lemmas.List.Elements.{All-nil, All-cons}
-use Rattle.attr_sets.specs.Places.{Places, only, union}
-use Rattle.dep_model.specs.Schemas.{place_named}
-use Rattle.lexer.specs.declared.token.Stop.{Stop}
+use Rattle.attr_sets.specs.Attributes.{Attributes, only, union}
+use Rattle.dep_model.specs.Schemas.{attribute_named}
+use Rattle.lexer.specs.declared.token.LexError.{LexError}
 use Rattle.lexer.specs.declared.token.TokenKind.{TokenKind}
 use Rattle.lexer.specs.declared.token.TokenKind.TheVariants as token
 use Rattle.lexer.specs.Tokens.{Mark}
 use Rattle.schema_grammar.specs.declared.format.Format.TheVariants as format
 use Rattle.schema_grammar.specs.declared.refusal.SchemaRefusalKind.TheVariants as kind
-use Rattle.schema_grammar.specs.Complaints.{span_at}
-use Rattle.schema_grammar.specs.Meanings.{IsAttribute, named}
+use Rattle.schema_grammar.specs.Diagnostics.{span_at}
+use Rattle.schema_grammar.specs.Meanings.{IsAttribute, attributes_of_words}
 use Rattle.schema_grammar.specs.Refusals.{refused_by, and_then, at}
-use Rattle.schema_grammar.specs.Words.{is_reserved, known, looked_up}
-use Rattle.schema_grammar.proofs.ComplaintLaws.{flaw_numbered, flaw_carries}
-use Rattle.schema_grammar.proofs.SideLemmas.{union-only, union-none, named-cons}
+use Rattle.schema_grammar.specs.Words.{is_reserved, known_attribute, look_up}
+use Rattle.schema_grammar.proofs.DiagnosticLaws.{flaw_numbered, flaw_carries}
+use Rattle.schema_grammar.proofs.SideLemmas.{union-only, union-none, attributes_of_words-cons}
 use Rattle.plan_grammar.specs.declared.refusal.PlanRefusal.{PlanRefusal}
 use Rattle.plan_grammar.specs.declared.refusal.PlanRefusal.TheVariants as plan
 use Rattle.plan_grammar.specs.Refusals.{plan_refusal_number}
-use Rattle.plan_grammar.specs.Complaints.{WordComplaint, WordsComplaint, SpansPlace, IsFirstOf, wanted_after}
-use Rattle.plan_grammar.specs.Reading.{of_text, other_token, attribute, read_words}
+use Rattle.plan_grammar.specs.Diagnostics.{WordDiagnostic, WordsDiagnostic, SpansPosition, IsFirstOf, wanted_after}
+use Rattle.plan_grammar.specs.Reading.{of_text, other_token, attribute_of_token, read_words}
 use Rattle.plan_grammar.proofs.FirstLemmas.{first_here, first_later, later_fine, no_flaw, flaw_least}
 
 -- ---- kinds of tokens
 is_word : TokenKind → Bool
-is_word token.Word = true
+is_word token.Identifier = true
 is_word token.Empty = false
 is_word token.Arrow = false
 is_word token.DoubleArrow = false
@@ -35,13 +35,13 @@ is_word (token.Number n) = false
 
 is_empty : TokenKind → Bool
 is_empty token.Empty = true
-is_empty token.Word = false
+is_empty token.Identifier = false
 is_empty token.Arrow = false
 is_empty token.DoubleArrow = false
 is_empty token.Colon = false
 is_empty (token.Number n) = false
 
-no_word : (k : TokenKind) → is_word k ≡ false → k ≡ token.Word → ⊥
+no_word : (k : TokenKind) → is_word k ≡ false → k ≡ token.Identifier → ⊥
 unfolding is_word
 no_word k other same = true≢false (sym (ap is_word same) ∙ other)
 
@@ -51,22 +51,22 @@ no_empty k other same = true≢false (sym (ap is_empty same) ∙ other)
 
 -- ---- one token
 -- what a token after the word `scheme` stands for, or what is wrong with it
-module _ (names : List (List ℕ)) (line after : ℕ) (m : Mark) (ms : List Mark) (stop : Option Stop) where
+module _ (names : List (List ℕ)) (line after : ℕ) (m : Mark) (ms : List Mark) (stop : Option LexError) where
   pub record IsNamed (a : ℕ) : Type 0 where
-    pub word : m.kind ≡ token.Word
+    pub word : m.kind ≡ token.Identifier
     pub free : is_reserved format.Plain m.word ≡ false
-    pub place : place_named names m.word ≡ Some a
+    pub lookup : attribute_named names m.word ≡ Some a
 
   abbrev pub Tells : Bool → Result ℕ PlanRefusal → Type 0
   Tells first (Ok a) = IsNamed a
-  Tells first (Err e) = WordComplaint names first m (plan_refusal_number e) × SpansPlace line (span_at line after (m ∷ ms) stop) (wanted_after first) 0 e
-      × ((n : ℕ) → WordComplaint names first m n → plan_refusal_number e ≤ n)
+  Tells first (Err e) = WordDiagnostic names first m (plan_refusal_number e) × SpansPosition line (span_at line after (m ∷ ms) stop) (wanted_after first) 0 e
+      × ((n : ℕ) → WordDiagnostic names first m n → plan_refusal_number e ≤ n)
 
-  word_tells : (first : Bool) → m.kind ≡ token.Word → Tells first (of_text (at line m.column (length m.word) (looked_up format.Plain names m.word)))
-  unfolding looked_up
-  word_tells first is = told (is_reserved format.Plain m.word) (place_named names m.word) refl refl
+  word_tells : (first : Bool) → m.kind ≡ token.Identifier → Tells first (of_text (at line m.column (length m.word) (look_up format.Plain names m.word)))
+  unfolding look_up
+  word_tells first is = told (is_reserved format.Plain m.word) (attribute_named names m.word) refl refl
     where
-      small : (first : Bool) (low n : ℕ) → low ≤ 5 → (n ≡ 3 → low ≤ 3 ⊎ (is_reserved format.Plain m.word ≡ false)) → WordComplaint names first m n → low ≤ n
+      small : (first : Bool) (low n : ℕ) → low ≤ 5 → (n ≡ 3 → low ≤ 3 ⊎ (is_reserved format.Plain m.word ≡ false)) → WordDiagnostic names first m n → low ≤ n
       small first low n most other h =
           ⊎_elim
           (λ word. ⊎_elim
@@ -76,11 +76,11 @@ module _ (names : List (List ℕ)) (line after : ℕ) (m : Mark) (ms : List Mark
           (λ rest. ⊎_elim (λ ten. omega (arith, most, ten.2)) (λ six. omega (arith, most, six.2)) rest)
           h
 
-      told : (b : Bool) (o : Option ℕ) → is_reserved format.Plain m.word ≡ b → place_named names m.word ≡ o
-          → Tells first (of_text (at line m.column (length m.word) (cond b (Err kind.ReservedName) (known o))))
-      told true o reserved place = (inl (is, inl (refl, reserved)), (refl, tt), λ n h. small first 3 n (omega arith) (λ three. inl (omega arith)) h)
-      told false None free place = (inl (is, inr (refl, place)), (refl, tt), λ n h. small first 5 n (omega arith) (λ three. inr free) h)
-      told false (Some a) free place = record { word = is; free = free; place = place }
+      told : (b : Bool) (o : Option ℕ) → is_reserved format.Plain m.word ≡ b → attribute_named names m.word ≡ o
+          → Tells first (of_text (at line m.column (length m.word) (cond b (Err kind.ReservedName) (known_attribute o))))
+      told true o reserved lookup = (inl (is, inl (refl, reserved)), (refl, tt), λ n h. small first 3 n (omega arith) (λ three. inl (omega arith)) h)
+      told false None free lookup = (inl (is, inr (refl, lookup)), (refl, tt), λ n h. small first 5 n (omega arith) (λ three. inr free) h)
+      told false (Some a) free lookup = record { word = is; free = free; lookup = lookup }
 
   empty_tells : m.kind ≡ token.Empty → Tells true (Err (plan.EmptyScheme line))
   empty_tells is = (
@@ -92,10 +92,10 @@ module _ (names : List (List ℕ)) (line after : ℕ) (m : Mark) (ms : List Mark
         h,
   )
     where
-      apart : m.kind ≡ token.Empty → m.kind ≡ token.Word → ⊥
-      apart e w = let wrong : token.Empty ≡ token.Word = sym e ∙ w in cc
+      apart : m.kind ≡ token.Empty → m.kind ≡ token.Identifier → ⊥
+      apart e w = let wrong : token.Empty ≡ token.Identifier = sym e ∙ w in cc
 
-  other_tells : (first : Bool) → (m.kind ≡ token.Word → ⊥) → (first ≡ true → m.kind ≡ token.Empty → ⊥) → Tells first (Err (other_token line first m))
+  other_tells : (first : Bool) → (m.kind ≡ token.Identifier → ⊥) → (first ≡ true → m.kind ≡ token.Empty → ⊥) → Tells first (Err (other_token line first m))
   other_tells first word empty = (
     inr (inr (word, empty, refl)),
     (refl, refl),
@@ -105,9 +105,9 @@ module _ (names : List (List ℕ)) (line after : ℕ) (m : Mark) (ms : List Mark
         h,
   )
 
-  pub token_tells : (first : Bool) (k : TokenKind) → m.kind ≡ k → Tells first (attribute names line first m k)
+  pub token_tells : (first : Bool) (k : TokenKind) → m.kind ≡ k → Tells first (attribute_of_token names line first m k)
   unfolding is_word is_empty
-  token_tells first token.Word is = word_tells first is
+  token_tells first token.Identifier is = word_tells first is
   token_tells true token.Empty is = empty_tells is
   token_tells false token.Empty is = other_tells false (no_word m.kind (ap is_word is)) (λ t _. absurd (false≢true t))
   token_tells first token.Arrow is = other_tells first (no_word m.kind (ap is_word is)) (λ _. no_empty m.kind (ap is_empty is))
@@ -117,23 +117,23 @@ module _ (names : List (List ℕ)) (line after : ℕ) (m : Mark) (ms : List Mark
 
 -- ---- all tokens
 -- the tokens are words that name attributes
-pub record AreWords (names : List (List ℕ)) (first : Bool) (x : Places) (ms : List Mark) (stop : Option Stop) (y : Places) : Type 0 where
+pub record AreWords (names : List (List ℕ)) (first : Bool) (x : Attributes) (ms : List Mark) (stop : Option LexError) (y : Attributes) : Type 0 where
   pub each : All (IsAttribute format.Plain names) ms
   pub ended : stop ≡ None
   pub some : first ≡ true → 0 < length ms
-  pub members : y ≡ union x (named names ms)
-  pub fine : (p n : ℕ) → WordsComplaint names first ms stop p n → ⊥
+  pub members : y ≡ union x (attributes_of_words names ms)
+  pub fine : (p n : ℕ) → WordsDiagnostic names first ms stop p n → ⊥
 
-abbrev pub WordsFit : List (List ℕ) → ℕ → Bool → Places → ℕ → List Mark → Option Stop → Result Places PlanRefusal → Type 0
+abbrev pub WordsFit : List (List ℕ) → ℕ → Bool → Attributes → ℕ → List Mark → Option LexError → Result Attributes PlanRefusal → Type 0
 WordsFit names line first x after ms stop (Ok y) = AreWords names first x ms stop y
-WordsFit names line first x after ms stop (Err e) = IsFirstOf (WordsComplaint names first ms stop) (SpansPlace line (span_at line after ms stop) (wanted_after first)) e
+WordsFit names line first x after ms stop (Err e) = IsFirstOf (WordsDiagnostic names first ms stop) (SpansPosition line (span_at line after ms stop) (wanted_after first)) e
 
-named_fine : (names : List (List ℕ)) (line after : ℕ) (first : Bool) (m : Mark) (ms : List Mark) (stop : Option Stop) (a n : ℕ) → IsNamed names line after m ms stop a → WordComplaint names first m n → ⊥
+named_fine : (names : List (List ℕ)) (line after : ℕ) (first : Bool) (m : Mark) (ms : List Mark) (stop : Option LexError) (a n : ℕ) → IsNamed names line after m ms stop a → WordDiagnostic names first m n → ⊥
 named_fine names line after first m ms stop a n is h =
     ⊎_elim
     (λ word. ⊎_elim
     (λ three. true≢false (sym three.1 ∙ is.free))
-    (λ five. unknown (sym five.1 ∙ is.place))
+    (λ five. unknown (sym five.1 ∙ is.lookup))
     word.1)
     (λ rest. ⊎_elim (λ ten. apart (sym is.word ∙ ten.1)) (λ six. six.0 is.word) rest)
     h
@@ -141,61 +141,61 @@ named_fine names line after first m ms stop a n is h =
     unknown : None ≡ Some a → ⊥
     unknown e = cc
 
-    apart : token.Word ≡ token.Empty → ⊥
+    apart : token.Identifier ≡ token.Empty → ⊥
     apart e = cc
 
 -- a word, and then what follows it
-words_after : (names : List (List ℕ)) (line after : ℕ) (first : Bool) (x : Places) (m : Mark) (ms : List Mark) (stop : Option Stop) (a : ℕ) (r : Result Places PlanRefusal)
+words_after : (names : List (List ℕ)) (line after : ℕ) (first : Bool) (x : Attributes) (m : Mark) (ms : List Mark) (stop : Option LexError) (a : ℕ) (r : Result Attributes PlanRefusal)
     → IsNamed names line after m ms stop a → WordsFit names line false (union x (only a)) (m.column + length m.word) ms stop r → WordsFit names line first x after (m ∷ ms) stop r
 words_after names line after first x m ms stop a (Ok y) is fit = record {
-  each = All-cons (IsAttribute format.Plain names) m ms (record { word = is.word; free = is.free; place = a; known = is.place }) fit.each;
+  each = All-cons (IsAttribute format.Plain names) m ms (record { word = is.word; free = is.free; index = a; known = is.lookup }) fit.each;
   ended = fit.ended;
   some = λ _. omega arith;
-  members = fit.members ∙ union-only x (named names ms) a ∙ ap (λ (z : Places). union x z) (sym (named-cons names m ms a is.place));
-  fine = later_fine (WordsComplaint names first (m ∷ ms) stop) (λ n h. named_fine names line after first m ms stop a n is h) fit.fine;
+  members = fit.members ∙ union-only x (attributes_of_words names ms) a ∙ ap (λ (z : Attributes). union x z) (sym (attributes_of_words-cons names m ms a is.lookup));
+  fine = later_fine (WordsDiagnostic names first (m ∷ ms) stop) (λ n h. named_fine names line after first m ms stop a n is h) fit.fine;
 }
 words_after names line after first x m ms stop a (Err e) is fit =
-    first_later (WordsComplaint names first (m ∷ ms) stop) (SpansPlace line (span_at line after (m ∷ ms) stop) (wanted_after first)) e
+    first_later (WordsDiagnostic names first (m ∷ ms) stop) (SpansPosition line (span_at line after (m ∷ ms) stop) (wanted_after first)) e
     (λ n h. named_fine names line after first m ms stop a n is h) fit
 
-words_join : (names : List (List ℕ)) (line after : ℕ) (first : Bool) (x : Places) (m : Mark) (ms : List Mark) (stop : Option Stop) (r : Result ℕ PlanRefusal)
+words_join : (names : List (List ℕ)) (line after : ℕ) (first : Bool) (x : Attributes) (m : Mark) (ms : List Mark) (stop : Option LexError) (r : Result ℕ PlanRefusal)
     → ((a : ℕ) → WordsFit names line false (union x (only a)) (m.column + length m.word) ms stop (read_words names line false (union x (only a)) ms stop))
     → Tells names line after m ms stop first r
     → WordsFit names line first x after (m ∷ ms) stop (and_then r (λ a. read_words names line false (union x (only a)) ms stop))
 words_join names line after first x m ms stop (Ok a) later tells =
     words_after names line after first x m ms stop a (read_words names line false (union x (only a)) ms stop) tells (later a)
 words_join names line after first x m ms stop (Err e) later tells =
-    first_here (WordsComplaint names first (m ∷ ms) stop) (SpansPlace line (span_at line after (m ∷ ms) stop) (wanted_after first)) e tells.0 tells.1 tells.2
+    first_here (WordsDiagnostic names first (m ∷ ms) stop) (SpansPosition line (span_at line after (m ∷ ms) stop) (wanted_after first)) e tells.0 tells.1 tells.2
 
-stopped_fit : (names : List (List ℕ)) (line : ℕ) (first : Bool) (after : ℕ) (s : Stop)
-    → IsFirstOf (WordsComplaint names first [] (Some s)) (SpansPlace line (span_at line after [] (Some s)) (wanted_after first)) (plan.Text (refused_by line s))
+stopped_fit : (names : List (List ℕ)) (line : ℕ) (first : Bool) (after : ℕ) (s : LexError)
+    → IsFirstOf (WordsDiagnostic names first [] (Some s)) (SpansPosition line (span_at line after [] (Some s)) (wanted_after first)) (plan.Text (refused_by line s))
 stopped_fit names line first after s =
-    first_here (WordsComplaint names first [] (Some s)) (SpansPlace line (span_at line after [] (Some s)) (wanted_after first)) (plan.Text (refused_by line s))
+    first_here (WordsDiagnostic names first [] (Some s)) (SpansPosition line (span_at line after [] (Some s)) (wanted_after first)) (plan.Text (refused_by line s))
     (refl, inr (s, refl, flaw_numbered s.flaw)) (refl, flaw_carries (λ w. w ≡ wanted_after first 0) s.flaw)
     (λ n h. ⊎_elim (λ ended. absurd (some_stop ended.0)) (λ flaw. flaw_least s n flaw) h.1)
   where
     some_stop : Some s ≡ None → ⊥
     some_stop e = cc
 
-pub words_fit : (names : List (List ℕ)) (line : ℕ) (first : Bool) (x : Places) (after : ℕ) (ms : List Mark) (stop : Option Stop)
+pub words_fit : (names : List (List ℕ)) (line : ℕ) (first : Bool) (x : Attributes) (after : ℕ) (ms : List Mark) (stop : Option LexError)
     → WordsFit names line first x after ms stop (read_words names line first x ms stop)
 unfolding read_words
 words_fit names line true x after [] None =
-    first_here (WordsComplaint names true [] None) (SpansPlace line (span_at line after [] None) (wanted_after true)) (plan.EmptyScheme line)
+    first_here (WordsDiagnostic names true [] None) (SpansPosition line (span_at line after [] None) (wanted_after true)) (plan.EmptyScheme line)
     (refl, inl (refl, refl, refl)) refl
     (λ n h. ⊎_elim (λ ended. omega (arith, ended.2)) (λ flaw. absurd (no_flaw n flaw)) h.1)
 words_fit names line false x after [] None = record {
   each = All-nil (IsAttribute format.Plain names);
   ended = refl;
   some = λ first. absurd (false≢true first);
-  members = sym (union-none x (named names []) refl);
+  members = sym (union-none x (attributes_of_words names []) refl);
   fine = λ p n h. ⊎_elim (λ ended. false≢true ended.1) (λ flaw. no_flaw n flaw) h.1;
 }
 words_fit names line true x after [] (Some s) = stopped_fit names line true after s
 words_fit names line false x after [] (Some s) = stopped_fit names line false after s
 words_fit names line true x after (m ∷ ms) stop =
-    words_join names line after true x m ms stop (attribute names line true m m.kind)
+    words_join names line after true x m ms stop (attribute_of_token names line true m m.kind)
     (λ a. words_fit names line false (union x (only a)) (m.column + length m.word) ms stop) (token_tells names line after m ms stop true m.kind refl)
 words_fit names line false x after (m ∷ ms) stop =
-    words_join names line after false x m ms stop (attribute names line false m m.kind)
+    words_join names line after false x m ms stop (attribute_of_token names line false m m.kind)
     (λ a. words_fit names line false (union x (only a)) (m.column + length m.word) ms stop) (token_tells names line after m ms stop false m.kind refl)

@@ -1,4 +1,4 @@
 pub mod Refusals
 pub mod Meanings
-pub mod Complaints
+pub mod Diagnostics
 pub mod Reading

@@ -2,7 +2,7 @@
 -- (`desk_cli/Plans`).
 use Rattle.std.specs.Prelude.{◌≡◌, ◌<◌, ◌≤◌, ◌⊎◌, ℕ, Bool, true, false, List, [], ◌∷◌, length, All, codes}
 use Rattle.std.specs.Str.{bytes_eq}
-use Rattle.attr_sets.specs.Places.{Places}
+use Rattle.attr_sets.specs.Attributes.{Attributes}
 use Rattle.dep_model.specs.Projections.{Covers}
 use Rattle.lexer.specs.declared.token.Mode.TheVariants as mode
 use Rattle.lexer.specs.declared.token.TokenKind.{TokenKind}
@@ -10,12 +10,12 @@ use Rattle.lexer.specs.declared.token.TokenKind.TheVariants as token
 use Rattle.lexer.specs.Lines.{line_texts, without_mark}
 use Rattle.lexer.specs.Tokens.{Mark, lex}
 use Rattle.schema_grammar.specs.declared.format.Format.TheVariants as format
-use Rattle.schema_grammar.specs.Meanings.{HasTokens, IsAttribute, named}
+use Rattle.schema_grammar.specs.Meanings.{HasTokens, IsAttribute, attributes_of_words}
 use Rattle.plan_grammar.specs.declared.refusal.TheConstants.{MOST_SCHEMES}
 
 -- whether a token is the word `scheme`, in lower case
 unfoldable pub is_scheme : TokenKind → List ℕ → Bool
-is_scheme token.Word word = bytes_eq word (codes "scheme")
+is_scheme token.Identifier word = bytes_eq word (codes "scheme")
 is_scheme (token.Number n) word = false
 is_scheme token.Arrow word = false
 is_scheme token.DoubleArrow word = false
@@ -24,31 +24,31 @@ is_scheme token.Colon word = false
 
 -- a scheme line over declared names: the word `scheme`, and one or more words, for the attributes that
 -- they name
-pub record IsSchemeLine (names : List (List ℕ)) (ms : List Mark) (x : Places) : Type 0 where
+pub record IsSchemeLine (names : List (List ℕ)) (ms : List Mark) (x : Attributes) : Type 0 where
   pub head : Mark
   pub words : List Mark
   pub whole : ms ≡ head ∷ words
   pub scheme : is_scheme head.kind head.word ≡ true
   pub some : 0 < length words
   pub each : All (IsAttribute format.Plain names) words
-  pub members : x ≡ named names words
+  pub members : x ≡ attributes_of_words names words
 
 -- a line has the tokens of a scheme line
-pub record MeansScheme (names : List (List ℕ)) (line : List ℕ) (x : Places) : Type 0 where
+pub record MeansScheme (names : List (List ℕ)) (line : List ℕ) (x : Attributes) : Type 0 where
   pub marks : List Mark
   pub tokens : HasTokens (lex mode.Plain line) marks
   pub scheme : IsSchemeLine names marks x
 
 -- lines mean the schemes of their scheme lines, in order; the others have no tokens
-abbrev pub MeansSchemeLines : List (List ℕ) → List (List ℕ) → List Places → Type 0
+abbrev pub MeansSchemeLines : List (List ℕ) → List (List ℕ) → List Attributes → Type 0
 MeansSchemeLines names [] schemes = schemes ≡ []
 MeansSchemeLines names (line ∷ lines) schemes =
     (HasTokens (lex mode.Plain line) [] × MeansSchemeLines names lines schemes)
-    ⊎ ((x : Places) × (others : List Places) × MeansScheme names line x × MeansSchemeLines names lines others
+    ⊎ ((x : Attributes) × (others : List Attributes) × MeansScheme names line x × MeansSchemeLines names lines others
     × (schemes ≡ x ∷ others))
 
 -- a plan text over declared names means schemes
-pub record MeansPlan (names : List (List ℕ)) (text : List ℕ) (schemes : List Places) : Type 0 where
+pub record MeansPlan (names : List (List ℕ)) (text : List ℕ) (schemes : List Attributes) : Type 0 where
   pub lines : MeansSchemeLines names (line_texts (without_mark text)) schemes
   pub few : length schemes ≤ MOST_SCHEMES
   pub covers : Covers (length names) schemes

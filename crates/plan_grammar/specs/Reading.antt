@@ -1,9 +1,9 @@
 -- A plan text read from left to right: for `read_plan`. The laws of plan_grammar tie it to the
 -- meaning, and `Desk` does not cite it.
 use Rattle.std.specs.Prelude.{ℕ, ◌+◌, Bool, true, false, nat_le, if◌then◌else◌, List, [], ◌∷◌, ◌++◌, length, Option, Some, None, Result, Ok, Err}
-use Rattle.attr_sets.specs.Places.{Places, none, only, union}
+use Rattle.attr_sets.specs.Attributes.{Attributes, none, only, union}
 use Rattle.lexer.specs.declared.token.Mode.TheVariants as mode
-use Rattle.lexer.specs.declared.token.Stop.{Stop}
+use Rattle.lexer.specs.declared.token.LexError.{LexError}
 use Rattle.lexer.specs.declared.token.TokenKind.{TokenKind}
 use Rattle.lexer.specs.declared.token.TokenKind.TheVariants as token
 use Rattle.lexer.specs.Tokens.{Mark, Lexed, lex}
@@ -13,13 +13,13 @@ use Rattle.schema_grammar.specs.declared.refusal.SchemaRefusalKind.{SchemaRefusa
 use Rattle.schema_grammar.specs.declared.refusal.SchemaRefusalKind.TheVariants as kind
 use Rattle.schema_grammar.specs.declared.refusal.What.TheVariants as what
 use Rattle.schema_grammar.specs.Refusals.{refusal, refused_by, and_then}
-use Rattle.schema_grammar.specs.Rests.{place}
+use Rattle.schema_grammar.specs.Rests.{attribute_of_word}
 use Rattle.schema_grammar.specs.Words.{is_reserved}
 use Rattle.plan_grammar.specs.declared.refusal.PlanRefusal.{PlanRefusal}
 use Rattle.plan_grammar.specs.declared.refusal.PlanRefusal.TheVariants as plan
 use Rattle.plan_grammar.specs.declared.refusal.TheConstants.{MOST_SCHEMES}
 use Rattle.plan_grammar.specs.Meanings.{is_scheme}
-use Rattle.plan_grammar.specs.Complaints.{wanted_after}
+use Rattle.plan_grammar.specs.Diagnostics.{wanted_after}
 
 -- an error of the text
 abbrev pub of_text : {X : Type 0} → Result X SchemaRefusal → Result X PlanRefusal
@@ -32,36 +32,36 @@ other_token line first m =
     plan.Text (refusal line m.column (length m.word) (kind.Expected (wanted_after first 0)))
 
 -- what a token after the word `scheme` stands for
-abbrev pub attribute : List (List ℕ) → ℕ → Bool → Mark → TokenKind → Result ℕ PlanRefusal
-attribute names line first m token.Word = of_text (place names line m)
-attribute names line first m token.Empty = if first then Err (plan.EmptyScheme line)
+abbrev pub attribute_of_token : List (List ℕ) → ℕ → Bool → Mark → TokenKind → Result ℕ PlanRefusal
+attribute_of_token names line first m token.Identifier = of_text (attribute_of_word names line m)
+attribute_of_token names line first m token.Empty = if first then Err (plan.EmptyScheme line)
     else Err (other_token line first m)
-attribute names line first m token.Arrow = Err (other_token line first m)
-attribute names line first m token.DoubleArrow = Err (other_token line first m)
-attribute names line first m token.Colon = Err (other_token line first m)
-attribute names line first m (token.Number n) = Err (other_token line first m)
+attribute_of_token names line first m token.Arrow = Err (other_token line first m)
+attribute_of_token names line first m token.DoubleArrow = Err (other_token line first m)
+attribute_of_token names line first m token.Colon = Err (other_token line first m)
+attribute_of_token names line first m (token.Number n) = Err (other_token line first m)
 
 -- the attributes after the word `scheme`, added to a set
-unfoldable pub read_words : List (List ℕ) → ℕ → Bool → Places → List Mark → Option Stop
-    → Result Places PlanRefusal
+unfoldable pub read_words : List (List ℕ) → ℕ → Bool → Attributes → List Mark → Option LexError
+    → Result Attributes PlanRefusal
 read_words names line true x [] None = Err (plan.EmptyScheme line)
 read_words names line false x [] None = Ok x
 read_words names line first x [] (Some stop) = Err (plan.Text (refused_by line stop))
 read_words names line first x (m ∷ ms) stop =
-    and_then (attribute names line first m m.kind)
+    and_then (attribute_of_token names line first m m.kind)
     (λ a. read_words names line false (union x (only a)) ms stop)
 
-abbrev pub read_words_lexed : List (List ℕ) → ℕ → Bool → Places → Lexed → Result Places PlanRefusal
+abbrev pub read_words_lexed : List (List ℕ) → ℕ → Bool → Attributes → Lexed → Result Attributes PlanRefusal
 read_words_lexed names line first x l = read_words names line first x l.marks l.stop
 
 -- why a line can't begin with a token
 abbrev pub no_scheme : TokenKind → List ℕ → SchemaRefusalKind
-no_scheme token.Word word = if is_reserved format.Plain word then kind.ReservedName
+no_scheme token.Identifier word = if is_reserved format.Plain word then kind.ReservedName
     else kind.Expected what.Scheme
 no_scheme _ word = kind.Expected what.Scheme
 
 -- the scheme of a line that this token begins, where so many scheme lines stand before it
-abbrev pub read_scheme : List (List ℕ) → ℕ → ℕ → Mark → Lexed → Result Places PlanRefusal
+abbrev pub read_scheme : List (List ℕ) → ℕ → ℕ → Mark → Lexed → Result Attributes PlanRefusal
 read_scheme names line earlier m l =
     if is_scheme m.kind m.word
     then (if nat_le MOST_SCHEMES earlier then Err (plan.TooManySchemes line)
@@ -69,8 +69,8 @@ read_scheme names line earlier m l =
     else Err (plan.Text (refusal line m.column (length m.word) (no_scheme m.kind m.word)))
 
 -- the schemes with that of one line more
-unfoldable pub read_scheme_line : List (List ℕ) → ℕ → List Places → List Mark → Option Stop
-    → Result (List Places) PlanRefusal
+unfoldable pub read_scheme_line : List (List ℕ) → ℕ → List Attributes → List Mark → Option LexError
+    → Result (List Attributes) PlanRefusal
 read_scheme_line names line schemes [] None = Ok schemes
 read_scheme_line names line schemes [] (Some stop) = Err (plan.Text (refused_by line stop))
 read_scheme_line names line schemes (m ∷ ms) stop =
@@ -78,8 +78,8 @@ read_scheme_line names line schemes (m ∷ ms) stop =
     (λ x. Ok (schemes ++ x ∷ []))
 
 -- the schemes of lines, of which the first has this number, after other schemes
-unfoldable pub read_scheme_lines : List (List ℕ) → ℕ → List Places → List (List ℕ)
-    → Result (List Places) PlanRefusal
+unfoldable pub read_scheme_lines : List (List ℕ) → ℕ → List Attributes → List (List ℕ)
+    → Result (List Attributes) PlanRefusal
 read_scheme_lines names number schemes [] = Ok schemes
 read_scheme_lines names number schemes (line ∷ lines) =
     and_then (read_scheme_line names number schemes (lex mode.Plain line).marks (lex mode.Plain line).stop)

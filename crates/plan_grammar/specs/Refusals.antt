@@ -1,6 +1,6 @@
 -- The numbers of the refusals of a plan text: by them it is decided which refusal is the first.
 use Rattle.std.specs.Prelude.{ℕ}
-use Rattle.schema_grammar.specs.Complaints.{refusal_number}
+use Rattle.schema_grammar.specs.Diagnostics.{refusal_number}
 use Rattle.plan_grammar.specs.declared.refusal.PlanRefusal.{PlanRefusal}
 use Rattle.plan_grammar.specs.declared.refusal.PlanRefusal.TheVariants as plan
 

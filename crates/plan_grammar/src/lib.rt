@@ -1,7 +1,7 @@
 //! What plan texts mean, and how they are refused: the grammar, which their reader promises.
 //!
-//! A plan text over the names of a schema means schemes, or it has complaints: that of the first line
-//! which has one is its refusal, there of the first place, and there of the least number; or an
+//! A plan text over the names of a schema means schemes, or it has diagnostics: that of the first line
+//! which has one is its refusal, there of the first position, and there of the least number; or an
 //! attribute is in no scheme. There is no code here but the enum of the refusals.
 #![tactic(auto)]
 

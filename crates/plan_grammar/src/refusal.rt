@@ -13,7 +13,7 @@ pub enum PlanRefusal {
     Text(SchemaRefusal),
     /// 10: a scheme line without attributes.
     EmptyScheme { line: u32 },
-    /// 11: the least attribute that is in no scheme.
+    /// 11: the first attribute that is in no scheme.
     NotCovered { attribute: u8 },
     /// 12: one scheme more than a plan text holds.
     TooManySchemes { line: u32 },

@@ -7,9 +7,9 @@ use Rattle.std.proofs.lemmas.List.{append-nil}
 use Rattle.std.proofs.lemmas.Bool.{true≢false, cases_Bool, or_cases, or_left, or_right, and_parts, and_from, not-true, not_from_false, false_from_ne_true}
 use Rattle.std.proofs.lemmas.List.Elements.{All-nil, All-push, All-weaker, All-contains, Contains-append_left, Contains-push}
 use Rattle.attr_sets.specs.declared.set.AttrSet.{AttrSet}
-use Rattle.attr_sets.specs.Sets.{places}
-use Rattle.attr_sets.proofs.PlacesLemmas.{places_below, is_within-true, is_within-from}
-use Rattle.plans.specs.Containing.{lies_within, lies_properly_within, is_spare, without_contained_after, without_contained}
+use Rattle.attr_sets.specs.Sets.{attributes}
+use Rattle.attr_sets.proofs.AttributesLemmas.{attributes_below, is_subset-true, is_subset-from}
+use Rattle.plans.specs.Containing.{lies_within, lies_properly_within, is_contained, without_contained_after, without_contained}
 use Rattle.plans.proofs.ListLemmas.{any_from, any_some}
 
 same_truth : (a b : Bool) → (a ≡ true → b ≡ true) → (b ≡ true → a ≡ true) → a ≡ b
@@ -18,13 +18,13 @@ same_truth false true there back = absurd (true≢false (sym (back refl)))
 same_truth false false there back = refl
 
 -- ---- within, as a test
-pub within_itself : (a : AttrSet) → lies_within a a ≡ true
-within_itself a = is_within-from (places a) (places a) (λ k member. member)
+pub lies_within-refl : (a : AttrSet) → lies_within a a ≡ true
+lies_within-refl a = is_subset-from (attributes a) (attributes a) (λ k member. member)
 
-pub within_trans : (a b c : AttrSet) → lies_within a b ≡ true → lies_within b c ≡ true → lies_within a c ≡ true
-within_trans a b c first second =
-    is_within-from (places a) (places c)
-    (λ k member. is_within-true (places b) (places c) (places_below b) second k (is_within-true (places a) (places b) (places_below a) first k member))
+pub lies_within-trans : (a b c : AttrSet) → lies_within a b ≡ true → lies_within b c ≡ true → lies_within a c ≡ true
+lies_within-trans a b c first second =
+    is_subset-from (attributes a) (attributes c)
+    (λ k member. is_subset-true (attributes b) (attributes c) (attributes_below b) second k (is_subset-true (attributes a) (attributes b) (attributes_below a) first k member))
 
 -- the schemes so far are tried: these were kept, and each lies within one of them or properly within one
 -- that is still to be tried
@@ -44,13 +44,13 @@ tried_none whole = record {
 any_within : (a b : AttrSet) (xs : List AttrSet) → lies_within a b ≡ true → list_any (lies_within b) xs ≡ true → list_any (lies_within a) xs ≡ true
 any_within a b xs within passes =
     let found = any_some (lies_within b) xs passes in
-    any_from (lies_within a) xs found.0 found.1 (within_trans a b found.0 within found.2)
+    any_from (lies_within a) xs found.0 found.1 (lies_within-trans a b found.0 within found.2)
 
 properly_trans : (a b c : AttrSet) → lies_within a b ≡ true → lies_properly_within b c ≡ true → lies_properly_within a c ≡ true
 properly_trans a b c within properly =
     let both = and_parts (lies_within b c) (not (lies_within c b)) properly in
-    and_from (lies_within a c) (not (lies_within c a)) (within_trans a b c within both.0)
-    (not_from_false (lies_within c a) (false_from_ne_true (lies_within c a) (λ back. true≢false (sym (within_trans c a b back within) ∙ not-true (lies_within c b) both.1))))
+    and_from (lies_within a c) (not (lies_within c a)) (lies_within-trans a b c within both.0)
+    (not_from_false (lies_within c a) (false_from_ne_true (lies_within c a) (λ back. true≢false (sym (lies_within-trans c a b back within) ∙ not-true (lies_within c b) both.1))))
 
 any_properly : (a b : AttrSet) (xs : List AttrSet) → lies_within a b ≡ true → list_any (lies_properly_within b) xs ≡ true → list_any (lies_properly_within a) xs ≡ true
 any_properly a b xs within passes =
@@ -58,10 +58,10 @@ any_properly a b xs within passes =
     any_from (lies_properly_within a) xs found.0 found.1 (properly_trans a b found.0 within found.2)
 
 -- kept schemes serve as all tried ones do
-pub same_spare : (whole done kept : List AttrSet) (x : AttrSet) (later : List AttrSet) → AreTried whole done kept (x ∷ later) → is_spare kept x later ≡ is_spare done x later
-same_spare whole done kept x later tried = same_truth (is_spare kept x later) (is_spare done x later) there back
+pub is_contained-same : (whole done kept : List AttrSet) (x : AttrSet) (later : List AttrSet) → AreTried whole done kept (x ∷ later) → is_contained kept x later ≡ is_contained done x later
+is_contained-same whole done kept x later tried = same_truth (is_contained kept x later) (is_contained done x later) there back
   where
-    there : is_spare kept x later ≡ true → is_spare done x later ≡ true
+    there : is_contained kept x later ≡ true → is_contained done x later ≡ true
     there spare =
         ⊎_elim
         (λ near.
@@ -71,14 +71,14 @@ same_spare whole done kept x later tried = same_truth (is_spare kept x later) (i
         (λ far. or_right (list_any (lies_within x) done) (list_any (lies_properly_within x) later) far)
         (or_cases (list_any (lies_within x) kept) (list_any (lies_properly_within x) later) spare)
 
-    back : is_spare done x later ≡ true → is_spare kept x later ≡ true
+    back : is_contained done x later ≡ true → is_contained kept x later ≡ true
     back spare =
         ⊎_elim
         (λ near. let found = any_some (lies_within x) done near in by_holder found.0 found.1 found.2)
         (λ far. or_right (list_any (lies_within x) kept) (list_any (lies_properly_within x) later) far)
         (or_cases (list_any (lies_within x) done) (list_any (lies_properly_within x) later) spare)
       where
-        by_holder : (d : AttrSet) → Contains done d → lies_within x d ≡ true → is_spare kept x later ≡ true
+        by_holder : (d : AttrSet) → Contains done d → lies_within x d ≡ true → is_contained kept x later ≡ true
         by_holder d has within =
             ⊎_elim
             (λ near. or_left (list_any (lies_within x) kept) (list_any (lies_properly_within x) later) (any_within x d kept within near))
@@ -90,9 +90,9 @@ same_spare whole done kept x later tried = same_truth (is_spare kept x later) (i
             (or_cases (list_any (lies_within d) kept) (list_any (lies_properly_within d) (x ∷ later))
             (All-contains (λ (e : AttrSet). (list_any (lies_within e) kept || list_any (lies_properly_within e) (x ∷ later)) ≡ true) done d tried.held has))
 
-pub tried_spare : (whole done kept : List AttrSet) (x : AttrSet) (later : List AttrSet) → AreTried whole done kept (x ∷ later) → is_spare kept x later ≡ true → AreTried whole (done ++ x ∷ []) kept later
-tried_spare whole done kept x later tried spare = record {
-  answer = tried.answer ∙ ap (λ (b : Bool). kept ++ (if b then without_contained_after (done ++ x ∷ []) later else (x ∷ without_contained_after (done ++ x ∷ []) later))) (sym (same_spare whole done kept x later tried) ∙ spare);
+pub tried_contained : (whole done kept : List AttrSet) (x : AttrSet) (later : List AttrSet) → AreTried whole done kept (x ∷ later) → is_contained kept x later ≡ true → AreTried whole (done ++ x ∷ []) kept later
+tried_contained whole done kept x later tried spare = record {
+  answer = tried.answer ∙ ap (λ (b : Bool). kept ++ (if b then without_contained_after (done ++ x ∷ []) later else (x ∷ without_contained_after (done ++ x ∷ []) later))) (sym (is_contained-same whole done kept x later tried) ∙ spare);
   held = All-push (λ (d : AttrSet). (list_any (lies_within d) kept || list_any (lies_properly_within d) later) ≡ true) done x
       (All-weaker (λ (d : AttrSet). (list_any (lies_within d) kept || list_any (lies_properly_within d) (x ∷ later)) ≡ true) (λ (d : AttrSet). (list_any (lies_within d) kept || list_any (lies_properly_within d) later) ≡ true) moved done tried.held)
       spare;
@@ -117,12 +117,12 @@ tried_spare whole done kept x later tried spare = record {
         (or_cases (lies_properly_within d x) (list_any (lies_properly_within d) later) far))
         (or_cases (list_any (lies_within d) kept) (list_any (lies_properly_within d) (x ∷ later)) held)
 
-pub tried_kept : (whole done kept : List AttrSet) (x : AttrSet) (later : List AttrSet) → AreTried whole done kept (x ∷ later) → is_spare kept x later ≡ false → AreTried whole (done ++ x ∷ []) (kept ++ x ∷ []) later
+pub tried_kept : (whole done kept : List AttrSet) (x : AttrSet) (later : List AttrSet) → AreTried whole done kept (x ∷ later) → is_contained kept x later ≡ false → AreTried whole (done ++ x ∷ []) (kept ++ x ∷ []) later
 tried_kept whole done kept x later tried stays = record {
-  answer = tried.answer ∙ ap (λ (b : Bool). kept ++ (if b then without_contained_after (done ++ x ∷ []) later else (x ∷ without_contained_after (done ++ x ∷ []) later))) (sym (same_spare whole done kept x later tried) ∙ stays) ∙ sym (append_assoc kept (x ∷ []) (without_contained_after (done ++ x ∷ []) later));
+  answer = tried.answer ∙ ap (λ (b : Bool). kept ++ (if b then without_contained_after (done ++ x ∷ []) later else (x ∷ without_contained_after (done ++ x ∷ []) later))) (sym (is_contained-same whole done kept x later tried) ∙ stays) ∙ sym (append_assoc kept (x ∷ []) (without_contained_after (done ++ x ∷ []) later));
   held = All-push (λ (d : AttrSet). (list_any (lies_within d) (kept ++ x ∷ []) || list_any (lies_properly_within d) later) ≡ true) done x
       (All-weaker (λ (d : AttrSet). (list_any (lies_within d) kept || list_any (lies_properly_within d) (x ∷ later)) ≡ true) (λ (d : AttrSet). (list_any (lies_within d) (kept ++ x ∷ []) || list_any (lies_properly_within d) later) ≡ true) moved done tried.held)
-      (by_last x (within_itself x));
+      (by_last x (lies_within-refl x));
   among = All-push (λ (k : AttrSet). Contains (done ++ x ∷ []) k) kept x
       (All-weaker (λ (k : AttrSet). Contains done k) (λ (k : AttrSet). Contains (done ++ x ∷ []) k) (λ k has. Contains-append_left done (x ∷ []) k has) kept tried.among)
       (Contains-push done x);
@@ -151,9 +151,9 @@ tried_all whole done kept [] parts tried = (kept, subst (λ (all : List AttrSet)
 tried_all whole done kept (x ∷ later) parts tried =
     let next = parts ∙ sym (append_assoc done (x ∷ []) later) in
     ⊎_elim
-    (λ spare. tried_all whole (done ++ x ∷ []) kept later next (tried_spare whole done kept x later tried spare))
+    (λ spare. tried_all whole (done ++ x ∷ []) kept later next (tried_contained whole done kept x later tried spare))
     (λ stays. tried_all whole (done ++ x ∷ []) (kept ++ x ∷ []) later next (tried_kept whole done kept x later tried stays))
-    (cases_Bool (is_spare kept x later))
+    (cases_Bool (is_contained kept x later))
 
 -- each scheme that is kept is one of the list, and each of the list lies within one that is kept
 pub kept_among_held : (whole : List AttrSet)

@@ -3,11 +3,11 @@
 use Rattle.std.specs.Prelude.{Bool, ◌&&◌, ◌||◌, not, if◌then◌else◌, List, [], ◌∷◌, ◌++◌}
 use Rattle.std.specs.List.{list_any}
 use Rattle.attr_sets.specs.declared.set.AttrSet.{AttrSet}
-use Rattle.attr_sets.specs.Sets.{places, is_within}
+use Rattle.attr_sets.specs.Sets.{attributes, is_subset}
 
 -- whether x lies within y
 abbrev pub lies_within : AttrSet → AttrSet → Bool
-lies_within x y = is_within (places x) (places y)
+lies_within x y = is_subset (attributes x) (attributes y)
 
 -- whether x lies within y, which has more
 abbrev pub lies_properly_within : AttrSet → AttrSet → Bool
@@ -15,14 +15,14 @@ lies_properly_within x y = lies_within x y && not (lies_within y x)
 
 -- whether a scheme with these before it and those after it lies within another different one, or equals
 -- an earlier one
-abbrev pub is_spare : List AttrSet → AttrSet → List AttrSet → Bool
-is_spare earlier x later = list_any (lies_within x) earlier || list_any (lies_properly_within x) later
+abbrev pub is_contained : List AttrSet → AttrSet → List AttrSet → Bool
+is_contained earlier x later = list_any (lies_within x) earlier || list_any (lies_properly_within x) later
 
 -- those that are not spare, of the schemes of a list that stand after these
 abbrev pub without_contained_after : List AttrSet → List AttrSet → List AttrSet
 without_contained_after earlier [] = []
 without_contained_after earlier (x ∷ later) =
-    if is_spare earlier x later then without_contained_after (earlier ++ x ∷ []) later
+    if is_contained earlier x later then without_contained_after (earlier ++ x ∷ []) later
     else x ∷ without_contained_after (earlier ++ x ∷ []) later
 
 -- the schemes of a list, in order, without each that lies within another different one or equals an

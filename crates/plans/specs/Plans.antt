@@ -1,7 +1,7 @@
 -- The schemes of a `Plan` of the code: for every contract in which one stands. `Desk` does not cite
 -- it.
 use Rattle.std.specs.Prelude.{◌≡◌, List}
-use Rattle.attr_sets.specs.Places.{Places}
+use Rattle.attr_sets.specs.Attributes.{Attributes}
 use Rattle.attr_sets.specs.declared.set.AttrSet.{AttrSet}
 use Rattle.dep_model.specs.Plans.{schemes_of}
 use Rattle.plans.specs.declared.plan.Plan.{Plan}
@@ -12,8 +12,8 @@ use Rattle.dep_model.specs.Schemas.{width_of}
 abbrev pub scheme_sets : Plan → List AttrSet
 scheme_sets plan = plan.schemes.items
 
--- the same, as sets of places
-abbrev pub plan_of : Plan → List Places
+-- the same, as sets of attributes
+abbrev pub plan_of : Plan → List Attributes
 plan_of plan = schemes_of (scheme_sets plan)
 
 -- the plan is one of the universe of a schema

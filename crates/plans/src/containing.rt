@@ -7,7 +7,7 @@ ghost use Rattle.dep_model.specs.Schemas.{width_of};
 ghost use Rattle.dep_model.specs.Plans.{schemes_of};
 ghost use Rattle.plans.specs.Schemes.{AreSchemes};
 ghost use Rattle.plans.specs.Plans.{scheme_sets, plan_of, IsPlanOver};
-ghost use Rattle.plans.specs.Containing.{lies_within, lies_properly_within, is_spare, without_contained};
+ghost use Rattle.plans.specs.Containing.{lies_within, lies_properly_within, is_contained, without_contained};
 
 use crate::Plan;
 use attr_sets::AttrSet;
@@ -24,11 +24,11 @@ pub fn drop_contained(schema: &Schema, plan: Plan) -> Plan
     ensures lossless { (ds : List Dependency) → IsLossless (width_of schema.now) ds (plan_of plan)
         → IsLossless (width_of schema.now) ds (plan_of result) }
 {
-    Plan::make(schema, uncontained(plan.into_schemes()))
+    Plan::new(schema, without_contained(plan.into_schemes()))
 }
 
 // The schemes of a list that are not spare.
-fn uncontained(schemes: Vec<AttrSet>) -> Vec<AttrSet>
+fn without_contained(schemes: Vec<AttrSet>) -> Vec<AttrSet>
     ensures schemes { result.items ≡ without_contained schemes.items }
     ensures plan { (n : ℕ) → AreSchemes n schemes.items → AreSchemes n result.items }
     ensures lossless { (n : ℕ) (ds : List Dependency) → IsLossless n ds (schemes_of schemes.items)
@@ -37,7 +37,7 @@ fn uncontained(schemes: Vec<AttrSet>) -> Vec<AttrSet>
     let mut kept = schemes;
     let mut i = 0;
     while i < kept.len() {
-        if is_spare_at(&kept, i) {
+        if is_contained_at(&kept, i) {
             kept.remove(i);
         } else {
             i += 1;
@@ -46,11 +46,12 @@ fn uncontained(schemes: Vec<AttrSet>) -> Vec<AttrSet>
     kept
 }
 
-// Whether the scheme at a place of a list is spare.
-fn is_spare_at(schemes: &[AttrSet], i: usize) -> bool
-    requires place { i < length schemes.now }
-    ensures spare { (scheme : AttrSet) → result
-        ≡ is_spare (take i schemes.now) (slice_index_or schemes.now i scheme) (drop (i + 1) schemes.now) }
+// Whether the scheme at a position of a list is spare.
+fn is_contained_at(schemes: &[AttrSet], i: usize) -> bool
+    requires position { i < length schemes.now }
+    ensures contained { (scheme : AttrSet) → result
+        ≡ is_contained (take i schemes.now) (slice_index_or schemes.now i scheme) (drop
+        (i + 1) schemes.now) }
 {
     let scheme = schemes[i];
     is_within_any(scheme, &schemes[..i]) || is_properly_within_any(scheme, &schemes[i + 1..])
@@ -60,14 +61,12 @@ fn is_spare_at(schemes: &[AttrSet], i: usize) -> bool
 fn is_within_any(scheme: AttrSet, others: &[AttrSet]) -> bool
     ensures within { result ≡ list_any (lies_within scheme) others.now }
 {
-    others.iter().any(|other| scheme.within(*other))
+    others.iter().any(|other| scheme.is_subset(*other))
 }
 
 // Whether a scheme lies within one of these that has more.
 fn is_properly_within_any(scheme: AttrSet, others: &[AttrSet]) -> bool
     ensures within { result ≡ list_any (lies_properly_within scheme) others.now }
 {
-    others
-        .iter()
-        .any(|other| scheme.within(*other) && !other.within(scheme))
+    others.iter().any(|other| scheme.is_subset(*other) && !other.is_subset(scheme))
 }

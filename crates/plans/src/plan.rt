@@ -19,7 +19,7 @@ impl Plan {
     ghost use Rattle.plans.specs.Plans.{scheme_sets, IsPlanOver};
 
     /// The plan of these schemes over the universe of a schema.
-    pub fn make(schema: &Schema, schemes: Vec<AttrSet>) -> Plan
+    pub fn new(schema: &Schema, schemes: Vec<AttrSet>) -> Plan
         requires plan { IsPlan (width_of schema.now) (schemes_of schemes.items) }
         ensures schemes { scheme_sets result ≡ schemes.items }
         ensures universe { IsPlanOver schema.now result }

@@ -1,6 +1,6 @@
 ghost use Rattle.std.specs.Prelude.{◌≡◌, ◌∷◌, ◌++◌, [], All, IfOk, OnOk};
-ghost use Rattle.attr_sets.specs.Places.{Within, IsEmpty};
-ghost use Rattle.attr_sets.specs.Sets.{places};
+ghost use Rattle.attr_sets.specs.Attributes.{IsSubset, IsEmpty};
+ghost use Rattle.attr_sets.specs.Sets.{attributes};
 ghost use Rattle.dep_model.specs.Plans.{schemes_of};
 ghost use Rattle.dep_model.specs.Schemas.{names_of, universe_of};
 ghost use Rattle.plans.specs.Printing.{scheme_text, plan_text};
@@ -8,13 +8,13 @@ ghost use Rattle.plans.specs.Plans.{plan_of, IsPlanOver};
 
 use crate::Plan;
 use attr_sets::AttrSet;
-use dep_model::{Schema, WantMemory};
+use dep_model::{OutOfMemory, Schema};
 use schema_printer::{add, add_set};
 use std::alloc::Global;
 
 /// The plan in the one form: a line for each scheme. Where no name is reserved, and it is short enough to
 /// be read, it means the same schemes.
-pub fn print_plan(alloc: Global, schema: &Schema, plan: &Plan) -> Result<Vec<u8>, WantMemory>
+pub fn print_plan(alloc: Global, schema: &Schema, plan: &Plan) -> Result<Vec<u8>, OutOfMemory>
     requires universe { IsPlanOver schema.now plan.now }
     ensures text { IfOk result (λ text. text.items ≡ plan_text (names_of schema.now) (plan_of plan.now)) }
 {
@@ -24,9 +24,10 @@ pub fn print_plan(alloc: Global, schema: &Schema, plan: &Plan) -> Result<Vec<u8>
 }
 
 // Adds a line for each scheme.
-fn add_schemes(text: &mut Vec<u8>, schema: &Schema, schemes: &[AttrSet]) -> Result<(), WantMemory>
-    requires within { All (λ scheme. Within (places scheme) (universe_of schema.now)) schemes.now }
-    requires some { All (λ scheme. IsEmpty (places scheme) → ⊥) schemes.now }
+fn add_schemes(text: &mut Vec<u8>, schema: &Schema, schemes: &[AttrSet]) -> Result<(), OutOfMemory>
+    requires within { All (λ scheme. IsSubset (attributes scheme)
+        (universe_of schema.now)) schemes.now }
+    requires nonempty { All (λ scheme. IsEmpty (attributes scheme) → ⊥) schemes.now }
     ensures added { OnOk result (text.new.items
         ≡ text.old.items ++ plan_text (names_of schema.now) (schemes_of schemes.now)) }
 {
@@ -37,11 +38,11 @@ fn add_schemes(text: &mut Vec<u8>, schema: &Schema, schemes: &[AttrSet]) -> Resu
 }
 
 // Adds the line of a scheme.
-fn add_scheme(text: &mut Vec<u8>, schema: &Schema, scheme: AttrSet) -> Result<(), WantMemory>
-    requires within { Within (places scheme) (universe_of schema.now) }
-    requires some { IsEmpty (places scheme) → ⊥ }
+fn add_scheme(text: &mut Vec<u8>, schema: &Schema, scheme: AttrSet) -> Result<(), OutOfMemory>
+    requires within { IsSubset (attributes scheme) (universe_of schema.now) }
+    requires nonempty { IsEmpty (attributes scheme) → ⊥ }
     ensures added { OnOk result (text.new.items
-        ≡ text.old.items ++ (scheme_text (names_of schema.now) (places scheme) ++ 10 ∷ [])) }
+        ≡ text.old.items ++ (scheme_text (names_of schema.now) (attributes scheme) ++ 10 ∷ [])) }
 {
     add(text, b"scheme ")?;
     add_set(text, schema, scheme)?;

@@ -7,10 +7,10 @@ use Rattle.std.specs.Prelude.{All, Contains}
 use Rattle.std.proofs.Math.ListN.{get_or-map, set}
 use Rattle.std.proofs.Math.Seq.{map-set_same}
 use Rattle.std.proofs.lemmas.List.{length-map, take_all, drop_all}
-use Rattle.attr_sets.specs.Sets.{places}
+use Rattle.attr_sets.specs.Sets.{attributes}
 use Rattle.attr_sets.specs.declared.set.AttrSet.{AttrSet}
 use Rattle.dep_model.specs.Plans.{schemes_of}
-use Rattle.attr_sets.specs.Places.{Places, below, Within}
+use Rattle.attr_sets.specs.Attributes.{Attributes, below, IsSubset}
 use Rattle.dep_model.specs.Tuples.{Relation}
 use Rattle.dep_model.specs.Dependencies.{Dependency, functional_part}
 use Rattle.dep_model.specs.Keys.{InClosure}
@@ -29,13 +29,13 @@ all_members_on [] = refl
 all_members_on (d ∷ ds) = ap (λ (rest : List Dep). d ∷ rest) (all_members_on ds)
 
 -- what clause `closure` says, with the members that are on
-abbrev ClosedBy : List Dep → List Dep → Places → Places → Type 0
-ClosedBy ds members part closed = (n : ℕ) → All (IsDepWithin (below n)) ds → Within part (below n)
+abbrev ClosedBy : List Dep → List Dep → Attributes → Attributes → Type 0
+ClosedBy ds members part closed = (n : ℕ) → All (IsDepWithin (below n)) ds → IsSubset part (below n)
     → (a : ℕ) → (closed a ≡ true) ↔ InClosure n (functional_part (dependencies_of members)) part a
 
-pub closure_over : (s : Schema) (on : List Bool) (ds : List Dep) (part closed : Places) → ds ≡ deps_of s
-    → on ≡ replicate (length (deps_of s)) true → Within part (universe_of s)
-    → ((n : ℕ) → All (IsDepWithin (below n)) ds → Within part (below n)
+pub closure_over : (s : Schema) (on : List Bool) (ds : List Dep) (part closed : Attributes) → ds ≡ deps_of s
+    → on ≡ replicate (length (deps_of s)) true → IsSubset part (universe_of s)
+    → ((n : ℕ) → All (IsDepWithin (below n)) ds → IsSubset part (below n)
     → (a : ℕ) → (closed a ≡ true) ↔ InClosure n (functional_part (dependencies_of (members_on on ds))) part a)
     → (a : ℕ) → (closed a ≡ true) ↔ InClosure (width_of s) (functional_part (theory_of s)) part a
 closure_over s on ds part closed e all within clause =
@@ -54,13 +54,13 @@ scheme_of old new i d same = ap (λ (schemes : List AttrSet). get_or schemes i d
 
 -- the i-th of them is a scheme of the plan
 pub scheme_at : (old new : List Inside) (i : ℕ) (d : Inside) → known_schemes new ≡ known_schemes old → i < length old
-    → Contains (known_plan old) (places (get_or new i d).scheme)
+    → Contains (known_plan old) (attributes (get_or new i d).scheme)
 scheme_at old new i d same lt =
     let low : i < length (known_plan old) =
-    omega (arith, lt, length-map (known_schemes old) places, length-map old (λ (inside : Inside). inside.scheme)) in
-    subst (λ (scheme : Places). Contains (known_plan old) scheme)
-    (get_or-map places (known_schemes old) i d.scheme ∙ ap places (scheme_of old new i d same))
-    (Contains-get_or (known_plan old) i (places d.scheme) low)
+    omega (arith, lt, length-map (known_schemes old) attributes, length-map old (λ (inside : Inside). inside.scheme)) in
+    subst (λ (scheme : Attributes). Contains (known_plan old) scheme)
+    (get_or-map attributes (known_schemes old) i d.scheme ∙ ap attributes (scheme_of old new i d same))
+    (Contains-get_or (known_plan old) i (attributes d.scheme) low)
 
 -- something else is known of the same scheme
 pub same_schemes : (old new : List Inside) (i : ℕ) (inside d : Inside) → known_schemes new ≡ known_schemes old
@@ -75,9 +75,9 @@ same_length old new same =
     sym (length-map new scheme) ∙ ap (λ (schemes : List AttrSet). length schemes) same ∙ length-map old scheme
 
 -- so they are put back in the place of the others
-pub put_back : (old new : List Inside) (len : ℕ) → len ≡ length old → known_schemes new ≡ known_schemes old
+pub take-known : (old new : List Inside) (len : ℕ) → len ≡ length old → known_schemes new ≡ known_schemes old
     → take len (new ++ drop (length new) old) ≡ new
-put_back old new len count same =
+take-known old new len count same =
     let long : length new ≡ length old = same_length old new same in
     ap (λ (rest : List Inside). take len (new ++ rest)) (drop_all (length new) old (omega (arith, long)))
     ∙ ap (take len) (append-nil new) ∙ take_all len new (omega (arith, long, count))
@@ -90,8 +90,8 @@ same_plan_obeyed n ds old new r same =
 
 -- each scheme has attributes of the universe
 pub known_within : (n : ℕ) (ds : List Dependency) (insides : List Inside) → All (IsKnown n ds) insides
-    → All (λ scheme. Within scheme (below n)) (known_plan insides)
+    → All (λ scheme. IsSubset scheme (below n)) (known_plan insides)
 known_within n ds insides known =
-    All-map (λ (scheme : Places). Within scheme (below n)) places (known_schemes insides)
-    (All-map (λ (scheme : AttrSet). Within (places scheme) (below n)) (λ (inside : Inside). inside.scheme) insides
+    All-map (λ (scheme : Attributes). IsSubset scheme (below n)) attributes (known_schemes insides)
+    (All-map (λ (scheme : AttrSet). IsSubset (attributes scheme) (below n)) (λ (inside : Inside). inside.scheme) insides
     (λ k d l. (known k d l).universe))

@@ -6,8 +6,8 @@ use Rattle.std.proofs.lemmas.List.Elements.{All-nil, All-cons, All-head, All-tai
 use Rattle.std.proofs.lemmas.List.Elements.{filter_passes}
 use Rattle.std.specs.Prelude.{All}
 use Rattle.std.proofs.lemmas.List.{length-map, length-take-le, take_all}
-use Rattle.attr_sets.specs.Sets.{places}
-use Rattle.attr_sets.specs.Places.{Places}
+use Rattle.attr_sets.specs.Sets.{attributes}
+use Rattle.attr_sets.specs.Attributes.{Attributes}
 use Rattle.dep_model.specs.Tuples.{Relation}
 use Rattle.dep_model.specs.Dependencies.{Dependency, fd, mvd, Obeys, ObeysFd, is_fd, functional_part}
 use Rattle.dep_model.specs.Deps.{IfFd, dependency_of, dependencies_of}
@@ -21,13 +21,13 @@ use Rattle.preservation.specs.Keeping.{IsKept, IsLostOn, LossesFrom}
 use Rattle.preservation.specs.declared.losing.Loss.{Loss}
 
 -- ---- lists of losses
-pub no_losses : (n : ℕ) (ds : List Dependency) (plan : List Places) (k : ℕ) (rest : List Dependency)
+pub no_losses : (n : ℕ) (ds : List Dependency) (plan : List Attributes) (k : ℕ) (rest : List Dependency)
     (losses : List Loss) → rest ≡ [] → losses ≡ [] → LossesFrom n ds plan k rest losses
 unfolding LossesFrom
 no_losses n ds plan k rest losses e h = subst (λ (l : List Dependency). LossesFrom n ds plan k l losses) (sym e) h
 
 -- one dependency more, which is kept
-pub kept_more : (n : ℕ) (ds : List Dependency) (plan : List Places) (k : ℕ) (rest : List Dependency)
+pub kept_more : (n : ℕ) (ds : List Dependency) (plan : List Attributes) (k : ℕ) (rest : List Dependency)
     (losses : List Loss) (d : Dependency)
     → LossesFrom n ds plan k rest losses → IsKept n ds plan d → LossesFrom n ds plan k (rest ++ d ∷ []) losses
 unfolding LossesFrom
@@ -37,28 +37,28 @@ kept_more n ds plan k (e ∷ rest) losses d (inr (loss, more, at, number, is, h)
     (loss, more, at, number, is, kept_more n ds plan (k + 1) rest more d h kept)
 
 -- one dependency more, which is lost
-pub lost_more : (n : ℕ) (ds : List Dependency) (plan : List Places) (k : ℕ) (rest : List Dependency)
+pub lost_more : (n : ℕ) (ds : List Dependency) (plan : List Attributes) (k : ℕ) (rest : List Dependency)
     (losses : List Loss) (d : Dependency) (loss : Loss)
-    → LossesFrom n ds plan k rest losses → loss.dep ≡ k + length rest → IsLostOn n ds plan d (places loss.agreement)
+    → LossesFrom n ds plan k rest losses → loss.dep ≡ k + length rest → IsLostOn n ds plan d (attributes loss.agreement)
     → LossesFrom n ds plan k (rest ++ d ∷ []) (losses ++ loss ∷ [])
 unfolding LossesFrom
 lost_more n ds plan k [] losses d loss h number is = inr
     (loss, [], ap (λ (l : List Loss). l ++ loss ∷ []) h, omega (arith, number), is, refl)
 lost_more n ds plan k (e ∷ rest) losses d loss (inl h) number is = inl
     (h.0, lost_more n ds plan (k + 1) rest losses d loss h.1 (omega (arith, number)) is)
-lost_more n ds plan k (e ∷ rest) losses d loss (inr (first, more, at, place, lost, h)) number is =
+lost_more n ds plan k (e ∷ rest) losses d loss (inr (first, more, at, position, lost, h)) number is =
     inr (
       first,
       more ++ loss ∷ [],
       ap (λ (l : List Loss). l ++ loss ∷ []) at,
-      place,
+      position,
       lost,
       lost_more n ds plan
           (k + 1) rest more d loss h (omega (arith, number)) is,
     )
 
 -- where none is lost each is kept, and the other way round
-pub none_kept : (n : ℕ) (ds : List Dependency) (plan : List Places) (k : ℕ) (rest : List Dependency)
+pub none_kept : (n : ℕ) (ds : List Dependency) (plan : List Attributes) (k : ℕ) (rest : List Dependency)
     (losses : List Loss) → LossesFrom n ds plan k rest losses → losses ≡ [] → All (IsKept n ds plan) rest
 unfolding LossesFrom
 none_kept n ds plan k [] losses h e = All-nil (IsKept n ds plan)
@@ -70,28 +70,28 @@ none_kept n ds plan k (d ∷ rest) losses (inr (loss, more, at, number, is, h)) 
     cons_not_nil : (loss : Loss) (more : List Loss) → loss ∷ more ≡ [] → ⊥
     cons_not_nil loss more e = cc
 
-kept_not_lost : (n : ℕ) (ds : List Dependency) (plan : List Places) (d : Dependency) (agreement : Places)
+kept_not_lost : (n : ℕ) (ds : List Dependency) (plan : List Attributes) (d : Dependency) (agreement : Attributes)
     → IsKept n ds plan d → IsLostOn n ds plan d agreement → ⊥
 kept_not_lost n ds plan (fd x y) agreement kept lost = lost.shows.breaks
     (kept (two_tuples n agreement) lost.shows.inside)
 kept_not_lost n ds plan (mvd x y) agreement kept lost = lost
 
-pub kept_none : (n : ℕ) (ds : List Dependency) (plan : List Places) (k : ℕ) (rest : List Dependency)
+pub kept_none : (n : ℕ) (ds : List Dependency) (plan : List Attributes) (k : ℕ) (rest : List Dependency)
     (losses : List Loss) → LossesFrom n ds plan k rest losses → All (IsKept n ds plan) rest → losses ≡ []
 unfolding LossesFrom
 kept_none n ds plan k [] losses h all = h
 kept_none n ds plan k (d ∷ rest) losses (inl h) all = kept_none n ds plan (k + 1) rest losses h.1
     (All-tail (IsKept n ds plan) d rest all)
 kept_none n ds plan k (d ∷ rest) losses (inr (loss, more, at, number, is, h)) all =
-    absurd (kept_not_lost n ds plan d (places loss.agreement) (All-head (IsKept n ds plan) d rest all) is)
+    absurd (kept_not_lost n ds plan d (attributes loss.agreement) (All-head (IsKept n ds plan) d rest all) is)
 
 -- ---- a plan keeps the dependencies exactly where each given one is kept
-kept_obeyed : (n : ℕ) (ds : List Dependency) (plan : List Places) (r : Relation) (d : Dependency)
+kept_obeyed : (n : ℕ) (ds : List Dependency) (plan : List Attributes) (r : Relation) (d : Dependency)
     → ObeysInside n ds plan r → is_fd d ≡ true → IsKept n ds plan d → Obeys n d r
 kept_obeyed n ds plan r (fd x y) inside is kept = kept r inside
 kept_obeyed n ds plan r (mvd x y) inside is kept = absurd (false≢true is)
 
-pub each_kept : (n : ℕ) (ds : List Dependency) (plan : List Places) → All (IsKept n ds plan) ds
+pub each_kept : (n : ℕ) (ds : List Dependency) (plan : List Attributes) → All (IsKept n ds plan) ds
     → KeepsDependencies n ds plan
 each_kept n ds plan all r over obeys = record {
   over = over;
@@ -100,13 +100,13 @@ each_kept n ds plan all r over obeys = record {
       (filter_passes is_fd ds k d l) (All-filter is_fd (IsKept n ds plan) ds all k d l);
 }
 
-kept_at : (n : ℕ) (ds : List Dependency) (plan : List Places) (d : Dep)
+kept_at : (n : ℕ) (ds : List Dependency) (plan : List Attributes) (d : Dep)
     → ((r : Relation) → ObeysInside n ds plan r → IfFd (λ x y. ObeysFd x y r) d)
     → IsKept n ds plan (dependency_of d)
 kept_at n ds plan (Fd lhs rhs) obeys = obeys
 kept_at n ds plan (Mvd lhs rhs) obeys = tt
 
-pub keeps_each : (n : ℕ) (ds : List Dep) (plan : List Places) → KeepsDependencies n (dependencies_of ds) plan
+pub keeps_each : (n : ℕ) (ds : List Dep) (plan : List Attributes) → KeepsDependencies n (dependencies_of ds) plan
     → All (IsKept n (dependencies_of ds) plan) (dependencies_of ds)
 keeps_each n ds plan keeps =
     All-map (IsKept n (dependencies_of ds) plan) dependency_of ds (λ k d l.
@@ -116,7 +116,7 @@ keeps_each n ds plan keeps =
 
 -- ---- the next dependency of a schema
 
-pub next_kept : (n : ℕ) (deps ds : List Dep) (plan : List Places) (k : ℕ) (d : Dep) (losses : List Loss) → ds ≡ deps
+pub next_kept : (n : ℕ) (deps ds : List Dep) (plan : List Attributes) (k : ℕ) (d : Dep) (losses : List Loss) → ds ≡ deps
     → k < length ds
     → LossesFrom n (dependencies_of deps) plan 0 (take k (dependencies_of deps)) losses
     → IsKept n (dependencies_of deps) plan (dependency_of (get_or ds k d))
@@ -130,27 +130,27 @@ next_kept n deps ds plan k d losses e l old kept =
     (kept_more n (dependencies_of deps) plan 0 (take k (dependencies_of deps)) losses
     (dependency_of (get_or deps k d)) old is)
 
-pub next_lost : (n : ℕ) (deps ds : List Dep) (plan : List Places) (k : ℕ) (d : Dep) (loss : Loss)
+pub next_lost : (n : ℕ) (deps ds : List Dep) (plan : List Attributes) (k : ℕ) (d : Dep) (loss : Loss)
     (losses new : List Loss) → ds ≡ deps → k < length ds
     → LossesFrom n (dependencies_of deps) plan 0 (take k (dependencies_of deps)) losses
-    → IsLostOn n (dependencies_of deps) plan (dependency_of (get_or ds k d)) (places loss.agreement)
+    → IsLostOn n (dependencies_of deps) plan (dependency_of (get_or ds k d)) (attributes loss.agreement)
     → loss.dep ≡ k → new ≡ losses ++ loss ∷ [] → LossesFrom n (dependencies_of deps) plan 0
     (take (k + 1) (dependencies_of deps)) new
 next_lost n deps ds plan k d loss losses new e l old is number pushed =
     let low : k < length deps = subst (λ (xs : List Dep). k < length xs) e l in
-    let gone : IsLostOn n (dependencies_of deps) plan (dependency_of (get_or deps k d)) (places loss.agreement) =
+    let gone : IsLostOn n (dependencies_of deps) plan (dependency_of (get_or deps k d)) (attributes loss.agreement) =
     subst (λ (xs : List Dep). IsLostOn n (dependencies_of deps) plan (dependency_of (get_or xs k d))
-    (places loss.agreement)) e is in
+    (attributes loss.agreement)) e is in
     let before : k ≤ length (dependencies_of deps) = omega (arith, low, length-map deps dependency_of) in
-    let place : k ≡ 0 + length (take k (dependencies_of deps)) = omega
+    let position : k ≡ 0 + length (take k (dependencies_of deps)) = omega
     (arith, length-take-le k (dependencies_of deps) before) in
     subst (λ (l : List Dependency). LossesFrom n (dependencies_of deps) plan 0 l new) (sym (theory_next deps k d low))
     (subst (λ (l : List Loss). LossesFrom n (dependencies_of deps) plan 0
     (take k (dependencies_of deps) ++ dependency_of (get_or deps k d) ∷ []) l) (sym pushed)
     (lost_more n (dependencies_of deps) plan 0 (take k (dependencies_of deps)) losses
-    (dependency_of (get_or deps k d)) loss old (number ∙ place) gone))
+    (dependency_of (get_or deps k d)) loss old (number ∙ position) gone))
 
-pub all_looked_at : (n : ℕ) (deps ds : List Dep) (plan : List Places) (k : ℕ) (losses : List Loss) → ds ≡ deps
+pub all_looked_at : (n : ℕ) (deps ds : List Dep) (plan : List Attributes) (k : ℕ) (losses : List Loss) → ds ≡ deps
     → length ds ≤ k
     → LossesFrom n (dependencies_of deps) plan 0 (take k (dependencies_of deps)) losses
     → LossesFrom n (dependencies_of deps) plan 0 (dependencies_of deps) losses

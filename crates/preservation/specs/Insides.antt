@@ -1,8 +1,8 @@
 -- What is known of the schemes of a plan: for the functions below `losses`. `Desk` does not cite
 -- it.
 use Rattle.std.specs.Prelude.{◌≡◌, ◌↔◌, ℕ, true, List, map, length, replicate}
-use Rattle.attr_sets.specs.Places.{Places, below, Within}
-use Rattle.attr_sets.specs.Sets.{places}
+use Rattle.attr_sets.specs.Attributes.{Attributes, below, IsSubset}
+use Rattle.attr_sets.specs.Sets.{attributes}
 use Rattle.attr_sets.specs.declared.set.AttrSet.{AttrSet}
 use Rattle.dep_model.specs.Dependencies.{Dependency, functional_part}
 use Rattle.dep_model.specs.Keys.{InClosure}
@@ -13,22 +13,22 @@ use Rattle.fd_closure.specs.Counting.{switches_of}
 use Rattle.fd_closure.specs.declared.counting.Counters.{Counters}
 use Rattle.preservation.specs.declared.inside.Inside.{Inside}
 
--- what a part of a scheme determines inside it, by the functional dependencies over n places
-pub record IsInsideOf (n : ℕ) (ds : List Dependency) (scheme part closed : Places) : Type 0 where
-  pub universe : Within scheme (below n)
-  pub within : Within part scheme
+-- what a part of a scheme determines inside it, by the functional dependencies over n attributes
+pub record IsInsideOf (n : ℕ) (ds : List Dependency) (scheme part closed : Attributes) : Type 0 where
+  pub universe : IsSubset scheme (below n)
+  pub within : IsSubset part scheme
   pub closure : (a : ℕ) → (closed a ≡ true) ↔ ((scheme a ≡ true) × InClosure n (functional_part ds) part a)
 
 -- what is told of a scheme is so
 abbrev pub IsKnown : ℕ → List Dependency → Inside → Type 0
-IsKnown n ds inside = IsInsideOf n ds (places inside.scheme) (places inside.part) (places inside.closed)
+IsKnown n ds inside = IsInsideOf n ds (attributes inside.scheme) (attributes inside.part) (attributes inside.closed)
 
 -- the schemes of which something is known
 abbrev pub known_schemes : List Inside → List AttrSet
 known_schemes insides = map (λ inside. inside.scheme) insides
 
 -- the plan that they make
-abbrev pub known_plan : List Inside → List Places
+abbrev pub known_plan : List Inside → List Attributes
 known_plan insides = schemes_of (known_schemes insides)
 
 -- counters by which all dependencies of a schema count

@@ -1,3 +1,3 @@
 pub mod Insides
 pub mod Keeping
-pub mod Settled
+pub mod FunctionallyClosed

@@ -1,13 +1,13 @@
 ghost use Rattle.std.specs.Prelude.{◌≡◌, ◌⊎◌, All, IfSome};
-ghost use Rattle.attr_sets.specs.Places.{Within};
-ghost use Rattle.attr_sets.specs.Sets.{places};
+ghost use Rattle.attr_sets.specs.Attributes.{IsSubset};
+ghost use Rattle.attr_sets.specs.Sets.{attributes};
 ghost use Rattle.dep_model.specs.Dependencies.{ObeysFd};
 ghost use Rattle.dep_model.specs.Schemas.{width_of, theory_of, universe_of};
 ghost use Rattle.dep_model.specs.Tuples.{Relation};
 ghost use Rattle.fd_closure.specs.Counting.{switches_of};
 ghost use Rattle.preservation.specs.Insides.{IsKnown, known_schemes, known_plan, AreAllOn};
 ghost use Rattle.preservation.specs.Keeping.{FollowsInside, ObeysInside};
-ghost use Rattle.preservation.specs.Settled.{TellsKeptClosure, IsSettledIn, IsKeptClosure};
+ghost use Rattle.preservation.specs.FunctionallyClosed.{TellsKeptClosure, IsFunctionallyClosedIn, IsKeptClosure};
 
 use crate::inside::{Inside, inside_by};
 use attr_sets::AttrSet;
@@ -34,19 +34,19 @@ pub fn closure_after(
     requires known { All (IsKnown (width_of schema.now) (theory_of schema.now)) insides.old }
     requires last { IfSome last
         (TellsKeptClosure (width_of schema.now) (theory_of schema.now) (known_plan insides.old)) }
-    requires from { Within (places from) (universe_of schema.now) }
+    requires from { IsSubset (attributes from) (universe_of schema.now) }
     ensures follows { FollowsInside (width_of schema.now) (theory_of schema.now) (known_plan insides.old)
-        (places from) (places result) }
-    ensures found { Within (places wanted) (places result)
+        (attributes from) (attributes result) }
+    ensures found { IsSubset (attributes wanted) (attributes result)
         ⊎ IsKeptClosure (width_of schema.now) (theory_of schema.now) (known_plan insides.old)
-        (places from) (places result) }
+        (attributes from) (attributes result) }
     ensures known { All (IsKnown (width_of schema.now) (theory_of schema.now)) insides.new }
     ensures schemes { known_schemes insides.new ≡ known_schemes insides.old }
     ensures switches { switches_of counters.new ≡ switches_of counters.old }
 {
-    if let Some(told) = last {
-        if told.from == from {
-            return told.closed;
+    if let Some(previous) = last {
+        if previous.from == from {
+            return previous.closed;
         }
     }
     kept_closure(schema, counters, insides, from, wanted)
@@ -66,12 +66,12 @@ pub fn kept_closure(
 ) -> AttrSet
     requires on { AreAllOn schema.now counters.old }
     requires known { All (IsKnown (width_of schema.now) (theory_of schema.now)) insides.old }
-    requires from { Within (places from) (universe_of schema.now) }
+    requires from { IsSubset (attributes from) (universe_of schema.now) }
     ensures follows { FollowsInside (width_of schema.now) (theory_of schema.now) (known_plan insides.old)
-        (places from) (places result) }
-    ensures found { Within (places wanted) (places result)
+        (attributes from) (attributes result) }
+    ensures found { IsSubset (attributes wanted) (attributes result)
         ⊎ IsKeptClosure (width_of schema.now) (theory_of schema.now) (known_plan insides.old)
-        (places from) (places result) }
+        (attributes from) (attributes result) }
     ensures known { All (IsKnown (width_of schema.now) (theory_of schema.now)) insides.new }
     ensures schemes { known_schemes insides.new ≡ known_schemes insides.old }
     ensures switches { switches_of counters.new ≡ switches_of counters.old }
@@ -82,7 +82,7 @@ pub fn kept_closure(
         if more == closed {
             return closed;
         }
-        if wanted.within(more) {
+        if wanted.is_subset(more) {
             return more;
         }
         closed = more;
@@ -98,15 +98,16 @@ fn with_schemes(
 ) -> AttrSet
     requires on { AreAllOn schema.now counters.old }
     requires known { All (IsKnown (width_of schema.now) (theory_of schema.now)) insides.old }
-    requires closed { Within (places closed) (universe_of schema.now) }
-    ensures grows { Within (places closed) (places result) }
-    ensures within { Within (places result) (universe_of schema.now) }
+    requires closed { IsSubset (attributes closed) (universe_of schema.now) }
+    ensures grows { IsSubset (attributes closed) (attributes result) }
+    ensures within { IsSubset (attributes result) (universe_of schema.now) }
     ensures kept { (r : Relation)
         → ObeysInside (width_of schema.now) (theory_of schema.now) (known_plan insides.old) r
-        → ObeysFd (places closed) (places result) r }
-    ensures settled { Within (places result) (places closed)
-        → All (λ scheme. IsSettledIn (width_of schema.now) (theory_of schema.now) (places scheme)
-        (places closed) (places closed)) (known_schemes insides.old) }
+        → ObeysFd (attributes closed) (attributes result) r }
+    ensures functionally_closed { IsSubset (attributes result) (attributes closed)
+        → All (λ scheme. IsFunctionallyClosedIn (width_of schema.now) (theory_of schema.now)
+        (attributes scheme)
+        (attributes closed) (attributes closed)) (known_schemes insides.old) }
     ensures known { All (IsKnown (width_of schema.now) (theory_of schema.now)) insides.new }
     ensures schemes { known_schemes insides.new ≡ known_schemes insides.old }
     ensures switches { switches_of counters.new ≡ switches_of counters.old }

@@ -1,12 +1,12 @@
 ghost use Rattle.std.specs.Prelude.{◌≡◌, All, IfOk};
-ghost use Rattle.attr_sets.specs.Places.{Within, meet};
-ghost use Rattle.attr_sets.specs.Sets.{places};
+ghost use Rattle.attr_sets.specs.Attributes.{IsSubset, intersection};
+ghost use Rattle.attr_sets.specs.Sets.{attributes};
 ghost use Rattle.dep_model.specs.Schemas.{width_of, theory_of, universe_of};
 ghost use Rattle.fd_closure.specs.Counting.{switches_of};
 ghost use Rattle.preservation.specs.Insides.{IsKnown, known_schemes, AreAllOn};
 
 use attr_sets::AttrSet;
-use dep_model::{Schema, WantMemory};
+use dep_model::{OutOfMemory, Schema};
 use fd_closure::{Counters, closure_with};
 use std::alloc::Global;
 
@@ -26,9 +26,10 @@ pub fn insides_of(
     schema: &Schema,
     counters: &mut Counters,
     schemes: &[AttrSet],
-) -> Result<Vec<Inside>, WantMemory>
+) -> Result<Vec<Inside>, OutOfMemory>
     requires on { AreAllOn schema.now counters.old }
-    requires schemes { All (λ scheme. Within (places scheme) (universe_of schema.now)) schemes.now }
+    requires schemes { All (λ scheme. IsSubset (attributes scheme)
+        (universe_of schema.now)) schemes.now }
     ensures known { IfOk result (λ v. All (IsKnown (width_of schema.now) (theory_of schema.now)) v.items) }
     ensures schemes { IfOk result (λ v. known_schemes v.items ≡ schemes.now) }
     ensures switches { switches_of counters.new ≡ switches_of counters.old }
@@ -43,14 +44,14 @@ pub fn insides_of(
 // What a part determines inside a scheme.
 fn inside_of(schema: &Schema, counters: &mut Counters, scheme: AttrSet, part: AttrSet) -> Inside
     requires on { AreAllOn schema.now counters.old }
-    requires scheme { Within (places scheme) (universe_of schema.now) }
-    requires part { Within (places part) (places scheme) }
+    requires scheme { IsSubset (attributes scheme) (universe_of schema.now) }
+    requires part { IsSubset (attributes part) (attributes scheme) }
     ensures known { IsKnown (width_of schema.now) (theory_of schema.now) result }
     ensures scheme { result.scheme ≡ scheme }
     ensures part { result.part ≡ part }
     ensures switches { switches_of counters.new ≡ switches_of counters.old }
 {
-    let closed = closure_with(counters, schema.deps(), part).meet(scheme);
+    let closed = closure_with(counters, schema.deps(), part).intersection(scheme);
     Inside {
         scheme,
         part,
@@ -69,12 +70,13 @@ pub fn inside_by(
     requires known { IsKnown (width_of schema.now) (theory_of schema.now) inside }
     ensures known { IsKnown (width_of schema.now) (theory_of schema.now) result }
     ensures scheme { result.scheme ≡ inside.scheme }
-    ensures part { Within (places result.part) (places closed) }
-    ensures covers { Within (meet (places closed) (places inside.scheme)) (places result.closed) }
+    ensures part { IsSubset (attributes result.part) (attributes closed) }
+    ensures covers { IsSubset (intersection (attributes closed) (attributes inside.scheme))
+        (attributes result.closed) }
     ensures switches { switches_of counters.new ≡ switches_of counters.old }
 {
-    let part = closed.meet(inside.scheme);
-    if inside.part.within(part) && part.within(inside.closed) {
+    let part = closed.intersection(inside.scheme);
+    if inside.part.is_subset(part) && part.is_subset(inside.closed) {
         inside
     } else {
         inside_of(schema, counters, inside.scheme, part)

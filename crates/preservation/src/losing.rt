@@ -1,6 +1,6 @@
 ghost use Rattle.std.specs.Prelude.{◌≡◌, [], ◌↔◌, All, IfOk, IfSome, IfNone};
-ghost use Rattle.attr_sets.specs.Places.{Within};
-ghost use Rattle.attr_sets.specs.Sets.{places};
+ghost use Rattle.attr_sets.specs.Attributes.{IsSubset};
+ghost use Rattle.attr_sets.specs.Sets.{attributes};
 ghost use Rattle.dep_model.specs.Deps.{dependency_of, IsDepWithin};
 ghost use Rattle.dep_model.specs.Plans.{schemes_of};
 ghost use Rattle.dep_model.specs.Preservation.{KeepsDependencies};
@@ -8,12 +8,12 @@ ghost use Rattle.dep_model.specs.Schemas.{width_of, theory_of, universe_of};
 ghost use Rattle.fd_closure.specs.Counting.{switches_of};
 ghost use Rattle.preservation.specs.Insides.{IsKnown, known_schemes, known_plan, AreAllOn};
 ghost use Rattle.preservation.specs.Keeping.{IsKept, IsLostOn, LossesOf};
-ghost use Rattle.preservation.specs.Settled.{TellsKeptClosure};
+ghost use Rattle.preservation.specs.FunctionallyClosed.{TellsKeptClosure};
 
 use crate::closing::{Closed, closure_after};
 use crate::inside::{Inside, insides_of};
 use attr_sets::AttrSet;
-use dep_model::{Dep, Schema, WantMemory};
+use dep_model::{Dep, OutOfMemory, Schema};
 use fd_closure::Counters;
 use std::alloc::Global;
 
@@ -27,26 +27,27 @@ pub struct Loss {
 }
 
 /// The functional dependencies that a plan loses, in the order of the file.
-pub fn losses(alloc: Global, schema: &Schema, schemes: &[AttrSet]) -> Result<Vec<Loss>, WantMemory>
-    requires schemes { All (λ scheme. Within (places scheme) (universe_of schema.now)) schemes.now }
+pub fn losses(alloc: Global, schema: &Schema, schemes: &[AttrSet]) -> Result<Vec<Loss>, OutOfMemory>
+    requires schemes { All (λ scheme. IsSubset (attributes scheme)
+        (universe_of schema.now)) schemes.now }
     ensures losses { IfOk result (λ v. LossesOf (width_of schema.now) (theory_of schema.now)
         (schemes_of schemes.now) v.items) }
     ensures keeps { IfOk result (λ v. (v.items ≡ [])
         ↔ KeepsDependencies (width_of schema.now) (theory_of schema.now) (schemes_of schemes.now)) }
 {
-    let mut counters = Counters::make(alloc, schema.deps(), schema.width())?;
+    let mut counters = Counters::new(alloc, schema.deps(), schema.width())?;
     let mut insides = insides_of(alloc, schema, &mut counters, schemes)?;
     let mut losses = Vec::new(alloc);
     let mut last = None;
     for k in 0..schema.deps().len() {
         let loss = loss_of(schema, &mut counters, &mut insides, last, schema.deps()[k]);
         match loss {
-            Some(told) => {
+            Some(lost_on) => {
                 losses.push(Loss {
                     dep: k as u16,
-                    agreement: told.closed,
+                    agreement: lost_on.closed,
                 })?;
-                last = Some(told);
+                last = Some(lost_on);
             }
             None => {}
         }
@@ -67,8 +68,8 @@ fn loss_of(
     requires last { IfSome last
         (TellsKeptClosure (width_of schema.now) (theory_of schema.now) (known_plan insides.old)) }
     requires dep { IsDepWithin (universe_of schema.now) dep }
-    ensures lost { IfSome result (λ told. IsLostOn (width_of schema.now) (theory_of schema.now)
-        (known_plan insides.old) (dependency_of dep) (places told.closed)) }
+    ensures lost { IfSome result (λ lost_on. IsLostOn (width_of schema.now) (theory_of schema.now)
+        (known_plan insides.old) (dependency_of dep) (attributes lost_on.closed)) }
     ensures all { IfSome result
         (TellsKeptClosure (width_of schema.now) (theory_of schema.now) (known_plan insides.old)) }
     ensures kept { IfNone result (IsKept (width_of schema.now) (theory_of schema.now)
@@ -80,7 +81,7 @@ fn loss_of(
     match dep {
         Dep::Fd { lhs, rhs } => {
             let closed = closure_after(schema, counters, insides, last, lhs, rhs);
-            if rhs.within(closed) {
+            if rhs.is_subset(closed) {
                 None
             } else {
                 Some(Closed { from: lhs, closed })

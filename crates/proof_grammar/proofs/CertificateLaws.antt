@@ -12,8 +12,8 @@ use Rattle.lexer.specs.Tokens.{lex}
 use Rattle.schema_grammar.specs.declared.refusal.SchemaRefusal.{SchemaRefusal}
 use Rattle.proof_grammar.specs.declared.line_kind.LineKind.{LineKind}
 use Rattle.proof_grammar.specs.declared.line_kind.LineKind.TheVariants.{Blank, Opening, Certificate}
-use Rattle.proof_grammar.specs.Books.{Ledger, entered, finished_certificate}
-use Rattle.proof_grammar.specs.Complaints.{Complaint, LineComplaint}
+use Rattle.proof_grammar.specs.CheckerStates.{CheckerStateValue, enter_line, finished_certificate}
+use Rattle.proof_grammar.specs.Diagnostics.{Diagnostic, LineDiagnostic}
 use Rattle.proof_grammar.specs.Lines.{Line, certificate_line}
 use Rattle.proof_grammar.specs.Meanings.{MeansLine, MeanLines, certificate_lines}
 use Rattle.proof_grammar.specs.Refusals.{StandsAt, IsRefusedCertificate}
@@ -29,8 +29,8 @@ use Rattle.proof_grammar.proofs.EnteredRefusals.{Enters, enters}
 use Rattle.proof_grammar.proofs.FinishedRefusals.{Finishes, finishes, one_end}
 use Rattle.proof_grammar.proofs.LineLaws.{line_there}
 use Rattle.proof_grammar.proofs.LineRefusals as refusals
-use Rattle.proof_grammar.proofs.ReadLines.{marked, read_from, HasReadLines, at_start, passed, counts_here, one_more}
-use Rattle.proof_grammar.proofs.WalkedLines.{walked}
+use Rattle.proof_grammar.proofs.ReadLines.{without_more_yes, read_from, HasReadLines, at_start, line_passed_over, counts_here, one_more}
+use Rattle.proof_grammar.proofs.WalkedLines.{read_lines_walked}
 
 -- no line uses itself or a later one
 pub late_unused : (s : Schema) (prior : List Tree) (ls : List Line) (ts : List Tree) (n : ℕ) → AreNodes s prior ls ts
@@ -43,13 +43,13 @@ late_unused s prior _ _ n are late = absurd are
 
 -- ---- what is read
 -- what a text says of the tree or the refusal that is read of it
-abbrev pub Tells : Schema → List ℕ → Result Tree LineComplaint → Type 0
+abbrev pub Tells : Schema → List ℕ → Result Tree LineDiagnostic → Type 0
 Tells s text (Ok t) = SpellsWithin s text t
 Tells s text (Err e) = IsRefusedCertificate s text e
 
 -- all lines are read
-end_tells : (s : Schema) (text : List ℕ) (fresh : Bool) (lines : List Line) (trees : List Tree) (book : Ledger)
-    (last : ℕ) (r : Result Tree LineComplaint) → last ≡ length (line_texts (without_mark text))
+end_tells : (s : Schema) (text : List ℕ) (fresh : Bool) (lines : List Line) (trees : List Tree) (book : CheckerStateValue)
+    (last : ℕ) (r : Result Tree LineDiagnostic) → last ≡ length (line_texts (without_mark text))
     → HasReadLines s text (line_texts (without_mark text)) fresh lines trees book
     → Finishes (λ n. uses n lines) trees last book.lines r → read_proof s text ≡ r → Tells s text r
 end_tells s text fresh lines trees book last (Ok t) count afterwards done is =
@@ -77,13 +77,13 @@ end_tells s text fresh lines trees book last (Err e) count afterwards (inl none)
       read = afterwards.read;
       why = inl (record {
         none = nil_from_length lines (omega (arith, size, ap length none.0));
-        at = ap (λ (c : LineComplaint). c.line) none.1 ∙ count;
-        is = ap (λ (c : LineComplaint). c.complaint) none.1;
+        at = ap (λ (c : LineDiagnostic). c.line) none.1 ∙ count;
+        is = ap (λ (c : LineDiagnostic). c.diagnostic) none.1;
       });
     })
 end_tells s text fresh lines trees book last (Err e) count afterwards (inr first) is =
     let size = nodes_size s [] lines trees afterwards.read.nodes in
-    let place = afterwards.places first.at (omega (arith, first.inside, afterwards.size)) in
+    let position = afterwards.positions first.at (omega (arith, first.inside, afterwards.size)) in
     inr (record {
       lines = lines;
       trees = trees;
@@ -95,26 +95,26 @@ end_tells s text fresh lines trees book last (Err e) count afterwards (inr first
         not_last = omega (arith, first.inside, size);
         unused = first.unused;
         first = λ n low high. first.earlier n low (omega (arith, high));
-        before = place.before;
-        here = place.here;
-        stands = subst (StandsAt text place.before place.here) (ap (λ (c : LineComplaint). c.line) (sym first.is))
-            place.stands;
-        is_number = omega (arith, place.count);
-        is = ap (λ (c : LineComplaint). c.complaint) first.is;
+        before = position.before;
+        here = position.here;
+        stands = subst (StandsAt text position.before position.here) (ap (λ (c : LineDiagnostic). c.line) (sym first.is))
+            position.stands;
+        is_number = omega (arith, position.count);
+        is = ap (λ (c : LineDiagnostic). c.diagnostic) first.is;
       });
     })
 
 -- what is read of the lines after some others
 abbrev TellsOn : Schema → List ℕ → ℕ → List (List ℕ) → Type 0
 TellsOn s text number texts =
-    (before : List (List ℕ)) (fresh : Bool) (lines : List Line) (trees : List Tree) (book : Ledger)
+    (before : List (List ℕ)) (fresh : Bool) (lines : List Line) (trees : List Tree) (book : CheckerStateValue)
     → line_texts (without_mark text) ≡ before ++ texts → number ≡ length before + 1
     → HasReadLines s text before fresh lines trees book
     → read_proof s text ≡ read_certificate_lines s fresh number book texts
     → Tells s text (read_certificate_lines s fresh number book texts)
 
 line_tells : (k : LineKind) (s : Schema) (text : List ℕ) (number : ℕ) (here : List ℕ) (texts before : List (List ℕ))
-    (fresh : Bool) (lines : List Line) (trees : List Tree) (book : Ledger)
+    (fresh : Bool) (lines : List Line) (trees : List Tree) (book : CheckerStateValue)
     → line_texts (without_mark text) ≡ before ++ here ∷ texts → number ≡ length before + 1
     → HasReadLines s text before fresh lines trees book → Counts k fresh here → TellsOn s text (number + 1) texts
     → read_proof s text ≡ read_from s number texts (read_as k s fresh number book here)
@@ -122,11 +122,11 @@ line_tells : (k : LineKind) (s : Schema) (text : List ℕ) (number : ℕ) (here 
 line_tells Blank s text number here texts before fresh lines trees book cut count afterwards counts on is =
     on (before ++ here ∷ []) fresh lines trees book (cut ∙ sym (append_assoc before (here ∷ []) texts))
     (omega (arith, count, length-append before (here ∷ [])))
-    (passed s text before fresh fresh lines trees book here afterwards counts) is
+    (line_passed_over s text before fresh fresh lines trees book here afterwards counts) is
 line_tells Opening s text number here texts before fresh lines trees book cut count afterwards counts on is =
     on (before ++ here ∷ []) false lines trees book (cut ∙ sym (append_assoc before (here ∷ []) texts))
     (omega (arith, count, length-append before (here ∷ [])))
-    (passed s text before fresh false lines trees book here afterwards counts) is
+    (line_passed_over s text before fresh false lines trees book here afterwards counts) is
 line_tells Certificate s text number here texts before fresh lines trees book cut count afterwards counts on is =
     told (certificate_line (names_of s) (rest_from number 1 (lex mode.Numbered here))) refl is
   where
@@ -140,8 +140,8 @@ line_tells Certificate s text number here texts before fresh lines trees book cu
 
     told : (r : Result Line SchemaRefusal)
         → certificate_line (names_of s) (rest_from number 1 (lex mode.Numbered here)) ≡ r
-        → read_proof s text ≡ read_from s number texts (in_line r >>= λ l. marked (entered s number book l))
-        → Tells s text (read_from s number texts (in_line r >>= λ l. marked (entered s number book l)))
+        → read_proof s text ≡ read_from s number texts (in_line r >>= λ l. without_more_yes (enter_line s number book l))
+        → Tells s text (read_from s number texts (in_line r >>= λ l. without_more_yes (enter_line s number book l)))
     told (Err refusal) grammar is = inl (record {
       before = before;
       here = here;
@@ -156,15 +156,15 @@ line_tells Certificate s text number here texts before fresh lines trees book cu
         is = refl;
       });
     })
-    told (Ok l) grammar is = by_line (entered s number book l) refl
+    told (Ok l) grammar is = by_line (enter_line s number book l) refl
         (enters s number lines trees book l afterwards.follows (line_of_attributes s here l means)) is
       where
         means : MeansLine (names_of s) here l
         means = line_there (names_of s) number here l grammar
 
-        by_line : (r : Result Ledger Complaint) → entered s number book l ≡ r → Enters s lines trees l r
-            → read_proof s text ≡ read_from s number texts (marked r)
-            → Tells s text (read_from s number texts (marked r))
+        by_line : (r : Result CheckerStateValue Diagnostic) → enter_line s number book l ≡ r → Enters s lines trees l r
+            → read_proof s text ≡ read_from s number texts (without_more_yes r)
+            → Tells s text (read_from s number texts (without_more_yes r))
         by_line (Err c) enter first is = inl (record {
           before = before;
           here = here;
@@ -205,16 +205,16 @@ spelled_there s text t h = subst (Tells s text) h (text_tells s text)
 
 -- ---- from what a text spells
 -- a text whose lines are read is read as they are finished
-pub end_back : (s : Schema) (text : List ℕ) (lines : List Line) (trees : List Tree) (r : Result Tree LineComplaint)
+pub end_back : (s : Schema) (text : List ℕ) (lines : List Line) (trees : List Tree) (r : Result Tree LineDiagnostic)
     → MeanLines (names_of s) (certificate_lines text) lines → AreRead s lines trees
-    → ((fresh : Bool) (book : Ledger) → HasReadLines s text (line_texts (without_mark text)) fresh lines trees book
+    → ((fresh : Bool) (book : CheckerStateValue) → HasReadLines s text (line_texts (without_mark text)) fresh lines trees book
     → Finishes (λ n. uses n lines) trees (length (line_texts (without_mark text)) + 1 - 1) book.lines r)
     → read_proof s text ≡ r
 unfolding read_proof read_certificate_lines
 end_back s text lines trees r mean read done =
     let whole = line_texts (without_mark text) in
     let cut : whole ≡ whole ++ [] = sym (append-nil whole) in
-    let walk = walked s text whole [] lines trees cut mean read in
+    let walk = read_lines_walked s text whole [] lines trees cut mean read in
     let follows = walk.afterwards.follows in
     ap (read_certificate_lines s true 1 (record { lines = []; unused = [] })) cut
     ∙ walk.same

@@ -1,4 +1,5 @@
--- What is read proves: each open line of a ledger has a tree that proves its conclusion, and no node stands in two of them.
+-- What is read proves: each open line of a checker state has a tree that proves its conclusion, and no
+-- node stands in two of them.
 use Rattle.std.proofs.Common.{◌≡◌, ◌<◌, ◌≤◌, ◌+◌, ◌-◌, ◌==◌, ℕ, zero, suc, Bool, true, List, [], ◌∷◌, ◌++◌, length, Option, Some, None, Result, Ok, Err, refl, sym, ◌∙◌, ap, subst, cond, max, arith, nat_lt, nat_le, length-append}
 use Rattle.std.specs.Prelude.{slice_get, slice_set, ◌&&◌, option_map}
 use Rattle.std.specs.Result.{IfOk}
@@ -15,12 +16,12 @@ use Rattle.derivation.specs.Trees.{Tree, leaf, step, pair, Step, Pair, given, re
 use Rattle.derivation.specs.Table.{leaf_conclusion, step_conclusion, pair_conclusion}
 use Rattle.derivation.specs.Conclusions.{Proves}
 use Rattle.derivation.specs.declared.measures.TheConstants.{MOST_NODES, MOST_LEVELS}
-use Rattle.proof_grammar.specs.Complaints.{Complaint, no_such_line, wrong_number, too_many_lines, too_deep, states_other}
+use Rattle.proof_grammar.specs.Diagnostics.{Diagnostic, no_such_line, wrong_number, too_many_lines, too_deep, states_other}
 use Rattle.proof_grammar.specs.Lines.{Body, by_given, by_reflexivity, by_mreflexivity, by_step, by_pair, Line, certificate_line}
 use Rattle.schema_grammar.specs.Rests.{◌>>=◌, rest_from}
 use Rattle.schema_grammar.proofs.RefusalLemmas.{ok_at}
 use Rattle.proof_grammar.specs.Nodes.{with_tree, same_dependency}
-use Rattle.proof_grammar.specs.Books.{Opened, Ledger, Prepared, joined, is_earlier, open_at, closed, step_node, pair_node, prepared, concluded_as, settled, add_line, entered, first_unused, root, concluded_by, rooted, finished_at, finished_certificate}
+use Rattle.proof_grammar.specs.CheckerStates.{Opened, CheckerStateValue, Prepared, option_flatten, is_earlier, open_at, close_line, step_node, pair_node, prepare_line, concluded_as, within_limits, add_line, enter_line, first_unused, root, concluded_by, root_conclusion, finished_at, finished_certificate}
 use Rattle.proof_grammar.specs.declared.line_kind.LineKind.{LineKind}
 use Rattle.proof_grammar.specs.declared.line_kind.LineKind.TheVariants.{Blank, Opening, Certificate}
 use Rattle.lexer.specs.declared.token.Mode.TheVariants as mode
@@ -29,10 +30,10 @@ use Rattle.lexer.specs.Tokens.{lex}
 use Rattle.dep_model.specs.Schemas.{names_of}
 use Rattle.proof_grammar.specs.Texts.{in_line, read_as, line_kind, read_one, at_line, read_certificate_lines, read_proof}
 use Rattle.proof_grammar.specs.Checked.{IsChecked}
-use Rattle.proof_grammar.specs.Ledgers.{Stands, IfOpen, AllStand, open_nodes, all_nodes, IsLedger}
+use Rattle.proof_grammar.specs.ValidStates.{Stands, IfOpen, AllStand, open_nodes, all_nodes, IsCheckerState}
 
 AllStand-get : (s : Schema) (os : List (Option Opened)) (i : ℕ) (o : Option Opened) → AllStand s os
-    → joined (slice_get os i) ≡ o → IfOpen s o
+    → option_flatten (slice_get os i) ≡ o → IfOpen s o
 AllStand-get s [] i o all e = subst (IfOpen s) e (tt {0})
 AllStand-get s (x ∷ os) zero o all e = subst (IfOpen s) e all.0
 AllStand-get s (x ∷ os) (suc i) o all e = AllStand-get s os i o all.1 e
@@ -42,7 +43,7 @@ AllStand-close s [] i all = tt {0}
 AllStand-close s (o ∷ os) zero all = (tt {0}, all.1)
 AllStand-close s (o ∷ os) (suc i) all = (all.0, AllStand-close s os i all.1)
 
-all_nodes-close : (os : List (Option Opened)) (i : ℕ) (o : Option Opened) → joined (slice_get os i) ≡ o
+all_nodes-close : (os : List (Option Opened)) (i : ℕ) (o : Option Opened) → option_flatten (slice_get os i) ≡ o
     → all_nodes (slice_set os i None) + open_nodes o ≡ all_nodes os
 all_nodes-close [] i o e = omega (arith, ap open_nodes e)
 all_nodes-close (x ∷ os) zero o e = omega (arith, ap open_nodes e)
@@ -84,35 +85,35 @@ known_node s before after levels t r stand same_length proves deep count = recor
 
 step_prepared : (s : Schema) (rule : Step) (os : List (Option Opened)) (q : ℕ) (o : Option Opened)
     → open_at os q ≡ o → AllStand s os
-    → IfOk (step_node s rule o (closed os q)) (IsPrepared s os)
+    → IfOk (step_node s rule o (close_line os q)) (IsPrepared s os)
 step_prepared s rule os q None e all = tt
 step_prepared s rule os q (Some o) e all =
     let stands = AllStand-get s os (q - 1) (Some o) all e in
-    known_node s os (closed os q) (o.levels + 1) (step rule o.tree) (step_conclusion s rule o.conclusion)
+    known_node s os (close_line os q) (o.levels + 1) (step rule o.tree) (step_conclusion s rule o.conclusion)
     (AllStand-close s os (q - 1) all) (length-set os (q - 1) None)
     (λ d given_d. (o.conclusion, stands.proves, given_d))
     (omega (arith, stands.levels)) (omega (arith, all_nodes-close os (q - 1) (Some o) e))
 
 pair_prepared : (s : Schema) (rule : Pair) (os : List (Option Opened)) (q r : ℕ) (o u : Option Opened)
-    → open_at os q ≡ o → open_at (closed os q) r ≡ u → AllStand s os
-    → IfOk (pair_node rule o u (closed (closed os q) r)) (IsPrepared s os)
+    → open_at os q ≡ o → open_at (close_line os q) r ≡ u → AllStand s os
+    → IfOk (pair_node rule o u (close_line (close_line os q) r)) (IsPrepared s os)
 pair_prepared s rule os q r None u e f all = tt
 pair_prepared s rule os q r (Some o) None e f all = tt
 pair_prepared s rule os q r (Some o) (Some u) e f all =
     let first = AllStand-get s os (q - 1) (Some o) all e in
     let rest = AllStand-close s os (q - 1) all in
-    let second = AllStand-get s (closed os q) (r - 1) (Some u) rest f in
-    known_node s os (closed (closed os q) r) (max o.levels u.levels + 1) (pair rule o.tree u.tree)
+    let second = AllStand-get s (close_line os q) (r - 1) (Some u) rest f in
+    known_node s os (close_line (close_line os q) r) (max o.levels u.levels + 1) (pair rule o.tree u.tree)
     (pair_conclusion rule o.conclusion u.conclusion)
-    (AllStand-close s (closed os q) (r - 1) rest)
-    (length-set (closed os q) (r - 1) None ∙ length-set os (q - 1) None)
+    (AllStand-close s (close_line os q) (r - 1) rest)
+    (length-set (close_line os q) (r - 1) None ∙ length-set os (q - 1) None)
     (λ d given_d. (o.conclusion, u.conclusion, first.proves, second.proves, given_d))
     (omega (arith, first.levels, second.levels))
-    (omega (arith, all_nodes-close os (q - 1) (Some o) e, all_nodes-close (closed os q) (r - 1) (Some u) f))
+    (omega (arith, all_nodes-close os (q - 1) (Some o) e, all_nodes-close (close_line os q) (r - 1) (Some u) f))
 
 all_prepared : (s : Schema) (os : List (Option Opened)) (stated : Dependency) (b : Body) → AllStand s os
-    → IfOk (prepared s os stated b) (IsPrepared s os)
-unfolding prepared
+    → IfOk (prepare_line s os stated b) (IsPrepared s os)
+unfolding prepare_line
 all_prepared s os stated (by_given k) all =
     cond_both (k == 0) (Err NoSuchGiven) (with_tree (leaf (given (k - 1))) (leaf_conclusion s (given (k - 1))))
     (λ r. IsPrepared s os (record { levels = 1; outcome = r; unused = os }))
@@ -132,20 +133,20 @@ all_prepared s os stated by_mreflexivity all =
     known_node s os os 1 (leaf (mreflexivity (left_of stated) (right_of stated)))
     (leaf_conclusion s (mreflexivity (left_of stated) (right_of stated))) all refl (λ d h. h) refl (omega arith)
 all_prepared s os stated (by_step rule q) all =
-    cond_both (is_earlier os q) (step_node s rule (open_at os q) (closed os q)) (Err no_such_line)
+    cond_both (is_earlier os q) (step_node s rule (open_at os q) (close_line os q)) (Err no_such_line)
     (λ r. IfOk r (IsPrepared s os))
     (λ earlier. step_prepared s rule os q (open_at os q) refl all) (λ other. tt)
 all_prepared s os stated (by_pair rule q r) all =
     cond_both (is_earlier os q && is_earlier os r)
-    (pair_node rule (open_at os q) (open_at (closed os q) r) (closed (closed os q) r)) (Err no_such_line)
+    (pair_node rule (open_at os q) (open_at (close_line os q) r) (close_line (close_line os q) r)) (Err no_such_line)
     (λ x. IfOk x (IsPrepared s os))
-    (λ earlier. pair_prepared s rule os q r (open_at os q) (open_at (closed os q) r) refl refl all)
+    (λ earlier. pair_prepared s rule os q r (open_at os q) (open_at (close_line os q) r) refl refl all)
     (λ other. tt)
 
 pub prepared_is : (s : Schema) (os : List (Option Opened)) (stated : Dependency) (b : Body) (p : Prepared)
-    → AllStand s os → prepared s os stated b ≡ Ok p → IsPrepared s os p
+    → AllStand s os → prepare_line s os stated b ≡ Ok p → IsPrepared s os p
 prepared_is s os stated b p all h =
-    ok_at (IsPrepared s os) (prepared s os stated b) p h (all_prepared s os stated b all)
+    ok_at (IsPrepared s os) (prepare_line s os stated b) p h (all_prepared s os stated b all)
 
 pub bind_ok : {A B E : Type 0} (r : Result A E) (f : A → Result B E) (y : B) → (r >>= f) ≡ Ok y → (x : A) × (r ≡ Ok x) × (f x ≡ Ok y)
 bind_ok (Ok x) f y h = (x, refl, h)
@@ -157,8 +158,8 @@ pub bind_each : {A B E : Type 0} (P : B → Type 0) (r : Result A E) (f : A → 
 bind_each P (Ok x) f each = each x refl
 bind_each P (Err e) f each = tt
 
--- what is settled is within the limits, and concludes what was prepared
-record IsSettled (before levels : ℕ) (outcome : Result (Tree × Dependency) FaultKind) (o : Opened) : Type 0 where
+-- what passes the limits concludes what was prepared
+record PassesLimits (before levels : ℕ) (outcome : Result (Tree × Dependency) FaultKind) (o : Opened) : Type 0 where
   few_lines : before < MOST_NODES
   few_levels : levels ≤ MOST_LEVELS
   same_levels : o.levels ≡ levels
@@ -175,17 +176,17 @@ concluded_ok n levels stated (Ok x) =
     (λ same. (refl, refl)) (λ other. tt)
 concluded_ok n levels stated (Err why) = tt
 
-settled_ok : (before : ℕ) (l : Line) (levels : ℕ) (outcome : Result (Tree × Dependency) FaultKind)
-    → IfOk (settled before l levels outcome) (IsSettled before levels outcome)
-unfolding settled
-settled_ok before l levels outcome =
+within_limits_ok : (before : ℕ) (l : Line) (levels : ℕ) (outcome : Result (Tree × Dependency) FaultKind)
+    → IfOk (within_limits before l levels outcome) (PassesLimits before levels outcome)
+unfolding within_limits
+within_limits_ok before l levels outcome =
     let last = concluded_as l.number l.stated levels outcome in
-    let holds : Result Opened Complaint → Type 0 = λ r. IfOk r (IsSettled before levels outcome) in
+    let holds : Result Opened Diagnostic → Type 0 = λ r. IfOk r (PassesLimits before levels outcome) in
     cond_both (nat_le MOST_NODES before) (Err too_many_lines)
     (cond (nat_lt MOST_LEVELS levels) (Err too_deep) last) holds (λ many. tt)
     (λ few. cond_both (nat_lt MOST_LEVELS levels) (Err too_deep) last holds (λ deep. tt)
     (λ flat. IfOk-weaker last (λ o. (outcome ≡ Ok (o.tree, o.conclusion)) × (o.levels ≡ levels))
-    (IsSettled before levels outcome)
+    (PassesLimits before levels outcome)
     (λ o ok. record {
       few_lines = grind (arith, nat_tests, few);
       few_levels = grind (arith, nat_tests, flat);
@@ -194,20 +195,20 @@ settled_ok before l levels outcome =
     })
     (concluded_ok l.number levels l.stated outcome)))
 
-entered_keeps : (s : Schema) (at : ℕ) (book : Ledger) (l : Line) → IsLedger s book
-    → IfOk (entered s at book l) (IsLedger s)
-unfolding entered
+entered_keeps : (s : Schema) (at : ℕ) (book : CheckerStateValue) (l : Line) → IsCheckerState s book
+    → IfOk (enter_line s at book l) (IsCheckerState s)
+unfolding enter_line
 entered_keeps s at book l is =
     let os = book.unused in
-    let all = prepared s os l.stated l.body >>= λ p. settled (length os) l p.levels p.outcome
+    let all = prepare_line s os l.stated l.body >>= λ p. within_limits (length os) l p.levels p.outcome
     >>= λ o. Ok (add_line at book.lines p.unused o) in
-    cond_both (l.number == length os + 1) all (Err wrong_number) (λ r. IfOk r (IsLedger s))
-    (λ numbered. bind_each (IsLedger s) (prepared s os l.stated l.body) _
-    (λ p found. bind_each (IsLedger s) (settled (length os) l p.levels p.outcome) _
+    cond_both (l.number == length os + 1) all (Err wrong_number) (λ r. IfOk r (IsCheckerState s))
+    (λ numbered. bind_each (IsCheckerState s) (prepare_line s os l.stated l.body) _
+    (λ p found. bind_each (IsCheckerState s) (within_limits (length os) l p.levels p.outcome) _
     (λ o ends.
     let prep = prepared_is s os l.stated l.body p is.stand found in
-    let at_end = ok_at (IsSettled (length os) p.levels p.outcome)
-    (settled (length os) l p.levels p.outcome) o ends (settled_ok (length os) l p.levels p.outcome) in
+    let at_end = ok_at (PassesLimits (length os) p.levels p.outcome)
+    (within_limits (length os) l p.levels p.outcome) o ends (within_limits_ok (length os) l p.levels p.outcome) in
     let deep : depth o.tree ≡ o.levels = prep.levels o.tree o.conclusion at_end.prepared_so ∙ sym at_end.same_levels in
     let longer : length (p.unused ++ Some o ∷ []) ≡ length p.unused + 1 = length-append p.unused (Some o ∷ []) in
     let stands : Stands s o = record {
@@ -222,24 +223,24 @@ entered_keeps s at book l is =
     })))
     (λ other. tt)
 
-read_as_keeps : (k : LineKind) (s : Schema) (fresh : Bool) (number : ℕ) (book : Ledger) (text : List ℕ)
-    → IsLedger s book → IfOk (read_as k s fresh number book text) (λ next. IsLedger s next.1)
+read_as_keeps : (k : LineKind) (s : Schema) (fresh : Bool) (number : ℕ) (book : CheckerStateValue) (text : List ℕ)
+    → IsCheckerState s book → IfOk (read_as k s fresh number book text) (λ next. IsCheckerState s next.1)
 read_as_keeps Blank s fresh number book text is = is
 read_as_keeps Opening s fresh number book text is = is
 read_as_keeps Certificate s fresh number book text is =
-    bind_each (λ next. IsLedger s next.1)
+    bind_each (λ next. IsCheckerState s next.1)
     (in_line (certificate_line (names_of s) (rest_from number 1 (lex mode.Numbered text)))) _
-    (λ l read. bind_each (λ next. IsLedger s next.1) (entered s number book l) _
-    (λ next enter. ok_at (IsLedger s) _ next enter (entered_keeps s number book l is)))
+    (λ l read. bind_each (λ next. IsCheckerState s next.1) (enter_line s number book l) _
+    (λ next enter. ok_at (IsCheckerState s) _ next enter (entered_keeps s number book l is)))
 
-pub read_one_keeps : (s : Schema) (fresh : Bool) (number : ℕ) (book : Ledger) (text : List ℕ) (next : Bool × Ledger) → IsLedger s book → read_one s fresh number book text ≡ Ok next → IsLedger s next.1
+pub read_one_keeps : (s : Schema) (fresh : Bool) (number : ℕ) (book : CheckerStateValue) (text : List ℕ) (next : Bool × CheckerStateValue) → IsCheckerState s book → read_one s fresh number book text ≡ Ok next → IsCheckerState s next.1
 unfolding read_one
 read_one_keeps s fresh number book text next is h =
-    ok_at (λ (x : Bool × Ledger). IsLedger s x.1) _ next h
+    ok_at (λ (x : Bool × CheckerStateValue). IsCheckerState s x.1) _ next h
     (read_as_keeps (line_kind fresh (lex mode.Numbered text)) s fresh number book text is)
 
-finished_checked : (s : Schema) (last : ℕ) (book : Ledger) (i : Option ℕ) (o : Option Opened)
-    → IsLedger s book → root book.unused ≡ o → IfOk (finished_at last book.lines i o) (IsChecked s)
+finished_checked : (s : Schema) (last : ℕ) (book : CheckerStateValue) (i : Option ℕ) (o : Option Opened)
+    → IsCheckerState s book → root book.unused ≡ o → IfOk (finished_at last book.lines i o) (IsChecked s)
 finished_checked s last book (Some i) o is e = tt
 finished_checked s last book None None is e = tt
 finished_checked s last book None (Some u) is e =
@@ -254,12 +255,12 @@ finished_checked s last book None (Some u) is e =
       few_levels = omega (arith, stands.levels, stands.few);
     }
 
-pub at_line-ok : {A : Type 0} (n : ℕ) (r : Result A Complaint) (x : A) → at_line n r ≡ Ok x → r ≡ Ok x
+pub at_line-ok : {A : Type 0} (n : ℕ) (r : Result A Diagnostic) (x : A) → at_line n r ≡ Ok x → r ≡ Ok x
 at_line-ok n (Ok y) x h = cc
 at_line-ok n (Err why) x h = cc
 
-read_lines_checked : (s : Schema) (fresh : Bool) (number : ℕ) (book : Ledger) (texts : List (List ℕ))
-    → IsLedger s book → IfOk (read_certificate_lines s fresh number book texts) (IsChecked s)
+read_lines_checked : (s : Schema) (fresh : Bool) (number : ℕ) (book : CheckerStateValue) (texts : List (List ℕ))
+    → IsCheckerState s book → IfOk (read_certificate_lines s fresh number book texts) (IsChecked s)
 unfolding read_certificate_lines finished_certificate
 read_lines_checked s fresh number book [] is =
     finished_checked s (number - 1) book (first_unused book.unused) (root book.unused) is refl
@@ -277,8 +278,8 @@ read_proof_checked s text t h =
     (read_lines_checked s true 1 (record { lines = []; unused = [] }) (line_texts (without_mark text))
     (record { stand = tt {0}; count = refl; few = omega arith }))
 
--- the last line of a ledger proves what it concludes
-pub root_proves : (s : Schema) (book : Ledger) (t : Tree) (d : Dependency) → IsLedger s book → rooted book.unused ≡ Some (t, d) → Proves s t d
+-- the last line of a checker state proves what it concludes
+pub root_proves : (s : Schema) (book : CheckerStateValue) (t : Tree) (d : Dependency) → IsCheckerState s book → root_conclusion book.unused ≡ Some (t, d) → Proves s t d
 root_proves s book t d is h = told (root book.unused) refl h
   where
     told : (o : Option Opened) → root book.unused ≡ o → option_map concluded_by o ≡ Some (t, d) → Proves s t d

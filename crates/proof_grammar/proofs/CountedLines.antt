@@ -3,18 +3,18 @@ use Rattle.std.proofs.Common.{◌≡◌, inl, inr, ℕ, Bool, true, false, ◌&&
 use Rattle.std.specs.Prelude.{filter}
 use Rattle.std.proofs.lemmas.Bool.{cond_both}
 use Rattle.std.proofs.lemmas.Bool.Decides.{nat_tests}
-use Rattle.attr_sets.specs.Places.{Places, below}
+use Rattle.attr_sets.specs.Attributes.{Attributes, below}
 use Rattle.dep_model.specs.declared.schema.Schema.{Schema}
 use Rattle.dep_model.specs.Dependencies.{left_of, right_of}
 use Rattle.dep_model.specs.Schemas.{names_of}
 use Rattle.derivation.specs.Trees.{augmentation, complementation, maugmentation, replication}
 use Rattle.derivation.proofs.WithinLemmas.{OfAttributes}
 use Rattle.lexer.specs.declared.token.Mode.TheVariants as mode
-use Rattle.lexer.specs.declared.token.Stop.{Stop}
+use Rattle.lexer.specs.declared.token.LexError.{LexError}
 use Rattle.lexer.specs.Tokens.{Mark, lex}
 use Rattle.schema_grammar.specs.declared.symbol.Sign.TheVariants as sign
 use Rattle.schema_grammar.specs.declared.format.Format.TheVariants as format
-use Rattle.schema_grammar.specs.Grammar.{stated}
+use Rattle.schema_grammar.specs.Grammar.{dependency_of_sign}
 use Rattle.schema_grammar.specs.Meanings.{IsSide}
 use Rattle.schema_grammar.proofs.WithinLemmas.{named_within}
 use Rattle.proof_grammar.specs.declared.line_kind.LineKind.{LineKind}
@@ -25,18 +25,18 @@ use Rattle.proof_grammar.specs.Texts.{is_yes, is_blank, is_blank_from, kind_from
 use Rattle.proof_grammar.proofs.PreparedLaws.{BodyOfAttributes, IsLineOfAttributes}
 
 -- ---- the lines that count from a line on; `fresh` is whether a `yes` may still come
-abbrev pub spoken : List (List ℕ) → List (List ℕ)
-spoken texts = filter (λ line. not (is_blank (lex mode.Numbered line))) texts
+abbrev pub lines_that_count : List (List ℕ) → List (List ℕ)
+lines_that_count texts = filter (λ line. not (is_blank (lex mode.Numbered line))) texts
 
-abbrev pub counted : Bool → List (List ℕ) → List (List ℕ)
-counted true texts = certificate_lines_of texts
-counted false texts = spoken texts
+abbrev pub lines_to_read : Bool → List (List ℕ) → List (List ℕ)
+lines_to_read true texts = certificate_lines_of texts
+lines_to_read false texts = lines_that_count texts
 
 -- how a line changes them
 abbrev pub Counts : LineKind → Bool → List ℕ → Type 0
-Counts Blank fresh text = (texts : List (List ℕ)) → counted fresh (text ∷ texts) ≡ counted fresh texts
-Counts Opening fresh text = (texts : List (List ℕ)) → counted fresh (text ∷ texts) ≡ counted false texts
-Counts Certificate fresh text = (texts : List (List ℕ)) → counted fresh (text ∷ texts) ≡ text ∷ counted false texts
+Counts Blank fresh text = (texts : List (List ℕ)) → lines_to_read fresh (text ∷ texts) ≡ lines_to_read fresh texts
+Counts Opening fresh text = (texts : List (List ℕ)) → lines_to_read fresh (text ∷ texts) ≡ lines_to_read false texts
+Counts Certificate fresh text = (texts : List (List ℕ)) → lines_to_read fresh (text ∷ texts) ≡ text ∷ lines_to_read false texts
 
 pub kind_counts : (fresh : Bool) (text : List ℕ) (k : LineKind) → line_kind fresh (lex mode.Numbered text) ≡ k → Counts k fresh text
 unfolding line_kind
@@ -44,7 +44,7 @@ kind_counts fresh text k e =
     subst (λ (j : LineKind). Counts j fresh text) e
     (told fresh (lex mode.Numbered text).marks (lex mode.Numbered text).stop refl refl)
   where
-    told : (a : Bool) (ms : List Mark) (stop : Option Stop) → (lex mode.Numbered text).marks ≡ ms
+    told : (a : Bool) (ms : List Mark) (stop : Option LexError) → (lex mode.Numbered text).marks ≡ ms
         → (lex mode.Numbered text).stop ≡ stop → Counts (kind_from a ms stop) a text
     told true [] None marks ends = λ texts. rw (marks, ends) refl
     told false [] None marks ends = λ texts. rw (marks, ends) refl
@@ -56,12 +56,12 @@ kind_counts fresh text k e =
     told false (m ∷ ms) stop marks ends = λ texts. rw marks refl
 
 -- ---- the sets of a line
-of_attributes : (s : Schema) (ms : List Mark) (x : Places) → IsSide format.Plain (names_of s) ms x → OfAttributes x
+of_attributes : (s : Schema) (ms : List Mark) (x : Attributes) → IsSide format.Plain (names_of s) ms x → OfAttributes x
 of_attributes s ms x (inl empty) k member =
-    let wrong : true ≡ false = sym member ∙ ap (λ (y : Places). y k) empty.nothing in cc
+    let wrong : true ≡ false = sym member ∙ ap (λ (y : Attributes). y k) empty.nothing in cc
 of_attributes s ms x (inr some) k member =
     let inside : below (length (names_of s)) k ≡ true =
-    named_within (names_of s) ms k (ap (λ (y : Places). y k) (sym some.members) ∙ member) in
+    named_within (names_of s) ms k (ap (λ (y : Attributes). y k) (sym some.members) ∙ member) in
     grind (arith, nat_tests, inside, s.valid.few_names)
 
 rule_of_attributes : (s : Schema) (ms : List Mark) (b : Body) → IsRule (names_of s) ms b → BodyOfAttributes b
@@ -80,10 +80,10 @@ rule_of_attributes s ms (by_pair rule p q) is = tt
 pub line_of_attributes : (s : Schema) (text : List ℕ) (l : Line) → MeansLine (names_of s) text l → IsLineOfAttributes l
 line_of_attributes s text l means =
     let d = means.is_line.dependency in
-    let left : left_of (stated d.sign d.x d.y) ≡ d.x =
-    elim d.sign as (λ g. left_of (stated g d.x d.y) ≡ d.x) [ sign.Functional ↦ refl | sign.Multivalued ↦ refl ] in
-    let right : right_of (stated d.sign d.x d.y) ≡ d.y =
-    elim d.sign as (λ g. right_of (stated g d.x d.y) ≡ d.y) [ sign.Functional ↦ refl | sign.Multivalued ↦ refl ] in
+    let left : left_of (dependency_of_sign d.sign d.x d.y) ≡ d.x =
+    elim d.sign as (λ g. left_of (dependency_of_sign g d.x d.y) ≡ d.x) [ sign.Functional ↦ refl | sign.Multivalued ↦ refl ] in
+    let right : right_of (dependency_of_sign d.sign d.x d.y) ≡ d.y =
+    elim d.sign as (λ g. right_of (dependency_of_sign g d.x d.y) ≡ d.y) [ sign.Functional ↦ refl | sign.Multivalued ↦ refl ] in
     record {
       left = rw (d.states, left) (of_attributes s d.lhs d.x d.left_side);
       right = rw (d.states, right) (of_attributes s d.rhs d.y d.right_side);

@@ -10,7 +10,7 @@ use Rattle.dep_model.specs.declared.schema.Schema.{Schema}
 use Rattle.derivation.specs.Trees.{Tree, depth}
 use Rattle.proof_grammar.specs.Lines.{Body, by_given, by_reflexivity, by_mreflexivity, by_step, by_pair, Line}
 use Rattle.proof_grammar.specs.Spelling.{IsTreeAt, IsTreeOf, AreNodes, AreNodesOf, premises_of, uses}
-use Rattle.proof_grammar.proofs.NodeLemmas.{seam}
+use Rattle.proof_grammar.proofs.NodeLemmas.{slice_get-append}
 use Rattle.proof_grammar.proofs.SlotLemmas.{times}
 use Rattle.proof_grammar.proofs.PremiseLemmas.{times_other, times_two}
 
@@ -66,11 +66,11 @@ record IsUsed (prior ts : List Tree) (n : ℕ) : Type 0 where
   below : IsBelow (prior ++ ts) n tree
   later : n ≤ length prior + at
 
-user : (s : Schema) (prior : List Tree) (ls : List Line) (ts : List Tree) (n : ℕ) → AreNodes s prior ls ts → 0 < uses n ls → IsUsed prior ts n
-user s prior [] [] n are some = let none : ⊥ = omega (arith, some) in absurd none
-user s prior [] (t ∷ ts) n are some = absurd are
-user s prior (l ∷ ls) [] n are some = absurd are
-user s prior (l ∷ ls) (t ∷ ts) n (here, rest) some =
+line_using : (s : Schema) (prior : List Tree) (ls : List Line) (ts : List Tree) (n : ℕ) → AreNodes s prior ls ts → 0 < uses n ls → IsUsed prior ts n
+line_using s prior [] [] n are some = let none : ⊥ = omega (arith, some) in absurd none
+line_using s prior [] (t ∷ ts) n are some = absurd are
+line_using s prior (l ∷ ls) [] n are some = absurd are
+line_using s prior (l ∷ ls) (t ∷ ts) n (here, rest) some =
     ⊎_elim
     (λ (own : 0 < times n (premises_of l.body)).
     let below = line_below prior l l.body t n here.tree own in
@@ -94,7 +94,7 @@ user s prior (l ∷ ls) (t ∷ ts) n (here, rest) some =
       later = omega (arith, inside, below.at.number);
     })
     (λ (none : times n (premises_of l.body) ≤ 0).
-    let used = user s (prior ++ t ∷ []) ls ts n rest (omega (arith, none, some, uses_first n l ls)) in
+    let used = line_using s (prior ++ t ∷ []) ls ts n rest (omega (arith, none, some, uses_first n l ls)) in
     record {
       at = suc used.at;
       tree = used.tree;
@@ -112,7 +112,7 @@ climb s lines t are zero i u far here =
     let size : length all ≡ length are.before + 1 = length-append are.before (t ∷ []) in
     let count = nodes_size s [] lines all are.nodes in
     let last : i ≡ length are.before = omega (arith, far, inside, size, count) in
-    let both : Some u ≡ Some t = sym here ∙ ap (slice_get all) last ∙ seam are.before t [] in
+    let both : Some u ≡ Some t = sym here ∙ ap (slice_get all) last ∙ slice_get-append are.before t [] in
     let same : u ≡ t = cc in
     omega (arith, ap depth same)
 climb s lines t are (suc k) i u far here =
@@ -120,7 +120,7 @@ climb s lines t are (suc k) i u far here =
     ⊎_elim
     (λ (low : i + 1 < length lines).
     let once = are.used (i + 1) (omega arith) low in
-    let used = user s [] lines all (i + 1) are.nodes (omega (arith, once)) in
+    let used = line_using s [] lines all (i + 1) are.nodes (omega (arith, once)) in
     let at : used.below.at.before ≡ i = omega (arith, used.below.at.number) in
     let both : Some used.below.premise ≡ Some u = sym used.below.at.tree ∙ ap (slice_get all) at ∙ here in
     let same : used.below.premise ≡ u = cc in

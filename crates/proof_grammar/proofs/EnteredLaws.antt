@@ -4,22 +4,22 @@ use Rattle.std.proofs.lemmas.Bool.{cases_lt}
 use Rattle.dep_model.specs.declared.schema.Schema.{Schema}
 use Rattle.derivation.specs.declared.measures.TheConstants.{MOST_NODES, MOST_LEVELS}
 use Rattle.derivation.specs.Trees.{Tree, depth}
-use Rattle.proof_grammar.specs.Books.{Ledger}
+use Rattle.proof_grammar.specs.CheckerStates.{CheckerStateValue}
 use Rattle.proof_grammar.specs.Lines.{Body, Line}
 use Rattle.proof_grammar.specs.Spelling.{IsTreeOf, IsNode, premises_of}
 use Rattle.proof_grammar.proofs.SlotLemmas.{AreSlots, times}
 use Rattle.proof_grammar.proofs.PreparedLaws.{tree_earlier}
 
--- the ledger after lines that are used so often
-pub record Follows (s : Schema) (used : ℕ → ℕ) (ts : List Tree) (book : Ledger) : Type 0 where
+-- the checker state after lines that are used so often
+pub record Follows (s : Schema) (used : ℕ → ℕ) (ts : List Tree) (book : CheckerStateValue) : Type 0 where
   pub slots : AreSlots s used 0 ts book.unused
   pub fresh : (n : ℕ) → length ts ≤ n → used n ≡ 0
 
 abbrev pub used_after : (ℕ → ℕ) → Line → ℕ → ℕ
 used_after used l n = used n + times n (premises_of l.body)
 
--- a node within the limits, after which the ledger follows
-pub record IsEntered (s : Schema) (used : ℕ → ℕ) (ts : List Tree) (l : Line) (next : Ledger) (t : Tree) : Type 0 where
+-- a node within the limits, after which the checker state follows
+pub record IsEntered (s : Schema) (used : ℕ → ℕ) (ts : List Tree) (l : Line) (next : CheckerStateValue) (t : Tree) : Type 0 where
   pub node : IsNode s ts l t
   pub few_lines : length ts < MOST_NODES
   pub few_levels : depth t ≤ MOST_LEVELS

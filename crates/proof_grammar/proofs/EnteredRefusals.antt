@@ -1,10 +1,11 @@
--- A line is entered by the reader's ledger exactly where nothing is wrong, and refused for its first complaint.
+-- A line is entered by the reader's checker state exactly where nothing is wrong, and refused for its
+-- first diagnostic.
 use Rattle.std.proofs.Common.{◌≡◌, ◌<◌, ◌≤◌, ◌+◌, ◌==◌, ℕ, Bool, true, false, cond, List, length, Some, Result, Ok, Err, refl, sym, ◌∙◌, ap, subst, arith}
 use Rattle.std.specs.Prelude.{nat_lt, nat_le}
 use Rattle.std.proofs.lemmas.Bool.{true≢false}
 use Rattle.std.proofs.lemmas.Bool.Decides.{nat_tests}
 use Rattle.std.proofs.lemmas.List.{length_push}
-use Rattle.attr_sets.specs.Places.{Places, Within, below}
+use Rattle.attr_sets.specs.Attributes.{Attributes, IsSubset, below}
 use Rattle.dep_model.specs.declared.schema.Schema.{Schema}
 use Rattle.dep_model.specs.Dependencies.{Dependency, left_of, right_of}
 use Rattle.dep_model.specs.Schemas.{universe_of, width_of}
@@ -14,8 +15,8 @@ use Rattle.derivation.specs.Trees.{Tree, depth}
 use Rattle.derivation.specs.Conclusions.{Proves}
 use Rattle.derivation.proofs.ConclusionLemmas.{Proves-one}
 use Rattle.derivation.proofs.WithinLemmas.{OfAttributes, conclusion_within}
-use Rattle.proof_grammar.specs.Books.{Opened, Ledger, Prepared, prepared, settled, concluded_as, add_line, entered}
-use Rattle.proof_grammar.specs.Complaints.{Complaint, no_such_line, used_twice, wrong_number, too_many_lines, too_deep, unsound, states_other}
+use Rattle.proof_grammar.specs.CheckerStates.{Opened, CheckerStateValue, Prepared, prepare_line, within_limits, concluded_as, add_line, enter_line}
+use Rattle.proof_grammar.specs.Diagnostics.{Diagnostic, no_such_line, used_twice, wrong_number, too_many_lines, too_deep, unsound, states_other}
 use Rattle.proof_grammar.specs.Lines.{Line}
 use Rattle.proof_grammar.specs.Nodes.{same_dependency}
 use Rattle.schema_grammar.specs.Rests.{◌>>=◌}
@@ -29,23 +30,23 @@ use Rattle.proof_grammar.proofs.SameLemmas.{same_there, same_self}
 use Rattle.proof_grammar.proofs.SlotLemmas.{slots_size, slots_push}
 use Rattle.proof_grammar.proofs.WrongLemmas.{first_of, no_fault, one_of_rank}
 
--- ---- what is settled
-record IsSettled (before : ℕ) (l : Line) (p : Prepared) (o : Opened) : Type 0 where
+-- ---- what passes the limits
+record PassesLimits (before : ℕ) (l : Line) (p : Prepared) (o : Opened) : Type 0 where
   few_lines : before < MOST_NODES
   few_levels : p.levels ≤ MOST_LEVELS
   same_levels : o.levels ≡ p.levels
   concludes : p.outcome ≡ Ok (o.tree, o.conclusion)
   same : same_dependency l.stated o.conclusion ≡ true
 
-abbrev Settles : Schema → List Line → List Tree → Line → Prepared → Result Opened Complaint → Type 0
-Settles s lines ts l p (Ok o) = IsSettled (length ts) l p o
-Settles s lines ts l p (Err c) = IsFirstWrong s lines ts l c
+abbrev ChecksLimits : Schema → List Line → List Tree → Line → Prepared → Result Opened Diagnostic → Type 0
+ChecksLimits s lines ts l p (Ok o) = PassesLimits (length ts) l p o
+ChecksLimits s lines ts l p (Err c) = IsFirstWrong s lines ts l c
 
-settles : (s : Schema) (lines : List Line) (ts : List Tree) (l : Line) (p : Prepared) → l.number ≡ length ts + 1
+checks_limits : (s : Schema) (lines : List Line) (ts : List Tree) (l : Line) (p : Prepared) → l.number ≡ length ts + 1
     → AllEarlier ts (premises_of l.body) → AllOnce (λ n. uses n lines) (premises_of l.body)
-    → IsOutcome s (λ n. uses n lines) ts l p → Settles s lines ts l p (settled (length ts) l p.levels p.outcome)
-unfolding settled
-settles s lines ts l p number earlier once is =
+    → IsOutcome s (λ n. uses n lines) ts l p → ChecksLimits s lines ts l p (within_limits (length ts) l p.levels p.outcome)
+unfolding within_limits
+checks_limits s lines ts l p number earlier once is =
     told (nat_le MOST_NODES (length ts)) (nat_lt MOST_LEVELS p.levels) p.outcome refl refl refl
   where
     named : NamesNoLine ts l → ⊥
@@ -58,7 +59,7 @@ settles s lines ts l p number earlier once is =
     flat few deep = omega (arith, few, is.levels deep.tree deep.is, deep.deep)
 
     stated : (u : Tree) (d : Dependency) (b : Bool) → length ts < MOST_NODES → p.levels ≤ MOST_LEVELS
-        → p.outcome ≡ Ok (u, d) → same_dependency l.stated d ≡ b → Settles s lines ts l p
+        → p.outcome ≡ Ok (u, d) → same_dependency l.stated d ≡ b → ChecksLimits s lines ts l p
         (cond b (Ok (record { tree = u; levels = p.levels; conclusion = d })) (Err (states_other l.stated d)))
     stated u d true few_lines few_levels concludes same = record {
       few_lines = few_lines;
@@ -84,7 +85,7 @@ settles s lines ts l p number earlier once is =
         }
 
     told : (a b : Bool) (r : Result (Tree × Dependency) FaultKind) → nat_le MOST_NODES (length ts) ≡ a
-        → nat_lt MOST_LEVELS p.levels ≡ b → p.outcome ≡ r → Settles s lines ts l p
+        → nat_lt MOST_LEVELS p.levels ≡ b → p.outcome ≡ r → ChecksLimits s lines ts l p
         (cond a (Err too_many_lines) (cond b (Err too_deep) (concluded_as l.number l.stated p.levels r)))
     told true b r many deep concludes = record {
       wrong = grind (arith, nat_tests, many);
@@ -112,41 +113,41 @@ settles s lines ts l p number earlier once is =
         (grind (arith, nat_tests, many)) (grind (arith, nat_tests, deep)) concludes refl
 
 -- ---- what is entered
-abbrev pub Enters : Schema → List Line → List Tree → Line → Result Ledger Complaint → Type 0
+abbrev pub Enters : Schema → List Line → List Tree → Line → Result CheckerStateValue Diagnostic → Type 0
 Enters s lines ts l (Ok next) = (t : Tree) × IsEntered s (λ n. uses n lines) ts l next t
     × AllOnce (λ n. uses n lines) (premises_of l.body)
 Enters s lines ts l (Err c) = IsFirstWrong s lines ts l c
 
--- the ledger after one line more
-pushed : (s : Schema) (at : ℕ) (lines : List Line) (ts : List Tree) (book : Ledger) (l : Line) (p : Prepared)
-    (r : Result Opened Complaint) → Follows s (λ n. uses n lines) ts book → IsLineOfAttributes l
+-- the checker state after one line more
+Follows-push : (s : Schema) (at : ℕ) (lines : List Line) (ts : List Tree) (book : CheckerStateValue) (l : Line) (p : Prepared)
+    (r : Result Opened Diagnostic) → Follows s (λ n. uses n lines) ts book → IsLineOfAttributes l
     → l.number ≡ length ts + 1 → AllOnce (λ n. uses n lines) (premises_of l.body)
-    → IsOutcome s (λ n. uses n lines) ts l p → Settles s lines ts l p r
+    → IsOutcome s (λ n. uses n lines) ts l p → ChecksLimits s lines ts l p r
     → Enters s lines ts l (r >>= λ o. Ok (add_line at book.lines p.unused o))
-pushed s at lines ts book l p (Err c) follows own number once is first = first
-pushed s at lines ts book l p (Ok o) follows own number once is settles =
+Follows-push s at lines ts book l p (Err c) follows own number once is first = first
+Follows-push s at lines ts book l p (Ok o) follows own number once is checks_limits =
     let t = o.tree in
     let used : ℕ → ℕ = used_after (λ n. uses n lines) l in
-    let gives = is.gives t o.conclusion settles.concludes in
+    let gives = is.gives t o.conclusion checks_limits.concludes in
     let levels = is.levels t gives.0 in
-    let low : (x : Places) → Within x (universe_of s) → OfAttributes x = λ x within k h.
+    let low : (x : Attributes) → IsSubset x (universe_of s) → OfAttributes x = λ x within k h.
     let inside : below (width_of s) k ≡ true = within k h in grind (arith, nat_tests, inside, s.valid.few_names) in
     let within = conclusion_within s t o.conclusion gives.2 gives.1 in
     let same = same_there l.stated o.conclusion own.left own.right (low (left_of o.conclusion) within.0)
-    (low (right_of o.conclusion) within.1) settles.same in
+    (low (right_of o.conclusion) within.1) checks_limits.same in
     let later : (n : ℕ) → length ts < n → used n ≡ 0 = λ n h.
     omega (arith, follows.fresh n (omega (arith, h)), premises_early ts l l.body t n gives.0 h) in (
       t,
       record {
         node = record { number = number; tree = gives.0; states = subst (Proves s t) (sym same) gives.1 };
-        few_lines = settles.few_lines;
-        few_levels = omega (arith, settles.few_levels, levels);
+        few_lines = checks_limits.few_lines;
+        few_levels = omega (arith, checks_limits.few_levels, levels);
         follows = record {
           slots = slots_push s used 0 ts p.unused t (Some o) is.slots (
             later (0 + length ts + 1) (omega arith),
             record {
               tree = refl;
-              levels = settles.same_levels ∙ levels;
+              levels = checks_limits.same_levels ∙ levels;
               proves = gives.1;
               attributes = gives.2;
             },
@@ -157,20 +158,20 @@ pushed s at lines ts book l p (Ok o) follows own number once is settles =
       once,
     )
 
-pub enters : (s : Schema) (at : ℕ) (lines : List Line) (ts : List Tree) (book : Ledger) (l : Line)
-    → Follows s (λ n. uses n lines) ts book → IsLineOfAttributes l → Enters s lines ts l (entered s at book l)
-unfolding entered
+pub enters : (s : Schema) (at : ℕ) (lines : List Line) (ts : List Tree) (book : CheckerStateValue) (l : Line)
+    → Follows s (λ n. uses n lines) ts book → IsLineOfAttributes l → Enters s lines ts l (enter_line s at book l)
+unfolding enter_line
 enters s at lines ts book l follows own = told (l.number == length book.unused + 1) refl
   where
     size : length book.unused ≡ length ts
     size = slots_size s (λ n. uses n lines) 0 ts book.unused follows.slots
 
-    made : l.number ≡ length ts + 1 → (r : Result Prepared Complaint) → Prepares s lines ts l r
-        → Enters s lines ts l (r >>= λ p. settled (length book.unused) l p.levels p.outcome
+    made : l.number ≡ length ts + 1 → (r : Result Prepared Diagnostic) → Prepares s lines ts l r
+        → Enters s lines ts l (r >>= λ p. within_limits (length book.unused) l p.levels p.outcome
         >>= λ o. Ok (add_line at book.lines p.unused o))
-    made number (Ok p) is = pushed s at lines ts book l p (settled (length book.unused) l p.levels p.outcome) follows own
-        number is.1 is.2 (subst (λ n. Settles s lines ts l p (settled n l p.levels p.outcome)) (sym size)
-        (settles s lines ts l p number is.0 is.1 is.2))
+    made number (Ok p) is = Follows-push s at lines ts book l p (within_limits (length book.unused) l p.levels p.outcome) follows own
+        number is.1 is.2 (subst (λ n. ChecksLimits s lines ts l p (within_limits n l p.levels p.outcome)) (sym size)
+        (checks_limits s lines ts l p number is.0 is.1 is.2))
     made number (Err no_such_line) wrong =
         record { wrong = wrong; first = first_of s lines ts l 3 (omega arith) (number, tt, tt, tt, tt, tt) }
     made number (Err used_twice) wrong = record {
@@ -180,10 +181,10 @@ enters s at lines ts book l follows own = told (l.number == length book.unused +
     made number (Err _) wrong = absurd wrong
 
     told : (b : Bool) → (l.number == length book.unused + 1) ≡ b
-        → Enters s lines ts l (cond b (prepared s book.unused l.stated l.body
-        >>= λ p. settled (length book.unused) l p.levels p.outcome
+        → Enters s lines ts l (cond b (prepare_line s book.unused l.stated l.body
+        >>= λ p. within_limits (length book.unused) l p.levels p.outcome
         >>= λ o. Ok (add_line at book.lines p.unused o)) (Err wrong_number))
-    told true e = made (grind (arith, nat_tests, e, size)) (prepared s book.unused l.stated l.body)
+    told true e = made (grind (arith, nat_tests, e, size)) (prepare_line s book.unused l.stated l.body)
         (prepares s lines ts book.unused l.number l.stated l.body follows.slots own)
     told false e = record {
       wrong = λ is. grind (arith, nat_tests, e, size, is);
@@ -191,7 +192,7 @@ enters s at lines ts book l follows own = told (l.number == length book.unused +
     }
 
 -- ---- where nothing is wrong, and where something is
-nothing_wrong : (s : Schema) (lines : List Line) (ts : List Tree) (l : Line) (t : Tree) (c : Complaint) → IsNode s ts l t
+nothing_wrong : (s : Schema) (lines : List Line) (ts : List Tree) (l : Line) (t : Tree) (c : Diagnostic) → IsNode s ts l t
     → length ts < MOST_NODES → depth t ≤ MOST_LEVELS → AllOnce (λ n. uses n lines) (premises_of l.body)
     → Wrong s lines ts l c → ⊥
 nothing_wrong s lines ts l t wrong_number node few flat once wrong = wrong node.number
@@ -210,15 +211,15 @@ nothing_wrong s lines ts l t (states_other stated concluded) node few flat once 
 nothing_wrong s lines ts l t _ node few flat once wrong = wrong
 
 -- a node within the limits is entered
-pub entered_back : (s : Schema) (at : ℕ) (lines : List Line) (ts : List Tree) (book : Ledger) (l : Line) (t : Tree)
+pub entered_back : (s : Schema) (at : ℕ) (lines : List Line) (ts : List Tree) (book : CheckerStateValue) (l : Line) (t : Tree)
     → Follows s (λ n. uses n lines) ts book → IsLineOfAttributes l → IsNode s ts l t → length ts < MOST_NODES
     → depth t ≤ MOST_LEVELS → ((n : ℕ) → 0 < n → used_after (λ n. uses n lines) l n ≤ 1)
-    → (next : Ledger) × (entered s at book l ≡ Ok next) × IsEntered s (λ n. uses n lines) ts l next t
+    → (next : CheckerStateValue) × (enter_line s at book l ≡ Ok next) × IsEntered s (λ n. uses n lines) ts l next t
 entered_back s at lines ts book l t follows own node few flat once =
-    told (entered s at book l) refl (enters s at lines ts book l follows own)
+    told (enter_line s at book l) refl (enters s at lines ts book l follows own)
   where
-    told : (r : Result Ledger Complaint) → entered s at book l ≡ r → Enters s lines ts l r
-        → (next : Ledger) × (entered s at book l ≡ Ok next) × IsEntered s (λ n. uses n lines) ts l next t
+    told : (r : Result CheckerStateValue Diagnostic) → enter_line s at book l ≡ r → Enters s lines ts l r
+        → (next : CheckerStateValue) × (enter_line s at book l ≡ Ok next) × IsEntered s (λ n. uses n lines) ts l next t
     told (Ok next) e is = (
       next,
       e,
@@ -228,14 +229,14 @@ entered_back s at lines ts book l t follows own node few flat once =
     told (Err c) e first = absurd (nothing_wrong s lines ts l t c node few flat
         (λ n some. once n (tree_earlier ts l l.body t node.tree n some).0) first.wrong)
 
--- a line is refused for its first complaint
-pub refused_entered : (s : Schema) (at : ℕ) (lines : List Line) (ts : List Tree) (book : Ledger) (l : Line)
-    (c : Complaint) → Follows s (λ n. uses n lines) ts book → IsLineOfAttributes l → IsFirstWrong s lines ts l c
-    → entered s at book l ≡ Err c
+-- a line is refused for its first diagnostic
+pub refused_entered : (s : Schema) (at : ℕ) (lines : List Line) (ts : List Tree) (book : CheckerStateValue) (l : Line)
+    (c : Diagnostic) → Follows s (λ n. uses n lines) ts book → IsLineOfAttributes l → IsFirstWrong s lines ts l c
+    → enter_line s at book l ≡ Err c
 refused_entered s at lines ts book l c follows own first =
-    told (entered s at book l) (enters s at lines ts book l follows own)
+    told (enter_line s at book l) (enters s at lines ts book l follows own)
   where
-    told : (r : Result Ledger Complaint) → Enters s lines ts l r → r ≡ Err c
+    told : (r : Result CheckerStateValue Diagnostic) → Enters s lines ts l r → r ≡ Err c
     told (Ok next) is =
         absurd (nothing_wrong s lines ts l is.0 c is.1.node is.1.few_lines is.1.few_levels is.2 first.wrong)
     told (Err d) other = ap Err (one_of_rank s lines ts l d c

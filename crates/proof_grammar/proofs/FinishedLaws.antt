@@ -1,11 +1,11 @@
--- The first open slot of the reader's ledger, and the last one.
+-- The first open slot of the reader's checker state, and the last one.
 use Rattle.std.proofs.Common.{◌≡◌, ⊎_elim, ◌<◌, ◌≤◌, ◌+◌, ℕ, List, [], ◌∷◌, ◌++◌, length, Option, Some, None, refl, ◌∙◌, ap, subst, arith}
 use Rattle.std.specs.Prelude.{not, is_some}
 use Rattle.std.specs.List.{prefix_len}
 use Rattle.std.proofs.lemmas.Bool.{cases_lt}
 use Rattle.dep_model.specs.declared.schema.Schema.{Schema}
 use Rattle.derivation.specs.Trees.{Tree}
-use Rattle.proof_grammar.specs.Books.{Opened}
+use Rattle.proof_grammar.specs.CheckerStates.{Opened}
 use Rattle.proof_grammar.proofs.SlotLemmas.{IsSlot, AreSlots}
 
 -- lines after so many others are used once
@@ -13,8 +13,8 @@ abbrev pub AreUsed : (ℕ → ℕ) → ℕ → ℕ → Type 0
 AreUsed used n m = (k : ℕ) → n < k → k ≤ n + m → used k ≡ 1
 
 -- ---- the first open slot
-abbrev pub prefix : List (Option Opened) → ℕ
-prefix os = prefix_len (λ o. not (is_some o)) os
+abbrev pub open_prefix : List (Option Opened) → ℕ
+open_prefix os = prefix_len (λ o. not (is_some o)) os
 
 -- among slots after so many others, or the end; those before it are used once
 pub record IsFirstOpen (used : ℕ → ℕ) (n i size : ℕ) : Type 0 where
@@ -22,7 +22,7 @@ pub record IsFirstOpen (used : ℕ → ℕ) (n i size : ℕ) : Type 0 where
   pub earlier : AreUsed used n i
 
 pub first_open : (s : Schema) (used : ℕ → ℕ) (n : ℕ) (ts : List Tree) (os : List (Option Opened))
-    → AreSlots s used n ts os → IsFirstOpen used n (prefix os) (length ts)
+    → AreSlots s used n ts os → IsFirstOpen used n (open_prefix os) (length ts)
 first_open s used n [] [] slots = record {
   unused = λ less. absurd (omega (arith, less));
   earlier = λ k low high. absurd (omega (arith, low, high));
@@ -33,7 +33,7 @@ first_open s used n (t ∷ ts) (Some o ∷ os) slots = record {
 }
 first_open s used n (t ∷ ts) (None ∷ os) slots =
     let more = first_open s used (n + 1) ts os slots.1 in
-    let same : n + (1 + prefix os) + 1 ≡ n + 1 + prefix os + 1 = omega arith in
+    let same : n + (1 + open_prefix os) + 1 ≡ n + 1 + open_prefix os + 1 = omega arith in
     record {
       unused = λ less. ap used same ∙ more.unused (omega (arith, less));
       earlier = λ k low high. ⊎_elim (λ later. more.earlier k later (omega (arith, high)))

@@ -3,7 +3,7 @@ use Rattle.std.proofs.Common.{◌≡◌, inl, inr, ⊎_elim, ℕ, zero, suc, tru
 use Rattle.std.proofs.lemmas.Bool.{true≢false, false≢true}
 use Rattle.std.proofs.lemmas.Option.{none-some, same_Some}
 use Rattle.std.specs.Prelude.{◌↔◌, codes, map}
-use Rattle.dep_model.specs.Schemas.{place_named}
+use Rattle.dep_model.specs.Schemas.{attribute_named}
 use Rattle.lexer.specs.declared.token.TokenKind.{TokenKind}
 use Rattle.lexer.specs.declared.token.TokenKind.TheVariants as token
 use Rattle.lexer.specs.Tokens.{Mark}
@@ -12,26 +12,26 @@ use Rattle.schema_grammar.specs.declared.refusal.SchemaRefusal.{SchemaRefusal}
 use Rattle.schema_grammar.specs.Words.{is_reserved}
 use Rattle.proof_grammar.specs.declared.rule_name.RuleName.TheVariants as rule
 use Rattle.proof_grammar.specs.Lines.{Line, certificate_line}
-use Rattle.proof_grammar.specs.LineComplaints.{TokenForm, token_form, word_form, forms, a_number, a_colon, an_arrow, an_empty, a_with, a_rule, a_word, AreLine, BeginLine, TakesNames, FormsWant}
+use Rattle.proof_grammar.specs.LineDiagnostics.{TokenForm, token_form, word_form, token_forms, a_number, a_colon, an_arrow, an_empty, a_with, a_rule, a_word, AreLine, BeginLine, TakesNames, FormsWant}
 use Rattle.proof_grammar.specs.Tokens.{is_with, rule_word}
-use Rattle.proof_grammar.proofs.FormShapes.{heading, lhs, rhs, by, wide, narrow, ending, Shape, at_number, at_start, at_side, past, at_rule, at_with, Ends, comes_from, is_final, may_end, runs, runs-append, takes_words, then_turn, turn, wanted_by}
+use Rattle.proof_grammar.proofs.FormShapes.{heading, lhs, rhs, by, wide, narrow, ending, Shape, at_number, at_start, at_side, past, at_rule, at_with, Ends, comes_from, is_final, may_end, runs, runs-append, takes_words, then_turn, shape_after, wanted_by}
 use Rattle.proof_grammar.proofs.JudgedLines.{Judged, WrongAt}
 use Rattle.proof_grammar.proofs.JudgedRules.{line_judged}
 use Rattle.proof_grammar.proofs.LineLaws.{line_reads, marks_read}
-use Rattle.proof_grammar.proofs.TokenLaws.{spelled, named_back, rest_at}
+use Rattle.proof_grammar.proofs.TokenLaws.{rule_spelling, named_back, rest_at}
 
 -- ---- a token of each form, over names that are all words of the grammar, and one more
 abbrev sample_of : TokenKind → List ℕ → Mark
 sample_of k word = record { kind = k; column = 0; word = word }
 
-abbrev sample : TokenForm → Mark
-sample a_number = sample_of (token.Number 0) (codes "a")
-sample a_colon = sample_of token.Colon (codes "a")
-sample an_arrow = sample_of token.Arrow (codes "a")
-sample an_empty = sample_of token.Empty (codes "a")
-sample a_with = sample_of token.Word (codes "with")
-sample (a_rule r) = sample_of token.Word (spelled r)
-sample a_word = sample_of token.Word (codes "a")
+abbrev sample_mark : TokenForm → Mark
+sample_mark a_number = sample_of (token.Number 0) (codes "a")
+sample_mark a_colon = sample_of token.Colon (codes "a")
+sample_mark an_arrow = sample_of token.Arrow (codes "a")
+sample_mark an_empty = sample_of token.Empty (codes "a")
+sample_mark a_with = sample_of token.Identifier (codes "with")
+sample_mark (a_rule r) = sample_of token.Identifier (rule_spelling r)
+sample_mark a_word = sample_of token.Identifier (codes "a")
 
 abbrev all_words : List (List ℕ)
 all_words =
@@ -39,18 +39,18 @@ all_words =
     ∷ codes "complementation" ∷ codes "mreflexivity" ∷ codes "maugmentation" ∷ codes "mtransitivity"
     ∷ codes "replication" ∷ codes "coalescence" ∷ []
 
-sample_form : (f : TokenForm) → token_form (sample f).kind (sample f).word ≡ f
+sample_form : (f : TokenForm) → token_form (sample_mark f).kind (sample_mark f).word ≡ f
 unfolding is_with rule_word
-sample_form (a_rule r) = ap (λ o. word_form o (is_with token.Word (spelled r))) (named_back r)
+sample_form (a_rule r) = ap (λ o. word_form o (is_with token.Identifier (rule_spelling r))) (named_back r)
 sample_form _ = refl
 
-sample_forms : (fs : List TokenForm) → forms (map sample fs) ≡ fs
+sample_forms : (fs : List TokenForm) → token_forms (map sample_mark fs) ≡ fs
 sample_forms [] = refl
 sample_forms (f ∷ fs) = (λ i. sample_form f i ∷ sample_forms fs i)
 
 -- the word of a sample is declared and not reserved
-sample_is_name : (f : TokenForm) → (place : ℕ) × (place_named all_words (sample f).word ≡ Some place)
-    × (is_reserved format.Plain (sample f).word ≡ false)
+sample_is_name : (f : TokenForm) → (index : ℕ) × (attribute_named all_words (sample_mark f).word ≡ Some index)
+    × (is_reserved format.Plain (sample_mark f).word ≡ false)
 unfolding is_reserved
 sample_is_name (a_rule rule.Given) = (_, refl, refl)
 sample_is_name _ = (_, refl, refl)
@@ -58,18 +58,18 @@ sample_is_name _ = (_, refl, refl)
 -- nothing is wrong with samples that lead to an end
 sample_fine : (o : Option Shape) (fs : List TokenForm) (last : Shape) (p n : ℕ) → runs o fs ≡ Some last
     → is_final last ≡ true
-    → WrongAt all_words None n (runs o (take p (forms (map sample fs)))) (slice_get (map sample fs) p) → ⊥
+    → WrongAt all_words None n (runs o (take p (token_forms (map sample_mark fs)))) (slice_get (map sample_mark fs) p) → ⊥
 sample_fine o (f ∷ fs) last (suc p) n leads final h =
     sample_fine (then_turn o f) fs last p n leads final (subst (λ g. WrongAt all_words None n
-    (runs (then_turn o g) (take p (forms (map sample fs)))) (slice_get (map sample fs) p)) (sample_form f) h)
+    (runs (then_turn o g) (take p (token_forms (map sample_mark fs)))) (slice_get (map sample_mark fs) p)) (sample_form f) h)
 sample_fine None (f ∷ fs) last zero n leads final h = h
 sample_fine (Some s) (f ∷ fs) last zero n leads final (inl (takes, (word, inl three))) =
     true≢false (sym three.1 ∙ (sample_is_name f).2)
 sample_fine (Some s) (f ∷ fs) last zero n leads final (inl (takes, (word, inr five))) =
     none-some (sample_is_name f).0 (sym five.1 ∙ (sample_is_name f).1)
 sample_fine (Some s) (f ∷ fs) last zero n leads final (inr six) =
-    let next = comes_from (turn s f) fs last leads in
-    none-some next.0 (sym six.1 ∙ ap (turn s) (sample_form f) ∙ next.1)
+    let next = comes_from (shape_after s f) fs last leads in
+    none-some next.0 (sym six.1 ∙ ap (shape_after s) (sample_form f) ∙ next.1)
 sample_fine None [] last p n leads final h = none-some last leads
 sample_fine (Some s) [] last zero n leads final h =
     true≢false (sym final ∙ ap is_final (same_Some last s (sym leads)) ∙ h.2)
@@ -78,22 +78,22 @@ sample_fine (Some s) [] last (suc p) n leads final h =
 
 -- ---- lines
 pub final_line : (fs : List TokenForm) (s : Shape) → runs (Some at_start) fs ≡ Some s → is_final s ≡ true → AreLine fs
-final_line fs s leads final = told (certificate_line all_words (rest_at 1 1 (map sample fs))) refl
-    (line_judged all_words 1 1 (map sample fs) None)
+final_line fs s leads final = told (certificate_line all_words (rest_at 1 1 (map sample_mark fs))) refl
+    (line_judged all_words 1 1 (map sample_mark fs) None)
   where
-    told : (r : Result Line SchemaRefusal) → certificate_line all_words (rest_at 1 1 (map sample fs)) ≡ r
-        → Judged at_start all_words 1 1 (map sample fs) None r → AreLine fs
+    told : (r : Result Line SchemaRefusal) → certificate_line all_words (rest_at 1 1 (map sample_mark fs)) ≡ r
+        → Judged at_start all_words 1 1 (map sample_mark fs) None r → AreLine fs
     told (Ok l) read judged =
-        let reads = line_reads all_words (rest_at 1 1 (map sample fs)) l read in
+        let reads = line_reads all_words (rest_at 1 1 (map sample_mark fs)) l read in
         record {
           names = all_words;
-          marks = map sample fs;
+          marks = map sample_mark fs;
           line = l;
           same_forms = sample_forms fs;
           is_line = reads.is_line;
         }
     told (Err e) read judged =
-        absurd (⊎_elim (λ here. sample_fine (Some at_start) fs s judged.place _ leads final here.1)
+        absurd (⊎_elim (λ here. sample_fine (Some at_start) fs s judged.position _ leads final here.1)
         (λ flaw. none-some flaw.0 flaw.1) judged.stands)
 
 pub line_ends : (fs : List TokenForm) → AreLine fs → Ends at_start fs
@@ -120,7 +120,7 @@ begins_to fs begins =
     comes_from (runs (Some at_start) fs) begins.rest ends.0 (sym (runs-append (Some at_start) fs begins.rest) ∙ ends.1)
 
 pub begins_on : (fs : List TokenForm) (f : TokenForm) → BeginLine (fs ++ f ∷ [])
-    → (s : Shape) × (t : Shape) × (runs (Some at_start) fs ≡ Some s) × (turn s f ≡ Some t)
+    → (s : Shape) × (t : Shape) × (runs (Some at_start) fs ≡ Some s) × (shape_after s f ≡ Some t)
 begins_on fs f begins =
     let on = begins_to (fs ++ f ∷ []) begins in
     let leads = sym (runs-append (Some at_start) fs (f ∷ [])) ∙ on.1 in
@@ -128,7 +128,7 @@ begins_on fs f begins =
     (here.0, on.0, here.1, sym (ap (λ o. then_turn o f) here.1) ∙ leads)
 
 pub on_begins : (fs : List TokenForm) (f : TokenForm) (s t : Shape) → runs (Some at_start) fs ≡ Some s
-    → turn s f ≡ Some t → BeginLine (fs ++ f ∷ [])
+    → shape_after s f ≡ Some t → BeginLine (fs ++ f ∷ [])
 on_begins fs f s t leads on = begins_from (fs ++ f ∷ []) t
     (runs-append (Some at_start) fs (f ∷ []) ∙ ap (λ o. then_turn o f) leads ∙ on)
 
@@ -142,7 +142,7 @@ names_at fs s leads = (
   λ names.
       let on = begins_on fs a_word names in
       let same = same_Some s on.0 (sym leads ∙ on.2) in
-      absurd (none-some on.1 (ap (λ t. turn t a_word) same ∙ on.3)),
+      absurd (none-some on.1 (ap (λ t. shape_after t a_word) same ∙ on.3)),
 )
 
 -- ---- what is wanted

@@ -4,7 +4,7 @@ use Rattle.schema_grammar.specs.declared.refusal.What.{What}
 use Rattle.schema_grammar.specs.declared.refusal.What.TheVariants as what
 use Rattle.proof_grammar.specs.declared.rule_name.RuleName.{RuleName}
 use Rattle.proof_grammar.specs.declared.rule_name.RuleName.TheVariants as rule
-use Rattle.proof_grammar.specs.LineComplaints.{TokenForm, a_number, a_colon, an_arrow, an_empty, a_with, a_rule, a_word}
+use Rattle.proof_grammar.specs.LineDiagnostics.{TokenForm, a_number, a_colon, an_arrow, an_empty, a_with, a_rule, a_word}
 
 -- the parts of a line that a colon, an arrow or the line's end follows: its number, the sides of its
 -- dependency, that of an augmentation, those of a wide one, and a rule without sets
@@ -50,33 +50,33 @@ abbrev pub past_word : Bool → Part → Option Shape
 past_word true k = Some (past true k)
 past_word false k = None
 
-abbrev pub beyond : Bool → Part → TokenForm → Option Shape
-beyond words k an_arrow = past_arrow k
-beyond words k a_colon = past_colon k
-beyond words k a_with = past_word words k
-beyond words k (a_rule r) = past_word words k
-beyond words k a_word = past_word words k
-beyond words k _ = None
+abbrev pub shape_after_side : Bool → Part → TokenForm → Option Shape
+shape_after_side words k an_arrow = past_arrow k
+shape_after_side words k a_colon = past_colon k
+shape_after_side words k a_with = past_word words k
+shape_after_side words k (a_rule r) = past_word words k
+shape_after_side words k a_word = past_word words k
+shape_after_side words k _ = None
 
 -- where a token at the start of a side leads
-abbrev pub begun : Part → TokenForm → Option Shape
-begun k an_empty = Some (past false k)
-begun k a_with = Some (past true k)
-begun k (a_rule r) = Some (past true k)
-begun k a_word = Some (past true k)
-begun k _ = None
+abbrev pub shape_in_side : Part → TokenForm → Option Shape
+shape_in_side k an_empty = Some (past false k)
+shape_in_side k a_with = Some (past true k)
+shape_in_side k (a_rule r) = Some (past true k)
+shape_in_side k a_word = Some (past true k)
+shape_in_side k _ = None
 
-abbrev pub named : RuleName → Shape
-named rule.Given = at_number nothing
-named rule.Reflexivity = past false ending
-named rule.Augmentation = at_number (sets by)
-named rule.Transitivity = at_number second
-named rule.Complementation = at_number nothing
-named rule.MReflexivity = past false ending
-named rule.MAugmentation = at_number (sets wide)
-named rule.MTransitivity = at_number second
-named rule.Replication = at_number nothing
-named rule.Coalescence = at_number second
+abbrev pub shape_of_rule : RuleName → Shape
+shape_of_rule rule.Given = at_number nothing
+shape_of_rule rule.Reflexivity = past false ending
+shape_of_rule rule.Augmentation = at_number (sets by)
+shape_of_rule rule.Transitivity = at_number second
+shape_of_rule rule.Complementation = at_number nothing
+shape_of_rule rule.MReflexivity = past false ending
+shape_of_rule rule.MAugmentation = at_number (sets wide)
+shape_of_rule rule.MTransitivity = at_number second
+shape_of_rule rule.Replication = at_number nothing
+shape_of_rule rule.Coalescence = at_number second
 
 abbrev pub past_number : After → Shape
 past_number first = past false heading
@@ -85,13 +85,13 @@ past_number second = at_number nothing
 past_number (sets k) = at_with k
 
 -- where a token of a form leads
-abbrev pub turn : Shape → TokenForm → Option Shape
-turn (at_number a) a_number = Some (past_number a)
-turn (at_side k) f = begun k f
-turn (past words k) f = beyond words k f
-turn at_rule (a_rule r) = Some (named r)
-turn (at_with k) a_with = Some (at_side k)
-turn _ _ = None
+abbrev pub shape_after : Shape → TokenForm → Option Shape
+shape_after (at_number a) a_number = Some (past_number a)
+shape_after (at_side k) f = shape_in_side k f
+shape_after (past words k) f = shape_after_side words k f
+shape_after at_rule (a_rule r) = Some (shape_of_rule r)
+shape_after (at_with k) a_with = Some (at_side k)
+shape_after _ _ = None
 
 -- whether the line ends with a part
 abbrev pub is_last : Part → Bool
@@ -126,7 +126,7 @@ wanted_by (at_with k) = what.With
 
 abbrev pub then_turn : Option Shape → TokenForm → Option Shape
 then_turn None f = None
-then_turn (Some s) f = turn s f
+then_turn (Some s) f = shape_after s f
 
 -- where tokens of some forms lead
 abbrev pub runs : Option Shape → List TokenForm → Option Shape

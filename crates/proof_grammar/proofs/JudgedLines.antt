@@ -1,86 +1,87 @@
--- A part of a certificate line is read, or refused by its first complaint, by the shape that is reached.
+-- A part of a certificate line is read, or refused by its first diagnostic, by the shape that is
+-- reached.
 use Rattle.std.proofs.Common.{◌≡◌, ◌<◌, ◌≤◌, ◌+◌, ◌⊎◌, inl, inr, ⊎_elim, ℕ, zero, suc, true, false, List, [], ◌∷◌, length, take, slice_get, Option, Some, None, Ok, Err, Result, refl, sym, ◌∙◌, ap, subst, arith}
 use Rattle.std.proofs.lemmas.Option.{none-some, same_Some}
-use Rattle.lexer.specs.declared.token.Stop.{Stop}
+use Rattle.lexer.specs.declared.token.LexError.{LexError}
 use Rattle.lexer.specs.Tokens.{Mark}
 use Rattle.schema_grammar.specs.declared.format.Format.TheVariants as format
 use Rattle.schema_grammar.specs.declared.refusal.SchemaRefusal.{SchemaRefusal}
 use Rattle.schema_grammar.specs.declared.refusal.SchemaRefusalKind.TheVariants as kind
 use Rattle.schema_grammar.specs.declared.refusal.What.{What}
-use Rattle.schema_grammar.specs.Complaints.{ComplainsOfWord, Carries, IsFirst, flaw_number, refusal_number, span_at}
+use Rattle.schema_grammar.specs.Diagnostics.{DiagnosesOfWord, Carries, IsFirst, flaw_number, refusal_number, span_at}
 use Rattle.schema_grammar.specs.Refusals.{refusal, refused_by}
-use Rattle.schema_grammar.proofs.ComplaintLaws.{Carries-map, flaw_carries, flaw_numbered}
+use Rattle.schema_grammar.proofs.DiagnosticLaws.{Carries-map, flaw_carries, flaw_numbered}
 use Rattle.proof_grammar.specs.Lines.{Line}
-use Rattle.proof_grammar.specs.LineComplaints.{TokenForm, token_form, forms}
-use Rattle.proof_grammar.proofs.FormShapes.{Shape, Ends, is_final, runs, takes_words, turn, wanted_by}
+use Rattle.proof_grammar.specs.LineDiagnostics.{TokenForm, token_form, token_forms}
+use Rattle.proof_grammar.proofs.FormShapes.{Shape, Ends, is_final, runs, takes_words, shape_after, wanted_by}
 
 abbrev pub form : Mark → TokenForm
 form m = token_form m.kind m.word
 
 -- ---- what is wrong, by shapes
 -- where a shape is reached, a word is no name, or the grammar can't go on at a token or at the line's end
-abbrev pub WrongAt : List (List ℕ) → Option Stop → ℕ → Option Shape → Option Mark → Type 0
+abbrev pub WrongAt : List (List ℕ) → Option LexError → ℕ → Option Shape → Option Mark → Type 0
 WrongAt names stop n None m = ⊥
 WrongAt names stop n (Some s) None = (n ≡ 6) × (stop ≡ None) × (is_final s ≡ false)
 WrongAt names stop n (Some s) (Some m) =
-    ((takes_words s ≡ true) × ComplainsOfWord format.Plain names m n) ⊎ ((n ≡ 6) × (turn s (form m) ≡ None))
+    ((takes_words s ≡ true) × DiagnosesOfWord format.Plain names m n) ⊎ ((n ≡ 6) × (shape_after s (form m) ≡ None))
 
-abbrev pub TokenWrong : Option Shape → List (List ℕ) → List Mark → Option Stop → ℕ → ℕ → Type 0
-TokenWrong o names ms stop p n = (p ≤ length ms) × WrongAt names stop n (runs o (take p (forms ms))) (slice_get ms p)
+abbrev pub TokenWrong : Option Shape → List (List ℕ) → List Mark → Option LexError → ℕ → ℕ → Type 0
+TokenWrong o names ms stop p n = (p ≤ length ms) × WrongAt names stop n (runs o (take p (token_forms ms))) (slice_get ms p)
 
-abbrev pub Flawed : List Mark → Option Stop → ℕ → ℕ → Type 0
-Flawed ms stop p n = (s : Stop) × (stop ≡ Some s) × (p ≡ length ms) × (n ≡ flaw_number s.flaw)
+abbrev pub Flawed : List Mark → Option LexError → ℕ → ℕ → Type 0
+Flawed ms stop p n = (s : LexError) × (stop ≡ Some s) × (p ≡ length ms) × (n ≡ flaw_number s.flaw)
 
-abbrev pub Wrong : Shape → List (List ℕ) → List Mark → Option Stop → ℕ → ℕ → Type 0
+abbrev pub Wrong : Shape → List (List ℕ) → List Mark → Option LexError → ℕ → ℕ → Type 0
 Wrong s names ms stop p n = TokenWrong (Some s) names ms stop p n ⊎ Flawed ms stop p n
 
--- what is wanted at a place
+-- what is wanted at a position
 abbrev pub ShapeWants : Shape → List Mark → ℕ → What → Type 0
-ShapeWants s ms p w = (t : Shape) × (runs (Some s) (take p (forms ms)) ≡ Some t) × (w ≡ wanted_by t)
+ShapeWants s ms p w = (t : Shape) × (runs (Some s) (take p (token_forms ms)) ≡ Some t) × (w ≡ wanted_by t)
 
 -- what a reading says of the tokens from here on
-abbrev pub Judged : Shape → List (List ℕ) → ℕ → ℕ → List Mark → Option Stop → Result Line SchemaRefusal → Type 0
-Judged s names line next_column ms stop (Ok l) = Ends s (forms ms) × (stop ≡ None) ×
+abbrev pub Judged : Shape → List (List ℕ) → ℕ → ℕ → List Mark → Option LexError → Result Line SchemaRefusal → Type 0
+Judged s names line next_column ms stop (Ok l) = Ends s (token_forms ms) × (stop ≡ None) ×
     ((p n : ℕ) → Wrong s names ms stop p n → ⊥)
 Judged s names line next_column ms stop (Err e) = IsFirst (Wrong s names ms stop) (ShapeWants s ms)
     (span_at line next_column ms stop) e
 
 -- no word of a side that is wrong
 abbrev pub IsRight : Shape → List (List ℕ) → Mark → Type 0
-IsRight s names m = (n : ℕ) → takes_words s ≡ true → ComplainsOfWord format.Plain names m n → ⊥
+IsRight s names m = (n : ℕ) → takes_words s ≡ true → DiagnosesOfWord format.Plain names m n → ⊥
 
 -- ---- one token later
 -- where a token leads on, what is wrong comes later
-wrong_later : (s t : Shape) (names : List (List ℕ)) (m : Mark) (ms : List Mark) (stop : Option Stop)
-    → turn s (form m) ≡ Some t → IsRight s names m → (p n : ℕ) → Wrong s names (m ∷ ms) stop p n
+wrong_later : (s t : Shape) (names : List (List ℕ)) (m : Mark) (ms : List Mark) (stop : Option LexError)
+    → shape_after s (form m) ≡ Some t → IsRight s names m → (p n : ℕ) → Wrong s names (m ∷ ms) stop p n
     → (q : ℕ) × (p ≡ suc q) × Wrong t names ms stop q n
 wrong_later s t names m ms stop goes right zero n (inl (low, inl word)) = absurd (right n word.0 word.1)
 wrong_later s t names m ms stop goes right zero n (inl (low, inr six)) = absurd (none-some t (sym six.1 ∙ goes))
 wrong_later s t names m ms stop goes right (suc p) n (inl here) =
-    let moved = subst (λ o. WrongAt names stop n (runs o (take p (forms ms))) (slice_get ms p)) goes here.1 in
+    let moved = subst (λ o. WrongAt names stop n (runs o (take p (token_forms ms))) (slice_get ms p)) goes here.1 in
     (p, refl, inl (omega (arith, here.0), moved))
 wrong_later s t names m ms stop goes right p n (inr flaw) =
     (length ms, flaw.2, inr (flaw.0, flaw.1, refl, flaw.3))
 
 -- a token by which the reading goes on
 pub goes_on : (s t : Shape) (names : List (List ℕ)) (line next_column : ℕ) (m : Mark) (ms : List Mark)
-    (stop : Option Stop) (r : Result Line SchemaRefusal) → turn s (form m) ≡ Some t → IsRight s names m
+    (stop : Option LexError) (r : Result Line SchemaRefusal) → shape_after s (form m) ≡ Some t → IsRight s names m
     → Judged t names line (m.column + length m.word) ms stop r → Judged s names line next_column (m ∷ ms) stop r
 goes_on s t names line next_column m ms stop (Ok l) goes right rest = (
-  (rest.0.0, ap (λ o. runs o (forms ms)) goes ∙ rest.0.1, rest.0.2),
+  (rest.0.0, ap (λ o. runs o (token_forms ms)) goes ∙ rest.0.1, rest.0.2),
   rest.1,
   λ p n wrong. let later = wrong_later s t names m ms stop goes right p n wrong in rest.2 later.0 n later.2,
 )
 goes_on s t names line next_column m ms stop (Err e) goes right rest = record {
-  place = suc rest.place;
+  position = suc rest.position;
   stands = ⊎_elim (λ here. inl (
     omega (arith, here.0),
-    subst (λ o. WrongAt names stop (refusal_number e.kind) (runs o (take rest.place (forms ms)))
-        (slice_get ms rest.place)) (sym goes) here.1,
+    subst (λ o. WrongAt names stop (refusal_number e.kind) (runs o (take rest.position (token_forms ms)))
+        (slice_get ms rest.position)) (sym goes) here.1,
   ))
       (λ flaw. inr (flaw.0, flaw.1, omega (arith, flaw.2), flaw.3)) rest.stands;
-  carries = Carries-map (ShapeWants t ms rest.place) (ShapeWants s (m ∷ ms) (suc rest.place))
-      (λ w wants. (wants.0, ap (λ o. runs o (take rest.place (forms ms))) goes ∙ wants.1, wants.2)) e.kind rest.carries;
+  carries = Carries-map (ShapeWants t ms rest.position) (ShapeWants s (m ∷ ms) (suc rest.position))
+      (λ w wants. (wants.0, ap (λ o. runs o (take rest.position (token_forms ms))) goes ∙ wants.1, wants.2)) e.kind rest.carries;
   there = rest.there;
   least = λ p n wrong.
       let later = wrong_later s t names m ms stop goes right p n wrong in
@@ -89,14 +90,14 @@ goes_on s t names line next_column m ms stop (Err e) goes right rest = record {
 }
 
 -- ---- the reading ends here
--- the first complaint stands here
-pub first_here : (s : Shape) (names : List (List ℕ)) (line next_column : ℕ) (ms : List Mark) (stop : Option Stop)
+-- the first diagnostic stands here
+pub first_here : (s : Shape) (names : List (List ℕ)) (line next_column : ℕ) (ms : List Mark) (stop : Option LexError)
     (e : SchemaRefusal) → Wrong s names ms stop 0 (refusal_number e.kind) → Carries (ShapeWants s ms 0) e.kind
     → e.span ≡ span_at line next_column ms stop 0
     → ((n : ℕ) → Wrong s names ms stop 0 n → refusal_number e.kind ≤ n)
     → Judged s names line next_column ms stop (Err e)
 first_here s names line next_column ms stop e stands carries there small = record {
-  place = 0;
+  position = 0;
   stands = stands;
   carries = carries;
   there = there;
@@ -109,7 +110,7 @@ first_here s names line next_column ms stop e stands carries there small = recor
 
 -- a token at which the grammar can't go on
 pub stuck_here : (s : Shape) (names : List (List ℕ)) (line next_column : ℕ) (m : Mark) (ms : List Mark)
-    (stop : Option Stop) (w : What) → turn s (form m) ≡ None → IsRight s names m → w ≡ wanted_by s
+    (stop : Option LexError) (w : What) → shape_after s (form m) ≡ None → IsRight s names m → w ≡ wanted_by s
     → Judged s names line next_column (m ∷ ms) stop (Err (refusal line m.column (length m.word) (kind.Expected w)))
 stuck_here s names line next_column m ms stop w cannot right wants =
     first_here s names line next_column (m ∷ ms) stop (refusal line m.column (length m.word) (kind.Expected w))
@@ -127,11 +128,11 @@ end_here s names line next_column w open_end wants =
     (λ n wrong. ⊎_elim (λ here. omega (arith, here.1.0)) (λ flaw. absurd (none-some flaw.0 flaw.1)) wrong)
 
 -- bytes that are no token
-pub flaw_here : (s : Shape) (names : List (List ℕ)) (line next_column : ℕ) (stop : Stop)
+pub flaw_here : (s : Shape) (names : List (List ℕ)) (line next_column : ℕ) (stop : LexError)
     → Judged s names line next_column [] (Some stop) (Err (refused_by line stop))
 flaw_here s names line next_column stop =
     first_here s names line next_column [] (Some stop) (refused_by line stop)
     (inr (stop, refl, refl, flaw_numbered stop.flaw)) (flaw_carries (ShapeWants s [] 0) stop.flaw) refl
     (λ n wrong. ⊎_elim (λ here. absurd (none-some stop (sym here.1.1)))
-    (λ flaw. let same = ap (λ (x : Stop). flaw_number x.flaw) (same_Some stop flaw.0 flaw.1) in
+    (λ flaw. let same = ap (λ (x : LexError). flaw_number x.flaw) (same_Some stop flaw.0 flaw.1) in
     omega (arith, same, flaw.3, flaw_numbered stop.flaw)) wrong)

@@ -1,30 +1,30 @@
--- A certificate line is read, or refused by its first complaint.
+-- A certificate line is read, or refused by its first diagnostic.
 use Rattle.std.proofs.Common.{◌≡◌, ℕ, Bool, true, false, List, Option, Result, Ok, refl}
 use Rattle.std.proofs.lemmas.Bool.{false≢true}
 use Rattle.derivation.specs.Trees.{augmentation, complementation, maugmentation, replication, Pair, transitivity, mtransitivity, coalescence}
-use Rattle.lexer.specs.declared.token.Stop.{Stop}
+use Rattle.lexer.specs.declared.token.LexError.{LexError}
 use Rattle.lexer.specs.Tokens.{Mark}
 use Rattle.schema_grammar.specs.declared.refusal.SchemaRefusal.{SchemaRefusal}
 use Rattle.schema_grammar.specs.Rests.{Rest, ◌>>=◌, take, number, arrow, side}
 use Rattle.schema_grammar.specs.Grammar as grammar
 use Rattle.proof_grammar.specs.declared.rule_name.RuleName.{RuleName}
 use Rattle.proof_grammar.specs.declared.rule_name.RuleName.TheVariants as rule
-use Rattle.proof_grammar.specs.Lines.{Body, by_given, by_reflexivity, by_mreflexivity, by_step, by_pair, Line, one, two, augmented, maugmented, body, stated_dependency, certificate_line, certificate_line_from}
+use Rattle.proof_grammar.specs.Lines.{Body, by_given, by_reflexivity, by_mreflexivity, by_step, by_pair, Line, one_premise, two_premises, augmentation_body, maugmentation_body, body, stated_dependency, certificate_line, certificate_line_from}
 use Rattle.proof_grammar.specs.Readers.{colon, with_word}
-use Rattle.proof_grammar.proofs.FormShapes.{Part, heading, lhs, rhs, by, wide, narrow, ending, nothing, second, sets, at_start, at_number, at_side, past, at_rule, named}
+use Rattle.proof_grammar.proofs.FormShapes.{Part, heading, lhs, rhs, by, wide, narrow, ending, nothing, second, sets, at_start, at_number, at_side, past, at_rule, shape_of_rule}
 use Rattle.proof_grammar.proofs.JudgedLines.{Judged}
 use Rattle.proof_grammar.proofs.JudgedSides.{side_judged}
 use Rattle.proof_grammar.proofs.JudgedTokens.{left_at, in_row, NoWord, IsBeforeEnd, first_judged, premise_judged, arrow_judged, colon_judged, with_judged, rule_judged, end_judged}
 
 -- ---- the rule
 -- what follows the rule, from any column
-abbrev FollowsRule : List (List ℕ) → ℕ → Option Stop → (Body × Rest → Result Line SchemaRefusal) → Type 0
+abbrev FollowsRule : List (List ℕ) → ℕ → Option LexError → (Body × Rest → Result Line SchemaRefusal) → Type 0
 FollowsRule names at stop f =
     (b : Body) (words : Bool) (k : Part) (next_column : ℕ) (ms : List Mark) → IsBeforeEnd k → (words ≡ true → NoWord ms)
     → Judged (past words k) names at next_column ms stop (f (b, left_at at next_column ms stop))
 
 -- a number with which the line ends
-last_judged : (make : ℕ → Body) (names : List (List ℕ)) (at next_column : ℕ) (ms : List Mark) (stop : Option Stop)
+last_judged : (make : ℕ → Body) (names : List (List ℕ)) (at next_column : ℕ) (ms : List Mark) (stop : Option LexError)
     (f : Body × Rest → Result Line SchemaRefusal) → FollowsRule names at stop f
     → Judged (at_number nothing) names at next_column ms stop
     ((number (left_at at next_column ms stop) >>= λ p. Ok (make p.0, p.1)) >>= f)
@@ -33,19 +33,19 @@ last_judged make names at next_column ms stop f follows =
     (premise_judged nothing names at next_column ms stop _ (λ p from ns. follows (make p) false ending from ns
     (refl, refl, refl, refl) (λ e. absurd (false≢true e))))
 
-two_judged : (r : Pair) (names : List (List ℕ)) (at next_column : ℕ) (ms : List Mark) (stop : Option Stop)
+two_judged : (r : Pair) (names : List (List ℕ)) (at next_column : ℕ) (ms : List Mark) (stop : Option LexError)
     (f : Body × Rest → Result Line SchemaRefusal) → FollowsRule names at stop f
-    → Judged (at_number second) names at next_column ms stop (two r (left_at at next_column ms stop) >>= f)
-unfolding two
+    → Judged (at_number second) names at next_column ms stop (two_premises r (left_at at next_column ms stop) >>= f)
+unfolding two_premises
 two_judged r names at next_column ms stop f follows =
     in_row (at_number second) names at next_column ms stop (number (left_at at next_column ms stop)) _ f
     (premise_judged second names at next_column ms stop _
     (λ p from ns. last_judged (by_pair r p) names at from ns stop f follows))
 
-body_judged : (r : RuleName) (names : List (List ℕ)) (at next_column : ℕ) (ms : List Mark) (stop : Option Stop)
+body_judged : (r : RuleName) (names : List (List ℕ)) (at next_column : ℕ) (ms : List Mark) (stop : Option LexError)
     (f : Body × Rest → Result Line SchemaRefusal) → FollowsRule names at stop f
-    → Judged (named r) names at next_column ms stop (body names r (left_at at next_column ms stop) >>= f)
-unfolding body one augmented maugmented
+    → Judged (shape_of_rule r) names at next_column ms stop (body names r (left_at at next_column ms stop) >>= f)
+unfolding body one_premise augmentation_body maugmentation_body
 body_judged rule.Given names at next_column ms stop f follows =
     last_judged by_given names at next_column ms stop f follows
 body_judged rule.Reflexivity names at next_column ms stop f follows =
@@ -84,7 +84,7 @@ body_judged rule.Coalescence names at next_column ms stop f follows =
     two_judged coalescence names at next_column ms stop f follows
 
 -- ---- the line
-pub line_judged : (names : List (List ℕ)) (at next_column : ℕ) (ms : List Mark) (stop : Option Stop)
+pub line_judged : (names : List (List ℕ)) (at next_column : ℕ) (ms : List Mark) (stop : Option LexError)
     → Judged at_start names at next_column ms stop (certificate_line names (left_at at next_column ms stop))
 unfolding certificate_line certificate_line_from stated_dependency take
 line_judged names at next_column ms stop =
@@ -102,4 +102,4 @@ line_judged names at next_column ms stop =
     (λ r g gs. body_judged r names at g gs stop _
     (λ z more k h hs is last.
     end_judged more k names at h hs stop
-    (record { number = n; stated = grammar.stated s x y; body = z }) is last)))))))))))
+    (record { number = n; stated = grammar.dependency_of_sign s x y; body = z }) is last)))))))))))

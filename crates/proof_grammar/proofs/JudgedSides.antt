@@ -1,10 +1,10 @@
--- A side of a certificate line is read, or the line is refused there by its first complaint.
+-- A side of a certificate line is read, or the line is refused there by its first diagnostic.
 use Rattle.std.proofs.Common.{◌≡◌, ◌+◌, inl, inr, ⊎_elim, ℕ, Bool, true, false, cond, List, [], ◌∷◌, length, Option, Some, None, Ok, Err, Result, refl, sym, ◌∙◌, ap, arith}
 use Rattle.std.proofs.lemmas.Bool.{true≢false, false≢true}
 use Rattle.std.proofs.lemmas.Option.{none-some}
-use Rattle.attr_sets.specs.Places.{Places, only, none, union}
-use Rattle.dep_model.specs.Schemas.{place_named}
-use Rattle.lexer.specs.declared.token.Stop.{Stop}
+use Rattle.attr_sets.specs.Attributes.{Attributes, only, none, union}
+use Rattle.dep_model.specs.Schemas.{attribute_named}
+use Rattle.lexer.specs.declared.token.LexError.{LexError}
 use Rattle.lexer.specs.declared.token.TokenKind.{TokenKind}
 use Rattle.lexer.specs.declared.token.TokenKind.TheVariants as token
 use Rattle.lexer.specs.Tokens.{Mark}
@@ -13,28 +13,28 @@ use Rattle.schema_grammar.specs.declared.refusal.SchemaRefusal.{SchemaRefusal}
 use Rattle.schema_grammar.specs.declared.refusal.SchemaRefusalKind.TheVariants as kind
 use Rattle.schema_grammar.specs.declared.refusal.What.TheVariants as what
 use Rattle.schema_grammar.specs.Refusals.{at, refusal}
-use Rattle.schema_grammar.specs.Rests.{Rest, ◌>>=◌, place, take, words_from, side, side_from, is_word_token}
-use Rattle.schema_grammar.specs.Words.{is_reserved, looked_up, known}
+use Rattle.schema_grammar.specs.Rests.{Rest, ◌>>=◌, attribute_of_word, take, words_from, side, side_from, is_word_token}
+use Rattle.schema_grammar.specs.Words.{is_reserved, look_up, known_attribute}
 use Rattle.proof_grammar.specs.declared.rule_name.RuleName.{RuleName}
 use Rattle.proof_grammar.specs.Lines.{Line}
-use Rattle.proof_grammar.specs.LineComplaints.{token_form, word_form}
-use Rattle.proof_grammar.proofs.FormShapes.{Part, Shape, at_side, past, turn, takes_words}
+use Rattle.proof_grammar.specs.LineDiagnostics.{token_form, word_form}
+use Rattle.proof_grammar.proofs.FormShapes.{Part, Shape, at_side, past, shape_after, takes_words}
 use Rattle.proof_grammar.proofs.JudgedLines.{Judged, first_here, goes_on, stuck_here, end_here, flaw_here}
 use Rattle.proof_grammar.proofs.JudgedTokens.{left_at, in_row, word_forms, NoWord, not_word}
 use Rattle.proof_grammar.proofs.SideLaws.{word_is}
 
 word_judged : (s : Shape) (k : Part) (names : List (List ℕ)) (line next_column : ℕ) (m : Mark) (ms : List Mark)
-    (stop : Option Stop) (g : ℕ → Result Line SchemaRefusal) → m.kind ≡ token.Word → takes_words s ≡ true
-    → ((o : Option RuleName) (b : Bool) → turn s (word_form o b) ≡ Some (past true k))
+    (stop : Option LexError) (g : ℕ → Result Line SchemaRefusal) → m.kind ≡ token.Identifier → takes_words s ≡ true
+    → ((o : Option RuleName) (b : Bool) → shape_after s (word_form o b) ≡ Some (past true k))
     → ((a : ℕ) → Judged (past true k) names line (m.column + length m.word) ms stop (g a))
-    → Judged s names line next_column (m ∷ ms) stop (place names line m >>= g)
-unfolding looked_up
+    → Judged s names line next_column (m ∷ ms) stop (attribute_of_word names line m >>= g)
+unfolding look_up
 word_judged s k names line next_column m ms stop g word takes stays rest =
-    told (is_reserved format.Plain m.word) (place_named names m.word) refl refl
+    told (is_reserved format.Plain m.word) (attribute_named names m.word) refl refl
   where
-    told : (b : Bool) (o : Option ℕ) → is_reserved format.Plain m.word ≡ b → place_named names m.word ≡ o
+    told : (b : Bool) (o : Option ℕ) → is_reserved format.Plain m.word ≡ b → attribute_named names m.word ≡ o
         → Judged s names line next_column (m ∷ ms) stop
-        (at line m.column (length m.word) (cond b (Err kind.ReservedName) (known o)) >>= g)
+        (at line m.column (length m.word) (cond b (Err kind.ReservedName) (known_attribute o)) >>= g)
     told true o reserved named =
         first_here s names line next_column (m ∷ ms) stop (refusal line m.column (length m.word) kind.ReservedName)
         (inl (omega arith, inl (takes, (word, inl (refl, reserved))))) tt refl
@@ -48,19 +48,19 @@ word_judged s k names line next_column m ms stop g word takes stays rest =
         (λ flaw. absurd (omega (arith, flaw.2))) wrong)
     told false (Some a) free named =
         goes_on s (past true k) names line next_column m ms stop (g a)
-        (ap (λ (kd : TokenKind). turn s (token_form kd m.word)) word ∙ stays _ _)
-        (λ n on complains. ⊎_elim (λ three. true≢false (sym three.1 ∙ free))
-        (λ five. none-some a (sym five.1 ∙ named)) complains.1) (rest a)
+        (ap (λ (kd : TokenKind). shape_after s (token_form kd m.word)) word ∙ stays _ _)
+        (λ n on diagnoses. ⊎_elim (λ three. true≢false (sym three.1 ∙ free))
+        (λ five. none-some a (sym five.1 ∙ named)) diagnoses.1) (rest a)
 
 -- what follows a side, from any column
-abbrev pub FollowsSide : Part → List (List ℕ) → ℕ → Option Stop → (Places × Rest → Result Line SchemaRefusal)
+abbrev pub FollowsSide : Part → List (List ℕ) → ℕ → Option LexError → (Attributes × Rest → Result Line SchemaRefusal)
     → Type 0
 FollowsSide k names line stop f =
-    (x : Places) (words : Bool) (next_column : ℕ) (ms : List Mark) → (words ≡ true → NoWord ms)
+    (x : Attributes) (words : Bool) (next_column : ℕ) (ms : List Mark) → (words ≡ true → NoWord ms)
     → Judged (past words k) names line next_column ms stop (f (x, left_at line next_column ms stop))
 
-words_judged : (k : Part) (names : List (List ℕ)) (line : ℕ) (x : Places) (next_column : ℕ) (ms : List Mark)
-    (stop : Option Stop) (f : Places × Rest → Result Line SchemaRefusal) → FollowsSide k names line stop f
+words_judged : (k : Part) (names : List (List ℕ)) (line : ℕ) (x : Attributes) (next_column : ℕ) (ms : List Mark)
+    (stop : Option LexError) (f : Attributes × Rest → Result Line SchemaRefusal) → FollowsSide k names line stop f
     → Judged (past true k) names line next_column ms stop (words_from names line x next_column ms stop >>= f)
 unfolding words_from
 words_judged k names line x next_column [] stop f follows = follows x true next_column [] (λ e. tt)
@@ -72,19 +72,19 @@ words_judged k names line x next_column (m ∷ ms) stop f follows =
         → ((a : ℕ) → Judged (past true k) names line (m.column + length m.word) ms stop
         (words_from names line (union x (only a)) (m.column + length m.word) ms stop >>= f))
         → Judged (past true k) names line next_column (m ∷ ms) stop
-        (cond b (place names line m >>= λ a. words_from names line (union x (only a))
+        (cond b (attribute_of_word names line m >>= λ a. words_from names line (union x (only a))
         (m.column + length m.word) ms stop) (Ok (x, left_at line next_column (m ∷ ms) stop)) >>= f)
     told true is rest =
-        in_row (past true k) names line next_column (m ∷ ms) stop (place names line m) _ f
+        in_row (past true k) names line next_column (m ∷ ms) stop (attribute_of_word names line m) _ f
         (word_judged (past true k) k names line next_column m ms stop _ (word_is m.kind is) refl
-        (word_forms (λ t. turn (past true k) t ≡ Some (past true k)) (λ r. refl) refl refl) rest)
+        (word_forms (λ t. shape_after (past true k) t ≡ Some (past true k)) (λ r. refl) refl refl) rest)
     told false is rest = follows x true next_column (m ∷ ms) (λ e. is)
 
 abbrev of_kind : Mark → TokenKind → Mark
 of_kind m kd = record { kind = kd; column = m.column; word = m.word }
 
-pub side_judged : (k : Part) (names : List (List ℕ)) (line next_column : ℕ) (ms : List Mark) (stop : Option Stop)
-    (f : Places × Rest → Result Line SchemaRefusal) → FollowsSide k names line stop f
+pub side_judged : (k : Part) (names : List (List ℕ)) (line next_column : ℕ) (ms : List Mark) (stop : Option LexError)
+    (f : Attributes × Rest → Result Line SchemaRefusal) → FollowsSide k names line stop f
     → Judged (at_side k) names line next_column ms stop (side names (left_at line next_column ms stop) >>= f)
 unfolding side take
 side_judged k names line next_column [] None f follows = end_here (at_side k) names line next_column what.Side refl refl
@@ -93,11 +93,11 @@ side_judged k names line next_column (m ∷ ms) stop f follows = told m.kind
   where
     told : (kd : TokenKind) → Judged (at_side k) names line next_column (of_kind m kd ∷ ms) stop
         (side_from names (of_kind m kd) (left_at line (m.column + length m.word) ms stop) kd >>= f)
-    told token.Word =
-        in_row (at_side k) names line next_column (of_kind m token.Word ∷ ms) stop
-        (place names line (of_kind m token.Word)) _ f
-        (word_judged (at_side k) k names line next_column (of_kind m token.Word) ms stop _ refl refl
-        (word_forms (λ t. turn (at_side k) t ≡ Some (past true k)) (λ r. refl) refl refl)
+    told token.Identifier =
+        in_row (at_side k) names line next_column (of_kind m token.Identifier ∷ ms) stop
+        (attribute_of_word names line (of_kind m token.Identifier)) _ f
+        (word_judged (at_side k) k names line next_column (of_kind m token.Identifier) ms stop _ refl refl
+        (word_forms (λ t. shape_after (at_side k) t ≡ Some (past true k)) (λ r. refl) refl refl)
         (λ a. words_judged k names line (only a) (m.column + length m.word) ms stop f follows))
     told token.Empty =
         goes_on (at_side k) (past false k) names line next_column (of_kind m token.Empty) ms stop _ refl

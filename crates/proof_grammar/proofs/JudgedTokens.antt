@@ -1,10 +1,10 @@
--- Each token of a certificate line is read, or the line is refused there by its first complaint.
+-- Each token of a certificate line is read, or the line is refused there by its first diagnostic.
 use Rattle.std.proofs.Common.{◌≡◌, ◌+◌, inl, inr, ℕ, zero, suc, Bool, true, false, cond, List, [], ◌∷◌, length, Option, Some, None, Ok, Err, Result, refl, sym, ◌∙◌, ap, subst, arith}
 use Rattle.std.proofs.lemmas.Bool.{true≢false, false≢true, cond_both}
 use Rattle.std.proofs.lemmas.Option.{none-some}
 use Rattle.std.specs.Prelude.{codes, ok_or, option_map}
 use Rattle.std.proofs.lemmas.Slice.Eq.{bytes_eq-Decides}
-use Rattle.lexer.specs.declared.token.Stop.{Stop}
+use Rattle.lexer.specs.declared.token.LexError.{LexError}
 use Rattle.lexer.specs.declared.token.TokenKind.{TokenKind}
 use Rattle.lexer.specs.declared.token.TokenKind.TheVariants as token
 use Rattle.lexer.specs.Tokens.{Mark}
@@ -12,23 +12,23 @@ use Rattle.schema_grammar.specs.declared.refusal.SchemaRefusal.{SchemaRefusal}
 use Rattle.schema_grammar.specs.declared.refusal.What.{What}
 use Rattle.schema_grammar.specs.declared.refusal.What.TheVariants as what
 use Rattle.schema_grammar.specs.declared.symbol.Sign.{Sign}
-use Rattle.schema_grammar.specs.Rests.{Rest, ◌>>=◌, take, taken, expected, number, arrow, arrow_in, ended, is_word_token}
+use Rattle.schema_grammar.specs.Rests.{Rest, ◌>>=◌, take, take_from, refusal_of_token, number, arrow, arrow_in, refusal_at_end, is_word_token}
 use Rattle.schema_grammar.specs.Texts.{number_in}
 use Rattle.proof_grammar.specs.declared.rule_name.RuleName.{RuleName}
 use Rattle.proof_grammar.specs.Lines.{Line, unless}
-use Rattle.proof_grammar.specs.LineComplaints.{TokenForm, token_form, word_form, a_with, a_rule, a_word}
+use Rattle.proof_grammar.specs.LineDiagnostics.{TokenForm, token_form, word_form, a_with, a_rule, a_word}
 use Rattle.proof_grammar.specs.Readers.{colon, with_word, rule_name}
 use Rattle.proof_grammar.specs.Tokens.{is_colon, is_with, rule_named, rule_word}
-use Rattle.proof_grammar.proofs.FormShapes.{Part, lhs, rhs, After, first, Shape, at_number, at_side, past, at_rule, at_with, past_arrow, past_colon, named, past_number, turn, is_last, is_final, takes_words, wanted_after, wanted_by}
+use Rattle.proof_grammar.proofs.FormShapes.{Part, lhs, rhs, After, first, Shape, at_number, at_side, past, at_rule, at_with, past_arrow, past_colon, shape_of_rule, past_number, shape_after, is_last, is_final, takes_words, wanted_after, wanted_by}
 use Rattle.proof_grammar.proofs.JudgedLines.{form, IsRight, Judged, Wrong, goes_on, stuck_here, end_here, flaw_here}
 
 -- what is left of a line
-abbrev pub left_at : ℕ → ℕ → List Mark → Option Stop → Rest
+abbrev pub left_at : ℕ → ℕ → List Mark → Option LexError → Rest
 left_at line next_column ms stop = record { line = line; next_column = next_column; marks = ms; stop = stop }
 
 -- a reading is judged as the same one with its steps in a row
 pub in_row : {A B : Type 0} (s : Shape) (names : List (List ℕ)) (line next_column : ℕ) (ms : List Mark)
-    (stop : Option Stop) (m : Result A SchemaRefusal) (f : A → Result B SchemaRefusal)
+    (stop : Option LexError) (m : Result A SchemaRefusal) (f : A → Result B SchemaRefusal)
     (g : B → Result Line SchemaRefusal) → Judged s names line next_column ms stop (m >>= λ x. f x >>= g)
     → Judged s names line next_column ms stop ((m >>= f) >>= g)
 in_row s names line next_column ms stop (Ok x) f g judged = judged
@@ -49,25 +49,25 @@ NoWord (m ∷ ms) = is_word_token m.kind ≡ false
 
 pub not_word : (s : Shape) (names : List (List ℕ)) (m : Mark) → (takes_words s ≡ true → is_word_token m.kind ≡ false)
     → IsRight s names m
-not_word s names m other n takes complains = true≢false (sym (ap is_word_token complains.0) ∙ other takes)
+not_word s names m other n takes diagnoses = true≢false (sym (ap is_word_token diagnoses.0) ∙ other takes)
 
 -- ---- readers of one token
 -- a token that leads nowhere is refused, and after one that leads on the reading is judged from there
-abbrev pub Reads : List (List ℕ) → ℕ → Option Stop → What → Option Shape → Mark → List Mark
+abbrev pub Reads : List (List ℕ) → ℕ → Option LexError → What → Option Shape → Mark → List Mark
     → Result Line SchemaRefusal → Type 0
 Reads names line stop want None m ms r =
-    r ≡ Err (expected want m (left_at line (m.column + length m.word) ms stop))
+    r ≡ Err (refusal_of_token want m (left_at line (m.column + length m.word) ms stop))
 Reads names line stop want (Some t) m ms r = Judged t names line (m.column + length m.word) ms stop r
 
 -- where a token leads is told by what is found in it
 token_judged : {D : Type 0} (s : Shape) (names : List (List ℕ)) (line next_column : ℕ) (ms : List Mark)
-    (stop : Option Stop) (want : What) (found : Mark → D) (t : D → Option Shape)
+    (stop : Option LexError) (want : What) (found : Mark → D) (t : D → Option Shape)
     (read : D → Mark × Rest → Result Line SchemaRefusal) → want ≡ wanted_by s → is_final s ≡ false
     → (takes_words s ≡ true → NoWord ms)
-    → ((m : Mark) → (takes_words s ≡ true → is_word_token m.kind ≡ false) → turn s (form m) ≡ t (found m))
+    → ((m : Mark) → (takes_words s ≡ true → is_word_token m.kind ≡ false) → shape_after s (form m) ≡ t (found m))
     → ((d : D) (m : Mark) (more : List Mark) → Reads names line stop want (t d) m more
     (read d (m, left_at line (m.column + length m.word) more stop)))
-    → Judged s names line next_column ms stop (taken want line next_column ms stop >>= λ u. read (found u.0) u)
+    → Judged s names line next_column ms stop (take_from want line next_column ms stop >>= λ u. read (found u.0) u)
 token_judged {D} s names line next_column [] None want found t read wants open_end other goes reads =
     end_here s names line next_column want open_end wants
 token_judged {D} s names line next_column [] (Some stop) want found t read wants open_end other goes reads =
@@ -75,69 +75,69 @@ token_judged {D} s names line next_column [] (Some stop) want found t read wants
 token_judged {D} s names line next_column (m ∷ ms) stop want found t read wants open_end other goes reads =
     told (t (found m)) _ (goes m other) (reads (found m) m ms)
   where
-    told : (o : Option Shape) (r : Result Line SchemaRefusal) → turn s (form m) ≡ o
+    told : (o : Option Shape) (r : Result Line SchemaRefusal) → shape_after s (form m) ≡ o
         → Reads names line stop want o m ms r → Judged s names line next_column (m ∷ ms) stop r
     told None r cannot is = subst (Judged s names line next_column (m ∷ ms) stop) (sym is)
         (stuck_here s names line next_column m ms stop want cannot (not_word s names m other) wants)
     told (Some u) r on rest = goes_on s u names line next_column m ms stop r on (not_word s names m other) rest
 
 -- what follows a token, from any column
-abbrev pub Follows : {X : Type 0} → List (List ℕ) → ℕ → Option Stop → (X → Shape)
+abbrev pub Follows : {X : Type 0} → List (List ℕ) → ℕ → Option LexError → (X → Shape)
     → (X × Rest → Result Line SchemaRefusal) → Type 0
 Follows {X} names line stop t f = (x : X) (next_column : ℕ) (ms : List Mark)
     → Judged (t x) names line next_column ms stop (f (x, left_at line next_column ms stop))
 
-abbrev pub FollowsIf : List (List ℕ) → ℕ → Option Stop → Shape → (Rest → Result Line SchemaRefusal) → Type 0
+abbrev pub FollowsIf : List (List ℕ) → ℕ → Option LexError → Shape → (Rest → Result Line SchemaRefusal) → Type 0
 FollowsIf names line stop t f = (next_column : ℕ) (ms : List Mark)
     → Judged t names line next_column ms stop (f (left_at line next_column ms stop))
 
 -- a reader of a value
 value_judged : {X : Type 0} (s : Shape) (names : List (List ℕ)) (line next_column : ℕ) (ms : List Mark)
-    (stop : Option Stop) (want : What) (found : Mark → Option X) (t : X → Shape)
+    (stop : Option LexError) (want : What) (found : Mark → Option X) (t : X → Shape)
     (f : X × Rest → Result Line SchemaRefusal) → want ≡ wanted_by s → is_final s ≡ false
     → (takes_words s ≡ true → NoWord ms)
-    → ((m : Mark) → (takes_words s ≡ true → is_word_token m.kind ≡ false) → turn s (form m) ≡ option_map t (found m))
+    → ((m : Mark) → (takes_words s ≡ true → is_word_token m.kind ≡ false) → shape_after s (form m) ≡ option_map t (found m))
     → Follows names line stop t f → Judged s names line next_column ms stop
-    ((taken want line next_column ms stop >>= λ u. ok_or (found u.0) (expected want u.0 u.1) >>= λ x. Ok (x, u.1)) >>= f)
+    ((take_from want line next_column ms stop >>= λ u. ok_or (found u.0) (refusal_of_token want u.0 u.1) >>= λ x. Ok (x, u.1)) >>= f)
 value_judged {X} s names line next_column ms stop want found t f wants open_end other goes follows =
-    in_row s names line next_column ms stop (taken want line next_column ms stop) _ f
+    in_row s names line next_column ms stop (take_from want line next_column ms stop) _ f
     (token_judged s names line next_column ms stop want found (option_map t)
-    (λ o u. (ok_or o (expected want u.0 u.1) >>= λ x. Ok (x, u.1)) >>= f) wants open_end other goes
+    (λ o u. (ok_or o (refusal_of_token want u.0 u.1) >>= λ x. Ok (x, u.1)) >>= f) wants open_end other goes
     (elim [ None ↦ λ m more. refl | Some x ↦ λ m more. follows x (m.column + length m.word) more ]))
 
 -- a reader that tests
-test_judged : (s : Shape) (names : List (List ℕ)) (line next_column : ℕ) (ms : List Mark) (stop : Option Stop)
+test_judged : (s : Shape) (names : List (List ℕ)) (line next_column : ℕ) (ms : List Mark) (stop : Option LexError)
     (want : What) (test : Mark → Bool) (t : Shape) (f : Rest → Result Line SchemaRefusal) → want ≡ wanted_by s
     → is_final s ≡ false → (takes_words s ≡ true → NoWord ms)
     → ((m : Mark) → (takes_words s ≡ true → is_word_token m.kind ≡ false)
-    → turn s (form m) ≡ cond (test m) (Some t) None)
+    → shape_after s (form m) ≡ cond (test m) (Some t) None)
     → FollowsIf names line stop t f → Judged s names line next_column ms stop
-    ((taken want line next_column ms stop >>= λ u. cond (test u.0) (Ok u.1) (Err (expected want u.0 u.1))) >>= f)
+    ((take_from want line next_column ms stop >>= λ u. cond (test u.0) (Ok u.1) (Err (refusal_of_token want u.0 u.1))) >>= f)
 test_judged s names line next_column ms stop want test t f wants open_end other goes follows =
-    in_row s names line next_column ms stop (taken want line next_column ms stop) _ f
+    in_row s names line next_column ms stop (take_from want line next_column ms stop) _ f
     (token_judged s names line next_column ms stop want test (λ b. cond b (Some t) None)
-    (λ b u. cond b (Ok u.1) (Err (expected want u.0 u.1)) >>= f) wants open_end other goes
+    (λ b u. cond b (Ok u.1) (Err (refusal_of_token want u.0 u.1)) >>= f) wants open_end other goes
     (elim [ true ↦ λ m more. follows (m.column + length m.word) more | false ↦ λ m more. refl ]))
 
 -- ---- numbers, the words of the grammar, and what closes a part
 number_goes : (a : After) (kd : TokenKind) (word : List ℕ)
-    → turn (at_number a) (token_form kd word) ≡ option_map (λ n. past_number a) (number_in kd)
+    → shape_after (at_number a) (token_form kd word) ≡ option_map (λ n. past_number a) (number_in kd)
 number_goes a (token.Number n) word = refl
-number_goes a token.Word word = word_forms (λ f. turn (at_number a) f ≡ None) (λ r. refl) refl refl _ _
+number_goes a token.Identifier word = word_forms (λ f. shape_after (at_number a) f ≡ None) (λ r. refl) refl refl _ _
 number_goes a _ word = refl
 
-pub first_judged : (names : List (List ℕ)) (line next_column : ℕ) (ms : List Mark) (stop : Option Stop)
+pub first_judged : (names : List (List ℕ)) (line next_column : ℕ) (ms : List Mark) (stop : Option LexError)
     (g : ℕ → Rest → Result Line SchemaRefusal)
     → Follows names line stop (λ n. past_number first) (λ x. g x.0 x.1)
-    → Judged (at_number first) names line next_column ms stop (taken what.Number line next_column ms stop >>= λ t. ok_or
-    (number_in t.0.kind) (expected what.Number t.0 t.1) >>= λ n. g n t.1)
+    → Judged (at_number first) names line next_column ms stop (take_from what.Number line next_column ms stop >>= λ t. ok_or
+    (number_in t.0.kind) (refusal_of_token what.Number t.0 t.1) >>= λ n. g n t.1)
 first_judged names line next_column ms stop g follows =
     token_judged (at_number first) names line next_column ms stop what.Number (λ m. number_in m.kind)
-    (option_map (λ n. past_number first)) (λ o u. ok_or o (expected what.Number u.0 u.1) >>= λ n. g n u.1) refl refl
+    (option_map (λ n. past_number first)) (λ o u. ok_or o (refusal_of_token what.Number u.0 u.1) >>= λ n. g n u.1) refl refl
     (λ e. absurd (false≢true e)) (λ m other. number_goes first m.kind m.word)
     (elim [ None ↦ λ m more. refl | Some n ↦ λ m more. follows n (m.column + length m.word) more ])
 
-pub premise_judged : (a : After) (names : List (List ℕ)) (line next_column : ℕ) (ms : List Mark) (stop : Option Stop)
+pub premise_judged : (a : After) (names : List (List ℕ)) (line next_column : ℕ) (ms : List Mark) (stop : Option LexError)
     (f : ℕ × Rest → Result Line SchemaRefusal) → Follows names line stop (λ n. past_number a) f
     → Judged (at_number a) names line next_column ms stop (number (left_at line next_column ms stop) >>= f)
 unfolding number take
@@ -146,21 +146,21 @@ premise_judged a names line next_column ms stop f follows =
     (λ n. past_number a) f refl refl (λ e. absurd (false≢true e)) (λ m other. number_goes a m.kind m.word) follows
 
 with_goes : (k : Part) (kd : TokenKind) (word : List ℕ)
-    → turn (at_with k) (token_form kd word) ≡ cond (is_with kd word) (Some (at_side k)) None
+    → shape_after (at_with k) (token_form kd word) ≡ cond (is_with kd word) (Some (at_side k)) None
 unfolding is_with rule_word
-with_goes k token.Word word = told (rule_word word) (is_with token.Word word) refl refl
+with_goes k token.Identifier word = told (rule_word word) (is_with token.Identifier word) refl refl
   where
-    told : (o : Option RuleName) (b : Bool) → rule_word word ≡ o → is_with token.Word word ≡ b
-        → turn (at_with k) (word_form o b) ≡ cond b (Some (at_side k)) None
-    told (Some r) true named is =
+    told : (o : Option RuleName) (b : Bool) → rule_word word ≡ o → is_with token.Identifier word ≡ b
+        → shape_after (at_with k) (word_form o b) ≡ cond b (Some (at_side k)) None
+    told (Some r) true shape_of_rule is =
         let same : word ≡ codes "with" = (bytes_eq-Decides word (codes "with")).0 is in
-        absurd (none-some r (sym (ap rule_word same) ∙ named))
-    told None true named is = refl
-    told (Some r) false named is = refl
-    told None false named is = refl
+        absurd (none-some r (sym (ap rule_word same) ∙ shape_of_rule))
+    told None true shape_of_rule is = refl
+    told (Some r) false shape_of_rule is = refl
+    told None false shape_of_rule is = refl
 with_goes k _ word = refl
 
-pub with_judged : (k : Part) (names : List (List ℕ)) (line next_column : ℕ) (ms : List Mark) (stop : Option Stop)
+pub with_judged : (k : Part) (names : List (List ℕ)) (line next_column : ℕ) (ms : List Mark) (stop : Option LexError)
     (f : Rest → Result Line SchemaRefusal) → FollowsIf names line stop (at_side k) f
     → Judged (at_with k) names line next_column ms stop (with_word (left_at line next_column ms stop) >>= f)
 unfolding with_word take
@@ -168,32 +168,32 @@ with_judged k names line next_column ms stop f follows =
     test_judged (at_with k) names line next_column ms stop what.With (λ m. is_with m.kind m.word) (at_side k) f refl refl
     (λ e. absurd (false≢true e)) (λ m other. with_goes k m.kind m.word) follows
 
-rule_goes : (kd : TokenKind) (word : List ℕ) → turn at_rule (token_form kd word) ≡ option_map named (rule_named kd word)
+rule_goes : (kd : TokenKind) (word : List ℕ) → shape_after at_rule (token_form kd word) ≡ option_map shape_of_rule (rule_named kd word)
 unfolding rule_named
-rule_goes token.Word word = told (rule_word word) (is_with token.Word word)
+rule_goes token.Identifier word = told (rule_word word) (is_with token.Identifier word)
   where
-    told : (o : Option RuleName) (b : Bool) → turn at_rule (word_form o b) ≡ option_map named o
+    told : (o : Option RuleName) (b : Bool) → shape_after at_rule (word_form o b) ≡ option_map shape_of_rule o
     told (Some r) b = refl
     told None true = refl
     told None false = refl
 rule_goes _ word = refl
 
-pub rule_judged : (names : List (List ℕ)) (line next_column : ℕ) (ms : List Mark) (stop : Option Stop)
-    (f : RuleName × Rest → Result Line SchemaRefusal) → Follows names line stop named f
+pub rule_judged : (names : List (List ℕ)) (line next_column : ℕ) (ms : List Mark) (stop : Option LexError)
+    (f : RuleName × Rest → Result Line SchemaRefusal) → Follows names line stop shape_of_rule f
     → Judged at_rule names line next_column ms stop (rule_name (left_at line next_column ms stop) >>= f)
 unfolding rule_name take
 rule_judged names line next_column ms stop f follows =
-    value_judged at_rule names line next_column ms stop what.Rule (λ m. rule_named m.kind m.word) named f refl refl
+    value_judged at_rule names line next_column ms stop what.Rule (λ m. rule_named m.kind m.word) shape_of_rule f refl refl
     (λ e. absurd (false≢true e)) (λ m other. rule_goes m.kind m.word) follows
 
 arrow_goes : (words : Bool) (kd : TokenKind) (word : List ℕ) → (words ≡ true → is_word_token kd ≡ false)
-    → turn (past words lhs) (token_form kd word) ≡ option_map (λ a. at_side rhs) (arrow_in kd)
-arrow_goes true token.Word word other = absurd (true≢false (other refl))
-arrow_goes false token.Word word other =
-    word_forms (λ f. turn (past false lhs) f ≡ None) (λ r. refl) refl refl _ _
+    → shape_after (past words lhs) (token_form kd word) ≡ option_map (λ a. at_side rhs) (arrow_in kd)
+arrow_goes true token.Identifier word other = absurd (true≢false (other refl))
+arrow_goes false token.Identifier word other =
+    word_forms (λ f. shape_after (past false lhs) f ≡ None) (λ r. refl) refl refl _ _
 arrow_goes words _ word other = refl
 
-pub arrow_judged : (words : Bool) (names : List (List ℕ)) (line next_column : ℕ) (ms : List Mark) (stop : Option Stop)
+pub arrow_judged : (words : Bool) (names : List (List ℕ)) (line next_column : ℕ) (ms : List Mark) (stop : Option LexError)
     (f : Sign × Rest → Result Line SchemaRefusal) → (words ≡ true → NoWord ms)
     → Follows names line stop (λ a. at_side rhs) f
     → Judged (past words lhs) names line next_column ms stop (arrow (left_at line next_column ms stop) >>= f)
@@ -205,13 +205,13 @@ arrow_judged words names line next_column ms stop f none follows =
 -- a part after which no arrow comes
 closing_goes : (words : Bool) (k : Part) (o : Option Shape) (kd : TokenKind) (word : List ℕ) → past_colon k ≡ o
     → past_arrow k ≡ None → (words ≡ true → is_word_token kd ≡ false)
-    → turn (past words k) (token_form kd word) ≡ cond (is_colon kd) o None
+    → shape_after (past words k) (token_form kd word) ≡ cond (is_colon kd) o None
 closing_goes words k o token.Colon word on none other = on
 closing_goes words k o token.Arrow word on none other = none
 closing_goes words k o token.DoubleArrow word on none other = none
-closing_goes true k o token.Word word on none other = absurd (true≢false (other refl))
-closing_goes false k o token.Word word on none other =
-    word_forms (λ f. turn (past false k) f ≡ None) (λ r. refl) refl refl _ _
+closing_goes true k o token.Identifier word on none other = absurd (true≢false (other refl))
+closing_goes false k o token.Identifier word on none other =
+    word_forms (λ f. shape_after (past false k) f ≡ None) (λ r. refl) refl refl _ _
 closing_goes words k o _ word on none other = refl
 
 -- which a colon follows
@@ -219,7 +219,7 @@ abbrev pub IsBeforeColon : Part → Shape → Type 0
 IsBeforeColon k t = (past_colon k ≡ Some t) × (past_arrow k ≡ None) × (what.Colon ≡ wanted_after k) × (is_last k ≡ false)
 
 pub colon_judged : (words : Bool) (k : Part) (t : Shape) (names : List (List ℕ)) (line next_column : ℕ) (ms : List Mark)
-    (stop : Option Stop) (f : Rest → Result Line SchemaRefusal) → IsBeforeColon k t → (words ≡ true → NoWord ms)
+    (stop : Option LexError) (f : Rest → Result Line SchemaRefusal) → IsBeforeColon k t → (words ≡ true → NoWord ms)
     → FollowsIf names line stop t f
     → Judged (past words k) names line next_column ms stop (colon (left_at line next_column ms stop) >>= f)
 unfolding colon take
@@ -232,9 +232,9 @@ abbrev pub IsBeforeEnd : Part → Type 0
 IsBeforeEnd k = (past_colon k ≡ None) × (past_arrow k ≡ None) × (what.LineEnd ≡ wanted_after k) × (is_last k ≡ true)
 
 pub end_judged : (words : Bool) (k : Part) (names : List (List ℕ)) (line next_column : ℕ) (ms : List Mark)
-    (stop : Option Stop) (l : Line) → IsBeforeEnd k → (words ≡ true → NoWord ms)
-    → Judged (past words k) names line next_column ms stop (unless (ended (left_at line next_column ms stop)) l)
-unfolding ended
+    (stop : Option LexError) (l : Line) → IsBeforeEnd k → (words ≡ true → NoWord ms)
+    → Judged (past words k) names line next_column ms stop (unless (refusal_at_end (left_at line next_column ms stop)) l)
+unfolding refusal_at_end
 end_judged words k names line next_column [] None l is none = ((past words k, refl, is.3), refl, fine)
   where
     fine : (p n : ℕ) → Wrong (past words k) names [] None p n → ⊥

@@ -17,7 +17,7 @@ pub mod FormLines
 pub mod FormShapes
 pub mod NodeLemmas
 pub mod OneTree
-pub mod PlaceLemmas
+pub mod PositionLemmas
 pub mod PremiseLemmas
 pub mod PreparedLaws
 pub mod PreparedRefusals

@@ -4,7 +4,7 @@ use Rattle.std.proofs.Common.{◌≡◌, ℕ, false, List, [], ◌∷◌, ◌++�
 use Rattle.dep_model.specs.Dependencies.{Dependency}
 use Rattle.derivation.proofs.RuleTableLemmas.{the_ok}
 use Rattle.lexer.specs.declared.token.Mode.TheVariants as mode
-use Rattle.lexer.specs.declared.token.Stop.{Stop}
+use Rattle.lexer.specs.declared.token.LexError.{LexError}
 use Rattle.lexer.specs.declared.token.TokenKind.{TokenKind}
 use Rattle.lexer.specs.declared.token.TokenKind.TheVariants as token
 use Rattle.lexer.specs.Tokens.{Mark, lex}
@@ -16,7 +16,7 @@ use Rattle.schema_grammar.specs.declared.format.Format.TheVariants as format
 use Rattle.schema_grammar.specs.Meanings.{IsArrow, IsDependency}
 use Rattle.proof_grammar.specs.Lines.{Line, body, stated_dependency, unless, certificate_line, certificate_line_from}
 use Rattle.proof_grammar.specs.Meanings.{IsCertificateLine, MeansLine}
-use Rattle.schema_grammar.specs.Rests.{Rest, rest_from, take, expected, number, arrow, ended, side, arrow_in, is_word_token}
+use Rattle.schema_grammar.specs.Rests.{Rest, rest_from, take, refusal_of_token, number, arrow, refusal_at_end, side, arrow_in, is_word_token}
 use Rattle.proof_grammar.specs.Readers.{colon, rule_name}
 use Rattle.proof_grammar.proofs.CheckedLemmas.{bind_ok}
 use Rattle.proof_grammar.proofs.SideLaws.{side_there, side_back}
@@ -78,12 +78,12 @@ record Ends (r : Rest) : Type 0 where
   marks : r.marks ≡ []
   stop : r.stop ≡ None
 
-unless_there : {X : Type 0} (r : Rest) (x y : X) → unless (ended r) x ≡ Ok y → (x ≡ y) × Ends r
-unfolding ended
+unless_there : {X : Type 0} (r : Rest) (x y : X) → unless (refusal_at_end r) x ≡ Ok y → (x ≡ y) × Ends r
+unfolding refusal_at_end
 unless_there {X} r x y e = told r.marks r.stop e
   where
-    told : (ms : List Mark) (stop : Option Stop)
-        → unless (ended (record { line = r.line; next_column = r.next_column; marks = ms; stop = stop })) x ≡ Ok y
+    told : (ms : List Mark) (stop : Option LexError)
+        → unless (refusal_at_end (record { line = r.line; next_column = r.next_column; marks = ms; stop = stop })) x ≡ Ok y
         → (x ≡ y) × Ends (record { line = r.line; next_column = r.next_column; marks = ms; stop = stop })
     told [] None e = (cc, record { marks = refl; stop = refl })
     told [] (Some stop) e = cc
@@ -98,7 +98,7 @@ pub line_reads : (names : List (List ℕ)) (start : Rest) (l : Line) → certifi
 unfolding certificate_line certificate_line_from number
 line_reads names start l e =
     let t = bind_ok (take what.Number start) _ l e in
-    let n = bind_ok (ok_or (number_in t.0.0.kind) (expected what.Number t.0.0 t.0.1)) _ l t.2 in
+    let n = bind_ok (ok_or (number_in t.0.0.kind) (refusal_of_token what.Number t.0.0 t.0.1)) _ l t.2 in
     let a = bind_ok (colon t.0.1) _ l n.2 in
     let d = bind_ok (stated_dependency names a.0) _ l a.2 in
     let b = bind_ok (colon d.0.1) _ l d.2 in
@@ -139,7 +139,7 @@ line_there names number text l e =
 
 -- tokens that are a line are read as it, from any column
 pub marks_read : (names : List (List ℕ)) (at from : ℕ) (ms : List Mark) (l : Line) → IsCertificateLine names ms l → certificate_line names (rest_at at from ms) ≡ Ok l
-unfolding certificate_line certificate_line_from stated_dependency arrow take colon ended
+unfolding certificate_line certificate_line_from stated_dependency arrow take colon refusal_at_end
 marks_read names at from ms l is =
     let d = is.dependency in
     let sign = arrow_law d.sign d.arrow.kind in

@@ -1,36 +1,36 @@
--- A line of a certificate is refused exactly by its first complaint.
+-- A line of a certificate is refused exactly by its first diagnostic.
 use Rattle.std.specs.Prelude.{◌↔◌, slice_get}
 use Rattle.std.proofs.Common.{◌≡◌, ◌<◌, ◌⊎◌, inl, inr, ⊎_elim, ℕ, zero, suc, true, List, [], ◌∷◌, length, take, Option, Some, None, Ok, Err, Result, refl, sym, ◌∙◌, ap, subst, arith}
 use Rattle.std.proofs.lemmas.Bool.{true≢false, false_from_ne_true}
 use Rattle.std.proofs.lemmas.List.{length-map, take_all}
 use Rattle.std.proofs.lemmas.Option.{none-some, same_Some, slice_get_within, slice_get_cases}
 use Rattle.lexer.specs.declared.token.Mode.TheVariants as mode
-use Rattle.lexer.specs.declared.token.Stop.{Stop}
+use Rattle.lexer.specs.declared.token.LexError.{LexError}
 use Rattle.lexer.specs.Tokens.{Mark, lex}
 use Rattle.schema_grammar.specs.declared.refusal.SchemaRefusal.{SchemaRefusal}
 use Rattle.schema_grammar.specs.declared.refusal.What.{What}
 use Rattle.schema_grammar.specs.declared.refusal.What.TheVariants as what
-use Rattle.schema_grammar.specs.Complaints.{refusal_number, span_at}
+use Rattle.schema_grammar.specs.Diagnostics.{refusal_number, span_at}
 use Rattle.schema_grammar.specs.Rests.{rest_from}
-use Rattle.schema_grammar.proofs.ComplaintLaws.{Carries-map}
+use Rattle.schema_grammar.proofs.DiagnosticLaws.{Carries-map}
 use Rattle.schema_grammar.proofs.OneRefusal.{OneWant, one_first}
 use Rattle.proof_grammar.specs.declared.rule_name.RuleName.TheVariants as rule
 use Rattle.proof_grammar.specs.Lines.{Line, certificate_line}
-use Rattle.proof_grammar.specs.LineComplaints.{TokenForm, forms, a_number, a_colon, an_arrow, an_empty, a_with, a_rule, a_word, AreLine, BeginLine, CannotGoOn, SideWordComplaint, TokensComplaint, FormsWant, TokensWant, RefusesTokens, RefusesCertificateLine}
+use Rattle.proof_grammar.specs.LineDiagnostics.{TokenForm, token_forms, a_number, a_colon, an_arrow, an_empty, a_with, a_rule, a_word, AreLine, BeginLine, CannotGoOn, SideWordDiagnostic, TokensDiagnostic, FormsWant, TokensWant, RefusesTokens, RefusesCertificateLine}
 use Rattle.proof_grammar.proofs.FormLines.{begins_from, begins_on, begins_to, final_line, line_ends, names_at, wants_from}
-use Rattle.proof_grammar.proofs.FormShapes.{heading, lhs, rhs, by, wide, narrow, ending, Shape, at_number, at_start, at_side, past, at_rule, at_with, is_final, runs, takes_words, then_turn, turn, wanted_by}
+use Rattle.proof_grammar.proofs.FormShapes.{heading, lhs, rhs, by, wide, narrow, ending, Shape, at_number, at_start, at_side, past, at_rule, at_with, is_final, runs, takes_words, then_turn, shape_after, wanted_by}
 use Rattle.proof_grammar.proofs.JudgedLines.{form, Judged, ShapeWants, TokenWrong, Wrong, WrongAt}
 use Rattle.proof_grammar.proofs.JudgedRules.{line_judged}
 
 -- ---- one thing is wanted
 -- a token of the wanted form leads on, and words of the grammar stand where no other word can
 abbrev Takes : Shape → What → Type 0
-Takes s what.Number = (t : Shape) × (turn s a_number ≡ Some t)
-Takes s what.Colon = (t : Shape) × (turn s a_colon ≡ Some t)
-Takes s what.Arrow = (t : Shape) × (turn s an_arrow ≡ Some t)
-Takes s what.Side = (t : Shape) × (turn s an_empty ≡ Some t)
-Takes s what.With = (t : Shape) × (turn s a_with ≡ Some t) × (takes_words s ≡ true → ⊥)
-Takes s what.Rule = (t : Shape) × (turn s (a_rule rule.Given) ≡ Some t) × (takes_words s ≡ true → ⊥)
+Takes s what.Number = (t : Shape) × (shape_after s a_number ≡ Some t)
+Takes s what.Colon = (t : Shape) × (shape_after s a_colon ≡ Some t)
+Takes s what.Arrow = (t : Shape) × (shape_after s an_arrow ≡ Some t)
+Takes s what.Side = (t : Shape) × (shape_after s an_empty ≡ Some t)
+Takes s what.With = (t : Shape) × (shape_after s a_with ≡ Some t) × (takes_words s ≡ true → ⊥)
+Takes s what.Rule = (t : Shape) × (shape_after s (a_rule rule.Given) ≡ Some t) × (takes_words s ≡ true → ⊥)
 Takes s what.LineEnd = is_final s ≡ true
 Takes s _ = ⊥
 
@@ -81,110 +81,110 @@ one_want fs w v wants other =
     let again = wanted_at fs v other in
     first.2 ∙ ap wanted_by (same_Some first.0 again.0 (sym first.1 ∙ again.1)) ∙ sym again.2
 
--- ---- the two kinds of complaints are one
+-- ---- the two kinds of diagnostics are one
 runs_next : (o : Option Shape) (ms : List Mark) (p : ℕ) (m : Mark) → slice_get ms p ≡ Some m
-    → runs o (take (suc p) (forms ms)) ≡ then_turn (runs o (take p (forms ms))) (form m)
+    → runs o (take (suc p) (token_forms ms)) ≡ then_turn (runs o (take p (token_forms ms))) (form m)
 runs_next o [] p m at = cc
 runs_next o (k ∷ ms) zero m at = ap (λ (x : Mark). then_turn o (form x)) (same_Some k m at)
 runs_next o (k ∷ ms) (suc p) m at = runs_next (then_turn o (form k)) ms p m at
 
-complaint_there : (names : List (List ℕ)) (ms : List Mark) (stop : Option Stop) (p n : ℕ)
-    → Wrong at_start names ms stop p n → TokensComplaint names ms stop p n
-complaint_there names ms stop p n (inr flaw) = inr flaw
-complaint_there names ms stop p n (inl (low, wrong)) =
-    inl (told (runs (Some at_start) (take p (forms ms))) (slice_get ms p) refl refl wrong)
+diagnostic_there : (names : List (List ℕ)) (ms : List Mark) (stop : Option LexError) (p n : ℕ)
+    → Wrong at_start names ms stop p n → TokensDiagnostic names ms stop p n
+diagnostic_there names ms stop p n (inr flaw) = inr flaw
+diagnostic_there names ms stop p n (inl (low, wrong)) =
+    inl (told (runs (Some at_start) (take p (token_forms ms))) (slice_get ms p) refl refl wrong)
   where
-    told : (o : Option Shape) (k : Option Mark) → runs (Some at_start) (take p (forms ms)) ≡ o → slice_get ms p ≡ k
-        → WrongAt names stop n o k → SideWordComplaint names ms p n ⊎ ((n ≡ 6) × CannotGoOn (forms ms) stop p)
+    told : (o : Option Shape) (k : Option Mark) → runs (Some at_start) (take p (token_forms ms)) ≡ o → slice_get ms p ≡ k
+        → WrongAt names stop n o k → SideWordDiagnostic names ms p n ⊎ ((n ≡ 6) × CannotGoOn (token_forms ms) stop p)
     told None k reached at wrong = absurd wrong
     told (Some s) (Some m) reached at (inl (takes, word)) =
-        inl (m, at, (names_at (take p (forms ms)) s reached).0 takes, word)
+        inl (m, at, (names_at (take p (token_forms ms)) s reached).0 takes, word)
     told (Some s) (Some m) reached at (inr (six, cannot)) = inr (
       six,
       record {
-        before = begins_from (take p (forms ms)) s reached;
+        before = begins_from (take p (token_forms ms)) s reached;
         here = inl (
           omega (arith, length-map ms form, slice_get_within ms p m at),
           λ begins.
-              let on = begins_to (take (suc p) (forms ms)) begins in
+              let on = begins_to (take (suc p) (token_forms ms)) begins in
               none-some on.0 (sym (runs_next (Some at_start) ms p m at ∙ ap (λ o. then_turn o (form m)) reached ∙ cannot)
               ∙ on.1),
         );
       },
     )
     told (Some s) None reached at (six, ended, open_end) =
-        let same : p ≡ length (forms ms) = ⊎_elim (λ inside. absurd (none-some inside.0 (sym at ∙ inside.2)))
+        let same : p ≡ length (token_forms ms) = ⊎_elim (λ inside. absurd (none-some inside.0 (sym at ∙ inside.2)))
         (λ past. omega (arith, low, past.0, length-map ms form)) (slice_get_cases ms p).1 in
-        let whole = take_all p (forms ms) (omega (arith, same)) in
+        let whole = take_all p (token_forms ms) (omega (arith, same)) in
         inr (
           six,
           record {
-            before = begins_from (take p (forms ms)) s reached;
+            before = begins_from (take p (token_forms ms)) s reached;
             here = inr (
               same,
               ended,
               λ is.
-                  let ends = line_ends (forms ms) is in
+                  let ends = line_ends (token_forms ms) is in
                   let one = same_Some ends.0 s (sym ends.1 ∙ sym (ap (runs (Some at_start)) whole) ∙ reached) in
                   true≢false (sym ends.2 ∙ ap is_final one ∙ open_end),
             );
           },
         )
 
-complaint_back : (names : List (List ℕ)) (ms : List Mark) (stop : Option Stop) (p n : ℕ)
-    → TokensComplaint names ms stop p n → Wrong at_start names ms stop p n
-complaint_back names ms stop p n (inr flaw) = inr flaw
-complaint_back names ms stop p n (inl (inl (m, at, takes, word))) =
-    let on = begins_on (take p (forms ms)) a_word takes in
+diagnostic_back : (names : List (List ℕ)) (ms : List Mark) (stop : Option LexError) (p n : ℕ)
+    → TokensDiagnostic names ms stop p n → Wrong at_start names ms stop p n
+diagnostic_back names ms stop p n (inr flaw) = inr flaw
+diagnostic_back names ms stop p n (inl (inl (m, at, takes, word))) =
+    let on = begins_on (take p (token_forms ms)) a_word takes in
     let inside = slice_get_within ms p m at in
-    inl (omega (arith, inside), rw (on.2, at) (inl ((names_at (take p (forms ms)) on.0 on.2).1 takes, word)))
-complaint_back names ms stop p n (inl (inr (six, stuck))) =
-    let there = begins_to (take p (forms ms)) stuck.before in
+    inl (omega (arith, inside), rw (on.2, at) (inl ((names_at (take p (token_forms ms)) on.0 on.2).1 takes, word)))
+diagnostic_back names ms stop p n (inl (inr (six, stuck))) =
+    let there = begins_to (take p (token_forms ms)) stuck.before in
     inl (told there.0 (slice_get ms p) there.1 refl stuck.here)
   where
-    told : (s : Shape) (k : Option Mark) → runs (Some at_start) (take p (forms ms)) ≡ Some s → slice_get ms p ≡ k
-        → ((p < length (forms ms)) × (BeginLine (take (suc p) (forms ms)) → ⊥))
-        ⊎ ((p ≡ length (forms ms)) × (stop ≡ None) × (AreLine (forms ms) → ⊥))
+    told : (s : Shape) (k : Option Mark) → runs (Some at_start) (take p (token_forms ms)) ≡ Some s → slice_get ms p ≡ k
+        → ((p < length (token_forms ms)) × (BeginLine (take (suc p) (token_forms ms)) → ⊥))
+        ⊎ ((p ≡ length (token_forms ms)) × (stop ≡ None) × (AreLine (token_forms ms) → ⊥))
         → TokenWrong (Some at_start) names ms stop p n
     told s (Some m) reached at (inl (less, cannot)) =
-        let none : (o : Option Shape) → turn s (form m) ≡ o → turn s (form m) ≡ None = elim [
+        let none : (o : Option Shape) → shape_after s (form m) ≡ o → shape_after s (form m) ≡ None = elim [
           | None ↦ λ e. e
-          | Some t ↦ λ e. absurd (cannot (begins_from (take (suc p) (forms ms)) t
+          | Some t ↦ λ e. absurd (cannot (begins_from (take (suc p) (token_forms ms)) t
               (runs_next (Some at_start) ms p m at ∙ ap (λ o. then_turn o (form m)) reached ∙ e)))
         ] in
-        (omega (arith, less, length-map ms form), rw (reached, at) (inr (six, none (turn s (form m)) refl)))
+        (omega (arith, less, length-map ms form), rw (reached, at) (inr (six, none (shape_after s (form m)) refl)))
     told s None reached at (inl (less, cannot)) =
         absurd (⊎_elim (λ inside. none-some inside.0 (sym at ∙ inside.2)) (λ past. omega (arith, less, past.0, length-map ms form))
         (slice_get_cases ms p).1)
     told s (Some m) reached at (inr (same, ended, cannot)) =
         absurd (omega (arith, same, length-map ms form, slice_get_within ms p m at))
     told s None reached at (inr (same, ended, cannot)) =
-        let whole = take_all p (forms ms) (omega (arith, same)) in
+        let whole = take_all p (token_forms ms) (omega (arith, same)) in
         let open_end = false_from_ne_true (is_final s) (λ final.
-        cannot (final_line (forms ms) s (sym (ap (runs (Some at_start)) whole) ∙ reached) final)) in
+        cannot (final_line (token_forms ms) s (sym (ap (runs (Some at_start)) whole) ∙ reached) final)) in
         (omega (arith, same, length-map ms form), rw (reached, at) (six, ended, open_end))
 
 -- ---- the law
-judged_refuses : (names : List (List ℕ)) (at : ℕ) (ms : List Mark) (stop : Option Stop) (r : Result Line SchemaRefusal)
+judged_refuses : (names : List (List ℕ)) (at : ℕ) (ms : List Mark) (stop : Option LexError) (r : Result Line SchemaRefusal)
     (e : SchemaRefusal) → Judged at_start names at 1 ms stop r → (r ≡ Err e) ↔ RefusesTokens names at ms stop e
 judged_refuses names at ms stop (Ok l) e judged = (
   λ is. cc,
-  λ refuses. absurd (judged.2 refuses.place (refusal_number e.kind)
-      (complaint_back names ms stop refuses.place (refusal_number e.kind) refuses.stands)),
+  λ refuses. absurd (judged.2 refuses.position (refusal_number e.kind)
+      (diagnostic_back names ms stop refuses.position (refusal_number e.kind) refuses.stands)),
 )
 judged_refuses names at ms stop (Err f) e first =
     let refuses : RefusesTokens names at ms stop f = record {
-      place = first.place;
-      stands = complaint_there names ms stop first.place (refusal_number f.kind) first.stands;
-      carries = Carries-map (ShapeWants at_start ms first.place) (TokensWant ms first.place)
-          (λ w wants. subst (FormsWant (take first.place (forms ms))) (sym wants.2)
-          (wants_from (take first.place (forms ms)) wants.0 wants.1)) f.kind first.carries;
+      position = first.position;
+      stands = diagnostic_there names ms stop first.position (refusal_number f.kind) first.stands;
+      carries = Carries-map (ShapeWants at_start ms first.position) (TokensWant ms first.position)
+          (λ w wants. subst (FormsWant (take first.position (token_forms ms))) (sym wants.2)
+          (wants_from (take first.position (token_forms ms)) wants.0 wants.1)) f.kind first.carries;
       there = first.there;
-      least = λ p n complaint. first.least p n (complaint_back names ms stop p n complaint);
+      least = λ p n diagnostic. first.least p n (diagnostic_back names ms stop p n diagnostic);
     } in (
       λ is. let same : f ≡ e = cc in subst (RefusesTokens names at ms stop) same refuses,
-      λ other. ap Err (one_first (TokensComplaint names ms stop) (TokensWant ms) (span_at at 1 ms stop) f e
-          (λ p. one_want (take p (forms ms))) refuses other),
+      λ other. ap Err (one_first (TokensDiagnostic names ms stop) (TokensWant ms) (span_at at 1 ms stop) f e
+          (λ p. one_want (take p (token_forms ms))) refuses other),
     )
 
 pub refusal_law : (names : List (List ℕ)) (number : ℕ) (text : List ℕ) (e : SchemaRefusal)

@@ -20,13 +20,13 @@ AreNodes-append s before (x ∷ xs) (t ∷ ts) ys us first second =
     let moved : AreNodes s ((before ++ t ∷ []) ++ ts) ys us = subst (λ (w : List Tree). AreNodes s w ys us) (sym (append_assoc before (t ∷ []) ts)) second in
     (first.0, AreNodes-append s (before ++ t ∷ []) xs ts ys us first.1 moved)
 
-pub seam : {X : Type 0} (xs : List X) (x : X) (ys : List X) → slice_get (xs ++ x ∷ ys) (length xs) ≡ Some x
-seam [] x ys = refl
-seam (v ∷ xs) x ys = seam xs x ys
+pub slice_get-append : {X : Type 0} (xs : List X) (x : X) (ys : List X) → slice_get (xs ++ x ∷ ys) (length xs) ≡ Some x
+slice_get-append [] x ys = refl
+slice_get-append (v ∷ xs) x ys = slice_get-append xs x ys
 
 -- the tree after others is at their number and 1
-pub IsTreeAt-seam : (all ts : List Tree) (t : Tree) (us : List Tree) (p : ℕ) → all ≡ ts ++ t ∷ us → p ≡ length ts + 1 → IsTreeAt all p t
-IsTreeAt-seam all ts t us p e count = record { before = length ts; number = count; tree = rw e (seam ts t us) }
+pub IsTreeAt-append : (all ts : List Tree) (t : Tree) (us : List Tree) (p : ℕ) → all ≡ ts ++ t ∷ us → p ≡ length ts + 1 → IsTreeAt all p t
+IsTreeAt-append all ts t us p e count = record { before = length ts; number = count; tree = rw e (slice_get-append ts t us) }
 
 -- ---- uses
 pub uses-append : (k : ℕ) (xs ys : List Line) → uses k (xs ++ ys) ≡ uses k xs + uses k ys
@@ -36,11 +36,11 @@ uses-append k xs ys =
     (length-append (filter (nat_eq k) (flat_map used xs)) (filter (nat_eq k) (flat_map used ys)))
 
 -- how often a number is this one
-abbrev pub once : ℕ → ℕ → ℕ
-once k p = cond (nat_eq k p) 1 0
+abbrev pub indicator : ℕ → ℕ → ℕ
+indicator k p = cond (nat_eq k p) 1 0
 
 pub filtered_more : (k p : ℕ) (ps : List ℕ) (b : Bool) → nat_eq k p ≡ b
-    → length (filter (nat_eq k) (p ∷ ps)) ≡ once k p + length (filter (nat_eq k) ps)
+    → length (filter (nat_eq k) (p ∷ ps)) ≡ indicator k p + length (filter (nat_eq k) ps)
 filtered_more k p ps true e = rw e (omega arith)
 filtered_more k p ps false e = rw e (omega arith)
 

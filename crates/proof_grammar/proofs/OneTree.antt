@@ -9,7 +9,7 @@ use Rattle.proof_grammar.specs.Lines.{Body, by_given, by_reflexivity, by_mreflex
 use Rattle.proof_grammar.specs.Meanings.{MeanLines, certificate_lines}
 use Rattle.proof_grammar.specs.Spelling.{IsTreeAt, IsTreeOf, AreNodes, Spells}
 use Rattle.proof_grammar.proofs.LineLaws.{line_back}
-use Rattle.proof_grammar.proofs.NodeLemmas.{seam}
+use Rattle.proof_grammar.proofs.NodeLemmas.{slice_get-append}
 
 -- texts mean one list of lines at most
 one_list : (names : List (List ℕ)) (texts : List (List ℕ)) (ls ms : List Line) → MeanLines names texts ls → MeanLines names texts ms → ls ≡ ms
@@ -61,4 +61,4 @@ one_tree s text t u first second =
     let trees = one_nodes s [] first.lines (xs ++ t ∷ []) (ys ++ u ∷ []) first.nodes.nodes moved in
     let size : length xs ≡ length ys =
     omega (arith, ap length trees, length-append xs (t ∷ []), length-append ys (u ∷ [])) in
-    let both : Some t ≡ Some u = sym (seam xs t []) ∙ (rw (size, trees) (seam ys u [])) in cc
+    let both : Some t ≡ Some u = sym (slice_get-append xs t []) ∙ (rw (size, trees) (slice_get-append ys u [])) in cc

@@ -5,7 +5,7 @@ use Rattle.std.proofs.lemmas.Bool.Decides.{nat_tests}
 use Rattle.std.proofs.lemmas.List.Elements.{filter-append}
 use Rattle.dep_model.specs.declared.schema.Schema.{Schema}
 use Rattle.derivation.specs.Trees.{Tree}
-use Rattle.proof_grammar.specs.Books.{Opened, joined, is_earlier, open_at, closed}
+use Rattle.proof_grammar.specs.CheckerStates.{Opened, option_flatten, is_earlier, open_at, close_line}
 use Rattle.proof_grammar.specs.Spelling.{IsTreeAt}
 use Rattle.proof_grammar.proofs.SlotLemmas.{IsSlot, AreSlots, times, slots_close, slot_of_tree, tree_of_slot}
 
@@ -31,14 +31,14 @@ earlier_slot s used ts os p o slots earlier here =
     let tree = tree_of_slot s used 0 ts os (p - 1) slots (grind (arith, nat_tests, earlier)) in
     let found = slot_of_tree s used 0 ts os (p - 1) tree.0 slots tree.1 in
     let same : 0 + (p - 1) + 1 ≡ p = omega (arith, number) in
-    let held : found.slot ≡ o = ap joined (sym found.here) ∙ here in
+    let held : found.slot ≡ o = ap option_flatten (sym found.here) ∙ here in
     let of : ℕ → Option Opened → Type 0 = λ n slot. IsSlot s (used n) tree.0 slot in
     let moved : of p found.slot = subst (λ n. of n found.slot) same found.is in
     (tree.0, record { before = p - 1; number = number; tree = tree.1 }, subst (of p) held moved)
 
 -- a premise that is taken is used
 pub premise_taken : (s : Schema) (used : ℕ → ℕ) (ts : List Tree) (os : List (Option Opened)) (p : ℕ)
-    → AreSlots s used 0 ts os → 0 < p → used p ≡ 0 → AreSlots s (λ n. used n + times n (p ∷ [])) 0 ts (closed os p)
+    → AreSlots s used 0 ts os → 0 < p → used p ≡ 0 → AreSlots s (λ n. used n + times n (p ∷ [])) 0 ts (close_line os p)
 premise_taken s used ts os p slots some unused =
     let same : 0 + (p - 1) + 1 ≡ p = omega (arith, some) in
     let next : ℕ → ℕ = λ n. used n + times n (p ∷ []) in

@@ -14,8 +14,8 @@ use Rattle.derivation.specs.Trees.{Tree, Leaf, Step, Pair, leaf, step, pair, giv
 use Rattle.derivation.specs.Table.{leaf_conclusion, step_conclusion, pair_conclusion}
 use Rattle.derivation.specs.Conclusions.{Proves}
 use Rattle.derivation.proofs.WithinLemmas.{TreeOfAttributes, StepOfAttributes}
-use Rattle.proof_grammar.specs.Books.{Opened, Prepared, is_earlier, open_at, closed, step_node, pair_node, prepared}
-use Rattle.proof_grammar.specs.Complaints.{Complaint, no_such_line, used_twice}
+use Rattle.proof_grammar.specs.CheckerStates.{Opened, Prepared, is_earlier, open_at, close_line, step_node, pair_node, prepare_line}
+use Rattle.proof_grammar.specs.Diagnostics.{Diagnostic, no_such_line, used_twice}
 use Rattle.proof_grammar.specs.Lines.{Body, by_given, by_reflexivity, by_mreflexivity, by_step, by_pair, Line}
 use Rattle.proof_grammar.specs.Nodes.{with_tree}
 use Rattle.proof_grammar.specs.Spelling.{IsTreeOf, premises_of, uses}
@@ -36,7 +36,7 @@ pub record IsOutcome (s : Schema) (used : ℕ → ℕ) (ts : List Tree) (l : Lin
       → IsTreeOf ts l l.body u × Proves s u d × TreeOfAttributes u
   pub slots : AreSlots s (λ n. used n + times n (premises_of l.body)) 0 ts p.unused
 
-abbrev pub Prepares : Schema → List Line → List Tree → Line → Result Prepared Complaint → Type 0
+abbrev pub Prepares : Schema → List Line → List Tree → Line → Result Prepared Diagnostic → Type 0
 Prepares s lines ts l (Ok p) = AllEarlier ts (premises_of l.body) × AllOnce (λ n. uses n lines) (premises_of l.body)
     × IsOutcome s (λ n. uses n lines) ts l p
 Prepares s lines ts l (Err no_such_line) = NamesNoLine ts l
@@ -75,7 +75,7 @@ step_prepares : (s : Schema) (lines : List Line) (ts : List Tree) (os : List (Op
     (stated : Dependency) (rule : Step) (q : ℕ) (b : Bool) (o : Option Opened) → AreSlots s (λ m. uses m lines) 0 ts os
     → StepOfAttributes rule → is_earlier os q ≡ b → open_at os q ≡ o
     → Prepares s lines ts (record { number = n; stated = stated; body = by_step rule q })
-    (cond b (step_node s rule o (closed os q)) (Err no_such_line))
+    (cond b (step_node s rule o (close_line os q)) (Err no_such_line))
 step_prepares s lines ts os n stated rule q false o slots own earlier here = record {
   premise = q;
   named = omega (arith, times_self q);
@@ -99,7 +99,7 @@ step_prepares s lines ts os n stated rule q true (Some o) slots own earlier here
       earlier_more ts q [] slot.0 slot.1 (λ m some. absurd (omega (arith, some))),
       once_more used q [] slot.2.0 (λ m some. absurd (omega (arith, some))),
       outcome_of s used ts l (o.levels + 1) (step rule o.tree) (step rule slot.0)
-          (step_conclusion s rule o.conclusion) (closed os q) (ap (step rule) is.tree)
+          (step_conclusion s rule o.conclusion) (close_line os q) (ap (step rule) is.tree)
           (record { premise = slot.0; earlier = slot.1; tree = refl }) (ap (λ k. k + 1) is.levels)
           (own, is.attributes) (λ d h. (o.conclusion, is.proves, h))
           (λ why h. record { premise = slot.0; conclusion = o.conclusion; at = slot.1; proves = is.proves; refused = h })
@@ -110,9 +110,9 @@ step_prepares s lines ts os n stated rule q true (Some o) slots own earlier here
 pair_prepares : (s : Schema) (lines : List Line) (ts : List Tree) (os : List (Option Opened)) (n : ℕ)
     (stated : Dependency) (rule : Pair) (q r : ℕ) (a b : Bool) (o w : Option Opened)
     → AreSlots s (λ m. uses m lines) 0 ts os → is_earlier os q ≡ a → is_earlier os r ≡ b → open_at os q ≡ o
-    → open_at (closed os q) r ≡ w
+    → open_at (close_line os q) r ≡ w
     → Prepares s lines ts (record { number = n; stated = stated; body = by_pair rule q r })
-    (cond (a && b) (pair_node rule o w (closed (closed os q) r)) (Err no_such_line))
+    (cond (a && b) (pair_node rule o w (close_line (close_line os q) r)) (Err no_such_line))
 pair_prepares s lines ts os n stated rule q r false b o w slots first second here there = record {
   premise = q;
   named = omega (arith, times_two q q r, times_self q);
@@ -140,7 +140,7 @@ pair_prepares s lines ts os n stated rule q r true true (Some o) None slots firs
     let used : ℕ → ℕ = λ m. uses m lines in
     let left = earlier_slot s used ts os q (Some o) slots first here in
     let later = premise_taken s used ts os q slots (omega (arith, left.1.number)) left.2.0 in
-    let right = earlier_slot s (λ m. used m + times m (q ∷ [])) ts (closed os q) r None later
+    let right = earlier_slot s (λ m. used m + times m (q ∷ [])) ts (close_line os q) r None later
     (ap (λ m. nat_lt 0 r && nat_le r m) (length-set os (q - 1) None) ∙ second) there in
     let l : Line = record { number = n; stated = stated; body = by_pair rule q r } in (
       earlier_more ts q (r ∷ []) left.0 left.1
@@ -156,7 +156,7 @@ pair_prepares s lines ts os n stated rule q r true true (Some o) (Some w) slots 
     let next : ℕ → ℕ = λ m. used m + times m (q ∷ []) in
     let left = earlier_slot s used ts os q (Some o) slots first here in
     let later = premise_taken s used ts os q slots (omega (arith, left.1.number)) left.2.0 in
-    let right = earlier_slot s next ts (closed os q) r (Some w) later
+    let right = earlier_slot s next ts (close_line os q) r (Some w) later
     (ap (λ m. nat_lt 0 r && nat_le r m) (length-set os (q - 1) None) ∙ second) there in
     let one = left.2.1 in
     let two = right.2.1 in
@@ -165,7 +165,7 @@ pair_prepares s lines ts os n stated rule q r true true (Some o) (Some w) slots 
           (earlier_more ts r [] right.0 right.1 (λ m some. absurd (omega (arith, some)))),
       once_more used q (r ∷ []) left.2.0 (once_more next r [] right.2.0 (λ m some. absurd (omega (arith, some)))),
       outcome_of s used ts l (max o.levels w.levels + 1) (pair rule o.tree w.tree) (pair rule left.0 right.0)
-          (pair_conclusion rule o.conclusion w.conclusion) (closed (closed os q) r)
+          (pair_conclusion rule o.conclusion w.conclusion) (close_line (close_line os q) r)
           (λ i. pair rule (one.tree i) (two.tree i))
           (record {
             first = left.0;
@@ -188,8 +188,8 @@ pair_prepares s lines ts os n stated rule q r true true (Some o) (Some w) slots 
             refused = h;
           })
           (slots_same s (λ m. next m + times m (r ∷ [])) (λ m. used m + times m (q ∷ r ∷ [])) 0 ts
-          (closed (closed os q) r) (λ m h. omega (arith, times_two m q r))
-          (premise_taken s next ts (closed os q) r later (omega (arith, right.1.number)) right.2.0)),
+          (close_line (close_line os q) r) (λ m h. omega (arith, times_two m q r))
+          (premise_taken s next ts (close_line os q) r later (omega (arith, right.1.number)) right.2.0)),
     )
 
 -- ---- a rule with none
@@ -235,8 +235,8 @@ given_prepares s lines ts os n stated k false slots is =
 pub prepares : (s : Schema) (lines : List Line) (ts : List Tree) (os : List (Option Opened)) (n : ℕ)
     (stated : Dependency) (b : Body) → AreSlots s (λ m. uses m lines) 0 ts os
     → IsLineOfAttributes (record { number = n; stated = stated; body = b })
-    → Prepares s lines ts (record { number = n; stated = stated; body = b }) (prepared s os stated b)
-unfolding prepared
+    → Prepares s lines ts (record { number = n; stated = stated; body = b }) (prepare_line s os stated b)
+unfolding prepare_line
 prepares s lines ts os n stated (by_given k) slots own = given_prepares s lines ts os n stated k (k == 0) slots refl
 prepares s lines ts os n stated by_reflexivity slots own =
     leaf_prepares s lines ts os (record { number = n; stated = stated; body = by_reflexivity })
@@ -248,4 +248,4 @@ prepares s lines ts os n stated (by_step rule q) slots own =
     step_prepares s lines ts os n stated rule q (is_earlier os q) (open_at os q) slots own.body refl refl
 prepares s lines ts os n stated (by_pair rule q r) slots own =
     pair_prepares s lines ts os n stated rule q r (is_earlier os q) (is_earlier os r) (open_at os q)
-    (open_at (closed os q) r) slots refl refl refl refl
+    (open_at (close_line os q) r) slots refl refl refl refl

@@ -19,35 +19,35 @@ use Rattle.proof_grammar.specs.Printing.{certificate_lines_text}
 use Rattle.proof_grammar.specs.Texts.{is_blank, is_yes}
 use Rattle.proof_grammar.specs.Printable.{ArePrintableLines}
 use Rattle.proof_grammar.proofs.PrintedTokens.{keyword, decimal_is, parts_lexed}
-use Rattle.proof_grammar.proofs.PrintedLines.{printed, line_text_is, line_bytes, printed_means}
+use Rattle.proof_grammar.proofs.PrintedLines.{text_of_line, line_text_is, line_bytes, printed_means}
 
-each_line : (names : List (List ℕ)) (ls : List Line) → AreNames format.Plain names → ArePrintableLines names ls → EachBytes (map (printed names) ls)
+each_line : (names : List (List ℕ)) (ls : List Line) → AreNames format.Plain names → ArePrintableLines names ls → EachBytes (map (text_of_line names) ls)
 each_line names [] are all = tt
 each_line names (l ∷ ls) are (here, rest) = (line_bytes names l are here, each_line names ls are rest)
 
 -- ---- the lines of the text
 lines_are : (names : List (List ℕ)) (ls : List Line)
-    → certificate_lines_text names ls ≡ lines_text (map (printed names) ls)
+    → certificate_lines_text names ls ≡ lines_text (map (text_of_line names) ls)
 lines_are names [] = refl
-lines_are names (l ∷ ls) = rw (line_text_is names l) (ap (λ t. (printed names l ++ codes "\n") ++ t) (lines_are names ls))
+lines_are names (l ∷ ls) = rw (line_text_is names l) (ap (λ t. (text_of_line names l ++ codes "\n") ++ t) (lines_are names ls))
 
 -- a text that begins with digits begins with no byte-order mark
-unmarked : (word rest : List ℕ) → list_all is_ascii_digit word ≡ true → 0 < length word
+without_mark-digits : (word rest : List ℕ) → list_all is_ascii_digit word ≡ true → 0 < length word
     → without_mark (word ++ rest) ≡ word ++ rest
-unmarked [] rest e some = absurd (omega arith)
-unmarked (b ∷ bs) rest e some =
+without_mark-digits [] rest e some = absurd (omega arith)
+without_mark-digits (b ∷ bs) rest e some =
     let digit = (and_parts (is_ascii_digit b) (list_all is_ascii_digit bs) e).0 in
     let other : (239 == b) ≡ false = grind (arith, nat_tests) in rw other refl
 
 no_mark : (names : List (List ℕ)) (ls : List Line) → ArePrintableLines names ls
-    → without_mark (lines_text (map (printed names) ls)) ≡ lines_text (map (printed names) ls)
+    → without_mark (lines_text (map (text_of_line names) ls)) ≡ lines_text (map (text_of_line names) ls)
 no_mark names [] all = refl
 no_mark names (l ∷ ls) (here, rest) =
     let is = decimal_is l.number here.number in
-    simp append_assoc (unmarked (decimal l.number) _ is.digits is.some)
+    simp append_assoc (without_mark-digits (decimal l.number) _ is.digits is.some)
 
 -- ---- the lines that count
-each_means : (names : List (List ℕ)) (ls : List Line) → AreNames format.Plain names → ArePrintableLines names ls → MeanLines names (map (printed names) ls) ls
+each_means : (names : List (List ℕ)) (ls : List Line) → AreNames format.Plain names → ArePrintableLines names ls → MeanLines names (map (text_of_line names) ls) ls
 each_means names [] are all = tt
 each_means names (l ∷ ls) are (here, rest) = (printed_means names l are here, each_means names ls are rest)
 
@@ -73,17 +73,17 @@ answer_text answered = cond answered (codes "yes\n") []
 
 lines_kept : (answered : Bool) (names : List (List ℕ)) (ls : List Line) → AreNames format.Plain names
     → ArePrintableLines names ls
-    → certificate_lines (answer_text answered ++ certificate_lines_text names ls) ≡ map (printed names) ls
+    → certificate_lines (answer_text answered ++ certificate_lines_text names ls) ≡ map (text_of_line names) ls
 unfolding is_yes
 lines_kept false names ls are all =
-    let ts = map (printed names) ls in
+    let ts = map (text_of_line names) ls in
     let means = each_means names ls are all in
     ap certificate_lines (lines_are names ls)
     ∙ ap (λ t. certificate_lines_of (line_texts t)) (no_mark names ls all)
     ∙ ap certificate_lines_of (lines_cut ts (each_line names ls are all))
     ∙ ap without_yes (none_blank names ts ls means) ∙ none_yes names ts ls means
 lines_kept true names ls are all =
-    let ts = map (printed names) ls in
+    let ts = map (text_of_line names) ls in
     let yes = parts_lexed 1 (keyword (codes "yes")) [] refl tt in
     let cut : line_texts (codes "yes\n" ++ certificate_lines_text names ls) ≡ codes "yes" ∷ (ts ++ [] ∷ []) =
     ap (λ t. line_texts (codes "yes\n" ++ t)) (lines_are names ls) ∙ lines_cut (codes "yes" ∷ ts) (refl, each_line names ls are all) in

@@ -2,7 +2,7 @@
 use Rattle.std.proofs.Common.{◌≡◌, ◌+◌, ℕ, List, [], ◌∷◌, ◌++◌, length, refl, append_assoc}
 use Rattle.std.specs.Prelude.{codes, decimal}
 use Rattle.std.proofs.lemmas.List.{append-nil}
-use Rattle.attr_sets.specs.Places.{Places, below}
+use Rattle.attr_sets.specs.Attributes.{Attributes, below}
 use Rattle.dep_model.specs.Dependencies.{Dependency, fd, mvd, left_of, right_of, IsWithin}
 use Rattle.derivation.specs.Trees.{Step, augmentation, complementation, maugmentation, replication, transitivity, mtransitivity, coalescence}
 use Rattle.lexer.specs.declared.token.TokenKind.TheVariants as token
@@ -22,7 +22,7 @@ use Rattle.proof_grammar.specs.Printable.{FewDigits, IsPrintableLine}
 use Rattle.proof_grammar.proofs.PrintedTokens.{Part, keyword, number, side, Gap, blank, first_colon, colon, arrow, double_arrow, gap_end, text_of, marks_of, AreProper, parts_lexed, parts_bytes}
 
 -- ---- the parts of a line
-abbrev side_of : List (List ℕ) → Places → Part
+abbrev side_of : List (List ℕ) → Attributes → Part
 side_of names x = side (members_from x 0 names)
 
 -- the sets of a rule with one premise
@@ -59,8 +59,8 @@ line_parts names l =
     ∷ (colon, keyword (body_name l.body)) ∷ body_parts names l.body
 
 -- what is printed of a line, without its line feed
-abbrev pub printed : List (List ℕ) → Line → List ℕ
-printed names l = text_of (number l.number) (line_parts names l)
+abbrev pub text_of_line : List (List ℕ) → Line → List ℕ
+text_of_line names l = text_of (number l.number) (line_parts names l)
 
 -- ---- the text
 body_is : (names : List (List ℕ)) (b : Body)
@@ -85,7 +85,7 @@ dependency_is names (fd x y) rest = simp append_assoc
 dependency_is names (mvd x y) rest = simp append_assoc
 
 pub line_text_is : (names : List (List ℕ)) (l : Line)
-    → certificate_line_text names l ≡ printed names l ++ codes "\n"
+    → certificate_line_text names l ≡ text_of_line names l ++ codes "\n"
 unfolding certificate_line_text
 line_text_is names l = rw (body_is names l.body) (simp (append_assoc, dependency_is names l.stated))
 
@@ -113,7 +113,7 @@ line_proper names l are is = (
 )
 
 pub line_bytes : (names : List (List ℕ)) (l : Line) → AreNames format.Plain names → IsPrintableLine names l
-    → Bytes (printed names l)
+    → Bytes (text_of_line names l)
 line_bytes names l are is =
     parts_bytes (number l.number) (line_parts names l) is.number (line_proper names l are is)
 
@@ -122,7 +122,7 @@ body_means : (names : List (List ℕ)) (b : Body) (column : ℕ) → AreNames fo
     → IsBodyWithin (below (length names)) b
     → IsRule names (marks_of column (keyword (body_name b)) (body_parts names b)) b
 body_means names (by_given k) column are within =
-    record { name = _; place = _; whole = refl; says = (refl, refl); number = refl }
+    record { name = _; numeral = _; whole = refl; says = (refl, refl); number = refl }
 body_means names by_reflexivity column are within = record { name = _; whole = refl; says = (refl, refl) }
 body_means names by_mreflexivity column are within = record { name = _; whole = refl; says = (refl, refl) }
 body_means names (by_step (augmentation z) p) column are within = record {
@@ -211,7 +211,7 @@ dependency_means names (mvd x y) column are within = record {
   states = refl;
 }
 
-pub printed_means : (names : List (List ℕ)) (l : Line) → AreNames format.Plain names → IsPrintableLine names l → MeansLine names (printed names l) l
+pub printed_means : (names : List (List ℕ)) (l : Line) → AreNames format.Plain names → IsPrintableLine names l → MeansLine names (text_of_line names l) l
 printed_means names l are is =
     let at = 1 + length (decimal l.number) + 1 + 1 in
     let end = side_end (gap_end (side_end at (members_from (left_of l.stated) 0 names)) (arrow_of l.stated))

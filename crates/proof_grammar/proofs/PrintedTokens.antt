@@ -10,14 +10,14 @@ use Rattle.std.proofs.lemmas.Fmt.{decimal_nonempty, length-decimal-le, digits_de
 use Rattle.std.proofs.lemmas.List.{append-nil}
 use Rattle.std.proofs.lemmas.List.Sums.{AllPass-from_list_all, list_all-from_AllPass}
 use Rattle.std.proofs.lemmas.Str.Parse.{IsNumeralModel, numerals_by_fold}
-use Rattle.dep_model.proofs.NumeralLemmas.{digits_told}
+use Rattle.dep_model.proofs.NumeralLemmas.{digits_value-model}
 use Rattle.dep_model.specs.Names.{is_name, is_name_byte}
 use Rattle.lexer.specs.declared.piece.Piece.TheVariants as piece
 use Rattle.lexer.specs.declared.token.Mode.TheVariants as mode
 use Rattle.lexer.specs.declared.token.TokenKind.TheVariants as token
 use Rattle.lexer.specs.Bytes.{is_gap, run_length, is_number, number_of}
-use Rattle.lexer.specs.Pieces.{front, run_piece}
-use Rattle.lexer.specs.Tokens.{Mark, Lexed, lexed, led_by_mark}
+use Rattle.lexer.specs.Pieces.{front_piece, run_piece}
+use Rattle.lexer.specs.Tokens.{Mark, Lexed, tokens_after, led_by_mark}
 use Rattle.lexer.proofs.Steps.{at_token}
 use Rattle.schema_printer.specs.Printing.{side_text}
 use Rattle.schema_grammar.proofs.PrintedDependencies.{led_marks, nothing_left}
@@ -40,7 +40,7 @@ pub decimal_is : (n : ℕ) → n < 10 ^ 9 → IsDecimal n (decimal n)
 decimal_is n small =
     let wide : n < 2 ^ 64 = omega arith in
     let own : IsNumeralModel (λ ds. list_all is_ascii_digit ds ≡ true) number_of =
-    numerals_by_fold _ digits_told read_on (search rules) in
+    numerals_by_fold _ digits_value-model read_on (search rules) in
     record { digits = digits_decimal own n wide; some = decimal_nonempty n wide; few = length-decimal-le 9 n (omega arith) small wide; value = digits_value-decimal own n wide }
 
 run_is : (word rest : List ℕ) → list_all is_ascii_digit word ≡ true → Apart rest → run_length (word ++ rest) ≡ length word
@@ -54,8 +54,8 @@ run_is (b ∷ bs) rest e apart =
     rw (byte, more) (omega arith)
 
 front_number : (word rest : List ℕ) → list_all is_ascii_digit word ≡ true → 0 < length word → length word ≤ 9 → Apart rest
-    → front mode.Numbered (word ++ rest) ≡ piece.Token (token.Number (number_of word)) (length word)
-unfolding front run_piece is_number
+    → front_piece mode.Numbered (word ++ rest) ≡ piece.Token (token.Number (number_of word)) (length word)
+unfolding front_piece run_piece is_number
 front_number [] rest e some few apart = absurd (omega arith)
 front_number (first ∷ others) rest e some few apart =
     let parts = and_parts (is_ascii_digit first) (list_all is_ascii_digit others) e in
@@ -96,7 +96,7 @@ part_text (number n) = decimal n
 part_text (side words) = side_text words
 
 abbrev part_marks : ℕ → Part → List Mark
-part_marks column (keyword word) = record { kind = token.Word; column = column; word = word } ∷ []
+part_marks column (keyword word) = record { kind = token.Identifier; column = column; word = word } ∷ []
 part_marks column (number n) = record { kind = token.Number n; column = column; word = decimal n } ∷ []
 part_marks column (side words) = side_marks column words
 
@@ -147,8 +147,8 @@ abbrev led_by_all : List Mark → Lexed → Lexed
 led_by_all ms l = record { marks = ms ++ l.marks; stop = l.stop }
 
 part_lexed : (column : ℕ) (p : Part) (rest : List ℕ) → IsProper p → Apart rest
-    → lexed mode.Numbered 0 column (part_text p ++ rest)
-    ≡ led_by_all (part_marks column p) (lexed mode.Numbered 0 (part_end column p) rest)
+    → tokens_after mode.Numbered 0 column (part_text p ++ rest)
+    ≡ led_by_all (part_marks column p) (tokens_after mode.Numbered 0 (part_end column p) rest)
 part_lexed column (keyword word) rest proper apart = name_lexed mode.Numbered column word rest proper apart
 part_lexed column (number n) rest small apart =
     let is = decimal_is n small in
@@ -160,9 +160,9 @@ part_lexed column (side words) rest proper apart =
     side_lexed mode.Numbered column words rest proper apart ∙ led_marks (side_marks column words) _
 
 gap_lexed : (column : ℕ) (g : Gap) (rest : List ℕ)
-    → lexed mode.Numbered 0 column (gap_text g ++ rest)
-    ≡ led_by_all (gap_marks column g) (lexed mode.Numbered 0 (gap_end column g) rest)
-unfolding front
+    → tokens_after mode.Numbered 0 column (gap_text g ++ rest)
+    ≡ led_by_all (gap_marks column g) (tokens_after mode.Numbered 0 (gap_end column g) rest)
+unfolding front_piece
 gap_lexed column blank rest = blank_lexed mode.Numbered column rest
 gap_lexed column first_colon rest =
     at_token mode.Numbered column (58 ∷ 32 ∷ rest) token.Colon 1 (omega arith) refl
@@ -175,9 +175,9 @@ gap_lexed column arrow rest = arrow_lexed mode.Numbered column rest
 gap_lexed column double_arrow rest = double_arrow_lexed mode.Numbered column rest
 
 pub parts_lexed : (column : ℕ) (p : Part) (others : List (Gap × Part)) → IsProper p → AreProper others
-    → lexed mode.Numbered 0 column (text_of p others) ≡ record { marks = marks_of column p others; stop = None }
+    → tokens_after mode.Numbered 0 column (text_of p others) ≡ record { marks = marks_of column p others; stop = None }
 parts_lexed column p [] here rest =
-    ap (lexed mode.Numbered 0 column) (sym (append-nil (part_text p))) ∙ part_lexed column p [] here tt
+    ap (tokens_after mode.Numbered 0 column) (sym (append-nil (part_text p))) ∙ part_lexed column p [] here tt
     ∙ ap (led_by_all (part_marks column p)) (nothing_left mode.Numbered (part_end column p))
     ∙ ap (λ ms. record { marks = ms; stop = None }) (append-nil (part_marks column p))
 parts_lexed column p (next ∷ others) here rest =

@@ -4,9 +4,9 @@ use Rattle.std.specs.Prelude.{Ok, slice_get}
 use Rattle.std.proofs.lemmas.Bool.{and_parts}
 use Rattle.std.proofs.lemmas.List.{length-map}
 use Rattle.std.proofs.lemmas.Option.{slice_get_within}
-use Rattle.attr_sets.specs.Places.{union}
-use Rattle.attr_sets.specs.Sets.{is_within}
-use Rattle.attr_sets.proofs.PlacesLemmas.{is_within-true}
+use Rattle.attr_sets.specs.Attributes.{union}
+use Rattle.attr_sets.specs.Sets.{is_subset}
+use Rattle.attr_sets.proofs.AttributesLemmas.{is_subset-true}
 use Rattle.dep_model.specs.declared.schema.Schema.{Schema}
 use Rattle.dep_model.specs.Dependencies.{Dependency, fd, mvd, IsWithin}
 use Rattle.dep_model.specs.Deps.{dependency_of}
@@ -14,9 +14,9 @@ use Rattle.dep_model.specs.Schemas.{deps_of, names_of, theory_of, universe_of}
 use Rattle.derivation.specs.declared.fault.FaultKind.TheVariants.{NoSuchGiven, NotWithin}
 use Rattle.derivation.specs.Trees.{Leaf, given, reflexivity, mreflexivity, Step, augmentation, complementation, maugmentation, replication, Tree, leaf, step, pair, nodes}
 use Rattle.derivation.specs.Table.{leaf_conclusion, step_conclusion}
-use Rattle.derivation.specs.Conclusions.{Proves, concluded}
-use Rattle.derivation.proofs.ConclusionLemmas.{concluded-from}
-use Rattle.derivation.proofs.RuleTableLemmas.{some_of_ok, chosen}
+use Rattle.derivation.specs.Conclusions.{Proves, conclusion_after}
+use Rattle.derivation.proofs.ConclusionLemmas.{conclusion_after-from}
+use Rattle.derivation.proofs.RuleTableLemmas.{some_of_ok, cond-ok}
 use Rattle.derivation.proofs.WithinLemmas.{StepOfAttributes, TreeOfAttributes, conclusion_within}
 use Rattle.proof_grammar.specs.Lines.{by_step, by_pair, Line}
 use Rattle.proof_grammar.specs.Printable.{IsPrintableLine, ArePrintableLines}
@@ -47,22 +47,22 @@ leaf_printable s n (mreflexivity x y) d within h few =
 pub step_within : (s : Schema) (rule : Step) (x d : Dependency) → StepOfAttributes rule
     → step_conclusion s rule x ≡ Ok d → IsStepWithin (universe_of s) rule
 step_within s (augmentation z) (fd x y) d own h =
-    is_within-true z (universe_of s) own (chosen (is_within z (universe_of s)) NotWithin (fd (union x z) (union y z)) d h).0
+    is_subset-true z (universe_of s) own (cond-ok (is_subset z (universe_of s)) NotWithin (fd (union x z) (union y z)) d h).0
 step_within s (augmentation z) (mvd x y) d own h = cc
 step_within s complementation x d own h = tt {0}
 step_within s (maugmentation w z) (fd x y) d own h = cc
 step_within s (maugmentation w z) (mvd x y) d own h =
-    let passed = chosen (is_within w (universe_of s) && is_within z w) NotWithin (mvd (union x w) (union y z)) d h in
-    let both = and_parts (is_within w (universe_of s)) (is_within z w) passed.0 in
-    let wide = is_within-true w (universe_of s) own.0 both.0 in
-    (wide, (λ k m. wide k (is_within-true z w own.1 both.1 k m)))
+    let passed = cond-ok (is_subset w (universe_of s) && is_subset z w) NotWithin (mvd (union x w) (union y z)) d h in
+    let both = and_parts (is_subset w (universe_of s)) (is_subset z w) passed.0 in
+    let wide = is_subset-true w (universe_of s) own.0 both.0 in
+    (wide, (λ k m. wide k (is_subset-true z w own.1 both.1 k m)))
 step_within s replication x d own h = tt {0}
 
 -- ---- the lines
 pub tree_printable : (s : Schema) (t : Tree) (d : Dependency) (n : ℕ) → TreeOfAttributes t → Proves s t d
     → n + nodes t < 10 ^ 9 → ArePrintableLines (names_of s) (node_lines_after s n t)
 tree_printable s (leaf rule) d n own proves few =
-    let concludes : concluded s 0 (leaf rule) ≡ Ok d = concluded-from s 0 (leaf rule) d proves in
+    let concludes : conclusion_after s 0 (leaf rule) ≡ Ok d = conclusion_after-from s 0 (leaf rule) d proves in
     rw concludes (
       leaf_printable s (n + 1) rule d (conclusion_within s (leaf rule) d own proves) proves few,
       tt {0},
@@ -75,7 +75,7 @@ tree_printable s (step rule t) d n own proves few =
       number = omega (arith, few);
       few_digits = omega (arith, few);
     } in
-    let concludes : concluded s 0 (step rule t) ≡ Ok d = concluded-from s 0 (step rule t) d proves in
+    let concludes : conclusion_after s 0 (step rule t) ≡ Ok d = conclusion_after-from s 0 (step rule t) d proves in
     rw concludes (printable_append (names_of s) (node_lines_after s n t) _
     (tree_printable s t proves.0 n own.1 proves.1 (omega (arith, few))) (last, tt {0}))
 tree_printable s (pair rule t u) d n own proves few =
@@ -91,6 +91,6 @@ tree_printable s (pair rule t u) d n own proves few =
     } in
     let first = tree_printable s t proves.0 n own.0 proves.2 (omega (arith, few)) in
     let second = tree_printable s u proves.1 (n + nodes t) own.1 proves.3 (omega (arith, few)) in
-    let concludes : concluded s 0 (pair rule t u) ≡ Ok d = concluded-from s 0 (pair rule t u) d proves in
+    let concludes : conclusion_after s 0 (pair rule t u) ≡ Ok d = conclusion_after-from s 0 (pair rule t u) d proves in
     rw concludes (printable_append (names_of s) (xs ++ ys) _
     (printable_append (names_of s) xs ys first second) (last, tt {0}))

@@ -11,8 +11,8 @@ use Rattle.dep_model.specs.Schemas.{names_of}
 use Rattle.derivation.specs.declared.measures.TheConstants.{MOST_LEVELS}
 use Rattle.derivation.specs.Trees.{Tree, depth}
 use Rattle.proof_grammar.specs.declared.line_kind.LineKind.TheVariants.{Certificate}
-use Rattle.proof_grammar.specs.Books.{Opened, Ledger, prepared, settled, add_line, entered}
-use Rattle.proof_grammar.specs.Complaints.{Complaint, LineComplaint, wrong_number}
+use Rattle.proof_grammar.specs.CheckerStates.{Opened, CheckerStateValue, prepare_line, within_limits, add_line, enter_line}
+use Rattle.proof_grammar.specs.Diagnostics.{Diagnostic, LineDiagnostic, wrong_number}
 use Rattle.proof_grammar.specs.Lines.{Line}
 use Rattle.proof_grammar.specs.Meanings.{certificate_lines_of, MeansLine, MeanLines}
 use Rattle.schema_grammar.specs.Rests.{◌>>=◌}
@@ -20,7 +20,7 @@ use Rattle.schema_grammar.proofs.RefusalLemmas.{ok_at}
 use Rattle.proof_grammar.specs.Spelling.{uses}
 use Rattle.proof_grammar.specs.Texts.{at_line, read_certificate_lines}
 use Rattle.proof_grammar.proofs.CheckedLemmas.{bind_each}
-use Rattle.proof_grammar.proofs.CountedLines.{counted, Counts}
+use Rattle.proof_grammar.proofs.CountedLines.{lines_to_read, Counts}
 use Rattle.proof_grammar.proofs.DepthLemmas.{uses_first, nodes_size}
 use Rattle.proof_grammar.proofs.EnteredLaws.{Follows, IsEntered, used_after}
 use Rattle.proof_grammar.proofs.NodeLemmas.{AreNodes-append, uses-append}
@@ -29,17 +29,17 @@ use Rattle.proof_grammar.specs.Refusals.{StandsAt}
 use Rattle.proof_grammar.specs.Wrongs.{AreRead}
 
 -- ---- what is read of a line
--- the ledger after a certificate line, after which no `yes` may come
-abbrev pub marked : Result Ledger Complaint → Result (Bool × Ledger) Complaint
-marked r = r >>= λ next. Ok (false, next)
+-- the checker state after a certificate line, after which no `yes` may come
+abbrev pub without_more_yes : Result CheckerStateValue Diagnostic → Result (Bool × CheckerStateValue) Diagnostic
+without_more_yes r = r >>= λ next. Ok (false, next)
 
 -- what is read of a line, and after it
-abbrev pub read_from : Schema → ℕ → List (List ℕ) → Result (Bool × Ledger) Complaint → Result Tree LineComplaint
+abbrev pub read_from : Schema → ℕ → List (List ℕ) → Result (Bool × CheckerStateValue) Diagnostic → Result Tree LineDiagnostic
 read_from s number texts r = at_line number r >>= λ next. read_certificate_lines s next.0 (number + 1) next.1 texts
 
 -- ---- what follows lines
 -- no line is used twice
-follows_once : (s : Schema) (used : ℕ → ℕ) (ts : List Tree) (book : Ledger) (n : ℕ) → Follows s used ts book → 0 < n → used n ≤ 1
+follows_once : (s : Schema) (used : ℕ → ℕ) (ts : List Tree) (book : CheckerStateValue) (n : ℕ) → Follows s used ts book → 0 < n → used n ≤ 1
 follows_once s used ts book n follows low =
     let size = slots_size s used 0 ts book.unused follows.slots in
     ⊎_elim
@@ -57,17 +57,17 @@ follows_once s used ts book n follows low =
     slot often t None is = omega (arith, is)
 
 -- the line of the text is kept
-entered_adds : (s : Schema) (at : ℕ) (book next : Ledger) (l : Line) → entered s at book l ≡ Ok next → next.lines ≡ book.lines ++ at ∷ []
-unfolding entered
+entered_adds : (s : Schema) (at : ℕ) (book next : CheckerStateValue) (l : Line) → enter_line s at book l ≡ Ok next → next.lines ≡ book.lines ++ at ∷ []
+unfolding enter_line
 entered_adds s at book next l h =
     let os = book.unused in
-    let adds : Ledger → Type 0 = λ b. b.lines ≡ book.lines ++ at ∷ [] in
-    let all = prepared s os l.stated l.body >>= λ p. settled (length os) l p.levels p.outcome
+    let adds : CheckerStateValue → Type 0 = λ b. b.lines ≡ book.lines ++ at ∷ [] in
+    let all = prepare_line s os l.stated l.body >>= λ p. within_limits (length os) l p.levels p.outcome
     >>= λ o. Ok (add_line at book.lines p.unused o) in
     ok_at adds _ next h
     (cond_both (l.number == length os + 1) all (Err wrong_number) (λ r. IfOk r adds)
-    (λ numbered. bind_each adds (prepared s os l.stated l.body) _
-    (λ p found. bind_each adds (settled (length os) l p.levels p.outcome) _ (λ o ends. refl)))
+    (λ numbered. bind_each adds (prepare_line s os l.stated l.body) _
+    (λ p found. bind_each adds (within_limits (length os) l p.levels p.outcome) _ (λ o ends. refl)))
     (λ other. tt))
 
 -- ---- lines and what they mean
@@ -84,25 +84,25 @@ mean_more names [] (m ∷ ms) text l mean means = absurd mean
 mean_more names (t ∷ ts) [] text l mean means = absurd mean
 mean_more names (t ∷ ts) (m ∷ ms) text l mean means = (mean.0, mean_more names ts ms text l mean.1 means)
 
-pub nothing_counts : (fresh : Bool) → counted fresh [] ≡ []
+pub nothing_counts : (fresh : Bool) → lines_to_read fresh [] ≡ []
 nothing_counts true = refl
 nothing_counts false = refl
 
 -- ---- after some lines
 -- where a certificate line after so many others stands in a text
-pub record IsPlace (text : List ℕ) (at i : ℕ) : Type 0 where
+pub record IsPosition (text : List ℕ) (at i : ℕ) : Type 0 where
   pub before : List (List ℕ)
   pub here : List ℕ
   pub stands : StandsAt text before here at
   pub count : length (certificate_lines_of before) ≡ i
 
-pub record HasReadLines (s : Schema) (text : List ℕ) (before : List (List ℕ)) (fresh : Bool) (lines : List Line) (trees : List Tree) (book : Ledger) : Type 0 where
-  pub counts : (more : List (List ℕ)) → certificate_lines_of (before ++ more) ≡ certificate_lines_of before ++ counted fresh more
+pub record HasReadLines (s : Schema) (text : List ℕ) (before : List (List ℕ)) (fresh : Bool) (lines : List Line) (trees : List Tree) (book : CheckerStateValue) : Type 0 where
+  pub counts : (more : List (List ℕ)) → certificate_lines_of (before ++ more) ≡ certificate_lines_of before ++ lines_to_read fresh more
   pub mean : MeanLines (names_of s) (certificate_lines_of before) lines
   pub read : AreRead s lines trees
   pub follows : Follows s (λ n. uses n lines) trees book
   pub size : length book.lines ≡ length trees
-  pub places : (i : ℕ) → i < length book.lines → IsPlace text (slice_index book.lines i) i
+  pub positions : (i : ℕ) → i < length book.lines → IsPosition text (slice_index book.lines i) i
 
 pub at_start : (s : Schema) (text : List ℕ) → HasReadLines s text [] true [] [] (record { lines = []; unused = [] })
 at_start s text = record {
@@ -111,13 +111,13 @@ at_start s text = record {
   read = record { nodes = tt; once = λ n h. omega arith; few_lines = omega arith; few_levels = λ k t h. absurd (omega (arith, h)) };
   follows = record { slots = tt; fresh = λ n low. refl };
   size = refl;
-  places = λ i h. absurd (omega (arith, h));
+  positions = λ i h. absurd (omega (arith, h));
 }
 
 -- a line that does not count
-pub passed : (s : Schema) (text : List ℕ) (before : List (List ℕ)) (fresh next : Bool) (lines : List Line) (trees : List Tree) (book : Ledger) (here : List ℕ)
-    → HasReadLines s text before fresh lines trees book → ((more : List (List ℕ)) → counted fresh (here ∷ more) ≡ counted next more) → HasReadLines s text (before ++ here ∷ []) next lines trees book
-passed s text before fresh next lines trees book here afterwards skips =
+pub line_passed_over : (s : Schema) (text : List ℕ) (before : List (List ℕ)) (fresh next : Bool) (lines : List Line) (trees : List Tree) (book : CheckerStateValue) (here : List ℕ)
+    → HasReadLines s text before fresh lines trees book → ((more : List (List ℕ)) → lines_to_read fresh (here ∷ more) ≡ lines_to_read next more) → HasReadLines s text (before ++ here ∷ []) next lines trees book
+line_passed_over s text before fresh next lines trees book here afterwards skips =
     let so_far = certificate_lines_of before in
     let same : certificate_lines_of (before ++ here ∷ []) ≡ so_far =
     afterwards.counts (here ∷ []) ∙ ap (λ (ls : List (List ℕ)). so_far ++ ls) (skips [] ∙ nothing_counts next) ∙ append-nil so_far in
@@ -125,23 +125,23 @@ passed s text before fresh next lines trees book here afterwards skips =
       counts = λ more. ap certificate_lines_of (append_assoc before (here ∷ []) more)
           ∙ afterwards.counts (here ∷ more)
           ∙ ap (λ (ls : List (List ℕ)). so_far ++ ls) (skips more)
-          ∙ ap (λ (ls : List (List ℕ)). ls ++ counted next more) (sym same);
+          ∙ ap (λ (ls : List (List ℕ)). ls ++ lines_to_read next more) (sym same);
       mean = subst (λ (ls : List (List ℕ)). MeanLines (names_of s) ls lines) (sym same) afterwards.mean;
       read = afterwards.read;
       follows = afterwards.follows;
       size = afterwards.size;
-      places = afterwards.places;
+      positions = afterwards.positions;
     }
 
 -- where a certificate line counts, it stands after those before
-pub counts_here : (s : Schema) (text : List ℕ) (before : List (List ℕ)) (fresh : Bool) (lines : List Line) (trees : List Tree) (book : Ledger) (here : List ℕ)
+pub counts_here : (s : Schema) (text : List ℕ) (before : List (List ℕ)) (fresh : Bool) (lines : List Line) (trees : List Tree) (book : CheckerStateValue) (here : List ℕ)
     → HasReadLines s text before fresh lines trees book → Counts Certificate fresh here → certificate_lines_of (before ++ here ∷ []) ≡ certificate_lines_of before ++ here ∷ []
 counts_here s text before fresh lines trees book here afterwards counts = afterwards.counts (here ∷ []) ∙ ap (λ (ls : List (List ℕ)). certificate_lines_of before ++ ls) (counts [])
 
 -- a line is entered
-pub one_more : (s : Schema) (text : List ℕ) (before : List (List ℕ)) (fresh : Bool) (lines : List Line) (trees : List Tree) (book : Ledger) (here : List ℕ) (at : ℕ) (l : Line) (u : Tree)
-    (next : Ledger) → HasReadLines s text before fresh lines trees book → Counts Certificate fresh here → StandsAt text before here at → MeansLine (names_of s) here l
-    → entered s at book l ≡ Ok next → IsEntered s (λ n. uses n lines) trees l next u → HasReadLines s text (before ++ here ∷ []) false (lines ++ l ∷ []) (trees ++ u ∷ []) next
+pub one_more : (s : Schema) (text : List ℕ) (before : List (List ℕ)) (fresh : Bool) (lines : List Line) (trees : List Tree) (book : CheckerStateValue) (here : List ℕ) (at : ℕ) (l : Line) (u : Tree)
+    (next : CheckerStateValue) → HasReadLines s text before fresh lines trees book → Counts Certificate fresh here → StandsAt text before here at → MeansLine (names_of s) here l
+    → enter_line s at book l ≡ Ok next → IsEntered s (λ n. uses n lines) trees l next u → HasReadLines s text (before ++ here ∷ []) false (lines ++ l ∷ []) (trees ++ u ∷ []) next
 one_more s text before fresh lines trees book here at l u next afterwards counts stands means enter is =
     let so_far = certificate_lines_of before in
     let whole = counts_here s text before fresh lines trees book here afterwards counts in
@@ -155,18 +155,18 @@ one_more s text before fresh lines trees book here at l u next afterwards counts
           (λ n low. sums n) is.follows.slots;
       fresh = λ n h. sym (sums n) ∙ is.follows.fresh n h;
     } in
-    let place : (i : ℕ) → i < length (book.lines ++ at ∷ [])
-    → IsPlace text (slice_index (book.lines ++ at ∷ []) i) i = λ i h.
+    let position : (i : ℕ) → i < length (book.lines ++ at ∷ [])
+    → IsPosition text (slice_index (book.lines ++ at ∷ []) i) i = λ i h.
     ⊎_elim
     (λ (inside : i < length book.lines).
-    subst (λ (n : ℕ). IsPlace text n i) (sym (get_or_append_left book.lines (at ∷ []) 0 i inside))
-    (afterwards.places i inside))
+    subst (λ (n : ℕ). IsPosition text n i) (sym (get_or_append_left book.lines (at ∷ []) 0 i inside))
+    (afterwards.positions i inside))
     (λ (past : length book.lines ≤ i).
     let last : length book.lines ≡ i = omega (arith, past, h, length-append book.lines (at ∷ [])) in
     let value : slice_index (book.lines ++ at ∷ []) i ≡ at =
     sym (ap (slice_index (book.lines ++ at ∷ [])) last) ∙ get_or-append_seam book.lines at [] 0 in
     let size = mean_size (names_of s) so_far lines afterwards.mean in
-    subst (λ (n : ℕ). IsPlace text n i) (sym value)
+    subst (λ (n : ℕ). IsPosition text n i) (sym value)
     (record {
       before = before;
       here = here;
@@ -178,8 +178,8 @@ one_more s text before fresh lines trees book here at l u next afterwards counts
       counts = λ more. ap certificate_lines_of (append_assoc before (here ∷ []) more)
           ∙ afterwards.counts (here ∷ more)
           ∙ ap (λ (ls : List (List ℕ)). so_far ++ ls) (counts more)
-          ∙ sym (append_assoc so_far (here ∷ []) (counted false more))
-          ∙ ap (λ (ls : List (List ℕ)). ls ++ counted false more) (sym whole);
+          ∙ sym (append_assoc so_far (here ∷ []) (lines_to_read false more))
+          ∙ ap (λ (ls : List (List ℕ)). ls ++ lines_to_read false more) (sym whole);
       mean = subst (λ (ls : List (List ℕ)). MeanLines (names_of s) ls (lines ++ l ∷ [])) (sym whole)
           (mean_more (names_of s) so_far lines here l afterwards.mean means);
       read = record {
@@ -191,6 +191,6 @@ one_more s text before fresh lines trees book here at l u next afterwards counts
       follows = follows;
       size = ap length adds
           ∙ omega (arith, length-append book.lines (at ∷ []), length-append trees (u ∷ []), afterwards.size);
-      places = subst (λ (ls : List ℕ). (i : ℕ) → i < length ls → IsPlace text (slice_index ls i) i)
-          (sym adds) place;
+      positions = subst (λ (ls : List ℕ). (i : ℕ) → i < length ls → IsPosition text (slice_index ls i) i)
+          (sym adds) position;
     }

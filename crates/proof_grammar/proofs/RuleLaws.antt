@@ -9,14 +9,14 @@ use Rattle.lexer.specs.Tokens.{Mark}
 use Rattle.schema_grammar.specs.declared.refusal.What.TheVariants as what
 use Rattle.proof_grammar.specs.declared.rule_name.RuleName.{RuleName}
 use Rattle.proof_grammar.specs.declared.rule_name.RuleName.TheVariants as rule
-use Rattle.proof_grammar.specs.Lines.{Body, by_given, by_reflexivity, by_mreflexivity, by_step, by_pair, one, two, augmented, maugmented, body}
+use Rattle.proof_grammar.specs.Lines.{Body, by_given, by_reflexivity, by_mreflexivity, by_step, by_pair, one_premise, two_premises, augmentation_body, maugmentation_body, body}
 use Rattle.proof_grammar.specs.Meanings.{IsNumber, IsKeyword, pair_name, IsRule}
 use Rattle.schema_grammar.specs.Rests.{Rest, ◌>>=◌, take, number, side, is_word_token}
 use Rattle.proof_grammar.specs.Readers.{colon, with_word, rule_name}
 use Rattle.proof_grammar.specs.Tokens.{is_with, rule_named, rule_word}
 use Rattle.proof_grammar.proofs.CheckedLemmas.{bind_ok}
 use Rattle.proof_grammar.proofs.SideLaws.{side_there, side_back}
-use Rattle.proof_grammar.proofs.TokenLaws.{reads_value, spelled, after_of, number_there, colon_there, with_there, rule_named_there, rest_at, named_back}
+use Rattle.proof_grammar.proofs.TokenLaws.{reads_value, rule_spelling, after_of, number_there, colon_there, with_there, rule_named_there, rest_at, named_back}
 
 -- ---- what follows the name
 -- a rule that is read after its name, up to the end of a line
@@ -41,9 +41,9 @@ numbered_there names make name r b is e =
       stop = premise.takes.stop;
     })
 
-two_there : (names : List (List ℕ)) (rule : Pair) (name : Mark) (r : Rest) (b : Body × Rest) → IsKeyword (pair_name rule) name → two rule r ≡ Ok b → Rule names name r b
-unfolding two
-two_there names rule name r b says e =
+two_premises_there : (names : List (List ℕ)) (rule : Pair) (name : Mark) (r : Rest) (b : Body × Rest) → IsKeyword (pair_name rule) name → two_premises rule r ≡ Ok b → Rule names name r b
+unfolding two_premises
+two_premises_there names rule name r b says e =
     let p = bind_ok (number r) _ b e in
     let q = bind_ok (number p.0.1) _ b p.2 in
     let first = number_there r p.0 p.1 in
@@ -63,9 +63,9 @@ two_there names rule name r b says e =
       stop = second.takes.stop ∙ first.takes.stop;
     })
 
-augmented_there : (names : List (List ℕ)) (name : Mark) (r : Rest) (b : Body × Rest) → IsKeyword (codes "augmentation") name → augmented names r ≡ Ok b → Rule names name r b
-unfolding augmented
-augmented_there names name r b says e =
+augmentation_there : (names : List (List ℕ)) (name : Mark) (r : Rest) (b : Body × Rest) → IsKeyword (codes "augmentation") name → augmentation_body names r ≡ Ok b → Rule names name r b
+unfolding augmentation_body
+augmentation_there names name r b says e =
     let p = bind_ok (number r) _ b e in
     let w = bind_ok (with_word p.0.1) _ b p.2 in
     let z = bind_ok (side names w.0) _ b w.2 in
@@ -94,9 +94,9 @@ augmented_there names name r b says e =
       stop = sides.stop ∙ keyword.takes.stop ∙ premise.takes.stop;
     })
 
-maugmented_there : (names : List (List ℕ)) (name : Mark) (r : Rest) (b : Body × Rest) → IsKeyword (codes "maugmentation") name → maugmented names r ≡ Ok b → Rule names name r b
-unfolding maugmented
-maugmented_there names name r b says e =
+maugmentation_there : (names : List (List ℕ)) (name : Mark) (r : Rest) (b : Body × Rest) → IsKeyword (codes "maugmentation") name → maugmentation_body names r ≡ Ok b → Rule names name r b
+unfolding maugmentation_body
+maugmentation_there names name r b says e =
     let p = bind_ok (number r) _ b e in
     let w = bind_ok (with_word p.0.1) _ b p.2 in
     let x = bind_ok (side names w.0) _ b w.2 in
@@ -135,11 +135,11 @@ maugmented_there names name r b says e =
       stop = narrow.stop ∙ between.takes.stop ∙ wide.stop ∙ keyword.takes.stop ∙ premise.takes.stop;
     })
 
-body_there : (names : List (List ℕ)) (r : RuleName) (name : Mark) (start : Rest) (b : Body × Rest) → IsKeyword (spelled r) name → body names r start ≡ Ok b → Rule names name start b
-unfolding body one
+body_there : (names : List (List ℕ)) (r : RuleName) (name : Mark) (start : Rest) (b : Body × Rest) → IsKeyword (rule_spelling r) name → body names r start ≡ Ok b → Rule names name start b
+unfolding body one_premise
 body_there names rule.Given name start b says e =
     numbered_there names by_given name start b
-    (λ k m is. record { name = name; place = m; whole = refl; says = says; number = is }) e
+    (λ k m is. record { name = name; numeral = m; whole = refl; says = says; number = is }) e
 body_there names rule.Reflexivity name start b says e =
     subst (Rule names name start) (the_ok _ b e) (record {
       is_rule = λ ended. record { name = name; whole = ap (λ t. name ∷ t) ended; says = says };
@@ -150,8 +150,8 @@ body_there names rule.MReflexivity name start b says e =
       is_rule = λ ended. record { name = name; whole = ap (λ t. name ∷ t) ended; says = says };
       stop = refl;
     })
-body_there names rule.Augmentation name start b says e = augmented_there names name start b says e
-body_there names rule.MAugmentation name start b says e = maugmented_there names name start b says e
+body_there names rule.Augmentation name start b says e = augmentation_there names name start b says e
+body_there names rule.MAugmentation name start b says e = maugmentation_there names name start b says e
 body_there names rule.Complementation name start b says e =
     numbered_there names (by_step complementation) name start b (λ p m is. record {
       name = name;
@@ -172,9 +172,9 @@ body_there names rule.Replication name start b says e =
       number = is;
       has_sets = refl;
     }) e
-body_there names rule.Transitivity name start b says e = two_there names transitivity name start b says e
-body_there names rule.MTransitivity name start b says e = two_there names mtransitivity name start b says e
-body_there names rule.Coalescence name start b says e = two_there names coalescence name start b says e
+body_there names rule.Transitivity name start b says e = two_premises_there names transitivity name start b says e
+body_there names rule.MTransitivity name start b says e = two_premises_there names mtransitivity name start b says e
+body_there names rule.Coalescence name start b says e = two_premises_there names coalescence name start b says e
 
 -- a rule that is read, up to the end of a line
 pub record RuleEnds (names : List (List ℕ)) (r : Rest) (b : Body) (next : Rest) : Type 0 where
@@ -184,7 +184,7 @@ pub record RuleEnds (names : List (List ℕ)) (r : Rest) (b : Body) (next : Rest
 pub rule_there : (names : List (List ℕ)) (r : Rest) (n : RuleName × Rest) (b : Body × Rest) → rule_name r ≡ Ok n → body names n.0 n.1 ≡ Ok b → RuleEnds names r b.0 b.1
 unfolding rule_name
 rule_there names r n b here there =
-    let name = reads_value what.Rule (λ m. rule_named m.kind m.word) (λ x. IsKeyword (spelled x))
+    let name = reads_value what.Rule (λ m. rule_named m.kind m.word) (λ x. IsKeyword (rule_spelling x))
     (λ x m h. rule_named_there m.kind m.word x h) r n here in
     let reads = body_there names n.0 name.mark n.1 b name.holds there in
     let of : List Mark → Type 0 = λ t. IsRule names t b.0 in
@@ -209,7 +209,7 @@ pub record RuleRead (names : List (List ℕ)) (line from : ℕ) (marks : List Ma
 
 rule_made : {names : List (List ℕ)} {line from : ℕ} {whole : List Mark} {b : Body} (r : RuleName) (m : Mark)
     (marks : List Mark)
-    → whole ≡ m ∷ marks → IsKeyword (spelled r) m
+    → whole ≡ m ∷ marks → IsKeyword (rule_spelling r) m
     → BodyRead names line (after_of m) r marks b → RuleRead names line from whole b
 unfolding rule_name take rule_named
 rule_made {names} {line} r m marks same says rest = record {
@@ -221,10 +221,10 @@ rule_made {names} {line} r m marks same says rest = record {
 }
 
 pub rule_back : (names : List (List ℕ)) (line from : ℕ) (marks : List Mark) (b : Body) → IsRule names marks b → RuleRead names line from marks b
-unfolding body one two augmented maugmented number with_word colon take is_with
+unfolding body one_premise two_premises augmentation_body maugmentation_body number with_word colon take is_with
 rule_back names line from marks (by_given k) is =
-    rule_made rule.Given is.name (is.place ∷ []) is.whole is.says
-    (record { next_column = after_of is.place; read = rw is.number refl })
+    rule_made rule.Given is.name (is.numeral ∷ []) is.whole is.says
+    (record { next_column = after_of is.numeral; read = rw is.number refl })
 rule_back names line from marks by_reflexivity is =
     rule_made rule.Reflexivity is.name [] is.whole is.says
     (record { next_column = after_of is.name; read = refl })

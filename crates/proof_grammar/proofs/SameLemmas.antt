@@ -2,7 +2,7 @@
 use Rattle.std.proofs.Common.{◌≡◌, ◌↔◌, IsTrue, true, refl, subst}
 use Rattle.std.proofs.lemmas.Bool.{and_parts}
 use Rattle.attr_sets.specs.Sets.{is_same}
-use Rattle.attr_sets.proofs.PlacesLemmas.{is_same-true, is_same-from, places_below}
+use Rattle.attr_sets.proofs.AttributesLemmas.{is_same-true, is_same-from, attributes_below}
 use Rattle.dep_model.specs.declared.dep.Dep.{Dep}
 use Rattle.dep_model.specs.declared.dep.Dep.TheVariants.{Fd, Mvd}
 use Rattle.dep_model.specs.Dependencies.{Dependency, fd, mvd, left_of, right_of}
@@ -28,8 +28,8 @@ same_self (mvd x y) = rw (is_same-from x x refl, is_same-from y y refl) refl
 
 sides_attributes : (d : Dep)
     → OfAttributes (left_of (dependency_of d)) × OfAttributes (right_of (dependency_of d))
-sides_attributes (Fd x y) = (places_below x, places_below y)
-sides_attributes (Mvd x y) = (places_below x, places_below y)
+sides_attributes (Fd x y) = (attributes_below x, attributes_below y)
+sides_attributes (Mvd x y) = (attributes_below x, attributes_below y)
 
 pub decides_same : (a b : Dep) → IsTrue (same_dependency (dependency_of a) (dependency_of b)) ↔ (dependency_of a ≡ dependency_of b)
 decides_same a b =

@@ -3,10 +3,10 @@ use Rattle.std.proofs.Common.{◌≡◌, ◌<◌, ◌+◌, ⊎_elim, inl, inr, �
 use Rattle.std.specs.List.{All}
 use Rattle.std.proofs.lemmas.Bool.{cases_Bool}
 use Rattle.std.proofs.lemmas.List.Elements.{All-cons, All-nil, All-head, All-tail}
-use Rattle.attr_sets.specs.Places.{Places, only, union}
-use Rattle.dep_model.specs.Schemas.{place_named}
+use Rattle.attr_sets.specs.Attributes.{Attributes, only, union}
+use Rattle.dep_model.specs.Schemas.{attribute_named}
 use Rattle.derivation.proofs.RuleTableLemmas.{the_ok}
-use Rattle.lexer.specs.declared.token.Stop.{Stop}
+use Rattle.lexer.specs.declared.token.LexError.{LexError}
 use Rattle.lexer.specs.declared.token.TokenKind.{TokenKind}
 use Rattle.lexer.specs.declared.token.TokenKind.TheVariants as token
 use Rattle.lexer.specs.Tokens.{Mark}
@@ -15,11 +15,11 @@ use Rattle.schema_grammar.specs.declared.refusal.SchemaRefusalKind.TheVariants a
 use Rattle.schema_grammar.specs.declared.refusal.What.{What}
 use Rattle.schema_grammar.specs.declared.refusal.What.TheVariants as what
 use Rattle.schema_grammar.specs.declared.format.Format.TheVariants as format
-use Rattle.schema_grammar.specs.Meanings.{named, IsAttribute, IsSide}
+use Rattle.schema_grammar.specs.Meanings.{attributes_of_words, IsAttribute, IsSide}
 use Rattle.schema_grammar.specs.Refusals.{at}
-use Rattle.schema_grammar.specs.Words.{is_reserved, looked_up, known}
-use Rattle.schema_grammar.proofs.SideLemmas.{union-only, union-none, named-cons, Names}
-use Rattle.schema_grammar.specs.Rests.{place, Rest, take, taken, words_from, side, side_from, is_word_token}
+use Rattle.schema_grammar.specs.Words.{is_reserved, look_up, known_attribute}
+use Rattle.schema_grammar.proofs.SideLemmas.{union-only, union-none, attributes_of_words-cons, Names}
+use Rattle.schema_grammar.specs.Rests.{attribute_of_word, Rest, take, take_from, words_from, side, side_from, is_word_token}
 use Rattle.proof_grammar.proofs.CheckedLemmas.{bind_ok}
 
 -- ---- one token
@@ -32,7 +32,7 @@ pub take_there : (want : What) (r : Rest) (t : Mark × Rest) → take want r ≡
 unfolding take
 take_there want r t e = told r.marks r.stop e
   where
-    told : (ms : List Mark) (stop : Option Stop) → taken want r.line r.next_column ms stop ≡ Ok t
+    told : (ms : List Mark) (stop : Option LexError) → take_from want r.line r.next_column ms stop ≡ Ok t
         → Takes (record { line = r.line; next_column = r.next_column; marks = ms; stop = stop }) t.0 t.1
     told [] None e = cc
     told [] (Some stop) e = cc
@@ -46,52 +46,52 @@ take_there want r t e = told r.marks r.stop e
         (record { marks = refl; stop = refl })
 
 -- ---- words
-place_there : (names : List (List ℕ)) (line : ℕ) (m : Mark) (a : ℕ) → place names line m ≡ Ok a → Names format.Plain names m.word a
-unfolding looked_up
-place_there names line m a e = told (is_reserved format.Plain m.word) (place_named names m.word) refl refl e
+attribute_there : (names : List (List ℕ)) (line : ℕ) (m : Mark) (a : ℕ) → attribute_of_word names line m ≡ Ok a → Names format.Plain names m.word a
+unfolding look_up
+attribute_there names line m a e = told (is_reserved format.Plain m.word) (attribute_named names m.word) refl refl e
   where
-    told : (b : Bool) (o : Option ℕ) → is_reserved format.Plain m.word ≡ b → place_named names m.word ≡ o
-        → at line m.column (length m.word) (cond b (Err kind.ReservedName) (known o)) ≡ Ok a → Names format.Plain names m.word a
-    told true o free place e = cc
-    told false None free place e = cc
-    told false (Some c) free place e = record { free = free; place = let same : c ≡ a = cc in place ∙ ap Some same }
+    told : (b : Bool) (o : Option ℕ) → is_reserved format.Plain m.word ≡ b → attribute_named names m.word ≡ o
+        → at line m.column (length m.word) (cond b (Err kind.ReservedName) (known_attribute o)) ≡ Ok a → Names format.Plain names m.word a
+    told true o free lookup e = cc
+    told false None free lookup e = cc
+    told false (Some c) free lookup e = record { free = free; lookup = let same : c ≡ a = cc in lookup ∙ ap Some same }
 
-place_back : (names : List (List ℕ)) (line : ℕ) (m : Mark) (attribute : IsAttribute format.Plain names m) → place names line m ≡ Ok attribute.place
-unfolding looked_up
-place_back names line m attribute = rw (attribute.free, attribute.known) refl
+attribute_back : (names : List (List ℕ)) (line : ℕ) (m : Mark) (attribute : IsAttribute format.Plain names m) → attribute_of_word names line m ≡ Ok attribute.index
+unfolding look_up
+attribute_back names line m attribute = rw (attribute.free, attribute.known) refl
 
-pub word_is : (k : TokenKind) → is_word_token k ≡ true → k ≡ token.Word
-word_is token.Word e = refl
+pub word_is : (k : TokenKind) → is_word_token k ≡ true → k ≡ token.Identifier
+word_is token.Identifier e = refl
 word_is _ e = cc
 
 -- words that are read, and what they add to a set
-record ReadsWords (names : List (List ℕ)) (acc : Places) (marks : List Mark) (stop : Option Stop) (x : Places) (next : Rest) : Type 0 where
+record ReadsWords (names : List (List ℕ)) (acc : Attributes) (marks : List Mark) (stop : Option LexError) (x : Attributes) (next : Rest) : Type 0 where
   words : List Mark
   whole : marks ≡ words ++ next.marks
   each : All (IsAttribute format.Plain names) words
-  members : x ≡ union acc (named names words)
+  members : x ≡ union acc (attributes_of_words names words)
   same_stop : next.stop ≡ stop
 
-words_none : (names : List (List ℕ)) (acc : Places) (r : Rest) (x : Places) (next : Rest) → ◌≡◌ {A = Result (Places × Rest) SchemaRefusal} (Ok (acc, r)) (Ok (x, next)) → ReadsWords names acc r.marks r.stop x next
+words_none : (names : List (List ℕ)) (acc : Attributes) (r : Rest) (x : Attributes) (next : Rest) → ◌≡◌ {A = Result (Attributes × Rest) SchemaRefusal} (Ok (acc, r)) (Ok (x, next)) → ReadsWords names acc r.marks r.stop x next
 words_none names acc r x next e =
-    subst (λ (u : Places × Rest). ReadsWords names acc r.marks r.stop u.0 u.1) (the_ok _ (x, next) e)
+    subst (λ (u : Attributes × Rest). ReadsWords names acc r.marks r.stop u.0 u.1) (the_ok _ (x, next) e)
     (record {
       words = [];
       whole = refl;
       each = All-nil (IsAttribute format.Plain names);
-      members = sym (union-none acc (named names []) refl);
+      members = sym (union-none acc (attributes_of_words names []) refl);
       same_stop = refl;
     })
 
-words_there : (names : List (List ℕ)) (line : ℕ) (acc : Places) (next_column : ℕ) (marks : List Mark) (stop : Option Stop) (x : Places) (next : Rest)
+words_there : (names : List (List ℕ)) (line : ℕ) (acc : Attributes) (next_column : ℕ) (marks : List Mark) (stop : Option LexError) (x : Attributes) (next : Rest)
     → words_from names line acc next_column marks stop ≡ Ok (x, next) → ReadsWords names acc marks stop x next
 unfolding words_from
 words_there names line acc next_column [] stop x next e = words_none names acc _ x next e
 words_there names line acc next_column (m ∷ ms) stop x next e =
     ⊎_elim
     (λ (is : is_word_token m.kind ≡ true).
-    let here = bind_ok (place names line m) _ (x, next) (rw is at e) in
-    let names_it = place_there names line m here.0 here.1 in
+    let here = bind_ok (attribute_of_word names line m) _ (x, next) (rw is at e) in
+    let names_it = attribute_there names line m here.0 here.1 in
     let rest = words_there names line (union acc (only here.0))
     (m.column + length m.word) ms stop x next here.2 in
     record {
@@ -101,33 +101,33 @@ words_there names line acc next_column (m ∷ ms) stop x next e =
           (record {
             word = word_is m.kind is;
             free = names_it.free;
-            place = here.0;
-            known = names_it.place;
+            index = here.0;
+            known = names_it.lookup;
           }) rest.each;
-      members = rest.members ∙ union-only acc (named names rest.words) here.0
-          ∙ ap (union acc) (sym (named-cons names m rest.words here.0 names_it.place));
+      members = rest.members ∙ union-only acc (attributes_of_words names rest.words) here.0
+          ∙ ap (union acc) (sym (attributes_of_words-cons names m rest.words here.0 names_it.lookup));
       same_stop = rest.same_stop;
     })
     (λ (other : is_word_token m.kind ≡ false). words_none names acc _ x next (rw other at e))
     (cases_Bool (is_word_token m.kind))
 
 -- a side that is read
-pub record ReadsSide (names : List (List ℕ)) (r : Rest) (x : Places) (next : Rest) : Type 0 where
+pub record ReadsSide (names : List (List ℕ)) (r : Rest) (x : Attributes) (next : Rest) : Type 0 where
   pub marks : List Mark
   pub whole : r.marks ≡ marks ++ next.marks
   pub is_side : IsSide format.Plain names marks x
   pub stop : next.stop ≡ r.stop
 
-pub side_there : (names : List (List ℕ)) (r : Rest) (s : Places × Rest) → side names r ≡ Ok s → ReadsSide names r s.0 s.1
+pub side_there : (names : List (List ℕ)) (r : Rest) (s : Attributes × Rest) → side names r ≡ Ok s → ReadsSide names r s.0 s.1
 unfolding side
 side_there names r s e =
     let first = bind_ok (take what.Side r) _ s e in
     told first.0.0 first.0.1 (take_there what.Side r first.0 first.1) first.0.0.kind refl first.2
   where
     told : (m : Mark) (next_column : Rest) → Takes r m next_column → (k : TokenKind) → m.kind ≡ k → side_from names m next_column k ≡ Ok s → ReadsSide names r s.0 s.1
-    told m next_column takes token.Word is e =
-        let here = bind_ok (place names next_column.line m) _ s e in
-        let names_it = place_there names next_column.line m here.0 here.1 in
+    told m next_column takes token.Identifier is e =
+        let here = bind_ok (attribute_of_word names next_column.line m) _ s e in
+        let names_it = attribute_there names next_column.line m here.0 here.1 in
         let rest = words_there names next_column.line
         (only here.0) next_column.next_column next_column.marks next_column.stop s.0 s.1 here.2 in
         record {
@@ -136,14 +136,14 @@ side_there names r s e =
           is_side = inr (record {
             some = omega arith;
             each = All-cons (IsAttribute format.Plain names) m rest.words
-                (record { word = is; free = names_it.free; place = here.0; known = names_it.place }) rest.each;
-            members = rest.members ∙ sym (named-cons names m rest.words here.0 names_it.place);
+                (record { word = is; free = names_it.free; index = here.0; known = names_it.lookup }) rest.each;
+            members = rest.members ∙ sym (attributes_of_words-cons names m rest.words here.0 names_it.lookup);
           });
           stop = rest.same_stop ∙ takes.stop;
         }
     told m next_column takes token.Empty is e =
         let alone = ap (λ (k : TokenKind). record { kind = k; column = m.column; word = m.word } ∷ []) is in
-        subst (λ (u : Places × Rest). ReadsSide names r u.0 u.1) (the_ok _ s e)
+        subst (λ (u : Attributes × Rest). ReadsSide names r u.0 u.1) (the_ok _ s e)
         (record {
           marks = m ∷ [];
           whole = takes.marks;
@@ -154,7 +154,7 @@ side_there names r s e =
 
 -- ---- back
 -- what is left of a line
-abbrev left_at : ℕ → ℕ → List Mark → Option Stop → Rest
+abbrev left_at : ℕ → ℕ → List Mark → Option LexError → Rest
 left_at line next_column marks stop = record { line = line; next_column = next_column; marks = marks; stop = stop }
 
 -- what stands after words is no word
@@ -162,39 +162,39 @@ abbrev pub NoWord : List Mark → Type 0
 NoWord [] = Unit {0}
 NoWord (m ∷ ms) = is_word_token m.kind ≡ false
 
-record WordsRead (names : List (List ℕ)) (line : ℕ) (acc : Places) (from : ℕ) (words tail : List Mark) (stop : Option Stop) (x : Places) : Type 0 where
+record WordsRead (names : List (List ℕ)) (line : ℕ) (acc : Attributes) (from : ℕ) (words tail : List Mark) (stop : Option LexError) (x : Attributes) : Type 0 where
   next_column : ℕ
   read : words_from names line acc from (words ++ tail) stop ≡ Ok (x, left_at line next_column tail stop)
 
-words_back : (names : List (List ℕ)) (line : ℕ) (acc : Places) (from : ℕ) (words tail : List Mark) (stop : Option Stop) → All (IsAttribute format.Plain names) words → NoWord tail
-    → WordsRead names line acc from words tail stop (union acc (named names words))
+words_back : (names : List (List ℕ)) (line : ℕ) (acc : Attributes) (from : ℕ) (words tail : List Mark) (stop : Option LexError) → All (IsAttribute format.Plain names) words → NoWord tail
+    → WordsRead names line acc from words tail stop (union acc (attributes_of_words names words))
 unfolding words_from
 words_back names line acc from [] [] stop each other = record {
   next_column = from;
-  read = ap (λ (x : Places). Ok (x, left_at line from [] stop)) (sym (union-none acc (named names []) refl));
+  read = ap (λ (x : Attributes). Ok (x, left_at line from [] stop)) (sym (union-none acc (attributes_of_words names []) refl));
 }
 words_back names line acc from [] (m ∷ ms) stop each other = record {
   next_column = from;
   read = rw other
-      (ap (λ (x : Places). Ok (x, left_at line from (m ∷ ms) stop)) (sym (union-none acc (named names []) refl)));
+      (ap (λ (x : Attributes). Ok (x, left_at line from (m ∷ ms) stop)) (sym (union-none acc (attributes_of_words names []) refl)));
 }
 words_back names line acc from (m ∷ words) tail stop each other =
     let here : IsAttribute format.Plain names m = All-head (IsAttribute format.Plain names) m words each in
     let there : All (IsAttribute format.Plain names) words = All-tail (IsAttribute format.Plain names) m words each in
-    let rest = words_back names line (union acc (only here.place)) (m.column + length m.word) words tail stop there other in
-    let members = union-only acc (named names words) here.place ∙ ap (union acc) (sym (named-cons names m words here.place here.known)) in
+    let rest = words_back names line (union acc (only here.index)) (m.column + length m.word) words tail stop there other in
+    let members = union-only acc (attributes_of_words names words) here.index ∙ ap (union acc) (sym (attributes_of_words-cons names m words here.index here.known)) in
     record {
       next_column = rest.next_column;
-      read = simp (here.word, place_back names line m here)
-          (rest.read ∙ ap (λ (x : Places). Ok (x, left_at line rest.next_column tail stop)) members);
+      read = simp (here.word, attribute_back names line m here)
+          (rest.read ∙ ap (λ (x : Attributes). Ok (x, left_at line rest.next_column tail stop)) members);
     }
 
 -- a side that is read from a column
-pub record SideRead (names : List (List ℕ)) (line from : ℕ) (marks tail : List Mark) (stop : Option Stop) (x : Places) : Type 0 where
+pub record SideRead (names : List (List ℕ)) (line from : ℕ) (marks tail : List Mark) (stop : Option LexError) (x : Attributes) : Type 0 where
   pub next_column : ℕ
   pub read : side names (left_at line from (marks ++ tail) stop) ≡ Ok (x, left_at line next_column tail stop)
 
-pub side_back : (names : List (List ℕ)) (line from : ℕ) (marks tail : List Mark) (stop : Option Stop) (x : Places) → IsSide format.Plain names marks x → NoWord tail
+pub side_back : (names : List (List ℕ)) (line from : ℕ) (marks tail : List Mark) (stop : Option LexError) (x : Attributes) → IsSide format.Plain names marks x → NoWord tail
     → SideRead names line from marks tail stop x
 unfolding side take
 side_back names line from marks tail stop x (inl empty) other = record { next_column = empty.column + length empty.bytes; read = rw (empty.alone, empty.nothing) refl }
@@ -202,10 +202,10 @@ side_back names line from [] tail stop x (inr words) other = let some : 0 < 0 = 
 side_back names line from (m ∷ marks) tail stop x (inr words) other =
     let here : IsAttribute format.Plain names m = All-head (IsAttribute format.Plain names) m marks words.each in
     let there : All (IsAttribute format.Plain names) marks = All-tail (IsAttribute format.Plain names) m marks words.each in
-    let rest = words_back names line (only here.place) (m.column + length m.word) marks tail stop there other in
-    let members = sym (named-cons names m marks here.place here.known) ∙ sym words.members in
+    let rest = words_back names line (only here.index) (m.column + length m.word) marks tail stop there other in
+    let members = sym (attributes_of_words-cons names m marks here.index here.known) ∙ sym words.members in
     record {
       next_column = rest.next_column;
-      read = simp (here.word, place_back names line m here)
-          (rest.read ∙ ap (λ (z : Places). Ok (z, left_at line rest.next_column tail stop)) members);
+      read = simp (here.word, attribute_back names line m here)
+          (rest.read ∙ ap (λ (z : Attributes). Ok (z, left_at line rest.next_column tail stop)) members);
     }

@@ -1,4 +1,4 @@
--- The reader's ledger against the trees of the lines: a slot is open until its line is used.
+-- The reader's checker state against the trees of the lines: a slot is open until its line is used.
 use Rattle.std.proofs.Common.{◌≡◌, ◌<◌, ◌+◌, ◌==◌, ℕ, zero, suc, false, List, [], ◌∷◌, ◌++◌, length, slice_get, slice_set, Option, Some, None, refl, sym, ◌∙◌, ap, subst, arith}
 use Rattle.std.specs.Prelude.{filter, nat_eq}
 use Rattle.std.proofs.lemmas.Bool.Decides.{nat_tests}
@@ -7,7 +7,7 @@ use Rattle.dep_model.specs.declared.schema.Schema.{Schema}
 use Rattle.derivation.specs.Trees.{Tree, depth}
 use Rattle.derivation.specs.Conclusions.{Proves}
 use Rattle.derivation.proofs.WithinLemmas.{TreeOfAttributes}
-use Rattle.proof_grammar.specs.Books.{Opened}
+use Rattle.proof_grammar.specs.CheckerStates.{Opened}
 
 -- an open line holds its tree, and what the tree proves
 pub record IsOpen (s : Schema) (t : Tree) (o : Opened) : Type 0 where

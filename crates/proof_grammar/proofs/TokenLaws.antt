@@ -4,7 +4,7 @@ use Rattle.std.specs.Prelude.{codes, ok_or}
 use Rattle.std.specs.Str.{bytes_eq}
 use Rattle.std.proofs.lemmas.Bool.{cases_Bool}
 use Rattle.std.proofs.lemmas.Slice.Eq.{bytes_eq-Decides}
-use Rattle.derivation.proofs.RuleTableLemmas.{some_of_ok, the_ok, chosen}
+use Rattle.derivation.proofs.RuleTableLemmas.{some_of_ok, the_ok, cond-ok}
 use Rattle.lexer.specs.declared.token.TokenKind.{TokenKind}
 use Rattle.lexer.specs.declared.token.TokenKind.TheVariants as token
 use Rattle.lexer.specs.Tokens.{Mark}
@@ -14,7 +14,7 @@ use Rattle.schema_grammar.specs.Texts.{number_in}
 use Rattle.proof_grammar.specs.declared.rule_name.RuleName.{RuleName}
 use Rattle.proof_grammar.specs.declared.rule_name.RuleName.TheVariants as rule
 use Rattle.proof_grammar.specs.Meanings.{IsColon, IsNumber, IsKeyword}
-use Rattle.schema_grammar.specs.Rests.{Rest, ◌>>=◌, take, expected, number}
+use Rattle.schema_grammar.specs.Rests.{Rest, ◌>>=◌, take, refusal_of_token, number}
 use Rattle.proof_grammar.specs.Readers.{colon, with_word}
 use Rattle.proof_grammar.specs.Tokens.{is_colon, is_with, rule_named, rule_word}
 use Rattle.proof_grammar.proofs.CheckedLemmas.{bind_ok}
@@ -29,11 +29,11 @@ pub record Reads (P : Mark → Type 0) (r next : Rest) : Type 0 where
 
 pub reads_value : {X : Type 0} (want : What) (found : Mark → Option X) (P : X → Mark → Type 0)
     → ((x : X) (m : Mark) → found m ≡ Some x → P x m) → (r : Rest) (v : X × Rest)
-    → (take want r >>= λ t. ok_or (found t.0) (expected want t.0 t.1) >>= λ x. Ok (x, t.1)) ≡ Ok v
+    → (take want r >>= λ t. ok_or (found t.0) (refusal_of_token want t.0 t.1) >>= λ x. Ok (x, t.1)) ≡ Ok v
     → Reads (P v.0) r v.1
 reads_value {X} want found P holds r v e =
     let t = bind_ok (take want r) _ v e in
-    let x = bind_ok (ok_or (found t.0.0) (expected want t.0.0 t.0.1)) _ v t.2 in
+    let x = bind_ok (ok_or (found t.0.0) (refusal_of_token want t.0.0 t.0.1)) _ v t.2 in
     let same = the_ok _ v x.2 in
     record {
       mark = t.0.0;
@@ -43,10 +43,10 @@ reads_value {X} want found P holds r v e =
 
 reads_test : (want : What) (test : Mark → Bool) (P : Mark → Type 0) → ((m : Mark) → test m ≡ true → P m)
     → (r next : Rest)
-    → (take want r >>= λ t. cond (test t.0) (Ok t.1) (Err (expected want t.0 t.1))) ≡ Ok next → Reads P r next
+    → (take want r >>= λ t. cond (test t.0) (Ok t.1) (Err (refusal_of_token want t.0 t.1))) ≡ Ok next → Reads P r next
 reads_test want test P holds r next e =
     let t = bind_ok (take want r) _ next e in
-    let passed = chosen (test t.0.0) (expected want t.0.0 t.0.1) t.0.1 next t.2 in
+    let passed = cond-ok (test t.0.0) (refusal_of_token want t.0.0 t.0.1) t.0.1 next t.2 in
     record {
       mark = t.0.0;
       takes = subst (λ (u : Rest). Takes r t.0.0 u) passed.1 (take_there want r t.0 t.1);
@@ -71,9 +71,9 @@ unfolding colon
 colon_there r next e =
     reads_test what.Colon (λ m. is_colon m.kind) IsColon (λ m h. colon_kind m.kind h) r next e
 
-with_says : (k : TokenKind) (word : List ℕ) → is_with k word ≡ true → (k ≡ token.Word) × (word ≡ codes "with")
+with_says : (k : TokenKind) (word : List ℕ) → is_with k word ≡ true → (k ≡ token.Identifier) × (word ≡ codes "with")
 unfolding is_with
-with_says token.Word word e = (refl, (bytes_eq-Decides word (codes "with")).0 e)
+with_says token.Identifier word e = (refl, (bytes_eq-Decides word (codes "with")).0 e)
 with_says _ word e = cc
 
 pub with_there : (r next : Rest) → with_word r ≡ Ok next → Reads (IsKeyword (codes "with")) r next
@@ -83,32 +83,32 @@ with_there r next e =
     (λ m h. with_says m.kind m.word h) r next e
 
 -- ---- the name of a rule
-abbrev pub spelled : RuleName → List ℕ
-spelled rule.Given = codes "given"
-spelled rule.Reflexivity = codes "reflexivity"
-spelled rule.Augmentation = codes "augmentation"
-spelled rule.Transitivity = codes "transitivity"
-spelled rule.Complementation = codes "complementation"
-spelled rule.MReflexivity = codes "mreflexivity"
-spelled rule.MAugmentation = codes "maugmentation"
-spelled rule.MTransitivity = codes "mtransitivity"
-spelled rule.Replication = codes "replication"
-spelled rule.Coalescence = codes "coalescence"
+abbrev pub rule_spelling : RuleName → List ℕ
+rule_spelling rule.Given = codes "given"
+rule_spelling rule.Reflexivity = codes "reflexivity"
+rule_spelling rule.Augmentation = codes "augmentation"
+rule_spelling rule.Transitivity = codes "transitivity"
+rule_spelling rule.Complementation = codes "complementation"
+rule_spelling rule.MReflexivity = codes "mreflexivity"
+rule_spelling rule.MAugmentation = codes "maugmentation"
+rule_spelling rule.MTransitivity = codes "mtransitivity"
+rule_spelling rule.Replication = codes "replication"
+rule_spelling rule.Coalescence = codes "coalescence"
 
-peel : (word : List ℕ) (first r : RuleName) (others : Option RuleName) → (others ≡ Some r → word ≡ spelled r)
-    → cond (bytes_eq word (spelled first)) (Some first) others ≡ Some r
-    → word ≡ spelled r
+peel : (word : List ℕ) (first r : RuleName) (others : Option RuleName) → (others ≡ Some r → word ≡ rule_spelling r)
+    → cond (bytes_eq word (rule_spelling first)) (Some first) others ≡ Some r
+    → word ≡ rule_spelling r
 peel word first r others more e =
     ⊎_elim
-    (λ (same : bytes_eq word (spelled first) ≡ true). let found = rw same at e in
-    let this : first ≡ r = cc in (bytes_eq-Decides word (spelled first)).0 same ∙ ap spelled this)
-    (λ (other : bytes_eq word (spelled first) ≡ false). more (rw other at e))
-    (cases_Bool (bytes_eq word (spelled first)))
+    (λ (same : bytes_eq word (rule_spelling first) ≡ true). let found = rw same at e in
+    let this : first ≡ r = cc in (bytes_eq-Decides word (rule_spelling first)).0 same ∙ ap rule_spelling this)
+    (λ (other : bytes_eq word (rule_spelling first) ≡ false). more (rw other at e))
+    (cases_Bool (bytes_eq word (rule_spelling first)))
 
 pub rule_named_there : (k : TokenKind) (word : List ℕ) (r : RuleName) → rule_named k word ≡ Some r
-    → (k ≡ token.Word) × (word ≡ spelled r)
+    → (k ≡ token.Identifier) × (word ≡ rule_spelling r)
 unfolding rule_named rule_word
-rule_named_there token.Word word r e = (
+rule_named_there token.Identifier word r e = (
   refl,
   peel word rule.Given r _
       (peel word rule.Reflexivity r _
@@ -127,7 +127,7 @@ rest_at line next_column marks = record { line = line; next_column = next_column
 abbrev pub after_of : Mark → ℕ
 after_of m = m.column + length m.word
 
-pub named_back : (r : RuleName) → rule_word (spelled r) ≡ Some r
+pub named_back : (r : RuleName) → rule_word (rule_spelling r) ≡ Some r
 unfolding rule_word
 named_back rule.Given = refl
 named_back rule.Reflexivity = refl

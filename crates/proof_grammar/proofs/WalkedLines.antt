@@ -1,4 +1,4 @@
--- Lines that are read lead to a ledger that follows them.
+-- Lines that are read lead to a checker state that follows them.
 use Rattle.std.proofs.Common.{◌≡◌, ◌<◌, ◌≤◌, ◌+◌, ℕ, Bool, true, false, List, [], ◌∷◌, ◌++◌, length, get_or, Result, refl, sym, ◌∙◌, ap, subst, arith, length-append, append_assoc}
 use Rattle.std.proofs.Math.Seq.{get_or-append_seam}
 use Rattle.std.proofs.lemmas.List.{append-nil}
@@ -11,13 +11,13 @@ use Rattle.lexer.specs.Lines.{line_texts, without_mark}
 use Rattle.lexer.specs.Tokens.{lex}
 use Rattle.proof_grammar.specs.declared.line_kind.LineKind.{LineKind}
 use Rattle.proof_grammar.specs.declared.line_kind.LineKind.TheVariants.{Blank, Opening, Certificate}
-use Rattle.proof_grammar.specs.Books.{Ledger}
-use Rattle.proof_grammar.specs.Complaints.{LineComplaint}
+use Rattle.proof_grammar.specs.CheckerStates.{CheckerStateValue}
+use Rattle.proof_grammar.specs.Diagnostics.{LineDiagnostic}
 use Rattle.proof_grammar.specs.Lines.{Line}
 use Rattle.proof_grammar.specs.Meanings.{certificate_lines_of, MeanLines}
 use Rattle.proof_grammar.specs.Spelling.{AreNodes, uses}
 use Rattle.proof_grammar.specs.Texts.{read_as, line_kind, read_one, read_certificate_lines}
-use Rattle.proof_grammar.proofs.CountedLines.{counted, Counts, kind_counts, line_of_attributes}
+use Rattle.proof_grammar.proofs.CountedLines.{lines_to_read, Counts, kind_counts, line_of_attributes}
 use Rattle.proof_grammar.proofs.DepthLemmas.{uses_first, nodes_size}
 use Rattle.proof_grammar.proofs.EnteredLaws.{used_after}
 use Rattle.proof_grammar.proofs.EnteredRefusals.{entered_back}
@@ -25,13 +25,13 @@ use Rattle.proof_grammar.proofs.LineLaws.{line_back}
 use Rattle.proof_grammar.proofs.NodeLemmas.{uses-append}
 use Rattle.proof_grammar.specs.Refusals.{StandsAt}
 use Rattle.proof_grammar.specs.Wrongs.{AreRead}
-use Rattle.proof_grammar.proofs.ReadLines.{read_from, nothing_counts, HasReadLines, at_start, passed, counts_here, one_more}
+use Rattle.proof_grammar.proofs.ReadLines.{read_from, nothing_counts, HasReadLines, at_start, line_passed_over, counts_here, one_more}
 
 -- the reader after the lines before, of which it read this
 pub record IsWalked (s : Schema) (text : List ℕ) (before after : List (List ℕ)) (lines : List Line) (trees : List Tree)
-    (found : Result Tree LineComplaint) : Type 0 where
+    (found : Result Tree LineDiagnostic) : Type 0 where
   pub fresh : Bool
-  pub book : Ledger
+  pub book : CheckerStateValue
   pub afterwards : HasReadLines s text before fresh lines trees book
   pub same : found ≡ read_certificate_lines s fresh (length before + 1) book after
 
@@ -42,23 +42,23 @@ record HasCome (s : Schema) (text : List ℕ) (after whole : List (List ℕ)) (a
   fresh : Bool
   lines : List Line
   trees : List Tree
-  book : Ledger
+  book : CheckerStateValue
   cut : line_texts (without_mark text) ≡ before ++ (texts ++ after)
   front : whole ≡ before ++ texts
   count : number ≡ length before + 1
   afterwards : HasReadLines s text before fresh lines trees book
-  mean : MeanLines (names_of s) (counted fresh texts) more
+  mean : MeanLines (names_of s) (lines_to_read fresh texts) more
   all_lines : all ≡ lines ++ more
   all_trees : grown ≡ trees ++ us
   nodes : AreNodes s trees more us
 
 -- a line that does not count
-skipped : (s : Schema) (text : List ℕ) (after whole : List (List ℕ)) (all : List Line) (grown : List Tree) (number : ℕ)
+Walks-skipped : (s : Schema) (text : List ℕ) (after whole : List (List ℕ)) (all : List Line) (grown : List Tree) (number : ℕ)
     (here : List ℕ) (texts : List (List ℕ)) (more : List Line) (us : List Tree)
     (w : HasCome s text after whole all grown number (here ∷ texts) more us) (fresh : Bool)
-    → ((rest : List (List ℕ)) → counted w.fresh (here ∷ rest) ≡ counted fresh rest)
+    → ((rest : List (List ℕ)) → lines_to_read w.fresh (here ∷ rest) ≡ lines_to_read fresh rest)
     → HasCome s text after whole all grown (number + 1) texts more us
-skipped s text after whole all grown number here texts more us w fresh counts = record {
+Walks-skipped s text after whole all grown number here texts more us w fresh counts = record {
   before = w.before ++ here ∷ [];
   fresh = fresh;
   lines = w.lines;
@@ -67,7 +67,7 @@ skipped s text after whole all grown number here texts more us w fresh counts = 
   cut = w.cut ∙ sym (append_assoc w.before (here ∷ []) (texts ++ after));
   front = w.front ∙ sym (append_assoc w.before (here ∷ []) texts);
   count = omega (arith, w.count, length-append w.before (here ∷ []));
-  afterwards = passed s text w.before w.fresh fresh w.lines w.trees w.book here w.afterwards counts;
+  afterwards = line_passed_over s text w.before w.fresh fresh w.lines w.trees w.book here w.afterwards counts;
   mean = subst (λ (ls : List (List ℕ)). MeanLines (names_of s) ls more) (counts texts) w.mean;
   all_lines = w.all_lines;
   all_trees = w.all_trees;
@@ -86,11 +86,11 @@ walk_more : (k : LineKind) (s : Schema) (text : List ℕ) (after whole : List (L
     → Counts k w.fresh here → Walks s text after whole all grown (number + 1) texts
     → IsWalked s text whole after all grown
     (read_from s number (texts ++ after) (read_as k s w.fresh number w.book here))
-unfolding skipped
+unfolding Walks-skipped
 walk_more Blank s text after whole all grown number here texts more us w read counts on =
-    on more us (skipped s text after whole all grown number here texts more us w w.fresh counts)
+    on more us (Walks-skipped s text after whole all grown number here texts more us w w.fresh counts)
 walk_more Opening s text after whole all grown number here texts more us w read counts on =
-    on more us (skipped s text after whole all grown number here texts more us w false counts)
+    on more us (Walks-skipped s text after whole all grown number here texts more us w false counts)
 walk_more Certificate s text after whole all grown number here texts [] us w read counts on =
     absurd (subst (λ (ls : List (List ℕ)). MeanLines (names_of s) ls []) (counts texts) w.mean)
 walk_more Certificate s text after whole all grown number here texts (l ∷ more) [] w read counts on = absurd w.nodes
@@ -163,11 +163,11 @@ walk s text after whole all grown number (here ∷ texts) read more us w =
     (kind_counts w.fresh here _ refl) (walk s text after whole all grown (number + 1) texts read)
 
 -- the reader after lines of a text that are read
-pub walked : (s : Schema) (text : List ℕ) (before after : List (List ℕ)) (lines : List Line) (trees : List Tree)
+pub read_lines_walked : (s : Schema) (text : List ℕ) (before after : List (List ℕ)) (lines : List Line) (trees : List Tree)
     → line_texts (without_mark text) ≡ before ++ after → MeanLines (names_of s) (certificate_lines_of before) lines
     → AreRead s lines trees → IsWalked s text before after lines trees
     (read_certificate_lines s true 1 (record { lines = []; unused = [] }) (before ++ after))
-walked s text before after lines trees cut mean read =
+read_lines_walked s text before after lines trees cut mean read =
     walk s text after before lines trees 1 before read lines trees (record {
       before = [];
       fresh = true;

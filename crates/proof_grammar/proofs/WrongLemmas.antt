@@ -12,7 +12,7 @@ use Rattle.derivation.specs.Table.{leaf_conclusion, step_conclusion, pair_conclu
 use Rattle.derivation.specs.Conclusions.{Proves}
 use Rattle.derivation.proofs.ConclusionLemmas.{Proves-one}
 use Rattle.proof_grammar.proofs.OneTree.{same_tree, tree_of_line}
-use Rattle.proof_grammar.specs.Complaints.{Complaint, bad_line, wrong_number, no_such_line, used_twice, never_used, too_many_lines, too_deep, unsound, states_other, empty_proof}
+use Rattle.proof_grammar.specs.Diagnostics.{Diagnostic, bad_line, wrong_number, no_such_line, used_twice, never_used, too_many_lines, too_deep, unsound, states_other, empty_proof}
 use Rattle.proof_grammar.specs.Lines.{Body, by_given, by_reflexivity, by_mreflexivity, by_step, by_pair, Line}
 use Rattle.proof_grammar.specs.Spelling.{IsTreeAt, IsTreeOf}
 use Rattle.proof_grammar.specs.Wrongs.{NamesNoLine, UsesTwice, NodeFault, IsTooDeep, Wrong, rank}
@@ -23,14 +23,14 @@ abbrev pub If : Bool → Type 0 → Type 0
 If true A = A
 If false A = Unit {0}
 
-bound : (j k : ℕ) (A : Type 0) → If (nat_lt j k) A → (A → ⊥) → k ≤ j
-bound j k A asked none = told (nat_lt j k) refl asked
+le_unless : (j k : ℕ) (A : Type 0) → If (nat_lt j k) A → (A → ⊥) → k ≤ j
+le_unless j k A asked none = told (nat_lt j k) refl asked
   where
     told : (b : Bool) → nat_lt j k ≡ b → If b A → k ≤ j
     told true e holds = absurd (none holds)
     told false e holds = grind (arith, nat_tests, e)
 
--- no complaint of a smaller rank holds
+-- no diagnostic of a smaller rank holds
 abbrev pub NoneOfLowerRank : Schema → List Line → List Tree → Line → ℕ → Type 0
 NoneOfLowerRank s lines trees l k =
     If (nat_lt 2 k) (l.number ≡ length trees + 1)
@@ -41,13 +41,13 @@ NoneOfLowerRank s lines trees l k =
     × If (nat_lt 7 k) ((why : FaultKind) → NodeFault s trees l l.body why → ⊥)
 
 pub first_of : (s : Schema) (lines : List Line) (trees : List Tree) (l : Line) (k : ℕ) → k ≤ 8
-    → NoneOfLowerRank s lines trees l k → (other : Complaint) → Wrong s lines trees l other → k ≤ rank other
-first_of s lines trees l k high none wrong_number wrong = bound 2 k _ none.0 wrong
-first_of s lines trees l k high none no_such_line wrong = bound 3 k _ none.1 (λ named. named wrong)
-first_of s lines trees l k high none used_twice wrong = bound 4 k _ none.2 (λ once. once wrong)
-first_of s lines trees l k high none too_many_lines wrong = bound 5 k _ none.3 (λ few. omega (arith, few, wrong))
-first_of s lines trees l k high none too_deep wrong = bound 6 k _ none.4 (λ few. few wrong)
-first_of s lines trees l k high none (unsound fault) wrong = bound 7 k _ none.5 (λ sound. sound fault.kind wrong.1)
+    → NoneOfLowerRank s lines trees l k → (other : Diagnostic) → Wrong s lines trees l other → k ≤ rank other
+first_of s lines trees l k high none wrong_number wrong = le_unless 2 k _ none.0 wrong
+first_of s lines trees l k high none no_such_line wrong = le_unless 3 k _ none.1 (λ named. named wrong)
+first_of s lines trees l k high none used_twice wrong = le_unless 4 k _ none.2 (λ once. once wrong)
+first_of s lines trees l k high none too_many_lines wrong = le_unless 5 k _ none.3 (λ few. omega (arith, few, wrong))
+first_of s lines trees l k high none too_deep wrong = le_unless 6 k _ none.4 (λ few. few wrong)
+first_of s lines trees l k high none (unsound fault) wrong = le_unless 7 k _ none.5 (λ sound. sound fault.kind wrong.1)
 first_of s lines trees l k high none (states_other stated concluded) wrong = high
 first_of s lines trees l k high none _ wrong = absurd wrong
 
@@ -137,8 +137,8 @@ no_fault s trees l b t d why tree proves fault =
     let wrong : ◌≡◌ {A = Result Dependency FaultKind} (Ok d) (Err why) =
     one_says s trees l b _ _ (tree_says s trees l b t d tree proves) (fault_says s trees l b why fault) in cc
 
--- what is wrong with a line is one complaint of each rank
-pub one_of_rank : (s : Schema) (lines : List Line) (trees : List Tree) (l : Line) (c d : Complaint) → rank c ≡ rank d
+-- what is wrong with a line is one diagnostic of each rank
+pub one_of_rank : (s : Schema) (lines : List Line) (trees : List Tree) (l : Line) (c d : Diagnostic) → rank c ≡ rank d
     → Wrong s lines trees l c → Wrong s lines trees l d → c ≡ d
 one_of_rank s lines trees l wrong_number wrong_number e wrong other = refl
 one_of_rank s lines trees l no_such_line no_such_line e wrong other = refl

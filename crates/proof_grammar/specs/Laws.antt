@@ -15,8 +15,8 @@ use Rattle.schema_grammar.specs.declared.format.Format.TheVariants as format
 use Rattle.schema_grammar.specs.declared.refusal.SchemaRefusal.{SchemaRefusal}
 use Rattle.schema_grammar.specs.Printed.{AreNames}
 use Rattle.schema_grammar.specs.Rests.{rest_from}
-use Rattle.proof_grammar.specs.Complaints.{LineComplaint}
-use Rattle.proof_grammar.specs.LineComplaints.{RefusesCertificateLine}
+use Rattle.proof_grammar.specs.Diagnostics.{LineDiagnostic}
+use Rattle.proof_grammar.specs.LineDiagnostics.{RefusesCertificateLine}
 use Rattle.proof_grammar.specs.Lines.{Line, certificate_line}
 use Rattle.proof_grammar.specs.Meanings.{MeansLine}
 use Rattle.proof_grammar.specs.Printable.{IsPrintableLine}
@@ -47,7 +47,7 @@ abbrev pub LinesAreNodes : Type 0
 LinesAreNodes = (s : Schema) (text : List ℕ) (t : Tree) (w : Spells s text t) → length w.lines ≡ nodes t
 
 abbrev pub RefusedAsTold : Type 0
-RefusedAsTold = (s : Schema) (text : List ℕ) (e : LineComplaint)
+RefusedAsTold = (s : Schema) (text : List ℕ) (e : LineDiagnostic)
     → (read_proof s text ≡ Err e) ↔ IsRefusedCertificate s text e
 
 -- ---- printing

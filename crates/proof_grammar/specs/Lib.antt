@@ -1,9 +1,9 @@
-pub mod Books
+pub mod CheckerStates
 pub mod Checked
-pub mod Complaints
+pub mod Diagnostics
 pub mod Laws
-pub mod Ledgers
-pub mod LineComplaints
+pub mod ValidStates
+pub mod LineDiagnostics
 pub mod Lines
 pub mod Meanings
 pub mod Nodes

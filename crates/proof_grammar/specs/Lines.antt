@@ -9,7 +9,7 @@ use Rattle.schema_grammar.specs.declared.refusal.What.TheVariants as what
 use Rattle.proof_grammar.specs.declared.rule_name.RuleName.{RuleName}
 use Rattle.proof_grammar.specs.declared.rule_name.RuleName.TheVariants as rule
 use Rattle.schema_grammar.specs.Grammar as grammar
-use Rattle.schema_grammar.specs.Rests.{Rest, ◌>>=◌, take, expected, number, arrow, ended, side}
+use Rattle.schema_grammar.specs.Rests.{Rest, ◌>>=◌, take, refusal_of_token, number, arrow, refusal_at_end, side}
 use Rattle.schema_grammar.specs.Texts.{number_in}
 use Rattle.proof_grammar.specs.Readers.{colon, with_word, rule_name}
 
@@ -27,26 +27,26 @@ pub record Line : Type 0 where
   pub stated : Dependency
   pub body : Body
 
-unfoldable pub one : Step → Rest → Result (Body × Rest) SchemaRefusal
-one r start = do
+unfoldable pub one_premise : Step → Rest → Result (Body × Rest) SchemaRefusal
+one_premise r start = do
   p ← number start
   Ok (by_step r p.0, p.1)
 
-unfoldable pub two : Pair → Rest → Result (Body × Rest) SchemaRefusal
-two r start = do
+unfoldable pub two_premises : Pair → Rest → Result (Body × Rest) SchemaRefusal
+two_premises r start = do
   p ← number start
   q ← number p.1
   Ok (by_pair r p.0 q.0, q.1)
 
-unfoldable pub augmented : List (List ℕ) → Rest → Result (Body × Rest) SchemaRefusal
-augmented names start = do
+unfoldable pub augmentation_body : List (List ℕ) → Rest → Result (Body × Rest) SchemaRefusal
+augmentation_body names start = do
   p ← number start
   w ← with_word p.1
   z ← side names w
   Ok (by_step (augmentation z.0) p.0, z.1)
 
-unfoldable pub maugmented : List (List ℕ) → Rest → Result (Body × Rest) SchemaRefusal
-maugmented names start = do
+unfoldable pub maugmentation_body : List (List ℕ) → Rest → Result (Body × Rest) SchemaRefusal
+maugmentation_body names start = do
   p ← number start
   w ← with_word p.1
   wide ← side names w
@@ -60,13 +60,13 @@ body names rule.Given start = do
   Ok (by_given k.0, k.1)
 body names rule.Reflexivity start = Ok (by_reflexivity, start)
 body names rule.MReflexivity start = Ok (by_mreflexivity, start)
-body names rule.Augmentation start = augmented names start
-body names rule.MAugmentation start = maugmented names start
-body names rule.Complementation start = one complementation start
-body names rule.Replication start = one replication start
-body names rule.Transitivity start = two transitivity start
-body names rule.MTransitivity start = two mtransitivity start
-body names rule.Coalescence start = two coalescence start
+body names rule.Augmentation start = augmentation_body names start
+body names rule.MAugmentation start = maugmentation_body names start
+body names rule.Complementation start = one_premise complementation start
+body names rule.Replication start = one_premise replication start
+body names rule.Transitivity start = two_premises transitivity start
+body names rule.MTransitivity start = two_premises mtransitivity start
+body names rule.Coalescence start = two_premises coalescence start
 
 -- side, arrow, side
 unfoldable pub stated_dependency : List (List ℕ) → Rest → Result (Dependency × Rest) SchemaRefusal
@@ -74,7 +74,7 @@ stated_dependency names start = do
   x ← side names start
   a ← arrow x.1
   y ← side names a.1
-  Ok (grammar.stated a.0 x.0 y.0, y.1)
+  Ok (grammar.dependency_of_sign a.0 x.0 y.0, y.1)
 
 -- a value, unless the line does not end here
 abbrev pub unless : {A : Type 0} → Option SchemaRefusal → A → Result A SchemaRefusal
@@ -84,13 +84,13 @@ unless (Some e) x = Err e
 -- what follows the first token, which is a number: `:`, a dependency, `:`, the rule
 unfoldable pub certificate_line_from : List (List ℕ) → Mark → Rest → Result Line SchemaRefusal
 certificate_line_from names m rest = do
-  n ← ok_or (number_in m.kind) (expected what.Number m rest)
+  n ← ok_or (number_in m.kind) (refusal_of_token what.Number m rest)
   c ← colon rest
   d ← stated_dependency names c
   e ← colon d.1
   r ← rule_name e
   b ← body names r.0 r.1
-  unless (ended b.1) (record { number = n; stated = d.0; body = b.0 })
+  unless (refusal_at_end b.1) (record { number = n; stated = d.0; body = b.0 })
 
 unfoldable pub certificate_line : List (List ℕ) → Rest → Result Line SchemaRefusal
 certificate_line names start = take what.Number start >>= λ t. certificate_line_from names t.0 t.1

@@ -1,10 +1,10 @@
 -- What the lines of a certificate mean, by their grammar: for what a certificate spells
 -- (`Spelling`).
 use Rattle.std.specs.Prelude.{◌≡◌, ℕ, Bool, false, ◌&&◌, not, if◌then◌else◌, List, [], ◌∷◌, ◌++◌, filter, Option, codes}
-use Rattle.attr_sets.specs.Places.{Places}
+use Rattle.attr_sets.specs.Attributes.{Attributes}
 use Rattle.derivation.specs.Trees.{Step, augmentation, complementation, maugmentation, replication, Pair, transitivity, mtransitivity, coalescence}
 use Rattle.lexer.specs.declared.token.Mode.TheVariants as mode
-use Rattle.lexer.specs.declared.token.Stop.{Stop}
+use Rattle.lexer.specs.declared.token.LexError.{LexError}
 use Rattle.lexer.specs.declared.token.TokenKind.TheVariants as token
 use Rattle.lexer.specs.Lines.{line_texts, without_mark}
 use Rattle.lexer.specs.Tokens.{Mark, Lexed, lex}
@@ -15,7 +15,7 @@ use Rattle.proof_grammar.specs.Texts.{is_yes, is_blank, is_blank_from}
 
 -- ---- the lines that count
 -- the one word `yes`
-abbrev pub is_yes_from : List Mark → Option Stop → Bool
+abbrev pub is_yes_from : List Mark → Option LexError → Bool
 is_yes_from [] stop = false
 is_yes_from (m ∷ ms) stop = is_yes m.kind m.word && is_blank_from ms stop
 
@@ -43,7 +43,7 @@ IsNumber n m = m.kind ≡ token.Number n
 
 -- a word of the grammar, in lower case
 abbrev pub IsKeyword : List ℕ → Mark → Type 0
-IsKeyword word m = (m.kind ≡ token.Word) × (m.word ≡ word)
+IsKeyword word m = (m.kind ≡ token.Identifier) × (m.word ≡ word)
 
 abbrev pub step_name : Step → List ℕ
 step_name (augmentation z) = codes "augmentation"
@@ -57,7 +57,7 @@ pair_name mtransitivity = codes "mtransitivity"
 pair_name coalescence = codes "coalescence"
 
 -- `with` and a side
-pub record IsAugmented (names : List (List ℕ)) (ms : List Mark) (z : Places) : Type 0 where
+pub record IsAugmented (names : List (List ℕ)) (ms : List Mark) (z : Attributes) : Type 0 where
   pub keyword : Mark
   pub sides : List Mark
   pub whole : ms ≡ keyword ∷ sides
@@ -65,7 +65,7 @@ pub record IsAugmented (names : List (List ℕ)) (ms : List Mark) (z : Places) :
   pub side : IsSide format.Plain names sides z
 
 -- `with`, a wide side, `:` and a narrow one
-pub record IsWidened (names : List (List ℕ)) (ms : List Mark) (w z : Places) : Type 0 where
+pub record IsWidened (names : List (List ℕ)) (ms : List Mark) (w z : Attributes) : Type 0 where
   pub keyword : Mark
   pub wide : List Mark
   pub colon : Mark
@@ -86,10 +86,10 @@ HasSets names ms replication = ms ≡ []
 -- `given` and the number of a dependency
 pub record IsGivenLine (ms : List Mark) (k : ℕ) : Type 0 where
   pub name : Mark
-  pub place : Mark
-  pub whole : ms ≡ name ∷ place ∷ []
+  pub numeral : Mark
+  pub whole : ms ≡ name ∷ numeral ∷ []
   pub says : IsKeyword (codes "given") name
-  pub number : IsNumber k place
+  pub number : IsNumber k numeral
 
 -- the name alone
 pub record IsAlone (ms : List Mark) (word : List ℕ) : Type 0 where

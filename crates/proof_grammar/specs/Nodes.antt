@@ -1,4 +1,4 @@
--- What the node of a certificate line concludes: for `Books` and the reader of certificates. `Desk`
+-- What the node of a certificate line concludes: for `CheckerStates` and the reader of certificates. `Desk`
 -- does not cite it.
 use Rattle.std.specs.Prelude.{ℕ, ◌==◌, ◌-◌, Bool, false, ◌&&◌, if◌then◌else◌, Result, Ok, Err}
 use Rattle.attr_sets.specs.Sets.{is_same}

@@ -1,7 +1,7 @@
 -- What the lines of a certificate must be, so that they mean the same when they are printed: for
 -- the laws of proof_grammar. `Desk` does not cite it.
 use Rattle.std.specs.Prelude.{◌<◌, ℕ, ◌^◌, List, [], ◌∷◌, length}
-use Rattle.attr_sets.specs.Places.{below}
+use Rattle.attr_sets.specs.Attributes.{below}
 use Rattle.dep_model.specs.Dependencies.{IsWithin}
 use Rattle.proof_grammar.specs.Lines.{Body, by_given, by_reflexivity, by_mreflexivity, by_step, by_pair, Line}
 use Rattle.proof_grammar.specs.Printing.{IsBodyWithin}

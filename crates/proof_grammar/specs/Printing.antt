@@ -2,13 +2,13 @@
 -- (`desk_cli/Implication`).
 use Rattle.std.specs.Prelude.{ℕ, ◌+◌, List, [], ◌∷◌, ◌++◌, codes, decimal, Result, Ok, Err}
 use Rattle.std.specs.List.{flat_map}
-use Rattle.attr_sets.specs.Places.{Places, Within}
+use Rattle.attr_sets.specs.Attributes.{Attributes, IsSubset}
 use Rattle.dep_model.specs.declared.schema.Schema.{Schema}
 use Rattle.dep_model.specs.Dependencies.{Dependency}
 use Rattle.dep_model.specs.Schemas.{names_of}
 use Rattle.derivation.specs.declared.fault.Fault.{Fault}
 use Rattle.derivation.specs.Trees.{Leaf, given, reflexivity, mreflexivity, Step, augmentation, complementation, maugmentation, replication, Pair, transitivity, mtransitivity, coalescence, Tree, leaf, step, pair, nodes}
-use Rattle.derivation.specs.Conclusions.{Proves, concluded}
+use Rattle.derivation.specs.Conclusions.{Proves, conclusion_after}
 use Rattle.schema_printer.specs.Printing.{set_text, dependency_text}
 use Rattle.proof_grammar.specs.Lines.{Body, by_given, by_reflexivity, by_mreflexivity, by_step, by_pair, Line}
 
@@ -62,13 +62,13 @@ node_line n (Err fault) body = []
 
 -- the nodes in post-order, numbered after this many others
 abbrev pub node_lines_after : Schema → ℕ → Tree → List Line
-node_lines_after s n (leaf rule) = node_line (n + 1) (concluded s 0 (leaf rule)) (leaf_body rule)
+node_lines_after s n (leaf rule) = node_line (n + 1) (conclusion_after s 0 (leaf rule)) (leaf_body rule)
 node_lines_after s n (step rule t) =
     node_lines_after s n t
-    ++ node_line (n + nodes t + 1) (concluded s 0 (step rule t)) (by_step rule (n + nodes t))
+    ++ node_line (n + nodes t + 1) (conclusion_after s 0 (step rule t)) (by_step rule (n + nodes t))
 node_lines_after s n (pair rule t u) =
     node_lines_after s n t ++ node_lines_after s (n + nodes t) u
-    ++ node_line (n + nodes t + nodes u + 1) (concluded s 0 (pair rule t u))
+    ++ node_line (n + nodes t + nodes u + 1) (conclusion_after s 0 (pair rule t u))
     (by_pair rule (n + nodes t) (n + nodes t + nodes u))
 
 -- the text of lines
@@ -85,12 +85,12 @@ abbrev pub IsProof : Schema → Tree → Type 0
 IsProof s t = (d : Dependency) × Proves s t d
 
 -- the sets of a rule lie within a set
-abbrev pub IsStepWithin : Places → Step → Type 0
-IsStepWithin universe (augmentation z) = Within z universe
+abbrev pub IsStepWithin : Attributes → Step → Type 0
+IsStepWithin universe (augmentation z) = IsSubset z universe
 IsStepWithin universe complementation = Unit {0}
-IsStepWithin universe (maugmentation w z) = Within w universe × Within z universe
+IsStepWithin universe (maugmentation w z) = IsSubset w universe × IsSubset z universe
 IsStepWithin universe replication = Unit {0}
 
-abbrev pub IsBodyWithin : Places → Body → Type 0
+abbrev pub IsBodyWithin : Attributes → Body → Type 0
 IsBodyWithin universe (by_step rule p) = IsStepWithin universe rule
 IsBodyWithin universe _ = Unit {0}

@@ -3,22 +3,22 @@
 use Rattle.std.specs.Prelude.{if◌then◌else◌, Result, Ok, Err, ok_or}
 use Rattle.schema_grammar.specs.declared.refusal.SchemaRefusal.{SchemaRefusal}
 use Rattle.schema_grammar.specs.declared.refusal.What.TheVariants as what
-use Rattle.schema_grammar.specs.Rests.{Rest, ◌>>=◌, take, expected}
+use Rattle.schema_grammar.specs.Rests.{Rest, ◌>>=◌, take, refusal_of_token}
 use Rattle.proof_grammar.specs.declared.rule_name.RuleName.{RuleName}
 use Rattle.proof_grammar.specs.Tokens.{is_colon, is_with, rule_named}
 
 unfoldable pub colon : Rest → Result Rest SchemaRefusal
 colon r = do
   t ← take what.Colon r
-  if is_colon t.0.kind then Ok t.1 else Err (expected what.Colon t.0 t.1)
+  if is_colon t.0.kind then Ok t.1 else Err (refusal_of_token what.Colon t.0 t.1)
 
 unfoldable pub with_word : Rest → Result Rest SchemaRefusal
 with_word r = do
   t ← take what.With r
-  if is_with t.0.kind t.0.word then Ok t.1 else Err (expected what.With t.0 t.1)
+  if is_with t.0.kind t.0.word then Ok t.1 else Err (refusal_of_token what.With t.0 t.1)
 
 unfoldable pub rule_name : Rest → Result (RuleName × Rest) SchemaRefusal
 rule_name r = do
   t ← take what.Rule r
-  n ← ok_or (rule_named t.0.kind t.0.word) (expected what.Rule t.0 t.1)
+  n ← ok_or (rule_named t.0.kind t.0.word) (refusal_of_token what.Rule t.0 t.1)
   Ok (n, t.1)

@@ -7,8 +7,8 @@ use Rattle.derivation.specs.Trees.{Tree}
 use Rattle.lexer.specs.Lines.{line_texts, without_mark}
 use Rattle.schema_grammar.specs.declared.refusal.SchemaRefusal.{SchemaRefusal}
 use Rattle.proof_grammar.specs.declared.refusal.ProofRefusal.{ProofRefusal}
-use Rattle.proof_grammar.specs.Complaints.{Complaint, LineComplaint, bad_line, never_used, empty_proof, line_complaint_of}
-use Rattle.proof_grammar.specs.LineComplaints.{RefusesCertificateLine}
+use Rattle.proof_grammar.specs.Diagnostics.{Diagnostic, LineDiagnostic, bad_line, never_used, empty_proof, line_diagnostic_of}
+use Rattle.proof_grammar.specs.LineDiagnostics.{RefusesCertificateLine}
 use Rattle.proof_grammar.specs.Lines.{Line}
 use Rattle.proof_grammar.specs.Meanings.{certificate_lines_of, certificate_lines, MeansLine, MeanLines}
 use Rattle.proof_grammar.specs.Spelling.{uses}
@@ -22,21 +22,21 @@ pub record StandsAt (text : List ℕ) (before : List (List ℕ)) (here : List �
   pub counts : certificate_lines_of (before ++ here ∷ []) ≡ certificate_lines_of before ++ here ∷ []
 
 -- ---- at a line
--- the line breaks the grammar: it is refused by its first complaint
-pub record IsBadLine (names : List (List ℕ)) (here : List ℕ) (at : ℕ) (c : Complaint) : Type 0 where
+-- the line breaks the grammar: it is refused by its first diagnostic
+pub record IsBadLine (names : List (List ℕ)) (here : List ℕ) (at : ℕ) (c : Diagnostic) : Type 0 where
   pub refusal : SchemaRefusal
   pub grammar : RefusesCertificateLine names at here refusal
   pub is : c ≡ bad_line refusal
 
 -- or it means a line, with which something is wrong
 pub record IsWrongLine (s : Schema) (lines : List Line) (trees : List Tree) (here : List ℕ)
-    (c : Complaint) : Type 0 where
+    (c : Diagnostic) : Type 0 where
   pub line : Line
   pub means : MeansLine (names_of s) here line
   pub wrong : IsFirstWrong s lines trees line c
 
 -- the lines before are read, and this one is refused
-pub record IsRefusedAt (s : Schema) (text : List ℕ) (e : LineComplaint) : Type 0 where
+pub record IsRefusedAt (s : Schema) (text : List ℕ) (e : LineDiagnostic) : Type 0 where
   pub before : List (List ℕ)
   pub here : List ℕ
   pub stands : StandsAt text before here e.line
@@ -44,17 +44,17 @@ pub record IsRefusedAt (s : Schema) (text : List ℕ) (e : LineComplaint) : Type
   pub trees : List Tree
   pub mean : MeanLines (names_of s) (certificate_lines_of before) lines
   pub read : AreRead s lines trees
-  pub why : IsBadLine (names_of s) here e.line e.complaint ⊎ IsWrongLine s lines trees here e.complaint
+  pub why : IsBadLine (names_of s) here e.line e.diagnostic ⊎ IsWrongLine s lines trees here e.diagnostic
 
 -- ---- at the end
 -- there is no line; this is told at the last line of the text
-pub record IsEmptyProof (text : List ℕ) (lines : List Line) (e : LineComplaint) : Type 0 where
+pub record IsEmptyProof (text : List ℕ) (lines : List Line) (e : LineDiagnostic) : Type 0 where
   pub none : lines ≡ []
   pub at : e.line ≡ length (line_texts (without_mark text))
-  pub is : e.complaint ≡ empty_proof
+  pub is : e.diagnostic ≡ empty_proof
 
 -- the first line but the last that no line uses; it is told at its line of the text
-pub record IsNeverUsed (text : List ℕ) (lines : List Line) (e : LineComplaint) : Type 0 where
+pub record IsNeverUsed (text : List ℕ) (lines : List Line) (e : LineDiagnostic) : Type 0 where
   pub number : ℕ
   pub some : 0 < number
   pub not_last : number < length lines
@@ -64,10 +64,10 @@ pub record IsNeverUsed (text : List ℕ) (lines : List Line) (e : LineComplaint)
   pub here : List ℕ
   pub stands : StandsAt text before here e.line
   pub is_number : number ≡ length (certificate_lines_of before) + 1
-  pub is : e.complaint ≡ never_used
+  pub is : e.diagnostic ≡ never_used
 
 -- all lines are read, and they are not the nodes of one tree
-pub record IsUnfinished (s : Schema) (text : List ℕ) (e : LineComplaint) : Type 0 where
+pub record IsUnfinished (s : Schema) (text : List ℕ) (e : LineDiagnostic) : Type 0 where
   pub lines : List Line
   pub trees : List Tree
   pub mean : MeanLines (names_of s) (certificate_lines text) lines
@@ -75,9 +75,9 @@ pub record IsUnfinished (s : Schema) (text : List ℕ) (e : LineComplaint) : Typ
   pub why : IsEmptyProof text lines e ⊎ IsNeverUsed text lines e
 
 -- a certificate is refused so
-abbrev pub IsRefusedCertificate : Schema → List ℕ → LineComplaint → Type 0
+abbrev pub IsRefusedCertificate : Schema → List ℕ → LineDiagnostic → Type 0
 IsRefusedCertificate s text e = IsRefusedAt s text e ⊎ IsUnfinished s text e
 
 -- the same of a refusal
 abbrev pub RefusesProof : Schema → List ℕ → ProofRefusal → Type 0
-RefusesProof s text e = IsRefusedCertificate s text (line_complaint_of e)
+RefusesProof s text e = IsRefusedCertificate s text (line_diagnostic_of e)

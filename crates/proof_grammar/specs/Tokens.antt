@@ -1,4 +1,4 @@
--- The words of a certificate line: for the meaning of lines (`LineComplaints`) and their reading
+-- The words of a certificate line: for the meaning of lines (`LineDiagnostics`) and their reading
 -- (`Readers`).
 use Rattle.std.specs.Prelude.{ℕ, Bool, true, false, if◌then◌else◌, List, Option, Some, None, codes}
 use Rattle.std.specs.Str.{bytes_eq}
@@ -12,7 +12,7 @@ is_colon token.Colon = true
 is_colon _ = false
 
 unfoldable pub is_with : TokenKind → List ℕ → Bool
-is_with token.Word word = bytes_eq word (codes "with")
+is_with token.Identifier word = bytes_eq word (codes "with")
 is_with _ word = false
 
 -- the rule whose name a word is
@@ -31,5 +31,5 @@ rule_word word =
     else None
 
 unfoldable pub rule_named : TokenKind → List ℕ → Option RuleName
-rule_named token.Word word = rule_word word
+rule_named token.Identifier word = rule_word word
 rule_named _ word = None

@@ -8,7 +8,7 @@ use Rattle.derivation.specs.declared.measures.TheConstants.{MOST_NODES, MOST_LEV
 use Rattle.derivation.specs.Trees.{Tree, depth, given, reflexivity, mreflexivity, Step, Pair}
 use Rattle.derivation.specs.Table.{leaf_conclusion, step_conclusion, pair_conclusion}
 use Rattle.derivation.specs.Conclusions.{Proves}
-use Rattle.proof_grammar.specs.Complaints.{Complaint, bad_line, wrong_number, no_such_line, used_twice, never_used, too_many_lines, too_deep, unsound, states_other, empty_proof}
+use Rattle.proof_grammar.specs.Diagnostics.{Diagnostic, bad_line, wrong_number, no_such_line, used_twice, never_used, too_many_lines, too_deep, unsound, states_other, empty_proof}
 use Rattle.proof_grammar.specs.Lines.{Body, by_given, by_reflexivity, by_mreflexivity, by_step, by_pair, Line}
 use Rattle.proof_grammar.specs.Spelling.{IsTreeAt, IsTreeOf, AreNodes, uses}
 
@@ -81,8 +81,8 @@ pub record StatesOther (s : Schema) (trees : List Tree) (l : Line) (concluded : 
   pub other : l.stated ≡ concluded → ⊥
 
 -- ---- what is wrong, and what comes first
--- a complaint about a line, after lines of these trees
-abbrev pub Wrong : Schema → List Line → List Tree → Line → Complaint → Type 0
+-- a diagnostic about a line, after lines of these trees
+abbrev pub Wrong : Schema → List Line → List Tree → Line → Diagnostic → Type 0
 Wrong s lines trees l wrong_number = l.number ≡ length trees + 1 → ⊥
 Wrong s lines trees l no_such_line = NamesNoLine trees l
 Wrong s lines trees l used_twice = UsesTwice lines l
@@ -94,8 +94,8 @@ Wrong s lines trees l (bad_line e) = ⊥
 Wrong s lines trees l never_used = ⊥
 Wrong s lines trees l empty_proof = ⊥
 
--- the order in which complaints about one line are told
-abbrev pub rank : Complaint → ℕ
+-- the order in which diagnostics about one line are told
+abbrev pub rank : Diagnostic → ℕ
 rank (bad_line e) = 1
 rank wrong_number = 2
 rank no_such_line = 3
@@ -107,7 +107,7 @@ rank (states_other stated concluded) = 8
 rank never_used = 9
 rank empty_proof = 10
 
-pub record IsFirstWrong (s : Schema) (lines : List Line) (trees : List Tree) (l : Line) (c : Complaint)
+pub record IsFirstWrong (s : Schema) (lines : List Line) (trees : List Tree) (l : Line) (c : Diagnostic)
     : Type 0 where
   pub wrong : Wrong s lines trees l c
-  pub first : (other : Complaint) → Wrong s lines trees l other → rank c ≤ rank other
+  pub first : (other : Diagnostic) → Wrong s lines trees l other → rank c ≤ rank other

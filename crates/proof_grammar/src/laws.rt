@@ -9,8 +9,9 @@ pub fn line_meaning()
     ensures law { LineMeaning }
 {}
 
-/// A line of a certificate is refused so exactly where its first complaint is that: the one of the least
-/// place, and there of the least number. So it has one refusal at most, and none where it means a line.
+/// A line of a certificate is refused so exactly where its first diagnostic is that: the one of the
+/// first position, and there of the least number. So it has one refusal at most, and none where it means a
+/// line.
 pub fn line_refusal()
     ensures law { LineRefusal }
 {}
@@ -54,9 +55,9 @@ pub fn lines_are_nodes()
     ensures law { LinesAreNodes }
 {}
 
-/// A certificate is refused exactly at the first line that goes wrong, and there for the first complaint;
-/// where no line does, at its end, since it has no line, or for the first line but the last that no line
-/// uses.
+/// A certificate is refused exactly at the first line that goes wrong, and there for the first
+/// diagnostic; where no line does, at its end, since it has no line, or for the first line but the last
+/// that no line uses.
 pub fn refused_as_told()
     ensures law { RefusedAsTold }
 {}

@@ -9,8 +9,8 @@ use Rattle.dep_model.specs.Schemas.{names_of, universe_of}
 use Rattle.derivation.specs.declared.deriv.Deriv.{Deriv}
 use Rattle.derivation.specs.Trees.{Step, Pair, Tree, step, pair, nodes}
 use Rattle.derivation.specs.Derivs.{tree_of}
-use Rattle.derivation.specs.Conclusions.{Proves, concluded}
-use Rattle.derivation.proofs.ConclusionLemmas.{concluded-from}
+use Rattle.derivation.specs.Conclusions.{Proves, conclusion_after}
+use Rattle.derivation.proofs.ConclusionLemmas.{conclusion_after-from}
 use Rattle.derivation.proofs.WithinLemmas.{tree_of-attributes, conclusion_within}
 use Rattle.proof_grammar.specs.Lines.{by_step, by_pair}
 use Rattle.proof_grammar.specs.Printing.{certificate_line_text, numbered_line, node_lines_after, certificate_lines_text}
@@ -24,7 +24,7 @@ pub step_added : (s : Schema) (t : Tree) (rule : Step) (u : Tree) (d : Dependenc
     → mid ≡ old ++ certificate_lines_text (names_of s) (node_lines_after s n u) → new ≡ mid ++ certificate_line_text (names_of s) (numbered_line (p + 1) d (by_step rule p))
     → new ≡ old ++ certificate_lines_text (names_of s) (node_lines_after s n t)
 step_added s t rule u d n p old mid new e proves count before last =
-    let concludes : concluded s 0 (step rule u) ≡ Ok d = concluded-from s 0 (step rule u) d proves in
+    let concludes : conclusion_after s 0 (step rule u) ≡ Ok d = conclusion_after-from s 0 (step rule u) d proves in
     let line = certificate_line_text (names_of s) in
     let whole = flat_map-append line (node_lines_after s n u)
     (numbered_line (n + nodes u + 1) d (by_step rule (n + nodes u)) ∷ []) in
@@ -39,7 +39,7 @@ pub pair_added : (s : Schema) (t : Tree) (rule : Pair) (u v : Tree) (d : Depende
     → new ≡ more ++ certificate_line_text (names_of s) (numbered_line (q + 1) d (by_pair rule p q))
     → new ≡ old ++ certificate_lines_text (names_of s) (node_lines_after s n t)
 pair_added s t rule u v d n p q old mid more new e proves first_count second_count first second last =
-    let concludes : concluded s 0 (pair rule u v) ≡ Ok d = concluded-from s 0 (pair rule u v) d proves in
+    let concludes : conclusion_after s 0 (pair rule u v) ≡ Ok d = conclusion_after-from s 0 (pair rule u v) d proves in
     let line = certificate_line_text (names_of s) in
     let xs = node_lines_after s n u in
     let ys = node_lines_after s (n + nodes u) v in

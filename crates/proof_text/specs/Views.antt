@@ -3,11 +3,11 @@
 use Rattle.std.specs.Prelude.{List, map, Option, option_map}
 use Rattle.dep_model.specs.Deps.{dependency_of}
 use Rattle.derivation.specs.Derivs.{tree_of, step_of, pair_of}
-use Rattle.proof_grammar.specs.Books.{Opened, Ledger, Prepared}
+use Rattle.proof_grammar.specs.CheckerStates.{Opened, CheckerStateValue, Prepared}
 use Rattle.proof_grammar.specs.Lines.{Body, by_given, by_reflexivity, by_mreflexivity, by_step, by_pair, Line}
 use Rattle.proof_text.specs.Outcomes.{concluded_outcome}
-use Rattle.proof_text.specs.declared.book.Book as books
-use Rattle.proof_text.specs.declared.book.Node as nodes
+use Rattle.proof_text.specs.declared.checker_state.CheckerState as books
+use Rattle.proof_text.specs.declared.checker_state.Node as nodes
 use Rattle.proof_text.specs.declared.line.Body as bodies
 use Rattle.proof_text.specs.declared.line.Line as lines
 use Rattle.proof_text.specs.declared.node.Open as opens
@@ -28,8 +28,8 @@ opened_of o = record { tree = tree_of o.deriv.value; levels = o.levels; conclusi
 abbrev pub opened_all : List (Option opens.Open) → List (Option Opened)
 opened_all items = map (option_map opened_of) items
 
-abbrev pub ledger_of : books.Book → Ledger
-ledger_of b = record { lines = b.lines.items; unused = opened_all b.unused.items }
+abbrev pub checker_state_of : books.CheckerState → CheckerStateValue
+checker_state_of b = record { lines = b.lines.items; unused = opened_all b.unused.items }
 
 abbrev pub prepared_of : nodes.Node → List (Option Opened) → Prepared
 prepared_of n unused = record { levels = n.levels; outcome = concluded_outcome n.outcome; unused = unused }

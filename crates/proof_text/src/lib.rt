@@ -5,7 +5,7 @@
 //! writes the one text of a derivation, a line for each node in post-order.
 #![tactic(auto)]
 
-mod book;
+mod checker_state;
 mod line;
 mod node;
 mod printing;

@@ -1,20 +1,20 @@
 ghost use Rattle.std.specs.Prelude.{◌≡◌, ◌+◌, ◌<◌, ◌≤◌, ◌^◌, length, IfOk, IfErr, Ok, Err};
-ghost use Rattle.attr_sets.specs.Places.{below};
+ghost use Rattle.attr_sets.specs.Attributes.{below};
 ghost use Rattle.dep_model.specs.Deps.{dependency_of, IsDepWithin};
 ghost use Rattle.derivation.specs.Derivs.{step_of, pair_of};
-ghost use Rattle.line_reader.specs.Views.{names_in, rest_of};
-ghost use Rattle.schema_grammar.specs.Declarations.{marked};
-ghost use Rattle.proof_grammar.specs.Lines.{body, certificate_line_from, stated_dependency, one, two, augmented, maugmented};
+ghost use Rattle.tokens.specs.Views.{names_in, rest_of};
+ghost use Rattle.schema_grammar.specs.Declarations.{mark_of};
+ghost use Rattle.proof_grammar.specs.Lines.{body, certificate_line_from, stated_dependency, one_premise, two_premises, augmentation_body, maugmentation_body};
 ghost use Rattle.proof_text.specs.Views.{body_of, line_of};
 
 use crate::words::{colon, rule_name, with_word};
-use attr_sets::PLACES;
+use attr_sets::MOST_ATTRIBUTES;
 use dep_model::Dep;
 use derivation::{PairRule, StepRule};
 use lexer::{Token, TokenKind};
-use line_reader::{Cursor, Names};
 use proof_grammar::RuleName;
 use schema_grammar::{SchemaRefusal, Sign, What};
+use tokens::{Cursor, Names};
 
 /// What a line says of its dependency: the rule, and the lines of its premises.
 #[derive(Clone, Copy, Debug)]
@@ -43,20 +43,20 @@ pub fn read_line(
     word: &[u8],
     rest: Cursor<'_>,
 ) -> Result<Line, SchemaRefusal>
-    requires few { length (names_in names.now) ≤ PLACES }
+    requires within_limit { length (names_in names.now) ≤ MOST_ATTRIBUTES }
     requires length { first.length ≡ length word.now }
     ensures ok { IfOk result
-        (λ x. certificate_line_from (names_in names.now) (marked first word.now) (rest_of rest.entry)
+        (λ x. certificate_line_from (names_in names.now) (mark_of first word.now) (rest_of rest.entry)
         ≡ Ok (line_of x)) }
     ensures within { IfOk result (λ x. IsDepWithin (below (length (names_in names.now))) x.stated) }
     ensures err { IfErr result
-        (λ e. certificate_line_from (names_in names.now) (marked first word.now) (rest_of rest.entry)
+        (λ e. certificate_line_from (names_in names.now) (mark_of first word.now) (rest_of rest.entry)
         ≡ Err e) }
 {
     let TokenKind::Number(number) = first.kind else {
-        return Err(rest.expected(first, What::Number));
+        return Err(rest.refusal_of_token(first, What::Number));
     };
-    let (stated, rest) = stated(names, colon(rest)?)?;
+    let (stated, rest) = stated_dependency(names, colon(rest)?)?;
     let (name, rest) = rule_name(colon(rest)?)?;
     let (body, rest) = read_body(names, name, rest)?;
     rest.end()?;
@@ -69,8 +69,11 @@ pub fn read_line(
 
 /// The dependency that a line states.
 #[tactic(auto, unfolding(proof_grammar::specs::Lines::stated_dependency))]
-fn stated<'a>(names: &Names<'_>, start: Cursor<'a>) -> Result<(Dep, Cursor<'a>), SchemaRefusal>
-    requires few { length (names_in names.now) ≤ PLACES }
+fn stated_dependency<'a>(
+    names: &Names<'_>,
+    start: Cursor<'a>,
+) -> Result<(Dep, Cursor<'a>), SchemaRefusal>
+    requires within_limit { length (names_in names.now) ≤ MOST_ATTRIBUTES }
     ensures ok { IfOk result
         (λ x. stated_dependency (names_in names.now) (rest_of start.entry)
         ≡ Ok (dependency_of x.0, rest_of x.1)) }
@@ -94,7 +97,7 @@ fn read_body<'a>(
     name: RuleName,
     start: Cursor<'a>,
 ) -> Result<(Body, Cursor<'a>), SchemaRefusal>
-    requires few { length (names_in names.now) ≤ PLACES }
+    requires within_limit { length (names_in names.now) ≤ MOST_ATTRIBUTES }
     ensures ok { IfOk result
         (λ x. body (names_in names.now) name (rest_of start.entry) ≡ Ok (body_of x.0, rest_of x.1)) }
     ensures err { IfErr result (λ e. body (names_in names.now) name (rest_of start.entry) ≡ Err e) }
@@ -106,31 +109,33 @@ fn read_body<'a>(
         }
         RuleName::Reflexivity => Ok((Body::Reflexivity, start)),
         RuleName::MReflexivity => Ok((Body::MReflexivity, start)),
-        RuleName::Augmentation => augmentation(names, start),
-        RuleName::MAugmentation => maugmentation(names, start),
-        RuleName::Complementation => one(StepRule::Complementation, start),
-        RuleName::Replication => one(StepRule::Replication, start),
-        RuleName::Transitivity => two(PairRule::Transitivity, start),
-        RuleName::MTransitivity => two(PairRule::MTransitivity, start),
-        RuleName::Coalescence => two(PairRule::Coalescence, start),
+        RuleName::Augmentation => augmentation_body(names, start),
+        RuleName::MAugmentation => maugmentation_body(names, start),
+        RuleName::Complementation => one_premise(StepRule::Complementation, start),
+        RuleName::Replication => one_premise(StepRule::Replication, start),
+        RuleName::Transitivity => two_premises(PairRule::Transitivity, start),
+        RuleName::MTransitivity => two_premises(PairRule::MTransitivity, start),
+        RuleName::Coalescence => two_premises(PairRule::Coalescence, start),
     }
 }
 
 /// One premise, of a rule without sets.
-#[tactic(auto, unfolding(proof_grammar::specs::Lines::one))]
-fn one(rule: StepRule, start: Cursor<'_>) -> Result<(Body, Cursor<'_>), SchemaRefusal>
-    ensures ok { IfOk result (λ x. one (step_of rule) (rest_of start.entry) ≡ Ok (body_of x.0, rest_of x.1)) }
-    ensures err { IfErr result (λ e. one (step_of rule) (rest_of start.entry) ≡ Err e) }
+#[tactic(auto, unfolding(proof_grammar::specs::Lines::one_premise))]
+fn one_premise(rule: StepRule, start: Cursor<'_>) -> Result<(Body, Cursor<'_>), SchemaRefusal>
+    ensures ok { IfOk result (λ x. one_premise (step_of rule) (rest_of start.entry)
+        ≡ Ok (body_of x.0, rest_of x.1)) }
+    ensures err { IfErr result (λ e. one_premise (step_of rule) (rest_of start.entry) ≡ Err e) }
 {
     let (premise, rest) = start.number()?;
     Ok((Body::Step(rule, premise), rest))
 }
 
 /// Two premises.
-#[tactic(auto, unfolding(proof_grammar::specs::Lines::two))]
-fn two(rule: PairRule, start: Cursor<'_>) -> Result<(Body, Cursor<'_>), SchemaRefusal>
-    ensures ok { IfOk result (λ x. two (pair_of rule) (rest_of start.entry) ≡ Ok (body_of x.0, rest_of x.1)) }
-    ensures err { IfErr result (λ e. two (pair_of rule) (rest_of start.entry) ≡ Err e) }
+#[tactic(auto, unfolding(proof_grammar::specs::Lines::two_premises))]
+fn two_premises(rule: PairRule, start: Cursor<'_>) -> Result<(Body, Cursor<'_>), SchemaRefusal>
+    ensures ok { IfOk result (λ x. two_premises (pair_of rule) (rest_of start.entry)
+        ≡ Ok (body_of x.0, rest_of x.1)) }
+    ensures err { IfErr result (λ e. two_premises (pair_of rule) (rest_of start.entry) ≡ Err e) }
 {
     let (first, rest) = start.number()?;
     let (second, rest) = rest.number()?;
@@ -138,15 +143,17 @@ fn two(rule: PairRule, start: Cursor<'_>) -> Result<(Body, Cursor<'_>), SchemaRe
 }
 
 /// `P with SIDE`
-#[tactic(auto, unfolding(proof_grammar::specs::Lines::augmented))]
-fn augmentation<'a>(
+#[tactic(auto, unfolding(proof_grammar::specs::Lines::augmentation_body))]
+fn augmentation_body<'a>(
     names: &Names<'_>,
     start: Cursor<'a>,
 ) -> Result<(Body, Cursor<'a>), SchemaRefusal>
-    requires few { length (names_in names.now) ≤ PLACES }
+    requires within_limit { length (names_in names.now) ≤ MOST_ATTRIBUTES }
     ensures ok { IfOk result
-        (λ x. augmented (names_in names.now) (rest_of start.entry) ≡ Ok (body_of x.0, rest_of x.1)) }
-    ensures err { IfErr result (λ e. augmented (names_in names.now) (rest_of start.entry) ≡ Err e) }
+        (λ x. augmentation_body (names_in names.now) (rest_of start.entry)
+        ≡ Ok (body_of x.0, rest_of x.1)) }
+    ensures err { IfErr result (λ e. augmentation_body (names_in names.now) (rest_of start.entry)
+        ≡ Err e) }
 {
     let (premise, rest) = start.number()?;
     let (by, rest) = with_word(rest)?.side(names)?;
@@ -154,15 +161,17 @@ fn augmentation<'a>(
 }
 
 /// `P with SIDE : SIDE`
-#[tactic(auto, unfolding(proof_grammar::specs::Lines::maugmented))]
-fn maugmentation<'a>(
+#[tactic(auto, unfolding(proof_grammar::specs::Lines::maugmentation_body))]
+fn maugmentation_body<'a>(
     names: &Names<'_>,
     start: Cursor<'a>,
 ) -> Result<(Body, Cursor<'a>), SchemaRefusal>
-    requires few { length (names_in names.now) ≤ PLACES }
+    requires within_limit { length (names_in names.now) ≤ MOST_ATTRIBUTES }
     ensures ok { IfOk result
-        (λ x. maugmented (names_in names.now) (rest_of start.entry) ≡ Ok (body_of x.0, rest_of x.1)) }
-    ensures err { IfErr result (λ e. maugmented (names_in names.now) (rest_of start.entry) ≡ Err e) }
+        (λ x. maugmentation_body (names_in names.now) (rest_of start.entry)
+        ≡ Ok (body_of x.0, rest_of x.1)) }
+    ensures err { IfErr result (λ e. maugmentation_body (names_in names.now) (rest_of start.entry)
+        ≡ Err e) }
 {
     let (premise, rest) = start.number()?;
     let (wide, rest) = with_word(rest)?.side(names)?;

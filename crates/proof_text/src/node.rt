@@ -3,8 +3,8 @@ ghost use Rattle.dep_model.specs.Deps.{dependency_of};
 ghost use Rattle.derivation.specs.Derivs.{tree_of, leaf_of, step_of, pair_of};
 ghost use Rattle.derivation.specs.Table.{leaf_conclusion, step_conclusion, pair_conclusion};
 ghost use Rattle.derivation.specs.declared.measures.TheConstants.{MOST_LEVELS};
-ghost use Rattle.proof_grammar.specs.Complaints.{IsFound};
-ghost use Rattle.attr_sets.specs.Sets.{places, is_same};
+ghost use Rattle.proof_grammar.specs.Diagnostics.{IsFound};
+ghost use Rattle.attr_sets.specs.Sets.{attributes, is_same};
 ghost use Rattle.derivation.specs.Trees.{leaf, step, pair};
 ghost use Rattle.proof_grammar.specs.Nodes.{with_tree, given_outcome, same_dependency};
 ghost use Rattle.proof_text.specs.Outcomes.{concluded_outcome};
@@ -35,9 +35,9 @@ pub struct Concluded {
 }
 
 fn is_same(a: AttrSet, b: AttrSet) -> bool
-    ensures same { result ≡ is_same (places a) (places b) }
+    ensures same { result ≡ is_same (attributes a) (attributes b) }
 {
-    a.within(b) && b.within(a)
+    a.is_subset(b) && b.is_subset(a)
 }
 
 /// Whether two dependencies are one.
@@ -83,7 +83,7 @@ pub fn leaf(schema: &Schema, rule: LeafRule) -> Result<(Deriv, Dep), FaultKind>
 }
 
 /// The dependency of this number, from 1.
-pub fn given(schema: &Schema, k: u32) -> Result<(Deriv, Dep), FaultKind>
+pub fn given_dependency(schema: &Schema, k: u32) -> Result<(Deriv, Dep), FaultKind>
     ensures exact { concluded_outcome result ≡ given_outcome schema.now k }
 {
     if k == 0 || k as usize > schema.deps().len() {

@@ -1,6 +1,6 @@
 ghost use Rattle.std.specs.Prelude.{◌≡◌, ℕ, ◌+◌, ◌<◌, ◌≤◌, ◌^◌, ◌++◌, Ok, IfOk, OnOk, decimal};
-ghost use Rattle.attr_sets.specs.Places.{Within};
-ghost use Rattle.attr_sets.specs.Sets.{places};
+ghost use Rattle.attr_sets.specs.Attributes.{IsSubset};
+ghost use Rattle.attr_sets.specs.Sets.{attributes};
 ghost use Rattle.dep_model.specs.Dependencies.{Dependency};
 ghost use Rattle.dep_model.specs.Deps.{dependency_of, IsDepWithin};
 ghost use Rattle.dep_model.specs.Schemas.{names_of, universe_of};
@@ -14,7 +14,7 @@ ghost use Rattle.proof_grammar.specs.Printing.{step_word, sides_text, pair_word,
 
 use crate::line::{Body, Line};
 use attr_sets::AttrSet;
-use dep_model::{Dep, Schema, WantMemory};
+use dep_model::{Dep, OutOfMemory, Schema};
 use derivation::{
     Deriv, LeafRule, MOST_LEVELS, MOST_NODES, PairRule, StepRule, leaf_conclusion, pair_conclusion,
     step_conclusion,
@@ -24,10 +24,10 @@ use std::alloc::Global;
 
 /// A derivation as a certificate: a line for each node, in post-order and numbered from 1. Each line
 /// states what its node concludes, and names the rule and the lines of the premises.
-pub fn print_proof(alloc: Global, schema: &Schema, deriv: &Deriv) -> Result<Vec<u8>, WantMemory>
+pub fn print_proof(alloc: Global, schema: &Schema, deriv: &Deriv) -> Result<Vec<u8>, OutOfMemory>
     requires proof { IsProof schema.now (tree_of deriv.now) }
-    requires few_nodes { nodes (tree_of deriv.now) ≤ MOST_NODES }
-    requires few_levels { depth (tree_of deriv.now) ≤ MOST_LEVELS }
+    requires nodes_within_limit { nodes (tree_of deriv.now) ≤ MOST_NODES }
+    requires levels_within_limit { depth (tree_of deriv.now) ≤ MOST_LEVELS }
     ensures text { IfOk result (λ text. text.items ≡ canonical_certificate schema.now (tree_of deriv.now)) }
 {
     let mut text = Vec::new(alloc);
@@ -44,9 +44,9 @@ fn add_lines(
     schema: &Schema,
     deriv: &Deriv,
     printed: &mut u32,
-) -> Result<Dep, WantMemory>
+) -> Result<Dep, OutOfMemory>
     requires proof { IsProof schema.now (tree_of deriv.now) }
-    requires room { printed.old + nodes (tree_of deriv.now) < 2 ^ 32 }
+    requires fits_u32 { printed.old + nodes (tree_of deriv.now) < 2 ^ 32 }
     ensures added { OnOk result (text.new.items
         ≡ text.old.items ++ certificate_lines_text (names_of schema.now)
         (node_lines_after schema.now printed.old (tree_of deriv.now))) }
@@ -84,10 +84,10 @@ fn add_node(
     stated: Dep,
     body: Body,
     printed: &mut u32,
-) -> Result<Dep, WantMemory>
+) -> Result<Dep, OutOfMemory>
     requires stated { IsDepWithin (universe_of schema.now) stated }
     requires body { IsBodyWithin (universe_of schema.now) (body_of body) }
-    requires room { printed.old + 1 < 2 ^ 32 }
+    requires fits_u32 { printed.old + 1 < 2 ^ 32 }
     ensures added { OnOk result (text.new.items
         ≡ text.old.items ++ certificate_line_text (names_of schema.now)
         (numbered_line (printed.old + 1) (dependency_of stated) (body_of body))) }
@@ -106,7 +106,7 @@ fn add_node(
 
 // What a node without premises states.
 fn stated_by_leaf(schema: &Schema, rule: LeafRule) -> Dep
-    requires some { (d : Dependency) × (leaf_conclusion schema.now (leaf_of rule) ≡ Ok d) }
+    requires concludes { (d : Dependency) × (leaf_conclusion schema.now (leaf_of rule) ≡ Ok d) }
     ensures stated { leaf_conclusion schema.now (leaf_of rule) ≡ Ok (dependency_of result) }
 {
     match leaf_conclusion(schema, rule) {
@@ -117,7 +117,7 @@ fn stated_by_leaf(schema: &Schema, rule: LeafRule) -> Dep
 
 // What a node with one premise states.
 fn stated_by_step(schema: &Schema, rule: StepRule, from: Dep) -> Dep
-    requires some { (d : Dependency) × (step_conclusion schema.now (step_of rule)
+    requires concludes { (d : Dependency) × (step_conclusion schema.now (step_of rule)
         (dependency_of from) ≡ Ok d) }
     ensures stated { step_conclusion schema.now (step_of rule) (dependency_of from)
         ≡ Ok (dependency_of result) }
@@ -130,7 +130,7 @@ fn stated_by_step(schema: &Schema, rule: StepRule, from: Dep) -> Dep
 
 // What a node with two premises states.
 fn stated_by_pair(rule: PairRule, first: Dep, second: Dep) -> Dep
-    requires some { (d : Dependency)
+    requires concludes { (d : Dependency)
         × (pair_conclusion (pair_of rule) (dependency_of first) (dependency_of second) ≡ Ok d) }
     ensures stated { pair_conclusion (pair_of rule) (dependency_of first) (dependency_of second)
         ≡ Ok (dependency_of result) }
@@ -157,7 +157,7 @@ fn add_line(
     alloc: Global,
     schema: &Schema,
     line: &Line,
-) -> Result<(), WantMemory>
+) -> Result<(), OutOfMemory>
     requires stated { IsDepWithin (universe_of schema.now) line.now.stated }
     requires body { IsBodyWithin (universe_of schema.now) (body_of line.now.body) }
     ensures added { OnOk result (text.new.items
@@ -177,7 +177,7 @@ fn add_body(
     alloc: Global,
     schema: &Schema,
     body: Body,
-) -> Result<(), WantMemory>
+) -> Result<(), OutOfMemory>
     requires body { IsBodyWithin (universe_of schema.now) (body_of body) }
     ensures added { OnOk result (text.new.items
         ≡ text.old.items ++ body_text (names_of schema.now) (body_of body)) }
@@ -204,7 +204,7 @@ fn add_body(
 }
 
 #[tactic(auto, unfolding(proof_grammar::specs::Printing::step_word))]
-fn add_step_word(text: &mut Vec<u8>, rule: StepRule) -> Result<(), WantMemory>
+fn add_step_word(text: &mut Vec<u8>, rule: StepRule) -> Result<(), OutOfMemory>
     ensures added { OnOk result (text.new.items ≡ text.old.items ++ step_word (step_of rule)) }
 {
     match rule {
@@ -215,7 +215,7 @@ fn add_step_word(text: &mut Vec<u8>, rule: StepRule) -> Result<(), WantMemory>
     }
 }
 
-fn add_sides(text: &mut Vec<u8>, schema: &Schema, rule: StepRule) -> Result<(), WantMemory>
+fn add_sides(text: &mut Vec<u8>, schema: &Schema, rule: StepRule) -> Result<(), OutOfMemory>
     requires rule { IsStepWithin (universe_of schema.now) (step_of rule) }
     ensures added { OnOk result (text.new.items
         ≡ text.old.items ++ sides_text (names_of schema.now) (step_of rule)) }
@@ -236,7 +236,7 @@ fn add_sides(text: &mut Vec<u8>, schema: &Schema, rule: StepRule) -> Result<(), 
 }
 
 #[tactic(auto, unfolding(proof_grammar::specs::Printing::pair_word))]
-fn add_pair_word(text: &mut Vec<u8>, rule: PairRule) -> Result<(), WantMemory>
+fn add_pair_word(text: &mut Vec<u8>, rule: PairRule) -> Result<(), OutOfMemory>
     ensures added { OnOk result (text.new.items ≡ text.old.items ++ pair_word (pair_of rule)) }
 {
     match rule {

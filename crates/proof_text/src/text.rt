@@ -1,35 +1,35 @@
 ghost use Rattle.std.specs.Prelude.{◌≡◌, ◌+◌, ◌<◌, ◌≤◌, ◌^◌, length, IfOk, IfErr, Ok, Err};
-ghost use Rattle.lexer.specs.Tokens.{lexed};
+ghost use Rattle.lexer.specs.Tokens.{tokens_after};
 ghost use Rattle.derivation.specs.Derivs.{tree_of};
 ghost use Rattle.dep_model.specs.Failures.{RefusesAs};
 ghost use Rattle.dep_model.specs.Schemas.{universe_of};
-ghost use Rattle.proof_grammar.specs.Ledgers.{IsLedger};
-ghost use Rattle.proof_text.specs.Views.{ledger_of};
+ghost use Rattle.proof_grammar.specs.ValidStates.{IsCheckerState};
+ghost use Rattle.proof_text.specs.Views.{checker_state_of};
 ghost use Rattle.dep_model.specs.Deps.{dependency_of, IsDepWithin};
 ghost use Rattle.derivation.specs.Conclusions.{Proves};
 ghost use Rattle.proof_grammar.specs.Refusals.{RefusesProof};
 ghost use Rattle.proof_grammar.specs.Spelling.{SpellsWithin};
 ghost use Rattle.proof_grammar.specs.Checked.{IsChecked};
-ghost use Rattle.proof_grammar.specs.Complaints.{IsFound, IsRefusalWithin};
+ghost use Rattle.proof_grammar.specs.Diagnostics.{IsFound, IsRefusalWithin};
 ghost use Rattle.proof_grammar.specs.Texts.{is_yes, is_blank, read_one};
 
-use crate::book::Book;
+use crate::checker_state::CheckerState;
 use crate::line::read_line;
 use crate::node::Concluded;
 use dep_model::{Failure, Schema};
 use derivation::Deriv;
 use lexer::{Mode, Next, TokenKind, cut_line, next_token, without_mark};
-use line_reader::{Cursor, Guide, Names};
 use proof_grammar::{ProofRefusal, ProofRefusalKind};
 use schema_grammar::SchemaRefusal;
 use std::alloc::Global;
+use tokens::{Cursor, Guide, Names};
 
 /// The most bytes of a certificate.
 pub const MOST_PROOF_BYTES: usize = 268_435_456;
 
 /// The derivation that a certificate spells, within the limits on lines and levels, or its refusal: the
-/// first line that goes wrong, and there the first complaint in the order of `ProofRefusalKind`, but that
-/// an unused line is told at the text's end.
+/// first line that goes wrong, and there the first diagnostic in the order of `ProofRefusalKind`, but
+/// that an unused line is told at the text's end.
 pub fn read_proof(
     alloc: Global,
     schema: &Schema,
@@ -67,7 +67,7 @@ pub fn read_concluded(
         (RefusesAs (λ refusal. IsRefusalWithin (universe_of schema.now) refusal.kind)) }
 {
     let guide = Guide::of(schema);
-    let mut book = Book::new(alloc);
+    let mut book = CheckerState::new(alloc);
     let mut fresh = true;
     let mut number = 1;
     let mut rest = without_mark(text);
@@ -101,23 +101,24 @@ fn read_one(
     alloc: Global,
     schema: &Schema,
     guide: &Guide,
-    book: &mut Book,
+    book: &mut CheckerState,
     fresh: bool,
     number: u32,
     text: &[u8],
 ) -> Result<bool, Failure<ProofRefusalKind>>
-    requires room { 1 + length text.now < 2 ^ 32 }
-    requires ledger { IsLedger schema.now (ledger_of book.old) }
+    requires fits_u32 { 1 + length text.now < 2 ^ 32 }
+    requires checker_state { IsCheckerState schema.now (checker_state_of book.old) }
     ensures ok { IfOk result
-        (λ still. read_one schema.now fresh number (ledger_of book.old) text.now
-        ≡ Ok (still, ledger_of book.new)) }
+        (λ still. read_one schema.now fresh number (checker_state_of book.old) text.now
+        ≡ Ok (still, checker_state_of book.new)) }
     ensures err { IfErr result
-        (RefusesAs (λ why. IsFound why (read_one schema.now fresh number (ledger_of book.old) text.now))) }
+        (RefusesAs (λ why. IsFound why (read_one schema.now fresh number
+        (checker_state_of book.old) text.now))) }
     ensures within { IfErr result (RefusesAs (IsRefusalWithin (universe_of schema.now))) }
 {
     match next_token(Mode::Numbered, 1, text) {
         Next::End => Ok(fresh),
-        Next::Stop(stop) => {
+        Next::Error(stop) => {
             let refusal = SchemaRefusal::by(number, stop);
             Err(Failure::Refused(ProofRefusalKind::BadLine(refusal)))
         }
@@ -146,11 +147,11 @@ fn read_one(
 /// Whether no token stands in the rest of a line.
 fn is_blank(column: u32, text: &[u8]) -> bool
     requires { column + length text.now < 2 ^ 32 }
-    ensures exact { result ≡ is_blank (lexed Mode.Numbered 0 column text.now) }
+    ensures exact { result ≡ is_blank (tokens_after Mode.Numbered 0 column text.now) }
 {
     match next_token(Mode::Numbered, column, text) {
         Next::End => true,
-        Next::Stop(_) => false,
+        Next::Error(_) => false,
         Next::Token(_, _, _) => false,
     }
 }
@@ -161,7 +162,7 @@ fn is_yes(kind: TokenKind, word: &[u8]) -> bool
     ensures exact { result ≡ is_yes kind word.now }
 {
     match kind {
-        TokenKind::Word => word == b"yes".as_slice(),
+        TokenKind::Identifier => word == b"yes".as_slice(),
         _ => false,
     }
 }

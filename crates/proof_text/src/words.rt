@@ -1,12 +1,12 @@
 ghost use Rattle.std.specs.Prelude.{◌≡◌, IfOk, IfErr, Ok, Err};
-ghost use Rattle.line_reader.specs.Views.{rest_of};
+ghost use Rattle.tokens.specs.Views.{rest_of};
 ghost use Rattle.proof_grammar.specs.Readers.{colon, with_word, rule_name};
 ghost use Rattle.proof_grammar.specs.Tokens.{is_colon, is_with, rule_named, rule_word};
 
 use lexer::TokenKind;
-use line_reader::Cursor;
 use proof_grammar::RuleName;
 use schema_grammar::{SchemaRefusal, What};
+use tokens::Cursor;
 
 /// `:`
 #[tactic(auto, unfolding(proof_grammar::specs::Readers::colon))]
@@ -18,7 +18,7 @@ pub fn colon(start: Cursor<'_>) -> Result<Cursor<'_>, SchemaRefusal>
     if is_colon(token.kind) {
         Ok(rest)
     } else {
-        Err(rest.expected(token, What::Colon))
+        Err(rest.refusal_of_token(token, What::Colon))
     }
 }
 
@@ -32,7 +32,7 @@ pub fn with_word(start: Cursor<'_>) -> Result<Cursor<'_>, SchemaRefusal>
     if is_with(token.kind, word) {
         Ok(rest)
     } else {
-        Err(rest.expected(token, What::With))
+        Err(rest.refusal_of_token(token, What::With))
     }
 }
 
@@ -45,7 +45,7 @@ pub fn rule_name(start: Cursor<'_>) -> Result<(RuleName, Cursor<'_>), SchemaRefu
     let (token, word, rest) = start.take(What::Rule)?;
     match rule_named(token.kind, word) {
         Some(name) => Ok((name, rest)),
-        None => Err(rest.expected(token, What::Rule)),
+        None => Err(rest.refusal_of_token(token, What::Rule)),
     }
 }
 
@@ -62,7 +62,7 @@ fn is_with(kind: TokenKind, word: &[u8]) -> bool
     ensures exact { result ≡ is_with kind word.now }
 {
     match kind {
-        TokenKind::Word => word == b"with".as_slice(),
+        TokenKind::Identifier => word == b"with".as_slice(),
         _ => false,
     }
 }
@@ -73,7 +73,7 @@ fn rule_named(kind: TokenKind, word: &[u8]) -> Option<RuleName>
     ensures exact { result ≡ rule_named kind word.now }
 {
     match kind {
-        TokenKind::Word => rule_word(word),
+        TokenKind::Identifier => rule_word(word),
         _ => None,
     }
 }

@@ -118,7 +118,7 @@ pub size_of_piece : {X : Type 0} (items : List X) (start end : ℕ) → end ≤ 
     → length (take (end - start) (drop start items)) ≡ end - start
 size_of_piece items start end within = omega (arith, length-take (end - start) (drop start items), length-drop start items)
 
--- an item of a piece stands so many places behind its start
+-- an item of a piece stands so many positions behind its start
 pub record IsItem {X : Type 0} (items : List X) (all : List (List X)) (i start place : ℕ) : Type 0 where
   pub within : start + place < length items
   pub value : (d : X) → get_or items (start + place) d ≡ get_or (get_or all i []) place d

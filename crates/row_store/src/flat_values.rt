@@ -1,6 +1,6 @@
 ghost use Rattle.std.specs.Prelude.{◌≡◌, ◌+◌, ◌-◌, ◌<◌, ◌≤◌, ◌^◌, ℕ, List, All, [], ◌∷◌, ◌++◌, length, map, take, drop, vec_capacity, slice_index_or, IfOk, OnOk, OnErr};
 
-use dep_model::WantMemory;
+use dep_model::OutOfMemory;
 use std::alloc::Global;
 use std::marker::Model;
 
@@ -34,7 +34,7 @@ impl FlatValues {
     }
 
     /// No values, and room for so many bytes of them.
-    pub fn with_room(alloc: Global, bytes: usize) -> Result<FlatValues, WantMemory>
+    pub fn with_room(alloc: Global, bytes: usize) -> Result<FlatValues, OutOfMemory>
         ensures empty { IfOk result (λ v. v ≡ []) }
     {
         Ok(FlatValues {
@@ -51,7 +51,7 @@ impl FlatValues {
         self.ends.len()
     }
 
-    /// The value at place `i`.
+    /// The value at position `i`.
     pub fn value(&self, i: usize) -> &[u8]
         requires within { i < length self.now }
         ensures value { result.now ≡ slice_index_or self.now i [] }
@@ -68,13 +68,13 @@ impl FlatValues {
     }
 
     /// Adds a value at the end.
-    pub fn push(&mut self, value: &[u8]) -> Result<(), WantMemory>
+    pub fn push(&mut self, value: &[u8]) -> Result<(), OutOfMemory>
         ensures values { OnOk result (self.new ≡ self.old ++ value.now ∷ []) }
         ensures memory { OnErr result (self.new ≡ self.old) }
     {
         let end = self.bytes.len() + value.len();
         if end > MOST {
-            return Err(WantMemory);
+            return Err(OutOfMemory);
         }
         self.ends.reserve(1)?;
         self.bytes.extend_from_slice(value)?;
@@ -83,13 +83,13 @@ impl FlatValues {
     }
 
     /// Adds the values of another list at the end.
-    pub fn append(&mut self, other: &FlatValues) -> Result<(), WantMemory>
+    pub fn append(&mut self, other: &FlatValues) -> Result<(), OutOfMemory>
         ensures values { OnOk result (self.new ≡ self.old ++ other.now) }
         ensures memory { OnErr result (self.new ≡ self.old) }
     {
         let count = self.bytes.len();
         if count + other.bytes.len() > MOST {
-            return Err(WantMemory);
+            return Err(OutOfMemory);
         }
         self.ends.reserve(other.ends.len())?;
         self.bytes.extend_from_slice(&other.bytes)?;
@@ -101,7 +101,7 @@ impl FlatValues {
 /// The most bytes of values, and the most values of rows.
 pub const MOST: usize = 0xFFFF_FFFF;
 
-/// Where the piece at place `i` begins.
+/// Where the piece at position `i` begins.
 pub fn start_of(ends: &[u32], i: usize) -> usize
     requires within { i ≤ length ends.now }
     ensures start { result ≡ slice_index_or (0 ∷ ends.now) i 0 }
@@ -109,7 +109,7 @@ pub fn start_of(ends: &[u32], i: usize) -> usize
     if i == 0 { 0 } else { ends[i - 1] as usize }
 }
 
-// The bytes between two places.
+// The bytes between two positions.
 fn between(bytes: &[u8], start: usize, end: usize) -> &[u8]
     requires ordered { start ≤ end }
     requires within { end ≤ length bytes.now }

@@ -3,7 +3,7 @@ ghost use Rattle.dep_model.specs.Tuples.{value_at};
 
 use crate::FlatValues;
 use crate::flat_values::{MOST, start_of};
-use dep_model::{Row, WantMemory};
+use dep_model::{OutOfMemory, Row};
 use std::alloc::Global;
 use std::marker::Model;
 
@@ -38,7 +38,7 @@ impl Rows {
     }
 
     /// No rows, and room for so many bytes of values.
-    pub fn with_room(alloc: Global, bytes: usize) -> Result<Rows, WantMemory>
+    pub fn with_room(alloc: Global, bytes: usize) -> Result<Rows, OutOfMemory>
         ensures empty { IfOk result (λ rows. rows ≡ []) }
     {
         Ok(Rows {
@@ -48,7 +48,7 @@ impl Rows {
     }
 
     /// Equal rows in memory of their own.
-    pub fn of(alloc: Global, rows: &[Row]) -> Result<Rows, WantMemory>
+    pub fn of(alloc: Global, rows: &[Row]) -> Result<Rows, OutOfMemory>
         ensures rows { IfOk result (λ made. made ≡ rows.now) }
     {
         let mut made = Rows::new(alloc);
@@ -75,7 +75,7 @@ impl Rows {
         self.ends[row] as usize - start_of(&self.ends, row)
     }
 
-    /// The value of a row at a place.
+    /// The value of a row at a position.
     pub fn value(&self, row: usize, place: usize) -> &[u8]
         requires row { row < length self.now }
         requires place { place < length (slice_index_or self.now row []) }
@@ -86,13 +86,13 @@ impl Rows {
     }
 
     /// Adds a row at the end.
-    pub fn push(&mut self, row: &FlatValues) -> Result<(), WantMemory>
+    pub fn push(&mut self, row: &FlatValues) -> Result<(), OutOfMemory>
         ensures rows { OnOk result (self.new ≡ self.old ++ row.now ∷ []) }
         ensures memory { OnErr result (self.new ≡ self.old) }
     {
         let end = self.values.len() + row.len();
         if end > MOST {
-            return Err(WantMemory);
+            return Err(OutOfMemory);
         }
         self.ends.reserve(1)?;
         self.values.append(row)?;
@@ -102,7 +102,7 @@ impl Rows {
 }
 
 // The values become those of a row.
-fn take_row(values: &mut FlatValues, row: &Row) -> Result<(), WantMemory>
+fn take_row(values: &mut FlatValues, row: &Row) -> Result<(), OutOfMemory>
     ensures values { OnOk result (values.new ≡ row.now) }
 {
     values.clear();

@@ -7,40 +7,40 @@ use Rattle.lexer.specs.declared.piece.Piece.TheVariants as piece
 use Rattle.lexer.specs.declared.token.Mode.{Mode}
 use Rattle.lexer.specs.declared.token.Mode.TheVariants as mode
 use Rattle.lexer.specs.Bytes.{is_gap, is_number, run_length}
-use Rattle.lexer.specs.Pieces.{front, run_piece, takes_numbers, takes_comments}
-use Rattle.lexer.specs.Tokens.{Lexed, lexed, led_by}
+use Rattle.lexer.specs.Pieces.{front_piece, run_piece, takes_numbers, takes_comments}
+use Rattle.lexer.specs.Tokens.{Lexed, tokens_after, led_by}
 use Rattle.schema_grammar.specs.Meanings.{HasTokens}
 
 -- what a piece is to a line without tokens: a gap, a comment, or more than these
-abbrev class : Piece → ℕ
-class piece.Gap = 0
-class piece.Comment = 1
-class (piece.Token k n) = 2
-class (piece.Flaw why n) = 2
+abbrev piece_class : Piece → ℕ
+piece_class piece.Gap = 0
+piece_class piece.Comment = 1
+piece_class (piece.Token k n) = 2
+piece_class (piece.Flaw why n) = 2
 
-more : (b : Bool) (x y : Piece) → class x ≡ 2 → class y ≡ 2 → class (cond b x y) ≡ 2
-more true x y h g = h
-more false x y h g = g
+piece_class-cond_two : (b : Bool) (x y : Piece) → piece_class x ≡ 2 → piece_class y ≡ 2 → piece_class (cond b x y) ≡ 2
+piece_class-cond_two true x y h g = h
+piece_class-cond_two false x y h g = g
 
-class_cond : (b : Bool) (x y : Piece) → class (cond b x y) ≡ cond b (class x) (class y)
-class_cond true x y = refl
-class_cond false x y = refl
+piece_class-cond : (b : Bool) (x y : Piece) → piece_class (cond b x y) ≡ cond b (piece_class x) (piece_class y)
+piece_class-cond true x y = refl
+piece_class-cond false x y = refl
 
 -- whether a line has a token does not depend on numbers
-front_class : (m : Mode) (b : ℕ) (bs : List ℕ) → class (front m (b ∷ bs)) ≡ cond (is_gap b) 0 (cond (b == 35 && takes_comments m) 1 2)
-unfolding front run_piece
+front_class : (m : Mode) (b : ℕ) (bs : List ℕ) → piece_class (front_piece m (b ∷ bs)) ≡ cond (is_gap b) 0 (cond (b == 35 && takes_comments m) 1 2)
+unfolding front_piece run_piece
 front_class m b bs =
     let run = take (run_length (b ∷ bs)) (b ∷ bs) in
-    class_cond (is_gap b) _ _ ∙ ap (cond (is_gap b) 0)
-    (class_cond (b == 35 && takes_comments m) _ _ ∙ ap (cond (b == 35 && takes_comments m) 1)
-    (more (is_name_byte b) _ _
-    (more (is_name run) _ _ refl (more (takes_numbers m && is_number run) _ _ refl refl))
-    (more (starts_with nat_eq (b ∷ bs) (45 ∷ 62 ∷ 62 ∷ [])) _ _ refl
-    (more (starts_with nat_eq (b ∷ bs) (45 ∷ 62 ∷ [])) _ _ refl
-    (more (starts_with nat_eq (b ∷ bs) (40 ∷ 41 ∷ [])) _ _ refl
-    (more (b == 58 && takes_numbers m) _ _ refl refl))))))
+    piece_class-cond (is_gap b) _ _ ∙ ap (cond (is_gap b) 0)
+    (piece_class-cond (b == 35 && takes_comments m) _ _ ∙ ap (cond (b == 35 && takes_comments m) 1)
+    (piece_class-cond_two (is_name_byte b) _ _
+    (piece_class-cond_two (is_name run) _ _ refl (piece_class-cond_two (takes_numbers m && is_number run) _ _ refl refl))
+    (piece_class-cond_two (starts_with nat_eq (b ∷ bs) (45 ∷ 62 ∷ 62 ∷ [])) _ _ refl
+    (piece_class-cond_two (starts_with nat_eq (b ∷ bs) (45 ∷ 62 ∷ [])) _ _ refl
+    (piece_class-cond_two (starts_with nat_eq (b ∷ bs) (40 ∷ 41 ∷ [])) _ _ refl
+    (piece_class-cond_two (b == 58 && takes_numbers m) _ _ refl refl))))))
 
-piece_plain : (p q : Piece) (column : ℕ) (text : List ℕ) (numbered plain : ℕ → Lexed) → class p ≡ class q
+piece_plain : (p q : Piece) (column : ℕ) (text : List ℕ) (numbered plain : ℕ → Lexed) → piece_class p ≡ piece_class q
     → (HasTokens (numbered 0) [] → HasTokens (plain 0) []) → HasTokens (led_by p column text numbered) [] → HasTokens (led_by q column text plain) []
 piece_plain piece.Gap piece.Gap column text numbered plain same rest h = rest h
 piece_plain piece.Comment piece.Comment column text numbered plain same rest h = refl
@@ -49,11 +49,11 @@ piece_plain (piece.Flaw why n) q column text numbered plain same rest h = let wr
 piece_plain p q column text numbered plain same rest h = absurd (omega arith)
 
 -- a line without tokens, numbers counted, has none
-pub lexed_plain : (skip column : ℕ) (text : List ℕ) → HasTokens (lexed mode.Numbered skip column text) []
-    → HasTokens (lexed mode.Plain skip column text) []
-unfolding lexed
+pub lexed_plain : (skip column : ℕ) (text : List ℕ) → HasTokens (tokens_after mode.Numbered skip column text) []
+    → HasTokens (tokens_after mode.Plain skip column text) []
+unfolding tokens_after
 lexed_plain skip column [] h = refl
 lexed_plain zero column (b ∷ bs) h =
-    piece_plain (front mode.Numbered (b ∷ bs)) (front mode.Plain (b ∷ bs)) column (b ∷ bs) (λ skip. lexed mode.Numbered skip (column + 1) bs) (λ skip. lexed mode.Plain skip (column + 1) bs)
+    piece_plain (front_piece mode.Numbered (b ∷ bs)) (front_piece mode.Plain (b ∷ bs)) column (b ∷ bs) (λ skip. tokens_after mode.Numbered skip (column + 1) bs) (λ skip. tokens_after mode.Plain skip (column + 1) bs)
     (front_class mode.Numbered b bs ∙ sym (front_class mode.Plain b bs)) (lexed_plain zero (column + 1) bs) h
 lexed_plain (suc n) column (b ∷ bs) h = lexed_plain n (column + 1) bs h

@@ -5,13 +5,13 @@ use Rattle.std.specs.Prelude.{nat_le}
 use Rattle.std.proofs.lemmas.Bool.{cases_Bool, leb-false, lt-leb}
 use Rattle.std.proofs.lemmas.Bool.Decides.{nat_tests}
 use Rattle.std.proofs.lemmas.List.{append-nil}
-use Rattle.attr_sets.specs.declared.set.TheConstants.{PLACES}
+use Rattle.attr_sets.specs.declared.set.TheConstants.{MOST_ATTRIBUTES}
 use Rattle.dep_model.specs.declared.column.Column.{Column}
 use Rattle.dep_model.specs.declared.schema.TheConstants.{MOST_DEPENDENCIES}
 use Rattle.dep_model.specs.Dependencies.{Dependency}
-use Rattle.dep_model.specs.Schemas.{place_named}
+use Rattle.dep_model.specs.Schemas.{attribute_named}
 use Rattle.lexer.specs.declared.token.Mode.TheVariants as mode
-use Rattle.lexer.specs.declared.token.Stop.{Stop}
+use Rattle.lexer.specs.declared.token.LexError.{LexError}
 use Rattle.lexer.specs.declared.token.TokenKind.{TokenKind}
 use Rattle.lexer.specs.declared.token.TokenKind.TheVariants as token
 use Rattle.lexer.specs.Tokens.{Mark, Lexed, lex}
@@ -25,13 +25,13 @@ use Rattle.schema_grammar.specs.Reading.{step, follow}
 use Rattle.schema_grammar.specs.Refusals.{at, and_then}
 use Rattle.schema_grammar.specs.Schemas.{IsNewName, DeclareNames, IsDeclaring, IsStating, MeansTextLine, MeansLines}
 use Rattle.schema_grammar.specs.Texts.{finish, read_lines}
-use Rattle.schema_grammar.specs.Words.{is_reserved, declares}
-use Rattle.schema_grammar.proofs.GoalLaws.{dependency-law, stopped}
-use Rattle.schema_grammar.proofs.RefusalLemmas.{steps}
+use Rattle.schema_grammar.specs.Words.{is_reserved, column_type_of_token}
+use Rattle.schema_grammar.proofs.GoalLaws.{dependency-law, follow_has_no_stop}
+use Rattle.schema_grammar.proofs.RefusalLemmas.{and_then-ok}
 
-placed : {X : Type 0} (line column size : ℕ) (r : Result X SchemaRefusalKind) (x : X) → at line column size r ≡ Ok x → r ≡ Ok x
-placed line column size (Ok y) x e = let same : y ≡ x = cc in ap Ok same
-placed line column size (Err why) x e = cc
+at-ok : {X : Type 0} (line column size : ℕ) (r : Result X SchemaRefusalKind) (x : X) → at line column size r ≡ Ok x → r ≡ Ok x
+at-ok line column size (Ok y) x e = let same : y ≡ x = cc in ap Ok same
+at-ok line column size (Err why) x e = cc
 
 unless_ok : {X : Type 0} (b : Bool) (why : SchemaRefusalKind) (r : Result X SchemaRefusalKind) (x : X) → cond b (Err why) r ≡ Ok x → (b ≡ false) × (r ≡ Ok x)
 unless_ok true why r x e = cc
@@ -40,28 +40,28 @@ unless_ok false why r x e = (refl, e)
 declares_name : (f : Format) (column : Column) (d whole : Declarations) (some : Bool) (m : Mark) → name_step f column d some m.kind m.word ≡ Ok whole
     → IsNewName f d m × (whole ≡ add_name d m.word column)
 unfolding declare
-declares_name f column d whole some m e = told m.kind refl (place_named d.names m.word) refl e
+declares_name f column d whole some m e = told m.kind refl (attribute_named d.names m.word) refl e
   where
-    told : (k : TokenKind) → m.kind ≡ k → (o : Option ℕ) → place_named d.names m.word ≡ o
+    told : (k : TokenKind) → m.kind ≡ k → (o : Option ℕ) → attribute_named d.names m.word ≡ o
         → name_step f column d some k m.word ≡ Ok whole
         → IsNewName f d m × (whole ≡ add_name d m.word column)
-    told token.Word is o place e =
+    told token.Identifier is o lookup e =
         let free = unless_ok (is_reserved f m.word) kind.ReservedName _ whole e in
-        let new = unless_ok (is_some (place_named d.names m.word)) kind.DoubleName _ whole free.1 in
-        let room = unless_ok (nat_le PLACES (length d.names)) kind.TooManyAttributes (Ok (add_name d m.word column)) whole new.1 in
-        let unknown = place ∙ none o (ap is_some (sym place) ∙ new.0) in
+        let new = unless_ok (is_some (attribute_named d.names m.word)) kind.DoubleName _ whole free.1 in
+        let room = unless_ok (nat_le MOST_ATTRIBUTES (length d.names)) kind.TooManyAttributes (Ok (add_name d m.word column)) whole new.1 in
+        let unknown = lookup ∙ none o (ap is_some (sym lookup) ∙ new.0) in
         let same : Ok whole ≡ Ok (add_name d m.word column) = sym room.1 in
         (record { word = is; free = free.0; new = unknown; room = leb-false _ _ room.0 }, cc)
       where
         none : (o : Option ℕ) → is_some o ≡ false → o ≡ None
         none None e = refl
         none (Some a) e = cc
-    told k is o place e = cc
+    told k is o lookup e = cc
 
 name_declared : (f : Format) (column : Column) (d : Declarations) (some : Bool) (m : Mark) → IsNewName f d m → name_step f column d some m.kind m.word ≡ Ok (add_name d m.word column)
 unfolding declare
 name_declared f column d some m new =
-    let room = lt-leb PLACES (length d.names) new.room in rw (new.word, new.free, new.new, room) refl
+    let room = lt-leb MOST_ATTRIBUTES (length d.names) new.room in rw (new.word, new.free, new.new, room) refl
 
 -- names after a declaring word are read exactly where each is a new one
 names_there : (f : Format) (column : Column) (line : ℕ) (d whole : Declarations) (some : Bool)
@@ -72,8 +72,8 @@ unfolding list_names
 names_there f column line d whole true next_column [] e = ((λ none. cc), cc)
 names_there f column line d whole false next_column [] e = cc
 names_there f column line d whole some next_column (m ∷ ms) e =
-    let two = steps (at line m.column (length m.word) (name_step f column d some m.kind m.word)) _ whole e in
-    let named = placed line m.column (length m.word) _ two.x two.first in
+    let two = and_then-ok (at line m.column (length m.word) (name_step f column d some m.kind m.word)) _ whole e in
+    let named = at-ok line m.column (length m.word) _ two.x two.first in
     let first = declares_name f column d two.x some m named in
     let rest : list_names f column line (add_name d m.word column) true (m.column + length m.word) ms None ≡ Ok whole =
     ap (λ n. list_names f column line n true (m.column + length m.word) ms None) (sym first.1) ∙ two.second in
@@ -93,31 +93,31 @@ names_back f column line d whole some next_column (m ∷ ms) has (new, rest) =
     (λ none. cc) rest)
 
 names_stopped : (f : Format) (column : Column) (line : ℕ) (d whole : Declarations) (some : Bool)
-    (next_column : ℕ) (ms : List Mark) (stop : Stop)
+    (next_column : ℕ) (ms : List Mark) (stop : LexError)
     → list_names f column line d some next_column ms (Some stop) ≡ Ok whole → ⊥
 unfolding list_names
 names_stopped f column line d whole some next_column [] stop e = cc
 names_stopped f column line d whole some next_column (m ∷ ms) stop e =
-    let two = steps (at line m.column (length m.word) (name_step f column d some m.kind m.word)) _ whole e in
+    let two = and_then-ok (at line m.column (length m.word) (name_step f column d some m.kind m.word)) _ whole e in
     names_stopped f column line two.x whole true (m.column + length m.word) ms stop two.second
 
 -- the first token of a dependency line, with room for the line
-record Begun (f : Format) (line : ℕ) (d : Declarations) (m : Mark) (ms : List Mark) (stop : Option Stop) (whole : Declarations) : Type 0 where
+record Begun (f : Format) (line : ℕ) (d : Declarations) (m : Mark) (ms : List Mark) (stop : Option LexError) (whole : Declarations) : Type 0 where
   dep : Dependency
   read : follow f d.names line start 1 (m ∷ ms) stop ≡ Ok dep
   room : length d.deps < MOST_DEPENDENCIES
   adds : whole ≡ add_dependency d dep line
 
-dependency_there : (f : Format) (line : ℕ) (d whole : Declarations) (m : Mark) (ms : List Mark) (stop : Option Stop)
+dependency_there : (f : Format) (line : ℕ) (d whole : Declarations) (m : Mark) (ms : List Mark) (stop : Option LexError)
     → dependency_line f line d m ms stop ≡ Ok whole → Begun f line d m ms stop whole
 unfolding dependency_line begin follow
 dependency_there f line d whole m ms stop e =
-    let two = steps (at line m.column (length m.word) (begin f d m.kind m.word)) _ whole e in
-    let begun = placed line m.column (length m.word) (begin f d m.kind m.word) two.x two.first in
-    let inner = steps (step f d.names start m.kind m.word) _ two.x begun in
+    let two = and_then-ok (at line m.column (length m.word) (begin f d m.kind m.word)) _ whole e in
+    let begun = at-ok line m.column (length m.word) (begin f d m.kind m.word) two.x two.first in
+    let inner = and_then-ok (step f d.names start m.kind m.word) _ two.x begun in
     let room = unless_ok (nat_le MOST_DEPENDENCIES (length d.deps)) kind.TooManyDependencies (Ok inner.x) two.x inner.second in
     let same : inner.x ≡ two.x = (let eq : Ok inner.x ≡ Ok two.x = room.1 in cc) in
-    let three = steps (follow f d.names line two.x (m.column + length m.word) ms stop) _ whole two.second in
+    let three = and_then-ok (follow f d.names line two.x (m.column + length m.word) ms stop) _ whole two.second in
     record {
       dep = three.x;
       read = ap (λ s. and_then (at line m.column (length m.word) s) (λ next. follow f d.names line next (m.column + length m.word) ms stop)) (inner.first ∙ ap Ok same) ∙ three.first;
@@ -129,8 +129,8 @@ dependency_back : (f : Format) (line : ℕ) (d : Declarations) (m : Mark) (ms : 
     → follow f d.names line start 1 (m ∷ ms) None ≡ Ok dep → length d.deps < MOST_DEPENDENCIES → dependency_line f line d m ms None ≡ Ok (add_dependency d dep line)
 unfolding dependency_line begin follow
 dependency_back f line d m ms dep e h =
-    let two = steps (at line m.column (length m.word) (step f d.names start m.kind m.word)) _ dep e in
-    let first = placed line m.column (length m.word) (step f d.names start m.kind m.word) two.x two.first in
+    let two = and_then-ok (at line m.column (length m.word) (step f d.names start m.kind m.word)) _ dep e in
+    let first = at-ok line m.column (length m.word) (step f d.names start m.kind m.word) two.x two.first in
     let room = lt-leb MOST_DEPENDENCIES (length d.deps) h in
     let read = two.second in
     rw first (rw room (rw read refl))
@@ -146,7 +146,7 @@ line_there f number d line whole e = told (lex mode.Plain line).marks (lex mode.
     l : Lexed
     l = lex mode.Plain line
 
-    declaring : (m : Mark) (ms : List Mark) (column : Column) (stop : Option Stop) → l.marks ≡ m ∷ ms → l.stop ≡ stop → declares f m.kind m.word ≡ Some column
+    declaring : (m : Mark) (ms : List Mark) (column : Column) (stop : Option LexError) → l.marks ≡ m ∷ ms → l.stop ≡ stop → column_type_of_token f m.kind m.word ≡ Some column
         → list_names f column number d false (m.column + length m.word) ms stop ≡ Ok whole → IsDeclaring f d line whole
     declaring m ms column None marks stop is e =
         let both = names_there f column number d whole false (m.column + length m.word) ms e in
@@ -163,7 +163,7 @@ line_there f number d line whole e = told (lex mode.Plain line).marks (lex mode.
     declaring m ms column (Some s) marks stop is e =
         absurd (names_stopped f column number d whole false (m.column + length m.word) ms s e)
 
-    stating : (m : Mark) (ms : List Mark) (stop : Option Stop) → l.marks ≡ m ∷ ms → l.stop ≡ stop → declares f m.kind m.word ≡ None
+    stating : (m : Mark) (ms : List Mark) (stop : Option LexError) → l.marks ≡ m ∷ ms → l.stop ≡ stop → column_type_of_token f m.kind m.word ≡ None
         → Begun f number d m ms stop whole → IsStating f number d line whole
     stating m ms None marks stop is begun = record {
       head = m;
@@ -176,17 +176,17 @@ line_there f number d line whole e = told (lex mode.Plain line).marks (lex mode.
       adds = begun.adds;
     }
     stating m ms (Some s) marks stop is begun =
-        absurd (stopped f d.names number start 1 (m ∷ ms) s begun.dep begun.read)
+        absurd (follow_has_no_stop f d.names number start 1 (m ∷ ms) s begun.dep begun.read)
 
-    from : (m : Mark) (ms : List Mark) (stop : Option Stop) (o : Option Column) → l.marks ≡ m ∷ ms → l.stop ≡ stop → declares f m.kind m.word ≡ o
+    from : (m : Mark) (ms : List Mark) (stop : Option LexError) (o : Option Column) → l.marks ≡ m ∷ ms → l.stop ≡ stop → column_type_of_token f m.kind m.word ≡ o
         → line_from f number d m ms stop o ≡ Ok whole → MeansTextLine f number d line whole
     from m ms stop (Some column) marks same is e = inl (inr (declaring m ms column stop marks same is e))
     from m ms stop None marks same is e = inr (stating m ms stop marks same is (dependency_there f number d whole m ms stop e))
 
-    told : (ms : List Mark) (stop : Option Stop) → l.marks ≡ ms → l.stop ≡ stop → line_of_marks f number d ms stop ≡ Ok whole → MeansTextLine f number d line whole
+    told : (ms : List Mark) (stop : Option LexError) → l.marks ≡ ms → l.stop ≡ stop → line_of_marks f number d ms stop ≡ Ok whole → MeansTextLine f number d line whole
     told [] None marks stop e = inl (inl (record { tokens = has_tokens l [] marks stop; same = cc }))
     told [] (Some s) marks stop e = cc
-    told (m ∷ ms) stop marks same e = from m ms stop (declares f m.kind m.word) marks same refl e
+    told (m ∷ ms) stop marks same e = from m ms stop (column_type_of_token f m.kind m.word) marks same refl e
 
 pub line_back : (f : Format) (number : ℕ) (d : Declarations) (line : List ℕ) (whole : Declarations) → MeansTextLine f number d line whole → read_line f number d line ≡ Ok whole
 unfolding read_line
@@ -208,7 +208,7 @@ lines_there f number d whole [] e = elim (cases_Bool (length d.names == 0)) [
       let same : whole ≡ d = cc in (same, rw same (grind (arith, nat_tests)))
 ]
 lines_there f number d whole (line ∷ lines) e =
-    let two = steps (read_line f number d line) (λ next. read_lines f (number + 1) next lines) whole e in
+    let two = and_then-ok (read_line f number d line) (λ next. read_lines f (number + 1) next lines) whole e in
     let more = lines_there f (number + 1) two.x whole lines two.second in
     ((two.x, line_there f number d line two.x two.first, more.0), more.1)
 

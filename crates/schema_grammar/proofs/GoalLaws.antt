@@ -2,68 +2,68 @@
 use Rattle.std.proofs.Common.{◌≡◌, ◌<◌, ◌+◌, inl, inr, ℕ, Bool, true, false, cond, List, [], ◌∷◌, ◌++◌, length, Option, Some, None, Ok, Err, refl, sym, ◌∙◌, ap, arith}
 use Rattle.std.specs.List.{All}
 use Rattle.std.proofs.lemmas.List.Elements.{All-cons, All-nil, All-head, All-tail}
-use Rattle.schema_grammar.proofs.RefusalLemmas.{steps}
+use Rattle.schema_grammar.proofs.RefusalLemmas.{and_then-ok}
 use Rattle.std.specs.Prelude.{◌↔◌}
-use Rattle.attr_sets.specs.Places.{Places, only, none, union}
+use Rattle.attr_sets.specs.Attributes.{Attributes, only, none, union}
 use Rattle.dep_model.specs.Dependencies.{Dependency}
-use Rattle.dep_model.specs.Schemas.{place_named}
+use Rattle.dep_model.specs.Schemas.{attribute_named}
 use Rattle.lexer.specs.declared.token.Mode.TheVariants as mode
-use Rattle.lexer.specs.declared.token.Stop.{Stop}
+use Rattle.lexer.specs.declared.token.LexError.{LexError}
 use Rattle.lexer.specs.declared.token.TokenKind.{TokenKind}
 use Rattle.lexer.specs.declared.token.TokenKind.TheVariants as token
 use Rattle.lexer.specs.Tokens.{Mark, Lexed, lex}
-use Rattle.schema_grammar.proofs.SideLemmas.{union-only, union-none, named-cons}
+use Rattle.schema_grammar.proofs.SideLemmas.{union-only, union-none, attributes_of_words-cons}
 use Rattle.schema_grammar.specs.declared.refusal.SchemaRefusalKind.TheVariants as kind
 use Rattle.schema_grammar.specs.declared.symbol.Sign.{Sign}
 use Rattle.schema_grammar.specs.declared.symbol.Sign.TheVariants as sign
 use Rattle.schema_grammar.specs.declared.symbol.Symbol.TheVariants as symbol
 use Rattle.schema_grammar.specs.declared.format.Format.{Format}
 use Rattle.schema_grammar.specs.declared.format.Format.TheVariants as format
-use Rattle.schema_grammar.specs.Grammar.{Reached, start, left, left_empty, after_sign, right, right_empty, turn, finished, stated}
-use Rattle.schema_grammar.specs.Meanings.{HasTokens, named, IsAttribute, IsSide, IsArrow, IsDependency, MeansGoal}
+use Rattle.schema_grammar.specs.Grammar.{Reached, start, left, left_empty, after_sign, right, right_empty, advance, finish_dependency, dependency_of_sign}
+use Rattle.schema_grammar.specs.Meanings.{HasTokens, attributes_of_words, IsAttribute, IsSide, IsArrow, IsDependency, MeansGoal}
 use Rattle.schema_grammar.specs.Reading.{step, follow, follow_lexed, read_goal}
-use Rattle.schema_grammar.specs.Refusals.{at, and_then, expecting}
-use Rattle.schema_grammar.specs.Words.{is_reserved, looked_up, known}
+use Rattle.schema_grammar.specs.Refusals.{at, and_then, expect}
+use Rattle.schema_grammar.specs.Words.{is_reserved, look_up, known_attribute}
 
 -- after words of the left side: more words, an arrow, the right side
-pub record LeftRest (f : Format) (declared : List (List ℕ)) (x : Places) (ms : List Mark) (d : Dependency) : Type 0 where
+pub record LeftRest (f : Format) (declared : List (List ℕ)) (x : Attributes) (ms : List Mark) (d : Dependency) : Type 0 where
   pub words : List Mark
   pub arrow : Mark
   pub rhs : List Mark
-  pub y : Places
+  pub y : Attributes
   pub sign : Sign
   pub whole : ms ≡ words ++ arrow ∷ rhs
   pub each : All (IsAttribute f declared) words
   pub is_arrow : IsArrow sign arrow.kind
   pub right_side : IsSide f declared rhs y
-  pub states : d ≡ stated sign (union x (named declared words)) y
+  pub states : d ≡ dependency_of_sign sign (union x (attributes_of_words declared words)) y
 
 -- after a left `()`: an arrow, the right side
 pub record ArrowRest (f : Format) (declared : List (List ℕ)) (ms : List Mark) (d : Dependency) : Type 0 where
   pub arrow : Mark
   pub rhs : List Mark
-  pub y : Places
+  pub y : Attributes
   pub sign : Sign
   pub whole : ms ≡ arrow ∷ rhs
   pub is_arrow : IsArrow sign arrow.kind
   pub right_side : IsSide f declared rhs y
-  pub states : d ≡ stated sign none y
+  pub states : d ≡ dependency_of_sign sign none y
 
 -- after the arrow: the right side
-pub record AfterSignRest (f : Format) (declared : List (List ℕ)) (s : Sign) (x : Places) (ms : List Mark) (d : Dependency) : Type 0 where
-  pub y : Places
+pub record AfterSignRest (f : Format) (declared : List (List ℕ)) (s : Sign) (x : Attributes) (ms : List Mark) (d : Dependency) : Type 0 where
+  pub y : Attributes
   pub right_side : IsSide f declared ms y
-  pub states : d ≡ stated s x y
+  pub states : d ≡ dependency_of_sign s x y
 
 -- after words of the right side: more words
-pub record RightRest (f : Format) (declared : List (List ℕ)) (s : Sign) (x y : Places) (ms : List Mark) (d : Dependency) : Type 0 where
+pub record RightRest (f : Format) (declared : List (List ℕ)) (s : Sign) (x y : Attributes) (ms : List Mark) (d : Dependency) : Type 0 where
   pub each : All (IsAttribute f declared) ms
-  pub states : d ≡ stated s x (union y (named declared ms))
+  pub states : d ≡ dependency_of_sign s x (union y (attributes_of_words declared ms))
 
 -- after a right `()`: nothing
-pub record EndRest (s : Sign) (x : Places) (ms : List Mark) (d : Dependency) : Type 0 where
+pub record EndRest (s : Sign) (x : Attributes) (ms : List Mark) (d : Dependency) : Type 0 where
   pub nothing : ms ≡ []
-  pub states : d ≡ stated s x none
+  pub states : d ≡ dependency_of_sign s x none
 
 -- what is left of a line makes the dependency, so far as it is read
 abbrev pub Rest : Format → List (List ℕ) → Reached → List Mark → Dependency → Type 0
@@ -79,33 +79,33 @@ mark k column word = record { kind = k; column = column; word = word }
 
 -- a word that is read names an attribute, by which the reading goes on
 record ReadsWord (f : Format) (declared : List (List ℕ)) (line : ℕ) (r : Reached) (column : ℕ) (word : List ℕ) (ms : List Mark) (d : Dependency) : Type 0 where
-  is : IsAttribute f declared (mark token.Word column word)
-  goes_on : and_then (at line column (length word) (expecting (turn r (symbol.Attribute is.place))))
+  is : IsAttribute f declared (mark token.Identifier column word)
+  goes_on : and_then (at line column (length word) (expect (advance r (symbol.Attribute is.index))))
       (λ next. follow f declared line next (column + length word) ms None) ≡ Ok d
 
 reads_word : (f : Format) (declared : List (List ℕ)) (line : ℕ) (r : Reached) (from column : ℕ) (word : List ℕ) (ms : List Mark) (d : Dependency)
-    → follow f declared line r from (mark token.Word column word ∷ ms) None ≡ Ok d
+    → follow f declared line r from (mark token.Identifier column word ∷ ms) None ≡ Ok d
     → ReadsWord f declared line r column word ms d
-unfolding follow step looked_up
+unfolding follow step look_up
 reads_word f declared line r from column word ms d e =
-    told (is_reserved f word) (place_named declared word) refl refl e
+    told (is_reserved f word) (attribute_named declared word) refl refl e
   where
-    told : (b : Bool) (o : Option ℕ) → is_reserved f word ≡ b → place_named declared word ≡ o
+    told : (b : Bool) (o : Option ℕ) → is_reserved f word ≡ b → attribute_named declared word ≡ o
         → and_then (at line column (length word)
-        (and_then (and_then (cond b (Err kind.ReservedName) (known o)) (λ a. Ok (symbol.Attribute a)))
-        (λ s. expecting (turn r s))))
+        (and_then (and_then (cond b (Err kind.ReservedName) (known_attribute o)) (λ a. Ok (symbol.Attribute a)))
+        (λ s. expect (advance r s))))
         (λ next. follow f declared line next (column + length word) ms None) ≡ Ok d
         → ReadsWord f declared line r column word ms d
-    told true o free place e = cc
-    told false None free place e = cc
-    told false (Some a) free place e =
-        record { is = record { word = refl; free = free; place = a; known = place }; goes_on = e }
+    told true o free lookup e = cc
+    told false None free lookup e = cc
+    told false (Some a) free lookup e =
+        record { is = record { word = refl; free = free; index = a; known = lookup }; goes_on = e }
 
-end_makes : (f : Format) (declared : List (List ℕ)) (line column : ℕ) (r : Reached) (d : Dependency) → at line column 0 (expecting (finished r)) ≡ Ok d → Rest f declared r [] d
-unfolding finished
+end_makes : (f : Format) (declared : List (List ℕ)) (line column : ℕ) (r : Reached) (d : Dependency) → at line column 0 (expect (finish_dependency r)) ≡ Ok d → Rest f declared r [] d
+unfolding finish_dependency
 end_makes f declared line column (right s x y) d e = record {
   each = All-nil (IsAttribute f declared);
-  states = let same : d ≡ stated s x y = cc in same ∙ ap (stated s x) (sym (union-none y (named declared []) refl));
+  states = let same : d ≡ dependency_of_sign s x y = cc in same ∙ ap (dependency_of_sign s x) (sym (union-none y (attributes_of_words declared []) refl));
 }
 end_makes f declared line column (right_empty s x) d e = record { nothing = refl; states = cc }
 end_makes f declared line column r d e = cc
@@ -114,19 +114,19 @@ end_makes f declared line column r d e = cc
 token_makes : (f : Format) (declared : List (List ℕ)) (line from : ℕ) (r : Reached) (k : TokenKind) (column : ℕ) (word : List ℕ) (ms : List Mark) (d : Dependency)
     → ((next : Reached) → follow f declared line next (column + length word) ms None ≡ Ok d → Rest f declared next ms d)
     → follow f declared line r from (mark k column word ∷ ms) None ≡ Ok d → Rest f declared r (mark k column word ∷ ms) d
-unfolding follow step turn
-token_makes f declared line from start token.Word column word ms d rest e =
+unfolding follow step advance
+token_makes f declared line from start token.Identifier column word ms d rest e =
     let reads = reads_word f declared line start from column word ms d e in
-    let more : LeftRest f declared (only reads.is.place) ms d =
-    rest (left (only reads.is.place)) reads.goes_on in
+    let more : LeftRest f declared (only reads.is.index) ms d =
+    rest (left (only reads.is.index)) reads.goes_on in
     record {
-      lhs = mark token.Word column word ∷ more.words;
+      lhs = mark token.Identifier column word ∷ more.words;
       arrow = more.arrow;
       rhs = more.rhs;
-      x = named declared (mark token.Word column word ∷ more.words);
+      x = attributes_of_words declared (mark token.Identifier column word ∷ more.words);
       y = more.y;
       sign = more.sign;
-      whole = ap (λ t. mark token.Word column word ∷ t) more.whole;
+      whole = ap (λ t. mark token.Identifier column word ∷ t) more.whole;
       left_side = inr (record {
         some = omega arith;
         each = All-cons (IsAttribute f declared) _ _ reads.is more.each;
@@ -134,8 +134,8 @@ token_makes f declared line from start token.Word column word ms d rest e =
       });
       is_arrow = more.is_arrow;
       right_side = more.right_side;
-      states = more.states ∙ ap (λ z. stated more.sign z more.y)
-          (sym (named-cons declared (mark token.Word column word) more.words reads.is.place reads.is.known));
+      states = more.states ∙ ap (λ z. dependency_of_sign more.sign z more.y)
+          (sym (attributes_of_words-cons declared (mark token.Identifier column word) more.words reads.is.index reads.is.known));
     }
 token_makes f declared line from start token.Empty column word ms d rest e =
     let more : ArrowRest f declared ms d = rest left_empty e in
@@ -152,24 +152,24 @@ token_makes f declared line from start token.Empty column word ms d rest e =
       right_side = more.right_side;
       states = more.states;
     }
-token_makes f declared line from (left x) token.Word column word ms d rest e =
+token_makes f declared line from (left x) token.Identifier column word ms d rest e =
     let reads = reads_word f declared line (left x) from column word ms d e in
-    let more : LeftRest f declared (union x (only reads.is.place)) ms d =
-    rest (left (union x (only reads.is.place))) reads.goes_on in
+    let more : LeftRest f declared (union x (only reads.is.index)) ms d =
+    rest (left (union x (only reads.is.index))) reads.goes_on in
     record {
-      words = mark token.Word column word ∷ more.words;
+      words = mark token.Identifier column word ∷ more.words;
       arrow = more.arrow;
       rhs = more.rhs;
       y = more.y;
       sign = more.sign;
-      whole = ap (λ t. mark token.Word column word ∷ t) more.whole;
+      whole = ap (λ t. mark token.Identifier column word ∷ t) more.whole;
       each = All-cons (IsAttribute f declared) _ _ reads.is more.each;
       is_arrow = more.is_arrow;
       right_side = more.right_side;
-      states = more.states ∙ ap (λ z. stated more.sign z more.y)
-          (union-only x (named declared more.words) reads.is.place
+      states = more.states ∙ ap (λ z. dependency_of_sign more.sign z more.y)
+          (union-only x (attributes_of_words declared more.words) reads.is.index
           ∙ ap (union x)
-          (sym (named-cons declared (mark token.Word column word) more.words reads.is.place reads.is.known)));
+          (sym (attributes_of_words-cons declared (mark token.Identifier column word) more.words reads.is.index reads.is.known)));
     }
 token_makes f declared line from (left x) token.Arrow column word ms d rest e =
     let more : AfterSignRest f declared sign.Functional x ms d = rest (after_sign sign.Functional x) e in
@@ -183,7 +183,7 @@ token_makes f declared line from (left x) token.Arrow column word ms d rest e =
       each = All-nil (IsAttribute f declared);
       is_arrow = refl;
       right_side = more.right_side;
-      states = more.states ∙ ap (λ z. stated sign.Functional z more.y) (sym (union-none x (named declared []) refl));
+      states = more.states ∙ ap (λ z. dependency_of_sign sign.Functional z more.y) (sym (union-none x (attributes_of_words declared []) refl));
     }
 token_makes f declared line from (left x) token.DoubleArrow column word ms d rest e =
     let more : AfterSignRest f declared sign.Multivalued x ms d = rest (after_sign sign.Multivalued x) e in
@@ -197,9 +197,9 @@ token_makes f declared line from (left x) token.DoubleArrow column word ms d res
       each = All-nil (IsAttribute f declared);
       is_arrow = refl;
       right_side = more.right_side;
-      states = more.states ∙ ap (λ z. stated sign.Multivalued z more.y) (sym (union-none x (named declared []) refl));
+      states = more.states ∙ ap (λ z. dependency_of_sign sign.Multivalued z more.y) (sym (union-none x (attributes_of_words declared []) refl));
     }
-token_makes f declared line from left_empty token.Word column word ms d rest e =
+token_makes f declared line from left_empty token.Identifier column word ms d rest e =
     let wrong = (reads_word f declared line left_empty from column word ms d e).goes_on in cc
 token_makes f declared line from left_empty token.Arrow column word ms d rest e =
     let more : AfterSignRest f declared sign.Functional none ms d = rest (after_sign sign.Functional none) e in
@@ -207,33 +207,33 @@ token_makes f declared line from left_empty token.Arrow column word ms d rest e 
 token_makes f declared line from left_empty token.DoubleArrow column word ms d rest e =
     let more : AfterSignRest f declared sign.Multivalued none ms d = rest (after_sign sign.Multivalued none) e in
     record { arrow = mark token.DoubleArrow column word; rhs = ms; y = more.y; sign = sign.Multivalued; whole = refl; is_arrow = refl; right_side = more.right_side; states = more.states }
-token_makes f declared line from (after_sign s x) token.Word column word ms d rest e =
+token_makes f declared line from (after_sign s x) token.Identifier column word ms d rest e =
     let reads = reads_word f declared line (after_sign s x) from column word ms d e in
-    let more : RightRest f declared s x (only reads.is.place) ms d =
-    rest (right s x (only reads.is.place)) reads.goes_on in
+    let more : RightRest f declared s x (only reads.is.index) ms d =
+    rest (right s x (only reads.is.index)) reads.goes_on in
     record {
-      y = named declared (mark token.Word column word ∷ ms);
+      y = attributes_of_words declared (mark token.Identifier column word ∷ ms);
       right_side = inr (record {
         some = omega arith;
         each = All-cons (IsAttribute f declared) _ _ reads.is more.each;
         members = refl;
       });
-      states = more.states ∙ ap (stated s x)
-          (sym (named-cons declared (mark token.Word column word) ms reads.is.place reads.is.known));
+      states = more.states ∙ ap (dependency_of_sign s x)
+          (sym (attributes_of_words-cons declared (mark token.Identifier column word) ms reads.is.index reads.is.known));
     }
 token_makes f declared line from (after_sign s x) token.Empty column word ms d rest e =
     let more : EndRest s x ms d = rest (right_empty s x) e in
     record { y = none; right_side = inl (record { column = column; bytes = word; alone = ap (λ t. mark token.Empty column word ∷ t) more.nothing; nothing = refl }); states = more.states }
-token_makes f declared line from (right s x y) token.Word column word ms d rest e =
+token_makes f declared line from (right s x y) token.Identifier column word ms d rest e =
     let reads = reads_word f declared line (right s x y) from column word ms d e in
-    let more : RightRest f declared s x (union y (only reads.is.place)) ms d =
-    rest (right s x (union y (only reads.is.place))) reads.goes_on in
+    let more : RightRest f declared s x (union y (only reads.is.index)) ms d =
+    rest (right s x (union y (only reads.is.index))) reads.goes_on in
     record {
       each = All-cons (IsAttribute f declared) _ _ reads.is more.each;
-      states = more.states ∙ ap (stated s x) (union-only y (named declared ms) reads.is.place
-          ∙ ap (union y) (sym (named-cons declared (mark token.Word column word) ms reads.is.place reads.is.known)));
+      states = more.states ∙ ap (dependency_of_sign s x) (union-only y (attributes_of_words declared ms) reads.is.index
+          ∙ ap (union y) (sym (attributes_of_words-cons declared (mark token.Identifier column word) ms reads.is.index reads.is.known)));
     }
-token_makes f declared line from (right_empty s x) token.Word column word ms d rest e =
+token_makes f declared line from (right_empty s x) token.Identifier column word ms d rest e =
     let wrong = (reads_word f declared line (right_empty s x) from column word ms d e).goes_on in cc
 token_makes f declared line from r k column word ms d rest e = cc
 
@@ -246,65 +246,65 @@ marks_make f declared line from r (m ∷ ms) d e =
     token_makes f declared line from r m.kind m.column m.word ms d (λ next h. marks_make f declared line (m.column + length m.word) next ms d h) e
 
 -- a word that names an attribute is read
-word_read : (f : Format) (declared : List (List ℕ)) (line : ℕ) (r : Reached) (from : ℕ) (m : Mark) (ms : List Mark) (stop : Option Stop) (attribute : IsAttribute f declared m)
+word_read : (f : Format) (declared : List (List ℕ)) (line : ℕ) (r : Reached) (from : ℕ) (m : Mark) (ms : List Mark) (stop : Option LexError) (attribute : IsAttribute f declared m)
     → follow f declared line r from (m ∷ ms) stop
-    ≡ and_then (at line m.column (length m.word) (expecting (turn r (symbol.Attribute attribute.place)))) (λ next. follow f declared line next (m.column + length m.word) ms stop)
-unfolding follow step looked_up
+    ≡ and_then (at line m.column (length m.word) (expect (advance r (symbol.Attribute attribute.index)))) (λ next. follow f declared line next (m.column + length m.word) ms stop)
+unfolding follow step look_up
 word_read f declared line r from m ms stop attribute =
     rw (attribute.word, attribute.free, attribute.known) refl
 
-right_read : (f : Format) (declared : List (List ℕ)) (line : ℕ) (s : Sign) (x y : Places) (from : ℕ) (ms : List Mark) → All (IsAttribute f declared) ms
-    → follow f declared line (right s x y) from ms None ≡ Ok (stated s x (union y (named declared ms)))
-unfolding follow finished turn
-right_read f declared line s x y from [] each = ap (λ z. Ok (stated s x z)) (sym (union-none y (named declared []) refl))
+right_read : (f : Format) (declared : List (List ℕ)) (line : ℕ) (s : Sign) (x y : Attributes) (from : ℕ) (ms : List Mark) → All (IsAttribute f declared) ms
+    → follow f declared line (right s x y) from ms None ≡ Ok (dependency_of_sign s x (union y (attributes_of_words declared ms)))
+unfolding follow finish_dependency advance
+right_read f declared line s x y from [] each = ap (λ z. Ok (dependency_of_sign s x z)) (sym (union-none y (attributes_of_words declared []) refl))
 right_read f declared line s x y from (m ∷ ms) each =
     let here : IsAttribute f declared m = All-head (IsAttribute f declared) m ms each in
     let there : All (IsAttribute f declared) ms = All-tail (IsAttribute f declared) m ms each in
     word_read f declared line (right s x y) from m ms None here
-    ∙ right_read f declared line s x (union y (only here.place)) (m.column + length m.word) ms there
-    ∙ ap (λ z. Ok (stated s x z)) (union-only y (named declared ms) here.place ∙ ap (union y) (sym (named-cons declared m ms here.place here.known)))
+    ∙ right_read f declared line s x (union y (only here.index)) (m.column + length m.word) ms there
+    ∙ ap (λ z. Ok (dependency_of_sign s x z)) (union-only y (attributes_of_words declared ms) here.index ∙ ap (union y) (sym (attributes_of_words-cons declared m ms here.index here.known)))
 
-pub side_read : (f : Format) (declared : List (List ℕ)) (line : ℕ) (s : Sign) (x y : Places) (from : ℕ) (ms : List Mark) → IsSide f declared ms y
-    → follow f declared line (after_sign s x) from ms None ≡ Ok (stated s x y)
-unfolding follow step finished turn
+pub side_read : (f : Format) (declared : List (List ℕ)) (line : ℕ) (s : Sign) (x y : Attributes) (from : ℕ) (ms : List Mark) → IsSide f declared ms y
+    → follow f declared line (after_sign s x) from ms None ≡ Ok (dependency_of_sign s x y)
+unfolding follow step finish_dependency advance
 side_read f declared line s x y from ms (inl empty) = rw (empty.alone, empty.nothing) refl
 side_read f declared line s x y from [] (inr words) = let some : 0 < 0 = words.some in absurd (omega arith)
 side_read f declared line s x y from (m ∷ ms) (inr words) =
     let here : IsAttribute f declared m = All-head (IsAttribute f declared) m ms words.each in
     let there : All (IsAttribute f declared) ms = All-tail (IsAttribute f declared) m ms words.each in
     word_read f declared line (after_sign s x) from m ms None here
-    ∙ right_read f declared line s x (only here.place) (m.column + length m.word) ms there
-    ∙ ap (λ z. Ok (stated s x z)) (sym (named-cons declared m ms here.place here.known) ∙ sym words.members)
+    ∙ right_read f declared line s x (only here.index) (m.column + length m.word) ms there
+    ∙ ap (λ z. Ok (dependency_of_sign s x z)) (sym (attributes_of_words-cons declared m ms here.index here.known) ∙ sym words.members)
 
 -- an arrow is read after a left side
-arrow_read : (f : Format) (declared : List (List ℕ)) (line : ℕ) (r : Reached) (s : Sign) (x : Places)
+arrow_read : (f : Format) (declared : List (List ℕ)) (line : ℕ) (r : Reached) (s : Sign) (x : Attributes)
     (from : ℕ) (m : Mark) (ms : List Mark)
-    → turn r (symbol.Arrow s) ≡ Ok (after_sign s x) → IsArrow s m.kind
+    → advance r (symbol.Arrow s) ≡ Ok (after_sign s x) → IsArrow s m.kind
     → follow f declared line r from (m ∷ ms) None ≡ follow f declared line (after_sign s x)
     (m.column + length m.word) ms None
 unfolding follow step
 arrow_read f declared line r sign.Functional x from m ms turns e = rw (e, turns) refl
 arrow_read f declared line r sign.Multivalued x from m ms turns e = rw (e, turns) refl
 
-left_read : (f : Format) (declared : List (List ℕ)) (line : ℕ) (s : Sign) (x y : Places) (from : ℕ) (words : List Mark) (arrow : Mark) (rhs : List Mark)
+left_read : (f : Format) (declared : List (List ℕ)) (line : ℕ) (s : Sign) (x y : Attributes) (from : ℕ) (words : List Mark) (arrow : Mark) (rhs : List Mark)
     → All (IsAttribute f declared) words → IsArrow s arrow.kind → IsSide f declared rhs y
-    → follow f declared line (left x) from (words ++ arrow ∷ rhs) None ≡ Ok (stated s (union x (named declared words)) y)
-unfolding turn
+    → follow f declared line (left x) from (words ++ arrow ∷ rhs) None ≡ Ok (dependency_of_sign s (union x (attributes_of_words declared words)) y)
+unfolding advance
 left_read f declared line s x y from [] arrow rhs each is_arrow side =
     arrow_read f declared line (left x) s x from arrow rhs refl is_arrow
     ∙ side_read f declared line s x y (arrow.column + length arrow.word) rhs side
-    ∙ ap (λ z. Ok (stated s z y)) (sym (union-none x (named declared []) refl))
+    ∙ ap (λ z. Ok (dependency_of_sign s z y)) (sym (union-none x (attributes_of_words declared []) refl))
 left_read f declared line s x y from (m ∷ words) arrow rhs each is_arrow side =
     let here : IsAttribute f declared m = All-head (IsAttribute f declared) m words each in
     let there : All (IsAttribute f declared) words = All-tail (IsAttribute f declared) m words each in
     word_read f declared line (left x) from m (words ++ arrow ∷ rhs) None here
-    ∙ left_read f declared line s (union x (only here.place)) y (m.column + length m.word) words arrow rhs there is_arrow side
-    ∙ ap (λ z. Ok (stated s z y)) (union-only x (named declared words) here.place ∙ ap (union x) (sym (named-cons declared m words here.place here.known)))
+    ∙ left_read f declared line s (union x (only here.index)) y (m.column + length m.word) words arrow rhs there is_arrow side
+    ∙ ap (λ z. Ok (dependency_of_sign s z y)) (union-only x (attributes_of_words declared words) here.index ∙ ap (union x) (sym (attributes_of_words-cons declared m words here.index here.known)))
 
-sides_read : (f : Format) (declared : List (List ℕ)) (line : ℕ) (s : Sign) (x y : Places) (from : ℕ) (lhs : List Mark) (arrow : Mark) (rhs : List Mark)
+sides_read : (f : Format) (declared : List (List ℕ)) (line : ℕ) (s : Sign) (x y : Attributes) (from : ℕ) (lhs : List Mark) (arrow : Mark) (rhs : List Mark)
     → IsSide f declared lhs x → IsArrow s arrow.kind → IsSide f declared rhs y
-    → follow f declared line start from (lhs ++ arrow ∷ rhs) None ≡ Ok (stated s x y)
-unfolding follow step turn
+    → follow f declared line start from (lhs ++ arrow ∷ rhs) None ≡ Ok (dependency_of_sign s x y)
+unfolding follow step advance
 sides_read f declared line s x y from lhs arrow rhs (inl empty) is_arrow side =
     rw (empty.alone, empty.nothing)
     (arrow_read f declared line left_empty s none (empty.column + length empty.bytes) arrow rhs refl is_arrow
@@ -314,8 +314,8 @@ sides_read f declared line s x y from (m ∷ ms) arrow rhs (inr words) is_arrow 
     let here : IsAttribute f declared m = All-head (IsAttribute f declared) m ms words.each in
     let there : All (IsAttribute f declared) ms = All-tail (IsAttribute f declared) m ms words.each in
     word_read f declared line start from m (ms ++ arrow ∷ rhs) None here
-    ∙ left_read f declared line s (only here.place) y (m.column + length m.word) ms arrow rhs there is_arrow side
-    ∙ ap (λ z. Ok (stated s z y)) (sym (named-cons declared m ms here.place here.known) ∙ sym words.members)
+    ∙ left_read f declared line s (only here.index) y (m.column + length m.word) ms arrow rhs there is_arrow side
+    ∙ ap (λ z. Ok (dependency_of_sign s z y)) (sym (attributes_of_words-cons declared m ms here.index here.known) ∙ sym words.members)
 
 -- a line is read as a dependency exactly where its tokens state it
 pub dependency-law : (f : Format) (declared : List (List ℕ)) (line from : ℕ) (ms : List Mark) (d : Dependency)
@@ -325,24 +325,24 @@ dependency-law f declared line from ms d = (marks_make f declared line from star
     back : IsDependency f declared ms d → follow f declared line start from ms None ≡ Ok d
     back is = rw (is.whole, is.states) (sides_read f declared line is.sign is.x is.y from is.lhs is.arrow is.rhs is.left_side is.is_arrow is.right_side)
 
-pub stopped : (f : Format) (declared : List (List ℕ)) (line : ℕ) (r : Reached) (from : ℕ) (ms : List Mark)
-    (stop : Stop) (d : Dependency)
+pub follow_has_no_stop : (f : Format) (declared : List (List ℕ)) (line : ℕ) (r : Reached) (from : ℕ) (ms : List Mark)
+    (stop : LexError) (d : Dependency)
     → follow f declared line r from ms (Some stop) ≡ Ok d → ⊥
 unfolding follow
-stopped f declared line r from [] stop d e = cc
-stopped f declared line r from (m ∷ ms) stop d e =
-    let two = steps (at line m.column (length m.word) (step f declared r m.kind m.word)) _ d e in
-    stopped f declared line two.x (m.column + length m.word) ms stop d two.second
+follow_has_no_stop f declared line r from [] stop d e = cc
+follow_has_no_stop f declared line r from (m ∷ ms) stop d e =
+    let two = and_then-ok (at line m.column (length m.word) (step f declared r m.kind m.word)) _ d e in
+    follow_has_no_stop f declared line two.x (m.column + length m.word) ms stop d two.second
 
 -- only a line with a line's end is read
 pub no_stop : (f : Format) (declared : List (List ℕ)) (line : ℕ) (r : Reached) (from : ℕ) (l : Lexed) (d : Dependency)
     → follow_lexed f declared line r from l ≡ Ok d → HasTokens l l.marks
 no_stop f declared line r from l d e = told l.stop refl
   where
-    told : (o : Option Stop) → l.stop ≡ o → HasTokens l l.marks
+    told : (o : Option LexError) → l.stop ≡ o → HasTokens l l.marks
     told None same = λ i. record { marks = l.marks; stop = same i }
     told (Some stop) same =
-        absurd (stopped f declared line r from l.marks stop d
+        absurd (follow_has_no_stop f declared line r from l.marks stop d
         (ap (follow f declared line r from l.marks) (sym same) ∙ e))
 
 pub goal-law : (declared : List (List ℕ)) (text : List ℕ) (d : Dependency) → (read_goal declared text ≡ Ok d) ↔ MeansGoal declared text d

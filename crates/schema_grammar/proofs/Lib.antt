@@ -1,5 +1,5 @@
 pub mod BlankLemmas
-pub mod ComplaintLaws
+pub mod DiagnosticLaws
 pub mod DeclaredNames
 pub mod DeclaringLaws
 pub mod GoalLaws

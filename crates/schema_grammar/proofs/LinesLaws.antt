@@ -7,10 +7,10 @@ use Rattle.lexer.specs.Tokens.{Mark, lex}
 use Rattle.schema_grammar.specs.declared.refusal.SchemaRefusal.{SchemaRefusal}
 use Rattle.schema_grammar.specs.declared.refusal.SchemaRefusalKind.TheVariants as kind
 use Rattle.schema_grammar.specs.declared.format.Format.{Format}
-use Rattle.schema_grammar.specs.Complaints.{TextLineComplaint, FitsTextLine, span_at}
+use Rattle.schema_grammar.specs.Diagnostics.{TextLineDiagnostic, FitsTextLine, span_at}
 use Rattle.schema_grammar.specs.Declarations.{Declarations, read_line}
 use Rattle.schema_grammar.specs.Refusals.{and_then, refusal}
-use Rattle.schema_grammar.specs.Schemas.{MeansTextLine, MeansLines, LinesComplaint, IsFirstOfLines, FitsLines}
+use Rattle.schema_grammar.specs.Schemas.{MeansTextLine, MeansLines, LinesDiagnostic, IsFirstOfLines, FitsLines}
 use Rattle.schema_grammar.specs.Texts.{finish, read_lines}
 use Rattle.schema_grammar.proofs.LineLaws.{text-line-law}
 use Rattle.schema_grammar.proofs.DeclaringLaws.{line_there, line_back}
@@ -28,30 +28,30 @@ span-line line next_column [] (Some s) p = refl
 span-line line next_column (m ∷ ms) stop zero = refl
 span-line line next_column (m ∷ ms) stop (suc p) = span-line line (m.column + length m.word) ms stop p
 
--- a complaint of lines is one of the first line, or of the lines after it
-abbrev ComplaintParts : Format → ℕ → Declarations → List ℕ → List (List ℕ) → ℕ → ℕ → ℕ → Type 0
-ComplaintParts f first d line lines l p n =
-    ((l ≡ first) × TextLineComplaint f d (lex mode.Plain line).marks (lex mode.Plain line).stop p n)
+-- a diagnostic of lines is one of the first line, or of the lines after it
+abbrev DiagnosticParts : Format → ℕ → Declarations → List ℕ → List (List ℕ) → ℕ → ℕ → ℕ → Type 0
+DiagnosticParts f first d line lines l p n =
+    ((l ≡ first) × TextLineDiagnostic f d (lex mode.Plain line).marks (lex mode.Plain line).stop p n)
     ⊎ ((first < l) × ((next : Declarations) → read_line f first d line ≡ Ok next
-    → LinesComplaint f (first + 1) next lines l p n))
+    → LinesDiagnostic f (first + 1) next lines l p n))
 
-complaint_parts : (f : Format) (first : ℕ) (d : Declarations) (line : List ℕ) (lines : List (List ℕ)) (l p n : ℕ)
-    → LinesComplaint f first d (line ∷ lines) l p n → ComplaintParts f first d line lines l p n
-complaint_parts f first d line lines l p n complaint =
-    told complaint.before complaint.cut complaint.means complaint.stands_on
+diagnostic_parts : (f : Format) (first : ℕ) (d : Declarations) (line : List ℕ) (lines : List (List ℕ)) (l p n : ℕ)
+    → LinesDiagnostic f first d (line ∷ lines) l p n → DiagnosticParts f first d line lines l p n
+diagnostic_parts f first d line lines l p n diagnostic =
+    told diagnostic.before diagnostic.cut diagnostic.means diagnostic.stands_on
   where
-    told : (before : List (List ℕ)) → line ∷ lines ≡ before ++ complaint.line ∷ complaint.after
-        → MeansLines f first d before complaint.declared → l ≡ first + length before
-        → ComplaintParts f first d line lines l p n
+    told : (before : List (List ℕ)) → line ∷ lines ≡ before ++ diagnostic.line ∷ diagnostic.after
+        → MeansLines f first d before diagnostic.declared → l ≡ first + length before
+        → DiagnosticParts f first d line lines l p n
     told [] cut means stands_on =
-        let same = cons_parts line complaint.line lines complaint.after cut in
-        let of : List ℕ → Type 0 = λ t. TextLineComplaint f complaint.declared (lex mode.Plain t).marks (lex mode.Plain t).stop p n in
-        let of_d : Declarations → Type 0 = λ t. TextLineComplaint f t (lex mode.Plain line).marks (lex mode.Plain line).stop p n in
-        inl ((omega arith), subst of_d means (subst of (sym same.0) complaint.complaint))
+        let same = cons_parts line diagnostic.line lines diagnostic.after cut in
+        let of : List ℕ → Type 0 = λ t. TextLineDiagnostic f diagnostic.declared (lex mode.Plain t).marks (lex mode.Plain t).stop p n in
+        let of_d : Declarations → Type 0 = λ t. TextLineDiagnostic f t (lex mode.Plain line).marks (lex mode.Plain line).stop p n in
+        inl ((omega arith), subst of_d means (subst of (sym same.0) diagnostic.diagnostic))
     told (one ∷ before) cut (middle, here, rest) stands_on =
-        let same = cons_parts line one lines (before ++ complaint.line ∷ complaint.after) cut in
+        let same = cons_parts line one lines (before ++ diagnostic.line ∷ diagnostic.after) cut in
         let of : List ℕ → Type 0 = λ t. MeansTextLine f first d t middle in
-        let of_d : Declarations → Type 0 = λ t. MeansLines f (first + 1) t before complaint.declared in
+        let of_d : Declarations → Type 0 = λ t. MeansLines f (first + 1) t before diagnostic.declared in
         inr (
           (omega arith),
           λ next read.
@@ -59,13 +59,13 @@ complaint_parts f first d line lines l p n complaint =
               sym (line_back f first d line middle (subst of (sym same.0) here)) ∙ read in
               record {
                 before = before;
-                line = complaint.line;
-                after = complaint.after;
-                declared = complaint.declared;
+                line = diagnostic.line;
+                after = diagnostic.after;
+                declared = diagnostic.declared;
                 cut = same.1;
                 means = subst of_d (let equal : middle ≡ next = cc in equal) rest;
                 stands_on = omega arith;
-                complaint = complaint.complaint;
+                diagnostic = diagnostic.diagnostic;
               },
         )
 
@@ -73,11 +73,11 @@ lines_after : (f : Format) (first : ℕ) (d next : Declarations) (line : List �
     (res : Result Declarations SchemaRefusal) → read_line f first d line ≡ Ok next
     → FitsTextLine f d first (lex mode.Plain line).marks (lex mode.Plain line).stop (Ok next)
     → FitsLines f (first + 1) next lines res → FitsLines f first d (line ∷ lines) res
-lines_after f first d next line lines (Ok whole) read none fits = λ l p n complaint.
+lines_after f first d next line lines (Ok whole) read none fits = λ l p n diagnostic.
     ⊎_elim (λ here. none p n here.1) (λ later. fits l p n (later.1 next read))
-    (complaint_parts f first d line lines l p n complaint)
+    (diagnostic_parts f first d line lines l p n diagnostic)
 lines_after f first d next line lines (Err e) read none (inl found) = inl (record {
-  place = found.place;
+  position = found.position;
   stands = record {
     before = line ∷ found.stands.before;
     line = found.stands.line;
@@ -86,13 +86,13 @@ lines_after f first d next line lines (Err e) read none (inl found) = inl (recor
     cut = ap (λ t. line ∷ t) found.stands.cut;
     means = (next, line_there f first d line next read, found.stands.means);
     stands_on = let on = found.stands.stands_on in omega arith;
-    complaint = found.stands.complaint;
+    diagnostic = found.stands.diagnostic;
   };
   carries = found.carries;
   there = found.there;
-  least = λ l p n complaint.
+  least = λ l p n diagnostic.
       ⊎_elim (λ here. absurd (none p n here.1)) (λ later. found.least l p n (later.1 next read))
-      (complaint_parts f first d line lines l p n complaint);
+      (diagnostic_parts f first d line lines l p n diagnostic);
 })
 lines_after f first d next line lines (Err e) read none (inr empty) = inr (record {
   whole = empty.whole;
@@ -106,9 +106,9 @@ line_here : (f : Format) (first : ℕ) (d : Declarations) (line : List ℕ) (lin
     (e : SchemaRefusal)
     → FitsTextLine f d first (lex mode.Plain line).marks (lex mode.Plain line).stop (Err e) → IsFirstOfLines f first d (line ∷ lines) e
 line_here f first d line lines e found =
-    let on : e.span.line ≡ first = ap (λ s. s.line) found.there ∙ span-line first 1 (lex mode.Plain line).marks (lex mode.Plain line).stop found.place in
+    let on : e.span.line ≡ first = ap (λ s. s.line) found.there ∙ span-line first 1 (lex mode.Plain line).marks (lex mode.Plain line).stop found.position in
     record {
-      place = found.place;
+      position = found.position;
       stands = record {
         before = [];
         line = line;
@@ -117,16 +117,16 @@ line_here f first d line lines e found =
         cut = refl;
         means = refl;
         stands_on = omega arith;
-        complaint = found.stands;
+        diagnostic = found.stands;
       };
       carries = found.carries;
-      there = found.there ∙ ap (λ k. span_at k 1 (lex mode.Plain line).marks (lex mode.Plain line).stop found.place) (sym on);
-      least = λ l p n complaint.
+      there = found.there ∙ ap (λ k. span_at k 1 (lex mode.Plain line).marks (lex mode.Plain line).stop found.position) (sym on);
+      least = λ l p n diagnostic.
           ⊎_elim (λ here. inr (on ∙ sym here.0, found.least p n here.1))
-          (λ later. inl (omega (arith, on, later.0))) (complaint_parts f first d line lines l p n complaint);
+          (λ later. inl (omega (arith, on, later.0))) (diagnostic_parts f first d line lines l p n diagnostic);
     }
 
--- lines are refused by the first complaint, or as declaring nothing, and read where there is neither
+-- lines are refused by the first diagnostic, or as declaring nothing, and read where there is neither
 pub lines-law : (f : Format) (first : ℕ) (d : Declarations) (lines : List (List ℕ)) → FitsLines f first d lines (read_lines f first d lines)
 unfolding read_lines finish
 lines-law f first d [] = elim (cases_Bool (length d.names == 0)) [
@@ -138,9 +138,9 @@ lines-law f first d [] = elim (cases_Bool (length d.names == 0)) [
         let last : first - 1 ≡ first + 0 - 1 = omega arith in
         ap (λ k. refusal k 1 0 kind.NoAttributes) last;
   }))
-  | inr some ↦ rw some (λ l p n complaint.
-      let size = ap length complaint.cut ∙ length-append complaint.before
-      (complaint.line ∷ complaint.after) in absurd (omega (arith, size)))
+  | inr some ↦ rw some (λ l p n diagnostic.
+      let size = ap length diagnostic.cut ∙ length-append diagnostic.before
+      (diagnostic.line ∷ diagnostic.after) in absurd (omega (arith, size)))
 ]
 lines-law f first d (line ∷ lines) = told (λ next. lines-law f (first + 1) next lines) (read_line f first d line) refl (line-law f first d line)
   where

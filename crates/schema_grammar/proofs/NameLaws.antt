@@ -1,4 +1,4 @@
--- A list of names is read where nothing is wrong, or refused by its first complaint.
+-- A list of names is read where nothing is wrong, or refused by its first diagnostic.
 use Rattle.std.proofs.Common.{◌≡◌, ◌<◌, ◌≤◌, ◌+◌, ◌⊎◌, inl, inr, ℕ, suc, Bool, true, false, cond, List, [], ◌∷◌, ◌++◌, length, take, Option, Some, None, Ok, Err, Result, refl, sym, ◌∙◌, ap, subst, arith, append_assoc, length-append, ⊎_elim}
 use Rattle.std.specs.Prelude.{map, nat_le}
 use Rattle.std.specs.List.{slice_get, All}
@@ -8,10 +8,10 @@ use Rattle.std.proofs.Math.Seq.{take-suc}
 use Rattle.std.proofs.lemmas.List.{append-nil, length-map, length-take-le, map-append, nil_from_length}
 use Rattle.std.proofs.lemmas.List.Elements.{All-nil, All-push}
 use Rattle.std.proofs.lemmas.Option.{slice_get_within, get_or_from_slice_get}
-use Rattle.attr_sets.specs.declared.set.TheConstants.{PLACES}
+use Rattle.attr_sets.specs.declared.set.TheConstants.{MOST_ATTRIBUTES}
 use Rattle.dep_model.specs.declared.column.Column.{Column}
-use Rattle.dep_model.specs.Schemas.{place_named}
-use Rattle.lexer.specs.declared.token.Stop.{Stop}
+use Rattle.dep_model.specs.Schemas.{attribute_named}
+use Rattle.lexer.specs.declared.token.LexError.{LexError}
 use Rattle.lexer.specs.declared.token.TokenKind.{TokenKind}
 use Rattle.lexer.specs.declared.token.TokenKind.TheVariants as token
 use Rattle.lexer.specs.Tokens.{Mark}
@@ -20,69 +20,69 @@ use Rattle.schema_grammar.specs.declared.refusal.SchemaRefusalKind.{SchemaRefusa
 use Rattle.schema_grammar.specs.declared.refusal.SchemaRefusalKind.TheVariants as kind
 use Rattle.schema_grammar.specs.declared.refusal.What.TheVariants as what
 use Rattle.schema_grammar.specs.declared.format.Format.{Format}
-use Rattle.schema_grammar.specs.Complaints.{NameComplaint, NamesComplaint, NamesWant, Carries, refusal_number, flaw_number, span_at, FitsNames}
-use Rattle.schema_grammar.specs.Declarations.{Declarations, add_name, declare, name_step, wanted, list_names}
+use Rattle.schema_grammar.specs.Diagnostics.{NameDiagnostic, NamesDiagnostic, NamesWant, Carries, refusal_number, flaw_number, span_at, FitsNames}
+use Rattle.schema_grammar.specs.Declarations.{Declarations, add_name, declare, name_step, what_after_declaring, list_names}
 use Rattle.schema_grammar.specs.Refusals.{at, and_then, refused_by, refusal, kind_of_flaw}
 use Rattle.schema_grammar.specs.Words.{is_reserved}
-use Rattle.schema_grammar.proofs.ComplaintLaws.{flaw_numbered, flaw_carries, flaw_least, Carries-map, first_at, IsLeft, left_whole, left_next, Judged}
+use Rattle.schema_grammar.proofs.DiagnosticLaws.{flaw_numbered, flaw_carries, flaw_least, Carries-map, first_at, IsLeft, left_whole, left_next, Judged}
 
 -- what is wrong with one word, after names and so many of them
-abbrev WordComplaint : Format → List (List ℕ) → ℕ → Mark → ℕ → Type 0
-WordComplaint f names count m number =
-    ((m.kind ≡ token.Word)
+abbrev WordDiagnostic : Format → List (List ℕ) → ℕ → Mark → ℕ → Type 0
+WordDiagnostic f names count m number =
+    ((m.kind ≡ token.Identifier)
     × ((((number ≡ 3) × (is_reserved f m.word ≡ true))
-    ⊎ ((number ≡ 4) × (is_some (place_named names m.word) ≡ true)))
-    ⊎ ((number ≡ 7) × (PLACES ≤ count))))
-    ⊎ ((number ≡ 6) × (m.kind ≡ token.Word → ⊥))
+    ⊎ ((number ≡ 4) × (is_some (attribute_named names m.word) ≡ true)))
+    ⊎ ((number ≡ 7) × (MOST_ATTRIBUTES ≤ count))))
+    ⊎ ((number ≡ 6) × (m.kind ≡ token.Identifier → ⊥))
 
 -- what a token after a declaring word tells
 abbrev NameTells : Format → Column → Declarations → List (List ℕ) → ℕ → Bool → Mark
     → Result Declarations SchemaRefusalKind → Type 0
 NameTells f column d names count some m (Ok next) =
-    (next ≡ add_name d m.word column) × (m.kind ≡ token.Word) ×
-    ((n : ℕ) → WordComplaint f names count m n → ⊥)
+    (next ≡ add_name d m.word column) × (m.kind ≡ token.Identifier) ×
+    ((n : ℕ) → WordDiagnostic f names count m n → ⊥)
 NameTells f column d names count some m (Err why) =
-    WordComplaint f names count m (refusal_number why) ×
-    ((n : ℕ) → WordComplaint f names count m n → refusal_number why ≤ n)
-    × Carries (λ w. w ≡ wanted some) why
+    WordDiagnostic f names count m (refusal_number why) ×
+    ((n : ℕ) → WordDiagnostic f names count m n → refusal_number why ≤ n)
+    × Carries (λ w. w ≡ what_after_declaring some) why
 
 name_tells : (f : Format) (column : Column) (d : Declarations) (some : Bool) (m : Mark)
     → NameTells f column d d.names (length d.names) some m (name_step f column d some m.kind m.word)
 unfolding declare
 name_tells f column d some m = told m.kind refl
   where
-    word : m.kind ≡ token.Word → (a b c : Bool) → is_reserved f m.word ≡ a
-        → is_some (place_named d.names m.word) ≡ b → nat_le PLACES (length d.names) ≡ c
+    word : m.kind ≡ token.Identifier → (a b c : Bool) → is_reserved f m.word ≡ a
+        → is_some (attribute_named d.names m.word) ≡ b → nat_le MOST_ATTRIBUTES (length d.names) ≡ c
         → NameTells f column d d.names (length d.names) some m
         (cond a (Err kind.ReservedName)
         (cond b (Err kind.DoubleName) (cond c (Err kind.TooManyAttributes) (Ok (add_name d m.word column)))))
     word is true b c reserved double full =
-        (inl (is, inl (inl (refl, reserved))), (λ n complaint. omega arith), tt)
+        (inl (is, inl (inl (refl, reserved))), (λ n diagnostic. omega arith), tt)
     word is false true c free double full =
-        (inl (is, inl (inr (refl, double))), (λ n complaint. grind arith), tt)
+        (inl (is, inl (inr (refl, double))), (λ n diagnostic. grind arith), tt)
     word is false false true free new full =
-        (inl (is, inr (refl, leb-true _ _ full)), (λ n complaint. grind arith), tt)
+        (inl (is, inr (refl, leb-true _ _ full)), (λ n diagnostic. grind arith), tt)
     word is false false false free new full =
-        (refl, is, λ n complaint. let room = leb-false _ _ full in grind arith)
+        (refl, is, λ n diagnostic. let room = leb-false _ _ full in grind arith)
 
     told : (k : TokenKind) → m.kind ≡ k
         → NameTells f column d d.names (length d.names) some m (name_step f column d some k m.word)
-    told token.Word is =
-        word is (is_reserved f m.word) (is_some (place_named d.names m.word))
-        (nat_le PLACES (length d.names)) refl refl refl
-    told k is = (inr (refl, λ other. cc), (λ n complaint. grind arith), refl)
+    told token.Identifier is =
+        word is (is_reserved f m.word) (is_some (attribute_named d.names m.word))
+        (nat_le MOST_ATTRIBUTES (length d.names)) refl refl refl
+    told k is = (inr (refl, λ other. cc), (λ n diagnostic. grind arith), refl)
 
 abbrev words_in : List Mark → List (List ℕ)
 words_in ms = map (λ w. w.word) ms
 
--- names are read where nothing is wrong, or refused by the first complaint, after so many of the words
+-- names are read where nothing is wrong, or refused by the first diagnostic, after so many of the words
 judge_names : (f : Format) (column : Column) (d : Declarations) (line first : ℕ) (whole : List Mark)
-    (stop : Option Stop)
+    (stop : Option LexError)
     (words : List Mark) (k from : ℕ) (some : Bool) (now : Declarations)
     → IsLeft line first whole stop k from words → now.names ≡ d.names ++ words_in (take k whole)
-    → All (λ w. w.kind ≡ token.Word) (take k whole) → NamesWant k (wanted some)
-    → ((p n : ℕ) → p < k → NamesComplaint f d whole stop p n → ⊥)
-    → Judged (NamesComplaint f d whole stop) NamesWant (span_at line first whole stop)
+    → All (λ w. w.kind ≡ token.Identifier) (take k whole) → NamesWant k (what_after_declaring some)
+    → ((p n : ℕ) → p < k → NamesDiagnostic f d whole stop p n → ⊥)
+    → Judged (NamesDiagnostic f d whole stop) NamesWant (span_at line first whole stop)
     (list_names f column line now some from words stop)
 unfolding list_names
 judge_names f column d line first whole stop [] k from some now left names each want before =
@@ -94,38 +94,38 @@ judge_names f column d line first whole stop [] k from some now left names each 
     there : span_at line first whole stop k ≡ span_at line from [] stop 0
     there = left.spans 0 k (omega arith)
 
-    ended : (p n : ℕ) → k ≤ p → NamesComplaint f d whole stop p n
-        → ((n ≡ 6) × (p ≡ 0)) ⊎ ((s : Stop) × (stop ≡ Some s) × (n ≡ flaw_number s.flaw))
-    ended p n on (inl (inl (m, is, each_word, complaint))) =
+    ended : (p n : ℕ) → k ≤ p → NamesDiagnostic f d whole stop p n
+        → ((n ≡ 6) × (p ≡ 0)) ⊎ ((s : LexError) × (stop ≡ Some s) × (n ≡ flaw_number s.flaw))
+    ended p n on (inl (inl (m, is, each_word, diagnostic))) =
         absurd (omega (arith, all, slice_get_within whole p m is))
-    ended p n on (inl (inr (six, place, nothing, none))) = inl (six, place)
-    ended p n on (inr (s, is, place, number)) = inr (s, is, number)
+    ended p n on (inl (inr (six, position, nothing, none))) = inl (six, position)
+    ended p n on (inr (s, is, position, number)) = inr (s, is, number)
 
-    told : (some : Bool) (o : Option Stop) → stop ≡ o → NamesWant k (wanted some)
-        → Judged (NamesComplaint f d whole stop) NamesWant (span_at line first whole stop)
+    told : (some : Bool) (o : Option LexError) → stop ≡ o → NamesWant k (what_after_declaring some)
+        → Judged (NamesDiagnostic f d whole stop) NamesWant (span_at line first whole stop)
         (list_names f column line now some from [] o)
-    told true None is want = λ p n complaint. ⊎_elim (λ (earlier : p < k). before p n earlier complaint)
+    told true None is want = λ p n diagnostic. ⊎_elim (λ (earlier : p < k). before p n earlier diagnostic)
         (λ (later : k ≤ p).
         ⊎_elim (λ none. ⊎_elim (λ here. let wrong = here.1 in cc) (λ on. omega (arith, on.0, none.1)) want)
-        (λ flaw. let wrong = flaw.1 in cc) (ended p n later complaint))
+        (λ flaw. let wrong = flaw.1 in cc) (ended p n later diagnostic))
         (cases_lt p k)
     told false None is want =
         let here : k ≡ 0 = ⊎_elim (λ here. here.0) (λ on. let wrong = on.1 in cc) want in
         first_at _ NamesWant _ (refusal line from 0 (kind.Expected what.Name)) k before
         (inl (inr (refl, here, nil_from_length whole (sym all ∙ here), is))) want
         (sym (there ∙ ap (λ o. span_at line from [] o 0) is))
-        (λ n complaint. ⊎_elim (λ none. omega (arith, none.0)) (λ flaw. let wrong = flaw.1 in cc)
-        (ended k n (omega arith) complaint))
+        (λ n diagnostic. ⊎_elim (λ none. omega (arith, none.0)) (λ flaw. let wrong = flaw.1 in cc)
+        (ended k n (omega arith) diagnostic))
     told some (Some s) is want =
         first_at _ NamesWant _ (refused_by line s) k before (inr (s, is, all, flaw_numbered s.flaw))
         (flaw_carries (NamesWant k) s.flaw)
         (sym (there ∙ ap (λ o. span_at line from [] o 0) is)) least
       where
-        least : (n : ℕ) → NamesComplaint f d whole stop k n → refusal_number (kind_of_flaw s.flaw) ≤ n
-        least n (inl (inl (m, here, each_word, complaint))) =
+        least : (n : ℕ) → NamesDiagnostic f d whole stop k n → refusal_number (kind_of_flaw s.flaw) ≤ n
+        least n (inl (inl (m, here, each_word, diagnostic))) =
             absurd (omega (arith, all, slice_get_within whole k m here))
-        least n (inl (inr (six, place, nothing, none))) = cc
-        least n (inr (t, here, place, number)) = flaw_least s t n (sym is ∙ here) number
+        least n (inl (inr (six, position, nothing, none))) = cc
+        least n (inr (t, here, position, number)) = flaw_least s t n (sym is ∙ here) number
 judge_names f column d line first whole stop (w ∷ words) k from some now left names each want before =
     let read = name_step f column now some w.kind w.word in
     let counted = subst (λ (c : ℕ). NameTells f column now now.names c some w read) count (name_tells f column now some w) in
@@ -148,21 +148,21 @@ judge_names f column d line first whole stop (w ∷ words) k from some now left 
         ap length names ∙ length-append d.names (words_in (take k whole)) ∙ ap (λ n. length d.names + n)
         (length-map (take k whole) (λ (x : Mark). x.word) ∙ length-take-le k whole (omega (arith, less)))
 
-    at_word : (n : ℕ) → NamesComplaint f d whole stop k n → NameComplaint f d whole k w n
-    at_word n (inl (inl (m, here, all, complaint))) =
-        subst (λ (x : Mark). NameComplaint f d whole k x n)
-        (let same : m ≡ w = cc (here, is) in same) complaint
-    at_word n (inl (inr (six, place, nothing, none))) = absurd (omega (arith, less, ap length nothing))
-    at_word n (inr (s, here, place, number)) = absurd (omega (arith, less))
+    at_word : (n : ℕ) → NamesDiagnostic f d whole stop k n → NameDiagnostic f d whole k w n
+    at_word n (inl (inl (m, here, all, diagnostic))) =
+        subst (λ (x : Mark). NameDiagnostic f d whole k x n)
+        (let same : m ≡ w = cc (here, is) in same) diagnostic
+    at_word n (inl (inr (six, position, nothing, none))) = absurd (omega (arith, less, ap length nothing))
+    at_word n (inr (s, here, position, number)) = absurd (omega (arith, less))
 
     told : (o : Result Declarations SchemaRefusalKind)
         → NameTells f column now (d.names ++ words_in (take k whole)) (length d.names + k) some w o
         → ((next : Declarations) → next.names ≡ d.names ++ words_in (take (suc k) whole)
-        → All (λ x. x.kind ≡ token.Word) (take (suc k) whole)
-        → ((p n : ℕ) → p < suc k → NamesComplaint f d whole stop p n → ⊥)
-        → Judged (NamesComplaint f d whole stop) NamesWant (span_at line first whole stop)
+        → All (λ x. x.kind ≡ token.Identifier) (take (suc k) whole)
+        → ((p n : ℕ) → p < suc k → NamesDiagnostic f d whole stop p n → ⊥)
+        → Judged (NamesDiagnostic f d whole stop) NamesWant (span_at line first whole stop)
         (list_names f column line next true (w.column + length w.word) words stop))
-        → Judged (NamesComplaint f d whole stop) NamesWant (span_at line first whole stop)
+        → Judged (NamesDiagnostic f d whole stop) NamesWant (span_at line first whole stop)
         (and_then (at line w.column (length w.word) o)
         (λ next. list_names f column line next true (w.column + length w.word) words stop))
     told (Ok next) (same, word, none) rest = rest next
@@ -170,31 +170,31 @@ judge_names f column d line first whole stop (w ∷ words) k from some now left 
         (words_in (take k whole)) (w.word ∷ [])
         ∙ ap (λ t. d.names ++ t)
         (sym (map-append (λ x. x.word) (take k whole) (w ∷ [])) ∙ ap words_in (sym taken)))
-        (rw taken (All-push (λ x. x.kind ≡ token.Word) (take k whole) w each word))
-        (λ p n small complaint. elim (cases_order p k) [
+        (rw taken (All-push (λ x. x.kind ≡ token.Identifier) (take k whole) w each word))
+        (λ p n small diagnostic. elim (cases_order p k) [
           | inl here ↦ none n (at_word n
-              (subst (λ (q : ℕ). NamesComplaint f d whole stop q n) here complaint))
-          | inr (inl earlier) ↦ before p n earlier complaint
+              (subst (λ (q : ℕ). NamesDiagnostic f d whole stop q n) here diagnostic))
+          | inr (inl earlier) ↦ before p n earlier diagnostic
           | inr (inr later) ↦ absurd (omega arith)
         ])
     told (Err why) (stands, least, carries) rest =
         first_at _ NamesWant _ (refusal line w.column (length w.word) why) k before
         (inl (inl (w, is, each, stands)))
-        (Carries-map (λ x. x ≡ wanted some) (NamesWant k)
+        (Carries-map (λ x. x ≡ what_after_declaring some) (NamesWant k)
         (λ x same. subst (NamesWant k) (sym same) want) why carries)
-        (sym (left.spans 0 k (omega arith))) (λ n complaint. least n (at_word n complaint))
+        (sym (left.spans 0 k (omega arith))) (λ n diagnostic. least n (at_word n diagnostic))
 
--- a declaring line is refused by its first complaint, and read where there is none
-pub names-law : (f : Format) (column : Column) (d : Declarations) (line next_column : ℕ) (words : List Mark) (stop : Option Stop)
+-- a declaring line is refused by its first diagnostic, and read where there is none
+pub names-law : (f : Format) (column : Column) (d : Declarations) (line next_column : ℕ) (words : List Mark) (stop : Option LexError)
     → FitsNames f d line next_column words stop (list_names f column line d false next_column words stop)
 names-law f column d line next_column words stop =
     fits (list_names f column line d false next_column words stop)
     (judge_names f column d line next_column words stop words 0 next_column false d
-    (left_whole line next_column words stop) (sym (append-nil d.names)) (All-nil (λ w. w.kind ≡ token.Word))
+    (left_whole line next_column words stop) (sym (append-nil d.names)) (All-nil (λ w. w.kind ≡ token.Identifier))
     (inl (refl, refl)) (λ p n less. absurd (omega arith)))
   where
     fits : (res : Result Declarations SchemaRefusal)
-        → Judged (NamesComplaint f d words stop) NamesWant (span_at line next_column words stop) res
+        → Judged (NamesDiagnostic f d words stop) NamesWant (span_at line next_column words stop) res
         → FitsNames f d line next_column words stop res
     fits (Ok whole) none = none
     fits (Err e) first = first

@@ -1,4 +1,4 @@
--- A text has one refusal at most: the first complaint, and what it carries.
+-- A text has one refusal at most: the first diagnostic, and what it carries.
 use Rattle.std.proofs.Common.{◌≡◌, ◌<◌, ◌≤◌, ◌⊎◌, ℕ, true, List, [], ◌∷◌, ◌++◌, take, Option, Some, None, Ok, Err, Result, refl, sym, ◌∙◌, ap, subst, arith}
 use Rattle.lexer.specs.declared.token.TokenKind.{TokenKind}
 use Rattle.lexer.specs.declared.token.TokenKind.TheVariants as token
@@ -10,8 +10,8 @@ use Rattle.schema_grammar.specs.declared.refusal.SchemaRefusalKind.TheVariants a
 use Rattle.schema_grammar.specs.declared.refusal.Span.{Span}
 use Rattle.schema_grammar.specs.declared.refusal.What.{What}
 use Rattle.schema_grammar.specs.declared.refusal.What.TheVariants as what
-use Rattle.schema_grammar.specs.Complaints.{Wants, AtFirst, NamesWant, HeadWants, TextLineWants, Carries, IsFirst, kinds, refusal_number}
-use Rattle.schema_grammar.specs.Words.{declares}
+use Rattle.schema_grammar.specs.Diagnostics.{Wants, AtFirst, NamesWant, HeadWants, TextLineWants, Carries, IsFirst, kinds, refusal_number}
+use Rattle.schema_grammar.specs.Words.{column_type_of_token}
 use Rattle.schema_grammar.proofs.ShapeLemmas.{Shape, at_start, in_left, past_empty, past_arrow, in_right, past_end, bind, runs, is_final, wanted_by, runs-append, begins_to, line_ends}
 
 -- one thing at most is wanted
@@ -30,31 +30,31 @@ same_refusal e f span why =
     let of : SchemaRefusalKind → SchemaRefusal = λ k. record { span = f.span; kind = k } in
     ap at span ∙ ap of why
 
--- two first complaints stand at one place, and have one number
+-- two first diagnostics stand at one position, and have one number
 pub both_least : (p q n m : ℕ) → (p < q) ⊎ ((p ≡ q) × (n ≤ m)) → (q < p) ⊎ ((q ≡ p) × (m ≤ n)) → (p ≡ q) × (n ≡ m)
 both_least p q n m one other = omega arith
 
-pub one_first : (Complaint : ℕ → ℕ → Type 0) (Wanted : ℕ → What → Type 0) (span : ℕ → Span) (e f : SchemaRefusal) → ((p : ℕ) → OneWant (Wanted p))
-    → IsFirst Complaint Wanted span e → IsFirst Complaint Wanted span f → e ≡ f
-one_first Complaint Wanted span e f one first second =
-    let same = both_least first.place second.place (refusal_number e.kind) (refusal_number f.kind) (first.least second.place (refusal_number f.kind) second.stands) (second.least first.place (refusal_number e.kind) first.stands) in
-    let carries : Carries (Wanted first.place) f.kind = subst (λ (p : ℕ). Carries (Wanted p) f.kind) (sym same.0) second.carries in
-    same_refusal e f (first.there ∙ ap span same.0 ∙ sym second.there) (same_kind (Wanted first.place) e.kind f.kind (one first.place) first.carries carries same.1)
+pub one_first : (Diagnostic : ℕ → ℕ → Type 0) (Wanted : ℕ → What → Type 0) (span : ℕ → Span) (e f : SchemaRefusal) → ((p : ℕ) → OneWant (Wanted p))
+    → IsFirst Diagnostic Wanted span e → IsFirst Diagnostic Wanted span f → e ≡ f
+one_first Diagnostic Wanted span e f one first second =
+    let same = both_least first.position second.position (refusal_number e.kind) (refusal_number f.kind) (first.least second.position (refusal_number f.kind) second.stands) (second.least first.position (refusal_number e.kind) first.stands) in
+    let carries : Carries (Wanted first.position) f.kind = subst (λ (p : ℕ). Carries (Wanted p) f.kind) (sym same.0) second.carries in
+    same_refusal e f (first.there ∙ ap span same.0 ∙ sym second.there) (same_kind (Wanted first.position) e.kind f.kind (one first.position) first.carries carries same.1)
 
 pub same_carried : (Wanted : What → Type 0) (e f : SchemaRefusal) → OneWant Wanted → Carries Wanted e.kind → Carries Wanted f.kind → refusal_number e.kind ≡ refusal_number f.kind → e.kind ≡ f.kind
 same_carried Wanted e f = same_kind Wanted e.kind f.kind
 
--- what reads or refuses by the first complaint, refuses by no other
-pub one_refused : {X : Type 0} (Fits : Result X SchemaRefusal → Type 0) (Complaint : ℕ → ℕ → Type 0)
+-- what reads or refuses by the first diagnostic, refuses by no other
+pub one_refused : {X : Type 0} (Fits : Result X SchemaRefusal → Type 0) (Diagnostic : ℕ → ℕ → Type 0)
     (Wanted : ℕ → What → Type 0) (span : ℕ → Span)
-    → ((x : X) → Fits (Ok x) → (p n : ℕ) → Complaint p n → ⊥)
-    → ((g : SchemaRefusal) → Fits (Err g) → IsFirst Complaint Wanted span g)
+    → ((x : X) → Fits (Ok x) → (p n : ℕ) → Diagnostic p n → ⊥)
+    → ((g : SchemaRefusal) → Fits (Err g) → IsFirst Diagnostic Wanted span g)
     → ((p : ℕ) → OneWant (Wanted p)) → (r : Result X SchemaRefusal) (e : SchemaRefusal) → Fits r
-    → IsFirst Complaint Wanted span e → r ≡ Err e
-one_refused Fits Complaint Wanted span none other one (Ok x) e fits first =
-    absurd (none x fits first.place (refusal_number e.kind) first.stands)
-one_refused Fits Complaint Wanted span none other one (Err g) e fits first =
-    ap Err (one_first Complaint Wanted span g e one (other g fits) first)
+    → IsFirst Diagnostic Wanted span e → r ≡ Err e
+one_refused Fits Diagnostic Wanted span none other one (Ok x) e fits first =
+    absurd (none x fits first.position (refusal_number e.kind) first.stands)
+one_refused Fits Diagnostic Wanted span none other one (Err g) e fits first =
+    ap Err (one_first Diagnostic Wanted span g e one (other g fits) first)
 
 -- ---- what is wanted
 abbrev wanted_after : Option Shape → Option What
@@ -92,13 +92,13 @@ wanted_at ks w h = absurd h
 pub one_want : (ks : List TokenKind) → OneWant (Wants ks)
 one_want ks w v h g = let first = wanted_at ks w h in let second = wanted_at ks v g in cc
 
-pub one_at_first : (first : What) (place : ℕ) → OneWant (AtFirst first place)
-one_at_first first place w v one other = grind arith
+pub one_at_first : (first : What) (position : ℕ) → OneWant (AtFirst first position)
+one_at_first first position w v one other = grind arith
 
 pub one_text_line : (f : Format) (ms : List Mark) (p : ℕ) → OneWant (TextLineWants f ms p)
 one_text_line f [] p w v h g = absurd h
 one_text_line f (m ∷ ms) p w v h g =
-    (elim (declares f m.kind m.word) as (λ o. HeadWants m ms o p w → HeadWants m ms o p v → w ≡ v) [
+    (elim (column_type_of_token f m.kind m.word) as (λ o. HeadWants m ms o p w → HeadWants m ms o p v → w ≡ v) [
       | Some column ↦ λ (later, is, one) (other, again, two).
           one_at_first what.Name later w v one
           (let same : other ≡ later = omega arith in subst (λ (k : ℕ). NamesWant k v) same two)

@@ -9,13 +9,13 @@ use Rattle.schema_grammar.specs.declared.format.Format.{Format}
 use Rattle.schema_grammar.specs.declared.format.Format.TheVariants as format
 use Rattle.schema_grammar.specs.declared.refusal.SchemaRefusal.{SchemaRefusal}
 use Rattle.schema_grammar.specs.declared.refusal.What.TheVariants as what
-use Rattle.schema_grammar.specs.Complaints.{TextLineWants, IsFirst, TextLineComplaint, FitsTextLine, FitsGoal, RefusesGoal, span_at}
+use Rattle.schema_grammar.specs.Diagnostics.{TextLineWants, IsFirst, TextLineDiagnostic, FitsTextLine, FitsGoal, RefusesGoal, span_at}
 use Rattle.schema_grammar.specs.Declarations.{Declarations, no_declaration, read_line}
 use Rattle.schema_grammar.specs.Reading.{read_goal}
 use Rattle.schema_grammar.specs.Refusals.{and_then}
 use Rattle.schema_grammar.specs.Schemas.{RefusesLines, FitsVersion, RefusesText, RefusesSchema}
 use Rattle.schema_grammar.specs.Texts.{read_lines, read_opening, read_text, finish}
-use Rattle.schema_grammar.proofs.ComplaintLaws.{goal-complaint-law, goal_refused}
+use Rattle.schema_grammar.proofs.DiagnosticLaws.{goal-diagnostic-law, goal_refused}
 use Rattle.schema_grammar.proofs.DeclaringLaws.{before_read}
 use Rattle.schema_grammar.proofs.LinesLaws.{line-law}
 use Rattle.schema_grammar.proofs.OneRefusal.{one_refused, one_at_first, one_text_line, one_want}
@@ -32,13 +32,13 @@ lines_refused f first d lines e (inl found) =
     let marks = (lex mode.Plain stands.line).marks in
     let stop = (lex mode.Plain stands.line).stop in
     let number = first + length stands.before in
-    let on_line : IsFirst (TextLineComplaint f stands.declared marks stop) (TextLineWants f marks)
+    let on_line : IsFirst (TextLineDiagnostic f stands.declared marks stop) (TextLineWants f marks)
     (span_at number 1 marks stop) e = record {
-      place = found.place;
-      stands = stands.complaint;
+      position = found.position;
+      stands = stands.diagnostic;
       carries = found.carries;
-      there = found.there ∙ ap (λ k. span_at k 1 marks stop found.place) stands.stands_on;
-      least = λ p n complaint. ⊎_elim (λ less. absurd (omega arith)) (λ here. here.1)
+      there = found.there ∙ ap (λ k. span_at k 1 marks stop found.position) stands.stands_on;
+      least = λ p n diagnostic. ⊎_elim (λ less. absurd (omega arith)) (λ here. here.1)
           (found.least e.span.line p n (record {
             before = stands.before;
             line = stands.line;
@@ -47,7 +47,7 @@ lines_refused f first d lines e (inl found) =
             cut = stands.cut;
             means = stands.means;
             stands_on = stands.stands_on;
-            complaint = complaint;
+            diagnostic = diagnostic;
           }));
     } in
     let refused : read_line f number stands.declared stands.line ≡ Err e =
@@ -87,5 +87,5 @@ goal-refusal-law declared text e = (
   goal_refused declared text e,
   λ first.
       one_refused (FitsGoal declared text) _ _ _ (λ x none. none) (λ g first. first) (λ p. one_want _) _ e
-      (goal-complaint-law declared text) first,
+      (goal-diagnostic-law declared text) first,
 )

@@ -5,21 +5,21 @@ use Rattle.std.specs.Str.{bytes_eq}
 use Rattle.std.proofs.lemmas.Bool.{cases_Bool}
 use Rattle.std.proofs.lemmas.List.{append-nil}
 use Rattle.std.proofs.lemmas.Slice.Eq.{bytes_eq-Decides}
-use Rattle.attr_sets.specs.Places.{Places, Within, below}
+use Rattle.attr_sets.specs.Attributes.{Attributes, IsSubset, below}
 use Rattle.dep_model.specs.Dependencies.{Dependency, fd, mvd, IsWithin}
 use Rattle.lexer.specs.declared.token.Mode.{Mode}
 use Rattle.lexer.specs.declared.token.Mode.TheVariants as mode
 use Rattle.lexer.specs.declared.token.TokenKind.TheVariants as token
-use Rattle.lexer.specs.Tokens.{Mark, Lexed, lexed, lex, led_by_mark}
+use Rattle.lexer.specs.Tokens.{Mark, Lexed, tokens_after, lex, led_by_mark}
 use Rattle.lexer.proofs.Steps.{at_end}
 use Rattle.schema_grammar.specs.declared.symbol.Sign.{Sign}
 use Rattle.schema_grammar.specs.declared.symbol.Sign.TheVariants as sign
 use Rattle.schema_grammar.specs.declared.format.Format.{Format}
 use Rattle.schema_grammar.specs.declared.format.Format.TheVariants as format
-use Rattle.schema_grammar.specs.Grammar.{stated}
+use Rattle.schema_grammar.specs.Grammar.{dependency_of_sign}
 use Rattle.schema_grammar.specs.Meanings.{HasTokens, IsArrow, IsDependency}
 use Rattle.schema_printer.specs.Printing.{side_text, members_from, set_text, dependency_text}
-use Rattle.schema_grammar.specs.Words.{is_reserved, declares, declaring}
+use Rattle.schema_grammar.specs.Words.{is_reserved, column_type_of_token, column_type_of_word}
 use Rattle.schema_grammar.specs.Printed.{AreNames}
 use Rattle.schema_grammar.proofs.PrintedLexing.{AllNames, Apart, side_marks, side_end, led_by_marks, side_lexed, arrow_lexed, double_arrow_lexed}
 use Rattle.schema_grammar.proofs.PrintedSides.{EachKnown, printed_side, printed_names, members_known}
@@ -28,13 +28,13 @@ pub led_marks : (ms : List Mark) (l : Lexed) → led_by_marks ms l ≡ record { 
 led_marks [] l = refl
 led_marks (m ∷ ms) l = ap (led_by_mark m) (led_marks ms l)
 
-pub nothing_left : (m : Mode) (column : ℕ) → lexed m 0 column [] ≡ record { marks = []; stop = None }
+pub nothing_left : (m : Mode) (column : ℕ) → tokens_after m 0 column [] ≡ record { marks = []; stop = None }
 nothing_left m column = at_end m column [] refl
 
 pub last_side : (m : Mode) (column : ℕ) (words : List (List ℕ)) → AllNames words
-    → lexed m 0 column (side_text words) ≡ record { marks = side_marks column words; stop = None }
+    → tokens_after m 0 column (side_text words) ≡ record { marks = side_marks column words; stop = None }
 last_side m column words names =
-    ap (lexed m 0 column) (sym (append-nil (side_text words))) ∙ side_lexed m column words [] names tt
+    ap (tokens_after m 0 column) (sym (append-nil (side_text words))) ∙ side_lexed m column words [] names tt
     ∙ ap (led_by_marks (side_marks column words)) (nothing_left m (side_end column words)) ∙ led_marks (side_marks column words) _
     ∙ ap (λ ms. record { marks = ms; stop = None }) (append-nil (side_marks column words))
 
@@ -60,7 +60,7 @@ sides_lexed : (s : Sign) (left right : List (List ℕ)) → AllNames left → Al
     → HasTokens (lex mode.Plain ((side_text left ++ sign_text s) ++ side_text right))
     (sides_marks s left right)
 sides_lexed s left right left_names right_names =
-    ap (lexed mode.Plain 0 1) (append_assoc (side_text left) (sign_text s) (side_text right))
+    ap (tokens_after mode.Plain 0 1) (append_assoc (side_text left) (sign_text s) (side_text right))
     ∙ side_lexed mode.Plain 1 left (sign_text s ++ side_text right) left_names
     (elim s as (λ s. Apart (sign_text s ++ side_text right)) [ sign.Functional ↦ refl | _ ↦ refl ])
     ∙ ap (led_by_marks (side_marks 1 left))
@@ -68,9 +68,9 @@ sides_lexed s left right left_names right_names =
     (last_side mode.Plain (right_column s left) right right_names))
     ∙ led_marks (side_marks 1 left) _
   where
-    sign_lexed : (s : Sign) → lexed mode.Plain 0 (side_end 1 left) (sign_text s ++ side_text right)
+    sign_lexed : (s : Sign) → tokens_after mode.Plain 0 (side_end 1 left) (sign_text s ++ side_text right)
         ≡ led_by_mark (sign_mark s (side_end 1 left + 1))
-        (lexed mode.Plain 0 (right_column s left) (side_text right))
+        (tokens_after mode.Plain 0 (right_column s left) (side_text right))
     sign_lexed sign.Functional = arrow_lexed mode.Plain (side_end 1 left) (side_text right)
     sign_lexed sign.Multivalued = double_arrow_lexed mode.Plain (side_end 1 left) (side_text right)
 
@@ -80,8 +80,8 @@ reserved_word f word key same reserved free =
     ∙ free in cc
 
 -- a word that is not reserved declares nothing
-free_declares : (f : Format) (word : List ℕ) → is_reserved f word ≡ false → declaring f word ≡ None
-unfolding is_reserved declaring
+free_declares : (f : Format) (word : List ℕ) → is_reserved f word ≡ false → column_type_of_word f word ≡ None
+unfolding is_reserved column_type_of_word
 free_declares format.Plain word e = elim (cases_Bool (bytes_eq word (codes "attributes"))) [
   | inl is ↦ absurd (reserved_word format.Plain word (codes "attributes") is refl e)
   | inr other ↦ rw other refl
@@ -102,7 +102,7 @@ pub record PrintsLine (f : Format) (names : List (List ℕ)) (line : List ℕ) (
   pub head : Mark
   pub others : List Mark
   pub tokens : HasTokens (lex mode.Plain line) (head ∷ others)
-  pub stating : declares f head.kind head.word ≡ None
+  pub stating : column_type_of_token f head.kind head.word ≡ None
   pub dependency : IsDependency f names (head ∷ others) d
 
 -- the first of the marks of a side, which states no names
@@ -110,18 +110,18 @@ record Heads (f : Format) (ms : List Mark) : Type 0 where
   head : Mark
   others : List Mark
   whole : ms ≡ head ∷ others
-  stating : declares f head.kind head.word ≡ None
+  stating : column_type_of_token f head.kind head.word ≡ None
 
 side_heads : (f : Format) (names : List (List ℕ)) (column : ℕ) (words : List (List ℕ))
     → EachKnown f names words → Heads f (side_marks column words)
-unfolding declares
+unfolding column_type_of_token
 side_heads f names column [] known = record { head = _; others = _; whole = refl; stating = refl }
 side_heads f names column (word ∷ words) (here, rest) =
     record { head = _; others = _; whole = refl; stating = free_declares f word here.1.free }
 
-printed_sides : (f : Format) (names : List (List ℕ)) (s : Sign) (x y : Places) → AreNames f names
-    → Within x (below (length names)) → Within y (below (length names))
-    → PrintsLine f names ((set_text names x ++ sign_text s) ++ set_text names y) (stated s x y)
+printed_sides : (f : Format) (names : List (List ℕ)) (s : Sign) (x y : Attributes) → AreNames f names
+    → IsSubset x (below (length names)) → IsSubset y (below (length names))
+    → PrintsLine f names ((set_text names x ++ sign_text s) ++ set_text names y) (dependency_of_sign s x y)
 unfolding set_text
 printed_sides f names s x y are left right =
     let column = side_end 1 (members_from x 0 names) + 1 in
@@ -136,7 +136,7 @@ printed_sides f names s x y are left right =
           (printed_names f names y are)
           ∙ ap (λ ms. record { marks = ms ++ rest; stop = None }) heads.whole;
       stating = heads.stating;
-      dependency = subst (λ (ms : List Mark). IsDependency f names ms (stated s x y))
+      dependency = subst (λ (ms : List Mark). IsDependency f names ms (dependency_of_sign s x y))
           (ap (λ ms. ms ++ rest) heads.whole) (record {
             lhs = side_marks 1 (members_from x 0 names);
             arrow = sign_mark s column;

@@ -11,8 +11,8 @@ use Rattle.lexer.specs.declared.piece.Piece.TheVariants as piece
 use Rattle.lexer.specs.declared.token.Mode.{Mode}
 use Rattle.lexer.specs.declared.token.TokenKind.TheVariants as token
 use Rattle.lexer.specs.Bytes.{is_gap, run_length}
-use Rattle.lexer.specs.Pieces.{front, run_piece}
-use Rattle.lexer.specs.Tokens.{Mark, Lexed, lexed, led_by_mark}
+use Rattle.lexer.specs.Pieces.{front_piece, run_piece}
+use Rattle.lexer.specs.Tokens.{Mark, Lexed, tokens_after, led_by_mark}
 use Rattle.schema_printer.specs.Printing.{words_text, side_text}
 use Rattle.lexer.proofs.Steps.{at_token, after_gap}
 
@@ -42,8 +42,8 @@ run_is (b ∷ bs) rest e apart =
     rw (parts.0, more) (omega arith)
 
 -- the front of a text that begins with a name
-front_name : (m : Mode) (word rest : List ℕ) → is_name word ≡ true → Apart rest → front m (word ++ rest) ≡ piece.Token token.Word (length word)
-unfolding front run_piece
+front_name : (m : Mode) (word rest : List ℕ) → is_name word ≡ true → Apart rest → front_piece m (word ++ rest) ≡ piece.Token token.Identifier (length word)
+unfolding front_piece run_piece
 front_name m [] rest e apart = cc
 front_name m (first ∷ others) rest e apart =
     let parts = named_parts first others e in
@@ -58,16 +58,16 @@ front_name m (first ∷ others) rest e apart =
 
 -- a name is a token
 pub name_lexed : (m : Mode) (column : ℕ) (word rest : List ℕ) → is_name word ≡ true → Apart rest
-    → lexed m 0 column (word ++ rest) ≡ led_by_mark (record { kind = token.Word; column = column; word = word }) (lexed m 0 (column + length word) rest)
+    → tokens_after m 0 column (word ++ rest) ≡ led_by_mark (record { kind = token.Identifier; column = column; word = word }) (tokens_after m 0 (column + length word) rest)
 name_lexed m column [] rest e apart = cc
 name_lexed m column (first ∷ others) rest e apart =
-    let whole = at_token m column ((first ∷ others) ++ rest) token.Word (length (first ∷ others)) (omega arith) (sym (front_name m (first ∷ others) rest e apart)) in
+    let whole = at_token m column ((first ∷ others) ++ rest) token.Identifier (length (first ∷ others)) (omega arith) (sym (front_name m (first ∷ others) rest e apart)) in
     whole ∙ (rw (take-append_seam (first ∷ others) rest, drop-append_seam (first ∷ others) rest) refl)
 
 -- the tokens of words, each after a blank
 abbrev pub word_marks : ℕ → List (List ℕ) → List Mark
 word_marks column [] = []
-word_marks column (word ∷ words) = record { kind = token.Word; column = column + 1; word = word } ∷ word_marks (column + 1 + length word) words
+word_marks column (word ∷ words) = record { kind = token.Identifier; column = column + 1; word = word } ∷ word_marks (column + 1 + length word) words
 
 -- where they end
 abbrev pub words_end : ℕ → List (List ℕ) → ℕ
@@ -82,8 +82,8 @@ abbrev pub AllNames : List (List ℕ) → Type 0
 AllNames [] = Unit {0}
 AllNames (word ∷ words) = (is_name word ≡ true) × AllNames words
 
-pub blank_lexed : (m : Mode) (column : ℕ) (text : List ℕ) → lexed m 0 column (32 ∷ text) ≡ lexed m 0 (column + 1) text
-unfolding front
+pub blank_lexed : (m : Mode) (column : ℕ) (text : List ℕ) → tokens_after m 0 column (32 ∷ text) ≡ tokens_after m 0 (column + 1) text
+unfolding front_piece
 blank_lexed m column text = after_gap m column (32 ∷ text) (omega arith) refl
 
 apart_words : (words : List (List ℕ)) (rest : List ℕ) → Apart rest → Apart (words_text words ++ rest)
@@ -91,42 +91,42 @@ apart_words [] rest apart = apart
 apart_words (word ∷ words) rest apart = refl
 
 pub words_lexed : (m : Mode) (column : ℕ) (words : List (List ℕ)) (rest : List ℕ) → AllNames words → Apart rest
-    → lexed m 0 column (words_text words ++ rest) ≡ led_by_marks (word_marks column words) (lexed m 0 (words_end column words) rest)
+    → tokens_after m 0 column (words_text words ++ rest) ≡ led_by_marks (word_marks column words) (tokens_after m 0 (words_end column words) rest)
 words_lexed m column [] rest names apart = refl
 words_lexed m column (word ∷ words) rest names apart =
     let cut : words_text (word ∷ words) ++ rest ≡ 32 ∷ (word ++ (words_text words ++ rest)) = ap (λ t. 32 ∷ t) (append_assoc word (words_text words) rest) in
-    ap (lexed m 0 column) cut ∙ blank_lexed m column (word ++ (words_text words ++ rest))
+    ap (tokens_after m 0 column) cut ∙ blank_lexed m column (word ++ (words_text words ++ rest))
     ∙ name_lexed m (column + 1) word (words_text words ++ rest) names.0 (apart_words words rest apart)
-    ∙ ap (led_by_mark (record { kind = token.Word; column = column + 1; word = word })) (words_lexed m (column + 1 + length word) words rest names.1 apart)
+    ∙ ap (led_by_mark (record { kind = token.Identifier; column = column + 1; word = word })) (words_lexed m (column + 1 + length word) words rest names.1 apart)
 
 -- a side
 abbrev pub side_marks : ℕ → List (List ℕ) → List Mark
 side_marks column [] = record { kind = token.Empty; column = column; word = 40 ∷ 41 ∷ [] } ∷ []
-side_marks column (word ∷ words) = record { kind = token.Word; column = column; word = word } ∷ word_marks (column + length word) words
+side_marks column (word ∷ words) = record { kind = token.Identifier; column = column; word = word } ∷ word_marks (column + length word) words
 
 abbrev pub side_end : ℕ → List (List ℕ) → ℕ
 side_end column [] = column + 2
 side_end column (word ∷ words) = words_end (column + length word) words
 
 pub side_lexed : (m : Mode) (column : ℕ) (words : List (List ℕ)) (rest : List ℕ) → AllNames words → Apart rest
-    → lexed m 0 column (side_text words ++ rest) ≡ led_by_marks (side_marks column words) (lexed m 0 (side_end column words) rest)
-unfolding front
+    → tokens_after m 0 column (side_text words ++ rest) ≡ led_by_marks (side_marks column words) (tokens_after m 0 (side_end column words) rest)
+unfolding front_piece
 side_lexed m column [] rest names apart = at_token m column (40 ∷ 41 ∷ rest) token.Empty 2 (omega arith) refl
 side_lexed m column (word ∷ words) rest names apart =
-    ap (lexed m 0 column) (append_assoc word (words_text words) rest)
+    ap (tokens_after m 0 column) (append_assoc word (words_text words) rest)
     ∙ name_lexed m column word (words_text words ++ rest) names.0 (apart_words words rest apart)
-    ∙ ap (led_by_mark (record { kind = token.Word; column = column; word = word })) (words_lexed m (column + length word) words rest names.1 apart)
+    ∙ ap (led_by_mark (record { kind = token.Identifier; column = column; word = word })) (words_lexed m (column + length word) words rest names.1 apart)
 
-pub arrow_lexed : (m : Mode) (column : ℕ) (rest : List ℕ) → lexed m 0 column (32 ∷ 45 ∷ 62 ∷ 32 ∷ rest)
-    ≡ led_by_mark (record { kind = token.Arrow; column = column + 1; word = 45 ∷ 62 ∷ [] }) (lexed m 0 (column + 1 + 2 + 1) rest)
-unfolding front
+pub arrow_lexed : (m : Mode) (column : ℕ) (rest : List ℕ) → tokens_after m 0 column (32 ∷ 45 ∷ 62 ∷ 32 ∷ rest)
+    ≡ led_by_mark (record { kind = token.Arrow; column = column + 1; word = 45 ∷ 62 ∷ [] }) (tokens_after m 0 (column + 1 + 2 + 1) rest)
+unfolding front_piece
 arrow_lexed m column rest =
     blank_lexed m column (45 ∷ 62 ∷ 32 ∷ rest) ∙ at_token m (column + 1) (45 ∷ 62 ∷ 32 ∷ rest) token.Arrow 2 (omega arith) refl
     ∙ ap (led_by_mark (record { kind = token.Arrow; column = column + 1; word = 45 ∷ 62 ∷ [] })) (blank_lexed m (column + 1 + 2) rest)
 
-pub double_arrow_lexed : (m : Mode) (column : ℕ) (rest : List ℕ) → lexed m 0 column (32 ∷ 45 ∷ 62 ∷ 62 ∷ 32 ∷ rest)
-    ≡ led_by_mark (record { kind = token.DoubleArrow; column = column + 1; word = 45 ∷ 62 ∷ 62 ∷ [] }) (lexed m 0 (column + 1 + 3 + 1) rest)
-unfolding front
+pub double_arrow_lexed : (m : Mode) (column : ℕ) (rest : List ℕ) → tokens_after m 0 column (32 ∷ 45 ∷ 62 ∷ 62 ∷ 32 ∷ rest)
+    ≡ led_by_mark (record { kind = token.DoubleArrow; column = column + 1; word = 45 ∷ 62 ∷ 62 ∷ [] }) (tokens_after m 0 (column + 1 + 3 + 1) rest)
+unfolding front_piece
 double_arrow_lexed m column rest =
     blank_lexed m column (45 ∷ 62 ∷ 62 ∷ 32 ∷ rest) ∙ at_token m (column + 1) (45 ∷ 62 ∷ 62 ∷ 32 ∷ rest) token.DoubleArrow 3 (omega arith) refl
     ∙ ap (led_by_mark (record { kind = token.DoubleArrow; column = column + 1; word = 45 ∷ 62 ∷ 62 ∷ [] })) (blank_lexed m (column + 1 + 3) rest)

@@ -6,7 +6,7 @@ use Rattle.std.proofs.lemmas.Bool.{cases_Bool}
 use Rattle.std.proofs.lemmas.List.{append-nil, length-map}
 use Rattle.std.proofs.lemmas.List.Elements.{All-nil}
 use Rattle.std.proofs.lemmas.List.Folds.{Any-from_list_any}
-use Rattle.attr_sets.specs.declared.set.TheConstants.{PLACES}
+use Rattle.attr_sets.specs.declared.set.TheConstants.{MOST_ATTRIBUTES}
 use Rattle.dep_model.specs.declared.column.Column.{Column}
 use Rattle.dep_model.specs.declared.column.Column.TheVariants.{Text, Integer}
 use Rattle.dep_model.specs.declared.schema.Schema.{Schema}
@@ -19,7 +19,7 @@ use Rattle.lexer.specs.declared.token.Mode.TheVariants as mode
 use Rattle.lexer.specs.declared.token.TokenKind.TheVariants as token
 use Rattle.lexer.specs.Bytes.{is_number}
 use Rattle.lexer.specs.Lines.{line_texts, without_mark}
-use Rattle.lexer.specs.Pieces.{front, run_piece}
+use Rattle.lexer.specs.Pieces.{front_piece, run_piece}
 use Rattle.lexer.specs.Tokens.{lex, led_by_mark}
 use Rattle.lexer.proofs.Steps.{at_token}
 use Rattle.schema_grammar.specs.declared.format.Format.{Format}
@@ -29,25 +29,25 @@ use Rattle.schema_grammar.specs.Meanings.{HasTokens}
 use Rattle.schema_printer.specs.Printing.{words_text, dependency_text, Run, run_line, runs_of, in_front, same_column, type_word, is_integer, declaring_lines, declared_text}
 use Rattle.schema_grammar.specs.Schemas.{DeclareNames, MeansTextLine, MeansLines, IsVersionLine, IsPlainText, IsTypedText, MeansSchema, has_version_line}
 use Rattle.schema_grammar.specs.Texts.{is_version}
-use Rattle.schema_grammar.specs.Words.{is_reserved, declares, declaring}
+use Rattle.schema_grammar.specs.Words.{is_reserved, column_type_of_token, column_type_of_word}
 use Rattle.schema_grammar.specs.Printed.{AreNames, IsPrintable}
 use Rattle.schema_grammar.proofs.PrintedLexing.{AllNames, Apart, word_marks, name_lexed, blank_lexed}
 use Rattle.schema_grammar.proofs.PrintedDependencies.{last_side, nothing_left}
 use Rattle.schema_grammar.proofs.PrintedSides.{known_at, differ_before, IsCutAt, cut_more}
-use Rattle.schema_grammar.proofs.PrintedTexts.{Bytes, bytes_both, words_bytes, EachBytes, lines_cut, numbers, dependencies_mean, each_dependency, none_found}
+use Rattle.schema_grammar.proofs.PrintedTexts.{Bytes, bytes_both, words_bytes, EachBytes, lines_cut, line_numbers, dependencies_mean, each_dependency, none_found}
 
 -- a word, and words each after a blank
 pub word_line : (word : List ℕ) (words : List (List ℕ)) → is_name word ≡ true → AllNames words
-    → HasTokens (lex mode.Plain (word ++ words_text words)) (record { kind = token.Word; column = 1; word = word } ∷ word_marks (1 + length word) words)
+    → HasTokens (lex mode.Plain (word ++ words_text words)) (record { kind = token.Identifier; column = 1; word = word } ∷ word_marks (1 + length word) words)
 word_line word words proper names = last_side mode.Plain 1 (word ∷ words) (proper, names)
 
-front_proper : (f : Format) (names before words rest : List (List ℕ)) (place : ℕ) → AreNames f names
-    → IsCutAt names before (words ++ rest) place → AllNames words
-front_proper f names before [] rest place are cut = tt
-front_proper f names before (word ∷ words) rest place are cut = (
-  (known_at f names before word (words ++ rest) place are cut).proper,
-  front_proper f names (before ++ word ∷ []) words rest (place + 1) are
-      (cut_more names before word (words ++ rest) place cut),
+front_proper : (f : Format) (names before words rest : List (List ℕ)) (position : ℕ) → AreNames f names
+    → IsCutAt names before (words ++ rest) position → AllNames words
+front_proper f names before [] rest position are cut = tt
+front_proper f names before (word ∷ words) rest position are cut = (
+  (known_at f names before word (words ++ rest) position are cut).proper,
+  front_proper f names (before ++ word ∷ []) words rest (position + 1) are
+      (cut_more names before word (words ++ rest) position cut),
 )
 
 all_names : (f : Format) (names : List (List ℕ)) → AreNames f names → AllNames names
@@ -59,15 +59,15 @@ with_names d words column = record { names = d.names ++ words; columns = d.colum
 
 -- words in front of others are declared one by one
 declare_front : (f : Format) (column : Column) (d : Declarations) (names words rest : List (List ℕ))
-    (at place : ℕ) → AreNames f names → IsCutAt names d.names (words ++ rest) place
-    → length names ≤ PLACES → DeclareNames f column d (word_marks at words) (with_names d words column)
-declare_front f column d names [] rest at place are cut few =
+    (at position : ℕ) → AreNames f names → IsCutAt names d.names (words ++ rest) position
+    → length names ≤ MOST_ATTRIBUTES → DeclareNames f column d (word_marks at words) (with_names d words column)
+declare_front f column d names [] rest at position are cut few =
     λ i. record { names = append-nil d.names i; columns = append-nil d.columns i; deps = d.deps; lines = d.lines }
-declare_front f column d names (word ∷ words) rest at place are cut few =
-    let known = known_at f names d.names word (words ++ rest) place are cut in
+declare_front f column d names (word ∷ words) rest at position are cut few =
+    let known = known_at f names d.names word (words ++ rest) position are cut in
     let size : length names ≡ length d.names + suc (length (words ++ rest)) = ap length cut.whole ∙ length-append d.names (word ∷ words ++ rest) in
     let more = declare_front f column (add_name d word column) names words rest (at + 1 + length word)
-    (place + 1) are (cut_more names d.names word (words ++ rest) place cut) few in
+    (position + 1) are (cut_more names d.names word (words ++ rest) position cut) few in
     let same : with_names (add_name d word column) words column ≡ with_names d (word ∷ words) column =
     (λ i. record { names = append_assoc d.names (word ∷ []) words i; columns = append_assoc d.columns (column ∷ []) (map (λ w. column) words) i; deps = d.deps; lines = d.lines }) in
     let of : Declarations → Type 0 = λ w. DeclareNames f column (add_name d word column) (word_marks (at + 1 + length word) words) w in
@@ -76,16 +76,16 @@ declare_front f column d names (word ∷ words) rest at place are cut few =
 
 -- a declaring line as it is printed
 declaring_mean : (f : Format) (column : Column) (number : ℕ) (d : Declarations) (key : List ℕ)
-    (names words rest : List (List ℕ)) (place : ℕ) → AreNames f names
-    → IsCutAt names d.names (words ++ rest) place → length names ≤ PLACES → 0 < length words
-    → is_name key ≡ true → declares f token.Word key ≡ Some column
+    (names words rest : List (List ℕ)) (position : ℕ) → AreNames f names
+    → IsCutAt names d.names (words ++ rest) position → length names ≤ MOST_ATTRIBUTES → 0 < length words
+    → is_name key ≡ true → column_type_of_token f token.Identifier key ≡ Some column
     → MeansTextLine f number d (key ++ words_text words) (with_names d words column)
-declaring_mean f column number d key names words rest place are cut few some proper is =
+declaring_mean f column number d key names words rest position are cut few some proper is =
     inl (inr (record {
-      head = record { kind = token.Word; column = 1; word = key };
+      head = record { kind = token.Identifier; column = 1; word = key };
       words = word_marks (1 + length key) words;
       column = column;
-      tokens = word_line key words proper (front_proper f names d.names words rest place are cut);
+      tokens = word_line key words proper (front_proper f names d.names words rest position are cut);
       declaring = is;
       some = (elim words as
           (λ ws. 0 < length ws → 0 < length (word_marks (1 + length key) ws)) [
@@ -93,7 +93,7 @@ declaring_mean f column number d key names words rest place are cut few some pro
             | w ∷ ws ↦
                 λ h. omega arith
           ]) some;
-      names = declare_front f column d names words rest (1 + length key) place are cut few;
+      names = declare_front f column d names words rest (1 + length key) position are cut few;
     }))
 
 -- a text of text columns
@@ -105,8 +105,8 @@ all_text (Text ∷ columns) (name ∷ names) e none = ap (λ t. Text ∷ t) (all
 all_text (Integer ∷ columns) (name ∷ names) e none = cc
 
 -- the declarations that a printed text means
-abbrev declared : List Column → List (List ℕ) → List Dependency → ℕ → Declarations
-declared columns names deps number = record { names = names; columns = columns; deps = deps; lines = numbers number deps }
+abbrev printed_declarations : List Column → List (List ℕ) → List Dependency → ℕ → Declarations
+printed_declarations columns names deps number = record { names = names; columns = columns; deps = deps; lines = line_numbers number deps }
 
 -- runs of attributes
 abbrev run_names : List Run → List (List ℕ)
@@ -170,17 +170,17 @@ are_runs (column ∷ columns) (name ∷ names) e =
 abbrev with_runs : Declarations → List Run → Declarations
 with_runs d runs = record { names = d.names ++ run_names runs; columns = d.columns ++ run_columns runs; deps = d.deps; lines = d.lines }
 
-runs_mean : (number : ℕ) (d : Declarations) (names : List (List ℕ)) (runs : List Run) (lines : List (List ℕ)) (whole : Declarations) (place : ℕ) → AreNames format.Typed names
-    → IsCutAt names d.names (run_names runs) place → length names ≤ PLACES → EachSome runs → MeansLines format.Typed (number + length runs) (with_runs d runs) lines whole
+runs_mean : (number : ℕ) (d : Declarations) (names : List (List ℕ)) (runs : List Run) (lines : List (List ℕ)) (whole : Declarations) (position : ℕ) → AreNames format.Typed names
+    → IsCutAt names d.names (run_names runs) position → length names ≤ MOST_ATTRIBUTES → EachSome runs → MeansLines format.Typed (number + length runs) (with_runs d runs) lines whole
     → MeansLines format.Typed number d (map run_line runs ++ lines) whole
-unfolding declares declaring
-runs_mean number d names [] lines whole place are cut few some rest =
+unfolding column_type_of_token column_type_of_word
+runs_mean number d names [] lines whole position are cut few some rest =
     let same : with_runs d [] ≡ d = (λ i. record { names = append-nil d.names i; columns = append-nil d.columns i; deps = d.deps; lines = d.lines }) in
     let back : number + 0 ≡ number = omega arith in
     let of : Declarations → Type 0 = λ e. MeansLines format.Typed number e lines whole in
     let of_n : ℕ → Type 0 = λ n. MeansLines format.Typed n (with_runs d []) lines whole in
     subst of same (subst of_n back rest)
-runs_mean number d names (r ∷ runs) lines whole place are cut few (here, some) rest =
+runs_mean number d names (r ∷ runs) lines whole position are cut few (here, some) rest =
     let next = with_names d r.names r.column in
     let same : with_runs d (r ∷ runs) ≡ with_runs next runs =
     (λ i. record { names = sym (append_assoc d.names r.names (run_names runs)) i; columns = sym (append_assoc d.columns (map (λ w. r.column) r.names) (run_columns runs)) i; deps = d.deps; lines = d.lines }) in
@@ -189,11 +189,11 @@ runs_mean number d names (r ∷ runs) lines whole place are cut few (here, some)
     let of_n : ℕ → Type 0 = λ n. MeansLines format.Typed n (with_runs next runs) lines whole in
     let proper = elim (r.column) as (λ c. is_name (type_word c) ≡ true) [ Text ↦ refl | Integer ↦ refl ] in
     let declares_it = elim (r.column) as
-    (λ c. declares format.Typed token.Word (type_word c) ≡ Some c) [ Text ↦ refl | Integer ↦ refl ] in (
+    (λ c. column_type_of_token format.Typed token.Identifier (type_word c) ≡ Some c) [ Text ↦ refl | Integer ↦ refl ] in (
       next,
       declaring_mean format.Typed r.column number d (type_word r.column) names r.names
-          (run_names runs) place are cut few here proper declares_it,
-      runs_mean (number + 1) next names runs lines whole (place + length r.names) are
+          (run_names runs) position are cut few here proper declares_it,
+      runs_mean (number + 1) next names runs lines whole (position + length r.names) are
           (record {
             whole = cut.whole ∙ sym (append_assoc d.names r.names (run_names runs));
             size = length-append d.names r.names ∙ ap (λ k. k + length r.names) cut.size;
@@ -218,13 +218,13 @@ typed_names columns names deps is some = record {
         (any.0, any.2, ap (get_or columns any.0) (sym is_one) ∙ any.3 ∙ is_one)
 
 version_line : IsVersionLine (codes "version 2")
-unfolding front run_piece is_number is_version
+unfolding front_piece run_piece is_number is_version
 version_line = record {
-  head = record { kind = token.Word; column = 1; word = codes "version" };
+  head = record { kind = token.Identifier; column = 1; word = codes "version" };
   number = record { kind = token.Number 2; column = 9; word = 50 ∷ [] };
   tokens =
       name_lexed mode.Numbered 1 (codes "version") (32 ∷ 50 ∷ []) refl refl
-      ∙ ap (led_by_mark (record { kind = token.Word; column = 1; word = codes "version" }))
+      ∙ ap (led_by_mark (record { kind = token.Identifier; column = 1; word = codes "version" }))
       (blank_lexed mode.Numbered 8 (50 ∷ []) ∙ at_token mode.Numbered 9 (50 ∷ []) (token.Number 2) 1
       (omega arith) refl
       ∙ ap (led_by_mark (record { kind = token.Number 2; column = 9; word = 50 ∷ [] }))
@@ -267,7 +267,7 @@ Means columns names deps =
 plain_means : (columns : List Column) (names : List (List ℕ)) (deps : List Dependency)
     → IsPrintable columns names deps
     → list_any is_integer columns ≡ false → Means columns names deps
-unfolding declaring_lines declared_text declares declaring has_version_line is_version
+unfolding declaring_lines declared_text column_type_of_token column_type_of_word has_version_line is_version
 plain_means columns names deps is none =
     let line = codes "attributes" ++ words_text names in
     let rest = map (dependency_text names) deps ++ [] ∷ [] in
@@ -288,10 +288,10 @@ plain_means columns names deps is none =
     let few = is.few_deps in
     let more = dependencies_mean format.Plain 2 after_names deps is.are_names is.within (omega arith) in
     let of_columns : List Column → Type 0 =
-    λ cs. MeansLines format.Plain 2 after_names rest (declared cs names deps 2) in
+    λ cs. MeansLines format.Plain 2 after_names rest (printed_declarations cs names deps 2) in
     let means = subst of_columns (all_text columns names is.are_columns.one_each none) more in
-    let of : List (List ℕ) → Type 0 = λ ls. IsPlainText ls (declared columns names deps 2) in (
-      numbers 2 deps,
+    let of : List (List ℕ) → Type 0 = λ ls. IsPlainText ls (printed_declarations columns names deps 2) in (
+      line_numbers 2 deps,
       record {
         some = is.some;
         lines = inl
@@ -314,7 +314,7 @@ typed_means columns names deps is some =
     let rest = map (dependency_text names) deps ++ [] ∷ [] in
     let cut : line_texts (without_mark (declared_text columns names deps)) ≡ codes "version 2" ∷ (map run_line runs ++ rest) =
     ap line_texts unmarked ∙ text_cut columns names deps each is.are_names ∙ ap (λ ls. ls ++ rest) first in
-    let whole = declared columns names deps (2 + length runs) in
+    let whole = printed_declarations columns names deps (2 + length runs) in
     let filled : with_runs no_declaration runs ≡ record { names = names; columns = columns; deps = []; lines = [] } = (λ i. record { names = back i; columns = types i; deps = []; lines = [] }) in
     let last = dependencies_mean format.Typed (2 + length runs)
     (record { names = names; columns = columns; deps = []; lines = [] }) deps are is.within (omega (arith, is.few_deps)) in
@@ -322,7 +322,7 @@ typed_means columns names deps is some =
     let lines_mean = runs_mean 2 no_declaration names runs rest whole 0 are
     (record { whole = sym back; size = refl }) is.few cut_up.some (subst of_d (sym filled) last) in
     let of : List (List ℕ) → Type 0 = λ ls. IsTypedText ls whole in (
-      numbers (2 + length runs) deps,
+      line_numbers (2 + length runs) deps,
       record {
         some = is.some;
         lines = inr (subst of (sym cut) (record {

@@ -11,12 +11,12 @@ use Rattle.std.proofs.lemmas.List.{get_or_append_left, get_or_at}
 use Rattle.std.proofs.lemmas.List.Elements.{All-cons, All-nil}
 use Rattle.std.proofs.lemmas.List.Sums.{position_or_len_is}
 use Rattle.std.proofs.lemmas.Slice.Eq.{bytes_eq-Decides}
-use Rattle.attr_sets.specs.Places.{Places, none, below, Within}
+use Rattle.attr_sets.specs.Attributes.{Attributes, none, below, IsSubset}
 use Rattle.dep_model.specs.Names.{is_name, same_name}
-use Rattle.dep_model.specs.Schemas.{place_named}
-use Rattle.dep_model.proofs.NameLemmas.{found_at}
+use Rattle.dep_model.specs.Schemas.{attribute_named}
+use Rattle.dep_model.proofs.NameLemmas.{attribute_named-append}
 use Rattle.schema_grammar.specs.declared.format.Format.{Format}
-use Rattle.schema_grammar.specs.Meanings.{is_at, named, IsAttribute, IsSide}
+use Rattle.schema_grammar.specs.Meanings.{is_at, attributes_of_words, IsAttribute, IsSide}
 use Rattle.schema_printer.specs.Printing.{members_from}
 use Rattle.schema_grammar.specs.Words.{is_reserved}
 use Rattle.schema_grammar.specs.Printed.{AreNames}
@@ -37,33 +37,33 @@ differ_before f names before word words are e k d h =
     ) at differs
 
 -- what is known of the name in the middle
-pub record IsKnown (f : Format) (names : List (List ℕ)) (name : List ℕ) (place : ℕ) : Type 0 where
+pub record IsKnown (f : Format) (names : List (List ℕ)) (name : List ℕ) (position : ℕ) : Type 0 where
   pub proper : is_name name ≡ true
   pub free : is_reserved f name ≡ false
-  pub found : place_named names name ≡ Some place
+  pub found : attribute_named names name ≡ Some position
 
 -- each word is a known name
 abbrev pub EachKnown : Format → List (List ℕ) → List (List ℕ) → Type 0
 EachKnown f names [] = Unit {0}
-EachKnown f names (word ∷ words) = ((place : ℕ) × IsKnown f names word place) × EachKnown f names words
+EachKnown f names (word ∷ words) = ((position : ℕ) × IsKnown f names word position) × EachKnown f names words
 
 -- the attributes that words name
-abbrev pub words_set : List (List ℕ) → List (List ℕ) → Places
-words_set names words k = list_any (λ w. is_at (place_named names w) k) words
+abbrev pub words_set : List (List ℕ) → List (List ℕ) → Attributes
+words_set names words k = list_any (λ w. is_at (attribute_named names w) k) words
 
--- names are those before a place, and those from it on
-pub record IsCutAt (names before after : List (List ℕ)) (place : ℕ) : Type 0 where
+-- names are those before a position, and those from it on
+pub record IsCutAt (names before after : List (List ℕ)) (position : ℕ) : Type 0 where
   pub whole : names ≡ before ++ after
-  pub size : length before ≡ place
+  pub size : length before ≡ position
 
-pub cut_more : (names before : List (List ℕ)) (name : List ℕ) (after : List (List ℕ)) (place : ℕ) → IsCutAt names before (name ∷ after) place → IsCutAt names (before ++ name ∷ []) after (place + 1)
-cut_more names before name after place cut = record {
+pub cut_more : (names before : List (List ℕ)) (name : List ℕ) (after : List (List ℕ)) (position : ℕ) → IsCutAt names before (name ∷ after) position → IsCutAt names (before ++ name ∷ []) after (position + 1)
+cut_more names before name after position cut = record {
   whole = cut.whole ∙ sym (append_assoc before (name ∷ []) after);
   size = length-append before (name ∷ []) ∙ (let same = cut.size in omega arith);
 }
 
-pub known_at : (f : Format) (names before : List (List ℕ)) (name : List ℕ) (after : List (List ℕ)) (place : ℕ) → AreNames f names → IsCutAt names before (name ∷ after) place → IsKnown f names name place
-known_at f names before name after place are cut =
+pub known_at : (f : Format) (names before : List (List ℕ)) (name : List ℕ) (after : List (List ℕ)) (position : ℕ) → AreNames f names → IsCutAt names before (name ∷ after) position → IsKnown f names name position
+known_at f names before name after position are cut =
     let size : length (before ++ name ∷ after) ≡ length before + suc (length after) = length-append before (name ∷ after) in
     let whole : AreNames f (before ++ name ∷ after) = subst (AreNames f) cut.whole are in
     let here : get_or (before ++ name ∷ after) (length before) [] ≡ name = get_or_at before name after [] (length before) refl in
@@ -71,54 +71,54 @@ known_at f names before name after place are cut =
       proper = subst (λ (t : List ℕ). is_name t ≡ true) here (whole.each (length before) [] (omega arith));
       free = subst (λ (t : List ℕ). is_reserved f t ≡ false) here
           (whole.free (length before) [] (omega arith));
-      found = ap (λ t. place_named t name) cut.whole ∙ found_at before name after
+      found = ap (λ t. attribute_named t name) cut.whole ∙ attribute_named-append before name after
           (differ_before f names before name after are cut.whole) ∙ ap Some cut.size;
     }
 
-pub members_known : (f : Format) (x : Places) (names before after : List (List ℕ)) (place : ℕ) → AreNames f names → IsCutAt names before after place → EachKnown f names (members_from x place after)
-members_known f x names before [] place are cut = tt
-members_known f x names before (name ∷ after) place are cut =
-    told (x place) (members_known f x names (before ++ name ∷ []) after (place + 1) are (cut_more names before name after place cut))
+pub members_known : (f : Format) (x : Attributes) (names before after : List (List ℕ)) (position : ℕ) → AreNames f names → IsCutAt names before after position → EachKnown f names (members_from x position after)
+members_known f x names before [] position are cut = tt
+members_known f x names before (name ∷ after) position are cut =
+    told (x position) (members_known f x names (before ++ name ∷ []) after (position + 1) are (cut_more names before name after position cut))
   where
-    told : (b : Bool) → EachKnown f names (members_from x (place + 1) after) → EachKnown f names (cond b (name ∷ members_from x (place + 1) after) (members_from x (place + 1) after))
-    told true rest = ((place, known_at f names before name after place are cut), rest)
+    told : (b : Bool) → EachKnown f names (members_from x (position + 1) after) → EachKnown f names (cond b (name ∷ members_from x (position + 1) after) (members_from x (position + 1) after))
+    told true rest = ((position, known_at f names before name after position are cut), rest)
     told false rest = rest
 
--- the window of places
+-- whether i is one of n attributes from a position on
 abbrev within_window : ℕ → ℕ → ℕ → Bool
-within_window place n i = nat_le place i && nat_lt i (place + n)
+within_window position n i = nat_le position i && nat_lt i (position + n)
 
 -- the words of the members name the members
-members_set : (f : Format) (x : Places) (names before after : List (List ℕ)) (place i : ℕ) → AreNames f names → IsCutAt names before after place
-    → words_set names (members_from x place after) i ≡ (within_window place (length after) i && x i)
-members_set f x names before [] place i are cut =
-    let window : within_window place 0 i ≡ false = grind (arith, nat_tests) in rw window refl
-members_set f x names before (name ∷ after) place i are cut =
-    told (x place) (i == place) refl refl (members_set f x names (before ++ name ∷ []) after (place + 1) i are (cut_more names before name after place cut))
+members_set : (f : Format) (x : Attributes) (names before after : List (List ℕ)) (position i : ℕ) → AreNames f names → IsCutAt names before after position
+    → words_set names (members_from x position after) i ≡ (within_window position (length after) i && x i)
+members_set f x names before [] position i are cut =
+    let window : within_window position 0 i ≡ false = grind (arith, nat_tests) in rw window refl
+members_set f x names before (name ∷ after) position i are cut =
+    told (x position) (i == position) refl refl (members_set f x names (before ++ name ∷ []) after (position + 1) i are (cut_more names before name after position cut))
   where
-    found : place_named names name ≡ Some place
-    found = (known_at f names before name after place are cut).found
+    found : attribute_named names name ≡ Some position
+    found = (known_at f names before name after position are cut).found
 
-    other : (i == place) ≡ false
-        → within_window (place + 1) (length after) i ≡ within_window place (suc (length after)) i
+    other : (i == position) ≡ false
+        → within_window (position + 1) (length after) i ≡ within_window position (suc (length after)) i
     other is = grind (arith, nat_tests)
 
-    told : (b same : Bool) → x place ≡ b → (i == place) ≡ same → words_set names (members_from x (place + 1) after) i ≡ (within_window (place + 1) (length after) i && x i)
-        → words_set names (cond b (name ∷ members_from x (place + 1) after) (members_from x (place + 1) after)) i ≡ (within_window place (suc (length after)) i && x i)
+    told : (b same : Bool) → x position ≡ b → (i == position) ≡ same → words_set names (members_from x (position + 1) after) i ≡ (within_window (position + 1) (length after) i && x i)
+        → words_set names (cond b (name ∷ members_from x (position + 1) after) (members_from x (position + 1) after)) i ≡ (within_window position (suc (length after)) i && x i)
     told true true here is rest =
-        let at : i ≡ place = eqb-true i place is in
+        let at : i ≡ position = eqb-true i position is in
         let value : x i ≡ true = ap x at ∙ here in
-        let window : within_window place (suc (length after)) i ≡ true = grind (arith, nat_tests) in
+        let window : within_window position (suc (length after)) i ≡ true = grind (arith, nat_tests) in
         rw (found, is, window, value) refl
     told true false here is rest = rw (found, is) (rest ∙ ap (λ w. w && x i) (other is))
     told false true here is rest =
-        let at : i ≡ place = eqb-true i place is in
+        let at : i ≡ position = eqb-true i position is in
         let value : x i ≡ false = ap x at ∙ here in
-        let past : within_window (place + 1) (length after) i ≡ false = grind (arith, nat_tests) in
-        rest ∙ (rw (past, value) (sym (and-false (within_window place (suc (length after)) i))))
+        let past : within_window (position + 1) (length after) i ≡ false = grind (arith, nat_tests) in
+        rest ∙ (rw (past, value) (sym (and-false (within_window position (suc (length after)) i))))
     told false false here is rest = rest ∙ ap (λ w. w && x i) (other is)
 
-members_are : (f : Format) (x : Places) (names : List (List ℕ)) → AreNames f names → Within x (below (length names)) → x ≡ words_set names (members_from x 0 names)
+members_are : (f : Format) (x : Attributes) (names : List (List ℕ)) → AreNames f names → IsSubset x (below (length names)) → x ≡ words_set names (members_from x 0 names)
 members_are f x names are within =
     fun_ext (λ i. told i (x i) refl ∙ sym (members_set f x names [] names 0 i are (record { whole = refl; size = refl })))
   where
@@ -130,31 +130,31 @@ members_are f x names are within =
         is ∙ sym (ap (λ v. within_window 0 (length names) i && v) is ∙ and-false
         (within_window 0 (length names) i))
 
-marks_set : (names : List (List ℕ)) (column : ℕ) (words : List (List ℕ)) (k : ℕ) → named names (word_marks column words) k ≡ words_set names words k
+marks_set : (names : List (List ℕ)) (column : ℕ) (words : List (List ℕ)) (k : ℕ) → attributes_of_words names (word_marks column words) k ≡ words_set names words k
 marks_set names column [] k = refl
-marks_set names column (word ∷ words) k = ap (λ b. is_at (place_named names word) k || b) (marks_set names (column + 1 + length word) words k)
+marks_set names column (word ∷ words) k = ap (λ b. is_at (attribute_named names word) k || b) (marks_set names (column + 1 + length word) words k)
 
 marks_known : (f : Format) (names : List (List ℕ)) (column : ℕ) (words : List (List ℕ)) → EachKnown f names words → All (IsAttribute f names) (word_marks column words)
 marks_known f names column [] known = All-nil (IsAttribute f names)
 marks_known f names column (word ∷ words) (here, rest) =
-    All-cons (IsAttribute f names) _ _ (record { word = refl; free = here.1.free; place = here.0; known = here.1.found }) (marks_known f names (column + 1 + length word) words rest)
+    All-cons (IsAttribute f names) _ _ (record { word = refl; free = here.1.free; index = here.0; known = here.1.found }) (marks_known f names (column + 1 + length word) words rest)
 
 pub known_names : (f : Format) (names words : List (List ℕ)) → EachKnown f names words → AllNames words
 known_names f names [] known = tt
 known_names f names (word ∷ words) (here, rest) = (here.1.proper, known_names f names words rest)
 
-side_is : (f : Format) (names : List (List ℕ)) (x : Places) (column : ℕ) (words : List (List ℕ)) → EachKnown f names words → x ≡ words_set names words → IsSide f names (side_marks column words) x
+side_is : (f : Format) (names : List (List ℕ)) (x : Attributes) (column : ℕ) (words : List (List ℕ)) → EachKnown f names words → x ≡ words_set names words → IsSide f names (side_marks column words) x
 side_is f names x column [] known e = inl (record { column = column; bytes = 40 ∷ 41 ∷ []; alone = refl; nothing = e })
 side_is f names x column (word ∷ words) (here, rest) e = inr (record {
   some = omega arith;
-  each = All-cons (IsAttribute f names) _ _ (record { word = refl; free = here.1.free; place = here.0; known = here.1.found }) (marks_known f names (column + length word) words rest);
-  members = e ∙ fun_ext (λ k. ap (λ b. is_at (place_named names word) k || b) (sym (marks_set names (column + length word) words k)));
+  each = All-cons (IsAttribute f names) _ _ (record { word = refl; free = here.1.free; index = here.0; known = here.1.found }) (marks_known f names (column + length word) words rest);
+  members = e ∙ fun_ext (λ k. ap (λ b. is_at (attribute_named names word) k || b) (sym (marks_set names (column + length word) words k)));
 })
 
 -- what is printed of a set, is a side for the set
-pub printed_side : (f : Format) (names : List (List ℕ)) (x : Places) (column : ℕ) → AreNames f names → Within x (below (length names)) → IsSide f names (side_marks column (members_from x 0 names)) x
+pub printed_side : (f : Format) (names : List (List ℕ)) (x : Attributes) (column : ℕ) → AreNames f names → IsSubset x (below (length names)) → IsSide f names (side_marks column (members_from x 0 names)) x
 printed_side f names x column are within =
     side_is f names x column (members_from x 0 names) (members_known f x names [] names 0 are (record { whole = refl; size = refl })) (members_are f x names are within)
 
-pub printed_names : (f : Format) (names : List (List ℕ)) (x : Places) → AreNames f names → AllNames (members_from x 0 names)
+pub printed_names : (f : Format) (names : List (List ℕ)) (x : Attributes) → AreNames f names → AllNames (members_from x 0 names)
 printed_names f names x are = known_names f names (members_from x 0 names) (members_known f x names [] names 0 are (record { whole = refl; size = refl }))

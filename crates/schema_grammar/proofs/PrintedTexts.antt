@@ -10,11 +10,11 @@ use Rattle.std.proofs.lemmas.List.Folds.{list_all-append}
 use Rattle.std.proofs.lemmas.List.Sums.{AllPass-from_list_all, list_all-from_AllPass, position_or_len_is}
 use Rattle.std.proofs.lemmas.List.Splits.{slice_split_at}
 use Rattle.std.proofs.lemmas.Bool.{and_parts}
-use Rattle.attr_sets.specs.Places.{below}
+use Rattle.attr_sets.specs.Attributes.{below}
 use Rattle.dep_model.specs.declared.schema.TheConstants.{MOST_DEPENDENCIES}
 use Rattle.dep_model.specs.Dependencies.{Dependency, fd, mvd, IsWithin}
 use Rattle.dep_model.specs.Names.{is_name, is_name_byte, same_name}
-use Rattle.dep_model.specs.Schemas.{place_named}
+use Rattle.dep_model.specs.Schemas.{attribute_named}
 use Rattle.lexer.specs.declared.token.Mode.TheVariants as mode
 use Rattle.lexer.specs.Lines.{is_line_feed, line_texts, without_return, without_returns}
 use Rattle.schema_grammar.specs.declared.format.Format.{Format}
@@ -80,27 +80,27 @@ not_return (b ∷ bs) e =
     let byte = (and_parts (is_line_byte b) (list_all is_line_byte bs) e).0 in
     let other : (13 == b) ≡ false = grind (arith, nat_tests) in rw other refl
 
-kept : (line : List ℕ) → Bytes line → without_return line ≡ line
-kept line e =
+without_return-line : (line : List ℕ) → Bytes line → without_return line ≡ line
+without_return-line line e =
     let last = drop (length line - 1) line in
     let bytes = list_all-from_AllPass is_line_byte last
     (All-drop (λ b. is_line_byte b ≡ true) (length line - 1) line
     (AllPass-from_list_all is_line_byte line e)) in
     let none : ends_with nat_eq line (13 ∷ []) ≡ false = not_return last bytes in rw none refl
 
-all_kept : (lines : List (List ℕ)) → EachBytes lines → without_returns (lines ++ [] ∷ []) ≡ lines ++ [] ∷ []
-all_kept [] each = refl
-all_kept (line ∷ []) (here, rest) = rw (kept line here) refl
-all_kept (line ∷ next ∷ lines) (here, rest) = rw (kept line here) (ap (λ t. line ∷ t) (all_kept (next ∷ lines) rest))
+without_returns-lines : (lines : List (List ℕ)) → EachBytes lines → without_returns (lines ++ [] ∷ []) ≡ lines ++ [] ∷ []
+without_returns-lines [] each = refl
+without_returns-lines (line ∷ []) (here, rest) = rw (without_return-line line here) refl
+without_returns-lines (line ∷ next ∷ lines) (here, rest) = rw (without_return-line line here) (ap (λ t. line ∷ t) (without_returns-lines (next ∷ lines) rest))
 
 pub lines_cut : (lines : List (List ℕ)) → EachBytes lines → line_texts (lines_text lines) ≡ lines ++ [] ∷ []
 unfolding line_texts
-lines_cut lines each = ap without_returns (split_lines lines each) ∙ all_kept lines each
+lines_cut lines each = ap without_returns (split_lines lines each) ∙ without_returns-lines lines each
 
 -- the numbers of lines from one on
-abbrev pub numbers : ℕ → List Dependency → List ℕ
-numbers n [] = []
-numbers n (d ∷ ds) = n ∷ numbers (n + 1) ds
+abbrev pub line_numbers : ℕ → List Dependency → List ℕ
+line_numbers n [] = []
+line_numbers n (d ∷ ds) = n ∷ line_numbers (n + 1) ds
 
 abbrev pub with_dependencies : Declarations → List Dependency → List ℕ → Declarations
 with_dependencies d deps lines = record { names = d.names; columns = d.columns; deps = d.deps ++ deps; lines = d.lines ++ lines }
@@ -109,7 +109,7 @@ with_dependencies d deps lines = record { names = d.names; columns = d.columns; 
 pub dependencies_mean : (f : Format) (number : ℕ) (d : Declarations) (deps : List Dependency)
     → AreNames f d.names → All (IsWithin (below (length d.names))) deps
     → length d.deps + length deps ≤ MOST_DEPENDENCIES
-    → MeansLines f number d (map (dependency_text d.names) deps ++ [] ∷ []) (with_dependencies d deps (numbers number deps))
+    → MeansLines f number d (map (dependency_text d.names) deps ++ [] ∷ []) (with_dependencies d deps (line_numbers number deps))
 dependencies_mean f number d [] are within room = (
   d,
   inl (inl (record { tokens = nothing_left mode.Plain 1; same = refl })),
@@ -122,8 +122,8 @@ dependencies_mean f number d (dep ∷ deps) are within room =
     let more = dependencies_mean f (number + 1) (add_dependency d dep number) deps are
     (All-tail (IsWithin (below (length d.names))) dep deps within) (omega arith) in
     let of : Declarations → Type 0 = λ w. MeansLines f (number + 1) (add_dependency d dep number) (map (dependency_text d.names) deps ++ [] ∷ []) w in
-    let same : with_dependencies (add_dependency d dep number) deps (numbers (number + 1) deps) ≡ with_dependencies d (dep ∷ deps) (number ∷ numbers (number + 1) deps) =
-    (λ i. record { names = d.names; columns = d.columns; deps = append_assoc d.deps (dep ∷ []) deps i; lines = append_assoc d.lines (number ∷ []) (numbers (number + 1) deps) i }) in (
+    let same : with_dependencies (add_dependency d dep number) deps (line_numbers (number + 1) deps) ≡ with_dependencies d (dep ∷ deps) (number ∷ line_numbers (number + 1) deps) =
+    (λ i. record { names = d.names; columns = d.columns; deps = append_assoc d.deps (dep ∷ []) deps i; lines = append_assoc d.lines (number ∷ []) (line_numbers (number + 1) deps) i }) in (
       add_dependency d dep number,
       inr (record { head = line.head; others = line.others; dep = dep; tokens = line.tokens; stating = line.stating; dependency = line.dependency; room = omega arith; adds = refl }),
       subst of same more,
@@ -134,7 +134,7 @@ each_dependency f names [] are = tt
 each_dependency f names (d ∷ deps) are = (dependency_bytes f names d are, each_dependency f names deps are)
 
 -- a name that differs from those before is none of them
-pub none_found : (before : List (List ℕ)) (word : List ℕ) → All (λ b. same_name b word ≡ false) before → place_named before word ≡ None
+pub none_found : (before : List (List ℕ)) (word : List ℕ) → All (λ b. same_name b word ≡ false) before → attribute_named before word ≡ None
 none_found before word none =
     let all : position_or_len (λ b. same_name b word) before ≡ length before =
     position_or_len_is (λ b. same_name b word) before (length before) [] (omega arith)

@@ -46,10 +46,10 @@ pub record Steps {X Y E : Type 0} (r : Result X E) (next : X → Result Y E) (y 
   pub first : r ≡ Ok x
   pub second : next x ≡ Ok y
 
-pub steps : {X Y E : Type 0} (r : Result X E) (next : X → Result Y E) (y : Y) → and_then r next ≡ Ok y
+pub and_then-ok : {X Y E : Type 0} (r : Result X E) (next : X → Result Y E) (y : Y) → and_then r next ≡ Ok y
     → Steps r next y
-steps (Ok x) next y e = record { x = x; first = refl; second = e }
-steps (Err why) next y e = cc
+and_then-ok (Ok x) next y e = record { x = x; first = refl; second = e }
+and_then-ok (Err why) next y e = cc
 
 pub on_ok_whole : {X Y E : Type 0} (r : Result X E) (y : Y) (part whole : Result Y SchemaRefusal) → whole ≡ part
     → OnOk r (part ≡ Ok y) → OnOk r (whole ≡ Ok y)

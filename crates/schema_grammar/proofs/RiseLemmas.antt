@@ -5,24 +5,24 @@ use Rattle.lexer.proofs.Steps.{LiesIn, lies_in}
 use Rattle.lexer.specs.declared.piece.Piece.{Piece}
 use Rattle.lexer.specs.declared.piece.Piece.TheVariants as piece
 use Rattle.lexer.specs.declared.token.Mode.{Mode}
-use Rattle.lexer.specs.declared.token.Stop.{Stop}
-use Rattle.lexer.specs.Pieces.{front}
-use Rattle.lexer.specs.Tokens.{Mark, Lexed, lexed, led_by, lex}
-use Rattle.schema_grammar.specs.Complaints.{span_at}
+use Rattle.lexer.specs.declared.token.LexError.{LexError}
+use Rattle.lexer.specs.Pieces.{front_piece}
+use Rattle.lexer.specs.Tokens.{Mark, Lexed, tokens_after, led_by, lex}
+use Rattle.schema_grammar.specs.Diagnostics.{span_at}
 
 -- tokens stand one after the other, from a column on
-abbrev IsRising : ℕ → List Mark → Option Stop → Type 0
+abbrev IsRising : ℕ → List Mark → Option LexError → Type 0
 IsRising from [] None = Unit {0}
 IsRising from [] (Some s) = from ≤ s.column
 IsRising from (m ∷ ms) stop = (from ≤ m.column) × (0 < length m.word) × IsRising (m.column + length m.word) ms stop
 
-rising_earlier : (from to : ℕ) (ms : List Mark) (stop : Option Stop) → from ≤ to → IsRising to ms stop → IsRising from ms stop
+rising_earlier : (from to : ℕ) (ms : List Mark) (stop : Option LexError) → from ≤ to → IsRising to ms stop → IsRising from ms stop
 rising_earlier from to [] None h r = tt
 rising_earlier from to [] (Some s) h r = omega arith
 rising_earlier from to (m ∷ ms) stop h (first, some, rest) = ((omega arith), some, rest)
 
 -- the tokens at whose front this piece stands
-piece_rises : (m : Mode) (p : Piece) (column : ℕ) (text : List ℕ) (afterwards : ℕ → Lexed) → 0 < length text → p ≡ front m text
+piece_rises : (m : Mode) (p : Piece) (column : ℕ) (text : List ℕ) (afterwards : ℕ → Lexed) → 0 < length text → p ≡ front_piece m text
     → ((skip : ℕ) → IsRising (column + 1 + skip) (afterwards skip).marks (afterwards skip).stop) → IsRising (column + 0) (led_by p column text afterwards).marks (led_by p column text afterwards).stop
 piece_rises m piece.Gap column text afterwards some is rest = rising_earlier (column + 0) (column + 1 + 0) (afterwards 0).marks (afterwards 0).stop (omega arith) (rest 0)
 piece_rises m piece.Comment column text afterwards some is rest = tt
@@ -35,25 +35,25 @@ piece_rises m (piece.Token k n) column text afterwards some is rest =
     ((omega arith), (omega arith), subst of same (rest (n - 1)))
 piece_rises m (piece.Flaw why n) column text afterwards some is rest = omega arith
 
-lexed_rises : (m : Mode) (skip column : ℕ) (text : List ℕ) → IsRising (column + skip) (lexed m skip column text).marks (lexed m skip column text).stop
-unfolding lexed
+lexed_rises : (m : Mode) (skip column : ℕ) (text : List ℕ) → IsRising (column + skip) (tokens_after m skip column text).marks (tokens_after m skip column text).stop
+unfolding tokens_after
 lexed_rises m zero column [] = tt
 lexed_rises m (suc n) column [] = tt
 lexed_rises m zero column (b ∷ bs) =
-    piece_rises m (front m (b ∷ bs)) column (b ∷ bs) (λ skip. lexed m skip (column + 1) bs) (omega arith) refl (λ skip. lexed_rises m skip (column + 1) bs)
+    piece_rises m (front_piece m (b ∷ bs)) column (b ∷ bs) (λ skip. tokens_after m skip (column + 1) bs) (omega arith) refl (λ skip. lexed_rises m skip (column + 1) bs)
 lexed_rises m (suc n) column (b ∷ bs) =
     let same : column + 1 + n ≡ column + suc n = omega arith in
-    let of : ℕ → Type 0 = λ c. IsRising c (lexed m n (column + 1) bs).marks (lexed m n (column + 1) bs).stop in
+    let of : ℕ → Type 0 = λ c. IsRising c (tokens_after m n (column + 1) bs).marks (tokens_after m n (column + 1) bs).stop in
     subst of same (lexed_rises m n (column + 1) bs)
 
-from_on : (line afterwards : ℕ) (ms : List Mark) (stop : Option Stop) (q : ℕ) → IsRising afterwards ms stop → q ≤ length ms → afterwards ≤ (span_at line afterwards ms stop q).column
+from_on : (line afterwards : ℕ) (ms : List Mark) (stop : Option LexError) (q : ℕ) → IsRising afterwards ms stop → q ≤ length ms → afterwards ≤ (span_at line afterwards ms stop q).column
 from_on line afterwards [] None q rising h = omega arith
 from_on line afterwards [] (Some s) q rising h = rising
 from_on line afterwards (m ∷ ms) stop zero rising h = rising.0
 from_on line afterwards (m ∷ ms) stop (suc q) rising h =
     let next = from_on line (m.column + length m.word) ms stop q rising.2 (omega arith) in let first = rising.0 in omega arith
 
-spans_rise : (line afterwards : ℕ) (ms : List Mark) (stop : Option Stop) (p q : ℕ) → IsRising afterwards ms stop → p < q → q ≤ length ms
+spans_rise : (line afterwards : ℕ) (ms : List Mark) (stop : Option LexError) (p q : ℕ) → IsRising afterwards ms stop → p < q → q ≤ length ms
     → (span_at line afterwards ms stop p).column < (span_at line afterwards ms stop q).column
 spans_rise line afterwards [] stop p q rising h g = absurd (omega arith)
 spans_rise line afterwards (m ∷ ms) stop p zero rising h g = absurd (omega arith)
@@ -61,8 +61,8 @@ spans_rise line afterwards (m ∷ ms) stop zero (suc q) rising h g =
     let next = from_on line (m.column + length m.word) ms stop q rising.2 (omega arith) in let some = rising.1 in omega arith
 spans_rise line afterwards (m ∷ ms) stop (suc p) (suc q) rising h g = spans_rise line (m.column + length m.word) ms stop p q rising.2 (omega arith) (omega arith)
 
--- a later place of a line stands in a greater column
-pub places-law : (m : Mode) (line : ℕ) (text : List ℕ) (p q : ℕ) → p < q → q ≤ length (lex m text).marks
+-- a later position of a line stands in a greater column
+pub positions-law : (m : Mode) (line : ℕ) (text : List ℕ) (p q : ℕ) → p < q → q ≤ length (lex m text).marks
     → (span_at line 1 (lex m text).marks (lex m text).stop p).column < (span_at line 1 (lex m text).marks (lex m text).stop q).column
-places-law m line text p q h g =
+positions-law m line text p q h g =
     spans_rise line 1 (lex m text).marks (lex m text).stop p q (rising_earlier 1 (1 + 0) (lex m text).marks (lex m text).stop (omega arith) (lexed_rises m 0 1 text)) h g

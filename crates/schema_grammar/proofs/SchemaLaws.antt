@@ -5,7 +5,7 @@ use Rattle.std.specs.Prelude.{◌↔◌}
 use Rattle.std.proofs.lemmas.Bool.{cases_Bool, eqb-true}
 use Rattle.std.proofs.lemmas.List.Elements.{All-cons, All-nil, All-head, All-tail}
 use Rattle.lexer.specs.declared.token.Mode.TheVariants as mode
-use Rattle.lexer.specs.declared.token.Stop.{Stop}
+use Rattle.lexer.specs.declared.token.LexError.{LexError}
 use Rattle.lexer.specs.declared.token.TokenKind.{TokenKind}
 use Rattle.lexer.specs.declared.token.TokenKind.TheVariants as token
 use Rattle.lexer.specs.Lines.{line_texts, without_mark}
@@ -15,10 +15,10 @@ use Rattle.schema_grammar.specs.declared.format.Format.TheVariants as format
 use Rattle.schema_grammar.specs.Declarations.{Declarations, no_declaration}
 use Rattle.schema_grammar.specs.Meanings.{HasTokens}
 use Rattle.schema_grammar.specs.Schemas.{MeansLines, has_version_line, begins_version, HasVersionLine, IsPlainText, IsVersionLine, IsTypedText, MeansSchema}
-use Rattle.schema_grammar.specs.Texts.{read_lines, read_version, read_typed, read_opening, read_text, is_version, opened, end_version, version_number, number_in}
+use Rattle.schema_grammar.specs.Texts.{read_lines, read_version, read_typed, read_opening, read_text, is_version, opening_from, end_version, version_number, number_in}
 use Rattle.schema_grammar.proofs.BlankLemmas.{lexed_plain}
 use Rattle.schema_grammar.proofs.DeclaringLaws.{has_tokens, line_back, lines_there, lines_back}
-use Rattle.schema_grammar.proofs.RefusalLemmas.{steps}
+use Rattle.schema_grammar.proofs.RefusalLemmas.{and_then-ok}
 
 abbrev pub IsBlankLine : List ℕ → Type 0
 IsBlankLine line = HasTokens (lex mode.Numbered line) []
@@ -31,7 +31,7 @@ pub version_there : (lines : List (List ℕ)) (text : HasVersionLine lines) (lin
 unfolding read_version
 version_there lines text line d e = told text.others (lex mode.Numbered text.version).stop refl refl e
   where
-    ends : (m : Mark) (ms : List Mark) (stop : Option Stop) → text.others ≡ m ∷ ms
+    ends : (m : Mark) (ms : List Mark) (stop : Option LexError) → text.others ≡ m ∷ ms
         → (lex mode.Numbered text.version).stop ≡ stop
         → m.kind ≡ token.Number VERSION → end_version line ms stop ≡ Ok d
         → IsVersionLine text.version × (d ≡ no_declaration)
@@ -48,7 +48,7 @@ version_there lines text line d e = told text.others (lex mode.Numbered text.ver
     ends m [] (Some s) others stop is e = cc
     ends m (k ∷ ks) stop others same is e = cc
 
-    numbered : (k : TokenKind) (m : Mark) (ms : List Mark) (stop : Option Stop) → m.kind ≡ k
+    numbered : (k : TokenKind) (m : Mark) (ms : List Mark) (stop : Option LexError) → m.kind ≡ k
         → text.others ≡ m ∷ ms → (lex mode.Numbered text.version).stop ≡ stop
         → version_number line m ms stop (number_in k) ≡ Ok d
         → IsVersionLine text.version × (d ≡ no_declaration)
@@ -58,7 +58,7 @@ version_there lines text line d e = told text.others (lex mode.Numbered text.ver
     ]
     numbered k m ms stop is others same e = cc
 
-    told : (ms : List Mark) (stop : Option Stop) → text.others ≡ ms
+    told : (ms : List Mark) (stop : Option LexError) → text.others ≡ ms
         → (lex mode.Numbered text.version).stop ≡ stop
         → read_version line (text.head.column + length text.head.word) ms stop ≡ Ok d
         → IsVersionLine text.version × (d ≡ no_declaration)
@@ -67,13 +67,13 @@ version_there lines text line d e = told text.others (lex mode.Numbered text.ver
     told (m ∷ ms) stop others same e = numbered m.kind m ms stop refl others same e
 
 -- a text has a version line, or none
-pub opening : (lines : List (List ℕ)) → (has_version_line lines ≡ false) ⊎ HasVersionLine lines
+pub version_line_or_none : (lines : List (List ℕ)) → (has_version_line lines ≡ false) ⊎ HasVersionLine lines
 unfolding has_version_line
-opening [] = inl refl
-opening (line ∷ lines) =
-    told (lex mode.Numbered line).marks (lex mode.Numbered line).stop refl refl (opening lines)
+version_line_or_none [] = inl refl
+version_line_or_none (line ∷ lines) =
+    told (lex mode.Numbered line).marks (lex mode.Numbered line).stop refl refl (version_line_or_none lines)
   where
-    told : (ms : List Mark) (stop : Option Stop) → (lex mode.Numbered line).marks ≡ ms
+    told : (ms : List Mark) (stop : Option LexError) → (lex mode.Numbered line).marks ≡ ms
         → (lex mode.Numbered line).stop ≡ stop
         → (has_version_line lines ≡ false) ⊎ HasVersionLine lines
         → (begins_version ms stop (has_version_line lines) ≡ false) ⊎ HasVersionLine (line ∷ lines)
@@ -115,12 +115,12 @@ plain_opening number (line ∷ lines) none =
     told (lex mode.Numbered line).marks (lex mode.Numbered line).stop refl refl none
     (plain_opening (number + 1) lines)
   where
-    told : (ms : List Mark) (stop : Option Stop) → (lex mode.Numbered line).marks ≡ ms
+    told : (ms : List Mark) (stop : Option LexError) → (lex mode.Numbered line).marks ≡ ms
         → (lex mode.Numbered line).stop ≡ stop
         → begins_version ms stop (has_version_line lines) ≡ false
         → (has_version_line lines ≡ false
         → read_opening (number + 1) lines ≡ read_lines format.Plain (number + 1) no_declaration lines)
-        → opened number line lines (read_opening (number + 1) lines) ms stop
+        → opening_from number line lines (read_opening (number + 1) lines) ms stop
         ≡ read_lines format.Plain number no_declaration (line ∷ lines)
     told [] None marks stop none later =
         let blank = lexed_plain 0 1 line (has_tokens (lex mode.Numbered line) [] marks stop) in
@@ -171,7 +171,7 @@ MeansFrom number lines whole =
 pub opening_means : (number : ℕ) (lines : List (List ℕ)) (whole : Declarations)
     → read_opening number lines ≡ Ok whole
     → MeansFrom number lines whole × (0 < length whole.names)
-opening_means number lines whole e = told (opening lines)
+opening_means number lines whole e = told (version_line_or_none lines)
   where
     told : (has_version_line lines ≡ false) ⊎ HasVersionLine lines
         → MeansFrom number lines whole × (0 < length whole.names)
@@ -179,7 +179,7 @@ opening_means number lines whole e = told (opening lines)
         let both = lines_there format.Plain number no_declaration whole lines
         (sym (plain_opening number lines none) ∙ e) in (inl (none, both.0), both.1)
     told (inr text) =
-        let two = steps _ (λ d. read_lines format.Typed (length text.before + number + 1) d text.later) whole
+        let two = and_then-ok _ (λ d. read_lines format.Typed (length text.before + number + 1) d text.later) whole
         (sym (typed_opening number lines text) ∙ e) in
         let is = version_there lines text (length text.before + number) two.x two.first in
         let both = lines_there format.Typed (length text.before + number + 1) no_declaration whole text.later

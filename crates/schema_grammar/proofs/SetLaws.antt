@@ -1,13 +1,13 @@
--- A set is read as what it means, or refused by its first complaint.
+-- A set is read as what it means, or refused by its first diagnostic.
 use Rattle.std.specs.Prelude.{◌↔◌}
 use Rattle.std.proofs.Common.{◌≡◌, ◌⊎◌, inl, inr, ℕ, zero, suc, true, false, List, [], length, Option, Some, None, Ok, Err, Result, refl, sym, ◌∙◌, ap, subst, arith, ⊎_elim}
 use Rattle.std.specs.List.{slice_get}
 use Rattle.std.proofs.lemmas.List.{nil_from_length}
 use Rattle.std.proofs.lemmas.Option.{slice_get_within}
-use Rattle.attr_sets.specs.Places.{Places, none}
+use Rattle.attr_sets.specs.Attributes.{Attributes, none}
 use Rattle.dep_model.specs.Dependencies.{Dependency, right_of}
 use Rattle.lexer.specs.declared.token.Mode.TheVariants as mode
-use Rattle.lexer.specs.declared.token.Stop.{Stop}
+use Rattle.lexer.specs.declared.token.LexError.{LexError}
 use Rattle.lexer.specs.declared.token.TokenKind.{TokenKind}
 use Rattle.lexer.specs.declared.token.TokenKind.TheVariants as token
 use Rattle.lexer.specs.Tokens.{Mark, lex}
@@ -15,31 +15,31 @@ use Rattle.schema_grammar.specs.declared.refusal.SchemaRefusal.{SchemaRefusal}
 use Rattle.schema_grammar.specs.declared.refusal.What.TheVariants as what
 use Rattle.schema_grammar.specs.declared.symbol.Sign.TheVariants as sign
 use Rattle.schema_grammar.specs.declared.format.Format.TheVariants as format
-use Rattle.schema_grammar.specs.Complaints.{refusal_number, span_at}
+use Rattle.schema_grammar.specs.Diagnostics.{refusal_number, span_at}
 use Rattle.schema_grammar.specs.Grammar.{Reached, after_sign}
 use Rattle.schema_grammar.specs.Meanings.{IsSide}
 use Rattle.schema_grammar.specs.Reading.{follow_lexed}
 use Rattle.schema_grammar.specs.Refusals.{and_then}
-use Rattle.schema_grammar.specs.Sets.{MeansSet, BeginsEmpty, IsOutOfPlace, SetComplaint, SetWants, FitsSet, RefusesSet, read_set}
-use Rattle.schema_grammar.proofs.ComplaintLaws.{Judges, LineComplaint, Judged, judge, left_whole}
+use Rattle.schema_grammar.specs.Sets.{MeansSet, BeginsEmpty, IsOutOfPlace, SetDiagnostic, SetWants, FitsSet, RefusesSet, read_set}
+use Rattle.schema_grammar.proofs.DiagnosticLaws.{Judges, LineDiagnostic, Judged, judge, left_whole}
 use Rattle.schema_grammar.proofs.GoalLaws.{AfterSignRest, marks_make, side_read, no_stop}
 use Rattle.schema_grammar.proofs.OneRefusal.{one_refused, one_at_first}
-use Rattle.schema_grammar.proofs.RefusalLemmas.{steps}
-use Rattle.schema_grammar.proofs.ShapeLemmas.{Shape, past_arrow, in_right, past_end, turn_shape, is_final, wanted_by}
+use Rattle.schema_grammar.proofs.RefusalLemmas.{and_then-ok}
+use Rattle.schema_grammar.proofs.ShapeLemmas.{Shape, past_arrow, in_right, past_end, advance_shape, is_final, wanted_by}
 
 -- ---- what a set means
 abbrev from_arrow : Reached
 from_arrow = after_sign sign.Functional none
 
-abbrev set_of : Result Dependency SchemaRefusal → Result Places SchemaRefusal
+abbrev set_of : Result Dependency SchemaRefusal → Result Attributes SchemaRefusal
 set_of r = and_then r (λ d. Ok (right_of d))
 
-pub set-law : (declared : List (List ℕ)) (text : List ℕ) (x : Places) → (read_set declared text ≡ Ok x) ↔ MeansSet declared text x
+pub set-law : (declared : List (List ℕ)) (text : List ℕ) (x : Attributes) → (read_set declared text ≡ Ok x) ↔ MeansSet declared text x
 set-law declared text x = (there, back)
   where
     there : read_set declared text ≡ Ok x → MeansSet declared text x
     there e =
-        let two = steps (follow_lexed format.Plain declared 1 from_arrow 1 (lex mode.Goal text))
+        let two = and_then-ok (follow_lexed format.Plain declared 1 from_arrow 1 (lex mode.Goal text))
         (λ d. Ok (right_of d)) x e in
         let whole = no_stop format.Plain declared 1 from_arrow 1 (lex mode.Goal text) two.x two.first in
         let here : follow_lexed format.Plain declared 1 from_arrow 1
@@ -58,17 +58,17 @@ set-law declared text x = (there, back)
 
 -- ---- how it is refused
 -- a token is out of place, or there is none
-abbrev IsAmiss : List Mark → Option Stop → ℕ → Type 0
-IsAmiss ms stop place =
-    ((m : Mark) × (slice_get ms place ≡ Some m) × IsOutOfPlace ms place m.kind) ⊎
-    ((place ≡ 0) × (ms ≡ []) × (stop ≡ None))
+abbrev IsAmiss : List Mark → Option LexError → ℕ → Type 0
+IsAmiss ms stop position =
+    ((m : Mark) × (slice_get ms position ≡ Some m) × IsOutOfPlace ms position m.kind) ⊎
+    ((position ≡ 0) × (ms ≡ []) × (stop ≡ None))
 
--- how far a side is read before a place: not begun, words, or `()`
+-- how far a side is read before a position: not begun, words, or `()`
 abbrev IsRead : List Mark → ℕ → Shape → Type 0
 IsRead ms zero s = s ≡ past_arrow
-IsRead ms (suc place) s = ((s ≡ in_right) × (BeginsEmpty ms → ⊥)) ⊎ ((s ≡ past_end) × BeginsEmpty ms)
+IsRead ms (suc position) s = ((s ≡ in_right) × (BeginsEmpty ms → ⊥)) ⊎ ((s ≡ past_end) × BeginsEmpty ms)
 
-side_judges : (ms : List Mark) (stop : Option Stop) → Judges ms stop (IsRead ms) (IsAmiss ms stop) SetWants
+side_judges : (ms : List Mark) (stop : Option LexError) → Judges ms stop (IsRead ms) (IsAmiss ms stop) SetWants
 side_judges ms stop = record {
   wants = wants;
   goes_on = λ p s t m is read turned. goes_on p s t m m.kind is refl read turned;
@@ -87,9 +87,9 @@ side_judges ms stop = record {
     wants (suc p) s (inr read) = inr (omega arith, ap wanted_by read.0)
 
     goes_on : (p : ℕ) (s t : Shape) (m : Mark) (k : TokenKind) → slice_get ms p ≡ Some m → m.kind ≡ k
-        → IsRead ms p s → turn_shape s k ≡ Some t
+        → IsRead ms p s → advance_shape s k ≡ Some t
         → (IsAmiss ms stop p → ⊥) × IsRead ms (suc p) t
-    goes_on zero s t m token.Word is kind read turned = (
+    goes_on zero s t m token.Identifier is kind read turned = (
       ⊎_elim (λ out. out.2.0 cc) (λ none. omega (arith, slice_get_within ms 0 m is, ap length none.1)),
       inl (cc, λ begins. cc),
     )
@@ -98,15 +98,15 @@ side_judges ms stop = record {
       inr (cc, record { first = m; there = is; is_empty = kind }),
     )
     goes_on zero s t m k is kind read turned = cc
-    goes_on (suc p) s t m token.Word is kind (inl read) turned = (
+    goes_on (suc p) s t m token.Identifier is kind (inl read) turned = (
       ⊎_elim (λ out. ⊎_elim (λ other. other cc) read.1 out.2) (λ none. omega (arith, none.0)),
       inl (cc, read.1),
     )
     goes_on (suc p) s t m k is kind (inl read) turned = cc
-    goes_on (suc p) s t m token.Word is kind (inr read) turned = cc
+    goes_on (suc p) s t m token.Identifier is kind (inr read) turned = cc
     goes_on (suc p) s t m k is kind (inr read) turned = cc
 
-    out : (p : ℕ) (s : Shape) (k : TokenKind) → IsRead ms p s → turn_shape s k ≡ None → IsOutOfPlace ms p k
+    out : (p : ℕ) (s : Shape) (k : TokenKind) → IsRead ms p s → advance_shape s k ≡ None → IsOutOfPlace ms p k
     out zero s k read none = ((λ word. cc), (λ empty. cc))
     out (suc p) s k (inl read) none = inl (λ word. cc)
     out (suc p) s k (inr read) none = inr read.1
@@ -122,9 +122,9 @@ side_judges ms stop = record {
     open_end (suc p) s all none (inl read) unfinished = cc
     open_end (suc p) s all none (inr read) unfinished = cc
 
--- a set is refused by its first complaint, and read where there is none
-pub set-complaint-law : (declared : List (List ℕ)) (text : List ℕ) → FitsSet declared text (read_set declared text)
-set-complaint-law declared text =
+-- a set is refused by its first diagnostic, and read where there is none
+pub set-diagnostic-law : (declared : List (List ℕ)) (text : List ℕ) → FitsSet declared text (read_set declared text)
+set-diagnostic-law declared text =
     fits (follow_lexed format.Plain declared 1 from_arrow 1 (lex mode.Goal text))
     (judge (side_judges marks stop) format.Plain declared 1 1 marks 0 1 from_arrow
     (left_whole 1 1 marks stop) refl (λ p n less. absurd (omega arith)))
@@ -132,38 +132,38 @@ set-complaint-law declared text =
     marks : List Mark
     marks = (lex mode.Goal text).marks
 
-    stop : Option Stop
+    stop : Option LexError
     stop = (lex mode.Goal text).stop
 
-    to : (p n : ℕ) → LineComplaint (IsAmiss marks stop) format.Plain declared marks stop p n
-        → SetComplaint declared text p n
+    to : (p n : ℕ) → LineDiagnostic (IsAmiss marks stop) format.Plain declared marks stop p n
+        → SetDiagnostic declared text p n
     to p n (inl (inl (m, is, word))) = inl (inl (m, is, inl word))
     to p n (inl (inr (six, inl (m, is, out)))) = inl (inl (m, is, inr (six, out)))
     to p n (inl (inr (six, inr none))) = inl (inr (six, none.0, none.1, none.2))
     to p n (inr flaw) = inr flaw
 
-    from : (p n : ℕ) → SetComplaint declared text p n
-        → LineComplaint (IsAmiss marks stop) format.Plain declared marks stop p n
+    from : (p n : ℕ) → SetDiagnostic declared text p n
+        → LineDiagnostic (IsAmiss marks stop) format.Plain declared marks stop p n
     from p n (inl (inl (m, is, inl word))) = inl (inl (m, is, word))
     from p n (inl (inl (m, is, inr (six, out)))) = inl (inr (six, inl (m, is, out)))
     from p n (inl (inr (six, first, nothing, none))) = inl (inr (six, inr (first, nothing, none)))
     from p n (inr flaw) = inr flaw
 
     fits : (res : Result Dependency SchemaRefusal)
-        → Judged (LineComplaint (IsAmiss marks stop) format.Plain declared marks stop) SetWants
+        → Judged (LineDiagnostic (IsAmiss marks stop) format.Plain declared marks stop) SetWants
         (span_at 1 1 marks stop) res
         → FitsSet declared text (set_of res)
-    fits (Ok d) none = λ p n complaint. none p n (from p n complaint)
+    fits (Ok d) none = λ p n diagnostic. none p n (from p n diagnostic)
     fits (Err e) first = record {
-      place = first.place;
-      stands = to first.place (refusal_number e.kind) first.stands;
+      position = first.position;
+      stands = to first.position (refusal_number e.kind) first.stands;
       carries = first.carries;
       there = first.there;
-      least = λ p n complaint. first.least p n (from p n complaint);
+      least = λ p n diagnostic. first.least p n (from p n diagnostic);
     }
 
 pub set_refused : (declared : List (List ℕ)) (text : List ℕ) (e : SchemaRefusal) → read_set declared text ≡ Err e → RefusesSet declared text e
-set_refused declared text e h = subst (FitsSet declared text) h (set-complaint-law declared text)
+set_refused declared text e h = subst (FitsSet declared text) h (set-diagnostic-law declared text)
 
 -- a set is refused so exactly where the definition refuses it so
 pub set-refusal-law : (declared : List (List ℕ)) (text : List ℕ) (e : SchemaRefusal) → (read_set declared text ≡ Err e) ↔ RefusesSet declared text e
@@ -171,5 +171,5 @@ set-refusal-law declared text e = (
   set_refused declared text e,
   λ first.
       one_refused (FitsSet declared text) _ _ _ (λ x none. none) (λ g first. first)
-      (one_at_first what.Side) _ e (set-complaint-law declared text) first,
+      (one_at_first what.Side) _ e (set-diagnostic-law declared text) first,
 )

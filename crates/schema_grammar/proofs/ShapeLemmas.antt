@@ -1,7 +1,7 @@
 -- How far a dependency is read, by the kinds of its tokens.
 use Rattle.std.proofs.Common.{◌≡◌, ◌≤◌, ◌+◌, ◌⊎◌, inl, inr, ℕ, Bool, true, false, cond, List, [], ◌∷◌, ◌++◌, length, Option, Some, None, Ok, Err, Result, refl, sym, ◌∙◌, ap, subst, arith}
 use Rattle.dep_model.specs.Dependencies.{Dependency}
-use Rattle.dep_model.specs.Schemas.{place_named}
+use Rattle.dep_model.specs.Schemas.{attribute_named}
 use Rattle.lexer.specs.declared.token.TokenKind.{TokenKind}
 use Rattle.lexer.specs.declared.token.TokenKind.TheVariants as token
 use Rattle.lexer.specs.Tokens.{Mark}
@@ -14,11 +14,11 @@ use Rattle.schema_grammar.specs.declared.format.Format.TheVariants as format
 use Rattle.schema_grammar.specs.declared.refusal.What.{What}
 use Rattle.schema_grammar.specs.declared.refusal.What.TheVariants as what
 use Rattle.schema_grammar.specs.declared.symbol.Symbol.{Symbol}
-use Rattle.schema_grammar.specs.Complaints.{IsLine, BeginsLine, Wants, Carries, ComplainsOfWord, kinds, refusal_number}
-use Rattle.schema_grammar.specs.Grammar.{Reached, start, left, left_empty, after_sign, right, right_empty, turn, finished}
+use Rattle.schema_grammar.specs.Diagnostics.{IsLine, BeginsLine, Wants, Carries, DiagnosesOfWord, kinds, refusal_number}
+use Rattle.schema_grammar.specs.Grammar.{Reached, start, left, left_empty, after_sign, right, right_empty, advance, finish_dependency}
 use Rattle.schema_grammar.specs.Reading.{step, follow}
-use Rattle.schema_grammar.specs.Refusals.{at, and_then, expecting}
-use Rattle.schema_grammar.specs.Words.{is_reserved, looked_up, known}
+use Rattle.schema_grammar.specs.Refusals.{at, and_then, expect}
+use Rattle.schema_grammar.specs.Words.{is_reserved, look_up, known_attribute}
 use Rattle.schema_grammar.proofs.GoalLaws.{dependency-law}
 
 -- how far a dependency is read, but for its sets
@@ -39,18 +39,18 @@ shape_of (right s x y) = in_right
 shape_of (right_empty s x) = past_end
 
 -- where a token of a kind leads
-abbrev pub turn_shape : Shape → TokenKind → Option Shape
-turn_shape at_start token.Word = Some in_left
-turn_shape at_start token.Empty = Some past_empty
-turn_shape in_left token.Word = Some in_left
-turn_shape in_left token.Arrow = Some past_arrow
-turn_shape in_left token.DoubleArrow = Some past_arrow
-turn_shape past_empty token.Arrow = Some past_arrow
-turn_shape past_empty token.DoubleArrow = Some past_arrow
-turn_shape past_arrow token.Word = Some in_right
-turn_shape past_arrow token.Empty = Some past_end
-turn_shape in_right token.Word = Some in_right
-turn_shape s k = None
+abbrev pub advance_shape : Shape → TokenKind → Option Shape
+advance_shape at_start token.Identifier = Some in_left
+advance_shape at_start token.Empty = Some past_empty
+advance_shape in_left token.Identifier = Some in_left
+advance_shape in_left token.Arrow = Some past_arrow
+advance_shape in_left token.DoubleArrow = Some past_arrow
+advance_shape past_empty token.Arrow = Some past_arrow
+advance_shape past_empty token.DoubleArrow = Some past_arrow
+advance_shape past_arrow token.Identifier = Some in_right
+advance_shape past_arrow token.Empty = Some past_end
+advance_shape in_right token.Identifier = Some in_right
+advance_shape s k = None
 
 abbrev pub is_final : Shape → Bool
 is_final in_right = true
@@ -71,11 +71,11 @@ bind (Some s) f = f s
 
 abbrev pub runs : Shape → List TokenKind → Option Shape
 runs s [] = Some s
-runs s (k ∷ ks) = bind (turn_shape s k) (λ t. runs t ks)
+runs s (k ∷ ks) = bind (advance_shape s k) (λ t. runs t ks)
 
 -- what a token is to the grammar, where a word names this attribute
 abbrev symbol_at : ℕ → TokenKind → Symbol
-symbol_at a token.Word = symbol.Attribute a
+symbol_at a token.Identifier = symbol.Attribute a
 symbol_at a token.Arrow = symbol.Arrow sign.Functional
 symbol_at a token.DoubleArrow = symbol.Arrow sign.Multivalued
 symbol_at a token.Empty = symbol.Empty
@@ -83,69 +83,69 @@ symbol_at a k = symbol.Other
 
 -- a turn is one of the shapes, and what the grammar tells in its place is what is wanted
 abbrev Turns : Reached → TokenKind → Result Reached What → Type 0
-Turns r k (Ok next) = turn_shape (shape_of r) k ≡ Some (shape_of next)
-Turns r k (Err w) = (turn_shape (shape_of r) k ≡ None) × (w ≡ wanted_by (shape_of r))
+Turns r k (Ok next) = advance_shape (shape_of r) k ≡ Some (shape_of next)
+Turns r k (Err w) = (advance_shape (shape_of r) k ≡ None) × (w ≡ wanted_by (shape_of r))
 
-turns : (r : Reached) (k : TokenKind) (a : ℕ) → Turns r k (turn r (symbol_at a k))
-unfolding turn
-turns start token.Word a = refl
-turns start token.Empty a = refl
-turns (left x) token.Word a = refl
-turns (left x) token.Arrow a = refl
-turns (left x) token.DoubleArrow a = refl
-turns left_empty token.Arrow a = refl
-turns left_empty token.DoubleArrow a = refl
-turns (after_sign s x) token.Word a = refl
-turns (after_sign s x) token.Empty a = refl
-turns (right s x y) token.Word a = refl
-turns r k a = (refl, refl)
+advance-Turns : (r : Reached) (k : TokenKind) (a : ℕ) → Turns r k (advance r (symbol_at a k))
+unfolding advance
+advance-Turns start token.Identifier a = refl
+advance-Turns start token.Empty a = refl
+advance-Turns (left x) token.Identifier a = refl
+advance-Turns (left x) token.Arrow a = refl
+advance-Turns (left x) token.DoubleArrow a = refl
+advance-Turns left_empty token.Arrow a = refl
+advance-Turns left_empty token.DoubleArrow a = refl
+advance-Turns (after_sign s x) token.Identifier a = refl
+advance-Turns (after_sign s x) token.Empty a = refl
+advance-Turns (right s x y) token.Identifier a = refl
+advance-Turns r k a = (refl, refl)
 
--- what a step tells: where it leads, or the complaint
+-- what a step tells: where it leads, or the diagnostic
 abbrev pub StepTells : Format → List (List ℕ) → Reached → Mark → Result Reached SchemaRefusalKind → Type 0
 StepTells f declared r m (Ok next) =
-    (turn_shape (shape_of r) m.kind ≡ Some (shape_of next)) × ((n : ℕ) → ComplainsOfWord f declared m n → ⊥)
+    (advance_shape (shape_of r) m.kind ≡ Some (shape_of next)) × ((n : ℕ) → DiagnosesOfWord f declared m n → ⊥)
 StepTells f declared r m (Err why) =
-    (ComplainsOfWord f declared m (refusal_number why) ⊎
-    ((refusal_number why ≡ 6) × (turn_shape (shape_of r) m.kind ≡ None)))
-    × ((n : ℕ) → ComplainsOfWord f declared m n → refusal_number why ≤ n) × (refusal_number why ≤ 6)
+    (DiagnosesOfWord f declared m (refusal_number why) ⊎
+    ((refusal_number why ≡ 6) × (advance_shape (shape_of r) m.kind ≡ None)))
+    × ((n : ℕ) → DiagnosesOfWord f declared m n → refusal_number why ≤ n) × (refusal_number why ≤ 6)
     × Carries (λ w. w ≡ wanted_by (shape_of r)) why
 
-turn_tells : (f : Format) (declared : List (List ℕ)) (r : Reached) (m : Mark) (t : Result Reached What)
+advance_tells : (f : Format) (declared : List (List ℕ)) (r : Reached) (m : Mark) (t : Result Reached What)
     → Turns r m.kind t
-    → ((n : ℕ) → ComplainsOfWord f declared m n → ⊥) → StepTells f declared r m (expecting t)
-turn_tells f declared r m (Ok next) turned none = (turned, none)
-turn_tells f declared r m (Err w) turned none =
-    (inr (refl, turned.0), (λ n complaint. absurd (none n complaint)), omega arith, turned.1)
+    → ((n : ℕ) → DiagnosesOfWord f declared m n → ⊥) → StepTells f declared r m (expect t)
+advance_tells f declared r m (Ok next) turned none = (turned, none)
+advance_tells f declared r m (Err w) turned none =
+    (inr (refl, turned.0), (λ n diagnostic. absurd (none n diagnostic)), omega arith, turned.1)
 
 pub step_tells : (f : Format) (declared : List (List ℕ)) (r : Reached) (m : Mark) → StepTells f declared r m (step f declared r m.kind m.word)
-unfolding step looked_up
+unfolding step look_up
 step_tells f declared r m = told m.kind
   where
-    word : (b : Bool) (o : Option ℕ) → is_reserved f m.word ≡ b → place_named declared m.word ≡ o
-        → StepTells f declared r (record m { kind = token.Word })
-        (and_then (and_then (cond b (Err kind.ReservedName) (known o)) (λ a. Ok (symbol.Attribute a)))
-        (λ s. expecting (turn r s)))
-    word true o reserved place =
-        (inl (refl, inl (refl, reserved)), (λ n complaint. omega arith), omega arith, tt)
-    word false None free place =
-        (inl (refl, inr (refl, place)), (λ n complaint. grind arith), omega arith, tt)
-    word false (Some a) free place =
-        turn_tells f declared r (record m { kind = token.Word }) _ (turns r token.Word a)
-        (λ n complaint. grind arith)
+    word : (b : Bool) (o : Option ℕ) → is_reserved f m.word ≡ b → attribute_named declared m.word ≡ o
+        → StepTells f declared r (record m { kind = token.Identifier })
+        (and_then (and_then (cond b (Err kind.ReservedName) (known_attribute o)) (λ a. Ok (symbol.Attribute a)))
+        (λ s. expect (advance r s)))
+    word true o reserved lookup =
+        (inl (refl, inl (refl, reserved)), (λ n diagnostic. omega arith), omega arith, tt)
+    word false None free lookup =
+        (inl (refl, inr (refl, lookup)), (λ n diagnostic. grind arith), omega arith, tt)
+    word false (Some a) free lookup =
+        advance_tells f declared r (record m { kind = token.Identifier }) _ (advance-Turns r token.Identifier a)
+        (λ n diagnostic. grind arith)
 
     told : (k : TokenKind) → StepTells f declared r (record m { kind = k }) (step f declared r k m.word)
-    told token.Word = word (is_reserved f m.word) (place_named declared m.word) refl refl
+    told token.Identifier = word (is_reserved f m.word) (attribute_named declared m.word) refl refl
     told k =
-        turn_tells f declared r (record m { kind = k }) _ (turns r k 0)
-        (λ n complaint. let is = complaint.0 in cc)
+        advance_tells f declared r (record m { kind = k }) _ (advance-Turns r k 0)
+        (λ n diagnostic. let is = diagnostic.0 in cc)
 
 -- whether the line may end
 abbrev pub EndTells : Reached → Result Dependency What → Type 0
 EndTells r (Ok d) = is_final (shape_of r) ≡ true
 EndTells r (Err w) = (is_final (shape_of r) ≡ false) × (w ≡ wanted_by (shape_of r))
 
-pub end_tells : (r : Reached) → EndTells r (finished r)
-unfolding finished
+pub end_tells : (r : Reached) → EndTells r (finish_dependency r)
+unfolding finish_dependency
 end_tells (right s x y) = refl
 end_tells (right_empty s x) = refl
 end_tells r = (refl, refl)
@@ -159,9 +159,9 @@ pub record Ends (s : Shape) (ks : List TokenKind) : Type 0 where
 follow_runs : (f : Format) (declared : List (List ℕ)) (line : ℕ) (r : Reached) (from : ℕ) (ms : List Mark) (d : Dependency)
     → follow f declared line r from ms None ≡ Ok d → Ends (shape_of r) (kinds ms)
 unfolding follow
-follow_runs f declared line r from [] d e = told (finished r) (end_tells r) e
+follow_runs f declared line r from [] d e = told (finish_dependency r) (end_tells r) e
   where
-    told : (o : Result Dependency What) → EndTells r o → at line from 0 (expecting o) ≡ Ok d → Ends (shape_of r) []
+    told : (o : Result Dependency What) → EndTells r o → at line from 0 (expect o) ≡ Ok d → Ends (shape_of r) []
     told (Ok dep) final e = record { last = shape_of r; leads = refl; final = final }
     told (Err what) final e = cc
 follow_runs f declared line r from (m ∷ ms) d e =
@@ -173,8 +173,8 @@ follow_runs f declared line r from (m ∷ ms) d e =
     told (Err why) tells rest e = cc
 
 -- a token of each kind, over the one name `a`
-abbrev sample : TokenKind → Mark
-sample k = record { kind = k; column = 0; word = 97 ∷ [] }
+abbrev sample_mark : TokenKind → Mark
+sample_mark k = record { kind = k; column = 0; word = 97 ∷ [] }
 
 abbrev one_name : List (List ℕ)
 one_name = (97 ∷ []) ∷ []
@@ -187,22 +187,22 @@ record Reads (r : Reached) (ks : List TokenKind) : Type 0 where
 
 runs_read : (r : Reached) (ks : List TokenKind) (s : Shape) → runs (shape_of r) ks ≡ Some s → is_final s ≡ true → Reads r ks
 unfolding follow is_reserved
-runs_read r [] s e final = told (finished r) refl (end_tells r)
+runs_read r [] s e final = told (finish_dependency r) refl (end_tells r)
   where
-    told : (o : Result Dependency What) → finished r ≡ o → EndTells r o → Reads r []
+    told : (o : Result Dependency What) → finish_dependency r ≡ o → EndTells r o → Reads r []
     told (Ok dep) is tells =
-        record { marks = []; same = refl; dep = dep; read = ap (λ t. at 1 1 0 (expecting t)) is }
+        record { marks = []; same = refl; dep = dep; read = ap (λ t. at 1 1 0 (expect t)) is }
     told (Err what) is tells =
         let last : shape_of r ≡ s = cc in
         let wrong : false ≡ true = sym tells.0 ∙ ap is_final last ∙ final in cc
-runs_read r (k ∷ ks) s e final = told (step format.Plain one_name r k (97 ∷ [])) refl (step_tells format.Plain one_name r (sample k)) (λ next h. runs_read next ks s h final)
+runs_read r (k ∷ ks) s e final = told (step format.Plain one_name r k (97 ∷ [])) refl (step_tells format.Plain one_name r (sample_mark k)) (λ next h. runs_read next ks s h final)
   where
-    told : (o : Result Reached SchemaRefusalKind) → step format.Plain one_name r k (97 ∷ []) ≡ o → StepTells format.Plain one_name r (sample k) o
+    told : (o : Result Reached SchemaRefusalKind) → step format.Plain one_name r k (97 ∷ []) ≡ o → StepTells format.Plain one_name r (sample_mark k) o
         → ((next : Reached) → runs (shape_of next) ks ≡ Some s → Reads next ks) → Reads r (k ∷ ks)
     told (Ok next) is tells rest =
         let more = rest next (ap (λ o. bind o (λ t. runs t ks)) (sym tells.0) ∙ e) in
         record {
-          marks = sample k ∷ more.marks;
+          marks = sample_mark k ∷ more.marks;
           same = ap (λ t. k ∷ t) more.same;
           dep = more.dep;
           read = ap (λ o. and_then (at 1 0 1 o) (λ n. follow format.Plain one_name 1 n 1 more.marks None)) is
@@ -240,7 +240,7 @@ completion past_end = []
 
 pub runs-append : (s : Shape) (ks ls : List TokenKind) → runs s (ks ++ ls) ≡ bind (runs s ks) (λ t. runs t ls)
 runs-append s [] ls = refl
-runs-append s (k ∷ ks) ls = told (λ t. runs-append t ks ls) (turn_shape s k)
+runs-append s (k ∷ ks) ls = told (λ t. runs-append t ks ls) (advance_shape s k)
   where
     told : ((t : Shape) → runs t (ks ++ ls) ≡ bind (runs t ks) (λ u. runs u ls)) → (o : Option Shape) → bind o (λ t. runs t (ks ++ ls)) ≡ bind (bind o (λ t. runs t ks)) (λ t. runs t ls)
     told rest None = refl
@@ -257,8 +257,8 @@ begins_from ks s e =
     record { rest = completion s; line = final_line (ks ++ completion s) more.last leads more.final }
 
 -- one token more
-pub runs-one : (pre : List TokenKind) (s : Shape) (k : TokenKind) → runs at_start pre ≡ Some s → runs at_start (pre ++ k ∷ []) ≡ turn_shape s k
-runs-one pre s k reached = runs-append at_start pre (k ∷ []) ∙ ap (λ o. bind o (λ t. runs t (k ∷ []))) reached ∙ last (turn_shape s k)
+pub runs-one : (pre : List TokenKind) (s : Shape) (k : TokenKind) → runs at_start pre ≡ Some s → runs at_start (pre ++ k ∷ []) ≡ advance_shape s k
+runs-one pre s k reached = runs-append at_start pre (k ∷ []) ∙ ap (λ o. bind o (λ t. runs t (k ∷ []))) reached ∙ last (advance_shape s k)
   where
     last : (o : Option Shape) → bind o (λ t. Some t) ≡ o
     last None = refl

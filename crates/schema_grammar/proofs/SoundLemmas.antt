@@ -9,8 +9,8 @@ use Rattle.std.proofs.lemmas.List.{length-map}
 use Rattle.std.proofs.lemmas.List.Elements.{All-cons, All-nil, All-head, All-tail, All-push, All-contains}
 use Rattle.std.proofs.lemmas.List.Quantifiers.{all_pairs_push}
 use Rattle.std.proofs.lemmas.List.Sums.{fails_before_first}
-use Rattle.attr_sets.specs.Places.{Places, Within, below}
-use Rattle.attr_sets.specs.declared.set.TheConstants.{PLACES}
+use Rattle.attr_sets.specs.Attributes.{Attributes, IsSubset, below}
+use Rattle.attr_sets.specs.declared.set.TheConstants.{MOST_ATTRIBUTES}
 use Rattle.dep_model.specs.declared.column.Column.{Column}
 use Rattle.dep_model.specs.declared.column.Column.TheVariants.{Text, Integer}
 use Rattle.dep_model.specs.declared.dep.Dep.{Dep}
@@ -18,7 +18,7 @@ use Rattle.dep_model.specs.declared.schema.TheConstants.{MOST_DEPENDENCIES}
 use Rattle.dep_model.specs.Dependencies.{Dependency, IsWithin, left_of, right_of}
 use Rattle.dep_model.specs.Deps.{dependency_of, dependencies_of}
 use Rattle.dep_model.specs.Names.{is_name, same_name, is_type_name}
-use Rattle.dep_model.specs.Schemas.{place_named}
+use Rattle.dep_model.specs.Schemas.{attribute_named}
 use Rattle.dep_model.specs.Validity.{IsSchema, AreColumns}
 use Rattle.dep_model.proofs.DepLemmas.{dependencies_all-to}
 use Rattle.lexer.specs.declared.piece.Piece.{Piece}
@@ -27,8 +27,8 @@ use Rattle.lexer.specs.declared.token.Mode.{Mode}
 use Rattle.lexer.specs.declared.token.Mode.TheVariants as mode
 use Rattle.lexer.specs.declared.token.TokenKind.{TokenKind}
 use Rattle.lexer.specs.declared.token.TokenKind.TheVariants as token
-use Rattle.lexer.specs.Pieces.{front}
-use Rattle.lexer.specs.Tokens.{Mark, Lexed, lexed, led_by}
+use Rattle.lexer.specs.Pieces.{front_piece}
+use Rattle.lexer.specs.Tokens.{Mark, Lexed, tokens_after, led_by}
 use Rattle.lexer.proofs.Steps.{is_a_word}
 use Rattle.schema_grammar.specs.declared.format.Format.{Format}
 use Rattle.schema_grammar.specs.declared.format.Format.TheVariants as format
@@ -36,7 +36,7 @@ use Rattle.schema_grammar.specs.Declarations.{Declarations, no_declaration, add_
 use Rattle.schema_grammar.specs.Grammar.{start}
 use Rattle.schema_grammar.specs.Schemas.{IsNewName, DeclareNames, MeansTextLine, MeansLines}
 use Rattle.schema_grammar.specs.Texts.{read_opening}
-use Rattle.schema_grammar.specs.Words.{is_reserved, is_common_word, declares, declaring}
+use Rattle.schema_grammar.specs.Words.{is_reserved, is_common_word, column_type_of_token, column_type_of_word}
 use Rattle.schema_grammar.proofs.DeclaringLaws.{line_there}
 use Rattle.schema_grammar.proofs.RefusalLemmas.{when_ok}
 use Rattle.schema_grammar.proofs.SchemaLaws.{opening_means}
@@ -49,7 +49,7 @@ FitsFormat format.Typed d = All (λ name. is_type_name name ≡ false) d.names
 
 -- what is declared so far forms a schema, once it has a name
 pub record IsSound (f : Format) (d : Declarations) : Type 0 where
-  pub few_names : length d.names ≤ PLACES
+  pub few_names : length d.names ≤ MOST_ATTRIBUTES
   pub names_differ : AllPairs (λ a b. same_name a b ≡ false) d.names
   pub free : All (λ name. is_reserved f name ≡ false) d.names
   pub proper : All (λ name. is_name name ≡ true) d.names
@@ -78,33 +78,33 @@ nothing_sound f = record {
 
 -- the bytes of a token are a name if it is a word
 abbrev IsProper : Mark → Type 0
-IsProper m = m.kind ≡ token.Word → is_name m.word ≡ true
+IsProper m = m.kind ≡ token.Identifier → is_name m.word ≡ true
 
 led_proper : (m : Mode) (column : ℕ) (text : List ℕ) (afterwards : ℕ → Lexed) (p : Piece) → 0 < length text
-    → p ≡ front m text
+    → p ≡ front_piece m text
     → ((n : ℕ) → All IsProper (afterwards n).marks) → All IsProper (led_by p column text afterwards).marks
 led_proper m column text afterwards piece.Gap some e later = later 0
 led_proper m column text afterwards (piece.Token k n) some e later =
     All-cons IsProper _ _ (is_a_word m text k n some e) (later (n - 1))
 led_proper m column text afterwards p some e later = All-nil IsProper
 
-lexed_proper : (m : Mode) (skip column : ℕ) (text : List ℕ) → All IsProper (lexed m skip column text).marks
-unfolding lexed
+lexed_proper : (m : Mode) (skip column : ℕ) (text : List ℕ) → All IsProper (tokens_after m skip column text).marks
+unfolding tokens_after
 lexed_proper m skip column [] = All-nil IsProper
 lexed_proper m zero column (b ∷ bs) =
-    led_proper m column (b ∷ bs) (λ skip. lexed m skip (column + 1) bs) (front m (b ∷ bs)) (omega arith) refl
+    led_proper m column (b ∷ bs) (λ skip. tokens_after m skip (column + 1) bs) (front_piece m (b ∷ bs)) (omega arith) refl
     (λ skip. lexed_proper m skip (column + 1) bs)
 lexed_proper m (suc n) column (b ∷ bs) = lexed_proper m n (column + 1) bs
 
-wider : (n m : ℕ) (x : Places) → n ≤ m → Within x (below n) → Within x (below m)
-wider n m x h within k e = let small : k < n = ltb-true k n (within k e) in lt-ltb k m (omega arith)
+below-wider : (n m : ℕ) (x : Attributes) → n ≤ m → IsSubset x (below n) → IsSubset x (below m)
+below-wider n m x h within k e = let small : k < n = ltb-true k n (within k e) in lt-ltb k m (omega arith)
 
 -- the type of a column that a line declares
 abbrev pub FitsColumn : Format → Column → Type 0
 FitsColumn format.Plain c = c ≡ Text
 FitsColumn format.Typed c = Unit {0}
 
-no_name : (names : List (List ℕ)) (word : List ℕ) → place_named names word ≡ None
+no_name : (names : List (List ℕ)) (word : List ℕ) → attribute_named names word ≡ None
     → All (λ name. same_name name word ≡ false) names
 no_name names word e k d h =
     let all : length names ≤ position_or_len (λ name. same_name name word) names =
@@ -137,9 +137,9 @@ name_sound f column d m h proper sound new =
       proper = All-push (λ name. is_name name ≡ true) d.names m.word sound.proper (proper new.word);
       few_deps = sound.few_deps;
       deps_within = λ k e below_k. let inside = sound.deps_within k e below_k in (
-        wider (length d.names) (length (d.names ++ m.word ∷ [])) (left_of (get_or d.deps k e))
+        below-wider (length d.names) (length (d.names ++ m.word ∷ [])) (left_of (get_or d.deps k e))
             (omega arith) inside.0,
-        wider (length d.names) (length (d.names ++ m.word ∷ []))
+        below-wider (length d.names) (length (d.names ++ m.word ∷ []))
             (right_of (get_or d.deps k e)) (omega arith) inside.1,
       );
       one_line_each = sound.one_line_each;
@@ -176,10 +176,10 @@ dependency_sound f d dep line sound room inside =
     }
 
 declares_fits : (f : Format) (k : TokenKind) (word : List ℕ) (column : Column)
-    → declares f k word ≡ Some column → FitsColumn f column
-unfolding declares declaring
+    → column_type_of_token f k word ≡ Some column → FitsColumn f column
+unfolding column_type_of_token column_type_of_word
 declares_fits format.Typed k word column e = tt
-declares_fits format.Plain token.Word word column e = elim (cases_Bool (bytes_eq word (codes "attributes"))) [
+declares_fits format.Plain token.Identifier word column e = elim (cases_Bool (bytes_eq word (codes "attributes"))) [
   | inl is ↦ let text = rw is at e in cc
   | inr other ↦ let wrong = rw other at e in cc
 ]

@@ -1,7 +1,7 @@
--- A schema text is read where nothing is wrong, or refused by its first complaint.
+-- A schema text is read where nothing is wrong, or refused by its first diagnostic.
 use Rattle.std.proofs.Common.{◌≡◌, ◌+◌, ◌⊎◌, inl, inr, ℕ, Bool, true, false, cond, List, [], ◌∷◌, length, Option, Some, None, Ok, Err, Result, refl, subst, arith, ◌==◌}
 use Rattle.lexer.specs.declared.token.Mode.TheVariants as mode
-use Rattle.lexer.specs.declared.token.Stop.{Stop}
+use Rattle.lexer.specs.declared.token.LexError.{LexError}
 use Rattle.lexer.specs.Lines.{line_texts, without_mark}
 use Rattle.lexer.specs.Tokens.{Mark, lex}
 use Rattle.schema_grammar.specs.declared.refusal.SchemaRefusal.{SchemaRefusal}
@@ -9,68 +9,69 @@ use Rattle.schema_grammar.specs.declared.refusal.SchemaRefusalKind.TheVariants a
 use Rattle.schema_grammar.specs.declared.refusal.What.TheVariants as what
 use Rattle.schema_grammar.specs.declared.format.TheConstants.{VERSION}
 use Rattle.schema_grammar.specs.declared.format.Format.TheVariants as format
-use Rattle.schema_grammar.specs.Complaints.{span_at}
+use Rattle.schema_grammar.specs.Diagnostics.{span_at}
 use Rattle.schema_grammar.specs.Declarations.{Declarations, no_declaration}
 use Rattle.schema_grammar.specs.Refusals.{and_then, refusal, refused_by}
-use Rattle.schema_grammar.specs.Schemas.{FitsLines, VersionComplaint, VersionWants, FitsVersion, HasVersionLine, FitsText, FitsSchema, RefusesSchema, IsVersionLine, has_version_line}
+use Rattle.schema_grammar.specs.Schemas.{FitsLines, VersionDiagnostic, VersionWants, FitsVersion, HasVersionLine, FitsText, FitsSchema, RefusesSchema, IsVersionLine, has_version_line}
 use Rattle.schema_grammar.specs.Texts.{read_lines, read_version, read_opening, read_text, end_version, version_number, number_in}
-use Rattle.schema_grammar.proofs.ComplaintLaws.{flaw_numbered, flaw_carries, flaw_least, first_at}
+use Rattle.schema_grammar.proofs.DiagnosticLaws.{flaw_numbered, flaw_carries, flaw_least, first_at}
 use Rattle.schema_grammar.proofs.LinesLaws.{lines-law}
-use Rattle.schema_grammar.proofs.SchemaLaws.{version_there, opening, plain_opening, typed_opening}
+use Rattle.schema_grammar.proofs.SchemaLaws.{version_there, version_line_or_none, plain_opening, typed_opening}
 
--- a version line is read where nothing is wrong, or refused by its first complaint
-pub version-law : (line next_column : ℕ) (ms : List Mark) (stop : Option Stop)
+-- a version line is read where nothing is wrong, or refused by its first diagnostic
+pub version-law : (line next_column : ℕ) (ms : List Mark) (stop : Option LexError)
     → FitsVersion line next_column ms stop (read_version line next_column ms stop)
 unfolding read_version
 version-law line next_column [] None =
-    first_at (VersionComplaint [] None) VersionWants (span_at line next_column [] None)
+    first_at (VersionDiagnostic [] None) VersionWants (span_at line next_column [] None)
     (refusal line next_column 0 (kind.Expected what.Number)) 0 (λ p n less. absurd (omega arith))
-    (inl (inl (inr (refl, refl, refl, refl)))) (inl (refl, refl)) refl (λ n complaint. grind arith)
+    (inl (inl (inr (refl, refl, refl, refl)))) (inl (refl, refl)) refl (λ n diagnostic. grind arith)
 version-law line next_column [] (Some s) =
-    first_at (VersionComplaint [] (Some s)) VersionWants (span_at line next_column [] (Some s))
+    first_at (VersionDiagnostic [] (Some s)) VersionWants (span_at line next_column [] (Some s))
     (refused_by line s) 0
     (λ p n less. absurd (omega arith)) (inr (s, refl, refl, flaw_numbered s.flaw))
     (flaw_carries (VersionWants 0) s.flaw) refl
-    (λ n complaint. grind (arith, flaw_least s))
+    (λ n diagnostic. grind (arith, flaw_least s))
 version-law line next_column (m ∷ ms) stop = told (number_in m.kind) refl
   where
     ends : (i : ℕ) → number_in m.kind ≡ Some i → (i == VERSION) ≡ true
-        → (others : List Mark) (o : Option Stop)
+        → (others : List Mark) (o : Option LexError)
         → FitsVersion line next_column (m ∷ others) o (end_version line others o)
-    ends i some two [] None = λ p n complaint. grind arith
+    ends i some two [] None = λ p n diagnostic. grind arith
     ends i some two [] (Some s) =
-        first_at (VersionComplaint (m ∷ []) (Some s)) VersionWants
+        first_at (VersionDiagnostic (m ∷ []) (Some s)) VersionWants
         (span_at line next_column (m ∷ []) (Some s)) (refused_by line s) 1
-        (λ p n less complaint. grind arith) (inr (s, refl, refl, flaw_numbered s.flaw))
+        (λ p n less diagnostic. grind arith) (inr (s, refl, refl, flaw_numbered s.flaw))
         (flaw_carries (VersionWants 1) s.flaw) refl
-        (λ n complaint. grind (arith, flaw_least s))
+        (λ n diagnostic. grind (arith, flaw_least s))
     ends i some two (k ∷ ks) o =
-        first_at (VersionComplaint (m ∷ k ∷ ks) o) VersionWants (span_at line next_column (m ∷ k ∷ ks) o)
+        first_at (VersionDiagnostic (m ∷ k ∷ ks) o) VersionWants (span_at line next_column (m ∷ k ∷ ks) o)
         (refusal line k.column (length k.word) (kind.Expected what.LineEnd)) 1
-        (λ p n less complaint. grind arith) (inl (inr (inr (k, refl, refl, refl))))
-        (inr (omega arith, refl)) refl (λ n complaint. grind arith)
+        (λ p n less diagnostic. grind arith) (inl (inr (inr (k, refl, refl, refl))))
+        (inr (omega arith, refl)) refl (λ n diagnostic. grind arith)
 
     number : (i : ℕ) (b : Bool) → number_in m.kind ≡ Some i → (i == VERSION) ≡ b
         → FitsVersion line next_column (m ∷ ms) stop
         (cond b (end_version line ms stop) (Err (refusal line m.column (length m.word) kind.UnknownVersion)))
     number i true some two = ends i some two ms stop
     number i false some other =
-        first_at (VersionComplaint (m ∷ ms) stop) VersionWants (span_at line next_column (m ∷ ms) stop)
+        first_at (VersionDiagnostic (m ∷ ms) stop) VersionWants (span_at line next_column (m ∷ ms) stop)
         (refusal line m.column (length m.word) kind.UnknownVersion) 0 (λ p n less. absurd (omega arith))
-        (inl (inr (inl (m, i, refl, some, other, refl, refl)))) tt refl (λ n complaint. grind arith)
+        (inl (inr (inl (m, i, refl, some, other, refl, refl)))) tt refl (λ n diagnostic. grind arith)
 
     told : (o : Option ℕ) → number_in m.kind ≡ o → FitsVersion line next_column (m ∷ ms) stop (version_number line m ms stop o)
     told None none =
-        first_at (VersionComplaint (m ∷ ms) stop) VersionWants (span_at line next_column (m ∷ ms) stop)
+        first_at (VersionDiagnostic (m ∷ ms) stop) VersionWants (span_at line next_column (m ∷ ms) stop)
         (refusal line m.column (length m.word) (kind.Expected what.Number)) 0
         (λ p n less. absurd (omega arith))
-        (inl (inl (inl (m, refl, none, refl, refl)))) (inl (refl, refl)) refl (λ n complaint. grind arith)
+        (inl (inl (inl (m, refl, none, refl, refl)))) (inl (refl, refl)) refl (λ n diagnostic. grind arith)
     told (Some i) some = number i (i == VERSION) some refl
 
--- a schema text is refused by its first complaint, or as declaring nothing, and read where there is neither
+-- a schema text is refused by its first diagnostic, or as declaring nothing, and read where there is
+-- neither
 pub text-law : (text : List ℕ) → FitsSchema text (read_text text)
 unfolding read_text
-text-law text = fits (opening lines)
+text-law text = fits (version_line_or_none lines)
   where
     lines : List (List ℕ)
     lines = line_texts (without_mark text)

@@ -4,58 +4,58 @@ use Rattle.std.specs.List.{list_any}
 use Rattle.std.specs.Result.{IfOk}
 use Rattle.std.proofs.lemmas.Bool.{eqb-true, false≢true, or_cases}
 use Rattle.std.proofs.lemmas.List.Quantifiers.{position-Some}
-use Rattle.attr_sets.specs.Places.{Places, Within, below, none, union}
+use Rattle.attr_sets.specs.Attributes.{Attributes, IsSubset, below, none, union}
 use Rattle.dep_model.specs.Dependencies.{Dependency, IsWithin}
 use Rattle.dep_model.specs.Names.{same_name}
-use Rattle.dep_model.specs.Schemas.{place_named}
-use Rattle.lexer.specs.declared.token.Stop.{Stop}
+use Rattle.dep_model.specs.Schemas.{attribute_named}
+use Rattle.lexer.specs.declared.token.LexError.{LexError}
 use Rattle.lexer.specs.Tokens.{Mark}
 use Rattle.schema_grammar.specs.declared.format.Format.{Format}
 use Rattle.schema_grammar.specs.declared.symbol.Sign.{Sign}
 use Rattle.schema_grammar.specs.declared.symbol.Sign.TheVariants as sign
-use Rattle.schema_grammar.specs.Grammar.{Reached, start, left, left_empty, after_sign, right, right_empty, stated}
-use Rattle.schema_grammar.specs.Meanings.{is_at, named, IsSide}
+use Rattle.schema_grammar.specs.Grammar.{Reached, start, left, left_empty, after_sign, right, right_empty, dependency_of_sign}
+use Rattle.schema_grammar.specs.Meanings.{is_at, attributes_of_words, IsSide}
 use Rattle.schema_grammar.specs.Reading.{follow, follow_lexed}
 use Rattle.schema_grammar.proofs.GoalLaws.{Rest, marks_make, no_stop}
 use Rattle.schema_grammar.proofs.RefusalLemmas.{when_ok, ok_at}
 
-place_within : (names : List (List ℕ)) (word : List ℕ) (k : ℕ) → is_at (place_named names word) k ≡ true
+attribute_named-within : (names : List (List ℕ)) (word : List ℕ) (k : ℕ) → is_at (attribute_named names word) k ≡ true
     → k < length names
-place_within names word k here = told (place_named names word) refl here
+attribute_named-within names word k here = told (attribute_named names word) refl here
   where
-    told : (o : Option ℕ) → place_named names word ≡ o → is_at o k ≡ true → k < length names
-    told None place at = absurd (false≢true at)
-    told (Some a) place at =
-        rw (eqb-true k a at) (position-Some (λ name. same_name name word) names a [] place).0
+    told : (o : Option ℕ) → attribute_named names word ≡ o → is_at o k ≡ true → k < length names
+    told None lookup at = absurd (false≢true at)
+    told (Some a) lookup at =
+        rw (eqb-true k a at) (position-Some (λ name. same_name name word) names a [] lookup).0
 
-pub named_within : (names : List (List ℕ)) (words : List Mark) → Within (named names words) (below (length names))
+pub named_within : (names : List (List ℕ)) (words : List Mark) → IsSubset (attributes_of_words names words) (below (length names))
 named_within names [] k member = absurd (false≢true member)
 named_within names (m ∷ ms) k member =
     ⊎_elim
-    (λ here. lt-ltb k (length names) (place_within names m.word k here))
+    (λ here. lt-ltb k (length names) (attribute_named-within names m.word k here))
     (λ later. named_within names ms k later)
-    (or_cases (is_at (place_named names m.word) k) (list_any (λ w. is_at (place_named names w.word) k) ms) member)
+    (or_cases (is_at (attribute_named names m.word) k) (list_any (λ w. is_at (attribute_named names w.word) k) ms) member)
 
-side_within : (f : Format) (names : List (List ℕ)) (ms : List Mark) (x : Places) → IsSide f names ms x
-    → Within x (below (length names))
+side_within : (f : Format) (names : List (List ℕ)) (ms : List Mark) (x : Attributes) → IsSide f names ms x
+    → IsSubset x (below (length names))
 side_within f names ms x (inl empty) = rw empty.nothing (λ k e. cc)
 side_within f names ms x (inr words) = rw words.members (named_within names ms)
 
-union_within : (u x y : Places) → Within x u → Within y u → Within (union x y) u
+union_within : (u x y : Attributes) → IsSubset x u → IsSubset y u → IsSubset (union x y) u
 union_within u x y xs ys k member = ⊎_elim (xs k) (ys k) (or_cases (x k) (y k) member)
 
-stated_within : (u : Places) (s : Sign) (x y : Places) → Within x u → Within y u → IsWithin u (stated s x y)
+stated_within : (u : Attributes) (s : Sign) (x y : Attributes) → IsSubset x u → IsSubset y u → IsWithin u (dependency_of_sign s x y)
 stated_within u sign.Functional x y h g = (h, g)
 stated_within u sign.Multivalued x y h g = (h, g)
 
 -- the sets that are read lie within a set
-abbrev pub IsReadingWithin : Places → Reached → Type 0
+abbrev pub IsReadingWithin : Attributes → Reached → Type 0
 IsReadingWithin u start = Unit {0}
-IsReadingWithin u (left x) = Within x u
+IsReadingWithin u (left x) = IsSubset x u
 IsReadingWithin u left_empty = Unit {0}
-IsReadingWithin u (after_sign s x) = Within x u
-IsReadingWithin u (right s x y) = Within x u × Within y u
-IsReadingWithin u (right_empty s x) = Within x u
+IsReadingWithin u (after_sign s x) = IsSubset x u
+IsReadingWithin u (right s x y) = IsSubset x u × IsSubset y u
+IsReadingWithin u (right_empty s x) = IsSubset x u
 
 -- the dependency that tokens make lies within the declared names
 pub rest_within : (f : Format) (names : List (List ℕ)) (reading : Reached) (ms : List Mark) (d : Dependency)
@@ -77,7 +77,7 @@ rest_within f names (right s x y) ms d h is =
 rest_within f names (right_empty s x) ms d h is = rw is.states (stated_within _ s x none h (λ k e. cc))
 
 -- so does the dependency that a line states
-pub follow_within : (f : Format) (declared : List (List ℕ)) (line : ℕ) (reading : Reached) (column : ℕ) (ms : List Mark) (stop : Option Stop)
+pub follow_within : (f : Format) (declared : List (List ℕ)) (line : ℕ) (reading : Reached) (column : ℕ) (ms : List Mark) (stop : Option LexError)
     → IsReadingWithin (below (length declared)) reading → IfOk (follow f declared line reading column ms stop) (IsWithin (below (length declared)))
 follow_within f declared line reading column ms stop h = when_ok _ _ (λ d e.
     let whole = no_stop f declared line reading column (record { marks = ms; stop = stop }) d e in

@@ -1,13 +1,13 @@
 -- What a schema text declares, line by line: for the meaning of schema texts (`Schemas`) and their
 -- reading (`Texts`).
 use Rattle.std.specs.Prelude.{ℕ, ◌+◌, Bool, true, false, if◌then◌else◌, List, [], ◌∷◌, ◌++◌, length, nat_le, Option, Some, None, is_some, Result, Ok, Err}
-use Rattle.attr_sets.specs.declared.set.TheConstants.{PLACES}
+use Rattle.attr_sets.specs.declared.set.TheConstants.{MOST_ATTRIBUTES}
 use Rattle.dep_model.specs.declared.column.Column.{Column}
 use Rattle.dep_model.specs.declared.schema.TheConstants.{MOST_DEPENDENCIES}
 use Rattle.dep_model.specs.Dependencies.{Dependency}
-use Rattle.dep_model.specs.Schemas.{place_named}
+use Rattle.dep_model.specs.Schemas.{attribute_named}
 use Rattle.lexer.specs.declared.token.Mode.TheVariants as mode
-use Rattle.lexer.specs.declared.token.Stop.{Stop}
+use Rattle.lexer.specs.declared.token.LexError.{LexError}
 use Rattle.lexer.specs.declared.token.Token.{Token}
 use Rattle.lexer.specs.declared.token.TokenKind.{TokenKind}
 use Rattle.lexer.specs.declared.token.TokenKind.TheVariants as token
@@ -21,7 +21,7 @@ use Rattle.schema_grammar.specs.declared.format.Format.{Format}
 use Rattle.schema_grammar.specs.Grammar.{Reached, start}
 use Rattle.schema_grammar.specs.Reading.{step, follow}
 use Rattle.schema_grammar.specs.Refusals.{refused_by, and_then, at}
-use Rattle.schema_grammar.specs.Words.{is_reserved, declares}
+use Rattle.schema_grammar.specs.Words.{is_reserved, column_type_of_token}
 
 -- what a schema text declares: names and the types of their columns, dependencies and their lines
 pub record Declarations : Type 0 where
@@ -43,22 +43,22 @@ add_dependency d dep line = record d { deps = d.deps ++ dep ∷ []; lines = d.li
 unfoldable pub declare : Format → Column → Declarations → List ℕ → Result Declarations SchemaRefusalKind
 declare f column d word =
     if is_reserved f word then Err kind.ReservedName
-    else if is_some (place_named d.names word) then Err kind.DoubleName
-    else if nat_le PLACES (length d.names) then Err kind.TooManyAttributes
+    else if is_some (attribute_named d.names word) then Err kind.DoubleName
+    else if nat_le MOST_ATTRIBUTES (length d.names) then Err kind.TooManyAttributes
     else Ok (add_name d word column)
 
 -- what is wanted after a declaring word where no name stands
-abbrev pub wanted : Bool → What
-wanted some = if some then what.LineEnd else what.Name
+abbrev pub what_after_declaring : Bool → What
+what_after_declaring some = if some then what.LineEnd else what.Name
 
 -- a token after a declaring word; `some` is whether a name stood before
 abbrev pub name_step : Format → Column → Declarations → Bool → TokenKind → List ℕ
     → Result Declarations SchemaRefusalKind
-name_step f column d some token.Word word = declare f column d word
-name_step f column d some _ word = Err (kind.Expected (wanted some))
+name_step f column d some token.Identifier word = declare f column d word
+name_step f column d some _ word = Err (kind.Expected (what_after_declaring some))
 
 -- the tokens after a declaring word
-unfoldable pub list_names : Format → Column → ℕ → Declarations → Bool → ℕ → List Mark → Option Stop
+unfoldable pub list_names : Format → Column → ℕ → Declarations → Bool → ℕ → List Mark → Option LexError
     → Result Declarations SchemaRefusal
 list_names f column line d true next_column [] None = Ok d
 list_names f column line d false next_column [] None = at line next_column 0 (Err (kind.Expected what.Name))
@@ -80,7 +80,7 @@ begin f d k word =
     (λ next. if nat_le MOST_DEPENDENCIES (length d.deps) then Err kind.TooManyDependencies else Ok next)
 
 -- a dependency line with this first token
-unfoldable pub dependency_line : Format → ℕ → Declarations → Mark → List Mark → Option Stop
+unfoldable pub dependency_line : Format → ℕ → Declarations → Mark → List Mark → Option LexError
     → Result Declarations SchemaRefusal
 dependency_line f line d m ms stop =
     and_then (at line m.column (length m.word) (begin f d m.kind m.word))
@@ -91,21 +91,21 @@ abbrev pub dependency_lexed : Format → ℕ → Declarations → Mark → Lexed
 dependency_lexed f line d m l = dependency_line f line d m l.marks l.stop
 
 -- a token with its bytes
-abbrev pub marked : Token → List ℕ → Mark
-marked t word = record { kind = t.kind; column = t.column; word = word }
+abbrev pub mark_of : Token → List ℕ → Mark
+mark_of t word = record { kind = t.kind; column = t.column; word = word }
 
 -- a line whose first token is this: it declares names, or states a dependency
-abbrev pub line_from : Format → ℕ → Declarations → Mark → List Mark → Option Stop → Option Column
+abbrev pub line_from : Format → ℕ → Declarations → Mark → List Mark → Option LexError → Option Column
     → Result Declarations SchemaRefusal
 line_from f line d m ms stop (Some column) =
     list_names f column line d false (m.column + length m.word) ms stop
 line_from f line d m ms stop None = dependency_line f line d m ms stop
 
-abbrev pub line_of_marks : Format → ℕ → Declarations → List Mark → Option Stop
+abbrev pub line_of_marks : Format → ℕ → Declarations → List Mark → Option LexError
     → Result Declarations SchemaRefusal
 line_of_marks f line d [] None = Ok d
 line_of_marks f line d [] (Some stop) = Err (refused_by line stop)
-line_of_marks f line d (m ∷ ms) stop = line_from f line d m ms stop (declares f m.kind m.word)
+line_of_marks f line d (m ∷ ms) stop = line_from f line d m ms stop (column_type_of_token f m.kind m.word)
 
 -- what is declared after one line more
 unfoldable pub read_line : Format → ℕ → Declarations → List ℕ → Result Declarations SchemaRefusal

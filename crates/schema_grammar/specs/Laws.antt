@@ -1,7 +1,7 @@
 -- The laws that tie the reading of a text to what it means, and what printed schemas mean: for the
 -- functions of `laws.rt`. `Desk` does not cite it.
 use Rattle.std.specs.Prelude.{◌≡◌, ◌<◌, ◌≤◌, ◌↔◌, ℕ, List, length, Ok, Err}
-use Rattle.attr_sets.specs.Places.{Places}
+use Rattle.attr_sets.specs.Attributes.{Attributes}
 use Rattle.dep_model.specs.declared.schema.Schema.{Schema}
 use Rattle.dep_model.specs.Dependencies.{Dependency}
 use Rattle.dep_model.specs.Schemas.{names_of, columns_of, theory_of}
@@ -11,7 +11,7 @@ use Rattle.lexer.specs.Tokens.{lex}
 use Rattle.schema_grammar.specs.declared.format.Format.{Format}
 use Rattle.schema_grammar.specs.declared.format.Format.TheVariants as format
 use Rattle.schema_grammar.specs.declared.refusal.SchemaRefusal.{SchemaRefusal}
-use Rattle.schema_grammar.specs.Complaints.{FitsGoal, FitsTextLine, RefusesGoal, span_at}
+use Rattle.schema_grammar.specs.Diagnostics.{FitsGoal, FitsTextLine, RefusesGoal, span_at}
 use Rattle.schema_grammar.specs.Declarations.{Declarations, read_line}
 use Rattle.schema_grammar.specs.Meanings.{MeansGoal}
 use Rattle.schema_grammar.specs.Printed.{AreNames}
@@ -26,8 +26,8 @@ abbrev pub GoalMeaning : Type 0
 GoalMeaning = (declared : List (List ℕ)) (text : List ℕ) (d : Dependency)
     → (read_goal declared text ≡ Ok d) ↔ MeansGoal declared text d
 
-abbrev pub GoalComplaints : Type 0
-GoalComplaints = (declared : List (List ℕ)) (text : List ℕ) → FitsGoal declared text (read_goal declared text)
+abbrev pub GoalDiagnostics : Type 0
+GoalDiagnostics = (declared : List (List ℕ)) (text : List ℕ) → FitsGoal declared text (read_goal declared text)
 
 abbrev pub GoalRefusal : Type 0
 GoalRefusal =
@@ -37,11 +37,11 @@ GoalRefusal =
 -- ---- sets
 abbrev pub SetMeaning : Type 0
 SetMeaning =
-    (declared : List (List ℕ)) (text : List ℕ) (x : Places)
+    (declared : List (List ℕ)) (text : List ℕ) (x : Attributes)
     → (read_set declared text ≡ Ok x) ↔ MeansSet declared text x
 
-abbrev pub SetComplaints : Type 0
-SetComplaints = (declared : List (List ℕ)) (text : List ℕ) → FitsSet declared text (read_set declared text)
+abbrev pub SetDiagnostics : Type 0
+SetDiagnostics = (declared : List (List ℕ)) (text : List ℕ) → FitsSet declared text (read_set declared text)
 
 abbrev pub SetRefusal : Type 0
 SetRefusal =
@@ -52,26 +52,26 @@ SetRefusal =
 abbrev pub SchemaMeaning : Type 0
 SchemaMeaning = (text : List ℕ) (whole : Declarations) → (read_text text ≡ Ok whole) ↔ MeansSchema text whole
 
-abbrev pub TextLineComplaints : Type 0
-TextLineComplaints =
+abbrev pub TextLineDiagnostics : Type 0
+TextLineDiagnostics =
     (f : Format) (number : ℕ) (d : Declarations) (line : List ℕ)
     → FitsTextLine f d number (lex mode.Plain line).marks (lex mode.Plain line).stop
     (read_line f number d line)
 
-abbrev pub LinesComplaints : Type 0
-LinesComplaints =
+abbrev pub LinesDiagnostics : Type 0
+LinesDiagnostics =
     (f : Format) (first : ℕ) (d : Declarations) (lines : List (List ℕ))
     → FitsLines f first d lines (read_lines f first d lines)
 
-abbrev pub SchemaComplaints : Type 0
-SchemaComplaints = (text : List ℕ) → FitsSchema text (read_text text)
+abbrev pub SchemaDiagnostics : Type 0
+SchemaDiagnostics = (text : List ℕ) → FitsSchema text (read_text text)
 
 abbrev pub SchemaRefused : Type 0
 SchemaRefused = (text : List ℕ) (e : SchemaRefusal) → (read_text text ≡ Err e) ↔ RefusesSchema text e
 
--- a later place of a line stands in a greater column
-abbrev pub PlacesRise : Type 0
-PlacesRise =
+-- a later position of a line stands in a greater column
+abbrev pub PositionsRise : Type 0
+PositionsRise =
     (m : Mode) (line : ℕ) (text : List ℕ) (p q : ℕ) → p < q → q ≤ length (lex m text).marks
     → (span_at line 1 (lex m text).marks (lex m text).stop p).column <
     (span_at line 1 (lex m text).marks (lex m text).stop q).column

@@ -1,4 +1,4 @@
-pub mod Complaints
+pub mod Diagnostics
 pub mod Declarations
 pub mod Grammar
 pub mod Laws

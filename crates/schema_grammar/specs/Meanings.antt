@@ -2,9 +2,9 @@
 -- the lines of certificates.
 use Rattle.std.specs.Prelude.{◌≡◌, ◌<◌, ◌⊎◌, ℕ, ◌==◌, false, List, [], ◌∷◌, ◌++◌, length, Option, Some, None, All}
 use Rattle.std.specs.List.{list_any}
-use Rattle.attr_sets.specs.Places.{Places, none}
+use Rattle.attr_sets.specs.Attributes.{Attributes, none}
 use Rattle.dep_model.specs.Dependencies.{Dependency}
-use Rattle.dep_model.specs.Schemas.{place_named}
+use Rattle.dep_model.specs.Schemas.{attribute_named}
 use Rattle.lexer.specs.declared.token.Mode.TheVariants as mode
 use Rattle.lexer.specs.declared.token.TokenKind.{TokenKind}
 use Rattle.lexer.specs.declared.token.TokenKind.TheVariants as token
@@ -13,42 +13,42 @@ use Rattle.schema_grammar.specs.declared.symbol.Sign.{Sign}
 use Rattle.schema_grammar.specs.declared.symbol.Sign.TheVariants as sign
 use Rattle.schema_grammar.specs.declared.format.Format.{Format}
 use Rattle.schema_grammar.specs.declared.format.Format.TheVariants as format
-use Rattle.schema_grammar.specs.Grammar.{stated}
+use Rattle.schema_grammar.specs.Grammar.{dependency_of_sign}
 use Rattle.schema_grammar.specs.Words.{is_reserved}
 
 -- a line has exactly these tokens
 abbrev pub HasTokens : Lexed → List Mark → Type 0
 HasTokens l ms = l ≡ record { marks = ms; stop = None }
 
-abbrev pub is_at : Option ℕ → Places
+abbrev pub is_at : Option ℕ → Attributes
 is_at None k = false
 is_at (Some a) k = k == a
 
 -- the attributes that words name
-abbrev pub named : List (List ℕ) → List Mark → Places
-named declared words k = list_any (λ m. is_at (place_named declared m.word) k) words
+abbrev pub attributes_of_words : List (List ℕ) → List Mark → Attributes
+attributes_of_words declared words k = list_any (λ m. is_at (attribute_named declared m.word) k) words
 
 -- a word that names a declared attribute
 pub record IsAttribute (f : Format) (declared : List (List ℕ)) (m : Mark) : Type 0 where
-  pub word : m.kind ≡ token.Word
+  pub word : m.kind ≡ token.Identifier
   pub free : is_reserved f m.word ≡ false
-  pub place : ℕ
-  pub known : place_named declared m.word ≡ Some place
+  pub index : ℕ
+  pub known : attribute_named declared m.word ≡ Some index
 
 -- a side is `()`, for no attribute
-pub record IsEmptySide (ms : List Mark) (x : Places) : Type 0 where
+pub record IsEmptySide (ms : List Mark) (x : Attributes) : Type 0 where
   pub column : ℕ
   pub bytes : List ℕ
   pub alone : ms ≡ record { kind = token.Empty; column = column; word = bytes } ∷ []
   pub nothing : x ≡ none
 
 -- or it is one or more words, for the attributes that they name
-pub record IsNamedSide (f : Format) (declared : List (List ℕ)) (ms : List Mark) (x : Places) : Type 0 where
+pub record IsNamedSide (f : Format) (declared : List (List ℕ)) (ms : List Mark) (x : Attributes) : Type 0 where
   pub some : 0 < length ms
   pub each : All (IsAttribute f declared) ms
-  pub members : x ≡ named declared ms
+  pub members : x ≡ attributes_of_words declared ms
 
-abbrev pub IsSide : Format → List (List ℕ) → List Mark → Places → Type 0
+abbrev pub IsSide : Format → List (List ℕ) → List Mark → Attributes → Type 0
 IsSide f declared ms x = IsEmptySide ms x ⊎ IsNamedSide f declared ms x
 
 -- `->` or `->>`
@@ -62,14 +62,14 @@ pub record IsDependency (f : Format) (declared : List (List ℕ)) (ms : List Mar
   pub lhs : List Mark
   pub arrow : Mark
   pub rhs : List Mark
-  pub x : Places
-  pub y : Places
+  pub x : Attributes
+  pub y : Attributes
   pub sign : Sign
   pub whole : ms ≡ lhs ++ arrow ∷ rhs
   pub left_side : IsSide f declared lhs x
   pub is_arrow : IsArrow sign arrow.kind
   pub right_side : IsSide f declared rhs y
-  pub states : d ≡ stated sign x y
+  pub states : d ≡ dependency_of_sign sign x y
 
 -- a goal over declared names means a dependency
 pub record MeansGoal (declared : List (List ℕ)) (text : List ℕ) (d : Dependency) : Type 0 where

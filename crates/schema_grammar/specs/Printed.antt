@@ -1,8 +1,8 @@
 -- Schemas that can be printed and read again: for the laws of printed schemas, plans and
 -- certificates. `Desk` does not cite it.
 use Rattle.std.specs.Prelude.{◌≡◌, ◌<◌, ◌≤◌, ℕ, true, false, List, length, All, AllPairs}
-use Rattle.attr_sets.specs.Places.{below}
-use Rattle.attr_sets.specs.declared.set.TheConstants.{PLACES}
+use Rattle.attr_sets.specs.Attributes.{below}
+use Rattle.attr_sets.specs.declared.set.TheConstants.{MOST_ATTRIBUTES}
 use Rattle.dep_model.specs.declared.column.Column.{Column}
 use Rattle.dep_model.specs.declared.schema.TheConstants.{MOST_DEPENDENCIES}
 use Rattle.dep_model.specs.Dependencies.{Dependency, IsWithin}
@@ -21,7 +21,7 @@ pub record AreNames (f : Format) (names : List (List ℕ)) : Type 0 where
 -- what a schema holds none of whose names is reserved
 pub record IsPrintable (columns : List Column) (names : List (List ℕ)) (deps : List Dependency) : Type 0 where
   pub some : 0 < length names
-  pub few : length names ≤ PLACES
+  pub few : length names ≤ MOST_ATTRIBUTES
   pub are_names : AreNames format.Plain names
   pub are_columns : AreColumns names columns
   pub few_deps : length deps ≤ MOST_DEPENDENCIES

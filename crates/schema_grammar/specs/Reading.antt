@@ -3,7 +3,7 @@
 use Rattle.std.specs.Prelude.{ℕ, ◌+◌, List, [], ◌∷◌, length, Option, Some, None, Result, Ok, Err}
 use Rattle.dep_model.specs.Dependencies.{Dependency}
 use Rattle.lexer.specs.declared.token.Mode.TheVariants as mode
-use Rattle.lexer.specs.declared.token.Stop.{Stop}
+use Rattle.lexer.specs.declared.token.LexError.{LexError}
 use Rattle.lexer.specs.declared.token.TokenKind.{TokenKind}
 use Rattle.lexer.specs.declared.token.TokenKind.TheVariants as token
 use Rattle.lexer.specs.Tokens.{Mark, Lexed, lex}
@@ -14,13 +14,13 @@ use Rattle.schema_grammar.specs.declared.symbol.Symbol.{Symbol}
 use Rattle.schema_grammar.specs.declared.symbol.Symbol.TheVariants as symbol
 use Rattle.schema_grammar.specs.declared.format.Format.{Format}
 use Rattle.schema_grammar.specs.declared.format.Format.TheVariants as format
-use Rattle.schema_grammar.specs.Grammar.{Reached, start, turn, finished}
-use Rattle.schema_grammar.specs.Refusals.{refused_by, and_then, at, expecting}
-use Rattle.schema_grammar.specs.Words.{looked_up}
+use Rattle.schema_grammar.specs.Grammar.{Reached, start, advance, finish_dependency}
+use Rattle.schema_grammar.specs.Refusals.{refused_by, and_then, at, expect}
+use Rattle.schema_grammar.specs.Words.{look_up}
 
 -- what a token stands for: a word is looked up among the declared names
 abbrev pub symbol_of : Format → List (List ℕ) → TokenKind → List ℕ → Result Symbol SchemaRefusalKind
-symbol_of f declared token.Word word = and_then (looked_up f declared word) (λ a. Ok (symbol.Attribute a))
+symbol_of f declared token.Identifier word = and_then (look_up f declared word) (λ a. Ok (symbol.Attribute a))
 symbol_of f declared token.Arrow word = Ok (symbol.Arrow sign.Functional)
 symbol_of f declared token.DoubleArrow word = Ok (symbol.Arrow sign.Multivalued)
 symbol_of f declared token.Empty word = Ok symbol.Empty
@@ -30,13 +30,13 @@ symbol_of f declared token.Colon word = Ok symbol.Other
 -- one token more: its word is looked up first, then the grammar decides
 unfoldable pub step : Format → List (List ℕ) → Reached → TokenKind → List ℕ → Result Reached SchemaRefusalKind
 step f declared reading kind word =
-    and_then (symbol_of f declared kind word) (λ s. expecting (turn reading s))
+    and_then (symbol_of f declared kind word) (λ s. expect (advance reading s))
 
 -- the dependency that the tokens from here on state; `column` is the place of the line's end where
 -- no token is left
-unfoldable pub follow : Format → List (List ℕ) → ℕ → Reached → ℕ → List Mark → Option Stop
+unfoldable pub follow : Format → List (List ℕ) → ℕ → Reached → ℕ → List Mark → Option LexError
     → Result Dependency SchemaRefusal
-follow f declared line reading column [] None = at line column 0 (expecting (finished reading))
+follow f declared line reading column [] None = at line column 0 (expect (finish_dependency reading))
 follow f declared line reading column [] (Some stop) = Err (refused_by line stop)
 follow f declared line reading column (m ∷ ms) stop =
     and_then (at line m.column (length m.word) (step f declared reading m.kind m.word))

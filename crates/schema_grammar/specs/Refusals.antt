@@ -5,7 +5,7 @@ use Rattle.dep_model.specs.Failures.{RefusesAs}
 use Rattle.dep_model.specs.declared.failure.Failure.{Failure}
 use Rattle.lexer.specs.declared.token.Flaw.{Flaw}
 use Rattle.lexer.specs.declared.token.Flaw.TheVariants as flaw
-use Rattle.lexer.specs.declared.token.Stop.{Stop}
+use Rattle.lexer.specs.declared.token.LexError.{LexError}
 use Rattle.schema_grammar.specs.declared.refusal.SchemaRefusal.{SchemaRefusal}
 use Rattle.schema_grammar.specs.declared.refusal.SchemaRefusalKind.{SchemaRefusalKind}
 use Rattle.schema_grammar.specs.declared.refusal.SchemaRefusalKind.TheVariants as kind
@@ -21,7 +21,7 @@ kind_of_flaw flaw.StrangeByte = kind.StrangeByte
 kind_of_flaw flaw.BadName = kind.BadName
 
 -- the refusal of bytes that are no token
-abbrev pub refused_by : ℕ → Stop → SchemaRefusal
+abbrev pub refused_by : ℕ → LexError → SchemaRefusal
 refused_by line stop = refusal line stop.column stop.length (kind_of_flaw stop.flaw)
 
 -- what follows a value, and nothing after an error
@@ -35,9 +35,9 @@ at line column length (Ok x) = Ok x
 at line column length (Err why) = Err (refusal line column length why)
 
 -- an error of the grammar
-abbrev pub expecting : {X : Type 0} → Result X What → Result X SchemaRefusalKind
-expecting (Ok x) = Ok x
-expecting (Err what) = Err (kind.Expected what)
+abbrev pub expect : {X : Type 0} → Result X What → Result X SchemaRefusalKind
+expect (Ok x) = Ok x
+expect (Err what) = Err (kind.Expected what)
 
 -- a refusal is that of the reading
 abbrev pub Refuses : {X R : Type 0} → Failure R → Result X R → Type 0

@@ -1,8 +1,8 @@
 -- What is left of a line, and what is read of it token by token: for the reading of plans and
 -- certificates.
 use Rattle.std.specs.Prelude.{ℕ, ◌+◌, Bool, true, false, if◌then◌else◌, List, [], ◌∷◌, length, Option, Some, None, Result, Ok, Err, ok_or}
-use Rattle.attr_sets.specs.Places.{Places, only, none, union}
-use Rattle.lexer.specs.declared.token.Stop.{Stop}
+use Rattle.attr_sets.specs.Attributes.{Attributes, only, none, union}
+use Rattle.lexer.specs.declared.token.LexError.{LexError}
 use Rattle.lexer.specs.declared.token.TokenKind.{TokenKind}
 use Rattle.lexer.specs.declared.token.TokenKind.TheVariants as token
 use Rattle.lexer.specs.Tokens.{Mark, Lexed}
@@ -15,10 +15,10 @@ use Rattle.schema_grammar.specs.declared.symbol.Sign.{Sign}
 use Rattle.schema_grammar.specs.declared.symbol.Sign.TheVariants.{Functional, Multivalued}
 use Rattle.schema_grammar.specs.Refusals.{refusal, refused_by, at}
 use Rattle.schema_grammar.specs.Texts.{number_in}
-use Rattle.schema_grammar.specs.Words.{looked_up}
+use Rattle.schema_grammar.specs.Words.{look_up}
 
 abbrev pub is_word_token : TokenKind → Bool
-is_word_token token.Word = true
+is_word_token token.Identifier = true
 is_word_token _ = false
 
 -- the arrow that a token is
@@ -28,15 +28,15 @@ arrow_in token.DoubleArrow = Some Multivalued
 arrow_in _ = None
 
 -- the attribute that a word of a side stands for
-abbrev pub place : List (List ℕ) → ℕ → Mark → Result ℕ SchemaRefusal
-place names line m = at line m.column (length m.word) (looked_up format.Plain names m.word)
+abbrev pub attribute_of_word : List (List ℕ) → ℕ → Mark → Result ℕ SchemaRefusal
+attribute_of_word names line m = at line m.column (length m.word) (look_up format.Plain names m.word)
 
 -- what is left of a line after a column: its tokens, and where they stop
 pub record Rest : Type 0 where
   pub line : ℕ
   pub next_column : ℕ
   pub marks : List Mark
-  pub stop : Option Stop
+  pub stop : Option LexError
 
 abbrev pub rest_from : ℕ → ℕ → Lexed → Rest
 rest_from line next_column l =
@@ -48,60 +48,60 @@ abbrev pub ◌>>=◌ : {A B E : Type 0} → Result A E → (A → Result B E) �
 (Err e) >>= f = Err e
 
 -- the next token, and the rest after it
-abbrev pub taken : What → ℕ → ℕ → List Mark → Option Stop → Result (Mark × Rest) SchemaRefusal
-taken want line next_column [] None = Err (refusal line next_column 0 (kind.Expected want))
-taken want line next_column [] (Some stop) = Err (refused_by line stop)
-taken want line next_column (m ∷ ms) stop =
+abbrev pub take_from : What → ℕ → ℕ → List Mark → Option LexError → Result (Mark × Rest) SchemaRefusal
+take_from want line next_column [] None = Err (refusal line next_column 0 (kind.Expected want))
+take_from want line next_column [] (Some stop) = Err (refused_by line stop)
+take_from want line next_column (m ∷ ms) stop =
     Ok (m, record { line = line; next_column = m.column + length m.word; marks = ms; stop = stop })
 
 unfoldable pub take : What → Rest → Result (Mark × Rest) SchemaRefusal
-take want r = taken want r.line r.next_column r.marks r.stop
+take want r = take_from want r.line r.next_column r.marks r.stop
 
 -- the refusal of a token where something else is wanted
-abbrev pub expected : What → Mark → Rest → SchemaRefusal
-expected want m r = refusal r.line m.column (length m.word) (kind.Expected want)
+abbrev pub refusal_of_token : What → Mark → Rest → SchemaRefusal
+refusal_of_token want m r = refusal r.line m.column (length m.word) (kind.Expected want)
 
 unfoldable pub number : Rest → Result (ℕ × Rest) SchemaRefusal
 number r = do
   t ← take what.Number r
-  n ← ok_or (number_in t.0.kind) (expected what.Number t.0 t.1)
+  n ← ok_or (number_in t.0.kind) (refusal_of_token what.Number t.0 t.1)
   Ok (n, t.1)
 
 unfoldable pub arrow : Rest → Result (Sign × Rest) SchemaRefusal
 arrow r = do
   t ← take what.Arrow r
-  a ← ok_or (arrow_in t.0.kind) (expected what.Arrow t.0 t.1)
+  a ← ok_or (arrow_in t.0.kind) (refusal_of_token what.Arrow t.0 t.1)
   Ok (a, t.1)
 
 -- what stands where the line is to end
-abbrev pub ended_from : ℕ → List Mark → Option Stop → Option SchemaRefusal
-ended_from line [] None = None
-ended_from line [] (Some stop) = Some (refused_by line stop)
-ended_from line (m ∷ ms) stop = Some (refusal line m.column (length m.word) (kind.Expected what.LineEnd))
+abbrev pub refusal_at_end_from : ℕ → List Mark → Option LexError → Option SchemaRefusal
+refusal_at_end_from line [] None = None
+refusal_at_end_from line [] (Some stop) = Some (refused_by line stop)
+refusal_at_end_from line (m ∷ ms) stop = Some (refusal line m.column (length m.word) (kind.Expected what.LineEnd))
 
-unfoldable pub ended : Rest → Option SchemaRefusal
-ended r = ended_from r.line r.marks r.stop
+unfoldable pub refusal_at_end : Rest → Option SchemaRefusal
+refusal_at_end r = refusal_at_end_from r.line r.marks r.stop
 
 -- words that stand here, added to a set
-unfoldable pub words_from : List (List ℕ) → ℕ → Places → ℕ → List Mark → Option Stop
-    → Result (Places × Rest) SchemaRefusal
+unfoldable pub words_from : List (List ℕ) → ℕ → Attributes → ℕ → List Mark → Option LexError
+    → Result (Attributes × Rest) SchemaRefusal
 words_from names line x next_column [] stop =
     Ok (x, record { line = line; next_column = next_column; marks = []; stop = stop })
 words_from names line x next_column (m ∷ ms) stop =
     if is_word_token m.kind
-    then (place names line m >>= λ a. words_from names line (union x (only a))
+    then (attribute_of_word names line m >>= λ a. words_from names line (union x (only a))
     (m.column + length m.word) ms stop)
     else Ok (x, record { line = line; next_column = next_column; marks = m ∷ ms; stop = stop })
 
-abbrev pub words : List (List ℕ) → Places → Rest → Result (Places × Rest) SchemaRefusal
+abbrev pub words : List (List ℕ) → Attributes → Rest → Result (Attributes × Rest) SchemaRefusal
 words names x r = words_from names r.line x r.next_column r.marks r.stop
 
 -- a side that begins with this token
-abbrev pub side_from : List (List ℕ) → Mark → Rest → TokenKind → Result (Places × Rest) SchemaRefusal
-side_from names m r token.Word = place names r.line m >>= λ a. words names (only a) r
+abbrev pub side_from : List (List ℕ) → Mark → Rest → TokenKind → Result (Attributes × Rest) SchemaRefusal
+side_from names m r token.Identifier = attribute_of_word names r.line m >>= λ a. words names (only a) r
 side_from names m r token.Empty = Ok (none, r)
-side_from names m r _ = Err (expected what.Side m r)
+side_from names m r _ = Err (refusal_of_token what.Side m r)
 
 -- words, or `()`
-unfoldable pub side : List (List ℕ) → Rest → Result (Places × Rest) SchemaRefusal
+unfoldable pub side : List (List ℕ) → Rest → Result (Attributes × Rest) SchemaRefusal
 side names r = take what.Side r >>= λ t. side_from names t.0 t.1 t.0.kind

@@ -1,13 +1,13 @@
 -- What a schema text means, and which refusal is its first: for `read_schema` and all commands that
 -- read a schema (`desk_cli/Inputs`).
 use Rattle.std.specs.Prelude.{◌≡◌, ◌<◌, ◌≤◌, ◌⊎◌, ℕ, ◌+◌, ◌-◌, Result, Ok, Err, Bool, true, false, List, [], ◌∷◌, ◌++◌, length, Option, Some, None, All, slice_get, ◌==◌}
-use Rattle.attr_sets.specs.declared.set.TheConstants.{PLACES}
+use Rattle.attr_sets.specs.declared.set.TheConstants.{MOST_ATTRIBUTES}
 use Rattle.dep_model.specs.declared.column.Column.{Column}
 use Rattle.dep_model.specs.declared.schema.TheConstants.{MOST_DEPENDENCIES}
 use Rattle.dep_model.specs.Dependencies.{Dependency}
-use Rattle.dep_model.specs.Schemas.{place_named}
+use Rattle.dep_model.specs.Schemas.{attribute_named}
 use Rattle.lexer.specs.declared.token.Mode.TheVariants as mode
-use Rattle.lexer.specs.declared.token.Stop.{Stop}
+use Rattle.lexer.specs.declared.token.LexError.{LexError}
 use Rattle.lexer.specs.declared.token.TokenKind.TheVariants as token
 use Rattle.lexer.specs.Lines.{line_texts, without_mark}
 use Rattle.lexer.specs.Tokens.{Mark, lex}
@@ -15,7 +15,7 @@ use Rattle.schema_grammar.specs.declared.refusal.SchemaRefusal.{SchemaRefusal}
 use Rattle.schema_grammar.specs.declared.refusal.SchemaRefusalKind.TheVariants as kind
 use Rattle.schema_grammar.specs.declared.refusal.What.{What}
 use Rattle.schema_grammar.specs.declared.refusal.What.TheVariants as what
-use Rattle.schema_grammar.specs.Complaints.{TextLineComplaint, TextLineWants, AtFirst, Carries, IsFirst, refusal_number, flaw_number, span_at}
+use Rattle.schema_grammar.specs.Diagnostics.{TextLineDiagnostic, TextLineWants, AtFirst, Carries, IsFirst, refusal_number, flaw_number, span_at}
 use Rattle.schema_grammar.specs.Refusals.{refusal}
 use Rattle.schema_grammar.specs.declared.format.TheConstants.{VERSION}
 use Rattle.schema_grammar.specs.declared.format.Format.{Format}
@@ -23,14 +23,14 @@ use Rattle.schema_grammar.specs.declared.format.Format.TheVariants as format
 use Rattle.schema_grammar.specs.Declarations.{Declarations, no_declaration, add_name, add_dependency}
 use Rattle.schema_grammar.specs.Meanings.{HasTokens, IsDependency}
 use Rattle.schema_grammar.specs.Texts.{is_version, number_in}
-use Rattle.schema_grammar.specs.Words.{is_reserved, declares}
+use Rattle.schema_grammar.specs.Words.{is_reserved, column_type_of_token}
 
 -- a word that declares one name more
 pub record IsNewName (f : Format) (d : Declarations) (m : Mark) : Type 0 where
-  pub word : m.kind ≡ token.Word
+  pub word : m.kind ≡ token.Identifier
   pub free : is_reserved f m.word ≡ false
-  pub new : place_named d.names m.word ≡ None
-  pub room : length d.names < PLACES
+  pub new : attribute_named d.names m.word ≡ None
+  pub room : length d.names < MOST_ATTRIBUTES
 
 -- words declare a name each, for columns of one type
 abbrev pub DeclareNames : Format → Column → Declarations → List Mark → Declarations → Type 0
@@ -44,7 +44,7 @@ pub record IsDeclaring (f : Format) (d : Declarations) (line : List ℕ) (whole 
   pub words : List Mark
   pub column : Column
   pub tokens : HasTokens (lex mode.Plain line) (head ∷ words)
-  pub declaring : declares f head.kind head.word ≡ Some column
+  pub declaring : column_type_of_token f head.kind head.word ≡ Some column
   pub some : 0 < length words
   pub names : DeclareNames f column d words whole
 
@@ -55,7 +55,7 @@ pub record IsStating (f : Format) (number : ℕ) (d : Declarations) (line : List
   pub others : List Mark
   pub dep : Dependency
   pub tokens : HasTokens (lex mode.Plain line) (head ∷ others)
-  pub stating : declares f head.kind head.word ≡ None
+  pub stating : column_type_of_token f head.kind head.word ≡ None
   pub dependency : IsDependency f d.names (head ∷ others) dep
   pub room : length d.deps < MOST_DEPENDENCIES
   pub adds : whole ≡ add_dependency d dep number
@@ -76,7 +76,7 @@ MeansLines f number d [] whole = whole ≡ d
 MeansLines f number d (line ∷ lines) whole =
     (next : Declarations) × MeansTextLine f number d line next × MeansLines f (number + 1) next lines whole
 
-abbrev pub begins_version : List Mark → Option Stop → Bool → Bool
+abbrev pub begins_version : List Mark → Option LexError → Bool → Bool
 begins_version [] None later = later
 begins_version [] (Some stop) later = false
 begins_version (m ∷ ms) stop later = is_version m.kind m.word
@@ -118,8 +118,8 @@ pub record MeansSchema (text : List ℕ) (whole : Declarations) : Type 0 where
 
 -- what is wrong with lines, of which the first has this number: on one of them, after lines that have
 -- a meaning
-pub record LinesComplaint (f : Format) (first : ℕ) (d : Declarations) (lines : List (List ℕ))
-    (number place why : ℕ) : Type 0 where
+pub record LinesDiagnostic (f : Format) (first : ℕ) (d : Declarations) (lines : List (List ℕ))
+    (number position why : ℕ) : Type 0 where
   pub before : List (List ℕ)
   pub line : List ℕ
   pub after : List (List ℕ)
@@ -127,20 +127,20 @@ pub record LinesComplaint (f : Format) (first : ℕ) (d : Declarations) (lines :
   pub cut : lines ≡ before ++ line ∷ after
   pub means : MeansLines f first d before declared
   pub stands_on : number ≡ first + length before
-  pub complaint : TextLineComplaint f declared (lex mode.Plain line).marks
-      (lex mode.Plain line).stop place why
+  pub diagnostic : TextLineDiagnostic f declared (lex mode.Plain line).marks
+      (lex mode.Plain line).stop position why
 
--- a refusal is the complaint of the first line, there of the least place, and there of the least number;
--- a refusal 6 carries what is wanted there
+-- a refusal is the diagnostic of the first line, there at the first position, and there of the least
+-- number; a refusal 6 carries what is wanted there
 pub record IsFirstOfLines (f : Format) (first : ℕ) (d : Declarations) (lines : List (List ℕ))
     (e : SchemaRefusal) : Type 0 where
-  pub place : ℕ
-  pub stands : LinesComplaint f first d lines e.span.line place (refusal_number e.kind)
-  pub carries : Carries (TextLineWants f (lex mode.Plain stands.line).marks place) e.kind
+  pub position : ℕ
+  pub stands : LinesDiagnostic f first d lines e.span.line position (refusal_number e.kind)
+  pub carries : Carries (TextLineWants f (lex mode.Plain stands.line).marks position) e.kind
   pub there : e.span ≡ span_at e.span.line 1 (lex mode.Plain stands.line).marks
-      (lex mode.Plain stands.line).stop place
-  pub least : (l p n : ℕ) → LinesComplaint f first d lines l p n
-      → (e.span.line < l) ⊎ ((e.span.line ≡ l) × ((place < p) ⊎ ((place ≡ p) × (refusal_number e.kind ≤ n))))
+      (lex mode.Plain stands.line).stop position
+  pub least : (l p n : ℕ) → LinesDiagnostic f first d lines l p n
+      → (e.span.line < l) ⊎ ((e.span.line ≡ l) × ((position < p) ⊎ ((position ≡ p) × (refusal_number e.kind ≤ n))))
 
 -- nothing is wrong with the lines, but that they declare nothing; refused at the last of them
 pub record DeclaresNothing (f : Format) (first : ℕ) (d : Declarations) (lines : List (List ℕ))
@@ -150,38 +150,38 @@ pub record DeclaresNothing (f : Format) (first : ℕ) (d : Declarations) (lines 
   pub nothing : length whole.names ≡ 0
   pub at_the_end : e ≡ refusal (first + length lines - 1) 1 0 kind.NoAttributes
 
--- lines are refused by the first complaint, or as declaring nothing
+-- lines are refused by the first diagnostic, or as declaring nothing
 abbrev pub RefusesLines : Format → ℕ → Declarations → List (List ℕ) → SchemaRefusal → Type 0
 RefusesLines f first d lines e = IsFirstOfLines f first d lines e ⊎ DeclaresNothing f first d lines e
 
--- lines are refused by the first complaint, or as declaring nothing, and read where there is neither
+-- lines are refused by the first diagnostic, or as declaring nothing, and read where there is neither
 abbrev pub FitsLines : Format → ℕ → Declarations → List (List ℕ) → Result Declarations SchemaRefusal → Type 0
-FitsLines f first d lines (Ok whole) = (l p n : ℕ) → LinesComplaint f first d lines l p n → ⊥
+FitsLines f first d lines (Ok whole) = (l p n : ℕ) → LinesDiagnostic f first d lines l p n → ⊥
 FitsLines f first d lines (Err e) = RefusesLines f first d lines e
 
 -- what is wrong with the tokens after the word `version`: no number, another number than 2, a token
 -- after the number, or bytes that are no token
-abbrev pub VersionComplaint : List Mark → Option Stop → ℕ → ℕ → Type 0
-VersionComplaint ms stop place why =
-    ((((m : Mark) × (slice_get ms 0 ≡ Some m) × (number_in m.kind ≡ None) × (place ≡ 0) × (why ≡ 6))
-    ⊎ ((ms ≡ []) × (stop ≡ None) × (place ≡ 0) × (why ≡ 6)))
+abbrev pub VersionDiagnostic : List Mark → Option LexError → ℕ → ℕ → Type 0
+VersionDiagnostic ms stop position why =
+    ((((m : Mark) × (slice_get ms 0 ≡ Some m) × (number_in m.kind ≡ None) × (position ≡ 0) × (why ≡ 6))
+    ⊎ ((ms ≡ []) × (stop ≡ None) × (position ≡ 0) × (why ≡ 6)))
     ⊎ (((m : Mark) × (n : ℕ) × (slice_get ms 0 ≡ Some m) × (number_in m.kind ≡ Some n)
-    × ((n == VERSION) ≡ false) × (place ≡ 0) × (why ≡ 13))
-    ⊎ ((m : Mark) × (slice_get ms 1 ≡ Some m) × (place ≡ 1) × (why ≡ 6))))
-    ⊎ ((s : Stop) × (stop ≡ Some s) × (place ≡ length ms) × (why ≡ flaw_number s.flaw))
+    × ((n == VERSION) ≡ false) × (position ≡ 0) × (why ≡ 13))
+    ⊎ ((m : Mark) × (slice_get ms 1 ≡ Some m) × (position ≡ 1) × (why ≡ 6))))
+    ⊎ ((s : LexError) × (stop ≡ Some s) × (position ≡ length ms) × (why ≡ flaw_number s.flaw))
 
 -- after the word `version` a number is wanted first
 abbrev pub VersionWants : ℕ → What → Type 0
-VersionWants place w = AtFirst what.Number place w
+VersionWants position w = AtFirst what.Number position w
 
--- a version line is refused by its first complaint
-abbrev pub RefusesVersion : ℕ → ℕ → List Mark → Option Stop → SchemaRefusal → Type 0
+-- a version line is refused by its first diagnostic
+abbrev pub RefusesVersion : ℕ → ℕ → List Mark → Option LexError → SchemaRefusal → Type 0
 RefusesVersion line next_column ms stop e =
-    IsFirst (VersionComplaint ms stop) VersionWants (span_at line next_column ms stop) e
+    IsFirst (VersionDiagnostic ms stop) VersionWants (span_at line next_column ms stop) e
 
--- a version line is refused by the first complaint, and read where there is none
-abbrev pub FitsVersion : ℕ → ℕ → List Mark → Option Stop → Result Declarations SchemaRefusal → Type 0
-FitsVersion line next_column ms stop (Ok d) = (place why : ℕ) → VersionComplaint ms stop place why → ⊥
+-- a version line is refused by the first diagnostic, and read where there is none
+abbrev pub FitsVersion : ℕ → ℕ → List Mark → Option LexError → Result Declarations SchemaRefusal → Type 0
+FitsVersion line next_column ms stop (Ok d) = (position why : ℕ) → VersionDiagnostic ms stop position why → ⊥
 FitsVersion line next_column ms stop (Err e) = RefusesVersion line next_column ms stop e
 
 -- a text whose first token is the word `version`
@@ -204,7 +204,7 @@ RefusesTyped number lines text e =
     ⊎ (IsVersionLine text.version
     × RefusesLines format.Typed (length text.before + number + 1) no_declaration text.later e)
 
--- a text is refused by its first complaint, or as declaring nothing
+-- a text is refused by its first diagnostic, or as declaring nothing
 abbrev pub RefusesText : ℕ → List (List ℕ) → SchemaRefusal → Type 0
 RefusesText number lines e =
     ((has_version_line lines ≡ false) × RefusesLines format.Plain number no_declaration lines e)
@@ -213,14 +213,14 @@ RefusesText number lines e =
 abbrev pub RefusesSchema : List ℕ → SchemaRefusal → Type 0
 RefusesSchema text e = RefusesText 1 (line_texts (without_mark text)) e
 
--- a text has no complaint
+-- a text has no diagnostic
 abbrev pub IsFineText : ℕ → List (List ℕ) → Declarations → Type 0
 IsFineText number lines whole =
     ((has_version_line lines ≡ false) × FitsLines format.Plain number no_declaration lines (Ok whole))
     ⊎ ((text : HasVersionLine lines) × IsVersionLine text.version
     × FitsLines format.Typed (length text.before + number + 1) no_declaration text.later (Ok whole))
 
--- a text is refused by the first complaint, or as declaring nothing, and read where there is neither
+-- a text is refused by the first diagnostic, or as declaring nothing, and read where there is neither
 abbrev pub FitsText : ℕ → List (List ℕ) → Result Declarations SchemaRefusal → Type 0
 FitsText number lines (Ok whole) = IsFineText number lines whole
 FitsText number lines (Err e) = RefusesText number lines e

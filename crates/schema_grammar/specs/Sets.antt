@@ -1,10 +1,10 @@
 -- A set of attributes as a text of its own, as the right side of a goal: what it means, how it is
 -- refused and how it is read. For `read_set` and the command `basis` (`desk_cli/Inputs`).
 use Rattle.std.specs.Prelude.{◌≡◌, ◌⊎◌, ℕ, zero, suc, List, [], length, Option, Some, None, Result, Ok, Err, slice_get}
-use Rattle.attr_sets.specs.Places.{Places, none}
+use Rattle.attr_sets.specs.Attributes.{Attributes, none}
 use Rattle.dep_model.specs.Dependencies.{right_of}
 use Rattle.lexer.specs.declared.token.Mode.TheVariants as mode
-use Rattle.lexer.specs.declared.token.Stop.{Stop}
+use Rattle.lexer.specs.declared.token.LexError.{LexError}
 use Rattle.lexer.specs.declared.token.TokenKind.{TokenKind}
 use Rattle.lexer.specs.declared.token.TokenKind.TheVariants as token
 use Rattle.lexer.specs.Tokens.{Mark, lex}
@@ -13,14 +13,14 @@ use Rattle.schema_grammar.specs.declared.refusal.SchemaRefusal.{SchemaRefusal}
 use Rattle.schema_grammar.specs.declared.refusal.What.{What}
 use Rattle.schema_grammar.specs.declared.refusal.What.TheVariants as what
 use Rattle.schema_grammar.specs.declared.symbol.Sign.TheVariants as sign
-use Rattle.schema_grammar.specs.Complaints.{ComplainsOfWord, IsFirst, AtFirst, flaw_number, span_at}
+use Rattle.schema_grammar.specs.Diagnostics.{DiagnosesOfWord, IsFirst, AtFirst, flaw_number, span_at}
 use Rattle.schema_grammar.specs.Grammar.{after_sign}
 use Rattle.schema_grammar.specs.Meanings.{HasTokens, IsSide}
 use Rattle.schema_grammar.specs.Reading.{follow_lexed}
 use Rattle.schema_grammar.specs.Refusals.{and_then}
 
 -- a text over declared names means a set of attributes: it is a side
-pub record MeansSet (declared : List (List ℕ)) (text : List ℕ) (x : Places) : Type 0 where
+pub record MeansSet (declared : List (List ℕ)) (text : List ℕ) (x : Attributes) : Type 0 where
   pub marks : List Mark
   pub tokens : HasTokens (lex mode.Goal text) marks
   pub side : IsSide format.Plain declared marks x
@@ -34,39 +34,39 @@ pub record BeginsEmpty (ms : List Mark) : Type 0 where
 -- a side can't have a token of this kind here: first only a word or `()`, and later only a word that
 -- comes after words
 abbrev pub IsOutOfPlace : List Mark → ℕ → TokenKind → Type 0
-IsOutOfPlace ms zero k = (k ≡ token.Word → ⊥) × (k ≡ token.Empty → ⊥)
-IsOutOfPlace ms (suc place) k = (k ≡ token.Word → ⊥) ⊎ BeginsEmpty ms
+IsOutOfPlace ms zero k = (k ≡ token.Identifier → ⊥) × (k ≡ token.Empty → ⊥)
+IsOutOfPlace ms (suc position) k = (k ≡ token.Identifier → ⊥) ⊎ BeginsEmpty ms
 
--- what is wrong with the tokens of a side at a place, before which so many tokens stand: a token, the
+-- what is wrong with the tokens of a side at a position, before which so many tokens stand: a token, the
 -- line's end where no token stands, or bytes that are no token
-abbrev pub SideComplaint : List (List ℕ) → List Mark → Option Stop → ℕ → ℕ → Type 0
-SideComplaint declared ms stop place number =
-    (((m : Mark) × (slice_get ms place ≡ Some m)
-    × (ComplainsOfWord format.Plain declared m number ⊎ ((number ≡ 6) × IsOutOfPlace ms place m.kind)))
-    ⊎ ((number ≡ 6) × (place ≡ 0) × (ms ≡ []) × (stop ≡ None)))
-    ⊎ ((s : Stop) × (stop ≡ Some s) × (place ≡ length ms) × (number ≡ flaw_number s.flaw))
+abbrev pub SideDiagnostic : List (List ℕ) → List Mark → Option LexError → ℕ → ℕ → Type 0
+SideDiagnostic declared ms stop position number =
+    (((m : Mark) × (slice_get ms position ≡ Some m)
+    × (DiagnosesOfWord format.Plain declared m number ⊎ ((number ≡ 6) × IsOutOfPlace ms position m.kind)))
+    ⊎ ((number ≡ 6) × (position ≡ 0) × (ms ≡ []) × (stop ≡ None)))
+    ⊎ ((s : LexError) × (stop ≡ Some s) × (position ≡ length ms) × (number ≡ flaw_number s.flaw))
 
 -- what is wrong with a set over declared names
-abbrev pub SetComplaint : List (List ℕ) → List ℕ → ℕ → ℕ → Type 0
-SetComplaint declared text = SideComplaint declared (lex mode.Goal text).marks (lex mode.Goal text).stop
+abbrev pub SetDiagnostic : List (List ℕ) → List ℕ → ℕ → ℕ → Type 0
+SetDiagnostic declared text = SideDiagnostic declared (lex mode.Goal text).marks (lex mode.Goal text).stop
 
 -- a side is wanted first, and then the line's end
 abbrev pub SetWants : ℕ → What → Type 0
 SetWants = AtFirst what.Side
 
--- a set over declared names is refused by its first complaint
+-- a set over declared names is refused by its first diagnostic
 abbrev pub RefusesSet : List (List ℕ) → List ℕ → SchemaRefusal → Type 0
 RefusesSet declared text e =
-    IsFirst (SetComplaint declared text) SetWants
+    IsFirst (SetDiagnostic declared text) SetWants
     (span_at 1 1 (lex mode.Goal text).marks (lex mode.Goal text).stop) e
 
--- a set is refused by the first complaint, and read where there is none
-abbrev pub FitsSet : List (List ℕ) → List ℕ → Result Places SchemaRefusal → Type 0
-FitsSet declared text (Ok x) = (place number : ℕ) → SetComplaint declared text place number → ⊥
+-- a set is refused by the first diagnostic, and read where there is none
+abbrev pub FitsSet : List (List ℕ) → List ℕ → Result Attributes SchemaRefusal → Type 0
+FitsSet declared text (Ok x) = (position number : ℕ) → SetDiagnostic declared text position number → ⊥
 FitsSet declared text (Err e) = RefusesSet declared text e
 
 -- the set that a text states over declared names, or its refusal: it is read as what follows `() ->`
-abbrev pub read_set : List (List ℕ) → List ℕ → Result Places SchemaRefusal
+abbrev pub read_set : List (List ℕ) → List ℕ → Result Attributes SchemaRefusal
 read_set declared text =
     and_then (follow_lexed format.Plain declared 1 (after_sign sign.Functional none) 1 (lex mode.Goal text))
     (λ d. Ok (right_of d))

@@ -5,7 +5,7 @@ use Rattle.std.specs.Str.{bytes_eq}
 use Rattle.dep_model.specs.declared.schema.Schema.{Schema}
 use Rattle.dep_model.specs.Schemas.{names_of, columns_of, theory_of, lines_of}
 use Rattle.lexer.specs.declared.token.Mode.TheVariants as mode
-use Rattle.lexer.specs.declared.token.Stop.{Stop}
+use Rattle.lexer.specs.declared.token.LexError.{LexError}
 use Rattle.lexer.specs.declared.token.TokenKind.{TokenKind}
 use Rattle.lexer.specs.declared.token.TokenKind.TheVariants as token
 use Rattle.lexer.specs.Lines.{line_texts, without_mark}
@@ -34,7 +34,7 @@ read_lines f number d (line ∷ lines) =
     and_then (read_line f number d line) (λ next. read_lines f (number + 1) next lines)
 
 -- after the number of a version line no token stands
-abbrev pub end_version : ℕ → List Mark → Option Stop → Result Declarations SchemaRefusal
+abbrev pub end_version : ℕ → List Mark → Option LexError → Result Declarations SchemaRefusal
 end_version line [] None = Ok no_declaration
 end_version line [] (Some stop) = Err (refused_by line stop)
 end_version line (m ∷ ms) stop = Err (refusal line m.column (length m.word) (kind.Expected what.LineEnd))
@@ -42,21 +42,21 @@ end_version line (m ∷ ms) stop = Err (refusal line m.column (length m.word) (k
 -- the value of a number
 abbrev pub number_in : TokenKind → Option ℕ
 number_in (token.Number n) = Some n
-number_in token.Word = None
+number_in token.Identifier = None
 number_in token.Arrow = None
 number_in token.DoubleArrow = None
 number_in token.Empty = None
 number_in token.Colon = None
 
 -- the first token after the word `version` is the number 2
-abbrev pub version_number : ℕ → Mark → List Mark → Option Stop → Option ℕ → Result Declarations SchemaRefusal
+abbrev pub version_number : ℕ → Mark → List Mark → Option LexError → Option ℕ → Result Declarations SchemaRefusal
 version_number line m ms stop None = Err (refusal line m.column (length m.word) (kind.Expected what.Number))
 version_number line m ms stop (Some n) =
     if n == VERSION then end_version line ms stop
     else Err (refusal line m.column (length m.word) kind.UnknownVersion)
 
 -- what stands after the word `version` in its line
-unfoldable pub read_version : ℕ → ℕ → List Mark → Option Stop → Result Declarations SchemaRefusal
+unfoldable pub read_version : ℕ → ℕ → List Mark → Option LexError → Result Declarations SchemaRefusal
 read_version line next_column [] None = Err (refusal line next_column 0 (kind.Expected what.Number))
 read_version line next_column [] (Some stop) = Err (refused_by line stop)
 read_version line next_column (m ∷ ms) stop = version_number line m ms stop (number_in m.kind)
@@ -74,7 +74,7 @@ read_typed number lines next_column l =
 
 -- whether the first token of a text makes its line a version line
 unfoldable pub is_version : TokenKind → List ℕ → Bool
-is_version token.Word word = bytes_eq word (codes "version")
+is_version token.Identifier word = bytes_eq word (codes "version")
 is_version (token.Number n) word = false
 is_version token.Arrow word = false
 is_version token.DoubleArrow word = false
@@ -83,11 +83,11 @@ is_version token.Colon word = false
 
 -- what a line and those after it declare, where no token stands before them; `later` is what those
 -- after it declare alone
-abbrev pub opened : ℕ → List ℕ → List (List ℕ) → Result Declarations SchemaRefusal → List Mark
-    → Option Stop → Result Declarations SchemaRefusal
-opened number line lines later [] None = later
-opened number line lines later [] (Some stop) = read_lines format.Plain number no_declaration (line ∷ lines)
-opened number line lines later (m ∷ ms) stop =
+abbrev pub opening_from : ℕ → List ℕ → List (List ℕ) → Result Declarations SchemaRefusal → List Mark
+    → Option LexError → Result Declarations SchemaRefusal
+opening_from number line lines later [] None = later
+opening_from number line lines later [] (Some stop) = read_lines format.Plain number no_declaration (line ∷ lines)
+opening_from number line lines later (m ∷ ms) stop =
     if is_version m.kind m.word
     then read_typed number lines (m.column + length m.word) (record { marks = ms; stop = stop })
     else read_lines format.Plain number no_declaration (line ∷ lines)
@@ -96,7 +96,7 @@ opened number line lines later (m ∷ ms) stop =
 unfoldable pub read_opening : ℕ → List (List ℕ) → Result Declarations SchemaRefusal
 read_opening number [] = finish (number - 1) no_declaration
 read_opening number (line ∷ lines) =
-    opened number line lines (read_opening (number + 1) lines) (lex mode.Numbered line).marks
+    opening_from number line lines (read_opening (number + 1) lines) (lex mode.Numbered line).marks
     (lex mode.Numbered line).stop
 
 -- what a schema text declares, or its refusal

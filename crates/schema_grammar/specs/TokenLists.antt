@@ -3,7 +3,7 @@
 use Rattle.std.specs.Prelude.{ℕ, Bool, true, false, List, Option, Some, None, Result, Ok, Err, map}
 use Rattle.lexer.specs.declared.token.Mode.{Mode}
 use Rattle.lexer.specs.declared.token.Mode.TheVariants as mode
-use Rattle.lexer.specs.declared.token.Stop.{Stop}
+use Rattle.lexer.specs.declared.token.LexError.{LexError}
 use Rattle.lexer.specs.declared.token.Token.{Token}
 use Rattle.lexer.specs.Tokens.{Lexed, lex, token_of}
 use Rattle.schema_grammar.specs.declared.refusal.SchemaRefusal.{SchemaRefusal}
@@ -14,7 +14,7 @@ abbrev pub mode_of : Bool → Mode
 mode_of true = mode.Numbered
 mode_of false = mode.Plain
 
-abbrev pub all_or_stop : List Token → Option Stop → Result (List Token) SchemaRefusal
+abbrev pub all_or_stop : List Token → Option LexError → Result (List Token) SchemaRefusal
 all_or_stop tokens None = Ok tokens
 all_or_stop tokens (Some stop) = Err (refused_by 1 stop)
 

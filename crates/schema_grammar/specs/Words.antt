@@ -7,7 +7,7 @@ use Rattle.dep_model.specs.declared.column.Column.TheVariants.{Text, Integer}
 use Rattle.lexer.specs.declared.token.TokenKind.{TokenKind}
 use Rattle.lexer.specs.declared.token.TokenKind.TheVariants as token
 use Rattle.dep_model.specs.Names.{same_name, is_type_name}
-use Rattle.dep_model.specs.Schemas.{place_named}
+use Rattle.dep_model.specs.Schemas.{attribute_named}
 use Rattle.schema_grammar.specs.declared.refusal.SchemaRefusalKind.{SchemaRefusalKind}
 use Rattle.schema_grammar.specs.declared.refusal.SchemaRefusalKind.TheVariants as kind
 use Rattle.schema_grammar.specs.declared.format.Format.{Format}
@@ -24,29 +24,29 @@ unfoldable pub is_reserved : Format → List ℕ → Bool
 is_reserved format.Plain word = is_common_word word
 is_reserved format.Typed word = is_common_word word || is_type_name word
 
-abbrev pub known : Option ℕ → Result ℕ SchemaRefusalKind
-known (Some place) = Ok place
-known None = Err kind.UnknownName
+abbrev pub known_attribute : Option ℕ → Result ℕ SchemaRefusalKind
+known_attribute (Some attribute) = Ok attribute
+known_attribute None = Err kind.UnknownName
 
 -- the attribute that a word of a side stands for
-unfoldable pub looked_up : Format → List (List ℕ) → List ℕ → Result ℕ SchemaRefusalKind
-looked_up f declared word =
-    if is_reserved f word then Err kind.ReservedName else known (place_named declared word)
+unfoldable pub look_up : Format → List (List ℕ) → List ℕ → Result ℕ SchemaRefusalKind
+look_up f declared word =
+    if is_reserved f word then Err kind.ReservedName else known_attribute (attribute_named declared word)
 
 -- the type of the columns that a declaring word declares; it is in lower case
-unfoldable pub declaring : Format → List ℕ → Option Column
-declaring format.Plain word = if bytes_eq word (codes "attributes") then Some Text else None
-declaring format.Typed word =
+unfoldable pub column_type_of_word : Format → List ℕ → Option Column
+column_type_of_word format.Plain word = if bytes_eq word (codes "attributes") then Some Text else None
+column_type_of_word format.Typed word =
     if bytes_eq word (codes "attributes") then Some Text
     else if bytes_eq word (codes "text") then Some Text
     else if bytes_eq word (codes "integer") then Some Integer
     else None
 
 -- the same of the first token of a line
-unfoldable pub declares : Format → TokenKind → List ℕ → Option Column
-declares f token.Word word = declaring f word
-declares f (token.Number n) word = None
-declares f token.Arrow word = None
-declares f token.DoubleArrow word = None
-declares f token.Empty word = None
-declares f token.Colon word = None
+unfoldable pub column_type_of_token : Format → TokenKind → List ℕ → Option Column
+column_type_of_token f token.Identifier word = column_type_of_word f word
+column_type_of_token f (token.Number n) word = None
+column_type_of_token f token.Arrow word = None
+column_type_of_token f token.DoubleArrow word = None
+column_type_of_token f token.Empty word = None
+column_type_of_token f token.Colon word = None

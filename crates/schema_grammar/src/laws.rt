@@ -1,17 +1,17 @@
 //! The grammar, tied to the readers. Each is a function that does nothing, whose clause is the law; so
 //! the gate asks for its proof.
 
-ghost use Rattle.schema_grammar.specs.Laws.{GoalMeaning, GoalComplaints, GoalRefusal, SetMeaning, SetComplaints, SetRefusal, SchemaRefused, SchemaMeaning, TextLineComplaints, LinesComplaints, SchemaComplaints, PlacesRise, PrintedSchemaMeans, DeclaredNames};
+ghost use Rattle.schema_grammar.specs.Laws.{GoalMeaning, GoalDiagnostics, GoalRefusal, SetMeaning, SetDiagnostics, SetRefusal, SchemaRefused, SchemaMeaning, TextLineDiagnostics, LinesDiagnostics, SchemaDiagnostics, PositionsRise, PrintedSchemaMeans, DeclaredNames};
 
 /// A goal is read as a dependency exactly where it means that dependency; so it means one at most.
 pub fn goal_meaning()
     ensures law { GoalMeaning }
 {}
 
-/// A goal is refused by its first complaint: that of the least place, and there that of the least
-/// number. It has no complaint where it is read; so it has a meaning or a complaint, never both.
-pub fn goal_complaint()
-    ensures law { GoalComplaints }
+/// A goal is refused by its first diagnostic: that at the first position, and there that of the least
+/// number. It has no diagnostic where it is read; so it has a meaning or a diagnostic, never both.
+pub fn goal_diagnostic()
+    ensures law { GoalDiagnostics }
 {}
 
 /// A goal is refused so exactly where the definition refuses it so; so it has one refusal at most, and
@@ -25,10 +25,10 @@ pub fn set_meaning()
     ensures law { SetMeaning }
 {}
 
-/// A set is refused by its first complaint, and has none where it is read; so it has a meaning or a
-/// complaint, never both.
-pub fn set_complaint()
-    ensures law { SetComplaints }
+/// A set is refused by its first diagnostic, and has none where it is read; so it has a meaning or a
+/// diagnostic, never both.
+pub fn set_diagnostic()
+    ensures law { SetDiagnostics }
 {}
 
 /// A set is refused so exactly where the definition refuses it so; so it has one refusal at most, and
@@ -49,28 +49,29 @@ pub fn schema_meaning()
     ensures law { SchemaMeaning }
 {}
 
-/// A line of a schema text is refused by its first complaint, and has none where it is read.
-pub fn line_complaint()
-    ensures law { TextLineComplaints }
+/// A line of a schema text is refused by its first diagnostic, and has none where it is read.
+pub fn line_diagnostic()
+    ensures law { TextLineDiagnostics }
 {}
 
-/// The lines of a schema text are refused by the complaint of the first line that has one, there of the
-/// least place, and there of the least number; or at the last line, where they have none and declare
-/// nothing. Where they are read they have none.
-pub fn lines_complaint()
-    ensures law { LinesComplaints }
+/// The lines of a schema text are refused by the diagnostic of the first line that has one, there of
+/// the first position, and there of the least number; or at the last line, where they have none and
+/// declare nothing. Where they are read they have none.
+pub fn lines_diagnostic()
+    ensures law { LinesDiagnostics }
 {}
 
-/// A schema text is refused at its version line, or by the first complaint of the lines after it, and
-/// one without a version line by the first complaint of its lines. Where it is read it has no complaint.
-pub fn schema_complaint()
-    ensures law { SchemaComplaints }
+/// A schema text is refused at its version line, or by the first diagnostic of the lines after it, and
+/// one without a version line by the first diagnostic of its lines. Where it is read it has no
+/// diagnostic.
+pub fn schema_diagnostic()
+    ensures law { SchemaDiagnostics }
 {}
 
-/// A later place of a line stands in a greater column. So the order of places, by the tokens that stand
+/// A later position of a line stands in a greater column. So the order of positions, by the tokens that stand
 /// before them, is that of their columns.
-pub fn places_rise()
-    ensures law { PlacesRise }
+pub fn positions_rise()
+    ensures law { PositionsRise }
 {}
 
 /// What is printed of a schema none of whose names is reserved means the same names, columns and

@@ -1,9 +1,9 @@
 //! What schema texts, goals and sets mean, and how they are refused: the grammar, which readers promise.
 //!
-//! A text means what it declares, or it has complaints, and is refused by the first of them: that of the
-//! first line, there of the first place, and there of the least number. Beside these definitions stands a
-//! reading of a text from left to right; the laws say that it gives what the text means, and else the
-//! first complaint. There is no code here but the enums that refusals carry.
+//! A text means what it declares, or it has diagnostics, and is refused by the first of them: that of
+//! the first line, there of the first position, and there of the least number. Beside these definitions
+//! stands a reading of a text from left to right; the laws say that it gives what the text means, and
+//! else the first diagnostic. There is no code here but the enums that refusals carry.
 #![tactic(auto)]
 
 mod format;
@@ -13,9 +13,9 @@ mod symbol;
 
 pub use format::{Format, VERSION};
 pub use laws::{
-    declared_names, goal_complaint, goal_meaning, goal_refusal, line_complaint, lines_complaint,
-    places_rise, printed_schema_means, schema_complaint, schema_meaning, schema_refusal,
-    set_complaint, set_meaning, set_refusal,
+    declared_names, goal_diagnostic, goal_meaning, goal_refusal, line_diagnostic, lines_diagnostic,
+    positions_rise, printed_schema_means, schema_diagnostic, schema_meaning, schema_refusal,
+    set_diagnostic, set_meaning, set_refusal,
 };
 pub use refusal::{SchemaRefusal, SchemaRefusalKind, Span, What};
 pub use symbol::{Sign, Symbol};

@@ -1,8 +1,8 @@
 ghost use Rattle.std.specs.Prelude.{◌≡◌};
-ghost use Rattle.schema_grammar.specs.Complaints.{refusal_number};
+ghost use Rattle.schema_grammar.specs.Diagnostics.{refusal_number};
 ghost use Rattle.schema_grammar.specs.Refusals.{refusal, refused_by};
 
-use lexer::{Flaw, Stop};
+use lexer::{Flaw, LexError};
 
 /// A place in a text: its line and column, from 1, and how many bytes it has. Columns count bytes.
 #[derive(Clone, Copy, Debug, PartialEq, Eq, Hash)]
@@ -96,7 +96,7 @@ impl SchemaRefusal {
     }
 
     /// The refusal of bytes that are no token.
-    pub fn by(line: u32, stop: Stop) -> SchemaRefusal
+    pub fn by(line: u32, stop: LexError) -> SchemaRefusal
         ensures refusal { result ≡ refused_by line stop }
     {
         let kind = match stop.flaw {

@@ -14,10 +14,10 @@ use Rattle.dep_model.specs.Dependencies.{Dependency, IsWithin}
 use Rattle.dep_model.specs.Deps.{dependency_of, IsDepWithin}
 use Rattle.dep_model.specs.Schemas.{deps_of, universe_of, theory_of, ImpliedBy}
 use Rattle.dep_model.proofs.ListLemmas.{Contains-head}
-use Rattle.schema_match.specs.Carried.{carried, FollowsFrom, IsImpliedBy}
+use Rattle.schema_match.specs.Carried.{carry_dependency, FollowsFrom, IsImpliedBy}
 use Rattle.schema_match.specs.Differences.{IsDifference, AreDifferences}
 use Rattle.schema_match.specs.Namesakes.{AreNamesakes}
-use Rattle.schema_match.proofs.MatchLemmas.{carried-within}
+use Rattle.schema_match.proofs.MatchLemmas.{carry_dependency-within}
 
 -- the same of the first n dependencies
 pub record AreDifferencesTo (schema other : Schema) (n : ℕ) (numbers : List ℕ) : Type 0 where
@@ -98,18 +98,18 @@ dependency_at schema k d lt = slice_get-map dependency_of (deps_of schema) k
     ∙ ap (λ (o : Option Dep). option_map dependency_of o) (slice_get-get_or (deps_of schema) k d lt)
 
 -- there is none exactly where all follow
-none_all : (schema other : Schema) (numbers : List ℕ) → AreDifferences schema other numbers → numbers ≡ []
+all_follow : (schema other : Schema) (numbers : List ℕ) → AreDifferences schema other numbers → numbers ≡ []
     → IsImpliedBy other schema
-none_all schema other numbers are none k d lt =
+all_follow schema other numbers are none k d lt =
     ⊎_elim
     (λ (some : Contains numbers k). absurd (omega (arith, some.1, ap (λ (xs : List ℕ). length xs) none)))
     (λ follows. follows)
     (are.all k (get_or (theory_of schema) k d) (slice_get-get_or (theory_of schema) k d lt))
 
-all_none : (schema other : Schema) (numbers : List ℕ) → AreDifferences schema other numbers
+no_difference : (schema other : Schema) (numbers : List ℕ) → AreDifferences schema other numbers
     → IsImpliedBy other schema → numbers ≡ []
-all_none schema other [] are follow = refl
-all_none schema other (k ∷ numbers) are follow =
+no_difference schema other [] are follow = refl
+no_difference schema other (k ∷ numbers) are follow =
     let found = are.each k (Contains-head k numbers) in
     let d = found.0 in
     let lt = slice_get_within (theory_of schema) k d found.1 in
@@ -118,37 +118,37 @@ all_none schema other (k ∷ numbers) are follow =
 
 pub none_exactly : (schema other : Schema) (numbers : List ℕ) → AreDifferences schema other numbers
     → (numbers ≡ []) ↔ IsImpliedBy other schema
-none_exactly schema other numbers are = (none_all schema other numbers are, all_none schema other numbers are)
+none_exactly schema other numbers are = (all_follow schema other numbers are, no_difference schema other numbers are)
 
 -- ---- what is carried over is a dependency of the schema
-pub carried_here : (schema other : Schema) (deps : List Dep) (places namesakes : List ℕ) (k : ℕ) (d : Dep)
-    (e : Dependency) → deps ≡ deps_of schema → places ≡ namesakes
+pub carried_here : (schema other : Schema) (deps : List Dep) (attributes namesakes : List ℕ) (k : ℕ) (d : Dep)
+    (e : Dependency) → deps ≡ deps_of schema → attributes ≡ namesakes
     → AreNamesakes schema other namesakes → k < length deps
-    → ((s o : Schema) → AreNamesakes s o places → IsDepWithin (universe_of s) (get_or deps k d)
-    → e ≡ carried s o (dependency_of (get_or deps k d)))
-    → (f : Dependency) × (slice_get (theory_of schema) k ≡ Some f) × (e ≡ carried schema other f)
-carried_here schema other deps places namesakes k d e same same_places are lt carries =
+    → ((s o : Schema) → AreNamesakes s o attributes → IsDepWithin (universe_of s) (get_or deps k d)
+    → e ≡ carry_dependency s o (dependency_of (get_or deps k d)))
+    → (f : Dependency) × (slice_get (theory_of schema) k ≡ Some f) × (e ≡ carry_dependency schema other f)
+carried_here schema other deps attributes namesakes k d e same same_attributes are lt carries =
     let inside : k < length (deps_of schema) = subst (λ (ds : List Dep). k < length ds) same lt in
     let within : IsDepWithin (universe_of schema) (get_or deps k d) =
     subst (λ (ds : List Dep). IsDepWithin (universe_of schema) (get_or ds k d)) (sym same)
     (schema.valid.deps_within k d inside) in
-    let named : AreNamesakes schema other places =
-    subst (λ (xs : List ℕ). AreNamesakes schema other xs) (sym same_places) are in (
+    let named : AreNamesakes schema other attributes =
+    subst (λ (xs : List ℕ). AreNamesakes schema other xs) (sym same_attributes) are in (
       dependency_of (get_or (deps_of schema) k d),
       dependency_at schema k d inside,
       carries schema other named within
-          ∙ ap (λ (ds : List Dep). carried schema other (dependency_of (get_or ds k d))) same,
+          ∙ ap (λ (ds : List Dep). carry_dependency schema other (dependency_of (get_or ds k d))) same,
     )
 
-pub carried_within : (schema other : Schema) (e f : Dependency) → e ≡ carried schema other f
+pub carried_within : (schema other : Schema) (e f : Dependency) → e ≡ carry_dependency schema other f
     → IsWithin (universe_of other) e
 carried_within schema other e f is =
-    subst (λ (g : Dependency). IsWithin (universe_of other) g) (sym is) (carried-within schema other f)
+    subst (λ (g : Dependency). IsWithin (universe_of other) g) (sym is) (carry_dependency-within schema other f)
 
-pub implied_is : (schema other : Schema) (e f : Dependency) → e ≡ carried schema other f → ImpliedBy other e
+pub implied_is : (schema other : Schema) (e f : Dependency) → e ≡ carry_dependency schema other f → ImpliedBy other e
     → FollowsFrom other schema f
 implied_is schema other e f is implied = subst (λ (g : Dependency). ImpliedBy other g) is implied
 
-pub follows_is : (schema other : Schema) (e f : Dependency) → e ≡ carried schema other f
+pub follows_is : (schema other : Schema) (e f : Dependency) → e ≡ carry_dependency schema other f
     → FollowsFrom other schema f → ImpliedBy other e
 follows_is schema other e f is follows = subst (λ (g : Dependency). ImpliedBy other g) (sym is) follows

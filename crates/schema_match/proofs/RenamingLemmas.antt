@@ -1,13 +1,13 @@
--- Obedience does not depend on the order of columns: where the places of two universes, their sets and
+-- Obedience does not depend on the order of columns: where the attributes of two universes, their sets and
 -- their relations stand for one another, so do the dependencies that the relations obey.
 use Rattle.std.proofs.Common.{◌≡◌, ℕ, ◌<◌, true, sym, ◌∙◌, arith}
 use Rattle.std.specs.Prelude.{Contains, nat_lt}
 use Rattle.std.proofs.lemmas.Bool.{ltb-true, lt-ltb}
-use Rattle.attr_sets.specs.Places.{Places, below, union, minus, Within}
+use Rattle.attr_sets.specs.Attributes.{Attributes, below, union, difference, IsSubset}
 use Rattle.dep_model.specs.Tuples.{Tuple, Relation, value_at, AgreeOn}
 use Rattle.dep_model.specs.Dependencies.{Dependency, fd, mvd, Obeys, ObeysFd, ObeysMvd, IsWithin}
 
--- the places below n stand for those below m
+-- the attributes below n stand for those below m
 pub record IsRenaming (n m : ℕ) (R : ℕ → ℕ → Type 0) : Type 0 where
   pub first : (a b : ℕ) → R a b → a < n
   pub second : (a b : ℕ) → R a b → b < m
@@ -17,8 +17,8 @@ pub record IsRenaming (n m : ℕ) (R : ℕ → ℕ → Type 0) : Type 0 where
 abbrev pub Turned : (ℕ → ℕ → Type 0) → ℕ → ℕ → Type 0
 Turned R b a = R a b
 
-pub turned : (n m : ℕ) (R : ℕ → ℕ → Type 0) → IsRenaming n m R → IsRenaming m n (Turned R)
-turned n m R names = record {
+pub IsRenaming-inverse : (n m : ℕ) (R : ℕ → ℕ → Type 0) → IsRenaming n m R → IsRenaming m n (Turned R)
+IsRenaming-inverse n m R names = record {
   first = λ b a r. names.second a b r;
   second = λ b a r. names.first a b r;
   there = λ b lt. names.back b lt;
@@ -26,7 +26,7 @@ turned n m R names = record {
 }
 
 -- sets stand for one another, and so do tuples, relations and dependencies
-abbrev pub SameSet : (ℕ → ℕ → Type 0) → Places → Places → Type 0
+abbrev pub SameSet : (ℕ → ℕ → Type 0) → Attributes → Attributes → Type 0
 SameSet R x y = (a b : ℕ) → R a b → x a ≡ y b
 
 abbrev pub SameTuple : (ℕ → ℕ → Type 0) → Tuple → Tuple → Type 0
@@ -55,56 +55,56 @@ turned_dependency R (fd x y) (mvd v w) same = absurd same
 turned_dependency R (mvd x y) (fd v w) same = absurd same
 
 -- ---- what two tuples agree on
-agree_renamed : (n m : ℕ) (R : ℕ → ℕ → Type 0) (x y : Places) (t u v w : Tuple) → IsRenaming n m R
-    → Within y (below m) → SameSet R x y
+agree_renamed : (n m : ℕ) (R : ℕ → ℕ → Type 0) (x y : Attributes) (t u v w : Tuple) → IsRenaming n m R
+    → IsSubset y (below m) → SameSet R x y
     → SameTuple R t v → SameTuple R u w → AgreeOn x t u → AgreeOn y v w
 agree_renamed n m R x y t u v w names low sets first second agree b member =
     let found = names.back b (ltb-true b m (low b member)) in
     let a = found.0 in
     sym (first a b found.1) ∙ agree a (sets a b found.1 ∙ member) ∙ second a b found.1
 
-union_renamed : (R : ℕ → ℕ → Type 0) (x y v w : Places) → SameSet R x v → SameSet R y w
+union_renamed : (R : ℕ → ℕ → Type 0) (x y v w : Attributes) → SameSet R x v → SameSet R y w
     → SameSet R (union x y) (union v w)
 union_renamed R x y v w left right a b r = grind (arith, left a b r, right a b r)
 
-rest_renamed : (n m : ℕ) (R : ℕ → ℕ → Type 0) (x v : Places) → IsRenaming n m R → SameSet R x v
-    → SameSet R (minus (below n) x) (minus (below m) v)
+rest_renamed : (n m : ℕ) (R : ℕ → ℕ → Type 0) (x v : Attributes) → IsRenaming n m R → SameSet R x v
+    → SameSet R (difference (below n) x) (difference (below m) v)
 rest_renamed n m R x v names same a b r =
     let here : nat_lt a n ≡ true = lt-ltb a n (names.first a b r) in
     let there : nat_lt b m ≡ true = lt-ltb b m (names.second a b r) in
     grind (arith, here, there, same a b r)
 
 -- ---- what the relations obey
-fd_renamed : (n m : ℕ) (R : ℕ → ℕ → Type 0) (x y v w : Places) (r s : Relation) → IsRenaming n m R
-    → Within x (below n) → Within w (below m)
+fd_renamed : (n m : ℕ) (R : ℕ → ℕ → Type 0) (x y v w : Attributes) (r s : Relation) → IsRenaming n m R
+    → IsSubset x (below n) → IsSubset w (below m)
     → SameSet R x v → SameSet R y w → AreRenamed R r s → ObeysFd x y r → ObeysFd v w s
 fd_renamed n m R x y v w r s names x_low w_low left right same obeys t u t_in u_in agree =
     let one = same.back t t_in in
     let two = same.back u u_in in
     let before : AgreeOn x one.0 two.0 =
-    agree_renamed m n (Turned R) v x t u one.0 two.0 (turned n m R names) x_low (λ (b a : ℕ) h. sym (left a b h))
+    agree_renamed m n (Turned R) v x t u one.0 two.0 (IsRenaming-inverse n m R names) x_low (λ (b a : ℕ) h. sym (left a b h))
     (λ (b a : ℕ) h. sym (one.2 a b h)) (λ (b a : ℕ) h. sym (two.2 a b h)) agree in
     agree_renamed n m R y w one.0 two.0 t u names w_low right one.2 two.2 (obeys one.0 two.0 one.1 two.1 before)
 
-mvd_renamed : (n m : ℕ) (R : ℕ → ℕ → Type 0) (x y v w : Places) (r s : Relation) → IsRenaming n m R
-    → Within x (below n) → Within v (below m) → Within w (below m)
+mvd_renamed : (n m : ℕ) (R : ℕ → ℕ → Type 0) (x y v w : Attributes) (r s : Relation) → IsRenaming n m R
+    → IsSubset x (below n) → IsSubset v (below m) → IsSubset w (below m)
     → SameSet R x v → SameSet R y w → AreRenamed R r s → ObeysMvd (below n) x y r → ObeysMvd (below m) v w s
 mvd_renamed n m R x y v w r s names x_low v_low w_low left right same obeys t u t_in u_in agree =
     let one = same.back t t_in in
     let two = same.back u u_in in
     let before : AgreeOn x one.0 two.0 =
-    agree_renamed m n (Turned R) v x t u one.0 two.0 (turned n m R names) x_low (λ (b a : ℕ) h. sym (left a b h))
+    agree_renamed m n (Turned R) v x t u one.0 two.0 (IsRenaming-inverse n m R names) x_low (λ (b a : ℕ) h. sym (left a b h))
     (λ (b a : ℕ) h. sym (one.2 a b h)) (λ (b a : ℕ) h. sym (two.2 a b h)) agree in
     let mixed = obeys one.0 two.0 one.1 two.1 before in
     let found = same.there mixed.0 mixed.1 in
     let both : SameSet R (union x y) (union v w) = union_renamed R x y v w left right in
-    let both_low : Within (union v w) (below m) = λ (k : ℕ) member. grind (arith, v_low k, w_low k, member) in
-    let rest_low : Within (minus (below m) (union v w)) (below m) = λ (k : ℕ) member. grind (arith, member) in (
+    let both_low : IsSubset (union v w) (below m) = λ (k : ℕ) member. grind (arith, v_low k, w_low k, member) in
+    let rest_low : IsSubset (difference (below m) (union v w)) (below m) = λ (k : ℕ) member. grind (arith, member) in (
       found.0,
       found.1,
       agree_renamed n m R (union x y) (union v w) mixed.0 one.0 found.0 t names both_low both found.2 one.2 mixed.2,
-      agree_renamed n m R (minus (below n) (union x y))
-          (minus (below m) (union v w)) mixed.0 two.0 found.0 u names rest_low
+      agree_renamed n m R (difference (below n) (union x y))
+          (difference (below m) (union v w)) mixed.0 two.0 found.0 u names rest_low
           (rest_renamed n m R (union x y) (union v w) names both) found.2 two.2 mixed.3,
     )
 

@@ -1,7 +1,7 @@
 -- For each attribute of a schema its namesake in another: for the functions that carry a set over.
 -- `Desk` does not cite it.
 use Rattle.std.specs.Prelude.{◌≡◌, ℕ, ◌<◌, true, List, length, slice_index_or, Some}
-use Rattle.attr_sets.specs.Places.{Places}
+use Rattle.attr_sets.specs.Attributes.{Attributes}
 use Rattle.dep_model.specs.declared.schema.Schema.{Schema}
 use Rattle.dep_model.specs.Schemas.{width_of}
 use Rattle.schema_match.specs.Columns.{namesake}
@@ -12,6 +12,6 @@ pub record AreNamesakes (schema other : Schema) (namesakes : List ℕ) : Type 0 
   pub named : (a : ℕ) → a < width_of schema → namesake schema other a ≡ Some (slice_index_or namesakes a 0)
 
 -- an attribute is the namesake of a member of a set
-abbrev pub IsNamesakeFrom : List ℕ → Places → ℕ → Type 0
+abbrev pub IsNamesakeFrom : List ℕ → Attributes → ℕ → Type 0
 IsNamesakeFrom namesakes x b =
     (a : ℕ) × (a < length namesakes) × (x a ≡ true) × (slice_index_or namesakes a 0 ≡ b)

@@ -6,14 +6,14 @@ ghost use Rattle.dep_model.specs.declared.schema.Schema.{Schema};
 ghost use Rattle.dep_model.specs.Tuples.{Relation, IsOver};
 ghost use Rattle.dep_model.specs.Dependencies.{Dependency, Obeys, IsWithin};
 ghost use Rattle.dep_model.specs.Schemas.{width_of, universe_of};
-ghost use Rattle.schema_match.specs.Columns.{SameNames, reordered};
-ghost use Rattle.schema_match.specs.Carried.{carried, IsImpliedBy, HaveSameLegalRelations};
+ghost use Rattle.schema_match.specs.Columns.{SameNames, reorder};
+ghost use Rattle.schema_match.specs.Carried.{carry_dependency, IsImpliedBy, HaveSameLegalRelations};
 
 /// A relation whose columns are put into the order of another schema over the same names, and back, is
 /// the same relation.
 pub fn reordered_and_back()
     ensures law { (schema other : Schema) (r : Relation) → SameNames schema other → IsOver (width_of schema) r
-        → reordered other schema (reordered schema other r) ≡ r }
+        → reorder other schema (reorder schema other r) ≡ r }
 {}
 
 /// A relation obeys a dependency exactly where it obeys it with its columns in the order of another
@@ -22,7 +22,7 @@ pub fn obeyed_by_names()
     ensures law { (schema other : Schema) (d : Dependency) (r : Relation) → SameNames schema other
         → IsWithin (universe_of schema) d
         → Obeys (width_of schema) d r
-        ↔ Obeys (width_of other) (carried schema other d) (reordered schema other r) }
+        ↔ Obeys (width_of other) (carry_dependency schema other d) (reorder schema other r) }
 {}
 
 /// Two schemas over the same names of which each implies the other's dependencies have the same legal
@@ -35,8 +35,8 @@ pub fn implied_both_ways()
 /// Of two schemas over the same names that have the same legal relations, each implies the other's
 /// dependencies.
 pub fn same_legal_relations()
-    ensures there { (schema other : Schema) → SameNames schema other
+    ensures forward { (schema other : Schema) → SameNames schema other
         → HaveSameLegalRelations schema other → IsImpliedBy other schema }
-    ensures back { (schema other : Schema) → SameNames schema other
+    ensures backward { (schema other : Schema) → SameNames schema other
         → HaveSameLegalRelations schema other → IsImpliedBy schema other }
 {}

@@ -5,7 +5,7 @@ use Rattle.std.proofs.lemmas.Bool.{cases_Bool}
 use Rattle.std.proofs.lemmas.Option.{get_or_from_slice_get, slice_get_within}
 use Rattle.std.proofs.lemmas.List.{append-nil}
 use Rattle.std.specs.Prelude.{map}
-use Rattle.attr_sets.specs.Places.{Places}
+use Rattle.attr_sets.specs.Attributes.{Attributes}
 use Rattle.dep_model.specs.declared.column.Column.{Column}
 use Rattle.schema_printer.specs.Printing.{words_text, members_from, side_text, set_text, runs_of, in_front, run_line, lines_text, type_word, same_column, Run}
 
@@ -14,8 +14,8 @@ abbrev pub rest_text : Bool → List (List ℕ) → List ℕ
 rest_text true words = words_text words
 rest_text false words = side_text words
 
-pub record PrintsSet (names : List (List ℕ)) (x : Places) (before text : List ℕ) (some : Bool) (place : ℕ) : Type 0 where
-  pub same : text ++ rest_text some (members_from x place (drop place names)) ≡ before ++ set_text names x
+pub record PrintsSet (names : List (List ℕ)) (x : Attributes) (before text : List ℕ) (some : Bool) (attribute : ℕ) : Type 0 where
+  pub same : text ++ rest_text some (members_from x attribute (drop attribute names)) ≡ before ++ set_text names x
 
 -- what stands after a name of this type
 abbrev pub after_text : Column → List Column → List (List ℕ) → List ℕ
@@ -24,24 +24,24 @@ after_text c (d ∷ ds) [] = 10 ∷ []
 after_text c (d ∷ ds) (name ∷ names) =
     cond (same_column c d) (32 ∷ name) (10 ∷ (type_word d ++ 32 ∷ name)) ++ after_text d ds names
 
-pub record PrintsRuns (columns : List Column) (names : List (List ℕ)) (before text : List ℕ) (last : Column) (place : ℕ) : Type 0 where
-  pub same : text ++ after_text last (drop place columns) (drop place names) ≡ before ++ lines_text (map run_line (runs_of columns names))
+pub record PrintsRuns (columns : List Column) (names : List (List ℕ)) (before text : List ℕ) (last : Column) (attribute : ℕ) : Type 0 where
+  pub same : text ++ after_text last (drop attribute columns) (drop attribute names) ≡ before ++ lines_text (map run_line (runs_of columns names))
 
 -- an element, and what stands from it on
-pub at_place : {X : Type 0} (xs : List X) (i : ℕ) (x : X) → slice_get xs i ≡ Some x → drop i xs ≡ x ∷ drop (i + 1) xs
-at_place xs i x e =
+pub drop-item : {X : Type 0} (xs : List X) (i : ℕ) (x : X) → slice_get xs i ≡ Some x → drop i xs ≡ x ∷ drop (i + 1) xs
+drop-item xs i x e =
     let inside : i < length xs = slice_get_within xs i x e in
     rw (add-one, drop-cons xs i x)
     (let same : get_or xs i x ≡ x = get_or_from_slice_get xs i x x e in rw same refl)
 
-pub set_inside : (names : List (List ℕ)) (x : Places) (before text next : List ℕ) (some more : Bool) (k : ℕ) (name : List ℕ)
+pub set_inside : (names : List (List ℕ)) (x : Attributes) (before text next : List ℕ) (some more : Bool) (k : ℕ) (name : List ℕ)
     → PrintsSet names x before text some k → slice_get names k ≡ Some name → true ≡ x k
     → next ≡ text ++ cond some (32 ∷ name) name → more ≡ true → PrintsSet names x before next more (k + 1)
 set_inside names x before text next true more k name prints here within added is_more = record {
-  same = let rest = at_place names k name here in let inside : x k ≡ true = sym within in let old = prints.same in rw (added, is_more) (rw append_assoc (rw (rest, inside) at old));
+  same = let rest = drop-item names k name here in let inside : x k ≡ true = sym within in let old = prints.same in rw (added, is_more) (rw append_assoc (rw (rest, inside) at old));
 }
 set_inside names x before text next false more k name prints here within added is_more = record {
-  same = let rest = at_place names k name here in let inside : x k ≡ true = sym within in let old = prints.same in rw (added, is_more) (rw append_assoc (rw (rest, inside) at old));
+  same = let rest = drop-item names k name here in let inside : x k ≡ true = sym within in let old = prints.same in rw (added, is_more) (rw append_assoc (rw (rest, inside) at old));
 }
 
 -- runs whose first one has this type, and what stands after its word in the text
@@ -51,12 +51,12 @@ record IsLed (c : Column) (rest : List ℕ) (runs : List Run) : Type 0 where
   whole : runs ≡ record { column = c; names = names } ∷ others
   text : words_text names ++ 10 ∷ lines_text (map run_line others) ≡ rest
 
-alone : (c : Column) (name : List ℕ) → IsLed c ((32 ∷ name) ++ 10 ∷ []) (record { column = c; names = name ∷ [] } ∷ [])
-alone c name = record { names = name ∷ []; others = []; whole = refl; text = rw (append-nil name) refl }
+IsLed-one : (c : Column) (name : List ℕ) → IsLed c ((32 ∷ name) ++ 10 ∷ []) (record { column = c; names = name ∷ [] } ∷ [])
+IsLed-one c name = record { names = name ∷ []; others = []; whole = refl; text = rw (append-nil name) refl }
 
-joined : (c d : Column) (name rest : List ℕ) (runs : List Run) → IsLed d rest runs
+IsLed-in_front : (c d : Column) (name rest : List ℕ) (runs : List Run) → IsLed d rest runs
     → IsLed c ((32 ∷ name) ++ cond (same_column c d) rest (10 ∷ (type_word d ++ rest))) (in_front c name runs)
-joined c d name rest runs led =
+IsLed-in_front c d name rest runs led =
     ⊎_elim
     (λ (same : same_column c d ≡ true).
     let text : words_text (name ∷ led.names) ++ 10 ∷ lines_text (map run_line led.others) ≡ (32 ∷ name) ++ rest =
@@ -77,10 +77,10 @@ joined c d name rest runs led =
 
 runs_led : (c : Column) (name : List ℕ) (columns : List Column) (names : List (List ℕ))
     → IsLed c ((32 ∷ name) ++ after_text c columns names) (in_front c name (runs_of columns names))
-runs_led c name [] names = alone c name
-runs_led c name (d ∷ columns) [] = alone c name
+runs_led c name [] names = IsLed-one c name
+runs_led c name (d ∷ columns) [] = IsLed-one c name
 runs_led c name (d ∷ columns) (next ∷ names) =
-    let led = joined c d name ((32 ∷ next) ++ after_text d columns names) (runs_of (d ∷ columns) (next ∷ names)) (runs_led d next columns names) in
+    let led = IsLed-in_front c d name ((32 ∷ next) ++ after_text d columns names) (runs_of (d ∷ columns) (next ∷ names)) (runs_led d next columns names) in
     let here = 32 ∷ next in
     let there = 10 ∷ (type_word d ++ 32 ∷ next) in
     let more = after_text d columns names in

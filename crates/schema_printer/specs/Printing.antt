@@ -2,7 +2,7 @@
 -- attributes.
 use Rattle.std.specs.Prelude.{ℕ, ◌+◌, Bool, true, false, if◌then◌else◌, List, [], ◌∷◌, ◌++◌, map, codes}
 use Rattle.std.specs.List.{flat_map, list_any}
-use Rattle.attr_sets.specs.Places.{Places}
+use Rattle.attr_sets.specs.Attributes.{Attributes}
 use Rattle.dep_model.specs.declared.column.Column.{Column}
 use Rattle.dep_model.specs.declared.column.Column.TheVariants.{Text, Integer}
 use Rattle.dep_model.specs.Dependencies.{Dependency, fd, mvd}
@@ -11,8 +11,8 @@ use Rattle.dep_model.specs.Dependencies.{Dependency, fd, mvd}
 abbrev pub words_text : List (List ℕ) → List ℕ
 words_text words = flat_map (λ word. 32 ∷ word) words
 
--- the names at the members of a set, in ascending order; the first name stands at place k
-abbrev pub members_from : Places → ℕ → List (List ℕ) → List (List ℕ)
+-- the names at the members of a set, in ascending order; the first name is that of attribute k
+abbrev pub members_from : Attributes → ℕ → List (List ℕ) → List (List ℕ)
 members_from x k [] = []
 members_from x k (name ∷ names) =
     if x k then name ∷ members_from x (k + 1) names else members_from x (k + 1) names
@@ -23,7 +23,7 @@ side_text [] = codes "()"
 side_text (word ∷ words) = word ++ words_text words
 
 -- a set, by the names of the attributes
-unfoldable pub set_text : List (List ℕ) → Places → List ℕ
+unfoldable pub set_text : List (List ℕ) → Attributes → List ℕ
 set_text names x = side_text (members_from x 0 names)
 
 -- a dependency: a side, an arrow, a side

@@ -1,18 +1,18 @@
 ghost use Rattle.std.specs.Prelude.{◌≡◌, ◌∷◌, ◌++◌, if◌then◌else◌, map, decimal, IfOk, OnOk, All};
 ghost use Rattle.std.specs.List.{list_any};
-ghost use Rattle.attr_sets.specs.Places.{Within};
-ghost use Rattle.attr_sets.specs.Sets.{places};
+ghost use Rattle.attr_sets.specs.Attributes.{IsSubset};
+ghost use Rattle.attr_sets.specs.Sets.{attributes};
 ghost use Rattle.dep_model.specs.Deps.{dependency_of, dependencies_of, IsDepWithin};
 ghost use Rattle.dep_model.specs.Schemas.{names_of, columns_of, theory_of, universe_of};
 ghost use Rattle.schema_printer.specs.Printing.{set_text, dependency_text, declared_text, declaring_lines, lines_text, words_text, run_line, runs_of, type_word, same_column, is_integer};
 
 use attr_sets::AttrSet;
-use dep_model::{Column, Dep, Schema, WantMemory};
+use dep_model::{Column, Dep, OutOfMemory, Schema};
 use std::alloc::Global;
 
 /// The schema in the one form: the lines that declare its attributes, and a line for each dependency.
 /// Where no name is reserved and the text is short enough to be read, it means the same schema.
-pub fn print_schema(alloc: Global, schema: &Schema) -> Result<Vec<u8>, WantMemory>
+pub fn print_schema(alloc: Global, schema: &Schema) -> Result<Vec<u8>, OutOfMemory>
     ensures text { IfOk result
         (λ text. text.items ≡ declared_text (columns_of schema.now) (names_of schema.now)
         (theory_of schema.now)) }
@@ -22,7 +22,7 @@ pub fn print_schema(alloc: Global, schema: &Schema) -> Result<Vec<u8>, WantMemor
 
 /// The lines that declare the schema's attributes, and a line for each of these dependencies.
 #[tactic(auto, unfolding(crate::specs::Printing::declared_text))]
-pub fn print_deps(alloc: Global, schema: &Schema, deps: &[Dep]) -> Result<Vec<u8>, WantMemory>
+pub fn print_deps(alloc: Global, schema: &Schema, deps: &[Dep]) -> Result<Vec<u8>, OutOfMemory>
     requires { All (IsDepWithin (universe_of schema.now)) deps.now }
     ensures text { IfOk result
         (λ text. text.items ≡ declared_text (columns_of schema.now) (names_of schema.now)
@@ -38,7 +38,7 @@ pub fn print_deps(alloc: Global, schema: &Schema, deps: &[Dep]) -> Result<Vec<u8
 }
 
 /// The dependency, without a line end.
-pub fn print_dep(alloc: Global, schema: &Schema, dep: Dep) -> Result<Vec<u8>, WantMemory>
+pub fn print_dep(alloc: Global, schema: &Schema, dep: Dep) -> Result<Vec<u8>, OutOfMemory>
     requires { IsDepWithin (universe_of schema.now) dep }
     ensures text { IfOk result
         (λ text. text.items ≡ dependency_text (names_of schema.now) (dependency_of dep)) }
@@ -49,9 +49,9 @@ pub fn print_dep(alloc: Global, schema: &Schema, dep: Dep) -> Result<Vec<u8>, Wa
 }
 
 /// The names of the set's members in ascending order, one blank between, or `()` for the empty set.
-pub fn print_set(alloc: Global, schema: &Schema, set: AttrSet) -> Result<Vec<u8>, WantMemory>
-    requires { Within (places set) (universe_of schema.now) }
-    ensures text { IfOk result (λ text. text.items ≡ set_text (names_of schema.now) (places set)) }
+pub fn print_set(alloc: Global, schema: &Schema, set: AttrSet) -> Result<Vec<u8>, OutOfMemory>
+    requires { IsSubset (attributes set) (universe_of schema.now) }
+    ensures text { IfOk result (λ text. text.items ≡ set_text (names_of schema.now) (attributes set)) }
 {
     let mut text = Vec::new(alloc);
     add_set(&mut text, schema, set)?;
@@ -59,7 +59,7 @@ pub fn print_set(alloc: Global, schema: &Schema, set: AttrSet) -> Result<Vec<u8>
 }
 
 /// Adds bytes to a text.
-pub fn add(text: &mut Vec<u8>, bytes: &[u8]) -> Result<(), WantMemory>
+pub fn add(text: &mut Vec<u8>, bytes: &[u8]) -> Result<(), OutOfMemory>
     ensures added { OnOk result (text.new.items ≡ text.old.items ++ bytes.now) }
 {
     text.extend_from_slice(bytes)?;
@@ -67,7 +67,7 @@ pub fn add(text: &mut Vec<u8>, bytes: &[u8]) -> Result<(), WantMemory>
 }
 
 /// Adds a number in decimal digits to a text.
-pub fn add_number(text: &mut Vec<u8>, alloc: Global, number: u32) -> Result<(), WantMemory>
+pub fn add_number(text: &mut Vec<u8>, alloc: Global, number: u32) -> Result<(), OutOfMemory>
     ensures added { OnOk result (text.new.items ≡ text.old.items ++ decimal number) }
 {
     let digits = format!(in alloc; "{number}")?;
@@ -76,7 +76,7 @@ pub fn add_number(text: &mut Vec<u8>, alloc: Global, number: u32) -> Result<(), 
 
 /// Adds a dependency to a text, without a line end.
 #[tactic(auto, unfolding(crate::specs::Printing::dependency_text))]
-pub fn add_dep(text: &mut Vec<u8>, schema: &Schema, dep: Dep) -> Result<(), WantMemory>
+pub fn add_dep(text: &mut Vec<u8>, schema: &Schema, dep: Dep) -> Result<(), OutOfMemory>
     ensures added { OnOk result (text.new.items
         ≡ text.old.items ++ dependency_text (names_of schema.now) (dependency_of dep)) }
 {
@@ -92,10 +92,10 @@ fn add_sides(
     lhs: AttrSet,
     arrow: &[u8],
     rhs: AttrSet,
-) -> Result<(), WantMemory>
+) -> Result<(), OutOfMemory>
     ensures added { OnOk result (text.new.items
-        ≡ text.old.items ++ (set_text (names_of schema.now) (places lhs) ++ arrow.now
-        ++ set_text (names_of schema.now) (places rhs))) }
+        ≡ text.old.items ++ (set_text (names_of schema.now) (attributes lhs) ++ arrow.now
+        ++ set_text (names_of schema.now) (attributes rhs))) }
 {
     add_set(text, schema, lhs)?;
     add(text, arrow)?;
@@ -103,14 +103,14 @@ fn add_sides(
 }
 
 /// Adds the names of a set's members to a text, or `()`.
-pub fn add_set(text: &mut Vec<u8>, schema: &Schema, set: AttrSet) -> Result<(), WantMemory>
+pub fn add_set(text: &mut Vec<u8>, schema: &Schema, set: AttrSet) -> Result<(), OutOfMemory>
     ensures added { OnOk result (text.new.items
-        ≡ text.old.items ++ set_text (names_of schema.now) (places set)) }
+        ≡ text.old.items ++ set_text (names_of schema.now) (attributes set)) }
 {
     let mut some = false;
-    for place in 0..schema.width() {
-        if set.has(place) {
-            add_member(text, some, schema.name(place).bytes())?;
+    for attribute in 0..schema.width() {
+        if set.contains(attribute) {
+            add_member(text, some, schema.name(attribute).bytes())?;
             some = true;
         }
     }
@@ -118,7 +118,7 @@ pub fn add_set(text: &mut Vec<u8>, schema: &Schema, set: AttrSet) -> Result<(), 
 }
 
 /// A name; after a blank where another one stands before it.
-fn add_member(text: &mut Vec<u8>, some: bool, name: &[u8]) -> Result<(), WantMemory>
+fn add_member(text: &mut Vec<u8>, some: bool, name: &[u8]) -> Result<(), OutOfMemory>
     ensures added { OnOk result (text.new.items
         ≡ text.old.items ++ (if some then 32 ∷ name.now else name.now)) }
 {
@@ -129,7 +129,7 @@ fn add_member(text: &mut Vec<u8>, some: bool, name: &[u8]) -> Result<(), WantMem
 }
 
 #[tactic(auto, unfolding(crate::specs::Printing::declaring_lines))]
-fn add_declarations(text: &mut Vec<u8>, schema: &Schema) -> Result<(), WantMemory>
+fn add_declarations(text: &mut Vec<u8>, schema: &Schema) -> Result<(), OutOfMemory>
     ensures added { OnOk result (text.new.items
         ≡ text.old.items ++ lines_text (declaring_lines (columns_of schema.now) (names_of schema.now))) }
 {
@@ -144,10 +144,10 @@ fn add_declarations(text: &mut Vec<u8>, schema: &Schema) -> Result<(), WantMemor
 }
 
 fn has_integers(schema: &Schema) -> bool
-    ensures some { result ≡ list_any is_integer (columns_of schema.now) }
+    ensures any_integer { result ≡ list_any is_integer (columns_of schema.now) }
 {
-    for place in 0..schema.width() {
-        if is_integer(schema.column(place)) {
+    for attribute in 0..schema.width() {
+        if is_integer(schema.column(attribute)) {
             return true;
         }
     }
@@ -164,27 +164,27 @@ fn is_integer(column: Column) -> bool
 }
 
 /// Each name after a blank.
-fn add_names(text: &mut Vec<u8>, schema: &Schema) -> Result<(), WantMemory>
+fn add_names(text: &mut Vec<u8>, schema: &Schema) -> Result<(), OutOfMemory>
     ensures added { OnOk result (text.new.items ≡ text.old.items ++ words_text (names_of schema.now)) }
 {
-    for place in 0..schema.width() {
+    for attribute in 0..schema.width() {
         add(text, b" ")?;
-        add(text, schema.name(place).bytes())?;
+        add(text, schema.name(attribute).bytes())?;
     }
     Ok(())
 }
 
 /// A line for each run of neighbouring columns of one type.
-fn add_runs(text: &mut Vec<u8>, schema: &Schema) -> Result<(), WantMemory>
+fn add_runs(text: &mut Vec<u8>, schema: &Schema) -> Result<(), OutOfMemory>
     ensures added { OnOk result (text.new.items
         ≡ text.old.items ++ lines_text
         (map run_line (runs_of (columns_of schema.now) (names_of schema.now)))) }
 {
     let mut last = schema.column(0);
     add_typed(text, last, schema.name(0).bytes())?;
-    for place in 1..schema.width() {
-        let column = schema.column(place);
-        let name = schema.name(place).bytes();
+    for attribute in 1..schema.width() {
+        let column = schema.column(attribute);
+        let name = schema.name(attribute).bytes();
         add_after(text, last, column, name)?;
         last = column;
     }
@@ -197,7 +197,7 @@ fn add_after(
     last: Column,
     column: Column,
     name: &[u8],
-) -> Result<(), WantMemory>
+) -> Result<(), OutOfMemory>
     ensures added { OnOk result (text.new.items
         ≡ text.old.items ++ (if same_column last column then 32 ∷ name.now else 10
         ∷ (type_word column ++ 32 ∷ name.now))) }
@@ -212,7 +212,7 @@ fn add_after(
 }
 
 /// The beginning of a line of a run.
-fn add_typed(text: &mut Vec<u8>, column: Column, name: &[u8]) -> Result<(), WantMemory>
+fn add_typed(text: &mut Vec<u8>, column: Column, name: &[u8]) -> Result<(), OutOfMemory>
     ensures added { OnOk result (text.new.items ≡ text.old.items ++ (type_word column ++ 32 ∷ name.now)) }
 {
     match column {

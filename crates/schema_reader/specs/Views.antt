@@ -2,7 +2,7 @@
 -- not cite it.
 use Rattle.std.specs.Prelude.{ℕ, ◌+◌, ◌<◌, ◌^◌, List, length, Option, Some, None}
 use denote.Ref.{Bor}
-use Rattle.attr_sets.specs.Sets.{places}
+use Rattle.attr_sets.specs.Sets.{attributes}
 use Rattle.dep_model.specs.Deps.{dependencies_of}
 use Rattle.schema_grammar.specs.Declarations.{Declarations}
 use Rattle.schema_grammar.specs.Grammar.{Reached, start, left, left_empty, after_sign, right, right_empty}
@@ -10,8 +10,8 @@ use Rattle.schema_reader.specs.declared.draft.Draft.{Draft}
 use Rattle.schema_reader.specs.declared.stage.Stage.{Stage}
 use Rattle.schema_reader.specs.declared.stage.Stage.TheVariants as stage
 
-abbrev pub drafted : Draft → Declarations
-drafted d =
+abbrev pub declarations_of_draft : Draft → Declarations
+declarations_of_draft d =
     record {
       names = d.names.items;
       columns = d.columns.items;
@@ -21,13 +21,13 @@ drafted d =
 
 abbrev pub reached_of : Stage → Reached
 reached_of stage.Start = start
-reached_of (stage.Left x) = left (places x)
+reached_of (stage.Left x) = left (attributes x)
 reached_of stage.LeftEmpty = left_empty
-reached_of (stage.AfterSign s x) = after_sign s (places x)
-reached_of (stage.Right s x y) = right s (places x) (places y)
-reached_of (stage.RightEmpty s x) = right_empty s (places x)
+reached_of (stage.AfterSign s x) = after_sign s (attributes x)
+reached_of (stage.Right s x y) = right s (attributes x) (attributes y)
+reached_of (stage.RightEmpty s x) = right_empty s (attributes x)
 
 -- there is room for their numbers
-abbrev pub AreFew : ℕ → Option (Bor (List ℕ)) → Type 0
-AreFew number None = number < 2 ^ 31
-AreFew number (Some after) = (number + 1) + length after.now < 2 ^ 31
+abbrev pub AreAtMostAll : ℕ → Option (Bor (List ℕ)) → Type 0
+AreAtMostAll number None = number < 2 ^ 31
+AreAtMostAll number (Some after) = (number + 1) + length after.now < 2 ^ 31

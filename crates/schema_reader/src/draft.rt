@@ -1,19 +1,19 @@
 ghost use Rattle.std.specs.Prelude.{◌≡◌, ◌+◌, ◌<◌, ◌≤◌, ◌^◌, true, false, length, OnOk, IfOk, IfErr};
 ghost use Rattle.dep_model.specs.Deps.{dependency_of};
 ghost use Rattle.dep_model.specs.Names.{is_name};
-ghost use Rattle.lexer.specs.Tokens.{lexed};
+ghost use Rattle.lexer.specs.Tokens.{tokens_after};
 ghost use Rattle.schema_reader.specs.Views.{reached_of};
 ghost use Rattle.schema_grammar.specs.Refusals.{Refuses};
 
 use crate::goal::{follow, step};
 use crate::stage::Stage;
-use crate::words::declares;
-use attr_sets::PLACES;
-use dep_model::{Column, Dep, Failure, MOST_DEPENDENCIES, Name, WantMemory};
+use crate::words::column_type_of_token;
+use attr_sets::MOST_ATTRIBUTES;
+use dep_model::{Column, Dep, Failure, MOST_DEPENDENCIES, Name, OutOfMemory};
 use lexer::{Mode, Next, Token, TokenKind, next_token};
-use line_reader::{Names, is_reserved, place_among};
 use schema_grammar::{Format, SchemaRefusal, SchemaRefusalKind, What};
 use std::alloc::Global;
+use tokens::{Names, is_reserved, position_among};
 
 /// What a schema text declares, as far as it is read.
 #[derive(Drop)]
@@ -25,11 +25,11 @@ pub struct Draft {
 }
 
 impl Draft {
-    ghost use Rattle.schema_grammar.specs.Declarations.{no_declaration, declare, name_step, list_names_lexed, add_name, add_dependency, begin, dependency_lexed, marked, read_line};
-    ghost use Rattle.schema_reader.specs.Views.{drafted};
+    ghost use Rattle.schema_grammar.specs.Declarations.{no_declaration, declare, name_step, list_names_lexed, add_name, add_dependency, begin, dependency_lexed, mark_of, read_line};
+    ghost use Rattle.schema_reader.specs.Views.{declarations_of_draft};
 
     pub fn new(alloc: Global) -> Draft
-        ensures empty { drafted result ≡ no_declaration }
+        ensures empty { declarations_of_draft result ≡ no_declaration }
     {
         Draft {
             names: Vec::new(alloc),
@@ -47,18 +47,20 @@ impl Draft {
         line: u32,
         text: &[u8],
     ) -> Result<(), Failure<SchemaRefusal>>
-        requires few { length (drafted self.old).names ≤ PLACES }
-        requires room { 1 + length text.now < 2 ^ 32 }
-        ensures ok { OnOk result (read_line format line (drafted self.old) text.now ≡ Ok (drafted self.new)) }
+        requires within_limit { length (declarations_of_draft self.old).names ≤ MOST_ATTRIBUTES }
+        requires fits_u32 { 1 + length text.now < 2 ^ 32 }
+        ensures ok { OnOk result (read_line format line (declarations_of_draft self.old) text.now
+            ≡ Ok (declarations_of_draft self.new)) }
         ensures err { IfErr result
-            (λ failure. Refuses failure (read_line format line (drafted self.old) text.now)) }
+            (λ failure. Refuses failure (read_line format line
+            (declarations_of_draft self.old) text.now)) }
     {
         match next_token(Mode::Plain, 1, text) {
             Next::End => Ok(()),
-            Next::Stop(stop) => Err(Failure::Refused(SchemaRefusal::by(line, stop))),
+            Next::Error(stop) => Err(Failure::Refused(SchemaRefusal::by(line, stop))),
             Next::Token(token, word, rest) => {
                 let next_column = token.column + token.length;
-                match declares(format, token.kind, word) {
+                match column_type_of_token(format, token.kind, word) {
                     Some(column) => self.list_names(format, column, line, next_column, rest),
                     None => self.read_dependency(format, line, token, word, rest),
                 }
@@ -75,14 +77,14 @@ impl Draft {
         next_column: u32,
         text: &[u8],
     ) -> Result<(), Failure<SchemaRefusal>>
-        requires room { next_column + length text.now < 2 ^ 32 }
+        requires fits_u32 { next_column + length text.now < 2 ^ 32 }
         ensures ok { OnOk result
-            (list_names_lexed format column line (drafted self.old) false next_column
-            (lexed Mode.Plain 0 next_column text.now) ≡ Ok (drafted self.new)) }
+            (list_names_lexed format column line (declarations_of_draft self.old) false next_column
+            (tokens_after Mode.Plain 0 next_column text.now) ≡ Ok (declarations_of_draft self.new)) }
         ensures err { IfErr result
             (λ failure. Refuses failure
-            (list_names_lexed format column line (drafted self.old) false next_column
-            (lexed Mode.Plain 0 next_column text.now))) }
+            (list_names_lexed format column line (declarations_of_draft self.old) false next_column
+            (tokens_after Mode.Plain 0 next_column text.now))) }
     {
         let mut some = false;
         let mut next_column = next_column;
@@ -98,7 +100,7 @@ impl Draft {
                         Err(Failure::Refused(refusal))
                     };
                 }
-                Next::Stop(stop) => {
+                Next::Error(stop) => {
                     return Err(Failure::Refused(SchemaRefusal::by(line, stop)));
                 }
                 Next::Token(token, word, others) => {
@@ -128,14 +130,16 @@ impl Draft {
         kind: TokenKind,
         word: &[u8],
     ) -> Result<(), Failure<SchemaRefusalKind>>
-        requires { kind ≡ TokenKind.Word → is_name word.now ≡ true }
-        ensures ok { OnOk result (name_step format column (drafted self.old) some kind word.now
-            ≡ Ok (drafted self.new)) }
+        requires { kind ≡ TokenKind.Identifier → is_name word.now ≡ true }
+        ensures ok { OnOk result (name_step format column
+            (declarations_of_draft self.old) some kind word.now
+            ≡ Ok (declarations_of_draft self.new)) }
         ensures err { IfErr result
-            (λ failure. Refuses failure (name_step format column (drafted self.old) some kind word.now)) }
+            (λ failure. Refuses failure (name_step format column
+            (declarations_of_draft self.old) some kind word.now)) }
     {
         match kind {
-            TokenKind::Word => self.declare(format, column, word),
+            TokenKind::Identifier => self.declare(format, column, word),
             _ => {
                 let want = if some { What::LineEnd } else { What::Name };
                 Err(Failure::Refused(SchemaRefusalKind::Expected(want)))
@@ -152,25 +156,28 @@ impl Draft {
         word: &[u8],
     ) -> Result<(), Failure<SchemaRefusalKind>>
         requires { is_name word.now ≡ true }
-        ensures ok { OnOk result (declare format column (drafted self.old) word.now ≡ Ok (drafted self.new)) }
+        ensures ok { OnOk result (declare format column (declarations_of_draft self.old) word.now
+            ≡ Ok (declarations_of_draft self.new)) }
         ensures err { IfErr result
-            (λ failure. Refuses failure (declare format column (drafted self.old) word.now)) }
+            (λ failure. Refuses failure (declare format column
+            (declarations_of_draft self.old) word.now)) }
     {
         if is_reserved(format, word) {
             return Err(Failure::Refused(SchemaRefusalKind::ReservedName));
         }
-        if place_among(&self.names, word).is_some() {
+        if position_among(&self.names, word).is_some() {
             return Err(Failure::Refused(SchemaRefusalKind::DoubleName));
         }
-        if self.names.len() >= PLACES as usize {
+        if self.names.len() >= MOST_ATTRIBUTES as usize {
             return Err(Failure::Refused(SchemaRefusalKind::TooManyAttributes));
         }
-        self.add_name(named(word), column)?;
+        self.add_name(name_of_word(word), column)?;
         Ok(())
     }
 
-    fn add_name(&mut self, name: Name, column: Column) -> Result<(), WantMemory>
-        ensures ok { OnOk result (drafted self.new ≡ add_name (drafted self.old) name column) }
+    fn add_name(&mut self, name: Name, column: Column) -> Result<(), OutOfMemory>
+        ensures ok { OnOk result (declarations_of_draft self.new
+            ≡ add_name (declarations_of_draft self.old) name column) }
     {
         self.names.push(name)?;
         self.columns.push(column)?;
@@ -186,16 +193,17 @@ impl Draft {
         word: &[u8],
         rest: &[u8],
     ) -> Result<(), Failure<SchemaRefusal>>
-        requires few { length (drafted self.old).names ≤ PLACES }
-        requires room { token.column + token.length + length rest.now < 2 ^ 32 }
+        requires within_limit { length (declarations_of_draft self.old).names ≤ MOST_ATTRIBUTES }
+        requires fits_u32 { token.column + token.length + length rest.now < 2 ^ 32 }
         requires word { token.length ≡ length word.now }
         ensures ok { OnOk result
-            (dependency_lexed format line (drafted self.old) (marked token word.now)
-            (lexed Mode.Plain 0 (token.column + token.length) rest.now) ≡ Ok (drafted self.new)) }
+            (dependency_lexed format line (declarations_of_draft self.old) (mark_of token word.now)
+            (tokens_after Mode.Plain 0 (token.column + token.length) rest.now)
+            ≡ Ok (declarations_of_draft self.new)) }
         ensures err { IfErr result
             (λ failure. Refuses failure
-            (dependency_lexed format line (drafted self.old) (marked token word.now)
-            (lexed Mode.Plain 0 (token.column + token.length) rest.now))) }
+            (dependency_lexed format line (declarations_of_draft self.old) (mark_of token word.now)
+            (tokens_after Mode.Plain 0 (token.column + token.length) rest.now))) }
     {
         let stage = match self.begin(format, token.kind, word) {
             Ok(stage) => stage,
@@ -223,10 +231,12 @@ impl Draft {
         kind: TokenKind,
         word: &[u8],
     ) -> Result<Stage, SchemaRefusalKind>
-        requires { length (drafted self.now).names ≤ PLACES }
+        requires { length (declarations_of_draft self.now).names ≤ MOST_ATTRIBUTES }
         ensures ok { IfOk result
-            (λ stage. begin format (drafted self.now) kind word.now ≡ Ok (reached_of stage)) }
-        ensures err { IfErr result (λ why. begin format (drafted self.now) kind word.now ≡ Err why) }
+            (λ stage. begin format (declarations_of_draft self.now) kind word.now
+            ≡ Ok (reached_of stage)) }
+        ensures err { IfErr result (λ why. begin format (declarations_of_draft self.now) kind word.now
+            ≡ Err why) }
     {
         let stage = step(
             &Names::Listed(&self.names),
@@ -241,9 +251,9 @@ impl Draft {
         Ok(stage)
     }
 
-    fn add_dependency(&mut self, dep: Dep, line: u32) -> Result<(), WantMemory>
-        ensures ok { OnOk result (drafted self.new
-            ≡ add_dependency (drafted self.old) (dependency_of dep) line) }
+    fn add_dependency(&mut self, dep: Dep, line: u32) -> Result<(), OutOfMemory>
+        ensures ok { OnOk result (declarations_of_draft self.new
+            ≡ add_dependency (declarations_of_draft self.old) (dependency_of dep) line) }
     {
         self.deps.push(dep)?;
         self.lines.push(line)?;
@@ -252,9 +262,9 @@ impl Draft {
 }
 
 /// The name that a word is.
-fn named(word: &[u8]) -> Name
+fn name_of_word(word: &[u8]) -> Name
     requires { is_name word.now ≡ true }
     ensures name { result ≡ word.now }
 {
-    Name::make(word).unwrap()
+    Name::new(word).unwrap()
 }

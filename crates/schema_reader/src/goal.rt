@@ -1,27 +1,27 @@
 ghost use Rattle.std.specs.Prelude.{◌≡◌, ◌+◌, ◌<◌, ◌≤◌, ◌^◌, length, IfOk, IfErr, Ok, Err};
-ghost use Rattle.attr_sets.specs.Places.{below};
+ghost use Rattle.attr_sets.specs.Attributes.{below};
 ghost use Rattle.dep_model.specs.Deps.{dependency_of, IsDepWithin};
 ghost use Rattle.dep_model.specs.Schemas.{names_of, universe_of};
-ghost use Rattle.lexer.specs.Tokens.{lexed};
-ghost use Rattle.schema_grammar.specs.Grammar.{finished, IsPlaced};
+ghost use Rattle.lexer.specs.Tokens.{tokens_after};
+ghost use Rattle.schema_grammar.specs.Grammar.{finish_dependency, IsInRange};
 ghost use Rattle.schema_reader.specs.Views.{reached_of};
-ghost use Rattle.line_reader.specs.Views.{names_in};
-ghost use Rattle.schema_grammar.specs.Complaints.{RefusesGoal};
+ghost use Rattle.tokens.specs.Views.{names_in};
+ghost use Rattle.schema_grammar.specs.Diagnostics.{RefusesGoal};
 ghost use Rattle.schema_grammar.specs.Meanings.{MeansGoal};
 ghost use Rattle.schema_grammar.specs.Reading.{symbol_of, step, follow_lexed};
-ghost use Rattle.schema_grammar.specs.Refusals.{at, expecting};
+ghost use Rattle.schema_grammar.specs.Refusals.{at, expect};
 
-use crate::stage::{Stage, finish, turn};
-use attr_sets::PLACES;
+use crate::stage::{Stage, advance, finish};
+use attr_sets::MOST_ATTRIBUTES;
 use dep_model::{Dep, Schema};
 use lexer::{Mode, Next, TokenKind, next_token};
-use line_reader::{Names, look_up};
 use schema_grammar::{Format, SchemaRefusal, SchemaRefusalKind, Sign, Symbol};
+use tokens::{Names, look_up};
 
 /// The most bytes of a goal.
 pub const MOST_GOAL_BYTES: usize = 16_384;
 
-/// The dependency over the schema's names that a goal means, or its first complaint. The goal is one
+/// The dependency over the schema's names that a goal means, or its first diagnostic. The goal is one
 /// line; `#`, line ends and a byte-order mark are strange bytes in it. It takes no memory.
 pub fn read_goal(schema: &Schema, text: &[u8]) -> Result<Dep, SchemaRefusal>
     requires { length text.now ≤ MOST_GOAL_BYTES }
@@ -50,14 +50,14 @@ pub fn follow(
     column: u32,
     text: &[u8],
 ) -> Result<Dep, SchemaRefusal>
-    requires few { length (names_in names.now) ≤ PLACES }
-    requires room { column + length text.now < 2 ^ 32 }
+    requires within_limit { length (names_in names.now) ≤ MOST_ATTRIBUTES }
+    requires fits_u32 { column + length text.now < 2 ^ 32 }
     ensures ok { IfOk result
         (λ dep. follow_lexed format (names_in names.now) line (reached_of stage) column
-        (lexed mode 0 column text.now) ≡ Ok (dependency_of dep)) }
+        (tokens_after mode 0 column text.now) ≡ Ok (dependency_of dep)) }
     ensures err { IfErr result
         (λ refusal. follow_lexed format (names_in names.now) line (reached_of stage) column
-        (lexed mode 0 column text.now) ≡ Err refusal) }
+        (tokens_after mode 0 column text.now) ≡ Err refusal) }
 {
     let mut stage = stage;
     let mut column = column;
@@ -65,7 +65,7 @@ pub fn follow(
     'tokens: loop {
         match next_token(mode, column, rest) {
             Next::End => return end_line(line, stage, column),
-            Next::Stop(stop) => return Err(SchemaRefusal::by(line, stop)),
+            Next::Error(stop) => return Err(SchemaRefusal::by(line, stop)),
             Next::Token(token, word, others) => {
                 match step(names, format, stage, token.kind, word) {
                     Err(kind) => return Err(SchemaRefusal::at(
@@ -88,9 +88,10 @@ pub fn follow(
 /// The dependency that is read where the line ends.
 fn end_line(line: u32, stage: Stage, column: u32) -> Result<Dep, SchemaRefusal>
     ensures ok { IfOk result
-        (λ dep. at line column 0 (expecting (finished (reached_of stage))) ≡ Ok (dependency_of dep)) }
+        (λ dep. at line column 0 (expect (finish_dependency (reached_of stage)))
+        ≡ Ok (dependency_of dep)) }
     ensures err { IfErr result
-        (λ refusal. at line column 0 (expecting (finished (reached_of stage))) ≡ Err refusal) }
+        (λ refusal. at line column 0 (expect (finish_dependency (reached_of stage))) ≡ Err refusal) }
 {
     match finish(stage) {
         Ok(dep) => Ok(dep),
@@ -107,7 +108,7 @@ pub fn step(
     kind: TokenKind,
     word: &[u8],
 ) -> Result<Stage, SchemaRefusalKind>
-    requires { length (names_in names.now) ≤ PLACES }
+    requires { length (names_in names.now) ≤ MOST_ATTRIBUTES }
     ensures ok { IfOk result
         (λ next. step format (names_in names.now) (reached_of stage) kind word.now
         ≡ Ok (reached_of next)) }
@@ -115,7 +116,7 @@ pub fn step(
         (λ why. step format (names_in names.now) (reached_of stage) kind word.now ≡ Err why) }
 {
     let symbol = symbol_of(names, format, kind, word)?;
-    match turn(stage, symbol) {
+    match advance(stage, symbol) {
         Ok(next) => Ok(next),
         Err(what) => Err(SchemaRefusalKind::Expected(what)),
     }
@@ -128,12 +129,12 @@ fn symbol_of(
     kind: TokenKind,
     word: &[u8],
 ) -> Result<Symbol, SchemaRefusalKind>
-    requires { length (names_in names.now) ≤ PLACES }
+    requires { length (names_in names.now) ≤ MOST_ATTRIBUTES }
     ensures exact { result ≡ symbol_of format (names_in names.now) kind word.now }
-    ensures placed { IfOk result IsPlaced }
+    ensures in_range { IfOk result IsInRange }
 {
     match kind {
-        TokenKind::Word => Ok(Symbol::Attribute(look_up(names, format, word)?)),
+        TokenKind::Identifier => Ok(Symbol::Attribute(look_up(names, format, word)?)),
         TokenKind::Arrow => Ok(Symbol::Arrow(Sign::Functional)),
         TokenKind::DoubleArrow => Ok(Symbol::Arrow(Sign::Multivalued)),
         TokenKind::Empty => Ok(Symbol::Empty),

@@ -1,6 +1,6 @@
 ghost use Rattle.std.specs.Prelude.{◌≡◌, ◌≤◌, length, IfOk, IfErr};
-ghost use Rattle.attr_sets.specs.Places.{Within};
-ghost use Rattle.attr_sets.specs.Sets.{places};
+ghost use Rattle.attr_sets.specs.Attributes.{IsSubset};
+ghost use Rattle.attr_sets.specs.Sets.{attributes};
 ghost use Rattle.dep_model.specs.Schemas.{names_of, universe_of};
 ghost use Rattle.schema_grammar.specs.Sets.{MeansSet, RefusesSet};
 
@@ -9,19 +9,19 @@ use crate::stage::after_arrow;
 use attr_sets::AttrSet;
 use dep_model::{Schema, sides};
 use lexer::Mode;
-use line_reader::Names;
 use schema_grammar::{Format, SchemaRefusal};
+use tokens::Names;
 
 /// The most bytes of a set.
 pub const MOST_SET_BYTES: usize = 16_384;
 
-/// The attributes of the schema that a text means, or its first complaint. The set is one line, with the
-/// tokens of a goal, and is read as the right side of one. It takes no memory.
+/// The attributes of the schema that a text means, or its first diagnostic. The set is one line, with
+/// the tokens of a goal, and is read as the right side of one. It takes no memory.
 pub fn read_set(schema: &Schema, text: &[u8]) -> Result<AttrSet, SchemaRefusal>
     requires { length text.now ≤ MOST_SET_BYTES }
-    ensures ok { IfOk result (λ set. MeansSet (names_of schema.now) text.now (places set)) }
+    ensures ok { IfOk result (λ set. MeansSet (names_of schema.now) text.now (attributes set)) }
     ensures err { IfErr result (RefusesSet (names_of schema.now) text.now) }
-    ensures within { IfOk result (λ set. Within (places set) (universe_of schema.now)) }
+    ensures within { IfOk result (λ set. IsSubset (attributes set) (universe_of schema.now)) }
 {
     match follow(
         &Names::Of(schema),

@@ -1,8 +1,8 @@
 ghost use Rattle.std.specs.Prelude.{◌≡◌, IfOk, IfErr, Ok, Err};
-ghost use Rattle.attr_sets.specs.Places.{none};
-ghost use Rattle.attr_sets.specs.Sets.{places};
+ghost use Rattle.attr_sets.specs.Attributes.{none};
+ghost use Rattle.attr_sets.specs.Sets.{attributes};
 ghost use Rattle.dep_model.specs.Deps.{dependency_of};
-ghost use Rattle.schema_grammar.specs.Grammar.{after_sign, turn, finished, stated, IsPlaced};
+ghost use Rattle.schema_grammar.specs.Grammar.{after_sign, advance, finish_dependency, dependency_of_sign, IsInRange};
 ghost use Rattle.schema_grammar.specs.declared.symbol.Sign.TheVariants as sign;
 ghost use Rattle.schema_reader.specs.Views.{reached_of};
 
@@ -34,28 +34,28 @@ pub fn after_arrow() -> Stage
 }
 
 /// Where a token leads.
-#[tactic(auto, unfolding(schema_grammar::specs::Grammar::turn))]
-pub fn turn(stage: Stage, symbol: Symbol) -> Result<Stage, What>
-    requires { IsPlaced symbol }
-    ensures ok { IfOk result (λ next. turn (reached_of stage) symbol ≡ Ok (reached_of next)) }
-    ensures err { IfErr result (λ what. turn (reached_of stage) symbol ≡ Err what) }
+#[tactic(auto, unfolding(schema_grammar::specs::Grammar::advance))]
+pub fn advance(stage: Stage, symbol: Symbol) -> Result<Stage, What>
+    requires { IsInRange symbol }
+    ensures ok { IfOk result (λ next. advance (reached_of stage) symbol ≡ Ok (reached_of next)) }
+    ensures err { IfErr result (λ what. advance (reached_of stage) symbol ≡ Err what) }
 {
     match (stage, symbol) {
-        (Stage::Start, Symbol::Attribute(place)) => Ok(Stage::Left(AttrSet::single(place))),
+        (Stage::Start, Symbol::Attribute(attribute)) => Ok(Stage::Left(AttrSet::single(attribute))),
         (Stage::Start, Symbol::Empty) => Ok(Stage::LeftEmpty),
         (Stage::Start, _) => Err(What::Side),
-        (Stage::Left(lhs), Symbol::Attribute(place)) => Ok(Stage::Left(lhs.with(place))),
+        (Stage::Left(lhs), Symbol::Attribute(attribute)) => Ok(Stage::Left(lhs.with(attribute))),
         (Stage::Left(lhs), Symbol::Arrow(sign)) => Ok(Stage::AfterSign(sign, lhs)),
         (Stage::Left(_), _) => Err(What::Arrow),
         (Stage::LeftEmpty, Symbol::Arrow(sign)) => Ok(Stage::AfterSign(sign, AttrSet::empty())),
         (Stage::LeftEmpty, _) => Err(What::Arrow),
-        (Stage::AfterSign(sign, lhs), Symbol::Attribute(place)) => {
-            Ok(Stage::Right(sign, lhs, AttrSet::single(place)))
+        (Stage::AfterSign(sign, lhs), Symbol::Attribute(attribute)) => {
+            Ok(Stage::Right(sign, lhs, AttrSet::single(attribute)))
         }
         (Stage::AfterSign(sign, lhs), Symbol::Empty) => Ok(Stage::RightEmpty(sign, lhs)),
         (Stage::AfterSign(_, _), _) => Err(What::Side),
-        (Stage::Right(sign, lhs, rhs), Symbol::Attribute(place)) => {
-            Ok(Stage::Right(sign, lhs, rhs.with(place)))
+        (Stage::Right(sign, lhs, rhs), Symbol::Attribute(attribute)) => {
+            Ok(Stage::Right(sign, lhs, rhs.with(attribute)))
         }
         (Stage::Right(_, _, _), _) => Err(What::LineEnd),
         (Stage::RightEmpty(_, _), _) => Err(What::LineEnd),
@@ -63,21 +63,22 @@ pub fn turn(stage: Stage, symbol: Symbol) -> Result<Stage, What>
 }
 
 /// The dependency that is read where the line ends, or what it still wants.
-#[tactic(auto, unfolding(schema_grammar::specs::Grammar::finished))]
+#[tactic(auto, unfolding(schema_grammar::specs::Grammar::finish_dependency))]
 pub fn finish(stage: Stage) -> Result<Dep, What>
-    ensures ok { IfOk result (λ dep. finished (reached_of stage) ≡ Ok (dependency_of dep)) }
-    ensures err { IfErr result (λ what. finished (reached_of stage) ≡ Err what) }
+    ensures ok { IfOk result (λ dep. finish_dependency (reached_of stage) ≡ Ok (dependency_of dep)) }
+    ensures err { IfErr result (λ what. finish_dependency (reached_of stage) ≡ Err what) }
 {
     match stage {
         Stage::Start | Stage::AfterSign(_, _) => Err(What::Side),
         Stage::Left(_) | Stage::LeftEmpty => Err(What::Arrow),
-        Stage::Right(sign, lhs, rhs) => Ok(dependency(sign, lhs, rhs)),
-        Stage::RightEmpty(sign, lhs) => Ok(dependency(sign, lhs, AttrSet::empty())),
+        Stage::Right(sign, lhs, rhs) => Ok(dependency_of_sign(sign, lhs, rhs)),
+        Stage::RightEmpty(sign, lhs) => Ok(dependency_of_sign(sign, lhs, AttrSet::empty())),
     }
 }
 
-fn dependency(sign: Sign, lhs: AttrSet, rhs: AttrSet) -> Dep
-    ensures dependency { dependency_of result ≡ stated sign (places lhs) (places rhs) }
+fn dependency_of_sign(sign: Sign, lhs: AttrSet, rhs: AttrSet) -> Dep
+    ensures dependency { dependency_of result
+        ≡ dependency_of_sign sign (attributes lhs) (attributes rhs) }
 {
     match sign {
         Sign::Functional => Dep::Fd { lhs, rhs },

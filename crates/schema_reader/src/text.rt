@@ -3,9 +3,9 @@ ghost use Rattle.dep_model.specs.Failures.{RefusesAs};
 ghost use Rattle.dep_model.specs.Schemas.{names_of};
 ghost use Rattle.schema_grammar.specs.Words.{is_reserved};
 ghost use Rattle.lexer.specs.Lines.{line_texts, lines_after};
-ghost use Rattle.lexer.specs.Tokens.{lexed};
+ghost use Rattle.lexer.specs.Tokens.{tokens_after};
 ghost use Rattle.schema_grammar.specs.Declarations.{no_declaration};
-ghost use Rattle.schema_reader.specs.Views.{drafted, AreFew};
+ghost use Rattle.schema_reader.specs.Views.{declarations_of_draft, AreAtMostAll};
 ghost use Rattle.schema_grammar.specs.Refusals.{Refuses};
 ghost use Rattle.schema_grammar.specs.Schemas.{MeansSchema, RefusesSchema};
 ghost use Rattle.schema_grammar.specs.Texts.{finish, is_version, number_in, end_version_lexed, read_lines, read_version_lexed, read_typed, read_opening, declarations_of};
@@ -19,12 +19,13 @@ use std::alloc::Global;
 /// The most bytes of a schema text.
 pub const MOST_TEXT_BYTES: usize = 1_048_576;
 
-/// The schema that a text means, or its first complaint. A byte-order mark at its very start is skipped.
+/// The schema that a text means, or its first diagnostic. A byte-order mark at its very start is
+/// skipped.
 pub fn read_schema(alloc: Global, text: &[u8]) -> Result<Schema, Failure<SchemaRefusal>>
     requires { length text.now ≤ MOST_TEXT_BYTES }
     ensures ok { IfOk result (λ schema. MeansSchema text.now (declarations_of schema)) }
     ensures err { IfErr result (RefusesAs (RefusesSchema text.now)) }
-    ensures free { IfOk result
+    ensures not_reserved { IfOk result
         (λ schema. All (λ name. is_reserved Format.Plain name ≡ false) (names_of schema)) }
 {
     let draft = match read_opening(alloc, without_mark(text)) {
@@ -43,7 +44,8 @@ pub fn read_schema(alloc: Global, text: &[u8]) -> Result<Schema, Failure<SchemaR
 /// Reads a text from its beginning: lines without tokens, and then a version line or any other.
 fn read_opening(alloc: Global, text: &[u8]) -> Result<Draft, Failure<SchemaRefusal>>
     requires { length text.now ≤ MOST_TEXT_BYTES }
-    ensures ok { IfOk result (λ draft. read_opening 1 (line_texts text.now) ≡ Ok (drafted draft)) }
+    ensures ok { IfOk result (λ draft. read_opening 1 (line_texts text.now)
+        ≡ Ok (declarations_of_draft draft)) }
     ensures err { IfErr result (λ failure. Refuses failure (read_opening 1 (line_texts text.now))) }
 {
     let mut number = 1;
@@ -51,7 +53,7 @@ fn read_opening(alloc: Global, text: &[u8]) -> Result<Draft, Failure<SchemaRefus
     'lines: loop {
         let (line, after) = cut_line(rest);
         match next_token(Mode::Numbered, 1, line) {
-            Next::Stop(_) => return read_lines(alloc, Format::Plain, number, rest),
+            Next::Error(_) => return read_lines(alloc, Format::Plain, number, rest),
             Next::Token(token, word, others) => {
                 return if is_version(token.kind, word) {
                     read_typed(alloc, number, token.column + token.length, others, after)
@@ -78,15 +80,15 @@ fn read_typed(
     others: &[u8],
     after: Option<&[u8]>,
 ) -> Result<Draft, Failure<SchemaRefusal>>
-    requires room { next_column + length others.now < 2 ^ 32 }
-    requires lines { AreFew number after }
+    requires fits_u32 { next_column + length others.now < 2 ^ 32 }
+    requires lines { AreAtMostAll number after }
     ensures ok { IfOk result
         (λ draft. read_typed number (lines_after after.entry) next_column
-        (lexed Mode.Numbered 0 next_column others.now) ≡ Ok (drafted draft)) }
+        (tokens_after Mode.Numbered 0 next_column others.now) ≡ Ok (declarations_of_draft draft)) }
     ensures err { IfErr result
         (λ failure. Refuses failure
         (read_typed number (lines_after after.entry) next_column
-        (lexed Mode.Numbered 0 next_column others.now))) }
+        (tokens_after Mode.Numbered 0 next_column others.now))) }
 {
     match read_version(number, next_column, others) {
         Err(refusal) => Err(Failure::Refused(refusal)),
@@ -100,10 +102,12 @@ fn read_typed(
 /// Reads a line from after the word `version`: the number 2, and nothing more.
 fn read_version(line: u32, next_column: u32, text: &[u8]) -> Result<(), SchemaRefusal>
     requires { next_column + length text.now < 2 ^ 32 }
-    ensures ok { OnOk result (read_version_lexed line next_column (lexed Mode.Numbered 0 next_column text.now)
+    ensures ok { OnOk result (read_version_lexed line next_column
+        (tokens_after Mode.Numbered 0 next_column text.now)
         ≡ Ok no_declaration) }
     ensures err { IfErr result
-        (λ refusal. read_version_lexed line next_column (lexed Mode.Numbered 0 next_column text.now)
+        (λ refusal. read_version_lexed line next_column
+        (tokens_after Mode.Numbered 0 next_column text.now)
         ≡ Err refusal) }
 {
     match next_token(Mode::Numbered, next_column, text) {
@@ -111,7 +115,7 @@ fn read_version(line: u32, next_column: u32, text: &[u8]) -> Result<(), SchemaRe
             let kind = SchemaRefusalKind::Expected(What::Number);
             Err(SchemaRefusal::at(line, next_column, 0, kind))
         }
-        Next::Stop(stop) => Err(SchemaRefusal::by(line, stop)),
+        Next::Error(stop) => Err(SchemaRefusal::by(line, stop)),
         Next::Token(token, _, rest) => match number_in(token.kind) {
             None => {
                 let kind = SchemaRefusalKind::Expected(What::Number);
@@ -142,14 +146,15 @@ fn number_in(kind: TokenKind) -> Option<u32>
 /// Reads the rest of a version line, in which no token may stand.
 fn end_version(line: u32, next_column: u32, text: &[u8]) -> Result<(), SchemaRefusal>
     requires { next_column + length text.now < 2 ^ 32 }
-    ensures ok { OnOk result (end_version_lexed line (lexed Mode.Numbered 0 next_column text.now)
+    ensures ok { OnOk result (end_version_lexed line (tokens_after Mode.Numbered 0 next_column text.now)
         ≡ Ok no_declaration) }
     ensures err { IfErr result
-        (λ refusal. end_version_lexed line (lexed Mode.Numbered 0 next_column text.now) ≡ Err refusal) }
+        (λ refusal. end_version_lexed line (tokens_after Mode.Numbered 0 next_column text.now)
+        ≡ Err refusal) }
 {
     match next_token(Mode::Numbered, next_column, text) {
         Next::End => Ok(()),
-        Next::Stop(stop) => Err(SchemaRefusal::by(line, stop)),
+        Next::Error(stop) => Err(SchemaRefusal::by(line, stop)),
         Next::Token(token, _, _) => {
             let kind = SchemaRefusalKind::Expected(What::LineEnd);
             Err(SchemaRefusal::at(line, token.column, token.length, kind))
@@ -163,7 +168,7 @@ fn is_version(kind: TokenKind, word: &[u8]) -> bool
     ensures exact { result ≡ is_version kind word.now }
 {
     match kind {
-        TokenKind::Word => word == b"version".as_slice(),
+        TokenKind::Identifier => word == b"version".as_slice(),
         _ => false,
     }
 }
@@ -177,7 +182,8 @@ fn read_lines(
 ) -> Result<Draft, Failure<SchemaRefusal>>
     requires { number + length text.now < 2 ^ 31 }
     ensures ok { IfOk result
-        (λ draft. read_lines format number no_declaration (line_texts text.now) ≡ Ok (drafted draft)) }
+        (λ draft. read_lines format number no_declaration (line_texts text.now)
+        ≡ Ok (declarations_of_draft draft)) }
     ensures err { IfErr result
         (λ failure. Refuses failure (read_lines format number no_declaration (line_texts text.now))) }
 {
@@ -202,8 +208,10 @@ fn read_lines(
 /// A text ends with this line; it declares an attribute.
 #[tactic(auto, unfolding(schema_grammar::specs::Texts::finish))]
 fn finish(last: u32, draft: Draft) -> Result<Draft, Failure<SchemaRefusal>>
-    ensures ok { IfOk result (λ whole. finish last (drafted draft) ≡ Ok (drafted whole)) }
-    ensures err { IfErr result (λ failure. Refuses failure (finish last (drafted draft))) }
+    ensures ok { IfOk result (λ whole. finish last (declarations_of_draft draft)
+        ≡ Ok (declarations_of_draft whole)) }
+    ensures err { IfErr result (λ failure. Refuses failure (finish last
+        (declarations_of_draft draft))) }
 {
     if draft.names.is_empty() {
         let refusal = SchemaRefusal::at(last, 1, 0, SchemaRefusalKind::NoAttributes);

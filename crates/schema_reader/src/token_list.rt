@@ -21,7 +21,7 @@ pub fn tokens(alloc: Global, line: &[u8], proof: bool) -> Result<Vec<Token>, Fai
     'tokens: loop {
         match next_token(mode, column, rest) {
             Next::End => return Ok(tokens),
-            Next::Stop(stop) => return Err(Failure::Refused(SchemaRefusal::by(1, stop))),
+            Next::Error(stop) => return Err(Failure::Refused(SchemaRefusal::by(1, stop))),
             Next::Token(token, _, others) => {
                 tokens.push(token)?;
                 column = token.column + token.length;

@@ -1,24 +1,24 @@
 ghost use Rattle.std.specs.Prelude.{◌≡◌};
-ghost use Rattle.schema_grammar.specs.Words.{declares, declaring};
+ghost use Rattle.schema_grammar.specs.Words.{column_type_of_token, column_type_of_word};
 
 use dep_model::Column;
 use lexer::TokenKind;
 use schema_grammar::Format;
 
 /// The type of the columns that a line declares, where its first token is a declaring word.
-#[tactic(auto, unfolding(schema_grammar::specs::Words::declares))]
-pub fn declares(format: Format, kind: TokenKind, word: &[u8]) -> Option<Column>
-    ensures exact { result ≡ declares format kind word.now }
+#[tactic(auto, unfolding(schema_grammar::specs::Words::column_type_of_token))]
+pub fn column_type_of_token(format: Format, kind: TokenKind, word: &[u8]) -> Option<Column>
+    ensures exact { result ≡ column_type_of_token format kind word.now }
 {
     match kind {
-        TokenKind::Word => declaring(format, word),
+        TokenKind::Identifier => column_type_of_word(format, word),
         _ => None,
     }
 }
 
-#[tactic(auto, unfolding(schema_grammar::specs::Words::declaring))]
-fn declaring(format: Format, word: &[u8]) -> Option<Column>
-    ensures exact { result ≡ declaring format word.now }
+#[tactic(auto, unfolding(schema_grammar::specs::Words::column_type_of_word))]
+fn column_type_of_word(format: Format, word: &[u8]) -> Option<Column>
+    ensures exact { result ≡ column_type_of_word format word.now }
 {
     if word == b"attributes".as_slice() {
         return Some(Column::Text);

@@ -5,23 +5,23 @@ use Rattle.std.proofs.lemmas.Nat.{pow_pos}
 use Rattle.std.proofs.lemmas.Bool.{true≢false, ltb-true, lt-ltb}
 use Rattle.std.proofs.lemmas.List.Elements.{All-cons, All-head, All-tail, All-nil, All-append}
 use Rattle.std.specs.Prelude.{All}
-use Rattle.attr_sets.specs.Places.{Places, below, union, minus, Within, IsEmpty, count_below}
-use Rattle.attr_sets.proofs.PlacesLemmas.{tell_empty, count_below-lt, count_below-pos, count_below-below}
+use Rattle.attr_sets.specs.Attributes.{Attributes, below, union, difference, IsSubset, IsEmpty, count_below}
+use Rattle.attr_sets.proofs.AttributesLemmas.{tell_empty, count_below-lt, count_below-pos, count_below-below}
 use Rattle.dep_model.specs.Dependencies.{Dependency}
 use Rattle.dep_model.specs.Projections.{IsLossless}
 use Rattle.dep_model.proofs.JoinLemmas.{split_lossless}
 use Rattle.dep_model.proofs.SchemeLemmas.{whole_lossless}
-use Rattle.form_tests.specs.Cuts.{IsCut}
+use Rattle.normal_forms.specs.Cuts.{IsCut}
 use Rattle.split_forms.specs.Lists.{IsSplitStep, ReachedIn}
 
 -- ---- the schemes of a list lie within the universe and are not empty
-pub record IsProper (n : ℕ) (scheme : Places) : Type 0 where
-  pub within : Within scheme (below n)
+pub record IsProper (n : ℕ) (scheme : Attributes) : Type 0 where
+  pub within : IsSubset scheme (below n)
   pub some : IsEmpty scheme → ⊥
 
-module _ (n : ℕ) (ds : List Dependency) (scheme x y : Places) (proper : IsProper n scheme)
+module _ (n : ℕ) (ds : List Dependency) (scheme x y : Attributes) (proper : IsProper n scheme)
     (cut : IsCut n ds scheme x y) where
-  one_within : Within (union x y) scheme
+  one_within : IsSubset (union x y) scheme
   one_within k m = grind (arith, m, cut.implied.within.0 k, cut.implied.within.1 k)
 
   pub one_proper : IsProper n (union x y)
@@ -30,7 +30,7 @@ module _ (n : ℕ) (ds : List Dependency) (scheme x y : Places) (proper : IsProp
     some = λ none. true≢false (sym (grind (arith, cut.some.2)) ∙ none cut.some.0);
   }
 
-  pub other_proper : IsProper n (minus scheme y)
+  pub other_proper : IsProper n (difference scheme y)
   other_proper = record {
     within = λ k m. proper.within k (grind (arith, m));
     some = λ none. true≢false (sym (grind (arith, cut.rest.1, cut.rest.2)) ∙ none cut.rest.0);
@@ -43,11 +43,11 @@ module _ (n : ℕ) (ds : List Dependency) (scheme x y : Places) (proper : IsProp
   one_smaller = count_below-lt n (union x y) scheme cut.rest.0 one_within (low cut.rest.0 cut.rest.1)
       (grind (arith, cut.rest.2)) cut.rest.1
 
-  pub other_smaller : count_below (minus scheme y) n < count_below scheme n
-  other_smaller = count_below-lt n (minus scheme y) scheme cut.some.0 (λ k m. grind (arith, m))
+  pub other_smaller : count_below (difference scheme y) n < count_below scheme n
+  other_smaller = count_below-lt n (difference scheme y) scheme cut.some.0 (λ k m. grind (arith, m))
       (low cut.some.0 cut.some.1) (grind (arith, cut.some.2)) cut.some.1
 
-pub proper_count : (n : ℕ) (scheme : Places) → IsProper n scheme → 0 < count_below scheme n
+pub proper_count : (n : ℕ) (scheme : Attributes) → IsProper n scheme → 0 < count_below scheme n
 proper_count n scheme proper =
     ⊎_elim
     (λ found. count_below-pos n scheme found.0 found.1 found.2)
@@ -56,19 +56,19 @@ proper_count n scheme proper =
 
 -- ---- the bound
 -- how many schemes a list ends in at most
-pub most : ℕ → List Places → ℕ
-most n [] = 0
-most n (scheme ∷ schemes) = 2 ^ (count_below scheme n - 1) + most n schemes
+pub most_schemes : ℕ → List Attributes → ℕ
+most_schemes n [] = 0
+most_schemes n (scheme ∷ schemes) = 2 ^ (count_below scheme n - 1) + most_schemes n schemes
 
-pub most-append : (n : ℕ) (a b : List Places) → most n (a ++ b) ≡ most n a + most n b
-unfolding most
-most-append n [] b = omega arith
-most-append n (scheme ∷ a) b = omega (arith, most-append n a b)
+pub most_schemes-append : (n : ℕ) (a b : List Attributes) → most_schemes n (a ++ b) ≡ most_schemes n a + most_schemes n b
+unfolding most_schemes
+most_schemes-append n [] b = omega arith
+most_schemes-append n (scheme ∷ a) b = omega (arith, most_schemes-append n a b)
 
-pub most-length : (n : ℕ) (l : List Places) → length l ≤ most n l
-unfolding most
-most-length n [] = omega arith
-most-length n (scheme ∷ l) = omega (arith, most-length n l, pow_pos (count_below scheme n - 1))
+pub most_schemes-length : (n : ℕ) (l : List Attributes) → length l ≤ most_schemes n l
+unfolding most_schemes
+most_schemes-length n [] = omega arith
+most_schemes-length n (scheme ∷ l) = omega (arith, most_schemes-length n l, pow_pos (count_below scheme n - 1))
 
 two_halves : (a b c : ℕ) → 0 < a → 0 < b → a < c → b < c → 2 ^ (a - 1) + 2 ^ (b - 1) ≤ 2 ^ (c - 1)
 two_halves a b c some_a some_b less_a less_b =
@@ -79,23 +79,23 @@ two_halves a b c some_a some_b less_a less_b =
     omega (arith, half, other, double)
 
 -- ---- the parts of a list
-pub all_before : {X : Type 0} (P : X → Type 0) (a b : List X) → All P (a ++ b) → All P a
-all_before P [] b all = All-nil P
-all_before P (x ∷ a) b all = All-cons P x a (All-head P x (a ++ b) all) (all_before P a b (All-tail P x (a ++ b) all))
+pub All-append_left : {X : Type 0} (P : X → Type 0) (a b : List X) → All P (a ++ b) → All P a
+All-append_left P [] b all = All-nil P
+All-append_left P (x ∷ a) b all = All-cons P x a (All-head P x (a ++ b) all) (All-append_left P a b (All-tail P x (a ++ b) all))
 
-pub all_after : {X : Type 0} (P : X → Type 0) (a b : List X) → All P (a ++ b) → All P b
-all_after P [] b all = all
-all_after P (x ∷ a) b all = all_after P a b (All-tail P x (a ++ b) all)
+pub All-append_right : {X : Type 0} (P : X → Type 0) (a b : List X) → All P (a ++ b) → All P b
+All-append_right P [] b all = all
+All-append_right P (x ∷ a) b all = All-append_right P a b (All-tail P x (a ++ b) all)
 
 -- ---- a step keeps both
-module _ (n : ℕ) (ds : List Dependency) (Whole : Places → Type 0) (Cut : Places → Places → Places → Type 0)
-    (parts : (s x y : Places) → IsProper n s → Cut s x y → IsCut n ds s x y) where
-  module _ (l a : List Places) (all : All (IsProper n) l) (step : IsSplitStep Whole Cut l a) where
+module _ (n : ℕ) (ds : List Dependency) (Whole : Attributes → Type 0) (Cut : Attributes → Attributes → Attributes → Type 0)
+    (parts : (s x y : Attributes) → IsProper n s → Cut s x y → IsCut n ds s x y) where
+  module _ (l a : List Attributes) (all : All (IsProper n) l) (step : IsSplitStep Whole Cut l a) where
     whole_list : All (IsProper n) (step.earlier ++ step.scheme ∷ step.later)
-    whole_list = subst (λ (s : List Places). All (IsProper n) s) step.list all
+    whole_list = subst (λ (s : List Attributes). All (IsProper n) s) step.list all
 
     from_scheme : All (IsProper n) (step.scheme ∷ step.later)
-    from_scheme = all_after (IsProper n) step.earlier (step.scheme ∷ step.later) whole_list
+    from_scheme = All-append_right (IsProper n) step.earlier (step.scheme ∷ step.later) whole_list
 
     scheme_proper : IsProper n step.scheme
     scheme_proper = All-head (IsProper n) step.scheme step.later from_scheme
@@ -103,24 +103,24 @@ module _ (n : ℕ) (ds : List Dependency) (Whole : Places → Type 0) (Cut : Pla
     halves : IsCut n ds step.scheme step.x step.y
     halves = parts step.scheme step.x step.y scheme_proper step.cut
 
-    abbrev first : Places
+    abbrev first : Attributes
     first = union step.x step.y
 
-    abbrev second : Places
-    second = minus step.scheme step.y
+    abbrev second : Attributes
+    second = difference step.scheme step.y
 
     pub step_proper : All (IsProper n) a
     step_proper =
         let later = All-tail (IsProper n) step.scheme step.later from_scheme in
         let one = one_proper n ds step.scheme step.x step.y scheme_proper halves in
         let other = other_proper n ds step.scheme step.x step.y scheme_proper halves in
-        subst (λ (s : List Places). All (IsProper n) s) (sym step.replaced)
+        subst (λ (s : List Attributes). All (IsProper n) s) (sym step.replaced)
         (All-append (IsProper n) step.earlier (first ∷ second ∷ step.later)
-        (all_before (IsProper n) step.earlier (step.scheme ∷ step.later) whole_list)
+        (All-append_left (IsProper n) step.earlier (step.scheme ∷ step.later) whole_list)
         (All-cons (IsProper n) first (second ∷ step.later) one (All-cons (IsProper n) second step.later other later)))
 
-    pub step_most : most n a ≤ most n l
-    unfolding most
+    pub step_most : most_schemes n a ≤ most_schemes n l
+    unfolding most_schemes
     step_most =
         let one = one_proper n ds step.scheme step.x step.y scheme_proper halves in
         let other = other_proper n ds step.scheme step.x step.y scheme_proper halves in
@@ -131,16 +131,16 @@ module _ (n : ℕ) (ds : List Dependency) (Whole : Places → Type 0) (Cut : Pla
         omega (
           arith,
           shared,
-          ap (λ (s : List Places). most n s) step.list,
-          ap (λ (s : List Places). most n s) step.replaced,
-          most-append n step.earlier (step.scheme ∷ step.later),
-          most-append n step.earlier (first ∷ second ∷ step.later),
+          ap (λ (s : List Attributes). most_schemes n s) step.list,
+          ap (λ (s : List Attributes). most_schemes n s) step.replaced,
+          most_schemes-append n step.earlier (step.scheme ∷ step.later),
+          most_schemes-append n step.earlier (first ∷ second ∷ step.later),
         )
 
   -- of the reached lists
-  pub reached_proper : 0 < n → (count : ℕ) (l : List Places) → ReachedIn n Whole Cut count l → All (IsProper n) l
+  pub reached_proper : 0 < n → (count : ℕ) (l : List Attributes) → ReachedIn n Whole Cut count l → All (IsProper n) l
   reached_proper some zero l p =
-      subst (λ (s : List Places). All (IsProper n) s) (sym p)
+      subst (λ (s : List Attributes). All (IsProper n) s) (sym p)
       (All-cons (IsProper n) (below n) [] universe (All-nil (IsProper n)))
     where
       universe : IsProper n (below n)
@@ -150,27 +150,27 @@ module _ (n : ℕ) (ds : List Dependency) (Whole : Places → Type 0) (Cut : Pla
       }
   reached_proper some (suc count) l p = step_proper p.0 l (reached_proper some count p.0 p.1) p.2
 
-  pub reached_most : 0 < n → (count : ℕ) (l : List Places) → ReachedIn n Whole Cut count l → most n l ≤ 2 ^ (n - 1)
-  unfolding most
+  pub reached_most : 0 < n → (count : ℕ) (l : List Attributes) → ReachedIn n Whole Cut count l → most_schemes n l ≤ 2 ^ (n - 1)
+  unfolding most_schemes
   reached_most some zero l p =
       omega (
         arith,
-        ap (λ (s : List Places). most n s) p,
+        ap (λ (s : List Attributes). most_schemes n s) p,
         ap (λ (m : ℕ). 2 ^ (m - 1))
             (count_below-below n n (omega arith)),
       )
   reached_most some (suc count) l p =
       omega (arith, reached_most some count p.0 p.1, step_most p.0 l (reached_proper some count p.0 p.1) p.2)
 
-  pub reached_few : 0 < n → (count : ℕ) (l : List Places) → ReachedIn n Whole Cut count l → length l ≤ 2 ^ (n - 1)
-  reached_few some count l p = omega (arith, most-length n l, reached_most some count l p)
+  pub reached_few : 0 < n → (count : ℕ) (l : List Attributes) → ReachedIn n Whole Cut count l → length l ≤ 2 ^ (n - 1)
+  reached_few some count l p = omega (arith, most_schemes-length n l, reached_most some count l p)
 
   -- and they are lossless
-  pub reached_lossless : 0 < n → (count : ℕ) (l : List Places) → ReachedIn n Whole Cut count l → IsLossless n ds l
-  reached_lossless some zero l p = subst (λ (s : List Places). IsLossless n ds s) (sym p) (whole_lossless n ds)
+  pub reached_lossless : 0 < n → (count : ℕ) (l : List Attributes) → ReachedIn n Whole Cut count l → IsLossless n ds l
+  reached_lossless some zero l p = subst (λ (s : List Attributes). IsLossless n ds s) (sym p) (whole_lossless n ds)
   reached_lossless some (suc count) l p =
       let step = p.2 in
       let cut = halves p.0 l (reached_proper some count p.0 p.1) step in
-      subst (λ (s : List Places). IsLossless n ds s) (sym step.replaced)
+      subst (λ (s : List Attributes). IsLossless n ds s) (sym step.replaced)
       (split_lossless n ds step.earlier step.later step.scheme step.x step.y cut.implied cut.apart
-      (subst (λ (s : List Places). IsLossless n ds s) step.list (reached_lossless some count p.0 p.1)))
+      (subst (λ (s : List Attributes). IsLossless n ds s) step.list (reached_lossless some count p.0 p.1)))

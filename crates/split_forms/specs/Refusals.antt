@@ -1,17 +1,17 @@
 -- Why a universe is not split, and when no limit is met: for `split` and the command of that name
 -- (`desk_cli/Decompositions`).
 use Rattle.std.specs.Prelude.{ℕ, List}
-use Rattle.attr_sets.specs.Places.{Places}
-use Rattle.attr_sets.specs.Sets.{places}
+use Rattle.attr_sets.specs.Attributes.{Attributes}
+use Rattle.attr_sets.specs.Sets.{attributes}
 use Rattle.dep_model.specs.Dependencies.{Dependency}
-use Rattle.form_tests.specs.declared.forms.Form.{Form}
+use Rattle.normal_forms.specs.declared.forms.Form.{Form}
 use Rattle.split_forms.specs.declared.refusal.SplitRefusal.{SplitRefusal}
 use Rattle.split_forms.specs.declared.refusal.SplitRefusal.TheVariants.{TooWide, TooManySchemes}
 use Rattle.split_forms.specs.Splitting.{IsTooWideAt, HasTooManySchemes}
 
 -- no reached list within the limit is stuck
 abbrev pub IsNeverTooWide : ℕ → List Dependency → Form → ℕ → Type 0
-IsNeverTooWide n ds form limit = (scheme : Places) → IsTooWideAt n ds form limit scheme → ⊥
+IsNeverTooWide n ds form limit = (scheme : Attributes) → IsTooWideAt n ds form limit scheme → ⊥
 
 -- no reached list is stuck, or longer than the limit
 pub record IsWithinLimits (n : ℕ) (ds : List Dependency) (form : Form) (limit : ℕ) : Type 0 where
@@ -21,5 +21,5 @@ pub record IsWithinLimits (n : ℕ) (ds : List Dependency) (form : Form) (limit 
 -- why a universe is not split: exactly one of the two causes holds
 abbrev pub IsRefusedSplit : ℕ → List Dependency → Form → ℕ → SplitRefusal → Type 0
 IsRefusedSplit n ds form limit (TooWide scheme) =
-    IsTooWideAt n ds form limit (places scheme) × (HasTooManySchemes n ds form limit → ⊥)
+    IsTooWideAt n ds form limit (attributes scheme) × (HasTooManySchemes n ds form limit → ⊥)
 IsRefusedSplit n ds form limit TooManySchemes = HasTooManySchemes n ds form limit × IsNeverTooWide n ds form limit

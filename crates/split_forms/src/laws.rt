@@ -2,16 +2,16 @@
 //! the law.
 
 ghost use Rattle.std.specs.Prelude.{◌≡◌, ◌-◌, ◌^◌, ◌<◌, ◌≤◌, ℕ, List, length};
-ghost use Rattle.attr_sets.specs.Places.{Places};
+ghost use Rattle.attr_sets.specs.Attributes.{Attributes};
 ghost use Rattle.dep_model.specs.Dependencies.{Dependency};
 ghost use Rattle.dep_model.specs.Projections.{IsLossless};
-ghost use Rattle.form_tests.specs.declared.forms.Form.{Form};
+ghost use Rattle.normal_forms.specs.declared.forms.Form.{Form};
 ghost use Rattle.split_forms.specs.Splitting.{IsNextList, ReachedList, FinishedList};
 ghost use Rattle.split_forms.specs.Splitting.{IsTooWideAt, HasTooManySchemes};
 
 /// A reached list has one successor at most.
 pub fn one_successor()
-    ensures law { (n : ℕ) (ds : List Dependency) (form : Form) (schemes a b : List Places)
+    ensures law { (n : ℕ) (ds : List Dependency) (form : Form) (schemes a b : List Attributes)
         → 0 < n → (form ≡ Form.Third → ⊥)
         → ReachedList n ds form schemes → IsNextList n ds form schemes a
         → IsNextList n ds form schemes b → a ≡ b }
@@ -19,14 +19,14 @@ pub fn one_successor()
 
 /// There is one finished list at most.
 pub fn one_finished_list()
-    ensures law { (n : ℕ) (ds : List Dependency) (form : Form) (a b : List Places)
+    ensures law { (n : ℕ) (ds : List Dependency) (form : Form) (a b : List Attributes)
         → 0 < n → (form ≡ Form.Third → ⊥)
         → FinishedList n ds form a → FinishedList n ds form b → a ≡ b }
 {}
 
 /// One scheme at most is stuck.
 pub fn one_stuck_scheme()
-    ensures law { (n : ℕ) (ds : List Dependency) (form : Form) (limit : ℕ) (scheme other : Places)
+    ensures law { (n : ℕ) (ds : List Dependency) (form : Form) (limit : ℕ) (scheme other : Attributes)
         → 0 < n → (form ≡ Form.Third → ⊥)
         → IsTooWideAt n ds form limit scheme → IsTooWideAt n ds form limit other → scheme ≡ other }
 {}
@@ -34,7 +34,7 @@ pub fn one_stuck_scheme()
 /// Where there is a finished list, no reached list is stuck.
 pub fn finished_is_never_stuck()
     ensures law { (n : ℕ) (ds : List Dependency) (form : Form) (limit : ℕ)
-        (schemes : List Places) (scheme : Places)
+        (schemes : List Attributes) (scheme : Attributes)
         → 0 < n → (form ≡ Form.Third → ⊥)
         → FinishedList n ds form schemes → IsTooWideAt n ds form limit scheme → ⊥ }
 {}
@@ -42,28 +42,28 @@ pub fn finished_is_never_stuck()
 /// No reached list is longer than the finished one.
 pub fn finished_is_longest()
     ensures law { (n : ℕ) (ds : List Dependency) (form : Form) (limit : ℕ)
-        (schemes : List Places)
+        (schemes : List Attributes)
         → 0 < n → (form ≡ Form.Third → ⊥)
         → FinishedList n ds form schemes → length schemes ≤ limit → HasTooManySchemes n ds form limit → ⊥ }
 {}
 
 /// Nor is one longer than a stuck one.
 pub fn stuck_is_longest()
-    ensures law { (n : ℕ) (ds : List Dependency) (form : Form) (limit : ℕ) (scheme : Places)
+    ensures law { (n : ℕ) (ds : List Dependency) (form : Form) (limit : ℕ) (scheme : Attributes)
         → 0 < n → (form ≡ Form.Third → ⊥)
         → IsTooWideAt n ds form limit scheme → HasTooManySchemes n ds form limit → ⊥ }
 {}
 
 /// Each reached list is lossless.
 pub fn reached_lists_are_lossless()
-    ensures law { (n : ℕ) (ds : List Dependency) (form : Form) (schemes : List Places)
+    ensures law { (n : ℕ) (ds : List Dependency) (form : Form) (schemes : List Attributes)
         → 0 < n → (form ≡ Form.Third → ⊥)
         → ReachedList n ds form schemes → IsLossless n ds schemes }
 {}
 
 /// A reached list over n attributes has at most 2 to the power n - 1 schemes.
 pub fn reached_lists_are_short()
-    ensures law { (n : ℕ) (ds : List Dependency) (form : Form) (schemes : List Places)
+    ensures law { (n : ℕ) (ds : List Dependency) (form : Form) (schemes : List Attributes)
         → 0 < n → (form ≡ Form.Third → ⊥)
         → ReachedList n ds form schemes → length schemes ≤ 2 ^ (n - 1) }
 {}

@@ -1,12 +1,12 @@
 ghost use Rattle.std.specs.Prelude.{◌≡◌};
-ghost use Rattle.attr_sets.specs.Places.{Within};
-ghost use Rattle.attr_sets.specs.Sets.{places};
+ghost use Rattle.attr_sets.specs.Attributes.{IsSubset};
+ghost use Rattle.attr_sets.specs.Sets.{attributes};
 ghost use Rattle.dep_model.specs.Schemas.{width_of, universe_of, theory_of};
 ghost use Rattle.split_forms.specs.Outcomes.{IsOutcome};
 
 use attr_sets::AttrSet;
 use dep_model::Schema;
-use form_tests::{Breach, Form, violation, visible_violation};
+use normal_forms::{Breach, Form, violation, visible_violation};
 
 // What becomes of a scheme that is split.
 #[derive(Clone, Copy, Debug)]
@@ -22,9 +22,9 @@ pub enum Outcome {
 // Tries a scheme.
 pub fn outcome_of(schema: &Schema, form: Form, scheme: AttrSet) -> Outcome
     requires form { form ≡ Form.Third → ⊥ }
-    requires scheme { Within (places scheme) (universe_of schema.now) }
+    requires scheme { IsSubset (attributes scheme) (universe_of schema.now) }
     ensures outcome { IsOutcome (width_of schema.now) (theory_of schema.now) form
-        (places scheme) result }
+        (attributes scheme) result }
 {
     match violation(schema, scheme, form) {
         Ok(None) => Outcome::Whole,

@@ -4,7 +4,7 @@ ghost use Rattle.dep_model.specs.Plans.{schemes_of};
 ghost use Rattle.dep_model.specs.Projections.{IsLossless};
 ghost use Rattle.dep_model.specs.Schemas.{width_of, theory_of};
 ghost use Rattle.plans.specs.Plans.{scheme_sets, plan_of, IsPlanOver};
-ghost use Rattle.form_tests.specs.Chosen.{IsInForm};
+ghost use Rattle.normal_forms.specs.Chosen.{IsInForm};
 ghost use Rattle.split_forms.specs.Splitting.{FinishedList, IsSplitPlan};
 ghost use Rattle.split_forms.specs.Refusals.{IsRefusedSplit, IsWithinLimits};
 
@@ -14,7 +14,7 @@ use crate::refusal::SplitRefusal;
 use crate::trying::found_outcome;
 use attr_sets::AttrSet;
 use dep_model::{Failure, Schema};
-use form_tests::Form;
+use normal_forms::Form;
 use plans::{Plan, drop_contained};
 use std::alloc::Global;
 
@@ -54,7 +54,7 @@ pub fn split(
         → result ≡ Err (Failure.Refused SplitRefusal.TooManySchemes) → ⊥ }
 {
     match finished_list(alloc, schema, form, limit) {
-        Ok(schemes) => Ok(drop_contained(schema, Plan::make(schema, schemes))),
+        Ok(schemes) => Ok(drop_contained(schema, Plan::new(schema, schemes))),
         Err(failure) => Err(failure),
     }
 }

@@ -1,13 +1,13 @@
 ghost use Rattle.std.specs.Prelude.{◌≡◌, IfOk, IfSome, Any};
-ghost use Rattle.attr_sets.specs.Places.{Within};
-ghost use Rattle.attr_sets.specs.Sets.{places};
+ghost use Rattle.attr_sets.specs.Attributes.{IsSubset};
+ghost use Rattle.attr_sets.specs.Sets.{attributes};
 ghost use Rattle.dep_model.specs.Schemas.{width_of, universe_of, theory_of};
 ghost use Rattle.split_forms.specs.Outcomes.{IsOutcome, AreTried};
 
 use crate::outcome::{Outcome, outcome_of};
 use attr_sets::AttrSet;
-use dep_model::{Schema, WantMemory};
-use form_tests::Form;
+use dep_model::{OutOfMemory, Schema};
+use normal_forms::Form;
 
 // A scheme that was tried, and what became of it.
 #[derive(Clone, Copy, Debug)]
@@ -23,12 +23,12 @@ pub fn found_outcome(
     form: Form,
     scheme: AttrSet,
     tried: &mut Vec<Tried>,
-) -> Result<Outcome, WantMemory>
+) -> Result<Outcome, OutOfMemory>
     requires form { form ≡ Form.Third → ⊥ }
-    requires scheme { Within (places scheme) (universe_of schema.now) }
+    requires scheme { IsSubset (attributes scheme) (universe_of schema.now) }
     requires tried { AreTried (width_of schema.now) (theory_of schema.now) form tried.old.items }
     ensures outcome { IfOk result
-        (IsOutcome (width_of schema.now) (theory_of schema.now) form (places scheme)) }
+        (IsOutcome (width_of schema.now) (theory_of schema.now) form (attributes scheme)) }
     ensures tried { IfOk result (λ _.
         AreTried (width_of schema.now) (theory_of schema.now) form tried.new.items) }
 {
@@ -43,7 +43,7 @@ pub fn found_outcome(
 // What became of a scheme that was tried before.
 fn earlier_outcome(tried: &[Tried], scheme: AttrSet) -> Option<Outcome>
     ensures tried { IfSome result (λ outcome.
-        Any (λ one. (places one.scheme ≡ places scheme) × (one.outcome ≡ outcome)) tried.now) }
+        Any (λ one. (attributes one.scheme ≡ attributes scheme) × (one.outcome ≡ outcome)) tried.now) }
 {
     for one in tried {
         if one.scheme == scheme {

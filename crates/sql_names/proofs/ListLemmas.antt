@@ -3,37 +3,37 @@ use Rattle.std.proofs.Common.{◌≡◌, ◌<◌, ◌+◌, ℕ, zero, suc, Bool,
 use Rattle.std.specs.Prelude.{if◌then◌else◌, nat_lt}
 use Rattle.std.proofs.lemmas.Bool.Decides.{nat_tests}
 use Rattle.std.proofs.lemmas.List.{take_more, flat_map_more}
-use Rattle.sql_names.specs.Names.{separator, listed, has_some}
+use Rattle.sql_names.specs.Names.{separator, comma_list, has_some}
 
-pub listed_push : {X : Type 0} (text : X → List ℕ) (xs : List X) (x : X)
-    → listed text (xs ++ x ∷ []) ≡ listed text xs ++ (if has_some xs then separator ++ text x else text x)
-listed_push text [] x = append-nil (text x)
-listed_push text (y ∷ xs) x = sym (flat_map_more (λ z. separator ++ text z) (text y) xs x)
+pub comma_list-push : {X : Type 0} (text : X → List ℕ) (xs : List X) (x : X)
+    → comma_list text (xs ++ x ∷ []) ≡ comma_list text xs ++ (if has_some xs then separator ++ text x else text x)
+comma_list-push text [] x = append-nil (text x)
+comma_list-push text (y ∷ xs) x = sym (flat_map_more (λ z. separator ++ text z) (text y) xs x)
 
 pub some_pushed : {X : Type 0} (xs : List X) (x : X) → has_some (xs ++ x ∷ []) ≡ true
 some_pushed [] x = refl
 some_pushed (y ∷ xs) x = refl
 
--- there are items before each place but the first
+-- there are items before each position but the first
 pub some_before : {X : Type 0} (xs : List X) (n : ℕ) → n < length xs → has_some (take n xs) ≡ nat_lt 0 n
 some_before xs zero lt = refl
 some_before [] (suc n) lt = absurd (omega (arith, lt))
 some_before (x ∷ xs) (suc n) lt = let some : nat_lt 0 (suc n) ≡ true = grind (arith, nat_tests) in sym some
 
 -- two parts are added
-pub adds : (old a b mid new : List ℕ) → mid ≡ old ++ a → new ≡ mid ++ b → new ≡ old ++ (a ++ b)
-adds old a b mid new first second = second ∙ ap (λ (t : List ℕ). t ++ b) first ∙ append_assoc old a b
+pub append_two : (old a b mid new : List ℕ) → mid ≡ old ++ a → new ≡ mid ++ b → new ≡ old ++ (a ++ b)
+append_two old a b mid new first second = second ∙ ap (λ (t : List ℕ). t ++ b) first ∙ append_assoc old a b
 
--- the items before a place, and the one that is there
+-- the items before a position, and the one that is there
 pub listed_next : {X : Type 0} (text : X → List ℕ) (xs : List X) (i : ℕ) (x d : X) (old before after piece : List ℕ)
-    → i < length xs → x ≡ get_or xs i d → before ≡ old ++ listed text (take i xs) → piece ≡ text x
+    → i < length xs → x ≡ get_or xs i d → before ≡ old ++ comma_list text (take i xs) → piece ≡ text x
     → after ≡ before ++ (if nat_lt 0 i then separator ++ piece else piece)
-    → after ≡ old ++ listed text (take (i + 1) xs)
+    → after ≡ old ++ comma_list text (take (i + 1) xs)
 listed_next text xs i x d old before after piece within is before_is piece_is after_is =
-    adds old (listed text (take i xs)) (if nat_lt 0 i then separator ++ piece else piece) before after before_is after_is
-    ∙ ap (λ (p : List ℕ). old ++ (listed text (take i xs) ++ (if nat_lt 0 i then separator ++ p else p)))
+    append_two old (comma_list text (take i xs)) (if nat_lt 0 i then separator ++ piece else piece) before after before_is after_is
+    ∙ ap (λ (p : List ℕ). old ++ (comma_list text (take i xs) ++ (if nat_lt 0 i then separator ++ p else p)))
     (piece_is ∙ ap text is)
-    ∙ ap (λ (b : Bool). old ++ (listed text (take i xs)
+    ∙ ap (λ (b : Bool). old ++ (comma_list text (take i xs)
     ++ (if b then separator ++ text (get_or xs i d) else text (get_or xs i d)))) (sym (some_before xs i within))
-    ∙ ap (λ (t : List ℕ). old ++ t) (sym (listed_push text (take i xs) (get_or xs i d)))
-    ∙ ap (λ ys. old ++ listed text ys) (sym (take_more xs i d within))
+    ∙ ap (λ (t : List ℕ). old ++ t) (sym (comma_list-push text (take i xs) (get_or xs i d)))
+    ∙ ap (λ ys. old ++ comma_list text ys) (sym (take_more xs i d within))

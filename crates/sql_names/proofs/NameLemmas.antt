@@ -4,15 +4,15 @@ use Rattle.std.specs.Prelude.{if◌then◌else◌, slice_get}
 use Rattle.std.proofs.lemmas.Bool.{cases_Bool}
 use Rattle.std.proofs.lemmas.List.{take_more, length-take-le}
 use Rattle.std.proofs.lemmas.Option.{get_or_from_slice_get}
-use Rattle.attr_sets.specs.Places.{Places}
+use Rattle.attr_sets.specs.Attributes.{Attributes}
 use Rattle.dep_model.specs.declared.schema.Schema.{Schema}
 use Rattle.dep_model.specs.Schemas.{names_of}
 use Rattle.schema_printer.specs.Printing.{members_from}
-use Rattle.sql_names.specs.Names.{separator, listed, quoted_name, has_some}
-use Rattle.sql_names.proofs.ListLemmas.{listed_push, some_pushed, adds}
+use Rattle.sql_names.specs.Names.{separator, comma_list, quoted_name, has_some}
+use Rattle.sql_names.proofs.ListLemmas.{comma_list-push, some_pushed, append_two}
 
 -- ---- the names of a set's members
-members_append : (x : Places) (k : ℕ) (names more : List (List ℕ))
+members_append : (x : Attributes) (k : ℕ) (names more : List (List ℕ))
     → members_from x k (names ++ more) ≡ members_from x k names ++ members_from x (k + length names) more
 members_append x k [] more = let e : k + 0 ≡ k = omega arith in ap (λ (j : ℕ). members_from x j more) (sym e)
 members_append x k (name ∷ names) more =
@@ -24,7 +24,7 @@ members_append x k (name ∷ names) more =
       | inr outside ↦ rw outside rest
     ]
 
-names_next : (x : Places) (names : List (List ℕ)) (n : ℕ) → n < length names
+names_next : (x : Attributes) (names : List (List ℕ)) (n : ℕ) → n < length names
     → members_from x 0 (take (n + 1) names) ≡ members_from x 0 (take n names) ++ members_from x n
     (get_or names n [] ∷ [])
 names_next x names n lt =
@@ -33,14 +33,14 @@ names_next x names n lt =
     ∙ members_append x 0 (take n names) (get_or names n [] ∷ [])
     ∙ ap (λ (k : ℕ). members_from x 0 (take n names) ++ members_from x k (get_or names n [] ∷ [])) long
 
--- the names of the members before a place and of the one that is there
-pub names_inside : (x : Places) (names : List (List ℕ)) (n : ℕ) → n < length names → x n ≡ true
+-- the names of the members before an attribute, and its own
+pub names_inside : (x : Attributes) (names : List (List ℕ)) (n : ℕ) → n < length names → x n ≡ true
     → members_from x 0 (take (n + 1) names) ≡ members_from x 0 (take n names) ++ get_or names n [] ∷ []
 names_inside x names n lt inside =
     names_next x names n lt
     ∙ ap (λ (b : Bool). members_from x 0 (take n names) ++ (if b then get_or names n [] ∷ [] else [])) inside
 
-pub names_outside : (x : Places) (names : List (List ℕ)) (n : ℕ) → n < length names → x n ≡ false
+pub names_outside : (x : Attributes) (names : List (List ℕ)) (n : ℕ) → n < length names → x n ≡ false
     → members_from x 0 (take (n + 1) names) ≡ members_from x 0 (take n names)
 names_outside x names n lt outside =
     names_next x names n lt
@@ -53,18 +53,18 @@ or_true true = refl
 or_true false = refl
 
 -- a name more
-pub listed_more : (xs : List (List ℕ)) (x name : List ℕ) (some : Bool) (before text next : List ℕ)
-    → text ≡ before ++ listed quoted_name xs → some ≡ has_some xs → x ≡ name
+pub comma_list-next : (xs : List (List ℕ)) (x name : List ℕ) (some : Bool) (before text next : List ℕ)
+    → text ≡ before ++ comma_list quoted_name xs → some ≡ has_some xs → x ≡ name
     → next ≡ text ++ (if some then separator ++ quoted_name name else quoted_name name)
-    → next ≡ before ++ listed quoted_name (xs ++ x ∷ [])
-listed_more xs x name some before text next so_far is_some is added =
-    adds before (listed quoted_name xs) (if some then separator ++ quoted_name name else quoted_name name) text next
+    → next ≡ before ++ comma_list quoted_name (xs ++ x ∷ [])
+comma_list-next xs x name some before text next so_far is_some is added =
+    append_two before (comma_list quoted_name xs) (if some then separator ++ quoted_name name else quoted_name name) text next
     so_far added
-    ∙ ap (λ (b : Bool). before ++ (listed quoted_name xs ++
+    ∙ ap (λ (b : Bool). before ++ (comma_list quoted_name xs ++
     (if b then separator ++ quoted_name name else quoted_name name))) is_some
-    ∙ ap (λ (n : List ℕ). before ++ (listed quoted_name xs ++
+    ∙ ap (λ (n : List ℕ). before ++ (comma_list quoted_name xs ++
     (if has_some xs then separator ++ quoted_name n else quoted_name n))) (sym is)
-    ∙ ap (λ (t : List ℕ). before ++ t) (sym (listed_push quoted_name xs x))
+    ∙ ap (λ (t : List ℕ). before ++ t) (sym (comma_list-push quoted_name xs x))
 
 pub some_more : (first : Bool) (xs : List (List ℕ)) (x : List ℕ) → true ≡ (first || has_some (xs ++ x ∷ []))
 some_more first xs x = sym (ap (λ (b : Bool). first || b) (some_pushed xs x) ∙ or_true first)

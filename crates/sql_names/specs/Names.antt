@@ -1,7 +1,7 @@
 -- Names in SQL: for all that prints statements.
 use Rattle.std.specs.Prelude.{ℕ, Bool, true, false, List, [], ◌∷◌, ◌++◌, codes}
 use Rattle.std.specs.List.{flat_map}
-use Rattle.attr_sets.specs.Places.{Places}
+use Rattle.attr_sets.specs.Attributes.{Attributes}
 use Rattle.dep_model.specs.declared.schema.Schema.{Schema}
 use Rattle.dep_model.specs.Schemas.{names_of}
 use Rattle.schema_printer.specs.Printing.{members_from}
@@ -11,9 +11,9 @@ abbrev pub separator : List ℕ
 separator = codes ", "
 
 -- the texts of items, with a comma and a blank between
-abbrev pub listed : {X : Type 0} → (X → List ℕ) → List X → List ℕ
-listed text [] = []
-listed text (x ∷ xs) = text x ++ flat_map (λ y. separator ++ text y) xs
+abbrev pub comma_list : {X : Type 0} → (X → List ℕ) → List X → List ℕ
+comma_list text [] = []
+comma_list text (x ∷ xs) = text x ++ flat_map (λ y. separator ++ text y) xs
 
 -- whether a list has an item
 abbrev pub has_some : {X : Type 0} → List X → Bool
@@ -25,5 +25,5 @@ abbrev pub quoted_name : List ℕ → List ℕ
 quoted_name name = 34 ∷ (name ++ 34 ∷ [])
 
 -- the quoted names of a set's attributes, ascending, with a comma and a blank between
-abbrev pub name_list : Schema → Places → List ℕ
-name_list s x = listed quoted_name (members_from x 0 (names_of s))
+abbrev pub name_list : Schema → Attributes → List ℕ
+name_list s x = comma_list quoted_name (members_from x 0 (names_of s))

@@ -1,19 +1,20 @@
 ghost use Rattle.std.specs.Prelude.{◌≡◌, ◌++◌, if◌then◌else◌, OnOk};
-ghost use Rattle.attr_sets.specs.Sets.{places};
-ghost use Rattle.sql_names.specs.Names.{separator, listed, quoted_name, name_list};
+ghost use Rattle.attr_sets.specs.Sets.{attributes};
+ghost use Rattle.sql_names.specs.Names.{separator, comma_list, quoted_name, name_list};
 
 use attr_sets::AttrSet;
-use dep_model::{Name, Schema, WantMemory};
+use dep_model::{Name, OutOfMemory, Schema};
 use schema_printer::add;
 
 /// Adds the quoted names of a set's attributes, ascending, with a comma and a blank between.
-pub fn add_name_list(text: &mut Vec<u8>, schema: &Schema, set: AttrSet) -> Result<(), WantMemory>
-    ensures added { OnOk result (text.new.items ≡ text.old.items ++ name_list schema.now (places set)) }
+pub fn add_name_list(text: &mut Vec<u8>, schema: &Schema, set: AttrSet) -> Result<(), OutOfMemory>
+    ensures added { OnOk result (text.new.items ≡ text.old.items
+        ++ name_list schema.now (attributes set)) }
 {
     let mut some = false;
-    for place in 0..schema.width() {
-        if set.has(place) {
-            add_listed_name(text, some, schema.name(place))?;
+    for attribute in 0..schema.width() {
+        if set.contains(attribute) {
+            add_listed_name(text, some, schema.name(attribute))?;
             some = true;
         }
     }
@@ -21,8 +22,8 @@ pub fn add_name_list(text: &mut Vec<u8>, schema: &Schema, set: AttrSet) -> Resul
 }
 
 /// Adds quoted names, with a comma and a blank between.
-pub fn add_names(text: &mut Vec<u8>, names: &[Name]) -> Result<(), WantMemory>
-    ensures added { OnOk result (text.new.items ≡ text.old.items ++ listed quoted_name names.now) }
+pub fn add_names(text: &mut Vec<u8>, names: &[Name]) -> Result<(), OutOfMemory>
+    ensures added { OnOk result (text.new.items ≡ text.old.items ++ comma_list quoted_name names.now) }
 {
     for (i, name) in names.iter().enumerate() {
         add_listed_name(text, i > 0, name)?;
@@ -31,7 +32,7 @@ pub fn add_names(text: &mut Vec<u8>, names: &[Name]) -> Result<(), WantMemory>
 }
 
 // Adds a quoted name; after a comma and a blank where another one stands before it.
-fn add_listed_name(text: &mut Vec<u8>, some: bool, name: &Name) -> Result<(), WantMemory>
+fn add_listed_name(text: &mut Vec<u8>, some: bool, name: &Name) -> Result<(), OutOfMemory>
     ensures added { OnOk result (text.new.items
         ≡ text.old.items ++ (if some then separator ++ quoted_name name.now else quoted_name name.now)) }
 {
@@ -42,7 +43,7 @@ fn add_listed_name(text: &mut Vec<u8>, some: bool, name: &Name) -> Result<(), Wa
 }
 
 /// Adds an item; after a comma and a blank where another one stands before it.
-pub fn add_listed(text: &mut Vec<u8>, some: bool, item: &[u8]) -> Result<(), WantMemory>
+pub fn add_listed(text: &mut Vec<u8>, some: bool, item: &[u8]) -> Result<(), OutOfMemory>
     ensures added { OnOk result (text.new.items
         ≡ text.old.items ++ (if some then separator ++ item.now else item.now)) }
 {
@@ -53,7 +54,7 @@ pub fn add_listed(text: &mut Vec<u8>, some: bool, item: &[u8]) -> Result<(), Wan
 }
 
 /// Adds a name in double quotes.
-pub fn add_quoted(text: &mut Vec<u8>, name: &Name) -> Result<(), WantMemory>
+pub fn add_quoted(text: &mut Vec<u8>, name: &Name) -> Result<(), OutOfMemory>
     ensures added { OnOk result (text.new.items ≡ text.old.items ++ quoted_name name.now) }
 {
     add(text, b"\"")?;

@@ -5,25 +5,25 @@ use Rattle.std.specs.List.{list_any}
 use Rattle.std.proofs.lemmas.Bool.{cases_Bool, true≢false, or_right}
 use Rattle.std.proofs.lemmas.List.Elements.{All-weaker, All-contains, All-contains_itself, All-map, Contains-append_left, Contains-push, Contains-push_cases}
 use Rattle.std.proofs.lemmas.List.Folds.{Any-from_list_any}
-use Rattle.attr_sets.specs.declared.set.TheConstants.{PLACES}
+use Rattle.attr_sets.specs.declared.set.TheConstants.{MOST_ATTRIBUTES}
 use Rattle.attr_sets.specs.declared.set.AttrSet.{AttrSet}
-use Rattle.attr_sets.specs.Places.{Places, below, Within, IsEmpty}
-use Rattle.attr_sets.specs.Sets.{places}
-use Rattle.attr_sets.proofs.PlacesLemmas.{places_below, is_within-true}
+use Rattle.attr_sets.specs.Attributes.{Attributes, below, IsSubset, IsEmpty}
+use Rattle.attr_sets.specs.Sets.{attributes}
+use Rattle.attr_sets.proofs.AttributesLemmas.{attributes_below, is_subset-true}
 use Rattle.dep_model.specs.Dependencies.{Dependency, fd, is_fd, functional_part, left_of, right_of, IsWithin}
 use Rattle.dep_model.specs.Implication.{Implies}
-use Rattle.dep_model.specs.Keys.{IsSuperkey, IsSettledKey}
+use Rattle.dep_model.specs.Keys.{IsSuperkey, IsGreedyKey}
 use Rattle.dep_model.specs.Forms.{IsThird}
 use Rattle.dep_model.specs.Projections.{Covers, IsLossless}
 use Rattle.dep_model.specs.Preservation.{KeepsDependencies}
 use Rattle.dep_model.specs.Plans.{IsPlan, schemes_of}
 use Rattle.dep_model.proofs.ListLemmas.{Any-from, Contains-map, map-member}
-use Rattle.dep_model.proofs.KeyLemmas.{fd_on-to, superkey-from, settled_is_key}
+use Rattle.dep_model.proofs.KeyLemmas.{fd_on-to, superkey-from, greedy_is_key}
 use Rattle.fd_closure.proofs.ClosedSets.{lead_from_superkey}
 use Rattle.min_cover.specs.Covers.{IsMinimalCover, IsSingle}
 use Rattle.plans.specs.Containing.{lies_within}
 use Rattle.plans.proofs.ListLemmas.{any_from, any_some}
-use Rattle.synthesis_3nf.specs.Groups.{grouped}
+use Rattle.synthesis_3nf.specs.Groups.{schemes_of_groups}
 use Rattle.synthesis_3nf.specs.GroupedPlans.{HoldSuperkey, IsWithKey}
 use Rattle.synthesis_3nf.proofs.Holding.{AreHeld}
 use Rattle.synthesis_3nf.proofs.GroupLemmas.{groups_are, groups_hold}
@@ -31,46 +31,46 @@ use Rattle.synthesis_3nf.proofs.ThirdLemmas.{functional_same, fd_trans, fd_withi
 use Rattle.synthesis_3nf.proofs.LosslessLemmas.{lossless, keeps}
 
 -- what is proved of the schemes before contained ones are dropped
-pub record IsSynthesized (n : ℕ) (ds cover : List Dependency) (plan : List Places) : Type 0 where
-  pub within : (scheme : Places) → Contains plan scheme → Within scheme (below n)
-  pub some : (scheme : Places) → Contains plan scheme → IsEmpty scheme → ⊥
-  pub third : (scheme : Places) → Contains plan scheme → IsThird n ds scheme
+pub record IsSynthesized (n : ℕ) (ds cover : List Dependency) (plan : List Attributes) : Type 0 where
+  pub within : (scheme : Attributes) → Contains plan scheme → IsSubset scheme (below n)
+  pub some : (scheme : Attributes) → Contains plan scheme → IsEmpty scheme → ⊥
+  pub third : (scheme : Attributes) → Contains plan scheme → IsThird n ds scheme
   pub held : AreHeld cover plan
-  pub holder : Places
+  pub holder : Attributes
   pub determines : Contains plan holder × Implies n (functional_part ds) (fd holder (below n))
 
 all_single : (cover : List Dependency) → All IsSingle cover → All (λ d. is_fd d ≡ true) cover
 all_single cover single = All-weaker IsSingle (λ (d : Dependency). is_fd d ≡ true) (λ d one. subst (λ (e : Dependency). is_fd e ≡ true) (sym one.2) refl) cover single
 
-module _ (n : ℕ) (ds cover : List Dependency) (few : n ≤ PLACES) (some_places : 0 < n) (minimal : IsMinimalCover n ds cover) (within : All (IsWithin (below n)) cover) where
+module _ (n : ℕ) (ds cover : List Dependency) (few : n ≤ MOST_ATTRIBUTES) (some_attributes : 0 < n) (minimal : IsMinimalCover n ds cover) (within : All (IsWithin (below n)) cover) where
   functional : functional_part cover ≡ cover
   functional = functional_same cover (all_single cover minimal.single)
 
   -- the schemes of the groups alone
-  group_within : (scheme : Places) → Contains (grouped cover) scheme → Within scheme (below n)
+  group_within : (scheme : Attributes) → Contains (schemes_of_groups cover) scheme → IsSubset scheme (below n)
   group_within scheme has = (groups_are n few cover minimal.single within scheme has).2
 
-  group_some : (scheme : Places) → Contains (grouped cover) scheme → IsEmpty scheme → ⊥
+  group_some : (scheme : Attributes) → Contains (schemes_of_groups cover) scheme → IsEmpty scheme → ⊥
   group_some scheme has empty =
       let group = (groups_are n few cover minimal.single within scheme has).1 in
       true≢false (sym group.some.1 ∙ empty group.first)
 
-  groups_third : (scheme : Places) → Contains (grouped cover) scheme → IsThird n ds scheme
+  groups_third : (scheme : Attributes) → Contains (schemes_of_groups cover) scheme → IsThird n ds scheme
   groups_third scheme has =
       let group = groups_are n few cover minimal.single within scheme has in
       group_third n ds cover minimal within functional group.0 scheme group.2 group.1
 
   -- where no group's scheme is a superkey, no key is empty
-  key_some : (key : Places) → Within key (below n) → Implies n (functional_part ds) (fd key (below n)) → (HoldSuperkey n ds (grouped cover) → ⊥) → IsEmpty key → ⊥
+  key_some : (key : Attributes) → IsSubset key (below n) → Implies n (functional_part ds) (fd key (below n)) → (HoldSuperkey n ds (schemes_of_groups cover) → ⊥) → IsEmpty key → ⊥
   key_some key key_in determines none empty =
-      let found = lead_from_superkey n cover key 0 within functional key_in (part_implied n ds cover minimal within functional (fd key (below n)) determines) some_places (empty 0) in
+      let found = lead_from_superkey n cover key 0 within functional key_in (part_implied n ds cover minimal within functional (fd key (below n)) determines) some_attributes (empty 0) in
       let group = groups_hold n few cover minimal.single within found.0 found.1 in
-      let nothing : Within key group.0 = λ (k : ℕ) m. absurd (true≢false (sym m ∙ empty k)) in
-      none (Any-from (λ (scheme : Places). IsSuperkey n (functional_part ds) (below n) scheme) (grouped cover) group.0 group.1
+      let nothing : IsSubset key group.0 = λ (k : ℕ) m. absurd (true≢false (sym m ∙ empty k)) in
+      none (Any-from (λ (scheme : Attributes). IsSuperkey n (functional_part ds) (below n) scheme) (schemes_of_groups cover) group.0 group.1
       (superkey-from n (functional_part ds) (below n) group.0 (group_within group.0 group.1)
       (fd_trans n (functional_part ds) group.0 key (below n) (fd_within n (functional_part ds) group.0 key nothing) determines)))
 
-  of_groups : HoldSuperkey n ds (grouped cover) → IsSynthesized n ds cover (grouped cover)
+  of_groups : HoldSuperkey n ds (schemes_of_groups cover) → IsSynthesized n ds cover (schemes_of_groups cover)
   of_groups holds = record {
     within = group_within;
     some = group_some;
@@ -80,15 +80,15 @@ module _ (n : ℕ) (ds cover : List Dependency) (few : n ≤ PLACES) (some_place
     determines = ((holds.0, holds.2, holds.3), fd_on-to n (functional_part ds) (below n) holds.1 (below n) holds.4);
   }
 
-  of_key : (key : Places) → IsSettledKey n (functional_part ds) (below n) key → (HoldSuperkey n ds (grouped cover) → ⊥) → IsSynthesized n ds cover (grouped cover ++ key ∷ [])
-  of_key key settled none =
-      let is = settled_is_key n (functional_part ds) (below n) key (λ (k : ℕ) m. m) settled in
+  of_key : (key : Attributes) → IsGreedyKey n (functional_part ds) (below n) key → (HoldSuperkey n ds (schemes_of_groups cover) → ⊥) → IsSynthesized n ds cover (schemes_of_groups cover ++ key ∷ [])
+  of_key key greedy none =
+      let is = greedy_is_key n (functional_part ds) (below n) key (λ (k : ℕ) m. m) greedy in
       let implied = fd_on-to n (functional_part ds) (below n) key (below n) is.superkey in
-      let groups = grouped cover in
+      let groups = schemes_of_groups cover in
       record {
-        within = λ scheme has. ⊎_elim (λ old. group_within scheme old) (λ new. subst (λ (s : Places). Within s (below n)) new settled.within) (Contains-push_cases groups key scheme has);
-        some = λ scheme has. ⊎_elim (λ old. group_some scheme old) (λ new. subst (λ (s : Places). IsEmpty s → ⊥) new (key_some key settled.within implied none)) (Contains-push_cases groups key scheme has);
-        third = λ scheme has. ⊎_elim (λ old. groups_third scheme old) (λ new. subst (λ (s : Places). IsThird n ds s) new (key_third n ds key is)) (Contains-push_cases groups key scheme has);
+        within = λ scheme has. ⊎_elim (λ old. group_within scheme old) (λ new. subst (λ (s : Attributes). IsSubset s (below n)) new greedy.within) (Contains-push_cases groups key scheme has);
+        some = λ scheme has. ⊎_elim (λ old. group_some scheme old) (λ new. subst (λ (s : Attributes). IsEmpty s → ⊥) new (key_some key greedy.within implied none)) (Contains-push_cases groups key scheme has);
+        third = λ scheme has. ⊎_elim (λ old. groups_third scheme old) (λ new. subst (λ (s : Attributes). IsThird n ds s) new (key_third n ds key is)) (Contains-push_cases groups key scheme has);
         held = λ d has.
             let group = groups_hold n few cover minimal.single within d has in
             (group.0, Contains-append_left groups (key ∷ []) group.0 group.1, group.2);
@@ -96,37 +96,37 @@ module _ (n : ℕ) (ds cover : List Dependency) (few : n ≤ PLACES) (some_place
         determines = (Contains-push groups key, implied);
       }
 
-  pub whole : (all : List Places) → IsWithKey n ds (grouped cover) all → IsSynthesized n ds cover all
+  pub whole : (all : List Attributes) → IsWithKey n ds (schemes_of_groups cover) all → IsSynthesized n ds cover all
   whole all completed =
       ⊎_elim
-      (λ holds. subst (λ (plan : List Places). IsSynthesized n ds cover plan) (sym holds.1) (of_groups holds.0))
-      (λ added. subst (λ (plan : List Places). IsSynthesized n ds cover plan) (sym added.last) (of_key added.key added.settled added.none))
+      (λ holds. subst (λ (plan : List Attributes). IsSynthesized n ds cover plan) (sym holds.1) (of_groups holds.0))
+      (λ added. subst (λ (plan : List Attributes). IsSynthesized n ds cover plan) (sym added.last) (of_key added.key added.greedy added.none))
       completed
 
   -- such schemes have all attributes
-  module _ (plan : List Places) (is : IsSynthesized n ds cover plan) where
+  module _ (plan : List Attributes) (is : IsSynthesized n ds cover plan) where
     pub are_covering : Covers n plan
     are_covering k low =
-        let some : Places = λ j. list_any (λ (scheme : Places). scheme j) plan in
+        let some : Attributes = λ j. list_any (λ (scheme : Attributes). scheme j) plan in
         ⊎_elim
-        (λ has. Any-from_list_any (λ (scheme : Places). scheme k) plan has)
+        (λ has. Any-from_list_any (λ (scheme : Attributes). scheme k) plan has)
         (λ lacks.
-        let some_in : Within some (below n) = λ (j : ℕ) m.
-        let found = any_some (λ (scheme : Places). scheme j) plan m in
+        let some_in : IsSubset some (below n) = λ (j : ℕ) m.
+        let found = any_some (λ (scheme : Attributes). scheme j) plan m in
         is.within found.0 found.1 j found.2 in
         let implied : Implies n cover (fd some (below n)) =
         fd_trans n cover some is.holder (below n)
-        (fd_within n cover some is.holder (λ (j : ℕ) m. any_from (λ (scheme : Places). scheme j) plan is.holder is.determines.0 m))
+        (fd_within n cover some is.holder (λ (j : ℕ) m. any_from (λ (scheme : Attributes). scheme j) plan is.holder is.determines.0 m))
         (part_implied n ds cover minimal within functional (fd is.holder (below n)) is.determines.1) in
         let found = lead_from_superkey n cover some k within functional some_in implied low lacks in
-        let place = is.held found.0 found.1 in
-        absurd (found.2.beyond (λ (j : ℕ) m. any_from (λ (scheme : Places). scheme j) plan place.0 place.1 (place.2 j (or_right (left_of found.0 j) (right_of found.0 j) m)))))
+        let keeper = is.held found.0 found.1 in
+        absurd (found.2.beyond (λ (j : ℕ) m. any_from (λ (scheme : Attributes). scheme j) plan keeper.0 keeper.1 (keeper.2 j (or_right (left_of found.0 j) (right_of found.0 j) m)))))
         (cases_Bool (some k))
 
     pub are_plan : IsPlan n plan
     are_plan = record {
-      within = All-weaker (Contains plan) (λ (s : Places). Within s (below n)) is.within plan (All-contains_itself plan);
-      some = All-weaker (Contains plan) (λ (s : Places). IsEmpty s → ⊥) is.some plan (All-contains_itself plan);
+      within = All-weaker (Contains plan) (λ (s : Attributes). IsSubset s (below n)) is.within plan (All-contains_itself plan);
+      some = All-weaker (Contains plan) (λ (s : Attributes). IsEmpty s → ⊥) is.some plan (All-contains_itself plan);
       covers = are_covering;
     }
 
@@ -136,15 +136,15 @@ module _ (n : ℕ) (ds cover : List Dependency) (few : n ≤ PLACES) (some_place
   -- and without contained ones they stay in third form and keep the dependencies
   module _ (all kept : List AttrSet) (is : IsSynthesized n ds cover (schemes_of all)) where
     pub kept_third : All (λ (k : AttrSet). Contains all k) kept → All (IsThird n ds) (schemes_of kept)
-    kept_third among = All-map (IsThird n ds) places kept
-        (All-weaker (λ (k : AttrSet). Contains all k) (λ (k : AttrSet). IsThird n ds (places k)) (λ k has. is.third (places k) (Contains-map places all k has)) kept among)
+    kept_third among = All-map (IsThird n ds) attributes kept
+        (All-weaker (λ (k : AttrSet). Contains all k) (λ (k : AttrSet). IsThird n ds (attributes k)) (λ k has. is.third (attributes k) (Contains-map attributes all k has)) kept among)
 
     pub kept_keeps : All (λ (s : AttrSet). list_any (lies_within s) kept ≡ true) all → KeepsDependencies n ds (schemes_of kept)
     kept_keeps held = keeps n ds cover minimal (all_single cover minimal.single) (schemes_of kept) (λ d has.
-        let place = is.held d has in
-        let old = map-member places all place.0 place.1 in
+        let keeper = is.held d has in
+        let old = map-member attributes all keeper.0 keeper.1 in
         let found = any_some (lies_within old.0) kept (All-contains (λ (s : AttrSet). list_any (lies_within s) kept ≡ true) all old.0 held old.1) in (
-          places found.0,
-          Contains-map places kept found.0 found.1,
-          λ (k : ℕ) m. is_within-true (places old.0) (places found.0) (places_below old.0) found.2 k (subst (λ (s : Places). s k ≡ true) (sym old.2) (place.2 k m)),
+          attributes found.0,
+          Contains-map attributes kept found.0 found.1,
+          λ (k : ℕ) m. is_subset-true (attributes old.0) (attributes found.0) (attributes_below old.0) found.2 k (subst (λ (s : Attributes). s k ≡ true) (sym old.2) (keeper.2 k m)),
         ))

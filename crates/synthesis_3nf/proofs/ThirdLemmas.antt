@@ -4,8 +4,8 @@ use Rattle.std.specs.Prelude.{All, Contains}
 use Rattle.std.proofs.lemmas.Bool.{cases_Bool, true≢false, eqb-true, eq-eqb, ltb-true}
 use Rattle.std.proofs.lemmas.Bool.Decides.{nat_tests}
 use Rattle.std.proofs.lemmas.List.Elements.{All-nil, All-head, All-tail, All-contains, All-weaker, Contains-append_left, Contains-append_right, Contains-append_cases, Contains-push_cases, All-contains_itself}
-use Rattle.attr_sets.specs.Places.{Places, below, only, minus, Within}
-use Rattle.attr_sets.proofs.PlacesLemmas.{tell_some}
+use Rattle.attr_sets.specs.Attributes.{Attributes, below, only, difference, IsSubset}
+use Rattle.attr_sets.proofs.AttributesLemmas.{tell_member}
 use Rattle.dep_model.specs.Dependencies.{Dependency, fd, mvd, Obeys, is_fd, functional_part, right_of, IsWithin}
 use Rattle.dep_model.specs.Implication.{IsLegal, Implies}
 use Rattle.dep_model.specs.TwoTuples.{two_tuples}
@@ -40,8 +40,8 @@ contains_split (e ∷ cover) d has =
     (Contains-append_cases (e ∷ []) cover d has)
 
 -- the members beside one
-beside_cases : (before after : List Dependency) (d e : Dependency) → Contains (before ++ d ∷ after) e → Contains (before ++ after) e ⊎ (d ≡ e)
-beside_cases before after d e has =
+Contains-insert_cases : (before after : List Dependency) (d e : Dependency) → Contains (before ++ d ∷ after) e → Contains (before ++ after) e ⊎ (d ≡ e)
+Contains-insert_cases before after d e has =
     ⊎_elim
     (λ near. inl (Contains-append_left before after e near))
     (λ far. ⊎_elim
@@ -64,22 +64,22 @@ part_of before after d e has =
 pub member_implied : (n : ℕ) (ds : List Dependency) (d : Dependency) → Contains ds d → Implies n ds d
 member_implied n ds d has r legal = All-contains (λ (e : Dependency). Obeys n e r) ds d legal.obeys has
 
-pub fd_trans : (n : ℕ) (ds : List Dependency) (x y z : Places) → Implies n ds (fd x y) → Implies n ds (fd y z) → Implies n ds (fd x z)
+pub fd_trans : (n : ℕ) (ds : List Dependency) (x y z : Attributes) → Implies n ds (fd x y) → Implies n ds (fd y z) → Implies n ds (fd x z)
 fd_trans n ds x y z first second r legal = transitivity_obeyed x y z r (first r legal) (second r legal)
 
-pub fd_within : (n : ℕ) (ds : List Dependency) (x y : Places) → Within y x → Implies n ds (fd x y)
+pub fd_within : (n : ℕ) (ds : List Dependency) (x y : Attributes) → IsSubset y x → Implies n ds (fd x y)
 fd_within n ds x y inside r legal = reflexivity_obeyed x y r inside
 
 -- what holds of each member holds of each beside one
-part_all : (P : Dependency → Type 0) (before after : List Dependency) (d : Dependency) → All P (before ++ d ∷ after) → All P (before ++ after)
-part_all P before after d each =
+All-without : (P : Dependency → Type 0) (before after : List Dependency) (d : Dependency) → All P (before ++ d ∷ after) → All P (before ++ after)
+All-without P before after d each =
     All-weaker (Contains (before ++ after)) P (λ e has. All-contains P (before ++ d ∷ after) e each (part_of before after d e has)) (before ++ after) (All-contains_itself (before ++ after))
 
 -- and of all where it holds of the one too
 whole_all : (P : Dependency → Type 0) (before after : List Dependency) (d : Dependency) → P d → All P (before ++ after) → All P (before ++ d ∷ after)
 whole_all P before after d one each =
     All-weaker (Contains (before ++ d ∷ after)) P
-    (λ e has. ⊎_elim (λ other. All-contains P (before ++ after) e each other) (λ same. subst P same one) (beside_cases before after d e has))
+    (λ e has. ⊎_elim (λ other. All-contains P (before ++ after) e each other) (λ same. subst P same one) (Contains-insert_cases before after d e has))
     (before ++ d ∷ after) (All-contains_itself (before ++ d ∷ after))
 
 module _ (n : ℕ) (ds cover : List Dependency) (minimal : IsMinimalCover n ds cover) (within : All (IsWithin (below n)) cover) (functional : functional_part cover ≡ cover) where
@@ -90,11 +90,11 @@ module _ (n : ℕ) (ds cover : List Dependency) (minimal : IsMinimalCover n ds c
   pub part_implied : (d : Dependency) → Implies n (functional_part ds) d → Implies n cover d
   part_implied d implied r legal = implied r ((minimal.same_legal r).0 legal)
 
-  module _ (x scheme : Places) (scheme_in : Within scheme (below n)) (group : IsGroupScheme cover x scheme) where
-    x_in : Within x (below n)
+  module _ (x scheme : Attributes) (scheme_in : IsSubset scheme (below n)) (group : IsGroupScheme cover x scheme) where
+    x_in : IsSubset x (below n)
     x_in k m = scheme_in k (group.left k m)
 
-    only_in : (b : ℕ) → scheme b ≡ true → Within (only b) (below n)
+    only_in : (b : ℕ) → scheme b ≡ true → IsSubset (only b) (below n)
     only_in b in_scheme k e = subst (λ (j : ℕ). below n j ≡ true) (sym (eqb-true k b e)) (scheme_in b in_scheme)
 
     -- the left side determines the scheme
@@ -116,40 +116,40 @@ module _ (n : ℕ) (ds cover : List Dependency) (minimal : IsMinimalCover n ds c
           let a = group.first in
           let whole = fd_each-to n (functional_part ds) j scheme (fd_on-to n (functional_part ds) scheme j scheme superkey) a group.some.1 in
           absurd (minimal.short (fd x (only a)) group.some.0 k member
-          (fd_trans n (functional_part ds) (minus x (only k)) j (only a)
-          (fd_within n (functional_part ds) (minus x (only k)) j (λ (i : ℕ) h. grind (arith, nat_tests, h, inside i, lacks))) whole)))
+          (fd_trans n (functional_part ds) (difference x (only k)) j (only a)
+          (fd_within n (functional_part ds) (difference x (only k)) j (λ (i : ℕ) h. grind (arith, nat_tests, h, inside i, lacks))) whole)))
           (cases_Bool (j k));
     }
 
     -- without the member of an attribute outside a set, the left side still determines the set
-    left_to_rest : (v : Places) → Within v scheme → {b : ℕ} → v b ≡ false → (before after : List Dependency) → cover ≡ before ++ fd x (only b) ∷ after → Implies n (before ++ after) (fd x v)
+    left_to_rest : (v : Attributes) → IsSubset v scheme → {b : ℕ} → v b ≡ false → (before after : List Dependency) → cover ≡ before ++ fd x (only b) ∷ after → Implies n (before ++ after) (fd x v)
     left_to_rest v inside {b} lacks before after parts =
         fd_each-from n (before ++ after) x v
         (λ (k : ℕ) m. ⊎_elim
         (λ own. fd_within n (before ++ after) x (only k) (λ (i : ℕ) e. subst (λ (j : ℕ). x j ≡ true) (sym (eqb-true i k e)) own))
         (λ other. ⊎_elim
         (λ has. member_implied n (before ++ after) (fd x (only k)) has)
-        (λ same. absurd (true≢false (sym m ∙ subst (λ (j : ℕ). v j ≡ false) (sym (same_place b k same)) lacks)))
-        (beside_cases before after (fd x (only b)) (fd x (only k)) (subst (λ (es : List Dependency). Contains es (fd x (only k))) parts (group.member k (inside k m) other))))
+        (λ same. absurd (true≢false (sym m ∙ subst (λ (j : ℕ). v j ≡ false) (sym (same_attribute b k same)) lacks)))
+        (Contains-insert_cases before after (fd x (only b)) (fd x (only k)) (subst (λ (es : List Dependency). Contains es (fd x (only k))) parts (group.member k (inside k m) other))))
         (cases_Bool (x k)))
       where
-        same_place : (b k : ℕ) → fd x (only b) ≡ fd x (only k) → k ≡ b
-        same_place b k same = eqb-true k b (ap (λ (e : Dependency). right_of e k) same ∙ eq-eqb k k refl)
+        same_attribute : (b k : ℕ) → fd x (only b) ≡ fd x (only k) → k ≡ b
+        same_attribute b k same = eqb-true k b (ap (λ (e : Dependency). right_of e k) same ∙ eq-eqb k k refl)
 
     -- an attribute that members determine: what determines it on the scheme is a superkey
-    right_third : (v : Places) (b : ℕ) → Within v scheme → scheme b ≡ true → x b ≡ false → v b ≡ false → Implies n (functional_part ds) (fd v (only b)) → IsSuperkey n (functional_part ds) scheme v
+    right_third : (v : Attributes) (b : ℕ) → IsSubset v scheme → scheme b ≡ true → x b ≡ false → v b ≡ false → Implies n (functional_part ds) (fd v (only b)) → IsSuperkey n (functional_part ds) scheme v
     right_third v b inside in_scheme outside lacks determines =
         let d = fd x (only b) in
         let split = contains_split cover d (group.member b in_scheme outside) in
         by_the_others v b inside in_scheme outside lacks determines split.0 split.1 split.2
       where
-        by_the_others : (v : Places) (b : ℕ) → Within v scheme → scheme b ≡ true → x b ≡ false → v b ≡ false → Implies n (functional_part ds) (fd v (only b)) → (before after : List Dependency) → cover ≡ before ++ fd x (only b) ∷ after → IsSuperkey n (functional_part ds) scheme v
+        by_the_others : (v : Attributes) (b : ℕ) → IsSubset v scheme → scheme b ≡ true → x b ≡ false → v b ≡ false → Implies n (functional_part ds) (fd v (only b)) → (before after : List Dependency) → cover ≡ before ++ fd x (only b) ∷ after → IsSuperkey n (functional_part ds) scheme v
         by_the_others v b inside in_scheme outside lacks determines before after parts =
             let d = fd x (only b) in
             let others = before ++ after in
-            let others_in = part_all (λ (e : Dependency). IsWithin (below n) e) before after d (subst (λ (es : List Dependency). All (IsWithin (below n)) es) parts within) in
-            let others_fd = part_all (λ (e : Dependency). is_fd e ≡ true) before after d (subst (λ (es : List Dependency). All (λ e. is_fd e ≡ true) es) parts (all_functional cover functional)) in
-            let v_in : Within v (below n) = λ (k : ℕ) m. scheme_in k (inside k m) in
+            let others_in = All-without (λ (e : Dependency). IsWithin (below n) e) before after d (subst (λ (es : List Dependency). All (IsWithin (below n)) es) parts within) in
+            let others_fd = All-without (λ (e : Dependency). is_fd e ≡ true) before after d (subst (λ (es : List Dependency). All (λ e. is_fd e ≡ true) es) parts (all_functional cover functional)) in
+            let v_in : IsSubset v (below n) = λ (k : ℕ) m. scheme_in k (inside k m) in
             let found = closure_set n others v others_in (functional_same others others_fd) v_in in
             let c = found.0 in
             let closure = found.1 in
@@ -169,13 +169,13 @@ module _ (n : ℕ) (ds cover : List Dependency) (minimal : IsMinimalCover n ds c
             let v_to_x = fd_each-from n others v x (λ (k : ℕ) m. ((closure.exact k).0 (grind (arith, none k (ltb-true k n (x_in k m)), m))).1) in
             superkey-from n (functional_part ds) scheme v inside
             (fd_trans n (functional_part ds) v x scheme
-            (λ r legal. v_to_x r (record { over = legal.over; obeys = part_all (λ (e : Dependency). Obeys n e r) before after d (subst (λ (es : List Dependency). All (λ e. Obeys n e r) es) parts ((minimal.same_legal r).1 legal).obeys) }))
+            (λ r legal. v_to_x r (record { over = legal.over; obeys = All-without (λ (e : Dependency). Obeys n e r) before after d (subst (λ (es : List Dependency). All (λ e. Obeys n e r) es) parts ((minimal.same_legal r).1 legal).obeys) }))
             left_determines))
-            (tell_some n (minus x c)))
+            (tell_member n (difference x c)))
             (cases_Bool (c b))
 
   -- the scheme of a group is in third normal form
-  pub group_third : (x scheme : Places) → Within scheme (below n) → IsGroupScheme cover x scheme → IsThird n ds scheme
+  pub group_third : (x scheme : Attributes) → IsSubset scheme (below n) → IsGroupScheme cover x scheme → IsThird n ds scheme
   group_third x scheme scheme_in group v b on lacks =
       let in_scheme : scheme b ≡ true = on.within.1 b (grind (arith, nat_tests)) in
       ⊎_elim
@@ -184,7 +184,7 @@ module _ (n : ℕ) (ds cover : List Dependency) (minimal : IsMinimalCover n ds c
       (cases_Bool (x b))
 
 -- ---- a key of the universe, as a scheme
-pub key_third : (n : ℕ) (ds : List Dependency) (key : Places) → IsKey n (functional_part ds) (below n) key → IsThird n ds key
+pub key_third : (n : ℕ) (ds : List Dependency) (key : Attributes) → IsKey n (functional_part ds) (below n) key → IsThird n ds key
 key_third n ds key is v b on lacks =
     inr (
       key,

@@ -1,28 +1,28 @@
 -- The decomposition in third normal form that is made of a cover: for `synthesize` and the command
 -- of that name (`desk_cli/Synthesis`).
 use Rattle.std.specs.Prelude.{◌≡◌, ℕ, ◌⊎◌, List, [], ◌∷◌, ◌++◌, Any}
-use Rattle.attr_sets.specs.Places.{Places, below}
+use Rattle.attr_sets.specs.Attributes.{Attributes, below}
 use Rattle.attr_sets.specs.declared.set.AttrSet.{AttrSet}
 use Rattle.dep_model.specs.Dependencies.{Dependency, functional_part}
-use Rattle.dep_model.specs.Keys.{IsSuperkey, IsSettledKey}
+use Rattle.dep_model.specs.Keys.{IsSuperkey, IsGreedyKey}
 use Rattle.dep_model.specs.Plans.{schemes_of}
 use Rattle.min_cover.specs.Covers.{IsFixedCover}
 use Rattle.plans.specs.Containing.{without_contained}
-use Rattle.synthesis_3nf.specs.Groups.{grouped}
+use Rattle.synthesis_3nf.specs.Groups.{schemes_of_groups}
 
 -- some scheme is a superkey of the universe by the functional dependencies
-abbrev pub HoldSuperkey : ℕ → List Dependency → List Places → Type 0
+abbrev pub HoldSuperkey : ℕ → List Dependency → List Attributes → Type 0
 HoldSuperkey n ds schemes = Any (λ scheme. IsSuperkey n (functional_part ds) (below n) scheme) schemes
 
--- none is, and the settled key of the universe comes after them
-pub record IsKeyAdded (n : ℕ) (ds : List Dependency) (schemes all : List Places) : Type 0 where
+-- none is, and the greedy key of the universe comes after them
+pub record IsKeyAdded (n : ℕ) (ds : List Dependency) (schemes all : List Attributes) : Type 0 where
   pub none : HoldSuperkey n ds schemes → ⊥
-  pub key : Places
-  pub settled : IsSettledKey n (functional_part ds) (below n) key
+  pub key : Attributes
+  pub greedy : IsGreedyKey n (functional_part ds) (below n) key
   pub last : all ≡ schemes ++ key ∷ []
 
--- the schemes, with the settled key of the universe added last where none of them is a superkey of it
-abbrev pub IsWithKey : ℕ → List Dependency → List Places → List Places → Type 0
+-- the schemes, with the greedy key of the universe added last where none of them is a superkey of it
+abbrev pub IsWithKey : ℕ → List Dependency → List Attributes → List Attributes → Type 0
 IsWithKey n ds schemes all = (HoldSuperkey n ds schemes × (all ≡ schemes)) ⊎ IsKeyAdded n ds schemes all
 
 -- the grouped plan: the fixed cover grouped by left side, with a key where no group holds one, without
@@ -31,5 +31,5 @@ pub record IsGroupedPlan (n : ℕ) (ds : List Dependency) (plan : List AttrSet) 
   pub cover : List Dependency
   pub fixed : IsFixedCover n ds cover
   pub all : List AttrSet
-  pub completed : IsWithKey n ds (grouped cover) (schemes_of all)
+  pub completed : IsWithKey n ds (schemes_of_groups cover) (schemes_of all)
   pub kept : plan ≡ without_contained all

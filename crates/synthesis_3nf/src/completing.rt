@@ -1,19 +1,20 @@
 ghost use Rattle.std.specs.Prelude.{◌↔◌, IsTrue, IfOk, All};
-ghost use Rattle.attr_sets.specs.Places.{Within};
-ghost use Rattle.attr_sets.specs.Sets.{places};
+ghost use Rattle.attr_sets.specs.Attributes.{IsSubset};
+ghost use Rattle.attr_sets.specs.Sets.{attributes};
 ghost use Rattle.dep_model.specs.Dependencies.{functional_part};
-ghost use Rattle.dep_model.specs.Keys.{IsSuperkey, IsSettledKey};
+ghost use Rattle.dep_model.specs.Keys.{IsSuperkey, IsGreedyKey};
 ghost use Rattle.dep_model.specs.Plans.{schemes_of};
 ghost use Rattle.dep_model.specs.Schemas.{width_of, universe_of, theory_of};
 ghost use Rattle.synthesis_3nf.specs.GroupedPlans.{HoldSuperkey, IsWithKey};
 
 use attr_sets::AttrSet;
-use dep_model::{Schema, WantMemory};
+use dep_model::{OutOfMemory, Schema};
 use fd_closure::{follows, functional_key};
 
 // The schemes, with a key of the universe added last where none of them is a superkey of it.
-pub fn with_key(schema: &Schema, mut schemes: Vec<AttrSet>) -> Result<Vec<AttrSet>, WantMemory>
-    requires within { All (λ scheme. Within (places scheme) (universe_of schema.now)) schemes.items }
+pub fn with_key(schema: &Schema, mut schemes: Vec<AttrSet>) -> Result<Vec<AttrSet>, OutOfMemory>
+    requires within { All (λ scheme. IsSubset (attributes scheme)
+        (universe_of schema.now)) schemes.items }
     ensures completed { IfOk result (λ all. IsWithKey (width_of schema.now) (theory_of schema.now)
         (schemes_of schemes.items) (schemes_of all.items)) }
 {
@@ -23,17 +24,18 @@ pub fn with_key(schema: &Schema, mut schemes: Vec<AttrSet>) -> Result<Vec<AttrSe
     Ok(schemes)
 }
 
-// The settled key of the universe by the functional dependencies.
+// The greedy key of the universe by the functional dependencies.
 fn universe_key(schema: &Schema) -> AttrSet
-    ensures settled { IsSettledKey (width_of schema.now) (functional_part (theory_of schema.now))
-        (universe_of schema.now) (places result) }
+    ensures greedy { IsGreedyKey (width_of schema.now) (functional_part (theory_of schema.now))
+        (universe_of schema.now) (attributes result) }
 {
     functional_key(schema.deps(), AttrSet::full(schema.width()))
 }
 
 // Whether some scheme is a superkey of the universe by the functional dependencies.
 fn hold_superkey(schema: &Schema, schemes: &[AttrSet]) -> bool
-    requires within { All (λ scheme. Within (places scheme) (universe_of schema.now)) schemes.now }
+    requires within { All (λ scheme. IsSubset (attributes scheme)
+        (universe_of schema.now)) schemes.now }
     ensures superkey { IsTrue result
         ↔ HoldSuperkey (width_of schema.now) (theory_of schema.now) (schemes_of schemes.now) }
 {
@@ -47,9 +49,9 @@ fn hold_superkey(schema: &Schema, schemes: &[AttrSet]) -> bool
 
 // Whether a scheme is a superkey of the universe by the functional dependencies.
 fn is_superkey(schema: &Schema, scheme: AttrSet) -> bool
-    requires within { Within (places scheme) (universe_of schema.now) }
+    requires within { IsSubset (attributes scheme) (universe_of schema.now) }
     ensures superkey { IsTrue result ↔ IsSuperkey (width_of schema.now)
-        (functional_part (theory_of schema.now)) (universe_of schema.now) (places scheme) }
+        (functional_part (theory_of schema.now)) (universe_of schema.now) (attributes scheme) }
 {
     follows(schema.deps(), scheme, AttrSet::full(schema.width()))
 }

@@ -1,25 +1,26 @@
 ghost use Rattle.std.specs.Prelude.{◌≡◌, ◌||◌, ◌&&◌, [], map, IfOk};
 ghost use Rattle.std.specs.List.{list_any};
-ghost use Rattle.attr_sets.specs.Sets.{places, is_same};
+ghost use Rattle.attr_sets.specs.Sets.{attributes, is_same};
 ghost use Rattle.dep_model.specs.Dependencies.{left_of, right_of};
 ghost use Rattle.dep_model.specs.Deps.{dependency_of, dependencies_of};
 ghost use Rattle.dep_model.specs.Plans.{schemes_of};
-ghost use Rattle.synthesis_3nf.specs.Groups.{left_sides_after, group_scheme, grouped};
+ghost use Rattle.synthesis_3nf.specs.Groups.{left_sides_after, group_scheme, schemes_of_groups};
 
 use attr_sets::AttrSet;
-use dep_model::{Dep, WantMemory, sides};
+use dep_model::{Dep, OutOfMemory, sides};
 use std::alloc::Global;
 
 // The schemes of the left sides of a list, in the order of their first occurrence.
-pub fn group_schemes(alloc: Global, deps: &[Dep]) -> Result<Vec<AttrSet>, WantMemory>
-    ensures grouped { IfOk result (λ schemes. schemes_of schemes.items ≡ grouped (dependencies_of deps.now)) }
+pub fn group_schemes(alloc: Global, deps: &[Dep]) -> Result<Vec<AttrSet>, OutOfMemory>
+    ensures grouped { IfOk result (λ schemes. schemes_of schemes.items
+        ≡ schemes_of_groups (dependencies_of deps.now)) }
 {
     let lefts = left_sides(alloc, deps)?;
     each_scheme(alloc, deps, &lefts)
 }
 
 // The schemes of these left sides.
-fn each_scheme(alloc: Global, deps: &[Dep], lefts: &[AttrSet]) -> Result<Vec<AttrSet>, WantMemory>
+fn each_scheme(alloc: Global, deps: &[Dep], lefts: &[AttrSet]) -> Result<Vec<AttrSet>, OutOfMemory>
     ensures schemes { IfOk result (λ schemes.
         schemes_of schemes.items ≡ map (group_scheme (dependencies_of deps.now)) (schemes_of lefts.now)) }
 {
@@ -31,7 +32,7 @@ fn each_scheme(alloc: Global, deps: &[Dep], lefts: &[AttrSet]) -> Result<Vec<Att
 }
 
 // The left sides of a list, each once, in the order of their first occurrence.
-fn left_sides(alloc: Global, deps: &[Dep]) -> Result<Vec<AttrSet>, WantMemory>
+fn left_sides(alloc: Global, deps: &[Dep]) -> Result<Vec<AttrSet>, OutOfMemory>
     ensures lefts { IfOk result (λ lefts.
         schemes_of lefts.items ≡ left_sides_after [] (dependencies_of deps.now)) }
 {
@@ -47,14 +48,14 @@ fn left_sides(alloc: Global, deps: &[Dep]) -> Result<Vec<AttrSet>, WantMemory>
 
 // Whether a set is among these.
 fn is_among(sets: &[AttrSet], set: AttrSet) -> bool
-    ensures among { result ≡ list_any (λ other. is_same (places other) (places set)) sets.now }
+    ensures among { result ≡ list_any (λ other. is_same (attributes other) (attributes set)) sets.now }
 {
     sets.iter().any(|other| *other == set)
 }
 
 // A left side with all that the dependencies of the list with this left side determine.
 fn group_scheme(deps: &[Dep], left: AttrSet) -> AttrSet
-    ensures scheme { places result ≡ group_scheme (dependencies_of deps.now) (places left) }
+    ensures scheme { attributes result ≡ group_scheme (dependencies_of deps.now) (attributes left) }
 {
     let mut scheme = left;
     for dep in deps {
@@ -65,8 +66,8 @@ fn group_scheme(deps: &[Dep], left: AttrSet) -> AttrSet
 
 // A scheme with the right side of a dependency, if this has the left side.
 fn with_member(scheme: AttrSet, dep: Dep, left: AttrSet) -> AttrSet
-    ensures scheme { places result ≡ (λ k. places scheme k
-        || (is_same (places left) (left_of (dependency_of dep)) && right_of (dependency_of dep) k)) }
+    ensures scheme { attributes result ≡ (λ k. attributes scheme k
+        || (is_same (attributes left) (left_of (dependency_of dep)) && right_of (dependency_of dep) k)) }
 {
     let (lhs, rhs) = sides(dep);
     if left == lhs {

@@ -8,8 +8,8 @@ ghost use Rattle.synthesis_3nf.specs.GroupedPlans.{IsGroupedPlan};
 
 use crate::completing::with_key;
 use crate::grouping::group_schemes;
-use dep_model::{Schema, WantMemory};
-use min_cover::minimal;
+use dep_model::{OutOfMemory, Schema};
+use min_cover::minimal_cover;
 use plans::{Plan, drop_contained};
 use std::alloc::Global;
 
@@ -18,7 +18,7 @@ use std::alloc::Global;
 /// side, in the order of first occurrence; each group gives the scheme of its left side and right sides.
 /// Where no scheme is a superkey of the universe, a key of it is added last. Contained schemes are
 /// dropped.
-pub fn synthesize(alloc: Global, schema: &Schema) -> Result<Plan, WantMemory>
+pub fn synthesize(alloc: Global, schema: &Schema) -> Result<Plan, OutOfMemory>
     ensures universe { IfOk result (λ plan. IsPlanOver schema.now plan) }
     ensures grouped { IfOk result (λ plan.
         IsGroupedPlan (width_of schema.now) (theory_of schema.now) (scheme_sets plan)) }
@@ -29,8 +29,8 @@ pub fn synthesize(alloc: Global, schema: &Schema) -> Result<Plan, WantMemory>
     ensures keeps { IfOk result (λ plan.
         KeepsDependencies (width_of schema.now) (theory_of schema.now) (plan_of plan)) }
 {
-    let cover = minimal(alloc, schema)?;
+    let cover = minimal_cover(alloc, schema)?;
     let groups = group_schemes(alloc, &cover)?;
     let schemes = with_key(schema, groups)?;
-    Ok(drop_contained(schema, Plan::make(schema, schemes)))
+    Ok(drop_contained(schema, Plan::new(schema, schemes)))
 }

@@ -4,7 +4,7 @@ use Rattle.std.specs.Prelude.{slice_get, unwrap_or, option_map}
 use Rattle.std.specs.List.{flat_map}
 use Rattle.std.proofs.lemmas.List.{take_more}
 use Rattle.std.proofs.lemmas.Option.{slice_get_read}
-use Rattle.attr_sets.specs.Places.{Places}
+use Rattle.attr_sets.specs.Attributes.{Attributes}
 use Rattle.dep_model.specs.declared.schema.Schema.{Schema}
 use Rattle.dep_model.specs.Projections.{members_below}
 use Rattle.dep_model.proofs.SchemeLemmas.{members_below-member, members_below-outside}
@@ -13,14 +13,14 @@ use Rattle.table_drawing.specs.Drawing.{row_text, edge_text, edges_to}
 use Rattle.ddl_text.proofs.TextLemmas.{item_more}
 
 -- ---- rows
-pub row_more : (s : Schema) (scheme key : Places) (n : ℕ) (old text next piece : List ℕ) → scheme n ≡ true
+pub row_more : (s : Schema) (scheme key : Attributes) (n : ℕ) (old text next piece : List ℕ) → scheme n ≡ true
     → text ≡ old ++ flat_map (row_text s key) (members_below n scheme) → piece ≡ row_text s key n → next ≡ text ++ piece
     → next ≡ old ++ flat_map (row_text s key) (members_below (n + 1) scheme)
 row_more s scheme key n old text next piece inside so_far is added =
     item_more (row_text s key) old text next piece (members_below n scheme) (members_below (n + 1) scheme) n so_far is added
     (rw add-one (members_below-member n scheme inside))
 
-pub row_passed : (s : Schema) (scheme key : Places) (n : ℕ) (old text : List ℕ) → scheme n ≡ false
+pub row_passed : (s : Schema) (scheme key : Attributes) (n : ℕ) (old text : List ℕ) → scheme n ≡ false
     → text ≡ old ++ flat_map (row_text s key) (members_below n scheme)
     → text ≡ old ++ flat_map (row_text s key) (members_below (n + 1) scheme)
 row_passed s scheme key n old text outside so_far =

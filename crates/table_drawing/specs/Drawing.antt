@@ -1,8 +1,8 @@
 -- A design as a Graphviz text: for `draw` (`desk_cli/Drawings`).
 use Rattle.std.specs.Prelude.{ℕ, Bool, if◌then◌else◌, List, [], ◌++◌, codes, slice_get, slice_index_or, unwrap_or, option_map}
 use Rattle.std.specs.List.{flat_map}
-use Rattle.attr_sets.specs.Places.{Places}
-use Rattle.attr_sets.specs.Sets.{places}
+use Rattle.attr_sets.specs.Attributes.{Attributes}
+use Rattle.attr_sets.specs.Sets.{attributes}
 use Rattle.dep_model.specs.declared.schema.Schema.{Schema}
 use Rattle.dep_model.specs.Projections.{members_below}
 use Rattle.dep_model.specs.Schemas.{names_of, width_of}
@@ -14,13 +14,13 @@ unfoldable pub marked_text : Bool → List ℕ → List ℕ
 marked_text in_key name = if in_key then codes "<U>" ++ name ++ codes "</U>" else name
 
 -- the row of an attribute
-unfoldable pub row_text : Schema → Places → ℕ → List ℕ
+unfoldable pub row_text : Schema → Attributes → ℕ → List ℕ
 row_text s key k =
     codes "<TR><TD ALIGN=\"LEFT\">" ++ marked_text (key k) (slice_index_or (names_of s) k [])
     ++ codes "</TD></TR>"
 
 -- the rows of a scheme, ascending
-abbrev pub table_rows_text : Schema → Places → Places → List ℕ
+abbrev pub table_rows_text : Schema → Attributes → Attributes → List ℕ
 table_rows_text s scheme key = flat_map (row_text s key) (members_below (width_of s) scheme)
 
 -- the node of a table: its name, and a row for each attribute
@@ -28,16 +28,16 @@ unfoldable pub node_text : Schema → TableDesign → List ℕ
 node_text s table =
     codes "  " ++ table.name
     ++ codes " [label=<<TABLE BORDER=\"0\" CELLBORDER=\"1\" CELLSPACING=\"0\"><TR><TD BGCOLOR=\"lightgrey\"><B>"
-    ++ table.name ++ codes "</B></TD></TR>" ++ table_rows_text s (places table.scheme) (places table.key)
+    ++ table.name ++ codes "</B></TD></TR>" ++ table_rows_text s (attributes table.scheme) (attributes table.key)
     ++ codes "</TABLE>>];\n"
 
 -- the edge from a table to another, with the key of that one
 unfoldable pub edge_text : Schema → TableDesign → TableDesign → List ℕ
 edge_text s table other =
     codes "  " ++ table.name ++ codes " -> " ++ other.name ++ codes " [label=\""
-    ++ set_text (names_of s) (places other.key) ++ codes "\"];\n"
+    ++ set_text (names_of s) (attributes other.key) ++ codes "\"];\n"
 
--- the edges from a table to those at these places, in order
+-- the edges from a table to those at these positions, in order
 abbrev pub edges_to : Schema → List TableDesign → TableDesign → List ℕ → List ℕ
 edges_to s tables table refs =
     flat_map (λ j. unwrap_or (option_map (edge_text s table) (slice_get tables j)) []) refs

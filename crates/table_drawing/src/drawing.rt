@@ -4,13 +4,13 @@ ghost use Rattle.table_drawing.specs.Drawing.{drawing_text};
 use crate::edges::add_edges;
 use crate::nodes::add_nodes;
 use ddl_text::DesignList;
-use dep_model::{Schema, WantMemory};
+use dep_model::{OutOfMemory, Schema};
 use schema_printer::add;
 use std::alloc::Global;
 
 /// The Graphviz text of a design: a node for each table, in order, and then for each table, in order, an edge
 /// to each table that it refers to, with the key of that one.
-pub fn draw(alloc: Global, schema: &Schema, design: &DesignList) -> Result<Vec<u8>, WantMemory>
+pub fn draw(alloc: Global, schema: &Schema, design: &DesignList) -> Result<Vec<u8>, OutOfMemory>
     ensures text { IfOk result (λ text. text.items ≡ drawing_text schema.now design.now) }
 {
     let mut text = Vec::new(alloc);

@@ -4,7 +4,7 @@ ghost use Rattle.ddl_text.specs.Designs.{ReferToEarlier};
 ghost use Rattle.table_drawing.specs.Drawing.{edge_text, edges_to, edges_text};
 
 use ddl_text::TableDesign;
-use dep_model::{Schema, WantMemory};
+use dep_model::{OutOfMemory, Schema};
 use schema_printer::{add, add_set};
 use std::alloc::Global;
 
@@ -14,7 +14,7 @@ pub fn add_edges(
     text: &mut Vec<u8>,
     schema: &Schema,
     tables: &[TableDesign],
-) -> Result<(), WantMemory>
+) -> Result<(), OutOfMemory>
     requires earlier { ReferToEarlier tables.now }
     ensures added { OnOk result (text.new.items
         ≡ text.old.items ++ flat_map (edges_text schema.now tables.now) tables.now) }
@@ -25,7 +25,7 @@ pub fn add_edges(
     Ok(())
 }
 
-// Adds the edges from a table to those at these places, in order.
+// Adds the edges from a table to those at these positions, in order.
 fn add_edges_to(
     alloc: Global,
     text: &mut Vec<u8>,
@@ -33,25 +33,28 @@ fn add_edges_to(
     tables: &[TableDesign],
     table: &TableDesign,
     refs: &[u32],
-) -> Result<(), WantMemory>
+) -> Result<(), OutOfMemory>
     requires refs { All (λ j. j < length tables.now) refs.now }
     ensures added { OnOk result (text.new.items
         ≡ text.old.items ++ edges_to schema.now tables.now table.now refs.now) }
 {
     for j in refs {
-        add(text, &edge(alloc, schema, table, &tables[*j as usize])?)?;
+        add(
+            text,
+            &edge_text(alloc, schema, table, &tables[*j as usize])?,
+        )?;
     }
     Ok(())
 }
 
 // The edge from a table to another.
 #[tactic(auto, unfolding(crate::specs::Drawing::edge_text))]
-fn edge(
+fn edge_text(
     alloc: Global,
     schema: &Schema,
     table: &TableDesign,
     other: &TableDesign,
-) -> Result<Vec<u8>, WantMemory>
+) -> Result<Vec<u8>, OutOfMemory>
     ensures text { IfOk result (λ text. text.items ≡ edge_text schema.now table.now other.now) }
 {
     let mut text = Vec::new(alloc);

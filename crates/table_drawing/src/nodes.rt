@@ -1,12 +1,12 @@
 ghost use Rattle.std.specs.Prelude.{◌≡◌, ◌<◌, ◌++◌, IfOk, OnOk};
 ghost use Rattle.std.specs.List.{flat_map};
-ghost use Rattle.attr_sets.specs.Sets.{places};
+ghost use Rattle.attr_sets.specs.Sets.{attributes};
 ghost use Rattle.dep_model.specs.Schemas.{width_of};
 ghost use Rattle.table_drawing.specs.Drawing.{marked_text, row_text, table_rows_text, node_text};
 
 use attr_sets::AttrSet;
 use ddl_text::TableDesign;
-use dep_model::{Schema, WantMemory};
+use dep_model::{OutOfMemory, Schema};
 use schema_printer::add;
 use std::alloc::Global;
 
@@ -16,19 +16,19 @@ pub fn add_nodes(
     text: &mut Vec<u8>,
     schema: &Schema,
     tables: &[TableDesign],
-) -> Result<(), WantMemory>
+) -> Result<(), OutOfMemory>
     ensures added { OnOk result (text.new.items
         ≡ text.old.items ++ flat_map (node_text schema.now) tables.now) }
 {
     for table in tables {
-        add(text, &node(alloc, schema, table)?)?;
+        add(text, &node_text(alloc, schema, table)?)?;
     }
     Ok(())
 }
 
 // The node of a table.
 #[tactic(auto, unfolding(crate::specs::Drawing::node_text))]
-fn node(alloc: Global, schema: &Schema, table: &TableDesign) -> Result<Vec<u8>, WantMemory>
+fn node_text(alloc: Global, schema: &Schema, table: &TableDesign) -> Result<Vec<u8>, OutOfMemory>
     ensures text { IfOk result (λ text. text.items ≡ node_text schema.now table.now) }
 {
     let mut text = Vec::new(alloc);
@@ -52,13 +52,13 @@ fn add_rows(
     schema: &Schema,
     scheme: AttrSet,
     key: AttrSet,
-) -> Result<(), WantMemory>
+) -> Result<(), OutOfMemory>
     ensures added { OnOk result (text.new.items
-        ≡ text.old.items ++ table_rows_text schema.now (places scheme) (places key)) }
+        ≡ text.old.items ++ table_rows_text schema.now (attributes scheme) (attributes key)) }
 {
-    for place in 0..schema.width() {
-        if scheme.has(place) {
-            add(text, &row(alloc, schema, key, place)?)?;
+    for attribute in 0..schema.width() {
+        if scheme.contains(attribute) {
+            add(text, &row_text(alloc, schema, key, attribute)?)?;
         }
     }
     Ok(())
@@ -66,20 +66,29 @@ fn add_rows(
 
 // The row of an attribute.
 #[tactic(auto, unfolding(crate::specs::Drawing::row_text))]
-fn row(alloc: Global, schema: &Schema, key: AttrSet, place: u8) -> Result<Vec<u8>, WantMemory>
-    requires place { place < width_of schema.now }
-    ensures text { IfOk result (λ text. text.items ≡ row_text schema.now (places key) place) }
+fn row_text(
+    alloc: Global,
+    schema: &Schema,
+    key: AttrSet,
+    attribute: u8,
+) -> Result<Vec<u8>, OutOfMemory>
+    requires attribute { attribute < width_of schema.now }
+    ensures text { IfOk result (λ text. text.items ≡ row_text schema.now (attributes key) attribute) }
 {
     let mut text = Vec::new(alloc);
     add(&mut text, b"<TR><TD ALIGN=\"LEFT\">")?;
-    add_marked(&mut text, schema.name(place).bytes(), key.has(place))?;
+    add_marked(
+        &mut text,
+        schema.name(attribute).bytes(),
+        key.contains(attribute),
+    )?;
     add(&mut text, b"</TD></TR>")?;
     Ok(text)
 }
 
 // Adds a name, underlined where it is in the key.
 #[tactic(auto, unfolding(crate::specs::Drawing::marked_text))]
-fn add_marked(text: &mut Vec<u8>, name: &[u8], in_key: bool) -> Result<(), WantMemory>
+fn add_marked(text: &mut Vec<u8>, name: &[u8], in_key: bool) -> Result<(), OutOfMemory>
     ensures added { OnOk result (text.new.items ≡ text.old.items ++ marked_text in_key name.now) }
 {
     if in_key {

@@ -7,8 +7,8 @@ use Rattle.std.proofs.lemmas.List.{length-map}
 use Rattle.std.proofs.lemmas.List.Elements.{All-nil, All-push, All-get_or}
 use Rattle.std.proofs.lemmas.List.Folds.{Any-from_list_any}
 use Rattle.std.proofs.lemmas.List.Quantifiers.{position-Some}
-use Rattle.attr_sets.specs.Places.{count_below, Places, below, Within}
-use Rattle.attr_sets.specs.Sets.{places}
+use Rattle.attr_sets.specs.Attributes.{count_below, Attributes, below, IsSubset}
+use Rattle.attr_sets.specs.Sets.{attributes}
 use Rattle.attr_sets.specs.declared.set.AttrSet.{AttrSet}
 use Rattle.csv_rows.specs.Columns.{with_columns, column_of, columns_of_header, columns_from, ◌>>=◌}
 use Rattle.csv_rows.specs.Reading.{PartOf, HasScheme, TableOf, RowsUnder, value_of}
@@ -17,23 +17,23 @@ use Rattle.csv_rows.specs.declared.refusal.RowRefusal.TheVariants as refusal
 use Rattle.csv_rows.proofs.NumberingLemmas.{same_default}
 use Rattle.dep_model.specs.Names.{same_name}
 use Rattle.dep_model.specs.Projections.{members_below}
-use Rattle.dep_model.specs.Schemas.{names_of, width_of, place_named}
+use Rattle.dep_model.specs.Schemas.{names_of, width_of, attribute_named}
 use Rattle.dep_model.specs.Tuples.{Relation}
 use Rattle.dep_model.specs.declared.schema.Schema.{Schema}
 use Rattle.dep_model.proofs.SchemeLemmas.{length-members_below}
 use Rattle.table_join.specs.Tables.{IsTable}
-use Rattle.attr_sets.proofs.PlacesLemmas.{same_at}
+use Rattle.attr_sets.proofs.AttributesLemmas.{same_at}
 
 -- the attribute of a column is one that has a name
-named_low : (names : List (List ℕ)) (column a : ℕ) (before : Places) (field : List ℕ) → column_of column before
-    (place_named names field) ≡ Ok a → a < length names
-named_low names column a before field h = by (place_named names field) refl h
+named_low : (names : List (List ℕ)) (column a : ℕ) (before : Attributes) (field : List ℕ) → column_of column before
+    (attribute_named names field) ≡ Ok a → a < length names
+named_low names column a before field h = by (attribute_named names field) refl h
   where
     free : (t : Bool) (b : ℕ) → cond t (Err (refusal.DoubleColumn column)) (Ok b) ≡ Ok a → b ≡ a
     free true b e = cc
     free false b e = cc
 
-    by : (o : Option ℕ) → place_named names field ≡ o → column_of column before o ≡ Ok a → a < length names
+    by : (o : Option ℕ) → attribute_named names field ≡ o → column_of column before o ≡ Ok a → a < length names
     by None p e = cc
     by (Some b) p e =
         let at = position-Some (λ (name : List ℕ). same_name name field) names b [] p in
@@ -51,13 +51,13 @@ unfolding columns_from
 columns_low names before [] columns h low = let same : before ≡ columns = cc in subst
     (All (λ (a : ℕ). a < length names)) same low
 columns_low names before (field ∷ fields) columns h low =
-    let w = bind_ok (column_of (length before + 1) (with_columns before) (place_named names field))
+    let w = bind_ok (column_of (length before + 1) (with_columns before) (attribute_named names field))
     (λ a. columns_from names (before ++ a ∷ []) fields) columns h in
     columns_low names (before ++ w.0 ∷ []) fields columns w.2
     (All-push (λ (a : ℕ). a < length names) before w.0 low (named_low names (length before + 1) w.0 (with_columns before)
     field w.1))
 
-named_within : (n : ℕ) (columns : List ℕ) → All (λ (a : ℕ). a < n) columns → Within (with_columns columns) (below n)
+named_within : (n : ℕ) (columns : List ℕ) → All (λ (a : ℕ). a < n) columns → IsSubset (with_columns columns) (below n)
 named_within n columns low a has =
     let found = Any-from_list_any (nat_eq a) columns has in
     let is : a ≡ found.1 = eqb-true a found.1 found.4 in
@@ -68,7 +68,7 @@ named_within n columns low a has =
 -- the part that a text holds is a table over the attributes of a schema
 pub part_is_table : (s : Schema) (text : List ℕ) (rows : Relation) (scheme : AttrSet) → PartOf s text (Ok rows)
     → HasScheme s text scheme
-    → IsTable (width_of s) (record { scheme = places scheme; rows = rows })
+    → IsTable (width_of s) (record { scheme = attributes scheme; rows = rows })
 part_is_table s text rows scheme part has =
     let names : List (List ℕ) = names_of s in
     let n : ℕ = width_of s in

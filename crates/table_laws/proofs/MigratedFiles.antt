@@ -4,7 +4,7 @@ use Rattle.std.specs.Prelude.{not, All}
 use Rattle.std.proofs.lemmas.List.{length-map}
 use Rattle.std.proofs.lemmas.List.Elements.{All-cons, All-tail, All-map, All-filter}
 use Rattle.std.proofs.lemmas.List.Filters.{length-filter_both}
-use Rattle.attr_sets.specs.Places.{Places, count_below}
+use Rattle.attr_sets.specs.Attributes.{Attributes, count_below}
 use Rattle.csv_migrate.specs.Migration.{table_of, tables_from}
 use Rattle.csv_rows.specs.Reading.{PartOf}
 use Rattle.csv_rows.specs.declared.reading.TheConstants.{MOST_ROWS}
@@ -12,28 +12,28 @@ use Rattle.dep_model.specs.Integers.{IsIntegerText}
 use Rattle.dep_model.specs.Names.{is_name}
 use Rattle.dep_model.specs.Projections.{project_tuple, projection, ordered_projection}
 use Rattle.dep_model.specs.Schemas.{names_of, width_of, TypedFor}
-use Rattle.dep_model.specs.Tuples.{Tuple, Relation, IsOver, same_tuple, distinct}
+use Rattle.dep_model.specs.Tuples.{Tuple, Relation, IsOver, same_tuple, distinct_tuples}
 use Rattle.dep_model.specs.declared.schema.Schema.{Schema}
 use Rattle.dep_model.proofs.SchemeLemmas.{length-project_tuple, value_in-project_tuple}
 use Rattle.named_tables.specs.Tables.{TableValue}
 use Rattle.table_laws.proofs.PartFiles.{Fits, part_back}
-use Rattle.targets.specs.Formats.{table_file}
-use Rattle.targets.specs.declared.format.TableFormat.TheVariants.{Csv}
+use Rattle.destinations.specs.Formats.{table_file}
+use Rattle.destinations.specs.declared.format.TableFormat.TheVariants.{Csv}
 
 -- ---- distinct tuples
-all_distinct : (P : Tuple → Type 0) (r : Relation) → All P r → All P (distinct r)
+all_distinct : (P : Tuple → Type 0) (r : Relation) → All P r → All P (distinct_tuples r)
 all_distinct P [] all = all
 all_distinct P (t ∷ r) all =
-    All-cons P t _ (all 0 t (omega arith)) (All-filter (λ u. not (same_tuple t u)) P (distinct r) (all_distinct P r (All-tail P t r all)))
+    All-cons P t _ (all 0 t (omega arith)) (All-filter (λ u. not (same_tuple t u)) P (distinct_tuples r) (all_distinct P r (All-tail P t r all)))
 
-few_distinct : (r : Relation) → length (distinct r) ≤ length r
+few_distinct : (r : Relation) → length (distinct_tuples r) ≤ length r
 few_distinct [] = omega arith
 few_distinct (t ∷ r) =
-    let both = length-filter_both (λ u. not (same_tuple t u)) (λ u. not (not (same_tuple t u))) (λ u. refl) (distinct r) in
+    let both = length-filter_both (λ u. not (same_tuple t u)) (λ u. not (not (same_tuple t u))) (λ u. refl) (distinct_tuples r) in
     omega (arith, few_distinct r, both)
 
 -- ---- one table
-table_back : (s : Schema) (rows : Relation) (number : ℕ) (x : Places) → All (λ name. IsTrue (is_name name)) (names_of s)
+table_back : (s : Schema) (rows : Relation) (number : ℕ) (x : Attributes) → All (λ name. IsTrue (is_name name)) (names_of s)
     → IsOver (width_of s) rows → TypedFor s rows → length rows ≤ MOST_ROWS → 0 < count_below x (width_of s)
     → PartOf s (table_file Csv (table_of s rows number x)).bytes (Ok (ordered_projection x rows))
 table_back s rows number x proper over typed few some =
@@ -50,13 +50,13 @@ table_back s rows number x proper over typed few some =
     (omega (arith, few, few_distinct (projection x rows), length-map rows (project_tuple x)))
 
 -- ---- all tables
-pub tables_back : (s : Schema) (rows : Relation) (number : ℕ) (plan : List Places)
+pub tables_back : (s : Schema) (rows : Relation) (number : ℕ) (plan : List Attributes)
     → All (λ name. IsTrue (is_name name)) (names_of s) → IsOver (width_of s) rows → TypedFor s rows
-    → length rows ≤ MOST_ROWS → All (λ (x : Places). 0 < count_below x (width_of s)) plan
+    → length rows ≤ MOST_ROWS → All (λ (x : Attributes). 0 < count_below x (width_of s)) plan
     → All (λ (table : TableValue). PartOf s (table_file Csv table).bytes (Ok table.rows)) (tables_from s rows number plan)
 tables_back s rows number [] proper over typed few some = λ i d l. absurd (omega (arith, l))
 tables_back s rows number (x ∷ plan) proper over typed few some =
     let Back : TableValue → Type 0 = λ table. PartOf s (table_file Csv table).bytes (Ok table.rows) in
     All-cons Back (table_of s rows number x) (tables_from s rows (number + 1) plan)
     (table_back s rows number x proper over typed few (some 0 x (omega arith)))
-    (tables_back s rows (number + 1) plan proper over typed few (All-tail (λ (y : Places). 0 < count_below y (width_of s)) x plan some))
+    (tables_back s rows (number + 1) plan proper over typed few (All-tail (λ (y : Attributes). 0 < count_below y (width_of s)) x plan some))

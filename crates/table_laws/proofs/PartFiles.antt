@@ -8,8 +8,8 @@ use Rattle.std.proofs.lemmas.Bool.Decides.{nat_tests}
 use Rattle.std.proofs.lemmas.List.{append_assoc, append-nil, length-append, length-map, ext_get_or}
 use Rattle.std.proofs.lemmas.List.Elements.{All-cons, All-tail}
 use Rattle.std.proofs.lemmas.List.Sums.{position_or_len_is}
-use Rattle.attr_sets.specs.Places.{Places, count_below}
-use Rattle.attr_sets.proofs.PlacesLemmas.{count_below-place}
+use Rattle.attr_sets.specs.Attributes.{Attributes, count_below}
+use Rattle.attr_sets.proofs.AttributesLemmas.{count_below-before_member, same_at}
 use Rattle.csv_migrate.proofs.ProjectionLemmas.{column_count}
 use Rattle.csv_rows.specs.Columns.{with_columns, column_of, columns_of_header, columns_from, ◌>>=◌}
 use Rattle.csv_rows.specs.Reading.{value_of, tuple_of, RowOf, AreFirstRows, PartOf, TableOf}
@@ -25,11 +25,11 @@ use Rattle.dep_model.specs.Integers.{IsIntegerText}
 use Rattle.dep_model.specs.Names.{is_name, same_name}
 use Rattle.dep_model.specs.OnSchemes.{value_in}
 use Rattle.dep_model.specs.Projections.{members_below}
-use Rattle.dep_model.specs.Schemas.{names_of, width_of, place_named, columns_of as types_of}
+use Rattle.dep_model.specs.Schemas.{names_of, width_of, attribute_named, columns_of as types_of}
 use Rattle.dep_model.specs.Tuples.{Tuple, Relation, IsOver, value_at}
 use Rattle.dep_model.specs.declared.column.Column.TheVariants.{Integer}
 use Rattle.dep_model.specs.declared.schema.Schema.{Schema}
-use Rattle.dep_model.proofs.NameLemmas.{found_at}
+use Rattle.dep_model.proofs.NameLemmas.{attribute_named-append}
 use Rattle.dep_model.proofs.SchemeLemmas.{length-members_below, members_below-none, members_below-member, members_below-outside, members_below-at, members_below-one_more, members_below-no_more}
 use Rattle.schema_printer.specs.Printing.{members_from}
 
@@ -47,13 +47,13 @@ and_false true = refl
 and_false false = refl
 
 -- ---- the members of a set, as the columns of a header
-named_members : (x : Places) (m k : ℕ) → with_columns (members_below m x) k ≡ (nat_lt k m && x k)
+named_members : (x : Attributes) (m k : ℕ) → with_columns (members_below m x) k ≡ (nat_lt k m && x k)
 named_members x zero k =
     let none : nat_lt k zero ≡ false = grind (arith, nat_tests) in
     ap (λ (l : List ℕ). with_columns l k) (members_below-none x) ∙ sym (ap (λ (b : Bool). b && x k) none)
 named_members x (suc m) k = elim (cases_Bool (x m)) [
   | inl inside ↦
-      ap (λ (l : List ℕ). with_columns l k) (members_below-member m x inside) ∙ named_after (members_below m x) m k
+      ap (λ (l : List ℕ). with_columns l k) (members_below-member m x inside) ∙ same_at (named_after (members_below m x) m) k
       ∙ ap (λ (b : Bool). b || (k == m)) (named_members x m k) ∙ at inside (cases_eq k m)
   | inr outside ↦
       ap (λ (l : List ℕ). with_columns l k) (members_below-outside m x outside) ∙ named_members x m k
@@ -82,7 +82,7 @@ named_members x (suc m) k = elim (cases_Bool (x m)) [
         let same : nat_lt k m ≡ nat_lt k (suc m) = grind (arith, nat_tests, other) in
         ap (λ (b : Bool). b && x k) same
 
-members_same : (n : ℕ) (x y : Places) → ((k : ℕ) → k < n → x k ≡ y k) → members_below n x ≡ members_below n y
+members_same : (n : ℕ) (x y : Attributes) → ((k : ℕ) → k < n → x k ≡ y k) → members_below n x ≡ members_below n y
 members_same zero x y same = members_below-none x ∙ sym (members_below-none y)
 members_same (suc n) x y same =
     let low = members_same n x y (λ k less. same k (omega (arith, less))) in
@@ -96,13 +96,13 @@ members_same (suc n) x y same =
     ]
 
 -- the attributes of the columns are the members
-columns_are : (n : ℕ) (x : Places) → members_below n (with_columns (members_below n x)) ≡ members_below n x
+columns_are : (n : ℕ) (x : Attributes) → members_below n (with_columns (members_below n x)) ≡ members_below n x
 columns_are n x =
     members_same n (with_columns (members_below n x)) x
     (λ k less. let low : nat_lt k n ≡ true = grind (arith, nat_tests, less) in named_members x n k ∙ ap (λ (b : Bool). b && x k) low)
 
 -- ---- the header
-part_columns_from : (x : Places) (before after : List (List ℕ))
+part_columns_from : (x : Attributes) (before after : List (List ℕ))
     → AllPairs (λ a b. same_name a b ≡ false) (before ++ after)
     → columns_from (before ++ after) (members_below (length before) x) (members_from x (length before) after)
     ≡ Ok (members_below (length (before ++ after)) x)
@@ -124,11 +124,11 @@ part_columns_from x before (name ∷ after) differ =
     elim (cases_Bool (x m)) [
       | inl inside ↦
           let none : All (λ b. same_name b name ≡ false) before = λ k d h. other_name before name after k d h differ in
-          let place : place_named names name ≡ Some m = found_at before name after none in
+          let place : attribute_named names name ≡ Some m = attribute_named-append before name after none in
           let low : nat_lt m m ≡ false = grind (arith, nat_tests) in
           let free : with_columns (members_below m x) m ≡ false = named_members x m m ∙ ap (λ (b : Bool). b && x m) low in
           let column : column_of (length (members_below m x) + 1) (with_columns (members_below m x))
-          (place_named names name) ≡ Ok m =
+          (attribute_named names name) ≡ Ok m =
           own_column _ m _ _ place free in
           ap (λ (b : Bool). columns_from names (members_below m x)
           (if b then name ∷ members_from x (m + 1) after else members_from x (m + 1) after)) inside
@@ -145,14 +145,14 @@ part_columns_from x before (name ∷ after) differ =
           ∙ rest
     ]
 
-part_columns : (names : List (List ℕ)) (x : Places) → AllPairs (λ a b. same_name a b ≡ false) names
+part_columns : (names : List (List ℕ)) (x : Attributes) → AllPairs (λ a b. same_name a b ≡ false) names
     → columns_of_header names (members_from x 0 names) ≡ Ok (members_below (length names) x)
 part_columns names x differ =
     ap (λ (l : List ℕ). columns_from names l (members_from x 0 names)) (sym (members_below-none x))
     ∙ part_columns_from x [] names differ
 
 -- ---- the rows
-column_is : (n : ℕ) (x : Places) (k : ℕ) → k < length (members_below n x)
+column_is : (n : ℕ) (x : Attributes) (k : ℕ) → k < length (members_below n x)
     → position_or_len (nat_eq (get_or (members_below n x) k 0)) (members_below n x) ≡ k
 column_is n x k small =
     let ms = members_below n x in
@@ -177,11 +177,11 @@ column_is n x k small =
         by (inr other) = grind (arith, nat_tests, other)
 
 -- the value in the column of a member
-value_is : (n : ℕ) (x : Places) (t : Tuple) (k : ℕ) → k < length (members_below n x)
+value_is : (n : ℕ) (x : Attributes) (t : Tuple) (k : ℕ) → k < length (members_below n x)
     → value_of (members_below n x) t (get_or (members_below n x) k 0) ≡ value_at t k
 value_is n x t k small = ap (λ (j : ℕ). slice_index_or t j []) (column_is n x k small)
 
-tuple_is : (n : ℕ) (x : Places) (t : Tuple) → length t ≡ count_below x n → t ≡ tuple_of n (members_below n x) t
+tuple_is : (n : ℕ) (x : Attributes) (t : Tuple) → length t ≡ count_below x n → t ≡ tuple_of n (members_below n x) t
 tuple_is n x t size =
     let ms = members_below n x in
     let count : length ms ≡ count_below x n = length-members_below n x in
@@ -193,10 +193,10 @@ tuple_is n x t size =
     ∙ ap (λ (l : List ℕ). map (value_of ms t) l) (sym (columns_are n x))
 
 -- the values of a tuple over a scheme fit the types of its columns
-abbrev pub Fits : Schema → Places → Tuple → Type 0
+abbrev pub Fits : Schema → Attributes → Tuple → Type 0
 Fits s x t = (k : ℕ) → x k ≡ true → slice_get (types_of s) k ≡ Some Integer → IsIntegerText (value_in x t k)
 
-row_is : (s : Schema) (x : Places) (row : ℕ) (t : Tuple) → length t ≡ count_below x (width_of s) → row ≤ MOST_ROWS
+row_is : (s : Schema) (x : Attributes) (row : ℕ) (t : Tuple) → length t ≡ count_below x (width_of s) → row ≤ MOST_ROWS
     → Fits s x t → RowOf s (members_below (width_of s) x) row t (Ok t)
 row_is s x row t size few typed =
     let n = width_of s in
@@ -208,12 +208,12 @@ row_is s x row t size few typed =
           let is_low : nat_lt a n ≡ true = both.0 in
           let low : a < n = grind (arith, nat_tests, is_low) in
           let c = count_below x a in
-          let small : c < length ms = omega (arith, length-members_below n x, count_below-place n a x low both.1) in
+          let small : c < length ms = omega (arith, length-members_below n x, count_below-before_member n a x low both.1) in
           let at : get_or ms c 0 ≡ a = members_below-at n x a 0 low both.1 in
           subst IsIntegerText (sym (ap (value_of ms t) (sym at) ∙ value_is n x t c small)) (typed a both.1 has.1),
     )
 
-members_all : (P : List ℕ → Type 0) (x : Places) (k : ℕ) (names : List (List ℕ)) → All P names
+members_all : (P : List ℕ → Type 0) (x : Attributes) (k : ℕ) (names : List (List ℕ)) → All P names
     → All P (members_from x k names)
 members_all P x k [] all = all
 members_all P x k (name ∷ names) all =
@@ -225,7 +225,7 @@ members_all P x k (name ∷ names) all =
     by false rest = rest
 
 -- a text of rows over a scheme that has an attribute
-pub part_back : (s : Schema) (x : Places) (rows : Relation) → All (λ name. IsTrue (is_name name)) (names_of s)
+pub part_back : (s : Schema) (x : Attributes) (rows : Relation) → All (λ name. IsTrue (is_name name)) (names_of s)
     → 0 < count_below x (width_of s) → IsOver (count_below x (width_of s)) rows → All (Fits s x) rows
     → length rows ≤ MOST_ROWS → PartOf s (rows_text (members_from x 0 (names_of s)) rows) (Ok rows)
 part_back s x rows proper some over typed few =

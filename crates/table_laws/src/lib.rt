@@ -1,10 +1,10 @@
-//! Laws of the files of tables: what a target over a folder writes of a table as CSV is read back as the
-//! table's rows.
+//! Laws of the files of tables: what a destination over a folder writes of a table as CSV is read back
+//! as the table's rows.
 #![tactic(auto)]
 
 ghost use Rattle.std.specs.Prelude.{◌≡◌, ◌<◌, ◌≤◌, ℕ, true, List, length, slice_get, Some, All, IsTrue, Ok};
-ghost use Rattle.attr_sets.specs.Places.{Places, count_below};
-ghost use Rattle.csv_migrate.specs.Migration.{column_names, migrated};
+ghost use Rattle.attr_sets.specs.Attributes.{Attributes, count_below};
+ghost use Rattle.csv_migrate.specs.Migration.{column_names, tables_of_migration};
 ghost use Rattle.csv_rows.specs.Reading.{RowsOf, PartOf};
 ghost use Rattle.csv_rows.specs.declared.reading.TheConstants.{MOST_ROWS};
 ghost use Rattle.dep_model.specs.Integers.{IsIntegerText};
@@ -15,8 +15,8 @@ ghost use Rattle.dep_model.specs.Tuples.{Relation, IsOver};
 ghost use Rattle.dep_model.specs.declared.column.Column.TheVariants.{Integer};
 ghost use Rattle.dep_model.specs.declared.schema.Schema.{Schema};
 ghost use Rattle.named_tables.specs.Tables.{TableValue};
-ghost use Rattle.targets.specs.Formats.{table_file};
-ghost use Rattle.targets.specs.declared.format.TableFormat.TheVariants.{Csv};
+ghost use Rattle.destinations.specs.Formats.{table_file};
+ghost use Rattle.destinations.specs.declared.format.TableFormat.TheVariants.{Csv};
 
 /// The CSV file of a table means its rows, where they fit the types of the columns and are no more than a
 /// file may have: of a table with all attributes of a schema, and of one with some of them, at least one.
@@ -24,7 +24,7 @@ pub fn files_of_tables_are_read_back()
     ensures whole { (s : Schema) (table : TableValue) → All (λ name. IsTrue (is_name name)) (names_of s)
         → table.columns ≡ names_of s → IsOver (width_of s) table.rows → TypedFor s table.rows
         → length table.rows ≤ MOST_ROWS → RowsOf s (table_file Csv table).bytes (Ok table.rows) }
-    ensures part { (s : Schema) (x : Places) (table : TableValue)
+    ensures part { (s : Schema) (x : Attributes) (table : TableValue)
         → All (λ name. IsTrue (is_name name)) (names_of s) → 0 < count_below x (width_of s)
         → table.columns ≡ column_names s x → IsOver (count_below x (width_of s)) table.rows
         → All (λ t. (k : ℕ) → x k ≡ true → slice_get (columns_of s) k ≡ Some Integer
@@ -35,8 +35,9 @@ pub fn files_of_tables_are_read_back()
 /// The CSV file of each table of a migration means the rows of that table, where the rows that were migrated
 /// fit the types of the columns and are no more than a file may have, and no scheme of the plan is empty.
 pub fn migrated_tables_are_read_back()
-    ensures law { (s : Schema) (plan : List Places) (rows : Relation)
+    ensures law { (s : Schema) (plan : List Attributes) (rows : Relation)
         → All (λ name. IsTrue (is_name name)) (names_of s) → IsOver (width_of s) rows → TypedFor s rows
         → length rows ≤ MOST_ROWS → All (λ scheme. 0 < count_below scheme (width_of s)) plan
-        → All (λ table. PartOf s (table_file Csv table).bytes (Ok table.rows)) (migrated s plan rows) }
+        → All (λ table. PartOf s (table_file Csv table).bytes (Ok table.rows))
+        (tables_of_migration s plan rows) }
 {}

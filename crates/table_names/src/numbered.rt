@@ -17,5 +17,5 @@ pub fn table_name(number: u32) -> Name
 {
     let mut bytes = [b't'; MOST_BYTES];
     let start = write_digits(number as u64, &mut bytes, MOST_BYTES);
-    Name::make(&bytes[start - 1..]).unwrap()
+    Name::new(&bytes[start - 1..]).unwrap()
 }

@@ -8,19 +8,19 @@ use Rattle.std.specs.Bool.{Decides}
 use Rattle.std.specs.Cmp.Lexicographic.{pointwise, pointwise_decides}
 use Rattle.std.specs.List.{range_with_len}
 use Rattle.std.specs.Prelude.{◌↔◌, nat_eq, if◌then◌else◌, Contains, MatchOption}
-use Rattle.attr_sets.specs.Places.{Places, below, union, minus, Within}
-use Rattle.attr_sets.specs.Sets.{is_within}
-use Rattle.attr_sets.specs.declared.set.TheConstants.{PLACES}
-use Rattle.attr_sets.proofs.PlacesLemmas.{is_within-true}
+use Rattle.attr_sets.specs.Attributes.{Attributes, below, union, difference, IsSubset}
+use Rattle.attr_sets.specs.Sets.{is_subset}
+use Rattle.attr_sets.specs.declared.set.TheConstants.{MOST_ATTRIBUTES}
+use Rattle.attr_sets.proofs.AttributesLemmas.{is_subset-true}
 use Rattle.dep_model.specs.Tuples.{Tuple, Relation, value_at, AgreeOn, IsOver, same_tuple}
 use Rattle.dep_model.specs.Dependencies.{Dependency, fd, mvd, ObeysFd, ObeysMvd, Obeys, IsWithin}
 use Rattle.dep_model.specs.Projections.{project_tuple}
 use Rattle.dep_model.proofs.DistinctLemmas.{same_tuple-decides}
-use Rattle.dep_model.proofs.JoinLemmas.{agreeing, projected-from}
+use Rattle.dep_model.proofs.JoinLemmas.{projected_tuple_agrees, projected-from}
 use Rattle.dep_model.proofs.ListLemmas.{Contains-head, Contains-later, Contains-cases}
 use Rattle.dep_model.proofs.RuleLemmas.{reflexivity_obeyed, mreflexivity_obeyed}
 use Rattle.dep_model.proofs.TwoRowLemmas.{AgreeOn-refl, AgreeOn-sym, AgreeOn-union, AgreeOn-trans}
-use Rattle.dep_model.proofs.TupleLemmas.{IsOver-length, same_tuples}
+use Rattle.dep_model.proofs.TupleLemmas.{IsOver-length, same_tuple-Contains}
 use Rattle.table_queries.specs.Queries.{Query, whole, values_on, several, join, except, breaches_of}
 use Rattle.table_queries.specs.Meanings.{GivesNone}
 
@@ -45,7 +45,7 @@ tell_tuple (u ∷ r) t = elim (cases_Bool (same_tuple t u)) [
 ]
 
 -- ---- functional dependencies
-fd_tells : (n : ℕ) (x y : Places) (r : Relation) → IsOver n r → GivesNone n (several x (union x y)) r ↔ ObeysFd x y r
+fd_tells : (n : ℕ) (x y : Attributes) (r : Relation) → IsOver n r → GivesNone n (several x (union x y)) r ↔ ObeysFd x y r
 fd_tells n x y r over = (to, from)
   where
     to : GivesNone n (several x (union x y)) r → ObeysFd x y r
@@ -80,48 +80,48 @@ fd_tells n x y r over = (to, from)
         found.differ (AgreeOn-union x y u v agree (obeys u v found.first found.second agree))
 
 -- ---- a tuple with the values of one on a set, and of another elsewhere
-abbrev spliced : ℕ → Places → Tuple → Tuple → Tuple
-spliced n z t u = map (λ k. if z k then value_at t k else value_at u k) (range_with_len 0 n)
+abbrev splice : ℕ → Attributes → Tuple → Tuple → Tuple
+splice n z t u = map (λ k. if z k then value_at t k else value_at u k) (range_with_len 0 n)
 
-length-spliced : (n : ℕ) (z : Places) (t u : Tuple) → length (spliced n z t u) ≡ n
-length-spliced n z t u = length-map-range_with_len (λ (k : ℕ). if z k then value_at t k else value_at u k) 0 n
+length-splice : (n : ℕ) (z : Attributes) (t u : Tuple) → length (splice n z t u) ≡ n
+length-splice n z t u = length-map-range_with_len (λ (k : ℕ). if z k then value_at t k else value_at u k) 0 n
 
-value_at-spliced : (n : ℕ) (z : Places) (t u : Tuple) (k : ℕ) → k < n → value_at (spliced n z t u) k ≡ (if z k then value_at t k else value_at u k)
-value_at-spliced n z t u k low = get_or-map-range_with_len (λ (j : ℕ). if z j then value_at t j else value_at u j) 0 n k k [] low (omega arith)
+value_at-splice : (n : ℕ) (z : Attributes) (t u : Tuple) (k : ℕ) → k < n → value_at (splice n z t u) k ≡ (if z k then value_at t k else value_at u k)
+value_at-splice n z t u k low = get_or-map-range_with_len (λ (j : ℕ). if z j then value_at t j else value_at u j) 0 n k k [] low (omega arith)
 
-spliced-past : (n : ℕ) (z : Places) (t u s : Tuple) (k : ℕ) → length s ≡ n → n ≤ k → value_at (spliced n z t u) k ≡ value_at s k
-spliced-past n z t u s k long past =
-    get_or_past (spliced n z t u) k [] (omega (arith, length-spliced n z t u, past))
+splice-past : (n : ℕ) (z : Attributes) (t u s : Tuple) (k : ℕ) → length s ≡ n → n ≤ k → value_at (splice n z t u) k ≡ value_at s k
+splice-past n z t u s k long past =
+    get_or_past (splice n z t u) k [] (omega (arith, length-splice n z t u, past))
     ∙ sym (get_or_past s k [] (omega (arith, long, past)))
 
-spliced-inside : (n : ℕ) (z : Places) (t u : Tuple) → length t ≡ n → AgreeOn z t (spliced n z t u)
-spliced-inside n z t u long k m = elim (cases_lt k n) [
-  | inl low ↦ sym (value_at-spliced n z t u k low ∙ ap (λ (b : Bool). if b then value_at t k else value_at u k) m)
-  | inr past ↦ sym (spliced-past n z t u t k long (omega (arith, past)))
+splice-inside : (n : ℕ) (z : Attributes) (t u : Tuple) → length t ≡ n → AgreeOn z t (splice n z t u)
+splice-inside n z t u long k m = elim (cases_lt k n) [
+  | inl low ↦ sym (value_at-splice n z t u k low ∙ ap (λ (b : Bool). if b then value_at t k else value_at u k) m)
+  | inr past ↦ sym (splice-past n z t u t k long (omega (arith, past)))
 ]
 
-spliced-outside : (n : ℕ) (z : Places) (t u : Tuple) (k : ℕ) → length u ≡ n → z k ≡ false → value_at u k ≡ value_at (spliced n z t u) k
-spliced-outside n z t u k long out = elim (cases_lt k n) [
-  | inl low ↦ sym (value_at-spliced n z t u k low ∙ ap (λ (b : Bool). if b then value_at t k else value_at u k) out)
-  | inr past ↦ sym (spliced-past n z t u u k long (omega (arith, past)))
+splice-outside : (n : ℕ) (z : Attributes) (t u : Tuple) (k : ℕ) → length u ≡ n → z k ≡ false → value_at u k ≡ value_at (splice n z t u) k
+splice-outside n z t u k long out = elim (cases_lt k n) [
+  | inl low ↦ sym (value_at-splice n z t u k low ∙ ap (λ (b : Bool). if b then value_at t k else value_at u k) out)
+  | inr past ↦ sym (splice-past n z t u u k long (omega (arith, past)))
 ]
 
 -- ---- multivalued dependencies
-abbrev rest_of : ℕ → Places → Places → Places
-rest_of n x y = minus (below n) (union x y)
+abbrev rest_of : ℕ → Attributes → Attributes → Attributes
+rest_of n x y = difference (below n) (union x y)
 
-abbrev breaches : ℕ → Places → Places → Query
-breaches n x y = except (join (values_on (union x y)) (values_on (union x (rest_of n x y)))) whole
+abbrev mvd_breaches : ℕ → Attributes → Attributes → Query
+mvd_breaches n x y = except (join (values_on (union x y)) (values_on (union x (rest_of n x y)))) whole
 
-mvd_tells : (n : ℕ) (x y : Places) (r : Relation) → IsOver n r → GivesNone n (breaches n x y) r ↔ ObeysMvd (below n) x y r
+mvd_tells : (n : ℕ) (x y : Attributes) (r : Relation) → IsOver n r → GivesNone n (mvd_breaches n x y) r ↔ ObeysMvd (below n) x y r
 mvd_tells n x y r over = (to, from)
   where
-    to : GivesNone n (breaches n x y) r → ObeysMvd (below n) x y r
+    to : GivesNone n (mvd_breaches n x y) r → ObeysMvd (below n) x y r
     to none t u t_in u_in agree =
-        let w = spliced n (union x y) t u in
-        let long = length-spliced n (union x y) t u in
-        let on_xy = spliced-inside n (union x y) t u (IsOver-length n r t over t_in) in
-        let outside = λ (k : ℕ) (out : union x y k ≡ false). spliced-outside n (union x y) t u k (IsOver-length n r u over u_in) out in
+        let w = splice n (union x y) t u in
+        let long = length-splice n (union x y) t u in
+        let on_xy = splice-inside n (union x y) t u (IsOver-length n r t over t_in) in
+        let outside = λ (k : ℕ) (out : union x y k ≡ false). splice-outside n (union x y) t u k (IsOver-length n r u over u_in) out in
         let on_xz : AgreeOn (union x (rest_of n x y)) u w = λ (k : ℕ) m. elim (cases_Bool (x k)) [
           | inl in_x ↦ sym (agree k in_x) ∙ on_xy k (grind (arith, in_x))
           | inr out ↦ outside k (grind (arith, m, out))
@@ -136,14 +136,14 @@ mvd_tells n x y r over = (to, from)
           }))
         ]
 
-    from : ObeysMvd (below n) x y r → GivesNone n (breaches n x y) r
+    from : ObeysMvd (below n) x y r → GivesNone n (mvd_breaches n x y) r
     from obeys s given =
         let t = given.tuple in
-        let u = agreeing r t (union x y) given.gives.0.0 in
-        let v = agreeing r t (union x (rest_of n x y)) given.gives.0.1 in
+        let u = projected_tuple_agrees r t (union x y) given.gives.0.0 in
+        let v = projected_tuple_agrees r t (union x (rest_of n x y)) given.gives.0.1 in
         let agree : AgreeOn x u.0 v.0 = λ (k : ℕ) m. u.2 k (grind (arith, m)) ∙ sym (v.2 k (grind (arith, m))) in
         let w = obeys u.0 v.0 u.1 v.1 agree in
-        let same : w.0 ≡ t = same_tuples n w.0 t (IsOver-length n r w.0 over w.1) given.over (λ (k : ℕ) low. elim (cases_Bool (union x y k)) [
+        let same : w.0 ≡ t = same_tuple-Contains n w.0 t (IsOver-length n r w.0 over w.1) given.over (λ (k : ℕ) low. elim (cases_Bool (union x y k)) [
           | inl m ↦ w.2 k m ∙ u.2 k m
           | inr out ↦
               let rest : rest_of n x y k ≡ true = grind (arith, nat_tests, low, out) in
@@ -152,27 +152,27 @@ mvd_tells n x y r over = (to, from)
         given.gives.1 (subst (λ (z : Tuple). Contains r z) same w.1)
 
 -- where the universe lies within xy nothing is left
-mvd_whole : (n : ℕ) (x y : Places) (r : Relation) → Within (below n) (union x y) → ObeysMvd (below n) x y r
+mvd_whole : (n : ℕ) (x y : Attributes) (r : Relation) → IsSubset (below n) (union x y) → ObeysMvd (below n) x y r
 mvd_whole n x y r inside t u t_in u_in agree =
     (t, t_in, AgreeOn-refl (union x y) t, λ (k : ℕ) m. absurd (let all = inside k in grind (arith, m, all)))
 
 -- ---- the law
 
-pub breaches_tell : (n : ℕ) (d : Dependency) (r : Relation) → n ≤ PLACES → IsWithin (below n) d → IsOver n r
+pub breaches_tell : (n : ℕ) (d : Dependency) (r : Relation) → n ≤ MOST_ATTRIBUTES → IsWithin (below n) d → IsOver n r
     → MatchOption (breaches_of n d) (Obeys n d r) (λ q. GivesNone n q r ↔ Obeys n d r)
 breaches_tell n (fd x y) r few inside over =
-    let low : Within y (below PLACES) = λ (k : ℕ) m. let at = inside.1 k m in grind (arith, nat_tests, at, few) in
-    elim (cases_Bool (is_within y x)) [
-      | inl within ↦ rw within (reflexivity_obeyed x y r (is_within-true y x low within))
+    let low : IsSubset y (below MOST_ATTRIBUTES) = λ (k : ℕ) m. let at = inside.1 k m in grind (arith, nat_tests, at, few) in
+    elim (cases_Bool (is_subset y x)) [
+      | inl within ↦ rw within (reflexivity_obeyed x y r (is_subset-true y x low within))
       | inr beyond ↦ rw beyond (fd_tells n x y r over)
     ]
 breaches_tell n (mvd x y) r few inside over =
-    let low : Within y (below PLACES) = λ (k : ℕ) m. let at = inside.1 k m in grind (arith, nat_tests, at, few) in
-    let all_low : Within (below n) (below PLACES) = λ (k : ℕ) m. grind (arith, nat_tests, m, few) in
-    elim (cases_Bool (is_within y x)) [
-      | inl within ↦ rw within (mreflexivity_obeyed (below n) x y r (is_within-true y x low within))
-      | inr beyond ↦ elim (cases_Bool (is_within (below n) (union x y))) [
-        | inl all ↦ rw (beyond, all) (mvd_whole n x y r (is_within-true (below n) (union x y) all_low all))
+    let low : IsSubset y (below MOST_ATTRIBUTES) = λ (k : ℕ) m. let at = inside.1 k m in grind (arith, nat_tests, at, few) in
+    let all_low : IsSubset (below n) (below MOST_ATTRIBUTES) = λ (k : ℕ) m. grind (arith, nat_tests, m, few) in
+    elim (cases_Bool (is_subset y x)) [
+      | inl within ↦ rw within (mreflexivity_obeyed (below n) x y r (is_subset-true y x low within))
+      | inr beyond ↦ elim (cases_Bool (is_subset (below n) (union x y))) [
+        | inl all ↦ rw (beyond, all) (mvd_whole n x y r (is_subset-true (below n) (union x y) all_low all))
         | inr some ↦ rw (beyond, some) (mvd_tells n x y r over)
       ]
     ]

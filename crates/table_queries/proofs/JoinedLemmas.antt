@@ -2,7 +2,7 @@
 use Rattle.std.proofs.Common.{◌≡◌, ℕ, ◌<◌, true, List, [], ◌∷◌, length, map, refl, sym, subst, ◌∙◌, ⊎_elim, arith}
 use Rattle.std.proofs.lemmas.List.Elements.{All-contains}
 use Rattle.std.specs.Prelude.{◌↔◌, Contains}
-use Rattle.attr_sets.specs.Places.{Places}
+use Rattle.attr_sets.specs.Attributes.{Attributes}
 use Rattle.dep_model.specs.Tuples.{Tuple, Relation, IsOver}
 use Rattle.dep_model.specs.Dependencies.{Dependency}
 use Rattle.dep_model.specs.Implication.{IsLegal}
@@ -11,11 +11,11 @@ use Rattle.dep_model.proofs.DistinctLemmas.{ordered_projection-same}
 use Rattle.dep_model.proofs.JoinLemmas.{IsProjected, in_join-from}
 use Rattle.dep_model.proofs.ListLemmas.{Contains-map, Contains-later, Contains-cases, map-member}
 use Rattle.dep_model.proofs.SchemeLemmas.{project_tuple-whole}
-use Rattle.table_queries.specs.Queries.{Query, StoredTable, values_on, join, stored_query, attributes_of, joined_with, plan_join, lacking, exceeding}
+use Rattle.table_queries.specs.Queries.{Query, StoredTable, values_on, join, stored_query, attributes_of, joined_with, plan_join, table_beyond_view, view_beyond_table}
 use Rattle.table_queries.specs.Meanings.{Gives, IsGiven, GivesNone}
 
 -- ---- the values on a scheme
-pub values_given : (n : ℕ) (scheme : Places) (r : Relation) (u : Tuple) → IsOver n r → IsGiven n (values_on scheme) r u ↔ Contains (ordered_projection scheme r) u
+pub values_given : (n : ℕ) (scheme : Attributes) (r : Relation) (u : Tuple) → IsOver n r → IsGiven n (values_on scheme) r u ↔ Contains (ordered_projection scheme r) u
 values_given n scheme r u over = (to, from)
   where
     to : IsGiven n (values_on scheme) r u → Contains (ordered_projection scheme r) u
@@ -90,30 +90,30 @@ attributes_in n (first ∷ tables) table k h m = ⊎_elim
     (λ later. later_attributes n (stored_query first) tables table k later m)
     (Contains-cases first tables table h)
 
-abbrev pub schemes : List StoredTable → List Places
-schemes tables = map (λ table. table.scheme) tables
+abbrev pub schemes_of_tables : List StoredTable → List Attributes
+schemes_of_tables tables = map (λ table. table.scheme) tables
 
-pub all_attributes : (n : ℕ) (tables : List StoredTable) → Covers n (schemes tables) → (k : ℕ) → k < n → attributes_of n (plan_join tables) k ≡ true
+pub all_attributes : (n : ℕ) (tables : List StoredTable) → Covers n (schemes_of_tables tables) → (k : ℕ) → k < n → attributes_of n (plan_join tables) k ≡ true
 all_attributes n tables covers k low =
     let has = covers k low in
     let found = map-member (λ (table : StoredTable). table.scheme) tables has.1 (has.0, has.2, has.3) in
-    attributes_in n tables found.0 k found.1 (subst (λ (z : Places). z k ≡ true) (sym found.2) has.4)
+    attributes_in n tables found.0 k found.1 (subst (λ (z : Attributes). z k ≡ true) (sym found.2) has.4)
 
 -- ---- the tables of a lossless plan
-gives_legal : (n : ℕ) (ds : List Dependency) (tables : List StoredTable) (r : Relation) (t : Tuple) → IsLossless n ds (schemes tables) → IsLegal n ds r
+gives_legal : (n : ℕ) (ds : List Dependency) (tables : List StoredTable) (r : Relation) (t : Tuple) → IsLossless n ds (schemes_of_tables tables) → IsLegal n ds r
     → length t ≡ n → Gives (plan_join tables) r t → Contains r t
 gives_legal n ds tables r t lossless legal long given =
-    lossless.gains_none r legal t (in_join-from n (schemes tables) r t long (λ scheme h.
+    lossless.gains_none r legal t (in_join-from n (schemes_of_tables tables) r t long (λ scheme h.
     let found = map-member (λ (table : StoredTable). table.scheme) tables scheme h in
-    subst (λ (z : Places). IsProjected r t z) found.2 (join-to tables r t given found.0 found.1)))
+    subst (λ (z : Attributes). IsProjected r t z) found.2 (join-to tables r t given found.0 found.1)))
 
-legal_gives : (n : ℕ) (ds : List Dependency) (tables : List StoredTable) (r : Relation) (t : Tuple) → 0 < n → IsLossless n ds (schemes tables)
+legal_gives : (n : ℕ) (ds : List Dependency) (tables : List StoredTable) (r : Relation) (t : Tuple) → 0 < n → IsLossless n ds (schemes_of_tables tables)
     → Contains r t → Gives (plan_join tables) r t
 legal_gives n ds [] r t some lossless t_in = let has = lossless.covers 0 some in absurd (omega (arith, has.2))
 legal_gives n ds (first ∷ tables) r t some lossless t_in =
     joined-from (stored_query first) tables r t (Contains-map (project_tuple first.scheme) r t t_in) (λ table h. Contains-map (project_tuple table.scheme) r t t_in)
 
-pub join_given : (n : ℕ) (ds : List Dependency) (tables : List StoredTable) (r : Relation) → 0 < n → IsLossless n ds (schemes tables) → IsLegal n ds r
+pub join_given : (n : ℕ) (ds : List Dependency) (tables : List StoredTable) (r : Relation) → 0 < n → IsLossless n ds (schemes_of_tables tables) → IsLegal n ds r
     → (t : Tuple) → IsGiven n (plan_join tables) r t ↔ Contains r t
 join_given n ds tables r some lossless legal t = (to, from)
   where
@@ -130,8 +130,8 @@ join_given n ds tables r some lossless legal t = (to, from)
         let long : length t ≡ n = All-contains (λ (u : Tuple). length u ≡ n) r t legal.over t_in in
         record { tuple = t; over = long; gives = legal_gives n ds tables r t some lossless t_in; values = sym (its_own t long) }
 
-pub nothing_left : (n : ℕ) (ds : List Dependency) (name : List ℕ) (tables : List StoredTable) (r : Relation) → 0 < n → IsLossless n ds (schemes tables) → IsLegal n ds r
-    → GivesNone n (lacking name tables) r × GivesNone n (exceeding name tables) r
+pub nothing_left : (n : ℕ) (ds : List Dependency) (name : List ℕ) (tables : List StoredTable) (r : Relation) → 0 < n → IsLossless n ds (schemes_of_tables tables) → IsLegal n ds r
+    → GivesNone n (table_beyond_view name tables) r × GivesNone n (view_beyond_table name tables) r
 nothing_left n ds name tables r some lossless legal = (
   λ u given. given.gives.1 (legal_gives n ds tables r given.tuple some lossless given.gives.0),
   λ u given. given.gives.1 (gives_legal n ds tables r given.tuple lossless legal given.over given.gives.0),

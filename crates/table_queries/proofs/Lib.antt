@@ -1,3 +1,3 @@
 pub mod BreachLemmas
-mod EvenLemmas
+mod CompatibleLemmas
 pub mod JoinedLemmas

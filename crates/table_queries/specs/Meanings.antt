@@ -1,13 +1,13 @@
 -- What a query gives over a relation: for the laws of table_queries and the scripts (`Checking` and
 -- `Migrating` of table_scripts).
 use Rattle.std.specs.Prelude.{◌≡◌, ℕ, length, Contains}
-use Rattle.attr_sets.specs.Places.{Places}
+use Rattle.attr_sets.specs.Attributes.{Attributes}
 use Rattle.dep_model.specs.Tuples.{Tuple, Relation, AgreeOn}
 use Rattle.dep_model.specs.Projections.{project_tuple, projection}
 use Rattle.table_queries.specs.Queries.{Query, whole, values_on, several, join, except, kept, attributes_of}
 
 -- two tuples of a relation agree with a tuple on x, and not with one another on y
-pub record IsBeside (x y : Places) (r : Relation) (t u v : Tuple) : Type 0 where
+pub record IsBeside (x y : Attributes) (r : Relation) (t u v : Tuple) : Type 0 where
   pub first : Contains r u
   pub second : Contains r v
   pub first_agrees : AgreeOn x u t
@@ -23,7 +23,7 @@ Gives (join p q) r t = Gives p r t × Gives q r t
 Gives (except p q) r t = Gives p r t × (Gives q r t → ⊥)
 Gives (kept name q) r t = Gives q r t
 
--- a tuple over its own attributes is one of those that a query gives, over a relation of n attributes
+-- a tuple over a query's own attributes is one of those that it gives, over a relation of n attributes
 pub record IsGiven (n : ℕ) (q : Query) (r : Relation) (u : Tuple) : Type 0 where
   pub tuple : Tuple
   pub over : length tuple ≡ n
@@ -35,10 +35,10 @@ abbrev pub GivesNone : ℕ → Query → Relation → Type 0
 GivesNone n q r = (u : Tuple) → IsGiven n q r u → ⊥
 
 -- the two sides of each difference have the same attributes
-abbrev pub IsEven : ℕ → Query → Type 0
-IsEven n whole = Unit {0}
-IsEven n (values_on x) = Unit {0}
-IsEven n (several x y) = Unit {0}
-IsEven n (join p q) = IsEven n p × IsEven n q
-IsEven n (except p q) = IsEven n p × IsEven n q × (attributes_of n p ≡ attributes_of n q)
-IsEven n (kept name q) = IsEven n q
+abbrev pub IsUnionCompatible : ℕ → Query → Type 0
+IsUnionCompatible n whole = Unit {0}
+IsUnionCompatible n (values_on x) = Unit {0}
+IsUnionCompatible n (several x y) = Unit {0}
+IsUnionCompatible n (join p q) = IsUnionCompatible n p × IsUnionCompatible n q
+IsUnionCompatible n (except p q) = IsUnionCompatible n p × IsUnionCompatible n q × (attributes_of n p ≡ attributes_of n q)
+IsUnionCompatible n (kept name q) = IsUnionCompatible n q

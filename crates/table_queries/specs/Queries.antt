@@ -1,8 +1,8 @@
 -- Queries over one table, as terms, and the queries of the rules and of a plan: for the scripts of
 -- table_scripts.
 use Rattle.std.specs.Prelude.{ℕ, ◌||◌, Option, Some, None, List, [], ◌∷◌, if◌then◌else◌}
-use Rattle.attr_sets.specs.Places.{Places, below, none, union, minus}
-use Rattle.attr_sets.specs.Sets.{is_within}
+use Rattle.attr_sets.specs.Attributes.{Attributes, below, none, union, difference}
+use Rattle.attr_sets.specs.Sets.{is_subset}
 use Rattle.dep_model.specs.Dependencies.{Dependency, fd, mvd}
 
 -- a query over one table
@@ -10,9 +10,9 @@ pub data Query : Type 0 where
   -- the table
   whole : Query
   -- the table's values on a set of attributes
-  values_on : Places → Query
+  values_on : Attributes → Query
   -- those values on the first set that stand beside more than one value on the second
-  several : Places → Places → Query
+  several : Attributes → Attributes → Query
   -- the natural join of two queries
   join : Query → Query → Query
   -- what the first query gives and the second, which has the same attributes, does not
@@ -20,8 +20,8 @@ pub data Query : Type 0 where
   -- what a query gives, kept under a name as a table or a view
   kept : List ℕ → Query → Query
 
--- the attributes of what a query gives, where the table has the places below n
-abbrev pub attributes_of : ℕ → Query → Places
+-- the attributes of what a query gives, where the table has the attributes below n
+abbrev pub attributes_of : ℕ → Query → Attributes
 attributes_of n whole = below n
 attributes_of n (values_on x) = x
 attributes_of n (several x y) = x
@@ -31,15 +31,15 @@ attributes_of n (kept name q) = attributes_of n q
 
 -- ---- rules
 -- what breaks x -> y: values of x beside more than one value of xy
-abbrev pub breaches_of_fd : Places → Places → Option Query
-breaches_of_fd x y = if is_within y x then None else Some (several x (union x y))
+abbrev pub breaches_of_fd : Attributes → Attributes → Option Query
+breaches_of_fd x y = if is_subset y x then None else Some (several x (union x y))
 
 -- what breaks x ->> y: what the join of the parts on xy, and on x and the rest, has beyond the table
-abbrev pub breaches_of_mvd : ℕ → Places → Places → Option Query
+abbrev pub breaches_of_mvd : ℕ → Attributes → Attributes → Option Query
 breaches_of_mvd n x y =
-    if is_within y x || is_within (below n) (union x y) then None
+    if is_subset y x || is_subset (below n) (union x y) then None
     else Some (except (join (values_on (union x y))
-    (values_on (union x (minus (below n) (union x y))))) whole)
+    (values_on (union x (difference (below n) (union x y))))) whole)
 
 -- the query for what breaks a dependency; none where every relation obeys it
 abbrev pub breaches_of : ℕ → Dependency → Option Query
@@ -50,7 +50,7 @@ breaches_of n (mvd x y) = breaches_of_mvd n x y
 -- a table of a plan, by its name and its scheme
 pub record StoredTable : Type 0 where
   pub name : List ℕ
-  pub scheme : Places
+  pub scheme : Attributes
 
 -- what a table of a plan holds
 abbrev pub rows_of : StoredTable → Query
@@ -71,8 +71,8 @@ plan_join [] = values_on none
 plan_join (table ∷ tables) = joined_with (stored_query table) tables
 
 -- what the table has beyond a view on the join, and the view beyond the table
-abbrev pub lacking : List ℕ → List StoredTable → Query
-lacking name tables = except whole (kept name (plan_join tables))
+abbrev pub table_beyond_view : List ℕ → List StoredTable → Query
+table_beyond_view name tables = except whole (kept name (plan_join tables))
 
-abbrev pub exceeding : List ℕ → List StoredTable → Query
-exceeding name tables = except (kept name (plan_join tables)) whole
+abbrev pub view_beyond_table : List ℕ → List StoredTable → Query
+view_beyond_table name tables = except (kept name (plan_join tables)) whole

@@ -3,30 +3,30 @@ use Rattle.std.proofs.Common.{◌≡◌, ◌<◌, ◌≤◌, ◌+◌, ℕ, zero,
 use Rattle.std.specs.Prelude.{◌-◌, if◌then◌else◌, codes, nat_lt}
 use Rattle.std.specs.List.{zip}
 use Rattle.std.proofs.lemmas.List.{take_more, flat_map_more, length-drop}
-use Rattle.attr_sets.specs.Places.{Places}
+use Rattle.attr_sets.specs.Attributes.{Attributes}
 use Rattle.dep_model.specs.Projections.{members_below}
 use Rattle.dep_model.proofs.SchemeLemmas.{members_below-member, members_below-outside}
-use Rattle.sql_names.specs.Names.{separator, listed, has_some}
-use Rattle.sql_names.proofs.ListLemmas.{listed_push, some_pushed, some_before}
+use Rattle.sql_names.specs.Names.{separator, comma_list, has_some}
+use Rattle.sql_names.proofs.ListLemmas.{comma_list-push, some_pushed, some_before}
 use Rattle.table_scripts.specs.Checking.{null_test, null_tests}
 
 -- ---- columns
-pub listed_more : (f : ℕ → List ℕ) (x : Places) (n : ℕ) (some : Bool) (text next piece : List ℕ) → x n ≡ true
-    → text ≡ listed f (members_below n x) → some ≡ has_some (members_below n x) → piece ≡ f n
+pub listed_more : (f : ℕ → List ℕ) (x : Attributes) (n : ℕ) (some : Bool) (text next piece : List ℕ) → x n ≡ true
+    → text ≡ comma_list f (members_below n x) → some ≡ has_some (members_below n x) → piece ≡ f n
     → next ≡ text ++ (if some then separator ++ piece else piece)
-    → next ≡ listed f (members_below (n + 1) x)
+    → next ≡ comma_list f (members_below (n + 1) x)
 listed_more f x n some text next piece inside so_far is_some is added =
     added ∙ ap (λ (t : List ℕ). t ++ (if some then separator ++ piece else piece)) so_far
-    ∙ ap (λ (p : List ℕ). listed f (members_below n x) ++ (if some then separator ++ p else p)) is
-    ∙ ap (λ (b : Bool). listed f (members_below n x) ++ (if b then separator ++ f n else f n)) is_some
-    ∙ sym (listed_push f (members_below n x) n)
-    ∙ ap (listed f) (sym (rw add-one (members_below-member n x inside)))
+    ∙ ap (λ (p : List ℕ). comma_list f (members_below n x) ++ (if some then separator ++ p else p)) is
+    ∙ ap (λ (b : Bool). comma_list f (members_below n x) ++ (if b then separator ++ f n else f n)) is_some
+    ∙ sym (comma_list-push f (members_below n x) n)
+    ∙ ap (comma_list f) (sym (rw add-one (members_below-member n x inside)))
 
-pub some_more : (x : Places) (n : ℕ) → x n ≡ true → true ≡ has_some (members_below (n + 1) x)
+pub some_more : (x : Attributes) (n : ℕ) → x n ≡ true → true ≡ has_some (members_below (n + 1) x)
 some_more x n inside =
     sym (ap (λ (ks : List ℕ). has_some ks) (rw add-one (members_below-member n x inside)) ∙ some_pushed (members_below n x) n)
 
-pub members_passed : (x : Places) (n : ℕ) → x n ≡ false → members_below (n + 1) x ≡ members_below n x
+pub members_passed : (x : Attributes) (n : ℕ) → x n ≡ false → members_below (n + 1) x ≡ members_below n x
 members_passed x n outside = rw add-one (members_below-outside n x outside)
 
 -- ---- missing values
@@ -47,15 +47,15 @@ null_more names n text next piece lt so_far is added =
     ∙ ap null_tests (sym (take_more names n [] lt))
 
 -- ---- pairs
-abbrev single : {K X : Type 0} → K → X → List (K × X)
-single k x = (k, x) ∷ []
+abbrev one_pair : {K X : Type 0} → K → X → List (K × X)
+one_pair k x = (k, x) ∷ []
 
 pub zip_more : {K X : Type 0} (ks : List K) (xs : List X) (i : ℕ) (k : K) (x : X) → i < length ks → i < length xs
     → k ≡ get_or ks i k → x ≡ get_or xs i x → take (i + 1) (zip ks xs) ≡ take i (zip ks xs) ++ (k, x) ∷ []
 zip_more [] xs i k x a b is_k is_x = absurd (omega (arith, a))
 zip_more (k' ∷ ks) [] i k x a b is_k is_x = absurd (omega (arith, b))
 zip_more (k' ∷ ks) (x' ∷ xs) zero k x a b is_k is_x =
-    ap (λ (p : _). single p x') (sym is_k) ∙ ap (λ (y : _). single k y) (sym is_x)
+    ap (λ (p : _). one_pair p x') (sym is_k) ∙ ap (λ (y : _). one_pair k y) (sym is_x)
 zip_more (k' ∷ ks) (x' ∷ xs) (suc i) k x a b is_k is_x =
     let next : suc i + 1 ≡ suc (i + 1) = omega arith in
     rw next (ap (λ (pairs : List _). (k', x') ∷ pairs) (zip_more ks xs i k x (omega (arith, a)) (omega (arith, b)) is_k is_x))

@@ -4,7 +4,7 @@ use Rattle.std.proofs.lemmas.Bool.{cases_Bool}
 use Rattle.std.proofs.lemmas.Bool.Decides.{nat_tests}
 use Rattle.std.specs.Prelude.{◌-◌, if◌then◌else◌, codes, nat_le, slice_index_or}
 use Rattle.std.specs.List.{flat_map, list_all, position_or_len}
-use Rattle.table_scripts.specs.Naming.{byte_in_front, parts_of, is_part, is_taken, last_of, are_parts, dotted, parted, quoted_table}
+use Rattle.table_scripts.specs.Naming.{byte_in_front, parts_of, is_part, is_taken, last_of, are_parts, dotted_name, byte_between_quotes, quoted_table}
 
 abbrev pub is_dot : ℕ → Bool
 is_dot b = b == 46
@@ -54,11 +54,11 @@ first_part (b ∷ bytes) = elim (cases_Bool (b == 46)) [
 ]
 
 -- ---- the tests
-turned : (a b c d : Bool) → (a && (b && c) && d) ≡ (b && (a && c && d))
-turned true true c d = refl
-turned true false c d = refl
-turned false true c d = refl
-turned false false c d = refl
+and_swap : (a b c d : Bool) → (a && (b && c) && d) ≡ (b && (a && c && d))
+and_swap true true c d = refl
+and_swap true false c d = refl
+and_swap false true c d = refl
+and_swap false false c d = refl
 
 pub one_part : (most : ℕ) (part : List ℕ) → are_parts (suc most) (part ∷ []) ≡ (is_part part && not (is_taken part))
 one_part most part = grind (arith, nat_tests)
@@ -70,7 +70,7 @@ more_parts most part other parts =
     let count : nat_le (suc (suc (length parts))) (suc most) ≡ nat_le (suc (length parts)) most = grind (arith, nat_tests) in
     ap (λ (l : List ℕ). nat_le (suc (suc (length parts))) (suc most) && list_all is_part (part ∷ other ∷ parts) && not (is_taken l)) last
     ∙ ap (λ (b : Bool). b && list_all is_part (part ∷ other ∷ parts) && not (is_taken (last_of (other ∷ parts)))) count
-    ∙ turned (nat_le (suc (length parts)) most) (is_part part) (list_all is_part (other ∷ parts)) (not (is_taken (last_of (other ∷ parts))))
+    ∙ and_swap (nat_le (suc (length parts)) most) (is_part part) (list_all is_part (other ∷ parts)) (not (is_taken (last_of (other ∷ parts))))
 
 and_none : (b : Bool) → (b && false) ≡ false
 and_none true = refl
@@ -117,28 +117,28 @@ cut_none bytes n e apart =
 
 -- ---- in double quotes
 
-front_dotted : (b : ℕ) (part : List ℕ) (parts : List (List ℕ)) (rest : List ℕ) → dotted (part ∷ parts) ≡ 34 ∷ rest
-    → dotted ((b ∷ part) ∷ parts) ≡ 34 ∷ b ∷ rest
-front_dotted b part parts rest e = ap (λ (text : List ℕ). 34 ∷ b ∷ drop 1 text) e
+front_dotted_name : (b : ℕ) (part : List ℕ) (parts : List (List ℕ)) (rest : List ℕ) → dotted_name (part ∷ parts) ≡ 34 ∷ rest
+    → dotted_name ((b ∷ part) ∷ parts) ≡ 34 ∷ b ∷ rest
+front_dotted_name b part parts rest e = ap (λ (text : List ℕ). 34 ∷ b ∷ drop 1 text) e
 
-pub dotted_is : (bytes : List ℕ) → dotted (parts_of bytes) ≡ 34 ∷ (flat_map parted bytes ++ 34 ∷ [])
+pub dotted_is : (bytes : List ℕ) → dotted_name (parts_of bytes) ≡ 34 ∷ (flat_map byte_between_quotes bytes ++ 34 ∷ [])
 dotted_is [] = refl
 dotted_is (b ∷ bytes) =
     let some = first_part bytes in
-    let rest : dotted (some.0 ∷ some.1) ≡ 34 ∷ (flat_map parted bytes ++ 34 ∷ []) = ap dotted (sym some.2) ∙ dotted_is bytes in
+    let rest : dotted_name (some.0 ∷ some.1) ≡ 34 ∷ (flat_map byte_between_quotes bytes ++ 34 ∷ []) = ap dotted_name (sym some.2) ∙ dotted_is bytes in
     elim (cases_Bool (b == 46)) [
       | inl dot ↦
-          ap (λ (d : Bool). dotted (if d then [] ∷ parts_of bytes else byte_in_front b (parts_of bytes))) dot
-          ∙ ap (λ (parts : List (List ℕ)). dotted ([] ∷ parts)) some.2
+          ap (λ (d : Bool). dotted_name (if d then [] ∷ parts_of bytes else byte_in_front b (parts_of bytes))) dot
+          ∙ ap (λ (parts : List (List ℕ)). dotted_name ([] ∷ parts)) some.2
           ∙ ap (λ (text : List ℕ). 34 ∷ 34 ∷ 46 ∷ text) rest
-          ∙ sym (ap (λ (d : Bool). 34 ∷ ((if d then codes "\".\"" else b ∷ []) ++ flat_map parted bytes ++ 34 ∷ [])) dot)
+          ∙ sym (ap (λ (d : Bool). 34 ∷ ((if d then codes "\".\"" else b ∷ []) ++ flat_map byte_between_quotes bytes ++ 34 ∷ [])) dot)
       | inr other ↦
-          ap (λ (d : Bool). dotted (if d then [] ∷ parts_of bytes else byte_in_front b (parts_of bytes))) other
-          ∙ ap (λ (parts : List (List ℕ)). dotted (byte_in_front b parts)) some.2
-          ∙ front_dotted b some.0 some.1 (flat_map parted bytes ++ 34 ∷ []) rest
-          ∙ sym (ap (λ (d : Bool). 34 ∷ ((if d then codes "\".\"" else b ∷ []) ++ flat_map parted bytes ++ 34 ∷ [])) other)
+          ap (λ (d : Bool). dotted_name (if d then [] ∷ parts_of bytes else byte_in_front b (parts_of bytes))) other
+          ∙ ap (λ (parts : List (List ℕ)). dotted_name (byte_in_front b parts)) some.2
+          ∙ front_dotted_name b some.0 some.1 (flat_map byte_between_quotes bytes ++ 34 ∷ []) rest
+          ∙ sym (ap (λ (d : Bool). 34 ∷ ((if d then codes "\".\"" else b ∷ []) ++ flat_map byte_between_quotes bytes ++ 34 ∷ [])) other)
     ]
 
-pub quoted_is : (bytes : List ℕ) → quoted_table bytes ≡ 34 ∷ (flat_map parted bytes ++ 34 ∷ [])
+pub quoted_is : (bytes : List ℕ) → quoted_table bytes ≡ 34 ∷ (flat_map byte_between_quotes bytes ++ 34 ∷ [])
 unfolding quoted_table
 quoted_is bytes = dotted_is bytes

@@ -2,8 +2,8 @@
 use Rattle.std.proofs.Common.{◌≡◌, ◌<◌, ℕ, Bool, false, ◌||◌, Some, None, List, ◌++◌, sym, ap, ◌∙◌}
 use Rattle.std.specs.Prelude.{if◌then◌else◌, codes, slice_get}
 use Rattle.attr_sets.specs.declared.set.AttrSet.{AttrSet}
-use Rattle.attr_sets.specs.Places.{Places, below, union, minus, IsEmpty}
-use Rattle.attr_sets.specs.Sets.{places, is_within}
+use Rattle.attr_sets.specs.Attributes.{Attributes, below, union, difference, IsEmpty}
+use Rattle.attr_sets.specs.Sets.{attributes, is_subset}
 use Rattle.dep_model.specs.declared.column.Column.{Column}
 use Rattle.dep_model.specs.declared.schema.Schema.{Schema}
 use Rattle.dep_model.specs.Columns.{column_at}
@@ -21,54 +21,54 @@ pub item_is : (s : Schema) (k : ℕ) (name : List ℕ) (column : Column) → k <
 unfolding column_item
 item_is s k name column lt named typed =
     ap (λ (c : Column). column_text c name) (column_is s k column lt typed)
-    ∙ ap (λ (n : List ℕ). column_text (column_at (places s.integers) k) n) (sym (name_is s k name named))
+    ∙ ap (λ (n : List ℕ). column_text (column_at (attributes s.integers) k) n) (sym (name_is s k name named))
 
 -- ---- joins
-pub link_crosswise : (s : Schema) (shared : Places) (source : List ℕ) → IsEmpty shared → codes " CROSS JOIN " ++ source ≡ link_text s shared source
+pub link_crosswise : (s : Schema) (shared : Attributes) (source : List ℕ) → IsEmpty shared → codes " CROSS JOIN " ++ source ≡ link_text s shared source
 unfolding link_text
 link_crosswise s shared source empty =
     sym (ap (λ (b : Bool). if b then codes " CROSS JOIN " ++ source else codes " JOIN " ++ source ++ codes " USING (" ++ name_list s shared ++ codes ")") (empty_passes shared empty))
 
-pub link_using : (s : Schema) (shared : AttrSet) (source : List ℕ) → (IsEmpty (places shared) → ⊥)
-    → codes " JOIN " ++ source ++ codes " USING (" ++ name_list s (places shared) ++ codes ")" ≡ link_text s (places shared) source
+pub link_using : (s : Schema) (shared : AttrSet) (source : List ℕ) → (IsEmpty (attributes shared) → ⊥)
+    → codes " JOIN " ++ source ++ codes " USING (" ++ name_list s (attributes shared) ++ codes ")" ≡ link_text s (attributes shared) source
 unfolding link_text
 link_using s shared source some =
-    sym (ap (λ (b : Bool). if b then codes " CROSS JOIN " ++ source else codes " JOIN " ++ source ++ codes " USING (" ++ name_list s (places shared) ++ codes ")") (empty_fails shared some))
+    sym (ap (λ (b : Bool). if b then codes " CROSS JOIN " ++ source else codes " JOIN " ++ source ++ codes " USING (" ++ name_list s (attributes shared) ++ codes ")") (empty_fails shared some))
 
 -- ---- several values
-pub several_counted : (s : Schema) (t : List ℕ) (x y : Places) → IsEmpty x → counted_text (values_text s t y) ≡ several_text s t x y
+pub several_counted : (s : Schema) (t : List ℕ) (x y : Attributes) → IsEmpty x → counted_text (values_text s t y) ≡ several_text s t x y
 several_counted s t x y empty =
     sym (ap (λ (b : Bool). if b then counted_text (values_text s t y) else grouped_text (name_list s x) (values_text s t y)) (empty_passes x empty))
 
-pub several_grouped : (s : Schema) (t : List ℕ) (x : AttrSet) (y : Places) → (IsEmpty (places x) → ⊥)
-    → grouped_text (name_list s (places x)) (values_text s t y) ≡ several_text s t (places x) y
+pub several_grouped : (s : Schema) (t : List ℕ) (x : AttrSet) (y : Attributes) → (IsEmpty (attributes x) → ⊥)
+    → grouped_text (name_list s (attributes x)) (values_text s t y) ≡ several_text s t (attributes x) y
 several_grouped s t x y some =
-    sym (ap (λ (b : Bool). if b then counted_text (values_text s t y) else grouped_text (name_list s (places x)) (values_text s t y)) (empty_fails x some))
+    sym (ap (λ (b : Bool). if b then counted_text (values_text s t y) else grouped_text (name_list s (attributes x)) (values_text s t y)) (empty_fails x some))
 
 -- ---- rules
 abbrev pub line_of : List ℕ → List ℕ
 line_of query = codes "\n" ++ query ++ codes ";\n"
 
-pub fd_text : (s : Schema) (t : List ℕ) (x y both : Places) → is_within y x ≡ false → both ≡ union x y
+pub fd_text : (s : Schema) (t : List ℕ) (x y both : Attributes) → is_subset y x ≡ false → both ≡ union x y
     → line_of (several_text s t x both) ≡ breaches_text s t (breaches_of_fd x y)
 fd_text s t x y both beyond same =
-    ap (λ (z : Places). line_of (several_text s t x z)) same
+    ap (λ (z : Attributes). line_of (several_text s t x z)) same
     ∙ sym (ap (λ (b : Bool). breaches_text s t (if b then None else Some (several x (union x y)))) beyond)
 
-abbrev pub beyond_of : Places → Places → Query
+abbrev pub beyond_of : Attributes → Attributes → Query
 beyond_of left right = except (join (values_on left) (values_on right)) whole
 
-pub mvd_text : (s : Schema) (t : List ℕ) (x y universe both outside rest : Places) → universe ≡ below (width_of s) → both ≡ union x y
-    → outside ≡ minus universe both → rest ≡ union x outside → is_within y x ≡ false → is_within universe both ≡ false
+pub mvd_text : (s : Schema) (t : List ℕ) (x y universe both outside rest : Attributes) → universe ≡ below (width_of s) → both ≡ union x y
+    → outside ≡ difference universe both → rest ≡ union x outside → is_subset y x ≡ false → is_subset universe both ≡ false
     → line_of (query_text s t (beyond_of both rest)) ≡ breaches_text s t (breaches_of_mvd (width_of s) x y)
 mvd_text s t x y universe both outside rest is_universe is_both is_outside is_rest beyond some =
     let n = width_of s in
-    let to_rest : rest ≡ union x (minus (below n) (union x y)) =
-    is_rest ∙ ap (λ (z : Places). union x z) (is_outside
-    ∙ ap (λ (z : Places). minus z both) is_universe ∙ ap (λ (z : Places). minus (below n) z) is_both) in
-    let not_all : is_within (below n) (union x y) ≡ false =
-    ap (λ (z : Places). is_within (below n) z) (sym is_both) ∙ ap (λ (z : Places). is_within z both) (sym is_universe) ∙ some in
-    ap (λ (z : Places). line_of (query_text s t (beyond_of z rest))) is_both
-    ∙ ap (λ (z : Places). line_of (query_text s t (beyond_of (union x y) z))) to_rest
-    ∙ sym (ap (λ (b : Bool). breaches_text s t (if b || is_within (below n) (union x y) then None else Some (beyond_of (union x y) (union x (minus (below n) (union x y)))))) beyond
-    ∙ ap (λ (b : Bool). breaches_text s t (if b then None else Some (beyond_of (union x y) (union x (minus (below n) (union x y)))))) not_all)
+    let to_rest : rest ≡ union x (difference (below n) (union x y)) =
+    is_rest ∙ ap (λ (z : Attributes). union x z) (is_outside
+    ∙ ap (λ (z : Attributes). difference z both) is_universe ∙ ap (λ (z : Attributes). difference (below n) z) is_both) in
+    let not_all : is_subset (below n) (union x y) ≡ false =
+    ap (λ (z : Attributes). is_subset (below n) z) (sym is_both) ∙ ap (λ (z : Attributes). is_subset z both) (sym is_universe) ∙ some in
+    ap (λ (z : Attributes). line_of (query_text s t (beyond_of z rest))) is_both
+    ∙ ap (λ (z : Attributes). line_of (query_text s t (beyond_of (union x y) z))) to_rest
+    ∙ sym (ap (λ (b : Bool). breaches_text s t (if b || is_subset (below n) (union x y) then None else Some (beyond_of (union x y) (union x (difference (below n) (union x y)))))) beyond
+    ∙ ap (λ (b : Bool). breaches_text s t (if b then None else Some (beyond_of (union x y) (union x (difference (below n) (union x y)))))) not_all)

@@ -1,8 +1,8 @@
 -- What the queries of the scripts give, over the relations of a schema.
 use Rattle.std.proofs.Common.{◌≡◌, ◌<◌, ℕ, Option, Some, None, List, [], ◌∷◌, length, get_or, map, refl, sym, subst}
 use Rattle.std.specs.Prelude.{◌↔◌, All, MatchOption, ⊤}
-use Rattle.attr_sets.specs.Places.{Places, below}
-use Rattle.attr_sets.specs.Sets.{places}
+use Rattle.attr_sets.specs.Attributes.{Attributes, below}
+use Rattle.attr_sets.specs.Sets.{attributes}
 use Rattle.dep_model.specs.declared.schema.Schema.{Schema}
 use Rattle.dep_model.specs.Dependencies.{Dependency, IsWithin, Obeys}
 use Rattle.dep_model.specs.Projections.{IsLossless}
@@ -18,15 +18,15 @@ use Rattle.table_scripts.specs.Checking.{NothingBreaks}
 use Rattle.table_scripts.specs.Migrating.{stored_tables, view_name, FillsTables, ViewIsTable}
 
 -- ---- rules
-none_to : (n : ℕ) (r : Relation) (found : Option Query) (A : Type 0) → MatchOption found A (λ q. GivesNone n q r ↔ A) → A
+GivesNone-from_meaning : (n : ℕ) (r : Relation) (found : Option Query) (A : Type 0) → MatchOption found A (λ q. GivesNone n q r ↔ A) → A
     → MatchOption found ⊤ (λ q. GivesNone n q r)
-none_to n r None A tells holds = tt
-none_to n r (Some q) A tells holds = tells.1 holds
+GivesNone-from_meaning n r None A tells holds = tt
+GivesNone-from_meaning n r (Some q) A tells holds = tells.1 holds
 
-none_from : (n : ℕ) (r : Relation) (found : Option Query) (A : Type 0) → MatchOption found A (λ q. GivesNone n q r ↔ A)
+meaning-from_GivesNone : (n : ℕ) (r : Relation) (found : Option Query) (A : Type 0) → MatchOption found A (λ q. GivesNone n q r ↔ A)
     → MatchOption found ⊤ (λ q. GivesNone n q r) → A
-none_from n r None A tells none = tells
-none_from n r (Some q) A tells none = tells.0 none
+meaning-from_GivesNone n r None A tells none = tells
+meaning-from_GivesNone n r (Some q) A tells none = tells.0 none
 
 pub nothing_breaks : (s : Schema) (r : Relation) → IsOver (width_of s) r → LegalFor s r ↔ NothingBreaks s r
 nothing_breaks s r over = (to, from)
@@ -41,20 +41,20 @@ nothing_breaks s r over = (to, from)
 
     to : LegalFor s r → NothingBreaks s r
     to legal i d lt =
-        none_to (width_of s) r (breaches_of (width_of s) (get_or (theory_of s) i d)) (Obeys (width_of s) (get_or (theory_of s) i d) r) (tells i d lt) (legal.obeys i d lt)
+        GivesNone-from_meaning (width_of s) r (breaches_of (width_of s) (get_or (theory_of s) i d)) (Obeys (width_of s) (get_or (theory_of s) i d) r) (tells i d lt) (legal.obeys i d lt)
 
     from : NothingBreaks s r → LegalFor s r
     from none = record {
       over = over;
       obeys = λ i d lt.
-          none_from (width_of s) r (breaches_of (width_of s) (get_or (theory_of s) i d)) (Obeys (width_of s) (get_or (theory_of s) i d) r) (tells i d lt) (none i d lt);
+          meaning-from_GivesNone (width_of s) r (breaches_of (width_of s) (get_or (theory_of s) i d)) (Obeys (width_of s) (get_or (theory_of s) i d) r) (tells i d lt) (none i d lt);
     }
 
 -- ---- plans
 pub fills_tables : (s : Schema) (designs : List TableDesign) → FillsTables s designs
-fills_tables s designs r legal design h u = values_given (width_of s) (places design.scheme) r u legal.over
+fills_tables s designs r legal design h u = values_given (width_of s) (attributes design.scheme) r u legal.over
 
-schemes_are : (designs : List TableDesign) → map (λ (table : StoredTable). table.scheme) (stored_tables designs) ≡ map (λ (design : TableDesign). places design.scheme) designs
+schemes_are : (designs : List TableDesign) → map (λ (table : StoredTable). table.scheme) (stored_tables designs) ≡ map (λ (design : TableDesign). attributes design.scheme) designs
 schemes_are [] = refl
 schemes_are (design ∷ designs) = let rest = schemes_are designs in cc
 
@@ -62,7 +62,7 @@ pub view_is_table : (s : Schema) (designs : List TableDesign) → ViewIsTable s 
 view_is_table s designs lossless r legal =
     let n = width_of s in
     let tables = stored_tables designs in
-    let lossless' = subst (λ (plan : List Places). IsLossless n (theory_of s) plan) (sym (schemes_are designs)) lossless in
+    let lossless' = subst (λ (plan : List Attributes). IsLossless n (theory_of s) plan) (sym (schemes_are designs)) lossless in
     let left = nothing_left n (theory_of s) view_name tables r s.valid.some_names lossless' legal in
     record {
       rows = join_given n (theory_of s) tables r s.valid.some_names lossless' legal;

@@ -44,14 +44,14 @@ unfoldable pub is_table_name : List ℕ → Bool
 is_table_name bytes = are_parts MOST_PARTS (parts_of bytes)
 
 -- parts in double quotes, with a dot between two
-abbrev pub dotted : List (List ℕ) → List ℕ
-dotted [] = []
-dotted (part ∷ parts) = quoted_name part ++ flat_map (λ other. 46 ∷ quoted_name other) parts
+abbrev pub dotted_name : List (List ℕ) → List ℕ
+dotted_name [] = []
+dotted_name (part ∷ parts) = quoted_name part ++ flat_map (λ other. 46 ∷ quoted_name other) parts
 
 -- a byte of a name in double quotes: a dot ends one part and begins the next
-abbrev pub parted : ℕ → List ℕ
-parted b = if b == 46 then codes "\".\"" else b ∷ []
+abbrev pub byte_between_quotes : ℕ → List ℕ
+byte_between_quotes b = if b == 46 then codes "\".\"" else b ∷ []
 
 -- a table, by its name
 unfoldable pub quoted_table : List ℕ → List ℕ
-quoted_table bytes = dotted (parts_of bytes)
+quoted_table bytes = dotted_name (parts_of bytes)

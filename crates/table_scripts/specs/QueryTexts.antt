@@ -1,7 +1,7 @@
 -- Queries as SQL, over a table whose columns are the attributes of a schema: for both scripts.
 use Rattle.std.specs.Prelude.{ℕ, if◌then◌else◌, List, [], ◌++◌, codes, slice_index_or}
-use Rattle.attr_sets.specs.Places.{Places, meet}
-use Rattle.attr_sets.specs.Sets.{places}
+use Rattle.attr_sets.specs.Attributes.{Attributes, intersection}
+use Rattle.attr_sets.specs.Sets.{attributes}
 use Rattle.dep_model.specs.declared.column.Column.{Column}
 use Rattle.dep_model.specs.declared.column.Column.TheVariants.{Text, Integer}
 use Rattle.dep_model.specs.declared.schema.Schema.{Schema}
@@ -9,7 +9,7 @@ use Rattle.dep_model.specs.Columns.{column_at}
 use Rattle.dep_model.specs.Projections.{members_below}
 use Rattle.dep_model.specs.Schemas.{names_of, width_of, universe_of}
 use Rattle.ddl_text.specs.Ddl.{is_empty}
-use Rattle.sql_names.specs.Names.{name_list, quoted_name, listed}
+use Rattle.sql_names.specs.Names.{name_list, quoted_name, comma_list}
 use Rattle.table_queries.specs.Queries.{Query, whole, values_on, several, join, except, kept, attributes_of}
 
 -- ---- columns
@@ -20,11 +20,11 @@ column_text Integer name = codes "CAST(" ++ quoted_name name ++ codes " AS BIGIN
 
 -- the column of an attribute
 unfoldable pub column_item : Schema → ℕ → List ℕ
-column_item s k = column_text (column_at (places s.integers) k) (slice_index_or (names_of s) k [])
+column_item s k = column_text (column_at (attributes s.integers) k) (slice_index_or (names_of s) k [])
 
 -- the columns of a set's attributes, ascending, with a comma and a blank between
-abbrev pub column_list : Schema → Places → List ℕ
-column_list s x = listed (column_item s) (members_below (width_of s) x)
+abbrev pub column_list : Schema → Attributes → List ℕ
+column_list s x = comma_list (column_item s) (members_below (width_of s) x)
 
 -- ---- pieces
 -- what is selected, and from what
@@ -44,7 +44,7 @@ except_text first second = first ++ codes " EXCEPT " ++ second
 
 -- what comes after a source where another is joined to it: by the attributes that both have, or each
 -- row with each where they have none
-unfoldable pub link_text : Schema → Places → List ℕ → List ℕ
+unfoldable pub link_text : Schema → Attributes → List ℕ → List ℕ
 link_text s shared source =
     if is_empty shared then codes " CROSS JOIN " ++ source
     else codes " JOIN " ++ source ++ codes " USING (" ++ name_list s shared ++ codes ")"
@@ -62,11 +62,11 @@ counted_text query =
 
 -- ---- queries
 -- the table's values on a set
-abbrev pub values_text : Schema → List ℕ → Places → List ℕ
+abbrev pub values_text : Schema → List ℕ → Attributes → List ℕ
 values_text s table x = distinct_text (column_list s x) table
 
 -- the values on a set that stand beside more than one on another
-abbrev pub several_text : Schema → List ℕ → Places → Places → List ℕ
+abbrev pub several_text : Schema → List ℕ → Attributes → Attributes → List ℕ
 several_text s table x y =
     if is_empty x then counted_text (values_text s table y)
     else grouped_text (name_list s x) (values_text s table y)
@@ -78,10 +78,10 @@ pub data Stand : Type 0 where
   right : Stand
 
 -- a query that is taken from under an alias
-abbrev pub aliased : Stand → List ℕ → List ℕ
-aliased alone query = query
-aliased left query = derived_text query (codes "l")
-aliased right query = derived_text query (codes "r")
+abbrev pub with_alias : Stand → List ℕ → List ℕ
+with_alias alone query = query
+with_alias left query = derived_text query (codes "l")
+with_alias right query = derived_text query (codes "r")
 
 -- a source that has a name
 abbrev pub named_source : Stand → List ℕ → List ℕ → List ℕ
@@ -90,22 +90,22 @@ named_source left columns source = source
 named_source right columns source = source
 
 -- sources side by side, to which more can be joined
-abbrev pub linked : Stand → List ℕ → List ℕ → List ℕ
-linked alone columns sources = select_text columns sources
-linked left columns sources = sources
-linked right columns sources = derived_text (select_text columns sources) (codes "r")
+abbrev pub join_sources : Stand → List ℕ → List ℕ → List ℕ
+join_sources alone columns sources = select_text columns sources
+join_sources left columns sources = sources
+join_sources right columns sources = derived_text (select_text columns sources) (codes "r")
 
 abbrev pub text_at : Schema → List ℕ → Stand → Query → List ℕ
-text_at s table stand whole = aliased stand (select_text (column_list s (universe_of s)) table)
-text_at s table stand (values_on x) = aliased stand (values_text s table x)
-text_at s table stand (several x y) = aliased stand (several_text s table x y)
+text_at s table stand whole = with_alias stand (select_text (column_list s (universe_of s)) table)
+text_at s table stand (values_on x) = with_alias stand (values_text s table x)
+text_at s table stand (several x y) = with_alias stand (several_text s table x y)
 text_at s table stand (join p q) =
-    linked stand (name_list s (attributes_of (width_of s) (join p q)))
+    join_sources stand (name_list s (attributes_of (width_of s) (join p q)))
     (text_at s table left p
-    ++ link_text s (meet (attributes_of (width_of s) p) (attributes_of (width_of s) q))
+    ++ link_text s (intersection (attributes_of (width_of s) p) (attributes_of (width_of s) q))
     (text_at s table right q))
 text_at s table stand (except p q) =
-    aliased stand (except_text (text_at s table alone p) (text_at s table alone q))
+    with_alias stand (except_text (text_at s table alone p) (text_at s table alone q))
 text_at s table stand (kept name q) =
     named_source stand (name_list s (attributes_of (width_of s) q)) (quoted_name name)
 

@@ -4,26 +4,26 @@ ghost use Rattle.dep_model.specs.Tuples.{Relation, IsOver};
 ghost use Rattle.table_scripts.specs.Naming.{is_table_name, quoted_table};
 ghost use Rattle.table_scripts.specs.Checking.{check_text, rules_text, NothingBreaks};
 
-use crate::missing::missing;
+use crate::missing::missing_text;
 use crate::naming::quote_table;
-use crate::rules::rule;
-use dep_model::{Schema, WantMemory};
+use crate::rules::rule_text;
+use dep_model::{OutOfMemory, Schema};
 use schema_printer::add;
 use std::alloc::Global;
 
 /// A script that asks a table for the rows in which a value is missing, and for what breaks each rule of a
 /// schema. Over a relation its queries for the rules give nothing exactly where the relation is legal.
-pub fn check_script(alloc: Global, schema: &Schema, table: &[u8]) -> Result<Vec<u8>, WantMemory>
+pub fn check_script(alloc: Global, schema: &Schema, table: &[u8]) -> Result<Vec<u8>, OutOfMemory>
     requires name { IsTrue (is_table_name table.now) }
     ensures text { IfOk result (λ text. text.items ≡ check_text schema.now (quoted_table table.now)) }
     ensures tells { (r : Relation) → IsOver (width_of schema.now) r
         → LegalFor schema.now r ↔ NothingBreaks schema.now r }
 {
-    checking(alloc, schema, table)
+    check_text(alloc, schema, table)
 }
 
 // The text of the script.
-fn checking(alloc: Global, schema: &Schema, table: &[u8]) -> Result<Vec<u8>, WantMemory>
+fn check_text(alloc: Global, schema: &Schema, table: &[u8]) -> Result<Vec<u8>, OutOfMemory>
     ensures text { IfOk result (λ text. text.items ≡ check_text schema.now (quoted_table table.now)) }
 {
     let table = quote_table(alloc, table)?;
@@ -32,7 +32,7 @@ fn checking(alloc: Global, schema: &Schema, table: &[u8]) -> Result<Vec<u8>, Wan
         &mut text,
         b"-- where all rules hold, no query gives a row\n-- no value is missing\n",
     )?;
-    add(&mut text, &missing(alloc, schema, &table)?)?;
+    add(&mut text, &missing_text(alloc, schema, &table)?)?;
     add_rules(alloc, &mut text, schema, &table)?;
     Ok(text)
 }
@@ -43,11 +43,14 @@ fn add_rules(
     text: &mut Vec<u8>,
     schema: &Schema,
     table: &[u8],
-) -> Result<(), WantMemory>
+) -> Result<(), OutOfMemory>
     ensures added { OnOk result (text.new.items ≡ text.old.items ++ rules_text schema.now table.now) }
 {
     for (k, dep) in schema.deps().iter().enumerate() {
-        add(text, &rule(alloc, schema, table, schema.line_of(k), *dep)?)?;
+        add(
+            text,
+            &rule_text(alloc, schema, table, schema.line_of(k), *dep)?,
+        )?;
     }
     Ok(())
 }

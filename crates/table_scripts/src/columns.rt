@@ -1,18 +1,18 @@
 ghost use Rattle.std.specs.Prelude.{◌≡◌, ◌<◌, IfOk};
-ghost use Rattle.attr_sets.specs.Sets.{places};
+ghost use Rattle.attr_sets.specs.Sets.{attributes};
 ghost use Rattle.dep_model.specs.Schemas.{width_of, universe_of};
 ghost use Rattle.sql_names.specs.Names.{name_list, quoted_name};
 ghost use Rattle.table_scripts.specs.QueryTexts.{column_text, column_item, column_list};
 
 use attr_sets::AttrSet;
-use dep_model::{Column, Name, Schema, WantMemory};
+use dep_model::{Column, Name, OutOfMemory, Schema};
 use schema_printer::add;
 use sql_names::{add_listed, add_name_list, add_quoted};
 use std::alloc::Global;
 
 // The quoted names of a set's attributes.
-pub fn names(alloc: Global, schema: &Schema, set: AttrSet) -> Result<Vec<u8>, WantMemory>
-    ensures text { IfOk result (λ text. text.items ≡ name_list schema.now (places set)) }
+pub fn names_text(alloc: Global, schema: &Schema, set: AttrSet) -> Result<Vec<u8>, OutOfMemory>
+    ensures text { IfOk result (λ text. text.items ≡ name_list schema.now (attributes set)) }
 {
     let mut text = Vec::new(alloc);
     add_name_list(&mut text, schema, set)?;
@@ -20,21 +20,21 @@ pub fn names(alloc: Global, schema: &Schema, set: AttrSet) -> Result<Vec<u8>, Wa
 }
 
 // The quoted names of all attributes.
-pub fn all_names(alloc: Global, schema: &Schema) -> Result<Vec<u8>, WantMemory>
+pub fn all_names(alloc: Global, schema: &Schema) -> Result<Vec<u8>, OutOfMemory>
     ensures text { IfOk result (λ text. text.items ≡ name_list schema.now (universe_of schema.now)) }
 {
-    names(alloc, schema, AttrSet::full(schema.width()))
+    names_text(alloc, schema, AttrSet::full(schema.width()))
 }
 
 // The columns of a set's attributes, with a comma and a blank between.
-pub fn columns(alloc: Global, schema: &Schema, set: AttrSet) -> Result<Vec<u8>, WantMemory>
-    ensures text { IfOk result (λ text. text.items ≡ column_list schema.now (places set)) }
+pub fn columns_text(alloc: Global, schema: &Schema, set: AttrSet) -> Result<Vec<u8>, OutOfMemory>
+    ensures text { IfOk result (λ text. text.items ≡ column_list schema.now (attributes set)) }
 {
     let mut text = Vec::new(alloc);
     let mut some = false;
-    for place in 0..schema.width() {
-        if set.has(place) {
-            add_listed(&mut text, some, &item(alloc, schema, place)?)?;
+    for attribute in 0..schema.width() {
+        if set.contains(attribute) {
+            add_listed(&mut text, some, &column_item(alloc, schema, attribute)?)?;
             some = true;
         }
     }
@@ -42,26 +42,26 @@ pub fn columns(alloc: Global, schema: &Schema, set: AttrSet) -> Result<Vec<u8>, 
 }
 
 // The column of an attribute.
-fn item(alloc: Global, schema: &Schema, place: u8) -> Result<Vec<u8>, WantMemory>
-    requires place { place < width_of schema.now }
-    ensures text { IfOk result (λ text. text.items ≡ column_item schema.now place) }
+fn column_item(alloc: Global, schema: &Schema, attribute: u8) -> Result<Vec<u8>, OutOfMemory>
+    requires attribute { attribute < width_of schema.now }
+    ensures text { IfOk result (λ text. text.items ≡ column_item schema.now attribute) }
 {
-    column(alloc, schema.column(place), schema.name(place))
+    column(alloc, schema.column(attribute), schema.name(attribute))
 }
 
 // A column of a type.
 #[tactic(auto, unfolding(crate::specs::QueryTexts::column_text))]
-fn column(alloc: Global, column: Column, name: &Name) -> Result<Vec<u8>, WantMemory>
+fn column(alloc: Global, column: Column, name: &Name) -> Result<Vec<u8>, OutOfMemory>
     ensures text { IfOk result (λ text. text.items ≡ column_text column name.now) }
 {
     match column {
-        Column::Text => quoted(alloc, name),
-        Column::Integer => cast(alloc, name),
+        Column::Text => quoted_name(alloc, name),
+        Column::Integer => cast_text(alloc, name),
     }
 }
 
 // A name in double quotes.
-pub fn quoted(alloc: Global, name: &Name) -> Result<Vec<u8>, WantMemory>
+pub fn quoted_name(alloc: Global, name: &Name) -> Result<Vec<u8>, OutOfMemory>
     ensures text { IfOk result (λ text. text.items ≡ quoted_name name.now) }
 {
     let mut text = Vec::new(alloc);
@@ -71,7 +71,7 @@ pub fn quoted(alloc: Global, name: &Name) -> Result<Vec<u8>, WantMemory>
 
 // A column that is cast, and keeps its name.
 #[tactic(auto, unfolding(crate::specs::QueryTexts::column_text))]
-fn cast(alloc: Global, name: &Name) -> Result<Vec<u8>, WantMemory>
+fn cast_text(alloc: Global, name: &Name) -> Result<Vec<u8>, OutOfMemory>
     ensures text { IfOk result (λ text. text.items ≡ column_text Column.Integer name.now) }
 {
     let mut text = Vec::new(alloc);

@@ -1,17 +1,17 @@
 ghost use Rattle.std.specs.Prelude.{◌≡◌, ◌++◌, IsTrue, IfOk, OnOk};
 ghost use Rattle.std.specs.List.{flat_map};
-ghost use Rattle.table_queries.specs.Queries.{lacking, exceeding, kept, plan_join};
+ghost use Rattle.table_queries.specs.Queries.{table_beyond_view, view_beyond_table, kept, plan_join};
 ghost use Rattle.table_scripts.specs.Naming.{is_table_name, quoted_table};
 ghost use Rattle.table_scripts.specs.QueryTexts.{query_text};
 ghost use Rattle.table_scripts.specs.Migrating.{migrate_text, statement_text, fill_text, view_text, view_name, difference_queries_text, stored_tables, FillsTables, ViewIsTable};
 
-use crate::columns::names;
-use crate::joining::{attributes, joined};
+use crate::columns::names_text;
+use crate::joining::{attributes_of_tables, join_of_tables};
 use crate::naming::quote_table;
-use crate::pieces::{except, select};
+use crate::pieces::{except_text, select_text};
 use crate::rules::{values, whole};
 use ddl_text::{DesignList, TableDesign, print_ddl};
-use dep_model::{Schema, WantMemory};
+use dep_model::{OutOfMemory, Schema};
 use schema_printer::add;
 use sql_names::add_quoted;
 use std::alloc::Global;
@@ -24,33 +24,36 @@ pub fn migrate_script(
     schema: &Schema,
     design: &DesignList,
     table: &[u8],
-) -> Result<Vec<u8>, WantMemory>
+) -> Result<Vec<u8>, OutOfMemory>
     requires name { IsTrue (is_table_name table.now) }
     ensures text { IfOk result
         (λ text. text.items ≡ migrate_text schema.now (quoted_table table.now) design.now) }
     ensures fills { FillsTables schema.now design.now }
     ensures view { ViewIsTable schema.now design.now }
 {
-    migrating(alloc, schema, design, table)
+    migrate_text(alloc, schema, design, table)
 }
 
 // The text of the script.
-fn migrating(
+fn migrate_text(
     alloc: Global,
     schema: &Schema,
     design: &DesignList,
     table: &[u8],
-) -> Result<Vec<u8>, WantMemory>
+) -> Result<Vec<u8>, OutOfMemory>
     ensures text { IfOk result
         (λ text. text.items ≡ migrate_text schema.now (quoted_table table.now) design.now) }
 {
     let table = quote_table(alloc, table)?;
     let mut text = print_ddl(alloc, schema, design)?;
     add_fills(alloc, &mut text, schema, &table, design.tables())?;
-    add(&mut text, &view(alloc, schema, &table, design.tables())?)?;
     add(
         &mut text,
-        &differences(alloc, schema, &table, design.tables())?,
+        &view_text(alloc, schema, &table, design.tables())?,
+    )?;
+    add(
+        &mut text,
+        &difference_queries_text(alloc, schema, &table, design.tables())?,
     )?;
     Ok(text)
 }
@@ -62,31 +65,31 @@ fn add_fills(
     schema: &Schema,
     table: &[u8],
     designs: &[TableDesign],
-) -> Result<(), WantMemory>
+) -> Result<(), OutOfMemory>
     ensures added { OnOk result (text.new.items
         ≡ text.old.items ++ flat_map (fill_text schema.now table.now) designs.now) }
 {
     for design in designs {
-        add(text, &fill(alloc, schema, table, design)?)?;
+        add(text, &fill_text(alloc, schema, table, design)?)?;
     }
     Ok(())
 }
 
 // The statement that fills a table.
 #[tactic(auto, unfolding(crate::specs::Migrating::fill_text))]
-fn fill(
+fn fill_text(
     alloc: Global,
     schema: &Schema,
     table: &[u8],
     design: &TableDesign,
-) -> Result<Vec<u8>, WantMemory>
+) -> Result<Vec<u8>, OutOfMemory>
     ensures text { IfOk result (λ text. text.items ≡ fill_text schema.now table.now design.now) }
 {
     let mut text = Vec::new(alloc);
     add(&mut text, b"INSERT INTO ")?;
     add_quoted(&mut text, &design.name)?;
     add(&mut text, b" (")?;
-    add(&mut text, &names(alloc, schema, design.scheme)?)?;
+    add(&mut text, &names_text(alloc, schema, design.scheme)?)?;
     add(&mut text, b") ")?;
     add_statement(&mut text, &values(alloc, schema, table, design.scheme)?)?;
     Ok(text)
@@ -94,7 +97,7 @@ fn fill(
 
 // Adds a query as a statement.
 #[tactic(auto, unfolding(crate::specs::Migrating::statement_text))]
-fn add_statement(text: &mut Vec<u8>, query: &[u8]) -> Result<(), WantMemory>
+fn add_statement(text: &mut Vec<u8>, query: &[u8]) -> Result<(), OutOfMemory>
     ensures added { OnOk result (text.new.items ≡ text.old.items ++ statement_text query.now) }
 {
     add(text, query)?;
@@ -103,62 +106,62 @@ fn add_statement(text: &mut Vec<u8>, query: &[u8]) -> Result<(), WantMemory>
 
 // The view on the join of the tables.
 #[tactic(auto, unfolding(crate::specs::Migrating::view_text))]
-fn view(
+fn view_text(
     alloc: Global,
     schema: &Schema,
     table: &[u8],
     designs: &[TableDesign],
-) -> Result<Vec<u8>, WantMemory>
+) -> Result<Vec<u8>, OutOfMemory>
     ensures text { IfOk result (λ text. text.items ≡ view_text schema.now table.now designs.now) }
 {
     let mut text = Vec::new(alloc);
     add(&mut text, b"CREATE VIEW ")?;
     add(&mut text, b"\"joined\"")?;
     add(&mut text, b" AS ")?;
-    add_statement(&mut text, &joined(alloc, schema, table, designs)?)?;
+    add_statement(&mut text, &join_of_tables(alloc, schema, table, designs)?)?;
     Ok(text)
 }
 
 // What tells whether the view is the table.
 #[tactic(auto, unfolding(crate::specs::Migrating::difference_queries_text))]
-fn differences(
+fn difference_queries_text(
     alloc: Global,
     schema: &Schema,
     table: &[u8],
     designs: &[TableDesign],
-) -> Result<Vec<u8>, WantMemory>
+) -> Result<Vec<u8>, OutOfMemory>
     ensures text { IfOk result (λ text.
         text.items ≡ difference_queries_text schema.now table.now designs.now) }
 {
     let whole = whole(alloc, schema, table)?;
-    let view = of_view(alloc, schema, table, designs)?;
+    let view = rows_of_view(alloc, schema, table, designs)?;
     let mut text = Vec::new(alloc);
     add(
         &mut text,
         b"-- rows of the table that the view lacks: none\n",
     )?;
-    add_statement(&mut text, &except(alloc, &whole, &view)?)?;
+    add_statement(&mut text, &except_text(alloc, &whole, &view)?)?;
     add(
         &mut text,
         b"-- rows of the view that the table lacks: none\n",
     )?;
-    add_statement(&mut text, &except(alloc, &view, &whole)?)?;
+    add_statement(&mut text, &except_text(alloc, &view, &whole)?)?;
     Ok(text)
 }
 
 // The rows of the view.
-fn of_view(
+fn rows_of_view(
     alloc: Global,
     schema: &Schema,
     table: &[u8],
     designs: &[TableDesign],
-) -> Result<Vec<u8>, WantMemory>
+) -> Result<Vec<u8>, OutOfMemory>
     ensures text { IfOk result (λ text. text.items
         ≡ query_text schema.now table.now (kept view_name (plan_join (stored_tables designs.now)))) }
 {
-    select(
+    select_text(
         alloc,
-        &names(alloc, schema, attributes(designs))?,
+        &names_text(alloc, schema, attributes_of_tables(designs))?,
         b"\"joined\"",
     )
 }

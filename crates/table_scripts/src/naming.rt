@@ -2,9 +2,9 @@ ghost use Rattle.std.specs.Prelude.{◌≡◌, ◌==◌, ◌++◌, ◌&&◌, ◌
 ghost use Rattle.std.specs.List.{list_all, position_or_len};
 ghost use Rattle.std.specs.Char.{is_ascii_alphabetic, is_ascii_digit};
 ghost use Rattle.dep_model.specs.Names.{is_name_byte};
-ghost use Rattle.table_scripts.specs.Naming.{parts_of, is_part, is_numbered, is_taken, are_parts, is_table_name, quoted_table, parted};
+ghost use Rattle.table_scripts.specs.Naming.{parts_of, is_part, is_numbered, is_taken, are_parts, is_table_name, quoted_table, byte_between_quotes};
 
-use dep_model::WantMemory;
+use dep_model::OutOfMemory;
 use schema_printer::add;
 use std::alloc::Global;
 
@@ -16,7 +16,7 @@ pub const MOST_PART_BYTES: usize = 63;
 
 /// Whether the bytes name a table: from one to `MOST_PARTS` parts with a dot between two, each a
 /// letter or `_` and then letters, digits and `_`. The last part is no name that a script gives:
-/// neither `joined` nor `t` and digits. So a name brings nothing into a script but itself.
+/// neither `join_of_tables` nor `t` and digits. So a name brings nothing into a script but itself.
 #[tactic(auto, unfolding(crate::specs::Naming::is_table_name))]
 pub fn is_table_name(bytes: &[u8]) -> bool
     ensures name { result ≡ is_table_name bytes.now }
@@ -77,7 +77,7 @@ fn begins_part(byte: u8) -> bool
 }
 
 fn are_name_bytes(bytes: &[u8]) -> bool
-    ensures all { result ≡ list_all is_name_byte bytes.now }
+    ensures name_bytes { result ≡ list_all is_name_byte bytes.now }
 {
     bytes
         .iter()
@@ -99,13 +99,13 @@ fn is_numbered(bytes: &[u8]) -> bool
 }
 
 fn are_digits(bytes: &[u8]) -> bool
-    ensures all { result ≡ list_all is_ascii_digit bytes.now }
+    ensures digits { result ≡ list_all is_ascii_digit bytes.now }
 {
     bytes.iter().all(|b| b.is_ascii_digit())
 }
 
 // The parts of a name in double quotes.
-pub fn quote_table(alloc: Global, bytes: &[u8]) -> Result<Vec<u8>, WantMemory>
+pub fn quote_table(alloc: Global, bytes: &[u8]) -> Result<Vec<u8>, OutOfMemory>
     ensures text { IfOk result (λ text. text.items ≡ quoted_table bytes.now) }
 {
     let mut text = Vec::new(alloc);
@@ -118,8 +118,8 @@ pub fn quote_table(alloc: Global, bytes: &[u8]) -> Result<Vec<u8>, WantMemory>
 }
 
 // Adds a byte between double quotes; a dot is put outside of them.
-fn add_unquoted_dot(text: &mut Vec<u8>, byte: u8) -> Result<(), WantMemory>
-    ensures added { OnOk result (text.new.items ≡ text.old.items ++ parted byte) }
+fn add_unquoted_dot(text: &mut Vec<u8>, byte: u8) -> Result<(), OutOfMemory>
+    ensures added { OnOk result (text.new.items ≡ text.old.items ++ byte_between_quotes byte) }
 {
     if byte == b'.' {
         add(text, b"\".\"")

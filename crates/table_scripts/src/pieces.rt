@@ -1,16 +1,16 @@
 ghost use Rattle.std.specs.Prelude.{◌≡◌, ◌++◌, codes, IfOk};
-ghost use Rattle.attr_sets.specs.Sets.{places};
+ghost use Rattle.attr_sets.specs.Sets.{attributes};
 ghost use Rattle.table_scripts.specs.QueryTexts.{select_text, distinct_text, derived_text, except_text, link_text, grouped_text, counted_text};
 
-use crate::columns::names;
+use crate::columns::names_text;
 use attr_sets::AttrSet;
-use dep_model::{Schema, WantMemory};
+use dep_model::{OutOfMemory, Schema};
 use schema_printer::add;
 use std::alloc::Global;
 
 // What is selected, and from what.
 #[tactic(auto, unfolding(crate::specs::QueryTexts::select_text))]
-pub fn select(alloc: Global, columns: &[u8], source: &[u8]) -> Result<Vec<u8>, WantMemory>
+pub fn select_text(alloc: Global, columns: &[u8], source: &[u8]) -> Result<Vec<u8>, OutOfMemory>
     ensures text { IfOk result (λ text. text.items ≡ select_text columns.now source.now) }
 {
     let mut text = Vec::new(alloc);
@@ -23,7 +23,7 @@ pub fn select(alloc: Global, columns: &[u8], source: &[u8]) -> Result<Vec<u8>, W
 
 // Each of the values once.
 #[tactic(auto, unfolding(crate::specs::QueryTexts::distinct_text))]
-pub fn distinct(alloc: Global, columns: &[u8], source: &[u8]) -> Result<Vec<u8>, WantMemory>
+pub fn distinct_text(alloc: Global, columns: &[u8], source: &[u8]) -> Result<Vec<u8>, OutOfMemory>
     ensures text { IfOk result (λ text. text.items ≡ distinct_text columns.now source.now) }
 {
     let mut text = Vec::new(alloc);
@@ -36,7 +36,7 @@ pub fn distinct(alloc: Global, columns: &[u8], source: &[u8]) -> Result<Vec<u8>,
 
 // A query as a source of rows, under an alias.
 #[tactic(auto, unfolding(crate::specs::QueryTexts::derived_text))]
-pub fn derived(alloc: Global, query: &[u8], alias: &[u8]) -> Result<Vec<u8>, WantMemory>
+pub fn derived_table(alloc: Global, query: &[u8], alias: &[u8]) -> Result<Vec<u8>, OutOfMemory>
     ensures text { IfOk result (λ text. text.items ≡ derived_text query.now alias.now) }
 {
     let mut text = Vec::new(alloc);
@@ -49,7 +49,7 @@ pub fn derived(alloc: Global, query: &[u8], alias: &[u8]) -> Result<Vec<u8>, Wan
 
 // What the first query gives and the second does not.
 #[tactic(auto, unfolding(crate::specs::QueryTexts::except_text))]
-pub fn except(alloc: Global, first: &[u8], second: &[u8]) -> Result<Vec<u8>, WantMemory>
+pub fn except_text(alloc: Global, first: &[u8], second: &[u8]) -> Result<Vec<u8>, OutOfMemory>
     ensures text { IfOk result (λ text. text.items ≡ except_text first.now second.now) }
 {
     let mut text = Vec::new(alloc);
@@ -60,23 +60,24 @@ pub fn except(alloc: Global, first: &[u8], second: &[u8]) -> Result<Vec<u8>, Wan
 }
 
 // What comes after a source where another is joined to it.
-pub fn link(
+pub fn link_text(
     alloc: Global,
     schema: &Schema,
     shared: AttrSet,
     source: &[u8],
-) -> Result<Vec<u8>, WantMemory>
-    ensures text { IfOk result (λ text. text.items ≡ link_text schema.now (places shared) source.now) }
+) -> Result<Vec<u8>, OutOfMemory>
+    ensures text { IfOk result (λ text. text.items
+        ≡ link_text schema.now (attributes shared) source.now) }
 {
     if shared.is_empty() {
-        crosswise(alloc, source)
+        cross_join(alloc, source)
     } else {
-        using(alloc, source, &names(alloc, schema, shared)?)
+        join_using(alloc, source, &names_text(alloc, schema, shared)?)
     }
 }
 
 // Each row with each of another source.
-fn crosswise(alloc: Global, source: &[u8]) -> Result<Vec<u8>, WantMemory>
+fn cross_join(alloc: Global, source: &[u8]) -> Result<Vec<u8>, OutOfMemory>
     ensures text { IfOk result (λ text. text.items ≡ codes " CROSS JOIN " ++ source.now) }
 {
     let mut text = Vec::new(alloc);
@@ -86,7 +87,7 @@ fn crosswise(alloc: Global, source: &[u8]) -> Result<Vec<u8>, WantMemory>
 }
 
 // Joined by these columns.
-fn using(alloc: Global, source: &[u8], columns: &[u8]) -> Result<Vec<u8>, WantMemory>
+fn join_using(alloc: Global, source: &[u8], columns: &[u8]) -> Result<Vec<u8>, OutOfMemory>
     ensures text { IfOk result
         (λ text. text.items ≡ codes " JOIN " ++ source.now ++ codes " USING (" ++ columns.now ++ codes ")") }
 {
@@ -101,7 +102,7 @@ fn using(alloc: Global, source: &[u8], columns: &[u8]) -> Result<Vec<u8>, WantMe
 
 // The values of columns that stand beside more than one row of a query.
 #[tactic(auto, unfolding(crate::specs::QueryTexts::grouped_text))]
-pub fn grouped(alloc: Global, columns: &[u8], query: &[u8]) -> Result<Vec<u8>, WantMemory>
+pub fn grouped_text(alloc: Global, columns: &[u8], query: &[u8]) -> Result<Vec<u8>, OutOfMemory>
     ensures text { IfOk result (λ text. text.items ≡ grouped_text columns.now query.now) }
 {
     let mut text = Vec::new(alloc);
@@ -117,7 +118,7 @@ pub fn grouped(alloc: Global, columns: &[u8], query: &[u8]) -> Result<Vec<u8>, W
 
 // How many rows a query gives, where they are more than one.
 #[tactic(auto, unfolding(crate::specs::QueryTexts::counted_text))]
-pub fn counted(alloc: Global, query: &[u8]) -> Result<Vec<u8>, WantMemory>
+pub fn counted_text(alloc: Global, query: &[u8]) -> Result<Vec<u8>, OutOfMemory>
     ensures text { IfOk result (λ text. text.items ≡ counted_text query.now) }
 {
     let mut text = Vec::new(alloc);

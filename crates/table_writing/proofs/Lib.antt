@@ -1,1 +1,1 @@
-pub mod FeedLemmas
+pub mod WriteLemmas

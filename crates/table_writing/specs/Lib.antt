@@ -1,1 +1,1 @@
-pub mod Feeding
+pub mod Writing

@@ -1,10 +1,10 @@
-/// How the feeding of a target ended.
+/// How the writing to a destination ended.
 #[derive(Clone, Copy, Debug, PartialEq, Eq)]
-pub enum FeedEnd {
+pub enum WriteOutcome {
     /// It has all tables.
     Done,
     /// It failed.
     Failed,
-    /// It wanted memory.
-    NoMemory,
+    /// It ran out of memory.
+    OutOfMemory,
 }

@@ -1,11 +1,11 @@
-//! Tables handed to targets.
+//! Tables handed to destinations.
 //!
-//! [`feed`] hands each table in order to each target in order. A target is left at its first fault, and
-//! the next one begins; each has an end of its own.
+//! [`write_tables`] hands each table in order to each destination in order. A destination is left at
+//! its first fault, and the next one begins; each has an end of its own.
 #![tactic(auto)]
 
 mod end;
-mod feeding;
+mod writing;
 
-pub use end::FeedEnd;
-pub use feeding::{feed, feed_list};
+pub use end::WriteOutcome;
+pub use writing::{write_tables, write_tables_to_list};

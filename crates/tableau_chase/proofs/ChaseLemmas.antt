@@ -4,20 +4,20 @@ use Rattle.std.proofs.lemmas.Bool.{cases_eq, true≢false}
 use Rattle.std.proofs.lemmas.List.{length_push, get_or_append_left, get_or_default, get_or_push}
 use Rattle.std.proofs.lemmas.List.Elements.{All-contains, Contains-get_or, Contains-append_left, Contains-append_right, Contains-push, Contains-push_cases, filter_passes}
 use Rattle.std.specs.Prelude.{Contains, All, AllPairs}
-use Rattle.attr_sets.specs.Places.{Places, union}
-use Rattle.attr_sets.specs.Sets.{places}
+use Rattle.attr_sets.specs.Attributes.{Attributes, union}
+use Rattle.attr_sets.specs.Sets.{attributes}
 use Rattle.dep_model.specs.declared.schema.Schema.{Schema}
 use Rattle.dep_model.specs.Schemas.{width_of, theory_of, TypedFor}
 use Rattle.dep_model.specs.Tuples.{Relation}
 use Rattle.dep_model.specs.Dependencies.{Dependency, mvd, is_fd, functional_part}
-use Rattle.chase_laws.specs.Tableaux.{SymbolRow, Tableau, SameTableau, IsTableauOver, distinguished, plan_tableau}
-use Rattle.chase_laws.specs.Steps.{exchanged, IsClosed}
-use Rattle.chase_laws.specs.Rounds.{ReachesTableau, SettlesTo, IsMadeOf, IsNext, EndsRounds, InRounds, HasMoreThan, RoundsExceed}
+use Rattle.chase_laws.specs.Tableaux.{SymbolRow, Tableau, SameTableau, IsTableauOver, distinguished_row, plan_tableau}
+use Rattle.chase_laws.specs.Steps.{exchange_rows, IsClosed}
+use Rattle.chase_laws.specs.Rounds.{ReachesTableau, ClosesFunctionallyTo, IsMadeOf, IsNext, EndsRounds, InRounds, HasMoreThan, RoundsExceed}
 use Rattle.chase_laws.specs.Answers.{IsGaining, IsClosedTableau}
 use Rattle.chase_laws.proofs.TableauLemmas.{Same-refl, Same-sym, Same-trans, cons_cases}
-use Rattle.chase_laws.proofs.KeptLemmas.{reached-over, reached-most}
-use Rattle.chase_laws.proofs.RoundLemmas.{closed-same, rounds_unique, rounds_end, no_more, next_exists, functional_leads_end, step_leads_end, reaches_settled}
-use Rattle.chase_laws.proofs.SettlingLemmas.{settled-same}
+use Rattle.chase_laws.proofs.InvariantLemmas.{reached-over, reached-most}
+use Rattle.chase_laws.proofs.RoundLemmas.{closed-same, rounds_unique, rounds_end, no_more, next_exists, functional_leads_end, step_leads_end, reaches_functionally_closed}
+use Rattle.chase_laws.proofs.FunctionalClosingLemmas.{functionally_closed-same}
 use Rattle.chase_laws.proofs.ClosedLemmas.{closed_gaining, closed_exchanged, reached_typed}
 use Rattle.chase_laws.proofs.EndLemmas.{what_is_left, round_lowers}
 use Rattle.tableau_chase.specs.Groups.{symbol_row_at}
@@ -27,7 +27,7 @@ use Rattle.dep_model.proofs.ListLemmas.{Contains-head, Contains-later}
 
 -- ---- what holds when a round begins
 -- the rows are those of a tableau of the rounds, none of which had too many so far
-pub record IsRound (n : ℕ) (ds : List Dependency) (plan : List Places) (limit : ℕ) (rows : Tableau) : Type 0 where
+pub record IsRound (n : ℕ) (ds : List Dependency) (plan : List Attributes) (limit : ℕ) (rows : Tableau) : Type 0 where
   pub round : ℕ
   pub in_rounds : InRounds n ds plan round rows
   pub reached : ReachesTableau n ds plan rows
@@ -35,10 +35,10 @@ pub record IsRound (n : ℕ) (ds : List Dependency) (plan : List Places) (limit 
   pub few : length rows ≤ limit
   pub earlier : (r : ℕ) (t : Tableau) → r ≤ round → InRounds n ds plan r t → HasMoreThan limit t → ⊥
 
-pub round_over : (n : ℕ) (ds : List Dependency) (plan : List Places) (limit : ℕ) (rows : Tableau) → IsRound n ds plan limit rows → IsTableauOver n rows
+pub round_over : (n : ℕ) (ds : List Dependency) (plan : List Attributes) (limit : ℕ) (rows : Tableau) → IsRound n ds plan limit rows → IsTableauOver n rows
 round_over n ds plan limit rows round k d l = reached-over n ds plan rows round.reached (get_or rows k d) (Contains-get_or rows k d l)
 
-pub first_round : (n : ℕ) (ds : List Dependency) (plan : List Places) (limit : ℕ) (rows : Tableau) → SameTableau (plan_tableau n plan) rows → AllPairs (λ p q. p ≡ q → ⊥) rows → length rows ≤ limit → IsRound n ds plan limit rows
+pub first_round : (n : ℕ) (ds : List Dependency) (plan : List Attributes) (limit : ℕ) (rows : Tableau) → SameTableau (plan_tableau n plan) rows → AllPairs (λ p q. p ≡ q → ⊥) rows → length rows ≤ limit → IsRound n ds plan limit rows
 first_round n ds plan limit rows same differ few = record {
   round = 0;
   in_rounds = same;
@@ -51,7 +51,7 @@ first_round n ds plan limit rows same differ few = record {
       no_more limit t rows (Same-trans t (plan_tableau n plan) rows (Same-sym (plan_tableau n plan) t first) same) few more;
 }
 
-pub first_exceeds : (n : ℕ) (ds : List Dependency) (plan : List Places) (limit : ℕ) → HasMoreThan limit (plan_tableau n plan) → RoundsExceed n ds plan limit
+pub first_exceeds : (n : ℕ) (ds : List Dependency) (plan : List Attributes) (limit : ℕ) → HasMoreThan limit (plan_tableau n plan) → RoundsExceed n ds plan limit
 first_exceeds n ds plan limit more = record { round = 0; tableau = plan_tableau n plan; in_rounds = Same-refl (plan_tableau n plan); more = more }
 
 -- rows at the front of no more rows are these
@@ -59,16 +59,16 @@ no_more_rows : (t rest u : Tableau) → u ≡ t ++ rest → length u ≡ length 
 no_more_rows t [] u is count = is ∙ append-nil t
 no_more_rows t (row ∷ rest) u is count = let e = ap (λ (v : Tableau). length v) is in absurd (omega (arith, e, count, length-append t (row ∷ rest)))
 
--- ---- a round: from its rows, settled to s, whose different rows are t
-module _ (n : ℕ) (ds : List Dependency) (plan : List Places) (limit : ℕ) (rows s t : Tableau) (round : IsRound n ds plan limit rows) (settles : SettlesTo ds rows s) (same : SameTableau s t) where
-  pub settles_to : SettlesTo ds rows t
+-- ---- a round: from its rows, functionally closed to s, whose different rows are t
+module _ (n : ℕ) (ds : List Dependency) (plan : List Attributes) (limit : ℕ) (rows s t : Tableau) (round : IsRound n ds plan limit rows) (closes : ClosesFunctionallyTo ds rows s) (same : SameTableau s t) where
+  pub settles_to : ClosesFunctionallyTo ds rows t
   settles_to = record {
-    leads = (settles.leads.0, functional_leads_end ds settles.leads.0 rows s t settles.leads.1 same);
-    settled = settled-same ds s t same settles.settled;
+    leads = (closes.leads.0, functional_leads_end ds closes.leads.0 rows s t closes.leads.1 same);
+    functionally_closed = functionally_closed-same ds s t same closes.functionally_closed;
   }
 
   pub reached_settled : ReachesTableau n ds plan t
-  reached_settled = reaches_settled n ds settles_to.leads.0 round.reached.0 (plan_tableau n plan) rows t round.reached.1 settles_to.leads.1
+  reached_settled = reaches_functionally_closed n ds settles_to.leads.0 round.reached.0 (plan_tableau n plan) rows t round.reached.1 settles_to.leads.1
 
   pub settled_over : IsTableauOver n t
   settled_over k d l = reached-over n ds plan t reached_settled (get_or t k d) (Contains-get_or t k d l)
@@ -83,8 +83,8 @@ module _ (n : ℕ) (ds : List Dependency) (plan : List Places) (limit : ℕ) (ro
 
   -- where nothing was added, it is closed
   pub closed_here : AddsAll (IsMadeOf n ds t) t t → IsClosed n ds t
-  closed_here adds u (inl step) = settles_to.settled u step
-  closed_here adds u (inr step) = step.step.fresh (adds.complete (exchanged n (union step.lhs step.rhs) step.step.first step.step.second)
+  closed_here adds u (inl step) = settles_to.functionally_closed u step
+  closed_here adds u (inr step) = step.step.fresh (adds.complete (exchange_rows n (union step.lhs step.rhs) step.step.first step.step.second)
       (record { lhs = step.lhs; rhs = step.rhs; given = step.given; first = step.step.first; second = step.step.second; first_in = step.step.first_in; second_in = step.step.second_in; agree = step.step.agree; row_is = refl }))
 
   -- the same for rows of which there are no more
@@ -97,7 +97,7 @@ module _ (n : ℕ) (ds : List Dependency) (plan : List Places) (limit : ℕ) (ro
       (closed_exchanged n ds t made.lhs made.rhs made.first made.second closed made.given made.first_in made.second_in made.agree)
 
   -- where a next tableau has too many rows, it is one of the rounds
-  pub next_exceeds : (Contains t (distinguished n) → ⊥) → length t ≤ limit → Overflows (IsMadeOf n ds t) limit t → RoundsExceed n ds plan limit
+  pub next_exceeds : (Contains t (distinguished_row n) → ⊥) → length t ≤ limit → Overflows (IsMadeOf n ds t) limit t → RoundsExceed n ds plan limit
   next_exceeds lacks few over =
       let next = next_exists n ds t in
       record {
@@ -124,12 +124,12 @@ module _ (n : ℕ) (ds : List Dependency) (plan : List Places) (limit : ℕ) (ro
         let longer : u ≡ ((t ++ front) ++ row ∷ []) ++ rest = is ∙ sym (append_assoc (t ++ front) (row ∷ []) rest) in
         let joined : (t ++ front) ++ row ∷ [] ≡ t ++ (front ++ row ∷ []) = append_assoc t front (row ∷ []) in
         let in_u : Contains u row = subst (λ (v : Tableau). Contains v row) (sym is) (Contains-append_right (t ++ front) (row ∷ rest) row (Contains-head row rest)) in
-        let place = length (t ++ front) in
-        let at_place : (k : ℕ) (d : SymbolRow) → k < place → get_or u k d ≡ get_or (t ++ front) k d = λ (k : ℕ) (d : SymbolRow) l. ap (λ (v : Tableau). get_or v k d) is ∙ get_or_append_left (t ++ front) (row ∷ rest) d k l in
-        let row_is : get_or u place row ≡ row = ap (λ (v : Tableau). get_or v place row) longer
-        ∙ get_or_append_left ((t ++ front) ++ row ∷ []) rest row place (omega (arith, length_push (t ++ front) row)) ∙ get_or_push (t ++ front) row row place refl in
-        let place_low : place < length u = (let e = ap (λ (v : Tableau). length v) longer in omega (arith, e, length_push (t ++ front) row, length-append ((t ++ front) ++ row ∷ []) rest)) in
-        let fresh : Contains (t ++ front) row → ⊥ = λ h. differ h.0 place row h.1 place_low (at_place h.0 row h.1 ∙ h.2 ∙ sym row_is) in
+        let position = length (t ++ front) in
+        let at_position : (k : ℕ) (d : SymbolRow) → k < position → get_or u k d ≡ get_or (t ++ front) k d = λ (k : ℕ) (d : SymbolRow) l. ap (λ (v : Tableau). get_or v k d) is ∙ get_or_append_left (t ++ front) (row ∷ rest) d k l in
+        let row_is : get_or u position row ≡ row = ap (λ (v : Tableau). get_or v position row) longer
+        ∙ get_or_append_left ((t ++ front) ++ row ∷ []) rest row position (omega (arith, length_push (t ++ front) row)) ∙ get_or_push (t ++ front) row row position refl in
+        let position_low : position < length u = (let e = ap (λ (v : Tableau). length v) longer in omega (arith, e, length_push (t ++ front) row, length-append ((t ++ front) ++ row ∷ []) rest)) in
+        let fresh : Contains (t ++ front) row → ⊥ = λ h. differ h.0 position row h.1 position_low (at_position h.0 row h.1 ∙ h.2 ∙ sym row_is) in
         let step : ReachesTableau n ds plan (t ++ (front ++ row ∷ [])) = ⊎_elim
         (λ old. absurd (fresh (Contains-append_left t front row old)))
         (λ (made : IsMadeOf n ds t row). (
@@ -150,12 +150,12 @@ module _ (n : ℕ) (ds : List Dependency) (plan : List Places) (limit : ℕ) (ro
                 fresh = λ h. fresh (subst (λ (r : SymbolRow). Contains (t ++ front) r) (sym made.row_is) h);
                 after = λ p. (
                   (λ h. subst (λ (v : Tableau). Contains v p) joined (⊎_elim
-                      (λ (e : exchanged n (union made.lhs made.rhs) made.first made.second ≡ p). subst (λ (r : SymbolRow). Contains ((t ++ front) ++ row ∷ []) r) (made.row_is ∙ e) (Contains-push (t ++ front) row))
+                      (λ (e : exchange_rows n (union made.lhs made.rhs) made.first made.second ≡ p). subst (λ (r : SymbolRow). Contains ((t ++ front) ++ row ∷ []) r) (made.row_is ∙ e) (Contains-push (t ++ front) row))
                       (λ old. Contains-append_left (t ++ front) (row ∷ []) p old)
-                      (cons_cases (exchanged n (union made.lhs made.rhs) made.first made.second) (t ++ front) p h))),
+                      (cons_cases (exchange_rows n (union made.lhs made.rhs) made.first made.second) (t ++ front) p h))),
                   (λ h. ⊎_elim
-                      (λ old. Contains-later (exchanged n (union made.lhs made.rhs) made.first made.second) (t ++ front) p old)
-                      (λ (e : row ≡ p). subst (λ (r : SymbolRow). Contains (exchanged n (union made.lhs made.rhs) made.first made.second ∷ (t ++ front)) r) (sym made.row_is ∙ e) (Contains-head (exchanged n (union made.lhs made.rhs) made.first made.second) (t ++ front)))
+                      (λ old. Contains-later (exchange_rows n (union made.lhs made.rhs) made.first made.second) (t ++ front) p old)
+                      (λ (e : row ≡ p). subst (λ (r : SymbolRow). Contains (exchange_rows n (union made.lhs made.rhs) made.first made.second ∷ (t ++ front)) r) (sym made.row_is ∙ e) (Contains-head (exchange_rows n (union made.lhs made.rhs) made.first made.second) (t ++ front)))
                       (Contains-push_cases (t ++ front) row p (subst (λ (v : Tableau). Contains v p) (sym joined) h))),
                 );
               };
@@ -168,7 +168,7 @@ module _ (n : ℕ) (ds : List Dependency) (plan : List Places) (limit : ℕ) (ro
     pub next_reached : ReachesTableau n ds plan u
     next_reached = reached_by adds.extends.0 [] (adds.extends.1 ∙ ap (λ (v : Tableau). v ++ adds.extends.0) (sym (append-nil t))) (subst (λ (v : Tableau). ReachesTableau n ds plan v) (sym (append-nil t)) reached_settled)
 
-    pub next_round : (Contains t (distinguished n) → ⊥) → length t < length u → IsRound n ds plan limit u
+    pub next_round : (Contains t (distinguished_row n) → ⊥) → length t < length u → IsRound n ds plan limit u
     next_round lacks grows =
         let here : InRounds n ds plan (suc round.round) u = (rows, t, round.in_rounds, settles_to, (λ ends. ⊎_elim lacks (not_closed u adds differ grows) ends), next_of u adds) in
         record {
@@ -187,17 +187,17 @@ module _ (n : ℕ) (ds : List Dependency) (plan : List Places) (limit : ℕ) (ro
     next_lower grows = round_lowers n (length plan) limit ds rows t u (reached-over n ds plan rows round.reached) (reached-most n ds plan rows round.reached) settles_to.leads (next_of u adds) round.differ grows few
 
 -- ---- the answers
-pub closed_rows : (n : ℕ) (ds : List Dependency) (plan : List Places) (limit : ℕ) (rows t : Tableau) (texts : Relation) → IsRound n ds plan limit rows → SettlesTo ds rows t → ReachesTableau n ds plan t → IsClosed n ds t → length t ≤ limit
+pub closed_rows : (n : ℕ) (ds : List Dependency) (plan : List Attributes) (limit : ℕ) (rows t : Tableau) (texts : Relation) → IsRound n ds plan limit rows → ClosesFunctionallyTo ds rows t → ReachesTableau n ds plan t → IsClosed n ds t → length t ≤ limit
     → AreTextsOf t texts → IsClosedTableau n ds plan limit texts
-closed_rows n ds plan limit rows t texts round settles reached closed few are = record {
+closed_rows n ds plan limit rows t texts round closes reached closed few are = record {
   symbols = are.symbols;
   texts = are.texts;
   round = round.round;
   last = rows;
   in_rounds = round.in_rounds;
-  settles = record {
-    leads = (settles.leads.0, functional_leads_end ds settles.leads.0 rows t are.symbols settles.leads.1 are.same);
-    settled = settled-same ds t are.symbols are.same settles.settled;
+  closes = record {
+    leads = (closes.leads.0, functional_leads_end ds closes.leads.0 rows t are.symbols closes.leads.1 are.same);
+    functionally_closed = functionally_closed-same ds t are.symbols are.same closes.functionally_closed;
   };
   reached = (reached.0, step_leads_end n ds reached.0 (plan_tableau n plan) t are.symbols reached.1 are.same);
   closed = closed-same n ds t are.symbols are.same closed;
@@ -205,36 +205,36 @@ closed_rows n ds plan limit rows t texts round settles reached closed few are = 
   ascending = are.ascending;
 }
 
-pub closed_gains : (n : ℕ) (ds : List Dependency) (plan : List Places) (t : Tableau) (texts : Relation) → length plan < 2 ^ 32 → ReachesTableau n ds plan t → IsClosed n ds t → AreTextsOf t texts → (Contains t (distinguished n) → ⊥)
+pub closed_gains : (n : ℕ) (ds : List Dependency) (plan : List Attributes) (t : Tableau) (texts : Relation) → length plan < 2 ^ 32 → ReachesTableau n ds plan t → IsClosed n ds t → AreTextsOf t texts → (Contains t (distinguished_row n) → ⊥)
     → IsGaining n ds plan texts
 closed_gains n ds plan t texts few reached closed are lacks =
     subst (λ (r : Relation). IsGaining n ds plan r) (sym are.texts)
-    (closed_gaining n ds plan are.symbols few (reached.0, step_leads_end n ds reached.0 (plan_tableau n plan) t are.symbols reached.1 are.same) (closed-same n ds t are.symbols are.same closed) (λ h. lacks ((are.same (distinguished n)).1 h)))
+    (closed_gaining n ds plan are.symbols few (reached.0, step_leads_end n ds reached.0 (plan_tableau n plan) t are.symbols reached.1 are.same) (closed-same n ds t are.symbols are.same closed) (λ h. lacks ((are.same (distinguished_row n)).1 h)))
 
-pub closed_typed : (schema : Schema) (plan : List Places) (limit : ℕ) (texts : Relation) → length plan < 2 ^ 32 → IsClosedTableau (width_of schema) (theory_of schema) plan limit texts → TypedFor schema texts
+pub closed_typed : (schema : Schema) (plan : List Attributes) (limit : ℕ) (texts : Relation) → length plan < 2 ^ 32 → IsClosedTableau (width_of schema) (theory_of schema) plan limit texts → TypedFor schema texts
 closed_typed schema plan limit texts few closed =
-    subst (λ (r : Relation). TypedFor schema r) (sym closed.texts) (reached_typed (width_of schema) (places schema.integers) (theory_of schema) plan closed.symbols few closed.reached)
+    subst (λ (r : Relation). TypedFor schema r) (sym closed.texts) (reached_typed (width_of schema) (attributes schema.integers) (theory_of schema) plan closed.symbols few closed.reached)
 
 -- what is said of the texts of the rows, where the rounds end at a closed tableau
-pub record EndsLossy (n : ℕ) (ds : List Dependency) (plan : List Places) (limit : ℕ) (texts : Relation) : Type 0 where
+pub record EndsLossy (n : ℕ) (ds : List Dependency) (plan : List Attributes) (limit : ℕ) (texts : Relation) : Type 0 where
   pub within : RoundsExceed n ds plan limit → ⊥
   pub closed : IsClosedTableau n ds plan limit texts
   pub gains : IsGaining n ds plan texts
 
-pub ends_lossy : (n : ℕ) (ds : List Dependency) (plan : List Places) (limit : ℕ) (rows s t u : Tableau) (texts : Relation) → length plan < 2 ^ 32 → IsRound n ds plan limit rows → SettlesTo ds rows s → SameTableau s t
-    → length t ≤ limit → (Contains t (distinguished n) → ⊥) → AddsAll (IsMadeOf n ds t) t u → length u ≡ length t → AreTextsOf u texts → EndsLossy n ds plan limit texts
-ends_lossy n ds plan limit rows s t u texts small round settles same few lacks adds count are =
-    let closed : IsClosed n ds t = closed_when n ds plan limit rows s t round settles same u adds count in
-    let reached : ReachesTableau n ds plan t = reached_settled n ds plan limit rows s t round settles same in
+pub ends_lossy : (n : ℕ) (ds : List Dependency) (plan : List Attributes) (limit : ℕ) (rows s t u : Tableau) (texts : Relation) → length plan < 2 ^ 32 → IsRound n ds plan limit rows → ClosesFunctionallyTo ds rows s → SameTableau s t
+    → length t ≤ limit → (Contains t (distinguished_row n) → ⊥) → AddsAll (IsMadeOf n ds t) t u → length u ≡ length t → AreTextsOf u texts → EndsLossy n ds plan limit texts
+ends_lossy n ds plan limit rows s t u texts small round closes same few lacks adds count are =
+    let closed : IsClosed n ds t = closed_when n ds plan limit rows s t round closes same u adds count in
+    let reached : ReachesTableau n ds plan t = reached_settled n ds plan limit rows s t round closes same in
     let texts_are : AreTextsOf t texts = subst (λ (v : Tableau). AreTextsOf v texts) (no_more_rows t adds.extends.0 u adds.extends.1 count) are in
     record {
-      within = ended n ds plan limit rows s t round settles same (inr closed);
-      closed = closed_rows n ds plan limit rows t texts round (settles_to n ds plan limit rows s t round settles same) reached closed few texts_are;
+      within = ended n ds plan limit rows s t round closes same (inr closed);
+      closed = closed_rows n ds plan limit rows t texts round (settles_to n ds plan limit rows s t round closes same) reached closed few texts_are;
       gains = closed_gains n ds plan t texts small reached closed texts_are lacks;
     }
 
 -- no dependency is multivalued
-pub functional_none : (ds : List Dependency) → functional_part ds ≡ ds → (x y : Places) → Contains ds (mvd x y) → ⊥
+pub functional_none : (ds : List Dependency) → functional_part ds ≡ ds → (x y : Attributes) → Contains ds (mvd x y) → ⊥
 functional_none ds whole x y given =
     let is : is_fd (mvd x y) ≡ true = All-contains (λ (d : Dependency). is_fd d ≡ true) ds (mvd x y) (subst (λ (es : List Dependency). All (λ (d : Dependency). is_fd d ≡ true) es) whole (filter_passes is_fd ds)) given in
     true≢false (sym is)

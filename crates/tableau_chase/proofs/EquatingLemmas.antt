@@ -4,49 +4,49 @@ use Rattle.std.proofs.lemmas.Bool.{cases_lt, true≢false}
 use Rattle.std.proofs.lemmas.List.{get_or-map, length-map, get_or_default}
 use Rattle.std.proofs.lemmas.List.Elements.{All-map, Contains-get_or}
 use Rattle.std.specs.Prelude.{Contains, All}
-use Rattle.attr_sets.specs.Places.{Places, count_below}
-use Rattle.attr_sets.proofs.PlacesLemmas.{count_below-place}
+use Rattle.attr_sets.specs.Attributes.{Attributes, count_below}
+use Rattle.attr_sets.proofs.AttributesLemmas.{count_below-before_member}
 use Rattle.dep_model.specs.Dependencies.{Dependency, fd, mvd}
 use Rattle.dep_model.specs.Projections.{members_below}
 use Rattle.dep_model.proofs.SchemeLemmas.{members_below-at, length-members_below}
 use Rattle.dep_model.proofs.ListLemmas.{Contains-head}
 use Rattle.chase_laws.specs.Tableaux.{SymbolRow, Tableau, SameTableau, symbol_at, SymbolsAgree, IsTableauOver}
-use Rattle.chase_laws.specs.Steps.{replaced_in, replaced, IsFunctionalStep}
-use Rattle.chase_laws.proofs.TableauLemmas.{symbol_at_past, length-replaced_in, symbol_at-replaced_in, change, change_hit, change_miss, Same-refl}
+use Rattle.chase_laws.specs.Steps.{replace_in_row, replace_symbol, IsFunctionalStep}
+use Rattle.chase_laws.proofs.TableauLemmas.{symbol_at_past, length-replace_in_row, symbol_at-replace_in_row, symbol_after, symbol_after-hit, symbol_after-miss, Same-refl}
 use Rattle.chase_laws.proofs.RoundLemmas.{functional_leads_join}
 use Rattle.tableau_chase.specs.Groups.{symbol_row_at, AreSymbolLeaders}
-use Rattle.tableau_chase.specs.Settling.{Changes, KeepsRows, IsEquatedAt, AreEquated, AgreesBy, AreGrouped, AreGroupedBy}
+use Rattle.tableau_chase.specs.Equating.{Changes, KeepsRows, IsEquatedAt, AreEquated, AgreesBy, AreGrouped, AreGroupedBy}
 
 -- ---- a replacement
-row_at-replaced : (a former later : ℕ) (t : Tableau) (i : ℕ) → i < length t → symbol_row_at (replaced a former later t) i ≡ replaced_in a former later (symbol_row_at t i)
-row_at-replaced a former later t i low = get_or-map (replaced_in a former later) t i [] [] low
+row_at-replace_symbol : (a former later : ℕ) (t : Tableau) (i : ℕ) → i < length t → symbol_row_at (replace_symbol a former later t) i ≡ replace_in_row a former later (symbol_row_at t i)
+row_at-replace_symbol a former later t i low = get_or-map (replace_in_row a former later) t i [] [] low
 
-abbrev HasPlace : ℕ → SymbolRow → Type 0
-HasPlace a row = a < length row
+abbrev HasAttribute : ℕ → SymbolRow → Type 0
+HasAttribute a row = a < length row
 
-symbol-replaced : (a former later : ℕ) (t : Tableau) (i k : ℕ) → All (HasPlace a) t → i < length t → symbol_at (symbol_row_at (replaced a former later t) i) k ≡ change a former later k (symbol_at (symbol_row_at t i) k)
-symbol-replaced a former later t i k within low =
-    ap (λ (row : SymbolRow). symbol_at row k) (row_at-replaced a former later t i low) ∙ symbol_at-replaced_in a former later (symbol_row_at t i) k (within i [] low)
+symbol-replace_symbol : (a former later : ℕ) (t : Tableau) (i k : ℕ) → All (HasAttribute a) t → i < length t → symbol_at (symbol_row_at (replace_symbol a former later t) i) k ≡ symbol_after a former later k (symbol_at (symbol_row_at t i) k)
+symbol-replace_symbol a former later t i k within low =
+    ap (λ (row : SymbolRow). symbol_at row k) (row_at-replace_symbol a former later t i low) ∙ symbol_at-replace_in_row a former later (symbol_row_at t i) k (within i [] low)
 
-keeps_replaced : (a former later : ℕ) (t : Tableau) → All (HasPlace a) t → KeepsRows t (replaced a former later t)
+keeps_replaced : (a former later : ℕ) (t : Tableau) → All (HasAttribute a) t → KeepsRows t (replace_symbol a former later t)
 keeps_replaced a former later t within = record {
-  one_each = length-map t (replaced_in a former later);
+  one_each = length-map t (replace_in_row a former later);
   equal = λ i j k i_low j_low same.
-      symbol-replaced a former later t i k within i_low ∙ ap (λ (v : ℕ). change a former later k v) same ∙ sym (symbol-replaced a former later t j k within j_low);
-  over = λ n over. All-map (λ (row : SymbolRow). length row ≡ n) (replaced_in a former later) t (λ k d l. length-replaced_in a former later (get_or t k d) ∙ over k d l);
+      symbol-replace_symbol a former later t i k within i_low ∙ ap (λ (v : ℕ). symbol_after a former later k v) same ∙ sym (symbol-replace_symbol a former later t j k within j_low);
+  over = λ n over. All-map (λ (row : SymbolRow). length row ≡ n) (replace_in_row a former later) t (λ k d l. length-replace_in_row a former later (get_or t k d) ∙ over k d l);
 }
 
-keeps_itself : (t : Tableau) → KeepsRows t t
-keeps_itself t = record { one_each = refl; equal = λ i j k i_low j_low same. same; over = λ n over. over }
+KeepsRows-refl : (t : Tableau) → KeepsRows t t
+KeepsRows-refl t = record { one_each = refl; equal = λ i j k i_low j_low same. same; over = λ n over. over }
 
-keeps_trans : (t m s : Tableau) → KeepsRows t m → KeepsRows m s → KeepsRows t s
-keeps_trans t m s one other = record {
+KeepsRows-trans : (t m s : Tableau) → KeepsRows t m → KeepsRows m s → KeepsRows t s
+KeepsRows-trans t m s one other = record {
   one_each = other.one_each ∙ one.one_each;
   equal = λ i j k i_low j_low same. other.equal i j k (omega (arith, i_low, one.one_each)) (omega (arith, j_low, one.one_each)) (one.equal i j k i_low j_low same);
   over = λ n over. other.over n (one.over n over);
 }
 
-keeps_agree : (t s : Tableau) (x : Places) (i j : ℕ) → KeepsRows t s → i < length t → j < length t → SymbolsAgree x (symbol_row_at t i) (symbol_row_at t j) → SymbolsAgree x (symbol_row_at s i) (symbol_row_at s j)
+keeps_agree : (t s : Tableau) (x : Attributes) (i j : ℕ) → KeepsRows t s → i < length t → j < length t → SymbolsAgree x (symbol_row_at t i) (symbol_row_at t j) → SymbolsAgree x (symbol_row_at s i) (symbol_row_at s j)
 keeps_agree t s x i j keeps i_low j_low agree k m = keeps.equal i j k i_low j_low (agree k m)
 
 -- ---- changes
@@ -59,8 +59,8 @@ changes_join ds true t m s one other = functional_leads_join ds other.0 t m s (s
 changes_join ds false t m s same other = subst (λ (u : Tableau). Changes ds true u s) same other
 
 -- ---- one attribute
-module _ (a first second : ℕ) (t s : Tableau) (within : All (HasPlace a) t) (first_low : first < length t) (second_low : second < length t) (equated : IsEquatedAt a first second t s true) where
-  equated_step : (ds : List Dependency) (x y : Places) → Contains ds (fd x y) → y a ≡ true → SymbolsAgree x (symbol_row_at t first) (symbol_row_at t second) → IsFunctionalStep ds t s
+module _ (a first second : ℕ) (t s : Tableau) (within : All (HasAttribute a) t) (first_low : first < length t) (second_low : second < length t) (equated : IsEquatedAt a first second t s true) where
+  equated_step : (ds : List Dependency) (x y : Attributes) → Contains ds (fd x y) → y a ≡ true → SymbolsAgree x (symbol_row_at t first) (symbol_row_at t second) → IsFunctionalStep ds t s
   equated_step ds x y given member agree = elim equated [
     | inl less ↦ record {
       lhs = x;
@@ -72,10 +72,10 @@ module _ (a first second : ℕ) (t s : Tableau) (within : All (HasPlace a) t) (f
         first_in = Contains-get_or t first [] first_low;
         second_in = Contains-get_or t second [] second_low;
         agree = agree;
-        place = a;
+        attribute = a;
         member = member;
         differ = less.0;
-        after = subst (λ (u : Tableau). SameTableau (replaced a (symbol_at (symbol_row_at t second) a) (symbol_at (symbol_row_at t first) a) t) u) (sym less.1) (Same-refl (replaced a (symbol_at (symbol_row_at t second) a) (symbol_at (symbol_row_at t first) a) t));
+        after = subst (λ (u : Tableau). SameTableau (replace_symbol a (symbol_at (symbol_row_at t second) a) (symbol_at (symbol_row_at t first) a) t) u) (sym less.1) (Same-refl (replace_symbol a (symbol_at (symbol_row_at t second) a) (symbol_at (symbol_row_at t first) a) t));
       };
     }
     | inr more ↦ record {
@@ -88,10 +88,10 @@ module _ (a first second : ℕ) (t s : Tableau) (within : All (HasPlace a) t) (f
         first_in = Contains-get_or t second [] second_low;
         second_in = Contains-get_or t first [] first_low;
         agree = λ k m. sym (agree k m);
-        place = a;
+        attribute = a;
         member = member;
         differ = more.0;
-        after = subst (λ (u : Tableau). SameTableau (replaced a (symbol_at (symbol_row_at t first) a) (symbol_at (symbol_row_at t second) a) t) u) (sym more.1) (Same-refl (replaced a (symbol_at (symbol_row_at t first) a) (symbol_at (symbol_row_at t second) a) t));
+        after = subst (λ (u : Tableau). SameTableau (replace_symbol a (symbol_at (symbol_row_at t first) a) (symbol_at (symbol_row_at t second) a) t) u) (sym more.1) (Same-refl (replace_symbol a (symbol_at (symbol_row_at t first) a) (symbol_at (symbol_row_at t second) a) t));
       };
     }
   ]
@@ -107,29 +107,29 @@ module _ (a first second : ℕ) (t s : Tableau) (within : All (HasPlace a) t) (f
     | inl less ↦
         let former = symbol_at (symbol_row_at t second) a in
         let later = symbol_at (symbol_row_at t first) a in
-        ap (λ (u : Tableau). symbol_at (symbol_row_at u first) a) less.1 ∙ symbol-replaced a former later t first a within first_low
-        ∙ change_miss a former later a later (λ e. absurd (omega (arith, e, less.0))) ∙ sym (change_hit a former later a former refl refl)
-        ∙ sym (symbol-replaced a former later t second a within second_low) ∙ ap (λ (u : Tableau). symbol_at (symbol_row_at u second) a) (sym less.1)
+        ap (λ (u : Tableau). symbol_at (symbol_row_at u first) a) less.1 ∙ symbol-replace_symbol a former later t first a within first_low
+        ∙ symbol_after-miss a former later a later (λ e. absurd (omega (arith, e, less.0))) ∙ sym (symbol_after-hit a former later a former refl refl)
+        ∙ sym (symbol-replace_symbol a former later t second a within second_low) ∙ ap (λ (u : Tableau). symbol_at (symbol_row_at u second) a) (sym less.1)
     | inr more ↦
         let former = symbol_at (symbol_row_at t first) a in
         let later = symbol_at (symbol_row_at t second) a in
-        ap (λ (u : Tableau). symbol_at (symbol_row_at u first) a) more.1 ∙ symbol-replaced a former later t first a within first_low
-        ∙ change_hit a former later a former refl refl ∙ sym (change_miss a former later a later (λ e. absurd (omega (arith, e, more.0))))
-        ∙ sym (symbol-replaced a former later t second a within second_low) ∙ ap (λ (u : Tableau). symbol_at (symbol_row_at u second) a) (sym more.1)
+        ap (λ (u : Tableau). symbol_at (symbol_row_at u first) a) more.1 ∙ symbol-replace_symbol a former later t first a within first_low
+        ∙ symbol_after-hit a former later a former refl refl ∙ sym (symbol_after-miss a former later a later (λ e. absurd (omega (arith, e, more.0))))
+        ∙ sym (symbol-replace_symbol a former later t second a within second_low) ∙ ap (λ (u : Tableau). symbol_at (symbol_row_at u second) a) (sym more.1)
   ]
 
 -- ---- attribute by attribute
 -- two rows agree at the first attributes of a list
-pub record AreEquatedUpTo (y : Places) (attributes : List ℕ) (upto first second : ℕ) (t s : Tableau) (changed : Bool) : Type 0 where
-  pub changes : (ds : List Dependency) (x : Places) → Contains ds (fd x y) → SymbolsAgree x (symbol_row_at t first) (symbol_row_at t second) → Changes ds changed t s
+pub record AreEquatedUpTo (y : Attributes) (attributes : List ℕ) (upto first second : ℕ) (t s : Tableau) (changed : Bool) : Type 0 where
+  pub changes : (ds : List Dependency) (x : Attributes) → Contains ds (fd x y) → SymbolsAgree x (symbol_row_at t first) (symbol_row_at t second) → Changes ds changed t s
   pub keeps : KeepsRows t s
   pub agree : (j : ℕ) → j < upto → symbol_at (symbol_row_at s first) (get_or attributes j 0) ≡ symbol_at (symbol_row_at s second) (get_or attributes j 0)
 
-pub equated_none : (y : Places) (attributes : List ℕ) (first second : ℕ) (t : Tableau) → AreEquatedUpTo y attributes 0 first second t t false
-equated_none y attributes first second t = record { changes = λ ds x given agree. refl; keeps = keeps_itself t; agree = λ j l. absurd (omega arith) }
+pub equated_none : (y : Attributes) (attributes : List ℕ) (first second : ℕ) (t : Tableau) → AreEquatedUpTo y attributes 0 first second t t false
+equated_none y attributes first second t = record { changes = λ ds x given agree. refl; keeps = KeepsRows-refl t; agree = λ j l. absurd (omega arith) }
 
-pub equated_more : (y : Places) (attributes : List ℕ) (upto next first second : ℕ) (t m s : Tableau) (changed : Bool) → next ≡ upto + 1 → first < length t → second < length t
-    → All (HasPlace (get_or attributes upto 0)) m → y (get_or attributes upto 0) ≡ true → AreEquatedUpTo y attributes upto first second t m changed
+pub equated_more : (y : Attributes) (attributes : List ℕ) (upto next first second : ℕ) (t m s : Tableau) (changed : Bool) → next ≡ upto + 1 → first < length t → second < length t
+    → All (HasAttribute (get_or attributes upto 0)) m → y (get_or attributes upto 0) ≡ true → AreEquatedUpTo y attributes upto first second t m changed
     → IsEquatedAt (get_or attributes upto 0) first second m s true → AreEquatedUpTo y attributes next first second t s true
 equated_more y attributes upto next first second t m s changed up first_low second_low within member before equated =
     let a = get_or attributes upto 0 in
@@ -139,7 +139,7 @@ equated_more y attributes upto next first second t m s changed up first_low seco
     record {
       changes = λ ds x given agree. changes_step ds changed t m s (before.changes ds x given agree)
           (equated_step a first second m s within first_m second_m equated ds x y given member (keeps_agree t m x first second before.keeps first_low second_low agree));
-      keeps = keeps_trans t m s before.keeps keeps;
+      keeps = KeepsRows-trans t m s before.keeps keeps;
       agree = λ j l. elim (cases_lt j upto) [
         | inl lt ↦ keeps.equal first second (get_or attributes j 0) first_m second_m (before.agree j lt)
         | inr ge ↦ let here : j ≡ upto = omega arith in
@@ -147,7 +147,7 @@ equated_more y attributes upto next first second t m s changed up first_low seco
       ];
     }
 
-pub equated_same : (y : Places) (attributes : List ℕ) (upto next first second : ℕ) (t m s : Tableau) (changed : Bool) → next ≡ upto + 1 → AreEquatedUpTo y attributes upto first second t m changed
+pub equated_same : (y : Attributes) (attributes : List ℕ) (upto next first second : ℕ) (t m s : Tableau) (changed : Bool) → next ≡ upto + 1 → AreEquatedUpTo y attributes upto first second t m changed
     → IsEquatedAt (get_or attributes upto 0) first second m s false → AreEquatedUpTo y attributes next first second t s changed
 equated_same y attributes upto next first second t m s changed up before equated = subst (λ (u : Tableau). AreEquatedUpTo y attributes next first second t u changed) (sym equated.0) (record {
   changes = before.changes;
@@ -158,17 +158,17 @@ equated_same y attributes upto next first second t m s changed up before equated
   ];
 })
 
-pub equated_all : (n : ℕ) (y : Places) (upto first second : ℕ) (t s : Tableau) (changed : Bool) → length (members_below n y) ≤ upto → IsTableauOver n t → first < length t → second < length t
+pub equated_all : (n : ℕ) (y : Attributes) (upto first second : ℕ) (t s : Tableau) (changed : Bool) → length (members_below n y) ≤ upto → IsTableauOver n t → first < length t → second < length t
     → AreEquatedUpTo y (members_below n y) upto first second t s changed → AreEquated y first second t s changed
 equated_all n y upto first second t s changed all over first_low second_low before = record {
   changes = before.changes;
   keeps = before.keeps;
   agree = λ k m. elim (cases_lt k n) [
     | inl low ↦
-        let place = count_below y k in
-        let is : get_or (members_below n y) place 0 ≡ k = members_below-at n y k 0 low m in
-        let short : place < length (members_below n y) = omega (arith, length-members_below n y, count_below-place n k y low m) in
-        subst (λ (a : ℕ). symbol_at (symbol_row_at s first) a ≡ symbol_at (symbol_row_at s second) a) is (before.agree place (omega (arith, short, all)))
+        let position = count_below y k in
+        let is : get_or (members_below n y) position 0 ≡ k = members_below-at n y k 0 low m in
+        let short : position < length (members_below n y) = omega (arith, length-members_below n y, count_below-before_member n k y low m) in
+        subst (λ (a : ℕ). symbol_at (symbol_row_at s first) a ≡ symbol_at (symbol_row_at s second) a) is (before.agree position (omega (arith, short, all)))
     | inr past ↦
         let s_over = before.keeps.over n over in
         let first_len : length (symbol_row_at s first) ≡ n = s_over first [] (omega (arith, first_low, before.keeps.one_each)) in
@@ -179,15 +179,15 @@ equated_all n y upto first second t s changed all over first_low second_low befo
 
 -- ---- row by row
 -- the first rows agree with their leaders
-pub record AreGroupedUpTo (x y : Places) (leaders : List ℕ) (upto : ℕ) (t s : Tableau) (changed : Bool) : Type 0 where
+pub record AreGroupedUpTo (x y : Attributes) (leaders : List ℕ) (upto : ℕ) (t s : Tableau) (changed : Bool) : Type 0 where
   pub changes : (ds : List Dependency) → Contains ds (fd x y) → Changes ds changed t s
   pub keeps : KeepsRows t s
   pub equal : changed ≡ false → (j : ℕ) → j < upto → SymbolsAgree y (symbol_row_at t (get_or leaders j 0)) (symbol_row_at t j)
 
-pub grouped_none : (x y : Places) (leaders : List ℕ) (t : Tableau) → AreGroupedUpTo x y leaders 0 t t false
-grouped_none x y leaders t = record { changes = λ ds given. refl; keeps = keeps_itself t; equal = λ same j l. absurd (omega arith) }
+pub grouped_none : (x y : Attributes) (leaders : List ℕ) (t : Tableau) → AreGroupedUpTo x y leaders 0 t t false
+grouped_none x y leaders t = record { changes = λ ds given. refl; keeps = KeepsRows-refl t; equal = λ same j l. absurd (omega arith) }
 
-module _ (x y : Places) (leaders : List ℕ) (upto next : ℕ) (up : next ≡ upto + 1) (t m s : Tableau) (low : upto < length t) (are : AreSymbolLeaders x t leaders) where
+module _ (x y : Attributes) (leaders : List ℕ) (upto next : ℕ) (up : next ≡ upto + 1) (t m s : Tableau) (low : upto < length t) (are : AreSymbolLeaders x t leaders) where
   led_low : get_or leaders upto 0 < length t
   led_low = omega (arith, are.first upto low, low)
 
@@ -197,7 +197,7 @@ module _ (x y : Places) (leaders : List ℕ) (upto next : ℕ) (up : next ≡ up
   pub grouped_more : (changed : Bool) → AreGroupedUpTo x y leaders upto t m changed → AreEquated y (get_or leaders upto 0) upto m s true → AreGroupedUpTo x y leaders next t s true
   grouped_more changed before equated = record {
     changes = λ ds given. changes_join ds changed t m s (before.changes ds given) (equated.changes ds x given (agree_m before.keeps));
-    keeps = keeps_trans t m s before.keeps equated.keeps;
+    keeps = KeepsRows-trans t m s before.keeps equated.keeps;
     equal = λ same. absurd (true≢false same);
   }
 
@@ -209,7 +209,7 @@ module _ (x y : Places) (leaders : List ℕ) (upto next : ℕ) (up : next ≡ up
       let unchanged : s ≡ m = equated.changes (fd x y ∷ []) x alone (agree_m before.keeps) in
       record {
         changes = λ ds given. subst (λ (u : Tableau). Changes ds changed t u) (sym unchanged) (before.changes ds given);
-        keeps = keeps_trans t m s before.keeps equated.keeps;
+        keeps = KeepsRows-trans t m s before.keeps equated.keeps;
         equal = λ none j l. elim (cases_lt j upto) [
           | inl lt ↦ before.equal none j lt
           | inr ge ↦
@@ -220,7 +220,7 @@ module _ (x y : Places) (leaders : List ℕ) (upto next : ℕ) (up : next ≡ up
         ];
       }
 
-pub grouped_all : (x y : Places) (leaders : List ℕ) (upto : ℕ) (t s : Tableau) (changed : Bool) → length t ≤ upto → AreSymbolLeaders x t leaders → AreGroupedUpTo x y leaders upto t s changed → AreGrouped x y t s changed
+pub grouped_all : (x y : Attributes) (leaders : List ℕ) (upto : ℕ) (t s : Tableau) (changed : Bool) → length t ≤ upto → AreSymbolLeaders x t leaders → AreGroupedUpTo x y leaders upto t s changed → AreGrouped x y t s changed
 grouped_all x y leaders upto t s changed all are before = record {
   changes = before.changes;
   keeps = before.keeps;
@@ -243,7 +243,7 @@ pub record AreTakenUpTo (ds : List Dependency) (upto : ℕ) (t s : Tableau) (cha
   pub obeyed : changed ≡ false → (j : ℕ) → j < upto → (e : Dependency) → HasBy t (get_or ds j e)
 
 pub taken_none : (ds : List Dependency) (t : Tableau) → AreTakenUpTo ds 0 t t false
-taken_none ds t = record { changes = refl; keeps = keeps_itself t; obeyed = λ same j l. absurd (omega arith) }
+taken_none ds t = record { changes = refl; keeps = KeepsRows-refl t; obeyed = λ same j l. absurd (omega arith) }
 
 by_same : (d : Dependency) (t s : Tableau) → AreGroupedBy d t s false → (s ≡ t) × HasBy t d
 by_same (fd x y) t s grouped = (grouped.changes (fd x y ∷ []) (Contains-head (fd x y) []), grouped.obeyed refl)
@@ -259,7 +259,7 @@ taken_more ds upto next t m s changed e up low before grouped =
     let w = by_more ds (get_or ds upto e) m s (Contains-get_or ds upto e low) grouped in
     record {
       changes = changes_join ds changed t m s before.changes w.0;
-      keeps = keeps_trans t m s before.keeps w.1;
+      keeps = KeepsRows-trans t m s before.keeps w.1;
       obeyed = λ same. absurd (true≢false same);
     }
 
@@ -279,6 +279,6 @@ taken_same ds upto next t m s changed e up low before grouped =
       ];
     })
 
-pub taken_all : (ds : List Dependency) (upto : ℕ) (t s : Tableau) (changed : Bool) → length ds ≤ upto → AreTakenUpTo ds upto t s changed → changed ≡ false → (x y : Places) → Contains ds (fd x y) → AgreesBy x y t
+pub taken_all : (ds : List Dependency) (upto : ℕ) (t s : Tableau) (changed : Bool) → length ds ≤ upto → AreTakenUpTo ds upto t s changed → changed ≡ false → (x y : Attributes) → Contains ds (fd x y) → AgreesBy x y t
 taken_all ds upto t s changed all before none x y given =
     subst (λ (d : Dependency). HasBy t d) given.2 (before.obeyed none given.0 (omega (arith, given.1, all)) (fd x y))

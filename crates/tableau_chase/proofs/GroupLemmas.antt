@@ -5,16 +5,16 @@ use Rattle.std.proofs.lemmas.Bool.{cases_lt, cases_eq}
 use Rattle.std.proofs.lemmas.List.{get_or-map, length-map, get_or_append_left, get_or_push, length_push, get_or-set_same, get_or-set_other, length-set, get_or_default, get_or_past}
 use Rattle.std.proofs.lemmas.List.Elements.{All-push, All-take, Contains-append_left, Contains-push}
 use Rattle.std.specs.Prelude.{Contains, All}
-use Rattle.attr_sets.specs.Places.{Places}
+use Rattle.attr_sets.specs.Attributes.{Attributes}
 use Rattle.chase_laws.specs.Tableaux.{SymbolRow, Tableau, symbol_at, SymbolsAgree, IsTableauOver}
 use Rattle.tableau_chase.specs.Groups.{symbol_row_at, AreSymbolLeaders, AreFollowers}
-use Rattle.tableau_chase.specs.Numbers.{IsFirstPlace}
+use Rattle.tableau_chase.specs.Numbers.{IsFirstPosition}
 use Rattle.tableau_chase.proofs.RowLemmas.{key_on, agree_from_keys, keys_from_agree}
 
-pub leaders_none : (x : Places) → AreSymbolLeaders x [] []
+pub leaders_none : (x : Attributes) → AreSymbolLeaders x [] []
 leaders_none x = record { one_each = refl; first = λ i l. absurd (omega arith); agree = λ i l. absurd (omega arith); same = λ i j l. absurd (omega arith) }
 
-module _ (x : Places) (done : Tableau) (leaders : List ℕ) (row : SymbolRow) (number : ℕ) (before : AreSymbolLeaders x done leaders) (low : number ≤ length done)
+module _ (x : Attributes) (done : Tableau) (leaders : List ℕ) (row : SymbolRow) (number : ℕ) (before : AreSymbolLeaders x done leaders) (low : number ≤ length done)
     (fresh : number ≡ length done → (k : ℕ) → k < length done → SymbolsAgree x (symbol_row_at done k) row → ⊥)
     (known : number < length done → SymbolsAgree x (symbol_row_at done number) row × ((j : ℕ) → j < number → SymbolsAgree x (symbol_row_at done j) row → ⊥)) where
   old_row : (i : ℕ) → i < length done → symbol_row_at (done ++ row ∷ []) i ≡ symbol_row_at done i
@@ -99,15 +99,15 @@ module _ (x : Places) (done : Tableau) (leaders : List ℕ) (row : SymbolRow) (n
   }
 
 -- ---- by the keys
-key_of : (n : ℕ) (x : Places) (done : Tableau) (k : ℕ) → k < length done → get_or (map (key_on n x) done) k [] ≡ key_on n x (symbol_row_at done k)
+key_of : (n : ℕ) (x : Attributes) (done : Tableau) (k : ℕ) → k < length done → get_or (map (key_on n x) done) k [] ≡ key_on n x (symbol_row_at done k)
 key_of n x done k l = get_or-map (key_on n x) done k [] [] l
 
-pub fresh_by_key : (n : ℕ) (x : Places) (done : Tableau) (row : SymbolRow) → (Contains (map (key_on n x) done) (key_on n x row) → ⊥) → (k : ℕ) → k < length done → SymbolsAgree x (symbol_row_at done k) row → ⊥
+pub fresh_by_key : (n : ℕ) (x : Attributes) (done : Tableau) (row : SymbolRow) → (Contains (map (key_on n x) done) (key_on n x row) → ⊥) → (k : ℕ) → k < length done → SymbolsAgree x (symbol_row_at done k) row → ⊥
 fresh_by_key n x done row none k low agree =
     let short : k < length (map (key_on n x) done) = omega (arith, low, length-map done (key_on n x)) in
     none (k, short, get_or_default (map (key_on n x) done) k (key_on n x row) [] short ∙ key_of n x done k low ∙ keys_from_agree n x (symbol_row_at done k) row agree)
 
-pub known_by_key : (n : ℕ) (x : Places) (done : Tableau) (row : SymbolRow) (number : ℕ) → IsTableauOver n done → length row ≡ n → IsFirstPlace (map (key_on n x) done) (key_on n x row) number
+pub known_by_key : (n : ℕ) (x : Attributes) (done : Tableau) (row : SymbolRow) (number : ℕ) → IsTableauOver n done → length row ≡ n → IsFirstPosition (map (key_on n x) done) (key_on n x row) number
     → (number < length done) × SymbolsAgree x (symbol_row_at done number) row × ((j : ℕ) → j < number → SymbolsAgree x (symbol_row_at done j) row → ⊥)
 known_by_key n x done row number over len at =
     let low : number < length done = omega (arith, at.low, length-map done (key_on n x)) in (
@@ -119,27 +119,27 @@ known_by_key n x done row number over len at =
 pub take_over : (n i : ℕ) (rows : Tableau) → IsTableauOver n rows → IsTableauOver n (take i rows)
 take_over n i rows over = All-take (λ (row : SymbolRow). length row ≡ n) i rows over
 
--- ---- followers
+-- ---- followers among the first rows, as `AreFollowers` has them of all
 pub record AreFollowersUpTo (leaders seconds : List ℕ) (upto : ℕ) (groups : List (List ℕ)) : Type 0 where
   pub one_each : length groups ≡ length leaders
   pub each : (g : ℕ) → All (λ j. j < length leaders) (get_or groups g [])
   pub led : (g : ℕ) → All (λ j. get_or leaders j 0 ≡ g) (get_or groups g [])
   pub all : (j : ℕ) → j < upto → get_or seconds j 0 ≡ j → Contains (get_or groups (get_or leaders j 0) []) j
 
-none_at : (groups : List (List ℕ)) (g : ℕ) → All (λ group. group ≡ []) groups → get_or groups g [] ≡ []
-none_at groups g none = elim (cases_lt g (length groups)) [
+get_or-empty_groups : (groups : List (List ℕ)) (g : ℕ) → All (λ group. group ≡ []) groups → get_or groups g [] ≡ []
+get_or-empty_groups groups g none = elim (cases_lt g (length groups)) [
   | inl low ↦ none g [] low
   | inr past ↦ get_or_past groups g [] past
 ]
 
-all_none : (P : ℕ → Type 0) (group : List ℕ) → group ≡ [] → All P group
-all_none P group e = subst (λ (xs : List ℕ). All P xs) (sym e) (λ k d l. absurd (omega arith))
+All-nil : (P : ℕ → Type 0) (group : List ℕ) → group ≡ [] → All P group
+All-nil P group e = subst (λ (xs : List ℕ). All P xs) (sym e) (λ k d l. absurd (omega arith))
 
 pub followers_none : (leaders seconds : List ℕ) (groups : List (List ℕ)) → length groups ≡ length leaders → All (λ group. group ≡ []) groups → AreFollowersUpTo leaders seconds 0 groups
 followers_none leaders seconds groups count none = record {
   one_each = count;
-  each = λ g. all_none (λ (j : ℕ). j < length leaders) (get_or groups g []) (none_at groups g none);
-  led = λ g. all_none (λ (j : ℕ). get_or leaders j 0 ≡ g) (get_or groups g []) (none_at groups g none);
+  each = λ g. All-nil (λ (j : ℕ). j < length leaders) (get_or groups g []) (get_or-empty_groups groups g none);
+  led = λ g. All-nil (λ (j : ℕ). get_or leaders j 0 ≡ g) (get_or groups g []) (get_or-empty_groups groups g none);
   all = λ j l. absurd (omega arith);
 }
 

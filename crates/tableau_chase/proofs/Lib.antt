@@ -2,7 +2,7 @@ pub mod NumberLemmas
 pub mod RowLemmas
 pub mod EquatingLemmas
 pub mod GroupLemmas
-pub mod SettleLemmas
+pub mod FunctionalClosingLemmas
 pub mod PoolLemmas
 pub mod MakingLemmas
 pub mod ChaseLemmas

@@ -10,16 +10,16 @@ use borrow.Author.Rules.{rules}
 use Rattle.std.specs.HashMap.{get}
 use Rattle.std.specs.Cmp.Lexicographic.{pointwise}
 use Rattle.tableau_chase.specs.declared.numbers.RowNumbers.{RowNumbers}
-use Rattle.tableau_chase.specs.Numbers.{IsFirstPlace, IsNumbering}
+use Rattle.tableau_chase.specs.Numbers.{IsFirstPosition, IsNumbering}
 
 -- the number of a list of symbols
 abbrev pub number_of : RowNumbers → Vec ℕ Global → Option ℕ
 number_of numbers q = get (λ x y. pointwise nat_eq x.items y.items) numbers.firsts q
 
-first_contains : (keys : List (List ℕ)) (key : List ℕ) (number : ℕ) → IsFirstPlace keys key number → Contains keys key
+first_contains : (keys : List (List ℕ)) (key : List ℕ) (number : ℕ) → IsFirstPosition keys key number → Contains keys key
 first_contains keys key number at = (number, at.low, get_or_default keys number key [] at.low ∙ at.here)
 
-first_longer : (keys : List (List ℕ)) (more key : List ℕ) (number : ℕ) → IsFirstPlace keys key number → IsFirstPlace (keys ++ more ∷ []) key number
+first_longer : (keys : List (List ℕ)) (more key : List ℕ) (number : ℕ) → IsFirstPosition keys key number → IsFirstPosition (keys ++ more ∷ []) key number
 first_longer keys more key number at = record {
   low = omega (arith, at.low, length-append keys (more ∷ []));
   here = get_or_append_left keys (more ∷ []) [] number at.low ∙ at.here;
@@ -27,7 +27,7 @@ first_longer keys more key number at = record {
 }
 
 -- a list that has a number
-pub numbering_known : (keys : List (List ℕ)) (numbers : RowNumbers) (key : List ℕ) (number : ℕ) → IsNumbering keys numbers → IsFirstPlace keys key number → IsNumbering (keys ++ key ∷ []) numbers
+pub numbering_known : (keys : List (List ℕ)) (numbers : RowNumbers) (key : List ℕ) (number : ℕ) → IsNumbering keys numbers → IsFirstPosition keys key number → IsNumbering (keys ++ key ∷ []) numbers
 numbering_known keys numbers key number before at = record {
   sound = λ q other e. first_longer keys key q.items other (before.sound q other e);
   complete = λ q h. ⊎_elim
@@ -54,7 +54,7 @@ module _ (keys : List (List ℕ)) (old new : RowNumbers) (key : Vec ℕ Global) 
   elsewhere : (q : Vec ℕ Global) → pointwise nat_eq key.items q.items ≡ false → number_of new q ≡ number_of old q
   elsewhere q e = updates q ∙ ap (λ (b : Bool). cond b (Some (length keys)) (number_of old q)) e
 
-  sound_at : (q : Vec ℕ Global) (number : ℕ) → number_of new q ≡ Some number → IsFirstPlace (keys ++ key.items ∷ []) q.items number
+  sound_at : (q : Vec ℕ Global) (number : ℕ) → number_of new q ≡ Some number → IsFirstPosition (keys ++ key.items ∷ []) q.items number
   sound_at q number e = elim (cases_Bool (pointwise nat_eq key.items q.items)) [
     | inr differ ↦ first_longer keys key.items q.items number (before.sound q number (sym (elsewhere q differ) ∙ e))
     | inl same ↦

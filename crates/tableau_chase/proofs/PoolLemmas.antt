@@ -4,7 +4,7 @@ use Rattle.std.proofs.lemmas.List.{length_push, take-append-drop, append-nil, ge
 use Rattle.std.proofs.lemmas.List.Elements.{All-push, Contains-get_or, Contains-append_left, Contains-push, Contains-push_cases}
 use Rattle.std.proofs.lemmas.List.Quantifiers.{all_pairs_push}
 use Rattle.std.specs.Prelude.{Contains, AllPairs}
-use Rattle.attr_sets.specs.Places.{Places}
+use Rattle.attr_sets.specs.Attributes.{Attributes}
 use Rattle.chase_laws.specs.Tableaux.{SymbolRow, Tableau, SameTableau, scheme_row, scheme_rows}
 use Rattle.chase_laws.specs.Rounds.{HasMoreThan}
 use Rattle.tableau_chase.specs.Groups.{symbol_row_at}
@@ -37,11 +37,11 @@ extends_added t m row s extends (inl same) = (extends.0, same.0 ∙ extends.1)
 extends_added t m row s extends (inr more) =
     (extends.0 ++ row ∷ [], more ∙ ap (λ (u : Tableau). u ++ row ∷ []) extends.1 ∙ append_assoc t extends.0 (row ∷ []))
 
-pub extends_itself : (t : Tableau) → Extends t t
-extends_itself t = ([], sym (append-nil t))
+pub Extends-refl : (t : Tableau) → Extends t t
+Extends-refl t = ([], sym (append-nil t))
 
-pub extends_trans : (t m s : Tableau) → Extends t m → Extends m s → Extends t s
-extends_trans t m s one other = (one.0 ++ other.0, other.1 ∙ ap (λ (u : Tableau). u ++ other.0) one.1 ∙ append_assoc t one.0 other.0)
+pub Extends-trans : (t m s : Tableau) → Extends t m → Extends m s → Extends t s
+Extends-trans t m s one other = (one.0 ++ other.0, other.1 ∙ ap (λ (u : Tableau). u ++ other.0) one.1 ∙ append_assoc t one.0 other.0)
 
 pub extends_length : (t s : Tableau) → Extends t s → length t ≤ length s
 extends_length t s extends = let e = ap (λ (u : Tableau). length u) extends.1 in omega (arith, e, length-append t extends.0)
@@ -64,7 +64,7 @@ too_many limit rows row t differ fresh full within here = record {
 
 -- ---- rows with a property are added
 pub adds_none : (P : SymbolRow → Type 0) (t : Tableau) → ((row : SymbolRow) → P row → ⊥) → AddsAll P t t
-adds_none P t none = record { extends = extends_itself t; sound = λ row h. inl h; complete = λ row h. absurd (none row h) }
+adds_none P t none = record { extends = Extends-refl t; sound = λ row h. inl h; complete = λ row h. absurd (none row h) }
 
 pub adds_more : (P Q : SymbolRow → Type 0) (t m : Tableau) (row : SymbolRow) (s : Tableau) → ((p : SymbolRow) → P p → Q p) → Q row → ((p : SymbolRow) → Q p → P p ⊎ (row ≡ p)) → AddsAll P t m → IsAdded m row s → AddsAll Q t s
 adds_more P Q t m row s weaker here cases before added = record {
@@ -81,7 +81,7 @@ adds_more P Q t m row s weaker here cases before added = record {
 
 pub adds_join : (P Q R : SymbolRow → Type 0) (t m s : Tableau) → ((p : SymbolRow) → P p → R p) → ((p : SymbolRow) → Q p → R p) → ((p : SymbolRow) → R p → P p ⊎ Q p) → AddsAll P t m → AddsAll Q m s → AddsAll R t s
 adds_join P Q R t m s from_p from_q cases one other = record {
-  extends = extends_trans t m s one.extends other.extends;
+  extends = Extends-trans t m s one.extends other.extends;
   sound = λ p h. ⊎_elim
       (λ old. ⊎_elim inl (λ q. inr (from_p p q)) (one.sound p old))
       (λ q. inr (from_q p q))
@@ -105,18 +105,18 @@ overflow_after P Q R limit t m from_p from_q one over s old made =
     over s (λ p h. ⊎_elim (old p) (λ q. made p (from_p p q)) (one.sound p h)) (λ p h. made p (from_q p h))
 
 -- ---- the rows of a plan
-scheme_rows-append : (n i : ℕ) (front rest : List Places) → scheme_rows n i (front ++ rest) ≡ scheme_rows n i front ++ scheme_rows n (i + length front) rest
+scheme_rows-append : (n i : ℕ) (front rest : List Attributes) → scheme_rows n i (front ++ rest) ≡ scheme_rows n i front ++ scheme_rows n (i + length front) rest
 scheme_rows-append n i [] rest = ap (λ (k : ℕ). scheme_rows n k rest) (omega arith)
 scheme_rows-append n i (scheme ∷ front) rest =
     let next : suc i + length front ≡ i + suc (length front) = omega arith in
     ap (λ (t : Tableau). scheme_row n scheme i ∷ t) (scheme_rows-append n (suc i) front rest ∙ ap (λ (k : ℕ). scheme_rows n (suc i) front ++ scheme_rows n k rest) next)
 
-pub scheme_rows-push : (n i j : ℕ) (front : List Places) (scheme : Places) → j ≡ i + length front → scheme_rows n i (front ++ scheme ∷ []) ≡ scheme_rows n i front ++ scheme_row n scheme j ∷ []
+pub scheme_rows-push : (n i j : ℕ) (front : List Attributes) (scheme : Attributes) → j ≡ i + length front → scheme_rows n i (front ++ scheme ∷ []) ≡ scheme_rows n i front ++ scheme_row n scheme j ∷ []
 scheme_rows-push n i j front scheme e = scheme_rows-append n i front (scheme ∷ []) ∙ ap (λ (k : ℕ). scheme_rows n i front ++ scheme_row n scheme k ∷ []) (sym e)
 
-pub scheme_rows-take : (n i k : ℕ) (plan : List Places) (row : SymbolRow) → Contains (scheme_rows n i (take k plan)) row → Contains (scheme_rows n i plan) row
+pub scheme_rows-take : (n i k : ℕ) (plan : List Attributes) (row : SymbolRow) → Contains (scheme_rows n i (take k plan)) row → Contains (scheme_rows n i plan) row
 scheme_rows-take n i k plan row h =
-    subst (λ (p : List Places). Contains (scheme_rows n i p) row) (take-append-drop k plan)
+    subst (λ (p : List Attributes). Contains (scheme_rows n i p) row) (take-append-drop k plan)
     (subst (λ (t : Tableau). Contains t row) (sym (scheme_rows-append n i (take k plan) (drop k plan))) (Contains-append_left (scheme_rows n i (take k plan)) (scheme_rows n (i + length (take k plan)) (drop k plan)) row h))
 
 pub same_added : (t s : Tableau) (row : SymbolRow) (u : Tableau) → SameTableau t s → IsAdded s row u → SameTableau (t ++ row ∷ []) u

@@ -3,33 +3,33 @@ use Rattle.std.proofs.Common.{◌≡◌, ℕ, ◌+◌, ◌<◌, zero, suc, true,
 use Rattle.std.proofs.lemmas.Bool.{cases_Bool, cases_lt}
 use Rattle.std.proofs.lemmas.List.{get_or-map, map-append, get_or_append_left, get_or_push, length_push}
 use Rattle.std.proofs.lemmas.List.FromFn.{map-range_with_len_more}
-use Rattle.attr_sets.specs.Places.{Places, count_below}
-use Rattle.attr_sets.proofs.PlacesLemmas.{count_below-place}
+use Rattle.attr_sets.specs.Attributes.{Attributes, count_below}
+use Rattle.attr_sets.proofs.AttributesLemmas.{count_below-before_member}
 use Rattle.dep_model.specs.Projections.{members_below}
 use Rattle.dep_model.proofs.SchemeLemmas.{members_below-at, length-members_below, members_below-none, members_below-one_more, members_below-no_more}
 use Rattle.chase_laws.specs.Tableaux.{SymbolRow, symbol_at, SymbolsAgree, scheme_row}
-use Rattle.chase_laws.specs.Steps.{exchanged}
+use Rattle.chase_laws.specs.Steps.{exchange_rows}
 use Rattle.chase_laws.proofs.TableauLemmas.{symbol_at_past}
 
-pub scheme_row-none : (x : Places) (i : ℕ) → scheme_row 0 x i ≡ []
+pub scheme_row-none : (x : Attributes) (i : ℕ) → scheme_row 0 x i ≡ []
 unfolding scheme_row
 scheme_row-none x i = refl
 
-pub scheme_row-more : (n : ℕ) (x : Places) (i : ℕ) → scheme_row (n + 1) x i ≡ scheme_row n x i ++ cond (x n) 0 i ∷ []
+pub scheme_row-more : (n : ℕ) (x : Attributes) (i : ℕ) → scheme_row (n + 1) x i ≡ scheme_row n x i ++ cond (x n) 0 i ∷ []
 unfolding scheme_row
 scheme_row-more n x i = map-range_with_len_more (λ (k : ℕ). cond (x k) 0 i) 0 n n (omega arith)
 
-pub exchanged-none : (z : Places) (p q : SymbolRow) → exchanged 0 z p q ≡ []
-unfolding exchanged
-exchanged-none z p q = refl
+pub exchange_rows-none : (z : Attributes) (p q : SymbolRow) → exchange_rows 0 z p q ≡ []
+unfolding exchange_rows
+exchange_rows-none z p q = refl
 
-pub exchanged-more : (n : ℕ) (z : Places) (p q : SymbolRow) → exchanged (n + 1) z p q ≡ exchanged n z p q ++ cond (z n) (symbol_at p n) (symbol_at q n) ∷ []
-unfolding exchanged
-exchanged-more n z p q = map-range_with_len_more (λ (k : ℕ). cond (z k) (symbol_at p k) (symbol_at q k)) 0 n n (omega arith)
+pub exchange_rows-more : (n : ℕ) (z : Attributes) (p q : SymbolRow) → exchange_rows (n + 1) z p q ≡ exchange_rows n z p q ++ cond (z n) (symbol_at p n) (symbol_at q n) ∷ []
+unfolding exchange_rows
+exchange_rows-more n z p q = map-range_with_len_more (λ (k : ℕ). cond (z k) (symbol_at p k) (symbol_at q k)) 0 n n (omega arith)
 
--- ---- the members of a set, one place more
+-- ---- the members of a set, one attribute more
 
-pub members-low : (n : ℕ) (x : Places) (k : ℕ) → k < length (members_below n x) → get_or (members_below n x) k 0 < n
+pub members-low : (n : ℕ) (x : Attributes) (k : ℕ) → k < length (members_below n x) → get_or (members_below n x) k 0 < n
 unfolding members_below
 members-low zero x k l = absurd (omega arith)
 members-low (suc n) x k l = elim (cases_Bool (x n)) [
@@ -48,21 +48,21 @@ members-low (suc n) x k l = elim (cases_Bool (x n)) [
 
 -- ---- keys
 -- the symbols of a row at the members of a set
-abbrev pub key_on : ℕ → Places → SymbolRow → List ℕ
+abbrev pub key_on : ℕ → Attributes → SymbolRow → List ℕ
 key_on n x row = map (symbol_at row) (members_below n x)
 
-key_at : (n : ℕ) (x : Places) (row : SymbolRow) (k : ℕ) → k < n → x k ≡ true → get_or (key_on n x row) (count_below x k) 0 ≡ symbol_at row k
+key_at : (n : ℕ) (x : Attributes) (row : SymbolRow) (k : ℕ) → k < n → x k ≡ true → get_or (key_on n x row) (count_below x k) 0 ≡ symbol_at row k
 key_at n x row k low m =
-    let short : count_below x k < length (members_below n x) = omega (arith, length-members_below n x, count_below-place n k x low m) in
+    let short : count_below x k < length (members_below n x) = omega (arith, length-members_below n x, count_below-before_member n k x low m) in
     get_or-map (symbol_at row) (members_below n x) (count_below x k) 0 0 short ∙ ap (symbol_at row) (members_below-at n x k 0 low m)
 
-pub agree_from_keys : (n : ℕ) (x : Places) (p q : SymbolRow) → length p ≡ n → length q ≡ n → key_on n x p ≡ key_on n x q → SymbolsAgree x p q
+pub agree_from_keys : (n : ℕ) (x : Attributes) (p q : SymbolRow) → length p ≡ n → length q ≡ n → key_on n x p ≡ key_on n x q → SymbolsAgree x p q
 agree_from_keys n x p q lp lq same k m = elim (cases_lt k n) [
   | inl low ↦ sym (key_at n x p k low m) ∙ ap (λ (key : List ℕ). get_or key (count_below x k) 0) same ∙ key_at n x q k low m
   | inr past ↦ symbol_at_past p k (omega (arith, lp, past)) ∙ sym (symbol_at_past q k (omega (arith, lq, past)))
 ]
 
-pub keys_from_agree : (n : ℕ) (x : Places) (p q : SymbolRow) → SymbolsAgree x p q → key_on n x p ≡ key_on n x q
+pub keys_from_agree : (n : ℕ) (x : Attributes) (p q : SymbolRow) → SymbolsAgree x p q → key_on n x p ≡ key_on n x q
 keys_from_agree zero x p q agree = rw (members_below-none x) refl
 keys_from_agree (suc n) x p q agree =
     let before = keys_from_agree n x p q agree in
@@ -73,7 +73,7 @@ keys_from_agree (suc n) x p q agree =
     ]
 
 -- what stands in the list of members is a member
-pub members-member : (n : ℕ) (x : Places) (k : ℕ) → k < length (members_below n x) → x (get_or (members_below n x) k 0) ≡ true
+pub members-member : (n : ℕ) (x : Attributes) (k : ℕ) → k < length (members_below n x) → x (get_or (members_below n x) k 0) ≡ true
 unfolding members_below
 members-member zero x k l = absurd (omega arith)
 members-member (suc n) x k l = elim (cases_Bool (x n)) [

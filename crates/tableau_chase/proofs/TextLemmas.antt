@@ -19,9 +19,9 @@ use Rattle.chase_laws.proofs.RoundLemmas.{differ_le}
 use Rattle.tableau_chase.specs.Texts.{AreTextsOf}
 
 -- ---- different rows in another order differ
--- all rows stand elsewhere than at place j too, where the row there stands before
-elsewhere : (s : Tableau) (i j : ℕ) (row : SymbolRow) → i < j → j < length s → ((d : SymbolRow) → get_or s i d ≡ get_or s j d) → Contains s row → Contains (take j s ++ drop (suc j) s) row
-elsewhere s i j row lt low equal h = elim (cases_eq h.0 j) [
+-- all rows stand elsewhere than at position j too, where the row there stands before
+Contains-drop_repeated : (s : Tableau) (i j : ℕ) (row : SymbolRow) → i < j → j < length s → ((d : SymbolRow) → get_or s i d ≡ get_or s j d) → Contains s row → Contains (take j s ++ drop (suc j) s) row
+Contains-drop_repeated s i j row lt low equal h = elim (cases_eq h.0 j) [
   | inl here ↦
       let in_take : i < length (take j s) = omega (arith, lt, length-take-le j s (omega (arith, low))) in
       let is : get_or (take j s) i row ≡ row = get_or-take j s i row lt ∙ equal row ∙ ap (λ (k : ℕ). get_or s k row) (sym here) ∙ h.2 in
@@ -32,15 +32,15 @@ elsewhere s i j row lt low equal h = elim (cases_eq h.0 j) [
         Contains-append_left (take j s) (drop (suc j) s) row (h.0, in_take, get_or-take j s h.0 row before ∙ h.2)
     | inr after ↦
         let k = h.0 - suc j in
-        let place : suc j + k ≡ h.0 = omega (arith, after, other) in
-        let in_drop : k < length (drop (suc j) s) = omega (arith, length-drop (suc j) s, h.1, place) in
-        Contains-append_right (take j s) (drop (suc j) s) row (k, in_drop, get_or-drop (suc j) s k row ∙ ap (λ (m : ℕ). get_or s m row) place ∙ h.2)
+        let position : suc j + k ≡ h.0 = omega (arith, after, other) in
+        let in_drop : k < length (drop (suc j) s) = omega (arith, length-drop (suc j) s, h.1, position) in
+        Contains-append_right (take j s) (drop (suc j) s) row (k, in_drop, get_or-drop (suc j) s k row ∙ ap (λ (m : ℕ). get_or s m row) position ∙ h.2)
   ]
 ]
 
 pub tight_differ : (rows s : Tableau) → AllPairs (λ p q. p ≡ q → ⊥) rows → ((row : SymbolRow) → Contains rows row → Contains s row) → length s ≤ length rows → (i j : ℕ) → i < j → j < length s → ((d : SymbolRow) → get_or s i d ≡ get_or s j d) → ⊥
 tight_differ rows s differ within tight i j lt low equal =
-    let le = differ_le rows (take j s ++ drop (suc j) s) differ (λ (k : ℕ) (d : SymbolRow) l. elsewhere s i j (get_or rows k d) lt low equal (within (get_or rows k d) (Contains-get_or rows k d l))) in
+    let le = differ_le rows (take j s ++ drop (suc j) s) differ (λ (k : ℕ) (d : SymbolRow) l. Contains-drop_repeated s i j (get_or rows k d) lt low equal (within (get_or rows k d) (Contains-get_or rows k d l))) in
     absurd (omega (arith, le, tight, length-append (take j s) (drop (suc j) s), length-take-le j s (omega (arith, low)), length-drop (suc j) s, low))
 
 -- ---- the order

@@ -1,8 +1,8 @@
 -- A fact of the rows that `chase` gives: for its clauses. `Desk` does not cite it.
 use Rattle.std.specs.Prelude.{⊤}
 use Rattle.dep_model.specs.Tuples.{Relation}
-use Rattle.tableau_chase.specs.declared.chased.Chased.{Chased}
-use Rattle.tableau_chase.specs.declared.chased.Chased.TheVariants.{Lossless, Lossy}
+use Rattle.tableau_chase.specs.declared.outcome.Chased.{Chased}
+use Rattle.tableau_chase.specs.declared.outcome.Chased.TheVariants.{Lossless, Lossy}
 
 -- a fact of the rows where the plan is said to be lossy
 abbrev pub IfLossy : (Relation → Type 0) → Chased → Type 0

@@ -1,6 +1,6 @@
 pub mod Groups
 pub mod Numbers
-pub mod Settling
+pub mod Equating
 pub mod Pools
 pub mod Chases
 pub mod Texts

@@ -5,16 +5,16 @@ use Rattle.std.specs.HashMap.{get}
 use Rattle.std.specs.Cmp.Lexicographic.{pointwise}
 use Rattle.tableau_chase.specs.declared.numbers.RowNumbers.{RowNumbers}
 
--- the number is the first place of a key in a list
-pub record IsFirstPlace (keys : List (List ℕ)) (key : List ℕ) (number : ℕ) : Type 0 where
+-- the number is the first position of a key in a list
+pub record IsFirstPosition (keys : List (List ℕ)) (key : List ℕ) (number : ℕ) : Type 0 where
   pub low : number < length keys
   pub here : slice_index_or keys number [] ≡ key
   pub first : (j : ℕ) → j < number → slice_index_or keys j [] ≡ key → ⊥
 
--- the numbers of the keys of a list: the first place of each
+-- the numbers of the keys of a list: the first position of each
 pub record IsNumbering (keys : List (List ℕ)) (numbers : RowNumbers) : Type 0 where
   pub sound : (q : Vec ℕ Global) (number : ℕ)
       → get (λ x y. pointwise nat_eq x.items y.items) numbers.firsts q ≡ Some number
-      → IsFirstPlace keys q.items number
+      → IsFirstPosition keys q.items number
   pub complete : (q : Vec ℕ Global) → Contains keys q.items
       → IsSome (get (λ x y. pointwise nat_eq x.items y.items) numbers.firsts q)

@@ -1,13 +1,13 @@
 //! Pools of the rows of a plan and of a tableau.
 
 ghost use Rattle.std.specs.Prelude.{◌≡◌, ◌≤◌, ◌<◌, ◌^◌, length, Err, IfOk};
-ghost use Rattle.attr_sets.specs.declared.set.TheConstants.{PLACES};
+ghost use Rattle.attr_sets.specs.declared.set.TheConstants.{MOST_ATTRIBUTES};
 ghost use Rattle.chase_laws.specs.Tableaux.{SameTableau, plan_tableau};
 ghost use Rattle.chase_laws.specs.Rounds.{HasMoreThan};
 ghost use Rattle.tableau_chase.specs.Pools.{IsPool};
 ghost use Rattle.dep_model.specs.Plans.{schemes_of};
 
-use crate::chased::ChaseRefusal;
+use crate::outcome::ChaseRefusal;
 use crate::pool::Pool;
 use crate::symbol_row::SymbolRow;
 use attr_sets::AttrSet;
@@ -21,8 +21,8 @@ pub fn plan_pool(
     width: u8,
     limit: u32,
 ) -> Result<Pool, Failure<ChaseRefusal>>
-    requires width { width ≤ PLACES }
-    requires few { length schemes.now < 2 ^ 32 }
+    requires width { width ≤ MOST_ATTRIBUTES }
+    requires fits_u32 { length schemes.now < 2 ^ 32 }
     ensures pool { IfOk result (IsPool limit) }
     ensures same { IfOk result
         (λ pool. SameTableau (plan_tableau width (schemes_of schemes.now)) pool.rows.items) }
@@ -42,7 +42,7 @@ pub fn plan_pool(
 
 /// The rows of a tableau, equal ones once.
 pub fn pool_of(alloc: Global, rows: &[SymbolRow], limit: u32) -> Result<Pool, Failure<ChaseRefusal>>
-    requires few { length rows.now ≤ limit }
+    requires within_limit { length rows.now ≤ limit }
     ensures pool { IfOk result (IsPool limit) }
     ensures same { IfOk result (λ pool. SameTableau rows.now pool.rows.items) }
     ensures never_too_many { result ≡ Err (Failure.Refused ChaseRefusal.TooManyRows) → ⊥ }

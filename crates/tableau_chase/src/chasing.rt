@@ -2,16 +2,16 @@ ghost use Rattle.std.specs.Prelude.{◌≡◌, ◌≤◌, ◌<◌, ◌^◌, ◌�
 ghost use Rattle.dep_model.specs.Dependencies.{functional_part};
 ghost use Rattle.dep_model.specs.Projections.{Covers, IsLossless};
 ghost use Rattle.dep_model.specs.Schemas.{width_of, theory_of, TypedFor};
-ghost use Rattle.chase_laws.specs.Tableaux.{IsTableauOver, distinguished};
+ghost use Rattle.chase_laws.specs.Tableaux.{IsTableauOver, distinguished_row};
 ghost use Rattle.chase_laws.specs.Rounds.{RoundsExceed};
 ghost use Rattle.chase_laws.specs.Answers.{IsClosedTableau, IsGaining};
 ghost use Rattle.dep_model.specs.Plans.{schemes_of};
 ghost use Rattle.tableau_chase.specs.Chases.{IfLossy};
 
 use crate::adding::{plan_pool, pool_of};
-use crate::chased::{ChaseRefusal, Chased};
+use crate::functional_closing::close_functionally;
 use crate::making::add_next;
-use crate::settling::settle;
+use crate::outcome::{ChaseRefusal, Chased};
 use crate::symbol_row::SymbolRow;
 use crate::texts::ascending_texts;
 use attr_sets::AttrSet;
@@ -26,7 +26,7 @@ pub fn chase(
     schemes: &[AttrSet],
     limit: u32,
 ) -> Result<Chased, Failure<ChaseRefusal>>
-    requires few { length schemes.now < 2 ^ 32 }
+    requires fits_u32 { length schemes.now < 2 ^ 32 }
     requires cover { Covers (width_of schema.now) (schemes_of schemes.now) }
     ensures too_many_rows { result ≡ Err (Failure.Refused ChaseRefusal.TooManyRows)
         → RoundsExceed (width_of schema.now) (theory_of schema.now) (schemes_of schemes.now) limit }
@@ -51,7 +51,7 @@ pub fn chase(
         Err(failure) => return Err(failure),
     };
     loop {
-        settle(alloc, &mut rows, deps, width)?;
+        close_functionally(alloc, &mut rows, deps, width)?;
         let mut pool = match pool_of(alloc, &rows, limit) {
             Ok(pool) => pool,
             Err(failure) => return Err(failure),
@@ -73,7 +73,7 @@ pub fn chase(
 // Whether some row has distinguished symbols alone.
 fn has_distinguished(rows: &[SymbolRow], width: u8) -> bool
     requires over { IsTableauOver width rows.now }
-    ensures found { IsTrue result ↔ Contains rows.now (distinguished width) }
+    ensures found { IsTrue result ↔ Contains rows.now (distinguished_row width) }
 {
     for i in 0..rows.len() {
         if rows[i].is_distinguished() {

@@ -9,15 +9,15 @@
 #![tactic(auto)]
 
 mod adding;
-mod chased;
 mod chasing;
+mod functional_closing;
 mod making;
 mod numbers;
+mod outcome;
 mod pool;
 mod row_groups;
-mod settling;
 mod symbol_row;
 mod texts;
 
-pub use chased::{ChaseRefusal, Chased};
 pub use chasing::chase;
+pub use outcome::{ChaseRefusal, Chased};

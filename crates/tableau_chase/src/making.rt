@@ -1,9 +1,9 @@
 //! The rows that multivalued dependencies make.
 
 ghost use Rattle.std.specs.Prelude.{◌≡◌, ◌≤◌, ◌<◌, ◌^◌, ℕ, length, take, All, Contains, Err, OnOk};
-ghost use Rattle.attr_sets.specs.Places.{Places, union, Within};
-ghost use Rattle.attr_sets.specs.Sets.{places};
-ghost use Rattle.attr_sets.specs.declared.set.TheConstants.{PLACES};
+ghost use Rattle.attr_sets.specs.Attributes.{Attributes, union, IsSubset};
+ghost use Rattle.attr_sets.specs.Sets.{attributes};
+ghost use Rattle.attr_sets.specs.declared.set.TheConstants.{MOST_ATTRIBUTES};
 ghost use Rattle.dep_model.specs.Deps.{dependency_of, dependencies_of};
 ghost use Rattle.chase_laws.specs.Tableaux.{IsTableauOver, Tableau};
 ghost use Rattle.chase_laws.specs.Rounds.{IsMadeOf};
@@ -11,7 +11,7 @@ ghost use Rattle.tableau_chase.specs.Groups.{symbol_row_at};
 ghost use Rattle.tableau_chase.specs.Pools.{IsPool};
 ghost use Rattle.tableau_chase.specs.Making.{IsExchangedRow, IsMadeFrom, IsExchangedWith, AddsAll, Overflows};
 
-use crate::chased::ChaseRefusal;
+use crate::outcome::ChaseRefusal;
 use crate::pool::Pool;
 use crate::row_groups::{followers, leaders};
 use attr_sets::AttrSet;
@@ -26,7 +26,7 @@ pub fn add_next(
     width: u8,
     limit: u32,
 ) -> Result<(), Failure<ChaseRefusal>>
-    requires width { width ≤ PLACES }
+    requires width { width ≤ MOST_ATTRIBUTES }
     requires pool { IsPool limit pool.old }
     requires over { IsTableauOver width pool.old.rows.items }
     ensures pool { OnOk result (IsPool limit pool.new) }
@@ -55,7 +55,7 @@ fn add_made(
     width: u8,
     limit: u32,
 ) -> Result<(), Failure<ChaseRefusal>>
-    requires width { width ≤ PLACES }
+    requires width { width ≤ MOST_ATTRIBUTES }
     requires pool { IsPool limit pool.old }
     requires count { count ≤ length pool.old.rows.items }
     requires over { IsTableauOver width (take count pool.old.rows.items) }
@@ -83,20 +83,20 @@ fn add_products(
     width: u8,
     limit: u32,
 ) -> Result<(), Failure<ChaseRefusal>>
-    requires width { width ≤ PLACES }
+    requires width { width ≤ MOST_ATTRIBUTES }
     requires pool { IsPool limit pool.old }
     requires count { count ≤ length pool.old.rows.items }
     requires over { IsTableauOver width (take count pool.old.rows.items) }
     ensures pool { OnOk result (IsPool limit pool.new) }
     ensures made { OnOk result
-        (AddsAll (IsExchangedRow width (places lhs) (places rhs)
+        (AddsAll (IsExchangedRow width (attributes lhs) (attributes rhs)
         (take count pool.old.rows.items)) pool.old.rows.items pool.new.rows.items) }
     ensures too_many { result ≡ Err (Failure.Refused ChaseRefusal.TooManyRows)
-        → Overflows (IsExchangedRow width (places lhs) (places rhs)
+        → Overflows (IsExchangedRow width (attributes lhs) (attributes rhs)
         (take count pool.old.rows.items)) limit pool.old.rows.items }
 {
     let both = lhs.union(rhs);
-    let rest = AttrSet::full(width).minus(both).union(lhs);
+    let rest = AttrSet::full(width).difference(both).union(lhs);
     let agreeing = leaders(alloc, &pool.rows[..count], lhs, width)?;
     let firsts = leaders(alloc, &pool.rows[..count], both, width)?;
     let seconds = leaders(alloc, &pool.rows[..count], rest, width)?;
@@ -123,7 +123,7 @@ fn add_exchanged(
     width: u8,
     limit: u32,
 ) -> Result<(), Failure<ChaseRefusal>>
-    requires width { width ≤ PLACES }
+    requires width { width ≤ MOST_ATTRIBUTES }
     requires pool { IsPool limit pool.old }
     requires first { first < length pool.old.rows.items }
     requires first_over { length (symbol_row_at pool.old.rows.items first) ≡ width }
@@ -132,10 +132,10 @@ fn add_exchanged(
     ensures pool { OnOk result (IsPool limit pool.new) }
     ensures made { OnOk result
         (AddsAll (IsExchangedWith width
-        (places on) pool.old.rows.items first seconds.now) pool.old.rows.items pool.new.rows.items) }
+        (attributes on) pool.old.rows.items first seconds.now) pool.old.rows.items pool.new.rows.items) }
     ensures too_many { result ≡ Err (Failure.Refused ChaseRefusal.TooManyRows)
         → Overflows (IsExchangedWith width
-        (places on) pool.old.rows.items first seconds.now) limit pool.old.rows.items }
+        (attributes on) pool.old.rows.items first seconds.now) limit pool.old.rows.items }
 {
     for k in 0..seconds.len() {
         let second = seconds[k] as usize;

@@ -2,7 +2,7 @@
 
 ghost use Rattle.std.specs.Prelude.{◌≡◌, ◌≢◌, ℕ, List, [], ◌∷◌, ◌++◌, length, IfOk, Contains};
 
-use dep_model::WantMemory;
+use dep_model::OutOfMemory;
 use std::alloc::Global;
 use std::collections::HashMap;
 
@@ -13,7 +13,7 @@ pub struct RowNumbers {
 }
 
 impl RowNumbers {
-    ghost use Rattle.tableau_chase.specs.Numbers.{IsNumbering, IsFirstPlace};
+    ghost use Rattle.tableau_chase.specs.Numbers.{IsNumbering, IsFirstPosition};
 
     /// Of no list.
     pub fn new(alloc: Global) -> RowNumbers
@@ -25,10 +25,10 @@ impl RowNumbers {
     }
 
     /// The number of a list of symbols; a new one has the next number from now on.
-    pub fn number(&mut self, symbols: Vec<u32>, next: u32) -> Result<u32, WantMemory>
+    pub fn number(&mut self, symbols: Vec<u32>, next: u32) -> Result<u32, OutOfMemory>
         ensures known { (keys : List (List ℕ)) → IsNumbering keys self.old → length keys ≡ next
             → IfOk result (λ number. number ≢ next
-            → IsFirstPlace keys symbols.items number × IsNumbering keys self.new) }
+            → IsFirstPosition keys symbols.items number × IsNumbering keys self.new) }
         ensures fresh { (keys : List (List ℕ)) → IsNumbering keys self.old → length keys ≡ next
             → IfOk result (λ number. number ≡ next → Contains keys symbols.items → ⊥) }
         ensures grown { (keys : List (List ℕ)) → IsNumbering keys self.old → length keys ≡ next

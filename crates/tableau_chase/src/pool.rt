@@ -2,8 +2,8 @@
 
 ghost use Rattle.std.specs.Prelude.{◌≡◌, ◌≤◌, ◌<◌, ◌^◌, [], length, Err, OnOk, Contains};
 
-use crate::chased::ChaseRefusal;
 use crate::numbers::RowNumbers;
+use crate::outcome::ChaseRefusal;
 use crate::symbol_row::SymbolRow;
 use dep_model::Failure;
 use std::alloc::Global;

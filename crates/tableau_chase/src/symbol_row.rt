@@ -1,12 +1,12 @@
 ghost use Rattle.std.specs.Prelude.{◌≡◌, ℕ, ◌<◌, ◌≤◌, ◌==◌, List, length, map, slice_index, IfOk, if◌then◌else◌};
 ghost use Rattle.std.specs.List.{list_all};
-ghost use Rattle.attr_sets.specs.Sets.{places};
-ghost use Rattle.attr_sets.specs.declared.set.TheConstants.{PLACES};
+ghost use Rattle.attr_sets.specs.Sets.{attributes};
+ghost use Rattle.attr_sets.specs.declared.set.TheConstants.{MOST_ATTRIBUTES};
 ghost use Rattle.chase_laws.specs.Tableaux.{symbol_at, scheme_row};
-ghost use Rattle.chase_laws.specs.Steps.{replaced_in, exchanged};
+ghost use Rattle.chase_laws.specs.Steps.{replace_in_row, exchange_rows};
 
 use attr_sets::AttrSet;
-use dep_model::WantMemory;
+use dep_model::OutOfMemory;
 use std::alloc::Global;
 use std::marker::Model;
 
@@ -29,13 +29,13 @@ impl SymbolRow {
         width: u8,
         scheme: AttrSet,
         number: u32,
-    ) -> Result<SymbolRow, WantMemory>
-        requires width { width ≤ PLACES }
-        ensures row { IfOk result (λ row. row ≡ scheme_row width (places scheme) number) }
+    ) -> Result<SymbolRow, OutOfMemory>
+        requires width { width ≤ MOST_ATTRIBUTES }
+        ensures row { IfOk result (λ row. row ≡ scheme_row width (attributes scheme) number) }
     {
         let mut symbols = Vec::with_capacity(alloc, width as usize)?;
         for a in 0..width {
-            symbols.push(one_of(scheme.has(a), 0, number))?;
+            symbols.push(one_of(scheme.contains(a), 0, number))?;
         }
         Ok(SymbolRow { symbols })
     }
@@ -47,16 +47,17 @@ impl SymbolRow {
         other: &SymbolRow,
         on: AttrSet,
         width: u8,
-    ) -> Result<SymbolRow, WantMemory>
-        requires width { width ≤ PLACES }
-        requires this { length self.now ≡ width }
-        requires other { length other.now ≡ width }
-        ensures row { IfOk result (λ row. row ≡ exchanged width (places on) self.now other.now) }
+    ) -> Result<SymbolRow, OutOfMemory>
+        requires width { width ≤ MOST_ATTRIBUTES }
+        requires self_width { length self.now ≡ width }
+        requires other_width { length other.now ≡ width }
+        ensures row { IfOk result (λ row. row
+            ≡ exchange_rows width (attributes on) self.now other.now) }
     {
         let mut symbols = Vec::with_capacity(alloc, width as usize)?;
         for a in 0..width {
             let (first, second) = (self.symbol(a as usize), other.symbol(a as usize));
-            symbols.push(one_of(on.has(a), first, second))?;
+            symbols.push(one_of(on.contains(a), first, second))?;
         }
         Ok(SymbolRow { symbols })
     }
@@ -72,7 +73,7 @@ impl SymbolRow {
     /// Makes the symbol at attribute `a` the later one where it is the former.
     pub fn replace(&mut self, a: usize, former: u32, later: u32)
         requires { a < length self.old }
-        ensures replaced { self.new ≡ replaced_in a former later self.old }
+        ensures replaced { self.new ≡ replace_in_row a former later self.old }
     {
         if self.symbols[a] == former {
             self.symbols[a] = later;
@@ -80,26 +81,26 @@ impl SymbolRow {
     }
 
     /// The symbols at some attributes.
-    pub fn symbols_at(&self, alloc: Global, attributes: &[u8]) -> Result<Vec<u32>, WantMemory>
-        requires { (k : ℕ) → k < length attributes.now → slice_index attributes.now k < length self.now }
-        ensures symbols { IfOk result (λ symbols. symbols.items ≡ map (symbol_at self.now) attributes.now) }
+    pub fn symbols_at(&self, alloc: Global, listed: &[u8]) -> Result<Vec<u32>, OutOfMemory>
+        requires { (k : ℕ) → k < length listed.now → slice_index listed.now k < length self.now }
+        ensures symbols { IfOk result (λ symbols. symbols.items ≡ map (symbol_at self.now) listed.now) }
     {
-        let mut symbols = Vec::with_capacity(alloc, attributes.len())?;
-        for a in attributes {
+        let mut symbols = Vec::with_capacity(alloc, listed.len())?;
+        for a in listed {
             symbols.push(self.symbols[*a as usize])?;
         }
         Ok(symbols)
     }
 
     /// All symbols, in memory of their own.
-    pub fn symbols(&self, alloc: Global) -> Result<Vec<u32>, WantMemory>
+    pub fn symbols(&self, alloc: Global) -> Result<Vec<u32>, OutOfMemory>
         ensures symbols { IfOk result (λ symbols. symbols.items ≡ self.now) }
     {
         Ok(Vec::from_slice(alloc, &self.symbols)?)
     }
 
     /// An equal row in memory of its own.
-    pub fn copy(&self, alloc: Global) -> Result<SymbolRow, WantMemory>
+    pub fn copy(&self, alloc: Global) -> Result<SymbolRow, OutOfMemory>
         ensures row { IfOk result (λ row. row ≡ self.now) }
     {
         Ok(SymbolRow {

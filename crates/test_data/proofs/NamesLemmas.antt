@@ -12,7 +12,7 @@ use Rattle.std.proofs.lemmas.Bool.{false_from_ne_true}
 use Rattle.std.proofs.lemmas.Slice.Eq.{bytes_eq-Decides}
 use Rattle.std.proofs.lemmas.List.FromFn.{length-map-range_with_len, get_or-map-range_with_len}
 use Rattle.dep_model.specs.Names.{is_name, is_name_byte, same_name}
-use Rattle.test_data.specs.Made.{attribute_name, attribute_names}
+use Rattle.test_data.specs.TestSchemas.{attribute_name, attribute_names}
 
 -- a digit may stand in a name, and has no case
 digit_passes : (c : ℕ) → 48 ≤ c → c ≤ 57 → is_name_byte c ≡ true

@@ -1,8 +1,8 @@
 ghost use Rattle.std.specs.Prelude.{◌≡◌, ◌↔◌, IsTrue, All};
-ghost use Rattle.attr_sets.specs.Sets.{places};
+ghost use Rattle.attr_sets.specs.Sets.{attributes};
 ghost use Rattle.dep_model.specs.Deps.{IsDepWithin};
 ghost use Rattle.dep_model.specs.declared.dep.Dep.TheVariants.{Fd, Mvd};
-ghost use Rattle.test_data.specs.Made.{set_of};
+ghost use Rattle.test_data.specs.TestSchemas.{set_of};
 
 use attr_sets::AttrSet;
 use dep_model::Dep;
@@ -29,18 +29,18 @@ pub fn mvd(lhs: u128, rhs: u128) -> Dep
 
 /// Whether both sides of a dependency lie within a set.
 pub fn is_within(dep: Dep, universe: AttrSet) -> bool
-    ensures within { IsTrue result ↔ IsDepWithin (places universe) dep }
+    ensures within { IsTrue result ↔ IsDepWithin (attributes universe) dep }
 {
     match dep {
         Dep::Fd { lhs, rhs } | Dep::Mvd { lhs, rhs } => {
-            lhs.within(universe) && rhs.within(universe)
+            lhs.is_subset(universe) && rhs.is_subset(universe)
         }
     }
 }
 
 // Whether all of them do.
 pub(crate) fn are_within(deps: &[Dep], universe: AttrSet) -> bool
-    ensures within { IsTrue result ↔ All (IsDepWithin (places universe)) deps.now }
+    ensures within { IsTrue result ↔ All (IsDepWithin (attributes universe)) deps.now }
 {
     for dep in deps {
         if !is_within(*dep, universe) {

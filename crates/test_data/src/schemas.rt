@@ -1,11 +1,11 @@
 ghost use Rattle.std.specs.Prelude.{◌≡◌, ◌↔◌, length, replicate, IsTrue, IfOk, Err};
 ghost use Rattle.dep_model.specs.Schemas.{names_of, width_of, deps_of, lines_of};
-ghost use Rattle.test_data.specs.Made.{attribute_names, Fit, HasTextColumns};
+ghost use Rattle.test_data.specs.TestSchemas.{attribute_names, Fit, HasTextColumns};
 
 use crate::attributes::attribute_names;
 use crate::dependencies::are_within;
-use attr_sets::{AttrSet, PLACES};
-use dep_model::{Dep, MOST_DEPENDENCIES, Schema, WantMemory};
+use attr_sets::{AttrSet, MOST_ATTRIBUTES};
+use dep_model::{Dep, MOST_DEPENDENCIES, OutOfMemory, Schema};
 use std::alloc::{AllocError, Global};
 
 /// Why there is no schema.
@@ -15,26 +15,26 @@ pub enum NoSchema {
     /// attributes.
     Unfit,
     /// Memory was wanting.
-    Memory,
+    OutOfMemory,
 }
 
 impl From<AllocError> for NoSchema {
     ghost use Rattle.test_data.specs.declared.schemas.NoSchema.{NoSchema};
 
-    ghost from_gives = { λ _ e. e ≡ NoSchema.Memory };
+    ghost from_gives = { λ _ e. e ≡ NoSchema.OutOfMemory };
 
     fn from(_error: AllocError) -> Self {
-        NoSchema::Memory
+        NoSchema::OutOfMemory
     }
 }
 
-impl From<WantMemory> for NoSchema {
+impl From<OutOfMemory> for NoSchema {
     ghost use Rattle.test_data.specs.declared.schemas.NoSchema.{NoSchema};
 
-    ghost from_gives = { λ _ e. e ≡ NoSchema.Memory };
+    ghost from_gives = { λ _ e. e ≡ NoSchema.OutOfMemory };
 
-    fn from(_error: WantMemory) -> Self {
-        NoSchema::Memory
+    fn from(_error: OutOfMemory) -> Self {
+        NoSchema::OutOfMemory
     }
 }
 
@@ -52,7 +52,7 @@ pub fn schema_of(alloc: Global, width: u8, deps: &[Dep]) -> Result<Schema, NoSch
     }
     let names = attribute_names(alloc, width)?;
     let lines = vec![in alloc; 1u32; deps.len()]?;
-    Ok(Schema::make(names, Vec::from_slice(alloc, deps)?, lines))
+    Ok(Schema::new(names, Vec::from_slice(alloc, deps)?, lines))
 }
 
 // Whether there is such a schema.
@@ -60,7 +60,7 @@ fn are_fit(width: u8, deps: &[Dep]) -> bool
     ensures fit { IsTrue result ↔ Fit width deps.now }
 {
     width > 0
-        && width <= PLACES
+        && width <= MOST_ATTRIBUTES
         && deps.len() <= MOST_DEPENDENCIES
         && are_within(deps, AttrSet::full(width))
 }

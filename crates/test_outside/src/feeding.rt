@@ -1,57 +1,57 @@
 use crate::three_tables::three_tables;
 use crate::without_memory::WithoutMemory;
-use named_tables::Table;
+use destinations::{Destination, MemoryDestination};
+use named_tables::NamedTable;
 use std::alloc::Global;
 use std::process::Abort;
 use std::test::Fail;
-use table_writing::{FeedEnd, feed, feed_list};
-use targets::{MemoryTarget, Target};
+use table_writing::{WriteOutcome, write_tables, write_tables_to_list};
 
-// The end of the target that fails at this call, and how many tables it then holds. The calls of a table
-// are its begin, one for each row, and its end: 4 of the first table, 5 of each other.
-fn end_of(failing: u64) -> (FeedEnd, usize) {
+// The end of the destination that fails at this call, and how many tables it then holds. The calls of a
+// table are its begin, one for each row, and its end: 4 of the first table, 5 of each other.
+fn end_of(failing: u64) -> (WriteOutcome, usize) {
     match failing {
-        1..=4 => (FeedEnd::Failed, 0),
-        5..=9 => (FeedEnd::Failed, 1),
-        10..=14 => (FeedEnd::Failed, 2),
-        _ => (FeedEnd::Done, 3),
+        1..=4 => (WriteOutcome::Failed, 0),
+        5..=9 => (WriteOutcome::Failed, 1),
+        10..=14 => (WriteOutcome::Failed, 2),
+        _ => (WriteOutcome::Done, 3),
     }
 }
 
-// Of three targets the second fails at this call.
+// Of three destinations the second fails at this call.
 fn check_fault(
     rt: &(impl Alloc<A = Global> + Abort),
-    made: &[Table],
+    made: &[NamedTable],
     failing: u64,
 ) -> Result<(), Fail> {
     let alloc = rt.alloc();
-    let mut targets = Vec::new(alloc);
-    targets.push(MemoryTarget::make(alloc, Vec::new(alloc)))?;
-    targets.push(MemoryTarget::make(alloc, Vec::from_slice(alloc, &[failing])?))?;
-    targets.push(MemoryTarget::make(alloc, Vec::new(alloc)))?;
-    let ends = feed_list(alloc, &mut targets, made)?;
+    let mut destinations = Vec::new(alloc);
+    destinations.push(MemoryDestination::new(alloc, Vec::new(alloc)))?;
+    destinations.push(MemoryDestination::new(alloc, Vec::from_slice(alloc, &[failing])?))?;
+    destinations.push(MemoryDestination::new(alloc, Vec::new(alloc)))?;
+    let ends = write_tables_to_list(alloc, &mut destinations, made)?;
     let (second, held) = end_of(failing);
     assert_eq!(rt;
         ends.as_slice(),
-        [FeedEnd::Done, second, FeedEnd::Done].as_slice()
+        [WriteOutcome::Done, second, WriteOutcome::Done].as_slice()
     );
     let counts = [3, held, 3];
-    assert_eq!(rt; targets.len(), counts.len());
-    for (target, count) in targets.iter().zip(counts.iter()) {
-        check_tables(rt, target, made, *count)?;
+    assert_eq!(rt; destinations.len(), counts.len());
+    for (destination, count) in destinations.iter().zip(counts.iter()) {
+        check_tables(rt, destination, made, *count)?;
     }
     Ok(())
 }
 
-// A target holds just so many of the tables, the first ones.
+// A destination holds just so many of the tables, the first ones.
 fn check_tables(
     rt: &impl Abort,
-    target: &MemoryTarget,
-    made: &[Table],
+    destination: &MemoryDestination,
+    made: &[NamedTable],
     count: usize,
 ) -> Result<(), Fail> {
-    assert_eq!(rt; target.tables().len(), count);
-    for (held, table) in target.tables().iter().zip(made.iter()) {
+    assert_eq!(rt; destination.tables().len(), count);
+    for (held, table) in destination.tables().iter().zip(made.iter()) {
         assert_eq!(rt; held.name.bytes(), table.held.name.bytes());
         assert_eq!(rt; held.columns.len(), table.held.columns.len());
         assert_eq!(rt; held.rows.len(), table.held.rows.len());
@@ -60,7 +60,7 @@ fn check_tables(
 }
 
 #[test]
-fn the_second_target_fails_at_each_call(rt: HostRuntime) -> Result<(), Fail> {
+fn the_second_destination_fails_at_each_call(rt: HostRuntime) -> Result<(), Fail> {
     let made = three_tables(rt.alloc())?;
     for failing in 1..16u64 {
         check_fault(&rt, &made, failing)?;
@@ -69,39 +69,49 @@ fn the_second_target_fails_at_each_call(rt: HostRuntime) -> Result<(), Fail> {
 }
 
 #[test]
-fn each_target_has_an_end_of_its_own(rt: HostRuntime) -> Result<(), Fail> {
+fn each_destination_has_an_end_of_its_own(rt: HostRuntime) -> Result<(), Fail> {
     let alloc = rt.alloc();
     let made = three_tables(alloc)?;
-    let mut targets: Vec<Box<dyn Target>> = Vec::new(alloc);
-    let failing = MemoryTarget::make(alloc, Vec::from_slice(alloc, &[1])?);
-    targets.push(Box::new(alloc, failing)?)?;
-    targets.push(Box::new(alloc, WithoutMemory::make())?)?;
-    let whole = MemoryTarget::make(alloc, Vec::new(alloc));
-    targets.push(Box::new(alloc, whole)?)?;
-    let ends = feed(alloc, &mut targets, &made)?;
+    let mut destinations: Vec<Box<dyn Destination>> = Vec::new(alloc);
+    let failing = MemoryDestination::new(alloc, Vec::from_slice(alloc, &[1])?);
+    destinations.push(Box::new(alloc, failing)?)?;
+    destinations.push(Box::new(alloc, WithoutMemory::new())?)?;
+    let whole = MemoryDestination::new(alloc, Vec::new(alloc));
+    destinations.push(Box::new(alloc, whole)?)?;
+    let ends = write_tables(alloc, &mut destinations, &made)?;
     assert_eq!(rt;
         ends.as_slice(),
-        [FeedEnd::Failed, FeedEnd::NoMemory, FeedEnd::Done].as_slice()
+        [
+            WriteOutcome::Failed,
+            WriteOutcome::OutOfMemory,
+            WriteOutcome::Done
+        ]
+        .as_slice()
     );
-    let ends = feed(alloc, &mut targets, &made)?;
+    let ends = write_tables(alloc, &mut destinations, &made)?;
     assert_eq!(rt;
         ends.as_slice(),
-        [FeedEnd::Done, FeedEnd::NoMemory, FeedEnd::Done].as_slice()
+        [
+            WriteOutcome::Done,
+            WriteOutcome::OutOfMemory,
+            WriteOutcome::Done
+        ]
+        .as_slice()
     );
     let counts = [Some(3), None, Some(6)];
-    for (target, count) in targets.iter().zip(counts.iter()) {
-        let held = target.held_tables().map(|tables| tables.len());
+    for (destination, count) in destinations.iter().zip(counts.iter()) {
+        let held = destination.held_tables().map(|tables| tables.len());
         assert_eq!(rt; held, *count);
     }
     Ok(())
 }
 
 #[test]
-fn no_targets_have_no_ends(rt: HostRuntime) -> Result<(), Fail> {
+fn no_destinations_have_no_ends(rt: HostRuntime) -> Result<(), Fail> {
     let alloc = rt.alloc();
     let made = three_tables(alloc)?;
-    let mut targets: Vec<Box<dyn Target>> = Vec::new(alloc);
-    let ends = feed(alloc, &mut targets, &made)?;
+    let mut destinations: Vec<Box<dyn Destination>> = Vec::new(alloc);
+    let ends = write_tables(alloc, &mut destinations, &made)?;
     assert_eq!(rt; ends.len(), 0);
     Ok(())
 }

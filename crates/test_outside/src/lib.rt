@@ -1,5 +1,5 @@
-//! Tests of the outside and of targets, where calls fail one at a time; and a target for tests,
-//! [`WithoutMemory`], which wants memory at each call.
+//! Tests of the outside and of destinations, where calls fail one at a time; and a destination for
+//! tests, [`WithoutMemory`], which runs out of memory at each call.
 #![tactic(auto)]
 
 #[cfg(test)]

@@ -12,28 +12,28 @@ const TEXT: &[u8] = b"attributes A B C\nA -> B\nB -> C\n";
 // A printed text.
 const PRINTED: &[u8] = b"no\nA,B,C\n0,0,0\n1,1,0\n";
 
-fn held(alloc: Global, name: &[u8], bytes: &[u8]) -> Result<HeldFile, Fail> {
+fn held_file(alloc: Global, name: &[u8], bytes: &[u8]) -> Result<HeldFile, Fail> {
     Ok(HeldFile {
-        name: Word::make(alloc, name)?,
+        name: Argument::new(alloc, name)?,
         bytes: Vec::from_slice(alloc, bytes)?,
     })
 }
 
-// A shelf with an empty file and two files of one name, which fails at these calls.
-fn shelf_of(alloc: Global, fails: &[u64], step: usize) -> Result<MemoryShelf, Fail>
+// A file source with an empty file and two files of one name, which fails at these calls.
+fn source_of(alloc: Global, fails: &[u64], step: usize) -> Result<MemoryFiles, Fail>
     requires { 0 < step }
 {
     let mut files = Vec::new(alloc);
-    files.push(held(alloc, b"empty", b"")?)?;
-    files.push(held(alloc, b"text", TEXT)?)?;
-    files.push(held(alloc, b"text", b"the second of this name")?)?;
+    files.push(held_file(alloc, b"empty", b"")?)?;
+    files.push(held_file(alloc, b"text", TEXT)?)?;
+    files.push(held_file(alloc, b"text", b"the second of this name")?)?;
     let fails = Vec::from_slice(alloc, fails)?;
-    Ok(MemoryShelf::with_step(files, fails, step))
+    Ok(MemoryFiles::with_step(files, fails, step))
 }
 
 #[test]
 fn a_file_is_loaded_whole_or_refused(rt: HostRuntime) -> Result<(), Fail> {
-    let mut shelf = shelf_of(rt.alloc(), &[], 7)?;
+    let mut source = source_of(rt.alloc(), &[], 7)?;
     for (name, limit, want) in [
         (b"text".as_slice(), 1000, Ok(TEXT)),
         (b"text", 31, Ok(TEXT)),
@@ -42,7 +42,7 @@ fn a_file_is_loaded_whole_or_refused(rt: HostRuntime) -> Result<(), Fail> {
         (b"empty", 0, Ok(b"".as_slice())),
         (b"tex", 1000, Err(LoadRefusal::CannotRead)),
     ] {
-        match load(rt.alloc(), &mut shelf, name, limit) {
+        match load(rt.alloc(), &mut source, name, limit) {
             Ok(bytes) => assert_eq!(rt; Ok(bytes.as_slice()), want),
             Err(refusal) => assert_eq!(rt; Err(refusal), want),
         }
@@ -50,7 +50,7 @@ fn a_file_is_loaded_whole_or_refused(rt: HostRuntime) -> Result<(), Fail> {
     Ok(())
 }
 
-// Reads of more bytes than one asks for, from a shelf without a step.
+// Reads of more bytes than one asks for, from a file source without a step.
 #[test]
 fn a_long_file_is_loaded_in_pieces(rt: HostRuntime) -> Result<(), Fail> {
     let mut long = Vec::new(rt.alloc());
@@ -58,11 +58,11 @@ fn a_long_file_is_loaded_in_pieces(rt: HostRuntime) -> Result<(), Fail> {
         long.push((i % 251) as u8)?;
     }
     let mut files = Vec::new(rt.alloc());
-    files.push(held(rt.alloc(), b"long", &long)?)?;
-    let mut shelf = MemoryShelf::make(files, Vec::new(rt.alloc()));
-    let bytes = load(rt.alloc(), &mut shelf, b"long", 10_000)?;
+    files.push(held_file(rt.alloc(), b"long", &long)?)?;
+    let mut source = MemoryFiles::new(files, Vec::new(rt.alloc()));
+    let bytes = load(rt.alloc(), &mut source, b"long", 10_000)?;
     assert!(rt; bytes.as_slice() == long.as_slice());
-    let refused = load(rt.alloc(), &mut shelf, b"long", 9_999);
+    let refused = load(rt.alloc(), &mut source, b"long", 9_999);
     assert!(rt; matches!(&refused, Err(LoadRefusal::TooLong)));
     Ok(())
 }
@@ -71,31 +71,31 @@ fn a_long_file_is_loaded_in_pieces(rt: HostRuntime) -> Result<(), Fail> {
 #[test]
 fn each_call_of_a_loading_may_fail(rt: HostRuntime) -> Result<(), Fail> {
     for call in 1..=33u64 {
-        let mut shelf = shelf_of(rt.alloc(), &[call], 1)?;
-        let loaded = load(rt.alloc(), &mut shelf, b"text", 1000);
+        let mut source = source_of(rt.alloc(), &[call], 1)?;
+        let loaded = load(rt.alloc(), &mut source, b"text", 1000);
         assert!(rt;
             matches!(&loaded, Err(LoadRefusal::CannotRead)),
             "at {call}"
         );
     }
-    let mut shelf = shelf_of(rt.alloc(), &[34], 1)?;
-    let bytes = load(rt.alloc(), &mut shelf, b"text", 1000)?;
+    let mut source = source_of(rt.alloc(), &[34], 1)?;
+    let bytes = load(rt.alloc(), &mut source, b"text", 1000)?;
     assert_eq!(rt; bytes.as_slice(), TEXT);
     Ok(())
 }
 
 #[test]
 fn after_a_fault_no_file_is_begun(rt: HostRuntime) -> Result<(), Fail> {
-    let mut shelf = shelf_of(rt.alloc(), &[2, 5], 4)?;
+    let mut source = source_of(rt.alloc(), &[2, 5], 4)?;
     let mut buf = [0u8; 6];
-    assert_eq!(rt; shelf.begin(b"text"), Ok(()));
-    assert_eq!(rt; shelf.read(&mut buf), Err(Failed));
-    assert_eq!(rt; shelf.read(&mut buf), Ok(0));
-    assert_eq!(rt; shelf.begin(b"text"), Ok(()));
-    assert_eq!(rt; shelf.begin(b"text"), Err(OutsideFault::Failed));
-    assert_eq!(rt; shelf.read(&mut buf), Ok(0));
-    assert_eq!(rt; shelf.begin(b"text"), Ok(()));
-    assert_eq!(rt; shelf.read(&mut buf), Ok(4));
+    assert_eq!(rt; source.begin(b"text"), Ok(()));
+    assert_eq!(rt; source.read(&mut buf), Err(Failed));
+    assert_eq!(rt; source.read(&mut buf), Ok(0));
+    assert_eq!(rt; source.begin(b"text"), Ok(()));
+    assert_eq!(rt; source.begin(b"text"), Err(OutsideFault::Failed));
+    assert_eq!(rt; source.read(&mut buf), Ok(0));
+    assert_eq!(rt; source.begin(b"text"), Ok(()));
+    assert_eq!(rt; source.read(&mut buf), Ok(4));
     assert_eq!(rt; buf.as_slice(), b"attr\0\0".as_slice());
     Ok(())
 }
@@ -108,7 +108,7 @@ fn a_full_sink_holds_just_the_front(rt: HostRuntime) -> Result<(), Fail> {
             let mut sink = MemorySink::with_step(rt.alloc(), capacity, fails, step)?;
             let sent = send(&mut sink, PRINTED);
             assert_eq!(rt; sent.is_ok(), capacity == PRINTED.len(), "of {capacity}");
-            assert!(rt; sink.taken() == &PRINTED[..capacity], "of {capacity}");
+            assert!(rt; sink.bytes() == &PRINTED[..capacity], "of {capacity}");
         }
     }
     Ok(())
@@ -120,13 +120,13 @@ fn each_call_of_a_sending_may_fail(rt: HostRuntime) -> Result<(), Fail> {
         let fails = vec![in rt.alloc(); taken as u64 + 1]?;
         let mut sink = MemorySink::with_step(rt.alloc(), 100, fails, 1)?;
         assert_eq!(rt; send(&mut sink, PRINTED), Err(CannotWrite));
-        assert!(rt; sink.taken() == &PRINTED[..taken], "after {taken}");
+        assert!(rt; sink.bytes() == &PRINTED[..taken], "after {taken}");
     }
-    let mut sink = MemorySink::make(rt.alloc(), 100, Vec::new(rt.alloc()))?;
+    let mut sink = MemorySink::new(rt.alloc(), 100, Vec::new(rt.alloc()))?;
     assert_eq!(rt; send(&mut sink, b"no\n"), Ok(()));
     assert_eq!(rt; send(&mut sink, b""), Ok(()));
     assert_eq!(rt; send(&mut sink, b"A,B,C\n"), Ok(()));
-    assert_eq!(rt; sink.taken(), b"no\nA,B,C\n".as_slice());
+    assert_eq!(rt; sink.bytes(), b"no\nA,B,C\n".as_slice());
     Ok(())
 }
 
@@ -136,17 +136,17 @@ fn each_call_of_a_sending_may_fail(rt: HostRuntime) -> Result<(), Fail> {
 fn each_call_of_a_folder_may_fail(rt: HostRuntime) -> Result<(), Fail> {
     for call in 1..=9u64 {
         let alloc = rt.alloc();
-        let mut folder = MemoryFolder::make(alloc, Vec::from_slice(alloc, &[call])?);
+        let mut folder = MemoryFolder::new(alloc, Vec::from_slice(alloc, &[call])?);
         let first = write_file(&mut folder, b"a").is_ok();
         let second = write_file(&mut folder, b"b").is_ok();
-        let finished = folder.finished();
+        let finished = folder.finished_files();
         assert_eq!(rt; first && second, call > 8);
         assert!(rt; first || second);
         assert_eq!(rt; finished.len(), if call > 8 { 2 } else { 1 });
         for file in finished {
             assert_eq!(rt; file.bytes.as_slice(), b"no\nyes\n".as_slice());
         }
-        assert!(rt; matches!(folder.shown(), Some(files) if files.len() == finished.len()));
+        assert!(rt; matches!(folder.visible(), Some(files) if files.len() == finished.len()));
     }
     Ok(())
 }
@@ -161,19 +161,19 @@ fn write_file<G: Folder>(folder: &mut G, name: &[u8]) -> Result<(), OutsideFault
 
 #[test]
 fn the_system_has_a_folder(rt: HostRuntime) -> Result<(), Fail> {
-    let mut folder = FileFolder::make(&rt);
+    let mut folder = FileFolder::new(&rt);
     for text in [b"the first text".as_slice(), b"second"] {
         assert_eq!(rt; folder.begin(b"desk_outside_written"), Ok(()));
         assert_eq!(rt; folder.write(text), Ok(text.len()));
         assert_eq!(rt; folder.end(), Ok(()));
     }
-    assert!(rt; folder.shown().is_none());
+    assert!(rt; folder.visible().is_none());
     assert_eq!(rt;
         folder.begin(b"desk_outside_\xff"),
         Err(OutsideFault::Failed)
     );
-    let mut shelf = FileShelf::make(&rt);
-    let bytes = load(rt.alloc(), &mut shelf, b"desk_outside_written", 100);
+    let mut source = RealFiles::new(&rt);
+    let bytes = load(rt.alloc(), &mut source, b"desk_outside_written", 100);
     fs::remove_file(&rt, "desk_outside_written")?;
     assert_eq!(rt; bytes?.as_slice(), b"second".as_slice());
     Ok(())
@@ -183,12 +183,12 @@ fn the_system_has_a_folder(rt: HostRuntime) -> Result<(), Fail> {
 fn the_system_has_files(rt: HostRuntime) -> Result<(), Fail> {
     fs::write(&rt, "desk_outside_text", TEXT)?;
     let alloc = rt.alloc();
-    let mut shelf = FileShelf::make(&rt);
-    let bytes = load(alloc, &mut shelf, b"desk_outside_text", 31);
-    let long = load(alloc, &mut shelf, b"desk_outside_text", 30);
-    let missing = load(alloc, &mut shelf, b"desk_outside_missing", 1000);
-    let not_text = load(alloc, &mut shelf, b"desk_outside_\xff", 1000);
-    let again = load(alloc, &mut shelf, b"desk_outside_text", 1000);
+    let mut source = RealFiles::new(&rt);
+    let bytes = load(alloc, &mut source, b"desk_outside_text", 31);
+    let long = load(alloc, &mut source, b"desk_outside_text", 30);
+    let missing = load(alloc, &mut source, b"desk_outside_missing", 1000);
+    let not_text = load(alloc, &mut source, b"desk_outside_\xff", 1000);
+    let again = load(alloc, &mut source, b"desk_outside_text", 1000);
     fs::remove_file(&rt, "desk_outside_text")?;
     assert_eq!(rt; bytes?.as_slice(), TEXT);
     assert!(rt; matches!(&long, Err(LoadRefusal::TooLong)));
@@ -200,7 +200,7 @@ fn the_system_has_files(rt: HostRuntime) -> Result<(), Fail> {
 
 #[test]
 fn the_system_takes_a_text(rt: HostRuntime) -> Result<(), Fail> {
-    let mut sink = StdoutSink::make(&rt);
+    let mut sink = StdoutSink::new(&rt);
     assert_eq!(rt;
         send(&mut sink, b"a text for the standard output\n"),
         Ok(())
@@ -232,7 +232,7 @@ impl Print for Closed {
 
 #[test]
 fn an_output_that_takes_nothing_failed(rt: HostRuntime) {
-    let mut sink = StdoutSink::make(Closed);
+    let mut sink = StdoutSink::new(Closed);
     assert_eq!(rt; send(&mut sink, b"a text"), Err(CannotWrite));
 }
 
@@ -241,7 +241,7 @@ fn the_errors_have_texts(rt: HostRuntime) -> Result<(), Fail> {
     let text = format!(in rt.alloc();
         "{}, {}, {}, {}",
         Failed,
-        OutsideFault::Memory,
+        OutsideFault::OutOfMemory,
         LoadRefusal::TooLong,
         CannotWrite
     )?;

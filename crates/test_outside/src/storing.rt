@@ -1,64 +1,64 @@
 ghost use Rattle.std.specs.Prelude.{◌≡◌, length, IfOk};
 
-use dep_model::{Name, Row, Value, WantMemory};
+use dep_model::{Name, OutOfMemory, Row, Value};
 use desk_outside::{HeldFile, MemoryFolder, OutsideFault};
+use destinations::{Destination, FileDestination, MemoryDestination, TableFormat};
 use std::alloc::Global;
 use std::test::Fail;
-use targets::{FileTarget, MemoryTarget, TableFormat, Target};
 
-fn single(alloc: Global, value: &[u8]) -> Result<Row, WantMemory>
+fn single(alloc: Global, value: &[u8]) -> Result<Row, OutOfMemory>
     ensures { IfOk result (λ row. length row ≡ 1) }
 {
     let mut values = Vec::new(alloc);
-    values.push(Value::make(alloc, value)?)?;
-    Ok(Row::make(values))
+    values.push(Value::new(alloc, value)?)?;
+    Ok(Row::new(values))
 }
 
-fn pair(alloc: Global, first: &[u8], second: &[u8]) -> Result<Row, WantMemory>
+fn pair(alloc: Global, first: &[u8], second: &[u8]) -> Result<Row, OutOfMemory>
     ensures { IfOk result (λ row. length row ≡ 2) }
 {
     let mut values = Vec::new(alloc);
-    values.push(Value::make(alloc, first)?)?;
-    values.push(Value::make(alloc, second)?)?;
-    Ok(Row::make(values))
+    values.push(Value::new(alloc, first)?)?;
+    values.push(Value::new(alloc, second)?)?;
+    Ok(Row::new(values))
 }
 
 fn name(bytes: &[u8]) -> Result<Name, OutsideFault> {
-    match Name::make(bytes) {
+    match Name::new(bytes) {
         Some(name) => Ok(name),
-        None => Err(OutsideFault::Memory),
+        None => Err(OutsideFault::OutOfMemory),
     }
 }
 
 // A table of one column and one row.
-fn put_table<T: Target>(
+fn put_table<T: Destination>(
     alloc: Global,
-    target: &mut T,
+    destination: &mut T,
     table: &[u8],
     value: &[u8],
 ) -> Result<(), OutsideFault> {
     let row = single(alloc, value)?;
-    target.begin_table(&name(table)?, &[name(b"A")?])?;
-    target.put_row(&row)?;
-    target.end_table()
+    destination.begin_table(&name(table)?, &[name(b"A")?])?;
+    destination.put_row(&row)?;
+    destination.end_table()
 }
 
 // A table of two columns and two rows.
-fn put_pairs<T: Target>(alloc: Global, target: &mut T) -> Result<(), OutsideFault> {
+fn put_pairs<T: Destination>(alloc: Global, destination: &mut T) -> Result<(), OutsideFault> {
     let first = pair(alloc, b"1", b"a,\"b\"")?;
     let second = pair(alloc, b"O'Hara", b"\0")?;
-    target.begin_table(&name(b"t1")?, &[name(b"NAME")?, name(b"Note")?])?;
-    target.put_row(&first)?;
-    target.put_row(&second)?;
-    target.end_table()
+    destination.begin_table(&name(b"t1")?, &[name(b"NAME")?, name(b"Note")?])?;
+    destination.put_row(&first)?;
+    destination.put_row(&second)?;
+    destination.end_table()
 }
 
-// Whether the file at a place has this name and these bytes.
-fn is_file(files: Option<&[HeldFile]>, place: usize, name: &[u8], bytes: &[u8]) -> bool {
+// Whether the file at a position has this name and these bytes.
+fn is_file(files: Option<&[HeldFile]>, position: usize, name: &[u8], bytes: &[u8]) -> bool {
     let Some(files) = files else {
         return false;
     };
-    match files.get(place) {
+    match files.get(position) {
         Some(file) => file.name.bytes() == name && file.bytes.as_slice() == bytes,
         None => false,
     }
@@ -74,24 +74,24 @@ fn count(files: Option<&[HeldFile]>) -> usize {
 #[test]
 fn tables_in_memory(rt: HostRuntime) -> Result<(), Fail> {
     let alloc = rt.alloc();
-    let mut target = MemoryTarget::make(alloc, Vec::from_slice(alloc, &[5])?);
-    assert!(rt; put_pairs(alloc, &mut target) == Ok(()));
+    let mut destination = MemoryDestination::new(alloc, Vec::from_slice(alloc, &[5])?);
+    assert!(rt; put_pairs(alloc, &mut destination) == Ok(()));
     // its fifth call begins a table
-    assert!(rt; put_table(alloc, &mut target, b"t2", b"x") == Err(OutsideFault::Failed));
-    assert!(rt; put_table(alloc, &mut target, b"t3", b"y") == Ok(()));
-    assert_eq!(rt; target.tables().len(), 2);
-    assert!(rt; target.held_files().is_none());
-    let Some(tables) = target.held_tables() else {
-        return Err(Fail::from(WantMemory));
+    assert!(rt; put_table(alloc, &mut destination, b"t2", b"x") == Err(OutsideFault::Failed));
+    assert!(rt; put_table(alloc, &mut destination, b"t3", b"y") == Ok(()));
+    assert_eq!(rt; destination.tables().len(), 2);
+    assert!(rt; destination.held_files().is_none());
+    let Some(tables) = destination.held_tables() else {
+        return Err(Fail::from(OutOfMemory));
     };
     let Some(table) = tables.get(0) else {
-        return Err(Fail::from(WantMemory));
+        return Err(Fail::from(OutOfMemory));
     };
     assert_eq!(rt; table.name.bytes(), b"t1".as_slice());
     assert_eq!(rt; table.columns.len(), 2);
     assert_eq!(rt; table.rows.len(), 2);
     let Some(row) = table.rows.get(1) else {
-        return Err(Fail::from(WantMemory));
+        return Err(Fail::from(OutOfMemory));
     };
     assert!(rt; row.len() == 2 && row.value(0).bytes() == b"O'Hara".as_slice());
     Ok(())
@@ -100,37 +100,37 @@ fn tables_in_memory(rt: HostRuntime) -> Result<(), Fail> {
 #[test]
 fn a_table_begun_anew_is_given_up(rt: HostRuntime) -> Result<(), Fail> {
     let alloc = rt.alloc();
-    let mut target = MemoryTarget::make(alloc, Vec::new(alloc));
+    let mut destination = MemoryDestination::new(alloc, Vec::new(alloc));
     let Ok(first) = name(b"t1") else {
-        return Err(Fail::from(WantMemory));
+        return Err(Fail::from(OutOfMemory));
     };
-    assert!(rt; target.begin_table(&first, &[]) == Ok(()));
-    assert!(rt; put_table(alloc, &mut target, b"t2", b"x") == Ok(()));
-    assert_eq!(rt; target.tables().len(), 1);
+    assert!(rt; destination.begin_table(&first, &[]) == Ok(()));
+    assert!(rt; put_table(alloc, &mut destination, b"t2", b"x") == Ok(()));
+    assert_eq!(rt; destination.tables().len(), 1);
     Ok(())
 }
 
 #[test]
 fn tables_as_csv_files(rt: HostRuntime) -> Result<(), Fail> {
     let alloc = rt.alloc();
-    let folder = MemoryFolder::make(alloc, Vec::new(alloc));
-    let mut target = FileTarget::make(alloc, TableFormat::Csv, folder)?;
-    assert!(rt; put_pairs(alloc, &mut target) == Ok(()));
-    assert!(rt; put_table(alloc, &mut target, b"t2", b"") == Ok(()));
-    assert!(rt; target.held_tables().is_none());
-    assert_eq!(rt; count(target.held_files()), 2);
+    let folder = MemoryFolder::new(alloc, Vec::new(alloc));
+    let mut destination = FileDestination::new(alloc, TableFormat::Csv, folder)?;
+    assert!(rt; put_pairs(alloc, &mut destination) == Ok(()));
+    assert!(rt; put_table(alloc, &mut destination, b"t2", b"") == Ok(()));
+    assert!(rt; destination.held_tables().is_none());
+    assert_eq!(rt; count(destination.held_files()), 2);
     let pairs = b"NAME,Note\n1,\"a,\"\"b\"\"\"\nO'Hara,\0\n";
-    assert!(rt; is_file(target.held_files(), 0, b"t1.csv", pairs));
-    assert!(rt; is_file(target.held_files(), 1, b"t2.csv", b"A\n\"\"\n"));
+    assert!(rt; is_file(destination.held_files(), 0, b"t1.csv", pairs));
+    assert!(rt; is_file(destination.held_files(), 1, b"t2.csv", b"A\n\"\"\n"));
     Ok(())
 }
 
 #[test]
 fn tables_as_sql_files(rt: HostRuntime) -> Result<(), Fail> {
     let alloc = rt.alloc();
-    let folder = MemoryFolder::make(alloc, Vec::new(alloc));
-    let target = FileTarget::make(alloc, TableFormat::Sql, folder)?;
-    let mut boxed: Box<dyn Target> = Box::new(alloc, target)?;
+    let folder = MemoryFolder::new(alloc, Vec::new(alloc));
+    let destination = FileDestination::new(alloc, TableFormat::Sql, folder)?;
+    let mut boxed: Box<dyn Destination> = Box::new(alloc, destination)?;
     assert!(rt; put_pairs(alloc, &mut boxed) == Ok(()));
     assert!(rt; boxed.held_tables().is_none());
     assert_eq!(rt; count(boxed.held_files()), 1);
@@ -156,13 +156,13 @@ fn values_as_sql_texts(rt: HostRuntime) -> Result<(), Fail> {
     ];
     for (value, text) in cases {
         let alloc = rt.alloc();
-        let folder = MemoryFolder::make(alloc, Vec::new(alloc));
-        let mut target = FileTarget::make(alloc, TableFormat::Sql, folder)?;
-        assert!(rt; put_table(alloc, &mut target, b"t1", value) == Ok(()));
+        let folder = MemoryFolder::new(alloc, Vec::new(alloc));
+        let mut destination = FileDestination::new(alloc, TableFormat::Sql, folder)?;
+        assert!(rt; put_table(alloc, &mut destination, b"t1", value) == Ok(()));
         let mut line = Vec::from_slice(alloc, b"INSERT INTO \"t1\" (\"A\") VALUES (")?;
         line.extend_from_slice(text)?;
         line.extend_from_slice(b");\n")?;
-        assert!(rt; is_file(target.held_files(), 0, b"t1.sql", &line));
+        assert!(rt; is_file(destination.held_files(), 0, b"t1.sql", &line));
     }
     Ok(())
 }
@@ -172,30 +172,34 @@ fn values_as_sql_texts(rt: HostRuntime) -> Result<(), Fail> {
 fn each_call_of_a_folder_may_fail(rt: HostRuntime) -> Result<(), Fail> {
     for failing in 1..=4 {
         let alloc = rt.alloc();
-        let folder = MemoryFolder::make(alloc, Vec::from_slice(alloc, &[failing])?);
-        let mut target = FileTarget::make(alloc, TableFormat::Csv, folder)?;
-        let first = put_table(alloc, &mut target, b"t1", b"x");
-        let second = put_table(alloc, &mut target, b"t2", b"y");
+        let folder = MemoryFolder::new(alloc, Vec::from_slice(alloc, &[failing])?);
+        let mut destination = FileDestination::new(alloc, TableFormat::Csv, folder)?;
+        let first = put_table(alloc, &mut destination, b"t1", b"x");
+        let second = put_table(alloc, &mut destination, b"t2", b"y");
         assert!(rt; first.is_ok() == (failing == 4));
         assert!(rt; second.is_ok() == (failing != 4));
-        assert_eq!(rt; count(target.held_files()), 1);
+        assert_eq!(rt; count(destination.held_files()), 1);
         if failing == 4 {
-            assert!(rt; is_file(target.held_files(), 0, b"t1.csv", b"A\nx\n"));
+            assert!(rt; is_file(destination.held_files(), 0, b"t1.csv", b"A\nx\n"));
         } else {
-            assert!(rt; is_file(target.held_files(), 0, b"t2.csv", b"A\ny\n"));
+            assert!(rt; is_file(destination.held_files(), 0, b"t2.csv", b"A\ny\n"));
         }
     }
     Ok(())
 }
 
 // A table that is longer than what is gathered.
-fn put_long<T: Target>(alloc: Global, target: &mut T, value: &[u8]) -> Result<(), OutsideFault> {
+fn put_long<T: Destination>(
+    alloc: Global,
+    destination: &mut T,
+    value: &[u8],
+) -> Result<(), OutsideFault> {
     let row = single(alloc, value)?;
-    target.begin_table(&name(b"t1")?, &[name(b"A")?])?;
-    target.put_row(&row)?;
-    target.put_row(&row)?;
-    target.put_row(&row)?;
-    target.end_table()
+    destination.begin_table(&name(b"t1")?, &[name(b"A")?])?;
+    destination.put_row(&row)?;
+    destination.put_row(&row)?;
+    destination.put_row(&row)?;
+    destination.end_table()
 }
 
 // It is written in two pieces, so it takes four calls of the folder.
@@ -209,14 +213,14 @@ fn what_is_gathered_is_written_out(rt: HostRuntime) -> Result<(), Fail> {
         text.extend_from_slice(b"\n")?;
     }
     for failing in 1..=5 {
-        let folder = MemoryFolder::make(alloc, Vec::from_slice(alloc, &[failing])?);
-        let mut target = FileTarget::make(alloc, TableFormat::Csv, folder)?;
-        let ended = put_long(alloc, &mut target, &value);
+        let folder = MemoryFolder::new(alloc, Vec::from_slice(alloc, &[failing])?);
+        let mut destination = FileDestination::new(alloc, TableFormat::Csv, folder)?;
+        let ended = put_long(alloc, &mut destination, &value);
         assert!(rt; ended.is_ok() == (failing == 5));
         if failing == 5 {
-            assert!(rt; is_file(target.held_files(), 0, b"t1.csv", &text));
+            assert!(rt; is_file(destination.held_files(), 0, b"t1.csv", &text));
         } else {
-            assert_eq!(rt; count(target.held_files()), 0);
+            assert_eq!(rt; count(destination.held_files()), 0);
         }
     }
     Ok(())

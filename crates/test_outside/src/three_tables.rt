@@ -2,27 +2,27 @@ ghost use Rattle.std.specs.Prelude.{◌≡◌, length, IfOk};
 ghost use Rattle.dep_model.specs.Tuples.{IsOver};
 
 use attr_sets::AttrSet;
-use dep_model::{Name, Row, Value, WantMemory};
-use named_tables::{HeldTable, Table};
+use dep_model::{Name, OutOfMemory, Row, Value};
+use named_tables::{HeldTable, NamedTable};
 use std::alloc::Global;
 
 // A row of one value.
-pub(crate) fn single(alloc: Global, value: &[u8]) -> Result<Row, WantMemory>
+pub(crate) fn single(alloc: Global, value: &[u8]) -> Result<Row, OutOfMemory>
     ensures { IfOk result (λ row. length row ≡ 1) }
 {
     let mut values = Vec::new(alloc);
-    values.push(Value::make(alloc, value)?)?;
-    Ok(Row::make(values))
+    values.push(Value::new(alloc, value)?)?;
+    Ok(Row::new(values))
 }
 
-fn table(alloc: Global, name: &[u8], rows: Vec<Row>) -> Result<Table, WantMemory>
+fn table(alloc: Global, name: &[u8], rows: Vec<Row>) -> Result<NamedTable, OutOfMemory>
     requires { IsOver 1 rows.items }
 {
-    let (Some(name), Some(column)) = (Name::make(name), Name::make(b"A")) else {
-        return Err(WantMemory);
+    let (Some(name), Some(column)) = (Name::new(name), Name::new(b"A")) else {
+        return Err(OutOfMemory);
     };
     let columns = Vec::from_slice(alloc, &[column])?;
-    Ok(Table {
+    Ok(NamedTable {
         scheme: AttrSet::single(0),
         held: HeldTable {
             name,
@@ -33,7 +33,7 @@ fn table(alloc: Global, name: &[u8], rows: Vec<Row>) -> Result<Table, WantMemory
 }
 
 // Three tables of one column, with two, three and three rows.
-pub(crate) fn three_tables(alloc: Global) -> Result<Vec<Table>, WantMemory> {
+pub(crate) fn three_tables(alloc: Global) -> Result<Vec<NamedTable>, OutOfMemory> {
     let mut tables = Vec::new(alloc);
     let first = vec![in alloc; single(alloc, b"x")?, single(alloc, b"O'Hara")?]?;
     tables.push(table(alloc, b"t1", first)?)?;

@@ -1,12 +1,12 @@
 ghost use Rattle.std.specs.Prelude.{◌≡◌, false, None, Err, ⊤};
-ghost use Rattle.desk_outside.specs.declared.failure.OutsideFault.TheVariants.{Memory};
+ghost use Rattle.desk_outside.specs.declared.failure.OutsideFault.TheVariants.{OutOfMemory};
 
 use dep_model::{Name, Row};
 use desk_outside::{HeldFile, OutsideFault};
+use destinations::Destination;
 use named_tables::HeldTable;
-use targets::Target;
 
-/// A target that wants memory at each call. What it holds it does not tell.
+/// A destination that runs out of memory at each call. It does not make known what it holds.
 #[derive(Drop)]
 pub struct WithoutMemory {
     // a contract that no call can meet is refused: a table could be open
@@ -15,46 +15,46 @@ pub struct WithoutMemory {
 
 impl WithoutMemory {
     /// One without an open table.
-    pub fn make() -> WithoutMemory
+    pub fn new() -> WithoutMemory
         ensures closed { result.columns ≡ None }
     {
         WithoutMemory { columns: None }
     }
 }
 
-impl Target for WithoutMemory {
-    ghost tells = { λ _. false };
+impl Destination for WithoutMemory {
+    ghost is_known = { λ _. false };
 
     ghost finished = { λ _ _. ⊤ };
 
     ghost opened = { λ _ _. ⊤ };
 
-    ghost width = { λ target. target.columns };
+    ghost width = { λ destination. destination.columns };
 
     ghost faults = { λ _. 0 };
 
     fn begin_table(&mut self, _name: &Name, _columns: &[Name]) -> Result<(), OutsideFault>
-        ensures memory { result ≡ Err Memory }
+        ensures memory { result ≡ Err OutOfMemory }
         ensures closed { self.new.columns ≡ None }
     {
         self.columns = None;
-        Err(OutsideFault::Memory)
+        Err(OutsideFault::OutOfMemory)
     }
 
     fn put_row(&mut self, _row: &Row) -> Result<(), OutsideFault>
-        ensures memory { result ≡ Err Memory }
+        ensures memory { result ≡ Err OutOfMemory }
         ensures closed { self.new.columns ≡ None }
     {
         self.columns = None;
-        Err(OutsideFault::Memory)
+        Err(OutsideFault::OutOfMemory)
     }
 
     fn end_table(&mut self) -> Result<(), OutsideFault>
-        ensures memory { result ≡ Err Memory }
+        ensures memory { result ≡ Err OutOfMemory }
         ensures closed { self.new.columns ≡ None }
     {
         self.columns = None;
-        Err(OutsideFault::Memory)
+        Err(OutsideFault::OutOfMemory)
     }
 
     fn held_tables(&self) -> Option<&[HeldTable]>

@@ -1,9 +1,9 @@
-use crate::calls::{File, call, failing, slow_shelf, slow_sink};
+use crate::calls::{File, call, failing_destination, slow_sink, slow_source};
 use desk_cli::Status;
+use destinations::Destination;
 use std::alloc::Global;
 use std::process::Abort;
 use std::test::Fail;
-use targets::Target;
 
 const CHAIN: &[u8] = b"attributes A B C\nA -> B\nB -> C\n";
 
@@ -30,7 +30,7 @@ const IMPLIES: [&[u8]; 3] = [b"implies", b"s", b"A -> C"];
 
 const CHECK_PROOF: [&[u8]; 5] = [b"check", b"proof", b"s", b"p", b"A -> C"];
 
-// What a call of the words answers over a shelf that fails at this call.
+// What a call of the words answers over a file source that fails at this call.
 fn check(
     rt: &(impl Alloc<A = Global> + Abort),
     failing: u64,
@@ -39,12 +39,12 @@ fn check(
 ) -> Result<(), Fail> {
     let (status, text) = answer;
     let alloc = rt.alloc();
-    let mut shelf = slow_shelf(alloc, &FILES, &[failing])?;
+    let mut source = slow_source(alloc, &FILES, &[failing])?;
     let mut sink = slow_sink(alloc, 1000)?;
-    let mut targets: Vec<Box<dyn Target>> = Vec::new(alloc);
-    let ended = call(alloc, words, &mut shelf, &mut sink, &mut targets)?;
+    let mut destinations: Vec<Box<dyn Destination>> = Vec::new(alloc);
+    let ended = call(alloc, words, &mut source, &mut sink, &mut destinations)?;
     assert!(rt; ended == status, "{words:?}, at {failing}");
-    assert_eq!(rt; sink.taken(), text);
+    assert_eq!(rt; sink.bytes(), text);
     Ok(())
 }
 
@@ -86,12 +86,12 @@ fn each_call_for_the_certificate_may_fail(rt: HostRuntime) -> Result<(), Fail> {
 // A full sink holds just the front of the text.
 fn check_full(rt: &(impl Alloc<A = Global> + Abort), capacity: usize) -> Result<(), Fail> {
     let alloc = rt.alloc();
-    let mut shelf = slow_shelf(alloc, &FILES, &[])?;
+    let mut source = slow_source(alloc, &FILES, &[])?;
     let mut sink = slow_sink(alloc, capacity)?;
-    let mut targets: Vec<Box<dyn Target>> = Vec::new(alloc);
-    let ended = call(alloc, &IMPLIES, &mut shelf, &mut sink, &mut targets)?;
+    let mut destinations: Vec<Box<dyn Destination>> = Vec::new(alloc);
+    let ended = call(alloc, &IMPLIES, &mut source, &mut sink, &mut destinations)?;
     assert!(rt; ended == Status::CannotWrite);
-    assert!(rt; YES.get(..capacity) == Some(sink.taken()), "of {capacity}");
+    assert!(rt; YES.get(..capacity) == Some(sink.bytes()), "of {capacity}");
     Ok(())
 }
 
@@ -103,19 +103,19 @@ fn a_full_sink_holds_a_prefix(rt: HostRuntime) -> Result<(), Fail> {
     Ok(())
 }
 
-// A target that would fail at its first call is not called where there are no tables.
+// A destination that would fail at its first call is not called where there are no tables.
 #[test]
-fn targets_are_not_called_without_tables(rt: HostRuntime) -> Result<(), Fail> {
+fn destinations_are_not_called_without_tables(rt: HostRuntime) -> Result<(), Fail> {
     let alloc = rt.alloc();
     for goal in [b"A -> C".as_slice(), b"C -> A", b"no goal"] {
-        let mut shelf = slow_shelf(alloc, &FILES, &[])?;
+        let mut source = slow_source(alloc, &FILES, &[])?;
         let mut sink = slow_sink(alloc, 1000)?;
-        let mut targets: Vec<Box<dyn Target>> = Vec::new(alloc);
-        targets.push(Box::new(alloc, failing(alloc, &[1])?)?)?;
+        let mut destinations: Vec<Box<dyn Destination>> = Vec::new(alloc);
+        destinations.push(Box::new(alloc, failing_destination(alloc, &[1])?)?)?;
         let words: &[&[u8]] = &[b"implies", b"s", goal];
-        let status = call(alloc, words, &mut shelf, &mut sink, &mut targets)?;
-        assert!(rt; status != Status::TargetFailed);
-        assert_eq!(rt; targets.len(), 1);
+        let status = call(alloc, words, &mut source, &mut sink, &mut destinations)?;
+        assert!(rt; status != Status::DestinationFailed);
+        assert_eq!(rt; destinations.len(), 1);
     }
     Ok(())
 }

@@ -1,54 +1,57 @@
-use dep_model::WantMemory;
+use dep_model::OutOfMemory;
 use desk_cli::{Status, desk};
-use desk_outside::{HeldFile, MemoryShelf, MemorySink, Word};
+use desk_outside::{Argument, HeldFile, MemoryFiles, MemorySink};
+use destinations::{Destination, MemoryDestination};
 use std::alloc::Global;
-use targets::{MemoryTarget, Target};
 
 // A name, and the text of the file of that name.
 pub(crate) type File<'a> = (&'a [u8], &'a [u8]);
 
-fn words_of(alloc: Global, words: &[&[u8]]) -> Result<Vec<Word>, WantMemory> {
+fn words_of(alloc: Global, words: &[&[u8]]) -> Result<Vec<Argument>, OutOfMemory> {
     let mut held = Vec::new(alloc);
     for bytes in words {
-        held.push(Word::make(alloc, bytes)?)?;
+        held.push(Argument::new(alloc, bytes)?)?;
     }
     Ok(held)
 }
 
-// A shelf of files, of which each read gives a byte, and which fails at these calls.
-pub(crate) fn slow_shelf(
+// A file source of files, of which each read gives a byte, and which fails at these calls.
+pub(crate) fn slow_source(
     alloc: Global,
     files: &[File],
     fails: &[u64],
-) -> Result<MemoryShelf, WantMemory> {
+) -> Result<MemoryFiles, OutOfMemory> {
     let mut held = Vec::new(alloc);
     for (name, bytes) in files {
         held.push(HeldFile {
-            name: Word::make(alloc, name)?,
+            name: Argument::new(alloc, name)?,
             bytes: Vec::from_slice(alloc, bytes)?,
         })?;
     }
-    Ok(MemoryShelf::with_step(held, Vec::from_slice(alloc, fails)?, 1))
+    Ok(MemoryFiles::with_step(held, Vec::from_slice(alloc, fails)?, 1))
 }
 
 // The status of a call with these words.
 pub(crate) fn call(
     alloc: Global,
     words: &[&[u8]],
-    shelf: &mut MemoryShelf,
+    source: &mut MemoryFiles,
     sink: &mut MemorySink,
-    targets: &mut Vec<Box<dyn Target>>,
-) -> Result<Status, WantMemory> {
+    destinations: &mut Vec<Box<dyn Destination>>,
+) -> Result<Status, OutOfMemory> {
     let words = words_of(alloc, words)?;
-    desk(alloc, &words, shelf, sink, targets)
+    desk(alloc, &words, source, sink, destinations)
 }
 
 // A sink that takes a byte at a time, so many in all.
-pub(crate) fn slow_sink(alloc: Global, capacity: usize) -> Result<MemorySink, WantMemory> {
+pub(crate) fn slow_sink(alloc: Global, capacity: usize) -> Result<MemorySink, OutOfMemory> {
     Ok(MemorySink::with_step(alloc, capacity, Vec::new(alloc), 1)?)
 }
 
-// A target in memory that fails at these calls.
-pub(crate) fn failing(alloc: Global, fails: &[u64]) -> Result<MemoryTarget, WantMemory> {
-    Ok(MemoryTarget::make(alloc, Vec::from_slice(alloc, fails)?))
+// A destination in memory that fails at these calls.
+pub(crate) fn failing_destination(
+    alloc: Global,
+    fails: &[u64],
+) -> Result<MemoryDestination, OutOfMemory> {
+    Ok(MemoryDestination::new(alloc, Vec::from_slice(alloc, fails)?))
 }

@@ -3,52 +3,52 @@ ghost use Rattle.dep_model.specs.Names.{same_name};
 ghost use Rattle.dep_model.specs.Schemas.{width_of};
 
 use csv_rows::print_rows;
-use dep_model::{Name, Row, Schema, Value, WantMemory};
+use dep_model::{Name, OutOfMemory, Row, Schema, Value};
 use row_store::Rows;
 use std::alloc::Global;
 use std::process::Abort;
 use std::test::Fail;
 
 // A schema of two attributes.
-fn two_attributes(alloc: Global, first: Name, second: Name) -> Result<Schema, WantMemory>
+fn two_attributes(alloc: Global, first: Name, second: Name) -> Result<Schema, OutOfMemory>
     requires { same_name first second ≡ false }
     ensures { IfOk result (λ s. width_of s ≡ 2) }
 {
     let names = Vec::from_slice(alloc, &[first, second])?;
-    Ok(Schema::make(names, Vec::new(alloc), Vec::new(alloc)))
+    Ok(Schema::new(names, Vec::new(alloc), Vec::new(alloc)))
 }
 
-fn one_attribute(alloc: Global, name: Name) -> Result<Schema, WantMemory>
+fn one_attribute(alloc: Global, name: Name) -> Result<Schema, OutOfMemory>
     ensures { IfOk result (λ s. width_of s ≡ 1) }
 {
     let names = Vec::from_slice(alloc, &[name])?;
-    Ok(Schema::make(names, Vec::new(alloc), Vec::new(alloc)))
+    Ok(Schema::new(names, Vec::new(alloc), Vec::new(alloc)))
 }
 
-fn pair(alloc: Global, first: &[u8], second: &[u8]) -> Result<Row, WantMemory>
+fn pair(alloc: Global, first: &[u8], second: &[u8]) -> Result<Row, OutOfMemory>
     ensures { IfOk result (λ row. length row ≡ 2) }
 {
     let mut values = Vec::new(alloc);
-    values.push(Value::make(alloc, first)?)?;
-    values.push(Value::make(alloc, second)?)?;
-    Ok(Row::make(values))
+    values.push(Value::new(alloc, first)?)?;
+    values.push(Value::new(alloc, second)?)?;
+    Ok(Row::new(values))
 }
 
-fn single(alloc: Global, value: &[u8]) -> Result<Row, WantMemory>
+fn single(alloc: Global, value: &[u8]) -> Result<Row, OutOfMemory>
     ensures { IfOk result (λ row. length row ≡ 1) }
 {
     let mut values = Vec::new(alloc);
-    values.push(Value::make(alloc, value)?)?;
-    Ok(Row::make(values))
+    values.push(Value::new(alloc, value)?)?;
+    Ok(Row::new(values))
 }
 
 // The text of a row of two values.
 fn check(rt: &(impl Alloc<A = Global> + Abort), case: (&str, &str, &str)) -> Result<(), Fail> {
     let (one, other, want) = case;
     let alloc = rt.alloc();
-    let first = Name::make(b"Zip").expect(rt, "a name");
-    let second = Name::make(b"City").expect(rt, "a name");
-    assert!(rt; !first.same(&second));
+    let first = Name::new(b"Zip").expect(rt, "a name");
+    let second = Name::new(b"City").expect(rt, "a name");
+    assert!(rt; !first.is_same(&second));
     let schema = two_attributes(alloc, first, second)?;
     let row = pair(alloc, one.as_bytes(), other.as_bytes())?;
     let text = print_rows(alloc, &schema, &Rows::of(alloc, &[row])?)?;
@@ -79,7 +79,7 @@ fn quotes_where_they_are_needed(rt: HostRuntime) -> Result<(), Fail> {
 #[test]
 fn an_empty_value_alone_has_quotes(rt: HostRuntime) -> Result<(), Fail> {
     let alloc = rt.alloc();
-    let schema = one_attribute(alloc, Name::make(b"A").expect(&rt, "a name"))?;
+    let schema = one_attribute(alloc, Name::new(b"A").expect(&rt, "a name"))?;
     let text = print_rows(alloc, &schema, &Rows::of(alloc, &[single(alloc, b"")?])?)?;
     assert_eq!(rt; text.as_slice(), b"A\n\"\"\n".as_slice());
     Ok(())
@@ -88,7 +88,7 @@ fn an_empty_value_alone_has_quotes(rt: HostRuntime) -> Result<(), Fail> {
 #[test]
 fn rows_stand_in_their_order(rt: HostRuntime) -> Result<(), Fail> {
     let alloc = rt.alloc();
-    let schema = one_attribute(alloc, Name::make(b"A").expect(&rt, "a name"))?;
+    let schema = one_attribute(alloc, Name::new(b"A").expect(&rt, "a name"))?;
     let text = print_rows(alloc, &schema, &Rows::new(alloc))?;
     assert_eq!(rt; text.as_slice(), b"A\n".as_slice());
     let rows = [single(alloc, b"2")?, single(alloc, b"1")?];

@@ -123,7 +123,7 @@ fn part_of_the_columns(rt: HostRuntime) -> Result<(), Fail> {
     let schema = read_schema(alloc, b"attributes A B C").expect(&rt, "a schema");
     let part = read_part(alloc, &schema, b"c,A\n1,2\n").expect(&rt, "a part");
     assert_eq!(rt; part.scheme.len(), 2);
-    assert!(rt; !part.scheme.has(1));
+    assert!(rt; !part.scheme.contains(1));
     assert!(rt; part.rows.len() == 1 && part.rows.width(0) == 2);
     assert_eq!(rt; part.rows.value(0, 0), b"2".as_slice());
     Ok(())

@@ -6,17 +6,17 @@ use std::process::Abort;
 use std::test::Fail;
 
 // The dependencies of the rows of a text.
-fn discovered(alloc: Global, text: &[u8]) -> Result<Vec<Dep>, Failure<DiscoverRefusal>> {
+fn discover_text(alloc: Global, text: &[u8]) -> Result<Vec<Dep>, Failure<DiscoverRefusal>> {
     let headed = read_headed(alloc, text)?;
     let deps = discover(alloc, headed.names.len() as u8, &headed.rows)?;
     Ok(deps)
 }
 
-// The dependency of the set of this number on the attribute at a place.
-fn fd(lhs: u128, place: u8) -> Dep {
+// The dependency of the set of this number on one attribute.
+fn fd(lhs: u128, column: u8) -> Dep {
     let mut rhs = AttrSet::empty();
-    if place < 128 {
-        rhs = AttrSet::single(place);
+    if column < 128 {
+        rhs = AttrSet::single(column);
     }
     Dep::Fd {
         lhs: AttrSet(lhs),
@@ -30,10 +30,10 @@ fn check(
     text: &str,
     want: &[(u128, u8)],
 ) -> Result<(), Fail> {
-    let deps = discovered(rt.alloc(), text.as_bytes()).expect(rt, "dependencies");
+    let deps = discover_text(rt.alloc(), text.as_bytes()).expect(rt, "dependencies");
     assert_eq!(rt; deps.len(), want.len());
-    for (dep, (lhs, place)) in deps.iter().zip(want.iter()) {
-        assert!(rt; *dep == fd(*lhs, *place));
+    for (dep, (lhs, column)) in deps.iter().zip(want.iter()) {
+        assert!(rt; *dep == fd(*lhs, *column));
     }
     Ok(())
 }
@@ -77,13 +77,13 @@ fn twelve_columns(rt: HostRuntime) -> Result<(), Fail> {
     let mut text = Vec::from_slice(alloc, b"a,b,c,d,e,f,g,h,i,j,k,l\n")?;
     for row in 0..12u8 {
         text.push(b'A' + row)?;
-        for place in 1..12u8 {
+        for column in 1..12u8 {
             text.push(b',')?;
-            text.push(if place == row { b'1' } else { b'0' })?;
+            text.push(if column == row { b'1' } else { b'0' })?;
         }
         text.push(b'\n')?;
     }
-    let deps = discovered(alloc, &text).expect(&rt, "dependencies");
+    let deps = discover_text(alloc, &text).expect(&rt, "dependencies");
     // the first determines each other one, and these together determine it; none of them follows from
     // the others, since its row looks like row A without it
     assert!(rt; deps.get(0) == Some(&fd(1, 1)));

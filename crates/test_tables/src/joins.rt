@@ -2,7 +2,7 @@ ghost use Rattle.std.specs.Prelude.{All, IfOk};
 ghost use Rattle.dep_model.specs.Schemas.{width_of};
 ghost use Rattle.table_join.specs.Tables.{IsTable, tables_of};
 
-use csv_rows::{Part, print_rows, read_part};
+use csv_rows::{PartialRows, print_rows, read_part};
 use dep_model::{Failure, Schema};
 use schema_reader::{MOST_TEXT_BYTES, read_schema};
 use std::alloc::Global;
@@ -12,7 +12,7 @@ use table_join::{JoinRefusal, join};
 use test_data::{TIMETABLE, TIMETABLE_ROWS};
 
 // The part of each text.
-fn parts_of(alloc: Global, schema: &Schema, texts: &[&str]) -> Result<Vec<Part>, Fail>
+fn parts_of(alloc: Global, schema: &Schema, texts: &[&str]) -> Result<Vec<PartialRows>, Fail>
     ensures tables { IfOk result (λ v. All (IsTable (width_of schema.now)) (tables_of v.items)) }
 {
     let mut parts = Vec::new(alloc);

@@ -1,8 +1,8 @@
 use csv_migrate::tables;
 use csv_rows::read_rows;
-use decomp_text::{MOST_PLAN_BYTES, read_plan};
-use dep_model::WantMemory;
-use named_tables::Table;
+use dep_model::OutOfMemory;
+use named_tables::NamedTable;
+use plan_reader::{MOST_PLAN_BYTES, read_plan};
 use schema_reader::{MOST_TEXT_BYTES, read_schema};
 use std::alloc::Global;
 use std::process::Abort;
@@ -10,7 +10,7 @@ use std::test::Fail;
 use test_data::{ADDRESS, TIMETABLE, TIMETABLE_PLAN, TIMETABLE_ROWS};
 
 // A table on one line: its name, its columns, and each row after a bar.
-fn line_of(alloc: Global, table: &Table) -> Result<Vec<u8>, WantMemory> {
+fn line_of(alloc: Global, table: &NamedTable) -> Result<Vec<u8>, OutOfMemory> {
     let mut line = Vec::new(alloc);
     line.extend_from_slice(table.held.name.bytes())?;
     for column in &table.held.columns {

@@ -1,7 +1,7 @@
 use attr_sets::AttrSet;
 use dep_model::{Column, Dep};
 use row_store::Rows;
-use sample::{sample_rows, sample_schema};
+use sample_rows::{sample_rows, sample_schema};
 use std::process::Abort;
 use std::test::Fail;
 
@@ -56,8 +56,8 @@ fn the_rows(rt: HostRuntime) -> Result<(), Fail> {
         (403, [b"p100", b"c0", b"s1", b"l1"]),
         (99_999, [b"p24999", b"c99", b"s48", b"l14"]),
     ];
-    for (place, values) in cases {
-        check(&rt, &rows, place, values)?;
+    for (position, values) in cases {
+        check(&rt, &rows, position, values)?;
     }
     Ok(())
 }

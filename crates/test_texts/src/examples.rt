@@ -1,4 +1,4 @@
-use crate::made::schema;
+use crate::text_readers::schema;
 use armstrong_rel::{ExhibitRefusal, exhibit};
 use dep_model::{Failure, Row};
 use std::alloc::Global;
@@ -37,7 +37,7 @@ fn shows_the_irreducible_closed_sets(rt: HostRuntime) -> Result<(), Fail> {
         // the universe is the one closed set
         (b"attributes A B\n() -> A B", b"0,0\n"),
         (b"attributes A B\n() -> A", b"0,0\n0,1\n"),
-        // the empty set is the meet of two others
+        // the empty set is the intersection of two others
         (b"attributes A B", b"0,0\n0,1\n2,0\n"),
     ];
     for (text, printed) in table {

@@ -1,4 +1,4 @@
-use crate::made::{refusal, schema};
+use crate::text_readers::{refusal, schema};
 use dep_model::Schema;
 use schema_printer::{print_dep, print_set};
 use schema_reader::SchemaRefusalKind::{BadName, Expected, ReservedName, StrangeByte, UnknownName};
@@ -57,7 +57,7 @@ fn check_goal_refused(
 }
 
 #[test]
-fn goals_are_refused_at_their_place(rt: HostRuntime) {
+fn goals_are_refused_at_their_position(rt: HostRuntime) {
     let schema = schema(&rt, CHAIN);
     let table: [(&[u8], SchemaRefusal); 6] = [
         (b"A -> text", refusal(1, 6, 4, UnknownName)),
@@ -119,7 +119,7 @@ fn check_set_refused(
 }
 
 #[test]
-fn sets_are_refused_at_their_place(rt: HostRuntime) {
+fn sets_are_refused_at_their_position(rt: HostRuntime) {
     let schema = schema(&rt, CHAIN);
     let table: [(&[u8], SchemaRefusal); 4] = [
         (b"A () B", refusal(1, 3, 2, Expected(What::LineEnd))),

@@ -13,8 +13,6 @@ mod lines;
 #[cfg(test)]
 mod loss;
 #[cfg(test)]
-mod made;
-#[cfg(test)]
 mod names;
 #[cfg(test)]
 mod plan_texts;
@@ -30,5 +28,7 @@ mod splits;
 mod syntheses;
 #[cfg(test)]
 mod tables;
+#[cfg(test)]
+mod text_readers;
 #[cfg(test)]
 mod wide_splits;

@@ -1,3 +1,4 @@
+use dep_model::Failure;
 use schema_reader::{TokenKind, tokens};
 use std::alloc::Global;
 use std::process::Abort;
@@ -8,7 +9,8 @@ fn check(rt: &(impl Alloc<A = Global> + Abort), line: &[u8], proof: bool, want: 
     assert!(rt; line.len() < 100);
     match tokens(rt.alloc(), line, proof) {
         Ok(all) => assert_eq!(rt; all.len(), want as usize),
-        Err(refusal) => {
+        Err(Failure::OutOfMemory) => panic!(rt; "out of memory"),
+        Err(Failure::Refused(refusal)) => {
             assert_eq!(rt; refusal.span.line, 1);
             assert_eq!(rt; refusal.span.column, want / 100);
         }
@@ -36,6 +38,6 @@ fn a_line_has_its_tokens(rt: HostRuntime) -> Result<(), Fail> {
     assert_eq!(rt; all.len(), 3);
     assert!(rt; all[0].kind == TokenKind::Number(12) && all[0].length == 2);
     assert!(rt; all[1].kind == TokenKind::Colon && all[1].column == 3);
-    assert!(rt; all[2].kind == TokenKind::Word && all[2].column == 5);
+    assert!(rt; all[2].kind == TokenKind::Identifier && all[2].column == 5);
     Ok(())
 }

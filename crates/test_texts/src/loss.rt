@@ -1,9 +1,9 @@
 ghost use Rattle.std.specs.Prelude.{◌≡◌, true, All};
-ghost use Rattle.attr_sets.specs.Places.{Within};
-ghost use Rattle.attr_sets.specs.Sets.{places};
+ghost use Rattle.attr_sets.specs.Attributes.{IsSubset};
+ghost use Rattle.attr_sets.specs.Sets.{attributes};
 ghost use Rattle.dep_model.specs.Schemas.{universe_of};
 
-use crate::made::schema;
+use crate::text_readers::schema;
 use attr_sets::AttrSet;
 use dep_model::Schema;
 use preservation::losses;
@@ -14,10 +14,10 @@ use test_data::ADDRESS;
 
 fn are_within(schema: &Schema, schemes: &[AttrSet]) -> bool
     ensures within { result ≡ true
-        → All (λ scheme. Within (places scheme) (universe_of schema.now)) schemes.now }
+        → All (λ scheme. IsSubset (attributes scheme) (universe_of schema.now)) schemes.now }
 {
     let universe = AttrSet::full(schema.width());
-    schemes.iter().all(|scheme| scheme.within(universe))
+    schemes.iter().all(|scheme| scheme.is_subset(universe))
 }
 
 // A schema, schemes, and the number of each lost dependency with what its two tuples agree on.

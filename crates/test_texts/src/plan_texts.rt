@@ -1,6 +1,6 @@
-use crate::made::{refusal, schema};
-use decomp_text::{MOST_PLAN_BYTES, PlanRefusal, read_plan};
+use crate::text_readers::{refusal, schema};
 use dep_model::Failure;
+use plan_reader::{MOST_PLAN_BYTES, PlanRefusal, read_plan};
 use plans::{drop_contained, print_plan};
 use schema_reader::SchemaRefusalKind::{BadName, Expected, ReservedName, UnknownName};
 use schema_reader::{SchemaRefusal, What};

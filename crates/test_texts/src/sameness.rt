@@ -1,5 +1,5 @@
-use crate::made::schema;
-use schema_match::{differences, missing};
+use crate::text_readers::schema;
+use schema_match::{differences, first_undeclared};
 use std::alloc::Global;
 use std::process::Abort;
 use std::test::Fail;
@@ -23,7 +23,7 @@ fn check_missing(
 ) {
     let whole = schema(rt, schema_text.as_bytes());
     let other = schema(rt, other_text.as_bytes());
-    assert_eq!(rt; missing(&whole, &other), want);
+    assert_eq!(rt; first_undeclared(&whole, &other), want);
 }
 
 #[test]
@@ -54,7 +54,7 @@ fn check_differences(
 ) -> Result<(), Fail> {
     let whole = schema(rt, schema_text.as_bytes());
     let other = schema(rt, other_text.as_bytes());
-    assert!(rt; missing(&whole, &other).is_none());
+    assert!(rt; first_undeclared(&whole, &other).is_none());
     assert_eq!(rt; differences(rt.alloc(), &whole, &other)?.as_slice(), want);
     Ok(())
 }
@@ -72,7 +72,7 @@ fn check(rt: &(impl Alloc<A = Global> + Abort), case: Case) -> Result<(), Fail> 
 fn dependencies_that_do_not_follow(rt: HostRuntime) -> Result<(), Fail> {
     let chain = "attributes A B C\nA -> B\nB -> C\n";
     let cases: [Case; 8] = [
-        // the same places, other names
+        // attributes at the same positions, under other names
         (chain, "attributes C B A\nA -> B\nB -> C\n", &[], &[]),
         (
             chain,

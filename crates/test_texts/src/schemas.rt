@@ -1,4 +1,4 @@
-use crate::made::{refusal, schema};
+use crate::text_readers::{refusal, schema};
 use attr_sets::AttrSet;
 use dep_model::Failure;
 use schema_printer::{print_schema, print_set};
@@ -106,7 +106,7 @@ fn sets_are_printed_in_ascending_order(rt: HostRuntime) -> Result<(), Fail> {
 }
 
 #[test]
-fn bytes_and_names_are_refused_at_their_place(rt: HostRuntime) {
+fn bytes_and_names_are_refused_at_their_position(rt: HostRuntime) {
     let table: [(&[u8], SchemaRefusal); 13] = [
         (b"attributes A\n\n A - B", refusal(3, 4, 1, StrangeByte)),
         (b"attributes A\n\xEF\xBB\xBF", refusal(2, 1, 1, StrangeByte)),
@@ -137,7 +137,7 @@ fn bytes_and_names_are_refused_at_their_place(rt: HostRuntime) {
 }
 
 #[test]
-fn lines_that_go_wrong_are_refused_at_their_place(rt: HostRuntime) {
+fn lines_that_go_wrong_are_refused_at_their_position(rt: HostRuntime) {
     let table: [(&[u8], SchemaRefusal); 13] = [
         (
             b"attributes   # none",
@@ -186,7 +186,7 @@ fn lines_that_go_wrong_are_refused_at_their_place(rt: HostRuntime) {
 }
 
 #[test]
-fn typed_schemas_are_refused_at_their_place(rt: HostRuntime) {
+fn typed_schemas_are_refused_at_their_position(rt: HostRuntime) {
     let table: [(&[u8], SchemaRefusal); 7] = [
         (b"version 123456789", refusal(1, 9, 9, UnknownVersion)),
         (b"version :", refusal(1, 9, 1, Expected(What::Number))),

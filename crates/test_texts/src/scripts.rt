@@ -1,4 +1,4 @@
-use crate::made::{designed, schema};
+use crate::text_readers::{design_of, schema};
 use std::test::Fail;
 use table_scripts::{check_script, is_table_name, migrate_script};
 
@@ -51,7 +51,7 @@ SELECT n FROM (SELECT COUNT(*) AS n FROM (SELECT DISTINCT CAST(\"AGE\" AS BIGINT
 #[test]
 fn makes_tables_from_a_table(rt: HostRuntime) -> Result<(), Fail> {
     let schema = schema(&rt, b"attributes A B C\nA ->> B\n() ->> A");
-    let tables = designed(&rt, &schema, b"scheme A\nscheme B C\nscheme A B")?;
+    let tables = design_of(&rt, &schema, b"scheme A\nscheme B C\nscheme A B")?;
     assert!(rt; is_table_name(b"r"));
     let script = migrate_script(rt.alloc(), &schema, &tables, b"r")?;
     let wanted = b"CREATE TABLE \"t1\" (

@@ -1,9 +1,9 @@
 ghost use Rattle.std.specs.Prelude.{◌<◌, IfOk};
 ghost use Rattle.plans.specs.Plans.{IsPlanOver};
 
-use crate::made::schema;
+use crate::text_readers::schema;
 use dep_model::{Failure, Schema};
-use form_tests::Form;
+use normal_forms::Form;
 use plans::{Plan, print_plan};
 use split_forms::{SplitRefusal, split};
 use std::alloc::Global;
@@ -15,7 +15,7 @@ use test_data::ADDRESS;
 const LIMIT: u32 = 4_096;
 
 // Splits a schema to Boyce-Codd form, or to fourth form.
-fn cut(
+fn split_schema(
     alloc: Global,
     schema: &Schema,
     fourth: bool,
@@ -38,7 +38,7 @@ fn check(
     printed: &[u8],
 ) -> Result<(), Fail> {
     let schema = schema(rt, text);
-    match cut(rt.alloc(), &schema, fourth, LIMIT) {
+    match split_schema(rt.alloc(), &schema, fourth, LIMIT) {
         Ok(plan) => {
             let again = print_plan(rt.alloc(), &schema, &plan)?;
             assert!(rt; again.as_slice() == printed, "{text:?}: {again:?}");
@@ -86,11 +86,11 @@ fn cuts_at_violations(rt: HostRuntime) -> Result<(), Fail> {
 #[test]
 fn keeps_within_the_limit(rt: HostRuntime) {
     let schema = schema(&rt, ADDRESS.as_bytes());
-    match cut(rt.alloc(), &schema, false, 1) {
+    match split_schema(rt.alloc(), &schema, false, 1) {
         Err(Failure::Refused(SplitRefusal::TooManySchemes)) => {}
         _ => panic!(rt; "one scheme is enough"),
     }
-    match cut(rt.alloc(), &schema, false, 2) {
+    match split_schema(rt.alloc(), &schema, false, 2) {
         Ok(plan) => assert_eq!(rt; plan.schemes().len(), 2),
         Err(failure) => panic!(rt; "{failure:?}"),
     }

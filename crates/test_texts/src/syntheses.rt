@@ -1,4 +1,4 @@
-use crate::made::schema;
+use crate::text_readers::schema;
 use plans::print_plan;
 use std::alloc::Global;
 use std::process::Abort;
@@ -20,7 +20,7 @@ fn groups_by_left_side(rt: HostRuntime) -> Result<(), Fail> {
             b"attributes A B C\nA -> B C\nB -> C\nA B -> C\nA ->> B",
             b"scheme A B\nscheme B C\n",
         ),
-        // equal left sides form one group, at its first place
+        // equal left sides form one group, at the position of the first of them
         (
             b"attributes A B C D E\nC -> D\nA -> B\nC -> E",
             b"scheme C D E\nscheme A B\nscheme A C\n",

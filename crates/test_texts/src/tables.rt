@@ -1,4 +1,4 @@
-use crate::made::{designed, schema};
+use crate::text_readers::{design_of, schema};
 use attr_sets::AttrSet;
 use ddl_text::{TableDesign, print_ddl};
 use std::alloc::Global;
@@ -12,7 +12,7 @@ type Case<'a> = (&'a [u8], &'a [u8], &'a [u8]);
 fn check(rt: &(impl Alloc<A = Global> + Abort), case: Case) -> Result<(), Fail> {
     let (text, plan, printed) = case;
     let schema = schema(rt, text);
-    let tables = designed(rt, &schema, plan)?;
+    let tables = design_of(rt, &schema, plan)?;
     let ddl = print_ddl(rt.alloc(), &schema, &tables)?;
     assert!(rt; ddl.as_slice() == printed, "{text:?} {plan:?}: {ddl:?}");
     Ok(())
@@ -69,7 +69,7 @@ CREATE TABLE \"t3\" (
 }
 
 #[test]
-fn prints_the_settled_key(rt: HostRuntime) -> Result<(), Fail> {
+fn prints_the_greedy_key(rt: HostRuntime) -> Result<(), Fail> {
     let cases: [Case; 2] = [
         // a key that follows from both kinds of dependencies together
         (
@@ -126,7 +126,7 @@ fn check_table(rt: &(impl Alloc<A = Global> + Abort), facts: Facts, table: &Tabl
 #[test]
 fn tables_of_a_timetable(rt: HostRuntime) -> Result<(), Fail> {
     let schema = schema(&rt, TIMETABLE.as_bytes());
-    let tables = designed(&rt, &schema, TIMETABLE_PLAN.as_bytes())?;
+    let tables = design_of(&rt, &schema, TIMETABLE_PLAN.as_bytes())?;
     let want: [Facts; 3] = [
         (b"t1", 0b000011, 0b000001, &[]),
         (b"t2", 0b001101, 0b000101, &[0]),

@@ -1,4 +1,4 @@
-use crate::made::schema;
+use crate::text_readers::schema;
 use plans::print_plan;
 use std::alloc::Global;
 use std::process::Abort;

@@ -1,5 +1,5 @@
 use attr_sets::AttrSet;
-use dep_basis::{Decision, basis, block, closed, decide, has_two_parts, trace_basis, witness};
+use dep_basis::{Decision, basis, block, closure_of, decide, has_two_parts, trace_basis, witness};
 use dep_model::{Dep, Schema};
 use std::alloc::Global;
 use std::process::Abort;
@@ -7,7 +7,7 @@ use std::test::Fail;
 use test_data::{fd, is_within, mvd, schema_of, timetable};
 
 // What is decided of a dependency within the universe; of any other nothing.
-fn decided(schema: &Schema, dep: Dep) -> Option<Decision> {
+fn decision_on(schema: &Schema, dep: Dep) -> Option<Decision> {
     if is_within(dep, AttrSet::full(schema.width())) {
         Some(decide(schema, dep))
     } else {
@@ -15,7 +15,7 @@ fn decided(schema: &Schema, dep: Dep) -> Option<Decision> {
     }
 }
 
-fn broken(agreement: u128) -> Option<Decision> {
+fn broken_by(agreement: u128) -> Option<Decision> {
     Some(Decision::Broken {
         agreement: AttrSet(agreement),
     })
@@ -27,7 +27,7 @@ type Row<'a> = (u8, &'a [Dep], Dep, Option<Decision>);
 fn check(rt: &(impl Alloc<A = Global> + Abort), row: Row) -> Result<(), Fail> {
     let (width, deps, dep, want) = row;
     let schema = schema_of(rt.alloc(), width, deps)?;
-    assert_eq!(rt; decided(&schema, dep), want);
+    assert_eq!(rt; decision_on(&schema, dep), want);
     Ok(())
 }
 
@@ -38,12 +38,12 @@ fn decides_dependencies(rt: HostRuntime) -> Result<(), Fail> {
         // A -> B, B -> C
         (3, &[fd(1, 2), fd(2, 4)], fd(1, 4), Some(Decision::Implied)),
         // A ->> B, C -> B: A -> B is implied, though A alone is its closure by C -> B
-        (3, &coalescence, fd(1, 6), broken(3)),
-        (3, &coalescence, fd(2, 1), broken(2)),
+        (3, &coalescence, fd(1, 6), broken_by(3)),
+        (3, &coalescence, fd(2, 1), broken_by(2)),
         // A ->> B C
         (4, &[mvd(1, 6)], mvd(1, 14), Some(Decision::Implied)),
         (4, &[mvd(1, 6)], mvd(1, 9), Some(Decision::Implied)),
-        (4, &[mvd(1, 6)], mvd(2, 5), broken(2)),
+        (4, &[mvd(1, 6)], mvd(2, 5), broken_by(2)),
     ];
     for row in rows {
         check(&rt, row)?;
@@ -52,9 +52,9 @@ fn decides_dependencies(rt: HostRuntime) -> Result<(), Fail> {
 }
 
 // Whether a left side has two parts on a scheme within the universe.
-fn parted(schema: &Schema, scheme: u128, lhs: u128) -> Option<bool> {
+fn two_parts(schema: &Schema, scheme: u128, lhs: u128) -> Option<bool> {
     let (scheme, lhs) = (AttrSet(scheme), AttrSet(lhs));
-    if scheme.within(AttrSet::full(schema.width())) && lhs.within(scheme) {
+    if scheme.is_subset(AttrSet::full(schema.width())) && lhs.is_subset(scheme) {
         Some(has_two_parts(schema, scheme, lhs))
     } else {
         None
@@ -71,7 +71,7 @@ fn finds_the_basis_of_a_timetable(rt: HostRuntime) -> Result<(), Fail> {
     assert_eq!(rt; course.blocks[0], AttrSet(12));
     assert_eq!(rt; course.blocks[1], AttrSet(48));
     assert_eq!(rt; course.blocks[2], AttrSet(0));
-    assert_eq!(rt; closed(&schema, AttrSet::single(0)), AttrSet(3));
+    assert_eq!(rt; closure_of(&schema, AttrSet::single(0)), AttrSet(3));
     assert_eq!(rt; block(&schema, AttrSet::single(0), 2), Some(AttrSet(12)));
     assert_eq!(rt; block(&schema, AttrSet::single(0), 1), None);
     Ok(())
@@ -92,7 +92,7 @@ fn tells_two_parts_on_schemes_of_a_timetable(rt: HostRuntime) -> Result<(), Fail
         (63, 63, false),
     ];
     for (scheme, lhs, two) in table {
-        assert_eq!(rt; parted(&schema, scheme, lhs), Some(two));
+        assert_eq!(rt; two_parts(&schema, scheme, lhs), Some(two));
     }
     Ok(())
 }

@@ -3,7 +3,7 @@ ghost use Rattle.derivation.specs.Trees.{nodes};
 ghost use Rattle.derivation.specs.Derivs.{tree_of};
 
 use attr_sets::AttrSet;
-use dep_model::{Dep, Schema, WantMemory};
+use dep_model::{Dep, OutOfMemory, Schema};
 use derivation::{
     Deriv, LeafRule, StepRule, conclude, copy_deriv, nodes, shorten, split_inside, split_outside,
     unite_fd, unite_mvd,
@@ -17,22 +17,22 @@ const COURSE: AttrSet = AttrSet(1);
 
 const ALL_BUT_COURSE: AttrSet = AttrSet(62);
 
-fn given(alloc: Global, k: u16) -> Result<Box<Deriv>, WantMemory>
+fn given_node(alloc: Global, k: u16) -> Result<Box<Deriv>, OutOfMemory>
     ensures one { IfOk result (λ b. nodes (tree_of b.value) ≡ 1) }
 {
     Ok(Box::new(alloc, Deriv::Leaf(LeafRule::Given(k)))?)
 }
 
 // COURSE ->> TEACHER, of the first dependency.
-fn replicated(alloc: Global) -> Result<Box<Deriv>, WantMemory>
+fn replicated_node(alloc: Global) -> Result<Box<Deriv>, OutOfMemory>
     ensures two { IfOk result (λ b. nodes (tree_of b.value) ≡ 2) }
 {
-    let from = given(alloc, 0)?;
+    let from = given_node(alloc, 0)?;
     Ok(Box::new(alloc, Deriv::Step(StepRule::Replication, from))?)
 }
 
 // COURSE ->> all others.
-fn others(alloc: Global) -> Result<Box<Deriv>, WantMemory>
+fn all_others(alloc: Global) -> Result<Box<Deriv>, OutOfMemory>
     ensures two { IfOk result (λ b. nodes (tree_of b.value) ≡ 2) }
 {
     let from = Box::new(
@@ -46,8 +46,8 @@ fn others(alloc: Global) -> Result<Box<Deriv>, WantMemory>
 }
 
 // Each builder, and how many nodes it makes.
-fn built(alloc: Global, schema: &Schema, builder: u8) -> Result<Box<Deriv>, WantMemory>
-    ensures few { IfOk result (λ b. nodes (tree_of b.value) ≤ 10) }
+fn build(alloc: Global, schema: &Schema, builder: u8) -> Result<Box<Deriv>, OutOfMemory>
+    ensures at_most_ten { IfOk result (λ b. nodes (tree_of b.value) ≤ 10) }
 {
     let made = match builder {
         0 => {
@@ -58,36 +58,36 @@ fn built(alloc: Global, schema: &Schema, builder: u8) -> Result<Box<Deriv>, Want
                     rhs: COURSE,
                 }),
             )?;
-            unite_fd(alloc, COURSE, COURSE, given(alloc, 0)?, same)
+            unite_fd(alloc, COURSE, COURSE, given_node(alloc, 0)?, same)
         }
         1 => unite_mvd(
             alloc,
             COURSE,
             AttrSet(12),
             AttrSet(2),
-            given(alloc, 5)?,
-            replicated(alloc)?,
+            given_node(alloc, 5)?,
+            replicated_node(alloc)?,
         ),
         2 => split_inside(
             alloc,
             schema,
             COURSE,
             ALL_BUT_COURSE,
-            others(alloc)?,
-            given(alloc, 5)?,
+            all_others(alloc)?,
+            given_node(alloc, 5)?,
         ),
         _ => split_outside(
             alloc,
             schema,
             COURSE,
             ALL_BUT_COURSE,
-            others(alloc)?,
-            given(alloc, 5)?,
+            all_others(alloc)?,
+            given_node(alloc, 5)?,
         ),
     };
     match made {
         Ok(deriv) => Ok(deriv),
-        Err(_) => Err(WantMemory),
+        Err(_) => Err(OutOfMemory),
     }
 }
 
@@ -102,7 +102,7 @@ fn builds_over_a_timetable(rt: HostRuntime) -> Result<(), Fail> {
         (3, mvd(1, 50), 8, 2),
     ];
     for (builder, dep, before, after) in table {
-        let deriv = built(rt.alloc(), &schema, builder)?;
+        let deriv = build(rt.alloc(), &schema, builder)?;
         assert_eq!(rt; conclude(&schema, &deriv), Ok(dep));
         assert_eq!(rt; nodes(&deriv), before);
         let copy = copy_deriv(rt.alloc(), &deriv)?;

@@ -4,7 +4,7 @@ ghost use Rattle.derivation.specs.Derivs.{tree_of};
 
 use attr_sets::AttrSet;
 use dep_basis::functional_chain;
-use dep_model::{Dep, Schema, WantMemory};
+use dep_model::{Dep, OutOfMemory, Schema};
 use derivation::{Deriv, LeafRule, PairRule, StepRule, depth, nodes};
 use std::alloc::Global;
 use std::test::Fail;
@@ -32,11 +32,11 @@ fn chain_of(
     schema: &Schema,
     lhs: AttrSet,
     rhs: AttrSet,
-) -> Result<Option<Box<Deriv>>, WantMemory>
-    ensures few { IfOk result (λ found. IfSome found (λ b. nodes (tree_of b.value) ≤ 387)) }
+) -> Result<Option<Box<Deriv>>, OutOfMemory>
+    ensures node_bound { IfOk result (λ found. IfSome found (λ b. nodes (tree_of b.value) ≤ 387)) }
 {
     let universe = AttrSet::full(schema.width());
-    if lhs.within(universe) && rhs.within(universe) {
+    if lhs.is_subset(universe) && rhs.is_subset(universe) {
         functional_chain(alloc, schema, lhs, rhs)
     } else {
         Ok(None)
@@ -44,7 +44,7 @@ fn chain_of(
 }
 
 // What the transitivity at a root joins.
-fn joined(deriv: &Deriv) -> Option<(&Deriv, &Deriv)> {
+fn premises_of(deriv: &Deriv) -> Option<(&Deriv, &Deriv)> {
     match deriv {
         Deriv::Pair(PairRule::Transitivity, first, second) => Some((&**first, &**second)),
         _ => None,
@@ -82,15 +82,15 @@ fn chains_two_dependencies(rt: HostRuntime) -> Result<(), Fail> {
     assert_eq!(rt; nodes(&chain), 9);
     assert_eq!(rt; depth(&chain), 5);
     let abc = A.union(B).union(C);
-    let Some((grown, last)) = joined(&chain) else {
+    let Some((grown, last)) = premises_of(&chain) else {
         return Err(Fail::new("another derivation"));
     };
     assert!(rt; is_reflexivity(last, abc, C));
-    let Some((grown, lifted)) = joined(grown) else {
+    let Some((grown, lifted)) = premises_of(grown) else {
         return Err(Fail::new("another derivation"));
     };
     assert!(rt; is_lifted(lifted, A.union(B), 2));
-    let Some((start, lifted)) = joined(grown) else {
+    let Some((start, lifted)) = premises_of(grown) else {
         return Err(Fail::new("another derivation"));
     };
     assert!(rt; is_lifted(lifted, A, 1));
@@ -110,7 +110,7 @@ fn chains_by_reflexivity_alone(rt: HostRuntime) -> Result<(), Fail> {
         let Some(chain) = chain_of(rt.alloc(), &schema, lhs, rhs)? else {
             return Err(Fail::new("another derivation"));
         };
-        let Some((first, last)) = joined(&chain) else {
+        let Some((first, last)) = premises_of(&chain) else {
             return Err(Fail::new("another derivation"));
         };
         assert!(rt; is_reflexivity(first, lhs, lhs));

@@ -3,7 +3,7 @@ ghost use Rattle.dep_model.specs.Projections.{Covers};
 ghost use Rattle.dep_model.specs.Plans.{schemes_of};
 
 use attr_sets::AttrSet;
-use dep_model::{Dep, Failure, Row, Schema, WantMemory};
+use dep_model::{Dep, Failure, OutOfMemory, Row, Schema};
 use std::alloc::Global;
 use std::process::Abort;
 use std::test::Fail;
@@ -11,14 +11,14 @@ use tableau_chase::{ChaseRefusal, Chased, chase};
 use test_data::{mvd, schema_of};
 
 // What the chase says, as a text: the rows of a lossy plan, one a line.
-fn told(
+fn chase_text(
     alloc: Global,
     schema: &Schema,
     schemes: &[AttrSet],
     limit: u32,
-) -> Result<String, WantMemory> {
+) -> Result<String, OutOfMemory> {
     if !are_covered(schema.width(), schemes) || schemes.len() > 1000 {
-        return Err(WantMemory);
+        return Err(OutOfMemory);
     }
     match chase(alloc, schema, schemes, limit) {
         Ok(Chased::Lossless) => Ok(String::from_str(alloc, "lossless")?),
@@ -27,16 +27,16 @@ fn told(
             alloc,
             "too many rows",
         )?),
-        Err(Failure::OutOfMemory) => Err(WantMemory),
+        Err(Failure::OutOfMemory) => Err(OutOfMemory),
     }
 }
 
 fn is_covered(a: u8, schemes: &[AttrSet]) -> bool
-    requires place { a < 128 }
+    requires attribute { a < 128 }
     ensures covered { IsTrue result → Any (λ scheme. scheme a ≡ true) (schemes_of schemes.now) }
 {
     for scheme in schemes {
-        if scheme.has(a) {
+        if scheme.contains(a) {
             return true;
         }
     }
@@ -44,7 +44,7 @@ fn is_covered(a: u8, schemes: &[AttrSet]) -> bool
 }
 
 fn are_covered(width: u8, schemes: &[AttrSet]) -> bool
-    requires few { width ≤ 128 }
+    requires within_limit { width ≤ 128 }
     ensures covered { IsTrue result → Covers width (schemes_of schemes.now) }
 {
     for a in 0..width {
@@ -56,7 +56,7 @@ fn are_covered(width: u8, schemes: &[AttrSet]) -> bool
 }
 
 // The rows, their values apart by commas, one a line.
-fn text_of(alloc: Global, rows: &[Row]) -> Result<String, WantMemory> {
+fn text_of(alloc: Global, rows: &[Row]) -> Result<String, OutOfMemory> {
     let mut text = String::new(alloc);
     for row in rows {
         for k in 0..row.len() {
@@ -74,7 +74,7 @@ fn text_of(alloc: Global, rows: &[Row]) -> Result<String, WantMemory> {
     Ok(text)
 }
 
-fn sets_of(alloc: Global, numbers: &[u128]) -> Result<Vec<AttrSet>, WantMemory> {
+fn sets_of(alloc: Global, numbers: &[u128]) -> Result<Vec<AttrSet>, OutOfMemory> {
     let mut sets = Vec::new(alloc);
     for number in numbers {
         sets.push(AttrSet(*number))?;
@@ -89,7 +89,7 @@ fn check(rt: &(impl Alloc<A = Global> + Abort), case: Case) -> Result<(), Fail> 
     let (deps, schemes, limit, want) = case;
     let schema = schema_of(rt.alloc(), 3, deps)?;
     let schemes = sets_of(rt.alloc(), schemes)?;
-    let answer = told(rt.alloc(), &schema, &schemes, limit)?;
+    let answer = chase_text(rt.alloc(), &schema, &schemes, limit)?;
     assert_eq!(rt; answer.as_str(), want);
     Ok(())
 }
@@ -124,7 +124,7 @@ fn orders_rows_by_numbers(rt: HostRuntime) -> Result<(), Fail> {
         schemes.push(AttrSet(1))?;
     }
     schemes.push(AttrSet(2))?;
-    let answer = told(rt.alloc(), &schema, &schemes, 1024)?;
+    let answer = chase_text(rt.alloc(), &schema, &schemes, 1024)?;
     let rows = "0,1\n0,2\n0,3\n0,4\n0,5\n0,6\n0,7\n0,8\n0,9\n0,10\n0,11\n12,0\n";
     assert_eq!(rt; answer.as_str(), rows);
     Ok(())
@@ -137,7 +137,7 @@ fn chases_equal_schemes(rt: HostRuntime) -> Result<(), Fail> {
     for _ in 0..256 {
         schemes.push(AttrSet(7))?;
     }
-    let answer = told(rt.alloc(), &schema, &schemes, 1)?;
+    let answer = chase_text(rt.alloc(), &schema, &schemes, 1)?;
     assert_eq!(rt; answer.as_str(), "lossless");
     Ok(())
 }

@@ -49,12 +49,12 @@ fn finds_keys_from_the_last_attribute_on(rt: HostRuntime) {
 fn closes_by_what_is_on(rt: HostRuntime) -> Result<(), Fail> {
     // A -> B, B -> C.
     let deps = [fd(1, 2), fd(2, 4)];
-    let mut counters = Counters::make(rt.alloc(), &deps, 3)?;
+    let mut counters = Counters::new(rt.alloc(), &deps, 3)?;
     assert_eq!(rt; closure_with(&mut counters, &deps, AttrSet(1)).0, 7);
-    counters.turn(0, false);
+    counters.switch(0, false);
     assert_eq!(rt; closure_with(&mut counters, &deps, AttrSet(1)).0, 1);
     assert!(rt; !follows_with(&mut counters, &deps, AttrSet(1), AttrSet(4)));
-    counters.turn(0, true);
+    counters.switch(0, true);
     assert_eq!(rt; closure_with(&mut counters, &deps, AttrSet(1)).0, 7);
     assert!(rt; follows_with(&mut counters, &deps, AttrSet(1), AttrSet(4)));
     Ok(())
@@ -64,7 +64,7 @@ fn closes_by_what_is_on(rt: HostRuntime) -> Result<(), Fail> {
 fn counts_empty_and_wide_left_sides(rt: HostRuntime) -> Result<(), Fail> {
     // nothing -> B, AB -> C, A ->> D, CD -> E.
     let deps = [fd(0, 2), fd(3, 4), mvd(1, 8), fd(12, 16)];
-    let mut counters = Counters::make(rt.alloc(), &deps, 5)?;
+    let mut counters = Counters::new(rt.alloc(), &deps, 5)?;
     assert_eq!(rt; closure_with(&mut counters, &deps, AttrSet(0)).0, 2);
     assert_eq!(rt; closure_with(&mut counters, &deps, AttrSet(1)).0, 7);
     assert_eq!(rt; closure_with(&mut counters, &deps, AttrSet(9)).0, 31);

@@ -1,5 +1,5 @@
 use dep_model::Dep;
-use min_cover::{minimal, whole_cover};
+use min_cover::{minimal_cover, whole_cover};
 use std::alloc::Global;
 use std::process::Abort;
 use std::test::Fail;
@@ -11,7 +11,7 @@ type Row<'a> = (u8, &'a [Dep], &'a [Dep]);
 fn check_minimal(rt: &(impl Alloc<A = Global> + Abort), row: Row) -> Result<(), Fail> {
     let (width, deps, cover) = row;
     let schema = schema_of(rt.alloc(), width, deps)?;
-    assert!(rt; minimal(rt.alloc(), &schema)?.as_slice() == cover);
+    assert!(rt; minimal_cover(rt.alloc(), &schema)?.as_slice() == cover);
     Ok(())
 }
 

@@ -1,6 +1,6 @@
 use attr_sets::AttrSet;
 use dep_model::Dep;
-use form_tests::{Breach, Form, TooWide, violation, visible_violation};
+use normal_forms::{Breach, Form, TooWide, violation, visible_violation};
 use std::alloc::Global;
 use std::process::Abort;
 use std::test::Fail;
@@ -15,7 +15,7 @@ fn breach(lhs: u128, rhs: u128) -> Option<Breach> {
 }
 
 // What `violation` finds on a scheme within the universe.
-fn found(
+fn find_violation(
     alloc: Global,
     width: u8,
     deps: &[Dep],
@@ -24,14 +24,14 @@ fn found(
 ) -> Result<Result<Option<Breach>, TooWide>, NoSchema> {
     let schema = schema_of(alloc, width, deps)?;
     let scheme = AttrSet(scheme);
-    if !scheme.within(AttrSet::full(schema.width())) {
+    if !scheme.is_subset(AttrSet::full(schema.width())) {
         return Err(NoSchema::Unfit);
     }
     Ok(violation(&schema, scheme, form))
 }
 
 // What `visible_violation` finds.
-fn visible(
+fn find_visible_violation(
     alloc: Global,
     width: u8,
     deps: &[Dep],
@@ -40,7 +40,7 @@ fn visible(
 ) -> Result<Option<Breach>, NoSchema> {
     let schema = schema_of(alloc, width, deps)?;
     let scheme = AttrSet(scheme);
-    if !scheme.within(AttrSet::full(schema.width())) {
+    if !scheme.is_subset(AttrSet::full(schema.width())) {
         return Err(NoSchema::Unfit);
     }
     match form {
@@ -70,9 +70,24 @@ fn is_found(found: Result<Option<Breach>, TooWide>, expected: Option<Breach>) ->
 fn check(rt: &(impl Alloc<A = Global> + Abort), row: Row) -> Result<(), Fail> {
     let (width, deps, scheme, third, bcnf, fourth) = row;
     let alloc = rt.alloc();
-    assert!(rt; is_found(found(alloc, width, deps, scheme, Form::Third)?, third));
-    assert!(rt; is_found(found(alloc, width, deps, scheme, Form::Bcnf)?, bcnf));
-    assert!(rt; is_found(found(alloc, width, deps, scheme, Form::Fourth)?, fourth));
+    assert!(rt;
+        is_found(
+            find_violation(alloc, width, deps, scheme, Form::Third)?,
+            third
+        )
+    );
+    assert!(rt;
+        is_found(
+            find_violation(alloc, width, deps, scheme, Form::Bcnf)?,
+            bcnf
+        )
+    );
+    assert!(rt;
+        is_found(
+            find_violation(alloc, width, deps, scheme, Form::Fourth)?,
+            fourth
+        )
+    );
     Ok(())
 }
 
@@ -230,12 +245,12 @@ fn finds_violations_beside_prime_attributes(rt: HostRuntime) -> Result<(), Fail>
 fn refuses_wide_schemes(rt: HostRuntime) -> Result<(), Fail> {
     let wide = (1 << 21) - 1;
     for form in [Form::Third, Form::Bcnf, Form::Fourth] {
-        match found(rt.alloc(), 21, &[], wide, form)? {
+        match find_violation(rt.alloc(), 21, &[], wide, form)? {
             Ok(_) => assert!(rt; false),
             Err(TooWide { scheme }) => assert_eq!(rt; scheme, AttrSet(wide)),
         }
         // 20 of these attributes
-        assert!(rt; is_found(found(rt.alloc(), 21, &[], wide - 2, form)?, None));
+        assert!(rt; is_found(find_violation(rt.alloc(), 21, &[], wide - 2, form)?, None));
     }
     Ok(())
 }
@@ -246,20 +261,27 @@ fn finds_the_visible_violation(rt: HostRuntime) -> Result<(), Fail> {
     // K and a1 to a21: K -> a1 .. a10
     let wide = [fd(1, 2_046)];
     let all = (1 << 22) - 1;
-    assert!(rt; visible(alloc, 22, &wide, all, Form::Bcnf)? == breach(1, 2_046));
-    assert!(rt; visible(alloc, 22, &wide, all, Form::Fourth)? == breach(1, 2));
-    assert!(rt; visible(alloc, 22, &wide, all - 1, Form::Bcnf)? == None);
+    assert!(rt; find_visible_violation(alloc, 22, &wide, all, Form::Bcnf)? == breach(1, 2_046));
+    assert!(rt; find_visible_violation(alloc, 22, &wide, all, Form::Fourth)? == breach(1, 2));
+    assert!(rt; find_visible_violation(alloc, 22, &wide, all - 1, Form::Bcnf)? == None);
     // the first of the file, which comes after the other in the order of sets
     let two = [fd(4, 8), fd(1, 2)];
-    assert!(rt; visible(alloc, 4, &two, 15, Form::Bcnf)? == breach(4, 8));
-    assert!(rt; is_found(found(alloc, 4, &two, 15, Form::Bcnf)?, breach(1, 2)));
+    assert!(rt; find_visible_violation(alloc, 4, &two, 15, Form::Bcnf)? == breach(4, 8));
+    assert!(rt;
+        is_found(
+            find_violation(alloc, 4, &two, 15, Form::Bcnf)?,
+            breach(1, 2)
+        )
+    );
     // the first is a superkey, and the second lies not within the scheme
     let three = [fd(3, 12), fd(16, 1), fd(1, 4)];
-    assert!(rt; visible(alloc, 5, &three, 15, Form::Bcnf)? == breach(1, 4));
-    assert!(rt; visible(alloc, 5, &three, 15, Form::Fourth)? == breach(1, 10));
+    assert!(rt; find_visible_violation(alloc, 5, &three, 15, Form::Bcnf)? == breach(1, 4));
+    assert!(rt; find_visible_violation(alloc, 5, &three, 15, Form::Fourth)? == breach(1, 10));
     // A -> B, B C -> D on A C D E: A C -> D is not given
-    assert!(rt; visible(alloc, 5, &[fd(1, 2), fd(6, 8)], 29, Form::Bcnf)? == None);
+    assert!(rt; find_visible_violation(alloc, 5, &[fd(1, 2), fd(6, 8)], 29, Form::Bcnf)? == None);
     // A ->> B, C -> B on A B D: A -> B
-    assert!(rt; visible(alloc, 4, &[mvd(1, 2), fd(4, 2)], 11, Form::Bcnf)? == breach(1, 2));
+    assert!(rt;
+        find_visible_violation(alloc, 4, &[mvd(1, 2), fd(4, 2)], 11, Form::Bcnf)? == breach(1, 2)
+    );
     Ok(())
 }

@@ -1,7 +1,7 @@
 ghost use Rattle.std.specs.Prelude.{◌≤◌};
 
 use attr_sets::AttrSet;
-use dep_model::{Dep, Failure, WantMemory};
+use dep_model::{Dep, Failure, OutOfMemory};
 use key_listing::{KeyRefusal, SchemeKeyRefusal, keys, keys_of_scheme, one_key};
 use std::alloc::Global;
 use std::process::Abort;
@@ -24,7 +24,7 @@ fn keys_in(
 ) -> Result<Vec<AttrSet>, Failure<SchemeKeyRefusal>> {
     match schema_of(alloc, width, deps) {
         Ok(schema) => {
-            let part = AttrSet(scheme).meet(AttrSet::full(schema.width()));
+            let part = AttrSet(scheme).intersection(AttrSet::full(schema.width()));
             keys_of_scheme(alloc, &schema, part)
         }
         Err(_) => Err(Failure::OutOfMemory),
@@ -32,8 +32,8 @@ fn keys_in(
 }
 
 // Pairs of attributes that determine each other: A1 B1 A2 B2 and so on.
-fn pairs(alloc: Global, count: u8) -> Result<Vec<Dep>, WantMemory>
-    requires few { count ≤ 64 }
+fn pairs(alloc: Global, count: u8) -> Result<Vec<Dep>, OutOfMemory>
+    requires at_most_half { count ≤ 64 }
 {
     let mut deps = Vec::new(alloc);
     for i in 0..count {
@@ -177,7 +177,7 @@ fn refuses_wide_schemes(rt: HostRuntime) {
 }
 
 #[test]
-fn settles_on_one_key(rt: HostRuntime) -> Result<(), Fail> {
+fn takes_one_greedy_key(rt: HostRuntime) -> Result<(), Fail> {
     let address = schema_of(rt.alloc(), 3, &[fd(3, 4), fd(4, 1)])?;
     assert_eq!(rt; address.width(), 3);
     assert_eq!(rt; one_key(&address, AttrSet::full(3)), AttrSet(3));

@@ -21,8 +21,8 @@ mod forms;
 #[cfg(test)]
 mod keys;
 #[cfg(test)]
-mod made;
-#[cfg(test)]
 mod model;
 #[cfg(test)]
 mod sets;
+#[cfg(test)]
+mod test_schemas;

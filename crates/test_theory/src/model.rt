@@ -1,6 +1,6 @@
 use attr_sets::AttrSet;
 use dep_model::{
-    Column, Dep, Name, Row, Schema, Value, WantMemory, agree, integer_text, two_rows_obey,
+    Column, Dep, Name, OutOfMemory, Row, Schema, Value, agreement_of, integer_text, two_rows_obey,
 };
 use std::alloc::Global;
 use std::test::Fail;
@@ -22,7 +22,7 @@ fn names_are_words_of_at_most_31_bytes(rt: HostRuntime) {
         (b"\xc3\xa9", false),
     ];
     for (bytes, is_name) in table {
-        match Name::make(bytes) {
+        match Name::new(bytes) {
             Some(name) => {
                 assert!(rt; is_name, "{bytes:?}");
                 assert_eq!(rt; name.bytes(), bytes);
@@ -59,12 +59,12 @@ fn integer_texts_have_one_form(rt: HostRuntime) {
     }
 }
 
-fn row_of(alloc: Global, values: &[&[u8]]) -> Result<Row, WantMemory> {
+fn row_of(alloc: Global, values: &[&[u8]]) -> Result<Row, OutOfMemory> {
     let mut held = Vec::new(alloc);
     for bytes in values {
-        held.push(Value::make(alloc, bytes)?)?;
+        held.push(Value::new(alloc, bytes)?)?;
     }
-    Ok(Row::make(held))
+    Ok(Row::new(held))
 }
 
 #[test]
@@ -76,7 +76,7 @@ fn rows_hold_their_values(rt: HostRuntime) -> Result<(), Fail> {
     assert_eq!(rt; copy.value(0).bytes(), b"a".as_slice());
     assert_eq!(rt; copy.value(1).bytes(), b"".as_slice());
     assert_eq!(rt; copy.value(2).bytes(), b"\xff\x00".as_slice());
-    let value = Value::make(rt.alloc(), b"x")?.copy(rt.alloc())?;
+    let value = Value::new(rt.alloc(), b"x")?.copy(rt.alloc())?;
     assert_eq!(rt; value.bytes(), b"x".as_slice());
     Ok(())
 }
@@ -88,7 +88,7 @@ fn two_rows_agree_and_obey(rt: HostRuntime) -> Result<(), Fail> {
     assert_eq!(rt; first.len(), 3);
     assert_eq!(rt; second.len(), 3);
     let (a, b, c) = (AttrSet::single(0), AttrSet::single(1), AttrSet::single(2));
-    assert!(rt; agree(&first, &second) == a.union(c));
+    assert!(rt; agreement_of(&first, &second) == a.union(c));
     let (lhs, rhs) = (a, c);
     assert!(rt; two_rows_obey(a.union(c), 3, Dep::Fd { lhs, rhs }));
     assert!(rt; two_rows_obey(a.union(c), 3, Dep::Mvd { lhs, rhs: b }));
@@ -99,15 +99,15 @@ fn two_rows_agree_and_obey(rt: HostRuntime) -> Result<(), Fail> {
 
 #[test]
 fn a_schema_of_one_attribute(rt: HostRuntime) -> Result<(), Fail> {
-    let name = Name::make(b"ID").expect(&rt, "a name");
+    let name = Name::new(b"ID").expect(&rt, "a name");
     let mut names = Vec::new(rt.alloc());
     names.push(name)?;
-    let schema = Schema::make(names, Vec::new(rt.alloc()), Vec::new(rt.alloc()));
+    let schema = Schema::new(names, Vec::new(rt.alloc()), Vec::new(rt.alloc()));
     assert_eq!(rt; schema.width(), 1);
     assert_eq!(rt; schema.deps().len(), 0);
-    assert_eq!(rt; schema.place_of(b"id"), Some(0));
-    assert_eq!(rt; schema.place_of(b"name"), None);
-    assert!(rt; schema.name(0).same(&name));
+    assert_eq!(rt; schema.attribute_named(b"id"), Some(0));
+    assert_eq!(rt; schema.attribute_named(b"name"), None);
+    assert!(rt; schema.name(0).is_same(&name));
     assert!(rt; schema.column(0) == Column::Text);
     Ok(())
 }

@@ -1,7 +1,7 @@
 use attr_sets::AttrSet;
 use std::cmp::Ordering;
 
-/// The set of place 127 alone, as a number.
+/// The set of attribute 127 alone, as a number.
 const TOP: u128 = 170_141_183_460_469_231_731_687_303_715_884_105_728;
 
 #[test]
@@ -18,31 +18,31 @@ fn makes_sets(rt: HostRuntime) {
 #[test]
 fn changes_sets(rt: HostRuntime) {
     let ends = AttrSet(TOP + 1);
-    assert!(rt; ends.has(127) && ends.has(0) && !ends.has(64));
+    assert!(rt; ends.contains(127) && ends.contains(0) && !ends.contains(64));
     assert_eq!(rt; ends.with(127).with(1).0, TOP + 3);
     assert_eq!(rt; ends.without(127).without(1).0, 1);
     assert_eq!(rt; ends.union(AttrSet(6)).0, TOP + 7);
-    assert_eq!(rt; ends.meet(AttrSet(TOP + 6)).0, TOP);
-    assert_eq!(rt; ends.minus(AttrSet(TOP + 6)).0, 1);
+    assert_eq!(rt; ends.intersection(AttrSet(TOP + 6)).0, TOP);
+    assert_eq!(rt; ends.difference(AttrSet(TOP + 6)).0, 1);
 }
 
 #[test]
 fn looks_into_sets(rt: HostRuntime) {
     let ends = AttrSet(TOP + 1);
-    assert!(rt; ends.within(AttrSet(TOP + 3)) && !ends.within(AttrSet(TOP)));
-    assert!(rt; ends.meets(AttrSet(TOP)) && !ends.meets(AttrSet(6)));
+    assert!(rt; ends.is_subset(AttrSet(TOP + 3)) && !ends.is_subset(AttrSet(TOP)));
+    assert!(rt; ends.intersects(AttrSet(TOP)) && !ends.intersects(AttrSet(6)));
     assert!(rt; AttrSet(0).is_empty() && !AttrSet(TOP).is_empty());
     assert_eq!(rt; ends.len(), 2);
     assert_eq!(rt; AttrSet(u128::MAX).len(), 128);
-    assert_eq!(rt; ends.least(), Some(0));
-    assert_eq!(rt; AttrSet(TOP).least(), Some(127));
-    assert_eq!(rt; AttrSet(0).least(), None);
+    assert_eq!(rt; ends.first(), Some(0));
+    assert_eq!(rt; AttrSet(TOP).first(), Some(127));
+    assert_eq!(rt; AttrSet(0).first(), None);
     assert_eq!(rt; ends.after(0), Some(127));
     assert_eq!(rt; ends.after(127), None);
 }
 
 #[test]
-fn orders_sets_by_their_greatest_places(rt: HostRuntime) {
+fn orders_sets_by_their_greatest_members(rt: HostRuntime) {
     assert!(rt; AttrSet::full(127) < AttrSet::single(127));
     assert!(rt; AttrSet(4) > AttrSet(3));
     assert_eq!(rt; AttrSet(4).cmp(&AttrSet(3)), Ordering::Greater);
@@ -52,7 +52,7 @@ fn orders_sets_by_their_greatest_places(rt: HostRuntime) {
 
 // The next subset of a set that holds this one.
 fn next(now: AttrSet, whole: AttrSet) -> Option<AttrSet> {
-    if now.within(whole) {
+    if now.is_subset(whole) {
         now.next_subset(whole)
     } else {
         None

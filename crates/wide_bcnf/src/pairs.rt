@@ -1,6 +1,6 @@
 ghost use Rattle.std.specs.Prelude.{◌≡◌, ℕ, ◌<◌, ◌≤◌, ◌↔◌, IsTrue, IsNone, IfSome};
-ghost use Rattle.attr_sets.specs.Places.{only, Within};
-ghost use Rattle.attr_sets.specs.Sets.{places};
+ghost use Rattle.attr_sets.specs.Attributes.{only, IsSubset};
+ghost use Rattle.attr_sets.specs.Sets.{attributes};
 ghost use Rattle.dep_model.specs.Dependencies.{fd};
 ghost use Rattle.dep_model.specs.Implication.{Implies};
 ghost use Rattle.dep_model.specs.Schemas.{width_of, universe_of, theory_of};
@@ -19,13 +19,13 @@ pub struct Pair {
 
 // The first pair of a scheme of which no pair comes before `from`; so those before are not tried.
 pub fn first_pair(schema: &Schema, scheme: AttrSet, from: Pair) -> Option<Pair>
-    requires scheme { Within (places scheme) (universe_of schema.now) }
-    requires from { NoneBefore (width_of schema.now) (theory_of schema.now) (places scheme)
+    requires scheme { IsSubset (attributes scheme) (universe_of schema.now) }
+    requires from { NoneBefore (width_of schema.now) (theory_of schema.now) (attributes scheme)
         from.first from.second }
     ensures none { IsNone result
-        → HasPair (width_of schema.now) (theory_of schema.now) (places scheme) → ⊥ }
+        → HasPair (width_of schema.now) (theory_of schema.now) (attributes scheme) → ⊥ }
     ensures first { IfSome result (λ pair. IsFirstPair (width_of schema.now) (theory_of schema.now)
-        (places scheme) pair.first pair.second) }
+        (attributes scheme) pair.first pair.second) }
 {
     let mut least = from.second;
     for first in from.first..schema.width() {
@@ -38,18 +38,19 @@ pub fn first_pair(schema: &Schema, scheme: AttrSet, from: Pair) -> Option<Pair>
 }
 
 // The least attribute that is the second of a pair of a scheme with this first one, where none below
-// `least` is.
+// `first` is.
 fn second_beside(schema: &Schema, scheme: AttrSet, first: u8, least: u8) -> Option<u8>
-    requires scheme { Within (places scheme) (universe_of schema.now) }
+    requires scheme { IsSubset (attributes scheme) (universe_of schema.now) }
     requires first { first < width_of schema.now }
     requires least { (d : ℕ)
-        → IsPair (width_of schema.now) (theory_of schema.now) (places scheme) first d → least ≤ d }
+        → IsPair (width_of schema.now) (theory_of schema.now) (attributes scheme) first d → least ≤ d }
     ensures none { IsNone result → (d : ℕ)
-        → IsPair (width_of schema.now) (theory_of schema.now) (places scheme) first d → ⊥ }
+        → IsPair (width_of schema.now) (theory_of schema.now) (attributes scheme) first d → ⊥ }
     ensures pair { IfSome result (λ second.
-        IsPair (width_of schema.now) (theory_of schema.now) (places scheme) first second) }
+        IsPair (width_of schema.now) (theory_of schema.now) (attributes scheme) first second) }
     ensures least { IfSome result (λ second. (d : ℕ)
-        → IsPair (width_of schema.now) (theory_of schema.now) (places scheme) first d → second ≤ d) }
+        → IsPair (width_of schema.now) (theory_of schema.now) (attributes scheme) first d
+        → second ≤ d) }
 {
     if !can_begin(schema, scheme, first) {
         return None;
@@ -64,12 +65,13 @@ fn second_beside(schema: &Schema, scheme: AttrSet, first: u8, least: u8) -> Opti
 
 // Whether an attribute of a scheme is determined by the others; no pair begins with one that is not.
 fn can_begin(schema: &Schema, scheme: AttrSet, first: u8) -> bool
-    requires scheme { Within (places scheme) (universe_of schema.now) }
+    requires scheme { IsSubset (attributes scheme) (universe_of schema.now) }
     requires first { first < width_of schema.now }
     ensures begins { (d : ℕ)
-        → IsPair (width_of schema.now) (theory_of schema.now) (places scheme) first d → IsTrue result }
+        → IsPair (width_of schema.now) (theory_of schema.now) (attributes scheme) first d
+        → IsTrue result }
 {
-    if !scheme.has(first) {
+    if !scheme.contains(first) {
         return false;
     }
     determines(schema, scheme.without(first), first)
@@ -77,17 +79,17 @@ fn can_begin(schema: &Schema, scheme: AttrSet, first: u8) -> bool
 
 // Whether two attributes are a pair of a scheme.
 fn is_pair(schema: &Schema, scheme: AttrSet, first: u8, second: u8) -> bool
-    requires scheme { Within (places scheme) (universe_of schema.now) }
+    requires scheme { IsSubset (attributes scheme) (universe_of schema.now) }
     requires first { first < width_of schema.now }
     requires second { second < width_of schema.now }
     ensures pair { IsTrue result
-        ↔ IsPair (width_of schema.now) (theory_of schema.now) (places scheme) first second }
+        ↔ IsPair (width_of schema.now) (theory_of schema.now) (attributes scheme) first second }
 {
-    if !scheme.has(first) {
+    if !scheme.contains(first) {
         return false;
     }
     let others = scheme.without(first);
-    if !others.has(second) {
+    if !others.contains(second) {
         return false;
     }
     determines(schema, others.without(second), first)
@@ -95,10 +97,10 @@ fn is_pair(schema: &Schema, scheme: AttrSet, first: u8, second: u8) -> bool
 
 // Whether a set determines an attribute, by all dependencies.
 fn determines(schema: &Schema, set: AttrSet, attribute: u8) -> bool
-    requires set { Within (places set) (universe_of schema.now) }
+    requires set { IsSubset (attributes set) (universe_of schema.now) }
     requires attribute { attribute < width_of schema.now }
     ensures implied { IsTrue result
-        ↔ Implies (width_of schema.now) (theory_of schema.now) (fd (places set) (only attribute)) }
+        ↔ Implies (width_of schema.now) (theory_of schema.now) (fd (attributes set) (only attribute)) }
 {
     block(schema, set, attribute).is_none()
 }

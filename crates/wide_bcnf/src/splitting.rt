@@ -1,6 +1,6 @@
 ghost use Rattle.std.specs.Prelude.{◌≤◌, length, IfOk, All};
-ghost use Rattle.attr_sets.specs.Places.{Within};
-ghost use Rattle.attr_sets.specs.Sets.{places};
+ghost use Rattle.attr_sets.specs.Attributes.{IsSubset};
+ghost use Rattle.attr_sets.specs.Sets.{attributes};
 ghost use Rattle.dep_model.specs.Forms.{IsBcnf};
 ghost use Rattle.dep_model.specs.Plans.{schemes_of};
 ghost use Rattle.dep_model.specs.Projections.{IsLossless};
@@ -11,14 +11,14 @@ ghost use Rattle.wide_bcnf.specs.WideSplits.{IsCore, IsWideSplitOf, IsWidePlan};
 
 use crate::pairs::{Pair, first_pair};
 use attr_sets::AttrSet;
-use dep_model::{Schema, WantMemory};
+use dep_model::{OutOfMemory, Schema};
 use plans::{Plan, drop_contained};
 use std::alloc::Global;
 
 /// A lossless plan of schemes in Boyce-Codd form, at any width (Tsou and Fischer 1982): the wide split
 /// of the universe, without contained schemes. Implied means by all dependencies, multivalued ones too.
 /// A scheme that is in form may have been cut.
-pub fn split_wide(alloc: Global, schema: &Schema) -> Result<Plan, WantMemory>
+pub fn split_wide(alloc: Global, schema: &Schema) -> Result<Plan, OutOfMemory>
     ensures universe { IfOk result (λ plan. IsPlanOver schema.now plan) }
     ensures split { IfOk result (λ plan.
         IsWidePlan (width_of schema.now) (theory_of schema.now) (scheme_sets plan)) }
@@ -26,15 +26,15 @@ pub fn split_wide(alloc: Global, schema: &Schema) -> Result<Plan, WantMemory>
         IsLossless (width_of schema.now) (theory_of schema.now) (plan_of plan)) }
     ensures bcnf { IfOk result (λ plan.
         All (IsBcnf (width_of schema.now) (theory_of schema.now)) (plan_of plan)) }
-    ensures few { IfOk result (λ plan. length (scheme_sets plan) ≤ width_of schema.now) }
+    ensures at_most_width { IfOk result (λ plan. length (scheme_sets plan) ≤ width_of schema.now) }
 {
     let schemes = wide_schemes(alloc, schema)?;
-    Ok(drop_contained(schema, Plan::make(schema, schemes)))
+    Ok(drop_contained(schema, Plan::new(schema, schemes)))
 }
 
 // The schemes of the wide split of the universe. What is left of a scheme has no pair before the
 // first one of the scheme, so the search goes on there.
-fn wide_schemes(alloc: Global, schema: &Schema) -> Result<Vec<AttrSet>, WantMemory>
+fn wide_schemes(alloc: Global, schema: &Schema) -> Result<Vec<AttrSet>, OutOfMemory>
     ensures split { IfOk result (λ schemes. IsWideSplitOf (width_of schema.now) (theory_of schema.now)
         (universe_of schema.now) (schemes_of schemes.items)) }
 {
@@ -63,11 +63,11 @@ struct Core {
 
 // The core of a scheme with this first pair.
 fn core_of(schema: &Schema, scheme: AttrSet, pair: Pair) -> Core
-    requires scheme { Within (places scheme) (universe_of schema.now) }
-    requires pair { IsFirstPair (width_of schema.now) (theory_of schema.now) (places scheme)
+    requires scheme { IsSubset (attributes scheme) (universe_of schema.now) }
+    requires pair { IsFirstPair (width_of schema.now) (theory_of schema.now) (attributes scheme)
         pair.first pair.second }
-    ensures core { IsCore (width_of schema.now) (theory_of schema.now) (places scheme)
-        (places result.scheme) result.attribute }
+    ensures core { IsCore (width_of schema.now) (theory_of schema.now) (attributes scheme)
+        (attributes result.scheme) result.attribute }
 {
     let mut rest = scheme.without(pair.second);
     let mut last = pair;

@@ -1,8 +1,8 @@
 use Rattle.std.proofs.Common.{◌≡◌, ℕ, ◌+◌, ◌^◌, ◌<◌, List, sym, subst, arith}
 use Rattle.std.proofs.lemmas.Nat.{one_shl}
 use Rattle.attr_sets.specs.declared.set.AttrSet.{AttrSet}
-use Rattle.attr_sets.specs.Places.{below, Within}
-use Rattle.attr_sets.specs.Sets.{places}
+use Rattle.attr_sets.specs.Attributes.{below, IsSubset}
+use Rattle.attr_sets.specs.Sets.{attributes}
 use Rattle.dep_model.specs.Dependencies.{Dependency}
 use Rattle.dep_model.specs.Deps.{dependencies_of}
 use Rattle.armstrong_rel.specs.Closures.{AreClosures, IsClosureOf, set_at}
@@ -21,9 +21,9 @@ loop-number-preserved c =
     let number = c.loop-number.number in
     let all = one_shl n 32 (omega (arith, c.requires.width)) in
     let low : number < 2 ^ n = subst (λ (m : ℕ). number < m) all c.loop-number-test.true in
-    let inside : Within (places (set_at number)) (below n) = set_low n number (omega (arith, c.requires.width)) low in
-    let closure : IsClosureOf n ds (places (set_at number)) (places c.closure.result) =
-    subst (λ (es : List Dependency). IsClosureOf n es (places (set_at number)) (places c.closure.result))
+    let inside : IsSubset (attributes (set_at number)) (below n) = set_low n number (omega (arith, c.requires.width)) low in
+    let closure : IsClosureOf n ds (attributes (set_at number)) (attributes c.closure.result) =
+    subst (λ (es : List Dependency). IsClosureOf n es (attributes (set_at number)) (attributes c.closure.result))
     c.requires.functional (c.closure.ensures.closure n c.requires.deps inside) in
     subst (λ (xs : List AttrSet). AreClosures n ds (number + 1) xs) (sym c.in_ok-push.ensures.items)
     (table_more n ds number c.loop-number.table.items c.closure.result c.loop-number.invariant closure)

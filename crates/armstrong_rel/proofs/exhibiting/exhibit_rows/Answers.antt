@@ -3,8 +3,8 @@ use Rattle.std.specs.Prelude.{All}
 use Rattle.std.proofs.lemmas.List.{length-map}
 use Rattle.std.proofs.lemmas.Result.{IfOk-weaker}
 use Rattle.attr_sets.specs.declared.set.AttrSet.{AttrSet}
-use Rattle.attr_sets.specs.Places.{Places, below}
-use Rattle.attr_sets.specs.Sets.{places}
+use Rattle.attr_sets.specs.Attributes.{Attributes, below}
+use Rattle.attr_sets.specs.Sets.{attributes}
 use Rattle.dep_model.specs.declared.dep.Dep.{Dep}
 use Rattle.dep_model.specs.declared.schema.Schema.{Schema}
 use Rattle.dep_model.specs.Dependencies.{Dependency, functional_part}
@@ -15,14 +15,14 @@ use Rattle.dep_model.specs.Tuples.{Tuple, Relation}
 use Rattle.armstrong_rel.specs.ClosedSets.{AreIrreducible}
 use Rattle.armstrong_rel.specs.Closures.{AreClosures}
 use Rattle.armstrong_rel.specs.Exhibits.{tuples_for, IsArmstrong, IsExhibit}
-use Rattle.armstrong_rel.proofs.ExactLemmas.{IsShown, shown}
+use Rattle.armstrong_rel.proofs.ExactLemmas.{IsLegalExhibit, tuples_for_exhibit}
 use Rattle.armstrong_rel.proofs.exhibiting.exhibit_rows.Goals as goal
 
 pub closures-requires : goal.closures-requires
 closures-requires c =
     let s = c.args.schema.now in
     record {
-      width = omega (arith, c.requires.narrow, c.width-width.ensures.count);
+      width = omega (arith, c.requires.not_too_wide, c.width-width.ensures.count);
       deps = subst (λ (n : ℕ). All (IsDepWithin (below n)) c.deps.result.now) (sym c.width-width.ensures.count)
           (subst (λ (ds : List Dep). All (IsDepWithin (below (width_of s))) ds)
           (sym c.deps.ensures.deps) s.valid.deps_within);
@@ -36,12 +36,12 @@ schema_closures : (s : Schema) (n : ℕ) (deps : List Dep) (table : List AttrSet
 schema_closures s n deps table same are = subst (λ (ds : List Dependency). AreClosures n ds (2 ^ n) table) same are
 
 -- so its sets show what is asked
-schema_shown : (s : Schema) (n : ℕ) (sets : List Places) (r : Relation) → n ≡ width_of s
+schema_shown : (s : Schema) (n : ℕ) (sets : List Attributes) (r : Relation) → n ≡ width_of s
     → functional_part (theory_of s) ≡ theory_of s → AreIrreducible n (theory_of s) sets → length sets < 2 ^ 63
-    → r ≡ tuples_for n sets → IsShown s r
+    → r ≡ tuples_for n sets → IsLegalExhibit s r
 schema_shown s n sets r width functional are few rows =
-    subst (λ (t : Relation). IsShown s t) (sym (rows ∙ ap (λ (m : ℕ). tuples_for m sets) width))
-    (shown s sets functional (subst (λ (m : ℕ). AreIrreducible m (theory_of s) sets) width are) few)
+    subst (λ (t : Relation). IsLegalExhibit s t) (sym (rows ∙ ap (λ (m : ℕ). tuples_for m sets) width))
+    (tuples_for_exhibit s sets functional (subst (λ (m : ℕ). AreIrreducible m (theory_of s) sets) width are) few)
 
 pub returns : goal.returns
 returns c =
@@ -56,9 +56,9 @@ returns c =
     let are : AreIrreducible n (theory_of s) (schemes_of sets) = subst
     (λ (xs : List AttrSet). AreIrreducible n (theory_of s) (schemes_of xs)) (sym c.deref-2.ensures.value) listed in
     let room = c.deref-2.type_inv.1 in
-    let long : length (schemes_of sets) ≡ length sets = length-map sets places in
+    let long : length (schemes_of sets) ≡ length sets = length-map sets attributes in
     let few : length (schemes_of sets) < 2 ^ 63 = omega arith in
-    let all : (rows : Vec Tuple Global) → rows.items ≡ tuples_for n (schemes_of sets) → IsShown s rows.items =
+    let all : (rows : Vec Tuple Global) → rows.items ≡ tuples_for n (schemes_of sets) → IsLegalExhibit s rows.items =
     λ rows is. schema_shown s n (schemes_of sets) rows.items width c.requires.functional are few is in
     let made : Vec Tuple Global → Type 0 = λ rows. rows.items ≡ tuples_for n (schemes_of sets) in
     record {

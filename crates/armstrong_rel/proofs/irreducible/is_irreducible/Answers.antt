@@ -1,32 +1,32 @@
 use Rattle.std.proofs.Common.{◌≡◌, ◌==◌, not, sym, subst, ap, ◌∙◌, arith}
 use Rattle.std.proofs.lemmas.Bool.{true≢false, false_from_ne_true}
-use Rattle.attr_sets.specs.Places.{Places}
-use Rattle.attr_sets.specs.Sets.{places}
-use Rattle.attr_sets.proofs.PlacesLemmas.{same_number-decides}
+use Rattle.attr_sets.specs.Attributes.{Attributes}
+use Rattle.attr_sets.specs.Sets.{attributes}
+use Rattle.attr_sets.proofs.AttributesLemmas.{same_number-decides}
 use Rattle.armstrong_rel.specs.Closures.{IsClosureOf}
-use Rattle.armstrong_rel.proofs.ClosedLemmas.{closure_closed, closed_itself, closure_same, irreducible_no_meet, no_meet_irreducible}
+use Rattle.armstrong_rel.proofs.ClosedLemmas.{closure_closed, closed_itself, closure_same, irreducible_no_intersection, no_intersection_irreducible}
 use Rattle.armstrong_rel.proofs.FoundLemmas.{table_closures}
 use Rattle.armstrong_rel.proofs.irreducible.is_irreducible.Goals as goal
 
 pub returns-then-eq : goal.returns-then-eq
 returns-then-eq c =
     let n = c.args.width in
-    let set = places c.args.set in
-    let found = places c.closure_of.result in
-    let m = places c.meet_beyond.result in
-    let told = same_number-decides c.meet_beyond.result c.args.set (omega arith) (omega arith) in
+    let set = attributes c.args.set in
+    let found = attributes c.closure_of.result in
+    let m = attributes c.intersection_beyond.result in
+    let told = same_number-decides c.intersection_beyond.result c.args.set (omega arith) (omega arith) in
     let same : found ≡ set = c.eq.ensures.same.0 c.if-eq.true in
     record {
       irreducible = λ ds are.
           let closed = closure_closed n ds set set
-          (subst (λ (x : Places). IsClosureOf n ds set x) same
+          (subst (λ (x : Attributes). IsClosureOf n ds set x) same
           (c.closure_of.ensures.closure ds are)) in
-          let meet = c.meet_beyond.ensures.meet ds are in (
-            (λ yes. no_meet_irreducible n ds set m closed meet
+          let intersection = c.intersection_beyond.ensures.intersection ds are in (
+            (λ yes. no_intersection_irreducible n ds set m closed intersection
                 (λ alike. true≢false (sym yes ∙ c.ne.ensures ∙ ap not (told.1 alike)))),
-            (λ irreducible. let differ = irreducible_no_meet n ds
-                (table_closures n ds c.args.table.now (omega (arith, c.requires.width)) are) set m meet irreducible in
-                c.ne.ensures ∙ ap not (false_from_ne_true (c.meet_beyond.result.0 == c.args.set.0)
+            (λ irreducible. let differ = irreducible_no_intersection n ds
+                (table_closures n ds c.args.table.now (omega (arith, c.requires.width)) are) set m intersection irreducible in
+                c.ne.ensures ∙ ap not (false_from_ne_true (c.intersection_beyond.result.0 == c.args.set.0)
                 (λ e. differ (told.0 e)))),
           );
     }
@@ -34,8 +34,8 @@ returns-then-eq c =
 pub returns-else-eq : goal.returns-else-eq
 returns-else-eq c =
     let n = c.args.width in
-    let set = places c.args.set in
-    let found = places c.closure_of.result in
+    let set = attributes c.args.set in
+    let found = attributes c.closure_of.result in
     record {
       irreducible = λ ds are. (
         (λ yes. absurd (true≢false (sym yes ∙ c.if-eq.false))),

@@ -3,7 +3,7 @@ use Rattle.std.specs.Prelude.{All, Some, option_map}
 use Rattle.std.proofs.lemmas.Option.{slice_get-map, slice_get-get_or}
 use Rattle.std.proofs.lemmas.List.{take-map}
 use Rattle.std.proofs.lemmas.List.Elements.{All-more, All-map}
-use Rattle.attr_sets.specs.Sets.{places}
+use Rattle.attr_sets.specs.Sets.{attributes}
 use Rattle.dep_model.specs.declared.dep.Dep.{Dep}
 use Rattle.dep_model.specs.declared.dep.Dep.TheVariants.{Fd}
 use Rattle.dep_model.specs.Dependencies.{Dependency, is_fd}
@@ -24,8 +24,8 @@ returns-in-Mvd-clause-first c =
     let deps = c.args.deps.now in
     let k = c.loop-k.k in
     record {
-      lhs = places c.in-Mvd.lhs;
-      rhs = places c.in-Mvd.rhs;
+      lhs = attributes c.in-Mvd.lhs;
+      rhs = attributes c.in-Mvd.rhs;
       given = slice_get-map dependency_of deps k
           ∙ ap (option_map dependency_of) (slice_get-get_or deps k first c.loop-k-test.true)
           ∙ ap (λ (d : Dep). Some (dependency_of d)) c.in-Mvd.is;

@@ -1,8 +1,8 @@
 use Rattle.std.proofs.Common.{◌≡◌, ℕ, ◌+◌, List, ◌∙◌, ◌++◌, [], ◌∷◌, length, take, get_or, sym, ap, take_all, arith}
 use Rattle.std.proofs.lemmas.List.{take_more, map-append, length-map, length-take-le}
 use Rattle.attr_sets.specs.declared.set.AttrSet.{AttrSet}
-use Rattle.attr_sets.specs.Places.{Places}
-use Rattle.attr_sets.specs.Sets.{places}
+use Rattle.attr_sets.specs.Attributes.{Attributes}
+use Rattle.attr_sets.specs.Sets.{attributes}
 use Rattle.dep_model.specs.Plans.{schemes_of}
 use Rattle.dep_model.specs.Tuples.{Tuple, Relation}
 use Rattle.dep_model.specs.TwoTuples.{all_zeros}
@@ -16,7 +16,7 @@ loop-k-init c =
     let row : Tuple = c.in_ok-numbered_row.field-0 in
     let first : row ≡ all_zeros n =
     c.in_ok-numbered_row.ensures.row
-    ∙ ap (λ (x : Places). numbered_tuple n 0 x)
+    ∙ ap (λ (x : Attributes). numbered_tuple n 0 x)
     c.full.ensures.members ∙ sym (zeros_numbered n) in
     c.in_ok-push.ensures.items ∙ ap (λ (r : Relation). r ++ row ∷ []) c.new-rows.ensures.items
     ∙ ap (λ (t : Tuple). t ∷ []) first
@@ -30,17 +30,17 @@ loop-k-preserved c =
     let set : AttrSet = get_or sets k first in
     let before = schemes_of (take k sets) in
     let row : Tuple = c.in_ok-numbered_row-2.field-0 in
-    let count : length before ≡ k = length-map (take k sets) places
+    let count : length before ≡ k = length-map (take k sets) attributes
     ∙ length-take-le k sets (omega (arith, c.loop-k-test.true)) in
-    let next : tuples_for n before ++ row ∷ [] ≡ tuples_for n (before ++ places set ∷ []) =
+    let next : tuples_for n before ++ row ∷ [] ≡ tuples_for n (before ++ attributes set ∷ []) =
     ap (λ (t : Tuple). tuples_for n before ++ t ∷ [])
-    (c.in_ok-numbered_row-2.ensures.row ∙ ap (λ (m : ℕ). numbered_tuple n (m + 1) (places set)) (sym count))
-    ∙ sym (tuples_more n before (places set)) in
-    let more : before ++ places set ∷ [] ≡ schemes_of (take (k + 1) sets) =
-    sym (map-append places (take k sets) (set ∷ []))
+    (c.in_ok-numbered_row-2.ensures.row ∙ ap (λ (m : ℕ). numbered_tuple n (m + 1) (attributes set)) (sym count))
+    ∙ sym (tuples_more n before (attributes set)) in
+    let more : before ++ attributes set ∷ [] ≡ schemes_of (take (k + 1) sets) =
+    sym (map-append attributes (take k sets) (set ∷ []))
     ∙ ap (λ (xs : List AttrSet). schemes_of xs) (sym (take_more sets k first c.loop-k-test.true)) in
     c.in_ok-push-2.ensures.items ∙ ap (λ (r : Relation). r ++ row ∷ []) c.loop-k.invariant ∙ next
-    ∙ ap (λ (xs : List Places). tuples_for n xs) more
+    ∙ ap (λ (xs : List Attributes). tuples_for n xs) more
 
 pub returns : goal.returns
 returns c = record {

@@ -1,4 +1,4 @@
-use Rattle.attr_sets.specs.Sets.{places}
+use Rattle.attr_sets.specs.Sets.{attributes}
 use Rattle.dep_model.specs.Schemas.{names_of, width_of}
 use Rattle.csv_rows.specs.Interning.{groups_of, firsts_of}
 use Rattle.csv_migrate.proofs.ProjectionLemmas.{table_rows, table_even}
@@ -10,7 +10,7 @@ invariant_of-result c =
     let n = width_of c.args.schema.now in
     record {
       even =
-          table_even (names_of c.args.schema.now) c.args.rows.now (places c.args.scheme)
+          table_even (names_of c.args.schema.now) c.args.rows.now (attributes c.args.scheme)
           (groups_of c.in_ok-groups.groups) (firsts_of c.in_ok-groups.groups) c.firsts.result.now
           c.in_ok-columns.columns.items c.in_ok-rows.rows.items c.requires.over
           (c.in_ok-groups.ensures.groups n c.args.rows.now c.requires.codes)
@@ -22,7 +22,7 @@ pub returns-clause-value : goal.returns-clause-value
 returns-clause-value c =
     let n = width_of c.args.schema.now in
     same_table _ _ _ _ _ _ c.table_name-name.ensures.name c.in_ok-columns.ensures.names
-    (table_rows n c.args.rows.now (places c.args.scheme) (groups_of c.in_ok-groups.groups)
+    (table_rows n c.args.rows.now (attributes c.args.scheme) (groups_of c.in_ok-groups.groups)
     (firsts_of c.in_ok-groups.groups) c.firsts.result.now
     c.in_ok-rows.rows.items c.requires.over
     (c.in_ok-groups.ensures.groups n c.args.rows.now c.requires.codes)

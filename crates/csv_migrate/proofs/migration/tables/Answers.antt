@@ -2,7 +2,7 @@ use Rattle.std.proofs.Common.{◌≡◌, List, sym, subst, arith}
 use Rattle.dep_model.specs.Schemas.{width_of, theory_of}
 use Rattle.plans.specs.Plans.{plan_of, scheme_sets}
 use Rattle.named_tables.specs.Tables.{TableValue, table_values}
-use Rattle.csv_migrate.specs.Migration.{migrated, JoinIs}
+use Rattle.csv_migrate.specs.Migration.{tables_of_migration, JoinIs}
 use Rattle.csv_migrate.proofs.MigrationLemmas.{table_added, scheme_added, all_tables, join_is_rows}
 use Rattle.csv_migrate.proofs.migration.tables.Goals as goal
 
@@ -21,7 +21,7 @@ loop-k-preserved c = record {
 pub returns-clause-joins : goal.returns-clause-joins
 returns-clause-joins c = λ legal lossless.
     let n = width_of c.args.schema.now in
-    let made : table_values c.loop-k.tables.items ≡ migrated c.args.schema.now (plan_of c.args.plan.now) c.args.rows.now =
+    let made : table_values c.loop-k.tables.items ≡ tables_of_migration c.args.schema.now (plan_of c.args.plan.now) c.args.rows.now =
     all_tables c.args.schema.now c.args.rows.now
     (scheme_sets c.args.plan.now) c.schemes-schemes.result.now c.loop-k.k c.loop-k.tables.items
     c.schemes-schemes.ensures.schemes (omega (arith, c.loop-k-test.false)) c.loop-k.invariant.tables in

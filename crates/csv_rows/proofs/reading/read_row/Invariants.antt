@@ -6,7 +6,7 @@ use Rattle.csv_rows.proofs.ReadingLemmas.{Takes}
 use Rattle.csv_rows.proofs.reading.read_row.Given as goal
 
 -- the values so far are those of the first attributes that have a column
-abbrev pub invariant-loop-placed : goal.invariant-loop-placed
-invariant-loop-placed l = record {
-  takes : (columns : List ℕ) → IsHeader (width_of l.schema) columns l.header → Takes l.schema columns (fields_of l.fields) l.placed-index l.values;
+abbrev pub invariant-loop-entry : goal.invariant-loop-entry
+invariant-loop-entry l = record {
+  takes : (columns : List ℕ) → IsHeader (width_of l.schema) columns l.header → Takes l.schema columns (fields_of l.fields) l.entry-index l.values;
 }

@@ -1,7 +1,7 @@
-use Rattle.csv_rows.proofs.RecordLemmas.{taken}
+use Rattle.csv_rows.proofs.RecordLemmas.{TakesRecord-from}
 use Rattle.csv_rows.proofs.records.take_record.Goals as goal
 
 pub returns-clause-record : goal.returns-clause-record
 returns-clause-record c =
     let e = c.read_byte_record.ensures in
-    taken c.read_byte_record.result c.args.reader.now _ _ e.reads e.ready e.flexible
+    TakesRecord-from c.read_byte_record.result c.args.reader.now _ _ e.reads e.ready e.flexible

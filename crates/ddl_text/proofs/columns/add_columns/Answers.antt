@@ -1,32 +1,32 @@
 use Rattle.std.proofs.Common.{false, map, refl, sym, append-nil}
-use Rattle.attr_sets.specs.Sets.{places}
+use Rattle.attr_sets.specs.Sets.{attributes}
 use Rattle.dep_model.specs.Projections.{members_below}
 use Rattle.dep_model.proofs.SchemeLemmas.{members_below-none}
 use Rattle.ddl_text.specs.Ddl.{column_element}
 use Rattle.ddl_text.proofs.TextLemmas.{members_inside, members_outside, lines_more}
 use Rattle.sql_names.proofs.NameLemmas.{some_more}
 use Rattle.ddl_text.proofs.columns.add_columns.Goals as goal
-use Rattle.ddl_text.proofs.columns.add_columns.Goals.{then-has+in_ok-add_opening+in_ok-add_column, else-has}
+use Rattle.ddl_text.proofs.columns.add_columns.Goals.{then-contains+in_ok-add_opening+in_ok-add_column, else-contains}
 
-pub loop-place-init : goal.loop-place-init
-loop-place-init c = rw (members_below-none (places c.args.scheme))
+pub loop-attribute-init : goal.loop-attribute-init
+loop-attribute-init c = rw (members_below-none (attributes c.args.scheme))
     (record { added = sym (append-nil c.args.text.now.items); some = refl })
 
-pub loop-place-preserved : goal.loop-place-preserved
-loop-place-preserved c =
+pub loop-attribute-preserved : goal.loop-attribute-preserved
+loop-attribute-preserved c =
     let s = c.args.schema.now in
-    let x = places c.args.scheme in
-    let n = c.loop-place.place in
-    let before = c.loop-place.invariant in
-    elim c.if-has.branch [
-      | then-has+in_ok-add_opening+in_ok-add_column w ↦
-          rw (members_inside (column_element s) n x (sym w.if-has.ensures.member), w.text-is, w.some-is) (record {
-            added = lines_more false c.loop-place.some (map (column_element s) (members_below n x))
-                (column_element s n) c.args.text.now.items c.loop-place.text.items
+    let x = attributes c.args.scheme in
+    let n = c.loop-attribute.attribute in
+    let before = c.loop-attribute.invariant in
+    elim c.if-contains.branch [
+      | then-contains+in_ok-add_opening+in_ok-add_column w ↦
+          rw (members_inside (column_element s) n x (sym w.if-contains.ensures.member), w.text-is, w.some-is) (record {
+            added = lines_more false c.loop-attribute.some (map (column_element s) (members_below n x))
+                (column_element s n) c.args.text.now.items c.loop-attribute.text.items
                 w.add_opening.new.text.items w.add_column.new.text.items before.added before.some
                 w.in_ok-add_opening.ensures.added w.in_ok-add_column.ensures.added;
             some = some_more false (map (column_element s) (members_below n x)) (column_element s n);
           })
-      | else-has w ↦ rw (members_outside (column_element s) n x (sym w.if-has.ensures.member), w.text-is, w.some-is)
+      | else-contains w ↦ rw (members_outside (column_element s) n x (sym w.if-contains.ensures.member), w.text-is, w.some-is)
           before
     ]

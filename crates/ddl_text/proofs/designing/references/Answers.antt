@@ -1,6 +1,6 @@
 use Rattle.std.proofs.Common.{sym, subst, ◌∙◌}
 use Rattle.std.proofs.lemmas.Bool.{true≢false}
-use Rattle.attr_sets.specs.Sets.{places}
+use Rattle.attr_sets.specs.Sets.{attributes}
 use Rattle.ddl_text.specs.declared.table.TableDesign.{TableDesign}
 use Rattle.ddl_text.specs.Designs.{RefersTo}
 use Rattle.ddl_text.proofs.DesignLemmas.{references_more, references_passed}
@@ -11,7 +11,7 @@ pub loop-j-preserved : goal.loop-j-preserved
 loop-j-preserved c =
     let tables = c.args.earlier.now in
     let i = c.loop-j.j in
-    let scheme = places c.args.scheme in
+    let scheme = attributes c.args.scheme in
     let table = c.index-earlier-j.result in
     elim c.if-refers_to.branch [
       | then-refers_to+in_ok-push w ↦

@@ -1,6 +1,6 @@
 use Rattle.std.proofs.Common.{◌≡◌, ◌++◌, List, ℕ, subst}
 use Rattle.std.specs.Prelude.{OnOk}
-use Rattle.attr_sets.specs.Sets.{places}
+use Rattle.attr_sets.specs.Sets.{attributes}
 use Rattle.ddl_text.specs.Ddl.{column_elements, key_elements, reference_elements, element_lines}
 use Rattle.ddl_text.proofs.TextLemmas.{elements_added}
 use Rattle.ddl_text.proofs.elements.add_elements.Goals as goal
@@ -14,10 +14,10 @@ returns c =
     let two = c.in_ok-some-2.some in
     let references = reference_elements s tables table.refs.items in
     record {
-      added = elements_added c.add_references.result (column_elements s (places table.scheme))
-          (key_elements s (places table.key)) references one two
+      added = elements_added c.add_references.result (column_elements s (attributes table.scheme))
+          (key_elements s (attributes table.key)) references one two
           c.args.text.now.items c.add_columns.new.text.items c.add_key.new.text.items c.add_references.new.text.items
-          c.in_ok-some.ensures.added c.in_ok-some.ensures.some c.in_ok-some-2.ensures.added c.in_ok-some-2.ensures.some
+          c.in_ok-some.ensures.added c.in_ok-some.ensures.any_written c.in_ok-some-2.ensures.added c.in_ok-some-2.ensures.any_written
           (subst (λ (refs : List ℕ). OnOk c.add_references.result
           (c.add_references.new.text.items ≡ c.add_key.new.text.items ++ element_lines two
           (reference_elements s tables refs)))

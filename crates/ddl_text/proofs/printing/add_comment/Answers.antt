@@ -1,19 +1,19 @@
 use Rattle.std.proofs.Common.{sym, ◌∙◌, append-nil}
 use Rattle.std.proofs.lemmas.Bool.{true≢false}
-use Rattle.attr_sets.specs.Places.{IsEmpty}
-use Rattle.attr_sets.specs.Sets.{places}
+use Rattle.attr_sets.specs.Attributes.{IsEmpty}
+use Rattle.attr_sets.specs.Sets.{attributes}
 use Rattle.ddl_text.proofs.TextLemmas.{comment_some, comment_none}
 use Rattle.ddl_text.proofs.printing.add_comment.Goals as goal
 
 pub returns-then-is_empty : goal.returns-then-is_empty
 returns-then-is_empty c = record {
-  added = rw (comment_some (places c.args.key)
+  added = rw (comment_some (attributes c.args.key)
       (c.is_empty.ensures.empty.0 c.if-is_empty.true)) c.add.ensures.added;
 }
 
 pub returns : goal.returns
 returns c = record {
-  added = rw (comment_none c.args.key (λ (empty : IsEmpty (places c.args.key)). true≢false
+  added = rw (comment_none c.args.key (λ (empty : IsEmpty (attributes c.args.key)). true≢false
       (sym (c.is_empty.ensures.empty.1 empty) ∙ c.if-is_empty.false)))
       (sym (append-nil c.args.text.now.items));
 }

@@ -1,6 +1,6 @@
 use Rattle.std.proofs.Common.{subst}
-use Rattle.attr_sets.specs.Places.{Places}
-use Rattle.attr_sets.specs.Sets.{places}
+use Rattle.attr_sets.specs.Attributes.{Attributes}
+use Rattle.attr_sets.specs.Sets.{attributes}
 use Rattle.dep_model.specs.Deps.{dependencies_of}
 use Rattle.dep_basis.specs.Traces.{AreTraces}
 use Rattle.dep_basis.proofs.BasisLemmas.{basis-from}
@@ -11,6 +11,6 @@ returns c =
     let n = c.args.width in
     let whole = c.full.ensures.members in
     record {
-      basis = basis-from n c.args.deps.now (places c.args.lhs) c.traces.result c.requires.deps c.requires.lhs
-          (subst (λ (scheme : Places). AreTraces n (dependencies_of c.args.deps.now) scheme (places c.args.lhs) c.traces.result) whole c.traces.ensures.traces);
+      basis = basis-from n c.args.deps.now (attributes c.args.lhs) c.traces.result c.requires.deps c.requires.lhs
+          (subst (λ (scheme : Attributes). AreTraces n (dependencies_of c.args.deps.now) scheme (attributes c.args.lhs) c.traces.result) whole c.traces.ensures.traces);
     }

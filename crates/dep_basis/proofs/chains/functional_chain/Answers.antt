@@ -1,11 +1,11 @@
 use Rattle.std.proofs.Common.{◌≡◌, suc, refl, ◌∙◌, ap, inl, inr, arith}
 use Rattle.std.proofs.lemmas.Bool.{false≢true}
-use Rattle.attr_sets.specs.declared.set.TheConstants.{PLACES}
-use Rattle.attr_sets.specs.Places.{Places, union, Within}
-use Rattle.attr_sets.specs.Sets.{places}
-use Rattle.attr_sets.proofs.PlacesLemmas.{places_below, tell_within, count_below-lt, count_below-le, same_at}
+use Rattle.attr_sets.specs.declared.set.TheConstants.{MOST_ATTRIBUTES}
+use Rattle.attr_sets.specs.Attributes.{Attributes, union, IsSubset}
+use Rattle.attr_sets.specs.Sets.{attributes}
+use Rattle.attr_sets.proofs.AttributesLemmas.{attributes_below, tell_subset, count_below-lt, count_below-le, same_at}
 use Rattle.dep_model.specs.Schemas.{width_of, deps_of}
-use Rattle.fd_closure.proofs.ClosureLemmas.{settled_holds}
+use Rattle.fd_closure.proofs.ClosureLemmas.{functionally_closed_holds}
 use Rattle.derivation.specs.declared.deriv.Deriv.{Deriv}
 use Rattle.derivation.specs.Trees.{Tree, leaf, step, pair, given, augmentation, transitivity}
 use Rattle.derivation.specs.Derivs.{tree_of}
@@ -15,71 +15,71 @@ use Rattle.dep_basis.proofs.chains.functional_chain.Goals as goal
 
 pub loop-closed-init : goal.loop-closed-init
 loop-closed-init c =
-    let stage_of : Deriv → Stage = λ d. record { closed = places c.args.lhs; tree = tree_of d } in
+    let stage_of : Deriv → Stage = λ d. record { closed = attributes c.args.lhs; tree = tree_of d } in
     (0, ap stage_of c.in_ok-chain.ensures.ok)
 
-pub returns-in_default-clause-some : goal.returns-in_default-clause-some
-returns-in_default-clause-some c =
+pub returns-in_default-clause-found_where_implied : goal.returns-in_default-clause-found_where_implied
+returns-in_default-clause-found_where_implied c =
     let s = c.args.schema.now in
-    let x = places c.args.lhs in
-    let y = places c.args.rhs in
-    let closed = places c.loop-closed.closed in
+    let x = attributes c.args.lhs in
+    let y = attributes c.args.rhs in
+    let closed = attributes c.loop-closed.closed in
     let stage : Stage = record { closed = closed; tree = tree_of c.loop-closed.chain.value } in
     let grows = reached_grows s x y c.loop-closed.invariant.0 stage c.loop-closed.invariant.1 in
     let settled = c.in_default.ensures.none refl in (
       (λ none. absurd (false≢true none)),
-      (λ implied. absurd (false≢true (c.loop-closed-test.ensures.within.1
-          (settled_holds (width_of s) (deps_of s) x y closed s.valid.deps_within c.requires.lhs c.requires.rhs settled grows implied)))),
+      (λ implied. absurd (false≢true (c.loop-closed-test.ensures.subset.1
+          (functionally_closed_holds (width_of s) (deps_of s) x y closed s.valid.deps_within c.requires.lhs c.requires.rhs settled grows implied)))),
     )
 
 pub loop-closed-smaller : goal.loop-closed-smaller
 loop-closed-smaller c =
-    let now = places c.loop-closed.closed in
-    let more = places c.union-closed.result in
+    let now = attributes c.loop-closed.closed in
+    let more = attributes c.union-closed.result in
     let first = c.in-Some.ensures.first in
-    elim (tell_within PLACES (places c.in-Some.lead.rhs) now (places_below c.in-Some.lead.rhs)) [
-      | inl new ↦ omega (arith, count_below-lt PLACES now more new.0 (λ k m. grind (arith, same_at c.union-closed.ensures.members k, m)) new.1 new.3 (grind (arith, same_at c.union-closed.ensures.members new.0, new.2)), count_below-le PLACES more)
+    elim (tell_subset MOST_ATTRIBUTES (attributes c.in-Some.lead.rhs) now (attributes_below c.in-Some.lead.rhs)) [
+      | inl new ↦ omega (arith, count_below-lt MOST_ATTRIBUTES now more new.0 (λ k m. grind (arith, same_at c.union-closed.ensures.members k, m)) new.1 new.3 (grind (arith, same_at c.union-closed.ensures.members new.0, new.2)), count_below-le MOST_ATTRIBUTES more)
       | inr all ↦ absurd (first.out.beyond all)
     ]
 
 pub loop-closed-preserved : goal.loop-closed-preserved
 loop-closed-preserved c =
-    let closed = places c.loop-closed.closed in
+    let closed = attributes c.loop-closed.closed in
     let tree = tree_of c.loop-closed.chain.value in
     let k = c.in-Some.lead.number in
-    let t = places c.in-Some.lead.rhs in
+    let t = attributes c.in-Some.lead.rhs in
     let before : Stage = record { closed = closed; tree = tree } in
-    let outside : Within (places c.args.rhs) closed → ⊥ = λ inside. false≢true (c.loop-closed-test.ensures.within.1 inside) in
+    let outside : IsSubset (attributes c.args.rhs) closed → ⊥ = λ inside. false≢true (c.loop-closed-test.ensures.subset.1 inside) in
     let grown : tree_of c.in_ok-chain-2.chain.value ≡ pair transitivity tree (step (augmentation closed) (leaf (given k))) =
     ap tree_of c.in_ok-chain-2.ensures.ok
     ∙ ap (λ (d : Deriv). pair transitivity tree (tree_of d)) c.in_ok-lifted.ensures.ok
     ∙ ap (λ (d : Deriv). pair transitivity tree (step (augmentation closed) (tree_of d))) c.in_ok-given.ensures.ok in
-    let wider : places c.union-closed.result ≡ union closed t = c.union-closed.ensures.members in
-    let with_set : Places → Stage = λ x. record { closed = x; tree = tree_of c.in_ok-chain-2.chain.value } in
+    let wider : attributes c.union-closed.result ≡ union closed t = c.union-closed.ensures.members in
+    let with_set : Attributes → Stage = λ x. record { closed = x; tree = tree_of c.in_ok-chain-2.chain.value } in
     let with_tree : Tree → Stage = λ u. record { closed = union closed t; tree = u } in
     (suc c.loop-closed.invariant.0, (before, k, t, c.loop-closed.invariant.1, outside, c.in-Some.ensures.first, ap with_set wider ∙ ap with_tree grown))
 
 -- the derivation returned is the chain
-whole : (c : goal.In_ok-new) → IsFunctionalChain c.args.schema.now (places c.args.lhs) (places c.args.rhs) (tree_of c.in_ok-new.field-0.value)
+whole : (c : goal.In_ok-new) → IsFunctionalChain c.args.schema.now (attributes c.args.lhs) (attributes c.args.rhs) (tree_of c.in_ok-new.field-0.value)
 whole c = record {
   steps = c.loop-closed.invariant.0;
-  last = record { closed = places c.loop-closed.closed; tree = tree_of c.loop-closed.chain.value };
+  last = record { closed = attributes c.loop-closed.closed; tree = tree_of c.loop-closed.chain.value };
   reached = c.loop-closed.invariant.1;
-  holds = c.loop-closed-test.ensures.within.0 refl;
+  holds = c.loop-closed-test.ensures.subset.0 refl;
   whole = ap tree_of c.in_ok-new.ensures.ok ∙ ap (λ (d : Deriv). pair transitivity (tree_of c.loop-closed.chain.value) (tree_of d)) c.in_ok-last.ensures.ok;
 }
 
-pub returns-clause-some : goal.returns-clause-some
-returns-clause-some c = ((λ _. chain_obeyed c.args.schema.now (places c.args.lhs) (places c.args.rhs) (tree_of c.in_ok-new.field-0.value) (whole c)), (λ _. refl))
+pub returns-clause-found_where_implied : goal.returns-clause-found_where_implied
+returns-clause-found_where_implied c = ((λ _. chain_obeyed c.args.schema.now (attributes c.args.lhs) (attributes c.args.rhs) (tree_of c.in_ok-new.field-0.value) (whole c)), (λ _. refl))
 
 pub returns-clause-chain : goal.returns-clause-chain
 returns-clause-chain c = whole c
 
 pub returns-clause-proves : goal.returns-clause-proves
-returns-clause-proves c = chain_proves c.args.schema.now (places c.args.lhs) (places c.args.rhs) (tree_of c.in_ok-new.field-0.value) c.requires.lhs (whole c)
+returns-clause-proves c = chain_proves c.args.schema.now (attributes c.args.lhs) (attributes c.args.rhs) (tree_of c.in_ok-new.field-0.value) c.requires.lhs (whole c)
 
 pub returns-clause-few_nodes : goal.returns-clause-few_nodes
-returns-clause-few_nodes c = (chain_small c.args.schema.now (places c.args.lhs) (places c.args.rhs) (tree_of c.in_ok-new.field-0.value) (whole c)).0
+returns-clause-few_nodes c = (chain_small c.args.schema.now (attributes c.args.lhs) (attributes c.args.rhs) (tree_of c.in_ok-new.field-0.value) (whole c)).0
 
 pub returns-clause-few_levels : goal.returns-clause-few_levels
-returns-clause-few_levels c = (chain_small c.args.schema.now (places c.args.lhs) (places c.args.rhs) (tree_of c.in_ok-new.field-0.value) (whole c)).1
+returns-clause-few_levels c = (chain_small c.args.schema.now (attributes c.args.lhs) (attributes c.args.rhs) (tree_of c.in_ok-new.field-0.value) (whole c)).1

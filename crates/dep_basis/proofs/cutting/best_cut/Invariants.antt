@@ -1,6 +1,6 @@
 use Rattle.std.proofs.Common.{take}
 use Rattle.std.specs.Prelude.{All, IsNone}
-use Rattle.attr_sets.specs.Sets.{places}
+use Rattle.attr_sets.specs.Sets.{attributes}
 use Rattle.dep_model.specs.Deps.{dependency_of}
 use Rattle.dep_basis.specs.Refining.{LeavesWhole}
 use Rattle.dep_basis.proofs.CutLemmas.{IsBestSoFar}
@@ -8,6 +8,6 @@ use Rattle.dep_basis.proofs.cutting.best_cut.Given as goal
 
 abbrev pub invariant-loop-k : goal.invariant-loop-k
 invariant-loop-k l = record {
-  none : IsNone l.best → All (λ d. LeavesWhole (places l.part) (places l.part) (dependency_of d)) (take l.k l.deps);
-  best : IsBestSoFar l.deps (places l.part) l.attribute l.k l.best;
+  none : IsNone l.best → All (λ d. LeavesWhole (attributes l.part) (attributes l.part) (dependency_of d)) (take l.k l.deps);
+  best : IsBestSoFar l.deps (attributes l.part) l.attribute l.k l.best;
 }

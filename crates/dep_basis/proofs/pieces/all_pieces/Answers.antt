@@ -1,27 +1,27 @@
 use Rattle.std.proofs.Common.{◌≡◌, refl, arith}
 use mathlib.Core.Path.{fun_ext}
-use Rattle.attr_sets.specs.Places.{below, minus}
-use Rattle.attr_sets.specs.Sets.{places}
-use Rattle.attr_sets.specs.declared.set.TheConstants.{PLACES}
-use Rattle.attr_sets.proofs.PlacesLemmas.{count_below-le, same_at}
+use Rattle.attr_sets.specs.Attributes.{below, difference}
+use Rattle.attr_sets.specs.Sets.{attributes}
+use Rattle.attr_sets.specs.declared.set.TheConstants.{MOST_ATTRIBUTES}
+use Rattle.attr_sets.proofs.AttributesLemmas.{count_below-le, same_at}
 use Rattle.dep_model.specs.Deps.{dependencies_of}
 use Rattle.dep_basis.proofs.BasisLemmas.{closure_between}
 use Rattle.dep_basis.proofs.PieceLemmas.{first_refined, all_refined}
 use Rattle.dep_basis.proofs.pieces.all_pieces.Goals as goal
 
 pub refine-requires : goal.refine-requires
-refine-requires c = record { room = record { size = refl; room = omega (arith, count_below-le PLACES (places c.minus-outside.result)) } }
+refine-requires c = record { room = record { size = refl; room = omega (arith, count_below-le MOST_ATTRIBUTES (attributes c.difference-outside.result)) } }
 
 pub returns : goal.returns
 returns c =
     let n = c.args.width in
     let deps = c.args.deps.now in
-    let x = places c.args.lhs in
-    let more = places c.closure.result in
-    let w = places c.minus-outside.result in
+    let x = attributes c.args.lhs in
+    let more = attributes c.closure.result in
+    let w = attributes c.difference-outside.result in
     let between = closure_between n (dependencies_of deps) x more c.requires.lhs (c.closure.ensures.closure n c.requires.deps c.requires.lhs) in
-    let is : w ≡ minus (below n) more = fun_ext (λ k. grind (arith, same_at c.minus-outside.ensures.members k, same_at c.full.ensures.members k)) in
+    let is : w ≡ difference (below n) more = fun_ext (λ k. grind (arith, same_at c.difference-outside.ensures.members k, same_at c.full.ensures.members k)) in
     record {
       pieces = all_refined n deps x more w c.refine.new.found _ between.0 between.2 is (first_refined n deps more w c.requires.deps between.1 is) refl
-          (omega (arith, c.refine.ensures.refined.room, count_below-le PLACES w)) c.refine.ensures.refined;
+          (omega (arith, c.refine.ensures.refined.room, count_below-le MOST_ATTRIBUTES w)) c.refine.ensures.refined;
     }

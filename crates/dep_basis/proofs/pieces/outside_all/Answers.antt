@@ -1,19 +1,19 @@
 use Rattle.std.proofs.Common.{◌≡◌, ℕ, ◌+◌, ◌<◌, ◌↔◌, true, false, List, length, get_or, sym, ap, subst, ◌∙◌, inl, inr, arith}
 use Rattle.std.proofs.lemmas.Bool.{cases_eq}
 use Rattle.std.proofs.lemmas.List.{get_or_default}
-use Rattle.attr_sets.specs.Places.{Places, minus}
+use Rattle.attr_sets.specs.Attributes.{Attributes, difference}
 use Rattle.attr_sets.specs.declared.set.AttrSet.{AttrSet}
-use Rattle.attr_sets.specs.Sets.{places}
-use Rattle.attr_sets.proofs.PlacesLemmas.{same_at}
+use Rattle.attr_sets.specs.Sets.{attributes}
+use Rattle.attr_sets.proofs.AttributesLemmas.{same_at}
 use Rattle.dep_basis.proofs.pieces.outside_all.Goals as goal
 
 abbrev zero : AttrSet
 zero = record { 0 = 0 }
 
 abbrev NoneBefore : List AttrSet → ℕ → ℕ → Type 0
-NoneBefore pieces a i = (j : ℕ) (d : AttrSet) → j < i → places (get_or pieces j d) a ≡ false
+NoneBefore pieces a i = (j : ℕ) (d : AttrSet) → j < i → attributes (get_or pieces j d) a ≡ false
 
-one_more : (pieces : List AttrSet) (universe left rest : Places) (i : ℕ) → i < length pieces → rest ≡ minus left (places (get_or pieces i zero))
+one_more : (pieces : List AttrSet) (universe left rest : Attributes) (i : ℕ) → i < length pieces → rest ≡ difference left (attributes (get_or pieces i zero))
     → ((a : ℕ) → (left a ≡ true) ↔ (universe a ≡ true) × NoneBefore pieces a i) → (a : ℕ) → (rest a ≡ true) ↔ (universe a ≡ true) × NoneBefore pieces a (i + 1)
 one_more pieces universe left rest i short is before a = (
   (λ m.
@@ -22,7 +22,7 @@ one_more pieces universe left rest i short is before a = (
         (λ j d lt. elim (cases_eq j i) [
           | inl same ↦
               let at_i : get_or pieces j d ≡ get_or pieces i zero = ap (λ (k : ℕ). get_or pieces k d) same ∙ get_or_default pieces i d zero short in
-              subst (λ (p : AttrSet). places p a ≡ false) (sym at_i) (grind (arith, same_at is a, m))
+              subst (λ (p : AttrSet). attributes p a ≡ false) (sym at_i) (grind (arith, same_at is a, m))
           | inr differ ↦ h.1 j d (omega arith)
         ]),
       )),
@@ -34,7 +34,7 @@ loop-piece-init c a = ((λ m. (m, (λ j d lt. absurd (omega arith)))), (λ h. h.
 
 pub loop-piece-preserved : goal.loop-piece-preserved
 loop-piece-preserved c =
-    one_more c.args.pieces.now (places c.args.universe) (places c.loop-piece.left) (places c.minus-left.result) c.loop-piece.piece-index c.loop-piece-test.true c.minus-left.ensures.members c.loop-piece.invariant
+    one_more c.args.pieces.now (attributes c.args.universe) (attributes c.loop-piece.left) (attributes c.difference-left.result) c.loop-piece.piece-index c.loop-piece-test.true c.difference-left.ensures.members c.loop-piece.invariant
 
 pub returns : goal.returns
 returns c = record {

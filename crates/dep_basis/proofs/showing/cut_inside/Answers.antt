@@ -1,20 +1,20 @@
 use Rattle.std.proofs.Common.{◌≡◌, refl, subst}
-use Rattle.attr_sets.specs.Places.{Places, meet}
-use Rattle.attr_sets.specs.Sets.{places}
+use Rattle.attr_sets.specs.Attributes.{Attributes, intersection}
+use Rattle.attr_sets.specs.Sets.{attributes}
 use Rattle.dep_model.specs.Dependencies.{left_of, right_of}
 use Rattle.dep_model.specs.Deps.{dependency_of}
 use Rattle.derivation.specs.Derivs.{tree_of}
-use Rattle.dep_basis.proofs.ShowingLemmas.{part_beside, next_part_inside}
+use Rattle.dep_basis.proofs.ShowingLemmas.{part_in_side, next_part_inside}
 use Rattle.dep_basis.proofs.showing.cut_inside.Goals as goal
 
 pub returns-in-Ok : goal.returns-in-Ok
 returns-in-Ok c =
     let from = c.args.from in
     let d = dependency_of c.args.dep in
-    let is : places c.meet.result ≡ meet (places from.part) (right_of d) =
-    subst (λ (t : Places). places c.meet.result ≡ meet (places from.part) t) c.sides.ensures.right c.meet.ensures.members in
+    let is : attributes c.intersection.result ≡ intersection (attributes from.part) (right_of d) =
+    subst (λ (t : Attributes). attributes c.intersection.result ≡ intersection (attributes from.part) t) c.sides.ensures.right c.intersection.ensures.members in
     record {
-      shown = next_part_inside c.args.schema.now c.args.attribute c.args.k c.args.dep from (record { lhs = from.lhs; part = c.meet.result; deriv = c.in-Ok.deriv })
-          (tree_of c.in_ok-given.given.value) c.requires.cut refl c.in_ok-given.ensures.size c.in-Ok.ensures.little_more c.requires.with c.requires.multivalued is
-          (c.in-Ok.ensures.concludes (left_of d) (right_of d) c.requires.cut.shown.candidate.outside (part_beside (places from.part) d c.requires.cut.cutting) c.requires.cut.shown.proves c.in_ok-given.ensures.proves);
+      shown = next_part_inside c.args.schema.now c.args.attribute c.args.k c.args.dep from (record { lhs = from.lhs; part = c.intersection.result; deriv = c.in-Ok.deriv })
+          (tree_of c.in_ok-given.given.value) c.requires.cut refl c.in_ok-given.ensures.size c.in-Ok.ensures.size c.requires.with c.requires.multivalued is
+          (c.in-Ok.ensures.concludes (left_of d) (right_of d) c.requires.cut.shown.candidate.outside (part_in_side (attributes from.part) d c.requires.cut.cutting) c.requires.cut.shown.proves c.in_ok-given.ensures.proves);
     }

@@ -1,20 +1,20 @@
 use Rattle.std.proofs.Common.{◌≡◌, refl, subst}
-use Rattle.attr_sets.specs.Places.{Places, minus}
-use Rattle.attr_sets.specs.Sets.{places}
+use Rattle.attr_sets.specs.Attributes.{Attributes, difference}
+use Rattle.attr_sets.specs.Sets.{attributes}
 use Rattle.dep_model.specs.Dependencies.{left_of, right_of}
 use Rattle.dep_model.specs.Deps.{dependency_of}
 use Rattle.derivation.specs.Derivs.{tree_of}
-use Rattle.dep_basis.proofs.ShowingLemmas.{part_beside, next_part_outside}
+use Rattle.dep_basis.proofs.ShowingLemmas.{part_in_side, next_part_outside}
 use Rattle.dep_basis.proofs.showing.cut_outside.Goals as goal
 
 pub returns-in-Ok : goal.returns-in-Ok
 returns-in-Ok c =
     let from = c.args.from in
     let d = dependency_of c.args.dep in
-    let is : places c.minus.result ≡ minus (places from.part) (right_of d) =
-    subst (λ (t : Places). places c.minus.result ≡ minus (places from.part) t) c.sides.ensures.right c.minus.ensures.members in
+    let is : attributes c.difference.result ≡ difference (attributes from.part) (right_of d) =
+    subst (λ (t : Attributes). attributes c.difference.result ≡ difference (attributes from.part) t) c.sides.ensures.right c.difference.ensures.members in
     record {
-      shown = next_part_outside c.args.schema.now c.args.attribute c.args.k c.args.dep from (record { lhs = from.lhs; part = c.minus.result; deriv = c.in-Ok.deriv })
-          (tree_of c.in_ok-given.given.value) c.requires.cut refl c.in_ok-given.ensures.size c.in-Ok.ensures.little_more c.requires.without is
-          (c.in-Ok.ensures.concludes (left_of d) (right_of d) c.requires.cut.shown.candidate.outside (part_beside (places from.part) d c.requires.cut.cutting) c.requires.cut.shown.proves c.in_ok-given.ensures.proves);
+      shown = next_part_outside c.args.schema.now c.args.attribute c.args.k c.args.dep from (record { lhs = from.lhs; part = c.difference.result; deriv = c.in-Ok.deriv })
+          (tree_of c.in_ok-given.given.value) c.requires.cut refl c.in_ok-given.ensures.size c.in-Ok.ensures.size c.requires.without is
+          (c.in-Ok.ensures.concludes (left_of d) (right_of d) c.requires.cut.shown.candidate.outside (part_in_side (attributes from.part) d c.requires.cut.cutting) c.requires.cut.shown.proves c.in_ok-given.ensures.proves);
     }

@@ -2,30 +2,30 @@ use Rattle.std.proofs.Common.{◌≡◌, ◌≤◌, ℕ, Some, List, get_or, ref
 use mathlib.Core.Path.{fun_ext}
 use Rattle.std.proofs.lemmas.Option.{slice_get-get_or}
 use Rattle.std.specs.Prelude.{slice_get, All}
-use Rattle.attr_sets.specs.Places.{below, minus, Within}
+use Rattle.attr_sets.specs.Attributes.{below, difference, IsSubset}
 use Rattle.attr_sets.specs.declared.set.AttrSet.{AttrSet}
-use Rattle.attr_sets.specs.Sets.{places}
+use Rattle.attr_sets.specs.Sets.{attributes}
 use Rattle.dep_model.specs.declared.dep.Dep.{Dep}
 use Rattle.dep_model.specs.declared.dep.Dep.TheVariants.{Fd}
 use Rattle.dep_model.specs.Deps.{dependencies_of}
 use Rattle.dep_model.specs.Schemas.{width_of, universe_of, deps_of}
 use Rattle.derivation.specs.Derivs.{tree_of}
 use Rattle.dep_basis.specs.Refining.{LeavesWhole}
-use Rattle.dep_basis.specs.Shown.{IsPartProof}
-use Rattle.attr_sets.proofs.PlacesLemmas.{same_at}
+use Rattle.dep_basis.specs.CutProofs.{IsPartProof}
+use Rattle.attr_sets.proofs.AttributesLemmas.{same_at}
 use Rattle.dep_basis.proofs.ShowingLemmas.{part_first, part_last}
 use Rattle.dep_basis.proofs.showing.show_attribute.Goals as goal
 
 pub loop-k-init : goal.loop-k-init
 loop-k-init c =
     let s = c.args.schema.now in
-    let x = places c.args.lhs in
-    let is : places c.minus.result ≡ minus (universe_of s) x = fun_ext (λ k.
-    let whole : places c.full.result k ≡ below (width_of s) k = same_at c.full.ensures.members k ∙ ap (λ (m : ℕ). below m k) c.width.ensures.count in
-    grind (arith, same_at c.minus.ensures.members k, whole)) in
+    let x = attributes c.args.lhs in
+    let is : attributes c.difference.result ≡ difference (universe_of s) x = fun_ext (λ k.
+    let whole : attributes c.full.result k ≡ below (width_of s) k = same_at c.full.ensures.members k ∙ ap (λ (m : ℕ). below m k) c.width.ensures.count in
+    grind (arith, same_at c.difference.ensures.members k, whole)) in
     record {
       same_lhs = refl;
-      shown = part_first s x c.args.attribute (places c.minus.result) (tree_of c.in_ok-outside.field-0.value) c.requires.attribute c.requires.outside is c.in_ok-outside.ensures.proves c.in_ok-outside.ensures.size;
+      shown = part_first s x c.args.attribute (attributes c.difference.result) (tree_of c.in_ok-complementation.field-0.value) c.requires.attribute c.requires.outside is c.in_ok-complementation.ensures.proves c.in_ok-complementation.ensures.size;
     }
 
 pub cut_shown-requires : goal.cut_shown-requires
@@ -39,16 +39,16 @@ cut_shown-requires c =
       cut = record {
         given = subst (λ (ds : List Dep). slice_get ds k ≡ Some (get_or c.deps-deps.result.now k zero)) c.deps-deps.ensures.deps (slice_get-get_or c.deps-deps.result.now k zero c.in-Some.ensures.best.within);
         cutting = c.in-Some.ensures.best.cutting zero;
-        lhs = subst (λ (l : AttrSet). Within (places l) (universe_of s)) (sym now.same_lhs) c.requires.lhs;
+        lhs = subst (λ (l : AttrSet). IsSubset (attributes l) (universe_of s)) (sym now.same_lhs) c.requires.lhs;
         attribute = omega (arith, c.requires.attribute);
-        shown = subst (λ (l : AttrSet). IsPartProof s (places l) c.args.attribute (places c.loop-k.from.part) (tree_of c.loop-k.from.deriv.value)) (sym now.same_lhs) now.shown;
+        shown = subst (λ (l : AttrSet). IsPartProof s (attributes l) c.args.attribute (attributes c.loop-k.from.part) (tree_of c.loop-k.from.deriv.value)) (sym now.same_lhs) now.shown;
       };
     }
 
 pub returns : goal.returns
 returns c =
     let s = c.args.schema.now in
-    let w = places c.loop-k.from.part in
+    let w = attributes c.loop-k.from.part in
     let shown = c.loop-k.invariant.shown in
     let whole : All (LeavesWhole w w) (dependencies_of (deps_of s)) = subst (λ (ds : List Dep). All (LeavesWhole w w) (dependencies_of ds)) c.deps-deps.ensures.deps (c.in_default.ensures.none refl) in
-    record { shown = (shown, part_last s (places c.args.lhs) c.args.attribute w (tree_of c.loop-k.from.deriv.value) c.requires.lhs shown whole) }
+    record { shown = (shown, part_last s (attributes c.args.lhs) c.args.attribute w (tree_of c.loop-k.from.deriv.value) c.requires.lhs shown whole) }

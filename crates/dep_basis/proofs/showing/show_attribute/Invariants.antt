@@ -1,16 +1,16 @@
 use Rattle.std.proofs.Common.{◌≡◌}
-use Rattle.attr_sets.specs.Places.{count_below}
-use Rattle.attr_sets.specs.Sets.{places}
-use Rattle.attr_sets.specs.declared.set.TheConstants.{PLACES}
+use Rattle.attr_sets.specs.Attributes.{count_below}
+use Rattle.attr_sets.specs.Sets.{attributes}
+use Rattle.attr_sets.specs.declared.set.TheConstants.{MOST_ATTRIBUTES}
 use Rattle.derivation.specs.Derivs.{tree_of}
-use Rattle.dep_basis.specs.Shown.{IsPartProof}
+use Rattle.dep_basis.specs.CutProofs.{IsPartProof}
 use Rattle.dep_basis.proofs.showing.show_attribute.Given as goal
 
 abbrev pub invariant-loop-k : goal.invariant-loop-k
 invariant-loop-k l = record {
   same_lhs : l.from.lhs ≡ l.fn.lhs;
-  shown : IsPartProof l.schema (places l.fn.lhs) l.attribute (places l.from.part) (tree_of l.from.deriv.value);
+  shown : IsPartProof l.schema (attributes l.fn.lhs) l.attribute (attributes l.from.part) (tree_of l.from.deriv.value);
 }
 
 abbrev pub decreases-loop-k : goal.decreases-loop-k
-decreases-loop-k l = count_below (places l.from.part) PLACES
+decreases-loop-k l = count_below (attributes l.from.part) MOST_ATTRIBUTES

@@ -8,16 +8,16 @@ use Rattle.dep_model.specs.Schemas.{universe_of, ImpliedBy}
 use Rattle.derivation.specs.declared.fault.Fault.{Fault}
 use Rattle.derivation.specs.Trees.{Tree}
 use Rattle.derivation.specs.Derivs.{tree_of, outcome_of}
-use Rattle.derivation.specs.Conclusions.{Proves, concluded}
-use Rattle.derivation.proofs.ConclusionLemmas.{concluded-proves, concluded-from}
-use Rattle.derivation.proofs.SoundnessLemmas.{sound}
+use Rattle.derivation.specs.Conclusions.{Proves, conclusion_after}
+use Rattle.derivation.proofs.ConclusionLemmas.{conclusion_after-proves, conclusion_after-from}
+use Rattle.derivation.proofs.SoundnessLemmas.{proved_is_implied}
 use Rattle.derivation.proofs.WithinLemmas.{tree_of-attributes, conclusion_within}
 use Rattle.derivation.proofs.concluding.conclude.Goals as goal
 
 -- what holds of all that a tree proves holds of what is concluded
-of_proved : (P : Dependency → Type 0) (s : Schema) (t : Tree) (r : Result Dep Fault) → outcome_of r ≡ concluded s 0 t
+of_proved : (P : Dependency → Type 0) (s : Schema) (t : Tree) (r : Result Dep Fault) → outcome_of r ≡ conclusion_after s 0 t
     → ((d : Dependency) → Proves s t d → P d) → IfOk r (λ d. P (dependency_of d))
-of_proved P s t (Ok d) exact each = each (dependency_of d) (concluded-proves s 0 t (dependency_of d) (sym exact))
+of_proved P s t (Ok d) exact each = each (dependency_of d) (conclusion_after-proves s 0 t (dependency_of d) (sym exact))
 of_proved P s t (Err e) exact each = tt {0}
 
 pub returns-clause-proves : goal.returns-clause-proves
@@ -27,13 +27,13 @@ returns-clause-proves c =
     of_proved (Proves s t) s t c.conclude_after.result c.conclude_after.ensures.exact (λ d proves. proves)
 
 pub returns-clause-only : goal.returns-clause-only
-returns-clause-only c d proves = c.conclude_after.ensures.exact ∙ concluded-from c.args.schema.now 0 (tree_of c.args.deriv.now) d proves
+returns-clause-only c d proves = c.conclude_after.ensures.exact ∙ conclusion_after-from c.args.schema.now 0 (tree_of c.args.deriv.now) d proves
 
-pub returns-clause-sound : goal.returns-clause-sound
-returns-clause-sound c =
+pub returns-clause-implied : goal.returns-clause-implied
+returns-clause-implied c =
     let s = c.args.schema.now in
     let t = tree_of c.args.deriv.now in
-    of_proved (ImpliedBy s) s t c.conclude_after.result c.conclude_after.ensures.exact (sound s t)
+    of_proved (ImpliedBy s) s t c.conclude_after.result c.conclude_after.ensures.exact (proved_is_implied s t)
 
 pub returns-clause-within : goal.returns-clause-within
 returns-clause-within c =

@@ -1,5 +1,5 @@
-use Rattle.derivation.proofs.ConclusionLemmas.{concluded-proves, concluded-from}
+use Rattle.derivation.proofs.ConclusionLemmas.{conclusion_after-proves, conclusion_after-from}
 use Rattle.derivation.proofs.laws.conclusion_is_proved.Goals as goal
 
 pub returns : goal.returns
-returns c = record { law = λ s before t d. (concluded-proves s before t d, concluded-from s before t d) }
+returns c = record { law = λ s before t d. (conclusion_after-proves s before t d, conclusion_after-from s before t d) }

@@ -1,5 +1,5 @@
-use Rattle.derivation.proofs.ConclusionLemmas.{concluded-fault}
+use Rattle.derivation.proofs.ConclusionLemmas.{conclusion_after-fault}
 use Rattle.derivation.proofs.laws.fault_is_inside.Goals as goal
 
 pub returns : goal.returns
-returns c = record { law = concluded-fault }
+returns c = record { law = conclusion_after-fault }

@@ -8,26 +8,26 @@ pub depth-requires : goal.depth-requires
 depth-requires t c =
     let all = step_nodes c.in-Step.is in
     let premise = same_nodes c.deref.ensures in
-    (omega (arith, all, premise), omega (arith, all, premise, c.requires.few))
+    (omega (arith, all, premise), omega (arith, all, premise, c.requires.fits_u32))
 
 pub overflow_add-result : goal.overflow_add-result
 overflow_add-result t c =
-    omega (arith, step_nodes c.in-Step.is, same_nodes c.deref.ensures, depth-le-nodes (tree_of c.deref.result.now), c.requires.few)
+    omega (arith, step_nodes c.in-Step.is, same_nodes c.deref.ensures, depth-le-nodes (tree_of c.deref.result.now), c.requires.fits_u32)
 
 pub depth-requires-in-Pair : goal.depth-requires-in-Pair
 depth-requires-in-Pair t c =
     let all = pair_nodes c.in-Pair.is in
     let premise = same_nodes c.deref-in-Pair.ensures in
-    (omega (arith, all, premise), omega (arith, all, premise, c.requires.few))
+    (omega (arith, all, premise), omega (arith, all, premise, c.requires.fits_u32))
 
 pub depth-requires-in-Pair-2 : goal.depth-requires-in-Pair-2
 depth-requires-in-Pair-2 t c =
     let all = pair_nodes c.in-Pair.is in
     let premise = same_nodes c.deref-in-Pair-2.ensures in
-    (omega (arith, all, premise), omega (arith, all, premise, c.requires.few))
+    (omega (arith, all, premise), omega (arith, all, premise, c.requires.fits_u32))
 
 pub overflow_add-result-in-Pair : goal.overflow_add-result-in-Pair
 overflow_add-result-in-Pair t c =
     let first = c.deref-in-Pair in
     let second = c.deref-in-Pair-2 in
-    omega (arith, pair_nodes c.in-Pair.is, same_nodes first.ensures, same_nodes second.ensures, depth-le-nodes (tree_of first.result.now), depth-le-nodes (tree_of second.result.now), c.requires.few)
+    omega (arith, pair_nodes c.in-Pair.is, same_nodes first.ensures, same_nodes second.ensures, depth-le-nodes (tree_of first.result.now), depth-le-nodes (tree_of second.result.now), c.requires.fits_u32)

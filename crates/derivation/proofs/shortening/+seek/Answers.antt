@@ -7,7 +7,7 @@ use Rattle.derivation.specs.declared.shortening.Sought.{Sought}
 use Rattle.derivation.specs.declared.shortening.Sought.TheVariants.{Found, Whole}
 use Rattle.derivation.specs.Trees.{Tree, leaf, step, pair, nodes}
 use Rattle.derivation.specs.Derivs.{tree_of, leaf_of, step_of, pair_of}
-use Rattle.derivation.specs.Shortened.{IsSought, HasFew}
+use Rattle.derivation.specs.Shortened.{IsSought, NodesFit}
 use Rattle.derivation.proofs.TreeLemmas.{nodes-pos}
 use Rattle.derivation.proofs.ShorteningLemmas.{part-nodes}
 use Rattle.derivation.proofs.shortening.+seek.Goals as goal
@@ -20,38 +20,38 @@ pair_whole : (t : _) (c : In-Pair t) → tree_of c.args.deriv.value ≡ pair (pa
 pair_whole t c = ap tree_of (sym (c.replace.ensures.value ∙ c.deref_mut.ensures.value) ∙ c.in-Pair.is)
 
 -- what is found in a tree is no larger
-few_found : (s : Schema) (t : Tree) (d : Dependency) (r : Sought) → nodes t < 2 ^ 32 → IsSought s t d r → HasFew r
+few_found : (s : Schema) (t : Tree) (d : Dependency) (r : Sought) → nodes t < 2 ^ 32 → IsSought s t d r → NodesFit r
 few_found s t d (Found b) few found = omega (arith, few, part-nodes (tree_of b.value) t found.part)
 few_found s t d (Whole whole) few found = let same : nodes (tree_of whole.deriv.value) ≡ nodes t = ap nodes found.0.same in omega (arith, few, same)
 
 pub seek-from-requires : goal.seek-from-requires
-seek-from-requires t c = let all = ap nodes (step_whole t c) in (omega (arith, all), omega (arith, all, c.requires.few))
+seek-from-requires t c = let all = ap nodes (step_whole t c) in (omega (arith, all), omega (arith, all, c.requires.fits_u32))
 
 pub seek-left-requires : goal.seek-left-requires
 seek-left-requires t c =
     let all = ap nodes (pair_whole t c) in
-    (omega (arith, all, nodes-pos (tree_of c.in-Pair.second.value)), omega (arith, all, c.requires.few))
+    (omega (arith, all, nodes-pos (tree_of c.in-Pair.second.value)), omega (arith, all, c.requires.fits_u32))
 
 pub seek-right-requires : goal.seek-right-requires
 seek-right-requires t c =
     let all = ap nodes (pair_whole t ((goal.at.seek-right-requires t c).In-Pair)) in
-    (omega (arith, all, nodes-pos (tree_of c.in-Pair.first.value)), omega (arith, all, c.requires.few))
+    (omega (arith, all, nodes-pos (tree_of c.in-Pair.first.value)), omega (arith, all, c.requires.fits_u32))
 
-pub seek_pair-requires-clause-few_left : goal.seek_pair-requires-clause-few_left
-seek_pair-requires-clause-few_left t c =
-    let all = ap nodes (pair_whole t ((goal.at.seek_pair-requires-clause-few_left t c).In-Pair)) in
-    few_found c.args.schema.now (tree_of c.in-Pair.first.value) (dependency_of c.args.sought) c.seek-left.result (omega (arith, all, c.requires.few)) c.seek-left.ensures.sought
+pub seek_pair-requires-clause-left_fits_u32 : goal.seek_pair-requires-clause-left_fits_u32
+seek_pair-requires-clause-left_fits_u32 t c =
+    let all = ap nodes (pair_whole t ((goal.at.seek_pair-requires-clause-left_fits_u32 t c).In-Pair)) in
+    few_found c.args.schema.now (tree_of c.in-Pair.first.value) (dependency_of c.args.sought) c.seek-left.result (omega (arith, all, c.requires.fits_u32)) c.seek-left.ensures.sought
 
-pub seek_pair-requires-clause-few_right : goal.seek_pair-requires-clause-few_right
-seek_pair-requires-clause-few_right t c =
-    let all = ap nodes (pair_whole t ((goal.at.seek_pair-requires-clause-few_right t c).In-Pair)) in
-    few_found c.args.schema.now (tree_of c.in-Pair.second.value) (dependency_of c.args.sought) c.seek-right.result (omega (arith, all, c.requires.few)) c.seek-right.ensures.sought
+pub seek_pair-requires-clause-right_fits_u32 : goal.seek_pair-requires-clause-right_fits_u32
+seek_pair-requires-clause-right_fits_u32 t c =
+    let all = ap nodes (pair_whole t ((goal.at.seek_pair-requires-clause-right_fits_u32 t c).In-Pair)) in
+    few_found c.args.schema.now (tree_of c.in-Pair.second.value) (dependency_of c.args.sought) c.seek-right.result (omega (arith, all, c.requires.fits_u32)) c.seek-right.ensures.sought
 
 pub returns-in-Leaf : goal.returns-in-Leaf
 returns-in-Leaf t c =
     let whole = ap tree_of (sym (c.replace.ensures.value ∙ c.deref_mut.ensures.value) ∙ c.in-Leaf.is) in
     record {
-      sought = rw whole (c.told.ensures.sought c.args.schema.now (leaf (leaf_of c.in-Leaf.rule)) c.conclude_leaf.ensures.concluded (λ u below proves. below));
+      sought = rw whole (c.seek_root.ensures.sought c.args.schema.now (leaf (leaf_of c.in-Leaf.rule)) c.conclude_leaf.ensures.concluded (λ u below proves. below));
     }
 
 pub returns-in-Step : goal.returns-in-Step

@@ -13,17 +13,17 @@ pair_whole : (t : _) (c : In-Pair t) → tree_of c.args.deriv.value ≡ pair (pa
 pair_whole t c = ap tree_of (sym (c.replace.ensures.value ∙ c.deref_mut.ensures.value) ∙ c.in-Pair.is)
 
 pub shorten_all-from-requires : goal.shorten_all-from-requires
-shorten_all-from-requires t c = let all = ap nodes (step_whole t c) in (omega (arith, all), omega (arith, all, c.requires.few))
+shorten_all-from-requires t c = let all = ap nodes (step_whole t c) in (omega (arith, all), omega (arith, all, c.requires.fits_u32))
 
 pub shorten_all-left-requires : goal.shorten_all-left-requires
 shorten_all-left-requires t c =
     let all = ap nodes (pair_whole t c) in
-    (omega (arith, all, nodes-pos (tree_of c.in-Pair.second.value)), omega (arith, all, c.requires.few))
+    (omega (arith, all, nodes-pos (tree_of c.in-Pair.second.value)), omega (arith, all, c.requires.fits_u32))
 
 pub shorten_all-right-requires : goal.shorten_all-right-requires
 shorten_all-right-requires t c =
     let all = ap nodes (pair_whole t ((goal.at.shorten_all-right-requires t c).In-Pair)) in
-    (omega (arith, all, nodes-pos (tree_of c.in-Pair.first.value)), omega (arith, all, c.requires.few))
+    (omega (arith, all, nodes-pos (tree_of c.in-Pair.first.value)), omega (arith, all, c.requires.fits_u32))
 
 pub least_of-requires-in-Pair : goal.least_of-requires-in-Pair
 least_of-requires-in-Pair t c =
@@ -33,7 +33,7 @@ least_of-requires-in-Pair t c =
     let all = ap nodes (pair_whole t ((goal.at.least_of-requires-in-Pair t c).In-Pair)) in
     let made = c.conclude_pair.ensures.concluded s (tree_of first.result.deriv.value) (tree_of second.result.deriv.value)
     (as_concluded s (tree_of c.in-Pair.first.value) first.result first.ensures.shortened) (as_concluded s (tree_of c.in-Pair.second.value) second.result second.ensures.shortened) in
-    record { few = omega (arith, all, ap nodes made.same, first.ensures.shortened.few_nodes, second.ensures.shortened.few_nodes, c.requires.few) }
+    record { fits_u32 = omega (arith, all, ap nodes made.same, first.ensures.shortened.few_nodes, second.ensures.shortened.few_nodes, c.requires.fits_u32) }
 
 pub returns-in-Step : goal.returns-in-Step
 returns-in-Step t c =

@@ -53,6 +53,6 @@ returns c = record {
   sought = λ s t u left right.
       let one = rw c.in-Whole-Whole.is-0 at left in
       let other = rw c.in-Whole-Whole.is-1 at right in
-      c.told.ensures.sought s (pair (pair_of c.args.rule) t u) (c.conclude_pair.ensures.concluded s t u one.0 other.0)
+      c.seek_root.ensures.sought s (pair (pair_of c.args.rule) t u) (c.conclude_pair.ensures.concluded s t u one.0 other.0)
       (λ v below proves. ⊎_elim (λ first. one.1 v first proves) (λ second. other.1 v second proves) below);
 }

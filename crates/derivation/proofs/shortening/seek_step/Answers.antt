@@ -13,5 +13,5 @@ pub returns-in-Whole : goal.returns-in-Whole
 returns-in-Whole c = record {
   sought = λ t old.
       let all = rw c.in-Whole.is at old in
-      c.told.ensures.sought c.args.schema.now (step (step_of c.args.rule) t) (c.conclude_step.ensures.concluded t all.0) (λ u below. all.1 u below);
+      c.seek_root.ensures.sought c.args.schema.now (step (step_of c.args.rule) t) (c.conclude_step.ensures.concluded t all.0) (λ u below. all.1 u below);
 }

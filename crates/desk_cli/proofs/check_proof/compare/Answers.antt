@@ -3,7 +3,7 @@ use Rattle.dep_model.specs.Deps.{dependency_of}
 use Rattle.desk_cli.proofs.check_proof.compare.Goals as goal
 
 pub returns-in-Err : goal.returns-in-Err
-returns-in-Err c = record { reply = λ tree proves. λ reply is. inl (c.in-Err.ensures.stop reply is) }
+returns-in-Err c = record { response = λ tree proves. λ response is. inl (c.in-Err.ensures.exit response is) }
 
 pub returns : goal.returns
-returns c = record { reply = λ tree proves. inr (dependency_of c.in-Ok.dep, c.in-Ok.ensures.ok, c.in_ok-checked.ensures.answer tree proves) }
+returns c = record { response = λ tree proves. inr (dependency_of c.in-Ok.dep, c.in-Ok.ensures.ok, c.in_ok-proof_response.ensures.response tree proves) }

@@ -2,14 +2,14 @@ use Rattle.std.proofs.Common.{◌≡◌, [], List, length, ap, subst, arith}
 use Rattle.std.proofs.lemmas.Bool.{false≢true}
 use Rattle.std.proofs.lemmas.Bool.Decides.{nat_tests}
 use Rattle.legality.specs.declared.offence.Offence.{Offence}
-use Rattle.desk_cli.specs.Answers.{Says}
+use Rattle.desk_cli.specs.ResponseValues.{Says}
 use Rattle.desk_cli.specs.Legality.{offences_text}
-use Rattle.desk_cli.specs.Replies.{answer_of}
+use Rattle.desk_cli.specs.Responses.{response_value}
 use Rattle.desk_cli.specs.declared.status.Status.TheVariants.{No}
 use Rattle.desk_cli.proofs.check_rows.test_rows.Goals as goal
 
-pub returns-clause-stop : goal.returns-clause-stop
-returns-clause-stop c = λ reply is. (
+pub returns-clause-exit : goal.returns-clause-exit
+returns-clause-exit c = λ response is. (
   (λ legal.
       let none : c.in_ok-found.found.items ≡ [] = c.in_ok-found.ensures.legal.1 legal in
       let count : length c.in_ok-found.found.items ≡ 0 = ap length none in
@@ -17,6 +17,6 @@ returns-clause-stop c = λ reply is. (
   (
     c.in_ok-found.found.items,
     c.in_ok-found.ensures.offences,
-    subst (λ (found : List Offence). Says No (offences_text c.args.schema.now found) (answer_of reply)) c.deref.ensures.value (c.offended.ensures.says reply is),
+    subst (λ (found : List Offence). Says No (offences_text c.args.schema.now found) (response_value response)) c.deref.ensures.value (c.offences_exit.ensures.says response is),
   ),
 )

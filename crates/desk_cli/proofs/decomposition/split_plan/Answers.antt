@@ -1,5 +1,5 @@
 use Rattle.std.proofs.Common.{inl, inr, subst}
-use Rattle.attr_sets.specs.Sets.{places}
+use Rattle.attr_sets.specs.Sets.{attributes}
 use Rattle.dep_model.specs.Schemas.{width_of, theory_of}
 use Rattle.dep_model.proofs.FailureLemmas.{refused_is}
 use Rattle.split_forms.specs.Refusals.{IsRefusedSplit}
@@ -8,23 +8,23 @@ use Rattle.desk_cli.specs.declared.decomposition.TheConstants.{MOST_SPLIT_SCHEME
 use Rattle.desk_cli.proofs.SplitLemmas.{stuck_within}
 use Rattle.desk_cli.proofs.decomposition.split_plan.Goals as goal
 
-pub too_wide-requires : goal.too_wide-requires
-too_wide-requires c =
+pub too_wide_exit-requires : goal.too_wide_exit-requires
+too_wide_exit-requires c =
     let s = c.args.schema.now in
     let refused = refused_is _ _ _ c.in-Err-Refused.field-0-is c.in-Err-Refused.ensures.refused in
-    let wide = subst (λ (e : SplitRefusal). IsRefusedSplit (width_of s) (theory_of s) c.args.form MOST_SPLIT_SCHEMES e) (rw c.in-Err-Refused.field-0-is at c.in-TooWide.is) refused in
-    record { within = stuck_within (width_of s) (theory_of s) c.args.form MOST_SPLIT_SCHEMES (places c.in-TooWide.scheme) s.valid.some_names c.requires.form wide.0 }
+    let wide = subst (λ (e : SplitRefusal). IsRefusedSplit (width_of s) (theory_of s) c.args.form MOST_SPLIT_SCHEMES e) c.in-TooWide.is refused in
+    record { within = stuck_within (width_of s) (theory_of s) c.args.form MOST_SPLIT_SCHEMES (attributes c.in-TooWide.scheme) s.valid.some_names c.requires.form wide.0 }
 
-pub returns-in-TooWide-clause-stop : goal.returns-in-TooWide-clause-stop
-returns-in-TooWide-clause-stop c = λ reply is.
+pub returns-in-TooWide-clause-exit : goal.returns-in-TooWide-clause-exit
+returns-in-TooWide-clause-exit c = λ response is.
     let s = c.args.schema.now in
     let refused = refused_is _ _ _ c.in-Err-Refused.field-0-is c.in-Err-Refused.ensures.refused in
-    let wide = subst (λ (e : SplitRefusal). IsRefusedSplit (width_of s) (theory_of s) c.args.form MOST_SPLIT_SCHEMES e) (rw c.in-Err-Refused.field-0-is at c.in-TooWide.is) refused in
-    inl (places c.in-TooWide.scheme, wide.0, c.too_wide.ensures.says reply is)
+    let wide = subst (λ (e : SplitRefusal). IsRefusedSplit (width_of s) (theory_of s) c.args.form MOST_SPLIT_SCHEMES e) c.in-TooWide.is refused in
+    inl (attributes c.in-TooWide.scheme, wide.0, c.too_wide_exit.ensures.says response is)
 
-pub returns-in-TooManySchemes-clause-stop : goal.returns-in-TooManySchemes-clause-stop
-returns-in-TooManySchemes-clause-stop c = λ reply is.
+pub returns-in-TooManySchemes-clause-exit : goal.returns-in-TooManySchemes-clause-exit
+returns-in-TooManySchemes-clause-exit c = λ response is.
     let s = c.args.schema.now in
     let refused = refused_is _ _ _ c.in-Err-Refused.field-0-is c.in-Err-Refused.ensures.refused in
-    let many = subst (λ (e : SplitRefusal). IsRefusedSplit (width_of s) (theory_of s) c.args.form MOST_SPLIT_SCHEMES e) (rw c.in-Err-Refused.field-0-is at c.in-TooManySchemes.is) refused in
-    inr (many.0, c.too_many_schemes.ensures.says reply is)
+    let many = subst (λ (e : SplitRefusal). IsRefusedSplit (width_of s) (theory_of s) c.args.form MOST_SPLIT_SCHEMES e) c.in-TooManySchemes.is refused in
+    inr (many.0, c.too_many_schemes_exit.ensures.says response is)

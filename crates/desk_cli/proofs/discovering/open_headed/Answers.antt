@@ -2,10 +2,10 @@ use Rattle.std.proofs.Common.{ℕ, List, subst}
 use Rattle.csv_rows.specs.Records.{records_of}
 use Rattle.fd_discovery.specs.Headings.{IsHeaded, IsRefusedDiscovery}
 use Rattle.dep_model.proofs.FailureLemmas.{refused_is}
-use Rattle.desk_cli.specs.Answers.{Says}
+use Rattle.desk_cli.specs.ResponseValues.{Says}
 use Rattle.desk_cli.specs.Discoveries.{headed_refusal_text}
 use Rattle.desk_cli.specs.declared.status.Status.TheVariants.{Refused}
-use Rattle.desk_cli.specs.Replies.{StopsAs}
+use Rattle.desk_cli.specs.Responses.{ExitsAs}
 use Rattle.desk_cli.proofs.HeadedLemmas.{headed_stop}
 use Rattle.desk_cli.proofs.discovering.open_headed.Goals as goal
 
@@ -16,10 +16,10 @@ returns-in-Ok-read_headed-clause-ok g c = λ r same. record {
   means = subst (λ (bytes : List ℕ). IsHeaded (records_of bytes) c.in-Ok-read_headed.headed) c.deref.ensures.value c.in-Ok-read_headed.ensures.ok;
 }
 
-pub returns-in-Err-Refused-clause-stop : goal.returns-in-Err-Refused-clause-stop
-returns-in-Err-Refused-clause-stop g c = λ r shows.
+pub returns-in-Err-Refused-clause-exit : goal.returns-in-Err-Refused-clause-exit
+returns-in-Err-Refused-clause-exit g c = λ r shows.
     let refusal = c.in-Err-Refused.refusal in
     let refuses = refused_is _ _ _ c.in-Err-Refused.field-0-is c.in-Err-Refused.ensures.err in
     let refused = subst (λ (bytes : List ℕ). IsRefusedDiscovery (records_of bytes) refusal) c.deref.ensures.value refuses in
-    let tells = subst (λ (name : List ℕ). StopsAs (Says Refused (headed_refusal_text name refusal)) c.headed_refused.result) c.bytes.ensures.bytes (rw c.in-Err-Refused.field-0-is at c.headed_refused.ensures.says) in
-    headed_stop r c.args.name.now c.in-Ok.bytes.items refusal c.headed_refused.result (c.in-Ok.ensures.ok r shows.same) refused tells
+    let exits_as = subst (λ (name : List ℕ). ExitsAs (Says Refused (headed_refusal_text name refusal)) c.headed_refusal_exit.result) c.bytes.ensures.bytes c.headed_refusal_exit.ensures.says in
+    headed_stop r c.args.name.now c.in-Ok.bytes.items refusal c.headed_refusal_exit.result (c.in-Ok.ensures.ok r shows.same) refused exits_as

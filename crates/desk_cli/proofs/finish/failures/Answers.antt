@@ -4,8 +4,8 @@ use Rattle.desk_cli.proofs.finish.failures.Goals as goal
 
 pub loop-i-preserved : goal.loop-i-preserved
 loop-i-preserved c = record {
-  lines = failures_next c.args.ends.now _ _ _ _ c.loop-i-test.true c.loop-i.invariant.lines c.put_end.ensures.more;
-  short = omega (arith, c.put_end.ensures.short, c.loop-i.invariant.short);
+  lines = failures_next c.args.ends.now _ _ _ _ c.loop-i-test.true c.loop-i.invariant.lines c.put_end.ensures.added;
+  short = omega (arith, c.put_end.ensures.at_most_a_line, c.loop-i.invariant.short);
   has_room = omega (arith, c.put_end.ensures.keeps, c.loop-i.invariant.has_room);
 }
 

@@ -1,7 +1,7 @@
 use Rattle.std.proofs.Common.{◌≡◌, ◌≤◌, ◌++◌, ◌+◌, ◌*◌, length, drop}
 use Rattle.std.specs.Prelude.{vec_capacity}
 use Rattle.desk_cli.specs.declared.finish.TheConstants.{LINE}
-use Rattle.desk_cli.specs.Endings.{failures_text}
+use Rattle.desk_cli.specs.Outcomes.{failures_text}
 use Rattle.desk_cli.proofs.finish.failures.Given as goal
 
 -- what the ends so far said, and the rest will say; each took at most a line of the room

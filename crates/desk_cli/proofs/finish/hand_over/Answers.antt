@@ -6,7 +6,7 @@ pub returns-clause-ends : goal.returns-clause-ends
 returns-clause-ends g c = record {
   yes = refl;
   ends = c.in_ok-ends.ends.items;
-  fed = c.in_ok-ends.ensures.fed;
+  written = c.in_ok-ends.ensures.written;
   memory = rw c.deref.ensures.value at c.in_ok-end.ensures.memory;
   reports = rw c.deref.ensures.value at (c.in_ok-end.ensures.reports (table_values c.args.tables.now));
 }

@@ -5,28 +5,28 @@ use Rattle.dep_model.specs.Plans.{schemes_of}
 use Rattle.dep_model.specs.Projections.{Covers}
 use Rattle.dep_model.specs.Schemas.{width_of}
 use Rattle.desk_cli.specs.Joins.{IsShownLossless, LossStops}
-use Rattle.desk_cli.specs.Replies.{answer_of}
+use Rattle.desk_cli.specs.Responses.{response_value}
 use Rattle.desk_cli.proofs.join.check_join.Goals as goal
 
 pub test_loss-requires-clause-covers : goal.test_loss-requires-clause-covers
 test_loss-requires-clause-covers g c =
     subst (λ (schemes : List AttrSet). Covers (width_of c.args.schema.now) (schemes_of schemes)) (sym c.schemes.ensures.schemes) c.in-Ok.ensures.covers
 
-pub returns-in-Err-test_loss-clause-reply : goal.returns-in-Err-test_loss-clause-reply
-returns-in-Err-test_loss-clause-reply g c = λ r shows reply is.
+pub returns-in-Err-test_loss-clause-response : goal.returns-in-Err-test_loss-clause-response
+returns-in-Err-test_loss-clause-response g c = λ r shows response is.
     inr (
       plan_of c.in-Ok.plan,
       c.in-Ok.ensures.ok r shows.same,
-      inl (subst (λ (schemes : List AttrSet). LossStops c.args.schema.now (schemes_of schemes) (answer_of reply)) c.schemes.ensures.schemes (c.in-Err-test_loss.ensures.stop reply is)),
+      inl (subst (λ (schemes : List AttrSet). LossStops c.args.schema.now (schemes_of schemes) (response_value response)) c.schemes.ensures.schemes (c.in-Err-test_loss.ensures.exit response is)),
     )
 
-pub returns-clause-reply : goal.returns-clause-reply
-returns-clause-reply g c = λ r shows.
+pub returns-clause-response : goal.returns-clause-response
+returns-clause-response g c = λ r shows.
     inr (
       plan_of c.in-Ok.plan,
       c.in-Ok.ensures.ok r shows.same,
       inr (
         subst (λ (schemes : List AttrSet). IsShownLossless c.args.schema.now (schemes_of schemes)) c.schemes.ensures.schemes c.in-Ok-test_loss.ensures.ok,
-        c.in_ok-lossless.ensures.says,
+        c.in_ok-lossless_response.ensures.says,
       ),
     )

@@ -6,20 +6,20 @@ use Rattle.dep_model.specs.Plans.{schemes_of}
 use Rattle.dep_model.specs.Schemas.{names_of, width_of, theory_of, TypedFor}
 use Rattle.dep_model.specs.Tuples.{Tuple, Relation}
 use Rattle.tableau_chase.specs.Chases.{IfLossy}
-use Rattle.tableau_chase.specs.declared.chased.Chased.{Chased}
-use Rattle.tableau_chase.specs.declared.chased.Chased.TheVariants.{Lossless, Lossy}
+use Rattle.tableau_chase.specs.declared.outcome.Chased.{Chased}
+use Rattle.tableau_chase.specs.declared.outcome.Chased.TheVariants.{Lossless, Lossy}
 use Rattle.desk_cli.specs.declared.join.TheConstants.{MOST_TABLEAU_ROWS}
 use Rattle.desk_cli.specs.declared.status.Status.TheVariants.{No}
-use Rattle.desk_cli.specs.Answers.{Says}
+use Rattle.desk_cli.specs.ResponseValues.{Says}
 use Rattle.desk_cli.specs.Joins.{lossy_text}
-use Rattle.desk_cli.specs.Replies.{answer_of}
+use Rattle.desk_cli.specs.Responses.{response_value}
 use Rattle.desk_cli.proofs.join.test_loss.Goals as goal
 
 not_both : (chased : Chased) (rows : Vec Tuple Global) → chased ≡ Lossy rows → chased ≡ Lossless → ⊥
 not_both chased rows lossy lossless = cc
 
-pub returns-in-Ok-Lossy-clause-stop : goal.returns-in-Ok-Lossy-clause-stop
-returns-in-Ok-Lossy-clause-stop c = λ reply is.
+pub returns-in-Ok-Lossy-clause-exit : goal.returns-in-Ok-Lossy-clause-exit
+returns-in-Ok-Lossy-clause-exit c = λ response is.
     let s = c.args.schema.now in
     let n = width_of s in
     let ds = theory_of s in
@@ -35,6 +35,6 @@ returns-in-Ok-Lossy-clause-stop c = λ reply is.
           gaining = subst (λ (chased : Chased). IfLossy (IsGaining n ds plan) chased) lossy.field-0-is lossy.ensures.gaining;
           typed = subst (λ (chased : Chased). IfLossy (TypedFor s) chased) lossy.field-0-is lossy.ensures.typed;
         },
-        subst (λ (rows : Relation). Says No (lossy_text (names_of s) rows) (answer_of reply)) c.deref.ensures.value (c.lossy.ensures.says reply is),
+        subst (λ (rows : Relation). Says No (lossy_text (names_of s) rows) (response_value response)) c.deref.ensures.value (c.lossy_exit.ensures.says response is),
       ),
     )

@@ -4,9 +4,9 @@ use Rattle.dep_model.specs.Plans.{schemes_of}
 use Rattle.dep_model.specs.Schemas.{width_of, theory_of}
 use Rattle.preservation.specs.Keeping.{LossesOf}
 use Rattle.preservation.specs.declared.losing.Loss.{Loss}
-use Rattle.desk_cli.specs.Answers.{Says}
+use Rattle.desk_cli.specs.ResponseValues.{Says}
 use Rattle.desk_cli.specs.Keeping.{loss_text, shown_text}
-use Rattle.desk_cli.specs.Replies.{answer_of}
+use Rattle.desk_cli.specs.Responses.{response_value}
 use Rattle.desk_cli.specs.declared.status.Status.TheVariants.{No}
 use Rattle.desk_cli.proofs.LossLemmas.{losses_within, split_first}
 use Rattle.desk_cli.proofs.keeping.judge_keeping.Goals as goal
@@ -34,7 +34,7 @@ returns c =
     let are : items ≡ first ∷ more = sym c.as_slice.ensures.value ∙ split_first xs nothing some in
     let text = c.in_ok-losses_lines-in-len1-up.ensures.text ∙ ap (λ (l : List Loss). flat_map (loss_text s) l ++ shown_text s first) (c.deref.ensures.value ∙ are) in
     record {
-      answer = inr (
+      response = inr (
         (λ keeps.
             let none : xs ≡ [] = c.as_slice.ensures.value ∙ c.in_ok-losses.ensures.keeps.1 keeps in
             let count : length xs ≡ 0 = ap length none in
@@ -43,7 +43,7 @@ returns c =
           first,
           more,
           subst (LossesOf (width_of s) (theory_of s) plan) are c.in_ok-losses.ensures.losses,
-          subst (λ (t : List ℕ). Says No t (answer_of c.says-in-len1-up.result)) text c.says-in-len1-up.ensures.says,
+          subst (λ (t : List ℕ). Says No t (response_value c.with_text-in-len1-up.result)) text c.with_text-in-len1-up.ensures.says,
         ),
       );
     }

@@ -2,13 +2,13 @@ use Rattle.std.proofs.Common.{ℕ, List, subst}
 use Rattle.dep_model.specs.Schemas.{names_of}
 use Rattle.derivation.specs.Derivs.{tree_of}
 use Rattle.dep_model.proofs.FailureLemmas.{refused_is}
-use Rattle.proof_grammar.specs.Complaints.{line_complaint_of}
+use Rattle.proof_grammar.specs.Diagnostics.{line_diagnostic_of}
 use Rattle.proof_grammar.specs.Refusals.{RefusesProof}
 use Rattle.proof_grammar.specs.Spelling.{SpellsWithin}
-use Rattle.desk_cli.specs.Answers.{Says}
+use Rattle.desk_cli.specs.ResponseValues.{Says}
 use Rattle.desk_cli.specs.declared.status.Status.TheVariants.{Refused}
 use Rattle.desk_texts.specs.ProofTexts.{proof_refusal_text}
-use Rattle.desk_cli.specs.Replies.{StopsAs}
+use Rattle.desk_cli.specs.Responses.{ExitsAs}
 use Rattle.desk_cli.proofs.MeaningLemmas.{proof_stop}
 use Rattle.desk_cli.proofs.read.open_proof.Goals as goal
 
@@ -19,16 +19,16 @@ returns-in-Ok-read_concluded-clause-ok g c = λ r same. record {
   spells = subst (λ (bytes : List ℕ). SpellsWithin c.args.schema.now bytes (tree_of c.in-Ok-read_concluded.read.deriv.value)) c.deref.ensures.value c.in-Ok-read_concluded.ensures.ok;
 }
 
-pub proof_refused-requires : goal.proof_refused-requires
-proof_refused-requires g c = record {
-  within = rw c.in-Err-Refused.field-0-is (refused_is _ _ _ c.in-Err-Refused.field-0-is c.in-Err-Refused.ensures.within);
+pub proof_refusal_exit-requires : goal.proof_refusal_exit-requires
+proof_refusal_exit-requires g c = record {
+  within = refused_is _ _ _ c.in-Err-Refused.field-0-is c.in-Err-Refused.ensures.within;
 }
 
-pub returns-in-Err-Refused-clause-stop : goal.returns-in-Err-Refused-clause-stop
-returns-in-Err-Refused-clause-stop g c = λ r shows.
+pub returns-in-Err-Refused-clause-exit : goal.returns-in-Err-Refused-clause-exit
+returns-in-Err-Refused-clause-exit g c = λ r shows.
     let s = c.args.schema.now in
     let refusal = c.in-Err-Refused.refusal in
     let refused = refused_is _ _ _ c.in-Err-Refused.field-0-is c.in-Err-Refused.ensures.err in
     let of_bytes = subst (λ (bytes : List ℕ). RefusesProof s bytes refusal) c.deref.ensures.value refused in
-    let tells = subst (λ (name : List ℕ). StopsAs (Says Refused (proof_refusal_text (names_of s) name (line_complaint_of refusal))) c.proof_refused.result) c.bytes.ensures.bytes (rw c.in-Err-Refused.field-0-is at c.proof_refused.ensures.says) in
-    proof_stop r s c.args.name.now c.in-Ok.bytes.items refusal c.proof_refused.result (c.in-Ok.ensures.ok r shows.same) of_bytes tells
+    let exits_as = subst (λ (name : List ℕ). ExitsAs (Says Refused (proof_refusal_text (names_of s) name (line_diagnostic_of refusal))) c.proof_refusal_exit.result) c.bytes.ensures.bytes c.proof_refusal_exit.ensures.says in
+    proof_stop r s c.args.name.now c.in-Ok.bytes.items refusal c.proof_refusal_exit.result (c.in-Ok.ensures.ok r shows.same) of_bytes exits_as

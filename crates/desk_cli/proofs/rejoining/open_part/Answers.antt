@@ -3,8 +3,8 @@ use Rattle.csv_rows.specs.Reading.{PartOf, HasScheme}
 use Rattle.dep_model.proofs.FailureLemmas.{refused_is}
 use Rattle.dep_model.specs.Schemas.{names_of}
 use Rattle.table_join.proofs.PartLemmas.{part_is_table}
-use Rattle.desk_cli.specs.Replies.{StopsAs}
-use Rattle.desk_cli.specs.Answers.{Says}
+use Rattle.desk_cli.specs.Responses.{ExitsAs}
+use Rattle.desk_cli.specs.ResponseValues.{Says}
 use Rattle.desk_cli.specs.Rows.{row_refusal_text}
 use Rattle.desk_cli.specs.declared.status.Status.TheVariants.{Refused}
 use Rattle.desk_cli.proofs.RowLemmas.{part_stop}
@@ -22,11 +22,11 @@ pub returns-in-Ok-read_part-clause-table : goal.returns-in-Ok-read_part-clause-t
 returns-in-Ok-read_part-clause-table g c =
     part_is_table c.args.schema.now _ c.in-Ok-read_part.part.rows c.in-Ok-read_part.part.scheme c.in-Ok-read_part.ensures.rows c.in-Ok-read_part.ensures.scheme
 
-pub returns-in-Err-Refused-clause-stop : goal.returns-in-Err-Refused-clause-stop
-returns-in-Err-Refused-clause-stop g c = λ r shows.
+pub returns-in-Err-Refused-clause-exit : goal.returns-in-Err-Refused-clause-exit
+returns-in-Err-Refused-clause-exit g c = λ r shows.
     let s = c.args.schema.now in
     let refusal = c.in-Err-Refused.refusal in
     let refuses = refused_is _ _ _ c.in-Err-Refused.field-0-is c.in-Err-Refused.ensures.err in
     let refused = subst (λ (bytes : List ℕ). PartOf s bytes (Err refusal)) c.deref.ensures.value refuses in
-    let tells = subst (λ (name : List ℕ). StopsAs (Says Refused (row_refusal_text (names_of s) name refusal)) c.rows_refused.result) c.bytes.ensures.bytes (rw c.in-Err-Refused.field-0-is at c.rows_refused.ensures.says) in
-    part_stop r s c.args.name.now c.in-Ok.bytes.items refusal c.rows_refused.result (c.in-Ok.ensures.ok r shows.same) refused tells
+    let exits_as = subst (λ (name : List ℕ). ExitsAs (Says Refused (row_refusal_text (names_of s) name refusal)) c.rows_refusal_exit.result) c.bytes.ensures.bytes c.rows_refusal_exit.ensures.says in
+    part_stop r s c.args.name.now c.in-Ok.bytes.items refusal c.rows_refusal_exit.result (c.in-Ok.ensures.ok r shows.same) refused exits_as

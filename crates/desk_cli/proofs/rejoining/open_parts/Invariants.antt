@@ -9,9 +9,9 @@ use Rattle.desk_cli.proofs.rejoining.open_parts.Given as goal
 -- the files so far were read
 abbrev pub invariant-loop-file : goal.invariant-loop-file
 invariant-loop-file g l = record {
-  files : g.F.Shelf.files l.shelf ≡ g.F.Shelf.files l.fn.shelf;
-  later : g.F.Shelf.faults l.fn.shelf ≤ g.F.Shelf.faults l.shelf;
-  read : (r : Reading) → files_in r ≡ g.F.Shelf.files l.fn.shelf → ArePartFiles r l.schema (take l.file-index l.files) l.parts.items;
+  files : g.F.FileSource.files l.source ≡ g.F.FileSource.files l.fn.source;
+  later : g.F.FileSource.faults l.fn.source ≤ g.F.FileSource.faults l.source;
+  read : (r : Reading) → files_in r ≡ g.F.FileSource.files l.fn.source → ArePartFiles r l.schema (take l.file-index l.files) l.parts.items;
   tables : All (IsTable (width_of l.schema)) (tables_of l.parts.items);
   one_each : length l.parts.items ≡ l.file-index;
 }

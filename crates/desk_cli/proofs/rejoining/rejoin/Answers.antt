@@ -1,20 +1,20 @@
 use Rattle.std.proofs.Common.{List, sym, subst}
 use Rattle.std.specs.Prelude.{All}
-use Rattle.csv_rows.specs.declared.part.Part.{Part}
+use Rattle.csv_rows.specs.declared.part.PartialRows.{PartialRows}
 use Rattle.dep_model.specs.Schemas.{width_of}
 use Rattle.table_join.specs.Tables.{IsTable, tables_of}
 use Rattle.desk_cli.specs.Rejoining.{ArePartFiles, JoinsTables, PartsStop}
-use Rattle.desk_cli.specs.Replies.{RepliesAs}
-use Rattle.desk_cli.proofs.StepLemmas.{found}
+use Rattle.desk_cli.specs.Responses.{RespondsAs}
+use Rattle.desk_cli.proofs.StepLemmas.{With-found}
 use Rattle.desk_cli.proofs.rejoining.rejoin.Goals as goal
 
 pub join_parts-requires-clause-tables : goal.join_parts-requires-clause-tables
-join_parts-requires-clause-tables g c = subst (λ (parts : List Part). All (IsTable (width_of c.args.schema.now)) (tables_of parts)) (sym c.deref.ensures.value) c.in-Ok.ensures.tables
+join_parts-requires-clause-tables g c = subst (λ (parts : List PartialRows). All (IsTable (width_of c.args.schema.now)) (tables_of parts)) (sym c.deref.ensures.value) c.in-Ok.ensures.tables
 
-pub returns-clause-reply : goal.returns-clause-reply
-returns-clause-reply g c = λ r shows.
+pub returns-clause-response : goal.returns-clause-response
+returns-clause-response g c = λ r shows.
     let s = c.args.schema.now in
     let files = c.args.files.now in
-    let joined = subst (λ (parts : List Part). RepliesAs (JoinsTables s (tables_of parts)) c.join_parts.result) c.deref.ensures.value c.join_parts.ensures.reply in
-    found (PartsStop r s files) (ArePartFiles r s files) (λ (parts : List Part). JoinsTables s (tables_of parts)) c.in-Ok.parts.items c.join_parts.result
+    let joined = subst (λ (parts : List PartialRows). RespondsAs (JoinsTables s (tables_of parts)) c.join_parts.result) c.deref.ensures.value c.join_parts.ensures.response in
+    With-found (PartsStop r s files) (ArePartFiles r s files) (λ (parts : List PartialRows). JoinsTables s (tables_of parts)) c.in-Ok.parts.items c.join_parts.result
     (c.in-Ok.ensures.ok r shows.same) joined

@@ -1,10 +1,10 @@
 use Rattle.desk_cli.proofs.row_refusals.put_reason.Goals as goal
 
 pub returns-in-UnknownColumn : goal.returns-in-UnknownColumn
-returns-in-UnknownColumn c = record { more = rw c.in-UnknownColumn.is c.put_before_number.ensures.more }
+returns-in-UnknownColumn c = record { added = rw c.in-UnknownColumn.is c.put_before_number.ensures.added }
 
 pub returns-in-MissingColumn : goal.returns-in-MissingColumn
-returns-in-MissingColumn c = record { more = rw (c.in-MissingColumn.is, ← c.name_of.ensures.name) c.put_pair.ensures.more }
+returns-in-MissingColumn c = record { added = rw (c.in-MissingColumn.is, ← c.name_of.ensures.name) c.put_pair.ensures.added }
 
 pub returns-in-NotInteger : goal.returns-in-NotInteger
-returns-in-NotInteger c = record { more = rw (c.in-NotInteger.is, ← c.name_of-in-NotInteger.ensures.name) c.put_no_integer.ensures.more }
+returns-in-NotInteger c = record { added = rw (c.in-NotInteger.is, ← c.name_of-in-NotInteger.ensures.name) c.put_no_integer.ensures.added }

@@ -1,20 +1,20 @@
 use Rattle.std.proofs.Common.{◌≡◌, ◌++◌, ℕ, List, inl, inr, sym, subst, ap, ◌∙◌, append_assoc}
 use Rattle.std.specs.Prelude.{codes}
 use Rattle.std.proofs.lemmas.Bool.{false≢true}
-use Rattle.desk_cli.specs.Answers.{Says}
-use Rattle.desk_cli.specs.Replies.{answer_of}
+use Rattle.desk_cli.specs.ResponseValues.{Says}
+use Rattle.desk_cli.specs.Responses.{response_value}
 use Rattle.desk_cli.specs.Sameness.{different_text, differences_text}
 use Rattle.desk_texts.specs.Texts.{line}
 use Rattle.desk_cli.specs.declared.status.Status.TheVariants.{Yes, No}
-use Rattle.desk_cli.proofs.SamenessLemmas.{say_the_same, differ}
+use Rattle.desk_cli.proofs.SamenessLemmas.{say_the_same, differences_differ}
 use Rattle.desk_cli.proofs.sameness.compare.Goals as goal
 
-pub returns-then-are_none : goal.returns-then-are_none
-returns-then-are_none c =
-    let none = c.are_none.ensures.none.0 c.if-are_none.true in
+pub returns-then-are_empty : goal.returns-then-are_empty
+returns-then-are_empty c =
+    let none = c.are_empty.ensures.none.0 c.if-are_empty.true in
     let there = c.in_ok-of_schema.ensures.none.0 (sym c.deref.ensures.value ∙ none.0) in
     let back = c.in_ok-of_other.ensures.none.0 (sym c.deref-2.ensures.value ∙ none.1) in
-    record { answer = inl (say_the_same c.args.schema.now c.args.other.now c.requires.names there back, subst (λ (t : List ℕ). Says Yes t (answer_of c.says.result)) c.in_ok-line_of.ensures.line c.says.ensures.says) }
+    record { response = inl (say_the_same c.args.schema.now c.args.other.now c.requires.names there back, subst (λ (t : List ℕ). Says Yes t (response_value c.with_text.result)) c.in_ok-line_of.ensures.line c.with_text.ensures.says) }
 
 pub returns : goal.returns
 returns c =
@@ -26,18 +26,18 @@ returns c =
     let second = c.deref-4.result.now in
     let head = line (codes "different") in
     let text : c.put_differences-2.new.text.items ≡ different_text c.args.schema.now c.args.other.now c.args.file.now c.args.other_file.now of_schema of_other =
-    c.in_ok-put_differences-2.ensures.more
-    ∙ ap (λ (t : List ℕ). t ++ back second) (c.in_ok-put_differences.ensures.more ∙ ap (λ (t : List ℕ). t ++ there first) c.in_ok-text.ensures.line)
+    c.in_ok-put_differences-2.ensures.added
+    ∙ ap (λ (t : List ℕ). t ++ back second) (c.in_ok-put_differences.ensures.added ∙ ap (λ (t : List ℕ). t ++ there first) c.in_ok-text.ensures.line)
     ∙ append_assoc head (there first) (back second)
     ∙ ap (λ (numbers : List ℕ). head ++ (there numbers ++ back second)) c.deref-3.ensures.value
     ∙ ap (λ (numbers : List ℕ). head ++ (there of_schema ++ back numbers)) c.deref-4.ensures.value in
     record {
-      answer = inr (
+      response = inr (
         of_schema,
         of_other,
-        differ c.args.schema.now c.args.other.now of_schema of_other c.requires.names c.in_ok-of_schema.ensures.differences c.in_ok-of_other.ensures.differences
+        differences_differ c.args.schema.now c.args.other.now of_schema of_other c.requires.names c.in_ok-of_schema.ensures.differences c.in_ok-of_other.ensures.differences
             c.in_ok-of_schema.ensures.none c.in_ok-of_other.ensures.none
-            (λ none. false≢true (sym c.if-are_none.false ∙ c.are_none.ensures.none.1 (c.deref.ensures.value ∙ none.0, c.deref-2.ensures.value ∙ none.1))),
-        subst (λ (t : List ℕ). Says No t (answer_of c.says-2.result)) text c.says-2.ensures.says,
+            (λ none. false≢true (sym c.if-are_empty.false ∙ c.are_empty.ensures.none.1 (c.deref.ensures.value ∙ none.0, c.deref-2.ensures.value ∙ none.1))),
+        subst (λ (t : List ℕ). Says No t (response_value c.with_text-2.result)) text c.with_text-2.ensures.says,
       );
     }

@@ -3,21 +3,21 @@ use Rattle.attr_sets.specs.declared.set.AttrSet.{AttrSet}
 use Rattle.plans.specs.Plans.{plan_of, scheme_sets}
 use Rattle.dep_model.specs.Plans.{schemes_of}
 use Rattle.dep_model.specs.Tuples.{Relation}
-use Rattle.form_tests.specs.declared.forms.Form.TheVariants.{Fourth}
-use Rattle.sample.specs.Sample.{sample_relation}
+use Rattle.normal_forms.specs.declared.forms.Form.TheVariants.{Fourth}
+use Rattle.sample_rows.specs.Sample.{sample_relation}
 use Rattle.desk_cli.specs.Decompositions.{FormStops, IsPlanInForm}
 use Rattle.desk_cli.specs.Migrations.{MigratesRows}
-use Rattle.desk_cli.specs.Replies.{RepliesAs}
-use Rattle.desk_cli.proofs.MigrationLemmas.{sampled}
-use Rattle.desk_cli.proofs.StepLemmas.{found}
+use Rattle.desk_cli.specs.Responses.{RespondsAs}
+use Rattle.desk_cli.proofs.MigrationLemmas.{sample_response}
+use Rattle.desk_cli.proofs.StepLemmas.{With-found}
 use Rattle.desk_cli.proofs.sampling.migrate_sample.Goals as goal
 
 pub returns-in-Err : goal.returns-in-Err
 returns-in-Err c = record {
-  reply = λ reply is. (
+  response = λ response is. (
     c.in_ok-schema.schema,
     record { names = c.in_ok-schema.ensures.names; theory = c.in_ok-schema.ensures.theory },
-    inl (c.in-Err.ensures.stop reply is),
+    inl (c.in-Err.ensures.exit response is),
   );
 }
 
@@ -26,8 +26,8 @@ returns c =
     let s = c.in_ok-schema.schema in
     let persons = c.args.persons.number in
     let plan = c.in-Ok.plan in
-    let replies = subst (λ (rows : Relation). RepliesAs (MigratesRows s (plan_of plan) rows) c.migrate_rows.result) c.in_ok-rows.ensures.rows c.migrate_rows.ensures.reply in
+    let replies = subst (λ (rows : Relation). RespondsAs (MigratesRows s (plan_of plan) rows) c.migrate_rows.result) c.in_ok-rows.ensures.rows c.migrate_rows.ensures.response in
     record {
-      reply = sampled persons s c.migrate_rows.result (record { names = c.in_ok-schema.ensures.names; theory = c.in_ok-schema.ensures.theory })
-          (found (FormStops s Fourth) (IsPlanInForm s Fourth) (λ (plan : List AttrSet). MigratesRows s (schemes_of plan) (sample_relation persons)) (scheme_sets plan) c.migrate_rows.result c.in-Ok.ensures.ok replies);
+      response = sample_response persons s c.migrate_rows.result (record { names = c.in_ok-schema.ensures.names; theory = c.in_ok-schema.ensures.theory })
+          (With-found (FormStops s Fourth) (IsPlanInForm s Fourth) (λ (plan : List AttrSet). MigratesRows s (schemes_of plan) (sample_relation persons)) (scheme_sets plan) c.migrate_rows.result c.in-Ok.ensures.ok replies);
     }

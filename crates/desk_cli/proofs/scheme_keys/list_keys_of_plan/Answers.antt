@@ -4,13 +4,13 @@ use Rattle.plans.specs.Plans.{plan_of}
 use Rattle.dep_model.specs.Plans.{schemes_of}
 use Rattle.desk_cli.specs.Keys.{TellsKeys}
 use Rattle.desk_cli.specs.Plans.{PlanStops, IsPlanFile}
-use Rattle.desk_cli.specs.Replies.{RepliesAs}
-use Rattle.desk_cli.proofs.StepLemmas.{found}
+use Rattle.desk_cli.specs.Responses.{RespondsAs}
+use Rattle.desk_cli.proofs.StepLemmas.{With-found}
 use Rattle.desk_cli.proofs.scheme_keys.list_keys_of_plan.Goals as goal
 
-pub returns-clause-reply : goal.returns-clause-reply
-returns-clause-reply g c = λ r shows.
+pub returns-clause-response : goal.returns-clause-response
+returns-clause-response g c = λ r shows.
     let s = c.args.schema.now in
     let file = c.args.file.now in
-    let told = subst (λ (schemes : List AttrSet). RepliesAs (TellsKeys s (schemes_of schemes)) c.tell_keys.result) c.schemes.ensures.schemes c.tell_keys.ensures.reply in
-    found (PlanStops r s file) (IsPlanFile r s file) (TellsKeys s) (plan_of c.in-Ok.plan) c.tell_keys.result (c.in-Ok.ensures.ok r shows.same) told
+    let told = subst (λ (schemes : List AttrSet). RespondsAs (TellsKeys s (schemes_of schemes)) c.tell_keys.result) c.schemes.ensures.schemes c.tell_keys.ensures.response in
+    With-found (PlanStops r s file) (IsPlanFile r s file) (TellsKeys s) (plan_of c.in-Ok.plan) c.tell_keys.result (c.in-Ok.ensures.ok r shows.same) told

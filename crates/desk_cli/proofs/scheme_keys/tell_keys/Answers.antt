@@ -2,16 +2,16 @@ use Rattle.std.proofs.Common.{◌++◌, ℕ, List, inl, inr, get_or, take_all, s
 use Rattle.std.proofs.lemmas.List.Elements.{All-weaker}
 use Rattle.std.specs.Prelude.{All}
 use Rattle.attr_sets.specs.declared.set.AttrSet.{AttrSet}
-use Rattle.attr_sets.specs.Places.{Within}
-use Rattle.attr_sets.specs.Sets.{places}
+use Rattle.attr_sets.specs.Attributes.{IsSubset}
+use Rattle.attr_sets.specs.Sets.{attributes}
 use Rattle.dep_model.specs.Keys.{IsKey}
 use Rattle.dep_model.specs.Schemas.{names_of, width_of, theory_of, universe_of}
-use Rattle.desk_cli.specs.Answers.{Says}
+use Rattle.desk_cli.specs.ResponseValues.{Says}
 use Rattle.desk_cli.specs.Keys.{IsListed, keyed_text}
-use Rattle.desk_cli.specs.Replies.{answer_of}
+use Rattle.desk_cli.specs.Responses.{response_value}
 use Rattle.desk_cli.specs.declared.status.Status.TheVariants.{Yes}
 use Rattle.desk_cli.proofs.FormLemmas.{first_failing}
-use Rattle.desk_cli.proofs.KeyLemmas.{Told, told_nothing, told_more, keyed}
+use Rattle.desk_cli.proofs.KeyLemmas.{Told, told_nothing, told_more, keyed_scheme}
 use Rattle.desk_cli.proofs.scheme_keys.tell_keys.Goals as goal
 
 abbrev nothing : AttrSet
@@ -24,8 +24,8 @@ pub put_keyed-requires-clause-keys : goal.put_keyed-requires-clause-keys
 put_keyed-requires-clause-keys c =
     let s = c.args.schema.now in
     let i = c.loop-scheme.scheme-index in
-    subst (λ (keys : List AttrSet). All (λ (k : AttrSet). Within (places k) (universe_of s)) keys) (sym c.deref.ensures.value)
-    (All-weaker (λ (k : AttrSet). IsKey (width_of s) (theory_of s) (places (get_or c.args.schemes.now i nothing)) (places k)) (λ (k : AttrSet). Within (places k) (universe_of s))
+    subst (λ (keys : List AttrSet). All (λ (k : AttrSet). IsSubset (attributes k) (universe_of s)) keys) (sym c.deref.ensures.value)
+    (All-weaker (λ (k : AttrSet). IsKey (width_of s) (theory_of s) (attributes (get_or c.args.schemes.now i nothing)) (attributes k)) (λ (k : AttrSet). IsSubset (attributes k) (universe_of s))
     (λ k key a m. c.requires.within i nothing c.loop-scheme-test.true a (key.superkey.within.0 a m)) c.in-Ok.keys.items c.in-Ok.ensures.ok.keys.each)
 
 pub loop-scheme-preserved : goal.loop-scheme-preserved
@@ -33,16 +33,16 @@ loop-scheme-preserved c =
     let s = c.args.schema.now in
     let i = c.loop-scheme.scheme-index in
     told_more s c.args.schemes.now i nothing c.in-Ok.keys.items c.loop-scheme.text.items c.put_keyed.new.text.items c.loop-scheme.invariant c.loop-scheme-test.true c.in-Ok.ensures.ok
-    (c.in_ok-put_keyed.ensures.more ∙ ap (λ (keys : List AttrSet). c.loop-scheme.text.items ++ keyed_text (names_of s) (keyed (get_or c.args.schemes.now i nothing) keys)) c.deref.ensures.value)
+    (c.in_ok-put_keyed.ensures.added ∙ ap (λ (keys : List AttrSet). c.loop-scheme.text.items ++ keyed_text (names_of s) (keyed_scheme (get_or c.args.schemes.now i nothing) keys)) c.deref.ensures.value)
 
 pub returns-in-Err : goal.returns-in-Err
 returns-in-Err c =
     let i = c.loop-scheme.scheme-index in
     record {
-      reply = λ reply is. inr (
-        places (get_or c.args.schemes.now i nothing),
+      response = λ response is. inr (
+        attributes (get_or c.args.schemes.now i nothing),
         first_failing (IsListed c.args.schema.now) c.args.schemes.now i nothing c.loop-scheme-test.true c.loop-scheme.invariant.passed,
-        c.in-Err.ensures.ends reply is,
+        c.in-Err.ensures.ends response is,
       );
     }
 
@@ -53,10 +53,10 @@ returns c =
     let told : Told s c.args.schemes.now text =
     subst (λ (schemes : List AttrSet). Told s schemes text) (take_all c.loop-scheme.scheme-index c.args.schemes.now c.loop-scheme-test.false) c.loop-scheme.invariant in
     record {
-      reply = inl (
+      response = inl (
         told.listed,
         told.schemes_are,
         told.keys,
-        subst (λ (t : List ℕ). Says Yes t (answer_of c.says.result)) told.is c.says.ensures.says,
+        subst (λ (t : List ℕ). Says Yes t (response_value c.with_text.result)) told.is c.with_text.ensures.says,
       );
     }

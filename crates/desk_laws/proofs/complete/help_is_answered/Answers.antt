@@ -5,6 +5,6 @@ pub returns : goal.returns
 returns c = record {
   help = help_answered;
   long = long_help_answered;
-  short = short_help_answered;
+  dash_h = short_help_answered;
   version = version_answered;
 }

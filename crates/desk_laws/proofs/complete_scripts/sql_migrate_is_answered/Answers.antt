@@ -1,4 +1,4 @@
-use Rattle.form_tests.specs.declared.forms.Form.TheVariants.{Third, Bcnf, Fourth}
+use Rattle.normal_forms.specs.declared.forms.Form.TheVariants.{Third, Bcnf, Fourth}
 use Rattle.desk_laws.proofs.ScriptLaws.{sql_migrate_answered, sql_plan_answered}
 use Rattle.desk_laws.proofs.complete_scripts.sql_migrate_is_answered.Goals as goal
 

@@ -1,4 +1,4 @@
-use Rattle.form_tests.specs.declared.forms.Form.TheVariants.{Third, Bcnf, Fourth}
+use Rattle.normal_forms.specs.declared.forms.Form.TheVariants.{Third, Bcnf, Fourth}
 use Rattle.desk_laws.proofs.TableLaws.{ddl_answered, ddl_plan_answered}
 use Rattle.desk_laws.proofs.complete_tables.ddl_is_answered.Goals as goal
 

@@ -1,4 +1,4 @@
-use Rattle.form_tests.specs.declared.forms.Form.TheVariants.{Third, Bcnf, Fourth}
+use Rattle.normal_forms.specs.declared.forms.Form.TheVariants.{Third, Bcnf, Fourth}
 use Rattle.desk_laws.proofs.TableLaws.{migrate_answered, migrate_plan_answered}
 use Rattle.desk_laws.proofs.complete_tables.migrate_is_answered.Goals as goal
 

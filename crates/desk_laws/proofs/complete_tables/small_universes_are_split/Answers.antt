@@ -1,5 +1,5 @@
 use Rattle.std.proofs.Common.{inl, inr, refl}
-use Rattle.form_tests.specs.declared.forms.Form.TheVariants.{Bcnf, Fourth}
+use Rattle.normal_forms.specs.declared.forms.Form.TheVariants.{Bcnf, Fourth}
 use Rattle.desk_laws.proofs.TableLaws.{small_is_splittable}
 use Rattle.desk_laws.proofs.complete_tables.small_universes_are_split.Goals as goal
 

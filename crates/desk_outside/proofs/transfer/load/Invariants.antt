@@ -6,13 +6,13 @@ use Rattle.desk_outside.proofs.transfer.load.Given as goal
 -- the bytes so far and what is left make up the file
 abbrev pub invariant-loop-bytes : goal.invariant-loop-bytes
 invariant-loop-bytes g l =
-    let shelf = g.F.Shelf in
+    let source = g.F.FileSource in
     record {
-      files : shelf.files l.shelf ≡ shelf.files l.fn.shelf;
-      fine : shelf.faults l.shelf ≡ shelf.faults l.fn.shelf;
+      files : source.files l.source ≡ source.files l.fn.source;
+      fine : source.faults l.source ≡ source.faults l.fn.source;
       within : length l.bytes.items ≤ l.limit;
-      taken : shelf.taken l.shelf ≡ length l.bytes.items;
-      left : all_left (shelf.files l.fn.shelf) l.name ≡ prepend_known l.bytes.items (shelf.left l.shelf);
+      taken : source.taken l.source ≡ length l.bytes.items;
+      left : all_left (source.files l.fn.source) l.name ≡ prepend_known l.bytes.items (source.left l.source);
     }
 
 abbrev pub decreases-loop-bytes : goal.decreases-loop-bytes

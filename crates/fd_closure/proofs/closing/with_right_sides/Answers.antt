@@ -1,7 +1,7 @@
 use Rattle.std.proofs.Common.{◌<◌, length, get_or, arith, take, take_all}
 use Rattle.std.proofs.lemmas.List.Elements.{All-more}
-use Rattle.attr_sets.specs.Places.{Within}
-use Rattle.attr_sets.specs.Sets.{places}
+use Rattle.attr_sets.specs.Attributes.{IsSubset}
+use Rattle.attr_sets.specs.Sets.{attributes}
 use Rattle.dep_model.specs.declared.dep.Dep.{Dep}
 use Rattle.dep_model.specs.declared.dep.Dep.TheVariants.{Fd}
 use Rattle.dep_model.specs.Dependencies.{Dependency, left_of, right_of}
@@ -15,7 +15,7 @@ pub loop-dep-init : goal.loop-dep-init
 loop-dep-init c = record {
   grows = λ k m. m;
   within = λ universe d_in now_in. now_in;
-  implied = λ n r legal. reflexivity_obeyed (places c.args.closed) (places c.args.closed) r (λ k m. m);
+  implied = λ n r legal. reflexivity_obeyed (attributes c.args.closed) (attributes c.args.closed) r (λ k m. m);
   settled = λ k d l. absurd (omega arith);
 }
 
@@ -29,11 +29,11 @@ loop-dep-preserved c =
     record {
       grows = λ k m. more.ensures.grows k (before.grows k m);
       within = λ universe d_in now_in. more.ensures.within universe (d_in i _ lt) (before.within universe d_in now_in);
-      implied = λ n r legal. transitivity_obeyed (places c.args.closed) (places c.loop-dep.more) (places more.result) r (before.implied n r legal)
+      implied = λ n r legal. transitivity_obeyed (attributes c.args.closed) (attributes c.loop-dep.more) (attributes more.result) r (before.implied n r legal)
           (more.ensures.implied r (functional_legal-to n c.args.deps.now r legal i _ lt));
-      settled = All-more (IfFd (λ x y. Within x (places c.args.closed) → Within y (places more.result))) c.args.deps.now i first lt
-          (all_IfFd-kept (places c.args.closed) (places c.args.closed) (places c.loop-dep.more) (places more.result) (take i c.args.deps.now) (λ k m. m) more.ensures.grows before.settled)
-          (IfFd-kept (places c.args.closed) (places c.loop-dep.more) (places more.result) (places more.result) (get_or c.args.deps.now i first) before.grows (λ k m. m) more.ensures.settled);
+      settled = All-more (IfFd (λ x y. IsSubset x (attributes c.args.closed) → IsSubset y (attributes more.result))) c.args.deps.now i first lt
+          (all_IfFd-kept (attributes c.args.closed) (attributes c.args.closed) (attributes c.loop-dep.more) (attributes more.result) (take i c.args.deps.now) (λ k m. m) more.ensures.grows before.settled)
+          (IfFd-kept (attributes c.args.closed) (attributes c.loop-dep.more) (attributes more.result) (attributes more.result) (get_or c.args.deps.now i first) before.grows (λ k m. m) more.ensures.functionally_closed);
     }
 
 pub returns : goal.returns
@@ -41,7 +41,7 @@ returns c = record {
   grows = c.loop-dep.invariant.grows;
   within = c.loop-dep.invariant.within;
   implied = c.loop-dep.invariant.implied;
-  settled = λ same. functional_all-from (λ (d : Dependency). Within (left_of d) (places c.args.closed) → Within (right_of d) (places c.args.closed)) c.args.deps.now
-      (all_IfFd-kept (places c.args.closed) (places c.args.closed) (places c.loop-dep.more) (places c.args.closed) c.args.deps.now (λ k m. m) same
+  functionally_closed = λ same. functional_all-from (λ (d : Dependency). IsSubset (left_of d) (attributes c.args.closed) → IsSubset (right_of d) (attributes c.args.closed)) c.args.deps.now
+      (all_IfFd-kept (attributes c.args.closed) (attributes c.args.closed) (attributes c.loop-dep.more) (attributes c.args.closed) c.args.deps.now (λ k m. m) same
       (rw (take_all c.loop-dep.dep-index c.args.deps.now c.loop-dep-test.false) at c.loop-dep.invariant.settled));
 }

@@ -1,6 +1,6 @@
 use Rattle.std.proofs.Common.{get_or}
 use Rattle.std.proofs.lemmas.List.Elements.{Contains-get_or}
-use Rattle.attr_sets.specs.Places.{below}
+use Rattle.attr_sets.specs.Attributes.{below}
 use Rattle.fd_closure.proofs.AllKeys.{all_keys}
 use Rattle.fd_closure.proofs.laws.all_keys_by_exchange.Goals as goal
 

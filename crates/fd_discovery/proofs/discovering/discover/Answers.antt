@@ -1,11 +1,11 @@
 use Rattle.std.proofs.Common.{◌≡◌, ℕ, List, replicate, sym, ap, subst}
-use Rattle.attr_sets.specs.Places.{below}
-use Rattle.attr_sets.specs.Sets.{places}
+use Rattle.attr_sets.specs.Attributes.{below}
+use Rattle.attr_sets.specs.Sets.{attributes}
 use Rattle.dep_model.specs.Dependencies.{IsWithin}
 use Rattle.dep_model.specs.Deps.{dependencies_of}
 use Rattle.dep_model.proofs.DepLemmas.{dependencies_all-to}
 use Rattle.fd_discovery.specs.Leaders.{IsTableOfRows, AreLeaders}
-use Rattle.attr_sets.proofs.PlacesLemmas.{same_at}
+use Rattle.attr_sets.proofs.AttributesLemmas.{same_at}
 use Rattle.fd_discovery.proofs.LeaderLemmas.{first_leads}
 use Rattle.fd_discovery.proofs.SearchLemmas.{search_whole, all_minimal, implied_by_rows, all_within}
 use Rattle.fd_discovery.proofs.discovering.discover.Goals as goal
@@ -14,13 +14,13 @@ pub search_above-requires-clause-rows : goal.search_above-requires-clause-rows
 search_above-requires-clause-rows c =
     let rows = c.args.rows.now in
     let table = c.in_ok-table.ensures.table in
-    let led = first_leads rows (places c.empty-none.result) c.in_ok-leaders.leaders.items (same_at c.empty-none.ensures.members)
+    let led = first_leads rows (attributes c.empty-none.result) c.in_ok-leaders.leaders.items (same_at c.empty-none.ensures.members)
     (subst (λ (n : ℕ). c.in_ok-leaders.leaders.items ≡ replicate n 0) c.len.ensures.count
     (c.in_ok-leaders.ensures.items_if_clones_equal (λ y e. e))) in (
       rows,
       record {
         table = subst (λ (m : ℕ). IsTableOfRows m rows c.in_ok-table.table) (sym table.width) table;
-        led = subst (λ (l : List ℕ). AreLeaders rows (places c.empty-none.result) l)
+        led = subst (λ (l : List ℕ). AreLeaders rows (attributes c.empty-none.result) l)
             (sym c.deref-2.ensures.value) led;
       },
     )
@@ -29,13 +29,13 @@ pub returns-clause-minimal : goal.returns-clause-minimal
 returns-clause-minimal c =
     let rows = c.args.rows.now in
     let table = c.in_ok-table.ensures.table in
-    let none = places c.empty-none.result in
+    let none = attributes c.empty-none.result in
     let led = first_leads rows none c.in_ok-leaders.leaders.items (same_at c.empty-none.ensures.members)
     (subst (λ (n : ℕ). c.in_ok-leaders.leaders.items ≡ replicate n 0) c.len.ensures.count
     (c.in_ok-leaders.ensures.items_if_clones_equal (λ y e. e))) in
     let same = subst (λ (m : ℕ). IsTableOfRows m rows c.in_ok-table.table) (sym table.width) table in
     let found = search_whole c.in_ok-table.table.width c.args.width rows none
-    (places c.full-all.result) _ _ _ table.width (same_at c.empty-none.ensures.members) c.full-all.ensures.members
+    (attributes c.full-all.result) _ _ _ table.width (same_at c.empty-none.ensures.members) c.full-all.ensures.members
     (ap dependencies_of c.new-found.ensures.items)
     (λ inside given start. c.in_ok-add_minimal.ensures.found rows
     (record {
@@ -55,13 +55,13 @@ pub returns-clause-implied : goal.returns-clause-implied
 returns-clause-implied c =
     let rows = c.args.rows.now in
     let table = c.in_ok-table.ensures.table in
-    let none = places c.empty-none.result in
+    let none = attributes c.empty-none.result in
     let led = first_leads rows none c.in_ok-leaders.leaders.items (same_at c.empty-none.ensures.members)
     (subst (λ (n : ℕ). c.in_ok-leaders.leaders.items ≡ replicate n 0) c.len.ensures.count
     (c.in_ok-leaders.ensures.items_if_clones_equal (λ y e. e))) in
     let same = subst (λ (m : ℕ). IsTableOfRows m rows c.in_ok-table.table) (sym table.width) table in
     let found = search_whole c.in_ok-table.table.width c.args.width rows none
-    (places c.full-all.result) _ _ _ table.width (same_at c.empty-none.ensures.members) c.full-all.ensures.members
+    (attributes c.full-all.result) _ _ _ table.width (same_at c.empty-none.ensures.members) c.full-all.ensures.members
     (ap dependencies_of c.new-found.ensures.items)
     (λ inside given start. c.in_ok-add_minimal.ensures.found rows
     (record {

@@ -1,6 +1,6 @@
 use Rattle.std.proofs.Common.{arith, ◌≡◌, ◌<◌, ◌+◌, ℕ, List, Vec, Global, true, sym, subst}
-use Rattle.attr_sets.specs.Places.{Places, below, union}
-use Rattle.attr_sets.specs.Sets.{places}
+use Rattle.attr_sets.specs.Attributes.{Attributes, below, union}
+use Rattle.attr_sets.specs.Sets.{attributes}
 use Rattle.dep_model.specs.Deps.{dependencies_of}
 use Rattle.dep_model.specs.declared.dep.Dep.{Dep}
 use Rattle.fd_discovery.specs.Leaders.{AreLeaders}
@@ -10,24 +10,24 @@ use Rattle.fd_discovery.proofs.SearchLemmas.{larger_in, larger_above, found_at_l
 use Rattle.fd_discovery.proofs.searching.+search_above.Goals as goal
 use Rattle.fd_discovery.proofs.searching.+search_above.Goals.{then-not-is_empty+in_ok-finer+in_ok-add_minimal+in_ok-search_above, else-not-is_empty}
 
-pub loop-place-init : goal.loop-place-init
-loop-place-init t c = record { found = λ r led found. found_up_to _ r _ _ found }
+pub loop-attribute-init : goal.loop-attribute-init
+loop-attribute-init t c = record { found = λ r led found. found_up_to _ r _ _ found }
 
 pub add_minimal-requires-clause-rows : goal.add_minimal-requires-clause-rows
 add_minimal-requires-clause-rows t c =
     let (r, led) = c.requires.rows in
-    let low : c.loop-place.place < c.args.table.now.width = omega (arith, c.loop-place-test.true, c.requires.free) in
-    let finer_led = leaders_with _ r c.args.table.now (places c.args.set)
-    (places c.with-larger.result) c.loop-place.place c.column-codes.result.now c.index.result.now
+    let low : c.loop-attribute.attribute < c.args.table.now.width = omega (arith, c.loop-attribute-test.true, c.requires.at_most_width) in
+    let finer_led = leaders_with _ r c.args.table.now (attributes c.args.set)
+    (attributes c.with-larger.result) c.loop-attribute.attribute c.column-codes.result.now c.index.result.now
     c.rows-order.result.now
     c.in_ok-finer.finer.items led.table low c.column-codes.ensures.codes c.rows-order.ensures.rows c.index.ensures
     c.with-larger.ensures.members
     (λ groups ordered. c.in_ok-finer.ensures.leaders r
-    (places c.args.set) c.loop-place.place led.led groups ordered) in (
+    (attributes c.args.set) c.loop-attribute.attribute led.led groups ordered) in (
       r,
       record {
         table = led.table;
-        led = subst (λ (l : List ℕ). AreLeaders r (places c.with-larger.result) l)
+        led = subst (λ (l : List ℕ). AreLeaders r (attributes c.with-larger.result) l)
             (sym c.deref-then-not-is_empty.ensures.value) finer_led;
       },
     )
@@ -35,28 +35,28 @@ add_minimal-requires-clause-rows t c =
 pub search_above-requires : goal.search_above-requires
 search_above-requires t c =
     let (r, led) = c.requires.rows in
-    let low : c.loop-place.place < c.args.table.now.width = omega (arith, c.loop-place-test.true, c.requires.free) in
-    let finer_led = leaders_with _ r c.args.table.now (places c.args.set)
-    (places c.with-larger.result) c.loop-place.place c.column-codes.result.now c.index.result.now
+    let low : c.loop-attribute.attribute < c.args.table.now.width = omega (arith, c.loop-attribute-test.true, c.requires.at_most_width) in
+    let finer_led = leaders_with _ r c.args.table.now (attributes c.args.set)
+    (attributes c.with-larger.result) c.loop-attribute.attribute c.column-codes.result.now c.index.result.now
     c.rows-order.result.now
     c.in_ok-finer.finer.items led.table low c.column-codes.ensures.codes c.rows-order.ensures.rows c.index.ensures
     c.with-larger.ensures.members
     (λ groups ordered. c.in_ok-finer.ensures.leaders r
-    (places c.args.set) c.loop-place.place led.led groups ordered) in
+    (attributes c.args.set) c.loop-attribute.attribute led.led groups ordered) in
     let n : ℕ = c.args.table.now.width in
-    let i : ℕ = c.loop-place.place in
-    let set : Places = places c.args.set in
-    let larger : Places = places c.with-larger.result in (
-      omega (arith, c.decreases, c.loop-place-test.true),
+    let i : ℕ = c.loop-attribute.attribute in
+    let set : Attributes = attributes c.args.set in
+    let larger : Attributes = attributes c.with-larger.result in (
+      omega (arith, c.decreases, c.loop-attribute-test.true),
       (
         c.requires.width,
         (
           omega (arith, low),
           (
-            larger_in n c.args.free i set c.requires.set c.requires.above c.requires.free c.loop-place-test.true
+            larger_in n c.args.free i set c.requires.set c.requires.above c.requires.at_most_width c.loop-attribute-test.true
                 larger c.with-larger.ensures.members,
             (
-              larger_above n c.args.free i set c.requires.set c.requires.above c.requires.free c.loop-place-test.true
+              larger_above n c.args.free i set c.requires.set c.requires.above c.requires.at_most_width c.loop-attribute-test.true
                   larger c.with-larger.ensures.members,
               (
                 r,
@@ -73,32 +73,32 @@ search_above-requires t c =
       ),
     )
 
-pub loop-place-preserved : goal.loop-place-preserved
-loop-place-preserved t c =
+pub loop-attribute-preserved : goal.loop-attribute-preserved
+loop-attribute-preserved t c =
     let n : ℕ = c.args.table.now.width in
-    let i : ℕ = c.loop-place.place in
+    let i : ℕ = c.loop-attribute.attribute in
     let free : ℕ = c.args.free in
-    let set : Places = places c.args.set in
-    let larger : Places = places c.with-larger.result in
-    let wanted : Places = places c.not_given-wanted.result in
-    let old : List Dep = c.loop-place.found.items in
-    let low : i < n = omega (arith, c.loop-place-test.true, c.requires.free) in
+    let set : Attributes = attributes c.args.set in
+    let larger : Attributes = attributes c.with-larger.result in
+    let wanted : Attributes = attributes c.attributes_not_given-wanted.result in
+    let old : List Dep = c.loop-attribute.found.items in
+    let low : i < n = omega (arith, c.loop-attribute-test.true, c.requires.at_most_width) in
     let given : AreNotGiven n (dependencies_of old) larger wanted =
     subst (λ (ds : List Dep). AreNotGiven n (dependencies_of ds) larger wanted) c.deref.ensures.value
-    c.not_given-wanted.ensures.rest in
+    c.attributes_not_given-wanted.ensures.rest in
     elim c.if-not-is_empty.branch [
       | then-not-is_empty+in_ok-finer+in_ok-add_minimal+in_ok-search_above w ↦ record {
         found = λ r led start.
             let before : AreFound n r (union set (below i)) n (dependencies_of old) =
-            c.loop-place.invariant.found r led start in
+            c.loop-attribute.invariant.found r led start in
             let finer_led = leaders_with n r c.args.table.now set larger i w.column-codes.result.now
             w.index.result.now w.rows-order.result.now w.in_ok-finer.finer.items led.table low
             w.column-codes.ensures.codes w.rows-order.ensures.rows w.index.ensures c.with-larger.ensures.members
             (λ groups ordered. w.in_ok-finer.ensures.leaders r set i led.led groups ordered) in
-            let inside = larger_in n free i set c.requires.set c.requires.above c.requires.free c.loop-place-test.true
+            let inside = larger_in n free i set c.requires.set c.requires.above c.requires.at_most_width c.loop-attribute-test.true
             larger c.with-larger.ensures.members in
-            let here = found_at_larger n free i set c.requires.set c.requires.above c.requires.free
-            c.loop-place-test.true larger c.with-larger.ensures.members r (dependencies_of old) before in
+            let here = found_at_larger n free i set c.requires.set c.requires.above c.requires.at_most_width
+            c.loop-attribute-test.true larger c.with-larger.ensures.members r (dependencies_of old) before in
             let added = w.in_ok-add_minimal.ensures.found r
             (record {
               table = led.table;
@@ -115,7 +115,7 @@ loop-place-preserved t c =
             }) added in
             subst (λ (v : Vec Dep Global). AreFound n r (union set (below (i + 1))) n (dependencies_of v.items))
             (sym w.found-is)
-            (found_through n free i set c.requires.set c.requires.above c.requires.free c.loop-place-test.true larger
+            (found_through n free i set c.requires.set c.requires.above c.requires.at_most_width c.loop-attribute-test.true larger
             c.with-larger.ensures.members r _ through);
       }
       | else-not-is_empty w ↦
@@ -123,10 +123,10 @@ loop-place-preserved t c =
           record {
             found = λ r led start.
                 let before : AreFound n r (union set (below i)) n (dependencies_of old) =
-                c.loop-place.invariant.found r led start in
+                c.loop-attribute.invariant.found r led start in
                 subst (λ (v : Vec Dep Global). AreFound n r (union set (below (i + 1))) n (dependencies_of v.items))
                 (sym w.found-is)
-                (found_past n free i set c.requires.set c.requires.above c.requires.free c.loop-place-test.true larger
+                (found_past n free i set c.requires.set c.requires.above c.requires.at_most_width c.loop-attribute-test.true larger
                 c.with-larger.ensures.members r (dependencies_of old) wanted before given
                 (c.is_empty.ensures.empty.0 yes));
           }
@@ -135,9 +135,9 @@ loop-place-preserved t c =
 pub returns : goal.returns
 returns t c = record {
   found = λ r led start.
-      let end : c.loop-place.place ≡ c.args.free =
-      omega (arith, c.loop-place-test.false, c.loop-place.auto.place-end) in
-      let all = c.loop-place.invariant.found r led start in
-      subst (λ (i : ℕ). AreFound c.args.table.now.width r (union (places c.args.set) (below i)) c.args.table.now.width
-      (dependencies_of c.loop-place.found.items)) end all;
+      let end : c.loop-attribute.attribute ≡ c.args.free =
+      omega (arith, c.loop-attribute-test.false, c.loop-attribute.auto.attribute-end) in
+      let all = c.loop-attribute.invariant.found r led start in
+      subst (λ (i : ℕ). AreFound c.args.table.now.width r (union (attributes c.args.set) (below i)) c.args.table.now.width
+      (dependencies_of c.loop-attribute.found.items)) end all;
 }

@@ -1,5 +1,5 @@
-use Rattle.attr_sets.specs.Places.{union, below}
-use Rattle.attr_sets.specs.Sets.{places}
+use Rattle.attr_sets.specs.Attributes.{union, below}
+use Rattle.attr_sets.specs.Sets.{attributes}
 use Rattle.dep_model.specs.Tuples.{Relation}
 use Rattle.fd_discovery.specs.Leaders.{AreLed}
 use Rattle.fd_discovery.specs.Searching.{AreFoundUpTo}
@@ -8,10 +8,10 @@ use Rattle.fd_discovery.proofs.searching.+search_above.Given as goal
 abbrev pub decreases-search_above : goal.decreases-search_above
 decreases-search_above l = l.free
 
--- the sets with further members below the place are tried
-abbrev pub invariant-loop-place : goal.invariant-loop-place
-invariant-loop-place l = record {
-  found : (r : Relation) → AreLed r l.table (places l.set) l.leaders
-      → AreFoundUpTo l.table.width r (places l.set) l.fn.found.items
-      → AreFoundUpTo l.table.width r (union (places l.set) (below l.place)) l.found.items;
+-- the sets with further members below the attribute are tried
+abbrev pub invariant-loop-attribute : goal.invariant-loop-attribute
+invariant-loop-attribute l = record {
+  found : (r : Relation) → AreLed r l.table (attributes l.set) l.leaders
+      → AreFoundUpTo l.table.width r (attributes l.set) l.fn.found.items
+      → AreFoundUpTo l.table.width r (union (attributes l.set) (below l.attribute)) l.found.items;
 }

@@ -1,5 +1,5 @@
-use Rattle.attr_sets.specs.Places.{Within, below}
-use Rattle.attr_sets.specs.Sets.{places}
+use Rattle.attr_sets.specs.Attributes.{IsSubset, below}
+use Rattle.attr_sets.specs.Sets.{attributes}
 use Rattle.dep_model.specs.Deps.{dependencies_of}
 use Rattle.dep_model.specs.Tuples.{Relation}
 use Rattle.fd_discovery.specs.Leaders.{AreLed}
@@ -8,10 +8,10 @@ use Rattle.fd_discovery.proofs.SearchLemmas.{AreAdded}
 use Rattle.fd_discovery.proofs.searching.add_minimal.Given as goal
 
 -- the attributes so far are tried
-abbrev pub invariant-loop-place : goal.invariant-loop-place
-invariant-loop-place l = record {
-  added : (r : Relation) → AreLed r l.table (places l.set) l.leaders → Within (places l.set) (below l.table.width)
-      → AreNotGiven l.table.width (dependencies_of l.fn.found.items) (places l.set) (places l.wanted)
-      → AreFoundBefore l.table.width r (places l.set) l.fn.found.items
-      → AreAdded l.table.width r (places l.set) (places l.wanted) l.place (dependencies_of l.found.items);
+abbrev pub invariant-loop-attribute : goal.invariant-loop-attribute
+invariant-loop-attribute l = record {
+  added : (r : Relation) → AreLed r l.table (attributes l.set) l.leaders → IsSubset (attributes l.set) (below l.table.width)
+      → AreNotGiven l.table.width (dependencies_of l.fn.found.items) (attributes l.set) (attributes l.wanted)
+      → AreFoundBefore l.table.width r (attributes l.set) l.fn.found.items
+      → AreAdded l.table.width r (attributes l.set) (attributes l.wanted) l.attribute (dependencies_of l.found.items);
 }

@@ -1,5 +1,5 @@
 use Rattle.std.proofs.Common.{◌≡◌, take, length}
-use Rattle.attr_sets.specs.Sets.{places}
+use Rattle.attr_sets.specs.Sets.{attributes}
 use Rattle.dep_model.specs.Deps.{dependencies_of}
 use Rattle.dep_model.specs.Schemas.{width_of, universe_of, theory_of, deps_of}
 use Rattle.key_listing.specs.Listing.{AreSomeKeys, IsExchangedUnlessMany}
@@ -9,5 +9,5 @@ abbrev pub invariant-loop-dep : goal.invariant-loop-dep
 invariant-loop-dep l = record {
   some : AreSomeKeys (width_of l.schema) (theory_of l.schema) (universe_of l.schema) l.found.items;
   kept : take (length l.initial.found.items) l.found.items ≡ l.initial.found.items;
-  exchanged : IsExchangedUnlessMany (dependencies_of (take l.dep-index (deps_of l.schema))) l.found.items (places l.key);
+  exchanged : IsExchangedUnlessMany (dependencies_of (take l.dep-index (deps_of l.schema))) l.found.items (attributes l.key);
 }

@@ -1,18 +1,18 @@
 use Rattle.std.proofs.Common.{◌≡◌, ◌+◌, ◌<◌, ◌≤◌, List, [], ◌∷◌, ◌++◌, length, refl, sym, ◌∙◌, ap, subst, arith}
 use Rattle.std.specs.Prelude.{All}
 use Rattle.attr_sets.specs.declared.set.AttrSet.{AttrSet}
-use Rattle.attr_sets.specs.Places.{Places, below}
-use Rattle.attr_sets.specs.Sets.{places}
+use Rattle.attr_sets.specs.Attributes.{Attributes, below}
+use Rattle.attr_sets.specs.Sets.{attributes}
 use Rattle.dep_model.specs.declared.dep.Dep.{Dep}
 use Rattle.dep_model.specs.Dependencies.{functional_part, IsWithin}
-use Rattle.dep_model.specs.Keys.{IsSuperkey, IsKey, IsSettledKey}
+use Rattle.dep_model.specs.Keys.{IsSuperkey, IsKey, IsGreedyKey}
 use Rattle.dep_model.specs.Deps.{dependencies_of, IsDepWithin}
 use Rattle.dep_model.specs.Schemas.{width_of, universe_of, theory_of, deps_of}
 use Rattle.dep_model.proofs.DepLemmas.{dependencies_all-from}
 use Rattle.dep_model.proofs.KeyLemmas.{scheme_superkey}
 use Rattle.key_listing.specs.Listing.{AreSomeKeys, HoldsAny}
 use Rattle.key_listing.proofs.ListLemmas.{grows_longer}
-use Rattle.key_listing.proofs.FoundLemmas.{some_none, some_more, settled_found, tried_more, sorted_found}
+use Rattle.key_listing.proofs.FoundLemmas.{some_none, some_more, greedy_found, tried_more, sorted_found}
 use Rattle.key_listing.proofs.exchanging.exchanged_keys.Goals as goal
 
 pub loop-tried-init : goal.loop-tried-init
@@ -20,14 +20,14 @@ loop-tried-init c =
     let s = c.args.schema.now in
     let n = width_of s in
     let ds = theory_of s in
-    let set = places c.full.result in
+    let set = attributes c.full.result in
     let k = c.functional_key.result in
     let is : set ≡ universe_of s = c.full.ensures.members ∙ ap below c.width.ensures.count in
-    let superkey : IsSuperkey n ds (universe_of s) set = subst (λ (v : Places). IsSuperkey n ds (universe_of s) v) (sym is) (scheme_superkey n ds (universe_of s)) in
+    let superkey : IsSuperkey n ds (universe_of s) set = subst (λ (v : Attributes). IsSuperkey n ds (universe_of s) v) (sym is) (scheme_superkey n ds (universe_of s)) in
     let within : All (IsDepWithin (below n)) c.deps.result.now = subst (λ (es : List Dep). All (IsDepWithin (below n)) es) (sym c.deps.ensures.deps) s.valid.deps_within in
-    let settled : IsSettledKey n (functional_part ds) set (places k) =
-    subst (λ (es : List Dep). IsSettledKey n (functional_part (dependencies_of es)) set (places k)) c.deps.ensures.deps (c.functional_key.ensures.settled n within superkey.within.0) in
-    let key : IsKey n ds (universe_of s) (places k) = settled_found n ds (universe_of s) set (places k) (λ i m. m) c.requires.functional superkey settled in
+    let settled : IsGreedyKey n (functional_part ds) set (attributes k) =
+    subst (λ (es : List Dep). IsGreedyKey n (functional_part (dependencies_of es)) set (attributes k)) c.deps.ensures.deps (c.functional_key.ensures.settled n within superkey.within.0) in
+    let key : IsKey n ds (universe_of s) (attributes k) = greedy_found n ds (universe_of s) set (attributes k) (λ i m. m) c.requires.functional superkey settled in
     let some : AreSomeKeys n ds (universe_of s) (k ∷ []) =
     some_more n ds (universe_of s) set [] k (some_none n ds (universe_of s)) (omega arith) key settled.within (λ (held : HoldsAny [] set). absurd (omega (arith, held.2))) (omega arith) in
     let items : c.push.new.self.items ≡ k ∷ [] = c.in_ok-push.ensures.items ∙ ap (λ (fs : List AttrSet). fs ++ k ∷ []) c.new-found.ensures.items in
@@ -42,7 +42,7 @@ pub add_exchanged-requires-clause-key : goal.add_exchanged-requires-clause-key
 add_exchanged-requires-clause-key c =
     let s = c.args.schema.now in
     let lt : c.loop-tried.tried < length c.loop-tried.found.items = omega (arith, c.loop-tried-test.true, c.len.ensures, c.loop-tried.found.ok.0) in
-    subst (λ (k : AttrSet). IsKey (width_of s) (theory_of s) (universe_of s) (places k)) (sym c.index-key.ensures) (c.loop-tried.invariant.some.each c.loop-tried.tried _ lt)
+    subst (λ (k : AttrSet). IsKey (width_of s) (theory_of s) (universe_of s) (attributes k)) (sym c.index-key.ensures) (c.loop-tried.invariant.some.each c.loop-tried.tried _ lt)
 
 pub loop-tried-preserved : goal.loop-tried-preserved
 loop-tried-preserved c =
@@ -53,7 +53,7 @@ loop-tried-preserved c =
     let lt : c.loop-tried.tried < length old = omega (arith, c.loop-tried-test.true, c.len.ensures, c.loop-tried.found.ok.0) in
     let longer : length old ≤ length found = grows_longer old found c.in_ok-add_exchanged.ensures.kept in
     record {
-      some = c.in_ok-add_exchanged.ensures.some;
+      some = c.in_ok-add_exchanged.ensures.keys;
       one = omega (arith, before.one, longer);
       tried_in = omega (arith, lt, longer);
       tried = tried_more (theory_of s) old found c.loop-tried.tried (c.loop-tried.tried + 1) c.index-key.result.now refl lt c.index-key.ensures c.in_ok-add_exchanged.ensures.kept before.tried c.in_ok-add_exchanged.ensures.exchanged;

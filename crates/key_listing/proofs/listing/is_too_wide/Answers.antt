@@ -14,11 +14,11 @@ returns-then-is_functional c =
     let ds = theory_of c.args.schema.now in
     let same : functional_part ds ≡ ds =
     subst (λ (es : List Dep). functional_part (dependencies_of es) ≡ dependencies_of es) c.deps.ensures.deps (c.is_functional.ensures.functional.0 c.if-is_functional.true) in
-    record { wide = ((λ e. absurd (false≢true e)), (λ wide. absurd (none_multivalued ds same wide.0))) }
+    record { too_wide = ((λ e. absurd (false≢true e)), (λ wide. absurd (none_multivalued ds same wide.0))) }
 
 pub returns : goal.returns
 returns c =
     let ds = theory_of c.args.schema.now in
     let some = some_multivalued ds (λ same. false≢true (sym c.if-is_functional.false ∙ c.is_functional.ensures.functional.1
     (subst (λ (es : List Dep). functional_part (dependencies_of es) ≡ dependencies_of es) (sym c.deps.ensures.deps) same))) in
-    record { wide = ((λ e. (some, grind (arith, nat_tests, e, c.width.ensures.count))), (λ wide. grind (arith, nat_tests, wide.1, c.width.ensures.count))) }
+    record { too_wide = ((λ e. (some, grind (arith, nat_tests, e, c.width.ensures.count))), (λ wide. grind (arith, nat_tests, wide.1, c.width.ensures.count))) }

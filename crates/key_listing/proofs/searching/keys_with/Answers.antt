@@ -1,4 +1,4 @@
-use Rattle.attr_sets.specs.Sets.{places}
+use Rattle.attr_sets.specs.Sets.{attributes}
 use Rattle.dep_model.specs.Schemas.{width_of, theory_of}
 use Rattle.key_listing.proofs.FoundLemmas.{sorted_keys}
 use Rattle.key_listing.proofs.searching.keys_with.Goals as goal
@@ -7,7 +7,7 @@ pub returns : goal.returns
 returns c =
     let s = c.args.schema.now in
     record {
-      keys = sorted_keys (width_of s) (theory_of s) (places c.args.scheme) c.add_keys.new.found.items c.sort_unstable.new.self.items c.in_ok-add_keys.ensures.some
-          (λ few k key. c.in_ok-add_keys.ensures.all few k key (c.requires.needed k key.superkey) key.superkey.within.0)
+      keys = sorted_keys (width_of s) (theory_of s) (attributes c.args.scheme) c.add_keys.new.found.items c.sort_unstable.new.self.items c.in_ok-add_keys.ensures.keys
+          (λ few k key. c.in_ok-add_keys.ensures.all_keys few k key (c.requires.in_every_key k key.superkey) key.superkey.within.0)
           c.sort_unstable.ensures.permutation c.sort_unstable.ensures.sorted;
     }

@@ -1,6 +1,6 @@
 use Rattle.std.proofs.Common.{Bool, true, false, refl, sym, ◌∙◌, ap}
 use Rattle.std.proofs.lemmas.Bool.{false≢true, true≢false}
-use Rattle.attr_sets.specs.Sets.{places}
+use Rattle.attr_sets.specs.Sets.{attributes}
 use Rattle.dep_model.specs.Schemas.{width_of, theory_of}
 use Rattle.dep_model.proofs.KeyLemmas.{superkey-from, fd_on-to}
 use Rattle.dep_basis.specs.declared.deciding.Decision.{Decision}
@@ -18,7 +18,7 @@ pub returns-in-Implied : goal.returns-in-Implied
 returns-in-Implied c =
     let s = c.args.schema.now in
     let implied = c.decide.ensures.implied.0 c.in-Implied.is in
-    record { superkey = ((λ _. superkey-from (width_of s) (theory_of s) (places c.args.scheme) (places c.args.set) c.requires.set implied), (λ _. refl)) }
+    record { superkey = ((λ _. superkey-from (width_of s) (theory_of s) (attributes c.args.scheme) (attributes c.args.set) c.requires.set implied), (λ _. refl)) }
 
 pub returns-in-Broken : goal.returns-in-Broken
 unfolding is_yes
@@ -28,7 +28,7 @@ returns-in-Broken c =
       superkey = (
         (λ e. absurd (false≢true e)),
         (λ superkey.
-            let implied = c.decide.ensures.implied.1 (fd_on-to (width_of s) (theory_of s) (places c.args.scheme) (places c.args.set) (places c.args.scheme) superkey) in
+            let implied = c.decide.ensures.implied.1 (fd_on-to (width_of s) (theory_of s) (attributes c.args.scheme) (attributes c.args.set) (attributes c.args.scheme) superkey) in
             absurd (true≢false (ap is_yes (sym implied ∙ c.in-Broken.is)))),
       );
     }

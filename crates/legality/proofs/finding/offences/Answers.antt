@@ -26,8 +26,8 @@ loop-k-preserved c =
       | in-Some+in_ok-push-in-Some w ↦ record {
         offences = rw w.offences-is
             (next_broken (width_of c.args.schema.now) c.width-in-loop-k.result c.args.rows.now (deps_of c.args.schema.now) c.deps.result.now c.loop-k.k nothing
-            c.in_ok-least.least w.in-Some.pair w.offence.result c.loop-k.offences.items _ c.deps.ensures.deps c.width-in-loop-k.ensures.count low c.loop-k.invariant.offences
-            c.in_ok-least.ensures.pair w.in-Some.is w.offence.ensures.dep w.offence.ensures.first w.offence.ensures.second w.in_ok-push-in-Some.ensures.items);
+            c.in_ok-least.least w.in-Some.pair w.offence_of.result c.loop-k.offences.items _ c.deps.ensures.deps c.width-in-loop-k.ensures.count low c.loop-k.invariant.offences
+            c.in_ok-least.ensures.pair w.in-Some.is w.offence_of.ensures.dep w.offence_of.ensures.first w.offence_of.ensures.second w.in_ok-push-in-Some.ensures.items);
       }
       | in-None w ↦ record {
         offences = rw w.offences-is

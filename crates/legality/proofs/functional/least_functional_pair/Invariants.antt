@@ -1,4 +1,4 @@
-use Rattle.attr_sets.specs.Sets.{places}
+use Rattle.attr_sets.specs.Sets.{attributes}
 use Rattle.csv_rows.specs.Interning.{groups_of, firsts_of}
 use Rattle.legality.proofs.PairLemmas.{Leads, leader}
 use Rattle.legality.proofs.functional.least_functional_pair.Given as goal
@@ -6,5 +6,5 @@ use Rattle.legality.proofs.functional.least_functional_pair.Given as goal
 -- the least pair among the rows so far, each with the first row of its group
 abbrev pub invariant-loop-second : goal.invariant-loop-second
 invariant-loop-second l = record {
-  least : Leads l.rows (places l.rhs) (leader (groups_of l.groups) (firsts_of l.groups)) l.second l.least;
+  least : Leads l.rows (attributes l.rhs) (leader (groups_of l.groups) (firsts_of l.groups)) l.second l.least;
 }

@@ -1,27 +1,27 @@
 use Rattle.std.proofs.Common.{◌≡◌, ◌<◌, ℕ, Some, None, length, ap, subst, sym, ◌∙◌}
-use Rattle.attr_sets.specs.Sets.{places}
+use Rattle.attr_sets.specs.Sets.{attributes}
 use Rattle.dep_model.specs.Tuples.{Relation}
 use Rattle.csv_rows.specs.Interning.{groups_of, firsts_of}
 use Rattle.csv_rows.specs.Numberings.{number_at}
 use Rattle.legality.proofs.PartLemmas.{grouping, none_short, first_short, below_firsts, short_known, beside_known, missing_known}
 use Rattle.legality.proofs.multivalued.least_multivalued_pair.Goals as goal
 
-pub part_counts-requires-2-clause-same : goal.part_counts-requires-2-clause-same
-part_counts-requires-2-clause-same c =
+pub part_counts-requires-2-clause-same_length : goal.part_counts-requires-2-clause-same_length
+part_counts-requires-2-clause-same_length c =
     (c.in_ok-lefts.ensures.groups c.args.width c.args.rows.now c.requires.codes).one_each
     ∙ sym (c.in_ok-all.ensures.groups c.args.width c.args.rows.now c.requires.codes).one_each
 
-pub marked-requires-clause-same : goal.marked-requires-clause-same
-marked-requires-clause-same c =
+pub rests_beside-requires-clause-same_length : goal.rests_beside-requires-clause-same_length
+rests_beside-requires-clause-same_length c =
     ap length c.numbers-in-Some-2.ensures.numbers ∙ (c.in_ok-rests.ensures.groups c.args.width c.args.rows.now c.requires.codes).one_each
     ∙ sym (c.in_ok-lefts.ensures.groups c.args.width c.args.rows.now c.requires.codes).one_each ∙ sym (ap length c.numbers-in-Some.ensures.numbers)
 
-pub marked-requires-clause-count : goal.marked-requires-clause-count
-marked-requires-clause-count c =
+pub rests_beside-requires-clause-count : goal.rests_beside-requires-clause-count
+rests_beside-requires-clause-count c =
     below_firsts _ _ _ _ c.numbers-in-Some-2.ensures.numbers c.firsts-count.ensures.firsts (c.in_ok-rests.ensures.firsts c.args.width c.args.rows.now c.requires.codes)
 
-pub first_missing-least-requires-clause-same : goal.first_missing-least-requires-clause-same
-first_missing-least-requires-clause-same c =
+pub first_missing-least-requires-clause-same_length : goal.first_missing-least-requires-clause-same_length
+first_missing-least-requires-clause-same_length c =
     ap length c.numbers-in-Some-4.ensures.numbers ∙ (c.in_ok-rests.ensures.groups c.args.width c.args.rows.now c.requires.codes).one_each
     ∙ sym (c.in_ok-groups.ensures.groups c.args.width c.args.rows.now c.requires.codes).one_each ∙ sym (ap length c.numbers-in-Some-3.ensures.numbers)
 
@@ -35,16 +35,16 @@ pub returns-in-Some : goal.returns-in-Some
 returns-in-Some c =
     let n : ℕ = c.args.width in
     let r : Relation = c.args.rows.now in
-    let grouped = grouping n r (places c.args.lhs) (places c.args.rhs) (places c.full-universe.result) (places c.union-sides.result) (places c.minus-outside.result) (places c.union-others.result)
+    let grouped = grouping n r (attributes c.args.lhs) (attributes c.args.rhs) (attributes c.full-universe.result) (attributes c.union-sides.result) (attributes c.difference-outside.result) (attributes c.union-others.result)
     (groups_of c.in_ok-groups.groups) (firsts_of c.in_ok-groups.groups) (groups_of c.in_ok-lefts.lefts) (firsts_of c.in_ok-lefts.lefts)
     (groups_of c.in_ok-rests.rests) (firsts_of c.in_ok-rests.rests) (groups_of c.in_ok-all.all) (firsts_of c.in_ok-all.all)
-    c.full-universe.ensures.members c.union-sides.ensures.members c.minus-outside.ensures.members c.union-others.ensures.members c.requires.lhs c.requires.rhs
+    c.full-universe.ensures.members c.union-sides.ensures.members c.difference-outside.ensures.members c.union-others.ensures.members c.requires.lhs c.requires.rhs
     (c.in_ok-groups.ensures.groups n r c.requires.codes) (c.in_ok-groups.ensures.firsts n r c.requires.codes)
     (c.in_ok-lefts.ensures.groups n r c.requires.codes) (c.in_ok-lefts.ensures.firsts n r c.requires.codes)
     (c.in_ok-rests.ensures.groups n r c.requires.codes) (c.in_ok-rests.ensures.firsts n r c.requires.codes)
     (c.in_ok-all.ensures.groups n r c.requires.codes) (c.in_ok-all.ensures.firsts n r c.requires.codes) in
     record {
-      pair = first_short n r (places c.args.lhs) (places c.args.rhs) _ _ _ _ _ _ _ _ grouped c.in_ok-wanted.wanted.items c.in_ok-present.present.items
+      pair = first_short n r (attributes c.args.lhs) (attributes c.args.rhs) _ _ _ _ _ _ _ _ grouped c.in_ok-wanted.wanted.items c.in_ok-present.present.items
           c.in_ok-beside-in-Some.beside.items c.in-Some.first c.first_missing-least.result c.in_ok-wanted.ensures.counts c.in_ok-present.ensures.counts
           (short_known _ _ _ _ _ _ _ _ (Some c.in-Some.first) c.numbers.ensures.numbers c.deref.ensures.value c.numbers-2.ensures.numbers c.deref-2.ensures.value c.in-Some.ensures.first)
           (beside_known _ _ _ _ _ _ c.numbers-in-Some.ensures.numbers c.numbers-in-Some-2.ensures.numbers c.in_ok-beside-in-Some.ensures.beside)
@@ -55,16 +55,16 @@ pub returns : goal.returns
 returns c =
     let n : ℕ = c.args.width in
     let r : Relation = c.args.rows.now in
-    let grouped = grouping n r (places c.args.lhs) (places c.args.rhs) (places c.full-universe.result) (places c.union-sides.result) (places c.minus-outside.result) (places c.union-others.result)
+    let grouped = grouping n r (attributes c.args.lhs) (attributes c.args.rhs) (attributes c.full-universe.result) (attributes c.union-sides.result) (attributes c.difference-outside.result) (attributes c.union-others.result)
     (groups_of c.in_ok-groups.groups) (firsts_of c.in_ok-groups.groups) (groups_of c.in_ok-lefts.lefts) (firsts_of c.in_ok-lefts.lefts)
     (groups_of c.in_ok-rests.rests) (firsts_of c.in_ok-rests.rests) (groups_of c.in_ok-all.all) (firsts_of c.in_ok-all.all)
-    c.full-universe.ensures.members c.union-sides.ensures.members c.minus-outside.ensures.members c.union-others.ensures.members c.requires.lhs c.requires.rhs
+    c.full-universe.ensures.members c.union-sides.ensures.members c.difference-outside.ensures.members c.union-others.ensures.members c.requires.lhs c.requires.rhs
     (c.in_ok-groups.ensures.groups n r c.requires.codes) (c.in_ok-groups.ensures.firsts n r c.requires.codes)
     (c.in_ok-lefts.ensures.groups n r c.requires.codes) (c.in_ok-lefts.ensures.firsts n r c.requires.codes)
     (c.in_ok-rests.ensures.groups n r c.requires.codes) (c.in_ok-rests.ensures.firsts n r c.requires.codes)
     (c.in_ok-all.ensures.groups n r c.requires.codes) (c.in_ok-all.ensures.firsts n r c.requires.codes) in
     record {
-      pair = none_short n r (places c.args.lhs) (places c.args.rhs) _ _ _ _ _ _ _ _ grouped c.in_ok-wanted.wanted.items c.in_ok-present.present.items
+      pair = none_short n r (attributes c.args.lhs) (attributes c.args.rhs) _ _ _ _ _ _ _ _ grouped c.in_ok-wanted.wanted.items c.in_ok-present.present.items
           c.in_ok-wanted.ensures.counts c.in_ok-present.ensures.counts
           (short_known _ _ _ _ _ _ _ _ None c.numbers.ensures.numbers c.deref.ensures.value c.numbers-2.ensures.numbers c.deref-2.ensures.value c.in-None.ensures.first);
     }

@@ -1,7 +1,7 @@
 use Rattle.std.proofs.Common.{arith, ◌≡◌, ◌<◌, ◌≤◌, ◌+◌, ◌==◌, ℕ, List, length, slice_index_or, slice_set, Fits, w64, ap, subst, sym, ◌∙◌}
 use Rattle.std.proofs.lemmas.List.{length-set, length-replicate}
-use Rattle.attr_sets.specs.Places.{count_below}
-use Rattle.attr_sets.proofs.PlacesLemmas.{count_below-le}
+use Rattle.attr_sets.specs.Attributes.{count_below}
+use Rattle.attr_sets.proofs.AttributesLemmas.{count_below-le}
 use Rattle.csv_rows.specs.Interning.{groups_of, firsts_of}
 use Rattle.csv_rows.specs.Numberings.{number_at}
 use Rattle.csv_rows.proofs.NumberingLemmas.{same_default}
@@ -21,7 +21,7 @@ overflow_add-index_mut c =
     let row = group_of (groups_of c.args.groups.now) (firsts_of c.args.parts.now) c.numbers.result.now c.firsts-row-items.result.now i c.numbers.ensures.numbers c.firsts-row-items.ensures.firsts in
     let at : i < length (firsts_of c.args.parts.now) = subst (λ (xs : List ℕ). i < length xs) c.firsts-row-items.ensures.firsts c.loop-row-test.true in
     let low : value i < length c.loop-row.counts.items =
-    subst (λ (m : ℕ). value i < m) (sym c.loop-row.invariant.one_each) (group_within _ _ _ _ i c.requires.groups c.requires.parts c.requires.same at) in
+    subst (λ (m : ℕ). value i < m) (sym c.loop-row.invariant.one_each) (group_within _ _ _ _ i c.requires.groups c.requires.parts c.requires.same_length at) in
     let is : c.index_mut.result.now ≡ number_at c.loop-row.counts.items (value i) =
     c.index_mut.ensures.value ∙ ap (λ (m : ℕ). slice_index_or c.loop-row.counts.items m c.index_mut.result.now) row ∙ same_default c.loop-row.counts.items (value i) c.index_mut.result.now 0 low in
     let count : c.index_mut.result.now ≡ count_below (λ g. value g == value i) i = is ∙ c.loop-row.invariant.count (value i) low in
@@ -37,7 +37,7 @@ loop-row-preserved c =
     let row = group_of (groups_of c.args.groups.now) (firsts_of c.args.parts.now) c.numbers.result.now c.firsts-row-items.result.now i c.numbers.ensures.numbers c.firsts-row-items.ensures.firsts in
     let at : i < length (firsts_of c.args.parts.now) = subst (λ (xs : List ℕ). i < length xs) c.firsts-row-items.ensures.firsts c.loop-row-test.true in
     let low : value i < length c.loop-row.counts.items =
-    subst (λ (m : ℕ). value i < m) (sym c.loop-row.invariant.one_each) (group_within _ _ _ _ i c.requires.groups c.requires.parts c.requires.same at) in
+    subst (λ (m : ℕ). value i < m) (sym c.loop-row.invariant.one_each) (group_within _ _ _ _ i c.requires.groups c.requires.parts c.requires.same_length at) in
     let is : c.index_mut.result.now ≡ number_at c.loop-row.counts.items (value i) =
     c.index_mut.ensures.value ∙ ap (λ (m : ℕ). slice_index_or c.loop-row.counts.items m c.index_mut.result.now) row ∙ same_default c.loop-row.counts.items (value i) c.index_mut.result.now 0 low in
     let new : slice_set c.loop-row.counts.items (slice_index_or c.numbers.result.now (slice_index_or c.firsts-row-items.result.now i 0) 0) (c.index_mut.result.now + 1)

@@ -1,5 +1,5 @@
 use Rattle.std.proofs.Common.{◌≡◌, ◌<◌, ◌==◌, ℕ, length}
-use Rattle.attr_sets.specs.Places.{count_below}
+use Rattle.attr_sets.specs.Attributes.{count_below}
 use Rattle.csv_rows.specs.Interning.{groups_of, firsts_of}
 use Rattle.csv_rows.specs.Numberings.{number_at}
 use Rattle.legality.proofs.multivalued.part_counts.Given as goal

@@ -1,5 +1,5 @@
 use Rattle.std.proofs.Common.{arith, sym, ◌∙◌, ap, ◌+◌}
-use Rattle.lexer.specs.Tokens.{lexed}
+use Rattle.lexer.specs.Tokens.{tokens_after}
 use Rattle.lexer.proofs.Steps.{is_some, is_none, after_gap, at_comment, at_end, at_flaw, lies_in, flaw_lies_in, token_leads, token_after}
 use Rattle.lexer.proofs.token.next_token.Goals as goal
 
@@ -8,7 +8,7 @@ pieces-preserved c =
     let some = is_some _ c.pieces-test.ensures in
     let step = after_gap _ c.pieces.column c.pieces.rest.now some c.in-Gap.ensures.exact in
     record {
-      same = c.pieces.invariant.same ∙ step ∙ ap (λ t. lexed c.args.mode 0 (c.pieces.column + 1) t) (sym c.split_at.ensures.back);
+      same = c.pieces.invariant.same ∙ step ∙ ap (λ t. tokens_after c.args.mode 0 (c.pieces.column + 1) t) (sym c.split_at.ensures.back);
       from_on = omega (arith, c.pieces.invariant.from_on);
       fits = omega (arith, c.pieces.invariant.fits, c.split_at.ensures.back_len);
     }

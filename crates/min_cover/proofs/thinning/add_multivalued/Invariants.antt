@@ -1,6 +1,6 @@
 use Rattle.std.proofs.Common.{◌≡◌, ℕ, ◌++◌, length, take}
 use Rattle.std.specs.Prelude.{All}
-use Rattle.attr_sets.specs.Places.{below}
+use Rattle.attr_sets.specs.Attributes.{below}
 use Rattle.dep_model.specs.Deps.{dependencies_of, IsDepWithin}
 use Rattle.min_cover.specs.Covers.{multivalued_part}
 use Rattle.min_cover.proofs.thinning.add_multivalued.Given as goal

@@ -1,7 +1,7 @@
 use Rattle.std.proofs.Common.{◌≡◌, ◌++◌, ◌∷◌, [], List, ℕ, take, take_all, get_or, sym, ap, subst, ◌∙◌, append_assoc}
 use Rattle.std.proofs.lemmas.List.{append-nil}
 use Rattle.attr_sets.specs.declared.set.AttrSet.{AttrSet}
-use Rattle.attr_sets.specs.Sets.{places}
+use Rattle.attr_sets.specs.Sets.{attributes}
 use Rattle.dep_model.specs.Plans.{schemes_of}
 use Rattle.dep_model.specs.Schemas.{names_of}
 use Rattle.plans.specs.Printing.{scheme_text, plan_text}
@@ -18,7 +18,7 @@ loop-scheme-preserved c =
     let schemes = c.args.schemes.now in
     let first : AttrSet = record { 0 = 0 } in
     let front = plan_text names (schemes_of (take i schemes)) in
-    let line : List ℕ = scheme_text names (places (get_or schemes i first)) ++ 10 ∷ [] in
+    let line : List ℕ = scheme_text names (attributes (get_or schemes i first)) ++ 10 ∷ [] in
     c.in_ok-add_scheme.ensures.added
     ∙ ap (λ (text : List ℕ). text ++ line) c.loop-scheme.invariant
     ∙ append_assoc c.args.text.now.items front line

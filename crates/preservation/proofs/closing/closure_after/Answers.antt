@@ -1,11 +1,11 @@
 use Rattle.std.proofs.Common.{◌≡◌, Some, Option, inr, refl, subst}
 use Rattle.std.specs.Prelude.{IfSome}
-use Rattle.attr_sets.specs.Places.{Places}
-use Rattle.attr_sets.specs.Sets.{places}
+use Rattle.attr_sets.specs.Attributes.{Attributes}
+use Rattle.attr_sets.specs.Sets.{attributes}
 use Rattle.dep_model.specs.Schemas.{width_of, theory_of}
 use Rattle.preservation.specs.declared.closing.Closed.{Closed}
 use Rattle.preservation.specs.Insides.{known_plan}
-use Rattle.preservation.specs.Settled.{TellsKeptClosure, IsKeptClosure}
+use Rattle.preservation.specs.FunctionallyClosed.{TellsKeptClosure, IsKeptClosure}
 use Rattle.preservation.proofs.KeepingLemmas.{kept_follows}
 use Rattle.preservation.proofs.closing.closure_after.Goals as goal
 
@@ -14,12 +14,12 @@ returns-then-eq c =
     let n = width_of c.args.schema.now in
     let ds = theory_of c.args.schema.now in
     let plan = known_plan c.args.insides.now in
-    let told = c.in-Some.told in
+    let told = c.in-Some.previous in
     let known : IfSome (Some told) (TellsKeptClosure n ds plan) = subst (λ (last : Option Closed). IfSome last (TellsKeptClosure n ds plan)) c.in-Some.is c.requires.last in
-    let same : places told.from ≡ places c.args.from = c.if-eq.ensures.same.0 refl in
-    let all : IsKeptClosure n ds plan (places c.args.from) (places told.closed) = subst (λ (x : Places). IsKeptClosure n ds plan x (places told.closed)) same known in
+    let same : attributes told.from ≡ attributes c.args.from = c.if-eq.ensures.same.0 refl in
+    let all : IsKeptClosure n ds plan (attributes c.args.from) (attributes told.closed) = subst (λ (x : Attributes). IsKeptClosure n ds plan x (attributes told.closed)) same known in
     record {
-      follows = kept_follows n ds plan (places c.args.from) (places told.closed) all;
+      follows = kept_follows n ds plan (attributes c.args.from) (attributes told.closed) all;
       found = inr all;
       known = c.requires.known;
       schemes = refl;

@@ -2,15 +2,15 @@ use Rattle.std.proofs.Common.{inl, inr, ⊎_elim, refl, ◌∙◌, arith}
 use Rattle.std.specs.Prelude.{All}
 use Rattle.std.proofs.lemmas.Bool.{false≢true}
 use Rattle.std.proofs.lemmas.List.Elements.{All-map}
-use Rattle.attr_sets.specs.Places.{Places}
-use Rattle.attr_sets.specs.Sets.{places}
-use Rattle.attr_sets.specs.declared.set.TheConstants.{PLACES}
+use Rattle.attr_sets.specs.Attributes.{Attributes}
+use Rattle.attr_sets.specs.Sets.{attributes}
+use Rattle.attr_sets.specs.declared.set.TheConstants.{MOST_ATTRIBUTES}
 use Rattle.attr_sets.specs.declared.set.AttrSet.{AttrSet}
-use Rattle.attr_sets.proofs.PlacesLemmas.{
-  places_below,
-  tell_within,
+use Rattle.attr_sets.proofs.AttributesLemmas.{
+  attributes_below,
+  tell_subset,
   same_from_within,
-  Within-same,
+  IsSubset-same,
   count_below-lt,
   count_below-le,
 }
@@ -19,8 +19,8 @@ use Rattle.dep_model.specs.Schemas.{width_of, theory_of}
 use Rattle.dep_model.specs.TwoTuples.{two_tuples}
 use Rattle.preservation.specs.Insides.{known_schemes, known_plan}
 use Rattle.preservation.specs.Keeping.{ObeysInside}
-use Rattle.preservation.specs.Settled.{IsSettledIn}
-use Rattle.preservation.proofs.KeepingLemmas.{settled_inside, settled_exactly}
+use Rattle.preservation.specs.FunctionallyClosed.{IsFunctionallyClosedIn}
+use Rattle.preservation.proofs.KeepingLemmas.{functionally_closed_inside, functionally_closed_exactly}
 use Rattle.preservation.proofs.KnownLemmas.{known_within, same_plan_obeyed}
 use Rattle.preservation.proofs.closing.kept_closure.Goals as goal
 
@@ -28,7 +28,7 @@ pub loop-wanted-init : goal.loop-wanted-init
 loop-wanted-init c = record {
   grows = λ k m. m;
   within = c.requires.from;
-  kept = λ r inside. reflexivity_obeyed (places c.args.from) (places c.args.from) r (λ k m. m);
+  kept = λ r inside. reflexivity_obeyed (attributes c.args.from) (attributes c.args.from) r (λ k m. m);
   known = c.requires.known;
   schemes = refl;
   switches = refl;
@@ -45,7 +45,7 @@ loop-wanted-preserved c =
       grows = λ k m. more.ensures.grows k (before.grows k m);
       within = more.ensures.within;
       kept = λ r inside.
-          transitivity_obeyed (places c.args.from) (places c.loop-wanted.closed) (places more.result) r
+          transitivity_obeyed (attributes c.args.from) (attributes c.loop-wanted.closed) (attributes more.result) r
           (before.kept r inside)
           (more.ensures.kept r (same_plan_obeyed (width_of c.args.schema.now) (theory_of c.args.schema.now)
           c.args.insides.now c.loop-wanted.insides r before.schemes inside));
@@ -56,40 +56,40 @@ loop-wanted-preserved c =
 
 pub loop-wanted-smaller : goal.loop-wanted-smaller
 loop-wanted-smaller c =
-    let now = places c.loop-wanted.closed in
+    let now = attributes c.loop-wanted.closed in
     let more = c.with_schemes-more in
     ⊎_elim
     (λ new. omega (
       arith,
-      count_below-lt PLACES now (places more.result) new.0 more.ensures.grows new.1 new.3 new.2,
-      count_below-le PLACES (places more.result),
+      count_below-lt MOST_ATTRIBUTES now (attributes more.result) new.0 more.ensures.grows new.1 new.3 new.2,
+      count_below-le MOST_ATTRIBUTES (attributes more.result),
     ))
     (λ back. absurd (false≢true
-    (c.if-eq.ensures.same.1 (same_from_within (places more.result) now back more.ensures.grows))))
-    (tell_within PLACES (places more.result) now (places_below more.result))
+    (c.if-eq.ensures.same.1 (same_from_within (attributes more.result) now back more.ensures.grows))))
+    (tell_subset MOST_ATTRIBUTES (attributes more.result) now (attributes_below more.result))
 
 pub returns-then-eq : goal.returns-then-eq
 returns-then-eq c =
     let s = c.args.schema.now in
     let n = width_of s in
     let ds = theory_of s in
-    let now = places c.loop-wanted.closed in
+    let now = attributes c.loop-wanted.closed in
     let before = c.loop-wanted.invariant in
     let more = c.with_schemes-more in
     let schemes = known_schemes c.args.insides.now in
     let plan = known_plan c.args.insides.now in
-    let settled_then : All (λ (x : AttrSet). IsSettledIn n ds (places x) now now)
+    let settled_then : All (λ (x : AttrSet). IsFunctionallyClosedIn n ds (attributes x) now now)
     (known_schemes c.loop-wanted.insides) =
-    more.ensures.settled (Within-same (places more.result) now (c.if-eq.ensures.same.0 refl)) in
-    let settled : All (λ (x : AttrSet). IsSettledIn n ds (places x) now now) schemes =
+    more.ensures.functionally_closed (IsSubset-same (attributes more.result) now (c.if-eq.ensures.same.0 refl)) in
+    let settled : All (λ (x : AttrSet). IsFunctionallyClosedIn n ds (attributes x) now now) schemes =
     rw before.schemes at settled_then in
     let inside : ObeysInside n ds plan (two_tuples n now) =
-    settled_inside n ds plan now (known_within n ds c.args.insides.now c.requires.known)
-    (All-map (λ (x : Places). IsSettledIn n ds x now now) places schemes settled) in
+    functionally_closed_inside n ds plan now (known_within n ds c.args.insides.now c.requires.known)
+    (All-map (λ (x : Attributes). IsFunctionallyClosedIn n ds x now now) attributes schemes settled) in
     record {
       follows = before.kept;
       found = inr (record {
-        closure = settled_exactly n ds plan (places c.args.from) now c.requires.from before.within before.grows
+        closure = functionally_closed_exactly n ds plan (attributes c.args.from) now c.requires.from before.within before.grows
             before.kept inside;
         inside = inside;
       });
@@ -98,17 +98,17 @@ returns-then-eq c =
       switches = more.ensures.switches ∙ before.switches;
     }
 
-pub returns-then-within : goal.returns-then-within
-returns-then-within c =
+pub returns-then-is_subset : goal.returns-then-is_subset
+returns-then-is_subset c =
     let before = c.loop-wanted.invariant in
     let more = c.with_schemes-more in
     record {
       follows = λ r inside.
-          transitivity_obeyed (places c.args.from) (places c.loop-wanted.closed) (places more.result) r
+          transitivity_obeyed (attributes c.args.from) (attributes c.loop-wanted.closed) (attributes more.result) r
           (before.kept r inside)
           (more.ensures.kept r (same_plan_obeyed (width_of c.args.schema.now) (theory_of c.args.schema.now)
           c.args.insides.now c.loop-wanted.insides r before.schemes inside));
-      found = inl (c.if-within.ensures.within.0 refl);
+      found = inl (c.if-is_subset.ensures.subset.0 refl);
       known = more.ensures.known;
       schemes = more.ensures.schemes ∙ before.schemes;
       switches = more.ensures.switches ∙ before.switches;

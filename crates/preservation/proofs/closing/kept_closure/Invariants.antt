@@ -1,8 +1,8 @@
 use Rattle.std.proofs.Common.{◌≡◌, ◌-◌}
 use Rattle.std.specs.Prelude.{All}
-use Rattle.attr_sets.specs.Places.{Within, count_below}
-use Rattle.attr_sets.specs.Sets.{places}
-use Rattle.attr_sets.specs.declared.set.TheConstants.{PLACES}
+use Rattle.attr_sets.specs.Attributes.{IsSubset, count_below}
+use Rattle.attr_sets.specs.Sets.{attributes}
+use Rattle.attr_sets.specs.declared.set.TheConstants.{MOST_ATTRIBUTES}
 use Rattle.dep_model.specs.Dependencies.{ObeysFd}
 use Rattle.dep_model.specs.Schemas.{width_of, theory_of, universe_of}
 use Rattle.dep_model.specs.Tuples.{Relation}
@@ -13,14 +13,14 @@ use Rattle.preservation.proofs.closing.kept_closure.Given as goal
 
 abbrev pub invariant-loop-wanted : goal.invariant-loop-wanted
 invariant-loop-wanted l = record {
-  grows : Within (places l.initial.closed) (places l.closed);
-  within : Within (places l.closed) (universe_of l.schema);
+  grows : IsSubset (attributes l.initial.closed) (attributes l.closed);
+  within : IsSubset (attributes l.closed) (universe_of l.schema);
   kept : (r : Relation) → ObeysInside (width_of l.schema) (theory_of l.schema) (known_plan l.initial.insides) r
-      → ObeysFd (places l.initial.closed) (places l.closed) r;
+      → ObeysFd (attributes l.initial.closed) (attributes l.closed) r;
   known : All (IsKnown (width_of l.schema) (theory_of l.schema)) l.insides;
   schemes : known_schemes l.insides ≡ known_schemes l.initial.insides;
   switches : switches_of l.counters ≡ switches_of l.initial.counters;
 }
 
 abbrev pub decreases-loop-wanted : goal.decreases-loop-wanted
-decreases-loop-wanted l = PLACES - count_below (places l.closed) PLACES
+decreases-loop-wanted l = MOST_ATTRIBUTES - count_below (attributes l.closed) MOST_ATTRIBUTES

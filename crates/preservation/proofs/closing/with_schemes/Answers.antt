@@ -2,16 +2,16 @@ use Rattle.std.proofs.Common.{◌<◌, ◌≤◌, length, get_or, inl, inr, refl
 use Rattle.std.proofs.lemmas.Bool.{cases_Bool}
 use Rattle.std.proofs.lemmas.List.{length-map}
 use Rattle.std.proofs.lemmas.List.Elements.{All-more, All-set}
-use Rattle.attr_sets.specs.Places.{Within}
-use Rattle.attr_sets.specs.Sets.{places}
+use Rattle.attr_sets.specs.Attributes.{IsSubset}
+use Rattle.attr_sets.specs.Sets.{attributes}
 use Rattle.attr_sets.specs.declared.set.AttrSet.{AttrSet}
 use Rattle.dep_model.proofs.RuleLemmas.{transitivity_obeyed, reflexivity_obeyed}
 use Rattle.dep_model.specs.Schemas.{width_of, theory_of}
 use Rattle.preservation.specs.declared.inside.Inside.{Inside}
 use Rattle.preservation.specs.Insides.{IsInsideOf, IsKnown, known_schemes, known_plan}
-use Rattle.preservation.specs.Settled.{IsSettledIn}
-use Rattle.attr_sets.proofs.PlacesLemmas.{same_at}
-use Rattle.preservation.proofs.KeepingLemmas.{added_follows, added_settles}
+use Rattle.preservation.specs.FunctionallyClosed.{IsFunctionallyClosedIn}
+use Rattle.attr_sets.proofs.AttributesLemmas.{same_at}
+use Rattle.preservation.proofs.KeepingLemmas.{added_follows, added_closes_functionally}
 use Rattle.preservation.proofs.KnownLemmas.{scheme_of, scheme_at, same_schemes}
 use Rattle.preservation.proofs.closing.with_schemes.Goals as goal
 
@@ -19,7 +19,7 @@ pub loop-i-init : goal.loop-i-init
 loop-i-init c = record {
   grows = λ k m. m;
   within = c.requires.closed;
-  kept = λ r inside. reflexivity_obeyed (places c.args.closed) (places c.args.closed) r (λ k m. m);
+  kept = λ r inside. reflexivity_obeyed (attributes c.args.closed) (attributes c.args.closed) r (λ k m. m);
   settled = λ k d l. absurd (omega arith);
   known = c.requires.known;
   schemes = refl;
@@ -34,18 +34,18 @@ loop-i-preserved c =
     let i = c.loop-i.i in
     let before = c.loop-i.invariant in
     let old = c.args.insides.now in
-    let from = places c.args.closed in
-    let now = places c.loop-i.more in
-    let next = places c.union-more.result in
+    let from = attributes c.args.closed in
+    let now = attributes c.loop-i.more in
+    let next = attributes c.union-more.result in
     let nothing : AttrSet = record { 0 = 0 } in
     let nowhere : Inside = record { scheme = nothing; part = nothing; closed = nothing } in
-    let scheme = places (get_or c.loop-i.insides i nowhere).scheme in
+    let scheme = attributes (get_or c.loop-i.insides i nowhere).scheme in
     let inside = c.inside_by-inside in
     let low : i < length old = c.loop-i-test.true in
-    let known : IsInsideOf n ds scheme (places inside.result.part) (places inside.result.closed) =
-    subst (λ (scheme : AttrSet). IsInsideOf n ds (places scheme) (places inside.result.part)
-    (places inside.result.closed)) inside.ensures.scheme inside.ensures.known in
-    let grows : Within now next = (λ k m. grind (arith, same_at c.union-more.ensures.members k, m)) in
+    let known : IsInsideOf n ds scheme (attributes inside.result.part) (attributes inside.result.closed) =
+    subst (λ (scheme : AttrSet). IsInsideOf n ds (attributes scheme) (attributes inside.result.part)
+    (attributes inside.result.closed)) inside.ensures.scheme inside.ensures.known in
+    let grows : IsSubset now next = (λ k m. grind (arith, same_at c.union-more.ensures.members k, m)) in
     record {
       grows = λ k m. grows k (before.grows k m);
       within = λ k m. elim (cases_Bool (now k)) [
@@ -53,26 +53,26 @@ loop-i-preserved c =
         | inr new ↦ known.universe k ((known.closure k).0 (grind (arith, same_at c.union-more.ensures.members k, new, m))).0
       ];
       kept = λ r obeys. transitivity_obeyed from now next r (before.kept r obeys)
-          (added_follows n ds (known_plan old) scheme now (places inside.result.part)
-          (places inside.result.closed) next r
+          (added_follows n ds (known_plan old) scheme now (attributes inside.result.part)
+          (attributes inside.result.closed) next r
           known inside.ensures.part c.union-more.ensures.members
           (scheme_at old c.loop-i.insides i nowhere before.schemes low) obeys);
-      settled = All-more (λ (scheme : AttrSet). IsSettledIn n ds (places scheme) from next)
+      settled = All-more (λ (scheme : AttrSet). IsFunctionallyClosedIn n ds (attributes scheme) from next)
           (known_schemes old) i nothing
           (omega (arith, low, length-map old (λ (inside : Inside). inside.scheme)))
           (λ k d l x y within implied inside a m. grows a (before.settled k d l x y within implied inside a m))
-          (subst (λ (scheme : AttrSet). IsSettledIn n ds (places scheme) from next)
+          (subst (λ (scheme : AttrSet). IsFunctionallyClosedIn n ds (attributes scheme) from next)
           (sym (scheme_of old c.loop-i.insides i nowhere before.schemes))
-          (λ x y within implied x_in. added_settles n ds scheme now (places inside.result.part)
-          (places inside.result.closed) next known inside.ensures.covers c.union-more.ensures.members
+          (λ x y within implied x_in. added_closes_functionally n ds scheme now (attributes inside.result.part)
+          (attributes inside.result.closed) next known inside.ensures.covers c.union-more.ensures.members
           x y within implied (λ k m. before.grows k (x_in k m))));
       known = All-set (IsKnown n ds) c.loop-i.insides i inside.result inside.ensures.known before.known;
       schemes = same_schemes old c.loop-i.insides i inside.result nowhere before.schemes inside.ensures.scheme;
       switches = inside.ensures.switches ∙ before.switches;
     }
 
-pub returns-clause-settled : goal.returns-clause-settled
-returns-clause-settled c = λ same.
+pub returns-clause-functionally_closed : goal.returns-clause-functionally_closed
+returns-clause-functionally_closed c = λ same.
     let schemes = known_schemes c.args.insides.now in
     let long : length schemes ≤ c.loop-i.i =
     omega (arith, c.loop-i-test.false, length-map c.args.insides.now (λ (inside : Inside). inside.scheme)) in

@@ -1,24 +1,24 @@
 use Rattle.std.proofs.Common.{◌≡◌, take}
 use Rattle.std.specs.Prelude.{All}
-use Rattle.attr_sets.specs.Places.{Within}
-use Rattle.attr_sets.specs.Sets.{places}
+use Rattle.attr_sets.specs.Attributes.{IsSubset}
+use Rattle.attr_sets.specs.Sets.{attributes}
 use Rattle.dep_model.specs.Dependencies.{ObeysFd}
 use Rattle.dep_model.specs.Schemas.{width_of, theory_of, universe_of}
 use Rattle.dep_model.specs.Tuples.{Relation}
 use Rattle.fd_closure.specs.Counting.{switches_of}
 use Rattle.preservation.specs.Insides.{IsKnown, known_schemes, known_plan}
 use Rattle.preservation.specs.Keeping.{ObeysInside}
-use Rattle.preservation.specs.Settled.{IsSettledIn}
+use Rattle.preservation.specs.FunctionallyClosed.{IsFunctionallyClosedIn}
 use Rattle.preservation.proofs.closing.with_schemes.Given as goal
 
 abbrev pub invariant-loop-i : goal.invariant-loop-i
 invariant-loop-i l = record {
-  grows : Within (places l.initial.more) (places l.more);
-  within : Within (places l.more) (universe_of l.schema);
+  grows : IsSubset (attributes l.initial.more) (attributes l.more);
+  within : IsSubset (attributes l.more) (universe_of l.schema);
   kept : (r : Relation) → ObeysInside (width_of l.schema) (theory_of l.schema) (known_plan l.initial.insides) r
-      → ObeysFd (places l.initial.more) (places l.more) r;
-  settled : All (λ scheme. IsSettledIn (width_of l.schema) (theory_of l.schema) (places scheme)
-      (places l.initial.more) (places l.more)) (take l.i (known_schemes l.initial.insides));
+      → ObeysFd (attributes l.initial.more) (attributes l.more) r;
+  settled : All (λ scheme. IsFunctionallyClosedIn (width_of l.schema) (theory_of l.schema) (attributes scheme)
+      (attributes l.initial.more) (attributes l.more)) (take l.i (known_schemes l.initial.insides));
   known : All (IsKnown (width_of l.schema) (theory_of l.schema)) l.insides;
   schemes : known_schemes l.insides ≡ known_schemes l.initial.insides;
   switches : switches_of l.counters ≡ switches_of l.initial.counters;

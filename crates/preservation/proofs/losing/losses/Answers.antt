@@ -8,7 +8,7 @@ use Rattle.dep_model.specs.Schemas.{deps_of, theory_of, width_of, universe_of}
 use Rattle.preservation.specs.declared.inside.Inside.{Inside}
 use Rattle.preservation.specs.Insides.{IsKnown, known_schemes}
 use Rattle.preservation.specs.Keeping.{LossesOf}
-use Rattle.preservation.proofs.KnownLemmas.{put_back}
+use Rattle.preservation.proofs.KnownLemmas.{take-known}
 use Rattle.preservation.proofs.LossLemmas.{no_losses, next_kept, next_lost, all_looked_at}
 use Rattle.preservation.proofs.LossLemmas.{none_kept, kept_none, each_kept, keeps_each}
 use Rattle.preservation.proofs.losing.losses.Goals as goal
@@ -53,7 +53,7 @@ loop-k-preserved c =
     let given : c.deref_mut.result.now ≡ old = c.deref_mut.ensures.value in
     let count : c.loop-k.insides.len ≡ length old =
     sym c.deref_mut.ensures.len ∙ ap (λ (l : List Inside). length l) given in
-    let back = sym (put_back old call.new.insides c.loop-k.insides.len count
+    let back = sym (take-known old call.new.insides c.loop-k.insides.len count
     (call.ensures.schemes ∙ ap known_schemes given)) in
     let known = subst (λ (l : List Inside). All (IsKnown n (theory_of s)) l) back call.ensures.known in
     let schemes = subst (λ (l : List Inside). known_schemes l ≡ c.args.schemes.now) back

@@ -4,7 +4,7 @@ use Rattle.dep_model.specs.Plans.{schemes_of}
 use Rattle.dep_model.specs.Schemas.{width_of, theory_of}
 use Rattle.preservation.specs.Insides.{IsKnown, known_schemes, AreAllOn}
 use Rattle.preservation.specs.Keeping.{LossesFrom}
-use Rattle.preservation.specs.Settled.{TellsKeptClosure}
+use Rattle.preservation.specs.FunctionallyClosed.{TellsKeptClosure}
 use Rattle.preservation.proofs.losing.losses.Given as goal
 
 -- the losses among the dependencies so far

@@ -20,7 +20,7 @@ add_lines-requires t c =
     let root = step_tree c.in-Step.is c.deref.ensures in
     let all = ap nodes root in
     let proof = rw root at c.requires.proof in
-    (omega (arith, all), ((proof.1.0, proof.1.1), omega (arith, all, c.requires.room)))
+    (omega (arith, all), ((proof.1.0, proof.1.1), omega (arith, all, c.requires.fits_u32)))
 
 pub stated_by_step-stated-requires : goal.stated_by_step-stated-requires
 stated_by_step-stated-requires t c =
@@ -28,7 +28,7 @@ stated_by_step-stated-requires t c =
     let from = c.in_ok-from-in-Step in
     let one = Proves-one c.args.schema.now (tree_of c.deref.result.now) proof.1.0
     (dependency_of from.from) proof.1.1 from.ensures.proves in
-    record { some = (proof.0, rw one at proof.1.2) }
+    record { concludes = (proof.0, rw one at proof.1.2) }
 
 pub add_node-requires-in-Step-clause-stated : goal.add_node-requires-in-Step-clause-stated
 add_node-requires-in-Step-clause-stated t c =
@@ -48,14 +48,14 @@ add_lines-requires-in-Pair t c =
     let root = pair_tree c.in-Pair.is c.deref-in-Pair.ensures refl in
     let all = ap nodes root in
     let proof = rw root at c.requires.proof in
-    (omega (arith, all), ((proof.1.0, proof.1.2), omega (arith, all, c.requires.room)))
+    (omega (arith, all), ((proof.1.0, proof.1.2), omega (arith, all, c.requires.fits_u32)))
 
 pub add_lines-requires-in-Pair-2 : goal.add_lines-requires-in-Pair-2
 add_lines-requires-in-Pair-2 t c =
     let root = pair_tree c.in-Pair.is c.deref-in-Pair.ensures c.deref-in-Pair-2.ensures in
     let all = ap nodes root in
     let proof = rw root at c.requires.proof in
-    (omega (arith, all), ((proof.1.1, proof.1.3), omega (arith, all, c.requires.room, c.in_ok-left-in-Pair.ensures.printed)))
+    (omega (arith, all), ((proof.1.1, proof.1.3), omega (arith, all, c.requires.fits_u32, c.in_ok-left-in-Pair.ensures.printed)))
 
 pub stated_by_pair-stated-requires : goal.stated_by_pair-stated-requires
 stated_by_pair-stated-requires t c =
@@ -67,7 +67,7 @@ stated_by_pair-stated-requires t c =
     (dependency_of left.left) proof.1.2 left.ensures.proves in
     let second = Proves-one s (tree_of c.deref-in-Pair-2.result.now) proof.1.1
     (dependency_of right.right) proof.1.3 right.ensures.proves in
-    record { some = (proof.0, rw (first, second) at proof.1.4) }
+    record { concludes = (proof.0, rw (first, second) at proof.1.4) }
 
 pub add_node-requires-in-Pair-clause-stated : goal.add_node-requires-in-Pair-clause-stated
 add_node-requires-in-Pair-clause-stated t c =

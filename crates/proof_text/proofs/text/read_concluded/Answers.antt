@@ -2,12 +2,13 @@ use Rattle.std.proofs.Common.{ap, arith, drop, length, length-drop, refl, subst,
 use Rattle.std.proofs.lemmas.Bool.{cond_both}
 use Rattle.derivation.specs.Derivs.{tree_of}
 use Rattle.lexer.specs.Lines.{line_texts, without_mark}
-use Rattle.lexer.proofs.LineEnds.{cut_any, cut_last, cut_more}
-use Rattle.proof_text.specs.Views.{ledger_of}
+use Rattle.lexer.proofs.LineEnds.{CutsAt-any, cut_last, cut_more}
+use Rattle.proof_text.specs.Views.{checker_state_of}
 use Rattle.proof_grammar.specs.Texts.{read_certificate_lines, read_proof}
 use Rattle.dep_model.proofs.FailureLemmas.{refused_is}
-use Rattle.proof_grammar.specs.Ledgers.{IsLedger}
+use Rattle.proof_grammar.specs.ValidStates.{IsCheckerState}
 use Rattle.dep_model.specs.Deps.{dependency_of}
+use Rattle.dep_model.specs.Schemas.{universe_of}
 use Rattle.proof_grammar.proofs.CertificateLaws.{spelled_there}
 use Rattle.proof_grammar.proofs.TextRefusals.{refuses_there}
 use Rattle.proof_text.proofs.PrintingLemmas.{stated_within}
@@ -19,18 +20,18 @@ pub lines-init : goal.lines-init
 unfolding read_proof
 lines-init c = record {
   same = ap (λ book. read_certificate_lines c.args.schema.now true 1 book (line_texts (without_mark c.args.text.now))) (sym c.new-book.ensures.empty)
-      ∙ ap (λ text. read_certificate_lines c.args.schema.now true 1 (ledger_of c.new-book.result) (line_texts text)) (sym c.without_mark-rest.ensures.text);
+      ∙ ap (λ text. read_certificate_lines c.args.schema.now true 1 (checker_state_of c.new-book.result) (line_texts text)) (sym c.without_mark-rest.ensures.text);
   room =
       let text = c.args.text.now in
       let short : length (without_mark text) ≤ length text =
       cond_both _ (drop 3 text) text (λ t. length t ≤ length text) (λ marked. omega (arith, length-drop 3 text))
       (λ bare. omega arith) in
       omega (arith, short, ap length c.without_mark-rest.ensures.text);
-  ledger = subst (IsLedger c.args.schema.now) (sym c.new-book.ensures.empty) (record { stand = tt {0}; count = refl; few = omega arith });
+  checker_state = subst (IsCheckerState c.args.schema.now) (sym c.new-book.ensures.empty) (record { stand = tt {0}; count = refl; few = omega arith });
 }
 
-pub read_one-requires-clause-room : goal.read_one-requires-clause-room
-read_one-requires-clause-room c = omega (arith, c.lines.invariant.room, line_within _ _ _ c.cut_line.ensures.cut)
+pub read_one-requires-clause-fits_u32 : goal.read_one-requires-clause-fits_u32
+read_one-requires-clause-fits_u32 c = omega (arith, c.lines.invariant.room, line_within _ _ _ c.cut_line.ensures.cut)
 
 pub returns-in-Err-Refused-clause-err : goal.returns-in-Err-Refused-clause-err
 unfolding read_certificate_lines
@@ -38,7 +39,7 @@ returns-in-Err-Refused-clause-err c =
     let found = refused_is _ _ _ c.in-Err-Refused.field-0-is c.in-Err-Refused.ensures.err in
     rw c.in-Err-Refused.field-0-is
     (refuses_there c.args.schema.now c.args.text.now (record { line = c.lines.number; kind = c.in-Err-Refused.kind })
-    (rw (c.lines.invariant.same, cut_any _ _ _ c.cut_line.ensures.cut, found) refl))
+    (rw (c.lines.invariant.same, CutsAt-any _ _ _ c.cut_line.ensures.cut, found) refl))
 
 pub returns-in-Err-Refused-clause-within : goal.returns-in-Err-Refused-clause-within
 returns-in-Err-Refused-clause-within c =
@@ -56,8 +57,8 @@ pub returns-in-Ok-finish-clause-concludes : goal.returns-in-Ok-finish-clause-con
 returns-in-Ok-finish-clause-concludes c =
     let s = c.args.schema.now in
     let read = c.in-Ok-finish.read in
-    let ledger = read_one_keeps s _ _ _ _ _ c.lines.invariant.ledger c.in-Ok.ensures.ok in
-    root_proves s (ledger_of c.read_one.new.book) (tree_of read.deriv.value) (dependency_of read.dep) ledger c.in-Ok-finish.ensures.root
+    let checker_state = read_one_keeps s _ _ _ _ _ c.lines.invariant.checker_state c.in-Ok.ensures.ok in
+    root_proves s (checker_state_of c.read_one.new.book) (tree_of read.deriv.value) (dependency_of read.dep) checker_state c.in-Ok-finish.ensures.root
 
 pub returns-in-Ok-finish-clause-checked : goal.returns-in-Ok-finish-clause-checked
 unfolding read_certificate_lines
@@ -80,6 +81,9 @@ returns-in-Err-clause-err c =
     refuses_there c.args.schema.now c.args.text.now c.in-Err.refusal
     (rw (c.lines.invariant.same, cut.lines, c.in-Ok.ensures.ok, back) c.in-Err.ensures.err)
 
+pub returns-in-Err-clause-within : goal.returns-in-Err-clause-within
+returns-in-Err-clause-within c = c.in-Err.ensures.within (universe_of c.args.schema.now)
+
 pub overflow_add-number : goal.overflow_add-number
 overflow_add-number c = omega (arith, c.lines.invariant.room)
 
@@ -93,5 +97,5 @@ lines-preserved c =
     record {
       same = rw (c.lines.invariant.same, cut.lines, c.in-Ok.ensures.ok) refl;
       room = omega (arith, c.lines.invariant.room, cut.shorter);
-      ledger = read_one_keeps c.args.schema.now _ _ _ _ _ c.lines.invariant.ledger c.in-Ok.ensures.ok;
+      checker_state = read_one_keeps c.args.schema.now _ _ _ _ _ c.lines.invariant.checker_state c.in-Ok.ensures.ok;
     }

@@ -13,11 +13,11 @@ pub is_implied-requires : goal.is_implied-requires
 is_implied-requires c =
     let s = c.args.schema.now in
     let o = c.args.other.now in
-    let e = dependency_of c.carry.result in
-    let found = carried_here s o c.deps-dep-items.result.now c.deref.result.now c.in_ok-places.places.items
+    let e = dependency_of c.carry_dependency.result in
+    let found = carried_here s o c.deps-dep-items.result.now c.deref.result.now c.in_ok-attributes.attributes.items
     c.loop-k.k _ e
-    c.deps-dep-items.ensures.deps c.deref.ensures.value c.in_ok-places.ensures.namesakes c.loop-k-test.true
-    c.carry.ensures.carried in
+    c.deps-dep-items.ensures.deps c.deref.ensures.value c.in_ok-attributes.ensures.namesakes c.loop-k-test.true
+    c.carry_dependency.ensures.carried in
     record { within = carried_within s o e found.0 found.2 }
 
 pub loop-k-preserved : goal.loop-k-preserved
@@ -25,10 +25,10 @@ loop-k-preserved c =
     let s = c.args.schema.now in
     let o = c.args.other.now in
     let k = c.loop-k.k in
-    let e = dependency_of c.carry.result in
-    let found = carried_here s o c.deps-dep-items.result.now c.deref.result.now c.in_ok-places.places.items k _ e
-    c.deps-dep-items.ensures.deps c.deref.ensures.value c.in_ok-places.ensures.namesakes c.loop-k-test.true
-    c.carry.ensures.carried in
+    let e = dependency_of c.carry_dependency.result in
+    let found = carried_here s o c.deps-dep-items.result.now c.deref.result.now c.in_ok-attributes.attributes.items k _ e
+    c.deps-dep-items.ensures.deps c.deref.ensures.value c.in_ok-attributes.ensures.namesakes c.loop-k-test.true
+    c.carry_dependency.ensures.carried in
     elim c.if-not-is_implied.branch [
       | then-not-is_implied+in_ok-push w ↦
           let more = differences_differ s o k c.loop-k.numbers.items found.0 c.loop-k.invariant found.1

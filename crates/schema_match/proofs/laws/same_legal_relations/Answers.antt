@@ -3,6 +3,6 @@ use Rattle.schema_match.proofs.laws.same_legal_relations.Goals as goal
 
 pub returns : goal.returns
 returns c = record {
-  there = λ schema other names same. implied_there schema other names same;
-  back = λ schema other names same. implied_back schema other names same;
+  forward = λ schema other names same. implied_there schema other names same;
+  backward = λ schema other names same. implied_back schema other names same;
 }

@@ -2,5 +2,5 @@ use Rattle.dep_model.specs.Schemas.{names_of, columns_of}
 use Rattle.schema_printer.proofs.PrintLemmas.{PrintsRuns}
 use Rattle.schema_printer.proofs.printing.add_runs.Given as goal
 
-abbrev pub invariant-loop-place : goal.invariant-loop-place
-invariant-loop-place l = PrintsRuns (columns_of l.schema) (names_of l.schema) l.fn.text.items l.text.items l.last l.place
+abbrev pub invariant-loop-attribute : goal.invariant-loop-attribute
+invariant-loop-attribute l = PrintsRuns (columns_of l.schema) (names_of l.schema) l.fn.text.items l.text.items l.last l.attribute

@@ -8,21 +8,21 @@ use Rattle.schema_printer.proofs.printing.has_integers.Goals as goal
 pub returns-then-is_integer : goal.returns-then-is_integer
 returns-then-is_integer c =
     let columns = columns_of c.args.schema.now in
-    let k = c.loop-place.place in
+    let k = c.loop-attribute.attribute in
     let column = c.column.result in
     let here = c.column.ensures.column in
     record {
-      some = sym
+      any_integer = sym
           (list_any_at is_integer columns k column (slice_get_within columns k column here)
           (ap is_integer (get_or_from_slice_get columns k column column here) ∙ sym c.if-is_integer.ensures.exact));
     }
 
-pub loop-place-preserved : goal.loop-place-preserved
-loop-place-preserved c =
+pub loop-attribute-preserved : goal.loop-attribute-preserved
+loop-attribute-preserved c =
     let columns = columns_of c.args.schema.now in
-    let k = c.loop-place.place in
+    let k = c.loop-attribute.attribute in
     let column = c.column.result in
     let here = c.column.ensures.column in
     list_any_more is_integer columns k column (slice_get_within columns k column here)
-    ∙ (rw (c.loop-place.invariant, get_or_from_slice_get columns k column column here)
+    ∙ (rw (c.loop-attribute.invariant, get_or_from_slice_get columns k column column here)
     (sym c.if-is_integer.ensures.exact))

@@ -4,5 +4,5 @@ use Rattle.std.specs.List.{list_any}
 use Rattle.schema_printer.specs.Printing.{is_integer}
 use Rattle.schema_printer.proofs.printing.has_integers.Given as goal
 
-abbrev pub invariant-loop-place : goal.invariant-loop-place
-invariant-loop-place l = list_any is_integer (take l.place (columns_of l.schema)) ≡ false
+abbrev pub invariant-loop-attribute : goal.invariant-loop-attribute
+invariant-loop-attribute l = list_any is_integer (take l.attribute (columns_of l.schema)) ≡ false

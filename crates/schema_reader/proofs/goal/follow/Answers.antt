@@ -10,9 +10,9 @@ pub returns-in-End-clause-err : goal.returns-in-End-clause-err
 unfolding follow
 returns-in-End-clause-err c = rw (c.tokens.invariant.same, c.in-End.ensures.exact) c.end_line.ensures.err
 
-pub returns-in-Stop-clause-err : goal.returns-in-Stop-clause-err
+pub returns-in-Error-clause-err : goal.returns-in-Error-clause-err
 unfolding follow
-returns-in-Stop-clause-err c = rw (c.tokens.invariant.same, c.in-Stop.ensures.exact, c.by.ensures.refusal) refl
+returns-in-Error-clause-err c = rw (c.tokens.invariant.same, c.in-Error.ensures.exact, c.by.ensures.refusal) refl
 
 pub returns-in-Err-clause-err : goal.returns-in-Err-clause-err
 unfolding follow

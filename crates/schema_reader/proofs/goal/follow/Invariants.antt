@@ -1,6 +1,6 @@
 use Rattle.std.proofs.Common.{length}
 use Rattle.schema_reader.specs.Views.{reached_of}
-use Rattle.line_reader.specs.Views.{names_in}
+use Rattle.tokens.specs.Views.{names_in}
 use Rattle.schema_reader.proofs.FollowLemmas.{GoesOn}
 use Rattle.schema_reader.proofs.goal.follow.Given as goal
 

@@ -2,9 +2,9 @@ use Rattle.dep_model.specs.Dependencies.{IsWithin}
 use Rattle.dep_model.specs.Deps.{dependency_of}
 use Rattle.dep_model.specs.Schemas.{universe_of, names_of}
 use Rattle.schema_grammar.proofs.WithinLemmas.{within_read, follow_within}
-use Rattle.schema_grammar.specs.Complaints.{RefusesGoal}
+use Rattle.schema_grammar.specs.Diagnostics.{RefusesGoal}
 use Rattle.schema_grammar.specs.Meanings.{MeansGoal}
-use Rattle.schema_grammar.proofs.ComplaintLaws.{goal_refused}
+use Rattle.schema_grammar.proofs.DiagnosticLaws.{goal_refused}
 use Rattle.schema_grammar.proofs.GoalLaws.{goal-law}
 use Rattle.schema_grammar.proofs.RefusalLemmas.{ok_map, err_map}
 use Rattle.schema_reader.proofs.goal.read_goal.Goals as goal

@@ -1,5 +1,5 @@
 use Rattle.std.proofs.Common.{◌∙◌, ℕ, List, sym, subst, ap, Result, Ok}
-use Rattle.attr_sets.specs.Places.{Places, Within}
+use Rattle.attr_sets.specs.Attributes.{Attributes, IsSubset}
 use Rattle.dep_model.specs.Dependencies.{Dependency, IsWithin, right_of}
 use Rattle.dep_model.specs.Deps.{dependency_of}
 use Rattle.dep_model.specs.Schemas.{universe_of, names_of}
@@ -21,7 +21,7 @@ use Rattle.schema_reader.proofs.set.read_set.Goals as goal
 abbrev reading : List (List ℕ) → List ℕ → Reached → Result Dependency SchemaRefusal
 reading names text r = follow_lexed format.Plain names 1 r 1 (lex mode.Goal text)
 
-abbrev set_in : Result Dependency SchemaRefusal → Result Places SchemaRefusal
+abbrev set_in : Result Dependency SchemaRefusal → Result Attributes SchemaRefusal
 set_in o = and_then o (λ d. Ok (right_of d))
 
 pub returns-in-Ok : goal.returns-in-Ok
@@ -37,7 +37,7 @@ returns-in-Ok c =
     record {
       ok = subst (MeansSet names text) same ((set-law names text (right_of d)).0 read);
       err = tt;
-      within = subst (λ (x : Places). Within x (universe_of c.args.schema.now)) same inside.1;
+      within = subst (λ (x : Attributes). IsSubset x (universe_of c.args.schema.now)) same inside.1;
     }
 
 pub returns-in-Err : goal.returns-in-Err

@@ -2,14 +2,14 @@ use Rattle.std.proofs.Common.{◌≡◌, ◌+◌, ◌-◌, refl, arith}
 use Rattle.schema_grammar.specs.Texts.{read_lines}
 use Rattle.schema_grammar.proofs.RefusalLemmas.{ok_at, refuses_whole, Refuses-whole}
 use Rattle.schema_grammar.proofs.SoundLemmas.{IsSound, line_sound}
-use Rattle.lexer.proofs.LineEnds.{cut_any, cut_last, cut_more}
+use Rattle.lexer.proofs.LineEnds.{CutsAt-any, cut_last, cut_more}
 use Rattle.schema_reader.proofs.text.read_lines.Goals as goal
 
 pub returns-in-Err-clause-err : goal.returns-in-Err-clause-err
 unfolding read_lines
 returns-in-Err-clause-err c =
     Refuses-whole c.in-Err.failure _ _
-    (λ refusal refused. rw (c.lines.invariant.same, cut_any _ _ _ c.cut_line.ensures.cut, refused) refl)
+    (λ refusal refused. rw (c.lines.invariant.same, CutsAt-any _ _ _ c.cut_line.ensures.cut, refused) refl)
     c.in-Err.ensures.err
 
 pub returns-in-None-clause-ok : goal.returns-in-None-clause-ok

@@ -5,7 +5,7 @@ use Rattle.std.proofs.Common.{◌≡◌, ◌∙◌, ℕ, List, subst, false, sym
 use Rattle.dep_model.specs.Deps.{dependencies_of}
 use Rattle.dep_model.proofs.FailureLemmas.{refuses_also}
 use Rattle.lexer.specs.Lines.{line_texts}
-use Rattle.schema_reader.specs.Views.{drafted}
+use Rattle.schema_reader.specs.Views.{declarations_of_draft}
 use Rattle.schema_grammar.specs.Texts.{read_text, read_opening, declarations_of}
 use Rattle.schema_grammar.proofs.RefusalLemmas.{ok_at}
 use Rattle.schema_grammar.proofs.SchemaLaws.{schema-law}
@@ -21,11 +21,11 @@ returns-in-Err-clause-err c =
 
 pub make_typed-requires-clause-schema : goal.make_typed-requires-clause-schema
 make_typed-requires-clause-schema c =
-    forms_schema (drafted c.in-Ok.draft) _ (ok_at IsWhole _ _ c.in-Ok.ensures.ok (opening_whole _ _)) refl
+    forms_schema (declarations_of_draft c.in-Ok.draft) _ (ok_at IsWhole _ _ c.in-Ok.ensures.ok (opening_whole _ _)) refl
 
 pub make_typed-requires-clause-columns : goal.make_typed-requires-clause-columns
 make_typed-requires-clause-columns c =
-    forms_columns (drafted c.in-Ok.draft) (ok_at IsWhole _ _ c.in-Ok.ensures.ok (opening_whole _ _))
+    forms_columns (declarations_of_draft c.in-Ok.draft) (ok_at IsWhole _ _ c.in-Ok.ensures.ok (opening_whole _ _))
 
 pub returns-clause-ok : goal.returns-clause-ok
 unfolding read_text
@@ -33,7 +33,7 @@ returns-clause-ok c =
     let here = ap (λ text. read_opening 1 (line_texts text)) (sym c.without_mark.ensures.text) in
     let of = c.make_typed.ensures in
     let theory = ap dependencies_of of.deps in
-    let made : declarations_of c.make_typed.result ≡ drafted c.in-Ok.draft = λ i. record {
+    let made : declarations_of c.make_typed.result ≡ declarations_of_draft c.in-Ok.draft = λ i. record {
       names = of.names i;
       columns = of.columns i;
       deps = theory i;
@@ -41,7 +41,7 @@ returns-clause-ok c =
     } in
     (schema-law c.args.text.now (declarations_of c.make_typed.result)).0 (here ∙ c.in-Ok.ensures.ok ∙ ap Ok (sym made))
 
-pub returns-clause-free : goal.returns-clause-free
-returns-clause-free c =
+pub returns-clause-not_reserved : goal.returns-clause-not_reserved
+returns-clause-not_reserved c =
     let of : List (List ℕ) → Type 0 = λ names. All (λ name. is_reserved format.Plain name ≡ false) names in
-    subst of (sym c.make_typed.ensures.names) (whole_free (drafted c.in-Ok.draft) (ok_at IsWhole _ _ c.in-Ok.ensures.ok (opening_whole _ _)))
+    subst of (sym c.make_typed.ensures.names) (whole_free (declarations_of_draft c.in-Ok.draft) (ok_at IsWhole _ _ c.in-Ok.ensures.ok (opening_whole _ _)))

@@ -1,5 +1,5 @@
 use Rattle.std.proofs.Common.{◌≡◌, ◌+◌, ◌-◌, sym, ap, arith}
-use Rattle.schema_reader.specs.Views.{drafted}
+use Rattle.schema_reader.specs.Views.{declarations_of_draft}
 use Rattle.schema_grammar.specs.Texts.{finish, read_lines}
 use Rattle.schema_grammar.proofs.RefusalLemmas.{ok_whole, refuses_whole}
 use Rattle.schema_reader.proofs.text.read_typed.Goals as goal
@@ -9,7 +9,7 @@ unfolding read_lines
 returns-in-None-clause-ok c =
     let back : c.args.number + 1 - 1 ≡ c.args.number = omega arith in
     rw (c.in-None.is, c.in-Ok.ensures.ok, back)
-    (ok_whole drafted _ _ _ (ap (finish c.args.number) (sym c.new.ensures.empty)) c.finish.ensures.ok)
+    (ok_whole declarations_of_draft _ _ _ (ap (finish c.args.number) (sym c.new.ensures.empty)) c.finish.ensures.ok)
 
 pub returns-in-None-clause-err : goal.returns-in-None-clause-err
 unfolding read_lines

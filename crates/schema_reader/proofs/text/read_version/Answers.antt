@@ -8,9 +8,9 @@ pub returns-in-End-clause-err : goal.returns-in-End-clause-err
 unfolding read_version
 returns-in-End-clause-err c = rw (c.in-End.ensures.exact, c.at.ensures.refusal) refl
 
-pub returns-in-Stop-clause-err : goal.returns-in-Stop-clause-err
+pub returns-in-Error-clause-err : goal.returns-in-Error-clause-err
 unfolding read_version
-returns-in-Stop-clause-err c = rw (c.in-Stop.ensures.exact, c.by.ensures.refusal) refl
+returns-in-Error-clause-err c = rw (c.in-Error.ensures.exact, c.by.ensures.refusal) refl
 
 pub returns-in-None-clause-err : goal.returns-in-None-clause-err
 unfolding read_version

@@ -8,10 +8,10 @@ returns-in-End-clause-ok c =
     rw (← c.mode_of-mode.ensures.mode, c.tokens.invariant.same, c.in-End.ensures.exact)
     (rw (append-nil c.tokens.tokens.items) refl)
 
-pub returns-in-Stop-clause-err : goal.returns-in-Stop-clause-err
-returns-in-Stop-clause-err c =
+pub returns-in-Error-clause-err : goal.returns-in-Error-clause-err
+returns-in-Error-clause-err c =
     Refuses-here _ _ _ c.by.ensures.refusal
-    (rw (← c.mode_of-mode.ensures.mode, c.tokens.invariant.same, c.in-Stop.ensures.exact) refl)
+    (rw (← c.mode_of-mode.ensures.mode, c.tokens.invariant.same, c.in-Error.ensures.exact) refl)
 
 pub tokens-preserved : goal.tokens-preserved
 tokens-preserved c =

@@ -1,6 +1,6 @@
 use Rattle.std.proofs.Common.{◌<◌, ◌≤◌, length, sym, subst, arith}
 use Rattle.std.proofs.lemmas.List.{length-map}
-use Rattle.attr_sets.specs.Sets.{places}
+use Rattle.attr_sets.specs.Sets.{attributes}
 use Rattle.dep_model.specs.declared.schema.Schema.{Schema}
 use Rattle.dep_model.specs.Plans.{schemes_of}
 use Rattle.dep_model.specs.Schemas.{width_of, theory_of}
@@ -11,22 +11,22 @@ use Rattle.split_forms.proofs.SplitLemmas.{stuck_few, finished_few, finished_not
 use Rattle.split_forms.proofs.WalkLemmas.{walk_on, walk_many, walk_cut, walk_stuck, walk_within, walk_end}
 use Rattle.split_forms.proofs.splitting.finished_list.Goals as goal
 
-some_places : (s : Schema) → 0 < width_of s
-some_places s = s.valid.some_names
+some_attributes : (s : Schema) → 0 < width_of s
+some_attributes s = s.valid.some_names
 
 pub found_outcome-requires-clause-scheme : goal.found_outcome-requires-clause-scheme
 found_outcome-requires-clause-scheme c =
     let s = c.args.schema.now in
     walk_within (width_of s) (theory_of s) c.args.form c.loop-at.schemes.items c.loop-at.at c.index-scheme.result.now
     (omega arith) (sym c.index-scheme.ensures) c.loop-at.invariant.walked
-    (some_places s) c.requires.form
+    (some_attributes s) c.requires.form
 
 pub loop-at-preserved-in-Whole : goal.loop-at-preserved-in-Whole
 loop-at-preserved-in-Whole c =
     let s = c.args.schema.now in
     let scheme = c.index-scheme.result.now in
-    let stays : StaysWhole (width_of s) (theory_of s) c.args.form (places scheme) =
-    subst (λ (o : Outcome). IsOutcome (width_of s) (theory_of s) c.args.form (places scheme) o) c.in-Whole.is
+    let stays : StaysWhole (width_of s) (theory_of s) c.args.form (attributes scheme) =
+    subst (λ (o : Outcome). IsOutcome (width_of s) (theory_of s) c.args.form (attributes scheme) o) c.in-Whole.is
     c.in_ok-found_outcome.ensures.outcome in
     record {
       walked = walk_on (width_of s) (theory_of s) c.args.form c.loop-at.schemes.items c.loop-at.at scheme
@@ -41,13 +41,13 @@ returns-in-Stuck-clause-refused c =
     let n = width_of s in
     let ds = theory_of s in
     let scheme = c.index-scheme.result.now in
-    let stuck : IsStuckScheme n ds c.args.form (places scheme) =
-    subst (λ (o : Outcome). IsOutcome n ds c.args.form (places scheme) o) c.in-Stuck.is
+    let stuck : IsStuckScheme n ds c.args.form (attributes scheme) =
+    subst (λ (o : Outcome). IsOutcome n ds c.args.form (attributes scheme) o) c.in-Stuck.is
     c.in_ok-found_outcome.ensures.outcome in
-    let wide : IsTooWideAt n ds c.args.form c.args.limit (places scheme) =
+    let wide : IsTooWideAt n ds c.args.form c.args.limit (attributes scheme) =
     walk_stuck n ds c.args.form c.loop-at.schemes.items c.loop-at.at scheme (omega arith) (sym c.index-scheme.ensures)
     c.loop-at.invariant.walked c.args.limit c.loop-at.invariant.few stuck in
-    (wide, stuck_few n ds c.args.form (some_places s) c.requires.form c.args.limit (places scheme) wide)
+    (wide, stuck_few n ds c.args.form (some_attributes s) c.requires.form c.args.limit (attributes scheme) wide)
 
 pub returns-then-len-most-clause-refused : goal.returns-then-len-most-clause-refused
 returns-then-len-most-clause-refused c =
@@ -56,14 +56,14 @@ returns-then-len-most-clause-refused c =
     let ds = theory_of s in
     let scheme = c.index-scheme.result.now in
     let breach = c.in-Cut.breach in
-    let cut : IsCutBy n ds c.args.form (places scheme) (places breach.lhs) (places breach.rhs) =
-    subst (λ (o : Outcome). IsOutcome n ds c.args.form (places scheme) o) c.in-Cut.is
+    let cut : IsCutBy n ds c.args.form (attributes scheme) (attributes breach.lhs) (attributes breach.rhs) =
+    subst (λ (o : Outcome). IsOutcome n ds c.args.form (attributes scheme) o) c.in-Cut.is
     c.in_ok-found_outcome.ensures.outcome in
     let many : HasTooManySchemes n ds c.args.form c.args.limit =
     walk_many n ds c.args.form c.loop-at.schemes.items c.loop-at.at scheme (omega arith) (sym c.index-scheme.ensures)
-    c.loop-at.invariant.walked (places breach.lhs) (places breach.rhs) cut c.args.limit
+    c.loop-at.invariant.walked (attributes breach.lhs) (attributes breach.rhs) cut c.args.limit
     c.loop-at.invariant.few (omega arith) in
-    (many, λ other wide. stuck_few n ds c.args.form (some_places s) c.requires.form c.args.limit other wide many)
+    (many, λ other wide. stuck_few n ds c.args.form (some_attributes s) c.requires.form c.args.limit other wide many)
 
 pub loop-at-preserved : goal.loop-at-preserved
 loop-at-preserved c =
@@ -72,11 +72,11 @@ loop-at-preserved c =
     let ds = theory_of s in
     let scheme = c.index-scheme.result.now in
     let breach = c.in-Cut.breach in
-    let cut : IsCutBy n ds c.args.form (places scheme) (places breach.lhs) (places breach.rhs) =
-    subst (λ (o : Outcome). IsOutcome n ds c.args.form (places scheme) o) c.in-Cut.is
+    let cut : IsCutBy n ds c.args.form (attributes scheme) (attributes breach.lhs) (attributes breach.rhs) =
+    subst (λ (o : Outcome). IsOutcome n ds c.args.form (attributes scheme) o) c.in-Cut.is
     c.in_ok-found_outcome.ensures.outcome in
     let made = walk_cut n ds c.args.form c.loop-at.schemes.items c.loop-at.at scheme (omega arith)
-    (sym c.index-scheme.ensures) c.loop-at.invariant.walked (places breach.lhs) (places breach.rhs) cut
+    (sym c.index-scheme.ensures) c.loop-at.invariant.walked (attributes breach.lhs) (attributes breach.rhs) cut
     c.cut_at.new.schemes.items c.in_ok-cut_at-in-Cut.ensures.cut in
     record {
       walked = made.0;
@@ -91,11 +91,11 @@ loop-at-smaller c =
     let ds = theory_of s in
     let scheme = c.index-scheme.result.now in
     let breach = c.in-Cut.breach in
-    let cut : IsCutBy n ds c.args.form (places scheme) (places breach.lhs) (places breach.rhs) =
-    subst (λ (o : Outcome). IsOutcome n ds c.args.form (places scheme) o) c.in-Cut.is
+    let cut : IsCutBy n ds c.args.form (attributes scheme) (attributes breach.lhs) (attributes breach.rhs) =
+    subst (λ (o : Outcome). IsOutcome n ds c.args.form (attributes scheme) o) c.in-Cut.is
     c.in_ok-found_outcome.ensures.outcome in
     let made = walk_cut n ds c.args.form c.loop-at.schemes.items c.loop-at.at scheme (omega arith)
-    (sym c.index-scheme.ensures) c.loop-at.invariant.walked (places breach.lhs) (places breach.rhs) cut
+    (sym c.index-scheme.ensures) c.loop-at.invariant.walked (attributes breach.lhs) (attributes breach.rhs) cut
     c.cut_at.new.schemes.items c.in_ok-cut_at-in-Cut.ensures.cut in
     omega (
       arith,
@@ -119,9 +119,9 @@ returns-clause-within_limits c =
     let ds = theory_of s in
     let all = c.loop-at.schemes.items in
     let finished = walk_end n ds c.args.form all c.loop-at.at (omega arith) c.loop-at.invariant.walked in
-    let few : length (schemes_of all) ≤ c.args.limit = omega (arith, c.loop-at.invariant.few, length-map all places) in
+    let few : length (schemes_of all) ≤ c.args.limit = omega (arith, c.loop-at.invariant.few, length-map all attributes) in
     record {
-      narrow = λ scheme wide. finished_not_stuck n ds c.args.form (some_places s) c.requires.form (schemes_of all)
+      narrow = λ scheme wide. finished_not_stuck n ds c.args.form (some_attributes s) c.requires.form (schemes_of all)
           c.args.limit scheme finished wide;
-      few = finished_few n ds c.args.form (some_places s) c.requires.form (schemes_of all) c.args.limit finished few;
+      few = finished_few n ds c.args.form (some_attributes s) c.requires.form (schemes_of all) c.args.limit finished few;
     }

@@ -1,7 +1,7 @@
 use Rattle.std.proofs.Common.{◌≡◌, ℕ, ◌-◌, ◌^◌, ◌<◌, ◌≤◌, List, sym, subst, arith}
 use Rattle.std.specs.Prelude.{Result, Err, IfErr, All, Contains}
 use Rattle.std.proofs.lemmas.List.Elements.{All-weaker, All-contains, All-map}
-use Rattle.attr_sets.specs.Sets.{places}
+use Rattle.attr_sets.specs.Sets.{attributes}
 use Rattle.attr_sets.specs.declared.set.AttrSet.{AttrSet}
 use Rattle.dep_model.specs.declared.schema.Schema.{Schema}
 use Rattle.dep_model.specs.Failures.{RefusesAs}
@@ -12,9 +12,9 @@ use Rattle.dep_model.specs.Projections.{IsLossless}
 use Rattle.dep_model.specs.Schemas.{width_of, theory_of}
 use Rattle.dep_model.proofs.ListLemmas.{Contains-map}
 use Rattle.dep_model.specs.Dependencies.{Dependency}
-use Rattle.form_tests.specs.declared.forms.Form.{Form}
-use Rattle.form_tests.specs.declared.forms.Form.TheVariants.{Third}
-use Rattle.form_tests.specs.Chosen.{IsInForm}
+use Rattle.normal_forms.specs.declared.forms.Form.{Form}
+use Rattle.normal_forms.specs.declared.forms.Form.TheVariants.{Third}
+use Rattle.normal_forms.specs.Chosen.{IsInForm}
 use Rattle.plans.specs.declared.plan.Plan.{Plan}
 use Rattle.split_forms.specs.declared.refusal.SplitRefusal.{SplitRefusal}
 use Rattle.split_forms.specs.declared.refusal.SplitRefusal.TheVariants.{TooManySchemes}
@@ -24,8 +24,8 @@ use Rattle.split_forms.proofs.SplitLemmas.{lists_lossless, too_many_short}
 use Rattle.split_forms.proofs.WalkLemmas.{reached_plan}
 use Rattle.split_forms.proofs.splitting.split.Goals as goal
 
-some_places : (s : Schema) → 0 < width_of s
-some_places s = s.valid.some_names
+some_attributes : (s : Schema) → 0 < width_of s
+some_attributes s = s.valid.some_names
 
 never : (n : ℕ) (ds : List Dependency) (form : Form) (limit : ℕ) (result : Result Plan (Failure SplitRefusal)) → 0 < n
     → (form ≡ Third → ⊥) → IfErr result (RefusesAs (IsRefusedSplit n ds form limit))
@@ -38,14 +38,14 @@ never n ds form limit result some split refused large is =
 pub returns-in-Err-clause-never_too_many : goal.returns-in-Err-clause-never_too_many
 returns-in-Err-clause-never_too_many c large is =
     let s = c.args.schema.now in
-    never (width_of s) (theory_of s) c.args.form c.args.limit (Err c.in-Err.failure) (some_places s) c.requires.form
+    never (width_of s) (theory_of s) c.args.form c.args.limit (Err c.in-Err.failure) (some_attributes s) c.requires.form
     c.in-Err.ensures.refused large is
 
-pub make-requires : goal.make-requires
-make-requires c =
+pub new-requires : goal.new-requires
+new-requires c =
     let s = c.args.schema.now in
     record {
-      plan = reached_plan (width_of s) (theory_of s) c.args.form (schemes_of c.in-Ok.schemes.items) (some_places s)
+      plan = reached_plan (width_of s) (theory_of s) c.args.form (schemes_of c.in-Ok.schemes.items) (some_attributes s)
           c.requires.form c.in-Ok.ensures.finished.reached;
     }
 
@@ -54,8 +54,8 @@ returns-in-Ok-clause-lossless c =
     let s = c.args.schema.now in
     let all = c.in-Ok.schemes.items in
     c.drop_contained.ensures.lossless (theory_of s)
-    (subst (λ (xs : List AttrSet). IsLossless (width_of s) (theory_of s) (schemes_of xs)) (sym c.make.ensures.schemes)
-    (lists_lossless (width_of s) (theory_of s) c.args.form (some_places s) c.requires.form (schemes_of all)
+    (subst (λ (xs : List AttrSet). IsLossless (width_of s) (theory_of s) (schemes_of xs)) (sym c.new.ensures.schemes)
+    (lists_lossless (width_of s) (theory_of s) c.args.form (some_attributes s) c.requires.form (schemes_of all)
     c.in-Ok.ensures.finished.reached))
 
 pub returns-in-Ok-clause-in_form : goal.returns-in-Ok-clause-in_form
@@ -66,11 +66,11 @@ returns-in-Ok-clause-in_form c =
     let all = c.in-Ok.schemes.items in
     let kept = c.drop_contained.result.schemes.items in
     let among : All (λ (k : AttrSet). Contains all k) kept =
-    subst (λ (xs : List AttrSet). All (λ (k : AttrSet). Contains xs k) kept) c.make.ensures.schemes
+    subst (λ (xs : List AttrSet). All (λ (k : AttrSet). Contains xs k) kept) c.new.ensures.schemes
     c.drop_contained.ensures.among in
     let whole : All (StaysWhole n ds c.args.form) (schemes_of all) = c.in-Ok.ensures.finished.whole in
-    All-map (IsInForm n ds c.args.form) places kept
-    (All-weaker (λ (k : AttrSet). Contains all k) (λ (k : AttrSet). IsInForm n ds c.args.form (places k))
-    (λ k has. let stays : StaysWhole n ds c.args.form (places k) =
-    All-contains (StaysWhole n ds c.args.form) (schemes_of all) (places k) whole
-    (Contains-map places all k has) in stays.in_form) kept among)
+    All-map (IsInForm n ds c.args.form) attributes kept
+    (All-weaker (λ (k : AttrSet). Contains all k) (λ (k : AttrSet). IsInForm n ds c.args.form (attributes k))
+    (λ k has. let stays : StaysWhole n ds c.args.form (attributes k) =
+    All-contains (StaysWhole n ds c.args.form) (schemes_of all) (attributes k) whole
+    (Contains-map attributes all k has) in stays.in_form) kept among)

@@ -1,7 +1,7 @@
 use Rattle.std.proofs.Common.{List, sym, subst}
 use Rattle.std.proofs.lemmas.List.Elements.{All-contains}
-use Rattle.attr_sets.specs.Places.{Places}
-use Rattle.attr_sets.specs.Sets.{places}
+use Rattle.attr_sets.specs.Attributes.{Attributes}
+use Rattle.attr_sets.specs.Sets.{attributes}
 use Rattle.dep_model.specs.Schemas.{width_of, theory_of}
 use Rattle.split_forms.specs.declared.outcome.Outcome.{Outcome}
 use Rattle.split_forms.specs.declared.trying.Tried.{Tried}
@@ -16,9 +16,9 @@ returns-in-Some-clause-outcome c =
     let all : AreTried n ds form c.deref.result.now =
     subst (λ (ts : List Tried). AreTried n ds form ts) (sym c.deref.ensures.value) c.requires.tried in
     let found = c.in-Some.ensures.tried in
-    let known : IsOutcome n ds form (places found.1.scheme) found.1.outcome =
-    All-contains (λ (one : Tried). IsOutcome n ds form (places one.scheme) one.outcome) c.deref.result.now found.1 all
+    let known : IsOutcome n ds form (attributes found.1.scheme) found.1.outcome =
+    All-contains (λ (one : Tried). IsOutcome n ds form (attributes one.scheme) one.outcome) c.deref.result.now found.1 all
     (found.0, found.2, found.3) in
-    subst (λ (s : Places). IsOutcome n ds form s c.in-Some.outcome)
+    subst (λ (s : Attributes). IsOutcome n ds form s c.in-Some.outcome)
     found.4.0
-    (subst (λ (o : Outcome). IsOutcome n ds form (places found.1.scheme) o) found.4.1 known)
+    (subst (λ (o : Outcome). IsOutcome n ds form (attributes found.1.scheme) o) found.4.1 known)

@@ -1,7 +1,7 @@
 use Rattle.std.proofs.Common.{true, false, List, take_all, sym, subst, ◌∙◌, arith}
 use Rattle.std.proofs.lemmas.Bool.{false≢true}
 use Rattle.attr_sets.specs.declared.set.AttrSet.{AttrSet}
-use Rattle.attr_sets.specs.Places.{Places, below}
+use Rattle.attr_sets.specs.Attributes.{Attributes, below}
 use Rattle.dep_model.specs.Dependencies.{functional_part}
 use Rattle.dep_model.specs.Keys.{IsSuperkey}
 use Rattle.dep_model.specs.Plans.{schemes_of}
@@ -18,7 +18,7 @@ loop-scheme-preserved c =
     let s = c.args.schema.now in
     let n = width_of s in
     let first : AttrSet = record { 0 = 0 } in
-    none_more (λ (x : Places). IsSuperkey n (functional_part (theory_of s)) (below n) x) c.args.schemes.now c.loop-scheme.scheme-index first c.loop-scheme-test.true c.loop-scheme.invariant
+    none_more (λ (x : Attributes). IsSuperkey n (functional_part (theory_of s)) (below n) x) c.args.schemes.now c.loop-scheme.scheme-index first c.loop-scheme-test.true c.loop-scheme.invariant
     (λ is. false≢true (sym c.if-is_superkey.false ∙ c.is_superkey.ensures.superkey.1 is))
 
 pub returns : goal.returns

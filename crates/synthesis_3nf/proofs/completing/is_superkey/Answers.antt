@@ -1,7 +1,7 @@
 use Rattle.std.proofs.Common.{◌≡◌, ◌↔◌, List, sym, subst, ap, ◌∙◌}
 use Rattle.std.specs.Prelude.{All, IsTrue}
-use Rattle.attr_sets.specs.Places.{Places, below, Within}
-use Rattle.attr_sets.specs.Sets.{places}
+use Rattle.attr_sets.specs.Attributes.{Attributes, below, IsSubset}
+use Rattle.attr_sets.specs.Sets.{attributes}
 use Rattle.dep_model.specs.declared.dep.Dep.{Dep}
 use Rattle.dep_model.specs.Dependencies.{fd, functional_part}
 use Rattle.dep_model.specs.Deps.{dependencies_of, IsDepWithin}
@@ -15,14 +15,14 @@ returns c =
     let s = c.args.schema.now in
     let n = width_of s in
     let ds = functional_part (theory_of s) in
-    let x = places c.args.scheme in
+    let x = attributes c.args.scheme in
     let x_in = c.requires.within in
-    let universe : places c.full.result ≡ below n = c.full.ensures.members ∙ ap below c.width.ensures.count in
+    let universe : attributes c.full.result ≡ below n = c.full.ensures.members ∙ ap below c.width.ensures.count in
     let within : All (IsDepWithin (below n)) c.deps.result.now = subst (λ (es : List Dep). All (IsDepWithin (below n)) es) (sym c.deps.ensures.deps) s.valid.deps_within in
-    let u_in : Within (places c.full.result) (below n) = subst (λ (u : Places). Within u (below n)) (sym universe) (λ k m. m) in
+    let u_in : IsSubset (attributes c.full.result) (below n) = subst (λ (u : Attributes). IsSubset u (below n)) (sym universe) (λ k m. m) in
     let decides : IsTrue c.follows.result ↔ Implies n ds (fd x (below n)) =
-    subst (λ (u : Places). IsTrue c.follows.result ↔ Implies n ds (fd x u)) universe
-    (subst (λ (es : List Dep). IsTrue c.follows.result ↔ Implies n (functional_part (dependencies_of es)) (fd x (places c.full.result))) c.deps.ensures.deps
+    subst (λ (u : Attributes). IsTrue c.follows.result ↔ Implies n ds (fd x u)) universe
+    (subst (λ (es : List Dep). IsTrue c.follows.result ↔ Implies n (functional_part (dependencies_of es)) (fd x (attributes c.full.result))) c.deps.ensures.deps
     (c.follows.ensures.implied n within x_in u_in)) in
     record {
       superkey = (

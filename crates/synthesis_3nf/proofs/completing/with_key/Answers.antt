@@ -3,7 +3,7 @@ use Rattle.std.specs.Prelude.{IsTrue}
 use Rattle.std.proofs.lemmas.List.{map-append}
 use Rattle.std.proofs.lemmas.Bool.{false≢true}
 use Rattle.attr_sets.specs.declared.set.AttrSet.{AttrSet}
-use Rattle.attr_sets.specs.Sets.{places}
+use Rattle.attr_sets.specs.Sets.{attributes}
 use Rattle.dep_model.specs.Plans.{schemes_of}
 use Rattle.dep_model.specs.Schemas.{width_of, theory_of}
 use Rattle.synthesis_3nf.specs.GroupedPlans.{HoldSuperkey}
@@ -22,9 +22,9 @@ returns c =
       completed = elim c.if-not-hold_superkey.branch [
         | then-not-hold_superkey+in_ok-push w ↦ inr (record {
           none = λ holds. false≢true (sym w.if-not-hold_superkey.true ∙ told.1 holds);
-          key = places w.universe_key.result;
-          settled = w.universe_key.ensures.settled;
-          last = ap (λ v. schemes_of v.items) w.schemes-is ∙ ap (λ (xs : List AttrSet). schemes_of xs) w.in_ok-push.ensures.items ∙ map-append places old (w.universe_key.result ∷ []);
+          key = attributes w.universe_key.result;
+          greedy = w.universe_key.ensures.greedy;
+          last = ap (λ v. schemes_of v.items) w.schemes-is ∙ ap (λ (xs : List AttrSet). schemes_of xs) w.in_ok-push.ensures.items ∙ map-append attributes old (w.universe_key.result ∷ []);
         })
         | else-not-hold_superkey w ↦ inl (told.0 w.if-not-hold_superkey.false, ap (λ v. schemes_of v.items) w.schemes-is)
       ];

@@ -1,10 +1,10 @@
 use Rattle.std.proofs.Common.{◌≡◌, List, map, ap, ◌∙◌}
 use Rattle.std.proofs.lemmas.Result.{IfOk-weaker}
 use Rattle.attr_sets.specs.declared.set.AttrSet.{AttrSet}
-use Rattle.attr_sets.specs.Places.{Places}
+use Rattle.attr_sets.specs.Attributes.{Attributes}
 use Rattle.dep_model.specs.Deps.{dependencies_of}
 use Rattle.dep_model.specs.Plans.{schemes_of}
-use Rattle.synthesis_3nf.specs.Groups.{group_scheme, grouped}
+use Rattle.synthesis_3nf.specs.Groups.{group_scheme, schemes_of_groups}
 use Rattle.synthesis_3nf.proofs.grouping.group_schemes.Goals as goal
 
 pub returns : goal.returns
@@ -13,7 +13,7 @@ returns c =
     let lefts = c.in_ok-lefts.lefts.items in
     record {
       grouped = IfOk-weaker c.each_scheme.result
-          (λ schemes. schemes_of schemes.items ≡ map (group_scheme deps) (schemes_of c.deref.result.now)) (λ schemes. schemes_of schemes.items ≡ grouped deps)
-          (λ schemes is. is ∙ ap (λ (xs : List AttrSet). map (group_scheme deps) (schemes_of xs)) c.deref.ensures.value ∙ ap (λ (xs : List Places). map (group_scheme deps) xs) c.in_ok-lefts.ensures.lefts)
+          (λ schemes. schemes_of schemes.items ≡ map (group_scheme deps) (schemes_of c.deref.result.now)) (λ schemes. schemes_of schemes.items ≡ schemes_of_groups deps)
+          (λ schemes is. is ∙ ap (λ (xs : List AttrSet). map (group_scheme deps) (schemes_of xs)) c.deref.ensures.value ∙ ap (λ (xs : List Attributes). map (group_scheme deps) xs) c.in_ok-lefts.ensures.lefts)
           c.each_scheme.ensures.schemes;
     }

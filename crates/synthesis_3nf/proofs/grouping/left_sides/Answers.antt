@@ -2,7 +2,7 @@ use Rattle.std.proofs.Common.{◌≡◌, ◌+◌, ◌<◌, suc, true, false, Lis
 use Rattle.std.proofs.lemmas.List.{drop_all, append-nil}
 use Rattle.std.specs.List.{list_any}
 use Rattle.attr_sets.specs.declared.set.AttrSet.{AttrSet}
-use Rattle.attr_sets.specs.Sets.{places, is_same}
+use Rattle.attr_sets.specs.Sets.{attributes, is_same}
 use Rattle.dep_model.specs.declared.dep.Dep.{Dep}
 use Rattle.dep_model.specs.declared.dep.Dep.TheVariants.{Fd}
 use Rattle.dep_model.specs.Deps.{dependencies_of}
@@ -24,7 +24,7 @@ loop-dep-preserved c =
     let left = c.sides.result.0 in
     let lt : i < length deps = c.loop-dep-test.true in
     let next : i + 1 ≡ suc i = omega arith in
-    let told = subst (λ (xs : List AttrSet). c.is_among.result ≡ list_any (λ o. is_same (places o) (places left)) xs) c.deref.ensures.value c.is_among.ensures.among in
+    let told = subst (λ (xs : List AttrSet). c.is_among.result ≡ list_any (λ o. is_same (attributes o) (attributes left)) xs) c.deref.ensures.value c.is_among.ensures.among in
     elim c.if-not-is_among.branch [
       | then-not-is_among+in_ok-push w ↦
           subst (λ (xs : List AttrSet). AreLeftsTo deps xs (i + 1)) (sym (ap (λ v. v.items) w.lefts-is ∙ w.in_ok-push.ensures.items))

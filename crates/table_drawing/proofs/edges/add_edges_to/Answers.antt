@@ -7,4 +7,4 @@ loop-j-preserved c =
     edge_more c.args.schema.now c.args.tables.now c.args.table.now c.index-tables-j.result c.args.refs.now c.loop-j.j-index 0
     c.args.text.now.items c.loop-j.text.items c.add.new.text.items c.deref.result.now
     c.loop-j-test.true (c.requires.refs c.loop-j.j-index 0 c.loop-j-test.true) c.index-tables-j.is
-    c.loop-j.invariant (c.deref.ensures.value ∙ c.in_ok-edge.ensures.text) c.in_ok-add.ensures.added
+    c.loop-j.invariant (c.deref.ensures.value ∙ c.in_ok-edge_text.ensures.text) c.in_ok-add.ensures.added

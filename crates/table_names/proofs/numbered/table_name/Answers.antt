@@ -27,7 +27,7 @@ unwrap-requires c =
     let written = c.write_digits-start.ensures.written ∙ append-nil (decimal c.args.number) in
     let bytes = last_bytes c.write_digits-start.new.buf (start - 1) start c.args.number (omega arith)
     (omega arith) c.write_digits-start.ensures.start written c.write_digits-start.ensures.before in
-    c.make.ensures.some.1
+    c.new.ensures.is_name.1
     (subst (λ (l : List ℕ). IsTrue (is_name l)) (sym bytes) (is_table_name c.args.number (omega arith)))
 
 pub returns : goal.returns
@@ -42,5 +42,5 @@ returns c =
       name = subst
           (λ (o : Option Name). IfSome o
           (λ n. n ≡ take (11 - (start - 1))
-          (drop (start - 1) c.write_digits-start.new.buf))) c.unwrap.ensures c.make.ensures.value ∙ bytes;
+          (drop (start - 1) c.write_digits-start.new.buf))) c.unwrap.ensures c.new.ensures.value ∙ bytes;
     }

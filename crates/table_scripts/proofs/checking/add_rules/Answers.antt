@@ -29,7 +29,7 @@ loop-k-preserved c =
     let is_dep : d ≡ get_or (theory_of s) k d = sym (get_or-map dependency_of (deps_of s) k no_dep d low) in
     item_more (λ (rule : ℕ × Dependency). rule_text s t rule.0 rule.1) c.args.text.now.items c.loop-k.text.items c.add.new.text.items c.deref.result.now
     (take k (zip (lines_of s) (theory_of s))) (take (k + 1) (zip (lines_of s) (theory_of s))) (line, d) c.loop-k.invariant
-    (c.deref.ensures.value ∙ c.in_ok-rule.ensures.text
+    (c.deref.ensures.value ∙ c.in_ok-rule_text.ensures.text
     ∙ ap (λ (deps : List Dep). rule_text s t line (dependency_of (get_or deps k no_dep))) c.deps-dep-items.ensures.deps)
     c.in_ok-add.ensures.added
     (zip_more (lines_of s) (theory_of s) k line d in_lines in_theory is_line is_dep)

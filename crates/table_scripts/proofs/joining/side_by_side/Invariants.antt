@@ -1,5 +1,5 @@
 use Rattle.std.proofs.Common.{◌≡◌, take}
-use Rattle.attr_sets.specs.Sets.{places}
+use Rattle.attr_sets.specs.Sets.{attributes}
 use Rattle.dep_model.specs.Schemas.{width_of}
 use Rattle.table_queries.specs.Queries.{attributes_of, joined_with, stored_query}
 use Rattle.table_scripts.specs.QueryTexts.{left, text_at}
@@ -11,6 +11,6 @@ abbrev pub invariant-loop-design : goal.invariant-loop-design
 invariant-loop-design l = record {
   text : l.text.items ≡ text_at l.schema l.table left
       (joined_with (stored_query (stored_of l.first)) (stored_tables (take l.design-index l.more)));
-  seen : places l.seen ≡ attributes_of (width_of l.schema)
+  seen : attributes l.seen ≡ attributes_of (width_of l.schema)
       (joined_with (stored_query (stored_of l.first)) (stored_tables (take l.design-index l.more)));
 }

@@ -5,11 +5,11 @@ use Rattle.table_scripts.specs.Checking.{null_test}
 use Rattle.table_scripts.proofs.ItemLemmas.{null_more}
 use Rattle.table_scripts.proofs.missing.null_tests.Goals as goal
 
-pub loop-place-preserved : goal.loop-place-preserved
-loop-place-preserved c =
+pub loop-attribute-preserved : goal.loop-attribute-preserved
+loop-attribute-preserved c =
     let s = c.args.schema.now in
-    let n = c.loop-place.place in
-    let lt : n < length (names_of s) = omega (arith, c.loop-place-test.true, c.width-place-end.ensures.count) in
-    null_more (names_of s) n c.loop-place.text.items c.add_test.new.text.items c.deref.result.now lt c.loop-place.invariant
+    let n = c.loop-attribute.attribute in
+    let lt : n < length (names_of s) = omega (arith, c.loop-attribute-test.true, c.width-attribute-end.ensures.count) in
+    null_more (names_of s) n c.loop-attribute.text.items c.add_test.new.text.items c.deref.result.now lt c.loop-attribute.invariant
     (c.deref.ensures.value ∙ c.in_ok-null_test.ensures.text ∙ ap null_test (sym (name_is s n c.name.result.now c.name.ensures.name)))
     c.in_ok-add_test.ensures.added

@@ -4,5 +4,5 @@ use Rattle.table_scripts.specs.Checking.{null_tests}
 use Rattle.table_scripts.proofs.missing.null_tests.Given as goal
 
 -- the tests of the columns so far
-abbrev pub invariant-loop-place : goal.invariant-loop-place
-invariant-loop-place l = l.text.items ≡ null_tests (take l.place (names_of l.schema))
+abbrev pub invariant-loop-attribute : goal.invariant-loop-attribute
+invariant-loop-attribute l = l.text.items ≡ null_tests (take l.attribute (names_of l.schema))

@@ -3,29 +3,29 @@ use Rattle.std.proofs.lemmas.List.{take_more, take-map, map-append, length-map, 
 use Rattle.std.proofs.lemmas.List.Elements.{Contains-push}
 use Rattle.std.specs.Prelude.{Contains}
 use Rattle.attr_sets.specs.declared.set.AttrSet.{AttrSet}
-use Rattle.attr_sets.specs.Places.{Places}
-use Rattle.attr_sets.specs.Sets.{places}
+use Rattle.attr_sets.specs.Attributes.{Attributes}
+use Rattle.attr_sets.specs.Sets.{attributes}
 use Rattle.chase_laws.specs.Tableaux.{SymbolRow, Tableau, SameTableau, scheme_row, plan_tableau}
 use Rattle.chase_laws.proofs.TableauLemmas.{Same-refl}
 use Rattle.std.specs.Prelude.{Result, Err}
 use Rattle.dep_model.specs.declared.failure.Failure.{Failure}
 use Rattle.dep_model.specs.declared.failure.Failure.TheVariants.{Refused}
-use Rattle.tableau_chase.specs.declared.chased.ChaseRefusal.{ChaseRefusal}
-use Rattle.tableau_chase.specs.declared.chased.ChaseRefusal.TheVariants.{TooManyRows}
+use Rattle.tableau_chase.specs.declared.outcome.ChaseRefusal.{ChaseRefusal}
+use Rattle.tableau_chase.specs.declared.outcome.ChaseRefusal.TheVariants.{TooManyRows}
 use Rattle.tableau_chase.specs.declared.pool.Pool.{Pool}
 use Rattle.tableau_chase.specs.Pools.{IsAdded}
 use Rattle.dep_model.specs.Plans.{schemes_of}
 use Rattle.tableau_chase.proofs.PoolLemmas.{scheme_rows-push, scheme_rows-take, same_added, too_many}
 use Rattle.tableau_chase.proofs.adding.plan_pool.Goals as goal
 
-plan_more : (schemes : List AttrSet) (i : ℕ) (d : AttrSet) → i < length schemes → take (i + 1) (schemes_of schemes) ≡ take i (schemes_of schemes) ++ places (get_or schemes i d) ∷ []
+plan_more : (schemes : List AttrSet) (i : ℕ) (d : AttrSet) → i < length schemes → take (i + 1) (schemes_of schemes) ≡ take i (schemes_of schemes) ++ attributes (get_or schemes i d) ∷ []
 plan_more schemes i d low =
-    take-map places (i + 1) schemes ∙ ap (map places) (take_more schemes i d low) ∙ map-append places (take i schemes) (get_or schemes i d ∷ []) ∙ ap (λ (t : List Places). t ++ places (get_or schemes i d) ∷ []) (sym (take-map places i schemes))
+    take-map attributes (i + 1) schemes ∙ ap (map attributes) (take_more schemes i d low) ∙ map-append attributes (take i schemes) (get_or schemes i d ∷ []) ∙ ap (λ (t : List Attributes). t ++ attributes (get_or schemes i d) ∷ []) (sym (take-map attributes i schemes))
 
-rows_more : (n : ℕ) (schemes : List AttrSet) (i : ℕ) (d : AttrSet) → i < length schemes → plan_tableau n (take (i + 1) (schemes_of schemes)) ≡ plan_tableau n (take i (schemes_of schemes)) ++ scheme_row n (places (get_or schemes i d)) (i + 1) ∷ []
+rows_more : (n : ℕ) (schemes : List AttrSet) (i : ℕ) (d : AttrSet) → i < length schemes → plan_tableau n (take (i + 1) (schemes_of schemes)) ≡ plan_tableau n (take i (schemes_of schemes)) ++ scheme_row n (attributes (get_or schemes i d)) (i + 1) ∷ []
 rows_more n schemes i d low =
     ap (plan_tableau n) (plan_more schemes i d low)
-    ∙ scheme_rows-push n 1 (i + 1) (take i (schemes_of schemes)) (places (get_or schemes i d)) (omega (arith, length-take-le i (schemes_of schemes) (omega (arith, low, length-map schemes places))))
+    ∙ scheme_rows-push n 1 (i + 1) (take i (schemes_of schemes)) (attributes (get_or schemes i d)) (omega (arith, length-take-le i (schemes_of schemes) (omega (arith, low, length-map schemes attributes))))
 
 -- a failure handed on
 refused : (failure : Failure ChaseRefusal) → ◌≡◌ {A = Result Pool (Failure ChaseRefusal)} (Err failure) (Err (Refused TooManyRows)) → ◌≡◌ {A = Result (Unit {0}) (Failure ChaseRefusal)} (Err failure) (Err (Refused TooManyRows))
@@ -42,12 +42,12 @@ loop-i-preserved c =
     let d : AttrSet = record { 0 = 0 } in
     let row : SymbolRow = c.in_ok-row.row in
     let after = c.add.new.self.rows.items in
-    let row_is : row ≡ scheme_row n (places (get_or schemes i d)) (i + 1) = c.in_ok-row.ensures.row in
-    let added : IsAdded c.loop-i.pool.rows.items (scheme_row n (places (get_or schemes i d)) (i + 1)) after = subst (λ (r : SymbolRow). IsAdded c.loop-i.pool.rows.items r after) row_is c.in-Ok.ensures.rows in
+    let row_is : row ≡ scheme_row n (attributes (get_or schemes i d)) (i + 1) = c.in_ok-row.ensures.row in
+    let added : IsAdded c.loop-i.pool.rows.items (scheme_row n (attributes (get_or schemes i d)) (i + 1)) after = subst (λ (r : SymbolRow). IsAdded c.loop-i.pool.rows.items r after) row_is c.in-Ok.ensures.rows in
     record {
       pool = c.in-Ok.ensures.pool;
       same = subst (λ (t : Tableau). SameTableau t after) (sym (rows_more n schemes i d c.loop-i-test.true))
-          (same_added (plan_tableau n (take i (schemes_of schemes))) c.loop-i.pool.rows.items (scheme_row n (places (get_or schemes i d)) (i + 1)) after c.loop-i.invariant.same added);
+          (same_added (plan_tableau n (take i (schemes_of schemes))) c.loop-i.pool.rows.items (scheme_row n (attributes (get_or schemes i d)) (i + 1)) after c.loop-i.invariant.same added);
     }
 
 pub returns-in-Err-clause-too_many : goal.returns-in-Err-clause-too_many
@@ -58,7 +58,7 @@ returns-in-Err-clause-too_many c e' =
     let i = c.loop-i.i in
     let d : AttrSet = record { 0 = 0 } in
     let row : SymbolRow = c.in_ok-row.row in
-    let row_is : row ≡ scheme_row n (places (get_or schemes i d)) (i + 1) = c.in_ok-row.ensures.row in
+    let row_is : row ≡ scheme_row n (attributes (get_or schemes i d)) (i + 1) = c.in_ok-row.ensures.row in
     let here : Contains (plan_tableau n (take (i + 1) (schemes_of schemes))) row = subst (λ (t : Tableau). Contains t row) (sym (rows_more n schemes i d c.loop-i-test.true))
     (subst (λ (r : SymbolRow). Contains (plan_tableau n (take i (schemes_of schemes)) ++ r ∷ []) row) row_is (Contains-push (plan_tableau n (take i (schemes_of schemes))) row)) in
     too_many c.args.limit c.loop-i.pool.rows.items row (plan_tableau n (schemes_of schemes)) c.loop-i.invariant.pool.differ (c.in-Err.ensures.absent e) (c.in-Err.ensures.full e)
@@ -67,4 +67,4 @@ returns-in-Err-clause-too_many c e' =
 pub returns-clause-same : goal.returns-clause-same
 returns-clause-same c =
     let plan = schemes_of c.args.schemes.now in
-    subst (λ (p : List Places). SameTableau (plan_tableau c.args.width p) c.loop-i.pool.rows.items) (take_all c.loop-i.i plan (omega (arith, c.loop-i-test.false, length-map c.args.schemes.now places))) c.loop-i.invariant.same
+    subst (λ (p : List Attributes). SameTableau (plan_tableau c.args.width p) c.loop-i.pool.rows.items) (take_all c.loop-i.i plan (omega (arith, c.loop-i-test.false, length-map c.args.schemes.now attributes))) c.loop-i.invariant.same

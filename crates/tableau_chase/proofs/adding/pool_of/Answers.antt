@@ -5,8 +5,8 @@ use Rattle.chase_laws.proofs.TableauLemmas.{Same-refl}
 use Rattle.std.specs.Prelude.{Result, Err}
 use Rattle.dep_model.specs.declared.failure.Failure.{Failure}
 use Rattle.dep_model.specs.declared.failure.Failure.TheVariants.{Refused}
-use Rattle.tableau_chase.specs.declared.chased.ChaseRefusal.{ChaseRefusal}
-use Rattle.tableau_chase.specs.declared.chased.ChaseRefusal.TheVariants.{TooManyRows}
+use Rattle.tableau_chase.specs.declared.outcome.ChaseRefusal.{ChaseRefusal}
+use Rattle.tableau_chase.specs.declared.outcome.ChaseRefusal.TheVariants.{TooManyRows}
 use Rattle.tableau_chase.specs.declared.pool.Pool.{Pool}
 use Rattle.tableau_chase.proofs.PoolLemmas.{same_added, added_length}
 use Rattle.tableau_chase.proofs.adding.pool_of.Goals as goal
@@ -34,7 +34,7 @@ loop-i-preserved c =
     }
 
 pub returns-in-Err-clause-never_too_many : goal.returns-in-Err-clause-never_too_many
-returns-in-Err-clause-never_too_many c e' = let e = refused c.in-Err.failure e' in absurd (omega (arith, c.in-Err.ensures.full e, c.loop-i.invariant.count, c.loop-i-test.true, c.requires.few))
+returns-in-Err-clause-never_too_many c e' = let e = refused c.in-Err.failure e' in absurd (omega (arith, c.in-Err.ensures.full e, c.loop-i.invariant.count, c.loop-i-test.true, c.requires.within_limit))
 
 pub returns-clause-same : goal.returns-clause-same
 returns-clause-same c = subst (λ (t : Tableau). SameTableau t c.loop-i.pool.rows.items) (take_all c.loop-i.i c.args.rows.now c.loop-i-test.false) c.loop-i.invariant.same

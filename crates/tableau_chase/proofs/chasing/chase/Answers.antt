@@ -3,20 +3,20 @@ use Rattle.std.proofs.Common.{◌≡◌, ℕ, ◌<◌, ◌^◌, List, ◌∙◌,
 use Rattle.std.proofs.lemmas.Bool.{false≢true}
 use Rattle.std.proofs.lemmas.List.{length-map, with_items_is}
 use Rattle.std.specs.Prelude.{Contains, Result, Err}
-use Rattle.tableau_chase.specs.declared.chased.Chased.{Chased}
+use Rattle.tableau_chase.specs.declared.outcome.Chased.{Chased}
 use Rattle.dep_model.specs.declared.failure.Failure.{Failure}
 use Rattle.dep_model.specs.declared.failure.Failure.TheVariants.{Refused}
-use Rattle.tableau_chase.specs.declared.chased.ChaseRefusal.{ChaseRefusal}
-use Rattle.tableau_chase.specs.declared.chased.ChaseRefusal.TheVariants.{TooManyRows}
+use Rattle.tableau_chase.specs.declared.outcome.ChaseRefusal.{ChaseRefusal}
+use Rattle.tableau_chase.specs.declared.outcome.ChaseRefusal.TheVariants.{TooManyRows}
 use Rattle.tableau_chase.specs.declared.pool.Pool.{Pool}
-use Rattle.attr_sets.specs.Sets.{places}
+use Rattle.attr_sets.specs.Sets.{attributes}
 use Rattle.dep_model.specs.declared.dep.Dep.{Dep}
 use Rattle.dep_model.specs.Tuples.{Relation}
 use Rattle.dep_model.specs.Deps.{dependencies_of}
 use Rattle.dep_model.specs.Projections.{IsLossless}
 use Rattle.dep_model.specs.Schemas.{width_of, theory_of}
-use Rattle.chase_laws.specs.Tableaux.{Tableau, SameTableau, IsTableauOver, distinguished}
-use Rattle.chase_laws.specs.Rounds.{SettlesTo, IsMadeOf, RoundsExceed}
+use Rattle.chase_laws.specs.Tableaux.{Tableau, SameTableau, IsTableauOver, distinguished_row}
+use Rattle.chase_laws.specs.Rounds.{ClosesFunctionallyTo, IsMadeOf, RoundsExceed}
 use Rattle.chase_laws.proofs.RoundLemmas.{functional_few}
 use Rattle.chase_laws.proofs.SoundLemmas.{lossless_from_distinguished}
 use Rattle.chase_laws.proofs.ClosedLemmas.{gaining_lossy}
@@ -36,8 +36,8 @@ refused_pool failure e = let same : failure ≡ Refused TooManyRows = cc in ap {
 pub loop-rows-init : goal.loop-rows-init
 loop-rows-init c = first_round c.width-width.result (theory_of c.args.schema.now) (schemes_of c.args.schemes.now) c.args.limit c.in-Ok.pool.rows.items c.in-Ok.ensures.same c.in-Ok.ensures.pool.differ c.in-Ok.ensures.pool.few
 
-pub settle-requires-clause-over : goal.settle-requires-clause-over
-settle-requires-clause-over c =
+pub close_functionally-requires-clause-over : goal.close_functionally-requires-clause-over
+close_functionally-requires-clause-over c =
     subst (λ (r : Tableau). IsTableauOver c.width-width.result r) (sym c.deref_mut.ensures.value)
     (round_over c.width-width.result (theory_of c.args.schema.now) (schemes_of c.args.schemes.now) c.args.limit c.loop-rows.rows.items c.loop-rows.invariant)
 
@@ -49,13 +49,13 @@ has_distinguished-requires c =
     let limit = c.args.limit in
     let rows = c.loop-rows.rows.items in
     let round = c.loop-rows.invariant in
-    let s = c.settle.new.rows in
+    let s = c.close_functionally.new.rows in
     let t = c.in-Ok-pool_of.pool.rows.items in
-    let settles : SettlesTo ds rows s = subst (λ (d : List Dep). SettlesTo (dependencies_of d) rows s) c.deps-deps.ensures.deps
-    (subst (λ (r : Tableau). SettlesTo (dependencies_of c.deps-deps.result.now) r s) c.deref_mut.ensures.value c.in_ok-settle.ensures.settles) in
-    let back : c.deref.result.now ≡ s = c.deref.ensures.value ∙ with_items_is c.loop-rows.rows s (c.in_ok-settle.ensures.count ∙ c.deref_mut.ensures.len) in
+    let closes : ClosesFunctionallyTo ds rows s = subst (λ (d : List Dep). ClosesFunctionallyTo (dependencies_of d) rows s) c.deps-deps.ensures.deps
+    (subst (λ (r : Tableau). ClosesFunctionallyTo (dependencies_of c.deps-deps.result.now) r s) c.deref_mut.ensures.value c.in_ok-close_functionally.ensures.closes) in
+    let back : c.deref.result.now ≡ s = c.deref.ensures.value ∙ with_items_is c.loop-rows.rows s (c.in_ok-close_functionally.ensures.count ∙ c.deref_mut.ensures.len) in
     let same : SameTableau s t = subst (λ (r : Tableau). SameTableau r t) back c.in-Ok-pool_of.ensures.same in
-    record { over = subst (λ (r : Tableau). IsTableauOver n r) (sym c.deref-in-loop-rows.ensures.value) (settled_over n ds plan limit rows s t round settles same) }
+    record { over = subst (λ (r : Tableau). IsTableauOver n r) (sym c.deref-in-loop-rows.ensures.value) (settled_over n ds plan limit rows s t round closes same) }
 
 pub add_next-requires-clause-over : goal.add_next-requires-clause-over
 add_next-requires-clause-over c =
@@ -65,13 +65,13 @@ add_next-requires-clause-over c =
     let limit = c.args.limit in
     let rows = c.loop-rows.rows.items in
     let round = c.loop-rows.invariant in
-    let s = c.settle.new.rows in
+    let s = c.close_functionally.new.rows in
     let t = c.in-Ok-pool_of.pool.rows.items in
-    let settles : SettlesTo ds rows s = subst (λ (d : List Dep). SettlesTo (dependencies_of d) rows s) c.deps-deps.ensures.deps
-    (subst (λ (r : Tableau). SettlesTo (dependencies_of c.deps-deps.result.now) r s) c.deref_mut.ensures.value c.in_ok-settle.ensures.settles) in
-    let back : c.deref.result.now ≡ s = c.deref.ensures.value ∙ with_items_is c.loop-rows.rows s (c.in_ok-settle.ensures.count ∙ c.deref_mut.ensures.len) in
+    let closes : ClosesFunctionallyTo ds rows s = subst (λ (d : List Dep). ClosesFunctionallyTo (dependencies_of d) rows s) c.deps-deps.ensures.deps
+    (subst (λ (r : Tableau). ClosesFunctionallyTo (dependencies_of c.deps-deps.result.now) r s) c.deref_mut.ensures.value c.in_ok-close_functionally.ensures.closes) in
+    let back : c.deref.result.now ≡ s = c.deref.ensures.value ∙ with_items_is c.loop-rows.rows s (c.in_ok-close_functionally.ensures.count ∙ c.deref_mut.ensures.len) in
     let same : SameTableau s t = subst (λ (r : Tableau). SameTableau r t) back c.in-Ok-pool_of.ensures.same in
-    settled_over n ds plan limit rows s t round settles same
+    settled_over n ds plan limit rows s t round closes same
 
 pub returns-then-has_distinguished-clause-within_limit : goal.returns-then-has_distinguished-clause-within_limit
 returns-then-has_distinguished-clause-within_limit c =
@@ -81,14 +81,14 @@ returns-then-has_distinguished-clause-within_limit c =
     let limit = c.args.limit in
     let rows = c.loop-rows.rows.items in
     let round = c.loop-rows.invariant in
-    let s = c.settle.new.rows in
+    let s = c.close_functionally.new.rows in
     let t = c.in-Ok-pool_of.pool.rows.items in
-    let settles : SettlesTo ds rows s = subst (λ (d : List Dep). SettlesTo (dependencies_of d) rows s) c.deps-deps.ensures.deps
-    (subst (λ (r : Tableau). SettlesTo (dependencies_of c.deps-deps.result.now) r s) c.deref_mut.ensures.value c.in_ok-settle.ensures.settles) in
-    let back : c.deref.result.now ≡ s = c.deref.ensures.value ∙ with_items_is c.loop-rows.rows s (c.in_ok-settle.ensures.count ∙ c.deref_mut.ensures.len) in
+    let closes : ClosesFunctionallyTo ds rows s = subst (λ (d : List Dep). ClosesFunctionallyTo (dependencies_of d) rows s) c.deps-deps.ensures.deps
+    (subst (λ (r : Tableau). ClosesFunctionallyTo (dependencies_of c.deps-deps.result.now) r s) c.deref_mut.ensures.value c.in_ok-close_functionally.ensures.closes) in
+    let back : c.deref.result.now ≡ s = c.deref.ensures.value ∙ with_items_is c.loop-rows.rows s (c.in_ok-close_functionally.ensures.count ∙ c.deref_mut.ensures.len) in
     let same : SameTableau s t = subst (λ (r : Tableau). SameTableau r t) back c.in-Ok-pool_of.ensures.same in
-    let has : Contains t (distinguished n) = subst (λ (r : Tableau). Contains r (distinguished n)) c.deref-in-loop-rows.ensures.value (c.if-has_distinguished.ensures.found.0 refl) in
-    subst (λ (m : ℕ). RoundsExceed m ds plan limit → ⊥) c.width-width.ensures.count (ended n ds plan limit rows s t round settles same (inl has))
+    let has : Contains t (distinguished_row n) = subst (λ (r : Tableau). Contains r (distinguished_row n)) c.deref-in-loop-rows.ensures.value (c.if-has_distinguished.ensures.found.0 refl) in
+    subst (λ (m : ℕ). RoundsExceed m ds plan limit → ⊥) c.width-width.ensures.count (ended n ds plan limit rows s t round closes same (inl has))
 
 pub returns-then-has_distinguished-clause-lossless : goal.returns-then-has_distinguished-clause-lossless
 returns-then-has_distinguished-clause-lossless c =
@@ -98,14 +98,14 @@ returns-then-has_distinguished-clause-lossless c =
     let limit = c.args.limit in
     let rows = c.loop-rows.rows.items in
     let round = c.loop-rows.invariant in
-    let s = c.settle.new.rows in
+    let s = c.close_functionally.new.rows in
     let t = c.in-Ok-pool_of.pool.rows.items in
-    let settles : SettlesTo ds rows s = subst (λ (d : List Dep). SettlesTo (dependencies_of d) rows s) c.deps-deps.ensures.deps
-    (subst (λ (r : Tableau). SettlesTo (dependencies_of c.deps-deps.result.now) r s) c.deref_mut.ensures.value c.in_ok-settle.ensures.settles) in
-    let back : c.deref.result.now ≡ s = c.deref.ensures.value ∙ with_items_is c.loop-rows.rows s (c.in_ok-settle.ensures.count ∙ c.deref_mut.ensures.len) in
+    let closes : ClosesFunctionallyTo ds rows s = subst (λ (d : List Dep). ClosesFunctionallyTo (dependencies_of d) rows s) c.deps-deps.ensures.deps
+    (subst (λ (r : Tableau). ClosesFunctionallyTo (dependencies_of c.deps-deps.result.now) r s) c.deref_mut.ensures.value c.in_ok-close_functionally.ensures.closes) in
+    let back : c.deref.result.now ≡ s = c.deref.ensures.value ∙ with_items_is c.loop-rows.rows s (c.in_ok-close_functionally.ensures.count ∙ c.deref_mut.ensures.len) in
     let same : SameTableau s t = subst (λ (r : Tableau). SameTableau r t) back c.in-Ok-pool_of.ensures.same in
-    let has : Contains t (distinguished n) = subst (λ (r : Tableau). Contains r (distinguished n)) c.deref-in-loop-rows.ensures.value (c.if-has_distinguished.ensures.found.0 refl) in
-    let lossless : IsLossless n ds plan = lossless_from_distinguished n ds plan t (λ (k : ℕ) l. c.requires.cover k (omega (arith, l, c.width-width.ensures.count))) (reached_settled n ds plan limit rows s t round settles same) has in
+    let has : Contains t (distinguished_row n) = subst (λ (r : Tableau). Contains r (distinguished_row n)) c.deref-in-loop-rows.ensures.value (c.if-has_distinguished.ensures.found.0 refl) in
+    let lossless : IsLossless n ds plan = lossless_from_distinguished n ds plan t (λ (k : ℕ) l. c.requires.cover k (omega (arith, l, c.width-width.ensures.count))) (reached_settled n ds plan limit rows s t round closes same) has in
     ((λ _. subst (λ (m : ℕ). IsLossless m ds plan) c.width-width.ensures.count lossless), (λ _. refl))
 
 pub returns-in-Err-clause-too_many_rows : goal.returns-in-Err-clause-too_many_rows
@@ -117,7 +117,7 @@ pub returns-in-Err-clause-never_too_many : goal.returns-in-Err-clause-never_too_
 returns-in-Err-clause-never_too_many c whole low e =
     let ds = theory_of c.args.schema.now in
     let plan = schemes_of c.args.schemes.now in
-    functional_few c.width-width.result ds plan c.args.limit (functional_none ds whole) (omega (arith, low, length-map c.args.schemes.now places))
+    functional_few c.width-width.result ds plan c.args.limit (functional_none ds whole) (omega (arith, low, length-map c.args.schemes.now attributes))
     (first_exceeds c.width-width.result ds plan c.args.limit (c.in-Err.ensures.too_many (refused_pool c.in-Err.failure e)))
 
 pub returns-in-Err-add_next-clause-too_many_rows : goal.returns-in-Err-add_next-clause-too_many_rows
@@ -128,15 +128,15 @@ returns-in-Err-add_next-clause-too_many_rows c e =
     let limit = c.args.limit in
     let rows = c.loop-rows.rows.items in
     let round = c.loop-rows.invariant in
-    let s = c.settle.new.rows in
+    let s = c.close_functionally.new.rows in
     let t = c.in-Ok-pool_of.pool.rows.items in
-    let settles : SettlesTo ds rows s = subst (λ (d : List Dep). SettlesTo (dependencies_of d) rows s) c.deps-deps.ensures.deps
-    (subst (λ (r : Tableau). SettlesTo (dependencies_of c.deps-deps.result.now) r s) c.deref_mut.ensures.value c.in_ok-settle.ensures.settles) in
-    let back : c.deref.result.now ≡ s = c.deref.ensures.value ∙ with_items_is c.loop-rows.rows s (c.in_ok-settle.ensures.count ∙ c.deref_mut.ensures.len) in
+    let closes : ClosesFunctionallyTo ds rows s = subst (λ (d : List Dep). ClosesFunctionallyTo (dependencies_of d) rows s) c.deps-deps.ensures.deps
+    (subst (λ (r : Tableau). ClosesFunctionallyTo (dependencies_of c.deps-deps.result.now) r s) c.deref_mut.ensures.value c.in_ok-close_functionally.ensures.closes) in
+    let back : c.deref.result.now ≡ s = c.deref.ensures.value ∙ with_items_is c.loop-rows.rows s (c.in_ok-close_functionally.ensures.count ∙ c.deref_mut.ensures.len) in
     let same : SameTableau s t = subst (λ (r : Tableau). SameTableau r t) back c.in-Ok-pool_of.ensures.same in
-    let lacks : Contains t (distinguished n) → ⊥ = λ h. false≢true (c.if-has_distinguished.ensures.found.1 (subst (λ (r : Tableau). Contains r (distinguished n)) (sym c.deref-in-loop-rows.ensures.value) h)) in
+    let lacks : Contains t (distinguished_row n) → ⊥ = λ h. false≢true (c.if-has_distinguished.ensures.found.1 (subst (λ (r : Tableau). Contains r (distinguished_row n)) (sym c.deref-in-loop-rows.ensures.value) h)) in
     let over : Overflows (IsMadeOf n ds t) limit t = subst (λ (d : List Dep). Overflows (IsMadeOf n (dependencies_of d) t) limit t) c.deps-deps.ensures.deps (c.in-Err-add_next.ensures.too_many (refused c.in-Err-add_next.failure e)) in
-    let exceeds : RoundsExceed n ds plan limit = next_exceeds n ds plan limit rows s t round settles same lacks c.in-Ok-pool_of.ensures.pool.few over in
+    let exceeds : RoundsExceed n ds plan limit = next_exceeds n ds plan limit rows s t round closes same lacks c.in-Ok-pool_of.ensures.pool.few over in
     subst (λ (m : ℕ). RoundsExceed m ds plan limit) c.width-width.ensures.count exceeds
 
 pub returns-in-Err-add_next-clause-never_too_many : goal.returns-in-Err-add_next-clause-never_too_many
@@ -147,16 +147,16 @@ returns-in-Err-add_next-clause-never_too_many c whole low e =
     let limit = c.args.limit in
     let rows = c.loop-rows.rows.items in
     let round = c.loop-rows.invariant in
-    let s = c.settle.new.rows in
+    let s = c.close_functionally.new.rows in
     let t = c.in-Ok-pool_of.pool.rows.items in
-    let settles : SettlesTo ds rows s = subst (λ (d : List Dep). SettlesTo (dependencies_of d) rows s) c.deps-deps.ensures.deps
-    (subst (λ (r : Tableau). SettlesTo (dependencies_of c.deps-deps.result.now) r s) c.deref_mut.ensures.value c.in_ok-settle.ensures.settles) in
-    let back : c.deref.result.now ≡ s = c.deref.ensures.value ∙ with_items_is c.loop-rows.rows s (c.in_ok-settle.ensures.count ∙ c.deref_mut.ensures.len) in
+    let closes : ClosesFunctionallyTo ds rows s = subst (λ (d : List Dep). ClosesFunctionallyTo (dependencies_of d) rows s) c.deps-deps.ensures.deps
+    (subst (λ (r : Tableau). ClosesFunctionallyTo (dependencies_of c.deps-deps.result.now) r s) c.deref_mut.ensures.value c.in_ok-close_functionally.ensures.closes) in
+    let back : c.deref.result.now ≡ s = c.deref.ensures.value ∙ with_items_is c.loop-rows.rows s (c.in_ok-close_functionally.ensures.count ∙ c.deref_mut.ensures.len) in
     let same : SameTableau s t = subst (λ (r : Tableau). SameTableau r t) back c.in-Ok-pool_of.ensures.same in
-    let lacks : Contains t (distinguished n) → ⊥ = λ h. false≢true (c.if-has_distinguished.ensures.found.1 (subst (λ (r : Tableau). Contains r (distinguished n)) (sym c.deref-in-loop-rows.ensures.value) h)) in
+    let lacks : Contains t (distinguished_row n) → ⊥ = λ h. false≢true (c.if-has_distinguished.ensures.found.1 (subst (λ (r : Tableau). Contains r (distinguished_row n)) (sym c.deref-in-loop-rows.ensures.value) h)) in
     let over : Overflows (IsMadeOf n ds t) limit t = subst (λ (d : List Dep). Overflows (IsMadeOf n (dependencies_of d) t) limit t) c.deps-deps.ensures.deps (c.in-Err-add_next.ensures.too_many (refused c.in-Err-add_next.failure e)) in
-    let exceeds : RoundsExceed n ds plan limit = next_exceeds n ds plan limit rows s t round settles same lacks c.in-Ok-pool_of.ensures.pool.few over in
-    functional_few n ds plan limit (functional_none ds whole) (omega (arith, low, length-map c.args.schemes.now places)) exceeds
+    let exceeds : RoundsExceed n ds plan limit = next_exceeds n ds plan limit rows s t round closes same lacks c.in-Ok-pool_of.ensures.pool.few over in
+    functional_few n ds plan limit (functional_none ds whole) (omega (arith, low, length-map c.args.schemes.now attributes)) exceeds
 
 pub loop-rows-preserved : goal.loop-rows-preserved
 loop-rows-preserved c =
@@ -166,17 +166,17 @@ loop-rows-preserved c =
     let limit = c.args.limit in
     let rows = c.loop-rows.rows.items in
     let round = c.loop-rows.invariant in
-    let s = c.settle.new.rows in
+    let s = c.close_functionally.new.rows in
     let t = c.in-Ok-pool_of.pool.rows.items in
-    let settles : SettlesTo ds rows s = subst (λ (d : List Dep). SettlesTo (dependencies_of d) rows s) c.deps-deps.ensures.deps
-    (subst (λ (r : Tableau). SettlesTo (dependencies_of c.deps-deps.result.now) r s) c.deref_mut.ensures.value c.in_ok-settle.ensures.settles) in
-    let back : c.deref.result.now ≡ s = c.deref.ensures.value ∙ with_items_is c.loop-rows.rows s (c.in_ok-settle.ensures.count ∙ c.deref_mut.ensures.len) in
+    let closes : ClosesFunctionallyTo ds rows s = subst (λ (d : List Dep). ClosesFunctionallyTo (dependencies_of d) rows s) c.deps-deps.ensures.deps
+    (subst (λ (r : Tableau). ClosesFunctionallyTo (dependencies_of c.deps-deps.result.now) r s) c.deref_mut.ensures.value c.in_ok-close_functionally.ensures.closes) in
+    let back : c.deref.result.now ≡ s = c.deref.ensures.value ∙ with_items_is c.loop-rows.rows s (c.in_ok-close_functionally.ensures.count ∙ c.deref_mut.ensures.len) in
     let same : SameTableau s t = subst (λ (r : Tableau). SameTableau r t) back c.in-Ok-pool_of.ensures.same in
-    let lacks : Contains t (distinguished n) → ⊥ = λ h. false≢true (c.if-has_distinguished.ensures.found.1 (subst (λ (r : Tableau). Contains r (distinguished n)) (sym c.deref-in-loop-rows.ensures.value) h)) in
+    let lacks : Contains t (distinguished_row n) → ⊥ = λ h. false≢true (c.if-has_distinguished.ensures.found.1 (subst (λ (r : Tableau). Contains r (distinguished_row n)) (sym c.deref-in-loop-rows.ensures.value) h)) in
     let u = c.add_next.new.pool.rows.items in
     let adds : AddsAll (IsMadeOf n ds t) t u = subst (λ (d : List Dep). AddsAll (IsMadeOf n (dependencies_of d) t) t u) c.deps-deps.ensures.deps c.in_default.ensures.next in
     let grows : length t < length u = omega (arith, extends_length t u adds.extends, c.if-len-count.false, c.len.ensures, c.len-count.ensures) in
-    next_round n ds plan limit rows s t round settles same u adds c.in_default.ensures.pool.differ c.in_default.ensures.pool.few lacks grows
+    next_round n ds plan limit rows s t round closes same u adds c.in_default.ensures.pool.differ c.in_default.ensures.pool.few lacks grows
 
 pub loop-rows-smaller : goal.loop-rows-smaller
 loop-rows-smaller c =
@@ -186,16 +186,16 @@ loop-rows-smaller c =
     let limit = c.args.limit in
     let rows = c.loop-rows.rows.items in
     let round = c.loop-rows.invariant in
-    let s = c.settle.new.rows in
+    let s = c.close_functionally.new.rows in
     let t = c.in-Ok-pool_of.pool.rows.items in
-    let settles : SettlesTo ds rows s = subst (λ (d : List Dep). SettlesTo (dependencies_of d) rows s) c.deps-deps.ensures.deps
-    (subst (λ (r : Tableau). SettlesTo (dependencies_of c.deps-deps.result.now) r s) c.deref_mut.ensures.value c.in_ok-settle.ensures.settles) in
-    let back : c.deref.result.now ≡ s = c.deref.ensures.value ∙ with_items_is c.loop-rows.rows s (c.in_ok-settle.ensures.count ∙ c.deref_mut.ensures.len) in
+    let closes : ClosesFunctionallyTo ds rows s = subst (λ (d : List Dep). ClosesFunctionallyTo (dependencies_of d) rows s) c.deps-deps.ensures.deps
+    (subst (λ (r : Tableau). ClosesFunctionallyTo (dependencies_of c.deps-deps.result.now) r s) c.deref_mut.ensures.value c.in_ok-close_functionally.ensures.closes) in
+    let back : c.deref.result.now ≡ s = c.deref.ensures.value ∙ with_items_is c.loop-rows.rows s (c.in_ok-close_functionally.ensures.count ∙ c.deref_mut.ensures.len) in
     let same : SameTableau s t = subst (λ (r : Tableau). SameTableau r t) back c.in-Ok-pool_of.ensures.same in
     let u = c.add_next.new.pool.rows.items in
     let adds : AddsAll (IsMadeOf n ds t) t u = subst (λ (d : List Dep). AddsAll (IsMadeOf n (dependencies_of d) t) t u) c.deps-deps.ensures.deps c.in_default.ensures.next in
     let grows : length t < length u = omega (arith, extends_length t u adds.extends, c.if-len-count.false, c.len.ensures, c.len-count.ensures) in
-    next_lower n ds plan limit rows s t round settles same u adds c.in_default.ensures.pool.differ c.in_default.ensures.pool.few grows
+    next_lower n ds plan limit rows s t round closes same u adds c.in_default.ensures.pool.differ c.in_default.ensures.pool.few grows
 
 -- the end at a closed tableau
 ends : (c : goal.After-drop-rows-then-len-count) → EndsLossy (width_of c.args.schema.now) (theory_of c.args.schema.now) (schemes_of c.args.schemes.now) c.args.limit c.in_ok-ascending_texts.field-0.items
@@ -206,20 +206,20 @@ ends c =
     let limit = c.args.limit in
     let rows = c.loop-rows.rows.items in
     let round = c.loop-rows.invariant in
-    let s = c.settle.new.rows in
+    let s = c.close_functionally.new.rows in
     let t = c.in-Ok-pool_of.pool.rows.items in
-    let settles : SettlesTo ds rows s = subst (λ (d : List Dep). SettlesTo (dependencies_of d) rows s) c.deps-deps.ensures.deps
-    (subst (λ (r : Tableau). SettlesTo (dependencies_of c.deps-deps.result.now) r s) c.deref_mut.ensures.value c.in_ok-settle.ensures.settles) in
-    let back : c.deref.result.now ≡ s = c.deref.ensures.value ∙ with_items_is c.loop-rows.rows s (c.in_ok-settle.ensures.count ∙ c.deref_mut.ensures.len) in
+    let closes : ClosesFunctionallyTo ds rows s = subst (λ (d : List Dep). ClosesFunctionallyTo (dependencies_of d) rows s) c.deps-deps.ensures.deps
+    (subst (λ (r : Tableau). ClosesFunctionallyTo (dependencies_of c.deps-deps.result.now) r s) c.deref_mut.ensures.value c.in_ok-close_functionally.ensures.closes) in
+    let back : c.deref.result.now ≡ s = c.deref.ensures.value ∙ with_items_is c.loop-rows.rows s (c.in_ok-close_functionally.ensures.count ∙ c.deref_mut.ensures.len) in
     let same : SameTableau s t = subst (λ (r : Tableau). SameTableau r t) back c.in-Ok-pool_of.ensures.same in
-    let lacks : Contains t (distinguished n) → ⊥ = λ h. false≢true (c.if-has_distinguished.ensures.found.1 (subst (λ (r : Tableau). Contains r (distinguished n)) (sym c.deref-in-loop-rows.ensures.value) h)) in
+    let lacks : Contains t (distinguished_row n) → ⊥ = λ h. false≢true (c.if-has_distinguished.ensures.found.1 (subst (λ (r : Tableau). Contains r (distinguished_row n)) (sym c.deref-in-loop-rows.ensures.value) h)) in
     let u = c.add_next.new.pool.rows.items in
     let adds : AddsAll (IsMadeOf n ds t) t u = subst (λ (d : List Dep). AddsAll (IsMadeOf n (dependencies_of d) t) t u) c.deps-deps.ensures.deps c.in_default.ensures.next in
     let count : length u ≡ length t = omega (arith, c.if-len-count.true, c.len.ensures, c.len-count.ensures) in
     let texts : Relation = c.in_ok-ascending_texts.field-0.items in
-    let small : length plan < 2 ^ 32 = omega (arith, c.requires.few, length-map c.args.schemes.now places) in
+    let small : length plan < 2 ^ 32 = omega (arith, c.requires.fits_u32, length-map c.args.schemes.now attributes) in
     subst (λ (m : ℕ). EndsLossy m ds plan limit texts) c.width-width.ensures.count
-    (ends_lossy n ds plan limit rows s t u texts small round settles same c.in-Ok-pool_of.ensures.pool.few lacks adds count c.in_ok-ascending_texts.ensures.texts)
+    (ends_lossy n ds plan limit rows s t u texts small round closes same c.in-Ok-pool_of.ensures.pool.few lacks adds count c.in_ok-ascending_texts.ensures.texts)
 
 pub returns-then-len-count-clause-within_limit : goal.returns-then-len-count-clause-within_limit
 returns-then-len-count-clause-within_limit c = (ends c).within
@@ -238,4 +238,4 @@ returns-then-len-count-clause-gaining c = (ends c).gains
 
 pub returns-then-len-count-clause-typed : goal.returns-then-len-count-clause-typed
 returns-then-len-count-clause-typed c =
-    closed_typed c.args.schema.now (schemes_of c.args.schemes.now) c.args.limit c.in_ok-ascending_texts.field-0.items (omega (arith, c.requires.few, length-map c.args.schemes.now places)) (ends c).closed
+    closed_typed c.args.schema.now (schemes_of c.args.schemes.now) c.args.limit c.in_ok-ascending_texts.field-0.items (omega (arith, c.requires.fits_u32, length-map c.args.schemes.now attributes)) (ends c).closed

@@ -2,7 +2,7 @@ use Rattle.std.proofs.Common.{◌≡◌, ℕ, ◌∙◌, [], length, inl, inr, s
 use Rattle.std.proofs.lemmas.Bool.{cases_lt, true≢false, false≢true}
 use Rattle.std.proofs.lemmas.List.{get_or_read, get_or_default}
 use Rattle.std.specs.Prelude.{Contains}
-use Rattle.chase_laws.specs.Tableaux.{SymbolRow, distinguished}
+use Rattle.chase_laws.specs.Tableaux.{SymbolRow, distinguished_row}
 use Rattle.tableau_chase.specs.Groups.{symbol_row_at}
 use Rattle.tableau_chase.proofs.ZeroLemmas.{distinguished_from, distinguished_to}
 use Rattle.tableau_chase.proofs.chasing.has_distinguished.Goals as goal
@@ -25,13 +25,13 @@ returns-then-is_distinguished c =
     let i = c.loop-i.i in
     let row : SymbolRow = c.index-rows-i.result in
     let len : length row ≡ c.args.width = ap (λ (r : SymbolRow). length r) c.index-rows-i.is ∙ c.requires.over i row c.loop-i-test.true in
-    let is : row ≡ distinguished c.args.width = distinguished_from c.args.width row len (sym c.is_distinguished.ensures.zeros ∙ c.if-is_distinguished.true) in
+    let is : row ≡ distinguished_row c.args.width = distinguished_from c.args.width row len (sym c.is_distinguished.ensures.zeros ∙ c.if-is_distinguished.true) in
     record { found = ((λ _. subst (λ (r : SymbolRow). Contains c.args.rows.now r) is (i, c.loop-i-test.true, sym c.index-rows-i.is)), (λ _. refl)) }
 
 pub returns : goal.returns
 returns c = record {
   found = (
     (λ e. absurd (false≢true e)),
-    (λ h. absurd (c.loop-i.invariant h.0 (omega (arith, h.1, c.loop-i-test.false)) (get_or_default c.args.rows.now h.0 [] (distinguished c.args.width) h.1 ∙ h.2))),
+    (λ h. absurd (c.loop-i.invariant h.0 (omega (arith, h.1, c.loop-i-test.false)) (get_or_default c.args.rows.now h.0 [] (distinguished_row c.args.width) h.1 ∙ h.2))),
   );
 }

@@ -1,7 +1,7 @@
 use Rattle.std.proofs.Common.{◌≡◌, ◌+◌, ◌<◌, [], length, take, get_or, refl}
-use Rattle.attr_sets.specs.Sets.{places}
+use Rattle.attr_sets.specs.Sets.{attributes}
 use Rattle.chase_laws.specs.Tableaux.{SymbolRow}
-use Rattle.chase_laws.specs.Steps.{exchanged}
+use Rattle.chase_laws.specs.Steps.{exchange_rows}
 use Rattle.tableau_chase.specs.Groups.{symbol_row_at}
 use Rattle.tableau_chase.specs.Making.{IsExchangedWith}
 use Rattle.tableau_chase.proofs.PoolLemmas.{adds_none, adds_more, overflow_here}
@@ -11,13 +11,13 @@ use Rattle.tableau_chase.proofs.making.add_exchanged.Goals as goal
 pub loop-k-init : goal.loop-k-init
 loop-k-init c = record {
   pool = c.requires.pool;
-  adds = adds_none (IsExchangedWith c.args.width (places c.args.on) c.args.pool.now.rows.items c.args.first []) c.args.pool.now.rows.items (exchanged_with_none c.args.width (places c.args.on) c.args.pool.now.rows.items c.args.first);
+  adds = adds_none (IsExchangedWith c.args.width (attributes c.args.on) c.args.pool.now.rows.items c.args.first []) c.args.pool.now.rows.items (exchanged_with_none c.args.width (attributes c.args.on) c.args.pool.now.rows.items c.args.first);
 }
 
 pub loop-k-preserved : goal.loop-k-preserved
 loop-k-preserved c =
     let n = c.args.width in
-    let z = places c.args.on in
+    let z = attributes c.args.on in
     let t = c.args.pool.now.rows.items in
     let m = c.loop-k.pool.rows.items in
     let k = c.loop-k.k in
@@ -25,7 +25,7 @@ loop-k-preserved c =
     let low : k < length seconds = c.loop-k-test.true in
     let adds = c.loop-k.invariant.adds in
     let row : SymbolRow = c.in_ok-row.row in
-    let row_is : row ≡ exchanged n z (symbol_row_at t c.args.first) (symbol_row_at t (get_or seconds k 0)) =
+    let row_is : row ≡ exchange_rows n z (symbol_row_at t c.args.first) (symbol_row_at t (get_or seconds k 0)) =
     exchanged_rows n z t m c.args.first (get_or seconds k 0) c.index.result.now c.index-in-loop-k.result.now row adds.extends c.requires.first (c.requires.seconds k 0 low) c.index.ensures c.index-in-loop-k.ensures c.in_ok-row.ensures.row in
     record {
       pool = c.in-Ok.ensures.pool;
@@ -37,7 +37,7 @@ loop-k-preserved c =
 pub returns-in-Err-clause-too_many : goal.returns-in-Err-clause-too_many
 returns-in-Err-clause-too_many c e =
     let n = c.args.width in
-    let z = places c.args.on in
+    let z = attributes c.args.on in
     let t = c.args.pool.now.rows.items in
     let m = c.loop-k.pool.rows.items in
     let k = c.loop-k.k in
@@ -45,7 +45,7 @@ returns-in-Err-clause-too_many c e =
     let low : k < length seconds = c.loop-k-test.true in
     let adds = c.loop-k.invariant.adds in
     let row : SymbolRow = c.in_ok-row.row in
-    let row_is : row ≡ exchanged n z (symbol_row_at t c.args.first) (symbol_row_at t (get_or seconds k 0)) =
+    let row_is : row ≡ exchange_rows n z (symbol_row_at t c.args.first) (symbol_row_at t (get_or seconds k 0)) =
     exchanged_rows n z t m c.args.first (get_or seconds k 0) c.index.result.now c.index-in-loop-k.result.now row adds.extends c.requires.first (c.requires.seconds k 0 low) c.index.ensures c.index-in-loop-k.ensures c.in_ok-row.ensures.row in
     overflow_here (IsExchangedWith n z t c.args.first (take k seconds)) (IsExchangedWith n z t c.args.first seconds) c.args.limit t m row (exchanged_with_take n z t c.args.first k seconds)
     (exchanged_with_here n z t c.args.first k seconds row low row_is) adds c.loop-k.invariant.pool.differ (c.in-Err.ensures.absent e) (c.in-Err.ensures.full e)

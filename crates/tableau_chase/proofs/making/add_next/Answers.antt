@@ -1,6 +1,6 @@
 use Rattle.std.proofs.Common.{◌≡◌, ℕ, ◌+◌, ◌<◌, ◌≤◌, List, ◌∙◌, length, take, get_or, sym, ap, subst, refl, arith}
 use Rattle.std.proofs.lemmas.List.{get_or-map, length-map, take_at}
-use Rattle.attr_sets.specs.Places.{below}
+use Rattle.attr_sets.specs.Attributes.{below}
 use Rattle.dep_model.specs.declared.dep.Dep.{Dep}
 use Rattle.dep_model.specs.declared.dep.Dep.TheVariants.{Fd}
 use Rattle.dep_model.specs.Dependencies.{Dependency, fd}

@@ -1,6 +1,6 @@
 use Rattle.std.proofs.Common.{◌≡◌, ℕ, ◌+◌, ◌<◌, List, ◌∙◌, [], length, take, get_or, ap, subst, refl, arith}
 use Rattle.std.proofs.lemmas.List.{length-take-le, get_or_read, get_or_default}
-use Rattle.attr_sets.specs.Sets.{places}
+use Rattle.attr_sets.specs.Sets.{attributes}
 use Rattle.chase_laws.specs.Tableaux.{Tableau}
 use Rattle.tableau_chase.specs.Making.{IsExchangedRow, IsExchangedWith, Overflows}
 use Rattle.tableau_chase.proofs.PoolLemmas.{adds_none, adds_like}
@@ -12,13 +12,13 @@ pub loop-i-init : goal.loop-i-init
 loop-i-init c =
     let t = c.args.pool.now.rows.items in
     let n = c.args.width in
-    let z = places c.union-both.result in
+    let z = attributes c.union-both.result in
     let agreeing = c.in_ok-agreeing.agreeing.items in
     let firsts = c.in_ok-firsts.firsts.items in
     let groups = c.in_ok-groups.groups.items in
     record {
-      parts = parts_of n c.args.count (places c.args.lhs) (places c.args.rhs) z (places c.minus.result) (places c.union-rest.result) (places c.full.result) t c.deref.result.now c.deref-2.result.now c.deref-3.result.now
-          agreeing firsts c.in_ok-seconds.seconds.items c.deref-4.result.now c.deref-5.result.now groups c.requires.count c.requires.over c.union-both.ensures.members c.minus.ensures.members c.union-rest.ensures.members c.full.ensures.members
+      parts = parts_of n c.args.count (attributes c.args.lhs) (attributes c.args.rhs) z (attributes c.difference.result) (attributes c.union-rest.result) (attributes c.full.result) t c.deref.result.now c.deref-2.result.now c.deref-3.result.now
+          agreeing firsts c.in_ok-seconds.seconds.items c.deref-4.result.now c.deref-5.result.now groups c.requires.count c.requires.over c.union-both.ensures.members c.difference.ensures.members c.union-rest.ensures.members c.full.ensures.members
           c.deref.ensures.value c.deref-2.ensures.value c.deref-3.ensures.value c.deref-4.ensures.value c.deref-5.ensures.value c.in_ok-agreeing.ensures.leaders c.in_ok-firsts.ensures.leaders c.in_ok-seconds.ensures.leaders c.in_ok-groups.ensures.followers;
       pool = c.requires.pool;
       adds = adds_none (IsProductOf n z (take c.args.count t) agreeing firsts groups 0) t (product_none n z (take c.args.count t) agreeing firsts groups);
@@ -47,7 +47,7 @@ returns-in-Err-clause-too_many c e =
     let group : List ℕ = c.numbers.result.now in
     let group_is = group_read _ _ _ _ _ _ _ _ _ c.loop-i.invariant.parts i c.index-then-index-i.result.now c.index-group.result.now group c.loop-i-test.true
     c.index-then-index-i.ensures c.numbers.ensures.numbers c.index-group.ensures in
-    let over : Overflows (IsExchangedWith c.args.width (places c.union-both.result) c.loop-i.pool.rows.items i group) c.args.limit c.loop-i.pool.rows.items = c.in-Err.ensures.too_many e in
+    let over : Overflows (IsExchangedWith c.args.width (attributes c.union-both.result) c.loop-i.pool.rows.items i group) c.args.limit c.loop-i.pool.rows.items = c.in-Err.ensures.too_many e in
     parts_overflow _ _ _ _ _ _ _ _ _ c.loop-i.invariant.parts c.loop-i.pool.rows.items c.loop-i.invariant.adds.extends i c.loop-i-test.true group group_is c.args.limit
     (leads_read _ _ _ _ _ _ _ _ _ c.loop-i.invariant.parts c.loop-i.i c.index.result.now c.loop-i-test.true c.index.ensures c.if-index-i.true) c.loop-i.invariant.adds over
 
@@ -67,7 +67,7 @@ loop-i-preserved c = elim c.if-index-i.branch [
   | else-index-i w ↦
       let t = c.args.pool.now.rows.items in
       let front = take c.args.count t in
-      let z = places c.union-both.result in
+      let z = attributes c.union-both.result in
       let agreeing = c.in_ok-agreeing.agreeing.items in
       let firsts = c.in_ok-firsts.firsts.items in
       let groups = c.in_ok-groups.groups.items in
@@ -88,7 +88,7 @@ returns-clause-made c =
     let firsts = c.in_ok-firsts.firsts.items in
     let groups = c.in_ok-groups.groups.items in
     let n = c.args.width in
-    let z = places c.union-both.result in
-    adds_like (IsProductOf n z (take c.args.count t) agreeing firsts groups i) (IsExchangedRow n (places c.args.lhs) (places c.args.rhs) (take c.args.count t)) t c.loop-i.pool.rows.items
-    (λ p h. parts_to n (places c.args.lhs) (places c.args.rhs) z t c.args.count agreeing firsts groups c.loop-i.invariant.parts i p (omega (arith, c.loop-i.auto.i-end)) h)
-    (λ p h. parts_from n (places c.args.lhs) (places c.args.rhs) z t c.args.count agreeing firsts groups c.loop-i.invariant.parts i p c.loop-i-test.false h) c.loop-i.invariant.adds
+    let z = attributes c.union-both.result in
+    adds_like (IsProductOf n z (take c.args.count t) agreeing firsts groups i) (IsExchangedRow n (attributes c.args.lhs) (attributes c.args.rhs) (take c.args.count t)) t c.loop-i.pool.rows.items
+    (λ p h. parts_to n (attributes c.args.lhs) (attributes c.args.rhs) z t c.args.count agreeing firsts groups c.loop-i.invariant.parts i p (omega (arith, c.loop-i.auto.i-end)) h)
+    (λ p h. parts_from n (attributes c.args.lhs) (attributes c.args.rhs) z t c.args.count agreeing firsts groups c.loop-i.invariant.parts i p c.loop-i-test.false h) c.loop-i.invariant.adds

@@ -1,6 +1,6 @@
 use Rattle.std.proofs.Common.{◌∙◌, ℕ, List, [], ◌∷◌, ◌++◌, arith, sym, ap}
 use Rattle.std.proofs.lemmas.List.FromFn.{map-range_with_len_more}
-use Rattle.test_data.specs.Made.{attribute_name, attribute_names}
+use Rattle.test_data.specs.TestSchemas.{attribute_name, attribute_names}
 use Rattle.test_data.proofs.attributes.attribute_names.Goals as goal
 
 pub loop-i-preserved : goal.loop-i-preserved

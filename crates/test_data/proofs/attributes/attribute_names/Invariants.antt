@@ -1,5 +1,5 @@
 use Rattle.std.proofs.Common.{◌≡◌}
-use Rattle.test_data.specs.Made.{attribute_names}
+use Rattle.test_data.specs.TestSchemas.{attribute_names}
 use Rattle.test_data.proofs.attributes.attribute_names.Given as goal
 
 abbrev pub invariant-loop-i : goal.invariant-loop-i

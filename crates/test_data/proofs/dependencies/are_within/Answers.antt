@@ -1,9 +1,9 @@
 use Rattle.std.proofs.Common.{Bool, IsTrue, rules, subst, take_all}
 use Rattle.std.proofs.lemmas.List.Elements.{All-more}
-use Rattle.attr_sets.specs.Sets.{places}
+use Rattle.attr_sets.specs.Sets.{attributes}
 use Rattle.dep_model.specs.declared.dep.Dep.TheVariants.{Fd}
 use Rattle.dep_model.specs.Deps.{IsDepWithin}
-use Rattle.test_data.specs.Made.{set_of}
+use Rattle.test_data.specs.TestSchemas.{set_of}
 use Rattle.test_data.proofs.dependencies.are_within.Goals as goal
 
 pub returns-then-not-is_within : goal.returns-then-not-is_within
@@ -17,7 +17,7 @@ returns-then-not-is_within c = record {
 
 pub loop-dep-preserved : goal.loop-dep-preserved
 loop-dep-preserved c =
-    All-more (IsDepWithin (places c.args.universe)) c.args.deps.now c.loop-dep.dep-index (Fd (set_of 0) (set_of 0))
+    All-more (IsDepWithin (attributes c.args.universe)) c.args.deps.now c.loop-dep.dep-index (Fd (set_of 0) (set_of 0))
     c.loop-dep-test.true c.loop-dep.invariant (c.is_within.ensures.within.0 c.if-not-is_within.false)
 
 pub returns : goal.returns

@@ -2,12 +2,12 @@ use Rattle.std.proofs.Common.{◌≡◌, ℕ, false, List, length, arith, sym, a
 use Rattle.std.proofs.lemmas.List.{length-replicate}
 use Rattle.std.proofs.lemmas.List.FromFn.{length-map-range_with_len}
 use Rattle.std.specs.Prelude.{All, AllPairs}
-use Rattle.attr_sets.specs.Places.{below}
+use Rattle.attr_sets.specs.Attributes.{below}
 use Rattle.dep_model.specs.declared.dep.Dep.{Dep}
 use Rattle.dep_model.specs.Names.{same_name}
 use Rattle.dep_model.specs.Deps.{IsDepWithin}
 use Rattle.dep_model.specs.Schemas.{names_of}
-use Rattle.test_data.specs.Made.{attribute_name, attribute_names}
+use Rattle.test_data.specs.TestSchemas.{attribute_name, attribute_names}
 use Rattle.test_data.proofs.NamesLemmas.{attribute_names_differ}
 use Rattle.test_data.proofs.schemas.schema_of.Goals as goal
 
@@ -15,8 +15,8 @@ names_count : (names : List (List ℕ)) (n : ℕ) → names ≡ attribute_names 
 names_count names n made =
     ap (λ (xs : List (List ℕ)). length xs) made ∙ length-map-range_with_len attribute_name 0 n
 
-pub make-requires : goal.make-requires
-make-requires c =
+pub new-requires : goal.new-requires
+new-requires c =
     let fit = c.are_fit.ensures.fit.0 c.if-not-are_fit.false in
     let names = c.in_ok-names.names.items in
     let made = c.in_ok-names.ensures.names in
@@ -38,4 +38,4 @@ make-requires c =
 
 pub returns-clause-width : goal.returns-clause-width
 returns-clause-width c =
-    names_count (names_of c.make.result) c.args.width (c.make.ensures.names ∙ c.in_ok-names.ensures.names)
+    names_count (names_of c.new.result) c.args.width (c.new.ensures.names ∙ c.in_ok-names.ensures.names)

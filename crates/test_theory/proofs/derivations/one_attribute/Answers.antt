@@ -1,21 +1,21 @@
 use Rattle.std.proofs.Common.{◌≡◌, ℕ, List, [], ◌∷◌, refl, arith}
 use Rattle.std.proofs.lemmas.List.Elements.{All-nil, All-cons}
 use Rattle.attr_sets.specs.declared.set.AttrSet.{AttrSet}
-use Rattle.attr_sets.specs.Places.{below, none, Within}
-use Rattle.attr_sets.specs.Sets.{places}
+use Rattle.attr_sets.specs.Attributes.{below, none, IsSubset}
+use Rattle.attr_sets.specs.Sets.{attributes}
 use Rattle.dep_model.specs.declared.dep.Dep.{Dep}
 use Rattle.dep_model.specs.declared.dep.Dep.TheVariants.{Fd, Mvd}
 use Rattle.dep_model.specs.Deps.{IsDepWithin}
 use Rattle.dep_model.specs.Validity.{IsSchema}
-use Rattle.attr_sets.proofs.PlacesLemmas.{same_at}
+use Rattle.attr_sets.proofs.AttributesLemmas.{same_at}
 use Rattle.test_theory.proofs.derivations.one_attribute.Goals as goal
 
-schema_of_one : (name : List ℕ) (e a : AttrSet) → places e ≡ none → places a ≡ below 1
+schema_of_one : (name : List ℕ) (e a : AttrSet) → attributes e ≡ none → attributes a ≡ below 1
     → IsSchema (name ∷ []) (Fd a a ∷ Mvd e a ∷ []) (2 ∷ 3 ∷ [])
 schema_of_one name e a empty all =
     let P : Dep → Type 0 = IsDepWithin (below 1) in
-    let a_in : Within (places a) (below 1) = λ k m. grind (arith, same_at all k, m) in
-    let e_in : Within (places e) (below 1) = λ k m. grind (arith, same_at empty k, m) in
+    let a_in : IsSubset (attributes a) (below 1) = λ k m. grind (arith, same_at all k, m) in
+    let e_in : IsSubset (attributes e) (below 1) = λ k m. grind (arith, same_at empty k, m) in
     record {
       some_names = omega arith;
       few_names = omega arith;
@@ -25,8 +25,8 @@ schema_of_one name e a empty all =
       one_line_each = refl;
     }
 
-pub make-requires-2 : goal.make-requires-2
-make-requires-2 c =
+pub new-requires-2 : goal.new-requires-2
+new-requires-2 c =
     record {
       schema = rw (c.in_ok-names.ensures.items, c.in_ok-deps.ensures.items, c.in_ok-lines.ensures.items)
           (schema_of_one c.in-Some.name c.empty-none.result c.full-a.result c.empty-none.ensures.members c.full-a.ensures.members);

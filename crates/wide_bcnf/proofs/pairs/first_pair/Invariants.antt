@@ -1,7 +1,7 @@
-use Rattle.attr_sets.specs.Sets.{places}
+use Rattle.attr_sets.specs.Sets.{attributes}
 use Rattle.dep_model.specs.Schemas.{width_of, theory_of}
 use Rattle.wide_bcnf.specs.Pairs.{NoneBefore}
 use Rattle.wide_bcnf.proofs.pairs.first_pair.Given as goal
 
 abbrev pub invariant-loop-first : goal.invariant-loop-first
-invariant-loop-first l = NoneBefore (width_of l.fn.schema) (theory_of l.fn.schema) (places l.fn.scheme) l.first l.least
+invariant-loop-first l = NoneBefore (width_of l.fn.schema) (theory_of l.fn.schema) (attributes l.fn.scheme) l.first l.least

@@ -1,6 +1,6 @@
 use Rattle.std.proofs.Common.{ℕ, subst, sym, ◌∙◌, inl, inr, arith}
 use Rattle.std.proofs.lemmas.Bool.{true≢false, cases_eq, ltb-true}
-use Rattle.attr_sets.specs.Sets.{places}
+use Rattle.attr_sets.specs.Sets.{attributes}
 use Rattle.dep_model.specs.Schemas.{width_of, theory_of}
 use Rattle.wide_bcnf.specs.Pairs.{IsPair}
 use Rattle.wide_bcnf.proofs.pairs.second_beside.Goals as goal
@@ -12,7 +12,7 @@ loop-second-preserved c d pair =
     elim (cases_eq d c.loop-second.second) [
       | inl same ↦
           let told = c.is_pair.ensures.pair.1
-          (subst (λ (i : ℕ). IsPair (width_of s) (theory_of s) (places c.args.scheme) c.args.first i) same pair) in
+          (subst (λ (i : ℕ). IsPair (width_of s) (theory_of s) (attributes c.args.scheme) c.args.first i) same pair) in
           absurd (true≢false (sym told ∙ c.if-is_pair.false))
       | inr other ↦ omega arith
     ]

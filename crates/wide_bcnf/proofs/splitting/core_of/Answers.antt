@@ -1,7 +1,7 @@
 use Rattle.std.proofs.lemmas.Bool.{ltb-true}
-use Rattle.attr_sets.specs.declared.set.TheConstants.{PLACES}
-use Rattle.attr_sets.specs.Sets.{places}
-use Rattle.attr_sets.proofs.PlacesLemmas.{places_below}
+use Rattle.attr_sets.specs.declared.set.TheConstants.{MOST_ATTRIBUTES}
+use Rattle.attr_sets.specs.Sets.{attributes}
+use Rattle.attr_sets.proofs.AttributesLemmas.{attributes_below}
 use Rattle.dep_model.specs.Schemas.{width_of, theory_of}
 use Rattle.wide_bcnf.proofs.CoreLemmas.{way_begins, way_goes_on, way_within, way_none_before, count_left}
 use Rattle.wide_bcnf.proofs.splitting.core_of.Goals as goal
@@ -9,8 +9,8 @@ use Rattle.wide_bcnf.proofs.splitting.core_of.Goals as goal
 pub loop-next-init : goal.loop-next-init
 loop-next-init c =
     let s = c.args.schema.now in
-    way_begins (width_of s) (theory_of s) (places c.args.scheme)
-    (places c.without-rest.result) c.args.pair.first c.args.pair.second c.requires.pair
+    way_begins (width_of s) (theory_of s) (attributes c.args.scheme)
+    (attributes c.without-rest.result) c.args.pair.first c.args.pair.second c.requires.pair
     c.without-rest.ensures.members
 
 pub first_pair-requires : goal.first_pair-requires
@@ -19,15 +19,15 @@ first_pair-requires c =
     let way = c.loop-next.invariant in
     record {
       scheme = λ k m. c.requires.scheme k
-          (way_within (width_of s) (theory_of s) (places c.args.scheme)
-          (places c.loop-next.rest) c.loop-next.last.first c.loop-next.last.second way k m);
-      from = way_none_before (width_of s) (theory_of s) (places c.args.scheme)
-          (places c.loop-next.rest) c.loop-next.last.first c.loop-next.last.second way;
+          (way_within (width_of s) (theory_of s) (attributes c.args.scheme)
+          (attributes c.loop-next.rest) c.loop-next.last.first c.loop-next.last.second way k m);
+      from = way_none_before (width_of s) (theory_of s) (attributes c.args.scheme)
+          (attributes c.loop-next.rest) c.loop-next.last.first c.loop-next.last.second way;
     }
 
 pub without-rest-requires-in-Some : goal.without-rest-requires-in-Some
-without-rest-requires-in-Some c = ltb-true c.in-Some.next.second PLACES
-    (places_below c.loop-next.rest c.in-Some.next.second c.in-Some.ensures.first.pair.second)
+without-rest-requires-in-Some c = ltb-true c.in-Some.next.second MOST_ATTRIBUTES
+    (attributes_below c.loop-next.rest c.in-Some.next.second c.in-Some.ensures.first.pair.second)
 
 pub loop-next-smaller : goal.loop-next-smaller
 loop-next-smaller c = count_left c.loop-next.rest c.without-rest-in-Some.result c.in-Some.next.second
@@ -36,7 +36,7 @@ loop-next-smaller c = count_left c.loop-next.rest c.without-rest-in-Some.result 
 pub loop-next-preserved : goal.loop-next-preserved
 loop-next-preserved c =
     let s = c.args.schema.now in
-    way_goes_on (width_of s) (theory_of s) (places c.args.scheme) (places c.loop-next.rest)
-    (places c.without-rest-in-Some.result) c.loop-next.last.first c.loop-next.last.second c.in-Some.next.first
+    way_goes_on (width_of s) (theory_of s) (attributes c.args.scheme) (attributes c.loop-next.rest)
+    (attributes c.without-rest-in-Some.result) c.loop-next.last.first c.loop-next.last.second c.in-Some.next.first
     c.in-Some.next.second
     c.loop-next.invariant c.in-Some.ensures.first c.without-rest-in-Some.ensures.members

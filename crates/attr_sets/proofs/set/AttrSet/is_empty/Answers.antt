@@ -1,15 +1,15 @@
 use Rattle.std.proofs.Common.{◌∙◌, ap, arith}
 use Rattle.std.proofs.lemmas.Bool.{eqb-true, eq-eqb}
-use Rattle.attr_sets.specs.Sets.{has_bit, places}
-use Rattle.attr_sets.specs.declared.set.TheConstants.{PLACES}
+use Rattle.attr_sets.specs.Sets.{has_bit, attributes}
+use Rattle.attr_sets.specs.declared.set.TheConstants.{MOST_ATTRIBUTES}
 use Rattle.attr_sets.proofs.BitLemmas.{has_bit-zero, zero_from_has_bit}
 use Rattle.attr_sets.proofs.set.AttrSet.is_empty.Goals as goal
 
 pub returns : goal.returns
-unfolding places
+unfolding attributes
 returns c = record {
   empty = (
-    (λ zero k. ap (λ n. has_bit PLACES n k) (eqb-true c.args.self.0 0 zero) ∙ has_bit-zero PLACES k),
-    (λ empty. eq-eqb c.args.self.0 0 (zero_from_has_bit PLACES c.args.self.0 (omega arith) empty)),
+    (λ zero k. ap (λ n. has_bit MOST_ATTRIBUTES n k) (eqb-true c.args.self.0 0 zero) ∙ has_bit-zero MOST_ATTRIBUTES k),
+    (λ empty. eq-eqb c.args.self.0 0 (zero_from_has_bit MOST_ATTRIBUTES c.args.self.0 (omega arith) empty)),
   );
 }

@@ -1,9 +1,9 @@
 use mathlib.Core.Path.{fun_ext}
-use Rattle.attr_sets.specs.Sets.{places}
-use Rattle.attr_sets.specs.declared.set.TheConstants.{PLACES}
+use Rattle.attr_sets.specs.Sets.{attributes}
+use Rattle.attr_sets.specs.declared.set.TheConstants.{MOST_ATTRIBUTES}
 use Rattle.attr_sets.proofs.BitLemmas.{has_bit-or}
 use Rattle.attr_sets.proofs.set.AttrSet.union.Goals as goal
 
 pub returns : goal.returns
-unfolding places
-returns c = record { members = fun_ext (has_bit-or PLACES c.args.self.0 c.args.other.0) }
+unfolding attributes
+returns c = record { members = fun_ext (has_bit-or MOST_ATTRIBUTES c.args.self.0 c.args.other.0) }

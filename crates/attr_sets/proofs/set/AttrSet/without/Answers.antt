@@ -1,10 +1,10 @@
 use Rattle.std.proofs.Common.{arith}
 use Rattle.std.specs.Int.{w128}
 use mathlib.Core.Path.{fun_ext}
-use Rattle.attr_sets.specs.Sets.{places}
+use Rattle.attr_sets.specs.Sets.{attributes}
 use Rattle.attr_sets.proofs.BitLemmas.{has_bit-clear}
 use Rattle.attr_sets.proofs.set.AttrSet.without.Goals as goal
 
 pub returns : goal.returns
-unfolding places
+unfolding attributes
 returns c = record { members = fun_ext (λ k. has_bit-clear w128 c.args.self.0 c.args.i k (omega arith)) }

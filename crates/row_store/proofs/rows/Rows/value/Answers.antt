@@ -1,4 +1,4 @@
--- A value of a row stands so many places behind the row's start.
+-- A value of a row stands so many positions behind the row's start.
 use Rattle.std.proofs.Common.{arith, ℕ, ◌∷◌, [], List, length, get_or, ap, ◌∙◌}
 use Rattle.row_store.proofs.PieceLemmas.{length_pieces, IsItem, item_at}
 use Rattle.row_store.proofs.rows.Rows.value.Goals as goal

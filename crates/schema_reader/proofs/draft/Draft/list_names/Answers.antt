@@ -4,7 +4,7 @@ use Rattle.schema_grammar.specs.declared.refusal.SchemaRefusalKind.{SchemaRefusa
 use Rattle.schema_grammar.specs.Refusals.{Refuses}
 use Rattle.schema_grammar.specs.Declarations.{list_names, name_step}
 use Rattle.schema_grammar.proofs.RefusalLemmas.{Refuses-here}
-use Rattle.schema_reader.specs.Views.{drafted}
+use Rattle.schema_reader.specs.Views.{declarations_of_draft}
 use Rattle.schema_reader.proofs.ListLemmas.{names_stop, names_next}
 use Rattle.schema_reader.proofs.draft.Draft.list_names.Goals as goal
 
@@ -18,16 +18,16 @@ returns-else-some-clause-err c =
     Refuses-here _ _ _ c.at-refusal.ensures.refusal
     (rw (c.names.invariant.same, c.if-some.false, c.in-End.ensures.exact) refl)
 
-pub returns-in-Stop-clause-err : goal.returns-in-Stop-clause-err
-returns-in-Stop-clause-err c =
+pub returns-in-Error-clause-err : goal.returns-in-Error-clause-err
+returns-in-Error-clause-err c =
     Refuses-here _ _ _ c.by.ensures.refusal
-    (rw (c.names.invariant.same, c.in-Stop.ensures.exact, names_stop) refl)
+    (rw (c.names.invariant.same, c.in-Error.ensures.exact, names_stop) refl)
 
 pub returns-in-Err-Refused-clause-err : goal.returns-in-Err-Refused-clause-err
 returns-in-Err-Refused-clause-err c =
     let leads = c.in-Token.ensures.exact in
     let step = name_step c.args.format c.args.column
-    (drafted c.names.self) c.names.some c.in-Token.token.kind c.in-Token.word.now in
+    (declarations_of_draft c.names.self) c.names.some c.in-Token.token.kind c.in-Token.word.now in
     let refused : step ≡ Err c.in-Err-Refused.kind = subst (λ (f : Failure SchemaRefusalKind). Refuses f step)
     c.in-Err-Refused.field-0-is c.in-Err-Refused.ensures.err in
     Refuses-here _ _ _ (rw c.in-Err-Refused.field-0-is at c.at-refusal-in-Err-Refused.ensures.refusal)

@@ -1,7 +1,7 @@
 use Rattle.std.proofs.Common.{◌≡◌}
-use Rattle.attr_sets.specs.Sets.{places}
-use Rattle.chase_laws.specs.Steps.{exchanged}
+use Rattle.attr_sets.specs.Sets.{attributes}
+use Rattle.chase_laws.specs.Steps.{exchange_rows}
 use Rattle.tableau_chase.proofs.symbol_row.SymbolRow.exchange.Given as goal
 
 abbrev pub invariant-loop-a : goal.invariant-loop-a
-invariant-loop-a l = l.symbols.items ≡ exchanged l.a (places l.on) l.self l.other
+invariant-loop-a l = l.symbols.items ≡ exchange_rows l.a (attributes l.on) l.self l.other

@@ -1,0 +1,9 @@
+use mathlib.Core.Path.{fun_ext}
+use Rattle.attr_sets.specs.Sets.{attributes}
+use Rattle.attr_sets.specs.declared.set.TheConstants.{MOST_ATTRIBUTES}
+use Rattle.attr_sets.proofs.BitLemmas.{has_bit-and}
+use Rattle.attr_sets.proofs.set.AttrSet.intersection.Goals as goal
+
+pub returns : goal.returns
+unfolding attributes
+returns c = record { members = fun_ext (has_bit-and MOST_ATTRIBUTES c.args.self.0 c.args.other.0) }

@@ -1,0 +1,6 @@
+use Rattle.std.proofs.Common.{◌≡◌}
+use Rattle.csv_rows.specs.Columns.{order_of}
+use Rattle.csv_rows.proofs.header.columns_in_order.Given as goal
+
+abbrev pub invariant-loop-attribute : goal.invariant-loop-attribute
+invariant-loop-attribute l = record { so_far : l.order.items ≡ order_of l.attribute l.columns }

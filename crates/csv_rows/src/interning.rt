@@ -1,0 +1,95 @@
+ghost use Rattle.std.specs.Prelude.{◌≡◌, ◌<◌, ◌^◌, ℕ, length, All, IfOk, slice_index_or};
+ghost use Rattle.attr_sets.specs.Attributes.{only};
+ghost use Rattle.csv_rows.specs.Numberings.{AreGroups, number_at};
+ghost use Rattle.dep_model.specs.Tuples.{IsOver};
+
+use dep_model::OutOfMemory;
+use indexmap::IndexSet;
+use row_store::Rows;
+use std::alloc::Global;
+use std::marker::Model;
+
+// The number of each row's value in one column.
+#[derive(Debug, Drop)]
+struct Codes {
+    numbers: Vec<u32>,
+}
+
+impl Model for Codes {
+    ghost use Rattle.std.specs.Prelude.{ℕ, List};
+
+    ghost Value = { List ℕ };
+
+    ghost view = { λ c. c.numbers.items };
+}
+
+/// Rows by numbers in place of their values. The values of a column are numbered from 0 in the order
+/// of their first rows, so two rows have one number exactly where they have one value.
+#[derive(Debug, Drop)]
+pub struct Interned {
+    count: usize,
+    columns: Vec<Codes>,
+    pub ghost few: { count < 2 ^ 32 },
+    pub ghost even: { All (λ c. length c ≡ count) columns.items },
+}
+
+impl Interned {
+    ghost use Rattle.csv_rows.specs.Interning.{IsInterned, codes_at, count_of, width_of_rows};
+
+    /// The numbers of rows that have `width` values each.
+    pub fn intern(alloc: Global, width: u8, rows: &Rows) -> Result<Interned, OutOfMemory>
+        requires over { IsOver width rows.now }
+        requires fits_u32 { length rows.now < 2 ^ 32 }
+        ensures codes { IfOk result (λ t. IsInterned width rows.now t) }
+    {
+        let mut columns = Vec::with_capacity(alloc, width as usize)?;
+        for attribute in 0..width {
+            let numbers = column_numbers(alloc, attribute, rows)?;
+            columns.push(Codes { numbers })?;
+        }
+        Ok(Interned {
+            count: rows.len(),
+            columns,
+        })
+    }
+
+    /// How many rows there are.
+    pub fn count(&self) -> usize
+        ensures count { result ≡ count_of self.now }
+    {
+        self.count
+    }
+
+    /// The number of the value that a row, counted from 0, has at an attribute.
+    pub fn code(&self, row: usize, attribute: u8) -> u32
+        requires row { row < count_of self.now }
+        requires attribute { attribute < width_of_rows self.now }
+        ensures code { result ≡ number_at (codes_at self.now attribute) row }
+    {
+        self.column(attribute)[row]
+    }
+
+    /// The number of each row's value at an attribute.
+    pub fn column(&self, attribute: u8) -> &[u32]
+        requires attribute { attribute < width_of_rows self.now }
+        ensures codes { result.now ≡ codes_at self.now attribute }
+        ensures count { length result.now ≡ count_of self.now }
+    {
+        &self.columns[attribute as usize].numbers
+    }
+}
+
+// The number of each row's value at an attribute, in the order of first occurrence.
+fn column_numbers(alloc: Global, attribute: u8, rows: &Rows) -> Result<Vec<u32>, OutOfMemory>
+    requires attribute { All (λ t. attribute < length t) rows.now }
+    requires fits_u32 { length rows.now < 2 ^ 32 }
+    ensures groups { IfOk result (λ v. AreGroups rows.now (only attribute) v.items) }
+{
+    let mut values: IndexSet<&[u8]> = IndexSet::new(alloc);
+    let mut numbers = Vec::with_capacity(alloc, rows.len())?;
+    for row in 0..rows.len() {
+        let (number, _) = values.insert_full(rows.value(row, attribute as usize))?;
+        numbers.push(number as u32)?;
+    }
+    Ok(numbers)
+}

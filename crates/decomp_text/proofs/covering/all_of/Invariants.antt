@@ -1,8 +1,0 @@
-use Rattle.std.proofs.Common.{◌≡◌, take}
-use Rattle.std.specs.List.{list_any}
-use Rattle.attr_sets.specs.Sets.{places}
-use Rattle.dep_model.specs.Plans.{schemes_of}
-use Rattle.decomp_text.proofs.covering.all_of.Given as goal
-
-abbrev pub invariant-loop-scheme : goal.invariant-loop-scheme
-invariant-loop-scheme l = places l.all ≡ (λ k. list_any (λ scheme. scheme k) (schemes_of (take l.scheme-index l.schemes)))

@@ -1,0 +1,102 @@
+-- Derivations that go with the cutting of a set down to a block: for the functions below `prove`.
+-- `Desk` cites only `HasSize`.
+use Rattle.std.specs.Prelude.{◌≡◌, ℕ, ◌+◌, ◌*◌, ◌<◌, ◌≤◌, List, length, true, false, ◌⊎◌, Option, Some, IsSome, IfSome, slice_get, slice_index_or, if◌then◌else◌}
+use Rattle.attr_sets.specs.Attributes.{Attributes, only, none, intersection, difference, IsSubset, Disjoint, Intersects, count_below}
+use Rattle.attr_sets.specs.Sets.{attributes}
+use Rattle.attr_sets.specs.declared.set.TheConstants.{MOST_ATTRIBUTES}
+use Rattle.dep_model.specs.declared.schema.Schema.{Schema}
+use Rattle.dep_model.specs.Dependencies.{Dependency, fd, mvd, left_of, right_of, is_fd}
+use Rattle.dep_model.specs.declared.dep.Dep.{Dep}
+use Rattle.dep_model.specs.Deps.{dependency_of}
+use Rattle.dep_model.specs.Schemas.{width_of, universe_of, deps_of, theory_of}
+use Rattle.dep_model.specs.Keys.{IsBlock}
+use Rattle.derivation.specs.Trees.{Tree, nodes, depth}
+use Rattle.derivation.specs.Derivs.{tree_of}
+use Rattle.derivation.specs.Conclusions.{Proves}
+use Rattle.dep_basis.specs.declared.cutting.Cut.{Cut}
+use Rattle.dep_basis.specs.declared.showing.PartProof.{PartProof}
+use Rattle.dep_basis.specs.declared.showing.Shown.{Shown}
+use Rattle.dep_basis.specs.declared.showing.Shown.TheVariants.{Closed, Part}
+use Rattle.dep_basis.specs.Refining.{IsCandidate}
+
+-- a dependency cuts a part: its left side is apart from it, and its right side shares some of it, and
+-- not all unless the dependency is a functional one
+pub record IsCutting (p : Attributes) (d : Dependency) : Type 0 where
+  pub apart : Disjoint (left_of d) p
+  pub shares : Intersects p (right_of d)
+  pub leaves : (is_fd d ≡ true) ⊎ ((k : ℕ) × (p k ≡ true) × (right_of d k ≡ false))
+
+-- what a dependency whose left side is apart from p leaves of it beside attribute a: of what it
+-- shares with the right side and what it does not, that with the attribute; nothing where the
+-- attribute is determined
+abbrev pub side_with : ℕ → Attributes → Dependency → Attributes
+side_with a p d =
+    if right_of d a then if is_fd d then none else intersection p (right_of d)
+    else difference p (right_of d)
+
+-- how many attributes that are
+abbrev pub count_left : ℕ → Attributes → Dependency → ℕ
+count_left a p d = count_below (side_with a p d) MOST_ATTRIBUTES
+
+-- of the dependencies that cut a part, the one of this number is the first that leaves the fewest
+pub record IsBestCut (deps : List Dep) (p : Attributes) (a k : ℕ) : Type 0 where
+  pub within : k < length deps
+  pub cutting : (d : Dep) → IsCutting p (dependency_of (slice_index_or deps k d))
+  pub least : (i : ℕ) (d : Dep) → i < length deps → IsCutting p (dependency_of (slice_index_or deps i d))
+      → count_left a p (dependency_of (slice_index_or deps k d))
+      ≤ count_left a p (dependency_of (slice_index_or deps i d))
+  pub first : (i : ℕ) (d : Dep) → i < k → IsCutting p (dependency_of (slice_index_or deps i d))
+      → count_left a p (dependency_of (slice_index_or deps k d))
+      < count_left a p (dependency_of (slice_index_or deps i d))
+
+-- the best cut so far stays, unless a dependency cuts the part too and leaves fewer
+abbrev pub IsBetterCut : ℕ → Attributes → Dependency → ℕ → Option Cut → Option Cut → Type 0
+IsBetterCut a p d number best result =
+    ((result ≡ best) × (IsCutting p d → IsSome best × IfSome best (λ cut. cut.left ≤ count_left a p d)))
+    ⊎ (IsCutting p d × (result ≡ Some (record { number = number; left = count_left a p d }))
+    × IfSome best (λ cut. count_left a p d < cut.left))
+
+-- a tree has at most this many nodes and levels
+pub record HasSize (t : Tree) (most_nodes most_levels : ℕ) : Type 0 where
+  pub few_nodes : nodes t ≤ most_nodes
+  pub few_levels : depth t ≤ most_levels
+
+-- a tree proves that x multidetermines a part with attribute a in it, and is small beside what was
+-- cut off: eight nodes and five levels for each attribute
+pub record IsPartProof (s : Schema) (x : Attributes) (a : ℕ) (w : Attributes) (t : Tree) : Type 0 where
+  pub candidate : IsCandidate (width_of s) (theory_of s) x a w
+  pub member : w a ≡ true
+  pub proves : Proves s t (mvd x w)
+  pub few_nodes : nodes t + 8 * count_below w MOST_ATTRIBUTES ≤ 8 * MOST_ATTRIBUTES + 2
+  pub few_levels : depth t + 5 * count_below w MOST_ATTRIBUTES ≤ 5 * MOST_ATTRIBUTES + 2
+
+-- a tree proves that x determines attribute a
+pub record IsClosedProof (s : Schema) (x : Attributes) (a : ℕ) (t : Tree) : Type 0 where
+  pub proves : Proves s t (fd x (only a))
+  pub size : HasSize t (8 * MOST_ATTRIBUTES + 6) (5 * MOST_ATTRIBUTES + 6)
+
+-- a given dependency cuts the part of a derivation
+pub record CanCut (s : Schema) (a k : ℕ) (dep : Dep) (from : PartProof) : Type 0 where
+  pub given : slice_get (deps_of s) k ≡ Some dep
+  pub cutting : IsCutting (attributes from.part) (dependency_of dep)
+  pub lhs : IsSubset (attributes from.lhs) (universe_of s)
+  pub attribute : a < MOST_ATTRIBUTES
+  pub shown : IsPartProof s (attributes from.lhs) a (attributes from.part) (tree_of from.deriv.value)
+
+-- a derivation for a smaller part
+pub record IsNextPart (s : Schema) (a : ℕ) (from w : PartProof) : Type 0 where
+  pub same_lhs : w.lhs ≡ from.lhs
+  pub shown : IsPartProof s (attributes from.lhs) a (attributes w.part) (tree_of w.deriv.value)
+  pub smaller : count_below (attributes w.part) MOST_ATTRIBUTES < count_below (attributes from.part) MOST_ATTRIBUTES
+
+-- what is left of a part with attribute a in it, where one dependency cuts it
+abbrev pub IsCutShown : Schema → ℕ → PartProof → Shown → Type 0
+IsCutShown s a from (Closed b) = IsClosedProof s (attributes from.lhs) a (tree_of b.value)
+IsCutShown s a from (Part w) = IsNextPart s a from w
+
+-- what is shown of attribute a at last: that it is determined, or that its block is multidetermined
+abbrev pub IsShown : Schema → Attributes → ℕ → Shown → Type 0
+IsShown s x a (Closed b) = IsClosedProof s x a (tree_of b.value)
+IsShown s x a (Part w) =
+    IsPartProof s x a (attributes w.part) (tree_of w.deriv.value)
+    × IsBlock (width_of s) (theory_of s) x (attributes w.part)

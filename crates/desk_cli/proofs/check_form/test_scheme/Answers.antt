@@ -1,0 +1,19 @@
+use Rattle.std.proofs.Common.{inr, Option, subst}
+use Rattle.std.proofs.lemmas.Bool.{false≢true}
+use Rattle.std.specs.Prelude.{IfSome}
+use Rattle.attr_sets.specs.Sets.{attributes}
+use Rattle.dep_model.specs.Schemas.{width_of, theory_of}
+use Rattle.normal_forms.specs.Chosen.{IsChosenViolation}
+use Rattle.normal_forms.specs.declared.forms.Breach.{Breach}
+use Rattle.desk_cli.proofs.check_form.test_scheme.Goals as goal
+
+pub returns-in-Ok-Some-clause-ends : goal.returns-in-Ok-Some-clause-ends
+returns-in-Ok-Some-clause-ends c = λ response is.
+    let s = c.args.schema.now in
+    let some = c.in-Ok-Some in
+    let chosen = subst (λ (found : Option Breach). IfSome found (λ breach. IsChosenViolation (width_of s) (theory_of s) c.args.form (attributes c.args.scheme) (attributes breach.lhs) (attributes breach.rhs)))
+    some.field-0-is some.ensures.chosen in
+    inr (
+      (λ wide. false≢true (some.ensures.too_wide.1 wide)),
+      (attributes some.breach.lhs, attributes some.breach.rhs, chosen, c.violation_exit.ensures.says response is),
+    )

@@ -1,0 +1,4 @@
+use Rattle.desk_cli.proofs.check_form.violation_exit.Goals as goal
+
+pub returns : goal.returns
+returns c = record { says = λ response is. c.with_text.ensures.says _ c.violation_lines.ensures.text response is }

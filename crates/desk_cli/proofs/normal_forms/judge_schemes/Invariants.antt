@@ -1,9 +1,0 @@
-use Rattle.std.proofs.Common.{take}
-use Rattle.std.specs.Prelude.{All}
-use Rattle.attr_sets.specs.Sets.{places}
-use Rattle.desk_cli.specs.NormalForms.{PassesForm}
-use Rattle.desk_cli.proofs.normal_forms.judge_schemes.Given as goal
-
--- the schemes so far pass
-abbrev pub invariant-loop-scheme : goal.invariant-loop-scheme
-invariant-loop-scheme l = record { passed : All (λ scheme. PassesForm l.schema l.form (places scheme)) (take l.scheme-index l.schemes) }

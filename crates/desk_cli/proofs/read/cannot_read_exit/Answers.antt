@@ -1,0 +1,4 @@
+use Rattle.desk_cli.proofs.read.cannot_read_exit.Goals as goal
+
+pub returns : goal.returns
+returns c = record { says = λ response is. c.with_text.ensures.says _ c.cannot_read_line.ensures.line response is }

@@ -1,0 +1,4 @@
+use Rattle.desk_cli.proofs.sameness.not_declared_exit.Goals as goal
+
+pub returns : goal.returns
+returns c = record { says = λ response is. c.with_text.ensures.says _ c.not_declared_line.ensures.line response is }

@@ -1,0 +1,123 @@
+ghost use Rattle.std.specs.Prelude.{◌≡◌, None, refl};
+ghost use Rattle.std.specs.Io.{ReadsAtMost};
+
+use crate::failure::{Failed, OutsideFault};
+use crate::file_source::FileSource;
+use crate::sink::Sink;
+use std::io::Read;
+use std::rt::Files;
+use std::{fs, io};
+
+/// The system's files.
+///
+/// Nothing is known of them. A name that is not UTF-8, a missing file and any error of the system are
+/// faults, and all are counted.
+#[derive(Drop)]
+pub struct RealFiles<R: Files + Drop> {
+    rt: R,
+    begun: Option<R::File>,
+    taken: u64,
+    faults: u64,
+}
+
+impl<R: Files + Drop> RealFiles<R> {
+    /// The files that the runtime reaches. None is begun, and no fault is counted.
+    pub fn new(rt: R) -> RealFiles<R>
+        ensures taken { ⟦<RealFiles<R> as FileSource>⟧.taken result ≡ 0 }
+        ensures faults { ⟦<RealFiles<R> as FileSource>⟧.faults result ≡ 0 }
+    {
+        RealFiles {
+            rt,
+            begun: None,
+            taken: 0,
+            faults: 0,
+        }
+    }
+}
+
+// The file of this name, if it is UTF-8 and the system opens it.
+fn open_named<R: Files>(rt: &R, name: &[u8]) -> Option<R::File> {
+    let path = str::from_utf8(name).ok()?;
+    fs::open(rt, path).ok()
+}
+
+// The next bytes of the begun file; where none is begun, it is at its end.
+fn read_begun<T: Read>(begun: &mut Option<T>, buf: &mut [u8]) -> io::Result<usize>
+    ensures bound { ReadsAtMost result buf.new }
+{
+    match begun {
+        Some(file) => file.read(buf),
+        None => Ok(0),
+    }
+}
+
+impl<R: Files + Drop> FileSource for RealFiles<R> {
+    ghost files = { λ _. None };
+
+    ghost left = { λ _. None };
+
+    ghost taken = { λ source. source.taken };
+
+    ghost faults = { λ source. source.faults };
+
+    fn begin(&mut self, name: &[u8]) -> Result<(), OutsideFault> {
+        self.taken = 0;
+        self.begun = open_named(&self.rt, name);
+        if self.begun.is_some() {
+            return Ok(());
+        }
+        self.faults = self.faults.saturating_add(1);
+        Err(OutsideFault::Failed)
+    }
+
+    fn read(&mut self, buf: &mut [u8]) -> Result<usize, Failed> {
+        match read_begun(&mut self.begun, buf) {
+            Ok(count) => {
+                self.taken = self.taken.saturating_add(count as u64);
+                Ok(count)
+            }
+            Err(_) => {
+                self.begun = None;
+                self.faults = self.faults.saturating_add(1);
+                Err(Failed)
+            }
+        }
+    }
+
+    ghost tells_all_or_none = { λ _. refl };
+}
+
+/// The standard output.
+///
+/// Nothing is known of what it took. An error of the system, and a write that takes nothing, are
+/// faults, and all are counted.
+#[derive(Drop)]
+pub struct StdoutSink<R: Print + Drop> {
+    rt: R,
+    faults: u64,
+}
+
+impl<R: Print + Drop> StdoutSink<R> {
+    /// The output that the runtime prints to. No fault is counted.
+    pub fn new(rt: R) -> StdoutSink<R>
+        ensures faults { ⟦<StdoutSink<R> as Sink>⟧.faults result ≡ 0 }
+    {
+        StdoutSink { rt, faults: 0 }
+    }
+}
+
+impl<R: Print + Drop> Sink for StdoutSink<R> {
+    ghost contents = { λ _. None };
+
+    ghost faults = { λ sink. sink.faults };
+
+    fn write(&mut self, piece: &[u8]) -> Result<usize, Failed> {
+        match self.rt.write_some(piece) {
+            Ok(count) if count > 0 => Ok(count),
+            _ => {
+                self.faults = self.faults.saturating_add(1);
+                Err(Failed)
+            }
+        }
+    }
+}

@@ -1,0 +1,39 @@
+-- How a table is written to a file, for the destination over a folder and for laws on its files.
+use Rattle.std.specs.Prelude.{ℕ, List, [], ◌++◌, codes}
+use Rattle.std.specs.List.{flat_map}
+use Rattle.csv_text.specs.Rows.{csv_row}
+use Rattle.dep_model.specs.Tuples.{Tuple}
+use Rattle.desk_outside.specs.Files.{StoredFile}
+use Rattle.named_tables.specs.Tables.{TableValue}
+use Rattle.destinations.specs.Sql.{sql_head, sql_row}
+use Rattle.destinations.specs.declared.format.TableFormat.{TableFormat}
+use Rattle.destinations.specs.declared.format.TableFormat.TheVariants.{Csv, Sql}
+
+-- the end of a file's name
+abbrev pub ending : TableFormat → List ℕ
+ending Csv = codes ".csv"
+ending Sql = codes ".sql"
+
+-- what stands before the rows: of CSV the names of the columns
+abbrev pub opening : TableFormat → List (List ℕ) → List ℕ
+opening Csv columns = csv_row columns
+opening Sql columns = []
+
+-- what the line of each row begins with
+abbrev pub line_front : TableFormat → List ℕ → List (List ℕ) → List ℕ
+line_front Csv name columns = []
+line_front Sql name columns = sql_head name columns
+
+-- the line of a row, after this front
+abbrev pub row_line : TableFormat → List ℕ → Tuple → List ℕ
+row_line Csv front row = csv_row row
+row_line Sql front row = sql_row front row
+
+-- a table
+abbrev pub table_text : TableFormat → TableValue → List ℕ
+table_text format table =
+    opening format table.columns
+    ++ flat_map (row_line format (line_front format table.name table.columns)) table.rows
+
+abbrev pub table_file : TableFormat → TableValue → StoredFile
+table_file format table = record { name = table.name ++ ending format; bytes = table_text format table }

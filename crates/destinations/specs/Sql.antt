@@ -1,0 +1,31 @@
+-- A table as INSERT lines: for the destination that writes such files. `Desk` does not cite it.
+use Rattle.std.specs.Prelude.{ℕ, ◌==◌, ◌&&◌, Bool, not, if◌then◌else◌, List, [], ◌∷◌, ◌++◌, codes}
+use Rattle.std.specs.List.{flat_map, list_any}
+use Rattle.std.specs.Str.{is_utf8}
+use Rattle.hex.specs.Hex.{encode_upper}
+use Rattle.dep_model.specs.Tuples.{Tuple}
+use Rattle.sql_names.specs.Names.{comma_list, quoted_name}
+
+-- a byte between single quotes: a single quote is doubled
+abbrev pub escape_quote : ℕ → List ℕ
+escape_quote byte = if byte == 39 then 39 ∷ 39 ∷ [] else byte ∷ []
+
+-- whether a value can be a text of SQL: it is UTF-8, and has no zero byte
+abbrev pub is_sql_text : List ℕ → Bool
+is_sql_text value = is_utf8 value && not (list_any (λ byte. byte == 0) value)
+
+-- a value: a text between single quotes, or its bytes in hexadecimal digits
+abbrev pub sql_value : List ℕ → List ℕ
+sql_value value =
+    if is_sql_text value then 39 ∷ (flat_map escape_quote value ++ 39 ∷ [])
+    else codes "X'" ++ encode_upper value ++ codes "'"
+
+-- the front of each line of a table
+abbrev pub sql_head : List ℕ → List (List ℕ) → List ℕ
+sql_head name columns =
+    codes "INSERT INTO " ++ quoted_name name ++ codes " (" ++ comma_list quoted_name columns
+    ++ codes ") VALUES ("
+
+-- a row after this front
+abbrev pub sql_row : List ℕ → Tuple → List ℕ
+sql_row head row = head ++ comma_list sql_value row ++ (codes ");" ++ 10 ∷ [])

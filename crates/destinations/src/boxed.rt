@@ -1,0 +1,36 @@
+use crate::destination::Destination;
+use dep_model::{Name, Row};
+use desk_outside::{HeldFile, OutsideFault};
+use named_tables::HeldTable;
+
+impl Destination for Box<dyn Destination> {
+    ghost is_known = { λ b. (Destination-box b).is_known b.value };
+
+    ghost finished = { λ b. (Destination-box b).finished b.value };
+
+    ghost opened = { λ b. (Destination-box b).opened b.value };
+
+    ghost width = { λ b. (Destination-box b).width b.value };
+
+    ghost faults = { λ b. (Destination-box b).faults b.value };
+
+    fn begin_table(&mut self, name: &Name, columns: &[Name]) -> Result<(), OutsideFault> {
+        (**self).begin_table(name, columns)
+    }
+
+    fn put_row(&mut self, row: &Row) -> Result<(), OutsideFault> {
+        (**self).put_row(row)
+    }
+
+    fn end_table(&mut self) -> Result<(), OutsideFault> {
+        (**self).end_table()
+    }
+
+    fn held_tables(&self) -> Option<&[HeldTable]> {
+        (**self).held_tables()
+    }
+
+    fn held_files(&self) -> Option<&[HeldFile]> {
+        (**self).held_files()
+    }
+}

@@ -1,0 +1,66 @@
+ghost use Rattle.std.specs.Prelude.{◌≡◌, ℕ, Bool, List, length, map, Option, None, Some, is_ok, if◌then◌else◌, IsSome, IfSome, OnOk, OnErr};
+ghost use Rattle.named_tables.specs.Tables.{TableValue, held_value, empty_table};
+ghost use Rattle.desk_outside.specs.Causes.{HasOutsideCause};
+ghost use Rattle.destinations.specs.Destinations.{KeepsFinished, AddsRow, FinishesTable};
+
+use dep_model::{Name, Row};
+use desk_outside::{HeldFile, OutsideFault};
+use named_tables::HeldTable;
+
+/// A destination of tables, which come one at a time.
+///
+/// What it holds is said by two tests, since a table need not be found in what is kept:
+/// `finished` of a list of tables and `opened` of a table. It stands for those of which both are
+/// true. Of a destination whose content is not known, they are true of everything. After an error the
+/// finished tables are as before and no table is open.
+pub trait Destination: Drop {
+    /// Whether what it holds is known.
+    ghost is_known: { Self → Bool };
+
+    /// Whether it stands for these finished tables.
+    ghost finished: { Self → List TableValue → Type 0 };
+
+    /// Whether it stands for this open table.
+    ghost opened: { Self → TableValue → Type 0 };
+
+    /// The number of columns of the open table, where one is open.
+    ghost width: { Self → Option ℕ };
+
+    /// An error count, which never falls.
+    ghost faults: { Self → ℕ };
+
+    /// Gives up an open table and opens an empty one.
+    fn begin_table(&mut self, name: &Name, columns: &[Name]) -> Result<(), OutsideFault>
+        ensures is_known { is_known self.new ≡ is_known self.old }
+        ensures keeps { KeepsFinished (finished self.old) (finished self.new) }
+        ensures opens { OnOk result (opened self.new (empty_table name.now columns.now)) }
+        ensures width { width self.new ≡ (if is_ok result then Some (length columns.now) else None) }
+        ensures cause { HasOutsideCause (faults self.old) (faults self.new) result };
+
+    /// Adds a row at the end of the open table.
+    fn put_row(&mut self, row: &Row) -> Result<(), OutsideFault>
+        requires row_width { width self.old ≡ Some (length row.now) }
+        ensures is_known { is_known self.new ≡ is_known self.old }
+        ensures keeps { KeepsFinished (finished self.old) (finished self.new) }
+        ensures adds { OnOk result (AddsRow row.now (opened self.old) (opened self.new)) }
+        ensures width { width self.new ≡ (if is_ok result then width self.old else None) }
+        ensures cause { HasOutsideCause (faults self.old) (faults self.new) result };
+
+    /// The open table becomes the last finished one.
+    fn end_table(&mut self) -> Result<(), OutsideFault>
+        requires is_open { IsSome (width self.old) }
+        ensures is_known { is_known self.new ≡ is_known self.old }
+        ensures finishes { OnOk result
+            (FinishesTable (finished self.old) (opened self.old) (finished self.new)) }
+        ensures keeps { OnErr result (KeepsFinished (finished self.old) (finished self.new)) }
+        ensures width { width self.new ≡ None }
+        ensures cause { HasOutsideCause (faults self.old) (faults self.new) result };
+
+    /// The finished tables, of a destination that keeps them in memory.
+    fn held_tables(&self) -> Option<&[HeldTable]>
+        ensures held { (done : List TableValue) → finished self.now done
+            → IfSome result (λ tables. done ≡ map held_value tables.now) };
+
+    /// The finished files, of a destination over a folder that makes them known.
+    fn held_files(&self) -> Option<&[HeldFile]>;
+}

@@ -1,0 +1,115 @@
+ghost use Rattle.std.specs.Prelude.{◌≡◌, [], None, Some, is_some, option_map, IsSome, IsTrue, IfSome, IfOk};
+ghost use Rattle.desk_outside.specs.Files.{files_of};
+
+use crate::buffered_folder::BufferedFolder;
+use crate::destination::Destination;
+use crate::format::{TableFormat, file_name, front_of, line_of, opening_of};
+use dep_model::{Name, OutOfMemory, Row};
+use desk_outside::{Folder, HeldFile, OutsideFault, write_all};
+use named_tables::HeldTable;
+use std::alloc::Global;
+
+/// A destination over a folder. Each table becomes a file of its own, in one format.
+///
+/// It gathers what it writes in a buffer of 64 KiB, which the end of a table writes out.
+#[derive(Drop)]
+pub struct FileDestination<G: Folder> {
+    alloc: Global,
+    format: TableFormat,
+    folder: BufferedFolder<G>,
+    front: Vec<u8>,
+    columns: Option<usize>,
+    pub ghost is_open: { IsSome columns → IsTrue (G.is_open folder.folder) },
+}
+
+impl<G: Folder> FileDestination<G> {
+    /// A destination over this folder, without an open table.
+    #[tactic(auto, using(crate::proofs::FileLemmas::files_are_none))]
+    pub fn new(
+        alloc: Global,
+        format: TableFormat,
+        folder: G,
+    ) -> Result<FileDestination<G>, OutOfMemory>
+        ensures format { IfOk result (λ made. made.format ≡ format) }
+        ensures folder { IfOk result (λ made. made.folder.folder ≡ folder) }
+        ensures closed { IfOk result (λ made. made.columns ≡ None) }
+
+        // Over a folder that shows no finished file it stands for the empty list of tables.
+        ensures begins { IfSome (G.contents folder) (λ contents. contents.finished ≡ [])
+            → IfOk result (λ made. ⟦<FileDestination<G> as Destination>⟧.finished made []) }
+    {
+        Ok(FileDestination {
+            alloc,
+            format,
+            folder: BufferedFolder::new(alloc, folder)?,
+            front: Vec::new(alloc),
+            columns: None,
+        })
+    }
+
+    /// The folder.
+    pub fn folder(&self) -> &G
+        ensures folder { result.now ≡ self.now.folder.folder }
+    {
+        &self.folder.folder
+    }
+}
+
+#[tactic(auto, using(crate::proofs::FileLemmas::file_steps))]
+impl<G: Folder> Destination for FileDestination<G> {
+    ghost use Rattle.destinations.specs.Formats.{line_front, table_file};
+    ghost use Rattle.destinations.specs.FileTables.{FilesAre, OpenIs};
+
+    ghost is_known = { λ destination. is_some (G.contents destination.folder.folder) };
+
+    ghost finished = { λ destination done.
+        FilesAre (table_file destination.format) (⟦<BufferedFolder<G> as Folder>⟧.contents destination.folder) done };
+
+    ghost opened = { λ destination table.
+        OpenIs (table_file destination.format) (⟦<BufferedFolder<G> as Folder>⟧.contents destination.folder) table
+        × (destination.front.items ≡ line_front destination.format table.name table.columns) };
+
+    ghost width = { λ destination. destination.columns };
+
+    ghost faults = { λ destination. G.faults destination.folder.folder };
+
+    fn begin_table(&mut self, name: &Name, columns: &[Name]) -> Result<(), OutsideFault> {
+        self.columns = None;
+        let file = file_name(self.alloc, self.format, name)?;
+        let opening = opening_of(self.alloc, self.format, columns)?;
+        self.front = front_of(self.alloc, self.format, name, columns)?;
+        self.folder.begin(&file)?;
+        write_all(&mut self.folder, &opening)?;
+        self.columns = Some(columns.len());
+        Ok(())
+    }
+
+    fn put_row(&mut self, row: &Row) -> Result<(), OutsideFault> {
+        let columns = self.columns.take();
+        let line = line_of(self.alloc, self.format, &self.front, row)?;
+        write_all(&mut self.folder, &line)?;
+        self.columns = columns;
+        Ok(())
+    }
+
+    fn end_table(&mut self) -> Result<(), OutsideFault> {
+        self.columns = None;
+        self.folder.end()?;
+        Ok(())
+    }
+
+    fn held_tables(&self) -> Option<&[HeldTable]>
+        ensures none { result ≡ None }
+    {
+        None
+    }
+
+    fn held_files(&self) -> Option<&[HeldFile]>
+        ensures told { is_some result ≡ is_some (G.contents self.now.folder.folder) }
+        ensures shown { IfSome result (λ files.
+            option_map (λ folder. folder.finished) (G.contents self.now.folder.folder)
+            ≡ Some (files_of files.now)) }
+    {
+        self.folder.visible()
+    }
+}

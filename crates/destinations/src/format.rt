@@ -1,0 +1,72 @@
+ghost use Rattle.std.specs.Prelude.{◌≡◌, ◌++◌, IfOk};
+ghost use Rattle.destinations.specs.Formats.{ending, opening, line_front, row_line};
+
+use crate::sql_line;
+use dep_model::{Name, OutOfMemory, Row};
+use schema_printer::add;
+use std::alloc::Global;
+
+/// How a table is written to a file of its own.
+#[derive(Clone, Copy, Debug, PartialEq, Eq)]
+pub enum TableFormat {
+    /// A header of the names of the columns and then the rows, as `csv` writes them, in `t1.csv`.
+    Csv,
+    /// An INSERT line for each row, in `t1.sql`.
+    Sql,
+}
+
+/// The name of a table's file.
+pub fn file_name(alloc: Global, format: TableFormat, table: &Name) -> Result<Vec<u8>, OutOfMemory>
+    ensures name { IfOk result (λ name. name.items ≡ table.now ++ ending format) }
+{
+    let mut name = Vec::from_slice(alloc, table.bytes())?;
+    match format {
+        TableFormat::Csv => add(&mut name, b".csv")?,
+        TableFormat::Sql => add(&mut name, b".sql")?,
+    }
+    Ok(name)
+}
+
+/// What stands before the rows.
+pub fn opening_of(
+    alloc: Global,
+    format: TableFormat,
+    columns: &[Name],
+) -> Result<Vec<u8>, OutOfMemory>
+    ensures text { IfOk result (λ text. text.items ≡ opening format columns.now) }
+{
+    match format {
+        TableFormat::Csv => csv_text::header_line(alloc, columns),
+        TableFormat::Sql => Ok(Vec::new(alloc)),
+    }
+}
+
+/// What the line of each row begins with.
+pub fn front_of(
+    alloc: Global,
+    format: TableFormat,
+    table: &Name,
+    columns: &[Name],
+) -> Result<Vec<u8>, OutOfMemory>
+    ensures text { IfOk result (λ text. text.items ≡ line_front format table.now columns.now) }
+{
+    match format {
+        TableFormat::Csv => Ok(Vec::new(alloc)),
+        TableFormat::Sql => sql_line::head_of(alloc, table, columns),
+    }
+}
+
+/// The line of a row, after this front.
+pub fn line_of(
+    alloc: Global,
+    format: TableFormat,
+    front: &[u8],
+    row: &Row,
+) -> Result<Vec<u8>, OutOfMemory>
+    ensures text { IfOk result (λ text. text.items ≡ row_line format front.now row.now) }
+{
+    match format {
+        TableFormat::Csv => csv_text::row_line(alloc, row),
+        TableFormat::Sql => sql_line::line_of(alloc, front, row),
+    }
+}

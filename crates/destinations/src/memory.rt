@@ -1,0 +1,154 @@
+ghost use Rattle.std.specs.Prelude.{◌≡◌, ◌↔◌, true, [], ◌++◌, length, map, None, Some, is_ok, if◌then◌else◌, option_map, option_to_list, IsSome, IsSomeAnd, IsErrOf, OnOk, OnErr};
+ghost use Rattle.desk_outside.specs.Causes.{HasOutsideCause, is_failed};
+ghost use Rattle.desk_outside.specs.Planned.{FailsNext, CountsCall};
+ghost use Rattle.destinations.specs.Memory.{new_destination};
+ghost use Rattle.named_tables.specs.Tables.{held_value, empty_table, with_row};
+
+use crate::destination::Destination;
+use dep_model::{Name, Row};
+use desk_outside::{HeldFile, OutsideFault, PlannedFaults};
+use named_tables::HeldTable;
+use std::alloc::Global;
+use std::marker::Model;
+
+/// Tables in memory. It makes all of them known, and fails at chosen calls alone.
+#[derive(Drop)]
+pub struct MemoryDestination {
+    alloc: Global,
+    finished: Vec<HeldTable>,
+    opened: Option<HeldTable>,
+    planned: PlannedFaults,
+}
+
+impl Model for MemoryDestination {
+    ghost use Rattle.std.specs.Prelude.{map, option_map};
+    ghost use Rattle.destinations.specs.Memory.{DestinationInMemory};
+    ghost use Rattle.named_tables.specs.Tables.{held_value};
+
+    ghost Value = { DestinationInMemory };
+
+    ghost view = { λ t. record {
+      finished = map held_value t.finished.items;
+      opened = option_map held_value t.opened;
+      planned = t.planned;
+    } };
+}
+
+impl MemoryDestination {
+    /// A destination without tables. The calls with these numbers, from 1, fail.
+    pub fn new(alloc: Global, fails: Vec<u64>) -> MemoryDestination
+        ensures begins { result ≡ new_destination fails.items }
+    {
+        MemoryDestination {
+            alloc,
+            finished: Vec::new(alloc),
+            opened: None,
+            planned: PlannedFaults::new(fails),
+        }
+    }
+
+    /// The finished tables, in the order of their ending.
+    pub fn tables(&self) -> &[HeldTable]
+        ensures tables { map held_value result.now ≡ self.now.finished }
+    {
+        &self.finished
+    }
+}
+
+impl Destination for MemoryDestination {
+    ghost is_known = { λ _. true };
+
+    ghost finished = { λ destination done. destination.finished ≡ done };
+
+    ghost opened = { λ destination table. destination.opened ≡ Some table };
+
+    ghost width = { λ destination. option_map (λ table. length table.columns) destination.opened };
+
+    ghost faults = { λ destination. destination.planned.faults };
+
+    fn begin_table(&mut self, name: &Name, columns: &[Name]) -> Result<(), OutsideFault>
+        ensures finished { self.new.finished ≡ self.old.finished }
+        ensures begun { OnOk result (self.new.opened ≡ Some (empty_table name.now columns.now)) }
+        ensures closed { OnErr result (self.new.opened ≡ None) }
+
+        // It fails exactly where its number is planned.
+        ensures failed { IsErrOf result OutsideFault.Failed ↔ FailsNext self.old.planned }
+        ensures counts { CountsCall self.old.planned self.new.planned (is_failed result) }
+        ensures cause { HasOutsideCause self.old.planned.faults self.new.planned.faults result }
+    {
+        self.opened = None;
+        if self.planned.next_fails() {
+            self.planned.count_fault();
+            return Err(OutsideFault::Failed);
+        }
+        let columns = Vec::from_slice(self.alloc, columns)?;
+        self.opened = Some(HeldTable {
+            name: *name,
+            columns,
+            rows: Vec::new(self.alloc),
+        });
+        Ok(())
+    }
+
+    fn put_row(&mut self, row: &Row) -> Result<(), OutsideFault>
+        requires even { option_map (λ table. length table.columns) self.old.opened ≡ Some (length row.now) }
+        ensures finished { self.new.finished ≡ self.old.finished }
+        ensures adds { OnOk result (self.new.opened ≡ option_map (with_row row.now) self.old.opened) }
+        ensures closed { OnErr result (self.new.opened ≡ None) }
+        ensures failed { IsErrOf result OutsideFault.Failed ↔ FailsNext self.old.planned }
+        ensures counts { CountsCall self.old.planned self.new.planned (is_failed result) }
+        ensures cause { HasOutsideCause self.old.planned.faults self.new.planned.faults result }
+    {
+        let opened = self.opened.take();
+        if self.planned.next_fails() {
+            self.planned.count_fault();
+            return Err(OutsideFault::Failed);
+        }
+        let Some(mut table) = opened else {
+            unreachable!();
+        };
+        match table.rows.push(row.copy(self.alloc)?) {
+            Ok(()) => {
+                self.opened = Some(table);
+                Ok(())
+            }
+            Err(_) => Err(OutsideFault::OutOfMemory),
+        }
+    }
+
+    fn end_table(&mut self) -> Result<(), OutsideFault>
+        requires is_open { IsSome (option_map (λ table. length table.columns) self.old.opened) }
+        ensures ended { OnOk result (self.new.finished
+            ≡ self.old.finished ++ option_to_list self.old.opened) }
+        ensures finished { OnErr result (self.new.finished ≡ self.old.finished) }
+        ensures closed { self.new.opened ≡ None }
+        ensures failed { IsErrOf result OutsideFault.Failed ↔ FailsNext self.old.planned }
+        ensures counts { CountsCall self.old.planned self.new.planned (is_failed result) }
+        ensures cause { HasOutsideCause self.old.planned.faults self.new.planned.faults result }
+    {
+        let opened = self.opened.take();
+        if self.planned.next_fails() {
+            self.planned.count_fault();
+            return Err(OutsideFault::Failed);
+        }
+        let Some(table) = opened else {
+            unreachable!();
+        };
+        match self.finished.push(table) {
+            Ok(()) => Ok(()),
+            Err(_) => Err(OutsideFault::OutOfMemory),
+        }
+    }
+
+    fn held_tables(&self) -> Option<&[HeldTable]>
+        ensures held { IsSomeAnd result (λ tables. map held_value tables.now ≡ self.now.finished) }
+    {
+        Some(&self.finished)
+    }
+
+    fn held_files(&self) -> Option<&[HeldFile]>
+        ensures none { result ≡ None }
+    {
+        None
+    }
+}

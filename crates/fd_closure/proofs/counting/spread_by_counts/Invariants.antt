@@ -1,0 +1,6 @@
+use Rattle.attr_sets.specs.Sets.{attributes}
+use Rattle.fd_closure.specs.Switches.{members_on, Grows}
+use Rattle.fd_closure.proofs.counting.spread_by_counts.Given as goal
+
+abbrev pub invariant-loop : goal.invariant-loop
+invariant-loop l = Grows (members_on l.on l.deps) (attributes l.initial.closed) (attributes l.closed)

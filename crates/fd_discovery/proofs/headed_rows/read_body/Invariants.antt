@@ -1,0 +1,16 @@
+use Rattle.std.proofs.Common.{◌≤◌, ◌-◌, ℕ, List, length}
+use Rattle.dep_model.specs.Tuples.{IsOver}
+use Rattle.csv_rows.specs.Records.{HasLeft}
+use Rattle.fd_discovery.proofs.HeadingLemmas.{TakesRows}
+use Rattle.fd_discovery.proofs.headed_rows.read_body.Given as goal
+
+-- the records so far are the rows
+abbrev pub invariant-loop-rows : goal.invariant-loop-rows
+invariant-loop-rows l = record {
+  few : length l.rows ≤ 10000;
+  even : IsOver l.columns l.rows;
+  taken : (rs : List (List (List ℕ))) → HasLeft l.fn.reader rs → TakesRows rs l.reader l.rows;
+}
+
+abbrev pub decreases-loop-rows : goal.decreases-loop-rows
+decreases-loop-rows l = 10000 - length l.rows

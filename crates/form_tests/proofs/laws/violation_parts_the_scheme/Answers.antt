@@ -1,5 +1,0 @@
-use Rattle.form_tests.proofs.ViolationLemmas.{violation_cut}
-use Rattle.form_tests.proofs.laws.violation_parts_the_scheme.Goals as goal
-
-pub returns : goal.returns
-returns c = record { law = violation_cut }

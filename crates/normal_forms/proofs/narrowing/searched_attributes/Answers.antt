@@ -1,0 +1,39 @@
+use Rattle.std.proofs.Common.{List, subst, arith}
+use Rattle.std.specs.Prelude.{All}
+use Rattle.attr_sets.specs.Attributes.{below, IsSubset}
+use Rattle.attr_sets.specs.Sets.{attributes}
+use Rattle.dep_model.specs.declared.dep.Dep.{Dep}
+use Rattle.dep_model.specs.Dependencies.{Dependency, left_of, IsWithin}
+use Rattle.dep_model.specs.Deps.{dependencies_of}
+use Rattle.dep_model.specs.Schemas.{width_of, theory_of, deps_of}
+use Rattle.dep_model.proofs.DepLemmas.{dependencies_all-to, dependencies_all-from}
+use Rattle.normal_forms.specs.Adding.{AddOnlyThemselves}
+use Rattle.attr_sets.proofs.AttributesLemmas.{same_at}
+use Rattle.normal_forms.proofs.BreakLemmas.{all_enough, functional_enough}
+use Rattle.normal_forms.proofs.narrowing.searched_attributes.Goals as goal
+
+pub returns-then-functional : goal.returns-then-functional
+returns-then-functional c =
+    let s = c.args.schema.now in
+    let n = width_of s in
+    let scheme = attributes c.args.scheme in
+    let whole = attributes c.functionally_searched_attributes.result in
+    let same = c.requires.functional c.if-functional.true in
+    let added = subst (λ (ds : List Dependency). AddOnlyThemselves n ds scheme whole) same c.functionally_searched_attributes.ensures.added in
+    record {
+      within = c.functionally_searched_attributes.ensures.within;
+      enough = functional_enough n (theory_of s) c.args.form scheme whole c.requires.form (dependencies_all-from (IsWithin (below n)) (deps_of s) s.valid.deps_within) same c.requires.scheme added;
+    }
+
+pub returns-else-functional : goal.returns-else-functional
+returns-else-functional c =
+    let s = c.args.schema.now in
+    let n = width_of s in
+    let scheme = attributes c.args.scheme in
+    let lefts = attributes c.left_attributes.result in
+    let each = dependencies_all-to (λ (d : Dependency). IsSubset (left_of d) lefts) (deps_of s)
+    (subst (λ (es : List Dep). All (λ (d : Dependency). IsSubset (left_of d) lefts) (dependencies_of es)) c.deps.ensures.deps c.left_attributes.ensures.lefts) in
+    record {
+      within = λ k m. grind (arith, same_at c.intersection.ensures.members k, m);
+      enough = all_enough n (deps_of s) c.args.form scheme lefts (attributes c.intersection.result) c.requires.form s.valid.few_names s.valid.deps_within c.requires.scheme each c.intersection.ensures.members;
+    }

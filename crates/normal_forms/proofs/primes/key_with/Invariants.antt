@@ -1,0 +1,14 @@
+use Rattle.attr_sets.specs.Attributes.{union}
+use Rattle.attr_sets.specs.Sets.{attributes}
+use Rattle.dep_model.specs.Dependencies.{functional_part}
+use Rattle.dep_model.specs.Schemas.{width_of, theory_of}
+use Rattle.normal_forms.specs.Primes.{BecomesSuperkeyBy}
+use Rattle.normal_forms.proofs.SearchLemmas.{IsSearched, subsets_left}
+use Rattle.normal_forms.proofs.primes.key_with.Given as goal
+
+abbrev pub invariant-loop-next : goal.invariant-loop-next
+invariant-loop-next l =
+    IsSearched (λ y. BecomesSuperkeyBy (width_of l.schema) (functional_part (theory_of l.schema)) (attributes l.scheme) (union y (attributes l.rest)) l.attribute) (attributes l.free) l.next
+
+abbrev pub decreases-loop-next : goal.decreases-loop-next
+decreases-loop-next l = subsets_left l.next

@@ -1,0 +1,109 @@
+use Rattle.std.proofs.Common.{sym, subst, ◌∙◌, arith}
+use Rattle.std.proofs.lemmas.Bool.{true≢false, false_from_ne_true, ltb-true}
+use Rattle.std.specs.Prelude.{Option, Some}
+use Rattle.attr_sets.specs.declared.set.AttrSet.{AttrSet}
+use Rattle.attr_sets.specs.declared.set.TheConstants.{MOST_ATTRIBUTES}
+use Rattle.attr_sets.specs.Sets.{attributes}
+use Rattle.attr_sets.proofs.AttributesLemmas.{attributes_below, same_at}
+use Rattle.dep_model.specs.Dependencies.{functional_part}
+use Rattle.dep_model.specs.Schemas.{width_of, theory_of, deps_of}
+use Rattle.normal_forms.specs.Violations.{ViolatesThird}
+use Rattle.normal_forms.proofs.AddedLemmas.{functional_within, functional_twice}
+use Rattle.normal_forms.proofs.SearchLemmas.{IsSearched, search_start, search_weaker, search_on, search_end, subsets_left-less}
+use Rattle.normal_forms.proofs.FormLemmas.{IsUntold, third_from, third_first}
+use Rattle.normal_forms.proofs.third.third_violation.Goals as goal
+
+pub loop-next-init : goal.loop-next-init
+loop-next-init c =
+    let s = c.args.schema.now in
+    record {
+      prime = λ a m. absurd (true≢false (sym m ∙ same_at c.empty-primes.ensures.members a));
+      searched = search_start (IsUntold (width_of s) (functional_part (theory_of s)) (attributes c.args.scheme) (attributes c.empty-primes.result)) (attributes c.functionally_searched_attributes-whole.result)
+          c.empty.result c.empty.ensures.members;
+    }
+
+pub determined_beyond-beyond-requires-clause-lhs : goal.determined_beyond-beyond-requires-clause-lhs
+determined_beyond-beyond-requires-clause-lhs c k m =
+    let s = c.args.schema.now in
+    let P = IsUntold (width_of s) (functional_part (theory_of s)) (attributes c.args.scheme) (attributes c.loop-next.primes) in
+    let whole = attributes c.functionally_searched_attributes-whole.result in
+    let before = subst (λ (o : Option AttrSet). IsSearched P whole o) c.in-Some.is c.loop-next.invariant.searched in
+    c.functionally_searched_attributes-whole.ensures.within k (before.within k m)
+
+pub prime_or_not-requires-clause-primes : goal.prime_or_not-requires-clause-primes
+prime_or_not-requires-clause-primes c = c.loop-next.invariant.prime
+
+pub single-rhs-requires : goal.single-rhs-requires
+single-rhs-requires c = ltb-true c.in-NotPrime.attribute MOST_ATTRIBUTES (attributes_below c.determined_beyond-beyond.result c.in-NotPrime.attribute c.in-NotPrime.ensures.prime_or_not.0)
+
+pub returns-in-NotPrime-clause-chosen : goal.returns-in-NotPrime-clause-chosen
+returns-in-NotPrime-clause-chosen c =
+    let s = c.args.schema.now in
+    let n = width_of s in
+    let fs = functional_part (theory_of s) in
+    let scheme = attributes c.args.scheme in
+    let primes = attributes c.loop-next.primes in
+    let whole = attributes c.functionally_searched_attributes-whole.result in
+    let x = attributes c.in-Some.lhs in
+    let a = c.in-NotPrime.attribute in
+    let sifted = c.in-NotPrime.ensures.prime_or_not in
+    let exact = c.determined_beyond-beyond.ensures.beyond in
+    let before = subst (λ (o : Option AttrSet). IsSearched (IsUntold n fs scheme primes) whole o) c.in-Some.is c.loop-next.invariant.searched in
+    let here = (exact a).0 sifted.0 in
+    let violates : ViolatesThird n fs scheme x (attributes c.single-rhs.result) = record {
+      no_superkey = here.0;
+      attribute = a;
+      determined = (here.1, sifted.1);
+      least = λ b less d. d.1 (sifted.2 b less ((exact b).1 (here.0, d.0)));
+      right = c.single-rhs.ensures.members;
+    } in
+    record {
+      within = λ k m. c.functionally_searched_attributes-whole.ensures.within k (before.within k m);
+      violates = violates;
+      first = λ v w earlier violated.
+          third_first n fs scheme whole c.requires.scheme c.functionally_searched_attributes-whole.ensures.added primes x v w c.loop-next.invariant.prime
+          (λ y y_in passed untold. before.none y y_in passed untold) earlier violated;
+    }
+
+pub next_subset-next-requires : goal.next_subset-next-requires
+next_subset-next-requires c =
+    let s = c.args.schema.now in
+    let P = IsUntold (width_of s) (functional_part (theory_of s)) (attributes c.args.scheme) (attributes c.loop-next.primes) in
+    let before = subst (λ (o : Option AttrSet). IsSearched P (attributes c.functionally_searched_attributes-whole.result) o) c.in-Some.is c.loop-next.invariant.searched in
+    record { within = before.within }
+
+pub loop-next-smaller : goal.loop-next-smaller
+loop-next-smaller c = subsets_left-less c.in-Some.lhs c.loop-next.next c.next_subset-next.result c.in-Some.is (omega arith) c.next_subset-next.ensures.number
+
+pub loop-next-preserved : goal.loop-next-preserved
+loop-next-preserved c =
+    let s = c.args.schema.now in
+    let n = width_of s in
+    let fs = functional_part (theory_of s) in
+    let scheme = attributes c.args.scheme in
+    let primes = attributes c.loop-next.primes in
+    let known = attributes c.in-Prime.known in
+    let whole = attributes c.functionally_searched_attributes-whole.result in
+    let sifted = c.in-Prime.ensures.prime_or_not in
+    let before = subst (λ (o : Option AttrSet). IsSearched (IsUntold n fs scheme primes) whole o) c.in-Some.is c.loop-next.invariant.searched in
+    let fewer = search_weaker (IsUntold n fs scheme primes) (IsUntold n fs scheme known) whole (Some c.in-Some.lhs)
+    (λ x u. (u.0, (u.1.0, u.1.1, false_from_ne_true (primes u.1.0) (λ m. true≢false (sym (sifted.2 u.1.0 m) ∙ u.1.2))))) before in
+    record {
+      prime = sifted.0;
+      searched = search_on n (IsUntold n fs scheme known) whole c.in-Some.lhs c.next_subset-next.result
+          (λ k m. c.requires.scheme k (c.functionally_searched_attributes-whole.ensures.within k m)) fewer
+          (λ u. true≢false (sym (sifted.1 u.1.0 ((c.determined_beyond-beyond.ensures.beyond u.1.0).1 (u.0, u.1.1))) ∙ u.1.2))
+          c.next_subset-next.ensures.none.0 c.next_subset-next.ensures.next;
+    }
+
+pub returns-clause-none : goal.returns-clause-none
+returns-clause-none c = λ _.
+    let s = c.args.schema.now in
+    let n = width_of s in
+    let fs = functional_part (theory_of s) in
+    let scheme = attributes c.args.scheme in
+    let primes = attributes c.loop-next.primes in
+    let whole = attributes c.functionally_searched_attributes-whole.result in
+    let P = IsUntold n fs scheme primes in
+    third_from n fs scheme whole c.requires.scheme c.functionally_searched_attributes-whole.ensures.added primes (functional_within n (deps_of s) s.valid.deps_within) (functional_twice (theory_of s))
+    c.loop-next.invariant.prime (search_end P whole (subst (λ (o : Option AttrSet). IsSearched P whole o) c.in_default.is c.loop-next.invariant.searched))

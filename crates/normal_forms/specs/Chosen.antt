@@ -1,0 +1,48 @@
+-- Which violation of a form is told of a scheme: for `violation`, `visible_violation`, `check form`
+-- (`desk_cli/NormalForms`) and split_forms.
+use Rattle.std.specs.Prelude.{◌≡◌, ℕ, ◌<◌, List, Some, All, take, slice_get}
+use Rattle.attr_sets.specs.Attributes.{Attributes, IsSubset, IsBefore, count_below}
+use Rattle.attr_sets.specs.declared.set.TheConstants.{MOST_ATTRIBUTES}
+use Rattle.dep_model.specs.Dependencies.{Dependency, left_of}
+use Rattle.dep_model.specs.Forms.{IsThird, IsBcnf, IsFourth}
+use Rattle.normal_forms.specs.declared.forms.Form.{Form}
+use Rattle.normal_forms.specs.declared.forms.Form.TheVariants.{Third, Bcnf, Fourth}
+use Rattle.normal_forms.specs.declared.forms.TheConstants.{WIDEST_TESTED}
+use Rattle.normal_forms.specs.Violations.{Violates}
+
+-- a scheme is in a normal form
+abbrev pub IsInForm : ℕ → List Dependency → Form → Attributes → Type 0
+IsInForm n ds Third scheme = IsThird n ds scheme
+IsInForm n ds Bcnf scheme = IsBcnf n ds scheme
+IsInForm n ds Fourth scheme = IsFourth n ds scheme
+
+-- a scheme has more attributes than are tested
+abbrev pub IsWide : Attributes → Type 0
+IsWide scheme = WIDEST_TESTED < count_below scheme MOST_ATTRIBUTES
+
+-- x is the first subset of the scheme that violates the form, in the order of sets, with the
+-- right side y
+pub record IsChosenViolation (n : ℕ) (ds : List Dependency) (form : Form)
+    (scheme x y : Attributes) : Type 0 where
+  pub within : IsSubset x scheme
+  pub violates : Violates n ds form scheme x y
+  pub first : (v w : Attributes) → IsBefore v x → Violates n ds form scheme v w → ⊥
+
+-- the left side of a dependency does not violate the form
+abbrev pub IsInnocent : ℕ → List Dependency → Form → Attributes → Dependency → Type 0
+IsInnocent n ds form scheme d = (y : Attributes) → Violates n ds form scheme (left_of d) y → ⊥
+
+-- no given left side violates the form
+abbrev pub HasNoVisibleViolation : ℕ → List Dependency → Form → Attributes → Type 0
+HasNoVisibleViolation n ds form scheme = All (IsInnocent n ds form scheme) ds
+
+-- x is the first given left side, in the order of the file, that violates the form, with the
+-- right side y
+pub record IsVisibleViolation (n : ℕ) (ds : List Dependency) (form : Form)
+    (scheme x y : Attributes) : Type 0 where
+  pub position : ℕ
+  pub given : Dependency
+  pub stands : slice_get ds position ≡ Some given
+  pub left : x ≡ left_of given
+  pub violates : Violates n ds form scheme x y
+  pub first : All (IsInnocent n ds form scheme) (take position ds)

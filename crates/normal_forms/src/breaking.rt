@@ -1,0 +1,117 @@
+ghost use Rattle.std.specs.Prelude.{◌≡◌, ℕ, ◌↔◌, true, List, IsTrue, IsNone, IfSome};
+ghost use Rattle.attr_sets.specs.Attributes.{below, difference, IsSubset, IsEmpty, IsFirstFrom};
+ghost use Rattle.attr_sets.specs.Sets.{attributes};
+ghost use Rattle.dep_model.specs.Dependencies.{Dependency, functional_part};
+ghost use Rattle.dep_model.specs.Keys.{InClosure, IsBlockOn};
+ghost use Rattle.dep_model.specs.Schemas.{width_of, universe_of, theory_of};
+ghost use Rattle.normal_forms.specs.Breaking.{Breaks, IsFirstBreaking, NoneBreaks};
+ghost use Rattle.normal_forms.specs.Violations.{Violates};
+
+use crate::forms::Form;
+use attr_sets::AttrSet;
+use dep_basis::{block, closure_of, has_two_parts};
+use dep_model::Schema;
+use fd_closure::closure;
+
+// Whether a left side violates Boyce-Codd or fourth form. Where all dependencies are functional
+// both are violated by a left side that determines some of the rest and not all. Else a left side
+// with one part alone is told first, which most often is all that is asked.
+pub fn breaks(schema: &Schema, scheme: AttrSet, form: Form, functional: bool, lhs: AttrSet) -> bool
+    requires scheme { IsSubset (attributes scheme) (universe_of schema.now) }
+    requires lhs { IsSubset (attributes lhs) (attributes scheme) }
+    requires form { form ≡ Form.Third → ⊥ }
+    requires functional { IsTrue functional
+        → functional_part (theory_of schema.now) ≡ theory_of schema.now }
+    ensures breaks { IsTrue result
+        ↔ Breaks (width_of schema.now) (theory_of schema.now) form (attributes scheme)
+        (attributes lhs) }
+{
+    if functional {
+        return determines_some(scheme, lhs, closure(schema.deps(), lhs));
+    }
+    if !has_two_parts(schema, scheme, lhs) {
+        return false;
+    }
+    let found = closure_of(schema, lhs);
+    match form {
+        Form::Fourth => !scheme.is_subset(found),
+        Form::Third | Form::Bcnf => determines_some(scheme, lhs, found),
+    }
+}
+
+// Whether the closed set of a left side has more than it of a scheme, and not all.
+fn determines_some(scheme: AttrSet, lhs: AttrSet, closed: AttrSet) -> bool
+    requires lhs { IsSubset (attributes lhs) (attributes scheme) }
+    ensures breaks { (n : ℕ) (ds : List Dependency) → IsSubset (attributes scheme) (below n)
+        → ((a : ℕ) → (attributes closed a ≡ true) ↔ InClosure n ds (attributes lhs) a)
+        → IsTrue result ↔ Breaks n ds Form.Bcnf (attributes scheme) (attributes lhs) }
+{
+    !scheme.is_subset(closed) && !closed.intersection(scheme).is_subset(lhs)
+}
+
+// The first of the subsets of a set that violates Boyce-Codd or fourth form on a scheme.
+pub fn first_breaking(
+    schema: &Schema,
+    scheme: AttrSet,
+    form: Form,
+    functional: bool,
+    whole: AttrSet,
+) -> Option<AttrSet>
+    requires scheme { IsSubset (attributes scheme) (universe_of schema.now) }
+    requires within_scheme { IsSubset (attributes whole) (attributes scheme) }
+    requires form { form ≡ Form.Third → ⊥ }
+    requires functional { IsTrue functional
+        → functional_part (theory_of schema.now) ≡ theory_of schema.now }
+    ensures none { IsNone result
+        → NoneBreaks (width_of schema.now) (theory_of schema.now) form (attributes scheme)
+        (attributes whole) }
+    ensures first { IfSome result (λ lhs.
+        IsFirstBreaking (width_of schema.now) (theory_of schema.now) form (attributes scheme)
+        (attributes whole) (attributes lhs)) }
+{
+    let mut next = Some(AttrSet::empty());
+    while let Some(set) = next {
+        if breaks(schema, scheme, form, functional, set) {
+            return Some(set);
+        }
+        next = set.next_subset(whole);
+    }
+    None
+}
+
+// The right side of a left side that violates Boyce-Codd or fourth form: for the one all that it
+// determines beyond itself, for the other the part with the first attribute beyond it.
+pub fn right_side(schema: &Schema, scheme: AttrSet, form: Form, lhs: AttrSet) -> AttrSet
+    requires scheme { IsSubset (attributes scheme) (universe_of schema.now) }
+    requires lhs { IsSubset (attributes lhs) (attributes scheme) }
+    requires form { form ≡ Form.Third → ⊥ }
+    requires breaks { Breaks (width_of schema.now) (theory_of schema.now) form (attributes scheme)
+        (attributes lhs) }
+    ensures violates { Violates (width_of schema.now) (theory_of schema.now) form (attributes scheme)
+        (attributes lhs) (attributes result) }
+{
+    match form {
+        Form::Fourth => first_part(schema, scheme, lhs),
+        Form::Third | Form::Bcnf => closure_of(schema, lhs).intersection(scheme).difference(lhs),
+    }
+}
+
+// The part of a left side with the first attribute beyond it; the empty set where nothing lies
+// beyond it.
+fn first_part(schema: &Schema, scheme: AttrSet, lhs: AttrSet) -> AttrSet
+    requires scheme { IsSubset (attributes scheme) (universe_of schema.now) }
+    requires lhs { IsSubset (attributes lhs) (attributes scheme) }
+    ensures first { (a : ℕ) → IsFirstFrom (difference (attributes scheme) (attributes lhs)) 0 a
+        → attributes result a ≡ true }
+    ensures part { (IsEmpty (difference (attributes scheme) (attributes lhs)) → ⊥)
+        → IsBlockOn (width_of schema.now) (theory_of schema.now) (attributes scheme) (attributes lhs)
+        (attributes result) }
+{
+    let Some(first) = scheme.difference(lhs).first() else {
+        return AttrSet::empty();
+    };
+    match block(schema, lhs, first) {
+        Some(found) => found.intersection(scheme),
+        None => AttrSet::single(first),
+    }
+}

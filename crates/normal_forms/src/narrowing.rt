@@ -1,0 +1,48 @@
+ghost use Rattle.std.specs.Prelude.{◌≡◌, ◌↔◌, true, All, IsTrue};
+ghost use Rattle.attr_sets.specs.Attributes.{IsSubset};
+ghost use Rattle.attr_sets.specs.Sets.{attributes};
+ghost use Rattle.dep_model.specs.Dependencies.{functional_part};
+ghost use Rattle.dep_model.specs.Schemas.{width_of, universe_of, theory_of};
+ghost use Rattle.normal_forms.specs.Adding.{AddOnlyThemselves};
+ghost use Rattle.normal_forms.specs.Breaking.{IsEnough};
+
+use crate::forms::Form;
+use crate::lefts::{functional_left_attributes, left_attributes};
+use attr_sets::AttrSet;
+use dep_model::Schema;
+use fd_closure::closure;
+
+// The attributes of a scheme to whose subsets a search for violations can keep: those of the
+// given left sides. Where all dependencies are functional, a left side that the scheme does not
+// determine never applies.
+pub fn searched_attributes(
+    schema: &Schema,
+    scheme: AttrSet,
+    form: Form,
+    functional: bool,
+) -> AttrSet
+    requires scheme { IsSubset (attributes scheme) (universe_of schema.now) }
+    requires form { form ≡ Form.Third → ⊥ }
+    requires functional { IsTrue functional
+        → functional_part (theory_of schema.now) ≡ theory_of schema.now }
+    ensures within { IsSubset (attributes result) (attributes scheme) }
+    ensures enough { IsEnough (width_of schema.now) (theory_of schema.now) form (attributes scheme)
+        (attributes result) }
+{
+    if functional {
+        functionally_searched_attributes(schema, scheme)
+    } else {
+        left_attributes(schema.deps()).intersection(scheme)
+    }
+}
+
+// The same by the functional dependencies alone.
+pub fn functionally_searched_attributes(schema: &Schema, scheme: AttrSet) -> AttrSet
+    requires scheme { IsSubset (attributes scheme) (universe_of schema.now) }
+    ensures within { IsSubset (attributes result) (attributes scheme) }
+    ensures added { AddOnlyThemselves (width_of schema.now) (functional_part (theory_of schema.now))
+        (attributes scheme) (attributes result) }
+{
+    let reach = closure(schema.deps(), scheme);
+    functional_left_attributes(schema.deps(), reach).intersection(scheme)
+}

@@ -1,0 +1,103 @@
+ghost use Rattle.std.specs.Prelude.{◌≡◌, ◌↔◌, true, IsTrue, IsNone, IfSome};
+ghost use Rattle.attr_sets.specs.Attributes.{IsSubset};
+ghost use Rattle.attr_sets.specs.Sets.{attributes};
+ghost use Rattle.dep_model.specs.Dependencies.{functional_part};
+ghost use Rattle.dep_model.specs.Keys.{IsSuperkey, IsKey, IsPrime};
+ghost use Rattle.dep_model.specs.Schemas.{width_of, universe_of, theory_of};
+ghost use Rattle.normal_forms.specs.Adding.{AddOnlyThemselves};
+ghost use Rattle.normal_forms.specs.Primes.{BecomesSuperkeyBy, ArePrime, IsPrimeOrNot};
+
+use attr_sets::AttrSet;
+use dep_model::Schema;
+use fd_closure::{follows, functional_key};
+
+// What is known of some attributes: all are prime, as are these; or which is the least that is not.
+#[derive(Clone, Copy, Debug)]
+pub enum Sifted {
+    Prime(AttrSet),
+    NotPrime(u8),
+}
+
+// Whether some attributes of a scheme are prime by the functional dependencies. Some are known to
+// be; each key that is found adds to them.
+pub fn prime_or_not(
+    schema: &Schema,
+    scheme: AttrSet,
+    whole: AttrSet,
+    primes: AttrSet,
+    candidates: AttrSet,
+) -> Sifted
+    requires scheme { IsSubset (attributes scheme) (universe_of schema.now) }
+    requires within_scheme { IsSubset (attributes whole) (attributes scheme) }
+    requires added { AddOnlyThemselves (width_of schema.now)
+        (functional_part (theory_of schema.now)) (attributes scheme) (attributes whole) }
+    requires primes { ArePrime (width_of schema.now) (functional_part (theory_of schema.now))
+        (attributes scheme) (attributes primes) }
+    requires candidates { IsSubset (attributes candidates) (attributes scheme) }
+    ensures prime_or_not { IsPrimeOrNot (width_of schema.now) (functional_part (theory_of schema.now))
+        (attributes scheme) (attributes primes) (attributes candidates) result }
+{
+    let mut known = primes;
+    loop {
+        let Some(attribute) = candidates.difference(known).first() else {
+            return Sifted::Prime(known);
+        };
+        match key_with(schema, scheme, whole, attribute) {
+            Some(key) => known = known.union(key),
+            None => return Sifted::NotPrime(attribute),
+        }
+    }
+}
+
+// A key of a scheme with an attribute in it, by the functional dependencies; none where the
+// attribute is not prime. Where some set becomes a superkey by the attribute, one does that has
+// all the attributes which add only themselves.
+fn key_with(schema: &Schema, scheme: AttrSet, whole: AttrSet, attribute: u8) -> Option<AttrSet>
+    requires scheme { IsSubset (attributes scheme) (universe_of schema.now) }
+    requires within_scheme { IsSubset (attributes whole) (attributes scheme) }
+    requires added { AddOnlyThemselves (width_of schema.now)
+        (functional_part (theory_of schema.now)) (attributes scheme) (attributes whole) }
+    requires attribute { attributes scheme attribute ≡ true }
+    ensures none { IsNone result
+        → IsPrime (width_of schema.now) (functional_part (theory_of schema.now))
+        (attributes scheme) attribute → ⊥ }
+    ensures key { IfSome result (λ key.
+        IsKey (width_of schema.now) (functional_part (theory_of schema.now)) (attributes scheme)
+        (attributes key)) }
+    ensures member { IfSome result (λ key. attributes key attribute ≡ true) }
+{
+    let rest = scheme.difference(whole).without(attribute);
+    let free = whole.without(attribute);
+    let mut next = Some(AttrSet::empty());
+    while let Some(set) = next {
+        let before = set.union(rest);
+        if becomes_superkey_by(schema, scheme, before, attribute) {
+            return Some(functional_key(schema.deps(), before.with(attribute)));
+        }
+        next = set.next_subset(free);
+    }
+    None
+}
+
+// Whether a set is no superkey of a scheme and becomes one with an attribute.
+fn becomes_superkey_by(schema: &Schema, scheme: AttrSet, set: AttrSet, attribute: u8) -> bool
+    requires scheme { IsSubset (attributes scheme) (universe_of schema.now) }
+    requires set { IsSubset (attributes set) (attributes scheme) }
+    requires attribute { attributes scheme attribute ≡ true }
+    ensures turned { IsTrue result
+        ↔ BecomesSuperkeyBy (width_of schema.now) (functional_part (theory_of schema.now))
+        (attributes scheme) (attributes set) attribute }
+{
+    is_superkey(schema, scheme, set.with(attribute)) && !is_superkey(schema, scheme, set)
+}
+
+// Whether a set determines all of a scheme by the functional dependencies.
+fn is_superkey(schema: &Schema, scheme: AttrSet, set: AttrSet) -> bool
+    requires scheme { IsSubset (attributes scheme) (universe_of schema.now) }
+    requires set { IsSubset (attributes set) (attributes scheme) }
+    ensures superkey { IsTrue result
+        ↔ IsSuperkey (width_of schema.now) (functional_part (theory_of schema.now))
+        (attributes scheme) (attributes set) }
+{
+    follows(schema.deps(), set, scheme)
+}

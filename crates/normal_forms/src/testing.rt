@@ -1,0 +1,85 @@
+ghost use Rattle.std.specs.Prelude.{◌≡◌, ◌↔◌, IsErr, IsNone, IfOk, IfErr, IfSome};
+ghost use Rattle.attr_sets.specs.Attributes.{IsSubset};
+ghost use Rattle.attr_sets.specs.Sets.{attributes};
+ghost use Rattle.dep_model.specs.Schemas.{width_of, universe_of, theory_of};
+ghost use Rattle.normal_forms.specs.Chosen.{IsInForm, IsWide, IsChosenViolation};
+ghost use Rattle.normal_forms.specs.Chosen.{IsVisibleViolation, HasNoVisibleViolation};
+
+use crate::breaking::{breaks, first_breaking, right_side};
+use crate::forms::{Breach, Form, TooWide, WIDEST_TESTED};
+use crate::kinds::is_functional;
+use crate::narrowing::searched_attributes;
+use crate::third::third_violation;
+use attr_sets::AttrSet;
+use dep_model::{Schema, sides};
+
+/// The violation of a form on a scheme, where the scheme is not in the form: of its subsets, in
+/// the order of sets, the first that violates the form, with its right side. For third form that
+/// is the first attribute beyond the left side that it determines and that is not prime, for
+/// Boyce-Codd form all that it determines beyond itself, for fourth form the part with the first
+/// attribute beyond it. A scheme of more than `WIDEST_TESTED` attributes is not tested.
+///
+/// The time is exponential at worst: with k attributes of given left sides in the scheme, 2 to the
+/// power k subsets are tried. For third form they are tried again for each attribute of which it is
+/// asked whether it is prime.
+pub fn violation(schema: &Schema, scheme: AttrSet, form: Form) -> Result<Option<Breach>, TooWide>
+    requires scheme { IsSubset (attributes scheme) (universe_of schema.now) }
+    ensures too_wide { IsErr result ↔ IsWide (attributes scheme) }
+    ensures scheme { IfErr result (λ refusal. refusal.scheme ≡ scheme) }
+    ensures none { IfOk result (λ found. IsNone found
+        ↔ IsInForm (width_of schema.now) (theory_of schema.now) form (attributes scheme)) }
+    ensures chosen { IfOk result (λ found. IfSome found (λ breach.
+        IsChosenViolation (width_of schema.now) (theory_of schema.now) form (attributes scheme)
+        (attributes breach.lhs) (attributes breach.rhs))) }
+{
+    if scheme.len() > WIDEST_TESTED {
+        return Err(TooWide { scheme });
+    }
+    match form {
+        Form::Third => Ok(third_violation(schema, scheme)),
+        Form::Bcnf | Form::Fourth => Ok(first_violation(schema, scheme, form)),
+    }
+}
+
+// The chosen violation of Boyce-Codd or fourth form.
+fn first_violation(schema: &Schema, scheme: AttrSet, form: Form) -> Option<Breach>
+    requires scheme { IsSubset (attributes scheme) (universe_of schema.now) }
+    requires form { form ≡ Form.Third → ⊥ }
+    ensures none { IsNone result
+        ↔ IsInForm (width_of schema.now) (theory_of schema.now) form (attributes scheme) }
+    ensures chosen { IfSome result (λ breach.
+        IsChosenViolation (width_of schema.now) (theory_of schema.now) form (attributes scheme)
+        (attributes breach.lhs) (attributes breach.rhs)) }
+{
+    let functional = is_functional(schema.deps());
+    let whole = searched_attributes(schema, scheme, form, functional);
+    match first_breaking(schema, scheme, form, functional, whole) {
+        Some(lhs) => {
+            let rhs = right_side(schema, scheme, form, lhs);
+            Some(Breach { lhs, rhs })
+        }
+        None => None,
+    }
+}
+
+/// The first given dependency, in the order of the file, whose left side lies within a scheme and
+/// violates Boyce-Codd or fourth form on it, with the right side as for `violation`. A scheme of
+/// any width is looked at, with one test for each given left side.
+pub fn visible_violation(schema: &Schema, scheme: AttrSet, form: Form) -> Option<Breach>
+    requires scheme { IsSubset (attributes scheme) (universe_of schema.now) }
+    requires form { form ≡ Form.Third → ⊥ }
+    ensures none { IsNone result
+        ↔ HasNoVisibleViolation (width_of schema.now) (theory_of schema.now) form (attributes scheme) }
+    ensures visible { IfSome result (λ breach.
+        IsVisibleViolation (width_of schema.now) (theory_of schema.now) form (attributes scheme)
+        (attributes breach.lhs) (attributes breach.rhs)) }
+{
+    for dep in schema.deps() {
+        let (lhs, _) = sides(*dep);
+        if lhs.is_subset(scheme) && breaks(schema, scheme, form, false, lhs) {
+            let rhs = right_side(schema, scheme, form, lhs);
+            return Some(Breach { lhs, rhs });
+        }
+    }
+    None
+}

@@ -1,0 +1,122 @@
+-- What is wrong with a plan text, and which refusal is the first: for `read_plan` and the commands
+-- that read plans (`desk_cli/Plans`).
+use Rattle.std.specs.Prelude.{◌≡◌, ◌<◌, ◌≤◌, ◌⊎◌, ℕ, ◌+◌, zero, suc, Bool, true, false, not, ◌&&◌, if◌then◌else◌, List, [], ◌∷◌, length, Option, Some, None}
+use Rattle.std.specs.List.{list_any}
+use Rattle.attr_sets.specs.Attributes.{Attributes, below, IsFirstFrom}
+use Rattle.lexer.specs.declared.token.Mode.TheVariants as mode
+use Rattle.lexer.specs.declared.token.LexError.{LexError}
+use Rattle.lexer.specs.declared.token.TokenKind.TheVariants as token
+use Rattle.lexer.specs.Lines.{line_texts, without_mark}
+use Rattle.lexer.specs.Tokens.{Mark, lex}
+use Rattle.schema_grammar.specs.declared.format.Format.TheVariants as format
+use Rattle.schema_grammar.specs.declared.refusal.Span.{Span}
+use Rattle.schema_grammar.specs.declared.refusal.What.{What}
+use Rattle.schema_grammar.specs.declared.refusal.What.TheVariants as what
+use Rattle.schema_grammar.specs.Diagnostics.{DiagnosesOfWord, Carries, flaw_number, span_at}
+use Rattle.schema_grammar.specs.Words.{is_reserved}
+use Rattle.plan_grammar.specs.declared.refusal.PlanRefusal.{PlanRefusal}
+use Rattle.plan_grammar.specs.declared.refusal.PlanRefusal.TheVariants as plan
+use Rattle.plan_grammar.specs.declared.refusal.TheConstants.{MOST_SCHEMES}
+use Rattle.plan_grammar.specs.Meanings.{is_scheme, MeansSchemeLines}
+use Rattle.plan_grammar.specs.Refusals.{plan_refusal_number}
+
+-- bytes that are no token
+abbrev pub FlawDiagnostic : Option LexError → ℕ → Type 0
+FlawDiagnostic stop number = (s : LexError) × (stop ≡ Some s) × (number ≡ flaw_number s.flaw)
+
+-- what is wrong with the first token of a line, before which so many scheme lines stand: it is another
+-- one than the word `scheme`, or begins one scheme line too many
+abbrev pub FirstTokenDiagnostic : ℕ → Mark → ℕ → Type 0
+FirstTokenDiagnostic earlier m number =
+    ((is_scheme m.kind m.word ≡ false)
+    × (((number ≡ 3) × (m.kind ≡ token.Identifier) × (is_reserved format.Plain m.word ≡ true))
+    ⊎ (number ≡ 6)))
+    ⊎ ((is_scheme m.kind m.word ≡ true) × (MOST_SCHEMES ≤ earlier) × (number ≡ 12))
+
+-- what is wrong with a token after the word `scheme`; `first` is whether it stands right after it
+abbrev pub WordDiagnostic : List (List ℕ) → Bool → Mark → ℕ → Type 0
+WordDiagnostic names first m number =
+    DiagnosesOfWord format.Plain names m number
+    ⊎ (((first ≡ true) × (m.kind ≡ token.Empty) × (number ≡ 10))
+    ⊎ ((m.kind ≡ token.Identifier → ⊥) × (first ≡ true → m.kind ≡ token.Empty → ⊥) × (number ≡ 6)))
+
+-- what is wrong after the word `scheme` at a position, before which so many tokens stand there
+abbrev pub WordsDiagnostic : List (List ℕ) → Bool → List Mark → Option LexError → ℕ → ℕ → Type 0
+WordsDiagnostic names first [] stop position number =
+    (position ≡ 0) × (((stop ≡ None) × (first ≡ true) × (number ≡ 10)) ⊎ FlawDiagnostic stop number)
+WordsDiagnostic names first (m ∷ ms) stop zero number = WordDiagnostic names first m number
+WordsDiagnostic names first (m ∷ ms) stop (suc position) number = WordsDiagnostic names false ms stop position number
+
+-- what is wrong with a line at a position, before which so many of its tokens stand
+abbrev pub SchemeLineDiagnostic : List (List ℕ) → ℕ → List Mark → Option LexError → ℕ → ℕ → Type 0
+SchemeLineDiagnostic names earlier [] stop position number = (position ≡ 0) × FlawDiagnostic stop number
+SchemeLineDiagnostic names earlier (m ∷ ms) stop zero number = FirstTokenDiagnostic earlier m number
+SchemeLineDiagnostic names earlier (m ∷ ms) stop (suc position) number =
+    WordsDiagnostic names true ms stop position number
+
+-- what a refusal 6 carries at a position after the word `scheme`
+abbrev pub wanted_after : Bool → ℕ → What
+wanted_after first zero = if first then what.Name else what.LineEnd
+wanted_after first (suc position) = wanted_after false position
+
+-- and at a position of the line
+abbrev pub scheme_wanted : ℕ → What
+scheme_wanted zero = what.Scheme
+scheme_wanted (suc position) = wanted_after true position
+
+-- a refusal stands at a position of a line
+abbrev pub SpansPosition : ℕ → (ℕ → Span) → (ℕ → What) → ℕ → PlanRefusal → Type 0
+SpansPosition line span want position (plan.Text e) = (e.span ≡ span position) × Carries (λ w. w ≡ want position) e.kind
+SpansPosition line span want position (plan.EmptyScheme l) = l ≡ line
+SpansPosition line span want position (plan.TooManySchemes l) = l ≡ line
+SpansPosition line span want position (plan.NotCovered a) = ⊥
+
+-- a refusal is the diagnostic at the first position, and there that of the least number
+pub record IsFirstOf (Diagnostic : ℕ → ℕ → Type 0) (Stands : ℕ → PlanRefusal → Type 0) (e : PlanRefusal)
+    : Type 0 where
+  pub position : ℕ
+  pub diagnostic : Diagnostic position (plan_refusal_number e)
+  pub there : Stands position e
+  pub least : (p n : ℕ) → Diagnostic p n → (position < p) ⊎ ((position ≡ p) × (plan_refusal_number e ≤ n))
+
+-- a line is refused by its first diagnostic
+abbrev pub RefusesLine : List (List ℕ) → ℕ → ℕ → List Mark → Option LexError → PlanRefusal → Type 0
+RefusesLine names line earlier ms stop e =
+    IsFirstOf (SchemeLineDiagnostic names earlier ms stop)
+    (SpansPosition line (span_at line 1 ms stop) scheme_wanted) e
+
+-- nothing is wrong with it
+abbrev pub IsFine : List (List ℕ) → ℕ → List Mark → Option LexError → Type 0
+IsFine names earlier ms stop = (position number : ℕ) → SchemeLineDiagnostic names earlier ms stop position number → ⊥
+
+-- how many scheme lines a line is with which nothing is wrong
+abbrev pub scheme_count : List Mark → ℕ
+scheme_count [] = 0
+scheme_count (m ∷ ms) = 1
+
+-- lines, of which the first has this number, are refused by the first line with which something is wrong
+abbrev pub RefusesSchemeLines : List (List ℕ) → ℕ → ℕ → List (List ℕ) → PlanRefusal → Type 0
+RefusesSchemeLines names number earlier [] e = ⊥
+RefusesSchemeLines names number earlier (line ∷ lines) e =
+    RefusesLine names number earlier (lex mode.Plain line).marks (lex mode.Plain line).stop e
+    ⊎ (IsFine names earlier (lex mode.Plain line).marks (lex mode.Plain line).stop
+    × RefusesSchemeLines names (number + 1) (earlier + scheme_count (lex mode.Plain line).marks) lines e)
+
+-- the attributes that are in no scheme
+abbrev pub uncovered_attributes : ℕ → List Attributes → Attributes
+uncovered_attributes n schemes k = below n k && not (list_any (λ scheme. scheme k) schemes)
+
+-- the lines mean schemes, and this is the first attribute that is in none
+pub record LeavesOut (names : List (List ℕ)) (lines : List (List ℕ)) (e : PlanRefusal) : Type 0 where
+  pub schemes : List Attributes
+  pub means : MeansSchemeLines names lines schemes
+  pub few : length schemes ≤ MOST_SCHEMES
+  pub attribute : ℕ
+  pub least : IsFirstFrom (uncovered_attributes (length names) schemes) 0 attribute
+  pub told : e ≡ plan.NotCovered attribute
+
+-- a plan text over declared names is refused so
+abbrev pub RefusesPlan : List (List ℕ) → List ℕ → PlanRefusal → Type 0
+RefusesPlan names text e =
+    RefusesSchemeLines names 1 0 (line_texts (without_mark text)) e
+    ⊎ LeavesOut names (line_texts (without_mark text)) e

@@ -1,0 +1,250 @@
+ghost use Rattle.std.specs.Prelude.{◌≡◌, ◌+◌, ◌<◌, ◌≤◌, ◌^◌, true, [], length, OnOk, IfOk, IfErr, Ok, Err};
+ghost use Rattle.attr_sets.specs.Attributes.{none};
+ghost use Rattle.attr_sets.specs.Sets.{attributes};
+ghost use Rattle.dep_model.specs.Failures.{RefusesAs};
+ghost use Rattle.dep_model.specs.Plans.{schemes_of};
+ghost use Rattle.dep_model.specs.Schemas.{names_of};
+ghost use Rattle.lexer.specs.Lines.{line_texts};
+ghost use Rattle.lexer.specs.Tokens.{tokens_after, lex};
+ghost use Rattle.tokens.specs.Views.{names_in};
+ghost use Rattle.schema_grammar.specs.Declarations.{mark_of};
+ghost use Rattle.schema_grammar.specs.Refusals.{Refuses, refusal};
+ghost use Rattle.plan_grammar.specs.Diagnostics.{RefusesPlan};
+ghost use Rattle.plan_grammar.specs.Meanings.{is_scheme, MeansPlan};
+ghost use Rattle.plan_grammar.specs.Reading.{attribute_of_token, no_scheme, read_words_lexed, read_scheme, read_scheme_line, read_scheme_lines};
+ghost use Rattle.plans.specs.Plans.{plan_of, IsPlanOver};
+
+use crate::covering::first_uncovered;
+use attr_sets::{AttrSet, MOST_ATTRIBUTES};
+use dep_model::{Failure, Schema};
+use lexer::{Mode, Next, Token, TokenKind, cut_line, next_token, without_mark};
+use plan_grammar::{MOST_SCHEMES, PlanRefusal};
+use plans::Plan;
+use schema_grammar::{Format, SchemaRefusal, SchemaRefusalKind, What};
+use std::alloc::Global;
+use tokens::{Guide, Names, is_reserved, look_up};
+
+/// The most bytes of a plan text.
+pub const MOST_PLAN_BYTES: usize = 1_048_576;
+
+/// The plan that a text means over the names of a schema, or its first diagnostic. A byte-order mark at
+/// its very start is skipped.
+pub fn read_plan(alloc: Global, schema: &Schema, text: &[u8]) -> Result<Plan, Failure<PlanRefusal>>
+    requires { length text.now ≤ MOST_PLAN_BYTES }
+    ensures universe { IfOk result (λ plan. IsPlanOver schema.now plan) }
+    ensures ok { IfOk result (λ plan. MeansPlan (names_of schema.now) text.now (plan_of plan)) }
+    ensures err { IfErr result (RefusesAs (RefusesPlan (names_of schema.now) text.now)) }
+{
+    let schemes = match read_lines(alloc, schema, without_mark(text)) {
+        Ok(schemes) => schemes,
+        Err(failure) => return Err(failure),
+    };
+    match first_uncovered(schema, &schemes) {
+        Some(attribute) => Err(Failure::Refused(PlanRefusal::NotCovered { attribute })),
+        None => Ok(Plan::new(schema, schemes)),
+    }
+}
+
+// Reads the lines of a text.
+fn read_lines(
+    alloc: Global,
+    schema: &Schema,
+    text: &[u8],
+) -> Result<Vec<AttrSet>, Failure<PlanRefusal>>
+    requires { length text.now ≤ MOST_PLAN_BYTES }
+    ensures ok { IfOk result (λ schemes. read_scheme_lines (names_of schema.now) 1 [] (line_texts text.now)
+        ≡ Ok (schemes_of schemes.items)) }
+    ensures err { IfErr result (λ failure. Refuses failure
+        (read_scheme_lines (names_of schema.now) 1 [] (line_texts text.now))) }
+{
+    let guide = Guide::of(schema);
+    let names = Names::Guided(schema, &guide);
+    let mut schemes = Vec::new(alloc);
+    let mut number = 1;
+    let mut rest = text;
+    'lines: loop {
+        let (line, after) = cut_line(rest);
+        match read_line(&names, number, line, &mut schemes) {
+            Err(failure) => return Err(failure),
+            Ok(()) => match after {
+                None => return Ok(schemes),
+                Some(lines) => {
+                    rest = lines;
+                    number += 1;
+                }
+            },
+        }
+    }
+}
+
+// Reads a line, and adds its scheme if it has tokens.
+#[tactic(auto, unfolding(plan_grammar::specs::Reading::read_scheme_line))]
+fn read_line(
+    names: &Names<'_>,
+    number: u32,
+    line: &[u8],
+    schemes: &mut Vec<AttrSet>,
+) -> Result<(), Failure<PlanRefusal>>
+    requires within_limit { length (names_in names.now) ≤ MOST_ATTRIBUTES }
+    requires fits_u32 { 1 + length line.now < 2 ^ 32 }
+    ensures ok { OnOk result (read_scheme_line (names_in names.now) number (schemes_of schemes.old.items)
+        (lex Mode.Plain line.now).marks (lex Mode.Plain line.now).stop ≡ Ok (schemes_of schemes.new.items)) }
+    ensures err { IfErr result (λ failure. Refuses failure (read_scheme_line (names_in names.now) number
+        (schemes_of schemes.old.items) (lex Mode.Plain line.now).marks (lex Mode.Plain line.now).stop)) }
+{
+    match next_token(Mode::Plain, 1, line) {
+        Next::End => Ok(()),
+        Next::Error(stop) => {
+            let refusal = PlanRefusal::Text(SchemaRefusal::by(number, stop));
+            Err(Failure::Refused(refusal))
+        }
+        Next::Token(token, word, rest) => {
+            match read_scheme(names, number, schemes.len(), token, word, rest) {
+                Err(refusal) => Err(Failure::Refused(refusal)),
+                Ok(scheme) => Ok(schemes.push(scheme)?),
+            }
+        }
+    }
+}
+
+// The scheme of a line of which the first token is taken, where so many scheme lines stand before it.
+fn read_scheme(
+    names: &Names<'_>,
+    number: u32,
+    earlier: usize,
+    token: Token,
+    word: &[u8],
+    rest: &[u8],
+) -> Result<AttrSet, PlanRefusal>
+    requires within_limit { length (names_in names.now) ≤ MOST_ATTRIBUTES }
+    requires fits_u32 { token.column + token.length + length rest.now < 2 ^ 32 }
+    requires word { token.length ≡ length word.now }
+    ensures ok { IfOk result (λ scheme.
+        read_scheme (names_in names.now) number earlier (mark_of token word.now)
+        (tokens_after Mode.Plain 0 (token.column + token.length) rest.now) ≡ Ok (attributes scheme)) }
+    ensures err { IfErr result
+        (λ refusal. read_scheme (names_in names.now) number earlier (mark_of token word.now)
+        (tokens_after Mode.Plain 0 (token.column + token.length) rest.now) ≡ Err refusal) }
+{
+    if !is_scheme(token.kind, word) {
+        return Err(refusal_of_token(number, token, no_scheme(token.kind, word)));
+    }
+    if earlier >= MOST_SCHEMES {
+        return Err(PlanRefusal::TooManySchemes { line: number });
+    }
+    read_words(names, number, token.column + token.length, rest)
+}
+
+// Whether a token is the word `scheme`, in lower case.
+#[tactic(auto, unfolding(plan_grammar::specs::Meanings::is_scheme))]
+fn is_scheme(kind: TokenKind, word: &[u8]) -> bool
+    ensures exact { result ≡ is_scheme kind word.now }
+{
+    match kind {
+        TokenKind::Identifier => word == b"scheme".as_slice(),
+        _ => false,
+    }
+}
+
+// Why a line can't begin with a token.
+fn no_scheme(kind: TokenKind, word: &[u8]) -> SchemaRefusalKind
+    ensures exact { result ≡ no_scheme kind word.now }
+{
+    match kind {
+        TokenKind::Identifier => {
+            if is_reserved(Format::Plain, word) {
+                SchemaRefusalKind::ReservedName
+            } else {
+                SchemaRefusalKind::Expected(What::Scheme)
+            }
+        }
+        _ => SchemaRefusalKind::Expected(What::Scheme),
+    }
+}
+
+// The attributes that the tokens after the word `scheme` stand for.
+fn read_words(
+    names: &Names<'_>,
+    line: u32,
+    column: u32,
+    text: &[u8],
+) -> Result<AttrSet, PlanRefusal>
+    requires within_limit { length (names_in names.now) ≤ MOST_ATTRIBUTES }
+    requires fits_u32 { column + length text.now < 2 ^ 32 }
+    ensures ok { IfOk result (λ scheme. read_words_lexed (names_in names.now) line true none
+        (tokens_after Mode.Plain 0 column text.now) ≡ Ok (attributes scheme)) }
+    ensures err { IfErr result (λ refusal. read_words_lexed (names_in names.now) line true none
+        (tokens_after Mode.Plain 0 column text.now) ≡ Err refusal) }
+{
+    let mut set = AttrSet::empty();
+    let mut first = true;
+    let mut column = column;
+    let mut rest = text;
+    'words: loop {
+        match next_token(Mode::Plain, column, rest) {
+            Next::End => {
+                return if first {
+                    Err(PlanRefusal::EmptyScheme { line })
+                } else {
+                    Ok(set)
+                };
+            }
+            Next::Error(stop) => return Err(PlanRefusal::Text(SchemaRefusal::by(line, stop))),
+            Next::Token(token, word, others) => {
+                match attribute_of_token(names, line, first, token, word) {
+                    Err(refusal) => return Err(refusal),
+                    Ok(attribute) => {
+                        set = set.with(attribute);
+                        first = false;
+                        column = token.column + token.length;
+                        rest = others;
+                    }
+                }
+            }
+        }
+    }
+}
+
+// The attribute that a token after the word `scheme` stands for; `first` is whether it stands right
+// after it.
+fn attribute_of_token(
+    names: &Names<'_>,
+    line: u32,
+    first: bool,
+    token: Token,
+    word: &[u8],
+) -> Result<u8, PlanRefusal>
+    requires within_limit { length (names_in names.now) ≤ MOST_ATTRIBUTES }
+    requires word { token.length ≡ length word.now }
+    ensures ok { IfOk result (λ attribute.
+        attribute_of_token (names_in names.now) line first (mark_of token word.now) token.kind ≡ Ok attribute) }
+    ensures inside { IfOk result (λ attribute. attribute < length (names_in names.now)) }
+    ensures err { IfErr result (λ refusal.
+        attribute_of_token (names_in names.now) line first (mark_of token word.now) token.kind ≡ Err refusal) }
+{
+    match token.kind {
+        TokenKind::Identifier => match look_up(names, Format::Plain, word) {
+            Ok(attribute) => Ok(attribute),
+            Err(kind) => Err(refusal_of_token(line, token, kind)),
+        },
+        TokenKind::Empty => {
+            if first {
+                Err(PlanRefusal::EmptyScheme { line })
+            } else {
+                let kind = SchemaRefusalKind::Expected(What::LineEnd);
+                Err(refusal_of_token(line, token, kind))
+            }
+        }
+        _ => {
+            let want = if first { What::Name } else { What::LineEnd };
+            Err(refusal_of_token(line, token, SchemaRefusalKind::Expected(want)))
+        }
+    }
+}
+
+// The refusal of a token.
+fn refusal_of_token(line: u32, token: Token, kind: SchemaRefusalKind) -> PlanRefusal
+    ensures refusal { result ≡ PlanRefusal.Text (refusal line token.column token.length kind) }
+{
+    PlanRefusal::Text(SchemaRefusal::at(line, token.column, token.length, kind))
+}

@@ -1,0 +1,37 @@
+-- What holds of the certificate lines that were read so far: for the reader of certificates,
+-- proof_text. `Desk` does not cite it.
+use Rattle.std.specs.Prelude.{◌≡◌, ◌≤◌, ◌+◌, ℕ, List, [], ◌∷◌, length, Option, Some, None}
+use Rattle.dep_model.specs.declared.schema.Schema.{Schema}
+use Rattle.derivation.specs.Trees.{nodes, depth}
+use Rattle.derivation.specs.Conclusions.{Proves}
+use Rattle.derivation.specs.declared.measures.TheConstants.{MOST_NODES, MOST_LEVELS}
+use Rattle.proof_grammar.specs.CheckerStates.{Opened, CheckerStateValue}
+
+-- an open line proves its conclusion
+pub record Stands (s : Schema) (o : Opened) : Type 0 where
+  pub proves : Proves s o.tree o.conclusion
+  pub levels : depth o.tree ≡ o.levels
+  pub few : o.levels ≤ MOST_LEVELS
+
+abbrev pub IfOpen : Schema → Option Opened → Type 0
+IfOpen s None = Unit {0}
+IfOpen s (Some o) = Stands s o
+
+abbrev pub AllStand : Schema → List (Option Opened) → Type 0
+AllStand s [] = Unit {0}
+AllStand s (o ∷ os) = IfOpen s o × AllStand s os
+
+-- how many nodes the open lines have
+abbrev pub open_nodes : Option Opened → ℕ
+open_nodes None = 0
+open_nodes (Some o) = nodes o.tree
+
+abbrev pub all_nodes : List (Option Opened) → ℕ
+all_nodes [] = 0
+all_nodes (o ∷ os) = open_nodes o + all_nodes os
+
+-- a checker state of lines that stand, in which each line's node stands once
+pub record IsCheckerState (s : Schema) (book : CheckerStateValue) : Type 0 where
+  pub stand : AllStand s book.unused
+  pub count : all_nodes book.unused ≡ length book.unused
+  pub few : length book.unused ≤ MOST_NODES

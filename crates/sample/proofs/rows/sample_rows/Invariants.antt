@@ -1,7 +1,0 @@
-use Rattle.std.proofs.Common.{◌≡◌}
-use Rattle.sample.specs.Sample.{sample_relation}
-use Rattle.sample.proofs.rows.sample_rows.Given as goal
-
--- the rows of the persons so far
-abbrev pub invariant-loop-person : goal.invariant-loop-person
-invariant-loop-person l = record { rows : l.rows ≡ sample_relation l.person }

@@ -1,0 +1,52 @@
+ghost use Rattle.std.specs.Prelude.{◌≡◌, ◌<◌, ◌∷◌, [], ℕ, slice_get, Some, IfOk, true};
+ghost use Rattle.dep_model.specs.Names.{is_name};
+ghost use Rattle.dep_model.specs.Schemas.{columns_of, lines_of, names_of, theory_of, width_of};
+ghost use Rattle.sample_rows.specs.Sample.{sample_names, sample_theory};
+
+use attr_sets::AttrSet;
+use dep_model::{Column, Dep, Name, OutOfMemory, Schema};
+use std::alloc::Global;
+
+/// The schema of the sample, as the text
+/// `attributes PERSON CITY SKILL TONGUE`, `PERSON -> CITY`, `PERSON ->> SKILL` of three lines means it.
+pub fn sample_schema(alloc: Global) -> Result<Schema, OutOfMemory>
+    ensures names { IfOk result (λ s. names_of s ≡ sample_names) }
+    ensures columns { IfOk result
+        (λ s. (i : ℕ) → i < width_of s → slice_get (columns_of s) i ≡ Some Column.Text) }
+    ensures theory { IfOk result (λ s. theory_of s ≡ sample_theory) }
+    ensures lines { IfOk result (λ s. lines_of s ≡ 2 ∷ 3 ∷ []) }
+{
+    let names = Vec::from_array(
+        alloc,
+        [
+            name_of_word(b"PERSON"),
+            name_of_word(b"CITY"),
+            name_of_word(b"SKILL"),
+            name_of_word(b"TONGUE"),
+        ],
+    )?;
+    let person = AttrSet::single(0);
+    let deps = Vec::from_array(
+        alloc,
+        [
+            Dep::Fd {
+                lhs: person,
+                rhs: AttrSet::single(1),
+            },
+            Dep::Mvd {
+                lhs: person,
+                rhs: AttrSet::single(2),
+            },
+        ],
+    )?;
+    let lines = Vec::from_array(alloc, [2, 3])?;
+    Ok(Schema::new(names, deps, lines))
+}
+
+// The name that a word is.
+fn name_of_word(word: &[u8]) -> Name
+    requires name { is_name word.now ≡ true }
+    ensures name { result ≡ word.now }
+{
+    Name::new(word).unwrap()
+}

@@ -1,0 +1,5 @@
+use Rattle.schema_grammar.proofs.DiagnosticLaws.{goal-diagnostic-law}
+use Rattle.schema_grammar.proofs.laws.goal_diagnostic.Goals as goal
+
+pub returns : goal.returns
+returns c = record { law = goal-diagnostic-law }

@@ -1,5 +1,0 @@
-use Rattle.schema_grammar.proofs.LinesLaws.{line-law}
-use Rattle.schema_grammar.proofs.laws.line_complaint.Goals as goal
-
-pub returns : goal.returns
-returns c = record { law = line-law }

@@ -1,5 +1,0 @@
-use Rattle.schema_grammar.proofs.LinesLaws.{lines-law}
-use Rattle.schema_grammar.proofs.laws.lines_complaint.Goals as goal
-
-pub returns : goal.returns
-returns c = record { law = lines-law }

@@ -1,0 +1,5 @@
+use Rattle.schema_grammar.proofs.RiseLemmas.{positions-law}
+use Rattle.schema_grammar.proofs.laws.positions_rise.Goals as goal
+
+pub returns : goal.returns
+returns c = record { law = positions-law }

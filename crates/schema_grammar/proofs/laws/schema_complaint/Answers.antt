@@ -1,5 +1,0 @@
-use Rattle.schema_grammar.proofs.TextLaws.{text-law}
-use Rattle.schema_grammar.proofs.laws.schema_complaint.Goals as goal
-
-pub returns : goal.returns
-returns c = record { law = text-law }

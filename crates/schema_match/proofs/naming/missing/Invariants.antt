@@ -1,6 +1,0 @@
-use Rattle.std.proofs.Common.{◌≡◌, ℕ, ◌<◌, false}
-use Rattle.schema_match.specs.Columns.{undeclared}
-use Rattle.schema_match.proofs.naming.missing.Given as goal
-
-abbrev pub invariant-loop-a : goal.invariant-loop-a
-invariant-loop-a l = (b : ℕ) → b < l.a → undeclared l.schema l.other b ≡ false

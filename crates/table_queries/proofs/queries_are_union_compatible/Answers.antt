@@ -1,0 +1,5 @@
+use Rattle.table_queries.proofs.CompatibleLemmas.{breaches_even, differences_even}
+use Rattle.table_queries.proofs.queries_are_union_compatible.Goals as goal
+
+pub returns : goal.returns
+returns c = record { rules = breaches_even; plans = differences_even }

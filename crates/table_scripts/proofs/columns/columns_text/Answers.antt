@@ -1,0 +1,25 @@
+use Rattle.std.proofs.Common.{◌∙◌, refl, sym}
+use Rattle.attr_sets.specs.Sets.{attributes}
+use Rattle.dep_model.proofs.SchemeLemmas.{members_below-none}
+use Rattle.table_scripts.specs.QueryTexts.{column_item}
+use Rattle.table_scripts.proofs.ItemLemmas.{listed_more, some_more, members_passed}
+use Rattle.table_scripts.proofs.columns.columns_text.Goals as goal
+use Rattle.table_scripts.proofs.columns.columns_text.Goals.{then-contains+in_ok-column_item+in_ok-add_listed, else-contains}
+
+pub loop-attribute-init : goal.loop-attribute-init
+loop-attribute-init c = rw (members_below-none (attributes c.args.set)) (record { listed = c.new-text.ensures.items; some = refl })
+
+pub loop-attribute-preserved : goal.loop-attribute-preserved
+loop-attribute-preserved c =
+    let x = attributes c.args.set in
+    let n = c.loop-attribute.attribute in
+    let before = c.loop-attribute.invariant in
+    elim c.if-contains.branch [
+      | then-contains+in_ok-column_item+in_ok-add_listed w ↦ rw (w.text-is, w.some-is) (record {
+        listed = listed_more (column_item c.args.schema.now) x n c.loop-attribute.some c.loop-attribute.text.items w.add_listed.new.text.items w.deref.result.now
+            (sym w.if-contains.ensures.member) before.listed before.some (w.deref.ensures.value ∙ w.in_ok-column_item.ensures.text)
+            w.in_ok-add_listed.ensures.added;
+        some = some_more x n (sym w.if-contains.ensures.member);
+      })
+      | else-contains w ↦ rw (members_passed x n (sym w.if-contains.ensures.member), w.text-is, w.some-is) before
+    ]

@@ -1,8 +1,0 @@
-use Rattle.attr_sets.specs.Sets.{places}
-use Rattle.table_scripts.proofs.JoiningLemmas.{attributes_more}
-use Rattle.table_scripts.proofs.joining.attributes.Goals as goal
-
-pub loop-design-preserved : goal.loop-design-preserved
-loop-design-preserved c =
-    attributes_more c.args.designs.now c.loop-design.design-index c.design-item.result (places c.loop-design.set) (places c.union-set.result)
-    c.loop-design-test.true c.design-item.is c.loop-design.invariant c.union-set.ensures.members

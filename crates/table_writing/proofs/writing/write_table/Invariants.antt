@@ -1,0 +1,16 @@
+use Rattle.std.proofs.Common.{◌≡◌, length, take, Some}
+use Rattle.destinations.specs.Destinations.{KeepsFinished}
+use Rattle.table_writing.proofs.writing.write_table.Given as goal
+
+-- the table is open, with the rows so far
+abbrev pub invariant-loop-row : goal.invariant-loop-row
+invariant-loop-row g l =
+    let destination = g.T.Destination in
+    record {
+      is_known : destination.is_known l.destination ≡ destination.is_known l.fn.destination;
+      keeps : KeepsFinished (destination.finished l.fn.destination) (destination.finished l.destination);
+      opened : destination.opened l.destination
+          (record { name = l.table.held.name; columns = l.table.held.columns.items; rows = take l.row-index l.table.held.rows.items });
+      width : destination.width l.destination ≡ Some (length l.table.held.columns.items);
+      fine : destination.faults l.destination ≡ destination.faults l.fn.destination;
+    }

@@ -1,0 +1,99 @@
+ghost use Rattle.std.specs.Prelude.{◌≡◌, ◌≤◌, ◌^◌, ◌<◌, [], ◌∷◌, length, IfOk, OnOk, OnErr};
+ghost use Rattle.desk_outside.specs.Causes.{HasOutsideCause};
+ghost use Rattle.destinations.specs.Destinations.{KeepsFinished};
+ghost use Rattle.named_tables.specs.Tables.{table_value, table_values};
+ghost use Rattle.table_writing.specs.Writing.{HasAll, WrittenDestination, AtEachPosition};
+
+use crate::end::WriteOutcome;
+use dep_model::OutOfMemory;
+use desk_outside::OutsideFault;
+use destinations::Destination;
+use named_tables::NamedTable;
+use std::alloc::Global;
+
+/// Each destination in order gets each table in order, up to its first fault.
+///
+/// The memory for the ends is taken before the first call of a destination.
+pub fn write_tables(
+    alloc: Global,
+    destinations: &mut Vec<Box<dyn Destination>>,
+    tables: &[NamedTable],
+) -> Result<Vec<WriteOutcome>, OutOfMemory>
+    ensures written { IfOk result (λ ends. AtEachPosition
+        (WrittenDestination ⟦<Box<dyn Destination> as Destination>⟧.is_known ⟦<Box<dyn Destination> as Destination>⟧.finished
+        ⟦<Box<dyn Destination> as Destination>⟧.faults (table_values tables.now))
+        destinations.old.items destinations.new.items ends.items) }
+    ensures err { OnErr result (destinations.new.items ≡ destinations.old.items) }
+{
+    write_tables_to_list(alloc, destinations, tables)
+}
+
+/// The same, of destinations of one type.
+pub fn write_tables_to_list<T: Destination>(
+    alloc: Global,
+    destinations: &mut Vec<T>,
+    tables: &[NamedTable],
+) -> Result<Vec<WriteOutcome>, OutOfMemory>
+    ensures written { IfOk result
+        (λ ends. AtEachPosition (WrittenDestination T.is_known T.finished T.faults
+        (table_values tables.now))
+        destinations.old.items destinations.new.items ends.items) }
+    ensures err { OnErr result (destinations.new.items ≡ destinations.old.items) }
+{
+    write_tables_to_each(alloc, destinations, tables)
+}
+
+// Each destination of a slice.
+fn write_tables_to_each<T: Destination>(
+    alloc: Global,
+    destinations: &mut [T],
+    tables: &[NamedTable],
+) -> Result<Vec<WriteOutcome>, OutOfMemory>
+    requires { length destinations.old < 2 ^ 64 }
+    ensures written { IfOk result
+        (λ ends. AtEachPosition (WrittenDestination T.is_known T.finished T.faults
+        (table_values tables.now))
+        destinations.old destinations.new ends.items) }
+    ensures err { OnErr result (destinations.new ≡ destinations.old) }
+{
+    let Ok(mut ends) = Vec::with_capacity(alloc, destinations.len()) else {
+        return Err(OutOfMemory);
+    };
+    for destination in destinations.iter_mut() {
+        let end = write_tables_to_one(destination, tables);
+        ends.push_reserved(end);
+    }
+    Ok(ends)
+}
+
+// All tables into one destination, up to its first fault.
+fn write_tables_to_one<T: Destination>(destination: &mut T, tables: &[NamedTable]) -> WriteOutcome
+    ensures written { WrittenDestination T.is_known T.finished T.faults (table_values tables.now)
+        destination.old destination.new result }
+{
+    for table in tables {
+        match write_table(destination, table) {
+            Ok(()) => {}
+            Err(OutsideFault::Failed) => return WriteOutcome::Failed,
+            Err(OutsideFault::OutOfMemory) => return WriteOutcome::OutOfMemory,
+        }
+    }
+    WriteOutcome::Done
+}
+
+// One table into one destination.
+#[tactic(auto, using(crate::proofs::WriteLemmas::row_next))]
+fn write_table<T: Destination>(destination: &mut T, table: &NamedTable) -> Result<(), OutsideFault>
+    ensures is_known { T.is_known destination.new ≡ T.is_known destination.old }
+    ensures ok { OnOk result (HasAll (table_value table.now
+        ∷ []) (T.finished destination.old) (T.finished destination.new)) }
+    ensures keeps { OnErr result (KeepsFinished (T.finished destination.old)
+        (T.finished destination.new)) }
+    ensures cause { HasOutsideCause (T.faults destination.old) (T.faults destination.new) result }
+{
+    destination.begin_table(&table.held.name, &table.held.columns)?;
+    for row in &table.held.rows {
+        destination.put_row(row)?;
+    }
+    destination.end_table()
+}

@@ -1,0 +1,161 @@
+//! Steps by functional dependencies, until none changes the tableau.
+
+ghost use Rattle.std.specs.Prelude.{◌≡◌, ◌<◌, ◌≤◌, ◌^◌, ℕ, false, length, All, Contains, IfOk, OnOk};
+ghost use Rattle.attr_sets.specs.Attributes.{Attributes};
+ghost use Rattle.attr_sets.specs.Sets.{attributes};
+ghost use Rattle.attr_sets.specs.declared.set.TheConstants.{MOST_ATTRIBUTES};
+ghost use Rattle.dep_model.specs.Dependencies.{fd};
+ghost use Rattle.dep_model.specs.Deps.{dependency_of, dependencies_of};
+ghost use Rattle.dep_model.specs.Projections.{members_below};
+ghost use Rattle.chase_laws.specs.Tableaux.{IsTableauOver};
+ghost use Rattle.chase_laws.specs.Steps.{replace_symbol};
+ghost use Rattle.chase_laws.specs.Rounds.{ClosesFunctionallyTo};
+ghost use Rattle.tableau_chase.specs.Equating.{Changes, KeepsRows, AgreesBy, IsEquatedAt, AreEquated, AreGroupedBy, AreGrouped};
+
+use crate::row_groups::{leaders, members};
+use crate::symbol_row::SymbolRow;
+use attr_sets::AttrSet;
+use dep_model::{Dep, OutOfMemory};
+use std::alloc::Global;
+
+/// Takes steps by functional dependencies until none changes the tableau.
+pub fn close_functionally(
+    alloc: Global,
+    rows: &mut [SymbolRow],
+    deps: &[Dep],
+    width: u8,
+) -> Result<(), OutOfMemory>
+    requires width { width ≤ MOST_ATTRIBUTES }
+    requires over { IsTableauOver width rows.old }
+    requires fits_u32 { length rows.old < 2 ^ 32 }
+    ensures closes { OnOk result (ClosesFunctionallyTo (dependencies_of deps.now) rows.old rows.new) }
+    ensures count { OnOk result (length rows.new ≡ length rows.old) }
+{
+    let mut changed = true;
+    while changed {
+        changed = take_steps(alloc, rows, deps, width)?;
+    }
+    Ok(())
+}
+
+// Takes the steps of each functional dependency in turn, and says whether there were some.
+fn take_steps(
+    alloc: Global,
+    rows: &mut [SymbolRow],
+    deps: &[Dep],
+    width: u8,
+) -> Result<bool, OutOfMemory>
+    requires width { width ≤ MOST_ATTRIBUTES }
+    requires over { IsTableauOver width rows.old }
+    requires fits_u32 { length rows.old < 2 ^ 32 }
+    ensures changes { IfOk result (λ changed. Changes (dependencies_of deps.now) changed rows.old rows.new) }
+    ensures keeps { OnOk result (KeepsRows rows.old rows.new) }
+    ensures obeyed { IfOk result
+        (λ changed. changed ≡ false → (x y : Attributes) → Contains (dependencies_of deps.now) (fd x y)
+        → AgreesBy x y rows.old) }
+{
+    let mut changed = false;
+    for dep in deps {
+        if take_steps_by(alloc, rows, *dep, width)? {
+            changed = true;
+        }
+    }
+    Ok(changed)
+}
+
+// Takes the steps of a functional dependency; of a multivalued one there are none.
+fn take_steps_by(
+    alloc: Global,
+    rows: &mut [SymbolRow],
+    dep: Dep,
+    width: u8,
+) -> Result<bool, OutOfMemory>
+    requires width { width ≤ MOST_ATTRIBUTES }
+    requires over { IsTableauOver width rows.old }
+    requires fits_u32 { length rows.old < 2 ^ 32 }
+    ensures grouped { IfOk result (λ changed. AreGroupedBy (dependency_of dep) rows.old rows.new changed) }
+{
+    match dep {
+        Dep::Fd { lhs, rhs } => equate_groups(alloc, rows, lhs, rhs, width),
+        Dep::Mvd { lhs: _, rhs: _ } => Ok(false),
+    }
+}
+
+// Makes rows that agree on the left side agree on the right one.
+fn equate_groups(
+    alloc: Global,
+    rows: &mut [SymbolRow],
+    lhs: AttrSet,
+    rhs: AttrSet,
+    width: u8,
+) -> Result<bool, OutOfMemory>
+    requires width { width ≤ MOST_ATTRIBUTES }
+    requires over { IsTableauOver width rows.old }
+    requires fits_u32 { length rows.old < 2 ^ 32 }
+    ensures grouped { IfOk result (λ changed.
+        AreGrouped (attributes lhs) (attributes rhs) rows.old rows.new changed) }
+{
+    let leaders = leaders(alloc, rows, lhs, width)?;
+    let listed = members(alloc, rhs, width)?;
+    let mut changed = false;
+    for i in 0..rows.len() {
+        if equate(rows, leaders[i] as usize, i, rhs, &listed, width) {
+            changed = true;
+        }
+    }
+    Ok(changed)
+}
+
+// Makes two rows agree on a set, whose attributes these are.
+fn equate(
+    rows: &mut [SymbolRow],
+    first: usize,
+    second: usize,
+    on: AttrSet,
+    listed: &[u8],
+    width: u8,
+) -> bool
+    requires over { IsTableauOver width rows.old }
+    requires first { first < length rows.old }
+    requires second { second < length rows.old }
+    requires attributes { listed.now ≡ members_below width (attributes on) }
+    ensures equated { AreEquated (attributes on) first second rows.old rows.new result }
+{
+    let mut changed = false;
+    for k in 0..listed.len() {
+        if equate_at(rows, first, second, listed[k] as usize) {
+            changed = true;
+        }
+    }
+    changed
+}
+
+// Makes two rows agree at an attribute: the greater symbol becomes the smaller throughout.
+fn equate_at(rows: &mut [SymbolRow], first: usize, second: usize, a: usize) -> bool
+    requires within { All (λ row. a < length row) rows.old }
+    requires first { first < length rows.old }
+    requires second { second < length rows.old }
+    ensures equated { IsEquatedAt a first second rows.old rows.new result }
+{
+    let one = rows[first].symbol(a);
+    let other = rows[second].symbol(a);
+    if one == other {
+        return false;
+    }
+    if one < other {
+        replace(rows, a, other, one);
+    } else {
+        replace(rows, a, one, other);
+    }
+    true
+}
+
+// Makes a symbol another throughout an attribute.
+fn replace(rows: &mut [SymbolRow], a: usize, former: u32, later: u32)
+    requires within { All (λ row. a < length row) rows.old }
+    ensures replaced { rows.new ≡ replace_symbol a former later rows.old }
+{
+    for i in 0..rows.len() {
+        rows[i].replace(a, former, later);
+    }
+}

@@ -1,8 +1,0 @@
-use Rattle.std.proofs.Common.{◌≡◌, take}
-use Rattle.targets.specs.Sql.{sql_value}
-use Rattle.sql_names.specs.Names.{listed}
-use Rattle.targets.proofs.sql_line.values_of.Given as goal
-
--- the values so far
-abbrev pub invariant-loop-i : goal.invariant-loop-i
-invariant-loop-i l = l.text.items ≡ listed sql_value (take l.i l.row)

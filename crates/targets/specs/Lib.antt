@@ -1,5 +1,0 @@
-pub mod Targets
-pub mod FileTables
-pub mod Sql
-pub mod Formats
-pub mod Memory

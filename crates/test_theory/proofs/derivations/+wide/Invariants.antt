@@ -1,5 +1,0 @@
-use Rattle.test_theory.proofs.derivations.+wide.Given as goal
-
--- proposed from what the function passes where it calls itself
-abbrev pub decreases-wide : goal.decreases-wide
-decreases-wide l = l.leaves

@@ -1,0 +1,190 @@
+ghost use Rattle.std.specs.Prelude.{◌≡◌, ◌+◌, ◌<◌, ◌≤◌, ◌^◌, length, OnOk, IfOk, IfErr, Ok, Err, Some, None};
+ghost use Rattle.attr_sets.specs.Attributes.{below, IsSubset};
+ghost use Rattle.attr_sets.specs.Sets.{attributes};
+ghost use Rattle.schema_grammar.specs.Declarations.{mark_of};
+ghost use Rattle.schema_grammar.specs.Refusals.{refusal};
+
+use crate::names::{Names, attribute_of_word};
+use crate::tokens::{arrow_in, is_word, number_in};
+use attr_sets::{AttrSet, MOST_ATTRIBUTES};
+use lexer::{Mode, Next, Token, TokenKind, next_token};
+use schema_grammar::{SchemaRefusal, SchemaRefusalKind, Sign, What};
+
+/// What is left of a line, from a column on.
+#[derive(Clone, Copy)]
+pub struct Cursor<'a> {
+    pub line: u32,
+    pub column: u32,
+    pub text: &'a [u8],
+    pub mode: Mode,
+    pub ghost room: { column + length text.now < 2 ^ 32 },
+}
+
+impl<'a> Cursor<'a> {
+    ghost use Rattle.tokens.specs.Views.{names_in, rest_of};
+    ghost use Rattle.schema_grammar.specs.Rests.{take, refusal_of_token, number, arrow, refusal_at_end, side, words};
+
+    /// The next token, its bytes, and what stands after it; `want` is what the line wants there.
+    #[tactic(auto, unfolding(schema_grammar::specs::Rests::take))]
+    pub fn take(self, want: What) -> Result<(Token, &'a [u8], Cursor<'a>), SchemaRefusal>
+        ensures ok { IfOk result (λ x.
+            take want (rest_of self.entry) ≡ Ok (mark_of x.0 x.1.now, rest_of x.2)) }
+        ensures length { IfOk result (λ x. x.0.length ≡ length x.1.now) }
+        ensures shorter { IfOk result (λ x. length x.2.text.now < length self.entry.text.now) }
+        ensures err { IfErr result (λ e. take want (rest_of self.entry) ≡ Err e) }
+    {
+        match next_token(self.mode, self.column, self.text) {
+            Next::End => {
+                let kind = SchemaRefusalKind::Expected(want);
+                Err(SchemaRefusal::at(self.line, self.column, 0, kind))
+            }
+            Next::Error(stop) => Err(SchemaRefusal::by(self.line, stop)),
+            Next::Token(token, word, text) => {
+                let column = token.column + token.length;
+                Ok((
+                    token,
+                    word,
+                    Cursor {
+                        line: self.line,
+                        column,
+                        text,
+                        mode: self.mode,
+                    },
+                ))
+            }
+        }
+    }
+
+    /// The refusal of a token of this line in place of which the line wants something else.
+    pub fn refusal_of_token(self, token: Token, want: What) -> SchemaRefusal
+        ensures refusal { result
+            ≡ refusal self.entry.line token.column token.length (SchemaRefusalKind.Expected want) }
+    {
+        let kind = SchemaRefusalKind::Expected(want);
+        SchemaRefusal::at(self.line, token.column, token.length, kind)
+    }
+
+    /// A number.
+    #[tactic(auto, unfolding(schema_grammar::specs::Rests::number))]
+    pub fn number(self) -> Result<(u32, Cursor<'a>), SchemaRefusal>
+        ensures ok { IfOk result (λ x. number (rest_of self.entry) ≡ Ok (x.0, rest_of x.1)) }
+        ensures err { IfErr result (λ e. number (rest_of self.entry) ≡ Err e) }
+    {
+        let (token, _, rest) = self.take(What::Number)?;
+        match number_in(token.kind) {
+            Some(number) => Ok((number, rest)),
+            None => Err(rest.refusal_of_token(token, What::Number)),
+        }
+    }
+
+    /// `->` or `->>`
+    #[tactic(auto, unfolding(schema_grammar::specs::Rests::arrow))]
+    pub fn arrow(self) -> Result<(Sign, Cursor<'a>), SchemaRefusal>
+        ensures ok { IfOk result (λ x. arrow (rest_of self.entry) ≡ Ok (x.0, rest_of x.1)) }
+        ensures err { IfErr result (λ e. arrow (rest_of self.entry) ≡ Err e) }
+    {
+        let (token, _, rest) = self.take(What::Arrow)?;
+        match arrow_in(token.kind) {
+            Some(arrow) => Ok((arrow, rest)),
+            None => Err(rest.refusal_of_token(token, What::Arrow)),
+        }
+    }
+
+    /// The line's end.
+    #[tactic(auto, unfolding(schema_grammar::specs::Rests::refusal_at_end, schema_grammar::specs::Rests::take))]
+    pub fn end(self) -> Result<(), SchemaRefusal>
+        ensures ok { OnOk result (refusal_at_end (rest_of self.entry) ≡ None) }
+        ensures err { IfErr result (λ e. refusal_at_end (rest_of self.entry) ≡ Some e) }
+    {
+        match next_token(self.mode, self.column, self.text) {
+            Next::End => Ok(()),
+            _ => match self.take(What::LineEnd) {
+                Ok((token, _, rest)) => Err(rest.refusal_of_token(token, What::LineEnd)),
+                Err(refusal) => Err(refusal),
+            },
+        }
+    }
+
+    /// A side: words, or `()`. What stands after it is the reader's next question.
+    #[tactic(auto, unfolding(schema_grammar::specs::Rests::side))]
+    pub fn side(self, names: &Names<'_>) -> Result<(AttrSet, Cursor<'a>), SchemaRefusal>
+        requires within_limit { length (names_in names.now) ≤ MOST_ATTRIBUTES }
+        ensures ok { IfOk result
+            (λ x. side (names_in names.now) (rest_of self.entry) ≡ Ok (attributes x.0, rest_of x.1)) }
+        ensures within { IfOk result (λ x. IsSubset (attributes x.0) (below (length
+            (names_in names.now)))) }
+        ensures err { IfErr result (λ e. side (names_in names.now) (rest_of self.entry) ≡ Err e) }
+    {
+        let (token, word, rest) = self.take(What::Side)?;
+        match token.kind {
+            TokenKind::Identifier => {
+                let first = attribute_of_word(names, rest.line, token, word)?;
+                rest.words(names, AttrSet::single(first))
+            }
+            TokenKind::Empty => Ok((AttrSet::empty(), rest)),
+            _ => Err(rest.refusal_of_token(token, What::Side)),
+        }
+    }
+
+    /// The words that stand here, added to a set.
+    fn words(self, names: &Names<'_>, set: AttrSet) -> Result<(AttrSet, Cursor<'a>), SchemaRefusal>
+        requires within_limit { length (names_in names.now) ≤ MOST_ATTRIBUTES }
+        requires within { IsSubset (attributes set) (below (length (names_in names.now))) }
+        ensures ok { IfOk result
+            (λ x. words (names_in names.now) (attributes set) (rest_of self.entry)
+            ≡ Ok (attributes x.0, rest_of x.1)) }
+        ensures within { IfOk result (λ x. IsSubset (attributes x.0) (below (length
+            (names_in names.now)))) }
+        ensures err { IfErr result (λ e.
+            words (names_in names.now) (attributes set) (rest_of self.entry) ≡ Err e) }
+    {
+        let line = self.line;
+        let mode = self.mode;
+        let mut set = set;
+        let mut column = self.column;
+        let mut text = self.text;
+        'words: loop {
+            match next_token(mode, column, text) {
+                Next::End => return Ok((
+                    set,
+                    Cursor {
+                        line,
+                        column,
+                        text,
+                        mode,
+                    },
+                )),
+                Next::Error(_) => return Ok((
+                    set,
+                    Cursor {
+                        line,
+                        column,
+                        text,
+                        mode,
+                    },
+                )),
+                Next::Token(token, word, after) => {
+                    if !is_word(token.kind) {
+                        return Ok((
+                            set,
+                            Cursor {
+                                line,
+                                column,
+                                text,
+                                mode,
+                            },
+                        ));
+                    }
+                    match attribute_of_word(names, line, token, word) {
+                        Err(refusal) => return Err(refusal),
+                        Ok(attribute) => {
+                            set = set.with(attribute);
+                            column = token.column + token.length;
+                            text = after;
+                        }
+                    }
+                }
+            }
+        }
+    }
+}

@@ -1,0 +1,15 @@
+//! Reached a line of text token by token: what the readers of all texts share.
+//!
+//! A `Cursor` is what is left of a line. Its calls take a token, a number, an arrow, a side or the line's
+//! end, or refuse the line at its place, by what it wants there. `look_up` gives the attribute that a word
+//! of a side stands for.
+#![tactic(auto)]
+
+mod cursor;
+mod guide;
+mod names;
+mod tokens;
+
+pub use cursor::Cursor;
+pub use guide::Guide;
+pub use names::{Names, attribute_of_word, is_reserved, look_up, position_among};

@@ -1,0 +1,122 @@
+ghost use Rattle.std.specs.Prelude.{◌≡◌, ◌<◌, ◌≤◌, ◌↔◌, length, IsTrue, IfOk, IfErr, Ok, Err};
+ghost use Rattle.std.specs.Str.{str_to_ascii_lowercase};
+ghost use Rattle.dep_model.specs.Schemas.{names_of, attribute_named};
+ghost use Rattle.schema_grammar.specs.Declarations.{mark_of};
+ghost use Rattle.schema_grammar.specs.Rests.{attribute_of_word};
+ghost use Rattle.schema_grammar.specs.Words.{is_reserved, look_up};
+ghost use Rattle.tokens.specs.Views.{names_in};
+
+use crate::guide::Guide;
+use attr_sets::MOST_ATTRIBUTES;
+use dep_model::{Name, Schema};
+use lexer::Token;
+use schema_grammar::{Format, SchemaRefusal, SchemaRefusalKind};
+
+/// The names among which a word is looked up.
+#[derive(Clone, Copy)]
+pub enum Names<'a> {
+    Listed(&'a [Name]),
+    Of(&'a Schema),
+    /// Those of a schema, with a guide to them.
+    Guided(&'a Schema, &'a Guide),
+}
+
+// The fewest bytes of a reserved word.
+const FEWEST_RESERVED: usize = 4;
+
+/// The attribute that a word of a side stands for.
+#[tactic(auto, using(crate::proofs::NameLemmas::short_is_free), unfolding(schema_grammar::specs::Words::look_up))]
+pub fn look_up(names: &Names<'_>, format: Format, word: &[u8]) -> Result<u8, SchemaRefusalKind>
+    requires { length (names_in names.now) ≤ MOST_ATTRIBUTES }
+    ensures exact { result ≡ look_up format (names_in names.now) word.now }
+    ensures declared { IfOk result (λ attribute. attribute < length (names_in names.now)) }
+{
+    if word.len() >= FEWEST_RESERVED && is_reserved(format, word) {
+        return Err(SchemaRefusalKind::ReservedName);
+    }
+    match attribute_named(names, word) {
+        Some(attribute) => Ok(attribute),
+        None => Err(SchemaRefusalKind::UnknownName),
+    }
+}
+
+/// The attribute that a word in a side of a line stands for.
+pub fn attribute_of_word(
+    names: &Names<'_>,
+    line: u32,
+    token: Token,
+    word: &[u8],
+) -> Result<u8, SchemaRefusal>
+    requires within_limit { length (names_in names.now) ≤ MOST_ATTRIBUTES }
+    requires length { token.length ≡ length word.now }
+    ensures ok { IfOk result (λ x. attribute_of_word (names_in names.now) line
+        (mark_of token word.now) ≡ Ok x) }
+    ensures inside { IfOk result (λ x. x < length (names_in names.now)) }
+    ensures err { IfErr result (λ e. attribute_of_word (names_in names.now) line
+        (mark_of token word.now) ≡ Err e) }
+{
+    match look_up(names, Format::Plain, word) {
+        Ok(attribute) => Ok(attribute),
+        Err(kind) => Err(SchemaRefusal::at(line, token.column, token.length, kind)),
+    }
+}
+
+/// The attribute whose name a word is, ASCII case aside.
+fn attribute_named(names: &Names<'_>, word: &[u8]) -> Option<u8>
+    requires { length (names_in names.now) ≤ MOST_ATTRIBUTES }
+    ensures attribute { result ≡ attribute_named (names_in names.now) word.now }
+{
+    match names {
+        Names::Listed(names) => {
+            match position_among(names, word) {
+                Some(position) => Some(position as u8),
+                None => None,
+            }
+        }
+        Names::Of(schema) => schema.attribute_named(word),
+        Names::Guided(schema, guide) => attribute_by_guess(schema, word, guide.guess(word)),
+    }
+}
+
+/// The attribute of this name; the attribute `guess` is tried first.
+fn attribute_by_guess(schema: &Schema, word: &[u8], guess: u8) -> Option<u8>
+    ensures attribute { result ≡ attribute_named (names_of schema.now) word.now }
+{
+    if guess < schema.width() && is_spelled(schema.name(guess).bytes(), word) {
+        return Some(guess);
+    }
+    schema.attribute_named(word)
+}
+
+/// Whether a name is the word, ASCII case aside. Most words are spelled as their names were declared.
+fn is_spelled(name: &[u8], word: &[u8]) -> bool
+    ensures same { IsTrue result
+        ↔ (str_to_ascii_lowercase name.now ≡ str_to_ascii_lowercase word.now) }
+{
+    name == word || name.eq_ignore_ascii_case(word)
+}
+
+/// The position of the first name that a word is.
+pub fn position_among(names: &[Name], word: &[u8]) -> Option<usize>
+    ensures position { result ≡ attribute_named names.now word.now }
+{
+    names
+        .iter()
+        .position(|name| name.bytes().eq_ignore_ascii_case(word))
+}
+
+/// Whether a word is reserved, ASCII case aside.
+#[tactic(auto, unfolding(schema_grammar::specs::Words::is_reserved))]
+pub fn is_reserved(format: Format, word: &[u8]) -> bool
+    ensures reserved { result ≡ is_reserved format word.now }
+{
+    let is_common = word.eq_ignore_ascii_case(b"attributes")
+        || word.eq_ignore_ascii_case(b"scheme")
+        || word.eq_ignore_ascii_case(b"version");
+    match format {
+        Format::Plain => is_common,
+        Format::Typed => {
+            is_common || word.eq_ignore_ascii_case(b"integer") || word.eq_ignore_ascii_case(b"text")
+        }
+    }
+}

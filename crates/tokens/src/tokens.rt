@@ -1,0 +1,34 @@
+ghost use Rattle.std.specs.Prelude.{◌≡◌};
+ghost use Rattle.schema_grammar.specs.Rests.{is_word_token, arrow_in};
+ghost use Rattle.schema_grammar.specs.Texts.{number_in};
+
+use lexer::TokenKind;
+use schema_grammar::Sign;
+
+/// Whether a token is a word.
+pub fn is_word(kind: TokenKind) -> bool
+    ensures exact { result ≡ is_word_token kind }
+{
+    matches!(kind, TokenKind::Identifier)
+}
+
+/// The value of a number.
+pub fn number_in(kind: TokenKind) -> Option<u32>
+    ensures exact { result ≡ number_in kind }
+{
+    match kind {
+        TokenKind::Number(value) => Some(value),
+        _ => None,
+    }
+}
+
+/// The arrow that a token is.
+pub fn arrow_in(kind: TokenKind) -> Option<Sign>
+    ensures exact { result ≡ arrow_in kind }
+{
+    match kind {
+        TokenKind::Arrow => Some(Sign::Functional),
+        TokenKind::DoubleArrow => Some(Sign::Multivalued),
+        _ => None,
+    }
+}
