@@ -9,7 +9,7 @@ use Rattle.std.proofs.lemmas.List.Elements.{Contains-get_or}
 use Rattle.std.proofs.lemmas.Option.{slice_get_within}
 use Rattle.attr_sets.specs.Attributes.{Attributes, below, intersection, IsSubset}
 use Rattle.attr_sets.proofs.AttributesLemmas.{tell_subset, same_at}
-use Rattle.dep_model.specs.declared.column.Column.TheVariants.{Integer}
+use Rattle.dep_model.specs.declared.column_type.ColumnType.TheVariants.{Integer}
 use Rattle.attr_sets.specs.Sets.{attributes}
 use Rattle.dep_model.specs.declared.schema.Schema.{Schema}
 use Rattle.dep_model.specs.Schemas.{width_of, theory_of, deps_of, LegalFor, TypedFor}

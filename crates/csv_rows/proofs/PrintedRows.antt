@@ -16,11 +16,11 @@ use Rattle.csv.specs.Writing.{default_writer, row_text, field_text, fields_text,
 use Rattle.csv.specs.declared.parser.State.TheVariants as st
 use Rattle.csv.proofs.RoundTrip.{read-write}
 use Rattle.dep_model.specs.Integers.{IsIntegerText}
-use Rattle.dep_model.specs.Names.{is_name, same_name}
+use Rattle.dep_model.specs.Names.{is_bare_name, same_name}
 use Rattle.dep_model.specs.Projections.{members_below}
-use Rattle.dep_model.specs.Schemas.{names_of, width_of, attribute_named, columns_of as types_of, TypedFor}
+use Rattle.dep_model.specs.Schemas.{names_of, width_of, attribute_named, types_of as types_of, TypedFor}
 use Rattle.dep_model.specs.Tuples.{Tuple, Relation, IsOver, value_at}
-use Rattle.dep_model.specs.declared.column.Column.TheVariants.{Integer}
+use Rattle.dep_model.specs.declared.column_type.ColumnType.TheVariants.{Integer}
 use Rattle.dep_model.specs.declared.schema.Schema.{Schema}
 use Rattle.dep_model.proofs.SchemeLemmas.{length-members_below, members_below-at}
 use Rattle.dep_model.proofs.NameLemmas.{attribute_named-append}
@@ -93,13 +93,13 @@ second_of false b c d e = absurd (false≢true e)
 letter_is : (c : ℕ) → is_ascii_alphabetic c ≡ true → (c == 239) ≡ false
 letter_is c e = grind (arith, nat_tests, e)
 
-name_begins : (name : List ℕ) → IsTrue (is_name name)
+name_begins : (name : List ℕ) → IsTrue (is_bare_name name)
     → (c : ℕ) × (cs : List ℕ) × (name ≡ c ∷ cs) × ((c == 239) ≡ false)
 name_begins [] proper = cc
 name_begins (c ∷ cs) proper = (c, cs, refl, letter_is c (second_of _ _ _ _ proper))
 
 text_unmarked : (names : List (List ℕ)) (rows : Relation) → 0 < length names
-    → All (λ name. IsTrue (is_name name)) names → strip_bom (rows_text names rows) ≡ rows_text names rows
+    → All (λ name. IsTrue (is_bare_name name)) names → strip_bom (rows_text names rows) ≡ rows_text names rows
 text_unmarked [] rows some proper = absurd (omega (arith, some))
 text_unmarked (name ∷ names) rows some proper =
     let (c, cs, is, other) = name_begins name (proper 0 [] (omega arith)) in
@@ -108,7 +108,7 @@ text_unmarked (name ∷ names) rows some proper =
     strip_bom-none c _ (text_begins c _ (rows_only rows) begins)
 
 pub printed_records : (names : List (List ℕ)) (rows : Relation) → 0 < length names
-    → All (λ name. IsTrue (is_name name)) names → All (λ row. 0 < length row) rows
+    → All (λ name. IsTrue (is_bare_name name)) names → All (λ row. 0 < length row) rows
     → records_of (rows_text names rows) ≡ names ∷ rows
 printed_records names rows some proper wide =
     ap (λ (t : List ℕ). records_from default_config (length t + 1) st.StartRecord t) (text_unmarked names rows some proper)
@@ -227,7 +227,7 @@ row_is s row t size few typed =
           subst IsIntegerText (sym (value_is n k t small)) (typed k has.1),
     )
 
-pub printed_back : (s : Schema) (rows : Relation) → All (λ name. IsTrue (is_name name)) (names_of s)
+pub printed_back : (s : Schema) (rows : Relation) → All (λ name. IsTrue (is_bare_name name)) (names_of s)
     → IsOver (width_of s) rows → TypedFor s rows → length rows ≤ MOST_ROWS
     → RowsOf s (rows_text (names_of s) rows) (Ok rows)
 printed_back s rows proper over typed few =

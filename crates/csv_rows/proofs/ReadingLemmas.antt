@@ -16,10 +16,10 @@ use Rattle.dep_model.specs.declared.failure.Failure.TheVariants.{Refused, OutOfM
 use Rattle.dep_model.proofs.FailureLemmas.{refuses_also}
 use Rattle.dep_model.specs.Integers.{IsIntegerText}
 use Rattle.dep_model.specs.Projections.{members_below}
-use Rattle.dep_model.specs.Schemas.{names_of, width_of, attribute_named, columns_of as types_of, TypedFor}
+use Rattle.dep_model.specs.Schemas.{names_of, width_of, attribute_named, types_of, TypedFor}
 use Rattle.dep_model.specs.Tuples.{Tuple, Relation, IsOver, value_at}
-use Rattle.dep_model.specs.declared.column.Column.{Column}
-use Rattle.dep_model.specs.declared.column.Column.TheVariants.{Integer}
+use Rattle.dep_model.specs.declared.column_type.ColumnType.{ColumnType}
+use Rattle.dep_model.specs.declared.column_type.ColumnType.TheVariants.{Integer}
 use Rattle.dep_model.specs.declared.schema.Schema.{Schema}
 use Rattle.dep_model.proofs.ColumnLemmas.{length-columns_on}
 use Rattle.dep_model.proofs.SchemeLemmas.{length-members_below, members_below-at}
@@ -209,7 +209,7 @@ same_count x a b ha hb e = elim (cases_lt a b) [
   ]
 ]
 
-pub takes_one : (s : Schema) (columns : List ℕ) (fields values : List (List ℕ)) (i : ℕ) (p : ColumnOfAttribute) (value : List ℕ) (column : Column)
+pub takes_one : (s : Schema) (columns : List ℕ) (fields values : List (List ℕ)) (i : ℕ) (p : ColumnOfAttribute) (value : List ℕ) (column : ColumnType)
     → Takes s columns fields i values → IsColumnOfAttribute (width_of s) columns i p → value ≡ slice_index_or fields p.column []
     → slice_get (types_of s) p.attribute ≡ Some column → (column ≡ Integer → IsIntegerText value)
     → Takes s columns fields (i + 1) (values ++ value ∷ [])
@@ -230,7 +230,7 @@ takes_one s columns fields values i p value column takes at is type fits =
       ];
     }
   where
-    some_inj : {c d : Column} → Some c ≡ Some d → c ≡ d
+    some_inj : {c d : ColumnType} → Some c ≡ Some d → c ≡ d
     some_inj e = cc
 
 -- all values are taken
@@ -248,7 +248,7 @@ takes_all s columns fields values h i row kept takes end even few =
     )
 
 -- the value at hand is refused
-pub not_integer : (s : Schema) (columns : List ℕ) (fields values : List (List ℕ)) (h : Header) (i row : ℕ) (p : ColumnOfAttribute) (value : List ℕ) (column : Column)
+pub not_integer : (s : Schema) (columns : List ℕ) (fields values : List (List ℕ)) (h : Header) (i row : ℕ) (p : ColumnOfAttribute) (value : List ℕ) (column : ColumnType)
     → IsHeader (width_of s) columns h → Takes s columns fields i values → IsColumnOfAttribute (width_of s) columns i p → value ≡ slice_index_or fields p.column []
     → slice_get (types_of s) p.attribute ≡ Some column → (column ≡ Integer) × (IsIntegerText value → ⊥)
     → length fields ≡ h.columns → row ≤ 100000 → RowOf s columns row fields (Err (refusal.NotInteger row p.attribute))

@@ -8,8 +8,8 @@ use Rattle.dep_model.specs.Tuples.{Tuple, Relation}
 use Rattle.dep_model.specs.Projections.{members_below}
 use Rattle.dep_model.specs.Integers.{IsIntegerText}
 use Rattle.dep_model.specs.declared.schema.Schema.{Schema}
-use Rattle.dep_model.specs.declared.column.Column.TheVariants.{Integer}
-use Rattle.dep_model.specs.Schemas.{names_of, width_of, columns_of as types_of}
+use Rattle.dep_model.specs.declared.column_type.ColumnType.TheVariants.{Integer}
+use Rattle.dep_model.specs.Schemas.{names_of, width_of, types_of as types_of}
 use Rattle.csv_rows.specs.declared.refusal.RowRefusal.{RowRefusal}
 use Rattle.csv_rows.specs.declared.refusal.RowRefusal.TheVariants as refusal
 use Rattle.csv_rows.specs.declared.reading.TheConstants.{MOST_ROWS}

@@ -5,7 +5,7 @@ ghost use Rattle.csv_rows.specs.Records.{HasLeft};
 ghost use Rattle.csv_rows.specs.Reading.{RowOf, RowsUnder, RowsOf, ReadsHeader, RefusesHeader};
 ghost use Rattle.dep_model.specs.Failures.{RefusesAs};
 ghost use Rattle.dep_model.specs.Integers.{IsIntegerText};
-ghost use Rattle.dep_model.specs.declared.column.Column.TheVariants.{Integer};
+ghost use Rattle.dep_model.specs.declared.column_type.ColumnType.TheVariants.{Integer};
 ghost use Rattle.dep_model.specs.Schemas.{TypedFor, names_of, width_of};
 ghost use Rattle.dep_model.specs.Tuples.{IsOver};
 
@@ -14,7 +14,7 @@ use crate::header::{Header, field};
 use crate::records::{open_reader, take_record};
 use attr_sets::AttrSet;
 use csv::{ByteRecord, Reader};
-use dep_model::{Column, Failure, Schema, integer_text};
+use dep_model::{ColumnType, Failure, Schema, integer_text};
 use row_store::{FlatValues, Rows};
 use std::alloc::Global;
 
@@ -130,12 +130,12 @@ fn read_row(
 }
 
 // Whether a column of this type takes the value.
-fn fits(column: Column, value: &[u8]) -> bool
+fn fits(column: ColumnType, value: &[u8]) -> bool
     ensures fits { result ≡ true → column ≡ Integer → IsIntegerText value.now }
     ensures breaks { result ≡ false → (column ≡ Integer) × (IsIntegerText value.now → ⊥) }
 {
     match column {
-        Column::Integer => integer_text(value),
-        Column::Text => true,
+        ColumnType::Integer => integer_text(value),
+        ColumnType::Text => true,
     }
 }

@@ -9,10 +9,10 @@ use Rattle.attr_sets.specs.declared.set.AttrSet.{AttrSet}
 use Rattle.attr_sets.specs.Attributes.{Attributes, none, IsEmpty}
 use Rattle.attr_sets.specs.Sets.{attributes}
 use Rattle.attr_sets.proofs.AttributesLemmas.{attributes_below, is_subset-from, is_subset-not}
-use Rattle.dep_model.specs.declared.column.Column.{Column}
+use Rattle.dep_model.specs.declared.column_type.ColumnType.{ColumnType}
 use Rattle.dep_model.specs.declared.schema.Schema.{Schema}
 use Rattle.dep_model.specs.Columns.{column_at}
-use Rattle.dep_model.specs.Schemas.{names_of, width_of, columns_of}
+use Rattle.dep_model.specs.Schemas.{names_of, width_of, types_of}
 use Rattle.dep_model.specs.Projections.{members_below}
 use Rattle.dep_model.proofs.ColumnLemmas.{slice_get-columns_on}
 use Rattle.dep_model.proofs.SchemeLemmas.{members_below-member, members_below-outside}
@@ -68,16 +68,16 @@ lines_more first some xs x before text mid next so_far is_some opened added =
     ∙ ap (λ (t : List ℕ). before ++ t) (sym (lines_append first xs (x ∷ [])))
 
 -- ---- columns
-pub column_is : (s : Schema) (k : ℕ) (column : Column) → k < width_of s → slice_get (columns_of s) k ≡ Some column
+pub column_is : (s : Schema) (k : ℕ) (column : ColumnType) → k < width_of s → slice_get (types_of s) k ≡ Some column
     → column ≡ column_at (attributes s.integers) k
 column_is s k column lt at =
-    sym (get_or_from_slice_get (columns_of s) k column column at)
-    ∙ get_or_from_slice_get (columns_of s) k (column_at (attributes s.integers) k) column
+    sym (get_or_from_slice_get (types_of s) k column column at)
+    ∙ get_or_from_slice_get (types_of s) k (column_at (attributes s.integers) k) column
     (slice_get-columns_on (width_of s) (attributes s.integers) k lt)
 
-pub column_added : {T E : Type 0} (r : Result T E) (s : Schema) (k : ℕ) (name : List ℕ) (column : Column)
+pub column_added : {T E : Type 0} (r : Result T E) (s : Schema) (k : ℕ) (name : List ℕ) (column : ColumnType)
     (old mid new : List ℕ) → k < width_of s
-    → slice_get (names_of s) k ≡ Some name → slice_get (columns_of s) k ≡ Some column
+    → slice_get (names_of s) k ≡ Some name → slice_get (types_of s) k ≡ Some column
     → mid ≡ old ++ quoted_name name → OnOk r (new ≡ mid ++ column_type column)
     → OnOk r (new ≡ old ++ column_element s k)
 unfolding column_element
@@ -85,7 +85,7 @@ column_added r s k name column old mid new lt named typed first second =
     adds_last r old (quoted_name (get_or (names_of s) k [])) (column_type (column_at (attributes s.integers) k)) mid new
     (first ∙ ap (λ (n : List ℕ). old ++ quoted_name n) (sym (name_is s k name named)))
     (on_ok r (new ≡ mid ++ column_type column) (new ≡ mid ++ column_type (column_at (attributes s.integers) k))
-    (λ e. e ∙ ap (λ (c : Column). mid ++ column_type c) (column_is s k column lt typed)) second)
+    (λ e. e ∙ ap (λ (c : ColumnType). mid ++ column_type c) (column_is s k column lt typed)) second)
 
 -- ---- keys
 pub empty_passes : (x : Attributes) → IsEmpty x → is_empty x ≡ true

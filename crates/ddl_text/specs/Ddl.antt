@@ -4,8 +4,8 @@ use Rattle.std.specs.Prelude.{ℕ, Bool, true, false, if◌then◌else◌, List,
 use Rattle.std.specs.List.{flat_map}
 use Rattle.attr_sets.specs.Attributes.{Attributes, none}
 use Rattle.attr_sets.specs.Sets.{attributes, is_subset}
-use Rattle.dep_model.specs.declared.column.Column.{Column}
-use Rattle.dep_model.specs.declared.column.Column.TheVariants.{Text, Integer}
+use Rattle.dep_model.specs.declared.column_type.ColumnType.{ColumnType}
+use Rattle.dep_model.specs.declared.column_type.ColumnType.TheVariants.{Text, Integer}
 use Rattle.dep_model.specs.declared.schema.Schema.{Schema}
 use Rattle.dep_model.specs.Projections.{members_below}
 use Rattle.dep_model.specs.Columns.{column_at}
@@ -14,7 +14,7 @@ use Rattle.sql_names.specs.Names.{name_list, quoted_name}
 use Rattle.ddl_text.specs.declared.table.TableDesign.{TableDesign}
 
 -- what stands after the name of a column of a type
-abbrev pub column_type : Column → List ℕ
+abbrev pub column_type : ColumnType → List ℕ
 column_type Text = codes " TEXT NOT NULL"
 column_type Integer = codes " BIGINT NOT NULL"
 

@@ -6,7 +6,7 @@ ghost use Rattle.sql_names.specs.Names.{has_some};
 
 use crate::elements::add_opening;
 use attr_sets::AttrSet;
-use dep_model::{Column, OutOfMemory, Schema};
+use dep_model::{ColumnType, OutOfMemory, Schema};
 use schema_printer::add;
 use sql_names::add_quoted;
 
@@ -43,11 +43,11 @@ fn add_column(text: &mut Vec<u8>, schema: &Schema, attribute: u8) -> Result<(), 
 }
 
 // Adds the type of a column.
-fn add_type(text: &mut Vec<u8>, column: Column) -> Result<(), OutOfMemory>
+fn add_type(text: &mut Vec<u8>, column: ColumnType) -> Result<(), OutOfMemory>
     ensures added { OnOk result (text.new.items ≡ text.old.items ++ column_type column) }
 {
     match column {
-        Column::Text => add(text, b" TEXT NOT NULL"),
-        Column::Integer => add(text, b" BIGINT NOT NULL"),
+        ColumnType::Text => add(text, b" TEXT NOT NULL"),
+        ColumnType::Integer => add(text, b" BIGINT NOT NULL"),
     }
 }

@@ -7,7 +7,7 @@ use Rattle.std.proofs.lemmas.List.Elements.{All-cons, All-nil}
 use Rattle.std.specs.Prelude.{slice_get}
 use Rattle.std.proofs.Common.{Some}
 use Rattle.attr_sets.specs.Attributes.{Attributes}
-use Rattle.dep_model.specs.declared.column.Column.TheVariants.{Integer}
+use Rattle.dep_model.specs.declared.column_type.ColumnType.TheVariants.{Integer}
 use Rattle.dep_model.specs.Tuples.{Tuple, value_at}
 use Rattle.dep_model.specs.Columns.{columns_on, IsTyped}
 use Rattle.dep_model.specs.Integers.{IsIntegerText}

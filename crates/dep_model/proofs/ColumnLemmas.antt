@@ -4,8 +4,8 @@ use Rattle.std.specs.List.{slice_get, range_with_len, Contains}
 use Rattle.std.proofs.lemmas.List.FromFn.{length-map-range_with_len}
 use Rattle.std.proofs.lemmas.Option.{slice_get_read}
 use Rattle.attr_sets.specs.Attributes.{Attributes, IsEmpty}
-use Rattle.dep_model.specs.declared.column.Column.{Column}
-use Rattle.dep_model.specs.declared.column.Column.TheVariants.{Text, Integer}
+use Rattle.dep_model.specs.declared.column_type.ColumnType.{ColumnType}
+use Rattle.dep_model.specs.declared.column_type.ColumnType.TheVariants.{Text, Integer}
 use Rattle.dep_model.specs.Columns.{column_at, columns_on}
 use Rattle.dep_model.specs.Validity.{AreColumns}
 
@@ -30,7 +30,7 @@ pub slice_get-columns_on : (n : ℕ) (integers : Attributes) (i : ℕ) → i < n
 slice_get-columns_on n integers i h = slice_get-map_range (column_at integers) 0 n i h ∙ ap (λ (k : ℕ). Some (column_at integers k)) (omega arith)
 
 -- the set that has just the integer columns stands for the list
-pub columns_on-same : (columns : List Column) (integers : Attributes) → ((i : ℕ) → i < length columns → slice_get columns i ≡ Some (column_at integers i)) → columns_on (length columns) integers ≡ columns
+pub columns_on-same : (columns : List ColumnType) (integers : Attributes) → ((i : ℕ) → i < length columns → slice_get columns i ≡ Some (column_at integers i)) → columns_on (length columns) integers ≡ columns
 columns_on-same columns integers h = map_range-same (column_at integers) 0 columns (λ (i : ℕ) (l : i < length columns). h i l ∙ ap (λ (k : ℕ). Some (column_at integers k)) (omega arith))
 
 pub length-columns_on : (n : ℕ) (integers : Attributes) → length (columns_on n integers) ≡ n

@@ -3,13 +3,13 @@ use Rattle.std.specs.Prelude.{◌≡◌, ℕ, ◌-◌, ◌≤◌, IsTrue, List, 
 use Rattle.std.proofs.Common.{sym, subst, ap, ◌∙◌}
 use Rattle.std.proofs.lemmas.List.{length-take-le, take-append-drop}
 use Rattle.dep_model.specs.declared.name.TheConstants.{MOST_NAME_BYTES}
-use Rattle.dep_model.specs.Names.{is_name}
+use Rattle.dep_model.specs.Names.{is_bare_name}
 
 -- a name of this length at the front of an array of `MOST_NAME_BYTES` bytes, whose other bytes are zero
 pub record IsHeldName (bytes : List ℕ) (len : ℕ) : Type 0 where
   pub whole : length bytes ≡ MOST_NAME_BYTES
   pub within : len ≤ MOST_NAME_BYTES
-  pub name : IsTrue (is_name (take len bytes))
+  pub name : IsTrue (is_bare_name (take len bytes))
   pub rest : drop len bytes ≡ replicate (MOST_NAME_BYTES - len) 0
 
 -- the front has its length

@@ -16,8 +16,8 @@ is_word bytes = nat_lt 0 (length bytes) && is_ascii_alphabetic (slice_index byte
     && list_all is_name_byte bytes
 
 -- a word of at most `MOST_NAME_BYTES` bytes
-abbrev pub is_name : List ℕ → Bool
-is_name bytes = is_word bytes && nat_le (length bytes) MOST_NAME_BYTES
+abbrev pub is_bare_name : List ℕ → Bool
+is_bare_name bytes = is_word bytes && nat_le (length bytes) MOST_NAME_BYTES
 
 -- the bytes are equal where ASCII letters of either case count as one
 abbrev pub same_name : List ℕ → List ℕ → Bool

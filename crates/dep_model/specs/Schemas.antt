@@ -4,7 +4,7 @@ use Rattle.std.specs.Prelude.{ℕ, Option, List, length, position}
 use Rattle.attr_sets.specs.Attributes.{Attributes, below}
 use Rattle.attr_sets.specs.Sets.{attributes}
 use Rattle.dep_model.specs.declared.dep.Dep.{Dep}
-use Rattle.dep_model.specs.declared.column.Column.{Column}
+use Rattle.dep_model.specs.declared.column_type.ColumnType.{ColumnType}
 use Rattle.dep_model.specs.declared.schema.Schema.{Schema}
 use Rattle.dep_model.specs.Tuples.{Relation}
 use Rattle.dep_model.specs.Dependencies.{Dependency}
@@ -22,8 +22,8 @@ abbrev pub width_of : Schema → ℕ
 width_of s = length (names_of s)
 
 -- the types of the columns
-abbrev pub columns_of : Schema → List Column
-columns_of s = columns_on (width_of s) (attributes s.integers)
+abbrev pub types_of : Schema → List ColumnType
+types_of s = columns_on (width_of s) (attributes s.integers)
 
 -- the dependencies, in the order of the file
 abbrev pub deps_of : Schema → List Dep
@@ -55,4 +55,4 @@ ImpliedBy s d = Implies (width_of s) (theory_of s) d
 
 -- the rows fit the types of a schema's columns
 abbrev pub TypedFor : Schema → Relation → Type 0
-TypedFor s r = IsTyped (columns_of s) r
+TypedFor s r = IsTyped (types_of s) r

@@ -4,8 +4,8 @@ use Rattle.std.specs.Prelude.{◌≡◌, ℕ, ◌<◌, ◌≤◌, false, List, l
 use Rattle.attr_sets.specs.Attributes.{below}
 use Rattle.attr_sets.specs.declared.set.TheConstants.{MOST_ATTRIBUTES}
 use Rattle.dep_model.specs.declared.dep.Dep.{Dep}
-use Rattle.dep_model.specs.declared.column.Column.{Column}
-use Rattle.dep_model.specs.declared.column.Column.TheVariants.{Integer}
+use Rattle.dep_model.specs.declared.column_type.ColumnType.{ColumnType}
+use Rattle.dep_model.specs.declared.column_type.ColumnType.TheVariants.{Integer}
 use Rattle.dep_model.specs.declared.schema.TheConstants.{MOST_DEPENDENCIES}
 use Rattle.dep_model.specs.Names.{same_name, is_type_name}
 use Rattle.dep_model.specs.Deps.{IsDepWithin}
@@ -20,6 +20,6 @@ pub record IsSchema (names : List (List ℕ)) (deps : List Dep) (lines : List �
   pub one_line_each : length lines ≡ length deps
 
 -- types fit names: one each, and beside an integer column no name is the name of a type
-pub record AreColumns (names : List (List ℕ)) (columns : List Column) : Type 0 where
+pub record AreColumns (names : List (List ℕ)) (columns : List ColumnType) : Type 0 where
   pub one_each : length columns ≡ length names
   pub no_type_name : Contains columns Integer → All (λ name. is_type_name name ≡ false) names

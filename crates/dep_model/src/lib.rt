@@ -6,7 +6,7 @@
 //! `specs/`; `laws` has the theorems by which they were tried.
 #![tactic(auto)]
 
-mod column;
+mod column_type;
 mod dep;
 mod failure;
 mod integer;
@@ -20,7 +20,7 @@ mod schema;
 mod two_rows;
 mod value;
 
-pub use column::Column;
+pub use column_type::ColumnType;
 pub use dep::{Dep, sides};
 pub use failure::Failure;
 pub use integer::integer_text;

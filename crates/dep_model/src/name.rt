@@ -1,6 +1,6 @@
 ghost use Rattle.std.specs.Prelude.{◌≡◌, ℕ, ◌-◌, ◌≤◌, ◌↔◌, ◌++◌, List, length, take, drop, replicate, IsTrue, IsSome, IfSome};
 ghost use Rattle.std.specs.List.{list_all};
-ghost use Rattle.dep_model.specs.Names.{is_name, is_name_byte, same_name};
+ghost use Rattle.dep_model.specs.Names.{is_bare_name, is_name_byte, same_name};
 ghost use Rattle.dep_model.specs.HeldNames.{IsHeldName, padded_is, front_length};
 ghost use Rattle.dep_model.specs.declared.name.TheConstants.{MOST_NAME_BYTES};
 
@@ -38,7 +38,7 @@ impl Model for Name {
 impl Name {
     /// The name of these bytes, where they are a name.
     pub fn new(bytes: &[u8]) -> Option<Name>
-        ensures is_name { IsSome result ↔ IsTrue (is_name bytes.now) }
+        ensures is_bare_name { IsSome result ↔ IsTrue (is_bare_name bytes.now) }
         ensures value { IfSome result (λ name. name ≡ bytes.now) }
     {
         if !are_name(bytes) {
@@ -53,7 +53,7 @@ impl Name {
     /// The bytes in their declared spelling.
     pub fn bytes(&self) -> &[u8]
         ensures value { result.now ≡ self.now }
-        ensures name { IsTrue (is_name self.now) }
+        ensures name { IsTrue (is_bare_name self.now) }
     {
         &self.bytes[..self.len as usize]
     }
@@ -78,7 +78,7 @@ fn pad_with_zeros(bytes: &[u8]) -> [u8; MOST_NAME_BYTES]
 
 // Whether the bytes are a name.
 fn are_name(bytes: &[u8]) -> bool
-    ensures name { result ≡ is_name bytes.now }
+    ensures name { result ≡ is_bare_name bytes.now }
 {
     !bytes.is_empty()
         && bytes[0].is_ascii_alphabetic()

@@ -4,7 +4,7 @@ ghost use Rattle.dep_model.specs.Names.{same_name};
 ghost use Rattle.dep_model.specs.Columns.{columns_on};
 ghost use Rattle.dep_model.specs.Validity.{IsSchema, AreColumns};
 
-use crate::{Column, Dep, Name};
+use crate::{ColumnType, Dep, Name};
 use attr_sets::{AttrSet, MOST_ATTRIBUTES};
 
 /// The most dependencies of a schema.
@@ -24,13 +24,13 @@ pub struct Schema {
 }
 
 impl Schema {
-    ghost use Rattle.dep_model.specs.Schemas.{names_of, width_of, columns_of, deps_of, lines_of, attribute_named};
+    ghost use Rattle.dep_model.specs.Schemas.{names_of, width_of, types_of, deps_of, lines_of, attribute_named};
 
     /// A schema of text columns. The lines are counted from 1.
     pub fn new(names: Vec<Name>, deps: Vec<Dep>, lines: Vec<u32>) -> Schema
         requires schema { IsSchema names.items deps.items lines.items }
         ensures names { names_of result ≡ names.items }
-        ensures columns { (i : ℕ) → i < width_of result → slice_get (columns_of result) i ≡ Some Column.Text }
+        ensures columns { (i : ℕ) → i < width_of result → slice_get (types_of result) i ≡ Some ColumnType.Text }
         ensures deps { deps_of result ≡ deps.items }
         ensures lines { lines_of result ≡ lines.items }
     {
@@ -45,14 +45,14 @@ impl Schema {
     /// A schema whose columns have these types.
     pub fn make_typed(
         names: Vec<Name>,
-        columns: Vec<Column>,
+        columns: Vec<ColumnType>,
         deps: Vec<Dep>,
         lines: Vec<u32>,
     ) -> Schema
         requires schema { IsSchema names.items deps.items lines.items }
         requires columns { AreColumns names.items columns.items }
         ensures names { names_of result ≡ names.items }
-        ensures columns { columns_of result ≡ columns.items }
+        ensures columns { types_of result ≡ columns.items }
         ensures deps { deps_of result ≡ deps.items }
         ensures lines { lines_of result ≡ lines.items }
     {
@@ -81,14 +81,14 @@ impl Schema {
     }
 
     /// The type of the column of attribute `i`.
-    pub fn column(&self, i: u8) -> Column
+    pub fn column(&self, i: u8) -> ColumnType
         requires { i < width_of self.now }
-        ensures column { slice_get (columns_of self.now) i ≡ Some result }
+        ensures column { slice_get (types_of self.now) i ≡ Some result }
     {
         if self.integers.contains(i) {
-            Column::Integer
+            ColumnType::Integer
         } else {
-            Column::Text
+            ColumnType::Text
         }
     }
 
@@ -128,13 +128,13 @@ fn position_named(names: &[Name], bytes: &[u8]) -> Option<usize>
 }
 
 // The set of the integer columns.
-fn integer_columns(columns: &[Column]) -> AttrSet
+fn integer_columns(columns: &[ColumnType]) -> AttrSet
     requires { length columns.now ≤ MOST_ATTRIBUTES }
     ensures columns { columns_on (length columns.now) (attributes result) ≡ columns.now }
 {
     let mut integers = AttrSet::empty();
     for (i, column) in columns.iter().enumerate() {
-        if *column == Column::Integer {
+        if *column == ColumnType::Integer {
             integers = integers.with(i as u8);
         }
     }

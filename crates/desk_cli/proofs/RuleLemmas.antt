@@ -7,10 +7,10 @@ use Rattle.std.specs.List.{list_any}
 use Rattle.std.specs.Prelude.{slice_get, position}
 use Rattle.dep_model.specs.Dependencies.{Dependency}
 use Rattle.dep_model.specs.Names.{same_name}
-use Rattle.dep_model.specs.Schemas.{columns_of, names_of, width_of}
+use Rattle.dep_model.specs.Schemas.{types_of, names_of, width_of}
 use Rattle.dep_model.specs.Validity.{IsSchema}
-use Rattle.dep_model.specs.declared.column.Column.{Column}
-use Rattle.dep_model.specs.declared.column.Column.TheVariants.{Text, Integer}
+use Rattle.dep_model.specs.declared.column_type.ColumnType.{ColumnType}
+use Rattle.dep_model.specs.declared.column_type.ColumnType.TheVariants.{Text, Integer}
 use Rattle.dep_model.specs.declared.dep.Dep.{Dep}
 use Rattle.dep_model.specs.declared.schema.Schema.{Schema}
 use Rattle.fd_discovery.specs.Headers.{IsColumnHeader}
@@ -41,7 +41,7 @@ headed_schema names deps lines header some none empty = record {
 }
 
 -- ---- a schema of text columns
-all_text : (columns : List Column) → ((i : ℕ) → i < length columns → slice_get columns i ≡ Some Text) → list_any is_integer columns ≡ false
+all_text : (columns : List ColumnType) → ((i : ℕ) → i < length columns → slice_get columns i ≡ Some Text) → list_any is_integer columns ≡ false
 all_text [] each = refl
 all_text (Text ∷ columns) each = all_text columns (λ i low. grind (arith, common_steps, each (suc i) (omega (arith, low))))
 all_text (Integer ∷ columns) each = absurd (not_both (each 0 (omega arith)))
@@ -49,7 +49,7 @@ all_text (Integer ∷ columns) each = absurd (not_both (each 0 (omega arith)))
     not_both : Some Integer ≡ Some Text → ⊥
     not_both e = cc
 
-pub plain_text : (s : Schema) (ds : List Dependency) → ((i : ℕ) → i < width_of s → slice_get (columns_of s) i ≡ Some Text)
-    → declared_text (columns_of s) (names_of s) ds ≡ found_text (names_of s) ds
+pub plain_text : (s : Schema) (ds : List Dependency) → ((i : ℕ) → i < width_of s → slice_get (types_of s) i ≡ Some Text)
+    → declared_text (types_of s) (names_of s) ds ≡ found_text (names_of s) ds
 unfolding declared_text declaring_lines
-plain_text s ds each = rw (all_text (columns_of s) (λ i low. each i (omega (arith, low, s.typed.one_each)))) refl
+plain_text s ds each = rw (all_text (types_of s) (λ i low. each i (omega (arith, low, s.typed.one_each)))) refl

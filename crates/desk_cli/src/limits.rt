@@ -6,7 +6,7 @@ ghost use Rattle.armstrong_rel.specs.declared.refusal.TheConstants.{WIDEST_EXHIB
 ghost use Rattle.csv_rows.specs.declared.reading.TheConstants.{MOST_ROWS};
 ghost use Rattle.plan_reader.specs.declared.reading.TheConstants.{MOST_PLAN_BYTES};
 ghost use Rattle.dep_model.specs.declared.name.TheConstants.{MOST_NAME_BYTES};
-ghost use Rattle.dep_model.specs.declared.schema.TheConstants.{MOST_DEPENDENCIES};
+ghost use Rattle.schema_grammar.specs.declared.format.TheConstants.{MOST_DEPENDENCY_LINES};
 ghost use Rattle.derivation.specs.declared.measures.TheConstants.{MOST_LEVELS, MOST_NODES};
 ghost use Rattle.desk_cli.specs.declared.decomposition.TheConstants.{MOST_SPLIT_SCHEMES};
 ghost use Rattle.desk_cli.specs.declared.join.TheConstants.{MOST_TABLEAU_ROWS};
@@ -27,7 +27,7 @@ ghost use Rattle.table_scripts.specs.declared.naming.TheConstants.{MOST_PARTS, M
 /// What a schema may have, and how many bytes a name.
 pub fn limits_of_schemas()
     ensures attributes { MOST_ATTRIBUTES ≡ 128 }
-    ensures dependencies { MOST_DEPENDENCIES ≡ 256 }
+    ensures dependencies { MOST_DEPENDENCY_LINES ≡ 256 }
     ensures name { MOST_NAME_BYTES ≡ 31 }
 {}
 

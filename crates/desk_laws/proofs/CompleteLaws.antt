@@ -4,10 +4,10 @@ use Rattle.std.specs.Prelude.{codes, slice_get, Any}
 use Rattle.attr_sets.specs.Attributes.{Attributes, below}
 use Rattle.attr_sets.specs.declared.set.AttrSet.{AttrSet}
 use Rattle.dep_model.specs.Dependencies.{Dependency, is_fd}
-use Rattle.dep_model.specs.Schemas.{names_of, width_of, theory_of, columns_of as types_of}
+use Rattle.dep_model.specs.Schemas.{names_of, width_of, theory_of, types_of as types_of}
 use Rattle.dep_model.specs.Tuples.{Tuple, Relation}
-use Rattle.dep_model.specs.declared.column.Column.{Column}
-use Rattle.dep_model.specs.declared.column.Column.TheVariants.{Integer}
+use Rattle.dep_model.specs.declared.column_type.ColumnType.{ColumnType}
+use Rattle.dep_model.specs.declared.column_type.ColumnType.TheVariants.{Integer}
 use Rattle.dep_model.specs.declared.memory.OutOfMemory.{OutOfMemory}
 use Rattle.dep_model.specs.declared.schema.Schema.{Schema}
 use Rattle.derivation.specs.Trees.{Tree}
@@ -158,7 +158,7 @@ row_alike : (s r : Schema) (columns : List ℕ) (row : ℕ) (fields : List (List
 row_alike s r columns row fields t same (fits, is, typed) = (
   fits,
   subst (λ (names : List (List ℕ)). t ≡ tuple_of (length names) columns fields) (names_same s r same) is,
-  (λ a has. typed a (has.0, subst (λ (types : List Column). slice_get types a ≡ Some Integer) (sym (types_same s r same)) has.1)),
+  (λ a has. typed a (has.0, subst (λ (types : List ColumnType). slice_get types a ≡ Some Integer) (sym (types_same s r same)) has.1)),
 )
 
 -- what the records of a text give, where a header with columns means the same of both schemas

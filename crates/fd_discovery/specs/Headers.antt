@@ -1,7 +1,7 @@
 -- When the header of a file names its columns, or why it does not: for `read_headed`, by
 -- `Headings`.
 use Rattle.std.specs.Prelude.{◌≡◌, ◌≢◌, ◌+◌, ◌<◌, ◌≤◌, ◌⊎◌, ℕ, Bool, true, false, ◌&&◌, not, List, [], length, take, slice_index_or, None}
-use Rattle.dep_model.specs.Names.{is_name}
+use Rattle.dep_model.specs.Names.{is_bare_name}
 use Rattle.dep_model.specs.Schemas.{attribute_named}
 use Rattle.schema_grammar.specs.Words.{is_reserved}
 use Rattle.schema_grammar.specs.declared.format.Format.TheVariants as format
@@ -11,7 +11,7 @@ use Rattle.fd_discovery.specs.declared.refusal.DiscoverRefusal.TheVariants as re
 
 -- whether a field can name a column: it is a name, and no reserved word
 abbrev pub is_column_name : List ℕ → Bool
-is_column_name field = is_name field && not (is_reserved format.Plain field)
+is_column_name field = is_bare_name field && not (is_reserved format.Plain field)
 
 -- a field names a column, and no column before it has this name, ASCII case aside
 abbrev pub NamesColumn : List (List ℕ) → List ℕ → Type 0

@@ -12,7 +12,7 @@ use Rattle.lexer.specs.declared.token.Flaw.{Flaw}
 use Rattle.lexer.specs.declared.token.Mode.{Mode}
 use Rattle.lexer.specs.declared.token.TokenKind.{TokenKind}
 use Rattle.lexer.specs.declared.token.TokenKind.TheVariants as token
-use Rattle.dep_model.specs.Names.{is_name, is_name_byte}
+use Rattle.dep_model.specs.Names.{is_bare_name, is_name_byte}
 use Rattle.lexer.specs.Bytes.{is_gap, is_number, number_of, run_length}
 use Rattle.lexer.specs.Pieces.{front_piece, run_piece, takes_numbers, takes_comments}
 use Rattle.lexer.specs.Tokens.{tokens_after, led_by_mark, Leads, StandsAfter}
@@ -32,7 +32,7 @@ pub record LiesIn (text : List ℕ) (n : ℕ) : Type 0 where
 abbrev pub FitsPiece : List ℕ → Piece → Type 0
 FitsPiece text piece.Gap = Unit {0}
 FitsPiece text piece.Comment = Unit {0}
-FitsPiece text (piece.Token k n) = LiesIn text n × (k ≡ token.Identifier → is_name (take n text) ≡ true)
+FitsPiece text (piece.Token k n) = LiesIn text n × (k ≡ token.Identifier → is_bare_name (take n text) ≡ true)
 FitsPiece text (piece.Flaw why n) = LiesIn text n
 
 FitsPiece-cond : (text : List ℕ) (b : Bool) (x y : Piece) → (b ≡ true → FitsPiece text x) → (b ≡ false → FitsPiece text y) → FitsPiece text (cond b x y)
@@ -55,7 +55,7 @@ unfolding run_piece
 run_fits m text h =
     let lies = run_lies text h in
     let same : length (take (run_length text) text) ≡ run_length text = length-prefix_len is_name_byte text in
-    FitsPiece-cond text (is_name (take (run_length text) text)) _ _
+    FitsPiece-cond text (is_bare_name (take (run_length text) text)) _ _
     (λ word. (lies, λ _. rw same word))
     (λ _. FitsPiece-cond text (takes_numbers m && is_number (take (run_length text) text)) (number_piece text) _ (λ _. number_fits text lies) (λ _. lies))
 
@@ -139,7 +139,7 @@ pub lies_in : (m : Mode) (text : List ℕ) (k : TokenKind) (n : ℕ) → 0 < len
 lies_in m text k n h e =
     let fits : FitsPiece text (piece.Token k n) = subst (FitsPiece text) (sym e) (front_fits m text h) in fits.0
 
-pub is_a_word : (m : Mode) (text : List ℕ) (k : TokenKind) (n : ℕ) → 0 < length text → piece.Token k n ≡ front_piece m text → k ≡ token.Identifier → is_name (take n text) ≡ true
+pub is_a_word : (m : Mode) (text : List ℕ) (k : TokenKind) (n : ℕ) → 0 < length text → piece.Token k n ≡ front_piece m text → k ≡ token.Identifier → is_bare_name (take n text) ≡ true
 is_a_word m text k n h e =
     let fits : FitsPiece text (piece.Token k n) = subst (FitsPiece text) (sym e) (front_fits m text h) in fits.1
 

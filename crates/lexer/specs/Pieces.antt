@@ -7,7 +7,7 @@ use Rattle.lexer.specs.declared.token.Flaw.TheVariants as flaw
 use Rattle.lexer.specs.declared.token.Mode.{Mode}
 use Rattle.lexer.specs.declared.token.Mode.TheVariants as mode
 use Rattle.lexer.specs.declared.token.TokenKind.TheVariants as token
-use Rattle.dep_model.specs.Names.{is_name, is_name_byte}
+use Rattle.dep_model.specs.Names.{is_bare_name, is_name_byte}
 use Rattle.lexer.specs.Bytes.{is_gap, run_length, is_number, number_of}
 
 -- whether numbers and `:` are tokens
@@ -25,7 +25,7 @@ takes_comments mode.Numbered = true
 -- what a run of letters, digits and `_` is
 unfoldable pub run_piece : Mode → List ℕ → Piece
 run_piece m run =
-    if is_name run then piece.Token token.Identifier (length run)
+    if is_bare_name run then piece.Token token.Identifier (length run)
     else if takes_numbers m && is_number run then piece.Token (token.Number (number_of run)) (length run)
     else piece.Flaw flaw.BadName (length run)
 

@@ -9,7 +9,7 @@ use Rattle.lexer.specs.declared.token.LexError.{LexError}
 use Rattle.lexer.specs.declared.token.Token.{Token}
 use Rattle.lexer.specs.declared.token.TokenKind.{TokenKind}
 use Rattle.lexer.specs.declared.token.TokenKind.TheVariants as token
-use Rattle.dep_model.specs.Names.{is_name}
+use Rattle.dep_model.specs.Names.{is_bare_name}
 use Rattle.lexer.specs.Pieces.{front_piece}
 
 -- a token with its bytes
@@ -56,7 +56,7 @@ pub record Leads (m : Mode) (t : Token) (word rest : List ℕ) (all : Lexed) : T
   pub all_tokens : all ≡ led_by_mark (record { kind = t.kind; column = t.column; word = word })
       (tokens_after m 0 (t.column + t.length) rest)
   pub same_length : t.length ≡ length word
-  pub is_a_word : t.kind ≡ token.Identifier → is_name word ≡ true
+  pub is_a_word : t.kind ≡ token.Identifier → is_bare_name word ≡ true
 
 -- what comes next is the first of these tokens, or why there is none
 abbrev pub GoesOn : Mode → Next → Lexed → Type 0

@@ -1,7 +1,7 @@
 ghost use Rattle.std.specs.Prelude.{◌≡◌, IsTrue};
 ghost use Rattle.std.specs.Char.{is_ascii_digit};
 ghost use Rattle.std.specs.List.{list_all};
-ghost use Rattle.dep_model.specs.Names.{is_name, is_name_byte};
+ghost use Rattle.dep_model.specs.Names.{is_bare_name, is_name_byte};
 ghost use Rattle.lexer.specs.Bytes.{is_gap, is_number, number_of, run_length};
 
 use dep_model::MOST_NAME_BYTES;
@@ -28,9 +28,9 @@ pub fn run_length(text: &[u8]) -> usize
 }
 
 /// Whether a run is a name: a letter in front, and not too many bytes.
-pub fn is_name(run: &[u8]) -> bool
+pub fn is_bare_name(run: &[u8]) -> bool
     requires run { IsTrue (list_all is_name_byte run.now) }
-    ensures name { result ≡ is_name run.now }
+    ensures name { result ≡ is_bare_name run.now }
 {
     !run.is_empty() && run[0].is_ascii_alphabetic() && run.len() <= MOST_NAME_BYTES
 }

@@ -3,7 +3,7 @@ ghost use Rattle.std.specs.List.{list_all};
 ghost use Rattle.dep_model.specs.Names.{is_name_byte};
 ghost use Rattle.lexer.specs.Pieces.{front_piece, run_piece};
 
-use crate::bytes::{is_gap, is_name, is_number, is_run, number_of, run_length};
+use crate::bytes::{is_gap, is_bare_name, is_number, is_run, number_of, run_length};
 use crate::token::{Flaw, Mode, TokenKind};
 
 /// What stands at the front of a text.
@@ -51,7 +51,7 @@ fn run_piece(mode: Mode, run: &[u8]) -> Piece
     requires run { IsTrue (list_all is_name_byte run.now) }
     ensures exact { result ≡ run_piece mode run.now }
 {
-    if is_name(run) {
+    if is_bare_name(run) {
         Piece::Token(TokenKind::Identifier, run.len())
     } else if mode.takes_numbers() && is_number(run) {
         Piece::Token(TokenKind::Number(number_of(run)), run.len())

@@ -11,7 +11,7 @@ use Rattle.std.proofs.lemmas.List.{append-nil}
 use Rattle.std.proofs.lemmas.List.Sums.{AllPass-from_list_all, list_all-from_AllPass}
 use Rattle.std.proofs.lemmas.Str.Parse.{IsNumeralModel, numerals_by_fold}
 use Rattle.dep_model.proofs.NumeralLemmas.{digits_value-model}
-use Rattle.dep_model.specs.Names.{is_name, is_name_byte}
+use Rattle.dep_model.specs.Names.{is_bare_name, is_name_byte}
 use Rattle.lexer.specs.declared.piece.Piece.TheVariants as piece
 use Rattle.lexer.specs.declared.token.Mode.TheVariants as mode
 use Rattle.lexer.specs.declared.token.TokenKind.TheVariants as token
@@ -64,7 +64,7 @@ front_number (first ∷ others) rest e some few apart =
     let hash : (first == 35) ≡ false = grind (arith, nat_tests) in
     let byte : is_name_byte first ≡ true = grind (arith, nat_tests) in
     let letter : is_ascii_alphabetic first ≡ false = grind (arith, nat_tests) in
-    let other : is_name (first ∷ others) ≡ false = rw letter (grind (arith, nat_tests)) in
+    let other : is_bare_name (first ∷ others) ≡ false = rw letter (grind (arith, nat_tests)) in
     let number : is_number (first ∷ others) ≡ true = grind (arith, nat_tests) in
     let more : run_length (others ++ rest) ≡ length others = run_is others rest parts.1 apart in
     let one : 1 + length others ≡ suc (length others) = omega arith in
@@ -86,7 +86,7 @@ pub data Gap : Type 0 where
   double_arrow : Gap
 
 abbrev pub IsProper : Part → Type 0
-IsProper (keyword word) = is_name word ≡ true
+IsProper (keyword word) = is_bare_name word ≡ true
 IsProper (number n) = n < 10 ^ 9
 IsProper (side words) = AllNames words
 

@@ -1,10 +1,10 @@
 ghost use Rattle.std.specs.Prelude.{◌≡◌, ◌<◌, ◌∷◌, [], ℕ, slice_get, Some, IfOk, true};
-ghost use Rattle.dep_model.specs.Names.{is_name};
-ghost use Rattle.dep_model.specs.Schemas.{columns_of, lines_of, names_of, theory_of, width_of};
+ghost use Rattle.dep_model.specs.Names.{is_bare_name};
+ghost use Rattle.dep_model.specs.Schemas.{types_of, lines_of, names_of, theory_of, width_of};
 ghost use Rattle.sample_rows.specs.Sample.{sample_names, sample_theory};
 
 use attr_sets::AttrSet;
-use dep_model::{Column, Dep, Name, OutOfMemory, Schema};
+use dep_model::{ColumnType, Dep, Name, OutOfMemory, Schema};
 use std::alloc::Global;
 
 /// The schema of the sample, as the text
@@ -12,7 +12,7 @@ use std::alloc::Global;
 pub fn sample_schema(alloc: Global) -> Result<Schema, OutOfMemory>
     ensures names { IfOk result (λ s. names_of s ≡ sample_names) }
     ensures columns { IfOk result
-        (λ s. (i : ℕ) → i < width_of s → slice_get (columns_of s) i ≡ Some Column.Text) }
+        (λ s. (i : ℕ) → i < width_of s → slice_get (types_of s) i ≡ Some ColumnType.Text) }
     ensures theory { IfOk result (λ s. theory_of s ≡ sample_theory) }
     ensures lines { IfOk result (λ s. lines_of s ≡ 2 ∷ 3 ∷ []) }
 {
@@ -45,7 +45,7 @@ pub fn sample_schema(alloc: Global) -> Result<Schema, OutOfMemory>
 
 // The name that a word is.
 fn name_of_word(word: &[u8]) -> Name
-    requires name { is_name word.now ≡ true }
+    requires name { is_bare_name word.now ≡ true }
     ensures name { result ≡ word.now }
 {
     Name::new(word).unwrap()

@@ -1,7 +1,7 @@
 -- Which lines have no token.
 use Rattle.std.proofs.Common.{◌≡◌, ℕ, ◌+◌, zero, suc, Bool, true, false, cond, ◌==◌, ◌&&◌, List, [], ◌∷◌, take, nat_eq, refl, sym, ◌∙◌, ap, arith}
 use Rattle.std.specs.List.{starts_with}
-use Rattle.dep_model.specs.Names.{is_name, is_name_byte}
+use Rattle.dep_model.specs.Names.{is_bare_name, is_name_byte}
 use Rattle.lexer.specs.declared.piece.Piece.{Piece}
 use Rattle.lexer.specs.declared.piece.Piece.TheVariants as piece
 use Rattle.lexer.specs.declared.token.Mode.{Mode}
@@ -34,7 +34,7 @@ front_class m b bs =
     piece_class-cond (is_gap b) _ _ ∙ ap (cond (is_gap b) 0)
     (piece_class-cond (b == 35 && takes_comments m) _ _ ∙ ap (cond (b == 35 && takes_comments m) 1)
     (piece_class-cond_two (is_name_byte b) _ _
-    (piece_class-cond_two (is_name run) _ _ refl (piece_class-cond_two (takes_numbers m && is_number run) _ _ refl refl))
+    (piece_class-cond_two (is_bare_name run) _ _ refl (piece_class-cond_two (takes_numbers m && is_number run) _ _ refl refl))
     (piece_class-cond_two (starts_with nat_eq (b ∷ bs) (45 ∷ 62 ∷ 62 ∷ [])) _ _ refl
     (piece_class-cond_two (starts_with nat_eq (b ∷ bs) (45 ∷ 62 ∷ [])) _ _ refl
     (piece_class-cond_two (starts_with nat_eq (b ∷ bs) (40 ∷ 41 ∷ [])) _ _ refl

@@ -6,8 +6,8 @@ use Rattle.std.proofs.lemmas.Bool.{cases_Bool, leb-false, lt-leb}
 use Rattle.std.proofs.lemmas.Bool.Decides.{nat_tests}
 use Rattle.std.proofs.lemmas.List.{append-nil}
 use Rattle.attr_sets.specs.declared.set.TheConstants.{MOST_ATTRIBUTES}
-use Rattle.dep_model.specs.declared.column.Column.{Column}
-use Rattle.dep_model.specs.declared.schema.TheConstants.{MOST_DEPENDENCIES}
+use Rattle.dep_model.specs.declared.column_type.ColumnType.{ColumnType}
+use Rattle.schema_grammar.specs.declared.format.TheConstants.{MOST_DEPENDENCY_LINES}
 use Rattle.dep_model.specs.Dependencies.{Dependency}
 use Rattle.dep_model.specs.Schemas.{attribute_named}
 use Rattle.lexer.specs.declared.token.Mode.TheVariants as mode
@@ -37,7 +37,7 @@ unless_ok : {X : Type 0} (b : Bool) (why : SchemaRefusalKind) (r : Result X Sche
 unless_ok true why r x e = cc
 unless_ok false why r x e = (refl, e)
 
-declares_name : (f : Format) (column : Column) (d whole : Declarations) (some : Bool) (m : Mark) → name_step f column d some m.kind m.word ≡ Ok whole
+declares_name : (f : Format) (column : ColumnType) (d whole : Declarations) (some : Bool) (m : Mark) → name_step f column d some m.kind m.word ≡ Ok whole
     → IsNewName f d m × (whole ≡ add_name d m.word column)
 unfolding declare
 declares_name f column d whole some m e = told m.kind refl (attribute_named d.names m.word) refl e
@@ -58,13 +58,13 @@ declares_name f column d whole some m e = told m.kind refl (attribute_named d.na
         none (Some a) e = cc
     told k is o lookup e = cc
 
-name_declared : (f : Format) (column : Column) (d : Declarations) (some : Bool) (m : Mark) → IsNewName f d m → name_step f column d some m.kind m.word ≡ Ok (add_name d m.word column)
+name_declared : (f : Format) (column : ColumnType) (d : Declarations) (some : Bool) (m : Mark) → IsNewName f d m → name_step f column d some m.kind m.word ≡ Ok (add_name d m.word column)
 unfolding declare
 name_declared f column d some m new =
     let room = lt-leb MOST_ATTRIBUTES (length d.names) new.room in rw (new.word, new.free, new.new, room) refl
 
 -- names after a declaring word are read exactly where each is a new one
-names_there : (f : Format) (column : Column) (line : ℕ) (d whole : Declarations) (some : Bool)
+names_there : (f : Format) (column : ColumnType) (line : ℕ) (d whole : Declarations) (some : Bool)
     (next_column : ℕ) (ms : List Mark)
     → list_names f column line d some next_column ms None ≡ Ok whole
     → (some ≡ false → 0 < length ms) × DeclareNames f column d ms whole
@@ -80,7 +80,7 @@ names_there f column line d whole some next_column (m ∷ ms) e =
     let more = names_there f column line (add_name d m.word column) whole true (m.column + length m.word) ms rest in
     ((λ none. omega arith), (first.0, more.1))
 
-names_back : (f : Format) (column : Column) (line : ℕ) (d whole : Declarations) (some : Bool)
+names_back : (f : Format) (column : ColumnType) (line : ℕ) (d whole : Declarations) (some : Bool)
     (next_column : ℕ) (ms : List Mark)
     → (some ≡ false → 0 < length ms) → DeclareNames f column d ms whole
     → list_names f column line d some next_column ms None ≡ Ok whole
@@ -92,7 +92,7 @@ names_back f column line d whole some next_column (m ∷ ms) has (new, rest) =
     (names_back f column line (add_name d m.word column) whole true (m.column + length m.word) ms
     (λ none. cc) rest)
 
-names_stopped : (f : Format) (column : Column) (line : ℕ) (d whole : Declarations) (some : Bool)
+names_stopped : (f : Format) (column : ColumnType) (line : ℕ) (d whole : Declarations) (some : Bool)
     (next_column : ℕ) (ms : List Mark) (stop : LexError)
     → list_names f column line d some next_column ms (Some stop) ≡ Ok whole → ⊥
 unfolding list_names
@@ -105,7 +105,7 @@ names_stopped f column line d whole some next_column (m ∷ ms) stop e =
 record Begun (f : Format) (line : ℕ) (d : Declarations) (m : Mark) (ms : List Mark) (stop : Option LexError) (whole : Declarations) : Type 0 where
   dep : Dependency
   read : follow f d.names line start 1 (m ∷ ms) stop ≡ Ok dep
-  room : length d.deps < MOST_DEPENDENCIES
+  room : length d.deps < MOST_DEPENDENCY_LINES
   adds : whole ≡ add_dependency d dep line
 
 dependency_there : (f : Format) (line : ℕ) (d whole : Declarations) (m : Mark) (ms : List Mark) (stop : Option LexError)
@@ -115,7 +115,7 @@ dependency_there f line d whole m ms stop e =
     let two = and_then-ok (at line m.column (length m.word) (begin f d m.kind m.word)) _ whole e in
     let begun = at-ok line m.column (length m.word) (begin f d m.kind m.word) two.x two.first in
     let inner = and_then-ok (step f d.names start m.kind m.word) _ two.x begun in
-    let room = unless_ok (nat_le MOST_DEPENDENCIES (length d.deps)) kind.TooManyDependencies (Ok inner.x) two.x inner.second in
+    let room = unless_ok (nat_le MOST_DEPENDENCY_LINES (length d.deps)) kind.TooManyDependencies (Ok inner.x) two.x inner.second in
     let same : inner.x ≡ two.x = (let eq : Ok inner.x ≡ Ok two.x = room.1 in cc) in
     let three = and_then-ok (follow f d.names line two.x (m.column + length m.word) ms stop) _ whole two.second in
     record {
@@ -126,12 +126,12 @@ dependency_there f line d whole m ms stop e =
     }
 
 dependency_back : (f : Format) (line : ℕ) (d : Declarations) (m : Mark) (ms : List Mark) (dep : Dependency)
-    → follow f d.names line start 1 (m ∷ ms) None ≡ Ok dep → length d.deps < MOST_DEPENDENCIES → dependency_line f line d m ms None ≡ Ok (add_dependency d dep line)
+    → follow f d.names line start 1 (m ∷ ms) None ≡ Ok dep → length d.deps < MOST_DEPENDENCY_LINES → dependency_line f line d m ms None ≡ Ok (add_dependency d dep line)
 unfolding dependency_line begin follow
 dependency_back f line d m ms dep e h =
     let two = and_then-ok (at line m.column (length m.word) (step f d.names start m.kind m.word)) _ dep e in
     let first = at-ok line m.column (length m.word) (step f d.names start m.kind m.word) two.x two.first in
-    let room = lt-leb MOST_DEPENDENCIES (length d.deps) h in
+    let room = lt-leb MOST_DEPENDENCY_LINES (length d.deps) h in
     let read = two.second in
     rw first (rw room (rw read refl))
 
@@ -146,7 +146,7 @@ line_there f number d line whole e = told (lex mode.Plain line).marks (lex mode.
     l : Lexed
     l = lex mode.Plain line
 
-    declaring : (m : Mark) (ms : List Mark) (column : Column) (stop : Option LexError) → l.marks ≡ m ∷ ms → l.stop ≡ stop → column_type_of_token f m.kind m.word ≡ Some column
+    declaring : (m : Mark) (ms : List Mark) (column : ColumnType) (stop : Option LexError) → l.marks ≡ m ∷ ms → l.stop ≡ stop → column_type_of_token f m.kind m.word ≡ Some column
         → list_names f column number d false (m.column + length m.word) ms stop ≡ Ok whole → IsDeclaring f d line whole
     declaring m ms column None marks stop is e =
         let both = names_there f column number d whole false (m.column + length m.word) ms e in
@@ -178,7 +178,7 @@ line_there f number d line whole e = told (lex mode.Plain line).marks (lex mode.
     stating m ms (Some s) marks stop is begun =
         absurd (follow_has_no_stop f d.names number start 1 (m ∷ ms) s begun.dep begun.read)
 
-    from : (m : Mark) (ms : List Mark) (stop : Option LexError) (o : Option Column) → l.marks ≡ m ∷ ms → l.stop ≡ stop → column_type_of_token f m.kind m.word ≡ o
+    from : (m : Mark) (ms : List Mark) (stop : Option LexError) (o : Option ColumnType) → l.marks ≡ m ∷ ms → l.stop ≡ stop → column_type_of_token f m.kind m.word ≡ o
         → line_from f number d m ms stop o ≡ Ok whole → MeansTextLine f number d line whole
     from m ms stop (Some column) marks same is e = inl (inr (declaring m ms column stop marks same is e))
     from m ms stop None marks same is e = inr (stating m ms stop marks same is (dependency_there f number d whole m ms stop e))

@@ -2,8 +2,8 @@
 use Rattle.std.proofs.Common.{◌≡◌, ◌<◌, ◌+◌, inl, inr, ℕ, suc, Bool, true, false, cond, List, [], ◌∷◌, length, Option, Some, None, Ok, Err, Result, refl, arith, ⊎_elim}
 use Rattle.std.specs.Prelude.{nat_le}
 use Rattle.std.proofs.lemmas.Bool.{leb-true, leb-false}
-use Rattle.dep_model.specs.declared.column.Column.{Column}
-use Rattle.dep_model.specs.declared.schema.TheConstants.{MOST_DEPENDENCIES}
+use Rattle.dep_model.specs.declared.column_type.ColumnType.{ColumnType}
+use Rattle.schema_grammar.specs.declared.format.TheConstants.{MOST_DEPENDENCY_LINES}
 use Rattle.dep_model.specs.Dependencies.{Dependency}
 use Rattle.lexer.specs.declared.token.LexError.{LexError}
 use Rattle.lexer.specs.Tokens.{Mark}
@@ -21,11 +21,11 @@ use Rattle.schema_grammar.proofs.DiagnosticLaws.{flaw_numbered, flaw_carries, fl
 use Rattle.schema_grammar.proofs.NameLaws.{names-law}
 use Rattle.schema_grammar.proofs.ShapeLemmas.{at_start, shape_of, StepTells, step_tells}
 
-abbrev FitsHead : Format → Declarations → ℕ → Mark → List Mark → Option LexError → Option Column → Result Declarations SchemaRefusal → Type 0
+abbrev FitsHead : Format → Declarations → ℕ → Mark → List Mark → Option LexError → Option ColumnType → Result Declarations SchemaRefusal → Type 0
 FitsHead f d line m ms stop o (Ok whole) = (p n : ℕ) → HeadDiagnostic f d m ms stop o p n → ⊥
 FitsHead f d line m ms stop o (Err e) = IsFirst (HeadDiagnostic f d m ms stop o) (HeadWants m ms o) (span_at line 1 (m ∷ ms) stop) e
 
-declaring_fits : (f : Format) (d : Declarations) (line : ℕ) (m : Mark) (ms : List Mark) (stop : Option LexError) (column : Column) (res : Result Declarations SchemaRefusal)
+declaring_fits : (f : Format) (d : Declarations) (line : ℕ) (m : Mark) (ms : List Mark) (stop : Option LexError) (column : ColumnType) (res : Result Declarations SchemaRefusal)
     → FitsNames f d line (m.column + length m.word) ms stop res → FitsHead f d line m ms stop (Some column) res
 declaring_fits f d line m ms stop column (Ok whole) none = λ p n (later, is, diagnostic). none later n diagnostic
 declaring_fits f d line m ms stop column (Err e) first = record {
@@ -39,7 +39,7 @@ declaring_fits f d line m ms stop column (Err e) first = record {
 }
 
 -- the diagnostics of a dependency line, where there is room for it
-with_room : (f : Format) (d : Declarations) (line : ℕ) (m : Mark) (ms : List Mark) (stop : Option LexError) (res : Result Dependency SchemaRefusal) → length d.deps < MOST_DEPENDENCIES
+with_room : (f : Format) (d : Declarations) (line : ℕ) (m : Mark) (ms : List Mark) (stop : Option LexError) (res : Result Dependency SchemaRefusal) → length d.deps < MOST_DEPENDENCY_LINES
     → FitsDependency f d.names line (m ∷ ms) stop res → FitsHead f d line m ms stop None (and_then res (λ dep. Ok (add_dependency d dep line)))
 with_room f d line m ms stop (Ok dep) room none =
     λ p n diagnostic. ⊎_elim (none p n) (λ full. omega (arith, full.2)) diagnostic
@@ -52,7 +52,7 @@ with_room f d line m ms stop (Err e) room first = record {
 }
 
 begun_fits : (f : Format) (d : Declarations) (line : ℕ) (m : Mark) (ms : List Mark) (stop : Option LexError) (o : Result Reached SchemaRefusalKind) (b : Bool)
-    → nat_le MOST_DEPENDENCIES (length d.deps) ≡ b → StepTells f d.names start m o
+    → nat_le MOST_DEPENDENCY_LINES (length d.deps) ≡ b → StepTells f d.names start m o
     → FitsDependency f d.names line (m ∷ ms) stop (and_then (at line m.column (length m.word) o) (λ next. follow f d.names line next (m.column + length m.word) ms stop))
     → FitsHead f d line m ms stop None
     (and_then (at line m.column (length m.word) (and_then o (λ next. cond b (Err kind.TooManyDependencies) (Ok next))))
@@ -96,13 +96,13 @@ text-line-law f d line [] (Some s) =
 text-line-law f d line (m ∷ ms) stop =
     fits (line_from f line d m ms stop (column_type_of_token f m.kind m.word)) (head (column_type_of_token f m.kind m.word))
   where
-    head : (o : Option Column) → FitsHead f d line m ms stop o (line_from f line d m ms stop o)
+    head : (o : Option ColumnType) → FitsHead f d line m ms stop o (line_from f line d m ms stop o)
     head (Some column) =
         declaring_fits f d line m ms stop column _
         (names-law f column d line (m.column + length m.word) ms stop)
     head None =
         begun_fits f d line m ms stop (step f d.names start m.kind m.word)
-        (nat_le MOST_DEPENDENCIES (length d.deps)) refl (step_tells f d.names start m)
+        (nat_le MOST_DEPENDENCY_LINES (length d.deps)) refl (step_tells f d.names start m)
         (line-law f d.names line (m ∷ ms) stop)
 
     fits : (res : Result Declarations SchemaRefusal)

@@ -9,7 +9,7 @@ use Rattle.std.proofs.lemmas.List.{append-nil, length-map, length-take-le, map-a
 use Rattle.std.proofs.lemmas.List.Elements.{All-nil, All-push}
 use Rattle.std.proofs.lemmas.Option.{slice_get_within, get_or_from_slice_get}
 use Rattle.attr_sets.specs.declared.set.TheConstants.{MOST_ATTRIBUTES}
-use Rattle.dep_model.specs.declared.column.Column.{Column}
+use Rattle.dep_model.specs.declared.column_type.ColumnType.{ColumnType}
 use Rattle.dep_model.specs.Schemas.{attribute_named}
 use Rattle.lexer.specs.declared.token.LexError.{LexError}
 use Rattle.lexer.specs.declared.token.TokenKind.{TokenKind}
@@ -36,7 +36,7 @@ WordDiagnostic f names count m number =
     ⊎ ((number ≡ 6) × (m.kind ≡ token.Identifier → ⊥))
 
 -- what a token after a declaring word tells
-abbrev NameTells : Format → Column → Declarations → List (List ℕ) → ℕ → Bool → Mark
+abbrev NameTells : Format → ColumnType → Declarations → List (List ℕ) → ℕ → Bool → Mark
     → Result Declarations SchemaRefusalKind → Type 0
 NameTells f column d names count some m (Ok next) =
     (next ≡ add_name d m.word column) × (m.kind ≡ token.Identifier) ×
@@ -46,7 +46,7 @@ NameTells f column d names count some m (Err why) =
     ((n : ℕ) → WordDiagnostic f names count m n → refusal_number why ≤ n)
     × Carries (λ w. w ≡ what_after_declaring some) why
 
-name_tells : (f : Format) (column : Column) (d : Declarations) (some : Bool) (m : Mark)
+name_tells : (f : Format) (column : ColumnType) (d : Declarations) (some : Bool) (m : Mark)
     → NameTells f column d d.names (length d.names) some m (name_step f column d some m.kind m.word)
 unfolding declare
 name_tells f column d some m = told m.kind refl
@@ -76,7 +76,7 @@ abbrev words_in : List Mark → List (List ℕ)
 words_in ms = map (λ w. w.word) ms
 
 -- names are read where nothing is wrong, or refused by the first diagnostic, after so many of the words
-judge_names : (f : Format) (column : Column) (d : Declarations) (line first : ℕ) (whole : List Mark)
+judge_names : (f : Format) (column : ColumnType) (d : Declarations) (line first : ℕ) (whole : List Mark)
     (stop : Option LexError)
     (words : List Mark) (k from : ℕ) (some : Bool) (now : Declarations)
     → IsLeft line first whole stop k from words → now.names ≡ d.names ++ words_in (take k whole)
@@ -185,7 +185,7 @@ judge_names f column d line first whole stop (w ∷ words) k from some now left 
         (sym (left.spans 0 k (omega arith))) (λ n diagnostic. least n (at_word n diagnostic))
 
 -- a declaring line is refused by its first diagnostic, and read where there is none
-pub names-law : (f : Format) (column : Column) (d : Declarations) (line next_column : ℕ) (words : List Mark) (stop : Option LexError)
+pub names-law : (f : Format) (column : ColumnType) (d : Declarations) (line next_column : ℕ) (words : List Mark) (stop : Option LexError)
     → FitsNames f d line next_column words stop (list_names f column line d false next_column words stop)
 names-law f column d line next_column words stop =
     fits (list_names f column line d false next_column words stop)

@@ -6,7 +6,7 @@ use Rattle.std.specs.List.{list_all}
 use Rattle.std.specs.Char.{is_ascii_alphabetic}
 use Rattle.std.proofs.lemmas.Bool.Decides.{nat_tests}
 use Rattle.std.proofs.lemmas.Bool.{and_parts}
-use Rattle.dep_model.specs.Names.{is_name, is_name_byte, is_word}
+use Rattle.dep_model.specs.Names.{is_bare_name, is_name_byte, is_word}
 use Rattle.lexer.specs.declared.piece.Piece.TheVariants as piece
 use Rattle.lexer.specs.declared.token.Mode.{Mode}
 use Rattle.lexer.specs.declared.token.TokenKind.TheVariants as token
@@ -26,7 +26,7 @@ pub record IsNamed (first : ℕ) (others : List ℕ) : Type 0 where
   pub letter : is_ascii_alphabetic first ≡ true
   pub bytes : list_all is_name_byte (first ∷ others) ≡ true
 
-pub named_parts : (first : ℕ) (others : List ℕ) → is_name (first ∷ others) ≡ true → IsNamed first others
+pub named_parts : (first : ℕ) (others : List ℕ) → is_bare_name (first ∷ others) ≡ true → IsNamed first others
 named_parts first others e =
     let word = and_parts (is_word (first ∷ others)) (nat_le (length (first ∷ others)) 31) e in
     let inner = and_parts (nat_lt 0 (length (first ∷ others)) && is_ascii_alphabetic first) (list_all is_name_byte (first ∷ others)) word.0 in
@@ -42,7 +42,7 @@ run_is (b ∷ bs) rest e apart =
     rw (parts.0, more) (omega arith)
 
 -- the front of a text that begins with a name
-front_name : (m : Mode) (word rest : List ℕ) → is_name word ≡ true → Apart rest → front_piece m (word ++ rest) ≡ piece.Token token.Identifier (length word)
+front_name : (m : Mode) (word rest : List ℕ) → is_bare_name word ≡ true → Apart rest → front_piece m (word ++ rest) ≡ piece.Token token.Identifier (length word)
 unfolding front_piece run_piece
 front_name m [] rest e apart = cc
 front_name m (first ∷ others) rest e apart =
@@ -57,7 +57,7 @@ front_name m (first ∷ others) rest e apart =
     rw (gap, hash, byte) (rw (more, one) (rw (take-append_seam others rest, e) refl))
 
 -- a name is a token
-pub name_lexed : (m : Mode) (column : ℕ) (word rest : List ℕ) → is_name word ≡ true → Apart rest
+pub name_lexed : (m : Mode) (column : ℕ) (word rest : List ℕ) → is_bare_name word ≡ true → Apart rest
     → tokens_after m 0 column (word ++ rest) ≡ led_by_mark (record { kind = token.Identifier; column = column; word = word }) (tokens_after m 0 (column + length word) rest)
 name_lexed m column [] rest e apart = cc
 name_lexed m column (first ∷ others) rest e apart =
@@ -80,7 +80,7 @@ led_by_marks (m ∷ ms) l = led_by_mark m (led_by_marks ms l)
 
 abbrev pub AllNames : List (List ℕ) → Type 0
 AllNames [] = Unit {0}
-AllNames (word ∷ words) = (is_name word ≡ true) × AllNames words
+AllNames (word ∷ words) = (is_bare_name word ≡ true) × AllNames words
 
 pub blank_lexed : (m : Mode) (column : ℕ) (text : List ℕ) → tokens_after m 0 column (32 ∷ text) ≡ tokens_after m 0 (column + 1) text
 unfolding front_piece

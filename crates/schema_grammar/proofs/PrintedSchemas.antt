@@ -7,14 +7,14 @@ use Rattle.std.proofs.lemmas.List.{append-nil, length-map}
 use Rattle.std.proofs.lemmas.List.Elements.{All-nil}
 use Rattle.std.proofs.lemmas.List.Folds.{Any-from_list_any}
 use Rattle.attr_sets.specs.declared.set.TheConstants.{MOST_ATTRIBUTES}
-use Rattle.dep_model.specs.declared.column.Column.{Column}
-use Rattle.dep_model.specs.declared.column.Column.TheVariants.{Text, Integer}
+use Rattle.dep_model.specs.declared.column_type.ColumnType.{ColumnType}
+use Rattle.dep_model.specs.declared.column_type.ColumnType.TheVariants.{Text, Integer}
 use Rattle.dep_model.specs.declared.schema.Schema.{Schema}
 use Rattle.dep_model.specs.Dependencies.{Dependency, IsWithin}
 use Rattle.dep_model.specs.Deps.{dependency_of}
-use Rattle.dep_model.specs.Schemas.{names_of, columns_of, deps_of, theory_of, universe_of}
+use Rattle.dep_model.specs.Schemas.{names_of, types_of, deps_of, theory_of, universe_of}
 use Rattle.dep_model.proofs.DepLemmas.{dependencies_all-from}
-use Rattle.dep_model.specs.Names.{is_name}
+use Rattle.dep_model.specs.Names.{is_bare_name}
 use Rattle.lexer.specs.declared.token.Mode.TheVariants as mode
 use Rattle.lexer.specs.declared.token.TokenKind.TheVariants as token
 use Rattle.lexer.specs.Bytes.{is_number}
@@ -37,7 +37,7 @@ use Rattle.schema_grammar.proofs.PrintedSides.{known_at, differ_before, IsCutAt,
 use Rattle.schema_grammar.proofs.PrintedTexts.{Bytes, bytes_both, words_bytes, EachBytes, lines_cut, line_numbers, dependencies_mean, each_dependency, none_found}
 
 -- a word, and words each after a blank
-pub word_line : (word : List ℕ) (words : List (List ℕ)) → is_name word ≡ true → AllNames words
+pub word_line : (word : List ℕ) (words : List (List ℕ)) → is_bare_name word ≡ true → AllNames words
     → HasTokens (lex mode.Plain (word ++ words_text words)) (record { kind = token.Identifier; column = 1; word = word } ∷ word_marks (1 + length word) words)
 word_line word words proper names = last_side mode.Plain 1 (word ∷ words) (proper, names)
 
@@ -54,11 +54,11 @@ all_names : (f : Format) (names : List (List ℕ)) → AreNames f names → AllN
 all_names f names are =
     front_proper f names [] names [] 0 are (record { whole = sym (append-nil names); size = refl })
 
-abbrev with_names : Declarations → List (List ℕ) → Column → Declarations
+abbrev with_names : Declarations → List (List ℕ) → ColumnType → Declarations
 with_names d words column = record { names = d.names ++ words; columns = d.columns ++ map (λ w. column) words; deps = d.deps; lines = d.lines }
 
 -- words in front of others are declared one by one
-declare_front : (f : Format) (column : Column) (d : Declarations) (names words rest : List (List ℕ))
+declare_front : (f : Format) (column : ColumnType) (d : Declarations) (names words rest : List (List ℕ))
     (at position : ℕ) → AreNames f names → IsCutAt names d.names (words ++ rest) position
     → length names ≤ MOST_ATTRIBUTES → DeclareNames f column d (word_marks at words) (with_names d words column)
 declare_front f column d names [] rest at position are cut few =
@@ -75,10 +75,10 @@ declare_front f column d names (word ∷ words) rest at position are cut few =
     (record { word = refl; free = known.free; new = new; room = omega arith }, subst of same more)
 
 -- a declaring line as it is printed
-declaring_mean : (f : Format) (column : Column) (number : ℕ) (d : Declarations) (key : List ℕ)
+declaring_mean : (f : Format) (column : ColumnType) (number : ℕ) (d : Declarations) (key : List ℕ)
     (names words rest : List (List ℕ)) (position : ℕ) → AreNames f names
     → IsCutAt names d.names (words ++ rest) position → length names ≤ MOST_ATTRIBUTES → 0 < length words
-    → is_name key ≡ true → column_type_of_token f token.Identifier key ≡ Some column
+    → is_bare_name key ≡ true → column_type_of_token f token.Identifier key ≡ Some column
     → MeansTextLine f number d (key ++ words_text words) (with_names d words column)
 declaring_mean f column number d key names words rest position are cut few some proper is =
     inl (inr (record {
@@ -97,7 +97,7 @@ declaring_mean f column number d key names words rest position are cut few some 
     }))
 
 -- a text of text columns
-all_text : (columns : List Column) (names : List (List ℕ)) → length columns ≡ length names → list_any is_integer columns ≡ false → map (λ (w : List ℕ). Text) names ≡ columns
+all_text : (columns : List ColumnType) (names : List (List ℕ)) → length columns ≡ length names → list_any is_integer columns ≡ false → map (λ (w : List ℕ). Text) names ≡ columns
 all_text [] [] e none = refl
 all_text [] (name ∷ names) e none = absurd (omega arith)
 all_text (column ∷ columns) [] e none = absurd (omega arith)
@@ -105,14 +105,14 @@ all_text (Text ∷ columns) (name ∷ names) e none = ap (λ t. Text ∷ t) (all
 all_text (Integer ∷ columns) (name ∷ names) e none = cc
 
 -- the declarations that a printed text means
-abbrev printed_declarations : List Column → List (List ℕ) → List Dependency → ℕ → Declarations
+abbrev printed_declarations : List ColumnType → List (List ℕ) → List Dependency → ℕ → Declarations
 printed_declarations columns names deps number = record { names = names; columns = columns; deps = deps; lines = line_numbers number deps }
 
 -- runs of attributes
 abbrev run_names : List Run → List (List ℕ)
 run_names runs = flat_map (λ r. r.names) runs
 
-abbrev run_columns : List Run → List Column
+abbrev run_columns : List Run → List ColumnType
 run_columns runs = flat_map (λ r. map (λ (w : List ℕ). r.column) r.names) runs
 
 abbrev EachSome : List Run → Type 0
@@ -120,12 +120,12 @@ EachSome [] = Unit {0}
 EachSome (r ∷ rs) = (0 < length r.names) × EachSome rs
 
 -- the names and columns of attributes, in runs none of which is empty
-record AreRuns (runs : List Run) (columns : List Column) (names : List (List ℕ)) : Type 0 where
+record AreRuns (runs : List Run) (columns : List ColumnType) (names : List (List ℕ)) : Type 0 where
   names_are : run_names runs ≡ names
   columns_are : run_columns runs ≡ columns
   some : EachSome runs
 
-front_runs : (c : Column) (name : List ℕ) (runs : List Run) (columns : List Column) (names : List (List ℕ))
+front_runs : (c : ColumnType) (name : List ℕ) (runs : List Run) (columns : List ColumnType) (names : List (List ℕ))
     → AreRuns runs columns names
     → AreRuns (in_front c name runs) (c ∷ columns) (name ∷ names)
 front_runs c name [] columns names are =
@@ -136,7 +136,7 @@ front_runs c name [] columns names are =
     }
 front_runs c name (r ∷ rs) columns names are = told (same_column c r.column) refl
   where
-    same_type : (a b : Column) → same_column a b ≡ true → a ≡ b
+    same_type : (a b : ColumnType) → same_column a b ≡ true → a ≡ b
     same_type Text Text e = refl
     same_type Integer Integer e = refl
     same_type a b e = cc
@@ -158,7 +158,7 @@ front_runs c name (r ∷ rs) columns names are = told (same_column c r.column) r
           some = (omega arith, are.some);
         }
 
-are_runs : (columns : List Column) (names : List (List ℕ)) → length columns ≡ length names
+are_runs : (columns : List ColumnType) (names : List (List ℕ)) → length columns ≡ length names
     → AreRuns (runs_of columns names) columns names
 are_runs [] [] e = record { names_are = refl; columns_are = refl; some = tt }
 are_runs [] (name ∷ names) e = absurd (omega arith)
@@ -187,7 +187,7 @@ runs_mean number d names (r ∷ runs) lines whole position are cut few (here, so
     let later : number + suc (length runs) ≡ (number + 1) + length runs = omega arith in
     let of : Declarations → Type 0 = λ e. MeansLines format.Typed (number + suc (length runs)) e lines whole in
     let of_n : ℕ → Type 0 = λ n. MeansLines format.Typed n (with_runs next runs) lines whole in
-    let proper = elim (r.column) as (λ c. is_name (type_word c) ≡ true) [ Text ↦ refl | Integer ↦ refl ] in
+    let proper = elim (r.column) as (λ c. is_bare_name (type_word c) ≡ true) [ Text ↦ refl | Integer ↦ refl ] in
     let declares_it = elim (r.column) as
     (λ c. column_type_of_token format.Typed token.Identifier (type_word c) ≡ Some c) [ Text ↦ refl | Integer ↦ refl ] in (
       next,
@@ -202,7 +202,7 @@ runs_mean number d names (r ∷ runs) lines whole position are cut few (here, so
     )
 
 -- names of a text with an integer column
-typed_names : (columns : List Column) (names : List (List ℕ)) (deps : List Dependency) → IsPrintable columns names deps → list_any is_integer columns ≡ true → AreNames format.Typed names
+typed_names : (columns : List ColumnType) (names : List (List ℕ)) (deps : List Dependency) → IsPrintable columns names deps → list_any is_integer columns ≡ true → AreNames format.Typed names
 unfolding is_reserved
 typed_names columns names deps is some = record {
   each = is.are_names.each;
@@ -252,19 +252,19 @@ runs_bytes (r ∷ rs) names =
     )
 
 -- a printed text is cut into its lines and an empty one
-text_cut : (columns : List Column) (names : List (List ℕ)) (deps : List Dependency) → EachBytes (declaring_lines columns names) → AreNames format.Plain names
+text_cut : (columns : List ColumnType) (names : List (List ℕ)) (deps : List Dependency) → EachBytes (declaring_lines columns names) → AreNames format.Plain names
     → line_texts (declared_text columns names deps) ≡ declaring_lines columns names ++ (map (dependency_text names) deps ++ [] ∷ [])
 unfolding declared_text
 text_cut columns names deps each are =
     lines_cut (declaring_lines columns names ++ map (dependency_text names) deps) (each_append (declaring_lines columns names) (map (dependency_text names) deps) each (each_dependency format.Plain names deps are))
     ∙ append_assoc (declaring_lines columns names) (map (dependency_text names) deps) ([] ∷ [])
 
-abbrev Means : List Column → List (List ℕ) → List Dependency → Type 0
+abbrev Means : List ColumnType → List (List ℕ) → List Dependency → Type 0
 Means columns names deps =
     (lines : List ℕ) × MeansSchema (declared_text columns names deps)
     (record { names = names; columns = columns; deps = deps; lines = lines })
 
-plain_means : (columns : List Column) (names : List (List ℕ)) (deps : List Dependency)
+plain_means : (columns : List ColumnType) (names : List (List ℕ)) (deps : List Dependency)
     → IsPrintable columns names deps
     → list_any is_integer columns ≡ false → Means columns names deps
 unfolding declaring_lines declared_text column_type_of_token column_type_of_word has_version_line is_version
@@ -287,7 +287,7 @@ plain_means columns names deps is none =
     (record { whole = sym (append-nil names); size = refl }) is.few is.some refl refl in
     let few = is.few_deps in
     let more = dependencies_mean format.Plain 2 after_names deps is.are_names is.within (omega arith) in
-    let of_columns : List Column → Type 0 =
+    let of_columns : List ColumnType → Type 0 =
     λ cs. MeansLines format.Plain 2 after_names rest (printed_declarations cs names deps 2) in
     let means = subst of_columns (all_text columns names is.are_columns.one_each none) more in
     let of : List (List ℕ) → Type 0 = λ ls. IsPlainText ls (printed_declarations columns names deps 2) in (
@@ -299,7 +299,7 @@ plain_means columns names deps is none =
       },
     )
 
-typed_means : (columns : List Column) (names : List (List ℕ)) (deps : List Dependency) → IsPrintable columns names deps → list_any is_integer columns ≡ true → Means columns names deps
+typed_means : (columns : List ColumnType) (names : List (List ℕ)) (deps : List Dependency) → IsPrintable columns names deps → list_any is_integer columns ≡ true → Means columns names deps
 unfolding declaring_lines declared_text
 typed_means columns names deps is some =
     let are = typed_names columns names deps is some in
@@ -339,13 +339,13 @@ typed_means columns names deps is some =
 
 -- what is printed of a schema, none of whose names is reserved, means it
 pub printed-schema-law : (s : Schema) → AreNames format.Plain (names_of s)
-    → Means (columns_of s) (names_of s) (theory_of s)
-printed-schema-law s are = elim (cases_Bool (list_any is_integer (columns_of s))) [
-  | inl some ↦ typed_means (columns_of s) (names_of s) (theory_of s) printable some
-  | inr none ↦ plain_means (columns_of s) (names_of s) (theory_of s) printable none
+    → Means (types_of s) (names_of s) (theory_of s)
+printed-schema-law s are = elim (cases_Bool (list_any is_integer (types_of s))) [
+  | inl some ↦ typed_means (types_of s) (names_of s) (theory_of s) printable some
+  | inr none ↦ plain_means (types_of s) (names_of s) (theory_of s) printable none
 ]
   where
-    printable : IsPrintable (columns_of s) (names_of s) (theory_of s)
+    printable : IsPrintable (types_of s) (names_of s) (theory_of s)
     printable = record {
       some = s.valid.some_names;
       few = s.valid.few_names;

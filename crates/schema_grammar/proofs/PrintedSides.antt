@@ -12,7 +12,7 @@ use Rattle.std.proofs.lemmas.List.Elements.{All-cons, All-nil}
 use Rattle.std.proofs.lemmas.List.Sums.{position_or_len_is}
 use Rattle.std.proofs.lemmas.Slice.Eq.{bytes_eq-Decides}
 use Rattle.attr_sets.specs.Attributes.{Attributes, none, below, IsSubset}
-use Rattle.dep_model.specs.Names.{is_name, same_name}
+use Rattle.dep_model.specs.Names.{is_bare_name, same_name}
 use Rattle.dep_model.specs.Schemas.{attribute_named}
 use Rattle.dep_model.proofs.NameLemmas.{attribute_named-append}
 use Rattle.schema_grammar.specs.declared.format.Format.{Format}
@@ -38,7 +38,7 @@ differ_before f names before word words are e k d h =
 
 -- what is known of the name in the middle
 pub record IsKnown (f : Format) (names : List (List ℕ)) (name : List ℕ) (position : ℕ) : Type 0 where
-  pub proper : is_name name ≡ true
+  pub proper : is_bare_name name ≡ true
   pub free : is_reserved f name ≡ false
   pub found : attribute_named names name ≡ Some position
 
@@ -68,7 +68,7 @@ known_at f names before name after position are cut =
     let whole : AreNames f (before ++ name ∷ after) = subst (AreNames f) cut.whole are in
     let here : get_or (before ++ name ∷ after) (length before) [] ≡ name = get_or_at before name after [] (length before) refl in
     record {
-      proper = subst (λ (t : List ℕ). is_name t ≡ true) here (whole.each (length before) [] (omega arith));
+      proper = subst (λ (t : List ℕ). is_bare_name t ≡ true) here (whole.each (length before) [] (omega arith));
       free = subst (λ (t : List ℕ). is_reserved f t ≡ false) here
           (whole.free (length before) [] (omega arith));
       found = ap (λ t. attribute_named t name) cut.whole ∙ attribute_named-append before name after

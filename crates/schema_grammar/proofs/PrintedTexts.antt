@@ -11,9 +11,9 @@ use Rattle.std.proofs.lemmas.List.Sums.{AllPass-from_list_all, list_all-from_All
 use Rattle.std.proofs.lemmas.List.Splits.{slice_split_at}
 use Rattle.std.proofs.lemmas.Bool.{and_parts}
 use Rattle.attr_sets.specs.Attributes.{below}
-use Rattle.dep_model.specs.declared.schema.TheConstants.{MOST_DEPENDENCIES}
+use Rattle.schema_grammar.specs.declared.format.TheConstants.{MOST_DEPENDENCY_LINES}
 use Rattle.dep_model.specs.Dependencies.{Dependency, fd, mvd, IsWithin}
-use Rattle.dep_model.specs.Names.{is_name, is_name_byte, same_name}
+use Rattle.dep_model.specs.Names.{is_bare_name, is_name_byte, same_name}
 use Rattle.dep_model.specs.Schemas.{attribute_named}
 use Rattle.lexer.specs.declared.token.Mode.TheVariants as mode
 use Rattle.lexer.specs.Lines.{is_line_feed, line_texts, without_return, without_returns}
@@ -36,7 +36,7 @@ Bytes line = list_all is_line_byte line ≡ true
 pub bytes_both : (xs ys : List ℕ) → Bytes xs → Bytes ys → Bytes (xs ++ ys)
 bytes_both xs ys h g = list_all-append is_line_byte xs ys ∙ (rw (h, g) refl)
 
-proper_bytes : (word : List ℕ) → is_name word ≡ true → Bytes word
+proper_bytes : (word : List ℕ) → is_bare_name word ≡ true → Bytes word
 proper_bytes [] e = refl
 proper_bytes (first ∷ others) e = list_all-from_AllPass is_line_byte (first ∷ others) (λ k d h.
     let byte = AllPass-from_list_all is_name_byte (first ∷ others)
@@ -108,7 +108,7 @@ with_dependencies d deps lines = record { names = d.names; columns = d.columns; 
 -- the lines of dependencies, and the empty line after the last line feed
 pub dependencies_mean : (f : Format) (number : ℕ) (d : Declarations) (deps : List Dependency)
     → AreNames f d.names → All (IsWithin (below (length d.names))) deps
-    → length d.deps + length deps ≤ MOST_DEPENDENCIES
+    → length d.deps + length deps ≤ MOST_DEPENDENCY_LINES
     → MeansLines f number d (map (dependency_text d.names) deps ++ [] ∷ []) (with_dependencies d deps (line_numbers number deps))
 dependencies_mean f number d [] are within room = (
   d,

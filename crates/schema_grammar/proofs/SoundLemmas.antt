@@ -11,13 +11,13 @@ use Rattle.std.proofs.lemmas.List.Quantifiers.{all_pairs_push}
 use Rattle.std.proofs.lemmas.List.Sums.{fails_before_first}
 use Rattle.attr_sets.specs.Attributes.{Attributes, IsSubset, below}
 use Rattle.attr_sets.specs.declared.set.TheConstants.{MOST_ATTRIBUTES}
-use Rattle.dep_model.specs.declared.column.Column.{Column}
-use Rattle.dep_model.specs.declared.column.Column.TheVariants.{Text, Integer}
+use Rattle.dep_model.specs.declared.column_type.ColumnType.{ColumnType}
+use Rattle.dep_model.specs.declared.column_type.ColumnType.TheVariants.{Text, Integer}
 use Rattle.dep_model.specs.declared.dep.Dep.{Dep}
-use Rattle.dep_model.specs.declared.schema.TheConstants.{MOST_DEPENDENCIES}
+use Rattle.schema_grammar.specs.declared.format.TheConstants.{MOST_DEPENDENCY_LINES}
 use Rattle.dep_model.specs.Dependencies.{Dependency, IsWithin, left_of, right_of}
 use Rattle.dep_model.specs.Deps.{dependency_of, dependencies_of}
-use Rattle.dep_model.specs.Names.{is_name, same_name, is_type_name}
+use Rattle.dep_model.specs.Names.{is_bare_name, same_name, is_type_name}
 use Rattle.dep_model.specs.Schemas.{attribute_named}
 use Rattle.dep_model.specs.Validity.{IsSchema, AreColumns}
 use Rattle.dep_model.proofs.DepLemmas.{dependencies_all-to}
@@ -52,8 +52,8 @@ pub record IsSound (f : Format) (d : Declarations) : Type 0 where
   pub few_names : length d.names ≤ MOST_ATTRIBUTES
   pub names_differ : AllPairs (λ a b. same_name a b ≡ false) d.names
   pub free : All (λ name. is_reserved f name ≡ false) d.names
-  pub proper : All (λ name. is_name name ≡ true) d.names
-  pub few_deps : length d.deps ≤ MOST_DEPENDENCIES
+  pub proper : All (λ name. is_bare_name name ≡ true) d.names
+  pub few_deps : length d.deps ≤ MOST_DEPENDENCY_LINES
   pub deps_within : All (IsWithin (below (length d.names))) d.deps
   pub one_line_each : length d.lines ≡ length d.deps
   pub one_column_each : length d.columns ≡ length d.names
@@ -78,7 +78,7 @@ nothing_sound f = record {
 
 -- the bytes of a token are a name if it is a word
 abbrev IsProper : Mark → Type 0
-IsProper m = m.kind ≡ token.Identifier → is_name m.word ≡ true
+IsProper m = m.kind ≡ token.Identifier → is_bare_name m.word ≡ true
 
 led_proper : (m : Mode) (column : ℕ) (text : List ℕ) (afterwards : ℕ → Lexed) (p : Piece) → 0 < length text
     → p ≡ front_piece m text
@@ -100,7 +100,7 @@ below-wider : (n m : ℕ) (x : Attributes) → n ≤ m → IsSubset x (below n) 
 below-wider n m x h within k e = let small : k < n = ltb-true k n (within k e) in lt-ltb k m (omega arith)
 
 -- the type of a column that a line declares
-abbrev pub FitsColumn : Format → Column → Type 0
+abbrev pub FitsColumn : Format → ColumnType → Type 0
 FitsColumn format.Plain c = c ≡ Text
 FitsColumn format.Typed c = Unit {0}
 
@@ -114,7 +114,7 @@ no_name names word e k d h =
     ] in
     fails_before_first (λ name. same_name name word) names k d (omega arith)
 
-name_fits : (f : Format) (column : Column) (d : Declarations) (word : List ℕ) → FitsColumn f column → is_reserved f word ≡ false
+name_fits : (f : Format) (column : ColumnType) (d : Declarations) (word : List ℕ) → FitsColumn f column → is_reserved f word ≡ false
     → FitsFormat f d → FitsFormat f (add_name d word column)
 unfolding is_reserved
 name_fits format.Plain column d word h e fits = All-push (λ c. c ≡ Text) d.columns column fits h
@@ -122,7 +122,7 @@ name_fits format.Typed column d word h e fits =
     All-push (λ name. is_type_name name ≡ false) d.names word fits
     (or_parts (is_common_word word) (is_type_name word) e).1
 
-name_sound : (f : Format) (column : Column) (d : Declarations) (m : Mark) → FitsColumn f column → IsProper m
+name_sound : (f : Format) (column : ColumnType) (d : Declarations) (m : Mark) → FitsColumn f column → IsProper m
     → IsSound f d → IsNewName f d m
     → IsSound f (add_name d m.word column)
 name_sound f column d m h proper sound new =
@@ -134,7 +134,7 @@ name_sound f column d m h proper sound new =
       names_differ = all_pairs_push (λ a b. same_name a b ≡ false) d.names m.word sound.names_differ
           (no_name d.names m.word new.new);
       free = All-push (λ name. is_reserved f name ≡ false) d.names m.word sound.free new.free;
-      proper = All-push (λ name. is_name name ≡ true) d.names m.word sound.proper (proper new.word);
+      proper = All-push (λ name. is_bare_name name ≡ true) d.names m.word sound.proper (proper new.word);
       few_deps = sound.few_deps;
       deps_within = λ k e below_k. let inside = sound.deps_within k e below_k in (
         below-wider (length d.names) (length (d.names ++ m.word ∷ [])) (left_of (get_or d.deps k e))
@@ -147,7 +147,7 @@ name_sound f column d m h proper sound new =
       fits = name_fits f column d m.word h new.free sound.fits;
     }
 
-names_sound : (f : Format) (column : Column) (d : Declarations) (ms : List Mark) (whole : Declarations)
+names_sound : (f : Format) (column : ColumnType) (d : Declarations) (ms : List Mark) (whole : Declarations)
     → FitsColumn f column → All IsProper ms
     → IsSound f d → DeclareNames f column d ms whole → IsSound f whole
 names_sound f column d [] whole h proper sound same = subst (IsSound f) (sym same) sound
@@ -155,7 +155,7 @@ names_sound f column d (m ∷ ms) whole h proper sound (new, rest) =
     names_sound f column (add_name d m.word column) ms whole h (All-tail IsProper m ms proper)
     (name_sound f column d m h (All-head IsProper m ms proper) sound new) rest
 
-dependency_sound : (f : Format) (d : Declarations) (dep : Dependency) (line : ℕ) → IsSound f d → length d.deps < MOST_DEPENDENCIES
+dependency_sound : (f : Format) (d : Declarations) (dep : Dependency) (line : ℕ) → IsSound f d → length d.deps < MOST_DEPENDENCY_LINES
     → IsWithin (below (length d.names)) dep → IsSound f (add_dependency d dep line)
 dependency_sound f d dep line sound room inside =
     let deps : length (d.deps ++ dep ∷ []) ≡ length d.deps + 1 = length-append d.deps (dep ∷ []) in
@@ -175,7 +175,7 @@ dependency_sound f d dep line sound room inside =
       ]) sound.fits;
     }
 
-declares_fits : (f : Format) (k : TokenKind) (word : List ℕ) (column : Column)
+declares_fits : (f : Format) (k : TokenKind) (word : List ℕ) (column : ColumnType)
     → column_type_of_token f k word ≡ Some column → FitsColumn f column
 unfolding column_type_of_token column_type_of_word
 declares_fits format.Typed k word column e = tt

@@ -2,8 +2,8 @@
 -- reading (`Texts`).
 use Rattle.std.specs.Prelude.{ℕ, ◌+◌, Bool, true, false, if◌then◌else◌, List, [], ◌∷◌, ◌++◌, length, nat_le, Option, Some, None, is_some, Result, Ok, Err}
 use Rattle.attr_sets.specs.declared.set.TheConstants.{MOST_ATTRIBUTES}
-use Rattle.dep_model.specs.declared.column.Column.{Column}
-use Rattle.dep_model.specs.declared.schema.TheConstants.{MOST_DEPENDENCIES}
+use Rattle.dep_model.specs.declared.column_type.ColumnType.{ColumnType}
+use Rattle.schema_grammar.specs.declared.format.TheConstants.{MOST_DEPENDENCY_LINES}
 use Rattle.dep_model.specs.Dependencies.{Dependency}
 use Rattle.dep_model.specs.Schemas.{attribute_named}
 use Rattle.lexer.specs.declared.token.Mode.TheVariants as mode
@@ -26,21 +26,21 @@ use Rattle.schema_grammar.specs.Words.{is_reserved, column_type_of_token}
 -- what a schema text declares: names and the types of their columns, dependencies and their lines
 pub record Declarations : Type 0 where
   pub names : List (List ℕ)
-  pub columns : List Column
+  pub columns : List ColumnType
   pub deps : List Dependency
   pub lines : List ℕ
 
 abbrev pub no_declaration : Declarations
 no_declaration = record { names = []; columns = []; deps = []; lines = [] }
 
-abbrev pub add_name : Declarations → List ℕ → Column → Declarations
+abbrev pub add_name : Declarations → List ℕ → ColumnType → Declarations
 add_name d name column = record d { names = d.names ++ name ∷ []; columns = d.columns ++ column ∷ [] }
 
 abbrev pub add_dependency : Declarations → Dependency → ℕ → Declarations
 add_dependency d dep line = record d { deps = d.deps ++ dep ∷ []; lines = d.lines ++ line ∷ [] }
 
 -- a word declares a name
-unfoldable pub declare : Format → Column → Declarations → List ℕ → Result Declarations SchemaRefusalKind
+unfoldable pub declare : Format → ColumnType → Declarations → List ℕ → Result Declarations SchemaRefusalKind
 declare f column d word =
     if is_reserved f word then Err kind.ReservedName
     else if is_some (attribute_named d.names word) then Err kind.DoubleName
@@ -52,13 +52,13 @@ abbrev pub what_after_declaring : Bool → What
 what_after_declaring some = if some then what.LineEnd else what.Name
 
 -- a token after a declaring word; `some` is whether a name stood before
-abbrev pub name_step : Format → Column → Declarations → Bool → TokenKind → List ℕ
+abbrev pub name_step : Format → ColumnType → Declarations → Bool → TokenKind → List ℕ
     → Result Declarations SchemaRefusalKind
 name_step f column d some token.Identifier word = declare f column d word
 name_step f column d some _ word = Err (kind.Expected (what_after_declaring some))
 
 -- the tokens after a declaring word
-unfoldable pub list_names : Format → Column → ℕ → Declarations → Bool → ℕ → List Mark → Option LexError
+unfoldable pub list_names : Format → ColumnType → ℕ → Declarations → Bool → ℕ → List Mark → Option LexError
     → Result Declarations SchemaRefusal
 list_names f column line d true next_column [] None = Ok d
 list_names f column line d false next_column [] None = at line next_column 0 (Err (kind.Expected what.Name))
@@ -67,7 +67,7 @@ list_names f column line d some next_column (m ∷ ms) stop =
     and_then (at line m.column (length m.word) (name_step f column d some m.kind m.word))
     (λ next. list_names f column line next true (m.column + length m.word) ms stop)
 
-abbrev pub list_names_lexed : Format → Column → ℕ → Declarations → Bool → ℕ → Lexed
+abbrev pub list_names_lexed : Format → ColumnType → ℕ → Declarations → Bool → ℕ → Lexed
     → Result Declarations SchemaRefusal
 list_names_lexed f column line d some next_column l =
     list_names f column line d some next_column l.marks l.stop
@@ -77,7 +77,7 @@ list_names_lexed f column line d some next_column l =
 unfoldable pub begin : Format → Declarations → TokenKind → List ℕ → Result Reached SchemaRefusalKind
 begin f d k word =
     and_then (step f d.names start k word)
-    (λ next. if nat_le MOST_DEPENDENCIES (length d.deps) then Err kind.TooManyDependencies else Ok next)
+    (λ next. if nat_le MOST_DEPENDENCY_LINES (length d.deps) then Err kind.TooManyDependencies else Ok next)
 
 -- a dependency line with this first token
 unfoldable pub dependency_line : Format → ℕ → Declarations → Mark → List Mark → Option LexError
@@ -95,7 +95,7 @@ abbrev pub mark_of : Token → List ℕ → Mark
 mark_of t word = record { kind = t.kind; column = t.column; word = word }
 
 -- a line whose first token is this: it declares names, or states a dependency
-abbrev pub line_from : Format → ℕ → Declarations → Mark → List Mark → Option LexError → Option Column
+abbrev pub line_from : Format → ℕ → Declarations → Mark → List Mark → Option LexError → Option ColumnType
     → Result Declarations SchemaRefusal
 line_from f line d m ms stop (Some column) =
     list_names f column line d false (m.column + length m.word) ms stop

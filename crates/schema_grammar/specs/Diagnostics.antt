@@ -2,8 +2,8 @@
 -- for schema texts (`Schemas`), goals, and the lines of plans and certificates.
 use Rattle.std.specs.Prelude.{◌≡◌, ◌<◌, ◌≤◌, ◌⊎◌, ℕ, zero, suc, ◌+◌, true, List, [], ◌∷◌, ◌++◌, length, take, map, Option, Some, None, Result, Ok, Err, slice_get, is_some, All}
 use Rattle.attr_sets.specs.declared.set.TheConstants.{MOST_ATTRIBUTES}
-use Rattle.dep_model.specs.declared.column.Column.{Column}
-use Rattle.dep_model.specs.declared.schema.TheConstants.{MOST_DEPENDENCIES}
+use Rattle.dep_model.specs.declared.column_type.ColumnType.{ColumnType}
+use Rattle.schema_grammar.specs.declared.format.TheConstants.{MOST_DEPENDENCY_LINES}
 use Rattle.dep_model.specs.Dependencies.{Dependency}
 use Rattle.dep_model.specs.Schemas.{attribute_named}
 use Rattle.lexer.specs.declared.token.Flaw.{Flaw}
@@ -170,16 +170,16 @@ FitsNames f d line next_column words stop (Err e) =
     IsFirst (NamesDiagnostic f d words stop) NamesWant (span_at line next_column words stop) e
 
 -- what is wrong with a line of a schema text that this token begins, after what is declared
-abbrev pub HeadDiagnostic : Format → Declarations → Mark → List Mark → Option LexError → Option Column → ℕ
+abbrev pub HeadDiagnostic : Format → Declarations → Mark → List Mark → Option LexError → Option ColumnType → ℕ
     → ℕ → Type 0
 HeadDiagnostic f d m ms stop (Some column) position number =
     (later : ℕ) × (position ≡ suc later) × NamesDiagnostic f d ms stop later number
 HeadDiagnostic f d m ms stop None position number =
     DependencyDiagnostic f d.names (m ∷ ms) stop position number
-    ⊎ ((number ≡ 8) × (position ≡ 0) × (MOST_DEPENDENCIES ≤ length d.deps))
+    ⊎ ((number ≡ 8) × (position ≡ 0) × (MOST_DEPENDENCY_LINES ≤ length d.deps))
 
 -- what is wanted at a position of such a line
-abbrev pub HeadWants : Mark → List Mark → Option Column → ℕ → What → Type 0
+abbrev pub HeadWants : Mark → List Mark → Option ColumnType → ℕ → What → Type 0
 HeadWants m ms (Some column) position what = (later : ℕ) × (position ≡ suc later) × NamesWant later what
 HeadWants m ms None position what = DependencyWants (m ∷ ms) position what
 

@@ -4,7 +4,7 @@ use Rattle.std.specs.Prelude.{◌≡◌, ◌<◌, ◌≤◌, ◌↔◌, ℕ, Lis
 use Rattle.attr_sets.specs.Attributes.{Attributes}
 use Rattle.dep_model.specs.declared.schema.Schema.{Schema}
 use Rattle.dep_model.specs.Dependencies.{Dependency}
-use Rattle.dep_model.specs.Schemas.{names_of, columns_of, theory_of}
+use Rattle.dep_model.specs.Schemas.{names_of, types_of, theory_of}
 use Rattle.lexer.specs.declared.token.Mode.{Mode}
 use Rattle.lexer.specs.declared.token.Mode.TheVariants as mode
 use Rattle.lexer.specs.Tokens.{lex}
@@ -80,8 +80,8 @@ PositionsRise =
 abbrev pub PrintedSchemaMeans : Type 0
 PrintedSchemaMeans =
     (s : Schema) → AreNames format.Plain (names_of s)
-    → (lines : List ℕ) × MeansSchema (declared_text (columns_of s) (names_of s) (theory_of s))
-    (record { names = names_of s; columns = columns_of s; deps = theory_of s; lines = lines })
+    → (lines : List ℕ) × MeansSchema (declared_text (types_of s) (names_of s) (theory_of s))
+    (record { names = names_of s; columns = types_of s; deps = theory_of s; lines = lines })
 
 abbrev pub DeclaredNames : Type 0
 DeclaredNames = (text : List ℕ) (d : Declarations) → MeansSchema text d → AreNames format.Plain d.names

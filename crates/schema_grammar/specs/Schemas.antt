@@ -2,8 +2,8 @@
 -- read a schema (`desk_cli/Inputs`).
 use Rattle.std.specs.Prelude.{◌≡◌, ◌<◌, ◌≤◌, ◌⊎◌, ℕ, ◌+◌, ◌-◌, Result, Ok, Err, Bool, true, false, List, [], ◌∷◌, ◌++◌, length, Option, Some, None, All, slice_get, ◌==◌}
 use Rattle.attr_sets.specs.declared.set.TheConstants.{MOST_ATTRIBUTES}
-use Rattle.dep_model.specs.declared.column.Column.{Column}
-use Rattle.dep_model.specs.declared.schema.TheConstants.{MOST_DEPENDENCIES}
+use Rattle.dep_model.specs.declared.column_type.ColumnType.{ColumnType}
+use Rattle.schema_grammar.specs.declared.format.TheConstants.{MOST_DEPENDENCY_LINES}
 use Rattle.dep_model.specs.Dependencies.{Dependency}
 use Rattle.dep_model.specs.Schemas.{attribute_named}
 use Rattle.lexer.specs.declared.token.Mode.TheVariants as mode
@@ -33,7 +33,7 @@ pub record IsNewName (f : Format) (d : Declarations) (m : Mark) : Type 0 where
   pub room : length d.names < MOST_ATTRIBUTES
 
 -- words declare a name each, for columns of one type
-abbrev pub DeclareNames : Format → Column → Declarations → List Mark → Declarations → Type 0
+abbrev pub DeclareNames : Format → ColumnType → Declarations → List Mark → Declarations → Type 0
 DeclareNames f column d [] whole = whole ≡ d
 DeclareNames f column d (m ∷ ms) whole =
     IsNewName f d m × DeclareNames f column (add_name d m.word column) ms whole
@@ -42,7 +42,7 @@ DeclareNames f column d (m ∷ ms) whole =
 pub record IsDeclaring (f : Format) (d : Declarations) (line : List ℕ) (whole : Declarations) : Type 0 where
   pub head : Mark
   pub words : List Mark
-  pub column : Column
+  pub column : ColumnType
   pub tokens : HasTokens (lex mode.Plain line) (head ∷ words)
   pub declaring : column_type_of_token f head.kind head.word ≡ Some column
   pub some : 0 < length words
@@ -57,7 +57,7 @@ pub record IsStating (f : Format) (number : ℕ) (d : Declarations) (line : List
   pub tokens : HasTokens (lex mode.Plain line) (head ∷ others)
   pub stating : column_type_of_token f head.kind head.word ≡ None
   pub dependency : IsDependency f d.names (head ∷ others) dep
-  pub room : length d.deps < MOST_DEPENDENCIES
+  pub room : length d.deps < MOST_DEPENDENCY_LINES
   pub adds : whole ≡ add_dependency d dep number
 
 -- a line without tokens means nothing

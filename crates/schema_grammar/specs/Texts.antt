@@ -3,7 +3,7 @@
 use Rattle.std.specs.Prelude.{ℕ, ◌+◌, ◌-◌, ◌==◌, Bool, false, if◌then◌else◌, List, [], ◌∷◌, length, Option, Some, None, Result, Ok, Err, codes}
 use Rattle.std.specs.Str.{bytes_eq}
 use Rattle.dep_model.specs.declared.schema.Schema.{Schema}
-use Rattle.dep_model.specs.Schemas.{names_of, columns_of, theory_of, lines_of}
+use Rattle.dep_model.specs.Schemas.{names_of, types_of, theory_of, lines_of}
 use Rattle.lexer.specs.declared.token.Mode.TheVariants as mode
 use Rattle.lexer.specs.declared.token.LexError.{LexError}
 use Rattle.lexer.specs.declared.token.TokenKind.{TokenKind}
@@ -21,7 +21,7 @@ use Rattle.schema_grammar.specs.Refusals.{refusal, refused_by, and_then}
 
 abbrev pub declarations_of : Schema → Declarations
 declarations_of s =
-    record { names = names_of s; columns = columns_of s; deps = theory_of s; lines = lines_of s }
+    record { names = names_of s; columns = types_of s; deps = theory_of s; lines = lines_of s }
 
 -- a text ends with this line: it declares an attribute, or is refused there
 unfoldable pub finish : ℕ → Declarations → Result Declarations SchemaRefusal

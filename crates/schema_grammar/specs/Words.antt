@@ -2,8 +2,8 @@
 -- plans and certificates.
 use Rattle.std.specs.Prelude.{ℕ, Bool, ◌||◌, List, Option, Some, None, Result, Ok, Err, codes, if◌then◌else◌}
 use Rattle.std.specs.Str.{bytes_eq}
-use Rattle.dep_model.specs.declared.column.Column.{Column}
-use Rattle.dep_model.specs.declared.column.Column.TheVariants.{Text, Integer}
+use Rattle.dep_model.specs.declared.column_type.ColumnType.{ColumnType}
+use Rattle.dep_model.specs.declared.column_type.ColumnType.TheVariants.{Text, Integer}
 use Rattle.lexer.specs.declared.token.TokenKind.{TokenKind}
 use Rattle.lexer.specs.declared.token.TokenKind.TheVariants as token
 use Rattle.dep_model.specs.Names.{same_name, is_type_name}
@@ -34,7 +34,7 @@ look_up f declared word =
     if is_reserved f word then Err kind.ReservedName else known_attribute (attribute_named declared word)
 
 -- the type of the columns that a declaring word declares; it is in lower case
-unfoldable pub column_type_of_word : Format → List ℕ → Option Column
+unfoldable pub column_type_of_word : Format → List ℕ → Option ColumnType
 column_type_of_word format.Plain word = if bytes_eq word (codes "attributes") then Some Text else None
 column_type_of_word format.Typed word =
     if bytes_eq word (codes "attributes") then Some Text
@@ -43,7 +43,7 @@ column_type_of_word format.Typed word =
     else None
 
 -- the same of the first token of a line
-unfoldable pub column_type_of_token : Format → TokenKind → List ℕ → Option Column
+unfoldable pub column_type_of_token : Format → TokenKind → List ℕ → Option ColumnType
 column_type_of_token f token.Identifier word = column_type_of_word f word
 column_type_of_token f (token.Number n) word = None
 column_type_of_token f token.Arrow word = None

@@ -6,5 +6,8 @@ pub enum Format {
     Typed,
 }
 
+/// The most dependency lines of a schema text.
+pub const MOST_DEPENDENCY_LINES: usize = 256;
+
 /// The version of the texts that begin with a version line.
 pub const VERSION: u32 = 2;

@@ -11,7 +11,7 @@ mod laws;
 mod refusal;
 mod symbol;
 
-pub use format::{Format, VERSION};
+pub use format::{Format, MOST_DEPENDENCY_LINES, VERSION};
 pub use laws::{
     declared_names, goal_diagnostic, goal_meaning, goal_refusal, line_diagnostic, lines_diagnostic,
     positions_rise, printed_schema_means, schema_diagnostic, schema_meaning, schema_refusal,

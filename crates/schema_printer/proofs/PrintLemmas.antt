@@ -6,7 +6,7 @@ use Rattle.std.proofs.lemmas.Option.{get_or_from_slice_get, slice_get_within}
 use Rattle.std.proofs.lemmas.List.{append-nil}
 use Rattle.std.specs.Prelude.{map}
 use Rattle.attr_sets.specs.Attributes.{Attributes}
-use Rattle.dep_model.specs.declared.column.Column.{Column}
+use Rattle.dep_model.specs.declared.column_type.ColumnType.{ColumnType}
 use Rattle.schema_printer.specs.Printing.{words_text, members_from, side_text, set_text, runs_of, in_front, run_line, lines_text, type_word, same_column, Run}
 
 -- what is still to print of a set, where a name stood before or not
@@ -18,13 +18,13 @@ pub record PrintsSet (names : List (List ℕ)) (x : Attributes) (before text : L
   pub same : text ++ rest_text some (members_from x attribute (drop attribute names)) ≡ before ++ set_text names x
 
 -- what stands after a name of this type
-abbrev pub after_text : Column → List Column → List (List ℕ) → List ℕ
+abbrev pub after_text : ColumnType → List ColumnType → List (List ℕ) → List ℕ
 after_text c [] names = 10 ∷ []
 after_text c (d ∷ ds) [] = 10 ∷ []
 after_text c (d ∷ ds) (name ∷ names) =
     cond (same_column c d) (32 ∷ name) (10 ∷ (type_word d ++ 32 ∷ name)) ++ after_text d ds names
 
-pub record PrintsRuns (columns : List Column) (names : List (List ℕ)) (before text : List ℕ) (last : Column) (attribute : ℕ) : Type 0 where
+pub record PrintsRuns (columns : List ColumnType) (names : List (List ℕ)) (before text : List ℕ) (last : ColumnType) (attribute : ℕ) : Type 0 where
   pub same : text ++ after_text last (drop attribute columns) (drop attribute names) ≡ before ++ lines_text (map run_line (runs_of columns names))
 
 -- an element, and what stands from it on
@@ -45,16 +45,16 @@ set_inside names x before text next false more k name prints here within added i
 }
 
 -- runs whose first one has this type, and what stands after its word in the text
-record IsLed (c : Column) (rest : List ℕ) (runs : List Run) : Type 0 where
+record IsLed (c : ColumnType) (rest : List ℕ) (runs : List Run) : Type 0 where
   names : List (List ℕ)
   others : List Run
   whole : runs ≡ record { column = c; names = names } ∷ others
   text : words_text names ++ 10 ∷ lines_text (map run_line others) ≡ rest
 
-IsLed-one : (c : Column) (name : List ℕ) → IsLed c ((32 ∷ name) ++ 10 ∷ []) (record { column = c; names = name ∷ [] } ∷ [])
+IsLed-one : (c : ColumnType) (name : List ℕ) → IsLed c ((32 ∷ name) ++ 10 ∷ []) (record { column = c; names = name ∷ [] } ∷ [])
 IsLed-one c name = record { names = name ∷ []; others = []; whole = refl; text = rw (append-nil name) refl }
 
-IsLed-in_front : (c d : Column) (name rest : List ℕ) (runs : List Run) → IsLed d rest runs
+IsLed-in_front : (c d : ColumnType) (name rest : List ℕ) (runs : List Run) → IsLed d rest runs
     → IsLed c ((32 ∷ name) ++ cond (same_column c d) rest (10 ∷ (type_word d ++ rest))) (in_front c name runs)
 IsLed-in_front c d name rest runs led =
     ⊎_elim
@@ -75,7 +75,7 @@ IsLed-in_front c d name rest runs led =
     }))
     (cases_Bool (same_column c d))
 
-runs_led : (c : Column) (name : List ℕ) (columns : List Column) (names : List (List ℕ))
+runs_led : (c : ColumnType) (name : List ℕ) (columns : List ColumnType) (names : List (List ℕ))
     → IsLed c ((32 ∷ name) ++ after_text c columns names) (in_front c name (runs_of columns names))
 runs_led c name [] names = IsLed-one c name
 runs_led c name (d ∷ columns) [] = IsLed-one c name
@@ -92,7 +92,7 @@ runs_led c name (d ∷ columns) (next ∷ names) =
     let of : List ℕ → Type 0 = λ rest. IsLed c ((32 ∷ name) ++ rest) (in_front c name (runs_of (d ∷ columns) (next ∷ names))) in
     subst of (ap (λ t. cond (same_column c d) (here ++ more) t) (sym far) ∙ sym same) led
 
-pub runs_begin : (columns : List Column) (names : List (List ℕ)) (before text : List ℕ) (c : Column) (name : List ℕ)
+pub runs_begin : (columns : List ColumnType) (names : List (List ℕ)) (before text : List ℕ) (c : ColumnType) (name : List ℕ)
     → slice_get columns 0 ≡ Some c → slice_get names 0 ≡ Some name → text ≡ before ++ (type_word c ++ 32 ∷ name) → PrintsRuns columns names before text c 1
 runs_begin [] names before text c name first_type first_name added = cc
 runs_begin (d ∷ columns) [] before text c name first_type first_name added = cc

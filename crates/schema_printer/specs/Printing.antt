@@ -3,8 +3,8 @@
 use Rattle.std.specs.Prelude.{ℕ, ◌+◌, Bool, true, false, if◌then◌else◌, List, [], ◌∷◌, ◌++◌, map, codes}
 use Rattle.std.specs.List.{flat_map, list_any}
 use Rattle.attr_sets.specs.Attributes.{Attributes}
-use Rattle.dep_model.specs.declared.column.Column.{Column}
-use Rattle.dep_model.specs.declared.column.Column.TheVariants.{Text, Integer}
+use Rattle.dep_model.specs.declared.column_type.ColumnType.{ColumnType}
+use Rattle.dep_model.specs.declared.column_type.ColumnType.TheVariants.{Text, Integer}
 use Rattle.dep_model.specs.Dependencies.{Dependency, fd, mvd}
 
 -- words, each after a blank
@@ -33,21 +33,21 @@ dependency_text names (mvd x y) = set_text names x ++ codes " ->> " ++ set_text 
 
 -- neighbouring attributes of one type
 pub record Run : Type 0 where
-  pub column : Column
+  pub column : ColumnType
   pub names : List (List ℕ)
 
-abbrev pub is_integer : Column → Bool
+abbrev pub is_integer : ColumnType → Bool
 is_integer Text = false
 is_integer Integer = true
 
-abbrev pub same_column : Column → Column → Bool
+abbrev pub same_column : ColumnType → ColumnType → Bool
 same_column Text Text = true
 same_column Text Integer = false
 same_column Integer Text = false
 same_column Integer Integer = true
 
 -- an attribute in front of runs
-abbrev pub in_front : Column → List ℕ → List Run → List Run
+abbrev pub in_front : ColumnType → List ℕ → List Run → List Run
 in_front column name [] = record { column = column; names = name ∷ [] } ∷ []
 in_front column name (run ∷ runs) =
     if same_column column run.column
@@ -55,12 +55,12 @@ in_front column name (run ∷ runs) =
     else record { column = column; names = name ∷ [] } ∷ run ∷ runs
 
 -- the longest runs of neighbouring attributes of one type
-abbrev pub runs_of : List Column → List (List ℕ) → List Run
+abbrev pub runs_of : List ColumnType → List (List ℕ) → List Run
 runs_of [] names = []
 runs_of (column ∷ columns) [] = []
 runs_of (column ∷ columns) (name ∷ names) = in_front column name (runs_of columns names)
 
-abbrev pub type_word : Column → List ℕ
+abbrev pub type_word : ColumnType → List ℕ
 type_word Text = codes "text"
 type_word Integer = codes "integer"
 
@@ -69,7 +69,7 @@ run_line run = type_word run.column ++ words_text run.names
 
 -- the lines that declare attributes: one where all columns are text columns, else a version line and
 -- a line for each run
-unfoldable pub declaring_lines : List Column → List (List ℕ) → List (List ℕ)
+unfoldable pub declaring_lines : List ColumnType → List (List ℕ) → List (List ℕ)
 declaring_lines columns names =
     if list_any is_integer columns
     then codes "version 2" ∷ map run_line (runs_of columns names)
@@ -80,6 +80,6 @@ abbrev pub lines_text : List (List ℕ) → List ℕ
 lines_text lines = flat_map (λ line. line ++ 10 ∷ []) lines
 
 -- the declaring lines of a schema, and dependencies over its names
-unfoldable pub declared_text : List Column → List (List ℕ) → List Dependency → List ℕ
+unfoldable pub declared_text : List ColumnType → List (List ℕ) → List Dependency → List ℕ
 declared_text columns names deps =
     lines_text (declaring_lines columns names ++ map (dependency_text names) deps)

@@ -3,18 +3,18 @@ ghost use Rattle.std.specs.List.{list_any};
 ghost use Rattle.attr_sets.specs.Attributes.{IsSubset};
 ghost use Rattle.attr_sets.specs.Sets.{attributes};
 ghost use Rattle.dep_model.specs.Deps.{dependency_of, dependencies_of, IsDepWithin};
-ghost use Rattle.dep_model.specs.Schemas.{names_of, columns_of, theory_of, universe_of};
+ghost use Rattle.dep_model.specs.Schemas.{names_of, types_of, theory_of, universe_of};
 ghost use Rattle.schema_printer.specs.Printing.{set_text, dependency_text, declared_text, declaring_lines, lines_text, words_text, run_line, runs_of, type_word, same_column, is_integer};
 
 use attr_sets::AttrSet;
-use dep_model::{Column, Dep, OutOfMemory, Schema};
+use dep_model::{ColumnType, Dep, OutOfMemory, Schema};
 use std::alloc::Global;
 
 /// The schema in the one form: the lines that declare its attributes, and a line for each dependency.
 /// Where no name is reserved and the text is short enough to be read, it means the same schema.
 pub fn print_schema(alloc: Global, schema: &Schema) -> Result<Vec<u8>, OutOfMemory>
     ensures text { IfOk result
-        (λ text. text.items ≡ declared_text (columns_of schema.now) (names_of schema.now)
+        (λ text. text.items ≡ declared_text (types_of schema.now) (names_of schema.now)
         (theory_of schema.now)) }
 {
     print_deps(alloc, schema, schema.deps())
@@ -25,7 +25,7 @@ pub fn print_schema(alloc: Global, schema: &Schema) -> Result<Vec<u8>, OutOfMemo
 pub fn print_deps(alloc: Global, schema: &Schema, deps: &[Dep]) -> Result<Vec<u8>, OutOfMemory>
     requires { All (IsDepWithin (universe_of schema.now)) deps.now }
     ensures text { IfOk result
-        (λ text. text.items ≡ declared_text (columns_of schema.now) (names_of schema.now)
+        (λ text. text.items ≡ declared_text (types_of schema.now) (names_of schema.now)
         (dependencies_of deps.now)) }
 {
     let mut text = Vec::new(alloc);
@@ -131,7 +131,7 @@ fn add_member(text: &mut Vec<u8>, some: bool, name: &[u8]) -> Result<(), OutOfMe
 #[tactic(auto, unfolding(crate::specs::Printing::declaring_lines))]
 fn add_declarations(text: &mut Vec<u8>, schema: &Schema) -> Result<(), OutOfMemory>
     ensures added { OnOk result (text.new.items
-        ≡ text.old.items ++ lines_text (declaring_lines (columns_of schema.now) (names_of schema.now))) }
+        ≡ text.old.items ++ lines_text (declaring_lines (types_of schema.now) (names_of schema.now))) }
 {
     if has_integers(schema) {
         add(text, b"version 2\n")?;
@@ -144,7 +144,7 @@ fn add_declarations(text: &mut Vec<u8>, schema: &Schema) -> Result<(), OutOfMemo
 }
 
 fn has_integers(schema: &Schema) -> bool
-    ensures any_integer { result ≡ list_any is_integer (columns_of schema.now) }
+    ensures any_integer { result ≡ list_any is_integer (types_of schema.now) }
 {
     for attribute in 0..schema.width() {
         if is_integer(schema.column(attribute)) {
@@ -154,12 +154,12 @@ fn has_integers(schema: &Schema) -> bool
     false
 }
 
-fn is_integer(column: Column) -> bool
+fn is_integer(column: ColumnType) -> bool
     ensures exact { result ≡ is_integer column }
 {
     match column {
-        Column::Text => false,
-        Column::Integer => true,
+        ColumnType::Text => false,
+        ColumnType::Integer => true,
     }
 }
 
@@ -178,7 +178,7 @@ fn add_names(text: &mut Vec<u8>, schema: &Schema) -> Result<(), OutOfMemory>
 fn add_runs(text: &mut Vec<u8>, schema: &Schema) -> Result<(), OutOfMemory>
     ensures added { OnOk result (text.new.items
         ≡ text.old.items ++ lines_text
-        (map run_line (runs_of (columns_of schema.now) (names_of schema.now)))) }
+        (map run_line (runs_of (types_of schema.now) (names_of schema.now)))) }
 {
     let mut last = schema.column(0);
     add_typed(text, last, schema.name(0).bytes())?;
@@ -194,8 +194,8 @@ fn add_runs(text: &mut Vec<u8>, schema: &Schema) -> Result<(), OutOfMemory>
 /// An attribute after one with a column of type `last`: in the same line where it has the same type.
 fn add_after(
     text: &mut Vec<u8>,
-    last: Column,
-    column: Column,
+    last: ColumnType,
+    column: ColumnType,
     name: &[u8],
 ) -> Result<(), OutOfMemory>
     ensures added { OnOk result (text.new.items
@@ -212,12 +212,12 @@ fn add_after(
 }
 
 /// The beginning of a line of a run.
-fn add_typed(text: &mut Vec<u8>, column: Column, name: &[u8]) -> Result<(), OutOfMemory>
+fn add_typed(text: &mut Vec<u8>, column: ColumnType, name: &[u8]) -> Result<(), OutOfMemory>
     ensures added { OnOk result (text.new.items ≡ text.old.items ++ (type_word column ++ 32 ∷ name.now)) }
 {
     match column {
-        Column::Text => add(text, b"text ")?,
-        Column::Integer => add(text, b"integer ")?,
+        ColumnType::Text => add(text, b"text ")?,
+        ColumnType::Integer => add(text, b"integer ")?,
     }
     add(text, name)
 }

@@ -1,6 +1,6 @@
 ghost use Rattle.std.specs.Prelude.{◌≡◌, ◌+◌, ◌<◌, ◌≤◌, ◌^◌, true, false, length, OnOk, IfOk, IfErr};
 ghost use Rattle.dep_model.specs.Deps.{dependency_of};
-ghost use Rattle.dep_model.specs.Names.{is_name};
+ghost use Rattle.dep_model.specs.Names.{is_bare_name};
 ghost use Rattle.lexer.specs.Tokens.{tokens_after};
 ghost use Rattle.schema_reader.specs.Views.{reached_of};
 ghost use Rattle.schema_grammar.specs.Refusals.{Refuses};
@@ -9,9 +9,11 @@ use crate::goal::{follow, step};
 use crate::stage::Stage;
 use crate::words::column_type_of_token;
 use attr_sets::MOST_ATTRIBUTES;
-use dep_model::{Column, Dep, Failure, MOST_DEPENDENCIES, Name, OutOfMemory};
+use dep_model::{ColumnType, Dep, Failure, Name, OutOfMemory};
 use lexer::{Mode, Next, Token, TokenKind, next_token};
-use schema_grammar::{Format, SchemaRefusal, SchemaRefusalKind, What};
+use schema_grammar::{
+    Format, MOST_DEPENDENCY_LINES, SchemaRefusal, SchemaRefusalKind, What,
+};
 use std::alloc::Global;
 use tokens::{Names, is_reserved, position_among};
 
@@ -19,7 +21,7 @@ use tokens::{Names, is_reserved, position_among};
 #[derive(Drop)]
 pub struct Draft {
     pub names: Vec<Name>,
-    pub columns: Vec<Column>,
+    pub columns: Vec<ColumnType>,
     pub deps: Vec<Dep>,
     pub lines: Vec<u32>,
 }
@@ -72,7 +74,7 @@ impl Draft {
     fn list_names(
         &mut self,
         format: Format,
-        column: Column,
+        column: ColumnType,
         line: u32,
         next_column: u32,
         text: &[u8],
@@ -125,12 +127,12 @@ impl Draft {
     fn name_step(
         &mut self,
         format: Format,
-        column: Column,
+        column: ColumnType,
         some: bool,
         kind: TokenKind,
         word: &[u8],
     ) -> Result<(), Failure<SchemaRefusalKind>>
-        requires { kind ≡ TokenKind.Identifier → is_name word.now ≡ true }
+        requires { kind ≡ TokenKind.Identifier → is_bare_name word.now ≡ true }
         ensures ok { OnOk result (name_step format column
             (declarations_of_draft self.old) some kind word.now
             ≡ Ok (declarations_of_draft self.new)) }
@@ -152,10 +154,10 @@ impl Draft {
     fn declare(
         &mut self,
         format: Format,
-        column: Column,
+        column: ColumnType,
         word: &[u8],
     ) -> Result<(), Failure<SchemaRefusalKind>>
-        requires { is_name word.now ≡ true }
+        requires { is_bare_name word.now ≡ true }
         ensures ok { OnOk result (declare format column (declarations_of_draft self.old) word.now
             ≡ Ok (declarations_of_draft self.new)) }
         ensures err { IfErr result
@@ -175,7 +177,7 @@ impl Draft {
         Ok(())
     }
 
-    fn add_name(&mut self, name: Name, column: Column) -> Result<(), OutOfMemory>
+    fn add_name(&mut self, name: Name, column: ColumnType) -> Result<(), OutOfMemory>
         ensures ok { OnOk result (declarations_of_draft self.new
             ≡ add_name (declarations_of_draft self.old) name column) }
     {
@@ -245,7 +247,7 @@ impl Draft {
             kind,
             word,
         )?;
-        if self.deps.len() >= MOST_DEPENDENCIES {
+        if self.deps.len() >= MOST_DEPENDENCY_LINES {
             return Err(SchemaRefusalKind::TooManyDependencies);
         }
         Ok(stage)
@@ -263,7 +265,7 @@ impl Draft {
 
 /// The name that a word is.
 fn name_of_word(word: &[u8]) -> Name
-    requires { is_name word.now ≡ true }
+    requires { is_bare_name word.now ≡ true }
     ensures name { result ≡ word.now }
 {
     Name::new(word).unwrap()

@@ -1,13 +1,13 @@
 ghost use Rattle.std.specs.Prelude.{◌≡◌};
 ghost use Rattle.schema_grammar.specs.Words.{column_type_of_token, column_type_of_word};
 
-use dep_model::Column;
+use dep_model::ColumnType;
 use lexer::TokenKind;
 use schema_grammar::Format;
 
 /// The type of the columns that a line declares, where its first token is a declaring word.
 #[tactic(auto, unfolding(schema_grammar::specs::Words::column_type_of_token))]
-pub fn column_type_of_token(format: Format, kind: TokenKind, word: &[u8]) -> Option<Column>
+pub fn column_type_of_token(format: Format, kind: TokenKind, word: &[u8]) -> Option<ColumnType>
     ensures exact { result ≡ column_type_of_token format kind word.now }
 {
     match kind {
@@ -17,19 +17,19 @@ pub fn column_type_of_token(format: Format, kind: TokenKind, word: &[u8]) -> Opt
 }
 
 #[tactic(auto, unfolding(schema_grammar::specs::Words::column_type_of_word))]
-fn column_type_of_word(format: Format, word: &[u8]) -> Option<Column>
+fn column_type_of_word(format: Format, word: &[u8]) -> Option<ColumnType>
     ensures exact { result ≡ column_type_of_word format word.now }
 {
     if word == b"attributes".as_slice() {
-        return Some(Column::Text);
+        return Some(ColumnType::Text);
     }
     match format {
         Format::Plain => None,
         Format::Typed => {
             if word == b"text".as_slice() {
-                Some(Column::Text)
+                Some(ColumnType::Text)
             } else if word == b"integer".as_slice() {
-                Some(Column::Integer)
+                Some(ColumnType::Integer)
             } else {
                 None
             }

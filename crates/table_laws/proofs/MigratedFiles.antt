@@ -9,7 +9,7 @@ use Rattle.csv_migrate.specs.Migration.{table_of, tables_from}
 use Rattle.csv_rows.specs.Reading.{PartOf}
 use Rattle.csv_rows.specs.declared.reading.TheConstants.{MOST_ROWS}
 use Rattle.dep_model.specs.Integers.{IsIntegerText}
-use Rattle.dep_model.specs.Names.{is_name}
+use Rattle.dep_model.specs.Names.{is_bare_name}
 use Rattle.dep_model.specs.Projections.{project_tuple, projection, ordered_projection}
 use Rattle.dep_model.specs.Schemas.{names_of, width_of, TypedFor}
 use Rattle.dep_model.specs.Tuples.{Tuple, Relation, IsOver, same_tuple, distinct_tuples}
@@ -33,7 +33,7 @@ few_distinct (t ∷ r) =
     omega (arith, few_distinct r, both)
 
 -- ---- one table
-table_back : (s : Schema) (rows : Relation) (number : ℕ) (x : Attributes) → All (λ name. IsTrue (is_name name)) (names_of s)
+table_back : (s : Schema) (rows : Relation) (number : ℕ) (x : Attributes) → All (λ name. IsTrue (is_bare_name name)) (names_of s)
     → IsOver (width_of s) rows → TypedFor s rows → length rows ≤ MOST_ROWS → 0 < count_below x (width_of s)
     → PartOf s (table_file Csv (table_of s rows number x)).bytes (Ok (ordered_projection x rows))
 table_back s rows number x proper over typed few some =
@@ -51,7 +51,7 @@ table_back s rows number x proper over typed few some =
 
 -- ---- all tables
 pub tables_back : (s : Schema) (rows : Relation) (number : ℕ) (plan : List Attributes)
-    → All (λ name. IsTrue (is_name name)) (names_of s) → IsOver (width_of s) rows → TypedFor s rows
+    → All (λ name. IsTrue (is_bare_name name)) (names_of s) → IsOver (width_of s) rows → TypedFor s rows
     → length rows ≤ MOST_ROWS → All (λ (x : Attributes). 0 < count_below x (width_of s)) plan
     → All (λ (table : TableValue). PartOf s (table_file Csv table).bytes (Ok table.rows)) (tables_from s rows number plan)
 tables_back s rows number [] proper over typed few some = λ i d l. absurd (omega (arith, l))

@@ -22,12 +22,12 @@ use Rattle.csv_rows.proofs.PrintedRows.{own_column, other_name, printed_records}
 use Rattle.csv_rows.proofs.ReadingLemmas.{member_at}
 use Rattle.csv_text.specs.Rows.{rows_text}
 use Rattle.dep_model.specs.Integers.{IsIntegerText}
-use Rattle.dep_model.specs.Names.{is_name, same_name}
+use Rattle.dep_model.specs.Names.{is_bare_name, same_name}
 use Rattle.dep_model.specs.OnSchemes.{value_in}
 use Rattle.dep_model.specs.Projections.{members_below}
-use Rattle.dep_model.specs.Schemas.{names_of, width_of, attribute_named, columns_of as types_of}
+use Rattle.dep_model.specs.Schemas.{names_of, width_of, attribute_named, types_of as types_of}
 use Rattle.dep_model.specs.Tuples.{Tuple, Relation, IsOver, value_at}
-use Rattle.dep_model.specs.declared.column.Column.TheVariants.{Integer}
+use Rattle.dep_model.specs.declared.column_type.ColumnType.TheVariants.{Integer}
 use Rattle.dep_model.specs.declared.schema.Schema.{Schema}
 use Rattle.dep_model.proofs.NameLemmas.{attribute_named-append}
 use Rattle.dep_model.proofs.SchemeLemmas.{length-members_below, members_below-none, members_below-member, members_below-outside, members_below-at, members_below-one_more, members_below-no_more}
@@ -225,7 +225,7 @@ members_all P x k (name ∷ names) all =
     by false rest = rest
 
 -- a text of rows over a scheme that has an attribute
-pub part_back : (s : Schema) (x : Attributes) (rows : Relation) → All (λ name. IsTrue (is_name name)) (names_of s)
+pub part_back : (s : Schema) (x : Attributes) (rows : Relation) → All (λ name. IsTrue (is_bare_name name)) (names_of s)
     → 0 < count_below x (width_of s) → IsOver (count_below x (width_of s)) rows → All (Fits s x) rows
     → length rows ≤ MOST_ROWS → PartOf s (rows_text (members_from x 0 (names_of s)) rows) (Ok rows)
 part_back s x rows proper some over typed few =
@@ -236,7 +236,7 @@ part_back s x rows proper some over typed few =
     let wide : All (λ row. 0 < length row) rows = λ k d h. omega (arith, over k d h, some) in
     let long : 0 < length header = omega (arith, some, column_count x names) in
     let records : records_of (rows_text header rows) ≡ header ∷ rows =
-    printed_records header rows long (members_all (λ name. IsTrue (is_name name)) x 0 names proper) wide in
+    printed_records header rows long (members_all (λ name. IsTrue (is_bare_name name)) x 0 names proper) wide in
     let means : columns_of_header names header ≡ Ok columns = part_columns names x s.valid.names_differ in
     let first : AreFirstRows s columns rows rows = record {
       within = omega arith;

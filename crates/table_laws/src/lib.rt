@@ -8,11 +8,11 @@ ghost use Rattle.csv_migrate.specs.Migration.{column_names, tables_of_migration}
 ghost use Rattle.csv_rows.specs.Reading.{RowsOf, PartOf};
 ghost use Rattle.csv_rows.specs.declared.reading.TheConstants.{MOST_ROWS};
 ghost use Rattle.dep_model.specs.Integers.{IsIntegerText};
-ghost use Rattle.dep_model.specs.Names.{is_name};
+ghost use Rattle.dep_model.specs.Names.{is_bare_name};
 ghost use Rattle.dep_model.specs.OnSchemes.{value_in};
-ghost use Rattle.dep_model.specs.Schemas.{names_of, width_of, columns_of, TypedFor};
+ghost use Rattle.dep_model.specs.Schemas.{names_of, width_of, types_of, TypedFor};
 ghost use Rattle.dep_model.specs.Tuples.{Relation, IsOver};
-ghost use Rattle.dep_model.specs.declared.column.Column.TheVariants.{Integer};
+ghost use Rattle.dep_model.specs.declared.column_type.ColumnType.TheVariants.{Integer};
 ghost use Rattle.dep_model.specs.declared.schema.Schema.{Schema};
 ghost use Rattle.named_tables.specs.Tables.{TableValue};
 ghost use Rattle.destinations.specs.Formats.{table_file};
@@ -21,13 +21,13 @@ ghost use Rattle.destinations.specs.declared.format.TableFormat.TheVariants.{Csv
 /// The CSV file of a table means its rows, where they fit the types of the columns and are no more than a
 /// file may have: of a table with all attributes of a schema, and of one with some of them, at least one.
 pub fn files_of_tables_are_read_back()
-    ensures whole { (s : Schema) (table : TableValue) → All (λ name. IsTrue (is_name name)) (names_of s)
+    ensures whole { (s : Schema) (table : TableValue) → All (λ name. IsTrue (is_bare_name name)) (names_of s)
         → table.columns ≡ names_of s → IsOver (width_of s) table.rows → TypedFor s table.rows
         → length table.rows ≤ MOST_ROWS → RowsOf s (table_file Csv table).bytes (Ok table.rows) }
     ensures part { (s : Schema) (x : Attributes) (table : TableValue)
-        → All (λ name. IsTrue (is_name name)) (names_of s) → 0 < count_below x (width_of s)
+        → All (λ name. IsTrue (is_bare_name name)) (names_of s) → 0 < count_below x (width_of s)
         → table.columns ≡ column_names s x → IsOver (count_below x (width_of s)) table.rows
-        → All (λ t. (k : ℕ) → x k ≡ true → slice_get (columns_of s) k ≡ Some Integer
+        → All (λ t. (k : ℕ) → x k ≡ true → slice_get (types_of s) k ≡ Some Integer
         → IsIntegerText (value_in x t k)) table.rows
         → length table.rows ≤ MOST_ROWS → PartOf s (table_file Csv table).bytes (Ok table.rows) }
 {}
@@ -36,7 +36,7 @@ pub fn files_of_tables_are_read_back()
 /// fit the types of the columns and are no more than a file may have, and no scheme of the plan is empty.
 pub fn migrated_tables_are_read_back()
     ensures law { (s : Schema) (plan : List Attributes) (rows : Relation)
-        → All (λ name. IsTrue (is_name name)) (names_of s) → IsOver (width_of s) rows → TypedFor s rows
+        → All (λ name. IsTrue (is_bare_name name)) (names_of s) → IsOver (width_of s) rows → TypedFor s rows
         → length rows ≤ MOST_ROWS → All (λ scheme. 0 < count_below scheme (width_of s)) plan
         → All (λ table. PartOf s (table_file Csv table).bytes (Ok table.rows))
         (tables_of_migration s plan rows) }

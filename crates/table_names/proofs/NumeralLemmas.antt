@@ -6,7 +6,7 @@ use Rattle.std.proofs.lemmas.Fmt.{decimal_by_steps, length-decimal-le}
 use Rattle.std.proofs.lemmas.Bool.Decides.{nat_tests}
 use Rattle.std.proofs.lemmas.List.{get_or-take, get_or-replicate, take_all}
 use Rattle.std.proofs.lemmas.List.Folds.{list_all-append}
-use Rattle.dep_model.specs.Names.{is_name, is_name_byte}
+use Rattle.dep_model.specs.Names.{is_bare_name, is_name_byte}
 use Rattle.table_names.specs.TableNames.{table_name}
 
 digit_byte : (d : ℕ) → d < 10 → is_name_byte (48 + d) ≡ true
@@ -26,7 +26,7 @@ digits_pass = decimal_by_steps (λ n ds. list_all is_name_byte ds ≡ true) one 
         ∙ ap (λ (b : Bool). b && (is_name_byte (48 + n % 10) && true)) h
         ∙ ap (λ (b : Bool). b && true) (digit_byte (n % 10) low)
 
-pub is_table_name : (n : ℕ) → n < 2 ^ 32 → IsTrue (is_name (table_name n))
+pub is_table_name : (n : ℕ) → n < 2 ^ 32 → IsTrue (is_bare_name (table_name n))
 is_table_name n l =
     let wide : n < 2 ^ 64 = omega arith in
     let short : length (decimal n) ≤ 10 = length-decimal-le 10 n (omega arith) (omega arith) wide in

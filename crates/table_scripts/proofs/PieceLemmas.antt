@@ -4,10 +4,10 @@ use Rattle.std.specs.Prelude.{if◌then◌else◌, codes, slice_get}
 use Rattle.attr_sets.specs.declared.set.AttrSet.{AttrSet}
 use Rattle.attr_sets.specs.Attributes.{Attributes, below, union, difference, IsEmpty}
 use Rattle.attr_sets.specs.Sets.{attributes, is_subset}
-use Rattle.dep_model.specs.declared.column.Column.{Column}
+use Rattle.dep_model.specs.declared.column_type.ColumnType.{ColumnType}
 use Rattle.dep_model.specs.declared.schema.Schema.{Schema}
 use Rattle.dep_model.specs.Columns.{column_at}
-use Rattle.dep_model.specs.Schemas.{names_of, width_of, columns_of}
+use Rattle.dep_model.specs.Schemas.{names_of, width_of, types_of}
 use Rattle.sql_names.specs.Names.{name_list}
 use Rattle.ddl_text.proofs.TextLemmas.{column_is, empty_passes, empty_fails}
 use Rattle.sql_names.proofs.NameLemmas.{name_is}
@@ -16,11 +16,11 @@ use Rattle.table_scripts.specs.QueryTexts.{column_text, column_item, link_text, 
 use Rattle.table_scripts.specs.Checking.{breaches_text}
 
 -- ---- columns
-pub item_is : (s : Schema) (k : ℕ) (name : List ℕ) (column : Column) → k < width_of s
-    → slice_get (names_of s) k ≡ Some name → slice_get (columns_of s) k ≡ Some column → column_text column name ≡ column_item s k
+pub item_is : (s : Schema) (k : ℕ) (name : List ℕ) (column : ColumnType) → k < width_of s
+    → slice_get (names_of s) k ≡ Some name → slice_get (types_of s) k ≡ Some column → column_text column name ≡ column_item s k
 unfolding column_item
 item_is s k name column lt named typed =
-    ap (λ (c : Column). column_text c name) (column_is s k column lt typed)
+    ap (λ (c : ColumnType). column_text c name) (column_is s k column lt typed)
     ∙ ap (λ (n : List ℕ). column_text (column_at (attributes s.integers) k) n) (sym (name_is s k name named))
 
 -- ---- joins

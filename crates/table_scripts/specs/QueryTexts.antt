@@ -2,8 +2,8 @@
 use Rattle.std.specs.Prelude.{ℕ, if◌then◌else◌, List, [], ◌++◌, codes, slice_index_or}
 use Rattle.attr_sets.specs.Attributes.{Attributes, intersection}
 use Rattle.attr_sets.specs.Sets.{attributes}
-use Rattle.dep_model.specs.declared.column.Column.{Column}
-use Rattle.dep_model.specs.declared.column.Column.TheVariants.{Text, Integer}
+use Rattle.dep_model.specs.declared.column_type.ColumnType.{ColumnType}
+use Rattle.dep_model.specs.declared.column_type.ColumnType.TheVariants.{Text, Integer}
 use Rattle.dep_model.specs.declared.schema.Schema.{Schema}
 use Rattle.dep_model.specs.Columns.{column_at}
 use Rattle.dep_model.specs.Projections.{members_below}
@@ -14,7 +14,7 @@ use Rattle.table_queries.specs.Queries.{Query, whole, values_on, several, join, 
 
 -- ---- columns
 -- a column of the table: an integer one is cast, and keeps its name
-unfoldable pub column_text : Column → List ℕ → List ℕ
+unfoldable pub column_text : ColumnType → List ℕ → List ℕ
 column_text Text name = quoted_name name
 column_text Integer name = codes "CAST(" ++ quoted_name name ++ codes " AS BIGINT) AS " ++ quoted_name name
 

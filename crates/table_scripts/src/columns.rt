@@ -5,7 +5,7 @@ ghost use Rattle.sql_names.specs.Names.{name_list, quoted_name};
 ghost use Rattle.table_scripts.specs.QueryTexts.{column_text, column_item, column_list};
 
 use attr_sets::AttrSet;
-use dep_model::{Column, Name, OutOfMemory, Schema};
+use dep_model::{ColumnType, Name, OutOfMemory, Schema};
 use schema_printer::add;
 use sql_names::{add_listed, add_name_list, add_quoted};
 use std::alloc::Global;
@@ -51,12 +51,12 @@ fn column_item(alloc: Global, schema: &Schema, attribute: u8) -> Result<Vec<u8>,
 
 // A column of a type.
 #[tactic(auto, unfolding(crate::specs::QueryTexts::column_text))]
-fn column(alloc: Global, column: Column, name: &Name) -> Result<Vec<u8>, OutOfMemory>
+fn column(alloc: Global, column: ColumnType, name: &Name) -> Result<Vec<u8>, OutOfMemory>
     ensures text { IfOk result (λ text. text.items ≡ column_text column name.now) }
 {
     match column {
-        Column::Text => quoted_name(alloc, name),
-        Column::Integer => cast_text(alloc, name),
+        ColumnType::Text => quoted_name(alloc, name),
+        ColumnType::Integer => cast_text(alloc, name),
     }
 }
 
@@ -72,7 +72,7 @@ pub fn quoted_name(alloc: Global, name: &Name) -> Result<Vec<u8>, OutOfMemory>
 // A column that is cast, and keeps its name.
 #[tactic(auto, unfolding(crate::specs::QueryTexts::column_text))]
 fn cast_text(alloc: Global, name: &Name) -> Result<Vec<u8>, OutOfMemory>
-    ensures text { IfOk result (λ text. text.items ≡ column_text Column.Integer name.now) }
+    ensures text { IfOk result (λ text. text.items ≡ column_text ColumnType.Integer name.now) }
 {
     let mut text = Vec::new(alloc);
     add(&mut text, b"CAST(")?;

@@ -11,7 +11,7 @@ use Rattle.std.proofs.lemmas.Bool.Decides.{nat_tests}
 use Rattle.std.proofs.lemmas.Bool.{false_from_ne_true}
 use Rattle.std.proofs.lemmas.Slice.Eq.{bytes_eq-Decides}
 use Rattle.std.proofs.lemmas.List.FromFn.{length-map-range_with_len, get_or-map-range_with_len}
-use Rattle.dep_model.specs.Names.{is_name, is_name_byte, same_name}
+use Rattle.dep_model.specs.Names.{is_bare_name, is_name_byte, same_name}
 use Rattle.test_data.specs.TestSchemas.{attribute_name, attribute_names}
 
 -- a digit may stand in a name, and has no case
@@ -38,7 +38,7 @@ digits_stay (c ∷ cs) digits =
 digits_of : (n : ℕ) → n < 2 ^ 64 → AllDigits 10 (decimal n)
 digits_of n l = (decimal_is_IsNumeral n l).0.1
 
-pub is_attribute_name : (i : ℕ) → i < 128 → IsTrue (is_name (attribute_name i))
+pub is_attribute_name : (i : ℕ) → i < 128 → IsTrue (is_bare_name (attribute_name i))
 is_attribute_name i l =
     let small : i + 1 < 2 ^ 64 = omega arith in
     let short : length (decimal (i + 1)) ≤ 10 = length-decimal-le 10 (i + 1) (omega arith) (omega arith) small in

@@ -7,11 +7,11 @@ use Rattle.attr_sets.specs.Attributes.{below}
 use Rattle.attr_sets.specs.declared.set.AttrSet.{AttrSet}
 use Rattle.attr_sets.specs.declared.set.TheConstants.{MOST_ATTRIBUTES}
 use Rattle.dep_model.specs.declared.dep.Dep.{Dep}
-use Rattle.dep_model.specs.declared.column.Column.TheVariants.{Text}
+use Rattle.dep_model.specs.declared.column_type.ColumnType.TheVariants.{Text}
 use Rattle.dep_model.specs.declared.schema.Schema.{Schema}
 use Rattle.dep_model.specs.declared.schema.TheConstants.{MOST_DEPENDENCIES}
 use Rattle.dep_model.specs.Deps.{IsDepWithin}
-use Rattle.dep_model.specs.Schemas.{width_of, columns_of}
+use Rattle.dep_model.specs.Schemas.{width_of, types_of}
 
 -- the set of the attributes whose bits are set in a number
 abbrev pub set_of : ℕ → AttrSet
@@ -34,4 +34,4 @@ pub record Fit (width : ℕ) (deps : List Dep) : Type 0 where
 
 -- each column of a schema is a text
 abbrev pub HasTextColumns : Schema → Type 0
-HasTextColumns s = (i : ℕ) → i < width_of s → slice_get (columns_of s) i ≡ Some Text
+HasTextColumns s = (i : ℕ) → i < width_of s → slice_get (types_of s) i ≡ Some Text

@@ -1,5 +1,5 @@
 use attr_sets::AttrSet;
-use dep_model::{Column, Dep};
+use dep_model::{ColumnType, Dep};
 use row_store::Rows;
 use sample_rows::{sample_rows, sample_schema};
 use std::process::Abort;
@@ -13,7 +13,7 @@ fn the_schema(rt: HostRuntime) -> Result<(), Fail> {
     for i in 0..4u8 {
         assert!(rt; i < schema.width());
         assert_eq!(rt; schema.name(i).bytes(), names[i as usize]);
-        assert_eq!(rt; schema.column(i), Column::Text);
+        assert_eq!(rt; schema.column(i), ColumnType::Text);
     }
     let person = AttrSet(1);
     let deps = [

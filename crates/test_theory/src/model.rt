@@ -1,6 +1,6 @@
 use attr_sets::AttrSet;
 use dep_model::{
-    Column, Dep, Name, OutOfMemory, Row, Schema, Value, agreement_of, integer_text, two_rows_obey,
+    ColumnType, Dep, Name, OutOfMemory, Row, Schema, Value, agreement_of, integer_text, two_rows_obey,
 };
 use std::alloc::Global;
 use std::test::Fail;
@@ -21,13 +21,13 @@ fn names_are_words_of_at_most_31_bytes(rt: HostRuntime) {
         (b"a b", false),
         (b"\xc3\xa9", false),
     ];
-    for (bytes, is_name) in table {
+    for (bytes, is_bare_name) in table {
         match Name::new(bytes) {
             Some(name) => {
-                assert!(rt; is_name, "{bytes:?}");
+                assert!(rt; is_bare_name, "{bytes:?}");
                 assert_eq!(rt; name.bytes(), bytes);
             }
-            None => assert!(rt; !is_name, "{bytes:?}"),
+            None => assert!(rt; !is_bare_name, "{bytes:?}"),
         }
     }
 }
@@ -108,6 +108,6 @@ fn a_schema_of_one_attribute(rt: HostRuntime) -> Result<(), Fail> {
     assert_eq!(rt; schema.attribute_named(b"id"), Some(0));
     assert_eq!(rt; schema.attribute_named(b"name"), None);
     assert!(rt; schema.name(0).is_same(&name));
-    assert!(rt; schema.column(0) == Column::Text);
+    assert!(rt; schema.column(0) == ColumnType::Text);
     Ok(())
 }

@@ -1,13 +1,13 @@
 use Rattle.std.proofs.Common.{sym, ◌∙◌, ap}
 use Rattle.std.proofs.lemmas.List.Folds.{list_any_at, list_any_more}
 use Rattle.std.proofs.lemmas.Option.{get_or_from_slice_get, slice_get_within}
-use Rattle.dep_model.specs.Schemas.{columns_of}
+use Rattle.dep_model.specs.Schemas.{types_of}
 use Rattle.schema_printer.specs.Printing.{is_integer}
 use Rattle.schema_printer.proofs.printing.has_integers.Goals as goal
 
 pub returns-then-is_integer : goal.returns-then-is_integer
 returns-then-is_integer c =
-    let columns = columns_of c.args.schema.now in
+    let columns = types_of c.args.schema.now in
     let k = c.loop-attribute.attribute in
     let column = c.column.result in
     let here = c.column.ensures.column in
@@ -19,7 +19,7 @@ returns-then-is_integer c =
 
 pub loop-attribute-preserved : goal.loop-attribute-preserved
 loop-attribute-preserved c =
-    let columns = columns_of c.args.schema.now in
+    let columns = types_of c.args.schema.now in
     let k = c.loop-attribute.attribute in
     let column = c.column.result in
     let here = c.column.ensures.column in

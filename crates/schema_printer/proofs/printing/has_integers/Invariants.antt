@@ -1,8 +1,8 @@
 use Rattle.std.proofs.Common.{◌≡◌, take, false}
-use Rattle.dep_model.specs.Schemas.{columns_of}
+use Rattle.dep_model.specs.Schemas.{types_of}
 use Rattle.std.specs.List.{list_any}
 use Rattle.schema_printer.specs.Printing.{is_integer}
 use Rattle.schema_printer.proofs.printing.has_integers.Given as goal
 
 abbrev pub invariant-loop-attribute : goal.invariant-loop-attribute
-invariant-loop-attribute l = list_any is_integer (take l.attribute (columns_of l.schema)) ≡ false
+invariant-loop-attribute l = list_any is_integer (take l.attribute (types_of l.schema)) ≡ false

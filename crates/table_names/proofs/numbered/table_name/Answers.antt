@@ -3,7 +3,7 @@ use Rattle.std.specs.Prelude.{IfSome}
 use Rattle.dep_model.specs.declared.name.Name.{Name}
 use Rattle.std.specs.Fmt.{decimal}
 use Rattle.std.proofs.lemmas.Fmt.{length-decimal-le}
-use Rattle.dep_model.specs.Names.{is_name}
+use Rattle.dep_model.specs.Names.{is_bare_name}
 use Rattle.table_names.proofs.NumeralLemmas.{is_table_name, last_bytes}
 use Rattle.table_names.proofs.numbered.table_name.Goals as goal
 
@@ -27,8 +27,8 @@ unwrap-requires c =
     let written = c.write_digits-start.ensures.written ∙ append-nil (decimal c.args.number) in
     let bytes = last_bytes c.write_digits-start.new.buf (start - 1) start c.args.number (omega arith)
     (omega arith) c.write_digits-start.ensures.start written c.write_digits-start.ensures.before in
-    c.new.ensures.is_name.1
-    (subst (λ (l : List ℕ). IsTrue (is_name l)) (sym bytes) (is_table_name c.args.number (omega arith)))
+    c.new.ensures.is_bare_name.1
+    (subst (λ (l : List ℕ). IsTrue (is_bare_name l)) (sym bytes) (is_table_name c.args.number (omega arith)))
 
 pub returns : goal.returns
 returns c =

@@ -1,6 +1,6 @@
 use Rattle.std.proofs.Common.{◌∙◌, ap, cond, Some, length}
 use Rattle.attr_sets.specs.Sets.{attributes}
-use Rattle.dep_model.specs.declared.column.Column.TheVariants.{Text, Integer}
+use Rattle.dep_model.specs.declared.column_type.ColumnType.TheVariants.{Text, Integer}
 use Rattle.attr_sets.proofs.AttributesLemmas.{same_at}
 use Rattle.dep_model.proofs.ColumnLemmas.{AreColumns-text, slice_get-columns_on}
 use Rattle.dep_model.proofs.schema.Schema.new.Goals as goal
