@@ -12,7 +12,8 @@ use Rattle.dep_model.specs.Projections.{members_below, project_tuple, projection
 use Rattle.dep_model.proofs.SchemeLemmas.{members_below-member, members_below-outside, members_below-none, length-project_tuple}
 use Rattle.dep_model.proofs.JoinLemmas.{project_tuple-same, agree-from_projections}
 use Rattle.schema_printer.specs.Printing.{members_from}
-use Rattle.csv_rows.specs.Numberings.{row_at, number_at, AreGroups, AreFirsts}
+use Rattle.csv_rows.specs.Numberings.{number_at, AreGroups, AreFirsts}
+use Rattle.row_store.specs.Rows.{row_at}
 use Rattle.csv_rows.proofs.NumberingLemmas.{same_default}
 use Rattle.csv_rows.proofs.RowLemmas.{take_next}
 use Rattle.csv_migrate.proofs.DistinctLemmas.{AreClasses, distinct_values}

@@ -1,12 +1,12 @@
-ghost use Rattle.std.specs.Prelude.{◌≡◌, ◌<◌, ◌≤◌, ℕ, length, map, All, IfOk};
+ghost use Rattle.std.specs.Prelude.{◌≡◌, ◌<◌, ◌≤◌, length, map, All, IfOk, OnOk};
 ghost use Rattle.attr_sets.specs.Sets.{attributes};
-ghost use Rattle.csv_rows.specs.Numberings.{row_at};
+ghost use Rattle.row_store.specs.Rows.{row_at};
 ghost use Rattle.dep_model.specs.Projections.{project_tuple};
 ghost use Rattle.dep_model.specs.Tuples.{IsOver};
 
 use attr_sets::{AttrSet, MOST_ATTRIBUTES};
-use dep_model::{OutOfMemory, Row, Value};
-use row_store::Rows;
+use dep_model::OutOfMemory;
+use row_store::{FlatValues, Rows};
 use std::alloc::Global;
 
 // The projections of the rows at these positions, counted from 0.
@@ -15,32 +15,38 @@ pub fn project_rows(
     scheme: AttrSet,
     rows: &Rows,
     chosen: &[u32],
-) -> Result<Vec<Row>, OutOfMemory>
+) -> Result<Rows, OutOfMemory>
     requires within_limit { All (λ t. length t ≤ MOST_ATTRIBUTES) rows.now }
     requires chosen { All (λ i. i < length rows.now) chosen.now }
     ensures rows { IfOk result
-        (λ v. v.items ≡ map (λ i. project_tuple (attributes scheme) (row_at rows.now i)) chosen.now) }
+        (λ projections. projections ≡ map (λ i. project_tuple (attributes scheme) (row_at rows.now i)) chosen.now) }
 {
-    let mut projections = Vec::with_capacity(alloc, chosen.len())?;
+    let mut projections = Rows::new(alloc);
+    let mut values = FlatValues::new(alloc);
     for i in chosen {
-        let row = project_row(alloc, scheme, rows, *i as usize)?;
-        projections.push(row)?;
+        project_row(&mut values, scheme, rows, *i as usize)?;
+        projections.push(&values)?;
     }
     Ok(projections)
 }
 
-// The values of a row at the attributes of a scheme.
+// The values become those of a row at the attributes of a scheme.
 #[tactic(auto, using(crate::proofs::ProjectionLemmas::value_steps))]
-fn project_row(alloc: Global, scheme: AttrSet, rows: &Rows, row: usize) -> Result<Row, OutOfMemory>
+fn project_row(
+    values: &mut FlatValues,
+    scheme: AttrSet,
+    rows: &Rows,
+    row: usize,
+) -> Result<(), OutOfMemory>
     requires row { row < length rows.now }
     requires within_limit { length (row_at rows.now row) ≤ MOST_ATTRIBUTES }
-    ensures row { IfOk result (λ t. t ≡ project_tuple (attributes scheme) (row_at rows.now row)) }
+    ensures values { OnOk result (values.new ≡ project_tuple (attributes scheme) (row_at rows.now row)) }
 {
-    let mut values = Vec::with_capacity(alloc, scheme.len() as usize)?;
+    values.clear();
     for attribute in 0..rows.width(row) {
         if scheme.contains(attribute as u8) {
-            values.push(Value::new(alloc, rows.value(row, attribute))?)?;
+            values.push(rows.value(row, attribute))?;
         }
     }
-    Ok(Row::new(values))
+    Ok(())
 }

@@ -1,13 +1,10 @@
--- Rows and values by numbers: for `Interned` and `Groups` of csv_rows and the crates that use them;
--- of these `Desk` cites only `row_at`.
+-- Rows and values by numbers: for `Interned` and `Groups` of csv_rows and the crates that use them.
+-- `Desk` does not cite it.
 use Rattle.std.specs.Prelude.{◌≡◌, ℕ, ◌<◌, ◌≤◌, ◌↔◌, ◌⊎◌, List, [], length, slice_index_or, Some}
 use Rattle.std.specs.List.{slice_get}
+use Rattle.row_store.specs.Rows.{row_at}
 use Rattle.attr_sets.specs.Attributes.{Attributes}
 use Rattle.dep_model.specs.Tuples.{Tuple, Relation, AgreeOn}
-
--- the row at a position of a list of rows
-abbrev pub row_at : Relation → ℕ → Tuple
-row_at rows i = slice_index_or rows i []
 
 -- the number at a position of a list of numbers
 abbrev pub number_at : List ℕ → ℕ → ℕ

@@ -1,12 +1,11 @@
-ghost use Rattle.std.specs.Prelude.{◌≡◌, ◌<◌, length, IfOk, OnOk};
+ghost use Rattle.std.specs.Prelude.{◌≡◌, IfOk, OnOk};
 ghost use Rattle.csv.specs.Records.{fields_of};
-ghost use Rattle.csv_rows.specs.Numberings.{row_at};
 ghost use Rattle.csv_text.specs.Rows.{rows_text};
 ghost use Rattle.dep_model.specs.Schemas.{names_of, width_of};
 ghost use Rattle.dep_model.specs.Tuples.{IsOver};
 
 use csv::{ByteRecord, Writer};
-use csv_text::write_row;
+use csv_text::{take_values, write_row};
 use dep_model::{OutOfMemory, Schema};
 use row_store::Rows;
 use std::alloc::Global;
@@ -21,7 +20,7 @@ pub fn print_rows(alloc: Global, schema: &Schema, rows: &Rows) -> Result<Vec<u8>
     take_names(&mut fields, schema)?;
     write_row(&mut writer, &fields)?;
     for row in 0..rows.len() {
-        take_row(&mut fields, rows, row)?;
+        take_values(&mut fields, rows, row)?;
         write_row(&mut writer, &fields)?;
     }
     match writer.into_inner() {
@@ -38,18 +37,6 @@ fn take_names(fields: &mut ByteRecord, schema: &Schema) -> Result<(), OutOfMemor
     fields.clear();
     for i in 0..schema.width() {
         fields.push_field(schema.name(i).bytes())?;
-    }
-    Ok(())
-}
-
-// The fields become the values of a row.
-fn take_row(fields: &mut ByteRecord, rows: &Rows, row: usize) -> Result<(), OutOfMemory>
-    requires row { row < length rows.now }
-    ensures values { OnOk result (fields_of fields.new ≡ row_at rows.now row) }
-{
-    fields.clear();
-    for i in 0..rows.width(row) {
-        fields.push_field(rows.value(row, i))?;
     }
     Ok(())
 }

@@ -1,7 +1,8 @@
 use crate::destination::Destination;
-use dep_model::{Name, Row};
+use dep_model::Name;
 use desk_outside::{HeldFile, OutsideFault};
 use named_tables::HeldTable;
+use row_store::Rows;
 
 impl Destination for Box<dyn Destination> {
     ghost is_known = { λ b. (Destination-box b).is_known b.value };
@@ -18,8 +19,8 @@ impl Destination for Box<dyn Destination> {
         (**self).begin_table(name, columns)
     }
 
-    fn put_row(&mut self, row: &Row) -> Result<(), OutsideFault> {
-        (**self).put_row(row)
+    fn put_row(&mut self, rows: &Rows, row: usize) -> Result<(), OutsideFault> {
+        (**self).put_row(rows, row)
     }
 
     fn end_table(&mut self) -> Result<(), OutsideFault> {

@@ -1,11 +1,13 @@
-ghost use Rattle.std.specs.Prelude.{◌≡◌, ℕ, Bool, List, length, map, Option, None, Some, is_ok, if◌then◌else◌, IsSome, IfSome, OnOk, OnErr};
+ghost use Rattle.std.specs.Prelude.{◌≡◌, ℕ, ◌<◌, Bool, List, length, map, Option, None, Some, is_ok, if◌then◌else◌, IsSome, IfSome, OnOk, OnErr};
 ghost use Rattle.named_tables.specs.Tables.{TableValue, held_value, empty_table};
 ghost use Rattle.desk_outside.specs.Causes.{HasOutsideCause};
 ghost use Rattle.destinations.specs.Destinations.{KeepsFinished, AddsRow, FinishesTable};
+ghost use Rattle.row_store.specs.Rows.{row_at};
 
-use dep_model::{Name, Row};
+use dep_model::Name;
 use desk_outside::{HeldFile, OutsideFault};
 use named_tables::HeldTable;
+use row_store::Rows;
 
 /// A destination of tables, which come one at a time.
 ///
@@ -37,12 +39,13 @@ pub trait Destination: Drop {
         ensures width { width self.new ≡ (if is_ok result then Some (length columns.now) else None) }
         ensures cause { HasOutsideCause (faults self.old) (faults self.new) result };
 
-    /// Adds a row at the end of the open table.
-    fn put_row(&mut self, row: &Row) -> Result<(), OutsideFault>
-        requires row_width { width self.old ≡ Some (length row.now) }
+    /// Adds a row of these rows at the end of the open table.
+    fn put_row(&mut self, rows: &Rows, row: usize) -> Result<(), OutsideFault>
+        requires row { row < length rows.now }
+        requires row_width { width self.old ≡ Some (length (row_at rows.now row)) }
         ensures is_known { is_known self.new ≡ is_known self.old }
         ensures keeps { KeepsFinished (finished self.old) (finished self.new) }
-        ensures adds { OnOk result (AddsRow row.now (opened self.old) (opened self.new)) }
+        ensures adds { OnOk result (AddsRow (row_at rows.now row) (opened self.old) (opened self.new)) }
         ensures width { width self.new ≡ (if is_ok result then width self.old else None) }
         ensures cause { HasOutsideCause (faults self.old) (faults self.new) result };
 

@@ -4,9 +4,10 @@ ghost use Rattle.desk_outside.specs.Files.{files_of};
 use crate::buffered_folder::BufferedFolder;
 use crate::destination::Destination;
 use crate::format::{TableFormat, file_name, front_of, line_of, opening_of};
-use dep_model::{Name, OutOfMemory, Row};
+use dep_model::{Name, OutOfMemory};
 use desk_outside::{Folder, HeldFile, OutsideFault, write_all};
 use named_tables::HeldTable;
+use row_store::Rows;
 use std::alloc::Global;
 
 /// A destination over a folder. Each table becomes a file of its own, in one format.
@@ -84,9 +85,9 @@ impl<G: Folder> Destination for FileDestination<G> {
         Ok(())
     }
 
-    fn put_row(&mut self, row: &Row) -> Result<(), OutsideFault> {
+    fn put_row(&mut self, rows: &Rows, row: usize) -> Result<(), OutsideFault> {
         let columns = self.columns.take();
-        let line = line_of(self.alloc, self.format, &self.front, row)?;
+        let line = line_of(self.alloc, self.format, &self.front, rows, row)?;
         write_all(&mut self.folder, &line)?;
         self.columns = columns;
         Ok(())

@@ -1,8 +1,10 @@
-ghost use Rattle.std.specs.Prelude.{◌≡◌, ◌++◌, IfOk};
+ghost use Rattle.std.specs.Prelude.{◌≡◌, ◌<◌, ◌++◌, length, IfOk};
 ghost use Rattle.destinations.specs.Formats.{ending, opening, line_front, row_line};
+ghost use Rattle.row_store.specs.Rows.{row_at};
 
 use crate::sql_line;
-use dep_model::{Name, OutOfMemory, Row};
+use dep_model::{Name, OutOfMemory};
+use row_store::Rows;
 use schema_printer::add;
 use std::alloc::Global;
 
@@ -56,17 +58,19 @@ pub fn front_of(
     }
 }
 
-/// The line of a row, after this front.
+/// The line of a row of rows, after this front.
 pub fn line_of(
     alloc: Global,
     format: TableFormat,
     front: &[u8],
-    row: &Row,
+    rows: &Rows,
+    row: usize,
 ) -> Result<Vec<u8>, OutOfMemory>
-    ensures text { IfOk result (λ text. text.items ≡ row_line format front.now row.now) }
+    requires row { row < length rows.now }
+    ensures text { IfOk result (λ text. text.items ≡ row_line format front.now (row_at rows.now row)) }
 {
     match format {
-        TableFormat::Csv => csv_text::row_line(alloc, row),
-        TableFormat::Sql => sql_line::line_of(alloc, front, row),
+        TableFormat::Csv => csv_text::row_line(alloc, rows, row),
+        TableFormat::Sql => sql_line::line_of(alloc, front, rows, row),
     }
 }

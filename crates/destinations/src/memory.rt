@@ -1,13 +1,15 @@
-ghost use Rattle.std.specs.Prelude.{◌≡◌, ◌↔◌, true, [], ◌++◌, length, map, None, Some, is_ok, if◌then◌else◌, option_map, option_to_list, IsSome, IsSomeAnd, IsErrOf, OnOk, OnErr};
+ghost use Rattle.std.specs.Prelude.{◌≡◌, ◌<◌, ◌↔◌, true, [], ◌++◌, length, map, None, Some, is_ok, if◌then◌else◌, option_map, option_to_list, IsSome, IsSomeAnd, IsErrOf, OnOk, OnErr};
 ghost use Rattle.desk_outside.specs.Causes.{HasOutsideCause, is_failed};
 ghost use Rattle.desk_outside.specs.Planned.{FailsNext, CountsCall};
 ghost use Rattle.destinations.specs.Memory.{new_destination};
 ghost use Rattle.named_tables.specs.Tables.{held_value, empty_table, with_row};
+ghost use Rattle.row_store.specs.Rows.{row_at};
 
 use crate::destination::Destination;
-use dep_model::{Name, Row};
+use dep_model::Name;
 use desk_outside::{HeldFile, OutsideFault, PlannedFaults};
 use named_tables::HeldTable;
+use row_store::Rows;
 use std::alloc::Global;
 use std::marker::Model;
 
@@ -85,15 +87,18 @@ impl Destination for MemoryDestination {
         self.opened = Some(HeldTable {
             name: *name,
             columns,
-            rows: Vec::new(self.alloc),
+            rows: Rows::new(self.alloc),
         });
         Ok(())
     }
 
-    fn put_row(&mut self, row: &Row) -> Result<(), OutsideFault>
-        requires even { option_map (λ table. length table.columns) self.old.opened ≡ Some (length row.now) }
+    fn put_row(&mut self, rows: &Rows, row: usize) -> Result<(), OutsideFault>
+        requires row { row < length rows.now }
+        requires even { option_map (λ table. length table.columns) self.old.opened
+            ≡ Some (length (row_at rows.now row)) }
         ensures finished { self.new.finished ≡ self.old.finished }
-        ensures adds { OnOk result (self.new.opened ≡ option_map (with_row row.now) self.old.opened) }
+        ensures adds { OnOk result (self.new.opened
+            ≡ option_map (with_row (row_at rows.now row)) self.old.opened) }
         ensures closed { OnErr result (self.new.opened ≡ None) }
         ensures failed { IsErrOf result OutsideFault.Failed ↔ FailsNext self.old.planned }
         ensures counts { CountsCall self.old.planned self.new.planned (is_failed result) }
@@ -107,7 +112,7 @@ impl Destination for MemoryDestination {
         let Some(mut table) = opened else {
             unreachable!();
         };
-        match table.rows.push(row.copy(self.alloc)?) {
+        match table.rows.push_copy(self.alloc, rows, row) {
             Ok(()) => {
                 self.opened = Some(table);
                 Ok(())

@@ -1,10 +1,12 @@
-ghost use Rattle.std.specs.Prelude.{◌≡◌, [], ◌∷◌, ◌++◌, IfOk, OnOk};
+ghost use Rattle.std.specs.Prelude.{◌≡◌, ◌<◌, [], ◌∷◌, ◌++◌, length, IfOk, OnOk};
 ghost use Rattle.std.specs.List.{flat_map};
 ghost use Rattle.std.specs.Str.{is_utf8};
 ghost use Rattle.destinations.specs.Sql.{escape_quote, is_sql_text, sql_value, sql_head, sql_row};
+ghost use Rattle.row_store.specs.Rows.{row_at};
 ghost use Rattle.sql_names.specs.Names.{comma_list};
 
-use dep_model::{Name, OutOfMemory, Row};
+use dep_model::{Name, OutOfMemory};
+use row_store::Rows;
 use schema_printer::add;
 use sql_names::{add_listed, add_names, add_quoted};
 use std::alloc::Global;
@@ -22,24 +24,31 @@ pub fn head_of(alloc: Global, name: &Name, columns: &[Name]) -> Result<Vec<u8>, 
     Ok(text)
 }
 
-/// The line of a row, after this front.
-pub fn line_of(alloc: Global, head: &[u8], row: &Row) -> Result<Vec<u8>, OutOfMemory>
-    ensures line { IfOk result (λ line. line.items ≡ sql_row head.now row.now) }
+/// The line of a row of rows, after this front.
+pub fn line_of(
+    alloc: Global,
+    head: &[u8],
+    rows: &Rows,
+    row: usize,
+) -> Result<Vec<u8>, OutOfMemory>
+    requires row { row < length rows.now }
+    ensures line { IfOk result (λ line. line.items ≡ sql_row head.now (row_at rows.now row)) }
 {
     let mut text = Vec::from_slice(alloc, head)?;
-    let values = values_of(alloc, row)?;
+    let values = values_of(alloc, rows, row)?;
     add(&mut text, &values)?;
     add(&mut text, b");\n")?;
     Ok(text)
 }
 
-// The values, with a comma and a blank between.
-fn values_of(alloc: Global, row: &Row) -> Result<Vec<u8>, OutOfMemory>
-    ensures values { IfOk result (λ text. text.items ≡ comma_list sql_value row.now) }
+// The values of a row, with a comma and a blank between.
+fn values_of(alloc: Global, rows: &Rows, row: usize) -> Result<Vec<u8>, OutOfMemory>
+    requires row { row < length rows.now }
+    ensures values { IfOk result (λ text. text.items ≡ comma_list sql_value (row_at rows.now row)) }
 {
     let mut text = Vec::new(alloc);
-    for i in 0..row.len() {
-        let value = value_of(alloc, row.value(i).bytes())?;
+    for i in 0..rows.width(row) {
+        let value = value_of(alloc, rows.value(row, i))?;
         add_listed(&mut text, i > 0, &value)?;
     }
     Ok(text)

@@ -7,7 +7,7 @@ use Rattle.std.proofs.lemmas.Bool.{cases_lt}
 use Rattle.std.proofs.lemmas.List.Elements.{All-push}
 use Rattle.csv.specs.declared.reader.Reader.{Reader}
 use Rattle.csv_rows.specs.Records.{HasLeft, TakesRecord}
-use Rattle.csv_rows.specs.Numberings.{row_at}
+use Rattle.row_store.specs.Rows.{row_at}
 use Rattle.dep_model.specs.Tuples.{Tuple, Relation, IsOver}
 use Rattle.fd_discovery.specs.Headers.{IsColumnHeader, RefusesColumnHeader}
 use Rattle.fd_discovery.specs.Headings.{HaveWidth, RefusesRows, ReadsNames, RefusesNames, IsHeaded, IsRefusedDiscovery, names_under, rows_under}

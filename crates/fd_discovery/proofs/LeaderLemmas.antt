@@ -8,7 +8,8 @@ use Rattle.std.proofs.lemmas.List.Elements.{Contains-get_or}
 use Rattle.attr_sets.specs.Attributes.{Attributes, IsEmpty, only, union}
 use Rattle.dep_model.specs.Tuples.{Tuple, Relation, AgreeOn}
 use Rattle.dep_model.specs.Dependencies.{ObeysFd}
-use Rattle.csv_rows.specs.Numberings.{row_at, number_at, AreGroups}
+use Rattle.csv_rows.specs.Numberings.{number_at, AreGroups}
+use Rattle.row_store.specs.Rows.{row_at}
 use Rattle.csv_rows.specs.Interning.{codes_at}
 use Rattle.fd_discovery.specs.Leaders.{AreLeaders, IsOrderOf, IsTableOfRows, order_at}
 use Rattle.fd_discovery.specs.declared.table.CodeColumns.{CodeColumns}

@@ -4,7 +4,7 @@ use Rattle.std.specs.Prelude.{◌≡◌, ◌≢◌, ◌+◌, ◌<◌, ◌≤◌,
 use Rattle.std.specs.Borrow.{Bor}
 use Rattle.csv.specs.declared.reader.Reader.{Reader}
 use Rattle.csv_rows.specs.Records.{HasLeft}
-use Rattle.csv_rows.specs.Numberings.{row_at}
+use Rattle.row_store.specs.Rows.{row_at}
 use Rattle.dep_model.specs.Tuples.{Relation, IsOver}
 use Rattle.fd_discovery.specs.Headers.{IsColumnHeader, RefusesColumnHeader}
 use Rattle.fd_discovery.specs.declared.headed_rows.Headed.{Headed}

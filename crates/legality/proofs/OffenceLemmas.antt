@@ -7,7 +7,7 @@ use Rattle.dep_model.specs.Tuples.{Relation}
 use Rattle.dep_model.specs.Dependencies.{Dependency, fd, mvd, Obeys}
 use Rattle.dep_model.specs.Deps.{dependency_of, dependencies_of, IsDepWithin}
 use Rattle.dep_model.specs.declared.dep.Dep.{Dep}
-use Rattle.csv_rows.specs.Numberings.{row_at}
+use Rattle.row_store.specs.Rows.{row_at}
 use Rattle.legality.specs.declared.offence.Offence.{Offence}
 use Rattle.legality.specs.declared.pair.Pair.{Pair}
 use Rattle.legality.specs.Answers.{IsLeastOffence}

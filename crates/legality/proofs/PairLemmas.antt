@@ -5,7 +5,8 @@ use Rattle.std.proofs.lemmas.Bool.{cases_lt}
 use Rattle.attr_sets.specs.Attributes.{Attributes}
 use Rattle.dep_model.specs.Tuples.{Tuple, Relation, AgreeOn, value_at}
 use Rattle.dep_model.specs.Dependencies.{fd}
-use Rattle.csv_rows.specs.Numberings.{row_at, number_at, AreGroups, AreFirsts}
+use Rattle.csv_rows.specs.Numberings.{number_at, AreGroups, AreFirsts}
+use Rattle.row_store.specs.Rows.{row_at}
 use Rattle.csv_rows.proofs.NumberingLemmas.{same_default, row_of}
 use Rattle.legality.specs.Answers.{IsLeastOffence}
 use Rattle.legality.specs.declared.pair.Pair.{Pair}

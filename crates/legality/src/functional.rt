@@ -2,7 +2,7 @@ ghost use Rattle.std.specs.Prelude.{◌≡◌, ◌<◌, ◌≤◌, true, false, 
 ghost use Rattle.attr_sets.specs.Attributes.{IsSubset, below};
 ghost use Rattle.attr_sets.specs.Sets.{attributes};
 ghost use Rattle.csv_rows.specs.Interning.{IsInterned};
-ghost use Rattle.csv_rows.specs.Numberings.{row_at};
+ghost use Rattle.row_store.specs.Rows.{row_at};
 ghost use Rattle.dep_model.specs.Dependencies.{fd};
 ghost use Rattle.dep_model.specs.Tuples.{AgreeOn};
 ghost use Rattle.legality.specs.Answers.{IsLeastOffence};

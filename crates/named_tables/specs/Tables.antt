@@ -21,7 +21,7 @@ with_row row table = record { name = table.name; columns = table.columns; rows =
 
 -- a table that is held in memory
 abbrev pub held_value : HeldTable → TableValue
-held_value table = record { name = table.name; columns = table.columns.items; rows = table.rows.items }
+held_value table = record { name = table.name; columns = table.columns.items; rows = table.rows }
 
 abbrev pub table_value : NamedTable → TableValue
 table_value table = held_value table.held

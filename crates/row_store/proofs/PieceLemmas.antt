@@ -27,7 +27,7 @@ ends_at from count (end ∷ ends) (suc i) is within = ends_at end count ends i i
 
 -- each end is at most the count
 pub all_ends : (start count most : ℕ) (ends : List ℕ) → AreEnds 0 count ends → start + count ≤ most → All (λ end. start + end < most + 1) ends
-all_ends start count most ends is few = λ k d within.
+all_ends start count most ends is within_most = λ k d within.
     let default : get_or ends k d ≡ get_or ends k 0 = get_or_default ends k d 0 within in
     omega (arith, default, (ends_at 0 count ends k is within).1)
 
@@ -119,21 +119,21 @@ pub size_of_piece : {X : Type 0} (items : List X) (start end : ℕ) → end ≤ 
 size_of_piece items start end within = omega (arith, length-take (end - start) (drop start items), length-drop start items)
 
 -- an item of a piece stands so many positions behind its start
-pub record IsItem {X : Type 0} (items : List X) (all : List (List X)) (i start place : ℕ) : Type 0 where
-  pub within : start + place < length items
-  pub value : (d : X) → get_or items (start + place) d ≡ get_or (get_or all i []) place d
+pub record IsItem {X : Type 0} (items : List X) (all : List (List X)) (i start position : ℕ) : Type 0 where
+  pub within : start + position < length items
+  pub value : (d : X) → get_or items (start + position) d ≡ get_or (get_or all i []) position d
 
-pub item_at : {X : Type 0} (items : List X) (ends : List ℕ) (all : List (List X)) (i start place : ℕ)
-    → AreEnds 0 (length items) ends → pieces 0 items ends ≡ all → i < length all → place < length (get_or all i [])
-    → start ≡ get_or (0 ∷ ends) i 0 → IsItem items all i start place
-item_at {X} items ends all i start place is are within inside is_start =
+pub item_at : {X : Type 0} (items : List X) (ends : List ℕ) (all : List (List X)) (i start position : ℕ)
+    → AreEnds 0 (length items) ends → pieces 0 items ends ≡ all → i < length all → position < length (get_or all i [])
+    → start ≡ get_or (0 ∷ ends) i 0 → IsItem items all i start position
+item_at {X} items ends all i start position is are within inside is_start =
     let last : i < length ends = omega (arith, within, ap length are, length_pieces 0 items ends) in
     let here = piece_between items ends all i start (get_or ends i 0) is are within is_start (get_or_default ends i 0 (get_or ends i 0) last) in
     let size = size_of_piece items start (get_or ends i 0) here.within in
-    let count : place < get_or ends i 0 - start = omega (arith, size, ap length here.value, inside) in
+    let count : position < get_or ends i 0 - start = omega (arith, size, ap length here.value, inside) in
     record {
       within = omega (arith, count, here.ordered, here.within);
       value = λ d.
-          sym (ap (λ (p : List X). get_or p place d) (sym here.value)
-          ∙ get_or-take (get_or ends i 0 - start) (drop start items) place d count ∙ get_or-drop start items place d);
+          sym (ap (λ (p : List X). get_or p position d) (sym here.value)
+          ∙ get_or-take (get_or ends i 0 - start) (drop start items) position d count ∙ get_or-drop start items position d);
     }

@@ -121,7 +121,7 @@ fn between(bytes: &[u8], start: usize, end: usize) -> &[u8]
 // Adds ends that are counted from another start, for which there is room.
 fn add_ends(ends: &mut Vec<u32>, start: usize, more: &[u32])
     requires room { length ends.old.items + length more.now ≤ vec_capacity ends.old }
-    requires few { All (λ end. start + end < 2 ^ 32) more.now }
+    requires fits_u32 { All (λ end. start + end < 2 ^ 32) more.now }
     ensures ends { ends.new.items ≡ ends.old.items ++ map (λ end. start + end) more.now }
 {
     for end in more {

@@ -1,5 +1,6 @@
-ghost use Rattle.std.specs.Prelude.{◌≡◌, ◌<◌, [], ◌∷◌, ◌++◌, length, slice_index_or, IfOk, OnOk, OnErr};
+ghost use Rattle.std.specs.Prelude.{◌≡◌, ◌<◌, [], ◌∷◌, ◌++◌, length, IfOk, OnOk, OnErr};
 ghost use Rattle.dep_model.specs.Tuples.{value_at};
+ghost use Rattle.row_store.specs.Rows.{row_at};
 
 use crate::FlatValues;
 use crate::flat_values::{MOST, start_of};
@@ -70,19 +71,30 @@ impl Rows {
     /// How many values a row has.
     pub fn width(&self, row: usize) -> usize
         requires row { row < length self.now }
-        ensures width { result ≡ length (slice_index_or self.now row []) }
+        ensures width { result ≡ length (row_at self.now row) }
     {
         self.ends[row] as usize - start_of(&self.ends, row)
     }
 
     /// The value of a row at a position.
-    pub fn value(&self, row: usize, place: usize) -> &[u8]
+    pub fn value(&self, row: usize, position: usize) -> &[u8]
         requires row { row < length self.now }
-        requires place { place < length (slice_index_or self.now row []) }
-        ensures value { result.now ≡ value_at (slice_index_or self.now row []) place }
+        requires position { position < length (row_at self.now row) }
+        ensures value { result.now ≡ value_at (row_at self.now row) position }
     {
         let start = start_of(&self.ends, row);
-        self.values.value(start + place)
+        self.values.value(start + position)
+    }
+
+    /// Adds a row of other rows at the end.
+    pub fn push_copy(&mut self, alloc: Global, rows: &Rows, row: usize) -> Result<(), OutOfMemory>
+        requires row { row < length rows.now }
+        ensures rows { OnOk result (self.new ≡ self.old ++ row_at rows.now row ∷ []) }
+        ensures memory { OnErr result (self.new ≡ self.old) }
+    {
+        let mut values = FlatValues::new(alloc);
+        copy_row(&mut values, rows, row)?;
+        self.push(&values)
     }
 
     /// Adds a row at the end.
@@ -108,6 +120,18 @@ fn take_row(values: &mut FlatValues, row: &Row) -> Result<(), OutOfMemory>
     values.clear();
     for i in 0..row.len() {
         values.push(row.value(i).bytes())?;
+    }
+    Ok(())
+}
+
+// The values become those of a row of rows.
+fn copy_row(values: &mut FlatValues, rows: &Rows, row: usize) -> Result<(), OutOfMemory>
+    requires row { row < length rows.now }
+    ensures values { OnOk result (values.new ≡ row_at rows.now row) }
+{
+    values.clear();
+    for i in 0..rows.width(row) {
+        values.push(rows.value(row, i))?;
     }
     Ok(())
 }

@@ -7,9 +7,9 @@ use Rattle.named_tables.specs.declared.table.NamedTable.{NamedTable}
 use Rattle.table_writing.specs.Writing.{AtEachPosition}
 
 -- the rows before a position and the one that is there
-pub row_next : {X : Type 0} (rows : List X) (i : ℕ) (row : X) → i < length rows → row ≡ get_or rows i row
-    → take i rows ++ row ∷ [] ≡ take (i + 1) rows
-row_next rows i row within is = ap (λ r. take i rows ++ r ∷ []) is ∙ sym (take_more rows i row within)
+pub row_next : {X : Type 0} (rows : List X) (i : ℕ) (d : X) → i < length rows
+    → take i rows ++ get_or rows i d ∷ [] ≡ take (i + 1) rows
+row_next rows i d within = sym (take_more rows i d within)
 
 -- the tables before a position and the one that is there, after others
 pub tables_next : (tables : List NamedTable) (i : ℕ) (table : NamedTable) (done : List TableValue) → i < length tables

@@ -92,8 +92,8 @@ fn write_table<T: Destination>(destination: &mut T, table: &NamedTable) -> Resul
     ensures cause { HasOutsideCause (T.faults destination.old) (T.faults destination.new) result }
 {
     destination.begin_table(&table.held.name, &table.held.columns)?;
-    for row in &table.held.rows {
-        destination.put_row(row)?;
+    for row in 0..table.held.rows.len() {
+        destination.put_row(&table.held.rows, row)?;
     }
     destination.end_table()
 }

@@ -1,26 +1,33 @@
-ghost use Rattle.std.specs.Prelude.{◌≡◌, length, IfOk};
+ghost use Rattle.std.specs.Prelude.{◌≡◌, ◌∷◌, [], IfOk};
 
-use dep_model::{Name, OutOfMemory, Row, Value};
+use dep_model::{Name, OutOfMemory};
 use desk_outside::{HeldFile, MemoryFolder, OutsideFault};
 use destinations::{Destination, FileDestination, MemoryDestination, TableFormat};
+use row_store::{FlatValues, Rows};
 use std::alloc::Global;
 use std::test::Fail;
 
-fn single(alloc: Global, value: &[u8]) -> Result<Row, OutOfMemory>
-    ensures { IfOk result (λ row. length row ≡ 1) }
+// One row of one value.
+fn single(alloc: Global, value: &[u8]) -> Result<Rows, OutOfMemory>
+    ensures row { IfOk result (λ rows. rows ≡ (value.now ∷ []) ∷ []) }
 {
-    let mut values = Vec::new(alloc);
-    values.push(Value::new(alloc, value)?)?;
-    Ok(Row::new(values))
+    let mut values = FlatValues::new(alloc);
+    values.push(value)?;
+    let mut rows = Rows::new(alloc);
+    rows.push(&values)?;
+    Ok(rows)
 }
 
-fn pair(alloc: Global, first: &[u8], second: &[u8]) -> Result<Row, OutOfMemory>
-    ensures { IfOk result (λ row. length row ≡ 2) }
+// One row of two values.
+fn pair(alloc: Global, first: &[u8], second: &[u8]) -> Result<Rows, OutOfMemory>
+    ensures row { IfOk result (λ rows. rows ≡ (first.now ∷ second.now ∷ []) ∷ []) }
 {
-    let mut values = Vec::new(alloc);
-    values.push(Value::new(alloc, first)?)?;
-    values.push(Value::new(alloc, second)?)?;
-    Ok(Row::new(values))
+    let mut values = FlatValues::new(alloc);
+    values.push(first)?;
+    values.push(second)?;
+    let mut rows = Rows::new(alloc);
+    rows.push(&values)?;
+    Ok(rows)
 }
 
 fn name(bytes: &[u8]) -> Result<Name, OutsideFault> {
@@ -39,7 +46,7 @@ fn put_table<T: Destination>(
 ) -> Result<(), OutsideFault> {
     let row = single(alloc, value)?;
     destination.begin_table(&name(table)?, &[name(b"A")?])?;
-    destination.put_row(&row)?;
+    destination.put_row(&row, 0)?;
     destination.end_table()
 }
 
@@ -48,8 +55,8 @@ fn put_pairs<T: Destination>(alloc: Global, destination: &mut T) -> Result<(), O
     let first = pair(alloc, b"1", b"a,\"b\"")?;
     let second = pair(alloc, b"O'Hara", b"\0")?;
     destination.begin_table(&name(b"t1")?, &[name(b"NAME")?, name(b"Note")?])?;
-    destination.put_row(&first)?;
-    destination.put_row(&second)?;
+    destination.put_row(&first, 0)?;
+    destination.put_row(&second, 0)?;
     destination.end_table()
 }
 
@@ -90,10 +97,8 @@ fn tables_in_memory(rt: HostRuntime) -> Result<(), Fail> {
     assert_eq!(rt; table.name.bytes(), b"t1".as_slice());
     assert_eq!(rt; table.columns.len(), 2);
     assert_eq!(rt; table.rows.len(), 2);
-    let Some(row) = table.rows.get(1) else {
-        return Err(Fail::from(OutOfMemory));
-    };
-    assert!(rt; row.len() == 2 && row.value(0).bytes() == b"O'Hara".as_slice());
+    assert_eq!(rt; table.rows.width(1), 2);
+    assert_eq!(rt; table.rows.value(1, 0), b"O'Hara".as_slice());
     Ok(())
 }
 
@@ -196,9 +201,9 @@ fn put_long<T: Destination>(
 ) -> Result<(), OutsideFault> {
     let row = single(alloc, value)?;
     destination.begin_table(&name(b"t1")?, &[name(b"A")?])?;
-    destination.put_row(&row)?;
-    destination.put_row(&row)?;
-    destination.put_row(&row)?;
+    destination.put_row(&row, 0)?;
+    destination.put_row(&row, 0)?;
+    destination.put_row(&row, 0)?;
     destination.end_table()
 }
 

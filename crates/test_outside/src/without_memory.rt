@@ -1,10 +1,11 @@
 ghost use Rattle.std.specs.Prelude.{◌≡◌, false, None, Err, ⊤};
 ghost use Rattle.desk_outside.specs.declared.failure.OutsideFault.TheVariants.{OutOfMemory};
 
-use dep_model::{Name, Row};
+use dep_model::Name;
 use desk_outside::{HeldFile, OutsideFault};
 use destinations::Destination;
 use named_tables::HeldTable;
+use row_store::Rows;
 
 /// A destination that runs out of memory at each call. It does not make known what it holds.
 #[derive(Drop)]
@@ -41,7 +42,7 @@ impl Destination for WithoutMemory {
         Err(OutsideFault::OutOfMemory)
     }
 
-    fn put_row(&mut self, _row: &Row) -> Result<(), OutsideFault>
+    fn put_row(&mut self, _rows: &Rows, _row: usize) -> Result<(), OutsideFault>
         ensures memory { result ≡ Err OutOfMemory }
         ensures closed { self.new.columns ≡ None }
     {

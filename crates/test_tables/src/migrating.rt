@@ -17,11 +17,12 @@ fn line_of(alloc: Global, table: &NamedTable) -> Result<Vec<u8>, OutOfMemory> {
         line.push(b' ')?;
         line.extend_from_slice(column.bytes())?;
     }
-    for row in &table.held.rows {
+    let rows = &table.held.rows;
+    for row in 0..rows.len() {
         line.push(b'|')?;
-        for i in 0..row.len() {
+        for i in 0..rows.width(row) {
             line.push(b'<')?;
-            line.extend_from_slice(row.value(i).bytes())?;
+            line.extend_from_slice(rows.value(row, i))?;
         }
     }
     Ok(line)

@@ -12,7 +12,7 @@ invariant_of-result c =
       even =
           table_even (names_of c.args.schema.now) c.args.rows.now (attributes c.args.scheme)
           (groups_of c.in_ok-groups.groups) (firsts_of c.in_ok-groups.groups) c.firsts.result.now
-          c.in_ok-columns.columns.items c.in_ok-rows.rows.items c.requires.over
+          c.in_ok-columns.columns.items c.in_ok-rows.rows c.requires.over
           (c.in_ok-groups.ensures.groups n c.args.rows.now c.requires.codes)
           (c.in_ok-groups.ensures.firsts n c.args.rows.now c.requires.codes)
           c.firsts.ensures.firsts c.in_ok-columns.ensures.names c.in_ok-rows.ensures.rows;
@@ -24,7 +24,7 @@ returns-clause-value c =
     same_table _ _ _ _ _ _ c.table_name-name.ensures.name c.in_ok-columns.ensures.names
     (table_rows n c.args.rows.now (attributes c.args.scheme) (groups_of c.in_ok-groups.groups)
     (firsts_of c.in_ok-groups.groups) c.firsts.result.now
-    c.in_ok-rows.rows.items c.requires.over
+    c.in_ok-rows.rows c.requires.over
     (c.in_ok-groups.ensures.groups n c.args.rows.now c.requires.codes)
     (c.in_ok-groups.ensures.firsts n c.args.rows.now c.requires.codes)
     c.firsts.ensures.firsts c.in_ok-rows.ensures.rows)

@@ -1,6 +1,7 @@
 use Rattle.std.proofs.Common.{arith, ◌≡◌, ℕ, List, Bor, map, length, subst, ◌∙◌}
 use Rattle.dep_model.specs.Tuples.{value_at}
-use Rattle.csv_rows.specs.Numberings.{AreNumbered, row_at}
+use Rattle.csv_rows.specs.Numberings.{AreNumbered}
+use Rattle.row_store.specs.Rows.{row_at}
 use Rattle.csv_rows.proofs.NumberingLemmas.{column_step, column_groups}
 use Rattle.csv_rows.proofs.interning.column_numbers.Goals as goal
 

@@ -1,6 +1,7 @@
 use Rattle.std.proofs.Common.{ℕ, List, map, Bor}
 use Rattle.dep_model.specs.Tuples.{value_at}
-use Rattle.csv_rows.specs.Numberings.{AreNumbered, row_at}
+use Rattle.csv_rows.specs.Numberings.{AreNumbered}
+use Rattle.row_store.specs.Rows.{row_at}
 use Rattle.csv_rows.proofs.interning.column_numbers.Given as goal
 
 -- the rows so far have these numbers

@@ -1,7 +1,7 @@
 use Rattle.std.proofs.Common.{◌≡◌, ◌<◌, ℕ, true}
 use Rattle.attr_sets.specs.Sets.{attributes}
 use Rattle.dep_model.specs.Tuples.{value_at}
-use Rattle.csv_rows.specs.Numberings.{row_at}
+use Rattle.row_store.specs.Rows.{row_at}
 use Rattle.legality.proofs.functional.rows_agree.Given as goal
 
 -- the two rows agree on the members of the set before the attribute

@@ -10,7 +10,7 @@ invariant-loop-row g l =
       is_known : destination.is_known l.destination ≡ destination.is_known l.fn.destination;
       keeps : KeepsFinished (destination.finished l.fn.destination) (destination.finished l.destination);
       opened : destination.opened l.destination
-          (record { name = l.table.held.name; columns = l.table.held.columns.items; rows = take l.row-index l.table.held.rows.items });
+          (record { name = l.table.held.name; columns = l.table.held.columns.items; rows = take l.row l.table.held.rows });
       width : destination.width l.destination ≡ Some (length l.table.held.columns.items);
       fine : destination.faults l.destination ≡ destination.faults l.fn.destination;
     }

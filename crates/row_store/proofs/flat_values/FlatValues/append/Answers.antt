@@ -3,8 +3,8 @@ use Rattle.std.proofs.Common.{arith, ℕ, ◌+◌, ◌++◌, List, map, ap, ◌�
 use Rattle.row_store.proofs.PieceLemmas.{all_ends, appended_ends, appended_pieces}
 use Rattle.row_store.proofs.flat_values.FlatValues.append.Goals as goal
 
-pub add_ends-requires-clause-few : goal.add_ends-requires-clause-few
-add_ends-requires-clause-few c =
+pub add_ends-requires-clause-fits_u32 : goal.add_ends-requires-clause-fits_u32
+add_ends-requires-clause-fits_u32 c =
     rw c.deref-2.ensures.value
     (all_ends c.len-count.result _ 4294967295 _ c.other.invariant (omega (arith, c.len.ensures, c.other.inside.bytes.ok.0, c.if-count-len-gt-MOST.false)))
 
