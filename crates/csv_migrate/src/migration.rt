@@ -30,9 +30,9 @@ pub fn tables(
     rows: &Rows,
 ) -> Result<Vec<NamedTable>, OutOfMemory>
     requires over { IsOver (width_of schema.now) rows.now }
-    requires few_rows { length rows.now < 2 ^ 32 }
+    requires fits_u32 { length rows.now < 2 ^ 32 }
     requires universe { IsPlanOver schema.now plan.now }
-    requires few_schemes { length (scheme_sets plan.now) ≤ MOST_TABLES }
+    requires within_limit { length (scheme_sets plan.now) ≤ MOST_TABLES }
     ensures tables { IfOk result (λ v.
         table_values v.items ≡ tables_of_migration schema.now (plan_of plan.now) rows.now) }
     ensures schemes { IfOk result (λ v. schemes_in v.items ≡ scheme_sets plan.now) }

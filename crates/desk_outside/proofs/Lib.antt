@@ -1,3 +1,4 @@
 pub mod ListFacts
 pub mod HeldFacts
 pub mod FolderFacts
+pub mod SeriesFacts

@@ -27,7 +27,7 @@ pub record HasCause {T E : Type 0} (before now : ℕ) (result : Result T E) : Ty
   pub failed : OnErr result (ErrorCountIncreased before now)
 
 -- The faults of a call that begins a file: the count has not fallen, at `Failed` it increased or the
--- file source lacks the file, and at Ok it is as before. A file that is lacking is told by `Failed`,
+-- file source lacks the file, and at Ok it is as before. A file that is lacking is `Failed`,
 -- and raises no count.
 pub record HasBeginCause (files : Option Files) (name : List ℕ) (before now : ℕ)
     (result : Result (Unit {0}) OutsideFault) : Type 0 where

@@ -51,5 +51,5 @@ pub trait FileSource {
         ensures cause { HasCause (faults self.old) (faults self.new) result };
 
     /// A file source makes its files known and what is left of the begun one, or neither.
-    ghost tells_all_or_none: { (source : Self) → is_some (files source) ≡ is_some (left source) };
+    ghost knows_all_or_none: { (source : Self) → is_some (files source) ≡ is_some (left source) };
 }

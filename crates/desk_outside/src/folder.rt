@@ -7,7 +7,7 @@ ghost use Rattle.desk_outside.specs.Folders.{FolderContents, with_begun, with_by
 use crate::argument::HeldFile;
 use crate::failure::OutsideFault;
 
-/// A place for files to write, one at a time.
+/// Files to write, one at a time.
 ///
 /// After an error the finished files are as before and no file is open.
 pub trait Folder: Drop {
@@ -32,8 +32,8 @@ pub trait Folder: Drop {
     /// answers how many.
     fn write(&mut self, piece: &[u8]) -> Result<usize, OutsideFault>
         requires is_open { IsTrue (is_open self.old) }
-        requires some { 0 < length piece.now }
-        ensures some { IfOk result (λ n. 0 < n) }
+        requires not_empty { 0 < length piece.now }
+        ensures positive { IfOk result (λ n. 0 < n) }
         ensures bound { IfOk result (λ n. n ≤ length piece.now) }
         ensures bytes { IfOk result (λ n.
             contents self.new ≡ option_map (with_bytes (take n piece.now)) (contents self.old)) }
@@ -51,7 +51,7 @@ pub trait Folder: Drop {
 
     /// The finished files, of a folder that makes them known.
     fn visible(&self) -> Option<&[HeldFile]>
-        ensures told { is_some result ≡ is_some (contents self.now) }
-        ensures shown { IfSome result (λ files.
+        ensures known { is_some result ≡ is_some (contents self.now) }
+        ensures files { IfSome result (λ files.
             option_map (λ folder. folder.finished) (contents self.now) ≡ Some (files_of files.now)) };
 }

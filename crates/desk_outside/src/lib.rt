@@ -1,4 +1,4 @@
-//! The outside of the desk: files to read, a place for the printed text, a folder for files to write,
+//! The outside of the desk: files to read, a sink of the printed text, a folder for files to write,
 //! and what the desk may believe of them.
 //!
 //! Any call of the outside may fail. What an object holds is said by its meanings, and each fault
@@ -8,7 +8,7 @@
 //!   write.
 //! - [`load`] reads a whole file, up to a limit; [`send`] and [`write_all`] write all of a text.
 //! - [`MemoryFiles`], [`MemorySink`] and [`MemoryFolder`] make known all that they hold, and fail at chosen
-//!   calls alone.
+//!   calls alone. [`MemorySeries`] is what `MemoryFolder` and a destination in memory both are.
 //! - [`RealFiles`], [`StdoutSink`] and [`FileFolder`] are the system's. Nothing is known of their content.
 #![tactic(auto)]
 
@@ -20,6 +20,7 @@ mod file_source;
 mod folder;
 mod memory;
 mod memory_folder;
+mod memory_series;
 mod real_files;
 mod sink;
 mod transfer;
@@ -32,6 +33,7 @@ pub use file_source::FileSource;
 pub use folder::Folder;
 pub use memory::{MemoryFiles, MemorySink};
 pub use memory_folder::MemoryFolder;
+pub use memory_series::MemorySeries;
 pub use real_files::{RealFiles, StdoutSink};
 pub use sink::Sink;
 pub use transfer::{load, send, write_all};

@@ -164,7 +164,7 @@ impl FileSource for MemoryFiles {
         Ok(count)
     }
 
-    ghost tells_all_or_none = { λ source. refl };
+    ghost knows_all_or_none = { λ source. refl };
 }
 
 /// A text in memory, with room for so many bytes. What it took is known, and it fails where it has no
@@ -245,7 +245,7 @@ impl Sink for MemorySink {
         ensures failed { IsErr result ↔ (FailsNext self.old.planned ⊎ (room self.old ≡ 0)) }
         ensures never_fails { NeverFails self.old.planned → 0 < room self.old → IsOk result }
         ensures count { IfOk result (λ n. n ≡ min (length piece.now) (min self.old.step (room self.old))) }
-        ensures some { IfOk result (λ n. 0 < n) }
+        ensures positive { IfOk result (λ n. 0 < n) }
         ensures bytes { IfOk result (λ n. self.new.contents ≡ self.old.contents ++ take n piece.now) }
         ensures err { OnErr result (self.new.contents ≡ self.old.contents) }
         ensures counts { CountsCall self.old.planned self.new.planned (is_err result) }

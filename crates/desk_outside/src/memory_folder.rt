@@ -9,8 +9,8 @@ ghost use Rattle.desk_outside.specs.Planned.{FailsNext, CountsCall};
 
 use crate::argument::{Argument, HeldFile};
 use crate::failure::OutsideFault;
-use crate::fault_plan::PlannedFaults;
 use crate::folder::Folder;
+use crate::memory_series::MemorySeries;
 use std::alloc::Global;
 use std::marker::Model;
 
@@ -18,9 +18,7 @@ use std::marker::Model;
 #[derive(Drop)]
 pub struct MemoryFolder {
     alloc: Global,
-    finished: Vec<HeldFile>,
-    opened: Option<HeldFile>,
-    planned: PlannedFaults,
+    files: MemorySeries<HeldFile>,
 }
 
 impl Model for MemoryFolder {
@@ -31,9 +29,9 @@ impl Model for MemoryFolder {
     ghost Value = { FolderInMemory };
 
     ghost view = { λ f. record {
-      finished = files_of f.finished.items;
-      opened = option_map stored_file f.opened;
-      planned = f.planned;
+      finished = files_of f.files.finished.items;
+      opened = option_map stored_file f.files.opened;
+      planned = f.files.planned;
     } };
 }
 
@@ -44,9 +42,7 @@ impl MemoryFolder {
     {
         MemoryFolder {
             alloc,
-            finished: Vec::new(alloc),
-            opened: None,
-            planned: PlannedFaults::new(fails),
+            files: MemorySeries::new(alloc, fails),
         }
     }
 
@@ -54,10 +50,11 @@ impl MemoryFolder {
     pub fn finished_files(&self) -> &[HeldFile]
         ensures files { files_of result.now ≡ self.now.finished }
     {
-        &self.finished
+        &self.files.finished
     }
 }
 
+#[tactic(auto, using(crate::proofs::SeriesFacts::mapped_end))]
 impl Folder for MemoryFolder {
     ghost contents = { λ folder. Some (contents_of folder) };
 
@@ -75,20 +72,16 @@ impl Folder for MemoryFolder {
         ensures counts { CountsCall self.old.planned self.new.planned (is_failed result) }
         ensures cause { HasOutsideCause self.old.planned.faults self.new.planned.faults result }
     {
-        self.opened = None;
-        if self.planned.next_fails() {
-            self.planned.count_fault();
-            return Err(OutsideFault::Failed);
-        }
+        self.files.take_open()?;
         let name = Argument::new(self.alloc, name)?;
         let bytes = Vec::new(self.alloc);
-        self.opened = Some(HeldFile { name, bytes });
+        self.files.opened = Some(HeldFile { name, bytes });
         Ok(())
     }
 
     fn write(&mut self, piece: &[u8]) -> Result<usize, OutsideFault>
         requires is_open { IsTrue (is_some self.old.opened) }
-        requires positive { 0 < length piece.now }
+        requires not_empty { 0 < length piece.now }
         ensures finished { self.new.finished ≡ self.old.finished }
 
         // It takes the whole piece.
@@ -99,16 +92,11 @@ impl Folder for MemoryFolder {
         ensures counts { CountsCall self.old.planned self.new.planned (is_failed result) }
         ensures cause { HasOutsideCause self.old.planned.faults self.new.planned.faults result }
     {
-        let opened = self.opened.take();
-        if self.planned.next_fails() {
-            self.planned.count_fault();
-            return Err(OutsideFault::Failed);
-        }
-        let Some(mut file) = opened else {
+        let Some(mut file) = self.files.take_open()? else {
             unreachable!();
         };
         file.bytes.extend_from_slice(piece)?;
-        self.opened = Some(file);
+        self.files.opened = Some(file);
         Ok(piece.len())
     }
 
@@ -122,23 +110,12 @@ impl Folder for MemoryFolder {
         ensures counts { CountsCall self.old.planned self.new.planned (is_failed result) }
         ensures cause { HasOutsideCause self.old.planned.faults self.new.planned.faults result }
     {
-        let opened = self.opened.take();
-        if self.planned.next_fails() {
-            self.planned.count_fault();
-            return Err(OutsideFault::Failed);
-        }
-        let Some(file) = opened else {
-            unreachable!();
-        };
-        match self.finished.push(file) {
-            Ok(()) => Ok(()),
-            Err(_) => Err(OutsideFault::OutOfMemory),
-        }
+        self.files.end()
     }
 
     fn visible(&self) -> Option<&[HeldFile]>
-        ensures shown { IsSomeAnd result (λ files. files_of files.now ≡ self.now.finished) }
+        ensures files { IsSomeAnd result (λ files. files_of files.now ≡ self.now.finished) }
     {
-        Some(&self.finished)
+        Some(&self.files.finished)
     }
 }

@@ -84,7 +84,7 @@ impl<R: Files + Drop> FileSource for RealFiles<R> {
         }
     }
 
-    ghost tells_all_or_none = { λ _. refl };
+    ghost knows_all_or_none = { λ _. refl };
 }
 
 /// The standard output.

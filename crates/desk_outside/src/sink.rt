@@ -4,7 +4,7 @@ ghost use Rattle.desk_outside.specs.Causes.{HasCause};
 
 use crate::failure::Failed;
 
-/// A place for the printed text.
+/// What takes the printed text.
 pub trait Sink {
     /// The bytes taken, where known.
     ghost contents: { Self → Option (List ℕ) };
@@ -16,7 +16,7 @@ pub trait Sink {
     /// it took none.
     fn write(&mut self, piece: &[u8]) -> Result<usize, Failed>
         requires { 0 < length piece.now }
-        ensures some { IfOk result (λ n. 0 < n) }
+        ensures positive { IfOk result (λ n. 0 < n) }
         ensures bound { IfOk result (λ n. n ≤ length piece.now) }
         ensures bytes { IfOk result (λ n.
             contents self.new ≡ append_known (contents self.old) (take n piece.now)) }

@@ -45,7 +45,7 @@ pub fn load<F: FileSource>(
     ensures closed { IsErrOf result LoadRefusal.CannotRead →
         F.left source.new ≡ none_left (F.files source.old) }
 
-    // A missing file is told by `CannotRead` alone, and raises no count.
+    // A missing file is `CannotRead` alone, and raises no count.
     ensures missing { IsMissing (F.files source.old) name.now →
         (result ≡ Err LoadRefusal.CannotRead) × (F.faults source.new ≡ F.faults source.old) }
 {

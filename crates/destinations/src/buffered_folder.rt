@@ -16,7 +16,7 @@ const CHUNK: usize = 65_536;
 pub struct BufferedFolder<G: Folder> {
     pub folder: G,
     pub buffer: Vec<u8>,
-    pub ghost few: { length buffer.items ≤ CHUNK },
+    pub ghost within_chunk: { length buffer.items ≤ CHUNK },
     pub ghost room: { CHUNK ≤ vec_capacity buffer },
 }
 

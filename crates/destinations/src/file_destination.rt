@@ -106,8 +106,8 @@ impl<G: Folder> Destination for FileDestination<G> {
     }
 
     fn held_files(&self) -> Option<&[HeldFile]>
-        ensures told { is_some result ≡ is_some (G.contents self.now.folder.folder) }
-        ensures shown { IfSome result (λ files.
+        ensures known { is_some result ≡ is_some (G.contents self.now.folder.folder) }
+        ensures files { IfSome result (λ files.
             option_map (λ folder. folder.finished) (G.contents self.now.folder.folder)
             ≡ Some (files_of files.now)) }
     {

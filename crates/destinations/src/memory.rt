@@ -7,7 +7,7 @@ ghost use Rattle.row_store.specs.Rows.{row_at};
 
 use crate::destination::Destination;
 use dep_model::Name;
-use desk_outside::{HeldFile, OutsideFault, PlannedFaults};
+use desk_outside::{HeldFile, MemorySeries, OutsideFault};
 use named_tables::HeldTable;
 use row_store::Rows;
 use std::alloc::Global;
@@ -17,9 +17,7 @@ use std::marker::Model;
 #[derive(Drop)]
 pub struct MemoryDestination {
     alloc: Global,
-    finished: Vec<HeldTable>,
-    opened: Option<HeldTable>,
-    planned: PlannedFaults,
+    tables: MemorySeries<HeldTable>,
 }
 
 impl Model for MemoryDestination {
@@ -30,9 +28,9 @@ impl Model for MemoryDestination {
     ghost Value = { DestinationInMemory };
 
     ghost view = { λ t. record {
-      finished = map held_value t.finished.items;
-      opened = option_map held_value t.opened;
-      planned = t.planned;
+      finished = map held_value t.tables.finished.items;
+      opened = option_map held_value t.tables.opened;
+      planned = t.tables.planned;
     } };
 }
 
@@ -43,9 +41,7 @@ impl MemoryDestination {
     {
         MemoryDestination {
             alloc,
-            finished: Vec::new(alloc),
-            opened: None,
-            planned: PlannedFaults::new(fails),
+            tables: MemorySeries::new(alloc, fails),
         }
     }
 
@@ -53,10 +49,11 @@ impl MemoryDestination {
     pub fn tables(&self) -> &[HeldTable]
         ensures tables { map held_value result.now ≡ self.now.finished }
     {
-        &self.finished
+        &self.tables.finished
     }
 }
 
+#[tactic(auto, using(desk_outside::proofs::SeriesFacts::mapped_end))]
 impl Destination for MemoryDestination {
     ghost is_known = { λ _. true };
 
@@ -78,13 +75,9 @@ impl Destination for MemoryDestination {
         ensures counts { CountsCall self.old.planned self.new.planned (is_failed result) }
         ensures cause { HasOutsideCause self.old.planned.faults self.new.planned.faults result }
     {
-        self.opened = None;
-        if self.planned.next_fails() {
-            self.planned.count_fault();
-            return Err(OutsideFault::Failed);
-        }
+        self.tables.take_open()?;
         let columns = Vec::from_slice(self.alloc, columns)?;
-        self.opened = Some(HeldTable {
+        self.tables.opened = Some(HeldTable {
             name: *name,
             columns,
             rows: Rows::new(self.alloc),
@@ -104,17 +97,12 @@ impl Destination for MemoryDestination {
         ensures counts { CountsCall self.old.planned self.new.planned (is_failed result) }
         ensures cause { HasOutsideCause self.old.planned.faults self.new.planned.faults result }
     {
-        let opened = self.opened.take();
-        if self.planned.next_fails() {
-            self.planned.count_fault();
-            return Err(OutsideFault::Failed);
-        }
-        let Some(mut table) = opened else {
+        let Some(mut table) = self.tables.take_open()? else {
             unreachable!();
         };
         match table.rows.push_copy(self.alloc, rows, row) {
             Ok(()) => {
-                self.opened = Some(table);
+                self.tables.opened = Some(table);
                 Ok(())
             }
             Err(_) => Err(OutsideFault::OutOfMemory),
@@ -131,24 +119,13 @@ impl Destination for MemoryDestination {
         ensures counts { CountsCall self.old.planned self.new.planned (is_failed result) }
         ensures cause { HasOutsideCause self.old.planned.faults self.new.planned.faults result }
     {
-        let opened = self.opened.take();
-        if self.planned.next_fails() {
-            self.planned.count_fault();
-            return Err(OutsideFault::Failed);
-        }
-        let Some(table) = opened else {
-            unreachable!();
-        };
-        match self.finished.push(table) {
-            Ok(()) => Ok(()),
-            Err(_) => Err(OutsideFault::OutOfMemory),
-        }
+        self.tables.end()
     }
 
     fn held_tables(&self) -> Option<&[HeldTable]>
         ensures held { IsSomeAnd result (λ tables. map held_value tables.now ≡ self.now.finished) }
     {
-        Some(&self.finished)
+        Some(&self.tables.finished)
     }
 
     fn held_files(&self) -> Option<&[HeldFile]>

@@ -20,7 +20,8 @@ pub fn write_tables(
     tables: &[NamedTable],
 ) -> Result<Vec<WriteOutcome>, OutOfMemory>
     ensures written { IfOk result (λ ends. AtEachPosition
-        (WrittenDestination ⟦<Box<dyn Destination> as Destination>⟧.is_known ⟦<Box<dyn Destination> as Destination>⟧.finished
+        (WrittenDestination ⟦<Box<dyn Destination> as Destination>⟧.is_known
+        ⟦<Box<dyn Destination> as Destination>⟧.finished
         ⟦<Box<dyn Destination> as Destination>⟧.faults (table_values tables.now))
         destinations.old.items destinations.new.items ends.items) }
     ensures err { OnErr result (destinations.new.items ≡ destinations.old.items) }

@@ -1,28 +1,29 @@
-ghost use Rattle.std.specs.Prelude.{◌≡◌, ◌++◌, ◌∷◌, [], IfOk, OnOk};
+ghost use Rattle.std.specs.Prelude.{◌≡◌, length, IfOk};
 ghost use Rattle.dep_model.specs.Tuples.{IsOver};
 
 use attr_sets::AttrSet;
-use dep_model::{Name, OutOfMemory};
+use dep_model::{Name, OutOfMemory, Row, Value};
 use named_tables::{HeldTable, NamedTable};
-use row_store::{FlatValues, Rows};
+use row_store::Rows;
 use std::alloc::Global;
 
-// Adds a row of one value.
-pub(crate) fn push_single(alloc: Global, rows: &mut Rows, value: &[u8]) -> Result<(), OutOfMemory>
-    ensures row { OnOk result (rows.new ≡ rows.old ++ (value.now ∷ []) ∷ []) }
+// A row of one value.
+pub(crate) fn single(alloc: Global, value: &[u8]) -> Result<Row, OutOfMemory>
+    ensures { IfOk result (λ row. length row ≡ 1) }
 {
-    let mut values = FlatValues::new(alloc);
-    values.push(value)?;
-    rows.push(&values)
+    let mut values = Vec::new(alloc);
+    values.push(Value::new(alloc, value)?)?;
+    Ok(Row::new(values))
 }
 
-// A table of one column, with a row for each value.
-fn table(alloc: Global, name: &[u8], values: &[&[u8]]) -> Result<NamedTable, OutOfMemory> {
+fn table(alloc: Global, name: &[u8], rows: &[Row]) -> Result<NamedTable, OutOfMemory>
+    requires { IsOver 1 rows.now }
+{
     let (Some(name), Some(column)) = (Name::new(name), Name::new(b"A")) else {
         return Err(OutOfMemory);
     };
     let columns = Vec::from_slice(alloc, &[column])?;
-    let rows = rows_of_values(alloc, values)?;
+    let rows = Rows::of(alloc, rows)?;
     Ok(NamedTable {
         scheme: AttrSet::single(0),
         held: HeldTable {
@@ -33,22 +34,22 @@ fn table(alloc: Global, name: &[u8], values: &[&[u8]]) -> Result<NamedTable, Out
     })
 }
 
-// A row of one value for each of them.
-fn rows_of_values(alloc: Global, values: &[&[u8]]) -> Result<Rows, OutOfMemory>
-    ensures even { IfOk result (λ rows. IsOver 1 rows) }
-{
-    let mut rows = Rows::new(alloc);
-    for value in values {
-        push_single(alloc, &mut rows, value)?;
-    }
-    Ok(rows)
-}
-
 // Three tables of one column, with two, three and three rows.
 pub(crate) fn three_tables(alloc: Global) -> Result<Vec<NamedTable>, OutOfMemory> {
     let mut tables = Vec::new(alloc);
-    tables.push(table(alloc, b"t1", &[b"x", b"O'Hara"])?)?;
-    tables.push(table(alloc, b"t2", &[b"", b"a,b", b"\xff"])?)?;
-    tables.push(table(alloc, b"t3", &[b"1", b"2", b"3\0"])?)?;
+    let first = [single(alloc, b"x")?, single(alloc, b"O'Hara")?];
+    tables.push(table(alloc, b"t1", &first)?)?;
+    let second = [
+        single(alloc, b"")?,
+        single(alloc, b"a,b")?,
+        single(alloc, b"\xff")?,
+    ];
+    tables.push(table(alloc, b"t2", &second)?)?;
+    let third = [
+        single(alloc, b"1")?,
+        single(alloc, b"2")?,
+        single(alloc, b"3\0")?,
+    ];
+    tables.push(table(alloc, b"t3", &third)?)?;
     Ok(tables)
 }
