@@ -57,5 +57,5 @@ set_low n number low lt j member =
     (cases_lt j n)
 
 -- how many sets there are at most
-pub power_few : (n : ℕ) → n ≤ WIDEST_EXHIBITED → 2 ^ n ≤ 65536
-power_few n few = pow-le-pow_right (omega arith) few
+pub power_at_most : (n : ℕ) → n ≤ WIDEST_EXHIBITED → 2 ^ n ≤ 65536
+power_at_most n within = pow-le-pow_right (omega arith) within

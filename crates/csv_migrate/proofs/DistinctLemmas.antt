@@ -66,14 +66,14 @@ pub record AreClasses (values : Relation) (value : ℕ → Tuple) (numbers : Lis
 
 -- among the first n values the first m first rows are found
 record Found (values : Relation) (value : ℕ → Tuple) (firsts : List ℕ) (n m : ℕ) : Type 0 where
-  few : m ≤ length firsts
+  within_firsts : m ≤ length firsts
   before : (g : ℕ) → g < m → number_at firsts g < n
   after : (g : ℕ) → m ≤ g → g < length firsts → n ≤ number_at firsts g
   found : distinct_tuples (take n values) ≡ map value (take m firsts)
 
 none_found : (values : Relation) (value : ℕ → Tuple) (firsts : List ℕ) → Found values value firsts 0 0
 none_found values value firsts = record {
-  few = omega arith;
+  within_firsts = omega arith;
   before = λ g l. absurd (omega (arith, l));
   after = λ g l m. omega arith;
   found = refl;
@@ -118,7 +118,7 @@ old_row : (values : Relation) (value : ℕ → Tuple) (numbers firsts : List ℕ
     → AreClasses values value numbers → AreFirsts numbers firsts → n < length values
     → Found values value firsts n m → number_at numbers n < m → Found values value firsts (suc n) m
 old_row values value numbers firsts n m classes are l so_far old = record {
-  few = so_far.few;
+  within_firsts = so_far.within_firsts;
   before = λ g low. omega (arith, so_far.before g low);
   after = λ g high low. elim (cases_lt n (number_at firsts g)) [
     | inl more ↦ omega (arith, more)
@@ -127,7 +127,7 @@ old_row values value numbers firsts n m classes are l so_far old = record {
         absurd (omega (arith, old, high, ap (number_at numbers) is, are.number g low))
   ];
   found =
-      let short : number_at numbers n < length firsts = omega (arith, old, so_far.few) in
+      let short : number_at numbers n < length firsts = omega (arith, old, so_far.within_firsts) in
       ap distinct_tuples (next_value values value numbers n classes l)
       ∙ distinct_seen (take n values) (value n)
       (has_value values value numbers n (number_at firsts (number_at numbers n)) classes l
@@ -140,7 +140,7 @@ new_row : (values : Relation) (value : ℕ → Tuple) (numbers firsts : List ℕ
     → AreClasses values value numbers → AreFirsts numbers firsts → n < length values
     → Found values value firsts n m → m ≤ number_at numbers n → Found values value firsts (suc n) (suc m)
 new_row values value numbers firsts n m classes are l so_far new = record {
-  few = omega (arith, short, is_next);
+  within_firsts = omega (arith, short, is_next);
   before = λ g low. elim (cases_lt g m) [
     | inl front ↦ omega (arith, so_far.before g front)
     | inr last ↦ let e : g ≡ m = omega (arith, low, last) in omega (arith, ap (number_at firsts) e, next_first)

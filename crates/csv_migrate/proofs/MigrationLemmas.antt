@@ -59,12 +59,12 @@ pub same_table : (name name' : List ℕ) (columns columns' : List (List ℕ)) (r
 same_table name name' columns columns' rows rows' e f g = cc
 
 -- one table more, of the next scheme
-pub table_added : (schema : Schema) (rows : Relation) (sets shown : List AttrSet) (k : ℕ) (d : AttrSet)
-    (old new : List NamedTable) (made : NamedTable) → shown ≡ sets → k < length shown
+pub table_added : (schema : Schema) (rows : Relation) (sets listed : List AttrSet) (k : ℕ) (d : AttrSet)
+    (old new : List NamedTable) (made : NamedTable) → listed ≡ sets → k < length listed
     → table_values old ≡ tables_of_migration schema (take k (schemes_of sets)) rows → new ≡ old ++ made ∷ []
-    → table_value made ≡ table_of schema rows (k + 1) (attributes (get_or shown k d))
+    → table_value made ≡ table_of schema rows (k + 1) (attributes (get_or listed k d))
     → table_values new ≡ tables_of_migration schema (take (k + 1) (schemes_of sets)) rows
-table_added schema rows sets shown k d old new made same low so_far pushed is =
+table_added schema rows sets listed k d old new made same low so_far pushed is =
     let l : k < length sets = subst (λ (xs : List AttrSet). k < length xs) same low in
     ap table_values pushed ∙ map-append table_value old (made ∷ [])
     ∙ ap (λ (ts : List TableValue). ts ++ table_value made ∷ []) so_far
@@ -72,22 +72,22 @@ table_added schema rows sets shown k d old new made same low so_far pushed is =
     (is ∙ ap (λ (xs : List AttrSet). table_of schema rows (k + 1) (attributes (get_or xs k d))) same)
     ∙ sym (next_table schema rows sets k d l)
 
-pub scheme_added : (sets shown : List AttrSet) (k : ℕ) (d : AttrSet) (old new : List NamedTable) (made : NamedTable)
-    → shown ≡ sets → k < length shown
-    → schemes_in old ≡ take k sets → new ≡ old ++ made ∷ [] → made.scheme ≡ get_or shown k d
+pub scheme_added : (sets listed : List AttrSet) (k : ℕ) (d : AttrSet) (old new : List NamedTable) (made : NamedTable)
+    → listed ≡ sets → k < length listed
+    → schemes_in old ≡ take k sets → new ≡ old ++ made ∷ [] → made.scheme ≡ get_or listed k d
     → schemes_in new ≡ take (k + 1) sets
-scheme_added sets shown k d old new made same low so_far pushed is =
+scheme_added sets listed k d old new made same low so_far pushed is =
     let l : k < length sets = subst (λ (xs : List AttrSet). k < length xs) same low in
     let more : take (k + 1) sets ≡ take k sets ++ get_or sets k d ∷ [] = rw add-one (take-suc sets k d l) in
     ap schemes_in pushed ∙ map-append (λ (t : NamedTable). t.scheme) old (made ∷ [])
     ∙ ap (λ (xs : List AttrSet). xs ++ made.scheme ∷ []) so_far
     ∙ ap (λ (s : AttrSet). take k sets ++ s ∷ []) (is ∙ ap (λ (xs : List AttrSet). get_or xs k d) same) ∙ sym more
 
-pub all_tables : (schema : Schema) (rows : Relation) (sets shown : List AttrSet) (k : ℕ) (made : List NamedTable)
-    → shown ≡ sets → length shown ≤ k
+pub all_tables : (schema : Schema) (rows : Relation) (sets listed : List AttrSet) (k : ℕ) (made : List NamedTable)
+    → listed ≡ sets → length listed ≤ k
     → table_values made ≡ tables_of_migration schema (take k (schemes_of sets)) rows
     → table_values made ≡ tables_of_migration schema (schemes_of sets) rows
-all_tables schema rows sets shown k made same whole so_far =
+all_tables schema rows sets listed k made same whole so_far =
     let long : length (schemes_of sets) ≤ k = omega (arith, whole, ap length same, length-map sets attributes) in
     so_far ∙ ap (λ (plan : List Attributes). tables_of_migration schema plan rows) (take_all k (schemes_of sets) long)
 

@@ -62,7 +62,7 @@ numbered_more {X} value n seen after numbers r old gets = elim gets.number [
       let short : r < length seen = slice_get_within seen r (value n) same.1 in
       subst (λ (xs : List X). AreNumbered value (n + 1) xs (numbers ++ r ∷ [])) (sym same.0) (record {
         one_each = size;
-        few = omega (arith, old.few);
+        within_count = omega (arith, old.within_count);
         read = λ i l. elim (cases_lt i n) [
           | inl front ↦ ap (slice_get seen) (at_front numbers n r i old.one_each front) ∙ old.read i front
           | inr last ↦ subst (λ (j : ℕ). slice_get seen (number_at (numbers ++ r ∷ []) j) ≡ Some (value j)) (at_end i n l last) (ap (slice_get seen) (at_last numbers n r old.one_each) ∙ same.1)
@@ -74,7 +74,7 @@ numbered_more {X} value n seen after numbers r old gets = elim gets.number [
   | inr new ↦
       subst (λ (xs : List X). AreNumbered value (n + 1) xs (numbers ++ r ∷ [])) (sym new.0) (record {
         one_each = size;
-        few = omega (arith, old.few, length-append seen (value n ∷ []));
+        within_count = omega (arith, old.within_count, length-append seen (value n ∷ []));
         read = λ i l. elim (cases_lt i n) [
           | inl front ↦ get_or-front seen (value n ∷ []) _ (value i) (ap (slice_get seen) (at_front numbers n r i old.one_each front) ∙ old.read i front)
           | inr last ↦ subst (λ (j : ℕ). slice_get (seen ++ value n ∷ []) (number_at (numbers ++ r ∷ []) j) ≡ Some (value j)) (at_end i n l last)

@@ -12,8 +12,8 @@ use Rattle.csv_rows.specs.declared.reading.TheConstants.{MOST_ROWS}
 use Rattle.csv_rows.specs.declared.refusal.RowRefusal.{RowRefusal}
 use Rattle.csv_rows.specs.declared.refusal.RowRefusal.TheVariants as refusal
 
-few_not_many : (row : ℕ) → row ≤ MOST_ROWS → MOST_ROWS < row → ⊥
-few_not_many row few many = omega (arith, few, many)
+at_most_not_beyond : (row : ℕ) → row ≤ MOST_ROWS → MOST_ROWS < row → ⊥
+at_most_not_beyond row within beyond = omega (arith, within, beyond)
 
 same_integer : (r u k l : ℕ) → r ≡ u → k ≡ l → ◌≡◌ {A = Result Tuple RowRefusal} (Err (refusal.NotInteger r k))
     (Err (refusal.NotInteger u l))
@@ -46,20 +46,20 @@ row_same s columns row fields one other p q = by (seen_row s columns row fields 
     by : SeenRow s columns row fields one → SeenRow s columns row fields other → one ≡ other
     by (inl (t, (e, p))) (inl (w, (f, q))) = e ∙ ap Ok (p.1 ∙ sym q.1) ∙ sym f
     by (inl (t, (e, p))) (inr (inl (u, (f, q)))) = absurd (q.1 p.0.0)
-    by (inl (t, (e, p))) (inr (inr (inl (f, q)))) = absurd (few_not_many row p.0.1 q.1)
+    by (inl (t, (e, p))) (inr (inr (inl (f, q)))) = absurd (at_most_not_beyond row p.0.1 q.1)
     by (inl (t, (e, p))) (inr (inr (inr (u, l, (f, q))))) = absurd (q.3 (p.2 l q.2))
     by (inr (inl (r, (e, p)))) (inl (w, (f, q))) = absurd (p.1 q.0.0)
     by (inr (inl (r, (e, p)))) (inr (inl (u, (f, q)))) =
         e ∙ ap (λ (m : ℕ). Err (refusal.UnevenRow m)) (p.0 ∙ sym q.0) ∙ sym f
     by (inr (inl (r, (e, p)))) (inr (inr (inl (f, q)))) = absurd (p.1 q.0)
     by (inr (inl (r, (e, p)))) (inr (inr (inr (u, l, (f, q))))) = absurd (p.1 q.0.0)
-    by (inr (inr (inl (e, p)))) (inl (w, (f, q))) = absurd (few_not_many row q.0.1 p.1)
+    by (inr (inr (inl (e, p)))) (inl (w, (f, q))) = absurd (at_most_not_beyond row q.0.1 p.1)
     by (inr (inr (inl (e, p)))) (inr (inl (u, (f, q)))) = absurd (q.1 p.0)
     by (inr (inr (inl (e, p)))) (inr (inr (inl (f, q)))) = e ∙ sym f
-    by (inr (inr (inl (e, p)))) (inr (inr (inr (u, l, (f, q))))) = absurd (few_not_many row q.0.1 p.1)
+    by (inr (inr (inl (e, p)))) (inr (inr (inr (u, l, (f, q))))) = absurd (at_most_not_beyond row q.0.1 p.1)
     by (inr (inr (inr (r, k, (e, p))))) (inl (w, (f, q))) = absurd (p.3 (q.2 k p.2))
     by (inr (inr (inr (r, k, (e, p))))) (inr (inl (u, (f, q)))) = absurd (q.1 p.0.0)
-    by (inr (inr (inr (r, k, (e, p))))) (inr (inr (inl (f, q)))) = absurd (few_not_many row p.0.1 q.1)
+    by (inr (inr (inr (r, k, (e, p))))) (inr (inr (inl (f, q)))) = absurd (at_most_not_beyond row p.0.1 q.1)
     by (inr (inr (inr (r, k, (e, p))))) (inr (inr (inr (u, l, (f, q))))) = elim (cases_lt k l) [
       | inl before ↦ absurd (p.3 (q.4 k before p.2))
       | inr on ↦ elim (cases_lt l k) [

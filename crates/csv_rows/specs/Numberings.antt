@@ -15,7 +15,7 @@ pub record AreNumbered {X : Type 0} (value : ℕ → X) (n : ℕ) (seen : List X
   pub one_each : length numbers ≡ n
   pub read : (i : ℕ) → i < n → slice_get seen (number_at numbers i) ≡ Some (value i)
   pub once : (g h : ℕ) (v : X) → slice_get seen g ≡ Some v → slice_get seen h ≡ Some v → g ≡ h
-  pub few : length seen ≤ n
+  pub within_count : length seen ≤ n
   pub used : (g : ℕ) → g < length seen → (j : ℕ) × (j < n) × (number_at numbers j ≡ g)
   pub in_order : (i g : ℕ) → i < n → g < number_at numbers i → (j : ℕ) × (j < i) × (number_at numbers j ≡ g)
 

@@ -29,7 +29,7 @@ impl Model for Codes {
 pub struct Interned {
     count: usize,
     columns: Vec<Codes>,
-    pub ghost few: { count < 2 ^ 32 },
+    pub ghost fits_u32: { count < 2 ^ 32 },
     pub ghost even: { All (λ c. length c ≡ count) columns.items },
 }
 

@@ -166,7 +166,7 @@ joins_tables n r tables response width covers small (inr (inl (a, first, says)))
     absurd (first.uncovered (covers a (omega (arith, width, first.within))))
 joins_tables n r tables response width covers small (inr (inr (k, large, says))) =
     let few = subst (λ (m : ℕ). IsWithinLimit m MOST_JOINED_ROWS tables) (sym width) small in
-    absurd (over_and_under _ MOST_JOINED_ROWS (few k large.1.some large.1.among) large.1.beyond)
+    absurd (over_and_under _ MOST_JOINED_ROWS (few k large.1.positive large.1.among) large.1.beyond)
   where
     over_and_under : (m most : ℕ) → m ≤ most → most < m → ⊥
     over_and_under m most few many = omega (arith, few, many)

@@ -115,7 +115,7 @@ module _ (n : ℕ) (rs : List (List (List ℕ))) (old new : Reader (Bor (List �
     at = length rows;
     number = ap (λ (m : ℕ). m + 1) same;
     within = within;
-    few = few;
+    within_limit = few;
     before = even_before;
     other = λ e. other (ap length (sym here) ∙ e);
   }
@@ -157,5 +157,5 @@ headed_of rs reader h n read count rows even few = record {
   all = read.all ∙ ap (λ (l : List (List (List ℕ))). names_under h ∷ l) (sym rows);
   header = read.header;
   even = subst (λ (m : ℕ). IsOver m (rows_under h)) count even;
-  few = few;
+  within_limit = few;
 }

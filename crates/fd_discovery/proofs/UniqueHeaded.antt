@@ -10,8 +10,8 @@ use Rattle.fd_discovery.specs.declared.headed_rows.TheConstants.{MOST_HEADED_ROW
 use Rattle.fd_discovery.specs.declared.refusal.DiscoverRefusal.{DiscoverRefusal}
 use Rattle.fd_discovery.specs.declared.refusal.DiscoverRefusal.TheVariants as refusal
 
-few_not_many : (n most : ℕ) → n ≤ most → most < n → ⊥
-few_not_many n most few many = omega (arith, few, many)
+at_most_not_beyond : (n most : ℕ) → n ≤ most → most < n → ⊥
+at_most_not_beyond n most within beyond = omega (arith, within, beyond)
 
 -- ---- columns
 -- the refusal of a field is that of a bad name, or of a name that stands before it
@@ -65,12 +65,12 @@ field_same header e f p q = elim (cases_lt p.at q.at) [
 -- ---- headers
 header_same : (header : List (List ℕ)) (e f : DiscoverRefusal) → RefusesColumnHeader header e → RefusesColumnHeader header f → e ≡ f
 header_same header e f (inl p) (inl q) = p.0 ∙ sym q.0
-header_same header e f (inl p) (inr q) = absurd (few_not_many (length header) WIDEST_HEADED q.few p.1)
-header_same header e f (inr p) (inl q) = absurd (few_not_many (length header) WIDEST_HEADED p.few q.1)
+header_same header e f (inl p) (inr q) = absurd (at_most_not_beyond (length header) WIDEST_HEADED q.few p.1)
+header_same header e f (inr p) (inl q) = absurd (at_most_not_beyond (length header) WIDEST_HEADED p.few q.1)
 header_same header e f (inr p) (inr q) = field_same header e f p q
 
 header_not_refused : (header : List (List ℕ)) (e : DiscoverRefusal) → IsColumnHeader header → RefusesColumnHeader header e → ⊥
-header_not_refused header e is (inl p) = few_not_many (length header) WIDEST_HEADED is.few p.1
+header_not_refused header e is (inl p) = at_most_not_beyond (length header) WIDEST_HEADED is.few p.1
 header_not_refused header e is (inr p) =
     named_not_refused (take p.at header) (field_at header p.at) (p.at + 1) e (is.named p.at p.within) p.refused
 
@@ -99,7 +99,7 @@ uneven_same n rows one other p q = elim (cases_lt p.at q.at) [
 ]
 
 uneven_or_many : (n : ℕ) (rows : Relation) (row : ℕ) → HasRowOfOtherWidth n rows row → HasTooManyRows n rows → ⊥
-uneven_or_many n rows row p q = p.other (q.even p.at (omega (arith, p.few)))
+uneven_or_many n rows row p q = p.other (q.even p.at (omega (arith, p.within_limit)))
 
 under_same : (n : ℕ) (rows : Relation) (e f : DiscoverRefusal) → RefusesRows n rows e → RefusesRows n rows f → e ≡ f
 under_same n rows e f p q = by (seen_rows n rows e p) (seen_rows n rows f q)
@@ -117,7 +117,7 @@ rows_not_refused n rows e over few p = by (seen_rows n rows e p)
   where
     by : SeenRows n rows e → ⊥
     by (inl (row, is, uneven)) = uneven.other (over uneven.at [] uneven.within)
-    by (inr (is, many)) = few_not_many (length rows) MOST_HEADED_ROWS few many.many
+    by (inr (is, many)) = at_most_not_beyond (length rows) MOST_HEADED_ROWS few many.many
 
 -- ---- records
 pub refused_same : (records : List (List (List ℕ))) (e f : DiscoverRefusal) → IsRefusedDiscovery records e
@@ -136,7 +136,7 @@ not_refused names rows e header even few (inr p) = rows_not_refused (length name
 pub never_both : (records : List (List (List ℕ))) (h : Headed) (e : DiscoverRefusal) → IsHeaded records h
     → IsRefusedDiscovery records e → ⊥
 never_both records h e is p =
-    not_refused (names_under h) (rows_under h) e is.header is.even is.few
+    not_refused (names_under h) (rows_under h) e is.header is.even is.within_limit
     (subst (λ (rs : List (List (List ℕ))). IsRefusedDiscovery rs e) is.all p)
 
 pub names_same : (records : List (List (List ℕ))) (one other : Headed) → IsHeaded records one → IsHeaded records other

@@ -25,7 +25,7 @@ pub record IsHeaded (records : List (List (List ℕ))) (h : Headed) : Type 0 whe
   pub all : records ≡ names_under h ∷ rows_under h
   pub header : IsColumnHeader (names_under h)
   pub even : IsOver (length (names_under h)) (rows_under h)
-  pub few : length (rows_under h) ≤ MOST_HEADED_ROWS
+  pub within_limit : length (rows_under h) ≤ MOST_HEADED_ROWS
 
 -- the first m rows have n values each
 abbrev pub HaveWidth : ℕ → Relation → ℕ → Type 0
@@ -36,7 +36,7 @@ pub record HasRowOfOtherWidth (n : ℕ) (rows : Relation) (row : ℕ) : Type 0 w
   pub at : ℕ
   pub number : row ≡ at + 1
   pub within : at < length rows
-  pub few : at ≤ MOST_HEADED_ROWS
+  pub within_limit : at ≤ MOST_HEADED_ROWS
   pub before : HaveWidth n rows at
   pub other : length (row_at rows at) ≢ n
 

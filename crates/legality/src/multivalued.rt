@@ -86,8 +86,8 @@ fn first_short(groups: &[u32], wanted: &[usize], lefts: &[u32], present: &[usize
     ensures first { IsFirstShort groups.now wanted.now lefts.now present.now result }
 {
     for row in 0..groups.len() {
-        let some = present[lefts[row] as usize];
-        if some < wanted[groups[row] as usize] {
+        let count = present[lefts[row] as usize];
+        if count < wanted[groups[row] as usize] {
             return Some(row);
         }
     }

@@ -26,11 +26,11 @@ all_distinct P [] all = all
 all_distinct P (t ∷ r) all =
     All-cons P t _ (all 0 t (omega arith)) (All-filter (λ u. not (same_tuple t u)) P (distinct_tuples r) (all_distinct P r (All-tail P t r all)))
 
-few_distinct : (r : Relation) → length (distinct_tuples r) ≤ length r
-few_distinct [] = omega arith
-few_distinct (t ∷ r) =
+length-distinct_tuples-le : (r : Relation) → length (distinct_tuples r) ≤ length r
+length-distinct_tuples-le [] = omega arith
+length-distinct_tuples-le (t ∷ r) =
     let both = length-filter_both (λ u. not (same_tuple t u)) (λ u. not (not (same_tuple t u))) (λ u. refl) (distinct_tuples r) in
-    omega (arith, few_distinct r, both)
+    omega (arith, length-distinct_tuples-le r, both)
 
 -- ---- one table
 table_back : (s : Schema) (rows : Relation) (number : ℕ) (x : Attributes) → All (λ name. IsTrue (is_bare_name name)) (names_of s)
@@ -47,7 +47,7 @@ table_back s rows number x proper over typed few some =
     part_back s x (ordered_projection x rows) proper some
     (all_distinct (λ (u : Tuple). length u ≡ count_below x n) (projection x rows) each)
     (all_distinct (Fits s x) (projection x rows) fits)
-    (omega (arith, few, few_distinct (projection x rows), length-map rows (project_tuple x)))
+    (omega (arith, few, length-distinct_tuples-le (projection x rows), length-map rows (project_tuple x)))
 
 -- ---- all tables
 pub tables_back : (s : Schema) (rows : Relation) (number : ℕ) (plan : List Attributes)

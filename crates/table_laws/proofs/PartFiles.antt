@@ -124,12 +124,12 @@ part_columns_from x before (name ∷ after) differ =
     elim (cases_Bool (x m)) [
       | inl inside ↦
           let none : All (λ b. same_name b name ≡ false) before = λ k d h. other_name before name after k d h differ in
-          let place : attribute_named names name ≡ Some m = attribute_named-append before name after none in
+          let position : attribute_named names name ≡ Some m = attribute_named-append before name after none in
           let low : nat_lt m m ≡ false = grind (arith, nat_tests) in
           let free : with_columns (members_below m x) m ≡ false = named_members x m m ∙ ap (λ (b : Bool). b && x m) low in
           let column : column_of (length (members_below m x) + 1) (with_columns (members_below m x))
           (attribute_named names name) ≡ Ok m =
-          own_column _ m _ _ place free in
+          own_column _ m _ _ position free in
           ap (λ (b : Bool). columns_from names (members_below m x)
           (if b then name ∷ members_from x (m + 1) after else members_from x (m + 1) after)) inside
           ∙ ap (λ (r : Result ℕ RowRefusal). r >>= (λ a. columns_from names (members_below m x ++ a ∷ [])

@@ -36,10 +36,10 @@ schema_closures : (s : Schema) (n : ℕ) (deps : List Dep) (table : List AttrSet
 schema_closures s n deps table same are = subst (λ (ds : List Dependency). AreClosures n ds (2 ^ n) table) same are
 
 -- so its sets show what is asked
-schema_shown : (s : Schema) (n : ℕ) (sets : List Attributes) (r : Relation) → n ≡ width_of s
+legal_exhibit_of_schema : (s : Schema) (n : ℕ) (sets : List Attributes) (r : Relation) → n ≡ width_of s
     → functional_part (theory_of s) ≡ theory_of s → AreIrreducible n (theory_of s) sets → length sets < 2 ^ 63
     → r ≡ tuples_for n sets → IsLegalExhibit s r
-schema_shown s n sets r width functional are few rows =
+legal_exhibit_of_schema s n sets r width functional are few rows =
     subst (λ (t : Relation). IsLegalExhibit s t) (sym (rows ∙ ap (λ (m : ℕ). tuples_for m sets) width))
     (tuples_for_exhibit s sets functional (subst (λ (m : ℕ). AreIrreducible m (theory_of s) sets) width are) few)
 
@@ -59,7 +59,7 @@ returns c =
     let long : length (schemes_of sets) ≡ length sets = length-map sets attributes in
     let few : length (schemes_of sets) < 2 ^ 63 = omega arith in
     let all : (rows : Vec Tuple Global) → rows.items ≡ tuples_for n (schemes_of sets) → IsLegalExhibit s rows.items =
-    λ rows is. schema_shown s n (schemes_of sets) rows.items width c.requires.functional are few is in
+    λ rows is. legal_exhibit_of_schema s n (schemes_of sets) rows.items width c.requires.functional are few is in
     let made : Vec Tuple Global → Type 0 = λ rows. rows.items ≡ tuples_for n (schemes_of sets) in
     record {
       rows = IfOk-weaker c.rows_for.result made (λ rows. IsExhibit (width_of s) (theory_of s) rows.items)

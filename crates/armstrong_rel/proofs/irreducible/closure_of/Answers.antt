@@ -1,6 +1,6 @@
 use Rattle.std.proofs.Common.{ℕ, ◌^◌, ◌<◌, sym, subst, arith}
 use Rattle.attr_sets.specs.declared.set.TheConstants.{MOST_ATTRIBUTES}
-use Rattle.armstrong_rel.proofs.NumberLemmas.{number_low, power_few}
+use Rattle.armstrong_rel.proofs.NumberLemmas.{number_low, power_at_most}
 use Rattle.armstrong_rel.proofs.FoundLemmas.{table_closure}
 use Rattle.armstrong_rel.proofs.irreducible.closure_of.Goals as goal
 
@@ -9,7 +9,7 @@ overflow_cast-result c =
     let fits : c.args.set.0 < 2 ^ MOST_ATTRIBUTES = omega arith in
     let low : c.args.set.0 < 2 ^ c.args.width = number_low c.args.width c.args.set
     (omega (arith, c.requires.width)) fits c.requires.set in
-    let few = power_few c.args.width c.requires.width in
+    let few = power_at_most c.args.width c.requires.width in
     omega arith
 
 pub offset_bounds-table-set : goal.offset_bounds-table-set
@@ -17,7 +17,7 @@ offset_bounds-table-set c =
     let fits : c.args.set.0 < 2 ^ MOST_ATTRIBUTES = omega arith in
     let low : c.args.set.0 < 2 ^ c.args.width = number_low c.args.width c.args.set
     (omega (arith, c.requires.width)) fits c.requires.set in
-    let few = power_few c.args.width c.requires.width in
+    let few = power_at_most c.args.width c.requires.width in
     omega arith
 
 pub bounds-table-set : goal.bounds-table-set

@@ -2,7 +2,7 @@ use Rattle.std.proofs.Common.{◌≡◌, ℕ, ◌+◌, ◌^◌, ◌<◌, List, �
 use Rattle.std.proofs.lemmas.Bool.{true≢false}
 use Rattle.attr_sets.specs.declared.set.AttrSet.{AttrSet}
 use Rattle.armstrong_rel.specs.Closures.{set_at}
-use Rattle.armstrong_rel.proofs.NumberLemmas.{set_low, power_few}
+use Rattle.armstrong_rel.proofs.NumberLemmas.{set_low, power_at_most}
 use Rattle.armstrong_rel.proofs.FoundLemmas.{AreFound, found_same, found_more, found_all}
 use Rattle.armstrong_rel.proofs.irreducible.irreducible_sets.Goals.{then-is_irreducible+in_ok-push, else-is_irreducible}
 use Rattle.armstrong_rel.proofs.irreducible.irreducible_sets.Goals as goal
@@ -22,7 +22,7 @@ loop-number-preserved c ds are =
     elim c.if-is_irreducible.branch [
       | then-is_irreducible+in_ok-push w ↦
           let low : number < 2 ^ n = subst (λ (m : ℕ). number < m) c.requires.table c.loop-number-test.true in
-          let few = power_few n c.requires.width in
+          let few = power_at_most n c.requires.width in
           let items : c.if-is_irreducible.sets.items
           ≡ c.loop-number.sets.items ++ set_at number ∷ [] = ap (λ (v : Vec AttrSet Global). v.items) w.sets-is
           ∙ w.in_ok-push.ensures.items in

@@ -15,7 +15,7 @@ records-preserved c =
     let rows = c.in_ok-push-in-Ok.ensures.rows in
     let size : length c.push.new.self ≡ length c.records.rows + 1 = ap length rows ∙ length-append c.records.rows (c.read_row.new.values ∷ []) in
     record {
-      few = omega (arith, size, count, row);
+      within_limit = omega (arith, size, count, row);
       progress = λ rs columns left kept. rw rows
           (progress_one _ columns rs _ _ _ _ _ c.len.result c.read_row.new.values (c.records.invariant.progress rs columns left kept) c.in-Ok-true.field-0-test c.in-Ok-true.ensures.record count (c.in-Ok.ensures.ok columns kept));
     }

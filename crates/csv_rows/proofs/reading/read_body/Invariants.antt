@@ -8,7 +8,7 @@ use Rattle.csv_rows.proofs.reading.read_body.Given as goal
 -- the records so far gave these rows
 abbrev pub invariant-records : goal.invariant-records
 invariant-records l = record {
-  few : length l.rows ≤ 100000;
+  within_limit : length l.rows ≤ 100000;
   progress : (rs : List (List (List ℕ))) (columns : List ℕ) → HasLeft l.fn.reader rs → IsHeader (width_of l.schema) columns l.header
       → Progress l.schema columns rs l.reader l.rows;
 }

@@ -15,7 +15,7 @@ returns-then-len-columns-clause-err c = λ rs left.
     let count : c.len-then-len-columns.result ≡ length c.loop-rows.rows = c.len-then-len-columns.ensures.count in
     uneven_row c.args.columns rs _ _ _ _ _ (c.loop-rows.invariant.taken rs left) c.in-Ok-true.field-0-test
     c.in-Ok-true.ensures.record c.loop-rows.invariant.even
-    _ count c.loop-rows.invariant.few (λ e. omega (arith, e, c.len.ensures, c.if-len-columns.true))
+    _ count c.loop-rows.invariant.within_limit (λ e. omega (arith, e, c.len.ensures, c.if-len-columns.true))
 
 pub returns-then-len-clause-err : goal.returns-then-len-clause-err
 returns-then-len-clause-err c = λ rs left.
@@ -25,7 +25,7 @@ returns-then-len-clause-err c = λ rs left.
     omega (arith, c.len.ensures, c.if-len-columns.false) in
     one_too_many c.args.columns rs _ _ _ _ _ (c.loop-rows.invariant.taken rs left) c.in-Ok-true.field-0-test
     c.in-Ok-true.ensures.record c.loop-rows.invariant.even
-    c.loop-rows.invariant.few many fits
+    c.loop-rows.invariant.within_limit many fits
 
 pub loop-rows-preserved : goal.loop-rows-preserved
 loop-rows-preserved c =
@@ -35,7 +35,7 @@ loop-rows-preserved c =
     let size : length c.push.new.self ≡ length c.loop-rows.rows + 1 = ap length rows
     ∙ length-append c.loop-rows.rows (c.take_row.new.values ∷ []) in
     record {
-      few = omega (arith, size, c.len-in-loop-rows.ensures.count, c.if-len.false);
+      within_limit = omega (arith, size, c.len-in-loop-rows.ensures.count, c.if-len.false);
       even = subst (λ (r : Relation). IsOver c.args.columns r) (sym rows)
           (over_more c.args.columns _ _ c.loop-rows.invariant.even (ap length c.in_ok-take_row.ensures.row ∙ fits));
       taken = λ rs left. rw rows

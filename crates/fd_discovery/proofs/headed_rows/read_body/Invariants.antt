@@ -7,7 +7,7 @@ use Rattle.fd_discovery.proofs.headed_rows.read_body.Given as goal
 -- the records so far are the rows
 abbrev pub invariant-loop-rows : goal.invariant-loop-rows
 invariant-loop-rows l = record {
-  few : length l.rows ≤ 10000;
+  within_limit : length l.rows ≤ 10000;
   even : IsOver l.columns l.rows;
   taken : (rs : List (List (List ℕ))) → HasLeft l.fn.reader rs → TakesRows rs l.reader l.rows;
 }

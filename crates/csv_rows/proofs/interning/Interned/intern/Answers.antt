@@ -17,7 +17,7 @@ loop-attribute-preserved c =
 
 pub invariant_of-result : goal.invariant_of-result
 invariant_of-result c = record {
-  few = omega (arith, c.requires.fits_u32, c.len.ensures.count);
+  fits_u32 = omega (arith, c.requires.fits_u32, c.len.ensures.count);
   even = subst (λ (n : ℕ). All (λ (codes : List ℕ). length codes ≡ n) c.loop-attribute.columns.items) (sym c.len.ensures.count)
       (columns_even c.args.rows.now c.loop-attribute.columns.items c.loop-attribute.attribute c.loop-attribute.invariant.width c.loop-attribute.invariant.codes);
 }
