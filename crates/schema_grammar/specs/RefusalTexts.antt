@@ -5,6 +5,7 @@ use Rattle.std.specs.Fmt.{decimal}
 use Rattle.schema_grammar.specs.declared.refusal.SchemaRefusal.{SchemaRefusal}
 use Rattle.schema_grammar.specs.declared.refusal.SchemaRefusalKind.{SchemaRefusalKind}
 use Rattle.schema_grammar.specs.declared.refusal.SchemaRefusalKind.TheVariants as kind
+use Rattle.schema_grammar.specs.declared.refusal.Span.{Span}
 use Rattle.schema_grammar.specs.declared.refusal.What.{What}
 use Rattle.schema_grammar.specs.declared.refusal.What.TheVariants as what
 
@@ -33,7 +34,10 @@ kind_text kind.TooManyDependencies = codes "too many dependencies"
 kind_text kind.NoAttributes = codes "no attributes"
 kind_text kind.UnknownVersion = codes "unknown version"
 
--- a refusal at its place: the line, the column and the reason
+-- a place: its line and its column
+abbrev pub span_text : Span → List ℕ
+span_text span = decimal span.line ++ codes ":" ++ decimal span.column
+
+-- a refusal: its place and its reason
 abbrev pub place_and_reason : SchemaRefusal → List ℕ
-place_and_reason refusal =
-    decimal refusal.span.line ++ codes ":" ++ decimal refusal.span.column ++ codes " " ++ kind_text refusal.kind
+place_and_reason refusal = span_text refusal.span ++ codes " " ++ kind_text refusal.kind

@@ -1,7 +1,7 @@
 ghost use Rattle.std.specs.Prelude.{Some};
-ghost use Rattle.schema_grammar.specs.RefusalTexts.{what_text, kind_text, place_and_reason};
+ghost use Rattle.schema_grammar.specs.RefusalTexts.{what_text, kind_text, span_text, place_and_reason};
 
-use crate::refusal::{SchemaRefusal, SchemaRefusalKind, What};
+use crate::refusal::{SchemaRefusal, SchemaRefusalKind, Span, What};
 use std::error::Error;
 use std::fmt;
 
@@ -44,14 +44,23 @@ impl fmt::Display for SchemaRefusalKind {
 
 impl Error for SchemaRefusalKind {}
 
+impl fmt::Display for Span {
+    ghost output = { λ span. Some (span_text span) };
+
+    fn fmt<W: fmt::Write>(&self, f: &mut fmt::Formatter<W>) -> fmt::Result {
+        let line = self.line;
+        let column = self.column;
+        write!(f, "{line}:{column}")
+    }
+}
+
 impl fmt::Display for SchemaRefusal {
     ghost output = { λ refusal. Some (place_and_reason refusal) };
 
     fn fmt<W: fmt::Write>(&self, f: &mut fmt::Formatter<W>) -> fmt::Result {
-        let line = self.span.line;
-        let column = self.span.column;
+        let span = self.span;
         let kind = self.kind;
-        write!(f, "{line}:{column} {kind}")
+        write!(f, "{span} {kind}")
     }
 }
 
