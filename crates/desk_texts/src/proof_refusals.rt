@@ -105,7 +105,8 @@ fn put_fault(alloc: Global, text: &mut Vec<u8>, kind: FaultKind) -> Result<(), O
         ≡ text.old.items ++ (codes "rule does not apply: " ++ decimal (fault_number kind) ++ codes " "
         ++ fault_text kind)) }
 {
-    let number = kind.number();
-    let reason = format!(in alloc; "rule does not apply: {number} {kind}")?;
-    add(text, reason.as_bytes())
+    add(text, b"rule does not apply: ")?;
+    add_number(text, alloc, kind.number())?;
+    add(text, b" ")?;
+    add_displayed(text, alloc, &kind)
 }
