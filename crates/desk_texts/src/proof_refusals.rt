@@ -108,5 +108,6 @@ fn put_fault(alloc: Global, text: &mut Vec<u8>, kind: FaultKind) -> Result<(), O
     add(text, b"rule does not apply: ")?;
     add_number(text, alloc, kind.number())?;
     add(text, b" ")?;
-    add_displayed(text, alloc, &kind)
+    add_displayed(text, alloc, &kind)?;
+    Ok(())
 }
