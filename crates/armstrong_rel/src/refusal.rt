@@ -1,7 +1,8 @@
 /// The most attributes of a schema that is exhibited: the closure of each of their sets is kept.
 pub const WIDEST_EXHIBITED: u8 = 16;
 
-/// Why a schema has no exhibit.
+/// Why a schema has no exhibit. It has no `Display`: what is printed has the lines and the names of the
+/// schema.
 #[derive(Debug, Drop)]
 pub enum ExhibitRefusal {
     /// A dependency is multivalued: `dep` is the first that is, from 0.

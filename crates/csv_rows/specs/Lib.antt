@@ -3,3 +3,4 @@ pub mod Columns
 pub mod Reading
 pub mod Numberings
 pub mod Interning
+pub mod RefusalTexts

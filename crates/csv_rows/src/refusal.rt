@@ -1,4 +1,7 @@
-/// Why a CSV text is refused.
+ghost use Rattle.std.specs.Prelude.{◌≡◌};
+ghost use Rattle.csv_rows.specs.RefusalTexts.{row_refusal_number};
+
+/// Why a CSV text is refused. It has no `Display`: an attribute is printed by its name in a schema.
 #[derive(Clone, Copy, Debug, PartialEq, Eq, Hash)]
 pub enum RowRefusal {
     /// 1: the text has no record.
@@ -16,4 +19,21 @@ pub enum RowRefusal {
     /// 7: in the row, from 1, the value of an integer column is no integer text. The attribute is
     /// the least such one.
     NotInteger { row: u32, attribute: u8 },
+}
+
+impl RowRefusal {
+    /// The number by which the documents and the program name it.
+    pub fn number(self) -> u32
+        ensures number { result ≡ row_refusal_number self }
+    {
+        match self {
+            RowRefusal::NoHeader => 1,
+            RowRefusal::UnknownColumn { .. } => 2,
+            RowRefusal::DoubleColumn { .. } => 3,
+            RowRefusal::MissingColumn { .. } => 4,
+            RowRefusal::UnevenRow { .. } => 5,
+            RowRefusal::TooManyRows => 6,
+            RowRefusal::NotInteger { .. } => 7,
+        }
+    }
 }

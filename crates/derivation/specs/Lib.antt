@@ -6,3 +6,4 @@ pub mod Builders
 pub mod Chains
 pub mod Direct
 pub mod Shortened
+pub mod FaultTexts

@@ -1,3 +1,9 @@
+ghost use Rattle.std.specs.Prelude.{◌≡◌, Some};
+ghost use Rattle.derivation.specs.FaultTexts.{fault_number, fault_text};
+
+use std::error::Error;
+use std::fmt;
+
 /// Why the rule of a node gives no conclusion from those of its premises.
 #[derive(Clone, Copy, Debug, PartialEq, Eq, Hash)]
 pub enum FaultKind {
@@ -21,3 +27,34 @@ pub struct Fault {
     pub node: u32,
     pub kind: FaultKind,
 }
+
+impl FaultKind {
+    /// The number by which the documents and the program name it.
+    pub fn number(self) -> u32
+        ensures number { result ≡ fault_number self }
+    {
+        match self {
+            FaultKind::NoSuchGiven => 1,
+            FaultKind::NotWithin => 2,
+            FaultKind::WrongKind => 3,
+            FaultKind::MiddleDiffers => 4,
+            FaultKind::NotDisjoint => 5,
+        }
+    }
+}
+
+impl fmt::Display for FaultKind {
+    ghost output = { λ kind. Some (fault_text kind) };
+
+    fn fmt<W: fmt::Write>(&self, f: &mut fmt::Formatter<W>) -> fmt::Result {
+        match self {
+            FaultKind::NoSuchGiven => f.write_str("no such given"),
+            FaultKind::NotWithin => f.write_str("not within"),
+            FaultKind::WrongKind => f.write_str("wrong kind"),
+            FaultKind::MiddleDiffers => f.write_str("middle differs"),
+            FaultKind::NotDisjoint => f.write_str("not disjoint"),
+        }
+    }
+}
+
+impl Error for FaultKind {}

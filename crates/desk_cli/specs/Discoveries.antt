@@ -8,9 +8,9 @@ use Rattle.dep_model.specs.Implication.{Implies}
 use Rattle.dep_model.specs.Tuples.{Relation}
 use Rattle.fd_discovery.specs.declared.headed_rows.Headed.{Headed}
 use Rattle.fd_discovery.specs.declared.refusal.DiscoverRefusal.{DiscoverRefusal}
-use Rattle.fd_discovery.specs.declared.refusal.DiscoverRefusal.TheVariants as refusal
 use Rattle.fd_discovery.specs.Headings.{IsHeaded, IsRefusedDiscovery, names_under, rows_under}
 use Rattle.fd_discovery.specs.Minimal.{AreAllMinimal}
+use Rattle.fd_discovery.specs.RefusalTexts.{headed_reason_text, headed_refusal_number}
 use Rattle.schema_printer.specs.Printing.{words_text, dependency_text, lines_text}
 use Rattle.desk_cli.specs.declared.rows.TheConstants.{MOST_CSV_BYTES}
 use Rattle.desk_cli.specs.declared.status.Status.TheVariants.{Yes, Refused}
@@ -20,24 +20,6 @@ use Rattle.desk_cli.specs.Readings.{Reading, IsContent}
 use Rattle.desk_texts.specs.Texts.{line}
 
 -- ---- texts
--- the number of a refusal
-abbrev pub headed_refusal_number : DiscoverRefusal → ℕ
-headed_refusal_number refusal.NoHeader = 1
-headed_refusal_number refusal.TooManyColumns = 2
-headed_refusal_number (refusal.BadColumn column) = 3
-headed_refusal_number (refusal.DoubleColumn column) = 4
-headed_refusal_number (refusal.UnevenRow row) = 5
-headed_refusal_number refusal.TooManyRows = 6
-
--- a refusal in words
-abbrev pub headed_reason_text : DiscoverRefusal → List ℕ
-headed_reason_text refusal.NoHeader = codes "no header"
-headed_reason_text refusal.TooManyColumns = codes "too many columns"
-headed_reason_text (refusal.BadColumn column) = codes "bad column " ++ decimal column
-headed_reason_text (refusal.DoubleColumn column) = codes "column " ++ decimal column ++ codes " repeated"
-headed_reason_text (refusal.UnevenRow row) = codes "row " ++ decimal row ++ codes " has the wrong length"
-headed_reason_text refusal.TooManyRows = codes "too many rows"
-
 -- a refusal of a file of rows under names of its own
 abbrev pub headed_refusal_text : List ℕ → DiscoverRefusal → List ℕ
 headed_refusal_text file why =

@@ -10,6 +10,8 @@ use Rattle.dep_model.specs.Schemas.{names_of, width_of, theory_of, TypedFor}
 use Rattle.dep_model.specs.declared.schema.Schema.{Schema}
 use Rattle.dep_model.specs.Tuples.{Relation}
 use Rattle.dep_model.specs.TwoTuples.{all_zeros}
+use Rattle.tableau_chase.specs.RefusalTexts.{chase_refusal_text}
+use Rattle.tableau_chase.specs.declared.outcome.ChaseRefusal.TheVariants.{TooManyRows}
 use Rattle.desk_cli.specs.declared.join.TheConstants.{MOST_TABLEAU_ROWS}
 use Rattle.desk_cli.specs.declared.status.Status.TheVariants.{Yes, No, Refused}
 use Rattle.desk_cli.specs.ResponseValues.{Allowed, Says, Unless}
@@ -31,7 +33,7 @@ lossy_text names rows =
     line (codes "lossy") ++ rows_text names rows ++ line (codes "gains") ++ zeros_text (length names)
 
 abbrev pub too_many_rows_text : List ℕ
-too_many_rows_text = line (codes "refused: too many tableau rows")
+too_many_rows_text = line (codes "refused: " ++ chase_refusal_text TooManyRows)
 
 -- ---- answers
 -- no legal relation loses by a plan

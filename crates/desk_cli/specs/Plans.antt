@@ -1,5 +1,5 @@
 -- How a plan is read, and how its reading ends a command.
-use Rattle.std.specs.Prelude.{◌≡◌, ◌⊎◌, ℕ, List, [], ◌∷◌, ◌++◌, codes, slice_index_or, All}
+use Rattle.std.specs.Prelude.{◌≡◌, ◌⊎◌, ℕ, List, ◌∷◌, ◌++◌, codes, All}
 use Rattle.std.specs.Fmt.{decimal}
 use Rattle.attr_sets.specs.Attributes.{Attributes}
 use Rattle.dep_model.specs.Schemas.{names_of}
@@ -8,25 +8,15 @@ use Rattle.plan_reader.specs.declared.reading.TheConstants.{MOST_PLAN_BYTES}
 use Rattle.plan_grammar.specs.Diagnostics.{RefusesPlan}
 use Rattle.plan_grammar.specs.Meanings.{MeansPlan}
 use Rattle.plan_grammar.specs.Refusals.{plan_refusal_number}
+use Rattle.plan_grammar.specs.RefusalTexts.{plan_reason_text}
 use Rattle.plan_grammar.specs.declared.refusal.PlanRefusal.{PlanRefusal}
-use Rattle.plan_grammar.specs.declared.refusal.PlanRefusal.TheVariants as plan
 use Rattle.desk_cli.specs.declared.status.Status.TheVariants.{Refused}
 use Rattle.desk_cli.specs.ResponseValues.{Allowed, Says, With}
 use Rattle.desk_cli.specs.Inputs.{FileStops}
 use Rattle.desk_cli.specs.Readings.{Reading, IsContent}
-use Rattle.desk_texts.specs.Texts.{line, kind_text}
+use Rattle.desk_texts.specs.Texts.{line}
 
 -- ---- texts
--- the place of a refusal and its reason in words, over the names of the attributes
-abbrev pub plan_reason_text : List (List ℕ) → PlanRefusal → List ℕ
-plan_reason_text names (plan.Text refusal) =
-    decimal refusal.span.line ++ codes ":" ++ decimal refusal.span.column ++ codes " "
-    ++ kind_text refusal.kind
-plan_reason_text names (plan.EmptyScheme at) = decimal at ++ codes " empty scheme"
-plan_reason_text names (plan.NotCovered attribute) =
-    codes " " ++ slice_index_or names attribute [] ++ codes " is in no scheme"
-plan_reason_text names (plan.TooManySchemes at) = decimal at ++ codes " too many schemes"
-
 -- a refusal of a plan
 abbrev pub plan_refusal_text : List (List ℕ) → List ℕ → PlanRefusal → List ℕ
 plan_refusal_text names file refusal =

@@ -10,9 +10,10 @@ use Rattle.dep_model.specs.Projections.{Covers}
 use Rattle.dep_model.specs.Schemas.{names_of, width_of, theory_of}
 use Rattle.dep_model.specs.Tuples.{Relation}
 use Rattle.dep_model.specs.declared.schema.Schema.{Schema}
-use Rattle.table_join.specs.declared.refusal.JoinRefusal.TheVariants.{NotCovered, TooManyRows}
+use Rattle.table_join.specs.declared.refusal.JoinRefusal.{JoinRefusal}
 use Rattle.table_join.specs.Answers.{IsNaturalJoin, GivesBack, IsWithinLimit, RefusesJoin}
 use Rattle.table_join.specs.Joins.{join_of}
+use Rattle.table_join.specs.RefusalTexts.{join_reason_text, join_refusal_number}
 use Rattle.table_join.specs.Tables.{PartialRelation, tables_of, plan_of_tables}
 use Rattle.desk_cli.specs.declared.rejoining.TheConstants.{MOST_JOINED_ROWS}
 use Rattle.desk_cli.specs.declared.rows.TheConstants.{MOST_CSV_BYTES}
@@ -20,17 +21,15 @@ use Rattle.desk_cli.specs.declared.status.Status.TheVariants.{Yes, Refused}
 use Rattle.desk_cli.specs.ResponseValues.{Allowed, Says, With}
 use Rattle.desk_cli.specs.Inputs.{FileStops}
 use Rattle.desk_cli.specs.Readings.{Reading, IsContent}
-use Rattle.desk_cli.specs.Rows.{name_at, row_refusal_text}
+use Rattle.desk_cli.specs.Rows.{row_refusal_text}
 use Rattle.desk_texts.specs.Texts.{line}
 
 -- ---- texts
-abbrev pub not_covered_text : List (List ℕ) → ℕ → List ℕ
-not_covered_text names attribute =
-    line (codes "refused: join 1: " ++ name_at names attribute ++ codes " is in no file")
-
-abbrev pub too_many_joined_text : ℕ → List ℕ
-too_many_joined_text after =
-    line (codes "refused: join 2: more than 200000 rows after file " ++ decimal after)
+-- a refusal of the join of files
+abbrev pub join_refusal_text : List (List ℕ) → JoinRefusal → List ℕ
+join_refusal_text names why =
+    line (codes "refused: join " ++ decimal (join_refusal_number why) ++ codes ": "
+    ++ join_reason_text names MOST_JOINED_ROWS why)
 
 -- ---- files
 -- the text of a file of some columns is refused so
@@ -88,10 +87,8 @@ pub record IsJoinOf (schema : Schema) (tables : List PartialRelation) (rows : Re
 abbrev pub JoinsTables : Schema → List PartialRelation → Allowed
 JoinsTables schema tables response =
     ((rows : Relation) × IsJoinOf schema tables rows × Says Yes (rows_text (names_of schema) rows) response)
-    ⊎ (((a : ℕ) × RefusesJoin (width_of schema) MOST_JOINED_ROWS tables (NotCovered a)
-    × Says Refused (not_covered_text (names_of schema) a) response)
-    ⊎ ((k : ℕ) × RefusesJoin (width_of schema) MOST_JOINED_ROWS tables (TooManyRows k)
-    × Says Refused (too_many_joined_text k) response))
+    ⊎ ((why : JoinRefusal) × RefusesJoin (width_of schema) MOST_JOINED_ROWS tables why
+    × Says Refused (join_refusal_text (names_of schema) why) response)
 
 -- of files
 abbrev pub Rejoins : Reading → Schema → List (List ℕ) → Allowed

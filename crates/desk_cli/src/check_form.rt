@@ -18,9 +18,9 @@ use crate::response::{EarlyExit, Response};
 use attr_sets::AttrSet;
 use dep_model::{Dep, OutOfMemory, Schema};
 use desk_outside::{Argument, FileSource};
-use desk_texts::{line_of, put};
+use desk_texts::line_of;
 use normal_forms::{Breach, Form, violation};
-use schema_printer::{add_dep, add_set};
+use schema_printer::{add, add_dep, add_set};
 use std::alloc::Global;
 
 /// Whether each scheme of the plan of a file is in a normal form.
@@ -129,7 +129,7 @@ fn violation_lines(
         (attributes breach.lhs) (attributes breach.rhs)) }
 {
     let mut text = scheme_line(alloc, schema, scheme)?;
-    put(&mut text, &breach_line(alloc, schema, form, breach)?)?;
+    add(&mut text, &breach_line(alloc, schema, form, breach)?)?;
     Ok(text)
 }
 
@@ -138,9 +138,9 @@ fn scheme_line(alloc: Global, schema: &Schema, scheme: AttrSet) -> Result<Vec<u8
         (λ text. text.items ≡ line (codes "scheme " ++ set_text (names_of schema.now) (attributes scheme))) }
 {
     let mut text = Vec::new(alloc);
-    put(&mut text, b"scheme ")?;
+    add(&mut text, b"scheme ")?;
     add_set(&mut text, schema, scheme)?;
-    put(&mut text, b"\n")?;
+    add(&mut text, b"\n")?;
     Ok(text)
 }
 
@@ -155,9 +155,9 @@ fn breach_line(
         (violation_of form (attributes breach.lhs) (attributes breach.rhs)))) }
 {
     let mut text = Vec::new(alloc);
-    put(&mut text, b"violated by ")?;
+    add(&mut text, b"violated by ")?;
     add_dep(&mut text, schema, violation_dependency(form, breach))?;
-    put(&mut text, b"\n")?;
+    add(&mut text, b"\n")?;
     Ok(text)
 }
 

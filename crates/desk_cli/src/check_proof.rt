@@ -15,9 +15,9 @@ use crate::read::open_proof;
 use crate::response::{EarlyExit, Response};
 use dep_model::{Dep, OutOfMemory, Schema};
 use desk_outside::{Argument, FileSource};
-use desk_texts::{line_of, put};
+use desk_texts::line_of;
 use proof_text::same_dependency;
-use schema_printer::print_dep;
+use schema_printer::{add, print_dep};
 use std::alloc::Global;
 
 /// Whether the certificate of a file proves a goal over a schema, by the rules alone.
@@ -103,6 +103,6 @@ fn concludes_lines(
         b"",
     )?;
     let goal = line_of(alloc, b"asked ", &print_dep(alloc, schema, goal)?, b"")?;
-    put(&mut text, &goal)?;
+    add(&mut text, &goal)?;
     Ok(text)
 }

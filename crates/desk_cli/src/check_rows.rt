@@ -11,10 +11,10 @@ use crate::response::{EarlyExit, Response};
 use crate::rows::open_rows;
 use dep_model::{OutOfMemory, Schema};
 use desk_outside::{Argument, FileSource};
-use desk_texts::{line_of, put, put_number};
+use desk_texts::line_of;
 use legality::{Offence, offences};
 use row_store::Rows;
-use schema_printer::add_dep;
+use schema_printer::{add, add_dep, add_number};
 use std::alloc::Global;
 
 /// Whether the rows of a CSV file are legal for a schema.
@@ -77,7 +77,7 @@ fn offence_lines(
 {
     let mut text = Vec::new(alloc);
     for offence in offences {
-        put(&mut text, &offence_line(alloc, schema, *offence)?)?;
+        add(&mut text, &offence_line(alloc, schema, *offence)?)?;
     }
     Ok(text)
 }
@@ -86,15 +86,15 @@ fn offence_line(alloc: Global, schema: &Schema, offence: Offence) -> Result<Vec<
     ensures text { IfOk result (λ text. text.items ≡ offence_text schema.now offence) }
 {
     let mut text = Vec::new(alloc);
-    put(&mut text, b"line ")?;
+    add(&mut text, b"line ")?;
     put_line(alloc, &mut text, schema, offence.dep as usize)?;
-    put(&mut text, b": ")?;
+    add(&mut text, b": ")?;
     put_dep(&mut text, schema, offence.dep as usize)?;
-    put(&mut text, b" broken by rows ")?;
-    put_number(alloc, &mut text, offence.first)?;
-    put(&mut text, b" and ")?;
-    put_number(alloc, &mut text, offence.second)?;
-    put(&mut text, b"\n")?;
+    add(&mut text, b" broken by rows ")?;
+    add_number(&mut text, alloc, offence.first)?;
+    add(&mut text, b" and ")?;
+    add_number(&mut text, alloc, offence.second)?;
+    add(&mut text, b"\n")?;
     Ok(text)
 }
 
@@ -109,7 +109,7 @@ pub fn put_line(
         ≡ text.old.items ++ line_number_text (slice_get (lines_of schema.now) k)) }
 {
     if k < schema.deps().len() {
-        put_number(alloc, text, schema.line_of(k))
+        add_number(text, alloc, schema.line_of(k))
     } else {
         Ok(())
     }

@@ -13,9 +13,10 @@ use crate::Status;
 use crate::keys::too_wide_exit;
 use crate::response::{EarlyExit, Response};
 use dep_model::{Failure, OutOfMemory, Schema};
-use desk_texts::{line_of, put};
+use desk_texts::line_of;
 use normal_forms::Form;
 use plans::{Plan, print_plan};
+use schema_printer::add;
 use split_forms::{SplitRefusal, split};
 use std::alloc::Global;
 use synthesis_3nf::synthesize;
@@ -114,6 +115,6 @@ fn wide_lines(alloc: Global, schema: &Schema, plan: &Plan) -> Result<Vec<u8>, Ou
     ensures text { IfOk result (λ text. text.items ≡ wide_text (names_of schema.now) (plan_of plan.now)) }
 {
     let mut text = line_of(alloc, b"# a scheme in form may have been cut", b"", b"")?;
-    put(&mut text, &print_plan(alloc, schema, plan)?)?;
+    add(&mut text, &print_plan(alloc, schema, plan)?)?;
     Ok(text)
 }

@@ -1,4 +1,4 @@
-ghost use Rattle.std.specs.Prelude.{◌≡◌, ◌≤◌, ◌++◌, ◌<◌, length, All, IfOk, IfErr, OnOk};
+ghost use Rattle.std.specs.Prelude.{◌≡◌, ◌≤◌, ◌<◌, length, All, IfOk, IfErr};
 ghost use Rattle.attr_sets.specs.Attributes.{below};
 ghost use Rattle.dep_model.specs.Deps.{dependencies_of, IsDepWithin};
 ghost use Rattle.dep_model.specs.Tuples.{IsOver};
@@ -6,20 +6,19 @@ ghost use Rattle.fd_discovery.specs.Headers.{IsColumnHeader};
 ghost use Rattle.fd_discovery.specs.Headings.{names_under, rows_under};
 ghost use Rattle.fd_discovery.specs.declared.headed_rows.TheConstants.{MOST_HEADED_ROWS};
 ghost use Rattle.desk_cli.specs.ResponseValues.{Says};
-ghost use Rattle.desk_cli.specs.Discoveries.{Discovers, FindsRules, HeadedStops, IsHeadedFile, found_text, headed_reason_text, headed_refusal_number, headed_refusal_text};
+ghost use Rattle.desk_cli.specs.Discoveries.{Discovers, FindsRules, HeadedStops, IsHeadedFile, found_text, headed_refusal_text};
 ghost use Rattle.desk_cli.specs.Readings.{Reading, files_in, Shows};
 ghost use Rattle.desk_cli.specs.Responses.{response_value, RespondsAs, ExitsAs};
 
 use crate::Status;
 use crate::read::open_file;
 use crate::response::{EarlyExit, Response};
-use crate::row_refusals::{put_before_number, put_numbered};
 use crate::rows::MOST_CSV_BYTES;
 use dep_model::{Dep, Failure, Name, OutOfMemory, Schema};
 use desk_outside::{Argument, FileSource};
-use desk_texts::{put, put_number};
+use desk_texts::add_displayed;
 use fd_discovery::{DiscoverRefusal, Headed, discover, read_headed};
-use schema_printer::print_deps;
+use schema_printer::{add, add_number, print_deps};
 use std::alloc::Global;
 
 /// The minimal functional dependencies that the rows of a file obey.
@@ -109,50 +108,12 @@ fn headed_refusal_line(
     ensures text { IfOk result (λ text. text.items ≡ headed_refusal_text name.now refusal) }
 {
     let mut text = Vec::new(alloc);
-    put(&mut text, b"refused: discover ")?;
-    put_number(alloc, &mut text, number_of(refusal))?;
-    put(&mut text, b" at ")?;
-    put(&mut text, name)?;
-    put(&mut text, b": ")?;
-    put_reason(alloc, &mut text, refusal)?;
-    put(&mut text, b"\n")?;
+    add(&mut text, b"refused: discover ")?;
+    add_number(&mut text, alloc, refusal.number())?;
+    add(&mut text, b" at ")?;
+    add(&mut text, name)?;
+    add(&mut text, b": ")?;
+    add_displayed(&mut text, alloc, &refusal)?;
+    add(&mut text, b"\n")?;
     Ok(text)
-}
-
-// The number of a refusal.
-fn number_of(refusal: DiscoverRefusal) -> u32
-    ensures number { result ≡ headed_refusal_number refusal }
-{
-    match refusal {
-        DiscoverRefusal::NoHeader => 1,
-        DiscoverRefusal::TooManyColumns => 2,
-        DiscoverRefusal::BadColumn { .. } => 3,
-        DiscoverRefusal::DoubleColumn { .. } => 4,
-        DiscoverRefusal::UnevenRow { .. } => 5,
-        DiscoverRefusal::TooManyRows => 6,
-    }
-}
-
-// A refusal in words, at the end of a text.
-fn put_reason(
-    alloc: Global,
-    text: &mut Vec<u8>,
-    refusal: DiscoverRefusal,
-) -> Result<(), OutOfMemory>
-    ensures more { OnOk result (text.new.items ≡ text.old.items ++ headed_reason_text refusal) }
-{
-    match refusal {
-        DiscoverRefusal::NoHeader => put(text, b"no header"),
-        DiscoverRefusal::TooManyColumns => put(text, b"too many columns"),
-        DiscoverRefusal::BadColumn { column } => {
-            put_before_number(alloc, text, b"bad column ", column)
-        }
-        DiscoverRefusal::DoubleColumn { column } => {
-            put_numbered(alloc, text, b"column ", column, b" repeated")
-        }
-        DiscoverRefusal::UnevenRow { row } => {
-            put_numbered(alloc, text, b"row ", row, b" has the wrong length")
-        }
-        DiscoverRefusal::TooManyRows => put(text, b"too many rows"),
-    }
 }

@@ -14,8 +14,8 @@ use armstrong_rel::{ExhibitRefusal, exhibit};
 use attr_sets::AttrSet;
 use csv_rows::print_rows;
 use dep_model::{Failure, OutOfMemory, Row, Schema};
-use desk_texts::put;
 use row_store::Rows;
+use schema_printer::add;
 use std::alloc::Global;
 
 /// A relation that obeys just the functional dependencies that follow from a schema.
@@ -60,9 +60,9 @@ fn multivalued_line(alloc: Global, schema: &Schema, dep: u16) -> Result<Vec<u8>,
     ensures line { IfOk result (λ text. text.items ≡ multivalued_text schema.now dep) }
 {
     let mut text = Vec::new(alloc);
-    put(&mut text, b"refused: line ")?;
+    add(&mut text, b"refused: line ")?;
     put_line(alloc, &mut text, schema, dep as usize)?;
-    put(&mut text, b" is multivalued")?;
-    put(&mut text, b"\n")?;
+    add(&mut text, b" is multivalued")?;
+    add(&mut text, b"\n")?;
     Ok(text)
 }

@@ -21,9 +21,10 @@ use dep_basis::{Proof, prove, witness};
 use dep_model::{Dep, OutOfMemory, Schema};
 use derivation::{Deriv, MOST_LEVELS, MOST_NODES};
 use desk_outside::Argument;
-use desk_texts::{line_of, put};
+use desk_texts::line_of;
 use proof_text::print_proof;
 use row_store::Rows;
+use schema_printer::add;
 use std::alloc::Global;
 
 /// Whether a schema implies a goal: `yes` with a certificate, or `no` with two tuples that obey the
@@ -64,7 +65,7 @@ fn certificate_response(
         ++ canonical_certificate schema.now (tree_of deriv.now)) (response_value response)) }
 {
     let mut text = line_of(alloc, b"yes", b"", b"")?;
-    put(&mut text, &print_proof(alloc, schema, deriv)?)?;
+    add(&mut text, &print_proof(alloc, schema, deriv)?)?;
     Ok(Response::with_text(Status::Yes, text))
 }
 
@@ -83,6 +84,6 @@ fn counterexample_response(
     let pair = witness(alloc, schema, agreement)?;
     let rows = Rows::of(alloc, &pair)?;
     let mut text = line_of(alloc, b"no", b"", b"")?;
-    put(&mut text, &print_rows(alloc, schema, &rows)?)?;
+    add(&mut text, &print_rows(alloc, schema, &rows)?)?;
     Ok(Response::with_text(Status::No, text))
 }

@@ -19,9 +19,10 @@ use csv_rows::print_rows;
 use csv_text::fields_line;
 use dep_model::{Failure, OutOfMemory, Row, Schema};
 use desk_outside::{Argument, FileSource};
-use desk_texts::{line_of, put};
+use desk_texts::line_of;
 use plan_reader::MOST_SCHEMES;
 use row_store::Rows;
+use schema_printer::add;
 use std::alloc::Global;
 use tableau_chase::{ChaseRefusal, Chased, chase};
 
@@ -86,12 +87,12 @@ fn lossy_lines(alloc: Global, schema: &Schema, rows: &[Row]) -> Result<Vec<u8>, 
     ensures text { IfOk result (λ text. text.items ≡ lossy_text (names_of schema.now) rows.now) }
 {
     let mut text = line_of(alloc, b"lossy", b"", b"")?;
-    put(
+    add(
         &mut text,
         &print_rows(alloc, schema, &Rows::of(alloc, rows)?)?,
     )?;
-    put(&mut text, b"gains\n")?;
-    put(&mut text, &zeros_row(alloc, schema.width())?)?;
+    add(&mut text, b"gains\n")?;
+    add(&mut text, &zeros_row(alloc, schema.width())?)?;
     Ok(text)
 }
 
@@ -126,5 +127,11 @@ fn too_many_rows_exit(alloc: Global) -> EarlyExit
 fn too_many_rows_line(alloc: Global) -> Result<Vec<u8>, OutOfMemory>
     ensures line { IfOk result (λ text. text.items ≡ too_many_rows_text) }
 {
-    line_of(alloc, b"refused: too many tableau rows", b"", b"")
+    let refusal = ChaseRefusal::TooManyRows;
+    line_of(
+        alloc,
+        b"refused: ",
+        refusal.to_string(alloc)?.as_bytes(),
+        b"",
+    )
 }

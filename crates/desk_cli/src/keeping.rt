@@ -17,9 +17,10 @@ use csv_rows::print_rows;
 use dep_basis::witness;
 use dep_model::{OutOfMemory, Schema};
 use desk_outside::{Argument, FileSource};
-use desk_texts::{line_of, put};
+use desk_texts::line_of;
 use preservation::{Loss, losses};
 use row_store::Rows;
+use schema_printer::add;
 use std::alloc::Global;
 
 /// Whether the plan of a file keeps the functional dependencies.
@@ -78,9 +79,9 @@ fn losses_lines(
 {
     let mut text = Vec::new(alloc);
     for loss in losses {
-        put(&mut text, &loss_line(alloc, schema, *loss)?)?;
+        add(&mut text, &loss_line(alloc, schema, *loss)?)?;
     }
-    put(&mut text, &shown_lines(alloc, schema, first)?)?;
+    add(&mut text, &shown_lines(alloc, schema, first)?)?;
     Ok(text)
 }
 
@@ -89,12 +90,12 @@ fn loss_line(alloc: Global, schema: &Schema, loss: Loss) -> Result<Vec<u8>, OutO
     ensures text { IfOk result (λ text. text.items ≡ loss_text schema.now loss) }
 {
     let mut text = Vec::new(alloc);
-    put(&mut text, b"line ")?;
+    add(&mut text, b"line ")?;
     put_line(alloc, &mut text, schema, loss.dep as usize)?;
-    put(&mut text, b": ")?;
+    add(&mut text, b": ")?;
     put_dep(&mut text, schema, loss.dep as usize)?;
-    put(&mut text, b" is lost")?;
-    put(&mut text, b"\n")?;
+    add(&mut text, b" is lost")?;
+    add(&mut text, b"\n")?;
     Ok(text)
 }
 
@@ -106,6 +107,6 @@ fn shown_lines(alloc: Global, schema: &Schema, loss: Loss) -> Result<Vec<u8>, Ou
     let pair = witness(alloc, schema, loss.agreement)?;
     let rows = Rows::of(alloc, &pair)?;
     let mut text = line_of(alloc, b"shown by", b"", b"")?;
-    put(&mut text, &print_rows(alloc, schema, &rows)?)?;
+    add(&mut text, &print_rows(alloc, schema, &rows)?)?;
     Ok(text)
 }

@@ -11,7 +11,7 @@ use crate::Status;
 use crate::response::{EarlyExit, Response};
 use attr_sets::AttrSet;
 use dep_model::{Failure, OutOfMemory, Schema};
-use desk_texts::{line_of, put};
+use desk_texts::line_of;
 use key_listing::{KeyRefusal, keys};
 use schema_printer::{add, add_set, print_set};
 use std::alloc::Global;
@@ -67,9 +67,9 @@ pub fn put_set_line(
     ensures added { OnOk result (text.new.items
         ≡ text.old.items ++ set_line word.now (names_of schema.now) (attributes set)) }
 {
-    put(text, word)?;
+    add(text, word)?;
     add_set(text, schema, set)?;
-    put(text, b"\n")
+    add(text, b"\n")
 }
 
 /// There are more keys than are listed.

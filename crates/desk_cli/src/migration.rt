@@ -21,12 +21,13 @@ use crate::rows::open_rows;
 use csv_migrate::tables;
 use dep_model::{Name, OutOfMemory, Schema};
 use desk_outside::{Argument, FileSource};
-use desk_texts::{line_of, put};
+use desk_texts::line_of;
 use itoa::Buffer;
 use named_tables::NamedTable;
 use normal_forms::Form;
 use plans::Plan;
 use row_store::Rows;
+use schema_printer::add;
 use std::alloc::Global;
 use table_names::MOST_TABLES;
 
@@ -180,12 +181,12 @@ fn put_table(text: &mut Vec<u8>, table: &NamedTable) -> Result<(), OutOfMemory>
     ensures added { OnOk result (text.new.items ≡ text.old.items
         ++ table_line (table_value table.now)) }
 {
-    put(text, table.held.name.bytes())?;
-    put(text, b" ")?;
-    put(text, Buffer::new().format(table.held.rows.len()).as_bytes())?;
-    put(text, b" rows:")?;
+    add(text, table.held.name.bytes())?;
+    add(text, b" ")?;
+    add(text, Buffer::new().format(table.held.rows.len()).as_bytes())?;
+    add(text, b" rows:")?;
     put_names(text, &table.held.columns)?;
-    put(text, b"\n")
+    add(text, b"\n")
 }
 
 // Names, each after a blank, at the end of a text.
@@ -193,8 +194,8 @@ fn put_names(text: &mut Vec<u8>, names: &[Name]) -> Result<(), OutOfMemory>
     ensures added { OnOk result (text.new.items ≡ text.old.items ++ words_text names.now) }
 {
     for name in names {
-        put(text, b" ")?;
-        put(text, name.bytes())?;
+        add(text, b" ")?;
+        add(text, name.bytes())?;
     }
     Ok(())
 }

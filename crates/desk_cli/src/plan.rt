@@ -3,10 +3,11 @@ ghost use Rattle.std.specs.Fmt.{decimal};
 ghost use Rattle.dep_model.specs.Projections.{Covers};
 ghost use Rattle.dep_model.specs.Schemas.{names_of, width_of};
 ghost use Rattle.plans.specs.Plans.{plan_of, IsPlanOver};
+ghost use Rattle.plan_grammar.specs.RefusalTexts.{plan_reason_text};
 ghost use Rattle.plan_grammar.specs.declared.refusal.TheConstants.{MOST_SCHEMES};
 ghost use Rattle.plan_grammar.specs.declared.refusal.PlanRefusal.TheVariants as refusals;
 ghost use Rattle.desk_cli.specs.ResponseValues.{Says};
-ghost use Rattle.desk_cli.specs.Plans.{PlanStops, IsPlanFile, plan_reason_text, plan_refusal_text};
+ghost use Rattle.desk_cli.specs.Plans.{PlanStops, IsPlanFile, plan_refusal_text};
 ghost use Rattle.desk_cli.specs.Readings.{Reading, files_in, Shows};
 ghost use Rattle.desk_cli.specs.Responses.{ExitsAs};
 
@@ -16,9 +17,10 @@ use crate::response::EarlyExit;
 use crate::row_refusals::name_of;
 use dep_model::{Failure, OutOfMemory, Schema};
 use desk_outside::{Argument, FileSource};
-use desk_texts::{put, put_number, reason_of};
+use desk_texts::add_displayed;
 use plan_reader::{MOST_PLAN_BYTES, PlanRefusal, read_plan};
 use plans::Plan;
+use schema_printer::{add, add_number};
 use schema_reader::SchemaRefusal;
 use std::alloc::Global;
 
@@ -77,13 +79,13 @@ fn plan_refusal_line(
         text.items ≡ plan_refusal_text (names_of schema.now) name.now refusal) }
 {
     let mut text = Vec::new(alloc);
-    put(&mut text, b"refused: plan ")?;
-    put_number(alloc, &mut text, refusal.number())?;
-    put(&mut text, b" at ")?;
-    put(&mut text, name)?;
-    put(&mut text, b":")?;
-    put(&mut text, &plan_reason(alloc, schema, refusal)?)?;
-    put(&mut text, b"\n")?;
+    add(&mut text, b"refused: plan ")?;
+    add_number(&mut text, alloc, refusal.number())?;
+    add(&mut text, b" at ")?;
+    add(&mut text, name)?;
+    add(&mut text, b":")?;
+    add(&mut text, &plan_reason(alloc, schema, refusal)?)?;
+    add(&mut text, b"\n")?;
     Ok(text)
 }
 
@@ -104,11 +106,7 @@ fn text_reason(alloc: Global, refusal: SchemaRefusal) -> Result<Vec<u8>, OutOfMe
     ensures text { IfOk result (λ text. text.items ≡ plan_reason_text [] (refusals.Text refusal)) }
 {
     let mut text = Vec::new(alloc);
-    put_number(alloc, &mut text, refusal.span.line)?;
-    put(&mut text, b":")?;
-    put_number(alloc, &mut text, refusal.span.column)?;
-    put(&mut text, b" ")?;
-    put(&mut text, reason_of(refusal.kind))?;
+    add_displayed(&mut text, alloc, &refusal)?;
     Ok(text)
 }
 
@@ -117,8 +115,8 @@ fn line_reason(alloc: Global, line: u32, reason: &[u8]) -> Result<Vec<u8>, OutOf
     ensures text { IfOk result (λ text. text.items ≡ decimal line ++ reason.now) }
 {
     let mut text = Vec::new(alloc);
-    put_number(alloc, &mut text, line)?;
-    put(&mut text, reason)?;
+    add_number(&mut text, alloc, line)?;
+    add(&mut text, reason)?;
     Ok(text)
 }
 
@@ -128,8 +126,8 @@ fn uncovered_reason(alloc: Global, schema: &Schema, attribute: u8) -> Result<Vec
         (λ text. text.items ≡ plan_reason_text (names_of schema.now) (refusals.NotCovered attribute)) }
 {
     let mut text = Vec::new(alloc);
-    put(&mut text, b" ")?;
-    put(&mut text, name_of(schema, attribute))?;
-    put(&mut text, b" is in no scheme")?;
+    add(&mut text, b" ")?;
+    add(&mut text, name_of(schema, attribute))?;
+    add(&mut text, b" is in no scheme")?;
     Ok(text)
 }

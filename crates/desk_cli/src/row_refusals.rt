@@ -1,11 +1,13 @@
-ghost use Rattle.std.specs.Prelude.{◌≡◌, ◌++◌, codes, IfOk, OnOk};
+ghost use Rattle.std.specs.Prelude.{◌≡◌, [], ◌++◌, codes, slice_index_or, IfOk, OnOk};
 ghost use Rattle.std.specs.Fmt.{decimal};
 ghost use Rattle.dep_model.specs.Schemas.{names_of};
-ghost use Rattle.desk_cli.specs.Rows.{name_at, row_reason_text, row_refusal_number, row_refusal_text};
+ghost use Rattle.csv_rows.specs.RefusalTexts.{row_reason_text};
+ghost use Rattle.desk_cli.specs.Rows.{row_refusal_text};
 
 use csv_rows::RowRefusal;
 use dep_model::{OutOfMemory, Schema};
-use desk_texts::{put, put_number, put_pair};
+use desk_texts::put_pair;
+use schema_printer::{add, add_number};
 use std::alloc::Global;
 
 /// The line that tells a refusal of rows.
@@ -19,29 +21,14 @@ pub fn row_refusal_line(
         text.items ≡ row_refusal_text (names_of schema.now) name.now refusal) }
 {
     let mut text = Vec::new(alloc);
-    put(&mut text, b"refused: rows ")?;
-    put_number(alloc, &mut text, number_of(refusal))?;
-    put(&mut text, b" at ")?;
-    put(&mut text, name)?;
-    put(&mut text, b": ")?;
+    add(&mut text, b"refused: rows ")?;
+    add_number(&mut text, alloc, refusal.number())?;
+    add(&mut text, b" at ")?;
+    add(&mut text, name)?;
+    add(&mut text, b": ")?;
     put_reason(alloc, &mut text, schema, refusal)?;
-    put(&mut text, b"\n")?;
+    add(&mut text, b"\n")?;
     Ok(text)
-}
-
-/// The number of a refusal.
-fn number_of(refusal: RowRefusal) -> u32
-    ensures number { result ≡ row_refusal_number refusal }
-{
-    match refusal {
-        RowRefusal::NoHeader => 1,
-        RowRefusal::UnknownColumn { .. } => 2,
-        RowRefusal::DoubleColumn { .. } => 3,
-        RowRefusal::MissingColumn { .. } => 4,
-        RowRefusal::UnevenRow { .. } => 5,
-        RowRefusal::TooManyRows => 6,
-        RowRefusal::NotInteger { .. } => 7,
-    }
 }
 
 /// A refusal in words, at the end of a text.
@@ -55,7 +42,7 @@ fn put_reason(
         ≡ text.old.items ++ row_reason_text (names_of schema.now) refusal) }
 {
     match refusal {
-        RowRefusal::NoHeader => put(text, b"no header"),
+        RowRefusal::NoHeader => add(text, b"no header"),
         RowRefusal::UnknownColumn { column } => {
             put_before_number(alloc, text, b"unknown column ", column)
         }
@@ -68,7 +55,7 @@ fn put_reason(
         RowRefusal::UnevenRow { row } => {
             put_numbered(alloc, text, b"row ", row, b" has the wrong length")
         }
-        RowRefusal::TooManyRows => put(text, b"too many rows"),
+        RowRefusal::TooManyRows => add(text, b"too many rows"),
         RowRefusal::NotInteger { row, attribute } => {
             put_no_integer(alloc, text, row, name_of(schema, attribute))
         }
@@ -76,7 +63,7 @@ fn put_reason(
 }
 
 /// A piece and a number, at the end of a text.
-pub fn put_before_number(
+fn put_before_number(
     alloc: Global,
     text: &mut Vec<u8>,
     front: &[u8],
@@ -84,8 +71,8 @@ pub fn put_before_number(
 ) -> Result<(), OutOfMemory>
     ensures added { OnOk result (text.new.items ≡ text.old.items ++ (front.now ++ decimal number)) }
 {
-    put(text, front)?;
-    put_number(alloc, text, number)
+    add(text, front)?;
+    add_number(text, alloc, number)
 }
 
 /// A row and the name of an attribute of which it has no integer, at the end of a text.
@@ -100,16 +87,16 @@ fn put_no_integer(
         ++ codes " is no integer")) }
 {
     let mut reason = Vec::new(alloc);
-    put(&mut reason, b"row ")?;
-    put_number(alloc, &mut reason, row)?;
-    put(&mut reason, b": ")?;
-    put(&mut reason, name)?;
-    put(&mut reason, b" is no integer")?;
-    put(text, &reason)
+    add(&mut reason, b"row ")?;
+    add_number(&mut reason, alloc, row)?;
+    add(&mut reason, b": ")?;
+    add(&mut reason, name)?;
+    add(&mut reason, b" is no integer")?;
+    add(text, &reason)
 }
 
 /// A number between two pieces, at the end of a text.
-pub fn put_numbered(
+fn put_numbered(
     alloc: Global,
     text: &mut Vec<u8>,
     front: &[u8],
@@ -119,14 +106,14 @@ pub fn put_numbered(
     ensures added { OnOk result (text.new.items
         ≡ text.old.items ++ (front.now ++ decimal number ++ back.now)) }
 {
-    put(text, front)?;
-    put_number(alloc, text, number)?;
-    put(text, back)
+    add(text, front)?;
+    add_number(text, alloc, number)?;
+    add(text, back)
 }
 
 /// The declared name of an attribute.
 pub fn name_of(schema: &Schema, attribute: u8) -> &[u8]
-    ensures name { result.now ≡ name_at (names_of schema.now) attribute }
+    ensures name { result.now ≡ slice_index_or (names_of schema.now) attribute [] }
 {
     if attribute < schema.width() {
         schema.name(attribute).bytes()

@@ -12,8 +12,9 @@ use crate::response::{EarlyExit, Response};
 use crate::row_refusals::name_of;
 use dep_model::{OutOfMemory, Schema};
 use desk_outside::{Argument, FileSource};
-use desk_texts::{line_of, put};
+use desk_texts::line_of;
 use schema_match::{differences, first_undeclared};
+use schema_printer::add;
 use std::alloc::Global;
 
 /// Whether the schema of a file says the same as that of another.
@@ -96,11 +97,11 @@ fn not_declared_line(
         (λ text. text.items ≡ not_in_text (name_of_attribute schema.now attribute) file.now) }
 {
     let mut text = Vec::new(alloc);
-    put(&mut text, b"refused: ")?;
-    put(&mut text, name_of(schema, attribute))?;
-    put(&mut text, b" is not in ")?;
-    put(&mut text, file.bytes())?;
-    put(&mut text, b"\n")?;
+    add(&mut text, b"refused: ")?;
+    add(&mut text, name_of(schema, attribute))?;
+    add(&mut text, b" is not in ")?;
+    add(&mut text, file.bytes())?;
+    add(&mut text, b"\n")?;
     Ok(text)
 }
 
@@ -147,7 +148,7 @@ fn put_differences(
         ≡ text.old.items ++ differences_text schema.now file.now other_file.now numbers.now) }
 {
     for number in numbers {
-        put(
+        add(
             text,
             &difference_line(alloc, schema, file, other_file, *number)?,
         )?;
@@ -167,14 +168,14 @@ fn difference_line(
         (λ text. text.items ≡ difference_text schema.now file.now other_file.now number) }
 {
     let mut text = Vec::new(alloc);
-    put(&mut text, b"line ")?;
+    add(&mut text, b"line ")?;
     put_line(alloc, &mut text, schema, number as usize)?;
-    put(&mut text, b" of ")?;
-    put(&mut text, file.bytes())?;
-    put(&mut text, b": ")?;
+    add(&mut text, b" of ")?;
+    add(&mut text, file.bytes())?;
+    add(&mut text, b": ")?;
     put_dep(&mut text, schema, number as usize)?;
-    put(&mut text, b" does not follow from ")?;
-    put(&mut text, other_file.bytes())?;
-    put(&mut text, b"\n")?;
+    add(&mut text, b" does not follow from ")?;
+    add(&mut text, other_file.bytes())?;
+    add(&mut text, b"\n")?;
     Ok(text)
 }

@@ -17,6 +17,7 @@ use Rattle.fd_discovery.proofs.UniqueHeaded.{never_both}
 use Rattle.fd_discovery.specs.Headings.{IsRefusedDiscovery}
 use Rattle.fd_discovery.specs.declared.headed_rows.Headed.{Headed}
 use Rattle.table_join.specs.Answers.{IsWithinLimit}
+use Rattle.table_join.specs.declared.refusal.JoinRefusal.TheVariants.{NotCovered, TooManyRows}
 use Rattle.table_join.specs.Tables.{PartialRelation, table_of_part, tables_of, plan_of_tables}
 use Rattle.desk_outside.specs.Files.{Files}
 use Rattle.desk_cli.specs.declared.rejoining.TheConstants.{MOST_JOINED_ROWS}
@@ -162,9 +163,9 @@ joins_tables : (n : ℕ) (r : Schema) (tables : List PartialRelation) (response 
     → Covers n (plan_of_tables tables) → IsWithinLimit n MOST_JOINED_ROWS tables → JoinsTables r tables response
     → IsYesOrNo response.status
 joins_tables n r tables response width covers small (inl (rows, is, says)) = inl (ap (λ (a : ResponseValue). a.status) says)
-joins_tables n r tables response width covers small (inr (inl (a, first, says))) =
+joins_tables n r tables response width covers small (inr (NotCovered a, first, says)) =
     absurd (first.uncovered (covers a (omega (arith, width, first.within))))
-joins_tables n r tables response width covers small (inr (inr (k, large, says))) =
+joins_tables n r tables response width covers small (inr (TooManyRows k, large, says)) =
     let few = subst (λ (m : ℕ). IsWithinLimit m MOST_JOINED_ROWS tables) (sym width) small in
     absurd (over_and_under _ MOST_JOINED_ROWS (few k large.1.positive large.1.among) large.1.beyond)
   where

@@ -6,5 +6,5 @@ mod refusals;
 mod text;
 
 pub use proof_refusals::proof_refusal_line;
-pub use refusals::{reason_of, refusal_line};
-pub use text::{line_of, put, put_number, put_pair};
+pub use refusals::refusal_line;
+pub use text::{add_displayed, line_of, put_pair};

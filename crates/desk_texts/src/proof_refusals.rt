@@ -1,15 +1,17 @@
-ghost use Rattle.std.specs.Prelude.{◌≡◌, ◌++◌, IfOk, OnOk};
+ghost use Rattle.std.specs.Prelude.{◌≡◌, ◌++◌, codes, IfOk, OnOk};
+ghost use Rattle.std.specs.Fmt.{decimal};
 ghost use Rattle.dep_model.specs.Schemas.{names_of, universe_of};
 ghost use Rattle.dep_model.specs.Deps.{dependency_of, IsDepWithin};
+ghost use Rattle.derivation.specs.FaultTexts.{fault_number, fault_text};
 ghost use Rattle.proof_grammar.specs.Diagnostics.{states_other, diagnostic_of, line_diagnostic_of, IsRefusalWithin};
-ghost use Rattle.desk_texts.specs.ProofTexts.{fault_text, diagnostic_number, diagnostic_text, position_text, proof_refusal_text};
+ghost use Rattle.proof_grammar.specs.RefusalTexts.{diagnostic_text, position_text};
+ghost use Rattle.desk_texts.specs.ProofTexts.{proof_refusal_text};
 
-use crate::refusals::reason_of;
-use crate::text::{put, put_number, put_pair};
+use crate::text::add_displayed;
 use dep_model::{Dep, OutOfMemory, Schema};
 use derivation::FaultKind;
 use proof_grammar::{ProofRefusal, ProofRefusalKind};
-use schema_printer::print_dep;
+use schema_printer::{add, add_number, print_dep};
 use std::alloc::Global;
 
 /// The line that tells a refusal of a certificate.
@@ -25,34 +27,16 @@ pub fn proof_refusal_line(
         ≡ proof_refusal_text (names_of schema.now) name.now (line_diagnostic_of refusal)) }
 {
     let mut text = Vec::new(alloc);
-    put(&mut text, b"refused: proof ")?;
-    put_number(alloc, &mut text, number_of(refusal.kind))?;
-    put(&mut text, b" at ")?;
-    put(&mut text, name)?;
-    put(&mut text, b":")?;
+    add(&mut text, b"refused: proof ")?;
+    add_number(&mut text, alloc, refusal.kind.number())?;
+    add(&mut text, b" at ")?;
+    add(&mut text, name)?;
+    add(&mut text, b":")?;
     put_position(alloc, &mut text, refusal)?;
-    put(&mut text, b" ")?;
+    add(&mut text, b" ")?;
     put_reason(alloc, &mut text, schema, refusal.kind)?;
-    put(&mut text, b"\n")?;
+    add(&mut text, b"\n")?;
     Ok(text)
-}
-
-/// The number of a reason.
-fn number_of(kind: ProofRefusalKind) -> u32
-    ensures number { result ≡ diagnostic_number (diagnostic_of kind) }
-{
-    match kind {
-        ProofRefusalKind::BadLine(_) => 1,
-        ProofRefusalKind::WrongNumber => 2,
-        ProofRefusalKind::NoSuchLine => 3,
-        ProofRefusalKind::UsedTwice => 4,
-        ProofRefusalKind::NeverUsed => 5,
-        ProofRefusalKind::TooManyLines => 6,
-        ProofRefusalKind::TooDeep => 7,
-        ProofRefusalKind::Unsound(_) => 8,
-        ProofRefusalKind::StatesOther { .. } => 9,
-        ProofRefusalKind::EmptyProof => 10,
-    }
 }
 
 /// The place of a refusal, at the end of a text.
@@ -61,14 +45,8 @@ fn put_position(alloc: Global, text: &mut Vec<u8>, refusal: ProofRefusal) -> Res
         ≡ text.old.items ++ position_text refusal.line (diagnostic_of refusal.kind)) }
 {
     match refusal.kind {
-        ProofRefusalKind::BadLine(bad) => {
-            let mut position = Vec::new(alloc);
-            put_number(alloc, &mut position, bad.span.line)?;
-            put(&mut position, b":")?;
-            put_number(alloc, &mut position, bad.span.column)?;
-            put(text, &position)
-        }
-        _ => put_number(alloc, text, refusal.line),
+        ProofRefusalKind::BadLine(bad) => add_displayed(text, alloc, &bad.span),
+        _ => add_number(text, alloc, refusal.line),
     }
 }
 
@@ -84,22 +62,18 @@ fn put_reason(
         ≡ text.old.items ++ diagnostic_text (names_of schema.now) (diagnostic_of kind)) }
 {
     match kind {
-        ProofRefusalKind::BadLine(bad) => put(text, reason_of(bad.kind)),
-        ProofRefusalKind::WrongNumber => put(text, b"wrong number"),
-        ProofRefusalKind::NoSuchLine => put(text, b"no such line"),
-        ProofRefusalKind::UsedTwice => put(text, b"line used twice"),
-        ProofRefusalKind::NeverUsed => put(text, b"line never used"),
-        ProofRefusalKind::TooManyLines => put(text, b"too many lines"),
-        ProofRefusalKind::TooDeep => put(text, b"too deep"),
-        ProofRefusalKind::Unsound(fault) => put_pair(
-            text,
-            b"rule does not apply: ",
-            fault_of(fault.kind),
-        ),
+        ProofRefusalKind::BadLine(bad) => add_displayed(text, alloc, &bad.kind),
+        ProofRefusalKind::WrongNumber => add(text, b"wrong number"),
+        ProofRefusalKind::NoSuchLine => add(text, b"no such line"),
+        ProofRefusalKind::UsedTwice => add(text, b"line used twice"),
+        ProofRefusalKind::NeverUsed => add(text, b"line never used"),
+        ProofRefusalKind::TooManyLines => add(text, b"too many lines"),
+        ProofRefusalKind::TooDeep => add(text, b"too deep"),
+        ProofRefusalKind::Unsound(fault) => put_fault(alloc, text, fault.kind),
         ProofRefusalKind::StatesOther { stated, concluded } => put_states(
             alloc, text, schema, stated, concluded,
         ),
-        ProofRefusalKind::EmptyProof => put(text, b"empty proof"),
+        ProofRefusalKind::EmptyProof => add(text, b"empty proof"),
     }
 }
 
@@ -118,22 +92,22 @@ fn put_states(
         (states_other (dependency_of stated) (dependency_of concluded))) }
 {
     let mut reason = Vec::new(alloc);
-    put(&mut reason, b"line states ")?;
-    put(&mut reason, &print_dep(alloc, schema, stated)?)?;
-    put(&mut reason, b" but concludes ")?;
-    put(&mut reason, &print_dep(alloc, schema, concluded)?)?;
-    put(text, &reason)
+    add(&mut reason, b"line states ")?;
+    add(&mut reason, &print_dep(alloc, schema, stated)?)?;
+    add(&mut reason, b" but concludes ")?;
+    add(&mut reason, &print_dep(alloc, schema, concluded)?)?;
+    add(text, &reason)
 }
 
-/// Why a rule does not apply, in words.
-fn fault_of(kind: FaultKind) -> &'static [u8]
-    ensures text { result.now ≡ fault_text kind }
+/// Why a rule does not apply, at the end of a text.
+fn put_fault(alloc: Global, text: &mut Vec<u8>, kind: FaultKind) -> Result<(), OutOfMemory>
+    ensures added { OnOk result (text.new.items
+        ≡ text.old.items ++ (codes "rule does not apply: " ++ decimal (fault_number kind) ++ codes " "
+        ++ fault_text kind)) }
 {
-    match kind {
-        FaultKind::NoSuchGiven => b"1 no such given",
-        FaultKind::NotWithin => b"2 not within",
-        FaultKind::WrongKind => b"3 wrong kind",
-        FaultKind::MiddleDiffers => b"4 middle differs",
-        FaultKind::NotDisjoint => b"5 not disjoint",
-    }
+    add(text, b"rule does not apply: ")?;
+    add_number(text, alloc, kind.number())?;
+    add(text, b" ")?;
+    add_displayed(text, alloc, &kind)?;
+    Ok(())
 }

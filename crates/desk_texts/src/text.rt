@@ -1,31 +1,29 @@
-ghost use Rattle.std.specs.Prelude.{◌≡◌, ◌++◌, [], ◌∷◌, IfOk, OnOk};
-ghost use Rattle.std.specs.Fmt.{decimal};
+ghost use Rattle.std.specs.Prelude.{◌≡◌, ◌++◌, [], ◌∷◌, IfOk, IfSome, OnOk};
 ghost use Rattle.desk_texts.specs.Texts.{line};
 
 use dep_model::OutOfMemory;
+use schema_printer::add;
 use std::alloc::Global;
+use std::fmt::Display;
 
-/// Bytes more at the end of a text.
-pub fn put(text: &mut Vec<u8>, bytes: &[u8]) -> Result<(), OutOfMemory>
-    ensures added { OnOk result (text.new.items ≡ text.old.items ++ bytes.now) }
+/// A value as it prints itself, at the end of a text.
+pub fn add_displayed<D: Display>(
+    text: &mut Vec<u8>,
+    alloc: Global,
+    value: &D,
+) -> Result<(), OutOfMemory>
+    ensures added { OnOk result (IfSome (D.output value.now)
+        (λ bytes. text.new.items ≡ text.old.items ++ bytes)) }
 {
-    text.extend_from_slice(bytes)?;
-    Ok(())
+    add(text, value.to_string(alloc)?.as_bytes())
 }
 
 /// Two pieces more at the end of a text.
 pub fn put_pair(text: &mut Vec<u8>, front: &[u8], back: &[u8]) -> Result<(), OutOfMemory>
     ensures added { OnOk result (text.new.items ≡ text.old.items ++ (front.now ++ back.now)) }
 {
-    put(text, front)?;
-    put(text, back)
-}
-
-/// A number more at the end of a text, in decimal digits.
-pub fn put_number(alloc: Global, text: &mut Vec<u8>, number: u32) -> Result<(), OutOfMemory>
-    ensures added { OnOk result (text.new.items ≡ text.old.items ++ decimal number) }
-{
-    put(text, number.to_string(alloc)?.as_bytes())
+    add(text, front)?;
+    add(text, back)
 }
 
 /// A line of three pieces.
@@ -38,9 +36,9 @@ pub fn line_of(
     ensures line { IfOk result (λ text. text.items ≡ line (front.now ++ middle.now ++ back.now)) }
 {
     let mut text = Vec::new(alloc);
-    put(&mut text, front)?;
-    put(&mut text, middle)?;
-    put(&mut text, back)?;
-    put(&mut text, b"\n")?;
+    add(&mut text, front)?;
+    add(&mut text, middle)?;
+    add(&mut text, back)?;
+    add(&mut text, b"\n")?;
     Ok(text)
 }

@@ -1,12 +1,13 @@
 -- The commands, and the words that form them: for `parse`, and for what words allow
 -- (`desk_cli/Performs`).
-use Rattle.std.specs.Prelude.{ℕ, Bool, ◌&&◌, Option, Some, None, List, [], ◌∷◌, length, nat_lt, if◌then◌else◌, codes}
+use Rattle.std.specs.Prelude.{ℕ, Bool, ◌&&◌, Option, Some, None, List, [], ◌∷◌, length, nat_lt, nat_le, if◌then◌else◌, codes}
 use Rattle.std.specs.Option.{option_and_then}
 use Rattle.std.specs.Str.{bytes_eq}
 use Rattle.normal_forms.specs.declared.forms.Form.{Form as NormalForm}
 use Rattle.normal_forms.specs.declared.forms.Form.TheVariants.{Third, Bcnf, Fourth}
 use Rattle.lexer.specs.Bytes.{number_of}
 use Rattle.desk_words.specs.Numbers.{is_count}
+use Rattle.desk_words.specs.declared.shapes.TheConstants.{MOST_FILES}
 
 -- what is asked of a schema, with the words that go with it
 pub data Task : Type 0 where
@@ -95,11 +96,11 @@ unfoldable pub two_schemas : (List ℕ → List ℕ → Task) → List (List ℕ
 two_schemas task (schema ∷ other ∷ []) = Some (over_schema schema (task schema other))
 two_schemas task _ = None
 
--- from one to 64 words
+-- from one word to the most files
 abbrev pub are_few : List (List ℕ) → Bool
-are_few words = nat_lt 0 (length words) && nat_lt (length words) 65
+are_few words = nat_lt 0 (length words) && nat_le (length words) MOST_FILES
 
--- a schema and from one to 64 words more
+-- a schema, and from one word to the most files more
 unfoldable pub schema_and_few : (List (List ℕ) → Task) → List (List ℕ) → Option CommandForm
 schema_and_few task [] = None
 schema_and_few task (schema ∷ words) = if are_few words then Some (over_schema schema (task words)) else None

@@ -12,7 +12,7 @@ pub struct Persons {
     pub ghost few: { number ≤ MOST_PERSONS },
 }
 
-/// A number of one to five digits, from 1 to 25,000.
+/// A number of one to five digits, from 1 to `MOST_PERSONS`.
 #[tactic(auto, unfolding(crate::specs::Numbers::is_count))]
 pub fn count_of(word: &[u8]) -> Option<Persons>
     ensures persons { option_map (λ persons. persons.number) result

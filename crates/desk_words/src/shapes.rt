@@ -221,7 +221,7 @@ pub fn of_migrate_plan(words: &[Argument]) -> Option<Command<'_>>
     }
 }
 
-/// A schema and from one to 64 files.
+/// A schema and from one to `MOST_FILES` files.
 #[tactic(auto, unfolding(crate::specs::Forms::schema_and_few))]
 pub fn of_rejoin(words: &[Argument]) -> Option<Command<'_>>
     ensures form { option_map command_form result ≡ forms.schema_and_few forms.rejoin words.now }

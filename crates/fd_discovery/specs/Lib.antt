@@ -3,3 +3,4 @@ pub mod Headings
 pub mod Minimal
 pub mod Leaders
 pub mod Searching
+pub mod RefusalTexts

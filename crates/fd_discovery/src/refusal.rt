@@ -1,3 +1,9 @@
+ghost use Rattle.std.specs.Prelude.{◌≡◌, Some};
+ghost use Rattle.fd_discovery.specs.RefusalTexts.{headed_refusal_number, headed_reason_text};
+
+use std::error::Error;
+use std::fmt;
+
 /// Why a CSV text is refused whose columns are named by its header alone.
 #[derive(Clone, Copy, Debug, PartialEq, Eq, Hash)]
 pub enum DiscoverRefusal {
@@ -14,3 +20,36 @@ pub enum DiscoverRefusal {
     /// 6: one row more than a file may have.
     TooManyRows,
 }
+
+impl DiscoverRefusal {
+    /// The number by which the documents and the program name it.
+    pub fn number(self) -> u32
+        ensures number { result ≡ headed_refusal_number self }
+    {
+        match self {
+            DiscoverRefusal::NoHeader => 1,
+            DiscoverRefusal::TooManyColumns => 2,
+            DiscoverRefusal::BadColumn { .. } => 3,
+            DiscoverRefusal::DoubleColumn { .. } => 4,
+            DiscoverRefusal::UnevenRow { .. } => 5,
+            DiscoverRefusal::TooManyRows => 6,
+        }
+    }
+}
+
+impl fmt::Display for DiscoverRefusal {
+    ghost output = { λ refusal. Some (headed_reason_text refusal) };
+
+    fn fmt<W: fmt::Write>(&self, f: &mut fmt::Formatter<W>) -> fmt::Result {
+        match self {
+            DiscoverRefusal::NoHeader => f.write_str("no header"),
+            DiscoverRefusal::TooManyColumns => f.write_str("too many columns"),
+            DiscoverRefusal::BadColumn { column } => write!(f, "bad column {column}"),
+            DiscoverRefusal::DoubleColumn { column } => write!(f, "column {column} repeated"),
+            DiscoverRefusal::UnevenRow { row } => write!(f, "row {row} has the wrong length"),
+            DiscoverRefusal::TooManyRows => f.write_str("too many rows"),
+        }
+    }
+}
+
+impl Error for DiscoverRefusal {}

@@ -6,7 +6,8 @@ pub const MOST_KEYS: usize = 1_024;
 /// The most attributes over whose subsets keys are searched.
 pub const WIDEST_SEARCHED: u8 = 20;
 
-/// Why the keys of a schema are not listed.
+/// Why the keys of a schema are not listed. It has no `Display`: a universe that is too wide is printed by
+/// the names of the schema.
 #[derive(Debug, Drop)]
 pub enum KeyRefusal {
     /// There are more than `MOST_KEYS`. One more than that are given, ascending.
@@ -15,7 +16,7 @@ pub enum KeyRefusal {
     TooWide,
 }
 
-/// Why the keys of a scheme are not listed.
+/// Why the keys of a scheme are not listed. It has no `Display`, for the same reason.
 #[derive(Debug, Drop)]
 pub enum SchemeKeyRefusal {
     /// There are more than `MOST_KEYS`. One more than that are given, ascending.

@@ -2,3 +2,4 @@ pub mod Refusals
 pub mod Meanings
 pub mod Diagnostics
 pub mod Reading
+pub mod RefusalTexts

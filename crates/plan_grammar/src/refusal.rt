@@ -6,7 +6,7 @@ use schema_grammar::SchemaRefusal;
 /// The most schemes of a plan text.
 pub const MOST_SCHEMES: usize = 256;
 
-/// Why a plan text is refused.
+/// Why a plan text is refused. It has no `Display`: an attribute is printed by its name in a schema.
 #[derive(Clone, Copy, Debug, PartialEq, Eq, Hash)]
 pub enum PlanRefusal {
     /// 1, 2, 3, 5 and 6, as of a schema text.

@@ -15,3 +15,4 @@ pub mod Spelling
 pub mod Texts
 pub mod Tokens
 pub mod Wrongs
+pub mod RefusalTexts

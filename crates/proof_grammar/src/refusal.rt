@@ -1,8 +1,13 @@
+ghost use Rattle.std.specs.Prelude.{◌≡◌};
+ghost use Rattle.proof_grammar.specs.Diagnostics.{diagnostic_of};
+ghost use Rattle.proof_grammar.specs.RefusalTexts.{diagnostic_number};
+
 use dep_model::Dep;
 use derivation::Fault;
 use schema_grammar::SchemaRefusal;
 
-/// Why a certificate is refused.
+/// Why a certificate is refused. It has no `Display`: the dependencies that a line states and concludes
+/// are printed by the names of a schema.
 #[derive(Clone, Copy, Debug, PartialEq, Eq, Hash)]
 pub enum ProofRefusalKind {
     /// 1: the line breaks the grammar.
@@ -32,4 +37,24 @@ pub enum ProofRefusalKind {
 pub struct ProofRefusal {
     pub line: u32,
     pub kind: ProofRefusalKind,
+}
+
+impl ProofRefusalKind {
+    /// The number by which the documents and the program name it.
+    pub fn number(self) -> u32
+        ensures number { result ≡ diagnostic_number (diagnostic_of self) }
+    {
+        match self {
+            ProofRefusalKind::BadLine(_) => 1,
+            ProofRefusalKind::WrongNumber => 2,
+            ProofRefusalKind::NoSuchLine => 3,
+            ProofRefusalKind::UsedTwice => 4,
+            ProofRefusalKind::NeverUsed => 5,
+            ProofRefusalKind::TooManyLines => 6,
+            ProofRefusalKind::TooDeep => 7,
+            ProofRefusalKind::Unsound(_) => 8,
+            ProofRefusalKind::StatesOther { .. } => 9,
+            ProofRefusalKind::EmptyProof => 10,
+        }
+    }
 }

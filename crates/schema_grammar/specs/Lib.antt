@@ -12,3 +12,4 @@ pub mod Sets
 pub mod Texts
 pub mod TokenLists
 pub mod Words
+pub mod RefusalTexts

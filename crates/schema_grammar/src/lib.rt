@@ -9,6 +9,7 @@
 mod format;
 mod laws;
 mod refusal;
+mod refusal_texts;
 mod symbol;
 
 pub use format::{Format, MOST_DEPENDENCY_LINES, VERSION};

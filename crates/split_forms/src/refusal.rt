@@ -1,6 +1,6 @@
 use attr_sets::AttrSet;
 
-/// Why a universe is not split.
+/// Why a universe is not split. It has no `Display`: a scheme is printed by the names of a schema.
 #[derive(Clone, Copy, Debug, PartialEq, Eq)]
 pub enum SplitRefusal {
     /// A scheme has more than `normal_forms::WIDEST_TESTED` attributes, and no given left side violates

@@ -4,3 +4,4 @@ pub mod Answers
 pub mod Lent
 pub mod Keys
 pub mod Seams
+pub mod RefusalTexts

@@ -5,3 +5,4 @@ pub mod Pools
 pub mod Chases
 pub mod Texts
 pub mod Making
+pub mod RefusalTexts

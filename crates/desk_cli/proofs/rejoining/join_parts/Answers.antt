@@ -1,12 +1,7 @@
 use Rattle.csv_text.specs.Rows.{rows_text}
 use Rattle.dep_model.proofs.FailureLemmas.{refused_is}
-use Rattle.dep_model.specs.Schemas.{names_of, width_of}
-use Rattle.std.proofs.Common.{inl, inr, subst}
+use Rattle.std.proofs.Common.{inl, inr}
 use Rattle.dep_model.specs.Tuples.{Relation}
-use Rattle.table_join.specs.declared.refusal.JoinRefusal.{JoinRefusal}
-use Rattle.table_join.specs.Answers.{RefusesJoin}
-use Rattle.table_join.specs.Tables.{tables_of}
-use Rattle.desk_cli.specs.declared.rejoining.TheConstants.{MOST_JOINED_ROWS}
 use Rattle.desk_cli.specs.ResponseValues.{Says}
 use Rattle.desk_cli.specs.Responses.{response_value}
 use Rattle.desk_cli.specs.declared.status.Status.TheVariants.{Yes}
@@ -27,16 +22,12 @@ returns-in_ok-response_of-in-Ok c = record {
   );
 }
 
-pub returns-in-NotCovered : goal.returns-in-NotCovered
-returns-in-NotCovered c =
-    let s = c.args.schema.now in
-    let refused = subst (λ (e : JoinRefusal). RefusesJoin (width_of s) MOST_JOINED_ROWS (tables_of c.args.parts.now) e) c.in-NotCovered.is
-    (refused_is _ _ _ c.in-Err-Refused.field-0-is c.in-Err-Refused.ensures.refusal) in
-    record { response = λ response is. inr (inl (c.in-NotCovered.attribute, refused, c.not_covered_exit.ensures.says response is)) }
-
-pub returns-in-TooManyRows : goal.returns-in-TooManyRows
-returns-in-TooManyRows c =
-    let s = c.args.schema.now in
-    let refused = subst (λ (e : JoinRefusal). RefusesJoin (width_of s) MOST_JOINED_ROWS (tables_of c.args.parts.now) e) c.in-TooManyRows.is
-    (refused_is _ _ _ c.in-Err-Refused.field-0-is c.in-Err-Refused.ensures.refusal) in
-    record { response = λ response is. inr (inr (c.in-TooManyRows.after, refused, c.too_many_joined_exit.ensures.says response is)) }
+pub returns-in-Err-Refused : goal.returns-in-Err-Refused
+returns-in-Err-Refused c = record {
+  response = λ response is.
+      inr (
+        c.in-Err-Refused.refusal,
+        refused_is _ _ _ c.in-Err-Refused.field-0-is c.in-Err-Refused.ensures.refusal,
+        c.join_refusal_exit.ensures.says response is,
+      );
+}

@@ -1,7 +1,7 @@
 use Rattle.desk_texts.proofs.proof_refusals.put_reason.Goals as goal
 
 pub returns-in-Unsound : goal.returns-in-Unsound
-returns-in-Unsound c = record { added = rw (c.in-Unsound.is, ← c.fault_of.ensures.text) c.put_pair.ensures.added }
+returns-in-Unsound c = record { added = rw c.in-Unsound.is c.put_fault.ensures.added }
 
 pub returns-in-EmptyProof : goal.returns-in-EmptyProof
-returns-in-EmptyProof c = record { added = rw c.in-EmptyProof.is c.put-in-EmptyProof.ensures.added }
+returns-in-EmptyProof c = record { added = rw c.in-EmptyProof.is c.add-in-EmptyProof.ensures.added }

@@ -1,0 +1,4 @@
+use Rattle.desk_cli.proofs.rejoining.join_refusal_exit.Goals as goal
+
+pub returns : goal.returns
+returns c = record { says = λ response is. c.with_text.ensures.says _ c.join_refusal_line.ensures.line response is }
