@@ -2,4 +2,6 @@ pub mod AllKeys
 pub mod ClosedSets
 pub mod ClosureLemmas
 pub mod GreedyKeyLemmas
+pub mod LeftSideLemmas
+pub mod SchemaLemmas
 pub mod SwitchLemmas

@@ -2,3 +2,4 @@ pub mod FunctionallyClosed
 pub mod Switches
 pub mod Counting
 pub mod KeyLists
+pub mod LeftSides

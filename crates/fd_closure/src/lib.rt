@@ -1,5 +1,6 @@
 //! Closures: the attributes that a set of attributes determines by the functional dependencies of a
-//! list.
+//! list. Beside them, what is asked of a list alone: its left sides, and whether all its dependencies
+//! are functional.
 //!
 //! `closure` and `follows` are exact: their clauses speak of all relations that obey the functional
 //! dependencies, over any number of attributes that holds the sets named. Multivalued dependencies in
@@ -9,8 +10,12 @@
 mod closing;
 mod counting;
 mod greedy_key;
+mod kinds;
 pub mod laws;
+mod left_sides;
 
 pub use closing::{closure, follows};
 pub use counting::{Counters, closure_with, follows_with};
 pub use greedy_key::functional_key;
+pub use kinds::is_functional;
+pub use left_sides::{functional_left_attributes, left_attributes};

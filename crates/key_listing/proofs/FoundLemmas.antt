@@ -2,7 +2,7 @@
 use Rattle.std.proofs.Common.{◌≡◌, ℕ, ◌+◌, ◌^◌, ◌<◌, ◌≤◌, ◌⊎◌, suc, true, false, List, [], ◌∷◌, ◌++◌, length, get_or, map, take, refl, sym, ◌∙◌, subst, ap, ⊎_elim, inl, inr, arith}
 use Rattle.std.proofs.lemmas.Bool.{cases_eq, true≢false}
 use Rattle.std.proofs.lemmas.List.{length_push, length-map, get_or_default, get_or-take, map_more}
-use Rattle.std.proofs.lemmas.List.Elements.{All-push, All-contains, All-map, Contains-get_or, filter_passes}
+use Rattle.std.proofs.lemmas.List.Elements.{All-push, All-contains, All-map, Contains-get_or}
 use Rattle.std.proofs.lemmas.List.Quantifiers.{all_pairs_push}
 use Rattle.std.proofs.lemmas.List.Sorted.{All-permutation, length_permutation, IsNonDecreasingBy-from_sort}
 use Rattle.std.specs.Prelude.{All, AllPairs, Any, Contains}
@@ -25,6 +25,7 @@ use Rattle.dep_model.proofs.ListLemmas.{Contains-map, map-member}
 use Rattle.key_listing.specs.Listing.{HoldsAny, HoldsAnyUnlessMany, AreSomeKeys, AreFoundKeys, exchanged_key, IsExchangedBy, IsExchangedUnlessMany}
 use Rattle.fd_closure.specs.KeyLists.{HoldsOne, IsExchanged}
 use Rattle.fd_closure.proofs.AllKeys.{all_keys}
+use Rattle.fd_closure.proofs.ClosedSets.{all_functional}
 use Rattle.key_listing.proofs.ListLemmas.{Any-map, Any-grows, Any-permutation, AllPairs-permutation, grows_longer}
 
 -- what a dependency makes of a key is a superkey
@@ -107,9 +108,6 @@ tried_more ds old found tried j key e lt at grows before now i d l =
     (cases_eq i tried))
 
 -- ---- multivalued dependencies
-pub all_functional : (ds : List Dependency) → functional_part ds ≡ ds → All (λ (d : Dependency). is_fd d ≡ true) ds
-all_functional ds same = subst (λ (es : List Dependency). All (λ (d : Dependency). is_fd d ≡ true) es) same (filter_passes is_fd ds)
-
 tell_multivalued : (ds : List Dependency) → Any (λ (d : Dependency). is_fd d ≡ false) ds ⊎ (functional_part ds ≡ ds)
 tell_multivalued [] = inr refl
 tell_multivalued (fd x y ∷ ds) =

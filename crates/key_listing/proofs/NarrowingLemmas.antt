@@ -3,6 +3,7 @@
 use Rattle.std.proofs.Common.{◌≡◌, ℕ, ◌+◌, ◌<◌, ◌≤◌, ◌↔◌, true, false, List, length, get_or, refl, sym, ap, subst, ◌∙◌, inl, inr, ⊎_elim, arith}
 use Rattle.std.proofs.lemmas.Bool.{cases_Bool, cases_eq, true≢false, true_from_ne_false, false_from_ne_true, ltb-true}
 use Rattle.std.proofs.lemmas.Bool.Decides.{nat_tests}
+use Rattle.std.proofs.lemmas.List.Elements.{Contains-get_or}
 use Rattle.std.specs.Prelude.{All}
 use Rattle.attr_sets.specs.declared.set.AttrSet.{AttrSet}
 use Rattle.attr_sets.specs.declared.set.TheConstants.{MOST_ATTRIBUTES}
@@ -14,9 +15,12 @@ use Rattle.dep_model.specs.Deps.{dependency_of, dependencies_of, IsDepWithin}
 use Rattle.dep_model.specs.Implication.{Implies}
 use Rattle.dep_model.specs.Keys.{IsSuperkey, IsKey, InClosure}
 use Rattle.dep_model.proofs.DepLemmas.{dependencies_all-to}
+use Rattle.dep_model.proofs.ListLemmas.{Contains-map}
 use Rattle.dep_model.proofs.KeyLemmas.{superkey-from, superkey_more, fd_on-to, key_of_superkey}
 use Rattle.dep_model.proofs.RuleLemmas.{reflexivity_obeyed, transitivity_obeyed, fd_weaker_obeyed}
+use Rattle.fd_closure.specs.LeftSides.{InLeftSide}
 use Rattle.fd_closure.proofs.ClosureLemmas.{fd_each-to, fd_each-from}
+use Rattle.fd_closure.proofs.LeftSideLemmas.{left_sides_each}
 use Rattle.dep_basis.proofs.RestLemmas.{closure_rest}
 use Rattle.key_listing.specs.Listing.{AreFoundKeys}
 use Rattle.key_listing.specs.Narrowing.{IsInEveryKey, IsInNoKey, DropsAttributesInNoKey}
@@ -67,7 +71,7 @@ module _ (n : ℕ) (ds : List Dep) (few : n ≤ MOST_ATTRIBUTES) (within : All (
     -- an attribute in no left side is in none of those within the rest
     unused_outside : (a : ℕ) (i : ℕ) (d : Dep) (k : ℕ) → IsInNoKey n (dependencies_of ds) scheme a → i < length ds → left_of (dependency_of (get_or ds i d)) k ≡ true → k ≡ a → ⊥
     unused_outside a i d k in_no_key short member same =
-        true≢false (sym member ∙ ap (left_of (dependency_of (get_or ds i d))) same ∙ dependencies_all-to (λ (e : Dependency). left_of e a ≡ false) ds in_no_key.unused i d short)
+        in_no_key.unused (dependency_of (get_or ds i d), Contains-map dependency_of ds (get_or ds i d) (Contains-get_or ds i d short), sym (ap (left_of (dependency_of (get_or ds i d))) same) ∙ member)
 
     pub in_no_key_in_no_key : (a : ℕ) (k : Attributes) → IsInNoKey n (dependencies_of ds) scheme a → IsKey n (dependencies_of ds) scheme k → k a ≡ false
     in_no_key_in_no_key a k in_no_key key = false_from_ne_true (k a) (λ inside. true≢false (sym (key.minimal rest rest_in (superkey-from n (dependencies_of ds) scheme rest rest_within whole) a inside) ∙ grind (arith, nat_tests)))
@@ -102,7 +106,7 @@ module _ (n : ℕ) (ds : List Dep) (few : n ≤ MOST_ATTRIBUTES) (within : All (
             (fd_on-to n (dependencies_of ds) scheme (difference scheme (only a)) scheme in_no_key.others r legal)
 
     -- what is in no left side, and follows from what is in some, is in no key; and nothing else
-    pub without_attributes_in_no_key-is : (used determined rest : Attributes) → ((a : ℕ) → (used a ≡ false) ↔ All (λ d. left_of d a ≡ false) (dependencies_of ds))
+    pub without_attributes_in_no_key-is : (used determined rest : Attributes) → ((a : ℕ) → (used a ≡ true) ↔ InLeftSide (dependencies_of ds) a)
         → ((a : ℕ) → (determined a ≡ true) ↔ InClosure n (dependencies_of ds) (intersection scheme used) a) → rest ≡ difference scheme (difference determined used)
         → DropsAttributesInNoKey n (dependencies_of ds) scheme rest
     without_attributes_in_no_key-is used determined rest sides closed is = record {
@@ -110,13 +114,13 @@ module _ (n : ℕ) (ds : List Dep) (few : n ≤ MOST_ATTRIBUTES) (within : All (
       left_out = λ a member. (
         (λ out. record {
           member = member;
-          unused = (sides a).0 (grind (arith, same_at is a, member, out));
+          unused = λ h. let there : used a ≡ true = (sides a).1 h in absurd (grind (arith, same_at is a, member, out, there));
           others = superkey-from n (dependencies_of ds) scheme (difference scheme (only a)) (λ k m. grind (arith, m))
               (fd_each-from n (dependencies_of ds) (difference scheme (only a)) scheme
               (others_each a (grind (arith, same_at is a, member, out)) ((closed a).0 (grind (arith, same_at is a, member, out))).1));
         }),
         (λ in_no_key.
-            let unused : used a ≡ false = (sides a).1 in_no_key.unused in
+            let unused : used a ≡ false = false_from_ne_true (used a) (λ m. in_no_key.unused ((sides a).0 m)) in
             let others : Attributes = difference scheme (only a) in
             let implied : Implies n (dependencies_of ds) (fd (intersection scheme used) (only a)) =
             determined_beyond used others (intersection scheme used) a used_lefts (λ j h. low j (grind (arith, h))) (λ j h. grind (arith, h)) (grind (arith, nat_tests)) (ltb-true a n (low a member))
@@ -127,8 +131,7 @@ module _ (n : ℕ) (ds : List Dep) (few : n ≤ MOST_ATTRIBUTES) (within : All (
     }
       where
         used_lefts : All (λ d. IsSubset (left_of (dependency_of d)) used) ds
-        used_lefts i d short j m =
-            true_from_ne_false (used j) (λ out. true≢false (sym m ∙ dependencies_all-to (λ (e : Dependency). left_of e j ≡ false) ds ((sides j).0 out) i d short))
+        used_lefts i d short j m = dependencies_all-to (λ (e : Dependency). IsSubset (left_of e) used) ds (left_sides_each (dependencies_of ds) used (λ a h. (sides a).1 h)) i d short j m
 
         others_each : (a : ℕ) → used a ≡ false → Implies n (dependencies_of ds) (fd (intersection scheme used) (only a)) → (b : ℕ) → scheme b ≡ true → Implies n (dependencies_of ds) (fd (difference scheme (only a)) (only b))
         others_each a unused implied b member = elim (cases_eq b a) [

@@ -1,9 +1,10 @@
 -- Attributes that are in every key, or in none: for the laws of key_listing and its search. `Desk`
 -- does not cite it.
-use Rattle.std.specs.Prelude.{◌≡◌, ℕ, ◌↔◌, true, false, List, All}
+use Rattle.std.specs.Prelude.{◌≡◌, ℕ, ◌↔◌, true, false, List}
 use Rattle.attr_sets.specs.Attributes.{Attributes, only, difference, IsSubset}
-use Rattle.dep_model.specs.Dependencies.{Dependency, left_of}
+use Rattle.dep_model.specs.Dependencies.{Dependency}
 use Rattle.dep_model.specs.Keys.{IsSuperkey}
+use Rattle.fd_closure.specs.LeftSides.{InLeftSide}
 
 -- an attribute of a scheme that the scheme's others do not determine
 pub record IsInEveryKey (n : ℕ) (ds : List Dependency) (scheme : Attributes) (a : ℕ) : Type 0 where
@@ -13,7 +14,7 @@ pub record IsInEveryKey (n : ℕ) (ds : List Dependency) (scheme : Attributes) (
 -- an attribute of a scheme that is in no given left side, and that the scheme's others determine
 pub record IsInNoKey (n : ℕ) (ds : List Dependency) (scheme : Attributes) (a : ℕ) : Type 0 where
   pub member : scheme a ≡ true
-  pub unused : All (λ d. left_of d a ≡ false) ds
+  pub unused : InLeftSide ds a → ⊥
   pub others : IsSuperkey n ds scheme (difference scheme (only a))
 
 -- a scheme without its attributes that are in no key

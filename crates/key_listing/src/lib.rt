@@ -10,7 +10,6 @@
 
 mod exchanging;
 mod holding;
-mod kinds;
 pub mod laws;
 mod listing;
 mod narrowing;

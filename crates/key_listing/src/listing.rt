@@ -4,11 +4,11 @@ ghost use Rattle.key_listing.specs.Listing.{AreAllKeys, AreFoundKeys};
 ghost use Rattle.key_listing.specs.Refusals.{IsTooWide, IsRefusedListing};
 
 use crate::exchanging::exchanged_keys;
-use crate::kinds::is_functional;
 use crate::refusal::{KeyRefusal, MOST_KEYS, WIDEST_SEARCHED};
 use crate::searching::searched_keys;
 use attr_sets::AttrSet;
 use dep_model::{Failure, OutOfMemory, Schema};
+use fd_closure::is_functional;
 use std::alloc::Global;
 
 /// All keys of the universe by all dependencies, ascending: of two keys the greatest attribute that is

@@ -1,15 +1,14 @@
-ghost use Rattle.std.specs.Prelude.{◌≡◌, ◌↔◌, ◌<◌, ℕ, true, false, IsTrue, All};
+ghost use Rattle.std.specs.Prelude.{◌≡◌, ◌↔◌, ◌<◌, ℕ, true, IsTrue};
 ghost use Rattle.attr_sets.specs.Attributes.{IsSubset};
 ghost use Rattle.attr_sets.specs.Sets.{attributes};
-ghost use Rattle.dep_model.specs.Dependencies.{left_of};
-ghost use Rattle.dep_model.specs.Deps.{dependencies_of};
 ghost use Rattle.dep_model.specs.Schemas.{width_of, universe_of, theory_of};
 ghost use Rattle.key_listing.specs.Narrowing.{IsInEveryKey, DropsAttributesInNoKey};
 
 use crate::superkeys::is_superkey;
 use attr_sets::{AttrSet, MOST_ATTRIBUTES};
 use dep_basis::closure_of;
-use dep_model::{Dep, Schema, sides};
+use dep_model::Schema;
+use fd_closure::left_attributes;
 
 // The attributes of a scheme that the scheme's others do not determine. Each is in every key.
 pub fn attributes_in_every_key(schema: &Schema, scheme: AttrSet) -> AttrSet
@@ -41,23 +40,9 @@ fn is_in_every_key(schema: &Schema, scheme: AttrSet, attribute: u8) -> bool
 pub fn without_attributes_in_no_key(schema: &Schema, scheme: AttrSet) -> AttrSet
     requires scheme { IsSubset (attributes scheme) (universe_of schema.now) }
     ensures rest { DropsAttributesInNoKey (width_of schema.now) (theory_of schema.now)
-        (attributes scheme)
-        (attributes result) }
+        (attributes scheme) (attributes result) }
 {
-    let used = left_sides(schema.deps());
+    let used = left_attributes(schema.deps());
     let determined = closure_of(schema, scheme.intersection(used));
     scheme.difference(determined.difference(used))
-}
-
-// The attributes that are in some left side.
-fn left_sides(deps: &[Dep]) -> AttrSet
-    ensures sides { (a : ℕ) → (attributes result a ≡ false)
-        ↔ All (λ d. left_of d a ≡ false) (dependencies_of deps.now) }
-{
-    let mut used = AttrSet::empty();
-    for dep in deps {
-        let (lhs, _) = sides(*dep);
-        used = used.union(lhs);
-    }
-    used
 }

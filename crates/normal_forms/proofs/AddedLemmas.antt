@@ -3,14 +3,13 @@ use Rattle.std.proofs.Common.{◌≡◌, ℕ, ◌≤◌, true, false, List, [], 
 use mathlib.Core.Path.{fun_ext}
 use Rattle.std.proofs.lemmas.Bool.{true≢false, ltb-true, lt-ltb, or_cases}
 use Rattle.std.proofs.lemmas.Bool.Decides.{nat_tests}
-use Rattle.std.proofs.lemmas.List.Elements.{All-head, All-tail, All-filter}
+use Rattle.std.proofs.lemmas.List.Elements.{All-filter}
 use Rattle.std.specs.Prelude.{All}
 use Rattle.attr_sets.specs.Attributes.{Attributes, below, only, union, intersection, IsSubset}
 use Rattle.attr_sets.specs.Sets.{attributes}
 use Rattle.dep_model.specs.declared.dep.Dep.{Dep}
-use Rattle.dep_model.specs.declared.dep.Dep.TheVariants.{Fd, Mvd}
 use Rattle.dep_model.specs.Dependencies.{Dependency, fd, mvd, is_fd, functional_part, left_of, IsWithin}
-use Rattle.dep_model.specs.Deps.{dependency_of, dependencies_of, IfFd, IsDepWithin}
+use Rattle.dep_model.specs.Deps.{dependency_of, dependencies_of, IsDepWithin}
 use Rattle.dep_model.specs.Keys.{InClosure}
 use Rattle.dep_model.proofs.RuleLemmas.{reflexivity_obeyed, fd_weaker_obeyed}
 use Rattle.dep_model.proofs.DepLemmas.{dependencies_all-from}
@@ -20,14 +19,7 @@ use Rattle.dep_basis.proofs.RestLemmas.{closure_rest}
 use Rattle.normal_forms.specs.Adding.{AddOnlyThemselves}
 use Rattle.attr_sets.proofs.AttributesLemmas.{same_at}
 
--- ---- left sides
--- a list of functional dependencies is its own functional part
-pub functional_list : (ds : List Dep) → All (λ d. is_fd (dependency_of d) ≡ true) ds → functional_part (dependencies_of ds) ≡ dependencies_of ds
-functional_list [] all = refl
-functional_list (Fd lhs rhs ∷ ds) all =
-    ap (λ (es : List Dependency). fd (attributes lhs) (attributes rhs) ∷ es) (functional_list ds (All-tail (λ (d : Dep). is_fd (dependency_of d) ≡ true) (Fd lhs rhs) ds all))
-functional_list (Mvd lhs rhs ∷ ds) all = absurd (true≢false (sym (All-head (λ (d : Dep). is_fd (dependency_of d) ≡ true) (Mvd lhs rhs) ds all)))
-
+-- ---- the functional part
 -- the functional part of a list is its own functional part
 pub functional_twice : (ds : List Dependency) → functional_part (functional_part ds) ≡ functional_part ds
 functional_twice [] = refl
@@ -37,11 +29,6 @@ functional_twice (mvd x y ∷ ds) = functional_twice ds
 -- and its members lie where those of the list do
 pub functional_within : (n : ℕ) (ds : List Dep) → All (IsDepWithin (below n)) ds → All (IsWithin (below n)) (functional_part (dependencies_of ds))
 functional_within n ds within = All-filter is_fd (IsWithin (below n)) (dependencies_of ds) (dependencies_all-from (IsWithin (below n)) ds within)
-
--- a left side stays within a set that grows
-pub left_grows : (reach before after : Attributes) → IsSubset before after → (d : Dep) → IfFd (λ x _. IsSubset x reach → IsSubset x before) d → IfFd (λ x _. IsSubset x reach → IsSubset x after) d
-left_grows reach before after grows (Fd lhs rhs) h = λ inside k m. grows k (h inside k m)
-left_grows reach before after grows (Mvd lhs rhs) h = tt
 
 -- ---- closures
 -- a set determines its members

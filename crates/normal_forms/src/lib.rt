@@ -9,9 +9,7 @@
 
 mod breaking;
 mod forms;
-mod kinds;
 pub mod laws;
-mod lefts;
 mod narrowing;
 mod primes;
 mod testing;

@@ -7,10 +7,9 @@ ghost use Rattle.normal_forms.specs.Adding.{AddOnlyThemselves};
 ghost use Rattle.normal_forms.specs.Breaking.{IsEnough};
 
 use crate::forms::Form;
-use crate::lefts::{functional_left_attributes, left_attributes};
 use attr_sets::AttrSet;
 use dep_model::Schema;
-use fd_closure::closure;
+use fd_closure::{closure, functional_left_attributes, left_attributes};
 
 // The attributes of a scheme to whose subsets a search for violations can keep: those of the
 // given left sides. Where all dependencies are functional, a left side that the scheme does not

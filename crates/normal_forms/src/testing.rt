@@ -7,11 +7,11 @@ ghost use Rattle.normal_forms.specs.Chosen.{IsVisibleViolation, HasNoVisibleViol
 
 use crate::breaking::{breaks, first_breaking, right_side};
 use crate::forms::{Breach, Form, TooWide, WIDEST_TESTED};
-use crate::kinds::is_functional;
 use crate::narrowing::searched_attributes;
 use crate::third::third_violation;
 use attr_sets::AttrSet;
 use dep_model::{Schema, sides};
+use fd_closure::is_functional;
 
 /// The violation of a form on a scheme, where the scheme is not in the form: of its subsets, in
 /// the order of sets, the first that violates the form, with its right side. For third form that

@@ -13,7 +13,8 @@ use Rattle.dep_model.proofs.DepLemmas.{dependencies_all-to}
 use Rattle.key_listing.specs.Listing.{HoldsAnyUnlessMany, IsExchangedUnlessMany}
 use Rattle.attr_sets.proofs.AttributesLemmas.{same_at}
 use Rattle.key_listing.proofs.ListLemmas.{grows_none, grows_again}
-use Rattle.key_listing.proofs.FoundLemmas.{all_functional, exchanged_superkey, dependencies_of-Contains, exchanged_none, exchanged_more}
+use Rattle.fd_closure.proofs.ClosedSets.{all_functional}
+use Rattle.key_listing.proofs.FoundLemmas.{exchanged_superkey, dependencies_of-Contains, exchanged_none, exchanged_more}
 use Rattle.key_listing.proofs.exchanging.add_exchanged.Goals.{in-Fd+in_ok-add_key_within, in_default}
 use Rattle.key_listing.proofs.exchanging.add_exchanged.Goals as goal
 

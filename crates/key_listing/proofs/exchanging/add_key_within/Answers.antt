@@ -1,15 +1,13 @@
 use Rattle.std.proofs.Common.{◌≤◌, List, length, sym, ◌∙◌, subst, arith}
 use Rattle.std.proofs.lemmas.Bool.{false≢true}
 use Rattle.std.proofs.lemmas.List.Quantifiers.{Any-push}
-use Rattle.std.specs.Prelude.{All}
 use Rattle.attr_sets.specs.declared.set.AttrSet.{AttrSet}
 use Rattle.attr_sets.specs.Attributes.{below, IsSubset}
 use Rattle.attr_sets.specs.Sets.{attributes}
-use Rattle.dep_model.specs.declared.dep.Dep.{Dep}
 use Rattle.dep_model.specs.Dependencies.{functional_part}
 use Rattle.dep_model.specs.Keys.{IsKey, IsGreedyKey}
-use Rattle.dep_model.specs.Deps.{dependencies_of, IsDepWithin}
 use Rattle.dep_model.specs.Schemas.{width_of, universe_of, theory_of}
+use Rattle.fd_closure.proofs.SchemaLemmas.{of_functional_part}
 use Rattle.key_listing.specs.declared.refusal.TheConstants.{MOST_KEYS}
 use Rattle.key_listing.specs.Listing.{HoldsAny, AreSomeKeys}
 use Rattle.key_listing.proofs.FoundLemmas.{some_more, greedy_found}
@@ -26,13 +24,12 @@ returns-in_ok-push-clause-keys c =
     let few : length found ≤ MOST_KEYS = omega (arith, c.if-len-le-MOST_KEYS.true, c.len.ensures, c.args.found.now.ok.0) in
     let none : HoldsAny found set → ⊥ = λ held.
     false≢true (sym c.if-not-holds_any.true ∙ c.holds_any.ensures.holds.1 (subst (λ (fs : List AttrSet). HoldsAny fs set) (sym c.deref.ensures.value) held)) in
-    let within : All (IsDepWithin (below n)) c.deps.result.now = subst (λ (es : List Dep). All (IsDepWithin (below n)) es) (sym c.deps.ensures.deps) s.valid.deps_within in
     let set_in : IsSubset set (below n) = c.requires.superkey.within.0 in
-    let settled : IsGreedyKey n (functional_part ds) set (attributes k) =
-    subst (λ (es : List Dep). IsGreedyKey n (functional_part (dependencies_of es)) set (attributes k)) c.deps.ensures.deps (c.functional_key.ensures.settled n within set_in) in
-    let key : IsKey n ds (universe_of s) (attributes k) = greedy_found n ds (universe_of s) set (attributes k) (λ i m. m) c.requires.functional c.requires.superkey settled in
+    let greedy : IsGreedyKey n (functional_part ds) set (attributes k) =
+    of_functional_part s c.deps.result.now c.deps.ensures.deps (λ m es. IsSubset set (below m) → IsGreedyKey m es set (attributes k)) c.functional_key.ensures.settled set_in in
+    let key : IsKey n ds (universe_of s) (attributes k) = greedy_found n ds (universe_of s) set (attributes k) (λ i m. m) c.requires.functional c.requires.superkey greedy in
     subst (λ (fs : List AttrSet). AreSomeKeys n ds (universe_of s) fs) (sym c.in_ok-push.ensures.items)
-    (some_more n ds (universe_of s) set found k c.requires.keys few key settled.within none (omega arith))
+    (some_more n ds (universe_of s) set found k c.requires.keys few key greedy.within none (omega arith))
 
 pub returns-in_ok-push-clause-held : goal.returns-in_ok-push-clause-held
 returns-in_ok-push-clause-held c few =
@@ -40,6 +37,6 @@ returns-in_ok-push-clause-held c few =
     let n = width_of s in
     let set = attributes c.args.set in
     let k = c.functional_key.result in
-    let within : All (IsDepWithin (below n)) c.deps.result.now = subst (λ (es : List Dep). All (IsDepWithin (below n)) es) (sym c.deps.ensures.deps) s.valid.deps_within in
-    let settled = c.functional_key.ensures.settled n within c.requires.superkey.within.0 in
-    subst (λ (fs : List AttrSet). HoldsAny fs set) (sym c.in_ok-push.ensures.items) (Any-push (λ (j : AttrSet). IsSubset (attributes j) set) c.args.found.now.items k settled.within)
+    let greedy : IsGreedyKey n (functional_part (theory_of s)) set (attributes k) =
+    of_functional_part s c.deps.result.now c.deps.ensures.deps (λ m es. IsSubset set (below m) → IsGreedyKey m es set (attributes k)) c.functional_key.ensures.settled c.requires.superkey.within.0 in
+    subst (λ (fs : List AttrSet). HoldsAny fs set) (sym c.in_ok-push.ensures.items) (Any-push (λ (j : AttrSet). IsSubset (attributes j) set) c.args.found.now.items k greedy.within)

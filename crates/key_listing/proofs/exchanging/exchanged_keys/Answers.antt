@@ -1,15 +1,14 @@
 use Rattle.std.proofs.Common.{◌≡◌, ◌+◌, ◌<◌, ◌≤◌, List, [], ◌∷◌, ◌++◌, length, refl, sym, ◌∙◌, ap, subst, arith}
 use Rattle.std.specs.Prelude.{All}
 use Rattle.attr_sets.specs.declared.set.AttrSet.{AttrSet}
-use Rattle.attr_sets.specs.Attributes.{Attributes, below}
+use Rattle.attr_sets.specs.Attributes.{Attributes, below, IsSubset}
 use Rattle.attr_sets.specs.Sets.{attributes}
-use Rattle.dep_model.specs.declared.dep.Dep.{Dep}
 use Rattle.dep_model.specs.Dependencies.{functional_part, IsWithin}
 use Rattle.dep_model.specs.Keys.{IsSuperkey, IsKey, IsGreedyKey}
-use Rattle.dep_model.specs.Deps.{dependencies_of, IsDepWithin}
 use Rattle.dep_model.specs.Schemas.{width_of, universe_of, theory_of, deps_of}
 use Rattle.dep_model.proofs.DepLemmas.{dependencies_all-from}
 use Rattle.dep_model.proofs.KeyLemmas.{scheme_superkey}
+use Rattle.fd_closure.proofs.SchemaLemmas.{of_functional_part}
 use Rattle.key_listing.specs.Listing.{AreSomeKeys, HoldsAny}
 use Rattle.key_listing.proofs.ListLemmas.{grows_longer}
 use Rattle.key_listing.proofs.FoundLemmas.{some_none, some_more, greedy_found, tried_more, sorted_found}
@@ -24,12 +23,11 @@ loop-tried-init c =
     let k = c.functional_key.result in
     let is : set ≡ universe_of s = c.full.ensures.members ∙ ap below c.width.ensures.count in
     let superkey : IsSuperkey n ds (universe_of s) set = subst (λ (v : Attributes). IsSuperkey n ds (universe_of s) v) (sym is) (scheme_superkey n ds (universe_of s)) in
-    let within : All (IsDepWithin (below n)) c.deps.result.now = subst (λ (es : List Dep). All (IsDepWithin (below n)) es) (sym c.deps.ensures.deps) s.valid.deps_within in
-    let settled : IsGreedyKey n (functional_part ds) set (attributes k) =
-    subst (λ (es : List Dep). IsGreedyKey n (functional_part (dependencies_of es)) set (attributes k)) c.deps.ensures.deps (c.functional_key.ensures.settled n within superkey.within.0) in
-    let key : IsKey n ds (universe_of s) (attributes k) = greedy_found n ds (universe_of s) set (attributes k) (λ i m. m) c.requires.functional superkey settled in
+    let greedy : IsGreedyKey n (functional_part ds) set (attributes k) =
+    of_functional_part s c.deps.result.now c.deps.ensures.deps (λ m es. IsSubset set (below m) → IsGreedyKey m es set (attributes k)) c.functional_key.ensures.settled superkey.within.0 in
+    let key : IsKey n ds (universe_of s) (attributes k) = greedy_found n ds (universe_of s) set (attributes k) (λ i m. m) c.requires.functional superkey greedy in
     let some : AreSomeKeys n ds (universe_of s) (k ∷ []) =
-    some_more n ds (universe_of s) set [] k (some_none n ds (universe_of s)) (omega arith) key settled.within (λ (held : HoldsAny [] set). absurd (omega (arith, held.2))) (omega arith) in
+    some_more n ds (universe_of s) set [] k (some_none n ds (universe_of s)) (omega arith) key greedy.within (λ (held : HoldsAny [] set). absurd (omega (arith, held.2))) (omega arith) in
     let items : c.push.new.self.items ≡ k ∷ [] = c.in_ok-push.ensures.items ∙ ap (λ (fs : List AttrSet). fs ++ k ∷ []) c.new-found.ensures.items in
     record {
       some = subst (λ (fs : List AttrSet). AreSomeKeys n ds (universe_of s) fs) (sym items) some;

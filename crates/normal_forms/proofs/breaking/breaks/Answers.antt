@@ -1,14 +1,13 @@
 use Rattle.std.proofs.Common.{◌≡◌, ℕ, ◌↔◌, true, not, List, sym, subst, ◌∙◌}
 use Rattle.std.proofs.lemmas.Bool.{false≢true}
-use Rattle.std.specs.Prelude.{All, IsTrue}
+use Rattle.std.specs.Prelude.{IsTrue}
 use Rattle.attr_sets.specs.Attributes.{below, IsSubset}
 use Rattle.attr_sets.specs.Sets.{attributes}
-use Rattle.dep_model.specs.declared.dep.Dep.{Dep}
-use Rattle.dep_model.specs.Dependencies.{Dependency, functional_part, IsWithin}
-use Rattle.dep_model.specs.Deps.{dependencies_of, IsDepWithin}
+use Rattle.dep_model.specs.Dependencies.{Dependency, IsWithin}
 use Rattle.dep_model.specs.Keys.{InClosure}
 use Rattle.dep_model.specs.Schemas.{width_of, theory_of, deps_of}
 use Rattle.dep_model.proofs.DepLemmas.{dependencies_all-from}
+use Rattle.fd_closure.proofs.SchemaLemmas.{closure_of_schema}
 use Rattle.normal_forms.specs.declared.forms.Form.{Form}
 use Rattle.normal_forms.specs.declared.forms.Form.TheVariants.{Fourth}
 use Rattle.normal_forms.specs.Breaking.{Breaks}
@@ -23,9 +22,7 @@ returns-then-functional c =
     let scheme = attributes c.args.scheme in
     let closed = attributes c.closure.result in
     let same = c.requires.functional c.if-functional.true in
-    let within : All (IsDepWithin (below n)) c.deps.result.now = subst (λ (es : List Dep). All (IsDepWithin (below n)) es) (sym c.deps.ensures.deps) s.valid.deps_within in
-    let by_part = subst (λ (es : List Dep). (a : ℕ) → (closed a ≡ true) ↔ InClosure n (functional_part (dependencies_of es)) x a) c.deps.ensures.deps
-    (c.closure.ensures.closure n within (λ k m. c.requires.scheme k (c.requires.lhs k m))) in
+    let by_part = closure_of_schema s c.deps.result.now c.deps.ensures.deps x closed (λ k m. c.requires.scheme k (c.requires.lhs k m)) c.closure.ensures.closure in
     let exact = subst (λ (ds : List Dependency). (a : ℕ) → (closed a ≡ true) ↔ InClosure n ds x a) same by_part in
     let told = c.determines_some.ensures.breaks n (theory_of s) c.requires.scheme exact in
     let both = functional_breaks n (theory_of s) c.args.form scheme x c.requires.form (dependencies_all-from (IsWithin (below n)) (deps_of s) s.valid.deps_within) same c.requires.scheme in

@@ -1,5 +1,4 @@
-use Rattle.std.proofs.Common.{List, subst, arith}
-use Rattle.std.specs.Prelude.{All}
+use Rattle.std.proofs.Common.{◌≡◌, ◌↔◌, ℕ, true, List, subst, arith}
 use Rattle.attr_sets.specs.Attributes.{below, IsSubset}
 use Rattle.attr_sets.specs.Sets.{attributes}
 use Rattle.dep_model.specs.declared.dep.Dep.{Dep}
@@ -7,6 +6,8 @@ use Rattle.dep_model.specs.Dependencies.{Dependency, left_of, IsWithin}
 use Rattle.dep_model.specs.Deps.{dependencies_of}
 use Rattle.dep_model.specs.Schemas.{width_of, theory_of, deps_of}
 use Rattle.dep_model.proofs.DepLemmas.{dependencies_all-to, dependencies_all-from}
+use Rattle.fd_closure.specs.LeftSides.{InLeftSide}
+use Rattle.fd_closure.proofs.LeftSideLemmas.{left_sides_each}
 use Rattle.normal_forms.specs.Adding.{AddOnlyThemselves}
 use Rattle.attr_sets.proofs.AttributesLemmas.{same_at}
 use Rattle.normal_forms.proofs.BreakLemmas.{all_enough, functional_enough}
@@ -31,8 +32,8 @@ returns-else-functional c =
     let n = width_of s in
     let scheme = attributes c.args.scheme in
     let lefts = attributes c.left_attributes.result in
-    let each = dependencies_all-to (λ (d : Dependency). IsSubset (left_of d) lefts) (deps_of s)
-    (subst (λ (es : List Dep). All (λ (d : Dependency). IsSubset (left_of d) lefts) (dependencies_of es)) c.deps.ensures.deps c.left_attributes.ensures.lefts) in
+    let members = subst (λ (es : List Dep). (a : ℕ) → (lefts a ≡ true) ↔ InLeftSide (dependencies_of es) a) c.deps.ensures.deps c.left_attributes.ensures.members in
+    let each = dependencies_all-to (λ (d : Dependency). IsSubset (left_of d) lefts) (deps_of s) (left_sides_each (theory_of s) lefts (λ a h. (members a).1 h)) in
     record {
       within = λ k m. grind (arith, same_at c.intersection.ensures.members k, m);
       enough = all_enough n (deps_of s) c.args.form scheme lefts (attributes c.intersection.result) c.requires.form s.valid.few_names s.valid.deps_within c.requires.scheme each c.intersection.ensures.members;

@@ -1,21 +1,41 @@
-use Rattle.std.proofs.Common.{◌≡◌, List, sym, subst, ◌∙◌, inl, inr, arith}
+use Rattle.std.proofs.Common.{◌≡◌, sym, subst, ◌∙◌, inl, inr, arith}
 use mathlib.Core.Path.{fun_ext}
 use Rattle.std.proofs.lemmas.Bool.{true≢false, false≢true, or_cases}
 use Rattle.std.proofs.lemmas.Bool.Decides.{nat_tests}
-use Rattle.std.specs.Prelude.{All, Option}
+use Rattle.std.specs.Prelude.{Option, Some}
 use Rattle.attr_sets.specs.declared.set.AttrSet.{AttrSet}
 use Rattle.attr_sets.specs.Attributes.{Attributes, below, only, union, difference, IsSubset}
 use Rattle.attr_sets.specs.Sets.{attributes}
-use Rattle.dep_model.specs.declared.dep.Dep.{Dep}
 use Rattle.dep_model.specs.Dependencies.{functional_part}
-use Rattle.dep_model.specs.Deps.{dependencies_of, IsDepWithin}
 use Rattle.dep_model.specs.Keys.{IsGreedyKey}
 use Rattle.dep_model.specs.Schemas.{width_of, theory_of}
+use Rattle.fd_closure.proofs.SchemaLemmas.{of_functional_part}
 use Rattle.normal_forms.specs.Primes.{BecomesSuperkeyBy}
 use Rattle.attr_sets.proofs.AttributesLemmas.{same_at}
 use Rattle.normal_forms.proofs.SearchLemmas.{IsSearched, search_start, search_on, search_end, subsets_left-less}
 use Rattle.normal_forms.proofs.PrimeLemmas.{without_in, beside_in, turned_key, turned_member, not_prime}
 use Rattle.normal_forms.proofs.primes.key_with.Goals as goal
+use Rattle.normal_forms.proofs.primes.key_with.Goals.{In-Some}
+
+-- a set with the rest becomes a superkey by the attribute
+abbrev Turns : (c : In-Some) → Attributes → Type 0
+Turns c y =
+    BecomesSuperkeyBy (width_of c.args.schema.now) (functional_part (theory_of c.args.schema.now)) (attributes c.args.scheme) (union y (attributes c.without-rest.result)) c.args.attribute
+
+-- the subsets before the one that is tried
+searched : (c : In-Some) → IsSearched (Turns c) (attributes c.without-free.result) (Some c.in-Some.set)
+searched c = subst (λ (o : Option AttrSet). IsSearched (Turns c) (attributes c.without-free.result) o) c.in-Some.is c.loop-next.invariant
+
+-- the rest is the scheme without the whole and the attribute
+rest_is : (c : In-Some) → attributes c.without-rest.result ≡ difference (difference (attributes c.args.scheme) (attributes c.args.whole)) (only c.args.attribute)
+rest_is c = fun_ext (λ j. grind (arith, same_at c.without-rest.ensures.members j, same_at c.difference.ensures.members j))
+
+-- what is tried with the rest lies within the scheme
+tried_in : (c : In-Some) → IsSubset (union (attributes c.in-Some.set) (attributes c.without-rest.result)) (attributes c.args.scheme)
+tried_in c =
+    let s = c.args.schema.now in
+    beside_in (width_of s) (functional_part (theory_of s)) (attributes c.args.scheme) (attributes c.args.whole) (attributes c.without-free.result) (attributes c.without-rest.result) c.args.attribute
+    c.requires.scheme c.requires.added c.without-free.ensures.members (rest_is c) (attributes c.in-Some.set) c.requires.within_scheme (searched c).within
 
 pub loop-next-init : goal.loop-next-init
 loop-next-init c =
@@ -24,17 +44,7 @@ loop-next-init c =
     search_start P (attributes c.without-free.result) c.empty.result c.empty.ensures.members
 
 pub becomes_superkey_by-requires-clause-set : goal.becomes_superkey_by-requires-clause-set
-becomes_superkey_by-requires-clause-set c k m =
-    let s = c.args.schema.now in
-    let n = width_of s in
-    let fs = functional_part (theory_of s) in
-    let rest = attributes c.without-rest.result in
-    let free = attributes c.without-free.result in
-    let P = λ (y : Attributes). BecomesSuperkeyBy n fs (attributes c.args.scheme) (union y rest) c.args.attribute in
-    let before = subst (λ (o : Option AttrSet). IsSearched P free o) c.in-Some.is c.loop-next.invariant in
-    let is : rest ≡ difference (difference (attributes c.args.scheme) (attributes c.args.whole)) (only c.args.attribute) = fun_ext (λ j. grind (arith, same_at c.without-rest.ensures.members j, same_at c.difference.ensures.members j)) in
-    beside_in n fs (attributes c.args.scheme) (attributes c.args.whole) free rest c.args.attribute c.requires.scheme c.requires.added c.without-free.ensures.members is (attributes c.in-Some.set) c.requires.within_scheme before.within k
-    (sym (same_at c.union-before.ensures.members k) ∙ m)
+becomes_superkey_by-requires-clause-set c k m = tried_in (goal.at.becomes_superkey_by-requires-clause-set c).In-Some k (sym (same_at c.union-before.ensures.members k) ∙ m)
 
 pub returns-then-becomes_superkey_by : goal.returns-then-becomes_superkey_by
 returns-then-becomes_superkey_by c =
@@ -42,36 +52,26 @@ returns-then-becomes_superkey_by c =
     let n = width_of s in
     let fs = functional_part (theory_of s) in
     let scheme = attributes c.args.scheme in
-    let rest = attributes c.without-rest.result in
-    let free = attributes c.without-free.result in
     let a = c.args.attribute in
-    let P = λ (y : Attributes). BecomesSuperkeyBy n fs scheme (union y rest) a in
-    let before = subst (λ (o : Option AttrSet). IsSearched P free o) c.in-Some.is c.loop-next.invariant in
-    let is : rest ≡ difference (difference scheme (attributes c.args.whole)) (only a) = fun_ext (λ j. grind (arith, same_at c.without-rest.ensures.members j, same_at c.difference.ensures.members j)) in
-    let inside = beside_in n fs scheme (attributes c.args.whole) free rest a c.requires.scheme c.requires.added c.without-free.ensures.members is (attributes c.in-Some.set) c.requires.within_scheme before.within in
+    let inside = tried_in (goal.at.returns-then-becomes_superkey_by c).In-Some in
     let set = attributes c.union-before.result in
     let set_in : IsSubset set scheme = λ k m. inside k (sym (same_at c.union-before.ensures.members k) ∙ m) in
     let with_low : IsSubset (attributes c.with.result) (below n) = λ k m. elim (or_cases (set k) (only a k) (sym (same_at c.with.ensures.members k) ∙ m)) [
       | inl in_set ↦ c.requires.scheme k (set_in k in_set)
       | inr is_a ↦ c.requires.scheme k (grind (arith, nat_tests, is_a, c.requires.attribute))
     ] in
-    let within : All (IsDepWithin (below n)) c.deps.result.now = subst (λ (es : List Dep). All (IsDepWithin (below n)) es) (sym c.deps.ensures.deps) s.valid.deps_within in
-    let settled = subst (λ (es : List Dep). IsGreedyKey n (functional_part (dependencies_of es)) (attributes c.with.result) (attributes c.functional_key.result)) c.deps.ensures.deps
-    (c.functional_key.ensures.settled n within with_low) in
+    let greedy = of_functional_part s c.deps.result.now c.deps.ensures.deps (λ m ds. IsSubset (attributes c.with.result) (below m) → IsGreedyKey m ds (attributes c.with.result) (attributes c.functional_key.result))
+    c.functional_key.ensures.settled with_low in
     let turned = c.becomes_superkey_by.ensures.turned.0 c.if-becomes_superkey_by.true in
     let key = attributes c.functional_key.result in
     record {
       none = λ never. absurd (true≢false never);
-      key = turned_key n fs scheme set (attributes c.with.result) key a c.requires.scheme set_in turned c.with.ensures.members settled;
-      member = turned_member n fs scheme set (attributes c.with.result) key a c.requires.scheme set_in turned c.with.ensures.members settled;
+      key = turned_key n fs scheme set (attributes c.with.result) key a c.requires.scheme set_in turned c.with.ensures.members greedy;
+      member = turned_member n fs scheme set (attributes c.with.result) key a c.requires.scheme set_in turned c.with.ensures.members greedy;
     }
 
 pub next_subset-next-requires : goal.next_subset-next-requires
-next_subset-next-requires c =
-    let s = c.args.schema.now in
-    let P = λ (y : Attributes). BecomesSuperkeyBy (width_of s) (functional_part (theory_of s)) (attributes c.args.scheme) (union y (attributes c.without-rest.result)) c.args.attribute in
-    let before = subst (λ (o : Option AttrSet). IsSearched P (attributes c.without-free.result) o) c.in-Some.is c.loop-next.invariant in
-    record { within = before.within }
+next_subset-next-requires c = record { within = (searched (goal.at.next_subset-next-requires c).In-Some).within }
 
 pub loop-next-smaller : goal.loop-next-smaller
 loop-next-smaller c = subsets_left-less c.in-Some.set c.loop-next.next c.next_subset-next.result c.in-Some.is (omega arith) c.next_subset-next.ensures.number
@@ -82,13 +82,12 @@ loop-next-preserved c =
     let n = width_of s in
     let fs = functional_part (theory_of s) in
     let scheme = attributes c.args.scheme in
-    let rest = attributes c.without-rest.result in
     let free = attributes c.without-free.result in
     let a = c.args.attribute in
-    let P = λ (y : Attributes). BecomesSuperkeyBy n fs scheme (union y rest) a in
-    let before = subst (λ (o : Option AttrSet). IsSearched P free o) c.in-Some.is c.loop-next.invariant in
-    let same : union (attributes c.in-Some.set) rest ≡ attributes c.union-before.result = sym c.union-before.ensures.members in
-    search_on n P free c.in-Some.set c.next_subset-next.result (λ k m. c.requires.scheme k (c.requires.within_scheme k (without_in free (attributes c.args.whole) a c.without-free.ensures.members k m))) before
+    let at = (goal.at.loop-next-preserved c).In-Some in
+    let before = searched at in
+    let same : union (attributes c.in-Some.set) (attributes c.without-rest.result) ≡ attributes c.union-before.result = sym c.union-before.ensures.members in
+    search_on n (Turns at) free c.in-Some.set c.next_subset-next.result (λ k m. c.requires.scheme k (c.requires.within_scheme k (without_in free (attributes c.args.whole) a c.without-free.ensures.members k m))) before
     (λ turned. false≢true (sym c.if-becomes_superkey_by.false ∙ c.becomes_superkey_by.ensures.turned.1 (subst (λ (v : Attributes). BecomesSuperkeyBy n fs scheme v a) same turned)))
     c.next_subset-next.ensures.none.0 c.next_subset-next.ensures.next
 

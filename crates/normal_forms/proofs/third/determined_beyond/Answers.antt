@@ -1,16 +1,21 @@
-use Rattle.std.proofs.Common.{◌≡◌, ℕ, ◌↔◌, true, List, sym, subst, ◌∙◌}
+use Rattle.std.proofs.Common.{◌≡◌, ◌↔◌, ℕ, true, sym, ◌∙◌}
 use Rattle.std.proofs.lemmas.Bool.{true≢false, false≢true}
-use Rattle.std.specs.Prelude.{All}
-use Rattle.attr_sets.specs.Attributes.{below}
 use Rattle.attr_sets.specs.Sets.{attributes}
-use Rattle.dep_model.specs.declared.dep.Dep.{Dep}
 use Rattle.dep_model.specs.Dependencies.{functional_part}
-use Rattle.dep_model.specs.Deps.{dependencies_of, IsDepWithin}
 use Rattle.dep_model.specs.Keys.{InClosure}
 use Rattle.dep_model.specs.Schemas.{width_of, theory_of}
 use Rattle.attr_sets.proofs.AttributesLemmas.{same_at}
+use Rattle.fd_closure.proofs.SchemaLemmas.{closure_of_schema}
 use Rattle.normal_forms.proofs.BreakLemmas.{superkey_closed, closed_superkey, right_told}
 use Rattle.normal_forms.proofs.third.determined_beyond.Goals as goal
+use Rattle.normal_forms.proofs.third.determined_beyond.Goals.{After-closure-found}
+
+-- what was found is the closure of the left side
+found_is : (c : After-closure-found) → (a : ℕ) → (attributes c.closure-found.result a ≡ true)
+    ↔ InClosure (width_of c.args.schema.now) (functional_part (theory_of c.args.schema.now)) (attributes c.args.lhs) a
+found_is c =
+    closure_of_schema c.args.schema.now c.deps.result.now c.deps.ensures.deps (attributes c.args.lhs) (attributes c.closure-found.result) (λ k m. c.requires.scheme k (c.requires.lhs k m))
+    c.closure-found.ensures.closure
 
 pub returns-then-is_subset : goal.returns-then-is_subset
 returns-then-is_subset c =
@@ -20,9 +25,7 @@ returns-then-is_subset c =
     let scheme = attributes c.args.scheme in
     let x = attributes c.args.lhs in
     let closed = attributes c.closure-found.result in
-    let within : All (IsDepWithin (below n)) c.deps.result.now = subst (λ (es : List Dep). All (IsDepWithin (below n)) es) (sym c.deps.ensures.deps) s.valid.deps_within in
-    let exact = subst (λ (es : List Dep). (a : ℕ) → (closed a ≡ true) ↔ InClosure n (functional_part (dependencies_of es)) x a) c.deps.ensures.deps
-    (c.closure-found.ensures.closure n within (λ k m. c.requires.scheme k (c.requires.lhs k m))) in
+    let exact = found_is (goal.at.returns-then-is_subset c).After-closure-found in
     record {
       beyond = λ a. (
         (λ m. absurd (true≢false (sym m ∙ same_at c.empty.ensures.members a))),
@@ -38,9 +41,7 @@ returns c =
     let scheme = attributes c.args.scheme in
     let x = attributes c.args.lhs in
     let closed = attributes c.closure-found.result in
-    let within : All (IsDepWithin (below n)) c.deps.result.now = subst (λ (es : List Dep). All (IsDepWithin (below n)) es) (sym c.deps.ensures.deps) s.valid.deps_within in
-    let exact = subst (λ (es : List Dep). (a : ℕ) → (closed a ≡ true) ↔ InClosure n (functional_part (dependencies_of es)) x a) c.deps.ensures.deps
-    (c.closure-found.ensures.closure n within (λ k m. c.requires.scheme k (c.requires.lhs k m))) in
+    let exact = found_is (goal.at.returns c).After-closure-found in
     let right = right_told n fs scheme x closed (attributes c.intersection.result) (attributes c.difference.result) c.requires.scheme c.requires.lhs exact c.intersection.ensures.members c.difference.ensures.members in
     record {
       beyond = λ a. (

@@ -12,6 +12,15 @@ use Rattle.normal_forms.proofs.AddedLemmas.{functional_within, functional_twice}
 use Rattle.normal_forms.proofs.SearchLemmas.{IsSearched, search_start, search_weaker, search_on, search_end, subsets_left-less}
 use Rattle.normal_forms.proofs.FormLemmas.{IsUntold, third_from, third_first}
 use Rattle.normal_forms.proofs.third.third_violation.Goals as goal
+use Rattle.normal_forms.proofs.third.third_violation.Goals.{In-Some}
+
+-- the subsets before the one that is tried
+searched : (c : In-Some) → IsSearched (IsUntold (width_of c.args.schema.now) (functional_part (theory_of c.args.schema.now)) (attributes c.args.scheme) (attributes c.loop-next.primes))
+    (attributes c.functionally_searched_attributes-whole.result) (Some c.in-Some.lhs)
+searched c =
+    let s = c.args.schema.now in
+    let P = IsUntold (width_of s) (functional_part (theory_of s)) (attributes c.args.scheme) (attributes c.loop-next.primes) in
+    subst (λ (o : Option AttrSet). IsSearched P (attributes c.functionally_searched_attributes-whole.result) o) c.in-Some.is c.loop-next.invariant.searched
 
 pub loop-next-init : goal.loop-next-init
 loop-next-init c =
@@ -24,11 +33,7 @@ loop-next-init c =
 
 pub determined_beyond-beyond-requires-clause-lhs : goal.determined_beyond-beyond-requires-clause-lhs
 determined_beyond-beyond-requires-clause-lhs c k m =
-    let s = c.args.schema.now in
-    let P = IsUntold (width_of s) (functional_part (theory_of s)) (attributes c.args.scheme) (attributes c.loop-next.primes) in
-    let whole = attributes c.functionally_searched_attributes-whole.result in
-    let before = subst (λ (o : Option AttrSet). IsSearched P whole o) c.in-Some.is c.loop-next.invariant.searched in
-    c.functionally_searched_attributes-whole.ensures.within k (before.within k m)
+    c.functionally_searched_attributes-whole.ensures.within k ((searched (goal.at.determined_beyond-beyond-requires-clause-lhs c).In-Some).within k m)
 
 pub prime_or_not-requires-clause-primes : goal.prime_or_not-requires-clause-primes
 prime_or_not-requires-clause-primes c = c.loop-next.invariant.prime
@@ -48,7 +53,7 @@ returns-in-NotPrime-clause-chosen c =
     let a = c.in-NotPrime.attribute in
     let sifted = c.in-NotPrime.ensures.prime_or_not in
     let exact = c.determined_beyond-beyond.ensures.beyond in
-    let before = subst (λ (o : Option AttrSet). IsSearched (IsUntold n fs scheme primes) whole o) c.in-Some.is c.loop-next.invariant.searched in
+    let before = searched (goal.at.returns-in-NotPrime-clause-chosen c).In-Some in
     let here = (exact a).0 sifted.0 in
     let violates : ViolatesThird n fs scheme x (attributes c.single-rhs.result) = record {
       no_superkey = here.0;
@@ -66,11 +71,7 @@ returns-in-NotPrime-clause-chosen c =
     }
 
 pub next_subset-next-requires : goal.next_subset-next-requires
-next_subset-next-requires c =
-    let s = c.args.schema.now in
-    let P = IsUntold (width_of s) (functional_part (theory_of s)) (attributes c.args.scheme) (attributes c.loop-next.primes) in
-    let before = subst (λ (o : Option AttrSet). IsSearched P (attributes c.functionally_searched_attributes-whole.result) o) c.in-Some.is c.loop-next.invariant.searched in
-    record { within = before.within }
+next_subset-next-requires c = record { within = (searched (goal.at.next_subset-next-requires c).In-Some).within }
 
 pub loop-next-smaller : goal.loop-next-smaller
 loop-next-smaller c = subsets_left-less c.in-Some.lhs c.loop-next.next c.next_subset-next.result c.in-Some.is (omega arith) c.next_subset-next.ensures.number
@@ -85,7 +86,7 @@ loop-next-preserved c =
     let known = attributes c.in-Prime.known in
     let whole = attributes c.functionally_searched_attributes-whole.result in
     let sifted = c.in-Prime.ensures.prime_or_not in
-    let before = subst (λ (o : Option AttrSet). IsSearched (IsUntold n fs scheme primes) whole o) c.in-Some.is c.loop-next.invariant.searched in
+    let before = searched (goal.at.loop-next-preserved c).In-Some in
     let fewer = search_weaker (IsUntold n fs scheme primes) (IsUntold n fs scheme known) whole (Some c.in-Some.lhs)
     (λ x u. (u.0, (u.1.0, u.1.1, false_from_ne_true (primes u.1.0) (λ m. true≢false (sym (sifted.2 u.1.0 m) ∙ u.1.2))))) before in
     record {

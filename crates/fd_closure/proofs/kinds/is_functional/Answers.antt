@@ -1,3 +1,4 @@
+-- Whether all are functional: where the loop ends none is multivalued.
 use Rattle.std.proofs.Common.{◌≡◌, true, take_all, List, refl, sym, ◌∙◌, ap, subst}
 use Rattle.std.proofs.lemmas.Bool.{false≢true, true≢false}
 use Rattle.std.proofs.lemmas.List.Elements.{All-more}
@@ -7,8 +8,8 @@ use Rattle.dep_model.specs.declared.dep.Dep.TheVariants.{Fd}
 use Rattle.dep_model.specs.Dependencies.{Dependency, is_fd}
 use Rattle.dep_model.specs.Deps.{dependency_of, dependencies_of}
 use Rattle.dep_model.proofs.DepLemmas.{dependencies_all-to, functional_list}
-use Rattle.key_listing.proofs.FoundLemmas.{all_functional}
-use Rattle.key_listing.proofs.kinds.is_functional.Goals as goal
+use Rattle.fd_closure.proofs.ClosedSets.{all_functional}
+use Rattle.fd_closure.proofs.kinds.is_functional.Goals as goal
 
 pub loop-dep-preserved : goal.loop-dep-preserved
 loop-dep-preserved c =

@@ -4,10 +4,10 @@ ghost use Rattle.dep_model.specs.Deps.{dependencies_of};
 
 use dep_model::Dep;
 
-// Whether all dependencies are functional.
+/// Whether all dependencies of a list are functional.
 pub fn is_functional(deps: &[Dep]) -> bool
     ensures functional { IsTrue result
-        → functional_part (dependencies_of deps.now) ≡ dependencies_of deps.now }
+        ↔ functional_part (dependencies_of deps.now) ≡ dependencies_of deps.now }
 {
     for dep in deps {
         if let Dep::Mvd { .. } = dep {
