@@ -1,10 +1,10 @@
 -- Rows and values by numbers: for `Interned` and `Groups` of csv_rows and the crates that use them.
 -- `Desk` does not cite it.
-use Rattle.std.specs.Prelude.{◌≡◌, ℕ, ◌<◌, ◌≤◌, ◌↔◌, ◌⊎◌, List, [], length, slice_index_or, Some}
+use Rattle.std.specs.Prelude.{◌≡◌, ℕ, ◌<◌, ◌≤◌, ◌↔◌, ◌⊎◌, List, length, slice_index_or, Some}
 use Rattle.std.specs.List.{slice_get}
 use Rattle.row_store.specs.Rows.{row_at}
 use Rattle.attr_sets.specs.Attributes.{Attributes}
-use Rattle.dep_model.specs.Tuples.{Tuple, Relation, AgreeOn}
+use Rattle.dep_model.specs.Tuples.{Relation, AgreeOn}
 
 -- the number at a position of a list of numbers
 abbrev pub number_at : List ℕ → ℕ → ℕ
