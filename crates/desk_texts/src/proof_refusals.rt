@@ -105,9 +105,10 @@ fn put_fault(alloc: Global, text: &mut Vec<u8>, kind: FaultKind) -> Result<(), O
         ≡ text.old.items ++ (codes "rule does not apply: " ++ decimal (fault_number kind) ++ codes " "
         ++ fault_text kind)) }
 {
-    add(text, b"rule does not apply: ")?;
-    add_number(text, alloc, kind.number())?;
-    add(text, b" ")?;
-    add_displayed(text, alloc, &kind)?;
-    Ok(())
+    let mut reason = Vec::new(alloc);
+    add(&mut reason, b"rule does not apply: ")?;
+    add_number(&mut reason, alloc, kind.number())?;
+    add(&mut reason, b" ")?;
+    add_displayed(&mut reason, alloc, &kind)?;
+    add(text, &reason)
 }
