@@ -40,7 +40,9 @@ destinations_in_call {T} is_known finished faults old new =
 -- each destination was given these tables, and so it ended
 abbrev pub WrittenAs : DestinationsInCall → List TableValue → List WriteOutcome → Type 0
 WrittenAs destinations tables ends =
-    AtEachPosition (WrittenDestination destinations.is_known destinations.finished destinations.faults tables) destinations.old destinations.new ends
+    AtEachPosition
+    (WrittenDestination destinations.is_known destinations.finished destinations.faults tables)
+    destinations.old destinations.new ends
 
 abbrev pub is_done : WriteOutcome → Bool
 is_done Done = true
@@ -91,7 +93,8 @@ ComesTo destinations response ending =
 
 -- the endings of answers that are allowed
 abbrev pub EndsAs : DestinationsInCall → Allowed → Outcomes
-EndsAs destinations allowed ending = (response : ResponseValue) × allowed response × ComesTo destinations response ending
+EndsAs destinations allowed ending =
+    (response : ResponseValue) × allowed response × ComesTo destinations response ending
 
 -- the destinations are as they were, or each was given the tables of the answer, and one ran out of
 -- memory
@@ -104,7 +107,8 @@ LeavesDestinations destinations response =
 -- what being out of memory leaves of the destinations
 abbrev pub Leaves : DestinationsInCall → Allowed → Type 0
 Leaves destinations allowed =
-    (destinations.new ≡ destinations.old) ⊎ ((response : ResponseValue) × allowed response × LeavesDestinations destinations response)
+    (destinations.new ≡ destinations.old)
+    ⊎ ((response : ResponseValue) × allowed response × LeavesDestinations destinations response)
 
 -- no destination's error count increased
 abbrev pub NoneFails : DestinationsInCall → Type 0

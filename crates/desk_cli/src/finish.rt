@@ -38,7 +38,8 @@ pub fn deliver_tables<T: Destination>(
         (destinations_in_call T.is_known T.finished T.faults destinations.old.items destinations.new.items)
         (response_value response) (outcome_value end)) }
     ensures err { OnErr result
-        (LeavesDestinations (destinations_in_call T.is_known T.finished T.faults destinations.old.items destinations.new.items)
+        (LeavesDestinations
+        (destinations_in_call T.is_known T.finished T.faults destinations.old.items destinations.new.items)
         (response_value response)) }
     ensures count { length destinations.new.items ≡ length destinations.old.items }
 {
@@ -68,7 +69,8 @@ fn hand_over<T: Destination>(
         (yes_with_tables text.items (table_values tables.now)) (table_values tables.now)
         (outcome_value end)) }
     ensures err { OnErr result
-        (LeavesDestinations (destinations_in_call T.is_known T.finished T.faults destinations.old.items destinations.new.items)
+        (LeavesDestinations
+        (destinations_in_call T.is_known T.finished T.faults destinations.old.items destinations.new.items)
         (yes_with_tables text.items (table_values tables.now))) }
     ensures count { length destinations.new.items ≡ length destinations.old.items }
 {

@@ -59,7 +59,8 @@ pub fn desk<F: FileSource, K: Sink>(
         (F.faults source.new)
         (F.taken source.new))
         (sink_in_call (K.contents out.old) (K.contents out.new) (K.faults out.old) (K.faults out.new))
-        (destinations_in_call ⟦<Box<dyn Destination> as Destination>⟧.is_known ⟦<Box<dyn Destination> as Destination>⟧.finished
+        (destinations_in_call ⟦<Box<dyn Destination> as Destination>⟧.is_known
+        ⟦<Box<dyn Destination> as Destination>⟧.finished
         ⟦<Box<dyn Destination> as Destination>⟧.faults destinations.old.items destinations.new.items)
         result }
 {

@@ -24,11 +24,12 @@ IsYesOrNo status = (status ≡ Yes) ⊎ (status ≡ No)
 
 -- over these files, each answer that the words may have is yes or no
 abbrev pub IsAnswered : Files → List (List ℕ) → Type 0
-IsAnswered files words = (response : ResponseValue) → Answers (known_files files) words response → IsYesOrNo response.status
+IsAnswered files words =
+    (response : ResponseValue) → Answers (known_files files) words response → IsYesOrNo response.status
 
 -- it is known that the file source holds these files, and no error count increased
-pub record FailsNowhere (files : Files) (source : FileSourceInCall) (sink : SinkInCall) (destinations : DestinationsInCall)
-    : Type 0 where
+pub record FailsNowhere (files : Files) (source : FileSourceInCall) (sink : SinkInCall)
+    (destinations : DestinationsInCall) : Type 0 where
   pub holds : source.files ≡ Some files
   pub reads : ErrorCountIncreased source.before source.after → ⊥
   pub writes : ErrorCountIncreased sink.before sink.after → ⊥
