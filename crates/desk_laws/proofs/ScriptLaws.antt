@@ -21,7 +21,7 @@ use Rattle.desk_cli.specs.Readings.{known_files}
 use Rattle.desk_cli.specs.Scripts.{WithTableName, AsksTable, MakesTables, MakesSchemes}
 use Rattle.desk_laws.specs.Completeness.{IsYesOrNo, IsAnswered, HasPlanInForm}
 use Rattle.desk_laws.proofs.CompleteLaws.{after_schema, after_plan}
-use Rattle.desk_laws.proofs.TableLaws.{after_form, after_loss}
+use Rattle.desk_laws.proofs.TableLaws.{after_form, after_loss, form_answered}
 
 -- ---- steps and answers
 after_name : (table : List ℕ) (rest : Allowed) (response : ResponseValue) → IsTrue (is_table_name table)
@@ -100,11 +100,9 @@ draw_asks Fourth files name response answered = answered
 pub draw_answered : (form : Form) (files : Files) (name : List ℕ)
     → (schema : Schema) → IsSchemaFile (known_files files) name schema → HasPlanInForm schema form
     → IsAnswered files (codes "draw" ∷ form_word form ∷ name ∷ [])
-draw_answered form files name schema file can response answered =
-    after_schema files name schema (λ r. WithPlanInForm r form (DrawsTables r)) response file
-    (λ r same more. after_form schema r form (DrawsTables r) response same can
-    (λ plan found. DrawsTables-yes_or_no r plan response found) more)
-    (draw_asks form files name response answered)
+draw_answered form files name =
+    form_answered files (codes "draw" ∷ form_word form ∷ name ∷ []) name form DrawsTables DrawsTables-yes_or_no
+    (draw_asks form files name)
 
 draw_plan_asks : (files : Files) (name file : List ℕ) (response : ResponseValue)
     → Answers (known_files files) (codes "draw" ∷ codes "plan" ∷ name ∷ file ∷ []) response

@@ -145,6 +145,18 @@ check_answered form files name file schema plan held_schema held_plan narrow res
     (λ p is found. JudgesForm-yes_or_no r form p plan response is narrow found) more)
     (check_form_asks form files name file response answered)
 
+-- a command over a schema alone that finds a plan in a form and goes on with it
+pub form_answered : (files : Files) (words : List (List ℕ)) (name : List ℕ) (form : Form) (rest : Schema → List AttrSet → Allowed)
+    → ((r : Schema) (plan : List AttrSet) (response : ResponseValue) → rest r plan response → IsYesOrNo response.status)
+    → ((response : ResponseValue) → Answers (known_files files) words response
+    → WithSchema (known_files files) name (λ r. WithPlanInForm r form (rest r)) response)
+    → (schema : Schema) → IsSchemaFile (known_files files) name schema → HasPlanInForm schema form
+    → IsAnswered files words
+form_answered files words name form rest says asks schema file can response answered =
+    after_schema files name schema (λ r. WithPlanInForm r form (rest r)) response file
+    (λ r same more. after_form schema r form (rest r) response same can (λ plan found. says r plan response found) more)
+    (asks response answered)
+
 ddl_asks : (form : Form) (files : Files) (name : List ℕ) (response : ResponseValue) → Answers (known_files files) (codes "ddl" ∷ form_word form ∷ name ∷ []) response
     → WithSchema (known_files files) name (λ r. WithPlanInForm r form (WritesTables r)) response
 unfolding form_of form_over_schema after_ddl normal_form schema_alone Performs Does
@@ -155,11 +167,9 @@ ddl_asks Fourth files name response answered = answered
 pub ddl_answered : (form : Form) (files : Files) (name : List ℕ)
     → (schema : Schema) → IsSchemaFile (known_files files) name schema → HasPlanInForm schema form
     → IsAnswered files (codes "ddl" ∷ form_word form ∷ name ∷ [])
-ddl_answered form files name schema file can response answered =
-    after_schema files name schema (λ r. WithPlanInForm r form (WritesTables r)) response file
-    (λ r same more. after_form schema r form (WritesTables r) response same can
-    (λ plan found. WritesTables-yes_or_no r plan response found) more)
-    (ddl_asks form files name response answered)
+ddl_answered form files name =
+    form_answered files (codes "ddl" ∷ form_word form ∷ name ∷ []) name form WritesTables WritesTables-yes_or_no
+    (ddl_asks form files name)
 
 migrate_asks : (form : Form) (files : Files) (name file : List ℕ) (response : ResponseValue) → Answers (known_files files) (codes "migrate" ∷ form_word form ∷ name ∷ file ∷ []) response
     → WithSchema (known_files files) name (λ r. WithRows (known_files files) r file (λ rows. WithPlanInForm r form (λ plan. MigratesRows r (schemes_of plan) rows))) response
@@ -187,11 +197,8 @@ pub split_answered : (files : Files) (words : List (List ℕ)) (name : List ℕ)
     → WithSchema (known_files files) name (λ r. WithPlanInForm r form (ShowsPlan r)) response)
     → (schema : Schema) → IsSchemaFile (known_files files) name schema → HasPlanInForm schema form
     → IsAnswered files words
-split_answered files words name form asks schema file can response answered =
-    after_schema files name schema (λ r. WithPlanInForm r form (ShowsPlan r)) response file
-    (λ r same more. after_form schema r form (ShowsPlan r) response same can
-    (λ plan says. inl (ap (λ (a : ResponseValue). a.status) says)) more)
-    (asks response answered)
+split_answered files words name form asks =
+    form_answered files words name form ShowsPlan (λ r plan response says. inl (ap (λ (a : ResponseValue). a.status) says)) asks
 
 pub split_bcnf_asks : (files : Files) (name : List ℕ) (response : ResponseValue) → Answers (known_files files) (codes "split" ∷ codes "bcnf" ∷ name ∷ []) response
     → WithSchema (known_files files) name (λ r. WithPlanInForm r Bcnf (ShowsPlan r)) response

@@ -3,11 +3,12 @@
 ghost use Rattle.std.specs.Prelude.{ℕ, List, [], ◌∷◌, IsTrue, codes};
 ghost use Rattle.attr_sets.specs.Attributes.{Attributes};
 ghost use Rattle.dep_model.specs.declared.schema.Schema.{Schema};
-ghost use Rattle.normal_forms.specs.declared.forms.Form.TheVariants as forms;
+ghost use Rattle.normal_forms.specs.declared.forms.Form.{Form};
 ghost use Rattle.desk_outside.specs.Files.{Files};
 ghost use Rattle.table_scripts.specs.Naming.{is_table_name};
 ghost use Rattle.desk_cli.specs.Inputs.{IsSchemaFile};
 ghost use Rattle.desk_cli.specs.Joins.{IsTooLarge};
+ghost use Rattle.desk_cli.specs.NormalForms.{form_word};
 ghost use Rattle.desk_cli.specs.Plans.{IsPlanFile};
 ghost use Rattle.desk_cli.specs.Readings.{known_files};
 ghost use Rattle.desk_laws.specs.Completeness.{IsAnswered, HasPlanInForm};
@@ -23,18 +24,10 @@ pub fn sql_check_is_answered()
 /// `sql migrate` is answered where also a plan in the form is found within the limits, or the plan file means
 /// a plan whose chase keeps within its limit.
 pub fn sql_migrate_is_answered()
-    ensures third { (files : Files) (name table : List ℕ) (schema : Schema)
+    ensures in_form { (form : Form) (files : Files) (name table : List ℕ) (schema : Schema)
         → IsSchemaFile (known_files files) name schema → IsTrue (is_table_name table)
-        → HasPlanInForm schema forms.Third
-        → IsAnswered files (codes "sql" ∷ codes "migrate" ∷ codes "3nf" ∷ name ∷ table ∷ []) }
-    ensures bcnf { (files : Files) (name table : List ℕ) (schema : Schema)
-        → IsSchemaFile (known_files files) name schema → IsTrue (is_table_name table)
-        → HasPlanInForm schema forms.Bcnf
-        → IsAnswered files (codes "sql" ∷ codes "migrate" ∷ codes "bcnf" ∷ name ∷ table ∷ []) }
-    ensures fourth { (files : Files) (name table : List ℕ) (schema : Schema)
-        → IsSchemaFile (known_files files) name schema → IsTrue (is_table_name table)
-        → HasPlanInForm schema forms.Fourth
-        → IsAnswered files (codes "sql" ∷ codes "migrate" ∷ codes "4nf" ∷ name ∷ table ∷ []) }
+        → HasPlanInForm schema form
+        → IsAnswered files (codes "sql" ∷ codes "migrate" ∷ form_word form ∷ name ∷ table ∷ []) }
     ensures plan { (files : Files) (name file table : List ℕ) (schema : Schema) (plan : List Attributes)
         → IsSchemaFile (known_files files) name schema → IsPlanFile (known_files files) schema file plan
         → IsTrue (is_table_name table) → (IsTooLarge schema plan → ⊥)
@@ -44,15 +37,9 @@ pub fn sql_migrate_is_answered()
 /// `draw` is answered where the schema file means a schema, and a plan in the form is found within the
 /// limits, or the plan file means a plan.
 pub fn draw_is_answered()
-    ensures third { (files : Files) (name : List ℕ) (schema : Schema)
-        → IsSchemaFile (known_files files) name schema → HasPlanInForm schema forms.Third
-        → IsAnswered files (codes "draw" ∷ codes "3nf" ∷ name ∷ []) }
-    ensures bcnf { (files : Files) (name : List ℕ) (schema : Schema)
-        → IsSchemaFile (known_files files) name schema → HasPlanInForm schema forms.Bcnf
-        → IsAnswered files (codes "draw" ∷ codes "bcnf" ∷ name ∷ []) }
-    ensures fourth { (files : Files) (name : List ℕ) (schema : Schema)
-        → IsSchemaFile (known_files files) name schema → HasPlanInForm schema forms.Fourth
-        → IsAnswered files (codes "draw" ∷ codes "4nf" ∷ name ∷ []) }
+    ensures in_form { (form : Form) (files : Files) (name : List ℕ) (schema : Schema)
+        → IsSchemaFile (known_files files) name schema → HasPlanInForm schema form
+        → IsAnswered files (codes "draw" ∷ form_word form ∷ name ∷ []) }
     ensures plan { (files : Files) (name file : List ℕ) (schema : Schema) (plan : List Attributes)
         → IsSchemaFile (known_files files) name schema → IsPlanFile (known_files files) schema file plan
         → IsAnswered files (codes "draw" ∷ codes "plan" ∷ name ∷ file ∷ []) }

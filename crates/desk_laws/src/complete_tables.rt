@@ -11,6 +11,7 @@ ghost use Rattle.dep_model.specs.Tuples.{Relation};
 ghost use Rattle.dep_model.specs.declared.schema.Schema.{Schema};
 ghost use Rattle.fd_discovery.specs.declared.headed_rows.Headed.{Headed};
 ghost use Rattle.normal_forms.specs.Chosen.{IsWide};
+ghost use Rattle.normal_forms.specs.declared.forms.Form.{Form};
 ghost use Rattle.normal_forms.specs.declared.forms.Form.TheVariants as forms;
 ghost use Rattle.table_join.specs.Answers.{IsWithinLimit};
 ghost use Rattle.table_join.specs.Tables.{tables_of, plan_of_tables};
@@ -21,6 +22,7 @@ ghost use Rattle.desk_words.specs.Forms.{are_few};
 ghost use Rattle.desk_cli.specs.Inputs.{IsSchemaFile};
 ghost use Rattle.desk_cli.specs.Joins.{IsTooLarge};
 ghost use Rattle.desk_words.specs.Numbers.{is_count};
+ghost use Rattle.desk_cli.specs.NormalForms.{form_word};
 ghost use Rattle.desk_cli.specs.Plans.{IsPlanFile};
 ghost use Rattle.desk_cli.specs.Readings.{known_files};
 ghost use Rattle.desk_cli.specs.Rejoining.{ArePartFiles};
@@ -30,18 +32,10 @@ ghost use Rattle.desk_laws.specs.Completeness.{IsAnswered, HasPlanInForm};
 /// `check form` is answered where the schema file means a schema, the plan file a plan, and no scheme of
 /// the plan has more attributes than are tested.
 pub fn check_form_is_answered()
-    ensures third { (files : Files) (name file : List ℕ) (schema : Schema) (plan : List Attributes)
+    ensures in_form { (form : Form) (files : Files) (name file : List ℕ) (schema : Schema) (plan : List Attributes)
         → IsSchemaFile (known_files files) name schema → IsPlanFile (known_files files) schema file plan
         → All (λ scheme. IsWide scheme → ⊥) plan
-        → IsAnswered files (codes "check" ∷ codes "form" ∷ codes "3nf" ∷ name ∷ file ∷ []) }
-    ensures bcnf { (files : Files) (name file : List ℕ) (schema : Schema) (plan : List Attributes)
-        → IsSchemaFile (known_files files) name schema → IsPlanFile (known_files files) schema file plan
-        → All (λ scheme. IsWide scheme → ⊥) plan
-        → IsAnswered files (codes "check" ∷ codes "form" ∷ codes "bcnf" ∷ name ∷ file ∷ []) }
-    ensures fourth { (files : Files) (name file : List ℕ) (schema : Schema) (plan : List Attributes)
-        → IsSchemaFile (known_files files) name schema → IsPlanFile (known_files files) schema file plan
-        → All (λ scheme. IsWide scheme → ⊥) plan
-        → IsAnswered files (codes "check" ∷ codes "form" ∷ codes "4nf" ∷ name ∷ file ∷ []) }
+        → IsAnswered files (codes "check" ∷ codes "form" ∷ form_word form ∷ name ∷ file ∷ []) }
 {}
 
 /// `check keeps` is answered where the schema file means a schema and the plan file a plan.
@@ -77,15 +71,9 @@ pub fn exhibit_is_answered()
 /// `ddl` is answered where the schema file means a schema, and a plan in the form is found within the
 /// limits, or the plan file means a plan whose chase keeps within its limit.
 pub fn ddl_is_answered()
-    ensures third { (files : Files) (name : List ℕ) (schema : Schema)
-        → IsSchemaFile (known_files files) name schema → HasPlanInForm schema forms.Third
-        → IsAnswered files (codes "ddl" ∷ codes "3nf" ∷ name ∷ []) }
-    ensures bcnf { (files : Files) (name : List ℕ) (schema : Schema)
-        → IsSchemaFile (known_files files) name schema → HasPlanInForm schema forms.Bcnf
-        → IsAnswered files (codes "ddl" ∷ codes "bcnf" ∷ name ∷ []) }
-    ensures fourth { (files : Files) (name : List ℕ) (schema : Schema)
-        → IsSchemaFile (known_files files) name schema → HasPlanInForm schema forms.Fourth
-        → IsAnswered files (codes "ddl" ∷ codes "4nf" ∷ name ∷ []) }
+    ensures in_form { (form : Form) (files : Files) (name : List ℕ) (schema : Schema)
+        → IsSchemaFile (known_files files) name schema → HasPlanInForm schema form
+        → IsAnswered files (codes "ddl" ∷ form_word form ∷ name ∷ []) }
     ensures plan { (files : Files) (name file : List ℕ) (schema : Schema) (plan : List Attributes)
         → IsSchemaFile (known_files files) name schema → IsPlanFile (known_files files) schema file plan
         → (IsTooLarge schema plan → ⊥)
@@ -94,18 +82,10 @@ pub fn ddl_is_answered()
 
 /// `migrate` is answered where also the CSV file has rows.
 pub fn migrate_is_answered()
-    ensures third { (files : Files) (name file : List ℕ) (schema : Schema) (rows : Relation)
+    ensures in_form { (form : Form) (files : Files) (name file : List ℕ) (schema : Schema) (rows : Relation)
         → IsSchemaFile (known_files files) name schema → IsRowsFile (known_files files) schema file rows
-        → HasPlanInForm schema forms.Third
-        → IsAnswered files (codes "migrate" ∷ codes "3nf" ∷ name ∷ file ∷ []) }
-    ensures bcnf { (files : Files) (name file : List ℕ) (schema : Schema) (rows : Relation)
-        → IsSchemaFile (known_files files) name schema → IsRowsFile (known_files files) schema file rows
-        → HasPlanInForm schema forms.Bcnf
-        → IsAnswered files (codes "migrate" ∷ codes "bcnf" ∷ name ∷ file ∷ []) }
-    ensures fourth { (files : Files) (name file : List ℕ) (schema : Schema) (rows : Relation)
-        → IsSchemaFile (known_files files) name schema → IsRowsFile (known_files files) schema file rows
-        → HasPlanInForm schema forms.Fourth
-        → IsAnswered files (codes "migrate" ∷ codes "4nf" ∷ name ∷ file ∷ []) }
+        → HasPlanInForm schema form
+        → IsAnswered files (codes "migrate" ∷ form_word form ∷ name ∷ file ∷ []) }
     ensures plan { (files : Files) (name plan_file file : List ℕ) (schema : Schema)
         (plan : List Attributes)
         (rows : Relation)
