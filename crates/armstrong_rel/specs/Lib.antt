@@ -1,3 +1,5 @@
+-- The definitions of armstrong_rel, in reading order: closed sets, those that are no intersection
+-- of others, and the relation of them that is printed.
 pub mod ClosedSets
 pub mod Exhibits
 pub mod Closures

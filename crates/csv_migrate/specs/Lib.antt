@@ -1,1 +1,2 @@
+-- The definitions of csv_migrate: the tables of a migration.
 pub mod Migration

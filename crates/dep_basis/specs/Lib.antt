@@ -1,3 +1,5 @@
+-- The definitions of dep_basis, in reading order: refining blocks, the dependency basis and its
+-- trace, decisions, and the proofs that are printed.
 pub mod Refining
 pub mod Pieces
 pub mod Parts

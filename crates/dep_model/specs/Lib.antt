@@ -1,3 +1,5 @@
+-- The definitions of dep_model, in reading order: relations, dependencies and implication, keys,
+-- normal forms and plans; then names, columns and schemas.
 pub mod Tuples
 pub mod Dependencies
 pub mod Failures

@@ -1,3 +1,5 @@
+-- The definitions of derivation, in reading order: proof trees, the table of rules, what a tree
+-- proves, and the trees that are built and shortened.
 pub mod Trees
 pub mod Table
 pub mod Conclusions

@@ -1,3 +1,5 @@
+-- The definitions of desk_cli, in reading order: what a command may answer and how files are read;
+-- each command; what the whole call promises.
 pub mod ResponseValues
 pub mod Readings
 pub mod Inputs

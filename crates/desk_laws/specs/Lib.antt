@@ -1,1 +1,2 @@
+-- The definitions of desk_laws: when nothing fails, and when a plan is found.
 pub mod Completeness

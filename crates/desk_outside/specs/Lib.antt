@@ -1,3 +1,5 @@
+-- The definitions of desk_outside, in reading order: why a call outside failed, files, folders,
+-- planned faults, and the outside in memory.
 pub mod Causes
 pub mod Files
 pub mod Folders

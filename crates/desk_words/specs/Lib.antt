@@ -1,3 +1,5 @@
+-- The definitions of desk_words, in reading order: the number of `sample`, which words form which
+-- command, and what a command of the code is.
 pub mod Numbers
 pub mod Forms
 pub mod Commands

@@ -1,3 +1,5 @@
+-- The definitions of destinations, in reading order: what a destination stands for, the tables of
+-- files, SQL, what each file has, and tables in memory.
 pub mod Destinations
 pub mod FileTables
 pub mod Sql

@@ -1,3 +1,4 @@
+-- The definitions of lexer, in reading order: bytes, lines, runs of bytes, and tokens.
 pub mod Bytes
 pub mod Lines
 pub mod Pieces

@@ -1,1 +1,2 @@
+-- The definitions of named_tables: tables with names.
 pub mod Tables

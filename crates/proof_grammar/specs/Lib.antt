@@ -1,3 +1,5 @@
+-- The definitions of proof_grammar: what certificates spell and how they are refused; `Meanings`,
+-- `Spelling` and `Refusals` come first.
 pub mod CheckerStates
 pub mod Checked
 pub mod Diagnostics

@@ -1,1 +1,2 @@
+-- The definitions of schema_printer: the texts of sets, dependencies and schemas.
 pub mod Printing

@@ -12,6 +12,9 @@ use std::alloc::Global;
 
 /// The schema in the one form: the lines that declare its attributes, and a line for each dependency.
 /// Where no name is reserved and the text is short enough to be read, it means the same schema.
+///
+/// The commands print a cover or what was discovered, by `print_deps`. This one stays for tests: it is
+/// the text that the law `printed_schema_means` of the grammar is about.
 pub fn print_schema(alloc: Global, schema: &Schema) -> Result<Vec<u8>, OutOfMemory>
     ensures text { IfOk result
         (λ text. text.items ≡ declared_text (types_of schema.now) (names_of schema.now)

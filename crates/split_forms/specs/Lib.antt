@@ -1,3 +1,5 @@
+-- The definitions of split_forms, in reading order: lists of schemes, the split step by step, what
+-- it answers, and why it gives up.
 pub mod Lists
 pub mod Splitting
 pub mod Outcomes

@@ -1,1 +1,2 @@
+-- The definitions of sql_names: names and lists of names in SQL.
 pub mod Names

@@ -1,1 +1,2 @@
+-- The definitions of table_drawing: the Graphviz text of a design.
 pub mod Drawing

@@ -1,1 +1,2 @@
+-- The definitions of table_names: the names of tables.
 pub mod TableNames

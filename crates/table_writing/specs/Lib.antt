@@ -1,1 +1,2 @@
+-- The definitions of table_writing: what writing tables to destinations leaves and reports.
 pub mod Writing

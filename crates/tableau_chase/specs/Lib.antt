@@ -1,3 +1,5 @@
+-- The definitions of tableau_chase, in reading order: groups of rows, numbers of symbols, equating,
+-- limits, the chase, its texts, and rows that are made.
 pub mod Groups
 pub mod Numbers
 pub mod Equating

@@ -1,1 +1,2 @@
+-- The definitions of test_data: schemas that are made for tests.
 pub mod TestSchemas
