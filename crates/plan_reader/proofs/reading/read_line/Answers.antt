@@ -8,14 +8,14 @@ use Rattle.plan_reader.proofs.reading.read_line.Goals as goal
 pub returns-in-End-clause-ok : goal.returns-in-End-clause-ok
 returns-in-End-clause-ok c =
     ap (λ (r : Rest). read_rest (names_in c.args.names.now) (schemes_of c.args.schemes.old.items) r) (sym c.start-start.ensures.whole)
-    ∙ line_ended _ _ _ c.in-End.ensures
+    ∙ line_ended _ _ _ c.in-End.ensures.exact
 
 pub returns-in-Refusal-clause-err : goal.returns-in-Refusal-clause-err
 returns-in-Refusal-clause-err c =
     ap (λ (r : Rest). read_rest (names_in c.args.names.now) (schemes_of c.args.schemes.old.items) r) (sym c.start-start.ensures.whole)
-    ∙ line_stopped _ _ _ _ c.in-Refusal.ensures
+    ∙ line_stopped _ _ _ _ c.in-Refusal.ensures.exact
 
 pub returns-in-Err-clause-err : goal.returns-in-Err-clause-err
 returns-in-Err-clause-err c =
     ap (λ (r : Rest). read_rest (names_in c.args.names.now) (schemes_of c.args.schemes.old.items) r) (sym c.start-start.ensures.whole)
-    ∙ scheme_refused _ _ _ _ _ _ c.in-Token.ensures.led ?
+    ∙ scheme_refused _ _ _ _ _ _ c.in-Token.ensures.exact.led ?
