@@ -10,5 +10,4 @@ pub mod Rests
 pub mod Schemas
 pub mod Sets
 pub mod Texts
-pub mod TokenLists
 pub mod Words

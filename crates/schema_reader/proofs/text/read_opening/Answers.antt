@@ -1,11 +1,9 @@
-use Rattle.std.proofs.Common.{◌≡◌, ◌+◌, ◌∙◌, ℕ, List, [], ◌∷◌, sym, ap, refl, arith}
+use Rattle.std.proofs.Common.{◌+◌, ◌∙◌, [], sym, ap, refl, arith}
 use Rattle.schema_reader.specs.Views.{declarations_of_draft}
-use Rattle.schema_grammar.specs.declared.format.Format.TheVariants as format
-use Rattle.schema_grammar.specs.Declarations.{no_declaration}
-use Rattle.schema_grammar.specs.Texts.{finish, read_lines, read_opening, read_typed}
-use Rattle.schema_grammar.specs.Rests.{Rest, rest_from}
+use Rattle.schema_grammar.specs.Texts.{finish, read_opening}
+use Rattle.schema_grammar.specs.Rests.{Rest}
 use Rattle.schema_grammar.proofs.RefusalLemmas.{ok_whole, refuses_whole}
-use Rattle.lexer.specs.Lines.{lines_after, line_texts}
+use Rattle.lexer.specs.Lines.{line_texts}
 use Rattle.lexer.proofs.LineEnds.{CutsAt-any, cut_last, cut_more}
 use Rattle.schema_reader.proofs.TextLemmas.{opening_whole_line, opening_ended, opening_stopped, opening_typed, opening_plain, opening_last}
 use Rattle.schema_reader.proofs.text.read_opening.Goals as goal
