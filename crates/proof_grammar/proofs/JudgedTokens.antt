@@ -12,10 +12,9 @@ use Rattle.schema_grammar.specs.declared.refusal.SchemaRefusal.{SchemaRefusal}
 use Rattle.schema_grammar.specs.declared.refusal.What.{What}
 use Rattle.schema_grammar.specs.declared.refusal.What.TheVariants as what
 use Rattle.schema_grammar.specs.declared.symbol.Sign.{Sign}
-use Rattle.schema_grammar.specs.Rests.{Rest, ◌>>=◌, take, take_from, refusal_of_token, number, arrow, arrow_in, refusal_at_end, is_word_token}
-use Rattle.schema_grammar.specs.Texts.{number_in}
+use Rattle.schema_grammar.specs.Rests.{number_in, Rest, ◌>>=◌, take, take_from, refusal_of_token, number, arrow, arrow_in, refusal_at_end, is_word_token, unless}
 use Rattle.proof_grammar.specs.declared.rule_name.RuleName.{RuleName}
-use Rattle.proof_grammar.specs.Lines.{Line, unless}
+use Rattle.proof_grammar.specs.Lines.{Line}
 use Rattle.proof_grammar.specs.LineDiagnostics.{TokenForm, token_form, word_form, a_with, a_rule, a_word}
 use Rattle.proof_grammar.specs.Readers.{colon, with_word, rule_name}
 use Rattle.proof_grammar.specs.Tokens.{is_colon, is_with, rule_named, rule_word}

@@ -22,7 +22,8 @@ use Rattle.schema_grammar.specs.Declarations.{Declarations, add_name, add_depend
 use Rattle.schema_grammar.specs.Grammar.{start}
 use Rattle.schema_grammar.specs.Meanings.{HasTokens}
 use Rattle.schema_grammar.specs.Reading.{step, follow}
-use Rattle.schema_grammar.specs.Refusals.{at, and_then}
+use Rattle.schema_grammar.specs.Refusals.{at}
+use Rattle.schema_grammar.specs.Rests.{◌>>=◌}
 use Rattle.schema_grammar.specs.Schemas.{IsNewName, DeclareNames, IsDeclaring, IsStating, MeansTextLine, MeansLines}
 use Rattle.schema_grammar.specs.Texts.{finish, read_lines}
 use Rattle.schema_grammar.specs.Words.{is_reserved, column_type_of_token}
@@ -120,7 +121,7 @@ dependency_there f line d whole m ms stop e =
     let three = and_then-ok (follow f d.names line two.x (m.column + length m.word) ms stop) _ whole two.second in
     record {
       dep = three.x;
-      read = ap (λ s. and_then (at line m.column (length m.word) s) (λ next. follow f d.names line next (m.column + length m.word) ms stop)) (inner.first ∙ ap Ok same) ∙ three.first;
+      read = ap (λ s. at line m.column (length m.word) s >>= (λ next. follow f d.names line next (m.column + length m.word) ms stop)) (inner.first ∙ ap Ok same) ∙ three.first;
       room = leb-false _ _ room.0;
       adds = let eq : Ok (add_dependency d three.x line) ≡ Ok whole = three.second in cc;
     }

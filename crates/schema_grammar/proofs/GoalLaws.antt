@@ -21,8 +21,9 @@ use Rattle.schema_grammar.specs.declared.format.Format.{Format}
 use Rattle.schema_grammar.specs.declared.format.Format.TheVariants as format
 use Rattle.schema_grammar.specs.Grammar.{Reached, start, left, left_empty, after_sign, right, right_empty, advance, finish_dependency, dependency_of_sign}
 use Rattle.schema_grammar.specs.Meanings.{HasTokens, attributes_of_words, IsAttribute, IsSide, IsArrow, IsDependency, MeansGoal}
-use Rattle.schema_grammar.specs.Reading.{step, follow, follow_lexed, read_goal}
-use Rattle.schema_grammar.specs.Refusals.{at, and_then, expect}
+use Rattle.schema_grammar.specs.Reading.{step, follow, follow_rest, read_goal}
+use Rattle.schema_grammar.specs.Refusals.{at, expect}
+use Rattle.schema_grammar.specs.Rests.{◌>>=◌, rest_from}
 use Rattle.schema_grammar.specs.Words.{is_reserved, look_up, known_attribute}
 
 -- after words of the left side: more words, an arrow, the right side
@@ -80,8 +81,8 @@ mark k column word = record { kind = k; column = column; word = word }
 -- a word that is read names an attribute, by which the reading goes on
 record ReadsWord (f : Format) (declared : List (List ℕ)) (line : ℕ) (r : Reached) (column : ℕ) (word : List ℕ) (ms : List Mark) (d : Dependency) : Type 0 where
   is : IsAttribute f declared (mark token.Identifier column word)
-  goes_on : and_then (at line column (length word) (expect (advance r (symbol.Attribute is.index))))
-      (λ next. follow f declared line next (column + length word) ms None) ≡ Ok d
+  goes_on : (at line column (length word) (expect (advance r (symbol.Attribute is.index)))
+      >>= (λ next. follow f declared line next (column + length word) ms None)) ≡ Ok d
 
 reads_word : (f : Format) (declared : List (List ℕ)) (line : ℕ) (r : Reached) (from column : ℕ) (word : List ℕ) (ms : List Mark) (d : Dependency)
     → follow f declared line r from (mark token.Identifier column word ∷ ms) None ≡ Ok d
@@ -91,10 +92,10 @@ reads_word f declared line r from column word ms d e =
     told (is_reserved f word) (attribute_named declared word) refl refl e
   where
     told : (b : Bool) (o : Option ℕ) → is_reserved f word ≡ b → attribute_named declared word ≡ o
-        → and_then (at line column (length word)
-        (and_then (and_then (cond b (Err kind.ReservedName) (known_attribute o)) (λ a. Ok (symbol.Attribute a)))
-        (λ s. expect (advance r s))))
-        (λ next. follow f declared line next (column + length word) ms None) ≡ Ok d
+        → (at line column (length word)
+        (cond b (Err kind.ReservedName) (known_attribute o) >>= (λ a. Ok (symbol.Attribute a))
+        >>= (λ s. expect (advance r s)))
+        >>= (λ next. follow f declared line next (column + length word) ms None)) ≡ Ok d
         → ReadsWord f declared line r column word ms d
     told true o free lookup e = cc
     told false None free lookup e = cc
@@ -248,7 +249,7 @@ marks_make f declared line from r (m ∷ ms) d e =
 -- a word that names an attribute is read
 word_read : (f : Format) (declared : List (List ℕ)) (line : ℕ) (r : Reached) (from : ℕ) (m : Mark) (ms : List Mark) (stop : Option LexError) (attribute : IsAttribute f declared m)
     → follow f declared line r from (m ∷ ms) stop
-    ≡ and_then (at line m.column (length m.word) (expect (advance r (symbol.Attribute attribute.index)))) (λ next. follow f declared line next (m.column + length m.word) ms stop)
+    ≡ (at line m.column (length m.word) (expect (advance r (symbol.Attribute attribute.index))) >>= (λ next. follow f declared line next (m.column + length m.word) ms stop))
 unfolding follow step look_up
 word_read f declared line r from m ms stop attribute =
     rw (attribute.word, attribute.free, attribute.known) refl
@@ -336,7 +337,7 @@ follow_has_no_stop f declared line r from (m ∷ ms) stop d e =
 
 -- only a line with a line's end is read
 pub no_stop : (f : Format) (declared : List (List ℕ)) (line : ℕ) (r : Reached) (from : ℕ) (l : Lexed) (d : Dependency)
-    → follow_lexed f declared line r from l ≡ Ok d → HasTokens l l.marks
+    → follow_rest f declared r (rest_from line from l) ≡ Ok d → HasTokens l l.marks
 no_stop f declared line r from l d e = told l.stop refl
   where
     told : (o : Option LexError) → l.stop ≡ o → HasTokens l l.marks
@@ -351,8 +352,8 @@ goal-law declared text d = (there, back)
     there : read_goal declared text ≡ Ok d → MeansGoal declared text d
     there e =
         let whole = no_stop format.Plain declared 1 start 1 (lex mode.Goal text) d e in
-        let here : follow_lexed format.Plain declared 1 start 1 (record { marks = (lex mode.Goal text).marks; stop = None }) ≡ Ok d = ap (follow_lexed format.Plain declared 1 start 1) (sym whole) ∙ e in
+        let here : follow_rest format.Plain declared start (rest_from 1 1 (record { marks = (lex mode.Goal text).marks; stop = None })) ≡ Ok d = ap (λ l. follow_rest format.Plain declared start (rest_from 1 1 l)) (sym whole) ∙ e in
         record { marks = (lex mode.Goal text).marks; tokens = whole; dependency = (dependency-law format.Plain declared 1 1 _ d).0 here }
 
     back : MeansGoal declared text d → read_goal declared text ≡ Ok d
-    back means = ap (follow_lexed format.Plain declared 1 start 1) means.tokens ∙ (dependency-law format.Plain declared 1 1 means.marks d).1 means.dependency
+    back means = ap (λ l. follow_rest format.Plain declared start (rest_from 1 1 l)) means.tokens ∙ (dependency-law format.Plain declared 1 1 means.marks d).1 means.dependency

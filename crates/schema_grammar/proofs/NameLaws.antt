@@ -22,7 +22,8 @@ use Rattle.schema_grammar.specs.declared.refusal.What.TheVariants as what
 use Rattle.schema_grammar.specs.declared.format.Format.{Format}
 use Rattle.schema_grammar.specs.Diagnostics.{NameDiagnostic, NamesDiagnostic, NamesWant, Carries, refusal_number, flaw_number, span_at, FitsNames}
 use Rattle.schema_grammar.specs.Declarations.{Declarations, add_name, declare, name_step, what_after_declaring, list_names}
-use Rattle.schema_grammar.specs.Refusals.{at, and_then, refused_by, refusal, kind_of_flaw}
+use Rattle.schema_grammar.specs.Refusals.{at, refused_by, refusal, kind_of_flaw}
+use Rattle.schema_grammar.specs.Rests.{◌>>=◌}
 use Rattle.schema_grammar.specs.Words.{is_reserved}
 use Rattle.schema_grammar.proofs.DiagnosticLaws.{flaw_numbered, flaw_carries, flaw_least, Carries-map, first_at, IsLeft, left_whole, left_next, Judged}
 
@@ -163,8 +164,8 @@ judge_names f column d line first whole stop (w ∷ words) k from some now left 
         → Judged (NamesDiagnostic f d whole stop) NamesWant (span_at line first whole stop)
         (list_names f column line next true (w.column + length w.word) words stop))
         → Judged (NamesDiagnostic f d whole stop) NamesWant (span_at line first whole stop)
-        (and_then (at line w.column (length w.word) o)
-        (λ next. list_names f column line next true (w.column + length w.word) words stop))
+        (at line w.column (length w.word) o
+        >>= (λ next. list_names f column line next true (w.column + length w.word) words stop))
     told (Ok next) (same, word, none) rest = rest next
         (ap (λ x. x.names) same ∙ ap (λ t. t ++ w.word ∷ []) names ∙ append_assoc d.names
         (words_in (take k whole)) (w.word ∷ [])

@@ -12,6 +12,5 @@ pub mod Rests
 pub mod Schemas
 pub mod Sets
 pub mod Texts
-pub mod TokenLists
 pub mod Words
 pub mod RefusalTexts

@@ -1,5 +1,5 @@
--- What is left of a line, and what is read of it token by token: for the reading of plans and
--- certificates.
+-- What is left of a line, and what is read of it token by token: for the reading of schema texts,
+-- goals, plans and certificates.
 use Rattle.std.specs.Prelude.{ℕ, ◌+◌, Bool, true, false, if◌then◌else◌, List, [], ◌∷◌, length, Option, Some, None, Result, Ok, Err, ok_or}
 use Rattle.attr_sets.specs.Attributes.{Attributes, only, none, union}
 use Rattle.lexer.specs.declared.token.LexError.{LexError}
@@ -14,12 +14,20 @@ use Rattle.schema_grammar.specs.declared.refusal.What.TheVariants as what
 use Rattle.schema_grammar.specs.declared.symbol.Sign.{Sign}
 use Rattle.schema_grammar.specs.declared.symbol.Sign.TheVariants.{Functional, Multivalued}
 use Rattle.schema_grammar.specs.Refusals.{refusal, refused_by, at}
-use Rattle.schema_grammar.specs.Texts.{number_in}
 use Rattle.schema_grammar.specs.Words.{look_up}
 
 abbrev pub is_word_token : TokenKind → Bool
 is_word_token token.Identifier = true
 is_word_token _ = false
+
+-- the value of a number
+abbrev pub number_in : TokenKind → Option ℕ
+number_in (token.Number n) = Some n
+number_in token.Identifier = None
+number_in token.Arrow = None
+number_in token.DoubleArrow = None
+number_in token.Empty = None
+number_in token.Colon = None
 
 -- the arrow that a token is
 abbrev pub arrow_in : TokenKind → Option Sign
@@ -42,6 +50,7 @@ abbrev pub rest_from : ℕ → ℕ → Lexed → Rest
 rest_from line next_column l =
     record { line = line; next_column = next_column; marks = l.marks; stop = l.stop }
 
+-- what follows a value, and nothing after an error
 infixl 10 ◌>>=◌
 abbrev pub ◌>>=◌ : {A B E : Type 0} → Result A E → (A → Result B E) → Result B E
 (Ok x) >>= f = f x
@@ -81,6 +90,11 @@ refusal_at_end_from line (m ∷ ms) stop = Some (refusal line m.column (length m
 
 unfoldable pub refusal_at_end : Rest → Option SchemaRefusal
 refusal_at_end r = refusal_at_end_from r.line r.marks r.stop
+
+-- a value, unless the line does not end here
+abbrev pub unless : {A : Type 0} → Option SchemaRefusal → A → Result A SchemaRefusal
+unless None x = Ok x
+unless (Some e) x = Err e
 
 -- words that stand here, added to a set
 unfoldable pub words_from : List (List ℕ) → ℕ → Attributes → ℕ → List Mark → Option LexError

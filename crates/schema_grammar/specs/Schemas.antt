@@ -22,7 +22,8 @@ use Rattle.schema_grammar.specs.declared.format.Format.{Format}
 use Rattle.schema_grammar.specs.declared.format.Format.TheVariants as format
 use Rattle.schema_grammar.specs.Declarations.{Declarations, no_declaration, add_name, add_dependency}
 use Rattle.schema_grammar.specs.Meanings.{HasTokens, IsDependency}
-use Rattle.schema_grammar.specs.Texts.{is_version, number_in}
+use Rattle.schema_grammar.specs.Rests.{number_in}
+use Rattle.schema_grammar.specs.Texts.{is_version}
 use Rattle.schema_grammar.specs.Words.{is_reserved, column_type_of_token}
 
 -- a word that declares one name more
