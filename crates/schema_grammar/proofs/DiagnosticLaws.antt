@@ -18,15 +18,16 @@ use Rattle.schema_grammar.specs.declared.refusal.Span.{Span}
 use Rattle.schema_grammar.specs.declared.refusal.What.{What}
 use Rattle.schema_grammar.specs.declared.format.Format.{Format}
 use Rattle.schema_grammar.specs.declared.format.Format.TheVariants as format
-use Rattle.schema_grammar.specs.Diagnostics.{IsStuck, DependencyWants, Carries, DiagnosesOfWord, DependencyDiagnostic, kinds, refusal_number, flaw_number, span_at, IsFirst, FitsDependency, FitsGoal, RefusesGoal}
+use Rattle.schema_grammar.specs.DiagnosticKinds.{DiagnosticKind, expected, number_of, diagnostic_kind, diagnostic_of_flaw}
+use Rattle.schema_grammar.specs.Diagnostics.{IsStuck, DependencyWants, Carries, DiagnosesOfWord, DependencyDiagnostic, kinds, span_at, IsFirst, FitsDependency, FitsGoal, RefusesGoal}
 use Rattle.schema_grammar.specs.Grammar.{Reached, start, finish_dependency}
 use Rattle.schema_grammar.specs.Reading.{step, follow, read_goal}
 use Rattle.schema_grammar.specs.Refusals.{at, and_then, expect, refused_by, refusal, kind_of_flaw}
 use Rattle.schema_grammar.proofs.ShapeLemmas.{Shape, at_start, shape_of, advance_shape, is_final, runs, StepTells, step_tells, EndTells, end_tells, final_line, line_ends, runs-one, wanted_by, wants_from, begins_from, begins_to}
 
-pub flaw_numbered : (why : Flaw) → refusal_number (kind_of_flaw why) ≡ flaw_number why
-flaw_numbered flaw.StrangeByte = refl
-flaw_numbered flaw.BadName = refl
+pub flaw_kind : (why : Flaw) → diagnostic_kind (kind_of_flaw why) ≡ diagnostic_of_flaw why
+flaw_kind flaw.StrangeByte = refl
+flaw_kind flaw.BadName = refl
 
 pub Carries-map : (P Q : What → Type 0) → ((w : What) → P w → Q w) → (why : SchemaRefusalKind) → Carries P why → Carries Q why
 Carries-map P Q f (kind.Expected w) h = f w h
@@ -43,19 +44,19 @@ pub same_mark : (m : Mark) (ms : List Mark) (k : Mark) → slice_get (m ∷ ms) 
 same_mark m ms k e = cc
 
 -- the bytes that are no token have one flaw
-pub flaw_least : (s t : LexError) (n : ℕ) → Some s ≡ Some t → n ≡ flaw_number t.flaw
-    → refusal_number (kind_of_flaw s.flaw) ≤ n
+pub flaw_least : (s t : LexError) (n : DiagnosticKind) → Some s ≡ Some t → n ≡ diagnostic_of_flaw t.flaw
+    → number_of (diagnostic_kind (kind_of_flaw s.flaw)) ≤ number_of n
 flaw_least s t n is why =
     let same : s ≡ t = cc in
-    let numbers = flaw_numbered s.flaw in
-    let again = ap (λ (x : LexError). flaw_number x.flaw) same in omega arith
+    let kind = flaw_kind s.flaw ∙ ap (λ (x : LexError). diagnostic_of_flaw x.flaw) same ∙ sym why in
+    omega (arith, ap number_of kind)
 
 -- a diagnostic of a position before which there is none is the first
-pub first_at : (Diagnostic : ℕ → ℕ → Type 0) (Wanted : ℕ → What → Type 0) (span : ℕ → Span) (e : SchemaRefusal)
+pub first_at : (Diagnostic : ℕ → DiagnosticKind → Type 0) (Wanted : ℕ → What → Type 0) (span : ℕ → Span) (e : SchemaRefusal)
     (position : ℕ)
-    → ((p n : ℕ) → p < position → Diagnostic p n → ⊥) → Diagnostic position (refusal_number e.kind)
+    → ((p : ℕ) (n : DiagnosticKind) → p < position → Diagnostic p n → ⊥) → Diagnostic position (diagnostic_kind e.kind)
     → Carries (Wanted position) e.kind → e.span ≡ span position
-    → ((n : ℕ) → Diagnostic position n → refusal_number e.kind ≤ n) → IsFirst Diagnostic Wanted span e
+    → ((n : DiagnosticKind) → Diagnostic position n → number_of (diagnostic_kind e.kind) ≤ number_of n) → IsFirst Diagnostic Wanted span e
 first_at Diagnostic Wanted span e position before stands carries there least = record {
   position = position;
   stands = stands;
@@ -94,11 +95,11 @@ left_next line first whole stop k from m ms rest = record {
 }
 
 -- a diagnostic about tokens: of a word, of the grammar, or of bytes that are no token
-abbrev pub LineDiagnostic : (ℕ → Type 0) → Format → List (List ℕ) → List Mark → Option LexError → ℕ → ℕ → Type 0
+abbrev pub LineDiagnostic : (ℕ → Type 0) → Format → List (List ℕ) → List Mark → Option LexError → ℕ → DiagnosticKind → Type 0
 LineDiagnostic Six f declared ms stop position number =
     (((m : Mark) × (slice_get ms position ≡ Some m) × DiagnosesOfWord f declared m number)
-    ⊎ ((number ≡ 6) × Six position))
-    ⊎ ((s : LexError) × (stop ≡ Some s) × (position ≡ length ms) × (number ≡ flaw_number s.flaw))
+    ⊎ ((number ≡ expected) × Six position))
+    ⊎ ((s : LexError) × (stop ≡ Some s) × (position ≡ length ms) × (number ≡ diagnostic_of_flaw s.flaw))
 
 -- where the grammar can't go on, and what is wanted: `Six` is a position of a diagnostic 6, and `At` how
 -- far the line is read before a position
@@ -117,7 +118,7 @@ pub record Judges (ms : List Mark) (stop : Option LexError) (At : ℕ → Shape 
 -- a diagnostic at a token is of its word, or of the grammar
 pub at_token : (Six : ℕ → Type 0) (f : Format) (declared : List (List ℕ)) (ms : List Mark)
     (stop : Option LexError) (p : ℕ) (m : Mark) → slice_get ms p ≡ Some m
-    → (n : ℕ) → LineDiagnostic Six f declared ms stop p n → DiagnosesOfWord f declared m n ⊎ ((n ≡ 6) × Six p)
+    → (n : DiagnosticKind) → LineDiagnostic Six f declared ms stop p n → DiagnosesOfWord f declared m n ⊎ ((n ≡ expected) × Six p)
 at_token Six f declared ms stop p m is n (inl (inl (k, here, word))) =
     inl (subst (λ (x : Mark). DiagnosesOfWord f declared x n) (let same : k ≡ m = cc in same) word)
 at_token Six f declared ms stop p m is n (inl (inr six)) = inr six
@@ -130,15 +131,15 @@ pub token_diagnoses : {ms : List Mark} {stop : Option LexError} {At : ℕ → Sh
     (judges : Judges ms stop At Six Wanted) (f : Format) (declared : List (List ℕ)) (p : ℕ) (r : Reached)
     (m : Mark) (why : SchemaRefusalKind)
     → slice_get ms p ≡ Some m → At p (shape_of r) → StepTells f declared r m (Err why)
-    → LineDiagnostic Six f declared ms stop p (refusal_number why)
+    → LineDiagnostic Six f declared ms stop p (diagnostic_kind why)
 token_diagnoses judges f declared p r m why is reached tells =
     ⊎_elim (λ word. inl (inl (m, is, word)))
     (λ six. inl (inr (six.0, judges.stuck p (shape_of r) m is reached six.1))) tells.0
 
 -- a reading is refused by the first diagnostic, and has none where it ends well
-abbrev pub Judged : {X : Type 0} → (ℕ → ℕ → Type 0) → (ℕ → What → Type 0) → (ℕ → Span)
+abbrev pub Judged : {X : Type 0} → (ℕ → DiagnosticKind → Type 0) → (ℕ → What → Type 0) → (ℕ → Span)
     → Result X SchemaRefusal → Type 0
-Judged Diagnostic Wanted span (Ok x) = (p n : ℕ) → Diagnostic p n → ⊥
+Judged Diagnostic Wanted span (Ok x) = (p : ℕ) (n : DiagnosticKind) → Diagnostic p n → ⊥
 Judged Diagnostic Wanted span (Err e) = IsFirst Diagnostic Wanted span e
 
 -- a line is refused by its first diagnostic, and read where there is none
@@ -147,7 +148,7 @@ pub judge : {whole : List Mark} {stop : Option LexError} {At : ℕ → Shape →
     (judges : Judges whole stop At Six Wanted) (f : Format) (declared : List (List ℕ)) (line first : ℕ)
     (ms : List Mark) (k from : ℕ) (r : Reached)
     → IsLeft line first whole stop k from ms → At k (shape_of r)
-    → ((p n : ℕ) → p < k → LineDiagnostic Six f declared whole stop p n → ⊥)
+    → ((p : ℕ) (n : DiagnosticKind) → p < k → LineDiagnostic Six f declared whole stop p n → ⊥)
     → Judged (LineDiagnostic Six f declared whole stop) Wanted (span_at line first whole stop)
     (follow f declared line r from ms stop)
 unfolding follow
@@ -160,13 +161,13 @@ judge {whole} {stop} {At} {Six} {Wanted} judges f declared line first [] k from 
     there : span_at line first whole stop k ≡ span_at line from [] stop 0
     there = left.spans 0 k (omega arith)
 
-    ended : (n : ℕ) → LineDiagnostic Six f declared whole stop k n
-        → ((n ≡ 6) × Six k) ⊎ ((s : LexError) × (stop ≡ Some s) × (n ≡ flaw_number s.flaw))
+    ended : (n : DiagnosticKind) → LineDiagnostic Six f declared whole stop k n
+        → ((n ≡ expected) × Six k) ⊎ ((s : LexError) × (stop ≡ Some s) × (n ≡ diagnostic_of_flaw s.flaw))
     ended n (inl (inl (m, is, word))) = let less = slice_get_within whole k m is in absurd (omega arith)
     ended n (inl (inr six)) = inl six
     ended n (inr (s, is, position, number)) = inr (s, is, number)
 
-    past : (p n : ℕ) → LineDiagnostic Six f declared whole stop p n → k < p → ⊥
+    past : (p : ℕ) (n : DiagnosticKind) → LineDiagnostic Six f declared whole stop p n → k < p → ⊥
     past p n (inl (inl (m, is, word))) later = let less = slice_get_within whole p m is in omega arith
     past p n (inl (inr (six, cannot))) later = let within = judges.inside p cannot in omega arith
     past p n (inr (s, is, position, number)) later = omega arith
@@ -186,7 +187,7 @@ judge {whole} {stop} {At} {Six} {Wanted} judges f declared line first [] k from 
         (inl (inr (refl, judges.open_end k (shape_of r) all none reached open_end)))
         (subst (Wanted k) (sym wants) (judges.wants k (shape_of r) reached))
         (sym (there ∙ ap (λ o. span_at line from [] o 0) none))
-        (λ n diagnostic. ⊎_elim (λ six. omega (arith, six.0)) (λ flaw. let wrong = flaw.1 in cc)
+        (λ n diagnostic. ⊎_elim (λ six. omega (arith, ap number_of six.0)) (λ flaw. let wrong = flaw.1 in cc)
         (ended n diagnostic))
 
     told : (o : Option LexError) → stop ≡ o
@@ -194,7 +195,7 @@ judge {whole} {stop} {At} {Six} {Wanted} judges f declared line first [] k from 
         (follow f declared line r from [] o)
     told None is = ending is (finish_dependency r) (end_tells r)
     told (Some s) is =
-        first_at _ Wanted _ (refused_by line s) k before (inr (s, is, all, flaw_numbered s.flaw))
+        first_at _ Wanted _ (refused_by line s) k before (inr (s, is, all, flaw_kind s.flaw))
         (flaw_carries (Wanted k) s.flaw)
         (sym (there ∙ ap (λ o. span_at line from [] o 0) is))
         (λ n diagnostic. ⊎_elim (λ six. absurd (judges.flawed k s all is six.1))
@@ -209,7 +210,7 @@ judge {whole} {stop} {At} {Six} {Wanted} judges f declared line first (m ∷ ms)
 
     told : (o : Result Reached SchemaRefusalKind) → StepTells f declared r m o
         → ((next : Reached) → At (suc k) (shape_of next)
-        → ((p n : ℕ) → p < suc k → LineDiagnostic Six f declared whole stop p n → ⊥)
+        → ((p : ℕ) (n : DiagnosticKind) → p < suc k → LineDiagnostic Six f declared whole stop p n → ⊥)
         → Judged (LineDiagnostic Six f declared whole stop) Wanted (span_at line first whole stop)
         (follow f declared line next (m.column + length m.word) ms stop))
         → Judged (LineDiagnostic Six f declared whole stop) Wanted (span_at line first whole stop)
@@ -229,7 +230,7 @@ judge {whole} {stop} {At} {Six} {Wanted} judges f declared line first (m ∷ ms)
         (Carries-map (λ w. w ≡ wanted_by (shape_of r)) (Wanted k)
         (λ w same. subst (Wanted k) (sym same) (judges.wants k (shape_of r) reached)) why tells.3)
         (sym (left.spans 0 k (omega arith)))
-        (λ n diagnostic. ⊎_elim (tells.1 n) (λ six. omega (arith, six.0, tells.2))
+        (λ n diagnostic. ⊎_elim (tells.1 n) (λ six. omega (arith, ap number_of six.0, tells.2))
         (at_token Six f declared whole stop k m is n diagnostic))
 
 -- one token more

@@ -14,12 +14,14 @@ use Rattle.schema_grammar.specs.declared.format.Format.TheVariants as format
 use Rattle.schema_grammar.specs.declared.refusal.What.{What}
 use Rattle.schema_grammar.specs.declared.refusal.What.TheVariants as what
 use Rattle.schema_grammar.specs.declared.symbol.Symbol.{Symbol}
-use Rattle.schema_grammar.specs.Diagnostics.{IsLine, BeginsLine, Wants, Carries, DiagnosesOfWord, kinds, refusal_number}
+use Rattle.schema_grammar.specs.DiagnosticKinds.{DiagnosticKind, expected, number_of, diagnostic_kind}
+use Rattle.schema_grammar.specs.Diagnostics.{IsLine, BeginsLine, Wants, Carries, DiagnosesOfWord, kinds}
 use Rattle.schema_grammar.specs.Grammar.{Reached, start, left, left_empty, after_sign, right, right_empty, advance, finish_dependency}
 use Rattle.schema_grammar.specs.Reading.{step, follow}
 use Rattle.schema_grammar.specs.Refusals.{at, and_then, expect}
 use Rattle.schema_grammar.specs.Words.{is_reserved, look_up, known_attribute}
 use Rattle.schema_grammar.proofs.GoalLaws.{dependency-law}
+use Rattle.schema_grammar.proofs.KindLemmas.{same_number}
 
 -- how far a dependency is read, but for its sets
 pub data Shape : Type 0 where
@@ -103,16 +105,16 @@ advance-Turns r k a = (refl, refl)
 -- what a step tells: where it leads, or the diagnostic
 abbrev pub StepTells : Format → List (List ℕ) → Reached → Mark → Result Reached SchemaRefusalKind → Type 0
 StepTells f declared r m (Ok next) =
-    (advance_shape (shape_of r) m.kind ≡ Some (shape_of next)) × ((n : ℕ) → DiagnosesOfWord f declared m n → ⊥)
+    (advance_shape (shape_of r) m.kind ≡ Some (shape_of next)) × ((n : DiagnosticKind) → DiagnosesOfWord f declared m n → ⊥)
 StepTells f declared r m (Err why) =
-    (DiagnosesOfWord f declared m (refusal_number why) ⊎
-    ((refusal_number why ≡ 6) × (advance_shape (shape_of r) m.kind ≡ None)))
-    × ((n : ℕ) → DiagnosesOfWord f declared m n → refusal_number why ≤ n) × (refusal_number why ≤ 6)
+    (DiagnosesOfWord f declared m (diagnostic_kind why) ⊎
+    ((diagnostic_kind why ≡ expected) × (advance_shape (shape_of r) m.kind ≡ None)))
+    × ((n : DiagnosticKind) → DiagnosesOfWord f declared m n → number_of (diagnostic_kind why) ≤ number_of n) × (number_of (diagnostic_kind why) ≤ number_of expected)
     × Carries (λ w. w ≡ wanted_by (shape_of r)) why
 
 advance_tells : (f : Format) (declared : List (List ℕ)) (r : Reached) (m : Mark) (t : Result Reached What)
     → Turns r m.kind t
-    → ((n : ℕ) → DiagnosesOfWord f declared m n → ⊥) → StepTells f declared r m (expect t)
+    → ((n : DiagnosticKind) → DiagnosesOfWord f declared m n → ⊥) → StepTells f declared r m (expect t)
 advance_tells f declared r m (Ok next) turned none = (turned, none)
 advance_tells f declared r m (Err w) turned none =
     (inr (refl, turned.0), (λ n diagnostic. absurd (none n diagnostic)), omega arith, turned.1)
@@ -126,9 +128,9 @@ step_tells f declared r m = told m.kind
         (and_then (and_then (cond b (Err kind.ReservedName) (known_attribute o)) (λ a. Ok (symbol.Attribute a)))
         (λ s. expect (advance r s)))
     word true o reserved lookup =
-        (inl (refl, inl (refl, reserved)), (λ n diagnostic. omega arith), omega arith, tt)
+        (inl (refl, inl (refl, reserved)), (λ n diagnostic. grind (arith, same_number)), omega arith, tt)
     word false None free lookup =
-        (inl (refl, inr (refl, lookup)), (λ n diagnostic. grind arith), omega arith, tt)
+        (inl (refl, inr (refl, lookup)), (λ n diagnostic. grind (arith, same_number)), omega arith, tt)
     word false (Some a) free lookup =
         advance_tells f declared r (record m { kind = token.Identifier }) _ (advance-Turns r token.Identifier a)
         (λ n diagnostic. grind arith)
