@@ -164,7 +164,7 @@ one_least x a b first second =
     (cases_order a b)
 
 pub plan_never_both : (names : List (List ℕ)) (text : List ℕ) (schemes : List Attributes) (e : PlanRefusal) → MeansPlan names text schemes → RefusesPlan names text e → ⊥
-plan_never_both names text schemes e means (inl lines) = never_both names 1 0 (line_texts (without_mark text)) schemes e means.lines (omega (arith, means.few)) lines
+plan_never_both names text schemes e means (inl lines) = never_both names 1 0 (line_texts (without_mark text)) schemes e means.lines (omega (arith, means.schemes_fit)) lines
 plan_never_both names text schemes e means (inr left) =
     let same = one_meaning names (line_texts (without_mark text)) left.schemes schemes left.means means.lines in
     Covers-none_left_out (length names) schemes left.attribute means.covers (subst (λ (xs : List Attributes). IsFirstFrom (uncovered_attributes (length names) xs) 0 left.attribute) same left.least)
@@ -174,9 +174,9 @@ plan_one_meaning names text xs ys first second = one_meaning names (line_texts (
 
 pub plan_one_refusal : (names : List (List ℕ)) (text : List ℕ) (e f : PlanRefusal) → RefusesPlan names text e → RefusesPlan names text f → e ≡ f
 plan_one_refusal names text e f (inl first) (inl second) = one_refusal names 1 0 (line_texts (without_mark text)) e f first second
-plan_one_refusal names text e f (inl first) (inr second) = absurd (never_both names 1 0 (line_texts (without_mark text)) second.schemes e second.means (omega (arith, second.few)) first)
-plan_one_refusal names text e f (inr first) (inl second) = absurd (never_both names 1 0 (line_texts (without_mark text)) first.schemes f first.means (omega (arith, first.few)) second)
+plan_one_refusal names text e f (inl first) (inr second) = absurd (never_both names 1 0 (line_texts (without_mark text)) second.schemes e second.means (omega (arith, second.schemes_fit)) first)
+plan_one_refusal names text e f (inr first) (inl second) = absurd (never_both names 1 0 (line_texts (without_mark text)) first.schemes f first.means (omega (arith, first.schemes_fit)) second)
 plan_one_refusal names text e f (inr first) (inr second) =
     let schemes = one_meaning names (line_texts (without_mark text)) second.schemes first.schemes second.means first.means in
     let same = one_least (uncovered_attributes (length names) first.schemes) first.attribute second.attribute first.least (subst (λ (xs : List Attributes). IsFirstFrom (uncovered_attributes (length names) xs) 0 second.attribute) schemes second.least) in
-    first.told ∙ ap (λ (a : ℕ). plan.NotCovered a) same ∙ sym second.told
+    first.is ∙ ap (λ (a : ℕ). plan.NotCovered a) same ∙ sym second.is

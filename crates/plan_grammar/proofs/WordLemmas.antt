@@ -58,14 +58,14 @@ module _ (names : List (List ℕ)) (line after : ℕ) (m : Mark) (ms : List Mark
     pub free : is_reserved format.Plain m.word ≡ false
     pub lookup : attribute_named names m.word ≡ Some a
 
-  abbrev pub Tells : Bool → Result ℕ PlanRefusal → Type 0
-  Tells first (Ok a) = IsNamed a
-  Tells first (Err e) = WordDiagnostic names first m (plan_diagnostic_kind e) × SpansPosition line (span_at line after (m ∷ ms) stop) (wanted_after first) 0 e
+  abbrev pub TokenFits : Bool → Result ℕ PlanRefusal → Type 0
+  TokenFits first (Ok a) = IsNamed a
+  TokenFits first (Err e) = WordDiagnostic names first m (plan_diagnostic_kind e) × SpansPosition line (span_at line after (m ∷ ms) stop) (wanted_after first) 0 e
       × ((n : DiagnosticKind) → WordDiagnostic names first m n → number_of (plan_diagnostic_kind e) ≤ number_of n)
 
-  word_tells : (first : Bool) → m.kind ≡ token.Identifier → Tells first (of_text (at line m.column (length m.word) (look_up format.Plain names m.word)))
+  word_fits : (first : Bool) → m.kind ≡ token.Identifier → TokenFits first (of_text (at line m.column (length m.word) (look_up format.Plain names m.word)))
   unfolding look_up
-  word_tells first is = told (is_reserved format.Plain m.word) (attribute_named names m.word) refl refl
+  word_fits first is = told (is_reserved format.Plain m.word) (attribute_named names m.word) refl refl
     where
       small : (first : Bool) (low n : DiagnosticKind) → number_of low ≤ number_of unknown_name
           → (n ≡ reserved_name → number_of low ≤ number_of reserved_name ⊎ (is_reserved format.Plain m.word ≡ false))
@@ -80,13 +80,13 @@ module _ (names : List (List ℕ)) (line after : ℕ) (m : Mark) (ms : List Mark
           h
 
       told : (b : Bool) (o : Option ℕ) → is_reserved format.Plain m.word ≡ b → attribute_named names m.word ≡ o
-          → Tells first (of_text (at line m.column (length m.word) (cond b (Err kind.ReservedName) (known_attribute o))))
+          → TokenFits first (of_text (at line m.column (length m.word) (cond b (Err kind.ReservedName) (known_attribute o))))
       told true o reserved lookup = (inl (is, inl (refl, reserved)), (refl, tt), λ n h. small first reserved_name n (omega arith) (λ three. inl (omega arith)) h)
       told false None free lookup = (inl (is, inr (refl, lookup)), (refl, tt), λ n h. small first unknown_name n (omega arith) (λ three. inr free) h)
       told false (Some a) free lookup = record { word = is; free = free; lookup = lookup }
 
-  empty_tells : m.kind ≡ token.Empty → Tells true (Err (plan.EmptyScheme line))
-  empty_tells is = (
+  empty_fits : m.kind ≡ token.Empty → TokenFits true (Err (plan.EmptyScheme line))
+  empty_fits is = (
     inr (inl (refl, is, refl)),
     refl,
     λ n h. ⊎_elim
@@ -98,8 +98,8 @@ module _ (names : List (List ℕ)) (line after : ℕ) (m : Mark) (ms : List Mark
       apart : m.kind ≡ token.Empty → m.kind ≡ token.Identifier → ⊥
       apart e w = let wrong : token.Empty ≡ token.Identifier = sym e ∙ w in cc
 
-  other_tells : (first : Bool) → (m.kind ≡ token.Identifier → ⊥) → (first ≡ true → m.kind ≡ token.Empty → ⊥) → Tells first (Err (other_token line first m))
-  other_tells first word empty = (
+  other_fits : (first : Bool) → (m.kind ≡ token.Identifier → ⊥) → (first ≡ true → m.kind ≡ token.Empty → ⊥) → TokenFits first (Err (other_token line first m))
+  other_fits first word empty = (
     inr (inr (word, empty, refl)),
     (refl, refl),
     λ n h. ⊎_elim
@@ -108,15 +108,15 @@ module _ (names : List (List ℕ)) (line after : ℕ) (m : Mark) (ms : List Mark
         h,
   )
 
-  pub token_tells : (first : Bool) (k : TokenKind) → m.kind ≡ k → Tells first (attribute_of_token names line first m k)
+  pub token_fits : (first : Bool) (k : TokenKind) → m.kind ≡ k → TokenFits first (attribute_of_token names line first m k)
   unfolding is_word is_empty
-  token_tells first token.Identifier is = word_tells first is
-  token_tells true token.Empty is = empty_tells is
-  token_tells false token.Empty is = other_tells false (no_word m.kind (ap is_word is)) (λ t _. absurd (false≢true t))
-  token_tells first token.Arrow is = other_tells first (no_word m.kind (ap is_word is)) (λ _. no_empty m.kind (ap is_empty is))
-  token_tells first token.DoubleArrow is = other_tells first (no_word m.kind (ap is_word is)) (λ _. no_empty m.kind (ap is_empty is))
-  token_tells first token.Colon is = other_tells first (no_word m.kind (ap is_word is)) (λ _. no_empty m.kind (ap is_empty is))
-  token_tells first (token.Number n) is = other_tells first (no_word m.kind (ap is_word is)) (λ _. no_empty m.kind (ap is_empty is))
+  token_fits first token.Identifier is = word_fits first is
+  token_fits true token.Empty is = empty_fits is
+  token_fits false token.Empty is = other_fits false (no_word m.kind (ap is_word is)) (λ t _. absurd (false≢true t))
+  token_fits first token.Arrow is = other_fits first (no_word m.kind (ap is_word is)) (λ _. no_empty m.kind (ap is_empty is))
+  token_fits first token.DoubleArrow is = other_fits first (no_word m.kind (ap is_word is)) (λ _. no_empty m.kind (ap is_empty is))
+  token_fits first token.Colon is = other_fits first (no_word m.kind (ap is_word is)) (λ _. no_empty m.kind (ap is_empty is))
+  token_fits first (token.Number n) is = other_fits first (no_word m.kind (ap is_word is)) (λ _. no_empty m.kind (ap is_empty is))
 
 -- ---- all tokens
 -- the tokens are words that name attributes
@@ -163,22 +163,22 @@ words_after names line after first x m ms stop a (Err e) is fit =
 
 words_join : (names : List (List ℕ)) (line after : ℕ) (first : Bool) (x : Attributes) (m : Mark) (ms : List Mark) (stop : Option LexError) (r : Result ℕ PlanRefusal)
     → ((a : ℕ) → WordsFit names line false (union x (only a)) (m.column + length m.word) ms stop (read_words names line false (union x (only a)) ms stop))
-    → Tells names line after m ms stop first r
+    → TokenFits names line after m ms stop first r
     → WordsFit names line first x after (m ∷ ms) stop (and_then r (λ a. read_words names line false (union x (only a)) ms stop))
-words_join names line after first x m ms stop (Ok a) later tells =
-    words_after names line after first x m ms stop a (read_words names line false (union x (only a)) ms stop) tells (later a)
-words_join names line after first x m ms stop (Err e) later tells =
-    first_here (WordsDiagnostic names first (m ∷ ms) stop) (SpansPosition line (span_at line after (m ∷ ms) stop) (wanted_after first)) e tells.0 tells.1 tells.2
+words_join names line after first x m ms stop (Ok a) later fit =
+    words_after names line after first x m ms stop a (read_words names line false (union x (only a)) ms stop) fit (later a)
+words_join names line after first x m ms stop (Err e) later fit =
+    first_here (WordsDiagnostic names first (m ∷ ms) stop) (SpansPosition line (span_at line after (m ∷ ms) stop) (wanted_after first)) e fit.0 fit.1 fit.2
 
 stopped_fit : (names : List (List ℕ)) (line : ℕ) (first : Bool) (after : ℕ) (s : LexError)
     → IsFirstOf (WordsDiagnostic names first [] (Some s)) (SpansPosition line (span_at line after [] (Some s)) (wanted_after first)) (plan.Text (refused_by line s))
 stopped_fit names line first after s =
     first_here (WordsDiagnostic names first [] (Some s)) (SpansPosition line (span_at line after [] (Some s)) (wanted_after first)) (plan.Text (refused_by line s))
     (refl, inr (s, refl, flaw_kind s.flaw)) (refl, flaw_carries (λ w. w ≡ wanted_after first 0) s.flaw)
-    (λ n h. ⊎_elim (λ ended. absurd (some_stop ended.0)) (λ flaw. flaw_least s flaw.0 n flaw.1 flaw.2) h.1)
+    (λ n h. ⊎_elim (λ ended. absurd (stopped ended.0)) (λ flaw. flaw_least s flaw.0 n flaw.1 flaw.2) h.1)
   where
-    some_stop : Some s ≡ None → ⊥
-    some_stop e = cc
+    stopped : Some s ≡ None → ⊥
+    stopped e = cc
 
 pub words_fit : (names : List (List ℕ)) (line : ℕ) (first : Bool) (x : Attributes) (after : ℕ) (ms : List Mark) (stop : Option LexError)
     → WordsFit names line first x after ms stop (read_words names line first x ms stop)
@@ -198,7 +198,7 @@ words_fit names line true x after [] (Some s) = stopped_fit names line true afte
 words_fit names line false x after [] (Some s) = stopped_fit names line false after s
 words_fit names line true x after (m ∷ ms) stop =
     words_join names line after true x m ms stop (attribute_of_token names line true m m.kind)
-    (λ a. words_fit names line false (union x (only a)) (m.column + length m.word) ms stop) (token_tells names line after m ms stop true m.kind refl)
+    (λ a. words_fit names line false (union x (only a)) (m.column + length m.word) ms stop) (token_fits names line after m ms stop true m.kind refl)
 words_fit names line false x after (m ∷ ms) stop =
     words_join names line after false x m ms stop (attribute_of_token names line false m m.kind)
-    (λ a. words_fit names line false (union x (only a)) (m.column + length m.word) ms stop) (token_tells names line after m ms stop false m.kind refl)
+    (λ a. words_fit names line false (union x (only a)) (m.column + length m.word) ms stop) (token_fits names line after m ms stop false m.kind refl)

@@ -112,10 +112,10 @@ uncovered_attributes n schemes k = below n k && not (list_any (λ scheme. scheme
 pub record LeavesOut (names : List (List ℕ)) (lines : List (List ℕ)) (e : PlanRefusal) : Type 0 where
   pub schemes : List Attributes
   pub means : MeansSchemeLines names lines schemes
-  pub few : length schemes ≤ MOST_SCHEMES
+  pub schemes_fit : length schemes ≤ MOST_SCHEMES
   pub attribute : ℕ
   pub least : IsFirstFrom (uncovered_attributes (length names) schemes) 0 attribute
-  pub told : e ≡ plan.NotCovered attribute
+  pub is : e ≡ plan.NotCovered attribute
 
 -- a plan text over declared names is refused so
 abbrev pub RefusesPlan : List (List ℕ) → List ℕ → PlanRefusal → Type 0

@@ -20,7 +20,7 @@ use Rattle.schema_grammar.proofs.PrintedTexts.{Bytes}
 use Rattle.proof_grammar.specs.Lines.{Body, by_given, by_reflexivity, by_mreflexivity, by_step, by_pair, Line}
 use Rattle.proof_grammar.specs.Meanings.{step_name, pair_name, IsRule, MeansLine}
 use Rattle.proof_grammar.specs.Printing.{step_word, pair_word, body_text, certificate_line_text, IsBodyWithin}
-use Rattle.proof_grammar.specs.Printable.{FewDigits, IsPrintableLine}
+use Rattle.proof_grammar.specs.Printable.{DigitsFit, IsPrintableLine}
 use Rattle.proof_grammar.proofs.PrintedTokens.{Part, keyword, number, side, Gap, blank, first_colon, colon, arrow, double_arrow, gap_end, text_of, marks_of, AreProper, parts_lexed, parts_bytes}
 
 -- ---- the parts of a line
@@ -92,7 +92,7 @@ unfolding certificate_line_text
 line_text_is names l = rw (body_is names l.body) (simp (append_assoc, dependency_is names l.stated))
 
 -- ---- the parts are proper
-body_proper : (names : List (List ℕ)) (b : Body) → AreNames format.Plain names → FewDigits b
+body_proper : (names : List (List ℕ)) (b : Body) → AreNames format.Plain names → DigitsFit b
     → AreProper ((colon, keyword (body_name b)) ∷ body_parts names b)
 body_proper names (by_given k) are few = (refl, (few, tt))
 body_proper names by_reflexivity are few = (refl, tt)
@@ -111,7 +111,7 @@ line_proper : (names : List (List ℕ)) (l : Line) → AreNames format.Plain nam
     → AreProper (line_parts names l)
 line_proper names l are is = (
   printed_names format.Plain names (left_of l.stated) are,
-  (printed_names format.Plain names (right_of l.stated) are, body_proper names l.body are is.few_digits),
+  (printed_names format.Plain names (right_of l.stated) are, body_proper names l.body are is.digits_fit),
 )
 
 pub line_bytes : (names : List (List ℕ)) (l : Line) → AreNames format.Plain names → IsPrintableLine names l

@@ -23,7 +23,7 @@ use Rattle.schema_grammar.specs.Diagnostics.{IsStuck, DependencyWants, Carries, 
 use Rattle.schema_grammar.specs.Grammar.{Reached, start, finish_dependency}
 use Rattle.schema_grammar.specs.Reading.{step, follow, read_goal}
 use Rattle.schema_grammar.specs.Refusals.{at, and_then, expect, refused_by, refusal, kind_of_flaw}
-use Rattle.schema_grammar.proofs.ShapeLemmas.{Shape, at_start, shape_of, advance_shape, is_final, runs, StepTells, step_tells, EndTells, end_tells, final_line, line_ends, runs-one, wanted_by, wants_from, begins_from, begins_to}
+use Rattle.schema_grammar.proofs.ShapeLemmas.{Shape, at_start, shape_of, advance_shape, is_final, runs, StepFits, step_fits, EndFits, end_fits, final_line, line_ends, runs-one, wanted_by, wants_from, begins_from, begins_to}
 
 pub flaw_kind : (why : Flaw) → diagnostic_kind (kind_of_flaw why) ≡ diagnostic_of_flaw why
 flaw_kind flaw.StrangeByte = refl
@@ -125,16 +125,16 @@ at_token Six f declared ms stop p m is n (inl (inr six)) = inr six
 at_token Six f declared ms stop p m is n (inr (s, stops, position, number)) =
     let less = slice_get_within ms p m is in absurd (omega arith)
 
--- what a step tells in place of a token stands there
+-- what a step gives in place of a token stands there
 pub token_diagnoses : {ms : List Mark} {stop : Option LexError} {At : ℕ → Shape → Type 0} {Six : ℕ → Type 0}
     {Wanted : ℕ → What → Type 0}
     (judges : Judges ms stop At Six Wanted) (f : Format) (declared : List (List ℕ)) (p : ℕ) (r : Reached)
     (m : Mark) (why : SchemaRefusalKind)
-    → slice_get ms p ≡ Some m → At p (shape_of r) → StepTells f declared r m (Err why)
+    → slice_get ms p ≡ Some m → At p (shape_of r) → StepFits f declared r m (Err why)
     → LineDiagnostic Six f declared ms stop p (diagnostic_kind why)
-token_diagnoses judges f declared p r m why is reached tells =
+token_diagnoses judges f declared p r m why is reached fit =
     ⊎_elim (λ word. inl (inl (m, is, word)))
-    (λ six. inl (inr (six.0, judges.stuck p (shape_of r) m is reached six.1))) tells.0
+    (λ six. inl (inr (six.0, judges.stuck p (shape_of r) m is reached six.1))) fit.0
 
 -- a reading is refused by the first diagnostic, and has none where it ends well
 abbrev pub Judged : {X : Type 0} → (ℕ → DiagnosticKind → Type 0) → (ℕ → What → Type 0) → (ℕ → Span)
@@ -172,7 +172,7 @@ judge {whole} {stop} {At} {Six} {Wanted} judges f declared line first [] k from 
     past p n (inl (inr (six, cannot))) later = let within = judges.inside p cannot in omega arith
     past p n (inr (s, is, position, number)) later = omega arith
 
-    ending : stop ≡ None → (o : Result Dependency What) → EndTells r o
+    ending : stop ≡ None → (o : Result Dependency What) → EndFits r o
         → Judged (LineDiagnostic Six f declared whole stop) Wanted (span_at line first whole stop)
         (at line from 0 (expect o))
     ending none (Ok d) final = λ p n diagnostic. elim (cases_order p k) [
@@ -193,7 +193,7 @@ judge {whole} {stop} {At} {Six} {Wanted} judges f declared line first [] k from 
     told : (o : Option LexError) → stop ≡ o
         → Judged (LineDiagnostic Six f declared whole stop) Wanted (span_at line first whole stop)
         (follow f declared line r from [] o)
-    told None is = ending is (finish_dependency r) (end_tells r)
+    told None is = ending is (finish_dependency r) (end_fits r)
     told (Some s) is =
         first_at _ Wanted _ (refused_by line s) k before (inr (s, is, all, flaw_kind s.flaw))
         (flaw_carries (Wanted k) s.flaw)
@@ -201,14 +201,14 @@ judge {whole} {stop} {At} {Six} {Wanted} judges f declared line first [] k from 
         (λ n diagnostic. ⊎_elim (λ six. absurd (judges.flawed k s all is six.1))
         (λ flaw. flaw_least s flaw.0 n (sym is ∙ flaw.1) flaw.2) (ended n diagnostic))
 judge {whole} {stop} {At} {Six} {Wanted} judges f declared line first (m ∷ ms) k from r left reached before =
-    told (step f declared r m.kind m.word) (step_tells f declared r m)
+    told (step f declared r m.kind m.word) (step_fits f declared r m)
     (λ next there none. judge judges f declared line first ms (suc k) (m.column + length m.word) next
     (left_next line first whole stop k from m ms left) there none)
   where
     is : slice_get whole k ≡ Some m
     is = left.marks 0 k (omega arith)
 
-    told : (o : Result Reached SchemaRefusalKind) → StepTells f declared r m o
+    told : (o : Result Reached SchemaRefusalKind) → StepFits f declared r m o
         → ((next : Reached) → At (suc k) (shape_of next)
         → ((p : ℕ) (n : DiagnosticKind) → p < suc k → LineDiagnostic Six f declared whole stop p n → ⊥)
         → Judged (LineDiagnostic Six f declared whole stop) Wanted (span_at line first whole stop)
@@ -216,21 +216,21 @@ judge {whole} {stop} {At} {Six} {Wanted} judges f declared line first (m ∷ ms)
         → Judged (LineDiagnostic Six f declared whole stop) Wanted (span_at line first whole stop)
         (and_then (at line m.column (length m.word) o)
         (λ next. follow f declared line next (m.column + length m.word) ms stop))
-    told (Ok next) tells rest =
-        let on = judges.goes_on k (shape_of r) (shape_of next) m is reached tells.0 in
+    told (Ok next) fit rest =
+        let on = judges.goes_on k (shape_of r) (shape_of next) m is reached fit.0 in
         rest next on.1 (λ p n less diagnostic. elim (cases_order p k) [
-          | inl here ↦ ⊎_elim (tells.1 n) (λ six. on.0 six.1)
+          | inl here ↦ ⊎_elim (fit.1 n) (λ six. on.0 six.1)
               (at_token Six f declared whole stop k m is n
               (subst (λ (q : ℕ). LineDiagnostic Six f declared whole stop q n) here diagnostic))
           | inr (inl earlier) ↦ before p n earlier diagnostic
           | inr (inr later) ↦ absurd (omega arith)
         ])
-    told (Err why) tells rest = first_at _ Wanted _ (refusal line m.column (length m.word) why) k before
-        (token_diagnoses judges f declared k r m why is reached tells)
+    told (Err why) fit rest = first_at _ Wanted _ (refusal line m.column (length m.word) why) k before
+        (token_diagnoses judges f declared k r m why is reached fit)
         (Carries-map (λ w. w ≡ wanted_by (shape_of r)) (Wanted k)
-        (λ w same. subst (Wanted k) (sym same) (judges.wants k (shape_of r) reached)) why tells.3)
+        (λ w same. subst (Wanted k) (sym same) (judges.wants k (shape_of r) reached)) why fit.3)
         (sym (left.spans 0 k (omega arith)))
-        (λ n diagnostic. ⊎_elim (tells.1 n) (λ six. omega (arith, ap number_of six.0, tells.2))
+        (λ n diagnostic. ⊎_elim (fit.1 n) (λ six. omega (arith, ap number_of six.0, fit.2))
         (at_token Six f declared whole stop k m is n diagnostic))
 
 -- one token more

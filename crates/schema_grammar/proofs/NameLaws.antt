@@ -37,25 +37,25 @@ WordDiagnostic f names count m number =
     ⊎ ((number ≡ too_many_attributes) × (MOST_ATTRIBUTES ≤ count))))
     ⊎ ((number ≡ expected) × (m.kind ≡ token.Identifier → ⊥))
 
--- what a token after a declaring word tells
-abbrev NameTells : Format → ColumnType → Declarations → List (List ℕ) → ℕ → Bool → Mark
+-- what a token after a declaring word gives
+abbrev NameFits : Format → ColumnType → Declarations → List (List ℕ) → ℕ → Bool → Mark
     → Result Declarations SchemaRefusalKind → Type 0
-NameTells f column d names count some m (Ok next) =
+NameFits f column d names count some m (Ok next) =
     (next ≡ add_name d m.word column) × (m.kind ≡ token.Identifier) ×
     ((n : DiagnosticKind) → WordDiagnostic f names count m n → ⊥)
-NameTells f column d names count some m (Err why) =
+NameFits f column d names count some m (Err why) =
     WordDiagnostic f names count m (diagnostic_kind why) ×
     ((n : DiagnosticKind) → WordDiagnostic f names count m n → number_of (diagnostic_kind why) ≤ number_of n)
     × Carries (λ w. w ≡ what_after_declaring some) why
 
-name_tells : (f : Format) (column : ColumnType) (d : Declarations) (some : Bool) (m : Mark)
-    → NameTells f column d d.names (length d.names) some m (name_step f column d some m.kind m.word)
+name_fits : (f : Format) (column : ColumnType) (d : Declarations) (some : Bool) (m : Mark)
+    → NameFits f column d d.names (length d.names) some m (name_step f column d some m.kind m.word)
 unfolding declare
-name_tells f column d some m = told m.kind refl
+name_fits f column d some m = told m.kind refl
   where
     word : m.kind ≡ token.Identifier → (a b c : Bool) → is_reserved f m.word ≡ a
         → is_some (attribute_named d.names m.word) ≡ b → nat_le MOST_ATTRIBUTES (length d.names) ≡ c
-        → NameTells f column d d.names (length d.names) some m
+        → NameFits f column d d.names (length d.names) some m
         (cond a (Err kind.ReservedName)
         (cond b (Err kind.DoubleName) (cond c (Err kind.TooManyAttributes) (Ok (add_name d m.word column)))))
     word is true b c reserved double full =
@@ -68,7 +68,7 @@ name_tells f column d some m = told m.kind refl
         (refl, is, λ n diagnostic. let room = leb-false _ _ full in grind arith)
 
     told : (k : TokenKind) → m.kind ≡ k
-        → NameTells f column d d.names (length d.names) some m (name_step f column d some k m.word)
+        → NameFits f column d d.names (length d.names) some m (name_step f column d some k m.word)
     told token.Identifier is =
         word is (is_reserved f m.word) (is_some (attribute_named d.names m.word))
         (nat_le MOST_ATTRIBUTES (length d.names)) refl refl refl
@@ -130,8 +130,8 @@ judge_names f column d line first whole stop [] k from some now left names each 
         least n (inr (t, here, position, number)) = flaw_least s t n (sym is ∙ here) number
 judge_names f column d line first whole stop (w ∷ words) k from some now left names each want before =
     let read = name_step f column now some w.kind w.word in
-    let counted = subst (λ (c : ℕ). NameTells f column now now.names c some w read) count (name_tells f column now some w) in
-    told read (subst (λ (t : List (List ℕ)). NameTells f column now t (length d.names + k) some w read) names counted)
+    let counted = subst (λ (c : ℕ). NameFits f column now now.names c some w read) count (name_fits f column now some w) in
+    told read (subst (λ (t : List (List ℕ)). NameFits f column now t (length d.names + k) some w read) names counted)
     (λ next on each_word none. judge_names f column d line first whole stop words (suc k)
     (w.column + length w.word) true next (left_next line first whole stop k from w words left) on each_word
     (inr (omega arith, refl)) none)
@@ -158,7 +158,7 @@ judge_names f column d line first whole stop (w ∷ words) k from some now left 
     at_word n (inr (s, here, position, number)) = absurd (omega (arith, less))
 
     told : (o : Result Declarations SchemaRefusalKind)
-        → NameTells f column now (d.names ++ words_in (take k whole)) (length d.names + k) some w o
+        → NameFits f column now (d.names ++ words_in (take k whole)) (length d.names + k) some w o
         → ((next : Declarations) → next.names ≡ d.names ++ words_in (take (suc k) whole)
         → All (λ x. x.kind ≡ token.Identifier) (take (suc k) whole)
         → ((p : ℕ) (n : DiagnosticKind) → p < suc k → NamesDiagnostic f d whole stop p n → ⊥)
