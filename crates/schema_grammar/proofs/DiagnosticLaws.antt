@@ -96,42 +96,42 @@ left_next line first whole stop k from m ms rest = record {
 
 -- a diagnostic about tokens: of a word, of the grammar, or of bytes that are no token
 abbrev pub LineDiagnostic : (ℕ → Type 0) → Format → List (List ℕ) → List Mark → Option LexError → ℕ → DiagnosticKind → Type 0
-LineDiagnostic Six f declared ms stop position number =
+LineDiagnostic Stuck f declared ms stop position number =
     (((m : Mark) × (slice_get ms position ≡ Some m) × DiagnosesOfWord f declared m number)
-    ⊎ ((number ≡ expected) × Six position))
+    ⊎ ((number ≡ expected) × Stuck position))
     ⊎ ((s : LexError) × (stop ≡ Some s) × (position ≡ length ms) × (number ≡ diagnostic_of_flaw s.flaw))
 
--- where the grammar can't go on, and what is wanted: `Six` is a position of a diagnostic 6, and `At` how
+-- where the grammar can't go on, and what is wanted: `Stuck` is a position where it can't, and `At` how
 -- far the line is read before a position
-pub record Judges (ms : List Mark) (stop : Option LexError) (At : ℕ → Shape → Type 0) (Six : ℕ → Type 0)
+pub record Judges (ms : List Mark) (stop : Option LexError) (At : ℕ → Shape → Type 0) (Stuck : ℕ → Type 0)
     (Wanted : ℕ → What → Type 0) : Type 0 where
   pub wants : (p : ℕ) (s : Shape) → At p s → Wanted p (wanted_by s)
   pub goes_on : (p : ℕ) (s t : Shape) (m : Mark) → slice_get ms p ≡ Some m → At p s
-      → advance_shape s m.kind ≡ Some t → (Six p → ⊥) × At (suc p) t
+      → advance_shape s m.kind ≡ Some t → (Stuck p → ⊥) × At (suc p) t
   pub stuck : (p : ℕ) (s : Shape) (m : Mark) → slice_get ms p ≡ Some m → At p s → advance_shape s m.kind ≡ None
-      → Six p
-  pub ends : (p : ℕ) (s : Shape) → p ≡ length ms → At p s → is_final s ≡ true → Six p → ⊥
-  pub open_end : (p : ℕ) (s : Shape) → p ≡ length ms → stop ≡ None → At p s → is_final s ≡ false → Six p
-  pub flawed : (p : ℕ) (x : LexError) → p ≡ length ms → stop ≡ Some x → Six p → ⊥
-  pub inside : (p : ℕ) → Six p → p ≤ length ms
+      → Stuck p
+  pub ends : (p : ℕ) (s : Shape) → p ≡ length ms → At p s → is_final s ≡ true → Stuck p → ⊥
+  pub open_end : (p : ℕ) (s : Shape) → p ≡ length ms → stop ≡ None → At p s → is_final s ≡ false → Stuck p
+  pub flawed : (p : ℕ) (x : LexError) → p ≡ length ms → stop ≡ Some x → Stuck p → ⊥
+  pub inside : (p : ℕ) → Stuck p → p ≤ length ms
 
 -- a diagnostic at a token is of its word, or of the grammar
-pub at_token : (Six : ℕ → Type 0) (f : Format) (declared : List (List ℕ)) (ms : List Mark)
+pub at_token : (Stuck : ℕ → Type 0) (f : Format) (declared : List (List ℕ)) (ms : List Mark)
     (stop : Option LexError) (p : ℕ) (m : Mark) → slice_get ms p ≡ Some m
-    → (n : DiagnosticKind) → LineDiagnostic Six f declared ms stop p n → DiagnosesOfWord f declared m n ⊎ ((n ≡ expected) × Six p)
-at_token Six f declared ms stop p m is n (inl (inl (k, here, word))) =
+    → (n : DiagnosticKind) → LineDiagnostic Stuck f declared ms stop p n → DiagnosesOfWord f declared m n ⊎ ((n ≡ expected) × Stuck p)
+at_token Stuck f declared ms stop p m is n (inl (inl (k, here, word))) =
     inl (subst (λ (x : Mark). DiagnosesOfWord f declared x n) (let same : k ≡ m = cc in same) word)
-at_token Six f declared ms stop p m is n (inl (inr six)) = inr six
-at_token Six f declared ms stop p m is n (inr (s, stops, position, number)) =
+at_token Stuck f declared ms stop p m is n (inl (inr six)) = inr six
+at_token Stuck f declared ms stop p m is n (inr (s, stops, position, number)) =
     let less = slice_get_within ms p m is in absurd (omega arith)
 
 -- what a step gives in place of a token stands there
-pub token_diagnoses : {ms : List Mark} {stop : Option LexError} {At : ℕ → Shape → Type 0} {Six : ℕ → Type 0}
+pub token_diagnoses : {ms : List Mark} {stop : Option LexError} {At : ℕ → Shape → Type 0} {Stuck : ℕ → Type 0}
     {Wanted : ℕ → What → Type 0}
-    (judges : Judges ms stop At Six Wanted) (f : Format) (declared : List (List ℕ)) (p : ℕ) (r : Reached)
+    (judges : Judges ms stop At Stuck Wanted) (f : Format) (declared : List (List ℕ)) (p : ℕ) (r : Reached)
     (m : Mark) (why : SchemaRefusalKind)
     → slice_get ms p ≡ Some m → At p (shape_of r) → StepFits f declared r m (Err why)
-    → LineDiagnostic Six f declared ms stop p (diagnostic_kind why)
+    → LineDiagnostic Stuck f declared ms stop p (diagnostic_kind why)
 token_diagnoses judges f declared p r m why is reached fit =
     ⊎_elim (λ word. inl (inl (m, is, word)))
     (λ six. inl (inr (six.0, judges.stuck p (shape_of r) m is reached six.1))) fit.0
@@ -143,16 +143,16 @@ Judged Diagnostic Wanted span (Ok x) = (p : ℕ) (n : DiagnosticKind) → Diagno
 Judged Diagnostic Wanted span (Err e) = IsFirst Diagnostic Wanted span e
 
 -- a line is refused by its first diagnostic, and read where there is none
-pub judge : {whole : List Mark} {stop : Option LexError} {At : ℕ → Shape → Type 0} {Six : ℕ → Type 0}
+pub judge : {whole : List Mark} {stop : Option LexError} {At : ℕ → Shape → Type 0} {Stuck : ℕ → Type 0}
     {Wanted : ℕ → What → Type 0}
-    (judges : Judges whole stop At Six Wanted) (f : Format) (declared : List (List ℕ)) (line first : ℕ)
+    (judges : Judges whole stop At Stuck Wanted) (f : Format) (declared : List (List ℕ)) (line first : ℕ)
     (ms : List Mark) (k from : ℕ) (r : Reached)
     → IsLeft line first whole stop k from ms → At k (shape_of r)
-    → ((p : ℕ) (n : DiagnosticKind) → p < k → LineDiagnostic Six f declared whole stop p n → ⊥)
-    → Judged (LineDiagnostic Six f declared whole stop) Wanted (span_at line first whole stop)
+    → ((p : ℕ) (n : DiagnosticKind) → p < k → LineDiagnostic Stuck f declared whole stop p n → ⊥)
+    → Judged (LineDiagnostic Stuck f declared whole stop) Wanted (span_at line first whole stop)
     (follow f declared line r from ms stop)
 unfolding follow
-judge {whole} {stop} {At} {Six} {Wanted} judges f declared line first [] k from r left reached before =
+judge {whole} {stop} {At} {Stuck} {Wanted} judges f declared line first [] k from r left reached before =
     told stop refl
   where
     all : k ≡ length whole
@@ -161,24 +161,24 @@ judge {whole} {stop} {At} {Six} {Wanted} judges f declared line first [] k from 
     there : span_at line first whole stop k ≡ span_at line from [] stop 0
     there = left.spans 0 k (omega arith)
 
-    ended : (n : DiagnosticKind) → LineDiagnostic Six f declared whole stop k n
-        → ((n ≡ expected) × Six k) ⊎ ((s : LexError) × (stop ≡ Some s) × (n ≡ diagnostic_of_flaw s.flaw))
+    ended : (n : DiagnosticKind) → LineDiagnostic Stuck f declared whole stop k n
+        → ((n ≡ expected) × Stuck k) ⊎ ((s : LexError) × (stop ≡ Some s) × (n ≡ diagnostic_of_flaw s.flaw))
     ended n (inl (inl (m, is, word))) = let less = slice_get_within whole k m is in absurd (omega arith)
     ended n (inl (inr six)) = inl six
     ended n (inr (s, is, position, number)) = inr (s, is, number)
 
-    past : (p : ℕ) (n : DiagnosticKind) → LineDiagnostic Six f declared whole stop p n → k < p → ⊥
+    past : (p : ℕ) (n : DiagnosticKind) → LineDiagnostic Stuck f declared whole stop p n → k < p → ⊥
     past p n (inl (inl (m, is, word))) later = let less = slice_get_within whole p m is in omega arith
     past p n (inl (inr (six, cannot))) later = let within = judges.inside p cannot in omega arith
     past p n (inr (s, is, position, number)) later = omega arith
 
     ending : stop ≡ None → (o : Result Dependency What) → EndFits r o
-        → Judged (LineDiagnostic Six f declared whole stop) Wanted (span_at line first whole stop)
+        → Judged (LineDiagnostic Stuck f declared whole stop) Wanted (span_at line first whole stop)
         (at line from 0 (expect o))
     ending none (Ok d) final = λ p n diagnostic. elim (cases_order p k) [
       | inl here ↦ ⊎_elim (λ six. judges.ends k (shape_of r) all reached final six.1)
           (λ flaw. let wrong = flaw.1 in cc)
-          (ended n (subst (λ (q : ℕ). LineDiagnostic Six f declared whole stop q n) here diagnostic))
+          (ended n (subst (λ (q : ℕ). LineDiagnostic Stuck f declared whole stop q n) here diagnostic))
       | inr (inl earlier) ↦ before p n earlier diagnostic
       | inr (inr later) ↦ past p n diagnostic later
     ]
@@ -191,7 +191,7 @@ judge {whole} {stop} {At} {Six} {Wanted} judges f declared line first [] k from 
         (ended n diagnostic))
 
     told : (o : Option LexError) → stop ≡ o
-        → Judged (LineDiagnostic Six f declared whole stop) Wanted (span_at line first whole stop)
+        → Judged (LineDiagnostic Stuck f declared whole stop) Wanted (span_at line first whole stop)
         (follow f declared line r from [] o)
     told None is = ending is (finish_dependency r) (end_fits r)
     told (Some s) is =
@@ -200,7 +200,7 @@ judge {whole} {stop} {At} {Six} {Wanted} judges f declared line first [] k from 
         (sym (there ∙ ap (λ o. span_at line from [] o 0) is))
         (λ n diagnostic. ⊎_elim (λ six. absurd (judges.flawed k s all is six.1))
         (λ flaw. flaw_least s flaw.0 n (sym is ∙ flaw.1) flaw.2) (ended n diagnostic))
-judge {whole} {stop} {At} {Six} {Wanted} judges f declared line first (m ∷ ms) k from r left reached before =
+judge {whole} {stop} {At} {Stuck} {Wanted} judges f declared line first (m ∷ ms) k from r left reached before =
     told (step f declared r m.kind m.word) (step_fits f declared r m)
     (λ next there none. judge judges f declared line first ms (suc k) (m.column + length m.word) next
     (left_next line first whole stop k from m ms left) there none)
@@ -210,18 +210,18 @@ judge {whole} {stop} {At} {Six} {Wanted} judges f declared line first (m ∷ ms)
 
     told : (o : Result Reached SchemaRefusalKind) → StepFits f declared r m o
         → ((next : Reached) → At (suc k) (shape_of next)
-        → ((p : ℕ) (n : DiagnosticKind) → p < suc k → LineDiagnostic Six f declared whole stop p n → ⊥)
-        → Judged (LineDiagnostic Six f declared whole stop) Wanted (span_at line first whole stop)
+        → ((p : ℕ) (n : DiagnosticKind) → p < suc k → LineDiagnostic Stuck f declared whole stop p n → ⊥)
+        → Judged (LineDiagnostic Stuck f declared whole stop) Wanted (span_at line first whole stop)
         (follow f declared line next (m.column + length m.word) ms stop))
-        → Judged (LineDiagnostic Six f declared whole stop) Wanted (span_at line first whole stop)
+        → Judged (LineDiagnostic Stuck f declared whole stop) Wanted (span_at line first whole stop)
         (and_then (at line m.column (length m.word) o)
         (λ next. follow f declared line next (m.column + length m.word) ms stop))
     told (Ok next) fit rest =
         let on = judges.goes_on k (shape_of r) (shape_of next) m is reached fit.0 in
         rest next on.1 (λ p n less diagnostic. elim (cases_order p k) [
           | inl here ↦ ⊎_elim (fit.1 n) (λ six. on.0 six.1)
-              (at_token Six f declared whole stop k m is n
-              (subst (λ (q : ℕ). LineDiagnostic Six f declared whole stop q n) here diagnostic))
+              (at_token Stuck f declared whole stop k m is n
+              (subst (λ (q : ℕ). LineDiagnostic Stuck f declared whole stop q n) here diagnostic))
           | inr (inl earlier) ↦ before p n earlier diagnostic
           | inr (inr later) ↦ absurd (omega arith)
         ])
@@ -231,7 +231,7 @@ judge {whole} {stop} {At} {Six} {Wanted} judges f declared line first (m ∷ ms)
         (λ w same. subst (Wanted k) (sym same) (judges.wants k (shape_of r) reached)) why fit.3)
         (sym (left.spans 0 k (omega arith)))
         (λ n diagnostic. ⊎_elim (fit.1 n) (λ six. omega (arith, ap number_of six.0, fit.2))
-        (at_token Six f declared whole stop k m is n diagnostic))
+        (at_token Stuck f declared whole stop k m is n diagnostic))
 
 -- one token more
 runs_next : (ms : List Mark) (p : ℕ) (m : Mark) (s : Shape) → slice_get ms p ≡ Some m
